@@ -1,0 +1,11 @@
+pub mod Bytes
+pub mod Lines
+pub mod Fields
+pub mod Numbers
+pub mod Subpositions
+pub mod Names
+pub mod Words
+pub mod Kinds
+pub mod Readings
+pub mod Views
+pub mod Faults

@@ -1,0 +1,30 @@
+//! The text of profile files: lines, fields, numbers, positions and names, and what each line says.
+#![tactic(auto)]
+
+mod blanks;
+mod faults;
+mod items;
+mod kinds;
+mod laws;
+mod lines;
+mod names;
+mod numbers;
+mod positions;
+mod readings;
+mod split;
+mod subpositions;
+mod words;
+
+pub use blanks::{line_text, strip_carriage_return};
+pub use faults::{Fault, ReadEnd};
+pub use items::Items;
+pub use kinds::{LineKind, classify};
+pub use laws::lines_are_the_text;
+pub use lines::{Lines, first_line, line_end};
+pub use names::{NameSpec, name_spec};
+pub use numbers::{amount, number};
+pub use positions::SubPos;
+pub use readings::{LINE_LIMIT, read_line};
+pub use split::{SplitFields, fields, next_field};
+pub use subpositions::subpos;
+pub use words::{HeaderKey, NameWord, Namespace};

@@ -1,0 +1,103 @@
+// Numbers in fields.
+ghost use Rattle.std.specs.Prelude.{◌≡◌, ◌*◌, ◌+◌, ◌<◌, ◌≤◌, ◌^◌, MatchOption};
+ghost use Rattle.std.specs.List.{list_all};
+ghost use Rattle.cg_text.specs.Numbers.{is_digit, is_hex_digit, digit_value, value_in, digits_in, number_of, amount_of};
+
+use crate::faults::Fault;
+
+/// Whether a byte is a decimal digit.
+pub(crate) fn is_digit(b: u8) -> bool
+    ensures { result ≡ is_digit b }
+{
+    b'0' <= b && b <= b'9'
+}
+
+/// Whether a byte is a hexadecimal digit of either case.
+fn is_hex_digit(b: u8) -> bool
+    ensures { result ≡ is_hex_digit b }
+{
+    is_digit(b) || (b'A' <= b && b <= b'F') || (b'a' <= b && b <= b'f')
+}
+
+/// What a digit stands for.
+fn digit_value(b: u8) -> u64
+    ensures { result ≡ digit_value b }
+{
+    if b <= b'9' {
+        u64::from(b.saturating_sub(b'0'))
+    } else if b <= b'F' {
+        u64::from(b.saturating_sub(b'A' - 10))
+    } else {
+        u64::from(b.saturating_sub(b'a' - 10))
+    }
+}
+
+/// What digits stand for in a base, or nothing where that is 2^64 or more.
+fn value_in(base: u64, digits: &[u8]) -> Option<u64>
+    requires { 0 < base }
+    ensures { MatchOption result (2 ^ 64 ≤ value_in base digits.now) (λ n. n ≡ value_in base digits.now) }
+{
+    let mut value: u64 = 0;
+    for b in digits {
+        value = value.checked_mul(base)?.checked_add(digit_value(*b))?;
+    }
+    Some(value)
+}
+
+/// Whether each byte is a decimal digit.
+fn all_digits(field: &[u8]) -> bool
+    ensures { result ≡ list_all is_digit field.now }
+{
+    field.iter().all(|b| is_digit(*b))
+}
+
+/// Whether each byte is a hexadecimal digit.
+fn all_hex_digits(field: &[u8]) -> bool
+    ensures { result ≡ list_all is_hex_digit field.now }
+{
+    field.iter().all(|b| is_hex_digit(*b))
+}
+
+/// The number of decimal digits.
+fn decimal(digits: &[u8]) -> Result<u64, Fault>
+    ensures { result ≡ digits_in 10 is_digit digits.now }
+{
+    if digits.is_empty() || !all_digits(digits) {
+        return Err(Fault::BadNumber);
+    }
+    value_in(10, digits).ok_or(Fault::NumberTooLarge)
+}
+
+/// The number of hexadecimal digits.
+fn hexadecimal(digits: &[u8]) -> Result<u64, Fault>
+    ensures { result ≡ digits_in 16 is_hex_digit digits.now }
+{
+    if digits.is_empty() || !all_hex_digits(digits) {
+        return Err(Fault::BadNumber);
+    }
+    value_in(16, digits).ok_or(Fault::NumberTooLarge)
+}
+
+/// The number that a field is: one or more decimal digits, or `0x` and one or more hexadecimal
+/// digits. Else `BadNumber`, or `NumberTooLarge` for a number of 2^64 or more.
+#[tactic(auto, unfolding(crate::specs::Numbers::number_of))]
+pub fn number(field: &[u8]) -> Result<u64, Fault>
+    ensures { result ≡ number_of field.now }
+{
+    match field.strip_prefix(b"0x") {
+        Some(digits) => hexadecimal(digits),
+        None => decimal(field),
+    }
+}
+
+/// The cost, count or stated total that a field is: a number below 2^63, else `NumberTooLarge`.
+#[tactic(auto, unfolding(crate::specs::Numbers::amount_of))]
+pub fn amount(field: &[u8]) -> Result<u64, Fault>
+    ensures { result ≡ amount_of field.now }
+{
+    let n = number(field)?;
+    if n >= 1 << 63 {
+        return Err(Fault::NumberTooLarge);
+    }
+    Ok(n)
+}
