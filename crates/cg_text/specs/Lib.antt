@@ -9,3 +9,4 @@ pub mod Kinds
 pub mod Readings
 pub mod Views
 pub mod Faults
+pub mod Ends

@@ -95,7 +95,8 @@ impl fmt::Display for Fault {
 
 impl Error for Fault {}
 
-/// Why a reader gives no head: the file's first fault with its line, or want of memory.
+/// Why a reader gives no head: the file's first fault with its line, or want of memory. Printed as
+/// `line 3: F12 position range` or `out of memory`.
 #[derive(Clone, Copy, Debug, PartialEq, Eq)]
 pub enum ReadEnd {
     Fault(Fault, u64),
@@ -103,6 +104,11 @@ pub enum ReadEnd {
 }
 
 impl fmt::Display for ReadEnd {
+    ghost use Rattle.std.specs.Prelude.{Some};
+    ghost use Rattle.cg_text.specs.Ends.{end_text};
+
+    ghost output = { λ end. Some (end_text end) };
+
     fn fmt<W: fmt::Write>(&self, f: &mut fmt::Formatter<W>) -> fmt::Result {
         match self {
             ReadEnd::Fault(fault, line) => write!(f, "line {line}: {fault}"),

@@ -11,7 +11,7 @@ use crate::numbers::is_digit;
 use crate::words::{HeaderKey, NameWord};
 
 /// The kind of a line, with the bytes that it goes on with.
-#[derive(Clone, Copy, Debug)]
+#[derive(Clone, Copy, Debug, PartialEq, Eq)]
 pub enum LineKind<'a> {
     /// An empty line or a comment.
     Nothing,

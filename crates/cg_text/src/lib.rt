@@ -13,6 +13,8 @@ mod positions;
 mod readings;
 mod split;
 mod subpositions;
+#[cfg(test)]
+mod tests;
 mod words;
 
 pub use blanks::{line_text, strip_carriage_return};

@@ -9,7 +9,7 @@ use crate::numbers::number;
 use memchr::memchr;
 
 /// What the value of a name line says: an identifier, a text, or both.
-#[derive(Clone, Copy, Debug)]
+#[derive(Clone, Copy, Debug, PartialEq, Eq)]
 pub struct NameSpec<'a> {
     pub id: Option<u64>,
     pub text: Option<&'a [u8]>,

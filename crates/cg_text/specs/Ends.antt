@@ -1,0 +1,10 @@
+-- What is printed where a file gives no head.
+use Rattle.std.specs.Prelude.{ℕ, List, ◌++◌, codes}
+use Rattle.std.specs.Fmt.{decimal}
+use Rattle.cg_text.specs.Faults.{fault_text}
+use Rattle.cg_text.specs.declared.faults.ReadEnd.{ReadEnd}
+use Rattle.cg_text.specs.declared.faults.ReadEnd.TheVariants.{Fault, Memory}
+
+abbrev pub end_text : ReadEnd → List ℕ
+end_text (Fault fault line) = codes "line " ++ (decimal line ++ (codes ": " ++ fault_text fault))
+end_text Memory = codes "out of memory"
