@@ -3,6 +3,7 @@
 
 mod blanks;
 mod faults;
+mod heads;
 mod items;
 mod kinds;
 mod laws;
@@ -19,6 +20,7 @@ mod words;
 
 pub use blanks::{line_text, strip_carriage_return};
 pub use faults::{Fault, ReadEnd};
+pub use heads::FileHead;
 pub use items::Items;
 pub use kinds::{LineKind, classify};
 pub use laws::lines_are_the_text;
@@ -29,4 +31,4 @@ pub use positions::SubPos;
 pub use readings::{LINE_LIMIT, read_line};
 pub use split::{SplitFields, fields, next_field};
 pub use subpositions::subpos;
-pub use words::{HeaderKey, NameWord, Namespace};
+pub use words::{HeaderKey, NameWord, Namespace, Role};

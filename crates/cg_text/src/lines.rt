@@ -1,5 +1,5 @@
 // The lines of a text, with their numbers.
-ghost use Rattle.std.specs.Prelude.{◌≡◌, ◌+◌, ◌<◌, length, position, IfNone, IfSome, [], ◌∷◌};
+ghost use Rattle.std.specs.Prelude.{◌≡◌, ◌+◌, ◌<◌, length, drop, position, IfNone, IfSome, [], ◌∷◌};
 ghost use Rattle.cg_text.specs.Lines.{is_line_feed, lines_of, numbered};
 
 use memchr::memchr;
@@ -17,6 +17,7 @@ pub fn line_end(bytes: &[u8]) -> Option<usize>
 pub fn first_line(text: &[u8]) -> Option<(&[u8], &[u8])>
     ensures none { IfNone result (text.now ≡ []) }
     ensures lines { IfSome result (λ p. lines_of text.now ≡ p.0.now ∷ lines_of p.1.now) }
+    ensures rest { IfSome result (λ p. p.1.now ≡ drop (length p.0.now + 1) text.now) }
     ensures shorter { IfSome result (λ p. length p.1.now < length text.now) }
 {
     if text.is_empty() {

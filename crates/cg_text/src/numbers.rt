@@ -1,5 +1,5 @@
 // Numbers in fields.
-ghost use Rattle.std.specs.Prelude.{◌≡◌, ◌*◌, ◌+◌, ◌<◌, ◌≤◌, ◌^◌, MatchOption};
+ghost use Rattle.std.specs.Prelude.{◌≡◌, ◌*◌, ◌+◌, ◌<◌, ◌≤◌, ◌^◌, IfOk, MatchOption};
 ghost use Rattle.std.specs.List.{list_all};
 ghost use Rattle.cg_text.specs.Numbers.{is_digit, is_hex_digit, digit_value, value_in, digits_in, number_of, amount_of};
 
@@ -93,7 +93,8 @@ pub fn number(field: &[u8]) -> Result<u64, Fault>
 /// The cost, count or stated total that a field is: a number below 2^63, else `NumberTooLarge`.
 #[tactic(auto, unfolding(crate::specs::Numbers::amount_of))]
 pub fn amount(field: &[u8]) -> Result<u64, Fault>
-    ensures { result ≡ amount_of field.now }
+    ensures value { result ≡ amount_of field.now }
+    ensures small { IfOk result (λ n. n < 2 ^ 63) }
 {
     let n = number(field)?;
     if n >= 1 << 63 {

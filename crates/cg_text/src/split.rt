@@ -1,6 +1,6 @@
 // The fields of a text.
-ghost use Rattle.std.specs.Prelude.{◌≡◌, ◌<◌, position, length, IfNone, IfSome, [], ◌∷◌};
-ghost use Rattle.cg_text.specs.Fields.{is_blank, fields_of};
+ghost use Rattle.std.specs.Prelude.{◌≡◌, ◌+◌, ◌<◌, position, length, drop, IfNone, IfSome, [], ◌∷◌};
+ghost use Rattle.cg_text.specs.Fields.{is_blank, trim_start, fields_of};
 
 use crate::blanks::trim_start;
 use memchr::memchr2;
@@ -18,6 +18,7 @@ fn first_blank(bytes: &[u8]) -> Option<usize>
 pub fn next_field(text: &[u8]) -> Option<(&[u8], &[u8])>
     ensures none { IfNone result (fields_of text.now ≡ []) }
     ensures fields { IfSome result (λ p. fields_of text.now ≡ p.0.now ∷ fields_of p.1.now) }
+    ensures rest { IfSome result (λ p. p.1.now ≡ drop (length p.0.now + 1) (trim_start text.now)) }
     ensures shorter { IfSome result (λ p. length p.1.now < length text.now) }
 {
     let text = trim_start(text);

@@ -1,7 +1,7 @@
 // Each public call, on values of the format's manual and on edges that a reader of it would try.
 use crate::{
     Fault, HeaderKey, Items, LINE_LIMIT, LineKind, Lines, NameSpec, NameWord, Namespace, ReadEnd,
-    SubPos, amount, classify, fields, first_line, line_end, line_text, name_spec, next_field,
+    Role, SubPos, amount, classify, fields, first_line, line_end, line_text, name_spec, next_field,
     number, read_line, strip_carriage_return, subpos,
 };
 use std::alloc::AllocError;
@@ -201,6 +201,9 @@ fn kinds_of_the_manual(rt: HostRuntime) {
     }
     assert_eq!(rt; NameWord::Cfl.namespace(), Namespace::File);
     assert_eq!(rt; NameWord::Cob.namespace(), Namespace::Object);
+    assert_eq!(rt; NameWord::Fe.role(), Role::Own);
+    assert_eq!(rt; NameWord::Cob.role(), Role::Called);
+    assert_eq!(rt; NameWord::Jfi.role(), Role::Jumped);
     assert_eq!(rt; NameWord::Jfn.namespace(), Namespace::Function);
 }
 

@@ -1,6 +1,6 @@
 // The words that lines begin with.
 ghost use Rattle.std.specs.Prelude.{◌≡◌};
-ghost use Rattle.cg_text.specs.Words.{namespace_of};
+ghost use Rattle.cg_text.specs.Words.{namespace_of, role_of};
 
 /// What a name is of.
 #[derive(Clone, Copy, Debug, PartialEq, Eq)]
@@ -8,6 +8,17 @@ pub enum Namespace {
     Object,
     File,
     Function,
+}
+
+/// What a name line's name is for.
+#[derive(Clone, Copy, Debug, PartialEq, Eq)]
+pub enum Role {
+    /// It belongs to the cost lines that follow.
+    Own,
+    /// It belongs to the function that is called next.
+    Called,
+    /// It belongs to the target of a jump, and sets nothing.
+    Jumped,
 }
 
 /// The word of a name line.
@@ -51,6 +62,17 @@ impl NameWord {
             | NameWord::Cfi
             | NameWord::Cfl
             | NameWord::Jfi => Namespace::File,
+        }
+    }
+
+    /// What the name is for.
+    pub fn role(self) -> Role
+        ensures { result ≡ role_of self }
+    {
+        match self {
+            NameWord::Ob | NameWord::Fl | NameWord::Fi | NameWord::Fe | NameWord::Fn => Role::Own,
+            NameWord::Cob | NameWord::Cfi | NameWord::Cfl | NameWord::Cfn => Role::Called,
+            NameWord::Jfi | NameWord::Jfn => Role::Jumped,
         }
     }
 }

@@ -1,0 +1,62 @@
+-- The first fault and the records as they can be told looking back, after some lines, of which the nearest stands first.
+use Rattle.std.specs.Prelude.{ℕ, Bool, true, false, List, [], ◌∷◌, ◌++◌, Ok, Err, Option, Some, None}
+use Rattle.cg_text.specs.Readings.{Reading}
+use Rattle.cg_text.specs.Kinds as kinds
+use Rattle.cg_text.specs.Kinds.{Nothing}
+use Rattle.cg_text.specs.declared.faults.Fault.{Fault}
+use Rattle.cg_text.specs.declared.faults.Fault.TheVariants.{LineTooLong, CallWithoutCost}
+use Rattle.callgrind_reader.specs.Records.{Record}
+use Rattle.callgrind_reader.specs.Calls.{number_after, awaiting}
+use Rattle.callgrind_reader.specs.Lines.{record_of, fault_at}
+
+-- whether a line ends the wait for a cost line without being one
+abbrev pub breaks : Reading → Bool
+breaks (Ok Nothing) = false
+breaks (Ok (kinds.Cost text)) = false
+breaks (Err LineTooLong) = false
+breaks r = true
+
+-- the `calls=` line that a line leaves without its cost line
+abbrev pub broken : Option (ℕ × ℕ) → Bool → Option ℕ
+broken None b = None
+broken (Some call) true = Some call.0
+broken (Some call) false = None
+
+abbrev pub at_number : Option Fault → ℕ → Option (Fault × ℕ)
+at_number None n = None
+at_number (Some fault) n = Some (fault, n)
+
+-- the fault that a line shows: that of the `calls=` line that it leaves so, or its own
+abbrev pub shows : Option ℕ → Option Fault → ℕ → Option (Fault × ℕ)
+shows None own n = at_number own n
+shows (Some at) own n = Some (CallWithoutCost, at)
+
+abbrev pub earlier_or : Option (Fault × ℕ) → Option (Fault × ℕ) → Option (Fault × ℕ)
+earlier_or (Some fault) later = Some fault
+earlier_or None later = later
+
+-- the first fault that the lines so far show
+abbrev pub seen : List Reading → Option (Fault × ℕ)
+seen [] = None
+seen (r ∷ back) = earlier_or (seen back) (shows (broken (awaiting back) (breaks r)) (fault_at r back) (number_after back))
+
+-- at the end, a `calls=` line that still waits has no cost line
+abbrev pub left_waiting : Option (ℕ × ℕ) → Option (Fault × ℕ)
+left_waiting None = None
+left_waiting (Some call) = Some (CallWithoutCost, call.0)
+
+abbrev pub fault_after : List Reading → Option (Fault × ℕ)
+fault_after back = earlier_or (seen back) (left_waiting (awaiting back))
+
+abbrev pub unless_seen : {A : Type 0} → Option (Fault × ℕ) → List A → List A
+unless_seen (Some fault) xs = []
+unless_seen None xs = xs
+
+-- what a line adds to the records
+abbrev pub adds : Reading → List Reading → List Record
+adds r back = unless_seen (seen (r ∷ back)) (record_of r back)
+
+-- the records of the lines so far, up to the first fault that they show
+abbrev pub held : List Reading → List Record
+held [] = []
+held (r ∷ back) = held back ++ adds r back

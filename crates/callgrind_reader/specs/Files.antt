@@ -1,0 +1,93 @@
+-- The records and the first fault of a whole file.
+use Rattle.std.specs.Prelude.{ℕ, Bool, true, false, List, [], ◌∷◌, ◌++◌, map, length, Ok, Err, Option, Some, None}
+use Rattle.cg_text.specs.Lines.{lines_of}
+use Rattle.cg_text.specs.Readings.{Reading, reading_of}
+use Rattle.cg_text.specs.Kinds as kinds
+use Rattle.cg_text.specs.Kinds.{Nothing, Calls}
+use Rattle.cg_text.specs.declared.faults.Fault.{Fault}
+use Rattle.cg_text.specs.declared.faults.Fault.TheVariants.{LineTooLong, CallWithoutCost}
+use Rattle.callgrind_reader.specs.Records.{Record}
+use Rattle.callgrind_reader.specs.Events.{events_of}
+use Rattle.callgrind_reader.specs.Totals.{stated_of}
+use Rattle.callgrind_reader.specs.Calls.{number_after}
+use Rattle.callgrind_reader.specs.Lines.{record_of, fault_at}
+
+-- ---- a `calls=` line looks ahead
+
+-- whether the next line that says something is a cost line, or is too long to be read
+abbrev pub cost_follows : List Reading → Bool
+cost_follows [] = false
+cost_follows (Ok Nothing ∷ ahead) = cost_follows ahead
+cost_follows (Ok (kinds.Cost text) ∷ ahead) = true
+cost_follows (Err LineTooLong ∷ ahead) = true
+cost_follows (r ∷ ahead) = false
+
+abbrev pub unless : Bool → Option Fault
+unless true = None
+unless false = Some CallWithoutCost
+
+abbrev pub call_fault : Reading → List Reading → Option Fault
+call_fault (Ok (Calls value)) ahead = unless (cost_follows ahead)
+call_fault r ahead = None
+
+-- ---- all lines; `back` are those before, the nearest first, `ahead` those after
+
+abbrev pub or_else : Option Fault → Option Fault → Option Fault
+or_else (Some fault) other = Some fault
+or_else None other = other
+
+-- the fault of a line
+abbrev pub fault_of : Reading → List Reading → List Reading → Option Fault
+fault_of r back ahead = or_else (fault_at r back) (call_fault r ahead)
+
+abbrev pub numbered_or : Option Fault → ℕ → Option (Fault × ℕ) → Option (Fault × ℕ)
+numbered_or (Some fault) n later = Some (fault, n)
+numbered_or None n later = later
+
+-- the fault of the least line with one, and that line's number
+abbrev pub first_fault : List Reading → List Reading → Option (Fault × ℕ)
+first_fault back [] = None
+first_fault back (r ∷ ahead) = numbered_or (fault_of r back ahead) (number_after back) (first_fault (r ∷ back) ahead)
+
+abbrev pub unless_fault : {A : Type 0} → Option Fault → List A → List A
+unless_fault (Some fault) xs = []
+unless_fault None xs = xs
+
+-- the records of the lines before the first with a fault
+abbrev pub sound_records : List Reading → List Reading → List Record
+sound_records back [] = []
+sound_records back (r ∷ ahead) = unless_fault (fault_of r back ahead) (record_of r back ++ sound_records (r ∷ back) ahead)
+
+-- ---- a file
+
+-- some lines in front of others, the nearest first
+abbrev pub onto : List Reading → List Reading → List Reading
+onto [] back = back
+onto (r ∷ ahead) back = onto ahead (r ∷ back)
+
+abbrev pub readings_of : List ℕ → List Reading
+readings_of text = map reading_of (lines_of text)
+
+-- all lines, the nearest to the end first
+abbrev pub end_of : List ℕ → List Reading
+end_of text = onto (readings_of text) []
+
+-- the first fault of a file, with its line; a file without one is accepted
+abbrev pub fault_of_file : List ℕ → Option (Fault × ℕ)
+fault_of_file text = first_fault [] (readings_of text)
+
+-- the records of the lines before the first with a fault
+abbrev pub records_of_file : List ℕ → List Record
+records_of_file text = sound_records [] (readings_of text)
+
+abbrev pub names_or_none : Option (List (List ℕ)) → List (List ℕ)
+names_or_none None = []
+names_or_none (Some names) = names
+
+-- the events of a file
+abbrev pub events_of_file : List ℕ → List (List ℕ)
+events_of_file text = names_or_none (events_of (end_of text))
+
+-- the totals that a file states, one for each event
+abbrev pub stated_of_file : List ℕ → Option (List ℕ)
+stated_of_file text = stated_of (length (events_of_file text)) (end_of text)

@@ -1,0 +1,17 @@
+pub mod Faulty
+pub mod Records
+pub mod Names
+pub mod Events
+pub mod Positions
+pub mod Costs
+pub mod Calls
+pub mod Totals
+pub mod Lines
+pub mod Files
+pub mod Lent
+pub mod Table
+pub mod Space
+pub mod Places
+pub mod Parts
+pub mod Accept
+pub mod Stands

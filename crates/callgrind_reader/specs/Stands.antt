@@ -1,0 +1,56 @@
+-- When what a reader keeps stands for the lines that it has read.
+use Rattle.std.specs.Prelude.{◌≡◌, ℕ, ◌+◌, ◌<◌, Bool, List, ◌∷◌, length, nat_lt, slice_index, Option, None, Some}
+use Rattle.cg_text.specs.Readings.{Reading}
+use Rattle.cg_text.specs.declared.faults.Fault.{Fault}
+use Rattle.cg_text.specs.declared.words.Namespace.TheVariants.{Object, File, Function}
+use Rattle.callgrind_reader.specs.declared.names.Names.{Names}
+use Rattle.callgrind_reader.specs.declared.header.Header.{Header}
+use Rattle.callgrind_reader.specs.declared.state.State.{State}
+use Rattle.callgrind_reader.specs.declared.totals.Sums.{Sums}
+use Rattle.callgrind_reader.specs.Events.{events_of}
+use Rattle.callgrind_reader.specs.Positions.{settled, offsets_at}
+use Rattle.callgrind_reader.specs.Totals.{total_in, summary_in, has_totals, has_summary}
+use Rattle.callgrind_reader.specs.Calls.{awaiting}
+use Rattle.callgrind_reader.specs.Lines.{fault_at}
+use Rattle.callgrind_reader.specs.Accept.{seen}
+use Rattle.callgrind_reader.specs.Space.{SpaceIs}
+use Rattle.callgrind_reader.specs.Places.{IsPlaced}
+
+-- sums of these columns, of a key that was given or not
+pub record SumsAre (s : Sums) (sum_in : ℕ → ℕ) (is_given : Bool) : Type 0 where
+  pub sums : (k : ℕ) → k < 64 → slice_index s.sums.items k ≡ sum_in k
+  pub given : nat_lt 0 s.lines ≡ is_given
+
+pub record HeaderIs (h : Header) (back : List Reading) : Type 0 where
+  pub events : h.events.names ≡ events_of back
+  pub layout : h.layout ≡ settled back
+  pub totals : SumsAre h.totals (λ k. total_in k back) (has_totals back)
+  pub summary : SumsAre h.summary (λ k. summary_in k back) (has_summary back)
+
+pub record NamesAre (n : Names) (back : List Reading) : Type 0 where
+  pub objects : SpaceIs n.objects Object back
+  pub files : SpaceIs n.files File back
+  pub functions : SpaceIs n.functions Function back
+
+-- the state has what holds after these lines, none of which shows a fault
+pub record Live (s : State) (back : List Reading) : Type 0 where
+  pub header : HeaderIs s.header back
+  pub names : NamesAre s.names back
+  pub places : IsPlaced s.places (offsets_at back)
+  pub call : s.call ≡ awaiting back
+
+-- the state stands for these lines
+pub record StandsAfter (s : State) (back : List Reading) : Type 0 where
+  pub lines : s.lines ≡ length back
+  pub fault : s.fault ≡ seen back
+  pub live : seen back ≡ None → Live s back
+
+-- the lines go on with one: f is its own fault, and with none the new state has what holds after it
+pub record Follows (new : State) (r : Reading) (f : Option Fault) (back : List Reading) : Type 0 where
+  pub fault : fault_at r back ≡ f
+  pub live : f ≡ None → Live new (r ∷ back)
+
+-- how many events there are, once they are named
+abbrev pub count_of : Option (List (List ℕ)) → Option ℕ
+count_of None = None
+count_of (Some names) = Some (length names)

@@ -1,0 +1,112 @@
+// The events of a file.
+ghost use Rattle.std.specs.Prelude.{◌≡◌, ◌≤◌, IfOk, IfSome, OnOk, Option, Some, None, length};
+ghost use Rattle.std.specs.List.{list_any};
+ghost use Rattle.std.specs.Str.{bytes_eq};
+ghost use Rattle.std.specs.Option.{ForSome};
+ghost use Rattle.cg_text.specs.Fields.{fields_of};
+ghost use Rattle.callgrind_reader.specs.Events.{first_of, are_distinct, same_names, events_fault};
+
+use crate::rows::field_count;
+use cg_text::{Fault, Items, next_field};
+use std::alloc::{AllocError, Global};
+
+/// The most events that a file may have.
+pub const MOST_EVENTS: usize = 64;
+
+/// The fields of a text, each as a name.
+fn read_names(alloc: Global, text: &[u8]) -> Result<Items<Items<u8>>, AllocError>
+    ensures { IfOk result (λ names. names ≡ fields_of text.now) }
+{
+    let mut names = Items::new(alloc);
+    let mut rest = text;
+    while let Some((field, more)) = next_field(rest) {
+        names.push(Items::from_vec(field.to_vec(alloc)?))?;
+        rest = more;
+    }
+    Ok(names)
+}
+
+/// Whether a name is among others.
+fn is_among(name: &[u8], names: &[Items<u8>]) -> bool
+    ensures { result ≡ list_any (bytes_eq name.now) names.now }
+{
+    names.iter().any(|other| name == other.as_slice())
+}
+
+/// Whether no name stands twice.
+fn are_distinct(names: &[Items<u8>]) -> bool
+    ensures { result ≡ are_distinct names.now }
+{
+    let mut rest = names;
+    while let Some((name, more)) = rest.split_first() {
+        if is_among(name.as_slice(), more) {
+            return false;
+        }
+        rest = more;
+    }
+    true
+}
+
+/// Whether two lists have the same names in the same order.
+fn same_names(names: &[Items<u8>], others: &[Items<u8>]) -> bool
+    ensures { result ≡ same_names names.now others.now }
+{
+    let mut left = names;
+    let mut right = others;
+    while let Some((name, names)) = left.split_first() {
+        let Some((other, others)) = right.split_first() else {
+            return false;
+        };
+        if name.as_slice() != other.as_slice() {
+            return false;
+        }
+        left = names;
+        right = others;
+    }
+    right.is_empty()
+}
+
+/// The events of a file, once an `events:` line has named them.
+#[derive(Drop)]
+pub struct Events {
+    alloc: Global,
+    pub(crate) names: Option<Items<Items<u8>>>,
+    ghost few: { ForSome names (λ n. length n ≤ 64) },
+}
+
+impl Events {
+    /// No event is named yet.
+    pub fn new(alloc: Global) -> Events
+        ensures { result.names ≡ None }
+    {
+        Events { alloc, names: None }
+    }
+
+    /// Takes the value of an `events:` line, and answers its fault.
+    pub fn take(&mut self, value: &[u8]) -> Result<Option<Fault>, AllocError>
+        ensures fault { IfOk result (λ f. f ≡ events_fault (fields_of value.now) self.old.names) }
+        ensures names { IfOk result (λ f. f ≡ None → self.new.names ≡ first_of self.old.names (fields_of value.now)) }
+        ensures kept { IfSome self.old.names (λ n. self.new.names ≡ Some n) }
+    {
+        let count = field_count(value);
+        if count == 0 {
+            return Ok(Some(Fault::NoEvents));
+        }
+        if count > MOST_EVENTS {
+            return Ok(Some(Fault::TooManyEvents));
+        }
+        let names = read_names(self.alloc, value)?;
+        if !are_distinct(names.as_slice()) {
+            return Ok(Some(Fault::EventTwice));
+        }
+        match &self.names {
+            Some(earlier) => {
+                if !same_names(earlier.as_slice(), names.as_slice()) {
+                    return Ok(Some(Fault::EventsChanged));
+                }
+            }
+            None => self.names = Some(names),
+        }
+        Ok(None)
+    }
+}

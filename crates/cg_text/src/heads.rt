@@ -1,0 +1,11 @@
+// What a reader answers of a whole file.
+use crate::items::Items;
+
+/// What an accepted file says of itself.
+#[derive(Drop)]
+pub struct FileHead {
+    /// The names of its events, in the order of the costs on each cost line.
+    pub events: Items<Items<u8>>,
+    /// The totals that it states, one for each event, if it states any.
+    pub stated: Option<Items<u128>>,
+}
