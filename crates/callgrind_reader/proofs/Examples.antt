@@ -1,5 +1,5 @@
 -- The definitions, computed on whole files: the worked ones of examples/, and one for each fault.
-use Rattle.std.proofs.Common.{◌≡◌, ℕ, List, [], ◌∷◌, codes, refl, Option, Some, None}
+use Rattle.std.proofs.Common.{◌≡◌, [], ◌∷◌, codes, refl, Some, None}
 use Rattle.cg_text.specs.Fields.{line_text}
 use Rattle.cg_text.specs.Kinds.{kind_of}
 use Rattle.cg_text.specs.Names.{name_of}

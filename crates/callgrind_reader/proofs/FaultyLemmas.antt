@@ -1,5 +1,5 @@
 -- Fields read one by one.
-use Rattle.std.proofs.Common.{suc, ◌≡◌, ℕ, List, [], ◌∷◌, take, Result, Ok, Err, Some, refl}
+use Rattle.std.proofs.Common.{suc, ◌≡◌, ℕ, List, ◌∷◌, take, Result, Ok, Err, Some, refl}
 use Rattle.cg_text.specs.Subpositions.{subpos_of}
 use Rattle.cg_text.specs.declared.faults.Fault.{Fault}
 use Rattle.cg_text.specs.declared.positions.SubPos.{SubPos}

@@ -1,13 +1,13 @@
 -- The events of a file.
-use Rattle.std.specs.Prelude.{ℕ, Bool, true, false, ◌&&◌, not, List, [], ◌∷◌, length, ◌==◌, nat_lt, if◌then◌else◌, Result, Ok, Err, Option, Some, None}
+use Rattle.std.specs.Prelude.{ℕ, Bool, true, false, ◌&&◌, not, List, [], ◌∷◌, length, ◌==◌, nat_lt, if◌then◌else◌, Ok, Option, Some, None}
 use Rattle.std.specs.List.{list_any}
 use Rattle.std.specs.Str.{bytes_eq}
 use Rattle.cg_text.specs.Readings.{Reading}
-use Rattle.cg_text.specs.Kinds.{Nothing, Cost, Header, Name, Calls, Jump}
+use Rattle.cg_text.specs.Kinds.{Header}
 use Rattle.cg_text.specs.Fields.{fields_of}
 use Rattle.cg_text.specs.declared.faults.Fault.{Fault}
 use Rattle.cg_text.specs.declared.faults.Fault.TheVariants.{NoEvents, EventTwice, EventsChanged, TooManyEvents}
-use Rattle.cg_text.specs.declared.words.HeaderKey.TheVariants.{Version, Positions, Events, Event, Summary, Totals, Other}
+use Rattle.cg_text.specs.declared.words.HeaderKey.TheVariants.{Events}
 
 abbrev pub first_of : {A : Type 0} → Option A → A → Option A
 first_of None x = Some x

@@ -15,3 +15,6 @@ pub mod Places
 pub mod Parts
 pub mod Accept
 pub mod Stands
+pub mod Cut
+pub mod Ends
+pub mod Reads

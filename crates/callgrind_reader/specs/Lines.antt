@@ -1,5 +1,5 @@
 -- The record and the fault of a line, by itself and the lines before it.
-use Rattle.std.specs.Prelude.{ℕ, ◌^◌, Bool, List, [], ◌∷◌, nat_lt, if◌then◌else◌, Result, Ok, Err, Option, Some, None}
+use Rattle.std.specs.Prelude.{ℕ, List, [], ◌∷◌, nat_lt, if◌then◌else◌, Result, Ok, Err, Option, Some, None}
 use Rattle.cg_text.specs.Readings.{Reading}
 use Rattle.cg_text.specs.Kinds as kinds
 use Rattle.cg_text.specs.Kinds.{Nothing, Header, Name, Calls, Jump}
@@ -7,7 +7,6 @@ use Rattle.cg_text.specs.Fields.{fields_of}
 use Rattle.cg_text.specs.Names.{name_of}
 use Rattle.cg_text.specs.Numbers.{number_of, amount_of}
 use Rattle.cg_text.specs.Words.{namespace_of}
-use Rattle.cg_text.specs.declared.faults.Fault as fault
 use Rattle.cg_text.specs.declared.faults.Fault.{Fault}
 use Rattle.cg_text.specs.declared.faults.Fault.TheVariants as faults
 use Rattle.cg_text.specs.declared.words.HeaderKey.{HeaderKey}
@@ -23,6 +22,17 @@ use Rattle.callgrind_reader.specs.Calls.{number_after, awaiting, callee_of, coun
 
 -- ---- records
 
+-- costs at a line number, with the names in force
+abbrev pub cost_of : ℕ → List ℕ → List Reading → Cost
+cost_of line costs back = record {
+  at = number_after back;
+  object = in_force Object back;
+  file = in_force File back;
+  function = in_force Function back;
+  line = line;
+  costs = costs;
+}
+
 -- a self record, or the record of a call that waits for its cost line
 abbrev pub record_with : Option (ℕ × ℕ) → Cost → List Reading → Record
 record_with None cost back = Own cost
@@ -30,15 +40,7 @@ record_with (Some call) cost back = Called (callee_of call.1 back) cost
 
 abbrev pub row_record : Result (ℕ × List ℕ) Fault → List Reading → List Record
 row_record (Err fault) back = []
-row_record (Ok row) back =
-    record_with (awaiting back) (record {
-      at = number_after back;
-      object = in_force Object back;
-      file = in_force File back;
-      function = in_force Function back;
-      line = row.0;
-      costs = row.1;
-    }) back ∷ []
+row_record (Ok row) back = record_with (awaiting back) (cost_of row.0 row.1 back) back ∷ []
 
 -- the record of a line, if it has one
 abbrev pub record_of : Reading → List Reading → List Record

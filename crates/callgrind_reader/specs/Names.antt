@@ -1,8 +1,8 @@
 -- Identifiers, and the names in force. `back` are the lines before, the nearest first.
-use Rattle.std.specs.Prelude.{ℕ, Bool, true, false, ◌&&◌, List, [], ◌∷◌, ◌==◌, if◌then◌else◌, Result, Ok, Err, Option, Some, None, unwrap_or, is_some}
+use Rattle.std.specs.Prelude.{ℕ, Bool, true, false, ◌&&◌, List, [], ◌∷◌, ◌==◌, if◌then◌else◌, Result, Ok, Err, Option, Some, None, unwrap_or}
 use Rattle.std.specs.Str.{bytes_eq}
 use Rattle.cg_text.specs.Readings.{Reading}
-use Rattle.cg_text.specs.Kinds.{Nothing, Cost, Header, Name, Calls, Jump}
+use Rattle.cg_text.specs.Kinds.{Name}
 use Rattle.cg_text.specs.Names.{Spec, name_of, unknown}
 use Rattle.cg_text.specs.Words.{namespace_of, role_of}
 use Rattle.cg_text.specs.declared.faults.Fault.{Fault}

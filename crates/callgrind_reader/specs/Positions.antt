@@ -1,8 +1,7 @@
 -- Positions: an address, a line number, or both.
-use Rattle.std.specs.Prelude.{ℕ, ◌+◌, ◌-◌, ◌^◌, Bool, ◌&&◌, List, [], ◌∷◌, nat_le, nat_lt, if◌then◌else◌, codes, Result, Ok, Err, Option, Some, None, unwrap_or}
+use Rattle.std.specs.Prelude.{ℕ, ◌+◌, ◌-◌, ◌^◌, ◌&&◌, List, [], ◌∷◌, nat_le, nat_lt, if◌then◌else◌, codes, Result, Ok, Err, Option, Some, None, unwrap_or}
 use Rattle.std.specs.Str.{bytes_eq}
 use Rattle.cg_text.specs.Readings.{Reading}
-use Rattle.cg_text.specs.Kinds as kinds
 use Rattle.cg_text.specs.Kinds.{Header, Cost, Calls}
 use Rattle.cg_text.specs.Fields.{fields_of}
 use Rattle.cg_text.specs.Subpositions.{subpos_of}
@@ -12,7 +11,6 @@ use Rattle.cg_text.specs.declared.words.HeaderKey.TheVariants.{Positions}
 use Rattle.cg_text.specs.declared.positions.SubPos.{SubPos}
 use Rattle.cg_text.specs.declared.positions.SubPos.TheVariants.{Abs, Plus, Minus, Same}
 use Rattle.callgrind_reader.specs.Faulty.{◌>>=◌}
-use Rattle.callgrind_reader.specs.Events.{first_of}
 use Rattle.callgrind_reader.specs.declared.layouts.Layout.{Layout}
 use Rattle.callgrind_reader.specs.declared.layouts.Layout.TheVariants.{Line, InstrLine, Instr}
 

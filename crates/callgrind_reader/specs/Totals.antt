@@ -1,13 +1,12 @@
 -- The totals that a file states.
-use Rattle.std.specs.Prelude.{ℕ, ◌+◌, Bool, true, false, List, [], ◌∷◌, length, map, slice_index, ◌==◌, if◌then◌else◌, Result, Ok, Err, Option, Some, None}
+use Rattle.std.specs.Prelude.{ℕ, ◌+◌, Bool, true, false, List, [], ◌∷◌, map, slice_index, ◌==◌, if◌then◌else◌, Result, Ok, Err, Option, Some, None}
 use Rattle.std.specs.List.{range_with_len}
 use Rattle.cg_text.specs.Readings.{Reading}
 use Rattle.cg_text.specs.Kinds.{Header}
 use Rattle.cg_text.specs.Fields.{fields_of}
 use Rattle.cg_text.specs.Numbers.{amount_of}
 use Rattle.cg_text.specs.declared.faults.Fault.{Fault}
-use Rattle.cg_text.specs.declared.words.HeaderKey.{HeaderKey}
-use Rattle.cg_text.specs.declared.words.HeaderKey.TheVariants.{Version, Positions, Events, Event, Summary, Totals, Other}
+use Rattle.cg_text.specs.declared.words.HeaderKey.TheVariants.{Summary, Totals}
 use Rattle.callgrind_reader.specs.Faulty.{each}
 
 abbrev pub amounts_or_none : Result (List ℕ) Fault → List ℕ

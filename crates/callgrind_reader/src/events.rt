@@ -5,6 +5,7 @@ ghost use Rattle.std.specs.Str.{bytes_eq};
 ghost use Rattle.std.specs.Option.{ForSome};
 ghost use Rattle.cg_text.specs.Fields.{fields_of};
 ghost use Rattle.callgrind_reader.specs.Events.{first_of, are_distinct, same_names, events_fault};
+ghost use Rattle.callgrind_reader.specs.Files.{names_or_none};
 
 use crate::rows::field_count;
 use cg_text::{Fault, Items, next_field};
@@ -69,7 +70,7 @@ fn same_names(names: &[Items<u8>], others: &[Items<u8>]) -> bool
 /// The events of a file, once an `events:` line has named them.
 #[derive(Drop)]
 pub struct Events {
-    alloc: Global,
+    pub(crate) alloc: Global,
     pub(crate) names: Option<Items<Items<u8>>>,
     ghost few: { ForSome names (λ n. length n ≤ 64) },
 }
@@ -80,6 +81,17 @@ impl Events {
         ensures { result.names ≡ None }
     {
         Events { alloc, names: None }
+    }
+
+    /// The names of the events, none where no line named them.
+    pub fn into_names(self) -> Items<Items<u8>>
+        ensures { result ≡ names_or_none self.names }
+    {
+        let Events { alloc, names } = self;
+        match names {
+            Some(names) => names,
+            None => Items::new(alloc),
+        }
     }
 
     /// Takes the value of an `events:` line, and answers its fault.

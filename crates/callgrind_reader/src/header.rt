@@ -1,17 +1,19 @@
 // What header lines say of a file, and what cost lines settle of it.
-ghost use Rattle.std.specs.Prelude.{◌≡◌, ℕ, ◌+◌, ◌<◌, ◌≤◌, ◌^◌, ◌∷◌, List, [], IfOk, IfSome, Option, Some, None, Ok};
+ghost use Rattle.std.specs.Prelude.{◌≡◌, ℕ, ◌+◌, ◌<◌, ◌≤◌, ◌^◌, ◌∷◌, List, [], IfOk, IfSome, Option, Some, None, Ok, length};
 ghost use Rattle.cg_text.specs.Readings.{Reading};
 ghost use Rattle.cg_text.specs.Kinds as kinds;
 ghost use Rattle.callgrind_reader.specs.Positions.{or_line};
 ghost use Rattle.cg_text.specs.declared.words.HeaderKey.TheVariants.{Positions, Summary, Totals};
 ghost use Rattle.callgrind_reader.specs.Lines.{header_fault};
+ghost use Rattle.callgrind_reader.specs.Files.{names_or_none};
+ghost use Rattle.callgrind_reader.specs.Totals.{stated_of};
 
 use crate::events::Events;
 use crate::headers::{form_of, positions_fault, version_fault};
 use crate::layouts::Layout;
 use crate::rows::push_amounts;
 use crate::totals::Sums;
-use cg_text::{Fault, HeaderKey};
+use cg_text::{Fault, FileHead, HeaderKey, Items};
 use std::alloc::{AllocError, Global};
 
 /// What is known of a file's header.
@@ -26,6 +28,7 @@ pub struct Header {
 
 impl Header {
     ghost use Rattle.callgrind_reader.specs.Stands.{HeaderIs};
+    ghost use Rattle.callgrind_reader.specs.Ends.{HeadIs};
 
     /// No line was read.
     pub fn new(alloc: Global) -> Result<Header, AllocError>
@@ -128,5 +131,52 @@ impl Header {
             HeaderKey::Totals => self.totals_line(value),
             HeaderKey::Event | HeaderKey::Other => Ok(None),
         }
+    }
+
+    /// How many events there are.
+    fn event_count(&self) -> usize
+        ensures value { result ≡ length (names_or_none self.now.events.names) }
+        ensures few { result ≤ 64 }
+    {
+        match &self.events.names {
+            Some(names) => names.len(),
+            None => 0,
+        }
+    }
+
+    /// The totals that the lines so far state, one for each event.
+    #[tactic(auto, using(crate::proofs::TotalsLemmas::totals_rules))]
+    fn stated(&self) -> Result<Option<Items<u128>>, AllocError>
+        ensures { IfOk result (λ stated. (back : List Reading) → HeaderIs self.now back → stated ≡ stated_of (length (names_or_none self.now.events.names)) back) }
+    {
+        let count = self.event_count();
+        if count == 0 {
+            return Ok(None);
+        }
+        if self.totals.lines > 0 {
+            return Ok(Some(self.totals.first(self.events.alloc, count)?));
+        }
+        if self.summary.lines > 0 {
+            return Ok(Some(self.summary.first(self.events.alloc, count)?));
+        }
+        Ok(None)
+    }
+
+    /// What the lines so far say of their file.
+    pub fn into_head(self) -> Result<FileHead, AllocError>
+        ensures { IfOk result (λ head. (back : List Reading) → HeaderIs self back → HeadIs head back) }
+    {
+        let stated = self.stated()?;
+        let Header {
+            events,
+            layout: _,
+            totals: _,
+            summary: _,
+            amounts: _,
+        } = self;
+        Ok(FileHead {
+            events: events.into_names(),
+            stated,
+        })
     }
 }

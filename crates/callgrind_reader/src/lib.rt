@@ -4,9 +4,11 @@
 mod events;
 mod header;
 mod headers;
+mod laws;
 mod layouts;
 mod names;
 mod places;
+mod reader;
 mod rows;
 mod sink;
 mod spaces;
@@ -14,5 +16,7 @@ mod state;
 mod tables;
 mod totals;
 
+pub use laws::{handed_on_at_each_moment, looking_back_is_exact};
 pub use layouts::Layout;
+pub use reader::{FILE_LIMIT, Reader};
 pub use sink::{CallCost, SelfCost, Sink};

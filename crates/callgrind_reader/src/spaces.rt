@@ -1,5 +1,5 @@
 // The names of a name space: what identifiers mean, and which names are in force.
-ghost use Rattle.std.specs.Prelude.{◌≡◌, ℕ, IfOk, IfSome, OnOk, Some, None, if◌then◌else◌};
+ghost use Rattle.std.specs.Prelude.{◌≡◌, ℕ, IfOk, IfSome, OnOk, Some, None, unwrap_or, if◌then◌else◌};
 ghost use Rattle.cg_text.specs.Names as names;
 ghost use Rattle.cg_text.specs.Names.{name_of};
 ghost use Rattle.cg_text.specs.declared.words.Role.TheVariants.{Own, Called};
@@ -70,7 +70,6 @@ impl Space {
     ghost use Rattle.std.specs.Prelude.{List, []};
     ghost use Rattle.cg_text.specs.declared.words.Namespace.{Namespace};
     ghost use Rattle.callgrind_reader.specs.Space.{SpaceIs, called_name};
-    ghost use Rattle.std.specs.Option.{option_copied};
 
     /// Nothing is named yet.
     pub fn new(alloc: Global) -> Result<Space, AllocError>
@@ -92,15 +91,11 @@ impl Space {
         &self.own
     }
 
-    /// The called name, if one was given since the last call.
-    pub fn called(&self) -> Option<&[u8]>
-        ensures { option_copied result ≡ called_name self.now }
+    /// The name of what is called: the called name, or else another.
+    pub fn called_or<'a>(&'a self, other: &'a [u8]) -> &'a [u8]
+        ensures { result.now ≡ unwrap_or (called_name self.now) other.now }
     {
-        if self.is_called {
-            Some(&self.called)
-        } else {
-            None
-        }
+        if self.is_called { &self.called } else { other }
     }
 
     /// Forgets the called name.

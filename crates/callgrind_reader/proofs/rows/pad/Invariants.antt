@@ -1,4 +1,4 @@
-use Rattle.std.proofs.Common.{◌≡◌, ◌-◌, ◌<◌, ◌≤◌, ◌^◌, ◌++◌, length, replicate, vec_len, All}
+use Rattle.std.proofs.Common.{◌≡◌, ◌-◌, ◌<◌, ◌≤◌, ◌^◌, vec_len, All}
 use Rattle.callgrind_reader.specs.Costs.{padded}
 use Rattle.callgrind_reader.proofs.rows.pad.Given as goal
 

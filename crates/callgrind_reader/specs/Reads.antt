@@ -1,0 +1,46 @@
+-- When a reader stands for a text, having handed out some records; and what a file comes to.
+use Rattle.std.specs.Prelude.{◌≡◌, ℕ, ◌-◌, ◌<◌, ◌≤◌, true, List, length, MatchBool, Option, Some, None, IfSome, Result, Ok, Err}
+use Rattle.cg_text.specs.declared.heads.FileHead.{FileHead}
+use Rattle.cg_text.specs.declared.faults.ReadEnd.{ReadEnd}
+use Rattle.cg_text.specs.declared.faults.ReadEnd.TheVariants as ends
+use Rattle.callgrind_reader.specs.declared.reader.Reader.{Reader}
+use Rattle.callgrind_reader.specs.Records.{Record}
+use Rattle.callgrind_reader.specs.Files.{fault_of_file, events_of_file, stated_of_file}
+use Rattle.callgrind_reader.specs.Accept.{held}
+use Rattle.callgrind_reader.specs.Cut.{cut, back_of}
+use Rattle.callgrind_reader.specs.Stands.{StandsAfter, count_of}
+
+-- the reader stands for the text so far, and has handed out these records
+pub record Reads (r : Reader) (text : List ℕ) (told : List Record) : Type 0 where
+  pub lines : StandsAfter r.state (back_of text)
+  pub rest : MatchBool r.too_long (1048576 < length (cut text).rest) (r.partial.items ≡ (cut text).rest)
+  pub handed : told ≡ held (back_of text)
+
+-- a sink with this last line and this width of records would take the next record
+abbrev pub Takes : Reader → ℕ → Option ℕ → Type 0
+Takes r last width = (last ≤ r.state.lines) × IfSome width (λ n. count_of r.state.header.events.names ≡ Some n)
+
+-- how many bytes the reader still takes
+abbrev pub room_of : Reader → ℕ
+room_of r = 1073741824 - r.taken
+
+-- memory ran out
+abbrev pub IsSpent : Reader → Type 0
+IsSpent r = r.spent ≡ true
+
+-- the events and the stated totals of a file
+pub record HeadOfFile (head : FileHead) (text : List ℕ) : Type 0 where
+  pub events : head.events ≡ events_of_file text
+  pub stated : head.stated ≡ stated_of_file text
+
+-- a head exactly where the file is accepted, else its first fault
+abbrev pub Ended : Result FileHead ReadEnd → List ℕ → Type 0
+Ended (Ok head) text = (fault_of_file text ≡ None) × HeadOfFile head text
+Ended (Err (ends.Fault fault line)) text = fault_of_file text ≡ Some (fault, line)
+Ended (Err ends.Memory) text = Unit {0}
+
+-- one fact where memory did not run out, and another where it did
+abbrev pub MatchMemory : Result FileHead ReadEnd → Type 0 → Type 0 → Type 0
+MatchMemory (Ok head) P Q = P
+MatchMemory (Err (ends.Fault fault line)) P Q = P
+MatchMemory (Err ends.Memory) P Q = Q
