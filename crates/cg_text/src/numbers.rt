@@ -1,6 +1,7 @@
 // Numbers in fields.
-ghost use Rattle.std.specs.Prelude.{◌≡◌, ◌*◌, ◌+◌, ◌<◌, ◌≤◌, ◌^◌, IfOk, MatchOption};
+ghost use Rattle.std.specs.Prelude.{◌≡◌, ◌*◌, ◌+◌, ◌<◌, ◌≤◌, ◌^◌, IsTrue, IfOk, MatchOption, if◌then◌else◌};
 ghost use Rattle.std.specs.List.{list_all};
+ghost use Rattle.cg_text.specs.declared.faults.Fault.TheVariants.{BadNumber, NumberTooLarge};
 ghost use Rattle.cg_text.specs.Numbers.{is_digit, is_hex_digit, digit_value, value_in, digits_in, number_of, amount_of};
 
 use crate::faults::Fault;
@@ -58,14 +59,43 @@ fn all_hex_digits(field: &[u8]) -> bool
     field.iter().all(|b| is_hex_digit(*b))
 }
 
-/// The number of decimal digits.
+/// One more decimal digit behind a number, or nothing where that is 2^64 or more.
+fn with_digit(value: u64, digit: u8) -> Option<u64>
+    requires { IsTrue (is_digit digit) }
+    ensures { MatchOption result (2 ^ 64 ≤ value * 10 + digit_value digit) (λ n. n ≡ value * 10 + digit_value digit) }
+{
+    value.checked_mul(10)?.checked_add(u64::from(digit - b'0'))
+}
+
+/// The fault of digits whose number is too large, unless one of them is none.
+fn large_or_bad(digits: &[u8]) -> Fault
+    ensures { result ≡ (if list_all is_digit digits.now then NumberTooLarge else BadNumber) }
+{
+    if all_digits(digits) {
+        Fault::NumberTooLarge
+    } else {
+        Fault::BadNumber
+    }
+}
+
+/// The number of decimal digits, in one pass.
 fn decimal(digits: &[u8]) -> Result<u64, Fault>
     ensures { result ≡ digits_in 10 is_digit digits.now }
 {
-    if digits.is_empty() || !all_digits(digits) {
+    if digits.is_empty() {
         return Err(Fault::BadNumber);
     }
-    value_in(10, digits).ok_or(Fault::NumberTooLarge)
+    let mut value: u64 = 0;
+    for b in digits {
+        if !is_digit(*b) {
+            return Err(Fault::BadNumber);
+        }
+        match with_digit(value, *b) {
+            Some(next) => value = next,
+            None => return Err(large_or_bad(digits)),
+        }
+    }
+    Ok(value)
 }
 
 /// The number of hexadecimal digits.
@@ -84,9 +114,9 @@ fn hexadecimal(digits: &[u8]) -> Result<u64, Fault>
 pub fn number(field: &[u8]) -> Result<u64, Fault>
     ensures { result ≡ number_of field.now }
 {
-    match field.strip_prefix(b"0x") {
-        Some(digits) => hexadecimal(digits),
-        None => decimal(field),
+    match field {
+        [b'0', b'x', digits @ ..] => hexadecimal(digits),
+        _ => decimal(field),
     }
 }
 
