@@ -85,7 +85,8 @@ impl Events {
 
     /// The names of the events, none where no line named them.
     pub fn into_names(self) -> Items<Items<u8>>
-        ensures { result ≡ names_or_none self.names }
+        ensures names { result ≡ names_or_none self.names }
+        ensures few { length result ≤ 64 }
     {
         let Events { alloc, names } = self;
         match names {

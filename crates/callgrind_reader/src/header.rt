@@ -164,7 +164,8 @@ impl Header {
 
     /// What the lines so far say of their file.
     pub fn into_head(self) -> Result<FileHead, AllocError>
-        ensures { IfOk result (λ head. (back : List Reading) → HeaderIs self back → HeadIs head back) }
+        ensures head { IfOk result (λ head. (back : List Reading) → HeaderIs self back → HeadIs head back) }
+        ensures few { IfOk result (λ head. length head.events ≤ 64) }
     {
         let stated = self.stated()?;
         let Header {

@@ -274,6 +274,7 @@ impl Reader {
         ensures told { (text : List ℕ) (told : List Record) → Reads self text told → MatchMemory result
             ((more : List Record) × (records_of_file text ≡ told ++ more) × (S.meaning sink.new ≡ fold S.step (S.meaning sink.old) more))
             ((more : List Record) × IsPrefix (told ++ more) (records_of_file text) × (S.meaning sink.new ≡ fold S.step (S.meaning sink.old) more)) }
+        ensures few { IfOk result (λ head. length head.events ≤ 64) }
         ensures spent { IsSpent self → result ≡ Err Memory }
     {
         let Reader {

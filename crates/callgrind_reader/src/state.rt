@@ -323,7 +323,8 @@ impl State {
 
     /// What the file comes to if no more lines come: its head, or its first fault.
     pub fn head(self) -> Result<FileHead, ReadEnd>
-        ensures { (back : List Reading) → StandsAfter self back → Comes result back }
+        ensures comes { (back : List Reading) → StandsAfter self back → Comes result back }
+        ensures few { IfOk result (λ head. length head.events ≤ 64) }
     {
         if let Some((fault, line)) = self.fault {
             return Err(ReadEnd::Fault(fault, line));

@@ -12,7 +12,7 @@ use Rattle.callgrind_reader.proofs.reader.Reader.finish.Goals as goal
 pub returns-clause-ended : goal.returns-clause-ended
 returns-clause-ended g c = λ text told reads.
     let stands = c.in_ok-last_line.ensures.stands text reads.lines (rw c.deref.ensures.value reads.rest) in
-    ended c.head.result text (c.head.ensures (end_of text) stands)
+    ended c.head.result text (c.head.ensures.comes (end_of text) stands)
 
 pub returns-clause-told : goal.returns-clause-told
 returns-clause-told g c = λ text told reads.

@@ -1,0 +1,2 @@
+pub mod SumsLemmas
+pub mod TotalsLemmas

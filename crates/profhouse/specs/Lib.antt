@@ -1,0 +1,5 @@
+pub mod Escapes
+pub mod TotalLines
+pub mod Sums
+pub mod Totals
+pub mod Answers
