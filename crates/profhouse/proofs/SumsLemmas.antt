@@ -7,7 +7,7 @@ use Rattle.callgrind_reader.specs.Records.{Record, Own, Called}
 use Rattle.profhouse.specs.Sums.{self_sum, add_costs, add_record}
 
 cases_lt : (j k : ℕ) → (j < k) ⊎ (k ≤ j)
-cases_lt j k = elim (cases_Bool (ltb j k)) [ | inl e ↦ inl (ltb-true j k e) | inr e ↦ inr (ltb-false j k e) ]
+cases_lt j k = elim (cases_Bool (ltb j k)) [ inl e ↦ inl (ltb-true j k e) | inr e ↦ inr (ltb-false j k e) ]
 
 -- sums that have grown by these costs
 pub add_costs_is : (new sums costs : List ℕ) → length new ≡ 64 → ((k : ℕ) → k < 64 → slice_index new k ≡ slice_index sums k + slice_index costs k) → new ≡ add_costs sums costs
