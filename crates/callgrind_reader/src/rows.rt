@@ -52,9 +52,7 @@ fn pad(row: &mut Vec<u64>, len: usize) -> Result<(), AllocError>
     ensures full { OnOk result (length row.new.items ≡ len) }
     ensures small { OnOk result (All (λ c. c < 2 ^ 63) row.old.items → All (λ c. c < 2 ^ 63) row.new.items) }
 {
-    while row.len() < len {
-        row.push(0)?;
-    }
+    row.resize(len, 0)?;
     Ok(())
 }
 

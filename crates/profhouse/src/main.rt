@@ -5,6 +5,8 @@ mod commands;
 mod escapes;
 mod lines;
 mod sums;
+#[cfg(test)]
+mod tests;
 mod totals;
 
 use std::io::{self, Write};

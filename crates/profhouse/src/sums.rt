@@ -41,10 +41,9 @@ impl CostSums {
         ensures width { self.new.width ≡ self.old.width }
     {
         self.last = at;
-        for k in 0..costs.len() {
-            if k < MOST_EVENTS {
-                self.sums[k] += u128::from(costs[k]);
-            }
+        let count = costs.len().min(MOST_EVENTS);
+        for k in 0..count {
+            self.sums[k] += u128::from(costs[k]);
         }
     }
 }
