@@ -1,39 +1,74 @@
--- What the sink keeps are the sums of the columns over the self records.
-use Rattle.std.proofs.Common.{inl, inr, ◌⊎◌, ltb, ◌≤◌, ◌≡◌, ℕ, ◌+◌, ◌<◌, List, [], ◌∷◌, length, fold, replicate, slice_index, sym, ◌∙◌, ap, arith, add_assoc, add-zero}
-use Rattle.std.proofs.lemmas.Bool.{cases_Bool, ltb-true, ltb-false}
-use Rattle.std.proofs.lemmas.List.{get_or-replicate, get_or_past}
-use Rattle.std.proofs.lemmas.List.FromFn.{fill_by_all, get_or-map-range_with_len}
+-- Sums by column: what the sink keeps is the sum of each column over the self records.
+use Rattle.std.proofs.Common.{◌≡◌, ℕ, ◌+◌, ◌*◌, ◌<◌, ◌≤◌, zero, suc, List, [], ◌∷◌, ◌++◌, length, replicate, fold, slice_index, slice_index_or, All, lit<, ◌^◌, sym, ◌∙◌, ap, refl, inl, inr, arith, add_assoc, add-zero, zero-add}
+use Rattle.std.proofs.lemmas.List.{ext_get_or, get_or_past}
+use Rattle.std.proofs.lemmas.Bool.{cases_lt}
+use Rattle.std.proofs.lemmas.List.Elements.{All-from_get_or}
 use Rattle.callgrind_reader.specs.Records.{Record, Own, Called}
 use Rattle.profhouse.specs.Sums.{self_sum, add_costs, add_record}
 
-pub cases_lt : (j k : ℕ) → (j < k) ⊎ (k ≤ j)
-cases_lt j k = elim (cases_Bool (ltb j k)) [ inl e ↦ inl (ltb-true j k e) | inr e ↦ inr (ltb-false j k e) ]
+pub slice_index-add_costs : (sums costs : List ℕ) (k : ℕ) → slice_index (add_costs sums costs) k ≡ slice_index sums k + slice_index costs k
+slice_index-add_costs [] costs k = sym (zero-add (slice_index costs k))
+slice_index-add_costs (sum ∷ sums) [] k = sym (add-zero (slice_index (sum ∷ sums) k))
+slice_index-add_costs (sum ∷ sums) (cost ∷ costs) zero = refl
+slice_index-add_costs (sum ∷ sums) (cost ∷ costs) (suc k) = slice_index-add_costs sums costs k
 
--- sums that have grown by these costs
-pub add_costs_is : (new sums costs : List ℕ) → length new ≡ 64 → ((k : ℕ) → k < 64 → slice_index new k ≡ slice_index sums k + slice_index costs k) → new ≡ add_costs sums costs
-add_costs_is new sums costs wide each = fill_by_all (λ k. slice_index sums k + slice_index costs k) new 64 0 wide each
+pub length-add_costs : (sums costs : List ℕ) → length costs ≤ length sums → length (add_costs sums costs) ≡ length sums
+length-add_costs [] [] few = refl
+length-add_costs [] (cost ∷ costs) few = absurd (omega arith)
+length-add_costs (sum ∷ sums) [] few = refl
+length-add_costs (sum ∷ sums) (cost ∷ costs) few = ap (λ n. suc n) (length-add_costs sums costs (omega arith))
 
-not_both : (n k j : ℕ) → (n ≤ k) ⊎ (64 ≤ k) → k ≤ j → j < 64 → n ≤ j
-not_both n k j (inl few) le below = omega arith
-not_both n k j (inr wide) le below = absurd (omega arith)
+add_costs-zeros : (costs : List ℕ) → add_costs (replicate (length costs) 0) costs ≡ costs
+add_costs-zeros [] = refl
+add_costs-zeros (cost ∷ costs) = ap (λ c. c ∷ add_costs (replicate (length costs) 0) costs) (zero-add cost) ∙ ap (λ cs. cost ∷ cs) (add_costs-zeros costs)
 
--- the same where the columns before k have grown by their costs, and no cost stands from k on
-pub grown_is : (new sums costs : List ℕ) (k : ℕ) → length new ≡ 64 → (length costs ≤ k) ⊎ (64 ≤ k) → ((j : ℕ) → j < k → j < 64 → slice_index new j ≡ slice_index sums j + slice_index costs j) → ((j : ℕ) → k ≤ j → slice_index new j ≡ slice_index sums j) → new ≡ add_costs sums costs
-grown_is new sums costs k wide ends added kept =
-    add_costs_is new sums costs wide (λ j below. elim (cases_lt j k) [
-      | inl lt ↦ added j lt below
-      | inr le ↦ let past : slice_index costs j ≡ 0 = get_or_past costs j 0 (not_both (length costs) k j ends le below) in let same = kept j le in omega (arith, past, same)
-    ])
+-- zeros for the columns that the sums lack change nothing
+pub add_costs-widened : (sums costs : List ℕ) (n : ℕ) → length sums + n ≡ length costs → add_costs (sums ++ replicate n 0) costs ≡ add_costs sums costs
+add_costs-widened [] costs n e = let same : n ≡ length costs = omega arith in rw same (add_costs-zeros costs)
+add_costs-widened (sum ∷ sums) [] n e = absurd (omega arith)
+add_costs-widened (sum ∷ sums) (cost ∷ costs) n e = ap (λ cs. (sum + cost) ∷ cs) (add_costs-widened sums costs n (omega arith))
 
-slice_index-fold : (records : List Record) (sums : List ℕ) (k : ℕ) → k < 64 → slice_index (fold add_record sums records) k ≡ slice_index sums k + self_sum k records
-slice_index-fold [] sums k below = sym (add-zero (slice_index sums k))
-slice_index-fold (Own cost ∷ records) sums k below =
-    slice_index-fold records (add_costs sums cost.costs) k below
-    ∙ ap (λ n. n + self_sum k records) (get_or-map-range_with_len (λ j. slice_index sums j + slice_index cost.costs j) 0 64 k k 0 below (omega arith))
+-- what the sink keeps
+pub slice_index-fold : (records : List Record) (sums : List ℕ) (k : ℕ) → slice_index (fold add_record sums records) k ≡ slice_index sums k + self_sum k records
+slice_index-fold [] sums k = sym (add-zero (slice_index sums k))
+slice_index-fold (Own cost ∷ records) sums k =
+    slice_index-fold records (add_costs sums cost.costs) k
+    ∙ ap (λ n. n + self_sum k records) (slice_index-add_costs sums cost.costs k)
     ∙ add_assoc (slice_index sums k) (slice_index cost.costs k) (self_sum k records)
-slice_index-fold (Called callee cost ∷ records) sums k below = slice_index-fold records sums k below
+slice_index-fold (Called callee cost ∷ records) sums k = slice_index-fold records sums k
 
--- from nothing
-pub slice_index-sums : (records : List Record) (k : ℕ) → k < 64 → slice_index (fold add_record (replicate 64 0) records) k ≡ self_sum k records
-slice_index-sums records k below =
-    slice_index-fold records (replicate 64 0) k below ∙ (let zero_there : slice_index (replicate 64 0) k ≡ 0 = get_or-replicate 64 k 0 0 below in omega (arith, zero_there))
+-- each of the first n columns has its cost, and no further column has one
+by_column : (sums costs new : List ℕ) (n k : ℕ) → length costs ≤ n → (k < n → slice_index new k ≡ slice_index sums k + slice_index costs k) → (n ≤ k → slice_index new k ≡ slice_index sums k) → slice_index new k ≡ slice_index sums k + slice_index costs k
+by_column sums costs new n k few added kept = elim (cases_lt k n) [
+  | inl below ↦ added below
+  | inr past ↦ rw (get_or_past costs k 0 (omega arith)) (kept past ∙ sym (add-zero (slice_index sums k)))
+]
+
+-- sums to which the first n columns of costs were added, where there are no more, are the sums with the costs
+pub add_costs-by_column : (sums costs new : List ℕ) (n : ℕ) → length costs ≤ length sums → length new ≡ length sums → length costs ≤ n → ((k : ℕ) → k < n → slice_index new k ≡ slice_index sums k + slice_index costs k) → ((k : ℕ) → n ≤ k → slice_index new k ≡ slice_index sums k) → new ≡ add_costs sums costs
+add_costs-by_column sums costs new n wide same few added kept =
+    ext_get_or 0 new (add_costs sums costs) (same ∙ sym (length-add_costs sums costs wide))
+    (λ k below. by_column sums costs new n k few (added k) (kept k) ∙ sym (slice_index-add_costs sums costs k))
+
+at_most : (xs : List ℕ) (k n : ℕ) → All (λ x. x ≤ n) xs → slice_index xs k ≤ n
+at_most [] k n all = omega arith
+at_most (x ∷ xs) zero n all = all 0 0 (omega arith)
+at_most (x ∷ xs) (suc k) n all = at_most xs k n (λ j d below. all (suc j) d (omega arith))
+
+below_bound : (xs : List ℕ) (k n : ℕ) → 0 < n → All (λ x. x < n) xs → slice_index xs k < n
+below_bound [] k n some all = some
+below_bound (x ∷ xs) zero n some all = all 0 0 (omega arith)
+below_bound (x ∷ xs) (suc k) n some all = below_bound xs k n some (λ j d below. all (suc j) d (omega arith))
+
+-- the bound on the sums rises with each record
+pub small-add_costs : (sums costs : List ℕ) (n more : ℕ) → n < more → All (λ s. s ≤ n * 2 ^ 63) sums → All (λ c. c < 2 ^ 63) costs → All (λ s. s ≤ more * 2 ^ 63) (add_costs sums costs)
+small-add_costs sums costs n more rises small low =
+    All-from_get_or (λ s. s ≤ more * 2 ^ 63) (add_costs sums costs) 0
+    (λ k below.
+    let sum : slice_index sums k ≤ n * 2 ^ 63 = at_most sums k (n * 2 ^ 63) small in
+    let cost : slice_index costs k < 2 ^ 63 = below_bound costs k (2 ^ 63) (lit< tt) low in
+    rw (slice_index-add_costs sums costs k) (omega arith))
+
+-- sums within a bound stay so where it rises
+pub small-rises : (sums : List ℕ) (n more : ℕ) → n ≤ more → All (λ s. s ≤ n * 2 ^ 63) sums → All (λ s. s ≤ more * 2 ^ 63) sums
+small-rises sums n more rises small = λ k d below. let here : slice_index_or sums k d ≤ n * 2 ^ 63 = small k d below in omega arith

@@ -2,4 +2,5 @@ pub mod Escapes
 pub mod TotalLines
 pub mod Sums
 pub mod Totals
-pub mod Answers
+pub mod Running
+pub mod Readers

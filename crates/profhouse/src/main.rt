@@ -1,41 +1,50 @@
 //! A warehouse of run profiles whose every figure is exact.
 #![tactic(auto)]
 
-mod commands;
+mod command;
 mod escapes;
+mod files;
 mod lines;
 mod sums;
 #[cfg(test)]
 mod tests;
-mod totals;
+mod total;
 
-use std::io::{self, Write};
+use anyhow::Result;
+use clap::error::ErrorKind;
+use command::{Command, read_command};
+use files::total_file;
+use std::alloc::AllocError;
+use std::io::Write;
 use std::process::ExitCode;
-use totals::total_file;
+use std::rt::{Env, Files};
+use std::{env, io};
+use total::TotalText;
 
-/// Prints the total of a file. The status is 0 where the file is accepted, else 1.
-fn print_total(rt: &HostRuntime, path: &str) -> anyhow::Result<ExitCode> {
-    let Ok(total) = total_file(rt, path) else {
-        println!(rt; "refused: out of memory")?;
-        return Ok(ExitCode::from(1));
+/// Prints what a command came to.
+fn print_total<R: Print>(rt: &R, total: Result<TotalText, AllocError>) -> io::Result<ExitCode> {
+    let mut out = io::writer(rt);
+    let Ok(total) = total else {
+        out.write_all(b"refused: out of memory\n")?;
+        return Ok(ExitCode::FAILURE);
     };
-    io::writer(rt).write_all(total.text.as_slice())?;
-    Ok(ExitCode::from(if total.accepted { 0 } else { 1 }))
+    out.write_all(total.text.as_slice())?;
+    Ok(if total.accepted {
+        ExitCode::SUCCESS
+    } else {
+        ExitCode::FAILURE
+    })
 }
 
-fn main(rt: HostRuntime) -> anyhow::Result<ExitCode> {
-    let alloc = rt.alloc();
-    let words: Vec<String> = std::env::args(&rt)?.collect(alloc)?;
-    let command = commands::command(alloc)?;
-    let matches = match command.try_get_matches_from(words.as_slice()) {
-        Ok(matches) => matches,
+fn main(rt: HostRuntime) -> Result<ExitCode> {
+    let words: Vec<String> = env::args(&rt)?.collect(rt.alloc())?;
+    let code = match read_command(rt.alloc(), words.as_slice()) {
+        Ok(Command::Total { path }) => print_total(&rt, total_file(&rt, path))?,
+        Err(error) if error.kind() == ErrorKind::OutOfMemory => print_total(&rt, Err(AllocError))?,
         Err(error) => {
             error.print(&rt)?;
-            let status = if error.use_stderr() { 2 } else { 0 };
-            return Ok(ExitCode::from(status));
+            ExitCode::from(error.exit_code() as u8)
         }
     };
-    let total = matches.subcommand_matches("total");
-    let path = total.and_then(|total| total.get_str("file"));
-    print_total(&rt, path.unwrap_or(""))
+    Ok(code)
 }
