@@ -95,6 +95,7 @@ impl Reader {
         ensures reads { IfOk result (λ r. Reads r [] []) }
         ensures takes { IfOk result (λ r. (last : ℕ) → last ≡ 0 → Takes r last None) }
         ensures room { IfOk result (λ r. room_of r ≡ 1073741824) }
+        ensures fresh { IfOk result (λ r. IsSpent r → ⊥) }
     {
         Ok(Reader {
             state: State::new(alloc)?,
@@ -245,13 +246,14 @@ impl Reader {
     /// again.
     pub fn feed<S: Sink>(&mut self, piece: &[u8], sink: &mut S) -> Result<(), AllocError>
         requires room { length piece.now ≤ room_of self.old }
-        requires takes { Takes self.old (S.last sink.old) (S.width sink.old) }
+        requires takes { (IsSpent self.old → ⊥) → Takes self.old (S.last sink.old) (S.width sink.old) }
         ensures reads { OnOk result ((text : List ℕ) (told : List Record) → Reads self.old text told
             → (more : List Record) × Reads self.new (text ++ piece.now) (told ++ more) × (S.meaning sink.new ≡ fold S.step (S.meaning sink.old) more)) }
         ensures so_far { OnOk result ((text : List ℕ) (told : List Record) → Reads self.old text told
             → (more : List Record) × (records_so_far (text ++ piece.now) ≡ told ++ more) × (S.meaning sink.new ≡ fold S.step (S.meaning sink.old) more)) }
         ensures takes { OnOk result (Takes self.new (S.last sink.new) (S.width sink.new)) }
         ensures room { OnOk result (room_of self.new + length piece.now ≡ room_of self.old) }
+        ensures fresh { OnOk result (IsSpent self.new → ⊥) }
         ensures spent { IsSpent self.old → IsErr result }
         ensures err { OnErr result (IsSpent self.new) }
         ensures prefix { OnErr result ((text : List ℕ) (told : List Record) → Reads self.old text told
@@ -269,7 +271,7 @@ impl Reader {
     /// Ends the file: hands on the record of its last line, if that has no end, and answers the
     /// file's head or its first fault.
     pub fn finish<S: Sink>(self, sink: &mut S) -> Result<FileHead, ReadEnd>
-        requires { Takes self (S.last sink.old) (S.width sink.old) }
+        requires { (IsSpent self → ⊥) → Takes self (S.last sink.old) (S.width sink.old) }
         ensures ended { (text : List ℕ) (told : List Record) → Reads self text told → Ended result text }
         ensures told { (text : List ℕ) (told : List Record) → Reads self text told → MatchMemory result
             ((more : List Record) × (records_of_file text ≡ told ++ more) × (S.meaning sink.new ≡ fold S.step (S.meaning sink.old) more))
