@@ -139,6 +139,20 @@ fn refused_files(rt: HostRuntime) -> Result<(), Fail> {
     Ok(())
 }
 
+/// Under `rt try --test --fail-alloc` an allocation is refused: then the first call says so, and the
+/// second has the answer.
+#[test]
+fn memory_refused_once(rt: HostRuntime) -> Result<(), Fail> {
+    let (_, file, text) = ACCEPTED[0];
+    assert!(rt; file.len() <= 1_000_000);
+    if let Ok(total) = total_text(rt.alloc(), file) {
+        assert!(rt; has_text(&total, text) && total.accepted);
+    }
+    let total = total_text(rt.alloc(), file)?;
+    assert!(rt; has_text(&total, text) && total.accepted);
+    Ok(())
+}
+
 #[test]
 fn absent_file(rt: HostRuntime) -> Result<(), Fail> {
     let total = total_file(&rt, "no_such_file.cg")?;
