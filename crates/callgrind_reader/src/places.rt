@@ -27,6 +27,7 @@ pub struct PlacedLine<'a> {
 }
 
 /// The position that a subposition says, from the one before, up to a largest one.
+#[inline(always)]
 fn next_position(before: u64, by: SubPos, largest: u64) -> Result<u64, Fault>
     requires { before ≤ largest }
     ensures value { (u d : ℕ) → before + d ≡ u → result ≡ ranged (largest + 1) (up by u) (down by d) }
@@ -46,6 +47,7 @@ fn next_position(before: u64, by: SubPos, largest: u64) -> Result<u64, Fault>
 }
 
 /// The position that a field says.
+#[inline(always)]
 fn position(field: &[u8], before: u64, largest: u64) -> Result<u64, Fault>
     requires { before ≤ largest }
     ensures value { (u d : ℕ) → before + d ≡ u → result ≡ placed (largest + 1) (Some field.now) u d }
@@ -82,6 +84,7 @@ impl Places {
     }
 
     /// Reads a line number.
+    #[inline(always)]
     fn read_line<'a>(self, text: &'a [u8]) -> Result<PlacedLine<'a>, Fault>
         ensures value { IfOk result (λ p. (o : Offsets) → IsPlaced self o → place_of Line o (fields_of text.now) ≡ Ok p.line) }
         ensures fault { IfErr result (λ f. (o : Offsets) → IsPlaced self o → width Line ≤ length (fields_of text.now) → place_of Line o (fields_of text.now) ≡ Err f) }

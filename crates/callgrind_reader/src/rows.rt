@@ -29,6 +29,7 @@ pub fn field_count(text: &[u8]) -> usize
 }
 
 /// Adds the amounts of a text's fields to a row, and answers the first fault.
+#[inline(always)]
 pub fn push_amounts(row: &mut Vec<u64>, text: &[u8]) -> Result<Option<Fault>, AllocError>
     ensures value { IfOk result (λ f. list_or f row.new.items ≡ with_front row.old.items (each amount_of (fields_of text.now))) }
     ensures count { IfOk result (λ f. f ≡ None → length row.new.items ≡ length row.old.items + length (fields_of text.now)) }
@@ -46,6 +47,7 @@ pub fn push_amounts(row: &mut Vec<u64>, text: &[u8]) -> Result<Option<Fault>, Al
 }
 
 /// Fills a row with zeros up to a length.
+#[inline(always)]
 fn pad(row: &mut Vec<u64>, len: usize) -> Result<(), AllocError>
     requires { vec_len row.old ≤ len }
     ensures value { OnOk result (row.new.items ≡ padded len row.old.items) }
@@ -71,6 +73,7 @@ fn shape_fault(layout: Layout, events: usize, text: &[u8]) -> Option<Fault>
 }
 
 /// Reads the fields of a cost line from left to right: its positions, and its costs into a row.
+#[inline(always)]
 fn read_fields<'a>(
     row: &mut Vec<u64>,
     layout: Layout,
@@ -96,6 +99,7 @@ fn read_fields<'a>(
 }
 
 /// Reads a cost line: its positions, and its costs into a row, one for each event.
+#[inline(always)]
 pub fn cost_row<'a>(
     row: &mut Vec<u64>,
     events: usize,

@@ -11,6 +11,7 @@ pub(crate) fn is_blank(b: u8) -> bool
 }
 
 /// Where the first byte but a blank is.
+#[inline(always)]
 fn first_other(bytes: &[u8]) -> Option<usize>
     ensures { result ≡ position (λ b. not (is_blank b)) bytes.now }
 {
@@ -18,6 +19,7 @@ fn first_other(bytes: &[u8]) -> Option<usize>
 }
 
 /// Without the blanks in front.
+#[inline(always)]
 pub(crate) fn trim_start(bytes: &[u8]) -> &[u8]
     ensures { result.now ≡ trim_start bytes.now }
 {
@@ -28,6 +30,7 @@ pub(crate) fn trim_start(bytes: &[u8]) -> &[u8]
 }
 
 /// Without the blanks behind.
+#[inline(always)]
 fn trim_end(bytes: &[u8]) -> &[u8]
     ensures { result.now ≡ trim_end bytes.now }
 {
@@ -39,6 +42,7 @@ fn trim_end(bytes: &[u8]) -> &[u8]
 }
 
 /// A line without one carriage return at its end.
+#[inline(always)]
 pub fn strip_carriage_return(line: &[u8]) -> &[u8]
     ensures { result.now ≡ lines.strip_carriage_return line.now }
 {
@@ -51,6 +55,7 @@ pub fn strip_carriage_return(line: &[u8]) -> &[u8]
 /// The text of a line of a Callgrind file: without one carriage return at its end, and then
 /// without blanks at both ends.
 #[tactic(auto, unfolding(crate::specs::Fields::line_text))]
+#[inline(always)]
 pub fn line_text(line: &[u8]) -> &[u8]
     ensures { result.now ≡ line_text line.now }
 {

@@ -7,6 +7,7 @@ ghost use Rattle.cg_text.specs.Numbers.{is_digit, is_hex_digit, digit_value, val
 use crate::faults::Fault;
 
 /// Whether a byte is a decimal digit.
+#[inline(always)]
 pub(crate) fn is_digit(b: u8) -> bool
     ensures { result ≡ is_digit b }
 {
@@ -60,6 +61,7 @@ fn all_hex_digits(field: &[u8]) -> bool
 }
 
 /// One more decimal digit behind a number, or nothing where that is 2^64 or more.
+#[inline(always)]
 fn with_digit(value: u64, digit: u8) -> Option<u64>
     requires { IsTrue (is_digit digit) }
     ensures { MatchOption result (2 ^ 64 ≤ value * 10 + digit_value digit) (λ n. n ≡ value * 10 + digit_value digit) }
@@ -79,6 +81,7 @@ fn large_or_bad(digits: &[u8]) -> Fault
 }
 
 /// The number of decimal digits, in one pass.
+#[inline(always)]
 fn decimal(digits: &[u8]) -> Result<u64, Fault>
     ensures { result ≡ digits_in 10 is_digit digits.now }
 {
@@ -111,6 +114,7 @@ fn hexadecimal(digits: &[u8]) -> Result<u64, Fault>
 /// The number that a field is: one or more decimal digits, or `0x` and one or more hexadecimal
 /// digits. Else `BadNumber`, or `NumberTooLarge` for a number of 2^64 or more.
 #[tactic(auto, unfolding(crate::specs::Numbers::number_of))]
+#[inline(always)]
 pub fn number(field: &[u8]) -> Result<u64, Fault>
     ensures { result ≡ number_of field.now }
 {
@@ -122,6 +126,7 @@ pub fn number(field: &[u8]) -> Result<u64, Fault>
 
 /// The cost, count or stated total that a field is: a number below 2^63, else `NumberTooLarge`.
 #[tactic(auto, unfolding(crate::specs::Numbers::amount_of))]
+#[inline(always)]
 pub fn amount(field: &[u8]) -> Result<u64, Fault>
     ensures value { result ≡ amount_of field.now }
     ensures small { IfOk result (λ n. n < 2 ^ 63) }

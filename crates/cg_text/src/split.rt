@@ -8,6 +8,7 @@ use std::marker::Model;
 
 /// Where the first blank is.
 #[tactic(auto, using(crate::proofs::SearchLemmas::search_rules))]
+#[inline(always)]
 fn first_blank(bytes: &[u8]) -> Option<usize>
     ensures { result ≡ position is_blank bytes.now }
 {
@@ -15,6 +16,7 @@ fn first_blank(bytes: &[u8]) -> Option<usize>
 }
 
 /// The first field, and what is after it; `None` where there is no field.
+#[inline(always)]
 pub fn next_field(text: &[u8]) -> Option<(&[u8], &[u8])>
     ensures none { IfNone result (fields_of text.now ≡ []) }
     ensures fields { IfSome result (λ p. fields_of text.now ≡ p.0.now ∷ fields_of p.1.now) }
