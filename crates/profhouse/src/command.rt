@@ -24,7 +24,8 @@ fn grammar<'a>(alloc: Global) -> Result<clap::Command<'a>, AllocError> {
         .subcommand(total)
 }
 
-/// Reads the words of a command line, of which the first is the program's name.
+/// Reads the words of a command line, of which the first is the program's name. No clause: which
+/// words are taken is what `clap` makes of the grammar above.
 pub fn read_command<'a>(alloc: Global, words: &'a [String]) -> Result<Command<'a>, Error> {
     let mut grammar = grammar(alloc)?;
     let matches = grammar.try_get_matches_from_mut(words)?;

@@ -64,7 +64,8 @@ pub fn total_read<F: Read>(alloc: Global, file: &mut F) -> Result<TotalText, All
     }
 }
 
-/// The total of the file at a path, of which one piece and one line at most are held at a time.
+/// The total of the file at a path, of which one piece and one line at most are held at a time. No
+/// clause: of an opened file the checker knows no bytes; `total_read` says what is made of them.
 pub fn total_file<R: Files + AllocGlobal>(rt: &R, path: &str) -> Result<TotalText, AllocError> {
     match fs::open(rt, path) {
         Ok(mut file) => total_read(rt.alloc(), &mut file),
