@@ -7,6 +7,11 @@ pub mod Names
 pub mod Words
 pub mod Kinds
 pub mod Readings
+pub mod EventLines
+pub mod EventViews
+pub mod Formulas
+pub mod Flats
+pub mod Held
 pub mod Views
 pub mod Faults
 pub mod Ends

@@ -1,4 +1,5 @@
 // What a reader answers of a whole file.
+use crate::flats::Flat;
 use crate::items::Items;
 
 /// What an accepted file says of itself.
@@ -6,6 +7,8 @@ use crate::items::Items;
 pub struct FileHead {
     /// The names of its events, in the order of the costs on each cost line.
     pub events: Items<Items<u8>>,
+    /// Its derived events.
+    pub derived: Flat,
     /// The totals that it states, one for each event, if it states any.
     pub stated: Option<Items<u128>>,
 }

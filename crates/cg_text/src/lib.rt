@@ -2,7 +2,10 @@
 #![tactic(auto)]
 
 mod blanks;
+mod event_lines;
 mod faults;
+mod flats;
+mod formulas;
 mod heads;
 mod items;
 mod kinds;
@@ -19,7 +22,10 @@ mod tests;
 mod words;
 
 pub use blanks::{line_text, strip_carriage_return};
+pub use event_lines::{EventLine, Formula, TextEnd, event_line};
 pub use faults::{Fault, ReadEnd};
+pub use flats::{Flat, FlatEnd};
+pub use formulas::Formulas;
 pub use heads::FileHead;
 pub use items::Items;
 pub use kinds::{LineKind, classify};
