@@ -4,4 +4,6 @@ pub mod FieldsLemmas
 pub mod NumbersLemmas
 pub mod JoinedLemmas
 pub mod Examples
+pub mod RepeatLemmas
+pub mod HeldLemmas
 pub mod FormulaExamples

@@ -1,5 +1,5 @@
 -- Derived events: what the formulas of `event:` lines come to over the events of a file.
-use Rattle.std.specs.Prelude.{ℕ, ◌+◌, ◌*◌, Bool, true, false, not, ◌||◌, ◌&&◌, List, [], ◌∷◌, ◌++◌, map, length, sum, zip, nat_lt, ◌==◌, if◌then◌else◌, Option, Some, None}
+use Rattle.std.specs.Prelude.{ℕ, ◌+◌, ◌*◌, Bool, true, false, not, ◌||◌, ◌&&◌, List, [], ◌∷◌, ◌++◌, map, length, sum, sum_by, zip, nat_lt, ◌==◌, if◌then◌else◌, Option, Some, None}
 use Rattle.std.specs.List.{list_any, list_all}
 use Rattle.std.specs.Str.{bytes_eq}
 use Rattle.cg_text.specs.EventLines.{Term, Event}
@@ -26,7 +26,7 @@ is_defined name back = list_any (defines name) back
 abbrev pub coefficient : List ℕ → List ℕ → List Definition → ℕ
 coefficient event name [] = if bytes_eq event name then 1 else 0
 coefficient event name (d ∷ back) =
-    if defines name d then sum (map (λ t. t.0 * coefficient event t.1 back) d.terms)
+    if defines name d then sum_by (λ t. t.0 * coefficient event t.1 back) d.terms
     else coefficient event name back
 
 -- how often each event counts
@@ -41,7 +41,7 @@ product p = p.0 * p.1
 
 -- each cost as often as it counts
 abbrev pub weighed : List ℕ → List ℕ → ℕ
-weighed counts costs = sum (map product (zip counts costs))
+weighed counts costs = sum_by product (zip counts costs)
 
 -- the value of a name, where each event has a cost
 abbrev pub derived_value : List (List ℕ) → List Definition → List ℕ → List ℕ → Option ℕ

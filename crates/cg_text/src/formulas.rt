@@ -1,7 +1,7 @@
 // The formulas of `event:` lines, until the events are known.
-ghost use Rattle.std.specs.Prelude.{◌≡◌, ℕ, List, [], true, OnOk, OnErr, Option, None};
+ghost use Rattle.std.specs.Prelude.{◌≡◌, ℕ, List, [], true, false, not, OnOk, OnErr, IfSome, IfNone};
 ghost use Rattle.cg_text.specs.Formulas as specs;
-ghost use Rattle.cg_text.specs.Formulas.{define, are_distinct};
+ghost use Rattle.cg_text.specs.Formulas.{define, are_distinct, is_defined, is_changed, same_terms};
 ghost use Rattle.cg_text.specs.EventViews.{plain_event};
 ghost use Rattle.cg_text.specs.Flats.{FlatIs};
 
@@ -9,6 +9,9 @@ use crate::event_lines::{EventLine, Formula};
 use crate::flats::{Flat, FlatEnd};
 use crate::items::Items;
 use std::alloc::{AllocError, Global};
+
+/// How many derived names a file may have.
+const MOST_NAMES: usize = 64;
 
 /// A name and what it stands for, and the line that says so.
 #[derive(Drop)]
@@ -28,8 +31,27 @@ pub struct Formulas {
     changed: Option<u64>,
 }
 
+/// Whether two formulas have the same terms in the same order.
+fn same_terms(terms: &[(u64, Items<u8>)], others: &[(u64, Items<u8>)]) -> bool
+    ensures { result ≡ same_terms terms.now others.now }
+{
+    let mut left = terms;
+    let mut right = others;
+    while let Some(((number, name), terms)) = left.split_first() {
+        let Some(((other_number, other_name), others)) = right.split_first() else {
+            return false;
+        };
+        if number != other_number || name.as_slice() != other_name.as_slice() {
+            return false;
+        }
+        left = terms;
+        right = others;
+    }
+    right.is_empty()
+}
+
 impl Formulas {
-    ghost use Rattle.cg_text.specs.Held.{Holds};
+    ghost use Rattle.cg_text.specs.Held.{Holds, kept_of};
 
     /// No line was read.
     pub fn new(alloc: Global) -> Formulas
@@ -42,12 +64,45 @@ impl Formulas {
         }
     }
 
+    /// The nearest definition of a name.
+    fn find(&self, name: &[u8]) -> Option<&Definition>
+        ensures none { IfNone result (is_defined name.now (kept_of self.now) ≡ false) }
+        ensures some { IfSome result (λ _. is_defined name.now (kept_of self.now) ≡ true) }
+        ensures terms { IfSome result (λ e. (d : specs.Definition) → d.name ≡ name.now → is_changed d (kept_of self.now) ≡ not (same_terms e.now.formula.terms d.terms)) }
+    {
+        let mut rest = self.definitions.as_slice();
+        while let Some((last, front)) = rest.split_last() {
+            if name == last.name.as_slice() {
+                return Some(last);
+            }
+            rest = front;
+        }
+        None
+    }
+
     /// Takes an `event:` line; where memory is refused, nothing changes.
     pub fn add(&mut self, line: u64, event: EventLine) -> Result<(), AllocError>
         ensures ok { OnOk result ((back : List specs.Definition) → Holds self.old back → Holds self.new (define line (plain_event event) back)) }
         ensures err { OnErr result (self.new ≡ self.old) }
     {
-        Err(AllocError)
+        let EventLine { name, formula } = event;
+        let Some(formula) = formula else {
+            return Ok(());
+        };
+        if self.changed.is_some() || self.definitions.len() > MOST_NAMES {
+            return Ok(());
+        }
+        let Some(earlier) = self.find(name.as_slice()) else {
+            return self.definitions.push(Definition {
+                line,
+                name,
+                formula,
+            });
+        };
+        if !same_terms(earlier.formula.terms.as_slice(), formula.terms.as_slice()) {
+            self.changed = Some(line);
+        }
+        Ok(())
     }
 
     /// The coefficients of the derived events over the events of a file, or the first fault of the
