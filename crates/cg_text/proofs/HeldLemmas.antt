@@ -9,9 +9,10 @@ use Rattle.std.proofs.lemmas.List.Sums.{sum_by-cons}
 use Rattle.std.proofs.lemmas.Grind.{common_steps}
 use Rattle.cg_text.specs.EventLines.{Term}
 use Rattle.cg_text.specs.Formulas.{Definition, defines, is_defined, is_known, coefficient, coefficients, same_terms, is_changed, derived_names, definition_fault, first_or, formula_fault, derived_of}
-use Rattle.cg_text.specs.Held.{Agree, Alike, Stands, AreFresh, Holds, kept_of, plain_definition, plain_back}
+use Rattle.cg_text.specs.Definitions.{plain_definition, plain_back}
+use Rattle.cg_text.specs.Held.{Agree, Alike, Stands, AreFresh, Holds, kept_of}
 use Rattle.cg_text.specs.declared.formulas.Formulas.{Formulas}
-use Rattle.cg_text.specs.declared.formulas.Definition as kept
+use Rattle.cg_text.specs.declared.definitions.Definition as kept
 use Rattle.cg_text.specs.declared.faults.Fault.{Fault}
 use Rattle.cg_text.specs.declared.faults.Fault.TheVariants.{EventTwice, TooManyEvents, FormulaUnknown, FormulaTooLarge}
 use Rattle.cg_text.proofs.RepeatLemmas.{names-same, terms-same, maps-same, earlier-none, few_names, repeat-free, repeats-all}

@@ -6,4 +6,6 @@ pub mod JoinedLemmas
 pub mod Examples
 pub mod RepeatLemmas
 pub mod HeldLemmas
+pub mod RowsLemmas
+pub mod FlatLemmas
 pub mod FormulaExamples

@@ -1,9 +1,11 @@
 -- Coefficients as the code keeps them, and the values that they give.
-use Rattle.std.specs.Prelude.{◌≡◌, ℕ, List, [], Option, Some, None, Result, Ok, Err, ⊤, if◌then◌else◌}
+use Rattle.std.specs.Prelude.{◌≡◌, ℕ, List, [], ◌∷◌, Option, Some, None, Result, Ok, Err, ⊤, if◌then◌else◌}
 use Rattle.std.specs.List.{list_any}
 use Rattle.std.specs.Map.{lookup}
 use Rattle.std.specs.Str.{bytes_eq}
 use Rattle.cg_text.specs.Formulas.{Definition, coefficients, weighed, formula_fault, derived_of}
+use Rattle.cg_text.specs.Definitions.{plain_definition}
+use Rattle.cg_text.specs.declared.definitions.Definition as kept
 use Rattle.cg_text.specs.declared.flats.Flat.{Flat}
 use Rattle.cg_text.specs.declared.flats.FlatEnd.{FlatEnd}
 use Rattle.cg_text.specs.declared.flats.FlatEnd.TheVariants.{Fault, Memory}
@@ -26,6 +28,21 @@ flat_value flat name costs = value_by (row_of flat name) costs
 pub record FlatOf (flat : Flat) (names : List (List ℕ)) (back : List Definition) : Type 0 where
   pub events : flat.events ≡ names
   pub derived : flat.derived ≡ derived_of names back
+
+-- ---- while definitions are taken one by one
+
+-- the coefficients of definitions without a fault
+pub record Flattens (flat : Flat) (back : List Definition) : Type 0 where
+  pub free : formula_fault flat.events back ≡ None
+  pub derived : flat.derived ≡ derived_of flat.events back
+
+-- one more definition: its coefficients as well, or the first fault
+abbrev pub Defines : Result (Unit {0}) FlatEnd → Flat → kept.Definition → List Definition → Type 0
+Defines (Ok done) flat d back = Flattens flat (plain_definition d ∷ back)
+Defines (Err (Fault fault line)) flat d back = formula_fault flat.events (plain_definition d ∷ back) ≡ Some (fault, line)
+Defines (Err Memory) flat d back = ⊤
+
+-- ---- at the end
 
 -- what definitions come to: coefficients exactly where they have no fault, else the first one, unless memory was refused
 abbrev pub FlatIs : Result Flat FlatEnd → List (List ℕ) → List Definition → Type 0

@@ -29,6 +29,10 @@ coefficient event name (d ∷ back) =
     if defines name d then sum_by (λ t. t.0 * coefficient event t.1 back) d.terms
     else coefficient event name back
 
+-- how often an event counts in a sum of terms
+abbrev pub counted : List ℕ → List Term → List Definition → ℕ
+counted event terms back = sum_by (λ t. t.0 * coefficient event t.1 back) terms
+
 -- how often each event counts
 abbrev pub coefficients : List (List ℕ) → List ℕ → List Definition → List ℕ
 coefficients events name back = map (λ event. coefficient event name back) events

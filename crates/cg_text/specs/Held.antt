@@ -1,16 +1,9 @@
 -- When what is kept of formulas stands for the definitions of all lines so far.
-use Rattle.std.specs.Prelude.{◌≡◌, ℕ, false, List, [], ◌∷◌, map, reverse, Option, Some, None, ⊤}
+use Rattle.std.specs.Prelude.{◌≡◌, ℕ, false, List, [], ◌∷◌, Option, Some, None, ⊤}
 use Rattle.cg_text.specs.Formulas.{Definition, coefficient, derived_names, is_defined, is_changed, formula_fault, first_or}
 use Rattle.cg_text.specs.declared.formulas.Formulas.{Formulas}
-use Rattle.cg_text.specs.declared.formulas.Definition as kept
+use Rattle.cg_text.specs.Definitions.{plain_back}
 use Rattle.cg_text.specs.declared.faults.Fault.TheVariants.{EventTwice}
-
-abbrev pub plain_definition : kept.Definition → Definition
-plain_definition d = record { line = d.line; name = d.name; terms = d.formula.terms }
-
--- the nearest first
-abbrev pub plain_back : List kept.Definition → List Definition
-plain_back ds = reverse (map plain_definition ds)
 
 -- what is kept
 abbrev pub kept_of : Formulas → List Definition

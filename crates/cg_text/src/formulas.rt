@@ -5,21 +5,11 @@ ghost use Rattle.cg_text.specs.Formulas.{define, are_distinct, is_defined, is_ch
 ghost use Rattle.cg_text.specs.EventViews.{plain_event};
 ghost use Rattle.cg_text.specs.Flats.{FlatIs};
 
-use crate::event_lines::{EventLine, Formula};
-use crate::flats::{Flat, FlatEnd};
+use crate::definitions::Definition;
+use crate::event_lines::EventLine;
+use crate::flats::{Flat, FlatEnd, MOST_NAMES};
 use crate::items::Items;
 use std::alloc::{AllocError, Global};
-
-/// How many derived names a file may have.
-const MOST_NAMES: usize = 64;
-
-/// A name and what it stands for, and the line that says so.
-#[derive(Drop)]
-pub(crate) struct Definition {
-    pub(crate) line: u64,
-    pub(crate) name: Items<u8>,
-    pub(crate) formula: Formula,
-}
 
 /// The formulas of `event:` lines. What is kept does not grow with lines that say again what was said.
 #[derive(Drop)]

@@ -2,6 +2,7 @@
 #![tactic(auto)]
 
 mod blanks;
+mod definitions;
 mod event_lines;
 mod faults;
 mod flats;
@@ -15,6 +16,7 @@ mod names;
 mod numbers;
 mod positions;
 mod readings;
+mod rows;
 mod split;
 mod subpositions;
 #[cfg(test)]

@@ -3,8 +3,9 @@ use Rattle.std.proofs.lemmas.Result.{on_ok_weaker}
 use Rattle.std.proofs.lemmas.Bool.{not-true, not-false}
 use Rattle.cg_text.specs.Formulas.{Definition, define, defined_by, is_defined, is_changed, same_terms}
 use Rattle.cg_text.specs.EventViews.{plain_event, terms_of}
-use Rattle.cg_text.specs.Held.{Holds, kept_of, plain_definition}
-use Rattle.cg_text.specs.declared.formulas.Definition as code
+use Rattle.cg_text.specs.Held.{Holds, kept_of}
+use Rattle.cg_text.specs.Definitions.{plain_definition}
+use Rattle.cg_text.specs.declared.definitions.Definition as code
 use Rattle.cg_text.specs.declared.formulas.Formulas.{Formulas}
 use Rattle.cg_text.proofs.HeldLemmas.{holds-later, holds-new, holds-repeat, holds-changed}
 use Rattle.cg_text.proofs.formulas.Formulas.add.Goals as goal

@@ -1,6 +1,7 @@
 use Rattle.std.proofs.Common.{◌≡◌, length}
 use Rattle.cg_text.specs.Formulas.{Definition, is_defined, is_changed}
-use Rattle.cg_text.specs.Held.{kept_of, plain_back}
+use Rattle.cg_text.specs.Held.{kept_of}
+use Rattle.cg_text.specs.Definitions.{plain_back}
 use Rattle.cg_text.proofs.formulas.Formulas.find.Given as goal
 
 -- what the name means is found in the rest
