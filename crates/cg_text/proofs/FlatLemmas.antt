@@ -1,10 +1,10 @@
 -- What the kept coefficients say of definitions.
-use Rattle.std.proofs.Common.{inl, inr, ◌⊎◌, ℕ, zero, suc, ◌≡◌, ◌+◌, ◌-◌, ◌*◌, ◌<◌, ◌≤◌, ◌^◌, min, All, Bool, true, false, not, ◌||◌, ◌&&◌, cond, if◌then◌else◌, List, [], ◌∷◌, ◌++◌, map, length, get_or, set, slice_index, sum, sum_by, position, Option, Some, None, refl, sym, ap, ◌∙◌, subst, arith}
+use Rattle.std.proofs.Common.{inl, inr, ◌⊎◌, ℕ, zero, suc, ◌≡◌, ◌+◌, ◌-◌, ◌*◌, ◌<◌, ◌≤◌, ◌^◌, min, All, Bool, true, false, not, ◌||◌, ◌&&◌, cond, if◌then◌else◌, List, [], ◌∷◌, ◌++◌, map, length, get_or, set, slice_index, sum, sum_by, position, Result, Ok, Err, OnOk, OnErr, Option, Some, None, refl, sym, ap, ◌∙◌, subst, arith}
 use Rattle.std.specs.List.{list_any, list_all, position_or_len}
 use Rattle.std.specs.Map.{lookup}
 use Rattle.std.specs.Str.{bytes_eq}
 use Rattle.std.proofs.lemmas.Bool.{cases_Bool, cases_eq, and_parts, not-true, both_ways, false_from_ne_true, or_left, or_right, or_from, or_parts}
-use Rattle.std.proofs.lemmas.List.Elements.{All-head, All-tail}
+use Rattle.std.proofs.lemmas.List.Elements.{All-head, All-tail, All-same, All-push}
 use Rattle.std.proofs.lemmas.Grind.{common_steps, elements}
 use Rattle.std.proofs.lemmas.List.Folds.{list_any_at}
 use Rattle.std.proofs.lemmas.List.Sums.{passes_at_first}
@@ -19,7 +19,7 @@ use Rattle.cg_text.proofs.RowsLemmas.{weighed-cons}
 
 -- ---- names in a list
 
-names-apart : (a b : List ℕ) → bytes_eq a b ≡ false → bytes_eq b a ≡ false
+pub names-apart : (a b : List ℕ) → bytes_eq a b ≡ false → bytes_eq b a ≡ false
 names-apart a b h = false_from_ne_true _ (λ e. both_ways _ h (subst (λ n. bytes_eq n b ≡ true) (names-same b a e) (name-itself b)))
 
 none-at : {X : Type 0} (p : X → Bool) (xs : List X) (k : ℕ) (d : X) → list_any p xs ≡ false → k < length xs → p (get_or xs k d) ≡ false
@@ -125,22 +125,22 @@ row-event flat back f row count r name i number n found value distinct =
     let wide = r.wide in
     let inside = at.0 in
     record {
-        wide = grind (arith, common_steps);
-        counts = λ k ink.
-            let old = r.counts k ink in
-            elim (cases_eq k i) [
-              | inl e ↦
-                  let here : slice_index (set row i n) k ≡ n = rw e (grind (arith, common_steps)) in
-                  let same : get_or flat.events k [] ≡ name = ap (λ j. get_or flat.events j []) e ∙ sym at.1 in
-                  let one : coefficient (get_or flat.events k []) name back ≡ 1 = coefficient-undefined _ name back undefined ∙ ap (λ b. if b then 1 else 0) (ap (λ m. bytes_eq m name) same ∙ name-itself name) in
-                  let sum : n ≡ capped (capped (count (get_or flat.events k [])) + number) = value ∙ ap (λ m. capped (m + number)) (ap (slice_index row) (sym e) ∙ old) in
-                  here ∙ (sum ∙ (capped-plus (count (get_or flat.events k [])) number ∙ ap (λ m. capped (count (get_or flat.events k []) + m)) (sym (ap (λ m. number * m) one ∙ omega arith))))
-              | inr e ↦
-                  let here : slice_index (set row i n) k ≡ slice_index row k = grind (arith, common_steps, elements) in
-                  let apart : bytes_eq (get_or flat.events k []) name ≡ false = subst (λ m. bytes_eq (get_or flat.events k []) m ≡ false) (sym at.1) (distinct-apart flat.events distinct k i ink inside e) in
-                  let zero : coefficient (get_or flat.events k []) name back ≡ 0 = coefficient-undefined _ name back undefined ∙ ap (λ b. if b then 1 else 0) apart in
-                  here ∙ (old ∙ ap capped (sym (ap (λ m. count (get_or flat.events k []) + number * m) zero ∙ omega arith)))
-            ];
+      wide = grind (arith, common_steps);
+      counts = λ k ink.
+          let old = r.counts k ink in
+          elim (cases_eq k i) [
+            | inl e ↦
+                let here : slice_index (set row i n) k ≡ n = rw e (grind (arith, common_steps)) in
+                let same : get_or flat.events k [] ≡ name = ap (λ j. get_or flat.events j []) e ∙ sym at.1 in
+                let one : coefficient (get_or flat.events k []) name back ≡ 1 = coefficient-undefined _ name back undefined ∙ ap (λ b. if b then 1 else 0) (ap (λ m. bytes_eq m name) same ∙ name-itself name) in
+                let sum : n ≡ capped (capped (count (get_or flat.events k [])) + number) = value ∙ ap (λ m. capped (m + number)) (ap (slice_index row) (sym e) ∙ old) in
+                here ∙ (sum ∙ (capped-plus (count (get_or flat.events k [])) number ∙ ap (λ m. capped (count (get_or flat.events k []) + m)) (sym (ap (λ m. number * m) one ∙ omega arith))))
+            | inr e ↦
+                let here : slice_index (set row i n) k ≡ slice_index row k = grind (arith, common_steps, elements) in
+                let apart : bytes_eq (get_or flat.events k []) name ≡ false = subst (λ m. bytes_eq (get_or flat.events k []) m ≡ false) (sym at.1) (distinct-apart flat.events distinct k i ink inside e) in
+                let zero : coefficient (get_or flat.events k []) name back ≡ 0 = coefficient-undefined _ name back undefined ∙ ap (λ b. if b then 1 else 0) apart in
+                here ∙ (old ∙ ap capped (sym (ap (λ m. count (get_or flat.events k []) + number * m) zero ∙ omega arith)))
+          ];
     }
 
 -- a number of times a derived event
@@ -148,14 +148,14 @@ pub row-derived : (flat : Flat) (back : List Definition) (row new counts : List 
     → counts ≡ coefficients flat.events name back → length new ≡ length row → ((k : ℕ) → k < length row → slice_index new k ≡ capped (slice_index row k + number * slice_index counts k))
     → IsRow new flat.events (λ event. count event + number * coefficient event name back)
 row-derived flat back row new counts count r name number is wide sums = record {
-    wide = wide ∙ r.wide;
-    counts = λ k ink.
-        let old = r.counts k ink in
-        let own : slice_index counts k ≡ coefficient (get_or flat.events k []) name back = ap (λ xs. slice_index xs k) is ∙ map-at (λ event. coefficient event name back) flat.events k ink in
-        sums k (subst (λ n. k < n) (sym r.wide) ink)
-        ∙ (ap (λ m. capped (m + number * slice_index counts k)) old
-        ∙ (capped-plus (count (get_or flat.events k [])) (number * slice_index counts k)
-        ∙ ap (λ m. capped (count (get_or flat.events k []) + number * m)) own));
+  wide = wide ∙ r.wide;
+  counts = λ k ink.
+      let old = r.counts k ink in
+      let own : slice_index counts k ≡ coefficient (get_or flat.events k []) name back = ap (λ xs. slice_index xs k) is ∙ map-at (λ event. coefficient event name back) flat.events k ink in
+      sums k (subst (λ n. k < n) (sym r.wide) ink)
+      ∙ (ap (λ m. capped (m + number * slice_index counts k)) old
+      ∙ (capped-plus (count (get_or flat.events k [])) (number * slice_index counts k)
+      ∙ ap (λ m. capped (count (get_or flat.events k []) + number * m)) own));
 }
 
 pub row-same : (row : List ℕ) (events : List (List ℕ)) (f g : List ℕ → ℕ) → ((event : List ℕ) → f event ≡ g event) → IsRow row events f → IsRow row events g
@@ -205,3 +205,8 @@ value-event flat name costs i distinct found wide =
 
 pub value-derived : (flat : Flat) (name costs : List ℕ) (row : Option (List ℕ)) → position (bytes_eq name) flat.events ≡ None → lookup (bytes_eq name) flat.derived ≡ row → value_by row costs ≡ flat_value flat name costs
 value-derived flat name costs row none found = rw (found-none name flat.events none) (ap (λ r. value_by r costs) (sym found))
+
+-- what all entries have, and one more, all have after it was added or refused
+pub pushed_all : {X T E : Type 0} (r : Result T E) (P : X → Type 0) (old new : List X) (x : X) → OnOk r (new ≡ old ++ x ∷ []) → OnErr r (new ≡ old) → All P old → P x → All P new
+pushed_all (Ok t) P old new x ok err all here = All-same P new (old ++ x ∷ []) ok (All-push P old x all here)
+pushed_all (Err e) P old new x ok err all here = All-same P new old err all

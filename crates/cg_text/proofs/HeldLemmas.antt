@@ -68,13 +68,13 @@ terms-agree events es ds a event ts = sums-equal (λ t. t.0 * coefficient event 
 
 agree-push : (events : List (List ℕ)) (d : Definition) (es ds : List Definition) → Agree events es ds → Agree events (d ∷ es) (d ∷ ds)
 agree-push events d es ds a = record {
-    names =
-        ap (λ b. if b then derived_names ds else derived_names ds ++ d.name ∷ []) (agree-defined events es ds a d.name)
-        ∙ ap (λ ns. if is_defined d.name es then ns else ns ++ d.name ∷ []) a.names;
-    changes = λ x. ap (λ b. if defines x.name d then not (same_terms d.terms x.terms) else b) (a.changes x);
-    values = λ event name.
-        ap (λ n. if defines name d then n else coefficient event name ds) (terms-agree events es ds a event d.terms)
-        ∙ ap (λ n. if defines name d then sum_by (λ t. t.0 * coefficient event t.1 es) d.terms else n) (a.values event name);
+  names =
+      ap (λ b. if b then derived_names ds else derived_names ds ++ d.name ∷ []) (agree-defined events es ds a d.name)
+      ∙ ap (λ ns. if is_defined d.name es then ns else ns ++ d.name ∷ []) a.names;
+  changes = λ x. ap (λ b. if defines x.name d then not (same_terms d.terms x.terms) else b) (a.changes x);
+  values = λ event name.
+      ap (λ n. if defines name d then n else coefficient event name ds) (terms-agree events es ds a event d.terms)
+      ∙ ap (λ n. if defines name d then sum_by (λ t. t.0 * coefficient event t.1 es) d.terms else n) (a.values event name);
 }
 
 rows-agree : (events : List (List ℕ)) (es ds : List Definition) → Agree events es ds → (names : List (List ℕ)) (name : List ℕ) → coefficients names name ds ≡ coefficients names name es
@@ -106,7 +106,7 @@ fault_cases None = inl refl
 fault_cases (Some x) = inr (x, refl)
 
 -- the first fault stays the first
-fault-stays : (events : List (List ℕ)) (d : Definition) (ds : List Definition) (x : Fault × ℕ) → formula_fault events ds ≡ Some x → formula_fault events (d ∷ ds) ≡ Some x
+pub fault-stays : (events : List (List ℕ)) (d : Definition) (ds : List Definition) (x : Fault × ℕ) → formula_fault events ds ≡ Some x → formula_fault events (d ∷ ds) ≡ Some x
 fault-stays events d ds x h = ap (λ o. first_or o (definition_fault events d ds) d.line) h
 
 free-before : (events : List (List ℕ)) (d : Definition) (ds : List Definition) → formula_fault events (d ∷ ds) ≡ None → formula_fault events ds ≡ None
@@ -114,13 +114,13 @@ free-before events d ds h = (earlier-none events d ds h).0
 
 pub alike-push : (d : Definition) (es ds : List Definition) → Alike es ds → Alike (d ∷ es) (d ∷ ds)
 alike-push d es ds a = record {
-    fault = λ events. elim (fault_cases (formula_fault events es)) [
-      | inl free ↦
-          ap (λ o. first_or o (definition_fault events d ds) d.line) (a.fault events)
-          ∙ ap (λ o. first_or (formula_fault events es) o d.line) (fault-agree events d es ds (a.agree events free))
-      | inr (x, h) ↦ fault-stays events d ds x (a.fault events ∙ h) ∙ sym (fault-stays events d es x h)
-    ];
-    agree = λ events free. agree-push events d es ds (a.agree events (free-before events d es free));
+  fault = λ events. elim (fault_cases (formula_fault events es)) [
+    | inl free ↦
+        ap (λ o. first_or o (definition_fault events d ds) d.line) (a.fault events)
+        ∙ ap (λ o. first_or (formula_fault events es) o d.line) (fault-agree events d es ds (a.agree events free))
+    | inr (x, h) ↦ fault-stays events d ds x (a.fault events ∙ h) ∙ sym (fault-stays events d es x h)
+  ];
+  agree = λ events free. agree-push events d es ds (a.agree events (free-before events d es free));
 }
 
 -- ---- one more definition, of a name that has the same terms
@@ -149,49 +149,49 @@ changes-repeat x d (e ∷ es) here same =
 
 agree-repeat : (events : List (List ℕ)) (d : Definition) (es : List Definition) → formula_fault events es ≡ None → is_defined d.name es ≡ true → is_changed d es ≡ false → Agree events es (d ∷ es)
 agree-repeat events d es free here same = record {
-    names = rw here refl;
-    changes = λ x. changes-repeat x d es here same;
-    values = λ event name. repeats-all events es free d here same event name;
+  names = rw here refl;
+  changes = λ x. changes-repeat x d es here same;
+  values = λ event name. repeats-all events es free d here same event name;
 }
 
 pub alike-repeat : (d : Definition) (es ds : List Definition) → Alike es ds → is_defined d.name es ≡ true → is_changed d es ≡ false → Alike es (d ∷ ds)
 alike-repeat d es ds a here same =
     let pushed = alike-push d es ds a in
     record {
-        fault = λ events. elim (fault_cases (formula_fault events es)) [
-          | inl free ↦ pushed.fault events ∙ (repeat-free events d es free here same ∙ sym free)
-          | inr (x, h) ↦ fault-stays events d ds x (a.fault events ∙ h) ∙ sym h
-        ];
-        agree = λ events free.
-            let more = pushed.agree events (repeat-free events d es free here same) in
-            let back = agree-repeat events d es free here same in
-            record {
-                names = more.names ∙ back.names;
-                changes = λ x. more.changes x ∙ back.changes x;
-                values = λ event name. more.values event name ∙ back.values event name;
-            };
+      fault = λ events. elim (fault_cases (formula_fault events es)) [
+        | inl free ↦ pushed.fault events ∙ (repeat-free events d es free here same ∙ sym free)
+        | inr (x, h) ↦ fault-stays events d ds x (a.fault events ∙ h) ∙ sym h
+      ];
+      agree = λ events free.
+          let more = pushed.agree events (repeat-free events d es free here same) in
+          let back = agree-repeat events d es free here same in
+          record {
+            names = more.names ∙ back.names;
+            changes = λ x. more.changes x ∙ back.changes x;
+            values = λ event name. more.values event name ∙ back.values event name;
+          };
     }
 
 -- ---- one more definition, of a name that has other terms
 
 pub changed-stands : (d : Definition) (es ds : List Definition) → Alike es ds → is_changed d es ≡ true → Stands (Some d.line) es (d ∷ ds)
 changed-stands d es ds a changed events = elim (fault_cases (formula_fault events es)) [
-      | inl free ↦
-          let own : definition_fault events d es ≡ Some EventTwice = rw (changed, or-true (list_any (bytes_eq d.name) events)) refl in
-          (alike-push d es ds a).fault events ∙ ap (λ o. first_or (formula_fault events es) o d.line) own
-      | inr (x, h) ↦ fault-stays events d ds x (a.fault events ∙ h) ∙ sym (ap (λ o. first_or o (Some EventTwice) d.line) h)
-    ]
+  | inl free ↦
+      let own : definition_fault events d es ≡ Some EventTwice = rw (changed, or-true (list_any (bytes_eq d.name) events)) refl in
+      (alike-push d es ds a).fault events ∙ ap (λ o. first_or (formula_fault events es) o d.line) own
+  | inr (x, h) ↦ fault-stays events d ds x (a.fault events ∙ h) ∙ sym (ap (λ o. first_or o (Some EventTwice) d.line) h)
+]
 
 -- then it is the first fault, whatever follows
 pub changed-stays : (line : ℕ) (d : Definition) (es ds : List Definition) → Stands (Some line) es ds → Stands (Some line) es (d ∷ ds)
 changed-stays line d es ds h events = elim (fault_cases (formula_fault events es)) [
-      | inl free ↦ 
-          let first = h events ∙ ap (λ o. first_or o (Some EventTwice) line) free in
-          fault-stays events d ds (EventTwice, line) first ∙ sym (ap (λ o. first_or o (Some EventTwice) line) free)
-      | inr (x, k) ↦
-          let first = h events ∙ ap (λ o. first_or o (Some EventTwice) line) k in
-          fault-stays events d ds x first ∙ sym (ap (λ o. first_or o (Some EventTwice) line) k)
-    ]
+  | inl free ↦
+      let first = h events ∙ ap (λ o. first_or o (Some EventTwice) line) free in
+      fault-stays events d ds (EventTwice, line) first ∙ sym (ap (λ o. first_or o (Some EventTwice) line) free)
+  | inr (x, k) ↦
+      let first = h events ∙ ap (λ o. first_or o (Some EventTwice) line) k in
+      fault-stays events d ds x first ∙ sym (ap (λ o. first_or o (Some EventTwice) line) k)
+]
 
 -- ---- one more definition, after one name too many
 
@@ -211,11 +211,11 @@ too_many events es fresh many free =
 
 pub alike-many : (d : Definition) (es ds : List Definition) → AreFresh es → 64 < length es → Alike es ds → Alike es (d ∷ ds)
 alike-many d es ds fresh many a = record {
-    fault = λ events. elim (fault_cases (formula_fault events es)) [
-      | inl free ↦ absurd (too_many events es fresh many free)
-      | inr (x, h) ↦ fault-stays events d ds x (a.fault events ∙ h) ∙ sym h
-    ];
-    agree = λ events free. absurd (too_many events es fresh many free);
+  fault = λ events. elim (fault_cases (formula_fault events es)) [
+    | inl free ↦ absurd (too_many events es fresh many free)
+    | inr (x, h) ↦ fault-stays events d ds x (a.fault events ∙ h) ∙ sym h
+  ];
+  agree = λ events free. absurd (too_many events es fresh many free);
 }
 
 -- ---- what is kept, as definitions
@@ -249,8 +249,8 @@ stands_later None d es ds fresh (inr many) stands = alike-many d es ds fresh man
 
 pub holds-later : (f : Formulas) (d : Definition) (ds : List Definition) → (is_some f.changed ≡ true) ⊎ (64 < length f.definitions) → Holds f ds → Holds f (d ∷ ds)
 holds-later f d ds why holds = record {
-    fresh = holds.fresh;
-    stands = stands_later f.changed d (kept_of f) ds holds.fresh (elim why [ inl some ↦ inl some | inr many ↦ inr (subst (λ n. 64 < n) (sym (length-plain_back f.definitions)) many) ]) holds.stands;
+  fresh = holds.fresh;
+  stands = stands_later f.changed d (kept_of f) ds holds.fresh (elim why [ inl some ↦ inl some | inr many ↦ inr (subst (λ n. 64 < n) (sym (length-plain_back f.definitions)) many) ]) holds.stands;
 }
 
 stands_new : (o : Option ℕ) (d : Definition) (es ds : List Definition) → is_some o ≡ false → Stands o es ds → Stands o (d ∷ es) (d ∷ ds)
@@ -261,8 +261,8 @@ pub holds-new : (f g : Formulas) (d : kept.Definition) (ds : List Definition) �
 holds-new f g d ds none same pushed new holds =
     let kept : kept_of g ≡ plain_definition d ∷ kept_of f = ap plain_back pushed ∙ plain_back-push f.definitions d in
     record {
-        fresh = subst AreFresh (sym kept) (new, holds.fresh);
-        stands = subst (λ o. Stands o (kept_of g) (plain_definition d ∷ ds)) (sym same) (subst (λ es. Stands f.changed es (plain_definition d ∷ ds)) (sym kept) (stands_new f.changed (plain_definition d) (kept_of f) ds none holds.stands));
+      fresh = subst AreFresh (sym kept) (new, holds.fresh);
+      stands = subst (λ o. Stands o (kept_of g) (plain_definition d ∷ ds)) (sym same) (subst (λ es. Stands f.changed es (plain_definition d ∷ ds)) (sym kept) (stands_new f.changed (plain_definition d) (kept_of f) ds none holds.stands));
     }
 
 stands_repeat : (o : Option ℕ) (d : Definition) (es ds : List Definition) → is_some o ≡ false → is_defined d.name es ≡ true → is_changed d es ≡ false → Stands o es ds → Stands o es (d ∷ ds)
@@ -280,6 +280,6 @@ pub holds-changed : (f g : Formulas) (d : Definition) (ds : List Definition) →
 holds-changed f g d ds none kept now changed holds =
     let same : kept_of g ≡ kept_of f = ap plain_back kept in
     record {
-        fresh = subst AreFresh (sym same) holds.fresh;
-        stands = subst (λ o. Stands o (kept_of g) (d ∷ ds)) (sym now) (subst (λ es. Stands (Some d.line) es (d ∷ ds)) (sym same) (stands_changed f.changed d (kept_of f) ds none changed holds.stands));
+      fresh = subst AreFresh (sym same) holds.fresh;
+      stands = subst (λ o. Stands o (kept_of g) (d ∷ ds)) (sym now) (subst (λ es. Stands (Some d.line) es (d ∷ ds)) (sym same) (stands_changed f.changed d (kept_of f) ds none changed holds.stands));
     }

@@ -8,4 +8,6 @@ pub mod RepeatLemmas
 pub mod HeldLemmas
 pub mod RowsLemmas
 pub mod FlatLemmas
+pub mod DefineLemmas
+pub mod FlattenLemmas
 pub mod FormulaExamples

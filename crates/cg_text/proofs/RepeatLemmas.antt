@@ -227,5 +227,5 @@ pub repeat-derived : (events : List (List ℕ)) (d : Definition) (es : List Defi
 repeat-derived events d es free here same =
     let names : derived_names (d ∷ es) ≡ derived_names es = rw here refl in
     let rows = maps-same (λ name. (name, coefficients events name (d ∷ es))) (λ name. (name, coefficients events name es)) (derived_names es)
-        (λ name. ap (λ r. (name, r)) (maps-same (λ event. coefficient event name (d ∷ es)) (λ event. coefficient event name es) events (λ event. repeats-all events es free d here same event name))) in
+    (λ name. ap (λ r. (name, r)) (maps-same (λ event. coefficient event name (d ∷ es)) (λ event. coefficient event name es) events (λ event. repeats-all events es free d here same event name))) in
     ap (map (λ name. (name, coefficients events name (d ∷ es)))) names ∙ rows

@@ -1,5 +1,5 @@
 // The coefficients of derived events over the events of a file, and their values.
-ghost use Rattle.std.specs.Prelude.{◌≡◌, ◌+◌, ◌*◌, ◌<◌, ◌≤◌, ◌^◌, ℕ, All, List, [], true, false, length, sum, position, is_some, IsTrue, IfOk, OnOk};
+ghost use Rattle.std.specs.Prelude.{◌≡◌, ◌+◌, ◌*◌, ◌<◌, ◌≤◌, ◌^◌, ℕ, All, List, [], true, false, length, sum, position, is_some, IsTrue, IfOk, IfSome, OnOk};
 ghost use Rattle.std.specs.List.{list_all};
 ghost use Rattle.std.specs.Map.{lookup};
 ghost use Rattle.std.specs.Option.{option_copied};
@@ -83,7 +83,10 @@ impl Flat {
     fn event_at(&self, name: &[u8]) -> Option<usize>
         ensures { result ≡ position (bytes_eq name.now) self.now.events }
     {
-        self.events.as_slice().iter().position(|event| name == event.as_slice())
+        self.events
+            .as_slice()
+            .iter()
+            .position(|event| name == event.as_slice())
     }
 
     /// The coefficients of a derived event.
@@ -149,6 +152,24 @@ impl Flat {
         true
     }
 
+    /// What the terms of a formula count, or nothing where a name is not known.
+    fn counted(
+        &self,
+        alloc: Global,
+        terms: &[(u64, Items<u8>)],
+    ) -> Result<Option<Vec<u64>>, AllocError>
+        ensures wide { IfOk result (λ r. IfSome r (λ row. length row.items ≡ length self.now.events)) }
+        ensures known { IfOk result (λ r. (back : List specs.Definition) → Flattens self.now back → is_some r ≡ list_all (λ t. is_known self.now.events back t.1) terms.now) }
+        ensures counts { IfOk result (λ r. IfSome r (λ row. (back : List specs.Definition) → Flattens self.now back → IsRow row.items self.now.events (λ event. specs.counted event terms.now back))) }
+    {
+        let mut row = vec![in alloc; 0; self.events.len()]?;
+        if self.add_terms(&mut row, terms) {
+            Ok(Some(row))
+        } else {
+            Ok(None)
+        }
+    }
+
     /// Adds the derived event of a definition whose name is new, or answers its fault.
     pub(crate) fn define(&mut self, alloc: Global, definition: &Definition) -> Result<(), FlatEnd>
         ensures events { self.new.events ≡ self.old.events }
@@ -161,10 +182,9 @@ impl Flat {
         if self.derived.len() >= MOST_NAMES {
             return Err(FlatEnd::Fault(Fault::TooManyEvents, definition.line));
         }
-        let mut row = vec![in alloc; 0; self.events.len()]?;
-        if !self.add_terms(&mut row, definition.formula.terms.as_slice()) {
+        let Some(row) = self.counted(alloc, definition.formula.terms.as_slice())? else {
             return Err(FlatEnd::Fault(Fault::FormulaUnknown, definition.line));
-        }
+        };
         if total(&row) > MOST_COUNTS {
             return Err(FlatEnd::Fault(Fault::FormulaTooLarge, definition.line));
         }

@@ -7,6 +7,7 @@ ghost use Rattle.cg_text.specs.Flats.{FlatIs};
 
 use crate::definitions::Definition;
 use crate::event_lines::EventLine;
+use crate::faults::Fault;
 use crate::flats::{Flat, FlatEnd, MOST_NAMES};
 use crate::items::Items;
 use std::alloc::{AllocError, Global};
@@ -101,6 +102,13 @@ impl Formulas {
         requires { are_distinct events.now ≡ true }
         ensures { (back : List specs.Definition) → Holds self.now back → FlatIs result events.now back }
     {
-        Err(FlatEnd::Memory)
+        let mut flat = Flat::new(self.alloc, events)?;
+        for definition in self.definitions.as_slice() {
+            flat.define(self.alloc, definition)?;
+        }
+        match self.changed {
+            Some(line) => Err(FlatEnd::Fault(Fault::EventTwice, line)),
+            None => Ok(flat),
+        }
     }
 }

@@ -20,6 +20,6 @@ loop-k-preserved c =
     let product : get_or c.args.counts.now k 0 * get_or c.args.costs.now k 0 ≤ get_or c.args.counts.now k 0 * 2 ^ 63 = mul-le-mul_left (get_or c.args.counts.now k 0) bound in
     let term : c.from.result * c.from-in-loop-k.result ≡ get_or c.args.counts.now k 0 * get_or c.args.costs.now k 0 = rw (count, cost) refl in
     record {
-        value = ap (λ n. c.loop-k.total + n) term ∙ (ap (λ n. n + get_or c.args.counts.now k 0 * get_or c.args.costs.now k 0) c.loop-k.invariant.value ∙ sym value);
-        bound = let before = c.loop-k.invariant.bound in omega (arith, term, product, more, before);
+      value = ap (λ n. c.loop-k.total + n) term ∙ (ap (λ n. n + get_or c.args.counts.now k 0 * get_or c.args.costs.now k 0) c.loop-k.invariant.value ∙ sym value);
+      bound = let before = c.loop-k.invariant.bound in omega (arith, term, product, more, before);
     }

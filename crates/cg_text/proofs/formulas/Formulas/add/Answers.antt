@@ -16,20 +16,20 @@ returns-then-is_some-clause-ok c back holds =
     let d : Definition = record { line = c.args.line; name = c.args.event.name; terms = c.in-Some.formula.terms } in
     let said : define c.args.line (plain_event c.args.event) back ≡ d ∷ back = ap (λ o. defined_by c.args.line c.args.event.name (terms_of o) back) c.in-Some.is in
     subst (λ ds. Holds c.args.self.now ds) (sym said) (holds-later c.args.self.now d back
-        (elim c.then-is_some.branch [
-          | then-is_some-via-then-is_some w ↦ inl (search (rules, w))
-          | then-is_some-via-else-is_some+then-len-gt-MOST_NAMES w ↦ inr (search (rules, w))
-        ]) holds)
+    (elim c.then-is_some.branch [
+      | then-is_some-via-then-is_some w ↦ inl (search (rules, w))
+      | then-is_some-via-else-is_some+then-len-gt-MOST_NAMES w ↦ inr (search (rules, w))
+    ]) holds)
 
 pub returns-in_default-find-clause-ok : goal.returns-in_default-find-clause-ok
 returns-in_default-find-clause-ok c = on_ok_weaker c.push.result
     (λ pushed back holds.
-        let kept : code.Definition = record { line = c.args.line; name = c.args.event.name; formula = c.in-Some.formula } in
-        let said : define c.args.line (plain_event c.args.event) back ≡ plain_definition kept ∷ back = ap (λ o. defined_by c.args.line c.args.event.name (terms_of o) back) c.in-Some.is in
-        let none : is_some c.args.self.now.changed ≡ false = sym c.is_some.ensures ∙ c.if-is_some.false in
-        let new : is_defined c.args.event.name (kept_of c.args.self.now) ≡ false = search rules in
-        let after : Formulas = record { alloc = c.args.self.now.alloc; definitions = c.push.new.self; changed = c.args.self.now.changed } in
-        subst (λ ds. Holds after ds) (sym said) (holds-new c.args.self.now after kept back none refl pushed new holds))
+    let kept : code.Definition = record { line = c.args.line; name = c.args.event.name; formula = c.in-Some.formula } in
+    let said : define c.args.line (plain_event c.args.event) back ≡ plain_definition kept ∷ back = ap (λ o. defined_by c.args.line c.args.event.name (terms_of o) back) c.in-Some.is in
+    let none : is_some c.args.self.now.changed ≡ false = sym c.is_some.ensures ∙ c.if-is_some.false in
+    let new : is_defined c.args.event.name (kept_of c.args.self.now) ≡ false = search rules in
+    let after : Formulas = record { alloc = c.args.self.now.alloc; definitions = c.push.new.self; changed = c.args.self.now.changed } in
+    subst (λ ds. Holds after ds) (sym said) (holds-new c.args.self.now after kept back none refl pushed new holds))
     c.push.ensures.ok
 
 pub returns-clause-ok : goal.returns-clause-ok

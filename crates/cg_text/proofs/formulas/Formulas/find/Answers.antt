@@ -25,6 +25,6 @@ loop-last-preserved c =
     let other : bytes_eq c.args.name.now c.in-Some.last.now.name ≡ false = search rules in
     let passed = passed-last c.args.name.now c.in-Some.front.now c.in-Some.last.now other in
     record {
-        defined = sym passed.0 ∙ (sym (ap (λ ds. is_defined c.args.name.now (plain_back ds)) split) ∙ c.loop-last.invariant.defined);
-        changed = λ d named. sym (passed.1 d named) ∙ (sym (ap (λ ds. is_changed d (plain_back ds)) split) ∙ c.loop-last.invariant.changed d named);
+      defined = sym passed.0 ∙ (sym (ap (λ ds. is_defined c.args.name.now (plain_back ds)) split) ∙ c.loop-last.invariant.defined);
+      changed = λ d named. sym (passed.1 d named) ∙ (sym (ap (λ ds. is_changed d (plain_back ds)) split) ∙ c.loop-last.invariant.changed d named);
     }
