@@ -70,7 +70,7 @@ lookup-map row name (n ∷ names) =
       | inr e ↦ rw e (lookup-map row name names)
     ]
 
-lookup-derived : (flat : Flat) (back : List Definition) → Flattens flat back → (name : List ℕ) → lookup (bytes_eq name) flat.derived ≡ (if is_defined name back then Some (coefficients flat.events name back) else None)
+pub lookup-derived : (flat : Flat) (back : List Definition) → Flattens flat back → (name : List ℕ) → lookup (bytes_eq name) flat.derived ≡ (if is_defined name back then Some (coefficients flat.events name back) else None)
 lookup-derived flat back f name =
     ap (lookup (bytes_eq name)) f.derived
     ∙ (lookup-map (λ n. coefficients flat.events n back) name (derived_names back)

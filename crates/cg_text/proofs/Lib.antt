@@ -10,4 +10,5 @@ pub mod RowsLemmas
 pub mod FlatLemmas
 pub mod DefineLemmas
 pub mod FlattenLemmas
+pub mod ValueLemmas
 pub mod FormulaExamples

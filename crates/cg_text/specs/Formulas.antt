@@ -51,6 +51,15 @@ weighed counts costs = sum_by product (zip counts costs)
 abbrev pub derived_value : List (List ℕ) → List Definition → List ℕ → List ℕ → Option ℕ
 derived_value events back name costs = if is_known events back name then Some (weighed (coefficients events name back) costs) else None
 
+-- two assignments of costs, added event by event
+abbrev pub both : List ℕ → List ℕ → List ℕ
+both costs more = map (λ p. p.0 + p.1) (zip costs more)
+
+-- two values added, where there are two
+abbrev pub plus : Option ℕ → Option ℕ → Option ℕ
+plus (Some n) (Some m) = Some (n + m)
+plus n m = None
+
 -- ---- faults
 
 abbrev pub same_terms : List Term → List Term → Bool

@@ -31,7 +31,9 @@ pub use formulas::Formulas;
 pub use heads::FileHead;
 pub use items::Items;
 pub use kinds::{LineKind, classify};
-pub use laws::lines_are_the_text;
+pub use laws::{
+    a_repeat_changes_nothing, coefficients_give_the_values, lines_are_the_text, values_add_up,
+};
 pub use lines::{Lines, first_line, line_end};
 pub use names::{NameSpec, name_spec};
 pub use numbers::{amount, number};

@@ -3,7 +3,7 @@ use Rattle.cg_text.specs.Formulas.{Definition, is_defined}
 use Rattle.cg_text.specs.Definitions.{plain_definition, plain_back}
 use Rattle.cg_text.specs.Flats.{FlatIs, Flattens, Defines}
 use Rattle.cg_text.specs.declared.definitions.Definition as kept
-use Rattle.cg_text.proofs.FlattenLemmas.{plain_back-more, fresh-at, flat-err, flat-ok, flat-changed}
+use Rattle.cg_text.proofs.FlattenLemmas.{plain_back-more, fresh-at, flat-err}
 use Rattle.cg_text.proofs.formulas.Formulas.flatten.Goals as goal
 
 pub returns-in_err-define : goal.returns-in_err-define
