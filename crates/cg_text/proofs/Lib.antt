@@ -4,4 +4,5 @@ pub mod FieldsLemmas
 pub mod NumbersLemmas
 pub mod JoinedLemmas
 pub mod Examples
+pub mod TermsLemmas
 pub mod FormulaExamples

@@ -17,6 +17,7 @@ mod positions;
 mod readings;
 mod split;
 mod subpositions;
+mod terms;
 #[cfg(test)]
 mod tests;
 mod words;
