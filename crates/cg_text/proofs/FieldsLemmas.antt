@@ -1,5 +1,5 @@
 -- The fields of a text, from its front.
-use Rattle.std.proofs.Common.{inl, inr, suc, ◌≡◌, ℕ, ◌+◌, ◌≤◌, false, not, cond, List, [], ◌∷◌, length, take, drop, filter, position, Some, None, refl, sym, ◌∙◌, ap, subst, arith, one-add}
+use Rattle.std.proofs.Common.{inl, inr, suc, ◌≡◌, ℕ, ◌+◌, ◌≤◌, Bool, false, not, cond, List, [], ◌∷◌, length, take, drop, filter, position, Some, None, refl, sym, ◌∙◌, ap, subst, arith, one-add}
 use Rattle.std.specs.List.{position_or_len, slice_split, onto_first}
 use Rattle.std.proofs.lemmas.Bool.{cases_Bool, cond-true}
 use Rattle.std.proofs.lemmas.List.Splits.{slice_split_first}
