@@ -38,10 +38,6 @@ with_terms-more : (ts : List Term) (t : Term) (more : Option (List Term)) → wi
 with_terms-more ts t None = refl
 with_terms-more ts t (Some more) = ap Some (sym (append_assoc ts (t ∷ []) more))
 
-pub with_terms-nil : (formula : Option (List Term)) → formula ≡ with_terms [] formula
-with_terms-nil None = refl
-with_terms-nil (Some ts) = refl
-
 -- a text whose first terms are read, and the rest of it
 abbrev pub Continues : List ℕ → List Term → List ℕ → Type 0
 Continues text ts rest = formula_of text ≡ with_terms ts (formula_of rest)
