@@ -59,7 +59,7 @@ fn first_other(text: &[u8]) -> Option<usize>
 }
 
 /// The digits that a text begins with, and what follows them.
-fn digits(text: &[u8]) -> (&[u8], &[u8])
+fn split_digits(text: &[u8]) -> (&[u8], &[u8])
     ensures digits { result.0.now ≡ take_while is_digit text.now }
     ensures rest { result.1.now ≡ drop (prefix_len is_digit text.now) text.now }
 {
@@ -101,6 +101,6 @@ fn counted<'a>(digits: &[u8], rest: &'a [u8]) -> Option<(u64, &'a [u8])>
 pub(crate) fn term(text: &[u8]) -> Option<(u64, &[u8])>
     ensures { option_map plain_term result ≡ term_of text.now }
 {
-    let (digits, rest) = digits(trim_end(trim_start(text)));
+    let (digits, rest) = split_digits(trim_end(trim_start(text)));
     counted(digits, rest)
 }
