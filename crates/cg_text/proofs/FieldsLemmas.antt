@@ -1,5 +1,5 @@
 -- The fields of a text, from its front.
-use Rattle.std.proofs.Common.{inl, inr, suc, ◌≡◌, ℕ, ◌+◌, ◌≤◌, false, not, cond, List, [], ◌∷◌, length, take, drop, filter, position, Some, None, refl, sym, ◌∙◌, ap, subst, arith, one-add}
+use Rattle.std.proofs.Common.{inl, inr, suc, ◌≡◌, ℕ, ◌+◌, ◌≤◌, Bool, false, not, cond, List, [], ◌∷◌, length, take, drop, filter, position, Some, None, refl, sym, ◌∙◌, ap, subst, arith, one-add}
 use Rattle.std.specs.List.{position_or_len, slice_split, onto_first}
 use Rattle.std.proofs.lemmas.Bool.{cases_Bool, cond-true}
 use Rattle.std.proofs.lemmas.List.Splits.{slice_split_first}
@@ -29,17 +29,28 @@ trim_start-begins (b ∷ bs) h =
       | inr e ↦ rw e e
     ]
 
--- with no blank, there is one part
-split-last : (bs : List ℕ) → length bs ≤ position_or_len is_blank bs → slice_split is_blank bs ≡ bs ∷ []
-split-last [] h = refl
-split-last (b ∷ bs) h =
-    elim (cases_Bool (is_blank b)) [
-      | inl e ↦ absurd (let k : suc (length bs) ≤ cond (not (is_blank b)) (1 + position_or_len is_blank bs) 0 = h in let k' = rw e at k in omega (arith, k'))
+-- where nothing splits, there is one part
+pub split-last : (p : ℕ → Bool) (bs : List ℕ) → length bs ≤ position_or_len p bs → slice_split p bs ≡ bs ∷ []
+split-last p [] h = refl
+split-last p (b ∷ bs) h =
+    elim (cases_Bool (p b)) [
+      | inl e ↦ absurd (let k : suc (length bs) ≤ cond (not (p b)) (1 + position_or_len p bs) 0 = h in let k' = rw e at k in omega (arith, k'))
       | inr e ↦
-          let k : suc (length bs) ≤ cond (not (is_blank b)) (1 + position_or_len is_blank bs) 0 = h in
+          let k : suc (length bs) ≤ cond (not (p b)) (1 + position_or_len p bs) 0 = h in
           let k' = rw e at k in
-          rw e (ap (onto_first b) (split-last bs (omega (arith, k'))))
+          rw e (ap (onto_first b) (split-last p bs (omega (arith, k'))))
     ]
+
+-- the first part goes up to the first that splits
+pub split-Some : (p : ℕ → Bool) (bs : List ℕ) (i : ℕ) → position p bs ≡ Some i → slice_split p bs ≡ take i bs ∷ slice_split p (drop (i + 1) bs)
+split-Some p bs i h =
+    let found = position-Some p bs i h in
+    let first : slice_split p bs ≡ take (position_or_len p bs) bs ∷ slice_split p (drop (position_or_len p bs + 1) bs) = slice_split_first p bs 0 (omega (arith, found.1, found.2)) in
+    subst (λ k. slice_split p bs ≡ take k bs ∷ slice_split p (drop (k + 1) bs)) found.2 first
+
+-- or it is the last
+pub split-None : (p : ℕ → Bool) (bs : List ℕ) → position p bs ≡ None → slice_split p bs ≡ bs ∷ []
+split-None p bs h = let found = position-None p bs h in split-last p bs (omega (arith, found.1))
 
 -- the first field goes up to the first blank
 pub fields-Some : (bs : List ℕ) (i : ℕ) → BeginsField bs → position is_blank bs ≡ Some i → fields_of bs ≡ take i bs ∷ fields_of (drop (i + 1) bs)
@@ -57,4 +68,4 @@ fields-Some (b ∷ bs) i begins h =
 -- or it is the last
 pub fields-None : (bs : List ℕ) → BeginsField bs → position is_blank bs ≡ None → fields_of bs ≡ bs ∷ []
 fields-None [] begins h = absurd begins
-fields-None (b ∷ bs) begins h = let found = position-None is_blank (b ∷ bs) h in ap (filter is_field) (split-last (b ∷ bs) (omega (arith, found.1)))
+fields-None (b ∷ bs) begins h = ap (filter is_field) (split-None is_blank (b ∷ bs) h)

@@ -11,4 +11,5 @@ pub mod FlatLemmas
 pub mod DefineLemmas
 pub mod FlattenLemmas
 pub mod ValueLemmas
+pub mod TermsLemmas
 pub mod FormulaExamples

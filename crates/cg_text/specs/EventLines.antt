@@ -80,8 +80,11 @@ abbrev pub defined : List ℕ → Option (List Term) → Result Event Fault
 defined name None = Err FormulaForm
 defined name (Some terms) = Ok (record { name = name; terms = Some terms })
 
+abbrev pub is_colon : ℕ → Bool
+is_colon b = b == colon
+
 abbrev pub before_colon : List ℕ → List ℕ
-before_colon text = take_while (λ b. not (b == colon)) text
+before_colon text = take_while (λ b. not (is_colon b)) text
 
 -- what follows a name: nothing, `=` and a formula, and, behind either, `:` and a long name
 abbrev pub named : List ℕ → List ℕ → Result Event Fault

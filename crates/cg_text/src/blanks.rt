@@ -31,7 +31,7 @@ pub(crate) fn trim_start(bytes: &[u8]) -> &[u8]
 
 /// Without the blanks behind.
 #[inline(always)]
-fn trim_end(bytes: &[u8]) -> &[u8]
+pub(crate) fn trim_end(bytes: &[u8]) -> &[u8]
     ensures { result.now ≡ trim_end bytes.now }
 {
     let mut end = bytes.len();

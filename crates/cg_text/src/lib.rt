@@ -19,6 +19,7 @@ mod readings;
 mod rows;
 mod split;
 mod subpositions;
+mod terms;
 #[cfg(test)]
 mod tests;
 mod words;

@@ -1,10 +1,10 @@
 // Each public call, on values of the format's manual and on edges that a reader of it would try.
 use crate::{
     Fault, HeaderKey, Items, LINE_LIMIT, LineKind, Lines, NameSpec, NameWord, Namespace, ReadEnd,
-    Role, SubPos, amount, classify, fields, first_line, line_end, line_text, name_spec, next_field,
-    number, read_line, strip_carriage_return, subpos,
+    Role, SubPos, TextEnd, amount, classify, event_line, fields, first_line, line_end, line_text,
+    name_spec, next_field, number, read_line, strip_carriage_return, subpos,
 };
-use std::alloc::AllocError;
+use std::alloc::{AllocError, Global};
 use std::test::Fail;
 
 #[test]
@@ -274,5 +274,94 @@ fn items_are_a_list(rt: HostRuntime) -> Result<(), Fail> {
     let mut names = events.into_vec();
     let last = names.pop().ok_or("no event")?;
     assert_eq!(rt; last.into_vec().as_slice(), b"Dr".as_slice());
+    Ok(())
+}
+
+/// What the value of an `event:` line says, with every number written out, or why it is not read.
+fn event_shown(alloc: Global, value: &[u8]) -> Result<String, Fail> {
+    let event = match event_line(alloc, value) {
+        Ok(event) => event,
+        Err(end) => return Ok(format!(in alloc; "{end}")?),
+    };
+    let name = str::from_utf8(event.name.as_slice())?;
+    let Some(formula) = &event.formula else {
+        return Ok(format!(in alloc; "{name}")?);
+    };
+    let mut shown = format!(in alloc; "{name} =")?;
+    for (number, event) in formula.terms.as_slice() {
+        let event = str::from_utf8(event.as_slice())?;
+        shown = format!(in alloc; "{shown} {number} {event}")?;
+    }
+    Ok(shown)
+}
+
+#[test]
+fn events_of_the_manual(rt: HostRuntime) -> Result<(), Fail> {
+    for (value, want) in [
+        (
+            b" Est = Ir + 10 L1m + 100 * LLm : Estimate".as_slice(),
+            "Est = 1 Ir 10 L1m 100 LLm",
+        ),
+        (
+            b"Est=Ir+10L1m+100*LLm:Estimate".as_slice(),
+            "Est = 1 Ir 10 L1m 100 LLm",
+        ),
+        (b" Ir : Instruction Fetch = all".as_slice(), "Ir"),
+        (b"\tIr ".as_slice(), "Ir"),
+        (b"3+a* = -b".as_slice(), "3+a* = 1 -b"),
+        (b"A = 1 Ir\t+ 0Ir : a : b".as_slice(), "A = 1 Ir 0 Ir"),
+        (b"A = 0x10".as_slice(), "A = 0 x10"),
+        (
+            b"A = 18446744073709551615 B".as_slice(),
+            "A = 18446744073709551615 B",
+        ),
+        (
+            b"A = 99999999999999999999999*B".as_slice(),
+            "A = 18446744073709551615 B",
+        ),
+    ] {
+        let shown = event_shown(rt.alloc(), value)?;
+        assert_eq!(rt; shown.as_str(), want, "{value:?}");
+    }
+    Ok(())
+}
+
+#[test]
+fn events_out_of_form(rt: HostRuntime) -> Result<(), Fail> {
+    for value in [
+        b"".as_slice(),
+        b" = Ir".as_slice(),
+        b"A B = Ir".as_slice(),
+        b"A = ".as_slice(),
+        b"A = B = C".as_slice(),
+        b"A = Ir +".as_slice(),
+        b"A = + Ir".as_slice(),
+        b"A = 10".as_slice(),
+        b"A = 0x10 Ir".as_slice(),
+        b"A = 2 3x".as_slice(),
+        b"A = 2 ** Ir".as_slice(),
+        b"A = * Ir".as_slice(),
+        b"A = Ir Dr".as_slice(),
+    ] {
+        let shown = event_shown(rt.alloc(), value)?;
+        assert_eq!(rt; shown.as_str(), "F16 formula form", "{value:?}");
+    }
+    let refused = format!(in rt.alloc(); "{}", TextEnd::from(AllocError))?;
+    assert_eq!(rt; refused.as_str(), "out of memory");
+    Ok(())
+}
+
+#[test]
+fn a_formula_may_have_a_mebibyte(rt: HostRuntime) -> Result<(), Fail> {
+    let mut value = b"A=".to_vec(rt.alloc())?;
+    for _ in 0..LINE_LIMIT / 2 {
+        value.push(b'a')?;
+        value.push(b'+')?;
+    }
+    assert!(rt; event_line(rt.alloc(), &value).is_err());
+    value.push(b'a')?;
+    let event = event_line(rt.alloc(), &value)?;
+    let formula = event.formula.ok_or("no formula")?;
+    assert_eq!(rt; formula.terms.len(), 524_289);
     Ok(())
 }
