@@ -133,7 +133,11 @@ fn feed_all(
 }
 
 fn push_head(text: &mut Vec<u8>, alloc: Global, head: FileHead) -> Result<(), AllocError> {
-    let FileHead { events, stated } = head;
+    let FileHead {
+        events,
+        derived: _,
+        stated,
+    } = head;
     for name in events.as_slice() {
         push_name(text, name.as_slice())?;
     }
