@@ -6,16 +6,17 @@ use Rattle.cg_text.specs.Readings.{Reading}
 use Rattle.cg_text.specs.Kinds.{Nothing, Cost, Calls}
 use Rattle.cg_text.specs.declared.faults.Fault.{Fault}
 use Rattle.cg_text.specs.declared.faults.Fault.TheVariants.{LineTooLong, CallWithoutCost}
+use Rattle.callgrind_reader.specs.Faulty.{earlier_or}
 use Rattle.callgrind_reader.specs.Records.{Record}
 use Rattle.callgrind_reader.specs.Calls.{number_after, awaiting}
 use Rattle.callgrind_reader.specs.Lines.{fault_at, record_of}
-use Rattle.callgrind_reader.specs.Files.{cost_follows, call_fault, numbered_or, first_fault, unless_fault, sound_records, onto}
-use Rattle.callgrind_reader.specs.Accept.{breaks, broken, seen, fault_after, held, adds}
+use Rattle.callgrind_reader.specs.Files.{cost_follows, call_fault, numbered_or, first_fault, unless_fault, sound_records, onto, formulas_fault, fault_in}
+use Rattle.callgrind_reader.specs.Accept.{breaks, broken, seen, line_fault_after, fault_after, held, adds}
 use Rattle.callgrind_reader.proofs.SeenLemmas.{seen-later, seen-broken, seen-own, seen-none}
 
 -- after these lines and those ahead, this is the first fault, and these are the records that the lines ahead add
 pub record Exact (back ahead : List Reading) (fault : Option (Fault × ℕ)) (more : List Record) : Type 0 where
-  pub fault_is : fault_after (onto ahead back) ≡ fault
+  pub fault_is : line_fault_after (onto ahead back) ≡ fault
   pub held_is : held (onto ahead back) ≡ held back ++ more
 
 option_cases : {A : Type 0} (o : Option A) → (o ≡ None) ⊎ ((x : A) × (o ≡ Some x))
@@ -97,8 +98,11 @@ exact (r ∷ ahead) back none ready =
     ]
 
 -- from the start
-pub exact-fault : (rs : List Reading) → first_fault [] rs ≡ fault_after (onto rs [])
-exact-fault rs = sym (exact rs [] refl (inl refl)).fault_is
+pub exact-line_fault : (rs : List Reading) → first_fault [] rs ≡ line_fault_after (onto rs [])
+exact-line_fault rs = sym (exact rs [] refl (inl refl)).fault_is
+
+pub exact-fault : (rs : List Reading) → fault_in rs ≡ fault_after (onto rs [])
+exact-fault rs = ap (λ found. earlier_or found (formulas_fault (onto rs []))) (exact-line_fault rs)
 
 pub exact-records : (rs : List Reading) → sound_records [] rs ≡ held (onto rs [])
 exact-records rs = sym (exact rs [] refl (inl refl)).held_is

@@ -425,7 +425,7 @@ fault-first_of_two : fault_of_file (codes "x\ny\n") ≡ Some (UnknownLine, 1)
 unfolding reading_of line_text kind_of name_of number_of amount_of subpos_of
 fault-first_of_two = refl
 
-fault-other_keys : fault_of_file (codes "creator: x\nthread: y\nevent: Z = 1\n") ≡ None
+fault-other_keys : fault_of_file (codes "creator: x\nthread: y\nZ: 1\n") ≡ None
 unfolding reading_of line_text kind_of name_of number_of amount_of subpos_of
 fault-other_keys = refl
 

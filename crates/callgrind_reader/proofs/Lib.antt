@@ -1,4 +1,5 @@
 pub mod Examples
+pub mod FormulaExamples
 pub mod FaultyLemmas
 pub mod SeenLemmas
 pub mod ExactLemmas

@@ -5,9 +5,11 @@ use Rattle.cg_text.specs.Kinds as kinds
 use Rattle.cg_text.specs.Kinds.{Nothing}
 use Rattle.cg_text.specs.declared.faults.Fault.{Fault}
 use Rattle.cg_text.specs.declared.faults.Fault.TheVariants.{LineTooLong, CallWithoutCost}
+use Rattle.callgrind_reader.specs.Faulty.{earlier_or}
 use Rattle.callgrind_reader.specs.Records.{Record}
 use Rattle.callgrind_reader.specs.Calls.{number_after, awaiting}
 use Rattle.callgrind_reader.specs.Lines.{record_of, fault_at}
+use Rattle.callgrind_reader.specs.Files.{formulas_fault}
 
 -- whether a line ends the wait for a cost line without being one
 abbrev pub breaks : Reading → Bool
@@ -31,10 +33,6 @@ abbrev pub shows : Option ℕ → Option Fault → ℕ → Option (Fault × ℕ)
 shows None own n = at_number own n
 shows (Some at) own n = Some (CallWithoutCost, at)
 
-abbrev pub earlier_or : Option (Fault × ℕ) → Option (Fault × ℕ) → Option (Fault × ℕ)
-earlier_or (Some fault) later = Some fault
-earlier_or None later = later
-
 -- the first fault that the lines so far show
 abbrev pub seen : List Reading → Option (Fault × ℕ)
 seen [] = None
@@ -45,8 +43,13 @@ abbrev pub left_waiting : Option (ℕ × ℕ) → Option (Fault × ℕ)
 left_waiting None = None
 left_waiting (Some call) = Some (CallWithoutCost, call.0)
 
+-- the fault of the least of the lines with one, if no more come
+abbrev pub line_fault_after : List Reading → Option (Fault × ℕ)
+line_fault_after back = earlier_or (seen back) (left_waiting (awaiting back))
+
+-- the first fault, if no more lines come: faults of formulas come after those of lines
 abbrev pub fault_after : List Reading → Option (Fault × ℕ)
-fault_after back = earlier_or (seen back) (left_waiting (awaiting back))
+fault_after back = earlier_or (line_fault_after back) (formulas_fault back)
 
 abbrev pub unless_seen : {A : Type 0} → Option (Fault × ℕ) → List A → List A
 unless_seen (Some fault) xs = []

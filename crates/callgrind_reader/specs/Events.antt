@@ -1,10 +1,10 @@
 -- The events of a file.
 use Rattle.std.specs.Prelude.{ℕ, Bool, true, false, ◌&&◌, not, List, [], ◌∷◌, length, ◌==◌, nat_lt, if◌then◌else◌, Ok, Option, Some, None}
-use Rattle.std.specs.List.{list_any}
 use Rattle.std.specs.Str.{bytes_eq}
 use Rattle.cg_text.specs.Readings.{Reading}
 use Rattle.cg_text.specs.Kinds.{Header}
 use Rattle.cg_text.specs.Fields.{fields_of}
+use Rattle.cg_text.specs.Formulas.{are_distinct}
 use Rattle.cg_text.specs.declared.faults.Fault.{Fault}
 use Rattle.cg_text.specs.declared.faults.Fault.TheVariants.{NoEvents, EventTwice, EventsChanged, TooManyEvents}
 use Rattle.cg_text.specs.declared.words.HeaderKey.TheVariants.{Events}
@@ -18,11 +18,6 @@ abbrev pub events_of : List Reading → Option (List (List ℕ))
 events_of [] = None
 events_of (Ok (Header Events value) ∷ back) = first_of (events_of back) (fields_of value)
 events_of (r ∷ back) = events_of back
-
--- whether no name stands twice
-abbrev pub are_distinct : List (List ℕ) → Bool
-are_distinct [] = true
-are_distinct (name ∷ names) = not (list_any (bytes_eq name) names) && are_distinct names
 
 -- whether two lists have the same names in the same order
 abbrev pub same_names : List (List ℕ) → List (List ℕ) → Bool

@@ -17,3 +17,8 @@ each read (field ∷ fields) = read field >>= λ x. (each read fields >>= λ xs.
 abbrev pub err_of : {A : Type 0} → Result A Fault → Option Fault
 err_of (Ok x) = None
 err_of (Err fault) = Some fault
+
+-- the first of two faults, each with its line, if it is there, else the second
+abbrev pub earlier_or : Option (Fault × ℕ) → Option (Fault × ℕ) → Option (Fault × ℕ)
+earlier_or (Some fault) second = Some fault
+earlier_or None second = second

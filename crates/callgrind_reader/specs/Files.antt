@@ -4,12 +4,15 @@ use Rattle.cg_text.specs.Lines.{lines_of}
 use Rattle.cg_text.specs.Readings.{Reading, reading_of}
 use Rattle.cg_text.specs.Kinds as kinds
 use Rattle.cg_text.specs.Kinds.{Nothing, Calls}
+use Rattle.cg_text.specs.Formulas.{Definition, formula_fault, derived_of}
 use Rattle.cg_text.specs.declared.faults.Fault.{Fault}
 use Rattle.cg_text.specs.declared.faults.Fault.TheVariants.{LineTooLong, CallWithoutCost}
+use Rattle.callgrind_reader.specs.Faulty.{earlier_or}
 use Rattle.callgrind_reader.specs.Records.{Record}
 use Rattle.callgrind_reader.specs.Events.{events_of}
 use Rattle.callgrind_reader.specs.Totals.{stated_of}
 use Rattle.callgrind_reader.specs.Calls.{number_after}
+use Rattle.callgrind_reader.specs.Definitions.{definitions_of}
 use Rattle.callgrind_reader.specs.Lines.{record_of, fault_at}
 
 -- ---- a `calls=` line looks ahead
@@ -58,12 +61,24 @@ abbrev pub sound_records : List Reading → List Reading → List Record
 sound_records back [] = []
 sound_records back (r ∷ ahead) = unless_fault (fault_of r back ahead) (record_of r back ++ sound_records (r ∷ back) ahead)
 
--- ---- a file
-
 -- some lines in front of others, the nearest first
 abbrev pub onto : List Reading → List Reading → List Reading
 onto [] back = back
 onto (r ∷ ahead) back = onto ahead (r ∷ back)
+
+abbrev pub names_or_none : Option (List (List ℕ)) → List (List ℕ)
+names_or_none None = []
+names_or_none (Some names) = names
+
+-- the first fault of the formulas, over the events that these lines name
+abbrev pub formulas_fault : List Reading → Option (Fault × ℕ)
+formulas_fault back = formula_fault (names_or_none (events_of back)) (definitions_of back)
+
+-- the fault of the least line with one, and where no line has one, the first of the formulas
+abbrev pub fault_in : List Reading → Option (Fault × ℕ)
+fault_in rs = earlier_or (first_fault [] rs) (formulas_fault (onto rs []))
+
+-- ---- a file
 
 abbrev pub readings_of : List ℕ → List Reading
 readings_of text = map reading_of (lines_of text)
@@ -74,19 +89,23 @@ end_of text = onto (readings_of text) []
 
 -- the first fault of a file, with its line; a file without one is accepted
 abbrev pub fault_of_file : List ℕ → Option (Fault × ℕ)
-fault_of_file text = first_fault [] (readings_of text)
+fault_of_file text = fault_in (readings_of text)
 
--- the records of the lines before the first with a fault
+-- the records of the lines before the first with a fault; where the fault is a formula's, all records
 abbrev pub records_of_file : List ℕ → List Record
 records_of_file text = sound_records [] (readings_of text)
-
-abbrev pub names_or_none : Option (List (List ℕ)) → List (List ℕ)
-names_or_none None = []
-names_or_none (Some names) = names
 
 -- the events of a file
 abbrev pub events_of_file : List ℕ → List (List ℕ)
 events_of_file text = names_or_none (events_of (end_of text))
+
+-- the definitions that its `event:` lines give
+abbrev pub definitions_of_file : List ℕ → List Definition
+definitions_of_file text = definitions_of (end_of text)
+
+-- its derived events, each with its coefficients
+abbrev pub derived_of_file : List ℕ → List (List ℕ × List ℕ)
+derived_of_file text = derived_of (events_of_file text) (definitions_of_file text)
 
 -- the totals that a file states, one for each event
 abbrev pub stated_of_file : List ℕ → Option (List ℕ)

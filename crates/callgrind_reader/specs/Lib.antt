@@ -6,6 +6,7 @@ pub mod Positions
 pub mod Costs
 pub mod Calls
 pub mod Totals
+pub mod Definitions
 pub mod Lines
 pub mod Files
 pub mod Lent

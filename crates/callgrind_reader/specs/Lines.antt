@@ -4,6 +4,7 @@ use Rattle.cg_text.specs.Readings.{Reading}
 use Rattle.cg_text.specs.Kinds as kinds
 use Rattle.cg_text.specs.Kinds.{Nothing, Header, Name, Calls, Jump}
 use Rattle.cg_text.specs.Fields.{fields_of}
+use Rattle.cg_text.specs.EventLines.{event_of}
 use Rattle.cg_text.specs.Names.{name_of}
 use Rattle.cg_text.specs.Numbers.{number_of, amount_of}
 use Rattle.cg_text.specs.Words.{namespace_of}
@@ -63,7 +64,7 @@ abbrev pub header_fault : HeaderKey → List ℕ → List Reading → Option Fau
 header_fault Version value back = version_fault (fields_of value)
 header_fault Positions value back = positions_fault (form_of (fields_of value)) (settled back)
 header_fault Events value back = events_fault (fields_of value) (events_of back)
-header_fault Event value back = None
+header_fault Event value back = err_of (event_of value)
 header_fault Summary value back = err_of (each amount_of (fields_of value))
 header_fault Totals value back = err_of (each amount_of (fields_of value))
 header_fault Other value back = None

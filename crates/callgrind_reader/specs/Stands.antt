@@ -1,5 +1,6 @@
 -- When what a reader keeps stands for the lines that it has read.
 use Rattle.std.specs.Prelude.{◌≡◌, ℕ, ◌<◌, Bool, List, ◌∷◌, length, nat_lt, slice_index, Option, None, Some}
+use Rattle.cg_text.specs.Held.{Holds}
 use Rattle.cg_text.specs.Readings.{Reading}
 use Rattle.cg_text.specs.declared.faults.Fault.{Fault}
 use Rattle.cg_text.specs.declared.words.Namespace.TheVariants.{Object, File, Function}
@@ -11,6 +12,7 @@ use Rattle.callgrind_reader.specs.Events.{events_of}
 use Rattle.callgrind_reader.specs.Positions.{settled, offsets_at}
 use Rattle.callgrind_reader.specs.Totals.{total_in, summary_in, has_totals, has_summary}
 use Rattle.callgrind_reader.specs.Calls.{awaiting}
+use Rattle.callgrind_reader.specs.Definitions.{definitions_of}
 use Rattle.callgrind_reader.specs.Lines.{fault_at}
 use Rattle.callgrind_reader.specs.Accept.{seen}
 use Rattle.callgrind_reader.specs.Space.{SpaceIs}
@@ -24,6 +26,7 @@ pub record SumsAre (s : Sums) (sum_in : ℕ → ℕ) (is_given : Bool) : Type 0 
 pub record HeaderIs (h : Header) (back : List Reading) : Type 0 where
   pub events : h.events.names ≡ events_of back
   pub layout : h.layout ≡ settled back
+  pub formulas : Holds h.formulas (definitions_of back)
   pub totals : SumsAre h.totals (λ k. total_in k back) (has_totals back)
   pub summary : SumsAre h.summary (λ k. summary_in k back) (has_summary back)
 

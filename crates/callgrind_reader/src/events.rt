@@ -1,10 +1,11 @@
 // The events of a file.
-ghost use Rattle.std.specs.Prelude.{◌≡◌, ◌≤◌, IfOk, IfSome, OnOk, Option, Some, None, length};
+ghost use Rattle.std.specs.Prelude.{◌≡◌, ◌≤◌, IfOk, IfSome, OnOk, Option, Some, None, length, true};
 ghost use Rattle.std.specs.List.{list_any};
 ghost use Rattle.std.specs.Str.{bytes_eq};
 ghost use Rattle.std.specs.Option.{ForSome};
 ghost use Rattle.cg_text.specs.Fields.{fields_of};
-ghost use Rattle.callgrind_reader.specs.Events.{first_of, are_distinct, same_names, events_fault};
+ghost use Rattle.cg_text.specs.Formulas.{are_distinct};
+ghost use Rattle.callgrind_reader.specs.Events.{first_of, same_names, events_fault};
 ghost use Rattle.callgrind_reader.specs.Files.{names_or_none};
 
 use crate::rows::field_count;
@@ -73,6 +74,7 @@ pub struct Events {
     pub(crate) alloc: Global,
     pub(crate) names: Option<Items<Items<u8>>>,
     ghost few: { ForSome names (λ n. length n ≤ 64) },
+    ghost distinct: { ForSome names (λ n. are_distinct n ≡ true) },
 }
 
 impl Events {
@@ -87,6 +89,7 @@ impl Events {
     pub fn into_names(self) -> Items<Items<u8>>
         ensures names { result ≡ names_or_none self.names }
         ensures few { length result ≤ 64 }
+        ensures distinct { are_distinct result ≡ true }
     {
         let Events { alloc, names } = self;
         match names {

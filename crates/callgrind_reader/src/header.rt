@@ -3,9 +3,10 @@ ghost use Rattle.std.specs.Prelude.{◌≡◌, ℕ, ◌+◌, ◌<◌, ◌≤◌,
 ghost use Rattle.cg_text.specs.Readings.{Reading};
 ghost use Rattle.cg_text.specs.Kinds as kinds;
 ghost use Rattle.callgrind_reader.specs.Positions.{or_line};
-ghost use Rattle.cg_text.specs.declared.words.HeaderKey.TheVariants.{Positions, Summary, Totals};
+ghost use Rattle.cg_text.specs.declared.words.HeaderKey.TheVariants.{Event, Positions, Summary, Totals};
 ghost use Rattle.callgrind_reader.specs.Lines.{header_fault};
-ghost use Rattle.callgrind_reader.specs.Files.{names_or_none};
+ghost use Rattle.callgrind_reader.specs.Calls.{number_after};
+ghost use Rattle.callgrind_reader.specs.Files.{names_or_none, formulas_fault};
 ghost use Rattle.callgrind_reader.specs.Totals.{stated_of};
 
 use crate::events::Events;
@@ -13,7 +14,7 @@ use crate::headers::{form_of, positions_fault, version_fault};
 use crate::layouts::Layout;
 use crate::rows::push_amounts;
 use crate::totals::Sums;
-use cg_text::{Fault, FileHead, HeaderKey, Items};
+use cg_text::{Fault, FileHead, FlatEnd, Formulas, HeaderKey, Items, ReadEnd, TextEnd, event_line};
 use std::alloc::{AllocError, Global};
 
 /// What is known of a file's header.
@@ -21,6 +22,7 @@ use std::alloc::{AllocError, Global};
 pub struct Header {
     pub(crate) events: Events,
     pub(crate) layout: Option<Layout>,
+    pub(crate) formulas: Formulas,
     pub(crate) totals: Sums,
     pub(crate) summary: Sums,
     amounts: Vec<u64>,
@@ -28,7 +30,7 @@ pub struct Header {
 
 impl Header {
     ghost use Rattle.callgrind_reader.specs.Stands.{HeaderIs};
-    ghost use Rattle.callgrind_reader.specs.Ends.{HeadIs};
+    ghost use Rattle.callgrind_reader.specs.Ends.{ComesBy};
 
     /// No line was read.
     pub fn new(alloc: Global) -> Result<Header, AllocError>
@@ -38,6 +40,7 @@ impl Header {
         Ok(Header {
             events: Events::new(alloc),
             layout: None,
+            formulas: Formulas::new(alloc),
             totals: Sums::new(alloc)?,
             summary: Sums::new(alloc)?,
             amounts: Vec::new(alloc),
@@ -55,6 +58,7 @@ impl Header {
     pub fn settle(&mut self)
         ensures events { self.new.events ≡ self.old.events }
         ensures layout { self.new.layout ≡ Some (or_line self.old.layout) }
+        ensures formulas { self.new.formulas ≡ self.old.formulas }
         ensures totals { self.new.totals ≡ self.old.totals }
         ensures summary { self.new.summary ≡ self.old.summary }
     {
@@ -113,12 +117,35 @@ impl Header {
         Ok(fault)
     }
 
-    /// Takes a header line, and answers its fault.
-    pub fn take(&mut self, key: HeaderKey, value: &[u8]) -> Result<Option<Fault>, AllocError>
+    /// Takes an `event:` line of this number, and answers its fault.
+    fn formula_line(&mut self, line: u64, value: &[u8]) -> Result<Option<Fault>, AllocError>
+        ensures fault { IfOk result (λ f. (back : List Reading) → HeaderIs self.old back → f ≡ header_fault Event value.now back) }
+        ensures header { IfOk result (λ f. (back : List Reading) → HeaderIs self.old back → line ≡ number_after back → f ≡ None → HeaderIs self.new (Ok (kinds.Header Event value.now) ∷ back)) }
+        ensures events { self.new.events ≡ self.old.events }
+        ensures totals { self.new.totals.lines ≡ self.old.totals.lines }
+        ensures summary { self.new.summary.lines ≡ self.old.summary.lines }
+    {
+        match event_line(self.events.alloc, value) {
+            Ok(event) => {
+                self.formulas.add(line, event)?;
+                Ok(None)
+            }
+            Err(TextEnd::Fault(fault)) => Ok(Some(fault)),
+            Err(TextEnd::Memory) => Err(AllocError),
+        }
+    }
+
+    /// Takes a header line of this number, and answers its fault.
+    pub fn take(
+        &mut self,
+        line: u64,
+        key: HeaderKey,
+        value: &[u8],
+    ) -> Result<Option<Fault>, AllocError>
         requires totals { self.old.totals.lines < 2 ^ 63 }
         requires summary { self.old.summary.lines < 2 ^ 63 }
         ensures fault { IfOk result (λ f. (back : List Reading) → HeaderIs self.old back → f ≡ header_fault key value.now back) }
-        ensures header { IfOk result (λ f. (back : List Reading) → HeaderIs self.old back → f ≡ None → HeaderIs self.new (Ok (kinds.Header key value.now) ∷ back)) }
+        ensures header { IfOk result (λ f. (back : List Reading) → HeaderIs self.old back → line ≡ number_after back → f ≡ None → HeaderIs self.new (Ok (kinds.Header key value.now) ∷ back)) }
         ensures kept { IfSome self.old.events.names (λ n. self.new.events.names ≡ Some n) }
         ensures more_totals { self.new.totals.lines ≤ self.old.totals.lines + 1 }
         ensures more_summary { self.new.summary.lines ≤ self.old.summary.lines + 1 }
@@ -129,7 +156,8 @@ impl Header {
             HeaderKey::Events => self.events.take(value),
             HeaderKey::Summary => self.summary_line(value),
             HeaderKey::Totals => self.totals_line(value),
-            HeaderKey::Event | HeaderKey::Other => Ok(None),
+            HeaderKey::Event => self.formula_line(line, value),
+            HeaderKey::Other => Ok(None),
         }
     }
 
@@ -162,22 +190,29 @@ impl Header {
         Ok(None)
     }
 
-    /// What the lines so far say of their file.
-    pub fn into_head(self) -> Result<FileHead, AllocError>
-        ensures head { IfOk result (λ head. (back : List Reading) → HeaderIs self back → HeadIs head back) }
+    /// What the lines so far say of their file, or the first fault of their formulas.
+    pub fn into_head(self) -> Result<FileHead, ReadEnd>
+        ensures comes { (back : List Reading) → HeaderIs self back → ComesBy (formulas_fault back) result back }
         ensures few { IfOk result (λ head. length head.events ≤ 64) }
     {
         let stated = self.stated()?;
         let Header {
             events,
             layout: _,
+            formulas,
             totals: _,
             summary: _,
             amounts: _,
         } = self;
-        Ok(FileHead {
-            events: events.into_names(),
-            stated,
-        })
+        let events = events.into_names();
+        match formulas.flatten(events.as_slice()) {
+            Ok(derived) => Ok(FileHead {
+                events,
+                derived,
+                stated,
+            }),
+            Err(FlatEnd::Fault(fault, line)) => Err(ReadEnd::Fault(fault, line)),
+            Err(FlatEnd::Memory) => Err(ReadEnd::Memory),
+        }
     }
 }

@@ -3,15 +3,17 @@ ghost use Rattle.std.specs.Prelude.{◌≡◌, ℕ, List, [], ◌++◌};
 ghost use Rattle.cg_text.specs.Readings.{Reading};
 ghost use Rattle.callgrind_reader.specs.declared.reader.Reader.{Reader};
 ghost use Rattle.callgrind_reader.specs.Records.{Record};
-ghost use Rattle.callgrind_reader.specs.Files.{first_fault, sound_records, onto, records_of_file};
-ghost use Rattle.callgrind_reader.specs.Accept.{fault_after, held};
+ghost use Rattle.callgrind_reader.specs.Files.{first_fault, fault_in, sound_records, onto, records_of_file};
+ghost use Rattle.callgrind_reader.specs.Accept.{line_fault_after, fault_after, held};
 ghost use Rattle.callgrind_reader.specs.Cut.{records_so_far, IsPrefix};
 ghost use Rattle.callgrind_reader.specs.Reads.{Reads};
 
 /// What can be told of some lines by looking back from their end is what the format says of them,
-/// where a `calls=` line looks ahead: the first fault, and the records before it.
+/// where a `calls=` line looks ahead: the first fault of a line, the first fault of all, where those
+/// of formulas come last, and the records before the first fault of a line.
 pub fn looking_back_is_exact()
-    ensures fault { (rs : List Reading) → first_fault [] rs ≡ fault_after (onto rs []) }
+    ensures line_fault { (rs : List Reading) → first_fault [] rs ≡ line_fault_after (onto rs []) }
+    ensures fault { (rs : List Reading) → fault_in rs ≡ fault_after (onto rs []) }
     ensures records { (rs : List Reading) → sound_records [] rs ≡ held (onto rs []) }
 {}
 

@@ -74,7 +74,7 @@ fn last_line<S: Sink>(
 }
 
 /// Reads a Callgrind file in pieces, in one pass, and keeps of it at most one unfinished line beside
-/// the names that its identifiers mean.
+/// what its header lines say and the names that its identifiers mean.
 #[derive(Drop)]
 pub struct Reader {
     state: State,

@@ -68,13 +68,13 @@ impl State {
         requires few { self.old.lines < 2 ^ 63 }
         requires totals { self.old.header.totals.lines < self.old.lines }
         requires summary { self.old.header.summary.lines < self.old.lines }
-        ensures follows { IfOk result (λ f. (back : List Reading) → Live self.old back → Follows self.new (Ok (kinds.Header key value.now)) f back) }
+        ensures follows { IfOk result (λ f. (back : List Reading) → Live self.old back → self.old.lines ≡ number_after back → Follows self.new (Ok (kinds.Header key value.now)) f back) }
         ensures lines { self.new.lines ≡ self.old.lines }
         ensures fault { self.new.fault ≡ self.old.fault }
         ensures events { IfSome self.old.header.events.names (λ n. self.new.header.events.names ≡ Some n) }
     {
         self.call = None;
-        self.header.take(key, value)
+        self.header.take(self.lines, key, value)
     }
 
     /// Reads a name line that no fault comes before, and answers its fault.
@@ -332,9 +332,6 @@ impl State {
         if let Some((line, _)) = self.call {
             return Err(ReadEnd::Fault(Fault::CallWithoutCost, line));
         }
-        match self.header.into_head() {
-            Ok(head) => Ok(head),
-            Err(_) => Err(ReadEnd::Memory),
-        }
+        self.header.into_head()
     }
 }

@@ -133,9 +133,18 @@ fn feed_all(
 }
 
 fn push_head(text: &mut Vec<u8>, alloc: Global, head: FileHead) -> Result<(), AllocError> {
-    let FileHead { events, stated } = head;
+    let FileHead {
+        events,
+        derived,
+        stated,
+    } = head;
     for name in events.as_slice() {
         push_name(text, name.as_slice())?;
+    }
+    for (name, coefficients) in derived.derived.as_slice() {
+        push_name(text, name.as_slice())?;
+        let coefficients = format!(in alloc; "{:?} ", coefficients.as_slice())?;
+        text.extend_from_slice(coefficients.as_bytes())?;
     }
     let Some(stated) = stated else {
         return text.extend_from_slice(b"accepted");
@@ -200,6 +209,9 @@ const THREE_NAME_SPACES: &[u8] =
 
 const JUMPS: &[u8] =
     b"events: Ir\nfn=f\n5 1\njfi=(3) x.h\njfn=(4) k\njcnd=3/4 9\n5\nfi=(3)\n+1 2\n";
+
+const DERIVED_EVENT: &[u8] =
+    b"event: Est = Ir + 10 L1m + 100 * LLm : Estimate\nevents: Ir L1m LLm\nfn=f\n1 1000 20 3\n";
 
 #[test]
 fn records_of_worked_files(rt: HostRuntime) -> Result<(), Fail> {
@@ -274,6 +286,54 @@ fn faults_by_line(rt: HostRuntime) -> Result<(), Fail> {
     Ok(())
 }
 
+/// Derived events and the faults of their lines, of files in one piece and byte by byte.
+#[test]
+fn derived_events(rt: HostRuntime) -> Result<(), Fail> {
+    for (file, want) in [
+        (
+            DERIVED_EVENT,
+            "4 ??? ??? f 1 1000 20 3 \nIr L1m LLm Est [1, 10, 100] accepted",
+        ),
+        (
+            b"event: Est = Ir + 10 L1m + 100 * LLm : Estimate\nevents: Ir L1m LLm\nfn=f\n1 1000 20 3\nevent: Bad = Ir + Xx\n",
+            "4 ??? ??? f 1 1000 20 3 \nline 5: F17 formula unknown",
+        ),
+        (
+            b"events: Ir\nevent: A = 1000 Ir\nevent: B = 1000 A\n",
+            "Ir A [1000] B [1000000] accepted",
+        ),
+        (
+            b"events: Ir\nevent: A = 1000 Ir\nevent: B = 1000 A\nevent: C = B + Ir\n",
+            "line 4: F18 formula too large",
+        ),
+        (b"events: Ir\nevent: Ir = 2 Ir\n", "line 2: F7 event twice"),
+        (
+            b"event: E = Ir\nevent: E = 1 Ir\nevents: Ir\n",
+            "Ir E [1] accepted",
+        ),
+        (
+            b"event: E = Ir + Ir\nevent: E = 2 Ir\nevents: Ir\n",
+            "line 2: F7 event twice",
+        ),
+        (b"events: Ir\nevent: E = Ir +\n", "line 2: F16 formula form"),
+        (b"event: E = Q\n1 1\n", "line 2: F6 no events"),
+        (
+            b"events: Ir\nevent: E = Q\ncalls=1 1\n",
+            "line 3: F15 call without cost",
+        ),
+        (
+            b"events: Ir\nevent: E = Q\n1 1\nx",
+            "3 ??? ??? ??? 1 1 \nline 4: F2 unknown line",
+        ),
+    ] {
+        let whole = read(rt.alloc(), file)?;
+        assert_eq!(rt; whole.as_slice(), want.as_bytes());
+        let bytes = read_parts(rt.alloc(), file, b"", 1)?;
+        assert_eq!(rt; bytes.as_slice(), want.as_bytes());
+    }
+    Ok(())
+}
+
 /// Each file cut in two at each place, and in pieces of 1 and of 7 bytes, says the same.
 #[test]
 fn pieces_do_not_show(rt: HostRuntime) -> Result<(), Fail> {
@@ -283,6 +343,7 @@ fn pieces_do_not_show(rt: HostRuntime) -> Result<(), Fail> {
         INSTR_LINE,
         THREE_NAME_SPACES,
         JUMPS,
+        DERIVED_EVENT,
         b"events: Ir\r\nfn=f\r\n1 1\r\n2 2",
         b"events: Ir\ncalls=1 1\n\nx\n1 1\n",
     ] {

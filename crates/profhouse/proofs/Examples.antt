@@ -1,6 +1,7 @@
 -- The definitions, computed on examples.
 use Rattle.std.proofs.Common.{◌≡◌, [], ◌∷◌, codes, refl}
 use Rattle.std.specs.Fmt.{digits}
+use Rattle.cg_text.specs.EventLines.{event_of, formula_of, term_of}
 use Rattle.cg_text.specs.Fields.{line_text}
 use Rattle.cg_text.specs.Kinds.{kind_of}
 use Rattle.cg_text.specs.Names.{name_of}
@@ -67,3 +68,8 @@ total-event_twice = refl
 total-call_without_cost : total_of_file (codes "events: Ir\nfn=f\ncalls=1 50\n\nfn=(9)\n") ≡ codes "refused: line 3: F15 call without cost\n"
 unfolding reading_of line_text kind_of name_of number_of amount_of subpos_of digits
 total-call_without_cost = refl
+
+-- the first fault of the formulas, though every line is sound by itself
+total-formula_unknown : total_of_file (codes "event: Est = Ir + 10 L1m + 100 * LLm : Estimate\nevents: Ir L1m LLm\nfn=f\n1 1000 20 3\nevent: Bad = Ir + Xx\n") ≡ codes "refused: line 5: F17 formula unknown\n"
+unfolding reading_of line_text kind_of name_of number_of amount_of subpos_of digits event_of formula_of term_of
+total-formula_unknown = refl

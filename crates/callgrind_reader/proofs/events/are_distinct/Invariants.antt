@@ -1,5 +1,5 @@
 use Rattle.std.proofs.Common.{◌≡◌, length}
-use Rattle.callgrind_reader.specs.Events.{are_distinct}
+use Rattle.cg_text.specs.Formulas.{are_distinct}
 use Rattle.callgrind_reader.proofs.events.are_distinct.Given as goal
 
 -- the names so far stand once
