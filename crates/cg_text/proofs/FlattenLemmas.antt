@@ -58,7 +58,7 @@ flat_err : (e : FlatEnd) (flat : Flat) (events : List (List ℕ)) (o : Option �
 flat_err Memory flat events o ks i d ds same inside stands h = h
 flat_err (Fault f line) flat events o ks i d ds same inside stands h =
     stands-fault events o (plain_back ks) ds (f, line) stands
-        (fault-at events ks i d (f, line) inside (subst (λ ns. formula_fault ns (plain_definition (get_or ks i d) ∷ plain_back (take i ks)) ≡ Some (f, line)) same h))
+    (fault-at events ks i d (f, line) inside (subst (λ ns. formula_fault ns (plain_definition (get_or ks i d) ∷ plain_back (take i ks)) ≡ Some (f, line)) same h))
 
 pub flat-err : (f : Formulas) (e : FlatEnd) (flat : Flat) (events : List (List ℕ)) (i : ℕ) (d : kept.Definition) (ds : List Definition) → flat.events ≡ events → i < length f.definitions
     → Holds f ds → Defines (Err e) flat (get_or f.definitions i d) (plain_back (take i f.definitions)) → FlatIs (Err e) events ds
@@ -68,16 +68,18 @@ derived-agree : (events : List (List ℕ)) (es ds : List Definition) → Agree e
 derived-agree events es ds a =
     ap (map (λ name. (name, coefficients events name ds))) a.names
     ∙ maps-same (λ name. (name, coefficients events name ds)) (λ name. (name, coefficients events name es)) (derived_names es)
-        (λ name. ap (λ row. (name, row)) (maps-same (λ event. coefficient event name ds) (λ event. coefficient event name es) events (λ event. a.values event name)))
+    (λ name. ap (λ row. (name, row)) (maps-same (λ event. coefficient event name ds) (λ event. coefficient event name es) events (λ event. a.values event name)))
 
 flat_ok : (flat : Flat) (events : List (List ℕ)) (o : Option ℕ) (es ds : List Definition) → o ≡ None → flat.events ≡ events → Flattens flat es → Stands o es ds → FlatIs (Ok flat) events ds
 flat_ok flat events (Some line) es ds none same f stands = absurd cc
 flat_ok flat events None es ds none same f stands =
-    let free : formula_fault events es ≡ None = subst (λ ns. formula_fault ns es ≡ None) same f.free in
-    (stands.fault events ∙ free, record {
+    let free : formula_fault events es ≡ None = subst (λ ns. formula_fault ns es ≡ None) same f.free in (
+      stands.fault events ∙ free,
+      record {
         events = same;
         derived = f.derived ∙ (ap (λ ns. derived_of ns es) same ∙ sym (derived-agree events es ds (stands.agree events free)));
-    })
+      },
+    )
 
 pub flat-ok : (f : Formulas) (flat : Flat) (events : List (List ℕ)) (ds : List Definition) → f.changed ≡ None → flat.events ≡ events → Flattens flat (kept_of f) → Holds f ds → FlatIs (Ok flat) events ds
 flat-ok f flat events ds none same flattens holds = flat_ok flat events f.changed (kept_of f) ds none same flattens holds.stands

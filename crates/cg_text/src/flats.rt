@@ -35,12 +35,29 @@ pub struct Flat {
     ghost small: { All (λ d. sum d.1 ≤ 1000000) derived },
 }
 
-/// Why formulas come to no coefficients: their first fault with its line, or want of memory.
+/// Why formulas come to no coefficients: their first fault with its line, or want of memory. Printed
+/// as `line 4: F18 formula too large` or `out of memory`.
 #[derive(Clone, Copy, Debug, PartialEq, Eq)]
 pub enum FlatEnd {
     Fault(Fault, u64),
     Memory,
 }
+
+impl fmt::Display for FlatEnd {
+    ghost use Rattle.std.specs.Prelude.{Some};
+    ghost use Rattle.cg_text.specs.Ends.{flat_end_text};
+
+    ghost output = { λ end. Some (flat_end_text end) };
+
+    fn fmt<W: fmt::Write>(&self, f: &mut fmt::Formatter<W>) -> fmt::Result {
+        match self {
+            FlatEnd::Fault(fault, line) => write!(f, "line {line}: {fault}"),
+            FlatEnd::Memory => write!(f, "out of memory"),
+        }
+    }
+}
+
+impl Error for FlatEnd {}
 
 impl From<AllocError> for FlatEnd {
     ghost use Rattle.std.specs.Prelude.{◌≡◌};

@@ -22,6 +22,8 @@ mod subpositions;
 mod terms;
 #[cfg(test)]
 mod tests;
+#[cfg(test)]
+mod tests_formulas;
 mod words;
 
 pub use blanks::{line_text, strip_carriage_return};

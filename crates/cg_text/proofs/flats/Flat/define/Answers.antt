@@ -59,9 +59,9 @@ invariant_of-self c =
     let few = c.if-total-gt-MOST_COUNTS.false in
     let small : sum c.from_vec.result ≤ 1000000 = omega (arith, total, few) in
     record {
-        distinct = c.args.self.now.distinct;
-        shape = pushed_all c.push.result (λ d. length d.1 ≡ length c.args.self.now.events) c.args.self.now.derived c.push.new.self entry c.push.ensures.ok c.push.ensures.err c.args.self.now.shape wide;
-        small = pushed_all c.push.result (λ d. sum d.1 ≤ 1000000) c.args.self.now.derived c.push.new.self entry c.push.ensures.ok c.push.ensures.err c.args.self.now.small small;
+      distinct = c.args.self.now.distinct;
+      shape = pushed_all c.push.result (λ d. length d.1 ≡ length c.args.self.now.events) c.args.self.now.derived c.push.new.self entry c.push.ensures.ok c.push.ensures.err c.args.self.now.shape wide;
+      small = pushed_all c.push.result (λ d. sum d.1 ≤ 1000000) c.args.self.now.derived c.push.new.self entry c.push.ensures.ok c.push.ensures.err c.args.self.now.small small;
     }
 
 pub returns-clause-defines : goal.returns-clause-defines
@@ -83,9 +83,9 @@ returns-clause-defines c back flattens new =
     let name : c.from_vec-name.result ≡ d.name = search rules in
     let own : c.from_vec.result ≡ coefficients events d.name (d ∷ back) = c.from_vec.ensures ∙ coefs in
     record {
-        free = fault-none events d back flattens.free event new (omega (arith, count, same)) known (subst (λ xs. sum xs ≤ 1000000) (sym (new-row events d back)) small.1);
-        derived = pushed ∙ (ap (λ xs. xs ++ (c.from_vec-name.result, c.from_vec.result) ∷ []) flattens.derived
-            ∙ (ap (λ n. derived_of events back ++ (n, c.from_vec.result) ∷ []) name
-            ∙ (ap (λ r. derived_of events back ++ (d.name, r) ∷ []) own
-            ∙ sym (derived-new events d back new))));
+      free = fault-none events d back flattens.free event new (omega (arith, count, same)) known (subst (λ xs. sum xs ≤ 1000000) (sym (new-row events d back)) small.1);
+      derived = pushed ∙ (ap (λ xs. xs ++ (c.from_vec-name.result, c.from_vec.result) ∷ []) flattens.derived
+          ∙ (ap (λ n. derived_of events back ++ (n, c.from_vec.result) ∷ []) name
+          ∙ (ap (λ r. derived_of events back ++ (d.name, r) ∷ []) own
+          ∙ sym (derived-new events d back new))));
     }

@@ -28,10 +28,10 @@ loop-definition-preserved c =
     let inside : i < length ds = search rules in
     let is : item ≡ get_or ds i item = search rules in
     record {
-        events = c.in_ok-define.ensures.events ∙ c.loop-definition.invariant.events;
-        flattens = λ fresh.
-            let new : is_defined item.name (plain_back (take i ds)) ≡ false = subst (λ d. is_defined d.name (plain_back (take i ds)) ≡ false) (sym is) (fresh-at ds i item inside fresh) in
-            let defines : Flattens c.define.new.self (plain_definition item ∷ plain_back (take i ds)) = c.in_ok-define.ensures.defines (plain_back (take i ds)) (c.loop-definition.invariant.flattens fresh) new in
-            let here = subst (λ d. Flattens c.define.new.self (plain_definition d ∷ plain_back (take i ds))) is defines in
-            subst (λ es. Flattens c.define.new.self es) (sym (plain_back-more ds i item inside)) here;
+      events = c.in_ok-define.ensures.events ∙ c.loop-definition.invariant.events;
+      flattens = λ fresh.
+          let new : is_defined item.name (plain_back (take i ds)) ≡ false = subst (λ d. is_defined d.name (plain_back (take i ds)) ≡ false) (sym is) (fresh-at ds i item inside fresh) in
+          let defines : Flattens c.define.new.self (plain_definition item ∷ plain_back (take i ds)) = c.in_ok-define.ensures.defines (plain_back (take i ds)) (c.loop-definition.invariant.flattens fresh) new in
+          let here = subst (λ d. Flattens c.define.new.self (plain_definition d ∷ plain_back (take i ds))) is defines in
+          subst (λ es. Flattens c.define.new.self es) (sym (plain_back-more ds i item inside)) here;
     }
