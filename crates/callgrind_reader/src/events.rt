@@ -1,6 +1,5 @@
 // The events of a file.
 ghost use Rattle.std.specs.Prelude.{◌≡◌, ◌≤◌, IfOk, IfSome, OnOk, Option, Some, None, length, true};
-ghost use Rattle.std.specs.List.{list_any};
 ghost use Rattle.std.specs.Str.{bytes_eq};
 ghost use Rattle.std.specs.Option.{ForSome};
 ghost use Rattle.cg_text.specs.Fields.{fields_of};
@@ -9,7 +8,7 @@ ghost use Rattle.callgrind_reader.specs.Events.{first_of, same_names, events_fau
 ghost use Rattle.callgrind_reader.specs.Files.{names_or_none};
 
 use crate::rows::field_count;
-use cg_text::{Fault, Items, next_field};
+use cg_text::{Fault, Items, are_distinct, next_field};
 use std::alloc::{AllocError, Global};
 
 /// The most events that a file may have.
@@ -26,27 +25,6 @@ fn read_names(alloc: Global, text: &[u8]) -> Result<Items<Items<u8>>, AllocError
         rest = more;
     }
     Ok(names)
-}
-
-/// Whether a name is among others.
-fn is_among(name: &[u8], names: &[Items<u8>]) -> bool
-    ensures { result ≡ list_any (bytes_eq name.now) names.now }
-{
-    names.iter().any(|other| name == other.as_slice())
-}
-
-/// Whether no name stands twice.
-fn are_distinct(names: &[Items<u8>]) -> bool
-    ensures { result ≡ are_distinct names.now }
-{
-    let mut rest = names;
-    while let Some((name, more)) = rest.split_first() {
-        if is_among(name.as_slice(), more) {
-            return false;
-        }
-        rest = more;
-    }
-    true
 }
 
 /// Whether two lists have the same names in the same order.

@@ -1,16 +1,16 @@
 -- What one more definition of a new name comes to.
-use Rattle.std.proofs.Common.{inl, inr, ◌⊎◌, ℕ, zero, suc, ◌≡◌, ◌+◌, ◌-◌, ◌*◌, ◌<◌, ◌≤◌, ◌^◌, min, Bool, true, false, not, ◌||◌, ◌&&◌, if◌then◌else◌, List, [], ◌∷◌, ◌++◌, map, length, slice_index, sum, sum_by, position, Option, Some, None, is_some, refl, sym, ap, ◌∙◌, subst, arith}
+use Rattle.std.proofs.Common.{ℕ, suc, ◌≡◌, ◌+◌, ◌<◌, ◌≤◌, true, false, List, [], ◌∷◌, ◌++◌, map, length, sum, position, Option, Some, None, is_some, refl, sym, ap, ◌∙◌, subst, arith}
 use Rattle.std.specs.List.{list_any, list_all}
 use Rattle.std.specs.Str.{bytes_eq}
-use Rattle.std.proofs.lemmas.Bool.{cases_Bool, or_parts, or_left, or_from, lt-ltb, le-ltb}
+use Rattle.std.proofs.lemmas.Bool.{or_parts, lt-ltb, le-ltb}
 use Rattle.std.proofs.lemmas.Grind.{common_steps}
 use Rattle.std.proofs.lemmas.List.{map-append}
 use Rattle.std.proofs.lemmas.List.Sums.{sum_by-cons}
-use Rattle.cg_text.specs.Formulas.{Definition, defines, is_defined, is_known, is_changed, coefficient, coefficients, counted, derived_names, definition_fault, first_or, formula_fault, derived_of}
+use Rattle.cg_text.specs.Formulas.{Definition, defines, is_defined, is_known, is_changed, coefficient, coefficients, counted, derived_names, definition_fault, formula_fault, derived_of}
 use Rattle.cg_text.specs.Rows.{IsRow, capped}
 use Rattle.cg_text.specs.declared.faults.Fault.{Fault}
 use Rattle.cg_text.specs.declared.faults.Fault.TheVariants.{EventTwice, TooManyEvents, FormulaUnknown, FormulaTooLarge}
-use Rattle.cg_text.proofs.RepeatLemmas.{Sound, none-from, maps-same, names-same, name-itself}
+use Rattle.cg_text.proofs.RepeatLemmas.{none-from, maps-same, name-itself}
 use Rattle.cg_text.proofs.HeldLemmas.{names-defined}
 use Rattle.cg_text.proofs.FlatLemmas.{found-any, found-none, names-apart}
 

@@ -1,19 +1,19 @@
 -- What the kept coefficients say of definitions.
-use Rattle.std.proofs.Common.{inl, inr, ◌⊎◌, ℕ, zero, suc, ◌≡◌, ◌+◌, ◌-◌, ◌*◌, ◌<◌, ◌≤◌, ◌^◌, min, All, Bool, true, false, not, ◌||◌, ◌&&◌, cond, if◌then◌else◌, List, [], ◌∷◌, ◌++◌, map, length, get_or, set, slice_index, sum, sum_by, position, Result, Ok, Err, OnOk, OnErr, Option, Some, None, refl, sym, ap, ◌∙◌, subst, arith}
-use Rattle.std.specs.List.{list_any, list_all, position_or_len}
+use Rattle.std.proofs.Common.{inl, inr, ℕ, zero, suc, ◌≡◌, ◌+◌, ◌*◌, ◌<◌, All, Bool, true, false, not, if◌then◌else◌, List, [], ◌∷◌, ◌++◌, map, length, get_or, set, slice_index, position, Result, Ok, Err, OnOk, OnErr, Option, Some, None, refl, sym, ap, ◌∙◌, subst, arith}
+use Rattle.std.specs.List.{list_any, position_or_len}
 use Rattle.std.specs.Map.{lookup}
 use Rattle.std.specs.Str.{bytes_eq}
-use Rattle.std.proofs.lemmas.Bool.{cases_Bool, cases_eq, and_parts, not-true, both_ways, false_from_ne_true, or_left, or_right, or_from, or_parts}
+use Rattle.std.proofs.lemmas.Bool.{cases_Bool, cases_eq, and_parts, not-true, both_ways, false_from_ne_true, or_parts}
 use Rattle.std.proofs.lemmas.List.Elements.{All-head, All-tail, All-same, All-push}
 use Rattle.std.proofs.lemmas.Grind.{common_steps, elements}
 use Rattle.std.proofs.lemmas.List.Folds.{list_any_at}
 use Rattle.std.proofs.lemmas.List.Sums.{passes_at_first}
-use Rattle.cg_text.specs.Formulas.{Definition, defines, is_defined, is_known, coefficient, coefficients, derived_names, formula_fault, derived_of, are_distinct, weighed}
+use Rattle.cg_text.specs.Formulas.{Definition, defines, is_defined, coefficient, coefficients, derived_names, formula_fault, are_distinct, weighed}
 use Rattle.cg_text.specs.Rows.{IsRow, capped}
 use Rattle.cg_text.specs.Flats.{Flattens, flat_value, value_by}
 use Rattle.cg_text.specs.declared.flats.Flat.{Flat}
 use Rattle.cg_text.proofs.SearchLemmas.{position-Some, position-None}
-use Rattle.cg_text.proofs.RepeatLemmas.{names-same, name-itself, maps-same, defined-no_event}
+use Rattle.cg_text.proofs.RepeatLemmas.{names-same, name-itself, defined-no_event}
 use Rattle.cg_text.proofs.HeldLemmas.{names-defined}
 use Rattle.cg_text.proofs.RowsLemmas.{weighed-cons}
 

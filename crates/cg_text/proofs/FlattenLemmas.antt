@@ -1,9 +1,9 @@
 -- What all definitions come to, from what is kept of them.
-use Rattle.std.proofs.Common.{inl, inr, ℕ, zero, suc, ◌≡◌, ◌+◌, ◌<◌, ◌≤◌, Bool, true, false, List, [], ◌∷◌, ◌++◌, map, reverse, length, take, drop, get_or, Option, Some, None, Result, Ok, Err, refl, sym, ap, ◌∙◌, subst, arith, add-one}
+use Rattle.std.proofs.Common.{ℕ, ◌≡◌, ◌+◌, ◌<◌, false, List, [], ◌∷◌, ◌++◌, map, reverse, length, take, drop, get_or, Option, Some, None, Ok, Err, sym, ap, ◌∙◌, subst}
 use Rattle.std.proofs.lemmas.List.{map-append, reverse-append, take-append-drop, take_more}
 use Rattle.cg_text.specs.Formulas.{Definition, is_defined, coefficient, coefficients, derived_names, first_or, formula_fault, derived_of}
 use Rattle.cg_text.specs.Definitions.{plain_definition, plain_back}
-use Rattle.cg_text.specs.Flats.{FlatOf, FlatIs, Flattens, Defines}
+use Rattle.cg_text.specs.Flats.{FlatIs, Flattens, Defines}
 use Rattle.cg_text.specs.Held.{Agree, Stands, AreFresh, Holds, kept_of}
 use Rattle.cg_text.specs.declared.definitions.Definition as kept
 use Rattle.cg_text.specs.declared.faults.Fault as faults

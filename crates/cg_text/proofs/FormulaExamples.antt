@@ -1,15 +1,24 @@
 -- The definitions of derived events, computed on examples.
 use Rattle.std.proofs.Common.{◌≡◌, ℕ, List, [], ◌∷◌, ◌-◌, ◌^◌, codes, refl, Some, None, Ok, Err}
-use Rattle.cg_text.specs.EventLines.{Event, event_of, formula_of, term_of}
-use Rattle.cg_text.specs.Formulas.{Definition, coefficient, derived_value, formula_fault, derived_of, define}
-use Rattle.cg_text.specs.declared.faults.Fault.TheVariants.{EventTwice, TooManyEvents, FormulaForm, FormulaUnknown, FormulaTooLarge}
+use Rattle.cg_text.specs.EventLines.{event_of, formula_of, term_of}
+use Rattle.cg_text.specs.Formulas.{Definition, derived_value, formula_fault, derived_of, define}
+use Rattle.cg_text.specs.declared.faults.Fault.TheVariants.{EventTwice, FormulaForm, FormulaUnknown, FormulaTooLarge}
 
 -- ---- lines
 
--- the line of the format's manual
-line-manual : event_of (codes " Est = Ir + 10 L1m + 100 * LLm : Estimate") ≡ Ok (record { name = codes "Est"; terms = Some ((1, codes "Ir") ∷ (10, codes "L1m") ∷ (100, codes "LLm") ∷ []) })
+-- the lines of the format's manual
+line-manual : event_of (codes " Sum = Ir + Dr") ≡ Ok (record { name = codes "Sum"; terms = Some ((1, codes "Ir") ∷ (1, codes "Dr") ∷ []) })
 unfolding event_of formula_of term_of
 line-manual = refl
+
+line-manual_long_name : event_of (codes " Ir : Instruction Fetches") ≡ Ok (record { name = codes "Ir"; terms = None })
+unfolding event_of
+line-manual_long_name = refl
+
+-- all there is
+line-whole : event_of (codes " Est = Ir + 10 L1m + 100 * LLm : Estimate") ≡ Ok (record { name = codes "Est"; terms = Some ((1, codes "Ir") ∷ (10, codes "L1m") ∷ (100, codes "LLm") ∷ []) })
+unfolding event_of formula_of term_of
+line-whole = refl
 
 line-no_blanks : event_of (codes "Est=Ir+10L1m+100*LLm:Estimate") ≡ Ok (record { name = codes "Est"; terms = Some ((1, codes "Ir") ∷ (10, codes "L1m") ∷ (100, codes "LLm") ∷ []) })
 unfolding event_of formula_of term_of

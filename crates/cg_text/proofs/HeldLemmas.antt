@@ -1,5 +1,5 @@
 -- What is kept of definitions stands for all of them.
-use Rattle.std.proofs.Common.{inl, inr, ℕ, ◌≡◌, ◌+◌, ◌*◌, ◌<◌, ◌≤◌, Bool, true, false, not, ◌||◌, ◌&&◌, List, [], ◌∷◌, ◌++◌, map, reverse, length, sum, sum_by, Option, Some, None, is_some, if◌then◌else◌, ◌⊎◌, nat_lt, refl, sym, ap, ◌∙◌, subst, arith}
+use Rattle.std.proofs.Common.{inl, inr, ℕ, ◌≡◌, ◌+◌, ◌*◌, ◌<◌, Bool, true, false, not, ◌||◌, List, [], ◌∷◌, ◌++◌, map, reverse, length, sum, sum_by, Option, Some, None, is_some, if◌then◌else◌, ◌⊎◌, nat_lt, refl, sym, ap, ◌∙◌, subst, arith}
 use Rattle.std.specs.List.{list_any, list_all}
 use Rattle.std.specs.Str.{bytes_eq}
 use Rattle.std.proofs.lemmas.Bool.{cases_Bool, not-false, or_left}
@@ -8,7 +8,7 @@ use Rattle.std.proofs.lemmas.List.Folds.{list_any-append}
 use Rattle.std.proofs.lemmas.List.Sums.{sum_by-cons}
 use Rattle.std.proofs.lemmas.Grind.{common_steps}
 use Rattle.cg_text.specs.EventLines.{Term}
-use Rattle.cg_text.specs.Formulas.{Definition, defines, is_defined, is_known, coefficient, coefficients, same_terms, is_changed, derived_names, definition_fault, first_or, formula_fault, derived_of}
+use Rattle.cg_text.specs.Formulas.{Definition, defines, is_defined, is_known, coefficient, coefficients, same_terms, is_changed, derived_names, definition_fault, first_or, formula_fault}
 use Rattle.cg_text.specs.Definitions.{plain_definition, plain_back}
 use Rattle.cg_text.specs.Held.{Agree, Alike, Stands, AreFresh, Holds, kept_of}
 use Rattle.cg_text.specs.declared.formulas.Formulas.{Formulas}

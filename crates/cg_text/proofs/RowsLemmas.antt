@@ -1,6 +1,6 @@
 -- Costs, each as often as it counts, from the front.
-use Rattle.std.proofs.Common.{◌≡◌, ℕ, zero, suc, ◌+◌, ◌*◌, ◌<◌, ◌≤◌, ◌^◌, All, List, [], ◌∷◌, length, take, get_or, sum, zip, refl, sym, ap, ◌∙◌, arith, add-one}
-use Rattle.std.proofs.lemmas.List.Sums.{sum_by-cons, sum_by_more}
+use Rattle.std.proofs.Common.{◌≡◌, ℕ, zero, suc, ◌+◌, ◌*◌, ◌<◌, List, [], ◌∷◌, length, take, get_or, zip, arith, add-one}
+use Rattle.std.proofs.lemmas.List.Sums.{sum_by-cons}
 use Rattle.cg_text.specs.Formulas.{product, weighed}
 
 pub weighed-cons : (x y : ℕ) (xs ys : List ℕ) → weighed (x ∷ xs) (y ∷ ys) ≡ x * y + weighed xs ys

@@ -1,11 +1,11 @@
 -- Laws of values.
-use Rattle.std.proofs.Common.{inl, inr, ℕ, ◌≡◌, ◌+◌, ◌*◌, Bool, true, false, List, [], ◌∷◌, length, if◌then◌else◌, Option, Some, None, refl, sym, ap, ◌∙◌, arith}
+use Rattle.std.proofs.Common.{inl, inr, ℕ, ◌≡◌, ◌+◌, Bool, true, false, List, [], ◌∷◌, length, if◌then◌else◌, Some, None, refl, sym, ap, ◌∙◌, arith}
 use Rattle.std.specs.List.{list_any}
 use Rattle.std.specs.Str.{bytes_eq}
-use Rattle.std.proofs.lemmas.Bool.{cases_Bool, or_left}
+use Rattle.std.proofs.lemmas.Bool.{cases_Bool}
 use Rattle.std.proofs.Math.Nat.{mul-add}
 use Rattle.cg_text.specs.Formulas.{Definition, is_defined, is_known, coefficient, coefficients, weighed, derived_value, both, plus}
-use Rattle.cg_text.specs.Flats.{Flattens, row_of, value_by, flat_value}
+use Rattle.cg_text.specs.Flats.{Flattens, value_by, flat_value}
 use Rattle.cg_text.specs.declared.flats.Flat.{Flat}
 use Rattle.cg_text.proofs.RepeatLemmas.{maps-same}
 use Rattle.cg_text.proofs.RowsLemmas.{weighed-cons}

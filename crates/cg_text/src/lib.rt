@@ -3,6 +3,7 @@
 
 mod blanks;
 mod definitions;
+mod distinct;
 mod event_lines;
 mod faults;
 mod flats;
@@ -27,6 +28,7 @@ mod tests_formulas;
 mod words;
 
 pub use blanks::{line_text, strip_carriage_return};
+pub use distinct::are_distinct;
 pub use event_lines::{EventLine, Formula, TextEnd, event_line};
 pub use faults::{Fault, ReadEnd};
 pub use flats::{Flat, FlatEnd};

@@ -298,6 +298,8 @@ fn event_shown(alloc: Global, value: &[u8]) -> Result<String, Fail> {
 #[test]
 fn events_of_the_manual(rt: HostRuntime) -> Result<(), Fail> {
     for (value, want) in [
+        (b" Sum = Ir + Dr".as_slice(), "Sum = 1 Ir 1 Dr"),
+        (b" Ir : Instruction Fetches".as_slice(), "Ir"),
         (
             b" Est = Ir + 10 L1m + 100 * LLm : Estimate".as_slice(),
             "Est = 1 Ir 10 L1m 100 LLm",

@@ -1,5 +1,5 @@
 // Derived events, from the values of `event:` lines to their own values.
-use crate::{Flat, FlatEnd, Formulas, Items, TextEnd, event_line, fields};
+use crate::{Flat, FlatEnd, Formulas, Items, TextEnd, are_distinct, event_line, fields};
 use std::alloc::{AllocError, Global};
 use std::test::Fail;
 
@@ -15,12 +15,25 @@ fn names(alloc: Global, text: &str) -> Result<Items<Items<u8>>, Fail> {
 /// The formulas of `event:` lines with these values, which stand on the lines from the first on.
 fn formulas(alloc: Global, values: &str) -> Result<Formulas, Fail> {
     let mut formulas = Formulas::new(alloc);
-    let mut line = 0;
+    let mut line: u64 = 1;
     for value in values.split('\n') {
-        line += 1;
         formulas.add(line, event_line(alloc, value.as_bytes())?)?;
+        line = line.saturating_add(1);
     }
     Ok(formulas)
+}
+
+/// What formulas come to over events of these names.
+fn flattened(
+    alloc: Global,
+    formulas: &Formulas,
+    events: &str,
+) -> Result<Result<Flat, FlatEnd>, Fail> {
+    let events = names(alloc, events)?;
+    if !are_distinct(events.as_slice()) {
+        return Err(Fail::from("a name stands twice"));
+    }
+    Ok(formulas.flatten(events.as_slice()))
 }
 
 /// The derived names with their coefficients, or the fault.
@@ -40,6 +53,7 @@ fn shown(alloc: Global, flat: Result<Flat, FlatEnd>) -> Result<String, Fail> {
 #[test]
 fn formulas_come_to_coefficients(rt: HostRuntime) -> Result<(), Fail> {
     for (events, values, want) in [
+        ("Ir Dr", "Sum = Ir + Dr", "Sum [1, 1] "),
         (
             "Ir L1m LLm",
             "Est = Ir + 10 L1m + 100 * LLm : Estimate",
@@ -75,8 +89,8 @@ fn formulas_come_to_coefficients(rt: HostRuntime) -> Result<(), Fail> {
         ("", "Ir", ""),
         ("", "E = Ir", "line 1: F17 formula unknown"),
     ] {
-        let names = names(rt.alloc(), events)?;
-        let flat = formulas(rt.alloc(), values)?.flatten(names.as_slice());
+        let formulas = formulas(rt.alloc(), values)?;
+        let flat = flattened(rt.alloc(), &formulas, events)?;
         assert_eq!(rt; shown(rt.alloc(), flat)?.as_str(), want, "{values}");
     }
     let refused = format!(in rt.alloc(); "{}", FlatEnd::from(AllocError))?;
@@ -91,8 +105,8 @@ fn many(alloc: Global, count: u64, last: &str) -> Result<Result<Flat, FlatEnd>, 
         let value = format!(in alloc; "d{n} = Ir")?;
         formulas.add(n + 1, event_line(alloc, value.as_bytes())?)?;
     }
-    formulas.add(count + 1, event_line(alloc, last.as_bytes())?)?;
-    Ok(formulas.flatten(names(alloc, "Ir")?.as_slice()))
+    formulas.add(count.saturating_add(1), event_line(alloc, last.as_bytes())?)?;
+    flattened(alloc, &formulas, "Ir")
 }
 
 #[test]
@@ -116,26 +130,26 @@ fn at_most_sixty_four_names_are_derived(rt: HostRuntime) -> Result<(), Fail> {
 
 #[test]
 fn values_of_derived_events(rt: HostRuntime) -> Result<(), Fail> {
-    let events = names(rt.alloc(), "Ir L1m LLm")?;
     let formulas = formulas(rt.alloc(), "Est = Ir + 10 L1m + 100 LLm\nTwice = 2 Est")?;
-    let flat = formulas.flatten(events.as_slice())?;
+    let flat = flattened(rt.alloc(), &formulas, "Ir L1m LLm")??;
+    assert!(rt; flat.events.len() == 3);
     assert_eq!(rt; flat.value(b"Est", &[1000, 20, 3]), Some(1500));
     assert_eq!(rt; flat.value(b"Twice", &[1000, 20, 3]), Some(3000));
     assert_eq!(rt; flat.value(b"L1m", &[1000, 20, 3]), Some(20));
     assert_eq!(rt; flat.value(b"Dr", &[1000, 20, 3]), None);
-    let most = (1 << 63) - 1;
+    let most = 9_223_372_036_854_775_807;
     assert_eq!(rt;
         flat.value(b"Est", &[most, most, most]),
-        Some(111 * ((1 << 63) - 1))
+        Some(1_023_794_296_090_880_114_577)
     );
     Ok(())
 }
 
 #[test]
 fn a_chain_of_thousands(rt: HostRuntime) -> Result<(), Fail> {
-    let events = names(rt.alloc(), "Ir")?;
     let formulas = formulas(rt.alloc(), "A = 1000 Ir\nB = 1000 A")?;
-    let flat = formulas.flatten(events.as_slice())?;
+    let flat = flattened(rt.alloc(), &formulas, "Ir")??;
+    assert!(rt; flat.events.len() == 1);
     assert_eq!(rt; flat.value(b"B", &[3]), Some(3_000_000));
     Ok(())
 }
@@ -149,6 +163,7 @@ fn memory_refused_once(rt: HostRuntime) -> Result<(), Fail> {
         assert_eq!(rt; end, TextEnd::Memory);
     }
     let events = names(rt.alloc(), "Ir Dr")?;
+    assert!(rt; are_distinct(events.as_slice()));
     let mut formulas = Formulas::new(rt.alloc());
     if formulas.add(1, event_line(rt.alloc(), value)?).is_err() {
         let none = formulas.flatten(events.as_slice())?;
@@ -159,6 +174,7 @@ fn memory_refused_once(rt: HostRuntime) -> Result<(), Fail> {
         assert_eq!(rt; end, FlatEnd::Memory);
     }
     let flat = formulas.flatten(events.as_slice())?;
+    assert!(rt; flat.events.len() == 2);
     assert_eq!(rt; flat.value(b"A", &[5, 7]), Some(31));
     Ok(())
 }

@@ -30,7 +30,7 @@ fn pass(work: Work, input: &[u8], passes: u32) -> u64 {
 }
 
 impl<'a> Meter<'a> {
-    pub fn new(work: Work, input: &'a [u8]) -> Meter<'a> {
+    pub(crate) fn new(work: Work, input: &'a [u8]) -> Meter<'a> {
         Meter {
             work,
             input,
@@ -41,7 +41,7 @@ impl<'a> Meter<'a> {
 
     /// Measures once more; one that is too short only doubles the passes of the next. Returns what
     /// the work returned, which is to be used, so that the work has to be done.
-    pub fn measure(&mut self, clock: &impl CpuClock) -> io::Result<u64> {
+    pub(crate) fn measure(&mut self, clock: &impl CpuClock) -> io::Result<u64> {
         let start = clock.process_cpu_time()?;
         let sum = pass(self.work, self.input, self.passes);
         let end = clock.process_cpu_time()?;

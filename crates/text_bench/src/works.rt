@@ -20,7 +20,7 @@ pub enum Work {
 }
 
 impl Work {
-    pub fn as_str(self) -> &'static str {
+    pub(crate) fn as_str(self) -> &'static str {
         match self {
             Work::ReadLine => "read_line",
             Work::Fields => "fields, number, subpos",
@@ -31,7 +31,7 @@ impl Work {
         }
     }
 
-    pub fn result_on(self, input: &[u8]) -> u64 {
+    pub(crate) fn result_on(self, input: &[u8]) -> u64 {
         match self {
             Work::ReadLine => line_parts(input),
             Work::Fields => sum_of_fields(input),

@@ -1,4 +1,4 @@
-use Rattle.std.proofs.Common.{Err, length, take, sym, ◌∙◌, ap, subst, ◌≡◌, true, arith}
+use Rattle.std.proofs.Common.{Err, length, sym, ◌∙◌, ap, ◌≡◌, true, arith}
 use Rattle.std.specs.List.{list_all}
 use Rattle.std.proofs.lemmas.Bool.{eqb-false}
 use Rattle.std.proofs.lemmas.List.{take_all}

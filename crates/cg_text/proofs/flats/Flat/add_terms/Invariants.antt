@@ -1,4 +1,4 @@
-use Rattle.std.proofs.Common.{◌≡◌, true, take, length, List, ℕ}
+use Rattle.std.proofs.Common.{◌≡◌, true, take, length, List}
 use Rattle.std.specs.List.{list_all}
 use Rattle.cg_text.specs.Formulas.{Definition, is_known, counted}
 use Rattle.cg_text.specs.Flats.{Flattens}

@@ -1,4 +1,4 @@
-use Rattle.std.proofs.Common.{◌≡◌, ◌≤◌, ℕ, length, sum, Some, None, sym, ap, ◌∙◌}
+use Rattle.std.proofs.Common.{◌≡◌, ◌≤◌, length, sum, Some, None, sym, ap, ◌∙◌}
 use Rattle.std.specs.Str.{bytes_eq}
 use Rattle.cg_text.proofs.FlatLemmas.{lookup-has, value-event, value-derived}
 use Rattle.cg_text.proofs.flats.Flat.value.Goals as goal

@@ -1,6 +1,5 @@
-use Rattle.std.proofs.Common.{rules, ◌≡◌, true, false, not, inl, inr, List, [], ◌++◌, ◌∷◌, Some, None, is_some, sym, ap, ◌∙◌, subst, refl}
+use Rattle.std.proofs.Common.{rules, ◌≡◌, true, false, not, inl, inr, ◌∷◌, is_some, sym, ap, ◌∙◌, subst, refl}
 use Rattle.std.proofs.lemmas.Result.{on_ok_weaker}
-use Rattle.std.proofs.lemmas.Bool.{not-true, not-false}
 use Rattle.cg_text.specs.Formulas.{Definition, define, defined_by, is_defined, is_changed, same_terms}
 use Rattle.cg_text.specs.EventViews.{plain_event, terms_of}
 use Rattle.cg_text.specs.Held.{Holds, kept_of}

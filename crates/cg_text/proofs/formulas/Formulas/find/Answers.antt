@@ -1,6 +1,6 @@
-use Rattle.std.proofs.Common.{rules, ◌≡◌, true, false, not, List, [], ◌++◌, ◌∷◌, sym, ap, ◌∙◌, subst}
+use Rattle.std.proofs.Common.{rules, ◌≡◌, true, false, [], ◌++◌, ◌∷◌, sym, ap, ◌∙◌}
 use Rattle.std.specs.Str.{bytes_eq}
-use Rattle.cg_text.specs.Formulas.{is_defined, is_changed, same_terms}
+use Rattle.cg_text.specs.Formulas.{is_defined, is_changed}
 use Rattle.cg_text.specs.Definitions.{plain_back}
 use Rattle.cg_text.proofs.HeldLemmas.{found-last, passed-last}
 use Rattle.cg_text.proofs.formulas.Formulas.find.Goals as goal

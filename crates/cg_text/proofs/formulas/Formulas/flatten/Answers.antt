@@ -1,5 +1,5 @@
-use Rattle.std.proofs.Common.{rules, ◌≡◌, ◌+◌, ◌<◌, ℕ, false, List, ◌∷◌, length, take, get_or, Some, None, Err, sym, ap, ◌∙◌, subst}
-use Rattle.cg_text.specs.Formulas.{Definition, is_defined}
+use Rattle.std.proofs.Common.{rules, ◌≡◌, ◌<◌, false, ◌∷◌, length, take, get_or, Err, sym, ◌∙◌, subst}
+use Rattle.cg_text.specs.Formulas.{is_defined}
 use Rattle.cg_text.specs.Definitions.{plain_definition, plain_back}
 use Rattle.cg_text.specs.Flats.{FlatIs, Flattens, Defines}
 use Rattle.cg_text.specs.declared.definitions.Definition as kept

@@ -1,5 +1,4 @@
-use Rattle.std.proofs.Common.{◌≡◌, take, List}
-use Rattle.cg_text.specs.Formulas.{Definition}
+use Rattle.std.proofs.Common.{◌≡◌, take}
 use Rattle.cg_text.specs.Definitions.{plain_back}
 use Rattle.cg_text.specs.Flats.{Flattens}
 use Rattle.cg_text.specs.Held.{AreFresh, kept_of}

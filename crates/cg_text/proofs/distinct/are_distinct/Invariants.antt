@@ -1,6 +1,6 @@
 use Rattle.std.proofs.Common.{◌≡◌, length}
 use Rattle.cg_text.specs.Formulas.{are_distinct}
-use Rattle.callgrind_reader.proofs.events.are_distinct.Given as goal
+use Rattle.cg_text.proofs.distinct.are_distinct.Given as goal
 
 -- the names so far stand once
 abbrev pub invariant-loop-name : goal.invariant-loop-name
