@@ -1,7 +1,8 @@
 // Totals of files by their paths.
-ghost use Rattle.std.specs.Prelude.{◌≡◌, ℕ, ◌<◌, ◌⊎◌, List, ◌++◌, length, OnOk, IfOk, Some};
-ghost use Rattle.profhouse.specs.Running.{IsReady, SumsUp};
-ghost use Rattle.profhouse.specs.Readers.{IsTotalOf, IsUnread};
+ghost use Rattle.std.specs.Prelude.{◌≡◌, ℕ, ◌<◌, ◌≤◌, List, ◌++◌, length, OnOk, IfOk, Some, Err};
+ghost use Rattle.profhouse.specs.Running.{IsReady, SumsUp, room_left};
+ghost use Rattle.profhouse.specs.Readers.{IsAnswer};
+ghost use Rattle.profhouse.specs.declared.files.Unread.TheVariants.{TooLong};
 
 use crate::total::{Total, TotalText, refused};
 use std::alloc::{AllocError, Global};
@@ -21,6 +22,11 @@ enum Unread {
 }
 
 impl From<AllocError> for Unread {
+    ghost use Rattle.std.specs.Prelude.{◌≡◌};
+    ghost use Rattle.profhouse.specs.declared.files.Unread.TheVariants as reasons;
+
+    ghost from_gives = { λ _ reason. reason ≡ reasons.Memory };
+
     fn from(_error: AllocError) -> Unread {
         Unread::Memory
     }
@@ -32,6 +38,8 @@ fn feed_all<F: Read>(total: &mut Total, buffer: &mut [u8], file: &mut F) -> Resu
     requires some { 0 < length buffer.old }
     ensures ready { OnOk result (IsReady total.new) }
     ensures sums { OnOk result ((text rest : List ℕ) → F.remaining file.old ≡ Some rest → SumsUp total.old text → SumsUp total.new (text ++ rest)) }
+    ensures few { OnOk result ((text rest : List ℕ) → F.remaining file.old ≡ Some rest → SumsUp total.old text → length rest ≤ room_left total.old) }
+    ensures many { result ≡ Err TooLong → (text rest : List ℕ) → F.remaining file.old ≡ Some rest → SumsUp total.old text → room_left total.old < length rest }
 {
     for _ in 0..u64::MAX {
         let count = match file.read(buffer) {
@@ -50,9 +58,10 @@ fn feed_all<F: Read>(total: &mut Total, buffer: &mut [u8], file: &mut F) -> Resu
     Err(Unread::Failed)
 }
 
-/// The total of what a reader gives.
+/// The total of what a reader gives, or the line that it is too long, exactly where it is, or that a
+/// read failed.
 pub fn total_read<F: Read>(alloc: Global, file: &mut F) -> Result<TotalText, AllocError>
-    ensures { (text : List ℕ) → F.remaining file.old ≡ Some text → IfOk result (λ t. IsTotalOf text t ⊎ IsUnread t) }
+    ensures { (text : List ℕ) → F.remaining file.old ≡ Some text → IfOk result (IsAnswer text) }
 {
     let mut buffer = vec![in alloc; 0u8; PIECE]?;
     let mut total = Total::new(alloc)?;
