@@ -1,0 +1,85 @@
+-- The last blank and the last semicolon of a line, and counts.
+use Rattle.std.proofs.Common.{inl, inr, ◌≡◌, ℕ, zero, suc, ◌+◌, ◌-◌, ◌<◌, ◌≤◌, ◌^◌, ◌⊎◌, Bool, true, false, not, ◌&&◌, List, [], ◌∷◌, length, take, drop, get_or, MatchOption, Option, Some, None, nat_eq, nat_le, nat_lt, if◌then◌else◌, codes, Result, Ok, Err, refl, sym, ap, ◌∙◌, subst, arith}
+use Rattle.std.specs.List.{list_all, starts_with, suffix_len}
+use Rattle.std.proofs.lemmas.Bool.{cases_Bool, and_parts, leb-true, ne_eqb, not_from_false, not_from_true, false_from_ne_true, lt-ltb}
+use Rattle.std.proofs.lemmas.List.Sums.{suffix_len_is}
+use Rattle.memchr.specs.Find.{IsLastByte}
+use Rattle.cg_text.specs.Fields.{is_blank}
+use Rattle.cg_text.specs.Numbers.{is_digit, digits_in, number_of, amount_of, below_half, value_in}
+use Rattle.cg_text.specs.declared.faults.Fault.{Fault}
+use Rattle.cg_text.specs.declared.faults.Fault.TheVariants.{NumberTooLarge, FoldedLine}
+use Rattle.folded_reader.specs.Frames.{is_semicolon, behind_semicolon}
+use Rattle.folded_reader.specs.Lines.{Stack, behind_blank, or_folded, count_of, counted, stack_of, some_stack, text_says}
+
+-- ---- the last blank
+
+-- the last byte that passes a test, and how many bytes stand behind it
+last-byte : (test : ℕ → Bool) (xs : List ℕ) (r : Option ℕ) → IsLastByte test xs r → MatchOption r (suffix_len (λ b. not (test b)) xs ≡ length xs) (λ i. (i < length xs) × (i + 1 + suffix_len (λ b. not (test b)) xs ≡ length xs))
+last-byte test xs None h =
+    let all = suffix_len_is (λ b. not (test b)) xs 0 0 (omega arith) (λ k low high. not_from_false _ (false_from_ne_true _ (h k (omega arith) high))) (λ lt. absurd (omega arith)) in
+    omega (arith, all)
+last-byte test xs (Some i) h =
+    let within = h.0.high in
+    let last : not (test (get_or xs (i + 1 - 1) 0)) ≡ false = not_from_true _ (subst (λ k. test (get_or xs k 0) ≡ true) (omega arith) h.1) in
+    let all = suffix_len_is (λ b. not (test b)) xs (i + 1) 0 (omega (arith, within)) (λ k low high. not_from_false _ (false_from_ne_true _ (h.0.after k low high))) (λ _. last) in
+    (within, omega (arith, within, all))
+
+pub last-blank : (xs : List ℕ) (r : Option ℕ) → IsLastByte is_blank xs r → MatchOption r (behind_blank xs ≡ length xs) (λ i. (i < length xs) × (i + 1 + behind_blank xs ≡ length xs))
+last-blank = last-byte is_blank
+
+pub last-semicolon : (xs : List ℕ) (r : Option ℕ) → IsLastByte is_semicolon xs r → MatchOption r (xs ≡ behind_semicolon xs) (λ i. drop (i + 1) xs ≡ behind_semicolon xs)
+last-semicolon xs None h =
+    let all = last-byte is_semicolon xs None h in
+    let none : 0 ≡ length xs - suffix_len (λ b. not (is_semicolon b)) xs = omega (arith, all) in
+    ap (λ k. drop k xs) none
+last-semicolon xs (Some i) h =
+    let all = last-byte is_semicolon xs (Some i) h in
+    let behind = all.1 in
+    let from : i + 1 ≡ length xs - suffix_len (λ b. not (is_semicolon b)) xs = omega (arith, behind) in
+    ap (λ k. drop k xs) from
+
+-- ---- counts
+
+decimal-no_hexadecimal : (digits : List ℕ) → list_all is_digit digits ≡ true → starts_with nat_eq digits (codes "0x") ≡ false
+decimal-no_hexadecimal [] all = refl
+decimal-no_hexadecimal (b ∷ []) all = elim (cases_Bool (nat_eq 48 b)) [ inl e ↦ rw e refl | inr e ↦ rw e refl ]
+decimal-no_hexadecimal (b ∷ c ∷ bs) all =
+    let rest = (and_parts (is_digit b) (list_all is_digit (c ∷ bs)) all).1 in
+    let digit = (and_parts (is_digit c) (list_all is_digit bs) rest).0 in
+    let small = leb-true c 57 (and_parts (nat_le 48 c) (nat_le c 57) digit).1 in
+    let other : nat_eq 120 c ≡ false = ne_eqb 120 c (λ e. omega (arith, small, e)) in
+    elim (cases_Bool (nat_eq 48 b)) [ inl e ↦ rw (e, other) refl | inr e ↦ rw e refl ]
+
+folded_if : (a : Bool) (n : ℕ) → below_half (if a then Ok n else Err NumberTooLarge) ≡ or_folded (below_half (if a then Ok n else Err NumberTooLarge))
+folded_if true n = elim (cases_Bool (nat_lt n (2 ^ 63))) [ inl e ↦ rw e refl | inr e ↦ rw e refl ]
+folded_if false n = refl
+
+-- digits are a count as they are an amount
+pub count-amount : (digits : List ℕ) → (length digits ≡ 0 → ⊥) → list_all is_digit digits ≡ true → amount_of digits ≡ count_of digits
+unfolding amount_of number_of
+count-amount [] some all = absurd (some refl)
+count-amount (b ∷ bs) some all =
+    let plain = decimal-no_hexadecimal (b ∷ bs) all in
+    rw plain (rw all (folded_if (nat_lt (value_in 10 (b ∷ bs)) (2 ^ 64)) (value_in 10 (b ∷ bs))))
+
+-- what is no digits is no count
+pub count-none : (text : List ℕ) → (length text ≡ 0) ⊎ (list_all is_digit text ≡ false) → Err FoldedLine ≡ count_of text
+count-none [] h = refl
+count-none (b ∷ bs) (inl none) = absurd (omega (arith, none))
+count-none (b ∷ bs) (inr other) = rw other refl
+
+-- ---- lines
+
+-- frames and a text that is no count
+pub no-count : (text : List ℕ) (i : ℕ) (f : Fault) → i < length text → (i ≡ 0 → ⊥) → i + 1 + behind_blank text ≡ length text → count_of (drop (i + 1) text) ≡ Err f → Err f ≡ text_says text
+no-count [] i f within some behind none = absurd (omega (arith, within))
+no-count (b ∷ bs) zero f within some behind none = absurd (some refl)
+no-count (b ∷ bs) (suc i) f within some behind none =
+    let n = behind_blank (b ∷ bs) in
+    let less = lt-ltb n (length (b ∷ bs)) (omega (arith, behind)) in
+    let before : length (b ∷ bs) - n - 1 ≡ suc i = omega (arith, behind) in
+    let from : length (b ∷ bs) - n ≡ suc i + 1 = omega (arith, behind) in
+    let front : List ℕ → ℕ → Result (Option Stack) Fault = λ digits k. some_stack (stack_of (take k (b ∷ bs)) digits) in
+    let here : text_says (b ∷ bs) ≡ front (drop (length (b ∷ bs) - n) (b ∷ bs)) (length (b ∷ bs) - n - 1) = rw less refl in
+    let cut : front (drop (length (b ∷ bs) - n) (b ∷ bs)) (length (b ∷ bs) - n - 1) ≡ front (drop (suc i + 1) (b ∷ bs)) (suc i) = ap (λ k. front (drop k (b ∷ bs)) (length (b ∷ bs) - n - 1)) from ∙ ap (front (drop (suc i + 1) (b ∷ bs))) before in
+    sym (here ∙ (cut ∙ ap (λ r. some_stack (counted (b ∷ take i bs) r)) none))

@@ -1,0 +1,4 @@
+pub mod Lines
+pub mod Views
+pub mod Frames
+pub mod Files
