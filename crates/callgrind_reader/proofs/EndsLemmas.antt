@@ -12,7 +12,7 @@ use Rattle.callgrind_reader.proofs.ExactLemmas.{exact-fault}
 
 -- what the lines of a file come to is what the file comes to
 pub ended : (r : Result FileHead ReadEnd) (text : List ℕ) → Comes r (end_of text) → Ended r text
-ended (Ok head) text h = (exact-fault (map reading_of (lines_of text)) ∙ h.0, record { events = h.1.events; derived = h.1.derived; stated = h.1.stated })
+ended (Ok head) text h = (exact-fault (map reading_of (lines_of text)) ∙ h.0, record { events = h.1.events; own = h.1.derived.events; derived = h.1.derived.derived; stated = h.1.stated })
 ended (Err (ends.Fault fault line)) text h = exact-fault (map reading_of (lines_of text)) ∙ h
 ended (Err ends.Memory) text h = tt
 

@@ -1,12 +1,11 @@
 -- When a reader stands for a text, having handed out some records; and what a file comes to.
 use Rattle.std.specs.Prelude.{◌≡◌, ℕ, ◌-◌, ◌<◌, ◌≤◌, true, List, length, MatchBool, Option, Some, None, IfSome, Result, Ok, Err}
-use Rattle.cg_text.specs.Flats.{FlatOf}
 use Rattle.cg_text.specs.declared.heads.FileHead.{FileHead}
 use Rattle.cg_text.specs.declared.faults.ReadEnd.{ReadEnd}
 use Rattle.cg_text.specs.declared.faults.ReadEnd.TheVariants as ends
 use Rattle.callgrind_reader.specs.declared.reader.Reader.{Reader}
 use Rattle.callgrind_reader.specs.Records.{Record}
-use Rattle.callgrind_reader.specs.Files.{fault_of_file, events_of_file, definitions_of_file, stated_of_file}
+use Rattle.callgrind_reader.specs.Files.{fault_of_file, events_of_file, derived_of_file, stated_of_file}
 use Rattle.callgrind_reader.specs.Accept.{held}
 use Rattle.callgrind_reader.specs.Cut.{cut, back_of}
 use Rattle.callgrind_reader.specs.Stands.{StandsAfter, count_of}
@@ -29,10 +28,11 @@ room_of r = 1073741824 - r.taken
 abbrev pub IsSpent : Reader → Type 0
 IsSpent r = r.spent ≡ true
 
--- the events, the derived events and the stated totals of a file
+-- the events, the derived events, which have the names of the events beside them, and the stated totals of a file
 pub record HeadOfFile (head : FileHead) (text : List ℕ) : Type 0 where
   pub events : head.events ≡ events_of_file text
-  pub derived : FlatOf head.derived (events_of_file text) (definitions_of_file text)
+  pub own : head.derived.events ≡ events_of_file text
+  pub derived : head.derived.derived ≡ derived_of_file text
   pub stated : head.stated ≡ stated_of_file text
 
 -- a head exactly where the file is accepted, else its first fault

@@ -1,6 +1,5 @@
 // The events of a file.
-ghost use Rattle.std.specs.Prelude.{◌≡◌, ◌≤◌, IfOk, IfSome, OnOk, Option, Some, None, length, true};
-ghost use Rattle.std.specs.Str.{bytes_eq};
+ghost use Rattle.std.specs.Prelude.{◌≡◌, ◌≤◌, IfOk, IfSome, Option, Some, None, length, true};
 ghost use Rattle.std.specs.Option.{ForSome};
 ghost use Rattle.cg_text.specs.Fields.{fields_of};
 ghost use Rattle.cg_text.specs.Formulas.{are_distinct};

@@ -1,5 +1,5 @@
 // What header lines say of a file, and what cost lines settle of it.
-ghost use Rattle.std.specs.Prelude.{◌≡◌, ℕ, ◌+◌, ◌<◌, ◌≤◌, ◌^◌, ◌∷◌, List, [], IfOk, IfSome, Option, Some, None, Ok, length};
+ghost use Rattle.std.specs.Prelude.{◌≡◌, ◌+◌, ◌<◌, ◌≤◌, ◌^◌, ◌∷◌, List, [], IfOk, IfSome, Option, Some, None, Ok, length};
 ghost use Rattle.cg_text.specs.Readings.{Reading};
 ghost use Rattle.cg_text.specs.Kinds as kinds;
 ghost use Rattle.callgrind_reader.specs.Positions.{or_line};

@@ -5,7 +5,7 @@ ghost use Rattle.cg_text.specs.Views.{kind_is};
 ghost use Rattle.cg_text.specs.Readings.{reading_of};
 ghost use Rattle.callgrind_reader.specs.Records.{Record};
 ghost use Rattle.callgrind_reader.specs.Accept.{adds, held};
-ghost use Rattle.callgrind_reader.specs.Files.{end_of, fault_of_file, records_of_file};
+ghost use Rattle.callgrind_reader.specs.Files.{end_of, records_of_file};
 ghost use Rattle.callgrind_reader.specs.Cut.{cut, back_of, records_so_far, IsPrefix};
 ghost use Rattle.callgrind_reader.specs.Stands.{StandsAfter, count_of};
 ghost use Rattle.cg_text.specs.declared.faults.ReadEnd.TheVariants.{Memory};

@@ -286,46 +286,49 @@ fn faults_by_line(rt: HostRuntime) -> Result<(), Fail> {
     Ok(())
 }
 
-/// Derived events and the faults of their lines, of files in one piece and byte by byte.
+/// Files with derived events, each with what it comes to.
+const DERIVED: [(&[u8], &str); 11] = [
+    (
+        DERIVED_EVENT,
+        "4 ??? ??? f 1 1000 20 3 \nIr L1m LLm Est [1, 10, 100] accepted",
+    ),
+    (
+        b"event: Est = Ir + 10 L1m + 100 * LLm : Estimate\nevents: Ir L1m LLm\nfn=f\n1 1000 20 3\nevent: Bad = Ir + Xx\n",
+        "4 ??? ??? f 1 1000 20 3 \nline 5: F17 formula unknown",
+    ),
+    (
+        b"events: Ir\nevent: A = 1000 Ir\nevent: B = 1000 A\n",
+        "Ir A [1000] B [1000000] accepted",
+    ),
+    (
+        b"events: Ir\nevent: A = 1000 Ir\nevent: B = 1000 A\nevent: C = B + Ir\n",
+        "line 4: F18 formula too large",
+    ),
+    (b"events: Ir\nevent: Ir = 2 Ir\n", "line 2: F7 event twice"),
+    (
+        b"event: E = Ir\nevent: E = 1 Ir\nevents: Ir\n",
+        "Ir E [1] accepted",
+    ),
+    (
+        b"event: E = Ir + Ir\nevent: E = 2 Ir\nevents: Ir\n",
+        "line 2: F7 event twice",
+    ),
+    (b"events: Ir\nevent: E = Ir +\n", "line 2: F16 formula form"),
+    (b"event: E = Q\n1 1\n", "line 2: F6 no events"),
+    (
+        b"events: Ir\nevent: E = Q\ncalls=1 1\n",
+        "line 3: F15 call without cost",
+    ),
+    (
+        b"events: Ir\nevent: E = Q\n1 1\nx",
+        "3 ??? ??? ??? 1 1 \nline 4: F2 unknown line",
+    ),
+];
+
+/// In one piece and byte by byte.
 #[test]
 fn derived_events(rt: HostRuntime) -> Result<(), Fail> {
-    for (file, want) in [
-        (
-            DERIVED_EVENT,
-            "4 ??? ??? f 1 1000 20 3 \nIr L1m LLm Est [1, 10, 100] accepted",
-        ),
-        (
-            b"event: Est = Ir + 10 L1m + 100 * LLm : Estimate\nevents: Ir L1m LLm\nfn=f\n1 1000 20 3\nevent: Bad = Ir + Xx\n",
-            "4 ??? ??? f 1 1000 20 3 \nline 5: F17 formula unknown",
-        ),
-        (
-            b"events: Ir\nevent: A = 1000 Ir\nevent: B = 1000 A\n",
-            "Ir A [1000] B [1000000] accepted",
-        ),
-        (
-            b"events: Ir\nevent: A = 1000 Ir\nevent: B = 1000 A\nevent: C = B + Ir\n",
-            "line 4: F18 formula too large",
-        ),
-        (b"events: Ir\nevent: Ir = 2 Ir\n", "line 2: F7 event twice"),
-        (
-            b"event: E = Ir\nevent: E = 1 Ir\nevents: Ir\n",
-            "Ir E [1] accepted",
-        ),
-        (
-            b"event: E = Ir + Ir\nevent: E = 2 Ir\nevents: Ir\n",
-            "line 2: F7 event twice",
-        ),
-        (b"events: Ir\nevent: E = Ir +\n", "line 2: F16 formula form"),
-        (b"event: E = Q\n1 1\n", "line 2: F6 no events"),
-        (
-            b"events: Ir\nevent: E = Q\ncalls=1 1\n",
-            "line 3: F15 call without cost",
-        ),
-        (
-            b"events: Ir\nevent: E = Q\n1 1\nx",
-            "3 ??? ??? ??? 1 1 \nline 4: F2 unknown line",
-        ),
-    ] {
+    for (file, want) in DERIVED {
         let whole = read(rt.alloc(), file)?;
         assert_eq!(rt; whole.as_slice(), want.as_bytes());
         let bytes = read_parts(rt.alloc(), file, b"", 1)?;

@@ -6,8 +6,8 @@ use Rattle.std.proofs.lemmas.Bool.{or_parts, lt-ltb, le-ltb}
 use Rattle.std.proofs.lemmas.Grind.{common_steps}
 use Rattle.std.proofs.lemmas.List.{map-append}
 use Rattle.std.proofs.lemmas.List.Sums.{sum_by-cons}
-use Rattle.cg_text.specs.Formulas.{Definition, defines, is_defined, is_known, is_changed, coefficient, coefficients, counted, derived_names, definition_fault, formula_fault, derived_of}
-use Rattle.cg_text.specs.Rows.{IsRow, capped}
+use Rattle.cg_text.specs.Formulas.{Definition, defines, is_defined, is_known, is_changed, coefficient, coefficients, derived_names, definition_fault, formula_fault, derived_of}
+use Rattle.cg_text.specs.Rows.{counted, IsRow, capped}
 use Rattle.cg_text.specs.declared.faults.Fault.{Fault}
 use Rattle.cg_text.specs.declared.faults.Fault.TheVariants.{EventTwice, TooManyEvents, FormulaUnknown, FormulaTooLarge}
 use Rattle.cg_text.proofs.RepeatLemmas.{none-from, maps-same, name-itself}

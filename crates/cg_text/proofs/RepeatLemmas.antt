@@ -1,12 +1,12 @@
 -- A definition that says again what is defined changes nothing.
-use Rattle.std.proofs.Common.{inl, inr, ℕ, ◌≡◌, ◌*◌, ◌≤◌, Bool, true, false, not, ◌&&◌, eqb, List, [], ◌∷◌, map, length, sum, sum_by, Option, Some, None, if◌then◌else◌, refl, sym, ap, ◌∙◌, subst, arith}
+use Rattle.std.proofs.Common.{inl, inr, ◌⊎◌, ℕ, ◌≡◌, ◌*◌, ◌≤◌, Bool, true, false, not, ◌&&◌, eqb, List, [], ◌∷◌, map, length, sum, sum_by, Option, Some, None, if◌then◌else◌, refl, sym, ap, ◌∙◌, subst, arith}
 use Rattle.std.specs.List.{list_any, list_all}
 use Rattle.std.specs.Str.{bytes_eq}
 use Rattle.std.proofs.lemmas.Bool.{cases_Bool, and_parts, and_from, or_cases, or_parts, or_left, or_right, not-false, ltb-false, le-ltb, eqb-true, eq-eqb}
 use Rattle.std.proofs.lemmas.List.Sums.{sum_by-cons}
 use Rattle.std.proofs.lemmas.Slice.Eq.{bytes_eq-Decides}
 use Rattle.cg_text.specs.EventLines.{Term}
-use Rattle.cg_text.specs.Formulas.{Definition, defines, is_defined, is_known, coefficient, coefficients, same_terms, is_changed, derived_names, definition_fault, first_or, formula_fault, derived_of}
+use Rattle.cg_text.specs.Formulas.{Definition, defines, is_defined, is_known, coefficient, coefficients, same_terms, is_changed, derived_names, definition_fault, first_or, formula_fault, derived_of, weighed, derived_value}
 use Rattle.cg_text.specs.declared.faults.Fault.{Fault}
 use Rattle.cg_text.specs.declared.faults.Fault.TheVariants.{EventTwice, TooManyEvents, FormulaUnknown, FormulaTooLarge}
 
@@ -29,10 +29,6 @@ terms-same ((m, a) ∷ ss) ((n, b) ∷ ts) h =
     let name : a ≡ b = names-same a b first.1 in
     let rest : ss ≡ ts = terms-same ss ts parts.1 in
     rw (number, name, rest) refl
-
-pub terms-themselves : (ts : List Term) → same_terms ts ts ≡ true
-terms-themselves [] = refl
-terms-themselves ((n, a) ∷ ts) = and_from (eqb n n && bytes_eq a a) (same_terms ts ts) (and_from (eqb n n) (bytes_eq a a) (eq-eqb n n refl) (name-itself a)) (terms-themselves ts)
 
 -- ---- definitions without a fault
 
@@ -229,3 +225,29 @@ repeat-derived events d es free here same =
     let rows = maps-same (λ name. (name, coefficients events name (d ∷ es))) (λ name. (name, coefficients events name es)) (derived_names es)
     (λ name. ap (λ r. (name, r)) (maps-same (λ event. coefficient event name (d ∷ es)) (λ event. coefficient event name es) events (λ event. repeats-all events es free d here same event name))) in
     ap (map (λ name. (name, coefficients events name (d ∷ es)))) names ∙ rows
+
+fault_or : (o : Option (Fault × ℕ)) → (o ≡ None) ⊎ ((x : Fault × ℕ) × (o ≡ Some x))
+fault_or None = inl refl
+fault_or (Some x) = inr (x, refl)
+
+pub repeat-fault : (events : List (List ℕ)) (d : Definition) (es : List Definition) → is_defined d.name es ≡ true → is_changed d es ≡ false → formula_fault events (d ∷ es) ≡ formula_fault events es
+repeat-fault events d es here same = elim (fault_or (formula_fault events es)) [
+  | inl free ↦ repeat-free events d es free here same ∙ sym free
+  | inr (x, h) ↦ ap (λ o. first_or o (definition_fault events d es) d.line) h ∙ sym h
+]
+
+known-repeat : (events : List (List ℕ)) (d : Definition) (es : List Definition) (name : List ℕ) → is_defined d.name es ≡ true → is_known events (d ∷ es) name ≡ is_known events es name
+known-repeat events d es name here =
+    elim (cases_Bool (defines name d)) [
+      | inl e ↦
+          let defined : is_defined name es ≡ true = ap (λ n. is_defined n es) (names-same name d.name e) ∙ here in
+          rw (e, defined) refl
+      | inr e ↦ rw e refl
+    ]
+
+pub repeat-values : (events : List (List ℕ)) (d : Definition) (es : List Definition) (name costs : List ℕ) → formula_fault events es ≡ None → is_defined d.name es ≡ true → is_changed d es ≡ false
+    → derived_value events (d ∷ es) name costs ≡ derived_value events es name costs
+repeat-values events d es name costs free here same =
+    let row = maps-same (λ event. coefficient event name (d ∷ es)) (λ event. coefficient event name es) events (λ event. repeats-all events es free d here same event name) in
+    ap (λ b. if b then Some (weighed (coefficients events name (d ∷ es)) costs) else None) (known-repeat events d es name here)
+    ∙ ap (λ r. if is_known events es name then Some (weighed r costs) else None) row

@@ -4,8 +4,8 @@ use Rattle.std.specs.List.{list_any}
 use Rattle.std.specs.Str.{bytes_eq}
 use Rattle.std.proofs.lemmas.Bool.{cases_Bool}
 use Rattle.std.proofs.Math.Nat.{mul-add}
-use Rattle.cg_text.specs.Formulas.{Definition, is_defined, is_known, coefficient, coefficients, weighed, derived_value, both, plus}
-use Rattle.cg_text.specs.Flats.{Flattens, value_by, flat_value}
+use Rattle.cg_text.specs.Formulas.{Definition, is_defined, is_known, coefficient, coefficients, weighed, derived_value, formula_fault, derived_of, both, plus}
+use Rattle.cg_text.specs.Flats.{Flattens, FlatOf, value_by, flat_value}
 use Rattle.cg_text.specs.declared.flats.Flat.{Flat}
 use Rattle.cg_text.proofs.RepeatLemmas.{maps-same}
 use Rattle.cg_text.proofs.RowsLemmas.{weighed-cons}
@@ -36,7 +36,7 @@ value-if : (b : Bool) (row costs : List ℕ) → value_by (if b then Some row el
 value-if true row costs = refl
 value-if false row costs = refl
 
-pub values-kept : (flat : Flat) (back : List Definition) (name costs : List ℕ) → Flattens flat back → flat_value flat name costs ≡ derived_value flat.events back name costs
+values-kept : (flat : Flat) (back : List Definition) (name costs : List ℕ) → Flattens flat back → flat_value flat name costs ≡ derived_value flat.events back name costs
 values-kept flat back name costs f =
     elim (cases_Bool (list_any (bytes_eq name) flat.events)) [
       | inl e ↦
@@ -47,3 +47,11 @@ values-kept flat back name costs f =
           let found = lookup-derived flat back f name in
           rw e (ap (λ r. value_by r costs) found ∙ value-if (is_defined name back) (coefficients flat.events name back) costs)
     ]
+
+pub values-of : (flat : Flat) (events : List (List ℕ)) (back : List Definition) (name costs : List ℕ) → formula_fault events back ≡ None → FlatOf flat events back → flat_value flat name costs ≡ derived_value events back name costs
+values-of flat events back name costs free of =
+    let flattens : Flattens flat back = record {
+      free = ap (λ names. formula_fault names back) of.events ∙ free;
+      derived = of.derived ∙ ap (λ names. derived_of names back) (sym of.events);
+    } in
+    values-kept flat back name costs flattens ∙ ap (λ names. derived_value names back name costs) of.events

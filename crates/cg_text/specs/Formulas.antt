@@ -12,6 +12,11 @@ pub record Definition : Type 0 where
   pub name : List ℕ
   pub terms : List Term
 
+-- whether no name stands twice
+abbrev pub are_distinct : List (List ℕ) → Bool
+are_distinct [] = true
+are_distinct (name ∷ names) = not (list_any (bytes_eq name) names) && are_distinct names
+
 -- in what follows, `back` are the definitions of earlier lines, the nearest first
 
 abbrev pub defines : List ℕ → Definition → Bool
@@ -28,10 +33,6 @@ coefficient event name [] = if bytes_eq event name then 1 else 0
 coefficient event name (d ∷ back) =
     if defines name d then sum_by (λ t. t.0 * coefficient event t.1 back) d.terms
     else coefficient event name back
-
--- how often an event counts in a sum of terms
-abbrev pub counted : List ℕ → List Term → List Definition → ℕ
-counted event terms back = sum_by (λ t. t.0 * coefficient event t.1 back) terms
 
 -- how often each event counts
 abbrev pub coefficients : List (List ℕ) → List ℕ → List Definition → List ℕ
@@ -85,11 +86,6 @@ definition_fault events d back =
     else (if not (list_all (λ t. is_known events back t.1) d.terms) then Some FormulaUnknown
     else (if nat_lt 1000000 (sum (coefficients events d.name (d ∷ back))) then Some FormulaTooLarge
     else None)))
-
--- whether no name stands twice
-abbrev pub are_distinct : List (List ℕ) → Bool
-are_distinct [] = true
-are_distinct (name ∷ names) = not (list_any (bytes_eq name) names) && are_distinct names
 
 abbrev pub first_or : Option (Fault × ℕ) → Option Fault → ℕ → Option (Fault × ℕ)
 first_or (Some earlier) own line = Some earlier

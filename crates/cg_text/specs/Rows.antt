@@ -1,5 +1,11 @@
 -- Coefficients while they are added up: no sum passes 2^64-1.
-use Rattle.std.specs.Prelude.{◌≡◌, ℕ, ◌-◌, ◌<◌, ◌^◌, min, List, [], length, slice_index, get_or}
+use Rattle.std.specs.Prelude.{◌≡◌, ℕ, ◌-◌, ◌*◌, ◌<◌, ◌^◌, min, List, [], length, sum_by, slice_index, get_or}
+use Rattle.cg_text.specs.EventLines.{Term}
+use Rattle.cg_text.specs.Formulas.{Definition, coefficient}
+
+-- how often an event counts in a sum of terms
+abbrev pub counted : List ℕ → List Term → List Definition → ℕ
+counted event terms back = sum_by (λ t. t.0 * coefficient event t.1 back) terms
 
 abbrev pub capped : ℕ → ℕ
 capped n = min n (2 ^ 64 - 1)

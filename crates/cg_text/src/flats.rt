@@ -1,13 +1,12 @@
 // The coefficients of derived events over the events of a file, and their values.
-ghost use Rattle.std.specs.Prelude.{◌≡◌, ◌+◌, ◌*◌, ◌<◌, ◌≤◌, ◌^◌, ℕ, All, List, [], true, false, length, sum, position, is_some, IsTrue, IfOk, IfSome, OnOk};
+ghost use Rattle.std.specs.Prelude.{◌≡◌, ◌+◌, ◌*◌, ◌<◌, ◌≤◌, ◌^◌, ℕ, All, List, [], true, false, length, sum, position, is_some, IsTrue, IfOk, IfSome};
 ghost use Rattle.std.specs.List.{list_all};
 ghost use Rattle.std.specs.Map.{lookup};
 ghost use Rattle.std.specs.Option.{option_copied};
 ghost use Rattle.std.specs.Str.{bytes_eq};
-ghost use Rattle.cg_text.specs.EventLines.{Term};
 ghost use Rattle.cg_text.specs.Formulas as specs;
 ghost use Rattle.cg_text.specs.Formulas.{are_distinct, is_known, is_defined, coefficient};
-ghost use Rattle.cg_text.specs.Rows.{IsRow};
+ghost use Rattle.cg_text.specs.Rows.{IsRow, counted};
 
 use crate::definitions::Definition;
 use crate::faults::Fault;
@@ -159,7 +158,7 @@ impl Flat {
         ensures wide { length row.new ≡ length row.old }
         ensures known { (back : List specs.Definition) → Flattens self.now back → result ≡ list_all (λ t. is_known self.now.events back t.1) terms.now }
         ensures counts { IsTrue result → (back : List specs.Definition) → Flattens self.now back → IsRow row.old self.now.events (λ _. 0)
-            → IsRow row.new self.now.events (λ event. specs.counted event terms.now back) }
+            → IsRow row.new self.now.events (λ event. counted event terms.now back) }
     {
         for (number, name) in terms {
             if !self.add_term(row, *number, name.as_slice()) {
@@ -177,7 +176,7 @@ impl Flat {
     ) -> Result<Option<Vec<u64>>, AllocError>
         ensures wide { IfOk result (λ r. IfSome r (λ row. length row.items ≡ length self.now.events)) }
         ensures known { IfOk result (λ r. (back : List specs.Definition) → Flattens self.now back → is_some r ≡ list_all (λ t. is_known self.now.events back t.1) terms.now) }
-        ensures counts { IfOk result (λ r. IfSome r (λ row. (back : List specs.Definition) → Flattens self.now back → IsRow row.items self.now.events (λ event. specs.counted event terms.now back))) }
+        ensures counts { IfOk result (λ r. IfSome r (λ row. (back : List specs.Definition) → Flattens self.now back → IsRow row.items self.now.events (λ event. counted event terms.now back))) }
     {
         let mut row = vec![in alloc; 0; self.events.len()]?;
         if self.add_terms(&mut row, terms) {

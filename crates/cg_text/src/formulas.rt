@@ -1,5 +1,5 @@
 // The formulas of `event:` lines, until the events are known.
-ghost use Rattle.std.specs.Prelude.{◌≡◌, ℕ, List, [], true, false, not, OnOk, OnErr, IfSome, IfNone};
+ghost use Rattle.std.specs.Prelude.{◌≡◌, List, [], true, false, not, OnOk, OnErr, IfSome, IfNone};
 ghost use Rattle.cg_text.specs.Formulas as specs;
 ghost use Rattle.cg_text.specs.Formulas.{define, are_distinct, is_defined, is_changed, same_terms};
 ghost use Rattle.cg_text.specs.EventViews.{plain_event};

@@ -50,45 +50,48 @@ fn shown(alloc: Global, flat: Result<Flat, FlatEnd>) -> Result<String, Fail> {
     Ok(shown)
 }
 
+/// Events, the values of `event:` lines, and what they come to.
+const FORMULAS: [(&str, &str, &str); 19] = [
+    ("Ir Dr", "Sum = Ir + Dr", "Sum [1, 1] "),
+    (
+        "Ir L1m LLm",
+        "Est = Ir + 10 L1m + 100 * LLm : Estimate",
+        "Est [1, 10, 100] ",
+    ),
+    ("Ir", "A = 1000 Ir\nB = 1000 A", "A [1000] B [1000000] "),
+    (
+        "Ir",
+        "A = 1000 Ir\nB = 1000 A\nC = B + Ir",
+        "line 3: F18 formula too large",
+    ),
+    ("Ir", "Ir = 2 Ir", "line 1: F7 event twice"),
+    ("Ir", "E = Ir\nE = 1 Ir : again", "E [1] "),
+    ("Ir", "E = Ir + Ir\nE = 2 Ir", "line 2: F7 event twice"),
+    ("Ir", "E = Ir\nE = 2 Ir\nE", "line 2: F7 event twice"),
+    ("Ir", "E = Q", "line 1: F17 formula unknown"),
+    ("Ir", "E = Q\nE = Ir", "line 1: F17 formula unknown"),
+    ("Ir", "E = F\nF = Ir", "line 1: F17 formula unknown"),
+    ("Ir", "E = E", "line 1: F17 formula unknown"),
+    ("Ir", "E = 1000001 Ir", "line 1: F18 formula too large"),
+    ("Ir Dr", "E = 999999 Ir + Dr", "E [999999, 1] "),
+    (
+        "Ir Dr",
+        "E = 999999 Ir + 2 Dr",
+        "line 1: F18 formula too large",
+    ),
+    ("Ir", "E = 1000001 Ir + Q", "line 1: F17 formula unknown"),
+    (
+        "Ir",
+        "Z = 0 Ir\nE = 99999999999999999999 Z + Ir\nE = 18446744073709551615 Z + Ir",
+        "Z [0] E [1] ",
+    ),
+    ("", "Ir", ""),
+    ("", "E = Ir", "line 1: F17 formula unknown"),
+];
+
 #[test]
 fn formulas_come_to_coefficients(rt: HostRuntime) -> Result<(), Fail> {
-    for (events, values, want) in [
-        ("Ir Dr", "Sum = Ir + Dr", "Sum [1, 1] "),
-        (
-            "Ir L1m LLm",
-            "Est = Ir + 10 L1m + 100 * LLm : Estimate",
-            "Est [1, 10, 100] ",
-        ),
-        ("Ir", "A = 1000 Ir\nB = 1000 A", "A [1000] B [1000000] "),
-        (
-            "Ir",
-            "A = 1000 Ir\nB = 1000 A\nC = B + Ir",
-            "line 3: F18 formula too large",
-        ),
-        ("Ir", "Ir = 2 Ir", "line 1: F7 event twice"),
-        ("Ir", "E = Ir\nE = 1 Ir : again", "E [1] "),
-        ("Ir", "E = Ir + Ir\nE = 2 Ir", "line 2: F7 event twice"),
-        ("Ir", "E = Ir\nE = 2 Ir\nE", "line 2: F7 event twice"),
-        ("Ir", "E = Q", "line 1: F17 formula unknown"),
-        ("Ir", "E = Q\nE = Ir", "line 1: F17 formula unknown"),
-        ("Ir", "E = F\nF = Ir", "line 1: F17 formula unknown"),
-        ("Ir", "E = E", "line 1: F17 formula unknown"),
-        ("Ir", "E = 1000001 Ir", "line 1: F18 formula too large"),
-        ("Ir Dr", "E = 999999 Ir + Dr", "E [999999, 1] "),
-        (
-            "Ir Dr",
-            "E = 999999 Ir + 2 Dr",
-            "line 1: F18 formula too large",
-        ),
-        ("Ir", "E = 1000001 Ir + Q", "line 1: F17 formula unknown"),
-        (
-            "Ir",
-            "Z = 0 Ir\nE = 99999999999999999999 Z + Ir\nE = 18446744073709551615 Z + Ir",
-            "Z [0] E [1] ",
-        ),
-        ("", "Ir", ""),
-        ("", "E = Ir", "line 1: F17 formula unknown"),
-    ] {
+    for (events, values, want) in FORMULAS {
         let formulas = formulas(rt.alloc(), values)?;
         let flat = flattened(rt.alloc(), &formulas, events)?;
         assert_eq!(rt; shown(rt.alloc(), flat)?.as_str(), want, "{values}");

@@ -58,8 +58,8 @@ fn feed_all<F: Read>(total: &mut Total, buffer: &mut [u8], file: &mut F) -> Resu
     Err(Unread::Failed)
 }
 
-/// The total of what a reader gives, or the line that it is too long, exactly where it is, or that a
-/// read failed.
+/// The total of what a reader gives, where that is not too long, else the line that says so; or,
+/// either way, the line that a read failed.
 pub fn total_read<F: Read>(alloc: Global, file: &mut F) -> Result<TotalText, AllocError>
     ensures { (text : List ℕ) → F.remaining file.old ≡ Some text → IfOk result (IsAnswer text) }
 {

@@ -83,7 +83,19 @@ const ACCEPTED: [(&str, &[u8], &[u8]); 16] = [
 ];
 
 /// The bytes of a file, and the one line of its total.
-const REFUSED: [(&[u8], &[u8]); 10] = [
+const REFUSED: [(&[u8], &[u8]); 13] = [
+    (
+        b"events: Ir\nevent: E = Ir +\n",
+        b"refused: line 2: F16 formula form\n",
+    ),
+    (
+        b"event: Est = Ir + 10 L1m\nevents: Ir L1m LLm\nfn=f\n1 1000 20 3\nevent: Bad = Ir + Xx\n",
+        b"refused: line 5: F17 formula unknown\n",
+    ),
+    (
+        b"events: Ir\nevent: A = 1000 Ir\nevent: B = 1000 A\nevent: C = B + Ir\n",
+        b"refused: line 4: F18 formula too large\n",
+    ),
     (b"events: Ir Ir\n", b"refused: line 1: F7 event twice\n"),
     (
         b"events: Ir\nfn=f\ncalls=1 50\n",

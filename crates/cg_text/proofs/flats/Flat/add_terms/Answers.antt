@@ -3,7 +3,8 @@ use Rattle.std.proofs.lemmas.Bool.{and_from}
 use Rattle.std.proofs.lemmas.List.Folds.{list_all_more}
 use Rattle.std.proofs.lemmas.List.Sums.{sum_by_more}
 use Rattle.cg_text.specs.EventLines.{Term}
-use Rattle.cg_text.specs.Formulas.{is_known, coefficient, counted}
+use Rattle.cg_text.specs.Formulas.{is_known, coefficient}
+use Rattle.cg_text.specs.Rows.{counted}
 use Rattle.cg_text.proofs.FlatLemmas.{row-same}
 use Rattle.cg_text.proofs.flats.Flat.add_terms.Goals as goal
 

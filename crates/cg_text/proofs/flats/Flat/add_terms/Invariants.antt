@@ -1,8 +1,8 @@
 use Rattle.std.proofs.Common.{◌≡◌, true, take, length, List}
 use Rattle.std.specs.List.{list_all}
-use Rattle.cg_text.specs.Formulas.{Definition, is_known, counted}
+use Rattle.cg_text.specs.Formulas.{Definition, is_known}
 use Rattle.cg_text.specs.Flats.{Flattens}
-use Rattle.cg_text.specs.Rows.{IsRow}
+use Rattle.cg_text.specs.Rows.{counted, IsRow}
 use Rattle.cg_text.proofs.flats.Flat.add_terms.Given as goal
 
 -- the terms so far are known, and counted

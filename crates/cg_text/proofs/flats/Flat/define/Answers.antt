@@ -1,9 +1,9 @@
 use Rattle.std.proofs.Common.{rules, ◌≡◌, ◌<◌, ◌≤◌, ℕ, List, [], ◌∷◌, ◌++◌, true, false, length, sum, is_some, sym, ap, ◌∙◌, subst, arith}
 use Rattle.std.specs.List.{list_all, list_any}
 use Rattle.std.specs.Str.{bytes_eq}
-use Rattle.cg_text.specs.Formulas.{is_known, coefficients, counted, derived_of}
+use Rattle.cg_text.specs.Formulas.{is_known, coefficients, derived_of}
 use Rattle.cg_text.specs.Definitions.{plain_definition}
-use Rattle.cg_text.specs.Rows.{IsRow, capped}
+use Rattle.cg_text.specs.Rows.{counted, IsRow, capped}
 use Rattle.cg_text.proofs.DefineLemmas.{is_event, fault-event, fault-many, fault-unknown, fault-large, fault-none, new-row, row-large, row-small, derived-new, count-derived}
 use Rattle.cg_text.proofs.FlatLemmas.{pushed_all}
 use Rattle.cg_text.proofs.flats.Flat.define.Goals as goal
