@@ -30,6 +30,7 @@ fn pass(work: Work, input: &[u8], passes: u32) -> u64 {
 }
 
 impl<'a> Meter<'a> {
+    /// Nothing was measured yet. No clause: nothing rests on a benchmark but its reader.
     pub(crate) fn new(work: Work, input: &'a [u8]) -> Meter<'a> {
         Meter {
             work,
@@ -40,7 +41,8 @@ impl<'a> Meter<'a> {
     }
 
     /// Measures once more; one that is too short only doubles the passes of the next. Returns what
-    /// the work returned, which is to be used, so that the work has to be done.
+    /// the work returned, which is to be used, so that the work has to be done. No clause: a clock
+    /// tells the checker nothing.
     pub(crate) fn measure(&mut self, clock: &impl CpuClock) -> io::Result<u64> {
         let start = clock.process_cpu_time()?;
         let sum = pass(self.work, self.input, self.passes);

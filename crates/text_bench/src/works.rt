@@ -20,6 +20,7 @@ pub enum Work {
 }
 
 impl Work {
+    /// What the table calls it. No clause: only a person reads it.
     pub(crate) fn as_str(self) -> &'static str {
         match self {
             Work::ReadLine => "read_line",
