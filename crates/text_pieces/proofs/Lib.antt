@@ -1,0 +1,3 @@
+pub mod CutLemmas
+pub mod PrefixLemmas
+pub mod ResultLemmas

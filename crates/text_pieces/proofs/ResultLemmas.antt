@@ -1,0 +1,10 @@
+-- What holds where a call succeeds.
+use Rattle.std.proofs.Common.{Result, Ok, Err, OnOk, OnErr}
+
+pub on_ok : {X E P Q : Type 0} (r : Result X E) → OnOk r P → (P → Q) → OnOk r Q
+on_ok (Ok x) p f = f p
+on_ok (Err e) p f = tt
+
+pub on_err : {X E P : Type 0} (r : Result X E) → P → OnErr r P
+on_err (Ok x) h = tt
+on_err (Err e) h = h
