@@ -5,6 +5,7 @@ use Rattle.cg_text.specs.Kinds as kinds
 use Rattle.cg_text.specs.Kinds.{Nothing}
 use Rattle.cg_text.specs.declared.faults.Fault.{Fault}
 use Rattle.cg_text.specs.declared.faults.Fault.TheVariants.{LineTooLong, CallWithoutCost}
+use Rattle.text_pieces.specs.Backwards as pieces
 use Rattle.callgrind_reader.specs.Faulty.{earlier_or}
 use Rattle.callgrind_reader.specs.Records.{Record}
 use Rattle.callgrind_reader.specs.Calls.{number_after, awaiting}
@@ -61,5 +62,4 @@ adds r back = unless_seen (seen (r ∷ back)) (record_of r back)
 
 -- the records of the lines so far, up to the first fault that they show
 abbrev pub held : List Reading → List Record
-held [] = []
-held (r ∷ back) = held back ++ adds r back
+held = pieces.held adds

@@ -7,6 +7,8 @@ use Rattle.cg_text.specs.Kinds.{Nothing, Calls}
 use Rattle.cg_text.specs.Formulas.{Definition, formula_fault, derived_of}
 use Rattle.cg_text.specs.declared.faults.Fault.{Fault}
 use Rattle.cg_text.specs.declared.faults.Fault.TheVariants.{LineTooLong, CallWithoutCost}
+use Rattle.text_pieces.specs.Backwards as pieces
+use Rattle.text_pieces.specs.Backwards.{onto}
 use Rattle.callgrind_reader.specs.Faulty.{earlier_or}
 use Rattle.callgrind_reader.specs.Records.{Record}
 use Rattle.callgrind_reader.specs.Events.{events_of}
@@ -61,11 +63,6 @@ abbrev pub sound_records : List Reading → List Reading → List Record
 sound_records back [] = []
 sound_records back (r ∷ ahead) = unless_fault (fault_of r back ahead) (record_of r back ++ sound_records (r ∷ back) ahead)
 
--- some lines in front of others, the nearest first
-abbrev pub onto : List Reading → List Reading → List Reading
-onto [] back = back
-onto (r ∷ ahead) back = onto ahead (r ∷ back)
-
 abbrev pub names_or_none : Option (List (List ℕ)) → List (List ℕ)
 names_or_none None = []
 names_or_none (Some names) = names
@@ -85,7 +82,7 @@ readings_of text = map reading_of (lines_of text)
 
 -- all lines, the nearest to the end first
 abbrev pub end_of : List ℕ → List Reading
-end_of text = onto (readings_of text) []
+end_of = pieces.end_of reading_of
 
 -- the first fault of a file, with its line; a file without one is accepted
 abbrev pub fault_of_file : List ℕ → Option (Fault × ℕ)

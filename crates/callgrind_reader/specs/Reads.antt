@@ -1,5 +1,5 @@
 -- When a reader stands for a text, having handed out some records; and what a file comes to.
-use Rattle.std.specs.Prelude.{◌≡◌, ℕ, ◌-◌, ◌<◌, ◌≤◌, true, List, length, MatchBool, Option, Some, None, IfSome, Result, Ok, Err}
+use Rattle.std.specs.Prelude.{◌≡◌, ℕ, ◌≤◌, List, Option, Some, None, IfSome, Result, Ok, Err}
 use Rattle.cg_text.specs.declared.heads.FileHead.{FileHead}
 use Rattle.cg_text.specs.declared.faults.ReadEnd.{ReadEnd}
 use Rattle.cg_text.specs.declared.faults.ReadEnd.TheVariants as ends
@@ -7,13 +7,15 @@ use Rattle.callgrind_reader.specs.declared.reader.Reader.{Reader}
 use Rattle.callgrind_reader.specs.Records.{Record}
 use Rattle.callgrind_reader.specs.Files.{fault_of_file, events_of_file, derived_of_file, stated_of_file}
 use Rattle.callgrind_reader.specs.Accept.{held}
-use Rattle.callgrind_reader.specs.Cut.{cut, back_of}
+use Rattle.text_pieces.specs.Kept as pieces
+use Rattle.text_pieces.specs.Kept.{Keeps}
+use Rattle.callgrind_reader.specs.Cut.{back_of}
 use Rattle.callgrind_reader.specs.Stands.{StandsAfter, count_of}
 
 -- the reader stands for the text so far, and has handed out these records
 pub record Reads (r : Reader) (text : List ℕ) (told : List Record) : Type 0 where
   pub lines : StandsAfter r.state (back_of text)
-  pub rest : MatchBool r.too_long (1048576 < length (cut text).rest) (r.partial.items ≡ (cut text).rest)
+  pub rest : Keeps r.pieces text
   pub handed : told ≡ held (back_of text)
 
 -- a sink with this last line and this width of records would take the next record
@@ -22,11 +24,11 @@ Takes r last width = (last ≤ r.state.lines) × IfSome width (λ n. count_of r.
 
 -- how many bytes the reader still takes
 abbrev pub room_of : Reader → ℕ
-room_of r = 1073741824 - r.taken
+room_of r = pieces.room_of r.pieces
 
 -- memory ran out
 abbrev pub IsSpent : Reader → Type 0
-IsSpent r = r.spent ≡ true
+IsSpent r = pieces.IsSpent r.pieces
 
 -- the events, the derived events, which have the names of the events beside them, and the stated totals of a file
 pub record HeadOfFile (head : FileHead) (text : List ℕ) : Type 0 where

@@ -1,11 +1,12 @@
 // Laws of the definitions, each the contract of a function that does nothing.
 ghost use Rattle.std.specs.Prelude.{◌≡◌, ℕ, List, [], ◌++◌};
 ghost use Rattle.cg_text.specs.Readings.{Reading};
+ghost use Rattle.text_pieces.specs.Backwards.{onto, IsPrefix};
 ghost use Rattle.callgrind_reader.specs.declared.reader.Reader.{Reader};
 ghost use Rattle.callgrind_reader.specs.Records.{Record};
-ghost use Rattle.callgrind_reader.specs.Files.{first_fault, fault_in, sound_records, onto, records_of_file};
+ghost use Rattle.callgrind_reader.specs.Files.{first_fault, fault_in, sound_records, records_of_file};
 ghost use Rattle.callgrind_reader.specs.Accept.{line_fault_after, fault_after, held};
-ghost use Rattle.callgrind_reader.specs.Cut.{records_so_far, IsPrefix};
+ghost use Rattle.callgrind_reader.specs.Cut.{records_so_far};
 ghost use Rattle.callgrind_reader.specs.Reads.{Reads};
 
 /// What can be told of some lines by looking back from their end is what the format says of them,

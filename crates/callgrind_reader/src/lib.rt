@@ -20,5 +20,6 @@ mod totals;
 
 pub use laws::{handed_on_at_each_moment, looking_back_is_exact};
 pub use layouts::Layout;
-pub use reader::{FILE_LIMIT, Reader};
+pub use reader::Reader;
 pub use sink::{CallCost, SelfCost, Sink};
+pub use text_pieces::FILE_LIMIT;

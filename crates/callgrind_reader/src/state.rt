@@ -1,9 +1,10 @@
 // What a reader knows of the lines so far.
 ghost use Rattle.std.specs.Prelude.{◌≡◌, ℕ, ◌+◌, ◌<◌, ◌≤◌, ◌^◌, OnOk, OnErr, IfOk, IfSome, Option, Some, None, Ok, Err, List, [], ◌∷◌, fold, length, All};
 ghost use Rattle.std.specs.Option.{ForSome};
-ghost use Rattle.cg_text.specs.Readings.{Reading};
+ghost use Rattle.cg_text.specs.Readings.{Reading, reading_of};
 ghost use Rattle.cg_text.specs.Kinds as kinds;
 ghost use Rattle.cg_text.specs.Views.{plain_kind, kind_is};
+ghost use Rattle.text_pieces.specs.LineIs.{IsLine};
 ghost use Rattle.callgrind_reader.specs.Calls.{number_after, callee_of};
 ghost use Rattle.callgrind_reader.specs.Records.{Own, Called};
 ghost use Rattle.callgrind_reader.specs.Lines.{record_of, record_with, cost_of};
@@ -14,8 +15,9 @@ use crate::names::Names;
 use crate::places::Places;
 use crate::rows::{call_count, cost_row};
 use crate::sink::{CallCost, SelfCost, Sink};
-use cg_text::{Fault, FileHead, HeaderKey, LineKind, NameWord, ReadEnd};
+use cg_text::{Fault, FileHead, HeaderKey, LineKind, NameWord, ReadEnd, read_line};
 use std::alloc::{AllocError, Global};
+use text_pieces::{Line, TakesLines};
 
 /// What a reader knows of the lines so far.
 #[derive(Drop)]
@@ -39,6 +41,17 @@ fn breaks(reading: &Result<LineKind<'_>, Fault>) -> bool
     match reading {
         Ok(LineKind::Nothing | LineKind::Cost { .. }) | Err(Fault::LineTooLong) => false,
         _ => true,
+    }
+}
+
+/// What a line says.
+#[tactic(auto, unfolding(cg_text::specs::Readings::reading_of))]
+fn reading(line: Line<'_>) -> Result<LineKind<'_>, Fault>
+    ensures { (text : List ℕ) → IsLine line.entry text → kind_is result ≡ reading_of text }
+{
+    match line {
+        Line::Whole(bytes) => read_line(bytes),
+        Line::TooLong => Err(Fault::LineTooLong),
     }
 }
 
@@ -333,5 +346,34 @@ impl State {
             return Err(ReadEnd::Fault(Fault::CallWithoutCost, line));
         }
         self.header.into_head()
+    }
+}
+
+impl<S: Sink> TakesLines<S> for State {
+    ghost use Rattle.callgrind_reader.specs.Records.{Record};
+    ghost use Rattle.callgrind_reader.specs.Stands.{StandsAfter, count_of};
+
+    ghost Reading = { Reading };
+
+    ghost reading_of = { reading_of };
+
+    ghost Record = { Record };
+
+    ghost adds = { adds };
+
+    ghost stands = { StandsAfter };
+
+    ghost lines = { λ s. s.lines };
+
+    ghost fits = { λ s k. (S.last k ≤ s.lines) × IfSome (S.width k) (λ n. count_of s.header.events.names ≡ Some n) };
+
+    ghost Meaning = { S.Meaning };
+
+    ghost meaning = { S.meaning };
+
+    ghost step = { S.step };
+
+    fn take_line(&mut self, line: Line<'_>, sink: &mut S) -> Result<(), AllocError> {
+        self.read(reading(line), sink)
     }
 }
