@@ -11,8 +11,8 @@ invariant-loop-run g l =
       reads : (so_far : List ℕ) × (so_far ++ l.rest ≡ l.piece)
           × ((text : List ℕ) → Keeps l.fn.self text → Keeps l.self (text ++ so_far))
           × ((text : List ℕ) → Keeps l.fn.self text → t.stands l.fn.state (back_of t.reading_of text)
-              → (more : List t.Record) × t.stands l.state (back_of t.reading_of (text ++ so_far))
-              × (held t.adds (back_of t.reading_of (text ++ so_far)) ≡ held t.adds (back_of t.reading_of text) ++ more) × (t.meaning l.sink ≡ fold t.step (t.meaning l.fn.sink) more));
+          → (more : List t.Record) × t.stands l.state (back_of t.reading_of (text ++ so_far))
+          × (held t.adds (back_of t.reading_of (text ++ so_far)) ≡ held t.adds (back_of t.reading_of text) ++ more) × (t.meaning l.sink ≡ fold t.step (t.meaning l.fn.sink) more));
       fits : t.fits l.state l.sink;
       lines : t.lines l.state ≤ l.self.taken;
       taken : l.self.taken + length l.rest ≡ l.fn.self.taken + length l.piece;
