@@ -1,0 +1,2 @@
+pub mod CutLemmas
+pub mod PrefixLemmas

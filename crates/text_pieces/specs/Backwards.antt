@@ -1,0 +1,26 @@
+-- What lines say and hand on, told looking back.
+use Rattle.std.specs.Prelude.{◌≡◌, ℕ, List, [], ◌∷◌, ◌++◌, map}
+use Rattle.cg_text.specs.Lines.{lines_of}
+use Rattle.text_pieces.specs.Cut.{cut}
+
+-- some things in front of others, the nearest first
+abbrev pub onto : {A : Type 0} → List A → List A → List A
+onto [] back = back
+onto (x ∷ ahead) back = onto ahead (x ∷ back)
+
+-- what the lines that end in a line feed say, the nearest first
+abbrev pub back_of : {A : Type 0} → (List ℕ → A) → List ℕ → List A
+back_of says text = onto (map says (cut text).lines) []
+
+-- what all lines of a text say, the nearest to the end first
+abbrev pub end_of : {A : Type 0} → (List ℕ → A) → List ℕ → List A
+end_of says text = onto (map says (lines_of text)) []
+
+-- what lines hand on, where each adds something to those before
+abbrev pub held : {A B : Type 0} → (A → List A → List B) → List A → List B
+held adds [] = []
+held adds (x ∷ back) = held adds back ++ adds x back
+
+-- some things come first among others
+abbrev pub IsPrefix : {B : Type 0} → List B → List B → Type 0
+IsPrefix {B} xs ys = (rest : List B) × (ys ≡ xs ++ rest)

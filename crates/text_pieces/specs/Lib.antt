@@ -1,0 +1,4 @@
+pub mod Cut
+pub mod Backwards
+pub mod Kept
+pub mod LineIs
