@@ -41,3 +41,7 @@ text_prefix says adds text =
 -- and of each text that begins so
 pub file_prefix : {A B : Type 0} (says : List ℕ → A) (adds : A → List A → List B) (text bytes : List ℕ) → IsPrefix (held adds (back_of says text)) (held adds (end_of says (text ++ bytes)))
 file_prefix says adds text bytes = follows _ (held adds (back_of says (text ++ bytes))) _ (held_prefix says adds text bytes) (text_prefix says adds (text ++ bytes))
+
+-- where nothing was added
+pub nothing_more : {A B : Type 0} (says : List ℕ → A) (adds : A → List A → List B) (text bytes : List ℕ) → IsPrefix (held adds (back_of says text) ++ []) (held adds (end_of says (text ++ bytes)))
+nothing_more says adds text bytes = subst (λ xs. IsPrefix xs (held adds (end_of says (text ++ bytes)))) (sym (append-nil (held adds (back_of says text)))) (file_prefix says adds text bytes)
