@@ -2,3 +2,8 @@ pub mod Lines
 pub mod Views
 pub mod Frames
 pub mod Files
+pub mod Lent
+pub mod Looking
+pub mod Stands
+pub mod Heads
+pub mod Reads

@@ -1,10 +1,21 @@
-//! Reads folded stacks, one to a line, as the collapse scripts of FlameGraph write them.
+//! Reads folded stacks, one to a line, as the collapse scripts of FlameGraph write them, in one pass,
+//! piece by piece, and hands them to a sink.
 #![tactic(auto)]
 
 mod frames;
+mod heads;
+mod laws;
+mod reader;
+mod sink;
 mod stacks;
+mod state;
 #[cfg(test)]
 mod tests;
 
 pub use frames::leaf;
+pub use laws::{
+    handed_on_at_each_moment, looking_back_is_exact, the_leaf_is_the_last_function,
+};
+pub use reader::FoldedReader;
+pub use sink::StackSink;
 pub use stacks::{Stack, read_stack};

@@ -1,5 +1,5 @@
 // What a line of a folded file says.
-ghost use Rattle.std.specs.Prelude.{◌≡◌, ◌+◌, ◌<◌, length, MatchOption};
+ghost use Rattle.std.specs.Prelude.{◌≡◌, ◌≢◌, ◌+◌, ◌<◌, ◌^◌, length, [], MatchOption, IfOk, IfSome};
 ghost use Rattle.std.specs.List.{list_all};
 ghost use Rattle.cg_text.specs.Numbers.{is_digit};
 ghost use Rattle.folded_reader.specs.Lines.{behind_blank, count_of, text_says, reading_of};
@@ -31,7 +31,8 @@ fn all_digits(text: &[u8]) -> bool
 
 /// The count that a text is: decimal digits, below 2^63. Else `FoldedLine` or `NumberTooLarge`.
 fn count(text: &[u8]) -> Result<u64, Fault>
-    ensures { result ≡ count_of text.now }
+    ensures value { result ≡ count_of text.now }
+    ensures small { IfOk result (λ n. n < 2 ^ 63) }
 {
     if text.is_empty() || !all_digits(text) {
         return Err(Fault::FoldedLine);
@@ -42,7 +43,9 @@ fn count(text: &[u8]) -> Result<u64, Fault>
 /// What a text says: nothing if it is empty, else frames, of which there is a byte at least, a blank
 /// and a count.
 fn text_says(text: &[u8]) -> Result<Option<Stack<'_>>, Fault>
-    ensures { said_is result ≡ text_says text.now }
+    ensures says { said_is result ≡ text_says text.now }
+    ensures some { IfOk result (λ said. IfSome said (λ s. s.frames.now ≢ [])) }
+    ensures small { IfOk result (λ said. IfSome said (λ s. s.count < 2 ^ 63)) }
 {
     if text.is_empty() {
         return Ok(None);
@@ -62,7 +65,9 @@ fn text_says(text: &[u8]) -> Result<Option<Stack<'_>>, Fault>
 /// bytes, `FoldedLine` or, for a count of 2^63 or more, `NumberTooLarge`.
 #[tactic(auto, unfolding(crate::specs::Lines::reading_of))]
 pub fn read_stack(line: &[u8]) -> Result<Option<Stack<'_>>, Fault>
-    ensures { said_is result ≡ reading_of line.now }
+    ensures says { said_is result ≡ reading_of line.now }
+    ensures some { IfOk result (λ said. IfSome said (λ s. s.frames.now ≢ [])) }
+    ensures small { IfOk result (λ said. IfSome said (λ s. s.count < 2 ^ 63)) }
 {
     if line.len() > LINE_LIMIT {
         return Err(Fault::LineTooLong);

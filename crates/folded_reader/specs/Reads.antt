@@ -1,0 +1,49 @@
+-- When a reader stands for a text, having handed out some stacks; and what a file comes to.
+use Rattle.std.specs.Prelude.{◌≡◌, ℕ, ◌≤◌, List, [], ◌∷◌, codes, map, Option, Some, None, Result, Ok, Err}
+use Rattle.cg_text.specs.declared.heads.FileHead.{FileHead}
+use Rattle.cg_text.specs.declared.faults.ReadEnd.{ReadEnd}
+use Rattle.cg_text.specs.declared.faults.ReadEnd.TheVariants as ends
+use Rattle.text_pieces.specs.Cut.{cut}
+use Rattle.text_pieces.specs.Backwards.{back_of, held}
+use Rattle.text_pieces.specs.Kept as pieces
+use Rattle.text_pieces.specs.Kept.{Keeps}
+use Rattle.folded_reader.specs.declared.reader.FoldedReader.{FoldedReader}
+use Rattle.folded_reader.specs.Lines.{reading_of}
+use Rattle.folded_reader.specs.Files.{Seen, stacks_from, fault_of_file}
+use Rattle.folded_reader.specs.Looking.{adds}
+use Rattle.folded_reader.specs.Stands.{StandsAfter}
+use Rattle.folded_reader.specs.Heads.{HeadIs}
+
+-- the reader stands for the text so far, and has handed out these stacks
+pub record Reads (r : FoldedReader) (text : List ℕ) (told : List Seen) : Type 0 where
+  pub lines : StandsAfter r.state (back_of reading_of text)
+  pub rest : Keeps r.pieces text
+  pub handed : told ≡ held adds (back_of reading_of text)
+
+-- the stacks of the lines that end in a line feed, before the first with a fault
+abbrev pub stacks_so_far : List ℕ → List Seen
+stacks_so_far text = stacks_from 1 (map reading_of (cut text).lines)
+
+-- a sink with this last line would take the next stack
+abbrev pub Takes : FoldedReader → ℕ → Type 0
+Takes r last = last ≤ r.state.lines
+
+-- how many bytes the reader still takes
+abbrev pub room_of : FoldedReader → ℕ
+room_of r = pieces.room_of r.pieces
+
+-- memory ran out
+abbrev pub IsSpent : FoldedReader → Type 0
+IsSpent r = pieces.IsSpent r.pieces
+
+-- a head exactly where the file is accepted, else its first fault
+abbrev pub Ended : Result FileHead ReadEnd → List ℕ → Type 0
+Ended (Ok head) text = (fault_of_file text ≡ None) × HeadIs head
+Ended (Err (ends.Fault fault line)) text = fault_of_file text ≡ Some (fault, line)
+Ended (Err ends.Memory) text = Unit {0}
+
+-- one fact where memory did not run out, and another where it did
+abbrev pub MatchMemory : Result FileHead ReadEnd → Type 0 → Type 0 → Type 0
+MatchMemory (Ok head) P Q = P
+MatchMemory (Err (ends.Fault fault line)) P Q = P
+MatchMemory (Err ends.Memory) P Q = Q
