@@ -1,6 +1,6 @@
 -- The definitions, computed on examples.
-use Rattle.std.proofs.Common.{◌≡◌, ℕ, List, [], ◌∷◌, ◌-◌, ◌^◌, codes, refl, Some, None, Ok, Err}
-use Rattle.folded_reader.specs.Lines.{Stack, reading_of}
+use Rattle.std.proofs.Common.{◌≡◌, [], ◌∷◌, ◌-◌, ◌^◌, codes, refl, Some, None, Ok, Err}
+use Rattle.folded_reader.specs.Lines.{reading_of}
 use Rattle.folded_reader.specs.Frames.{functions_of, leaf_of}
 use Rattle.folded_reader.specs.Files.{stacks_of_file, fault_of_file, samples_of_file}
 use Rattle.cg_text.specs.declared.faults.Fault.TheVariants.{FoldedLine, NumberTooLarge}

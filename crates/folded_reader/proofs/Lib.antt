@@ -1,2 +1,5 @@
 pub mod LineLemmas
+pub mod FrameLemmas
+pub mod ExactLemmas
+pub mod EndsLemmas
 pub mod Examples

@@ -1,5 +1,5 @@
 -- What a line of a folded file says: a stack, and how often it was seen.
-use Rattle.std.specs.Prelude.{ℕ, ◌-◌, Bool, not, List, [], ◌∷◌, length, take, drop, nat_lt, if◌then◌else◌, Option, Some, None, Result, Ok, Err}
+use Rattle.std.specs.Prelude.{ℕ, ◌-◌, not, List, [], ◌∷◌, length, take, drop, nat_lt, if◌then◌else◌, Option, Some, None, Result, Ok, Err}
 use Rattle.std.specs.List.{suffix_len}
 use Rattle.std.specs.Str.Lines.{strip_carriage_return}
 use Rattle.cg_text.specs.Fields.{is_blank}

@@ -13,9 +13,7 @@ mod state;
 mod tests;
 
 pub use frames::leaf;
-pub use laws::{
-    handed_on_at_each_moment, looking_back_is_exact, the_leaf_is_the_last_function,
-};
+pub use laws::{handed_on_at_each_moment, looking_back_is_exact, the_leaf_is_the_last_function};
 pub use reader::FoldedReader;
 pub use sink::StackSink;
 pub use stacks::{Stack, read_stack};
