@@ -1,6 +1,7 @@
 //! Reads a folded file in pieces of 65,536 bytes and prints how many stacks it has, the sum of their
 //! counts, and how many bytes the names of their last functions have: for `bench/folded`.
 #![tactic(auto)]
+
 ghost use Rattle.std.specs.Prelude.{ℕ, ◌<◌, length, OnOk};
 ghost use Rattle.folded_reader.specs.Reads.{Takes};
 
