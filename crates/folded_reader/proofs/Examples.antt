@@ -2,8 +2,11 @@
 use Rattle.std.proofs.Common.{◌≡◌, [], ◌∷◌, ◌-◌, ◌^◌, codes, refl, Some, None, Ok, Err}
 use Rattle.folded_reader.specs.Lines.{reading_of}
 use Rattle.folded_reader.specs.Frames.{functions_of, leaf_of}
-use Rattle.folded_reader.specs.Files.{stacks_of_file, fault_of_file, samples_of_file}
-use Rattle.cg_text.specs.declared.faults.Fault.TheVariants.{FoldedLine, NumberTooLarge}
+use Rattle.folded_reader.specs.Files.{fault_from, stacks_of_file, fault_of_file, samples_of_file}
+use Rattle.folded_reader.specs.Looking.{seen, adds}
+use Rattle.folded_reader.specs.Reads.{stacks_so_far}
+use Rattle.text_pieces.specs.Backwards.{end_of, held}
+use Rattle.cg_text.specs.declared.faults.Fault.TheVariants.{LineTooLong, FoldedLine, NumberTooLarge}
 
 line-two : reading_of (codes "a;b;a 3") ≡ Ok (Some (record { frames = codes "a;b;a"; count = 3 }))
 unfolding reading_of
@@ -106,3 +109,26 @@ fault-first = refl
 fault-none : fault_of_file (codes "a 1\r\n\r\nb 1\r\n") ≡ None
 unfolding reading_of
 fault-none = refl
+
+fault-long : fault_from 1 (Ok None ∷ Err LineTooLong ∷ Err FoldedLine ∷ []) ≡ Some (LineTooLong, 2)
+fault-long = refl
+
+-- ---- texts that may go on
+
+so_far-whole_lines : stacks_so_far (codes "a 1\nb 2") ≡ record { at = 1; stack = record { frames = codes "a"; count = 1 } } ∷ []
+unfolding reading_of
+so_far-whole_lines = refl
+
+so_far-before_a_fault : stacks_so_far (codes "a 1\n 3\nb 2\n") ≡ record { at = 1; stack = record { frames = codes "a"; count = 1 } } ∷ []
+unfolding reading_of
+so_far-before_a_fault = refl
+
+-- ---- looking back
+
+seen-first : seen (end_of reading_of (codes "a 1\n\nb\n3")) ≡ Some (FoldedLine, 3)
+unfolding reading_of
+seen-first = refl
+
+held-before_a_fault : held adds (end_of reading_of (codes "a;b 1\n\nb 2\n3\nc 4")) ≡ stacks_of_file (codes "a;b 1\n\nb 2\n")
+unfolding reading_of
+held-before_a_fault = refl
