@@ -324,3 +324,17 @@ fn a_refusal_at_the_end(rt: HostRuntime) -> Result<(), Fail> {
     assert_eq!(rt; listing.text.as_slice(), b"1 1 a\n".as_slice());
     Ok(())
 }
+
+/// Under `rt try --test --fail-alloc` an allocation is refused: then the first reading says so, or
+/// has its answer, and the second has the answer.
+#[test]
+fn memory_refused_once(rt: HostRuntime) -> Result<(), Fail> {
+    let (first, second) = (b"a;b 2\nma".as_slice(), b"in;f 3\nc 4".as_slice());
+    let want = b"1 2 a;b\n2 3 main;f\n3 4 c\nsamples 0 1 false".as_slice();
+    if let Ok(found) = read_parts(rt.alloc(), first, second, 4) {
+        assert_eq!(rt; found.as_slice(), want);
+    }
+    let found = read_parts(rt.alloc(), first, second, 4)?;
+    assert_eq!(rt; found.as_slice(), want);
+    Ok(())
+}
