@@ -1,4 +1,4 @@
-use Rattle.std.proofs.Common.{ℕ, List, ◌++◌, sym, ◌∙◌, ap}
+use Rattle.std.proofs.Common.{ℕ, List, ◌++◌, ◌∙◌, ap}
 use Rattle.text_pieces.specs.Cut.{cut}
 use Rattle.text_pieces.specs.Backwards.{back_of, held}
 use Rattle.text_pieces.proofs.CutLemmas.{back-lf, back-run}

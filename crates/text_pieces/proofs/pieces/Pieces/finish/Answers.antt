@@ -1,4 +1,4 @@
-use Rattle.std.proofs.Common.{[], ◌++◌, sym, ◌∙◌, ap, refl}
+use Rattle.std.proofs.Common.{[], sym, ◌∙◌, ap, refl}
 use Rattle.std.proofs.lemmas.Bool.{MatchBool-at_true, MatchBool-at_false}
 use Rattle.std.proofs.lemmas.List.{append-nil}
 use Rattle.text_pieces.specs.Cut.{cut}

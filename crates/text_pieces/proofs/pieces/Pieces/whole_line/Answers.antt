@@ -1,4 +1,4 @@
-use Rattle.std.proofs.Common.{◌≡◌, [], ◌++◌, refl, sym, ◌∙◌, ap}
+use Rattle.std.proofs.Common.{◌≡◌, [], refl, sym, ◌∙◌, ap}
 use Rattle.std.proofs.lemmas.Bool.{MatchBool-at_false}
 use Rattle.text_pieces.specs.Cut.{cut}
 use Rattle.text_pieces.specs.Backwards.{back_of, held}
