@@ -1,5 +1,5 @@
 -- The first fault and the records as they can be told looking back, after some lines, of which the nearest stands first.
-use Rattle.std.specs.Prelude.{ℕ, Bool, true, false, List, [], ◌∷◌, ◌++◌, Ok, Err, Option, Some, None}
+use Rattle.std.specs.Prelude.{ℕ, Bool, true, false, List, [], ◌∷◌, Ok, Err, Option, Some, None}
 use Rattle.cg_text.specs.Readings.{Reading}
 use Rattle.cg_text.specs.Kinds as kinds
 use Rattle.cg_text.specs.Kinds.{Nothing}

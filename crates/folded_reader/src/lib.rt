@@ -19,3 +19,4 @@ pub use laws::{handed_on_at_each_moment, looking_back_is_exact, the_leaf_is_the_
 pub use reader::FoldedReader;
 pub use sink::StackSink;
 pub use stacks::{Stack, read_stack};
+pub use text_pieces::FILE_LIMIT;

@@ -1,12 +1,8 @@
-use Rattle.std.proofs.Common.{map, ◌++◌, sym, ◌∙◌, ap, subst}
+use Rattle.std.proofs.Common.{map, ◌++◌, sym, ◌∙◌, ap}
 use Rattle.cg_text.specs.Lines.{lines_of}
 use Rattle.cg_text.specs.Readings.{reading_of}
 use Rattle.text_pieces.specs.Cut.{cut}
-use Rattle.text_pieces.specs.Backwards.{IsPrefix}
 use Rattle.text_pieces.proofs.ResultLemmas.{on_ok, on_err_of}
-use Rattle.callgrind_reader.specs.Accept.{held}
-use Rattle.callgrind_reader.specs.Cut.{back_of}
-use Rattle.callgrind_reader.specs.Files.{end_of}
 use Rattle.callgrind_reader.proofs.ExactLemmas.{exact-records}
 use Rattle.callgrind_reader.proofs.reader.Reader.feed.Goals as goal
 

@@ -1,4 +1,4 @@
-use Rattle.std.proofs.Common.{[], map, ◌++◌, sym, ◌∙◌, ap, refl, subst}
+use Rattle.std.proofs.Common.{[], map, ◌++◌, sym, ◌∙◌, ap}
 use Rattle.std.proofs.lemmas.List.{append-nil}
 use Rattle.cg_text.specs.Lines.{lines_of}
 use Rattle.cg_text.specs.Readings.{reading_of}
