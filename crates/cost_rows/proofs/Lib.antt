@@ -1,0 +1,15 @@
+pub mod NamingLemmas
+pub mod NumberedLemmas
+pub mod AdmitLemmas
+pub mod MergeLemmas
+pub mod Examples
+pub mod ColumnsLemmas
+pub mod PlacesLemmas
+pub mod StacksLemmas
+pub mod GrowingLemmas
+pub mod TotalsLemmas
+pub mod SumsLemmas
+pub mod WalksLemmas
+pub mod SeenLemmas
+pub mod KeysLemmas
+pub mod KeySumsLemmas

@@ -1,0 +1,315 @@
+-- The rows of merged records come to what the records come to.
+use Rattle.std.proofs.Common.{◌≡◌, ◌⊎◌, inl, inr, ℕ, ◌+◌, ◌<◌, ◌≤◌, zero, suc, Bool, true, false, List, [], ◌∷◌, ◌++◌, length, fold, slice_index, slice_index_or, Option, Some, None, unwrap_or, if◌then◌else◌, refl, sym, ap, ◌∙◌, subst, arith, add_assoc, length-append}
+use Rattle.std.specs.declared.cmp.Ordering.{Ordering}
+use Rattle.std.specs.declared.cmp.Ordering.TheVariants.{Less, Equal, Greater}
+use Rattle.std.specs.Ordering.{match_ordering}
+use Rattle.std.specs.List.{AllByRecursion, slice_get}
+use Rattle.std.specs.List.Sorted.{IsStrictlySortedBy}
+use Rattle.std.specs.Map.{keys_of}
+use Rattle.cg_text.specs.Formulas.{are_distinct}
+use Rattle.callgrind_reader.specs.Records.{Cost, Callee, Record, Own, Called}
+use Rattle.cost_rows.specs.Naming.{place_of, with_name}
+use Rattle.cost_rows.specs.Columns.{added}
+use Rattle.cost_rows.specs.Calls.{calls_added}
+use Rattle.cost_rows.specs.Growing.{Grows}
+use Rattle.cost_rows.specs.Merging.{merge, sum_where}
+use Rattle.cost_rows.specs.Places.{place_cmp, call_cmp}
+use Rattle.cost_rows.specs.Content.{Content, empty, number_of, place_in, with_three, names_with_cost, names_with_callee, place_of_cost, call_of, with_cost, with_call, with_record}
+use Rattle.cost_rows.specs.Sums.{Spot, spot_of, callee_spot, name_at, spot_at, callee_at, own_sum, call_sum, count_sum}
+use Rattle.cost_rows.specs.declared.places.Place.{Place}
+use Rattle.cost_rows.specs.declared.places.Call.{Call}
+use Rattle.cost_rows.specs.declared.calls.Calls.{Calls}
+use Rattle.cost_rows.proofs.NamingLemmas.{at_place, distinct-with}
+use Rattle.cost_rows.proofs.ColumnsLemmas.{slice_index-added}
+use Rattle.cost_rows.proofs.GrowingLemmas.{grows-more, grows-with, held-with, kept-by_three, held-three}
+use Rattle.cost_rows.proofs.MergeLemmas.{sum-merge, sorted-merge}
+use Rattle.cost_rows.proofs.PlacesLemmas.{place_cmp-apart, place_cmp-total, call_cmp-apart, call_cmp-total}
+
+-- ---- names by their numbers
+
+name-kept : (names more : List (List ℕ)) (n : ℕ) → n < length names → name_at (names ++ more) n ≡ name_at names n
+name-kept [] more n below = absurd (omega arith)
+name-kept (x ∷ names) more zero below = refl
+name-kept (x ∷ names) more (suc n) below = name-kept names more n (omega arith)
+
+name-found : (names : List (List ℕ)) (n : ℕ) (name : List ℕ) → slice_get names n ≡ Some name → (name_at names n ≡ name) × (n < length names)
+name-found [] n name h = absurd (cc)
+name-found (x ∷ names) zero name h = let e : x ≡ name = cc in (e, omega arith)
+name-found (x ∷ names) (suc n) name h = let rest = name-found names n name h in (rest.0, (let b = rest.1 in omega arith))
+
+-- a name that is held stands at its number
+number-names : (names : List (List ℕ)) (name : List ℕ) (n : ℕ) → place_of name names ≡ Some n → (name_at names (number_of name names) ≡ name) × (number_of name names < length names)
+number-names names name n h =
+    let is : number_of name names ≡ n = ap (λ o. unwrap_or o 0) h in
+    let found = name-found names n name (at_place names name n h) in
+    (ap (name_at names) is ∙ found.0, subst (λ (m : ℕ). m < length names) (sym is) found.1)
+
+-- all three names of a place are held
+abbrev IsHeld : List (List ℕ) → ℕ → ℕ → ℕ → Type 0
+IsHeld names a b d = (a < length names) × (b < length names) × (d < length names)
+
+same_spot : (a b d a' b' d' : List ℕ) (line : ℕ) → a ≡ a' → b ≡ b' → d ≡ d' → ◌≡◌ {A = Spot} (record { object = a; file = b; function = d; line = line }) (record { object = a'; file = b'; function = d'; line = line })
+same_spot a b d a' b' d' line x y z =
+    let P : List ℕ → List ℕ → List ℕ → Spot = λ u v w. record { object = u; file = v; function = w; line = line } in
+    let e : P a b d ≡ P a' b' d' = ap (λ u. P u b d) x ∙ ap (λ v. P a' v d) y ∙ ap (P a' b') z in
+    e
+
+spot-kept : (names new : List (List ℕ)) (a b d line : ℕ) → Grows names new → IsHeld names a b d → ◌≡◌ {A = Spot} (record { object = name_at new a; file = name_at new b; function = name_at new d; line = line }) (record { object = name_at names a; file = name_at names b; function = name_at names d; line = line })
+spot-kept names new a b d line grows held =
+    let at : (n : ℕ) → n < length names → name_at new n ≡ name_at names n = λ n below. ap (λ ns. name_at ns n) grows.1 ∙ name-kept names grows.0 n below in
+    same_spot (name_at new a) (name_at new b) (name_at new d) (name_at names a) (name_at names b) (name_at names d) line (at a held.0) (at b held.1) (at d held.2)
+
+held-kept : (names new : List (List ℕ)) (a b d : ℕ) → Grows names new → IsHeld names a b d → IsHeld new a b d
+held-kept names new a b d grows held =
+    let more : length names ≤ length new = omega (arith, ap length grows.1, length-append names grows.0) in
+    (omega (arith, held.0), omega (arith, held.1), omega (arith, held.2))
+
+-- ---- keys
+
+all-step : {K X : Type 0} (cmp : K → K → Ordering) (add : X → X → X) (P : K → Type 0) (e : K × X) (es : List (K × X)) (key : K) (amount : X) (r : Ordering) → AllByRecursion P (keys_of (e ∷ es)) → P key → AllByRecursion P (keys_of (merge cmp add es key amount))
+    → AllByRecursion P (keys_of (match_ordering r ((key, amount) ∷ e ∷ es) ((e.0, add e.1 amount) ∷ es) (e ∷ merge cmp add es key amount)))
+all-step cmp add P e es key amount Less all new rest = (new, all)
+all-step cmp add P e es key amount Equal all new rest = all
+all-step cmp add P e es key amount Greater all new rest = (all.0, rest)
+
+-- what holds of each key and of a new one holds of each key after a merge
+all-merge : {K X : Type 0} (cmp : K → K → Ordering) (add : X → X → X) (P : K → Type 0) (es : List (K × X)) (key : K) (amount : X) → AllByRecursion P (keys_of es) → P key → AllByRecursion P (keys_of (merge cmp add es key amount))
+all-merge cmp add P [] key amount all new = (new, tt)
+all-merge cmp add P (e ∷ es) key amount all new = all-step cmp add P e es key amount (cmp key e.0) all new (all-merge cmp add P es key amount all.1 new)
+
+all-weaker : {K : Type 0} (P Q : K → Type 0) (ks : List K) → ((k : K) → P k → Q k) → AllByRecursion P ks → AllByRecursion Q ks
+all-weaker P Q [] weaker all = tt
+all-weaker P Q (k ∷ ks) weaker all = (weaker k all.0, all-weaker P Q ks weaker all.1)
+
+-- two tests that agree at each key give one sum
+sum-same : {K X : Type 0} (p q : K → Bool) (f : X → ℕ) (es : List (K × X)) → AllByRecursion (λ k. p k ≡ q k) (keys_of es) → sum_where p f es ≡ sum_where q f es
+sum-same p q f [] same = refl
+sum-same p q f (e ∷ es) same =
+    ap (λ b. (if b then f e.1 else 0) + sum_where p f es) same.0
+    ∙ ap (λ n. (if q e.0 then f e.1 else 0) + n) (sum-same p q f es same.1)
+
+abbrev PlaceHeld : List (List ℕ) → Place → Type 0
+PlaceHeld names p = IsHeld names p.object p.file p.function
+
+abbrev CallHeld : List (List ℕ) → Call → Type 0
+CallHeld names a = PlaceHeld names a.place × IsHeld names a.object a.file a.function
+
+-- each number stands for a name
+record AreHeld (c : Content) : Type 0 where
+  cells : AllByRecursion (PlaceHeld c.names) (keys_of c.cells)
+  arcs : AllByRecursion (CallHeld c.names) (keys_of c.arcs)
+
+abbrev pub cell_test : (Spot → Bool) → List (List ℕ) → Place → Bool
+cell_test passes names p = passes (spot_at names p)
+
+abbrev pub arc_test : (Spot → Spot → Bool) → List (List ℕ) → Call → Bool
+arc_test passes names a = passes (spot_at names a.place) (callee_at names a)
+
+cells-kept : (passes : Spot → Bool) (f : List ℕ → ℕ) (names new : List (List ℕ)) (cells : List (Place × List ℕ)) → Grows names new → AllByRecursion (PlaceHeld names) (keys_of cells)
+    → sum_where (cell_test passes new) f cells ≡ sum_where (cell_test passes names) f cells
+cells-kept passes f names new cells grows held =
+    sum-same (cell_test passes new) (cell_test passes names) f cells
+    (all-weaker (PlaceHeld names) (λ p. cell_test passes new p ≡ cell_test passes names p) (keys_of cells)
+    (λ p h. ap passes (spot-kept names new p.object p.file p.function p.line grows h)) held)
+
+arcs-kept : (passes : Spot → Spot → Bool) (f : Calls → ℕ) (names new : List (List ℕ)) (arcs : List (Call × Calls)) → Grows names new → AllByRecursion (CallHeld names) (keys_of arcs)
+    → sum_where (arc_test passes new) f arcs ≡ sum_where (arc_test passes names) f arcs
+arcs-kept passes f names new arcs grows held =
+    sum-same (arc_test passes new) (arc_test passes names) f arcs
+    (all-weaker (CallHeld names) (λ a. arc_test passes new a ≡ arc_test passes names a) (keys_of arcs)
+    (λ a h. ap (λ s. passes s (callee_at new a)) (spot-kept names new a.place.object a.place.file a.place.function a.place.line grows h.0)
+    ∙ ap (passes (spot_at names a.place)) (spot-kept names new a.object a.file a.function 0 grows h.1)) held)
+
+held-grows : (names new : List (List ℕ)) (cells : List (Place × List ℕ)) → Grows names new → AllByRecursion (PlaceHeld names) (keys_of cells) → AllByRecursion (PlaceHeld new) (keys_of cells)
+held-grows names new cells grows held = all-weaker (PlaceHeld names) (PlaceHeld new) (keys_of cells) (λ p h. held-kept names new p.object p.file p.function grows h) held
+
+arcs-grow : (names new : List (List ℕ)) (arcs : List (Call × Calls)) → Grows names new → AllByRecursion (CallHeld names) (keys_of arcs) → AllByRecursion (CallHeld new) (keys_of arcs)
+arcs-grow names new arcs grows held =
+    all-weaker (CallHeld names) (CallHeld new) (keys_of arcs)
+    (λ a h. (held-kept names new a.place.object a.place.file a.place.function grows h.0, held-kept names new a.object a.file a.function grows h.1)) held
+
+grows-three : (names : List (List ℕ)) (object file function : List ℕ) → Grows names (with_three object file function names)
+grows-three names object file function =
+    grows-more names (with_name file (with_name object names)) (with_three object file function names)
+    (grows-more names (with_name object names) (with_name file (with_name object names)) (grows-with names object) (grows-with (with_name object names) file))
+    (grows-with (with_name file (with_name object names)) function)
+
+-- the numbers of three held names stand for them
+abbrev Named : List (List ℕ) → List ℕ → List ℕ → List ℕ → Type 0
+Named names object file function =
+    (name_at names (number_of object names) ≡ object) × (name_at names (number_of file names) ≡ file) × (name_at names (number_of function names) ≡ function)
+    × IsHeld names (number_of object names) (number_of file names) (number_of function names)
+
+named : (names : List (List ℕ)) (object file function : List ℕ) (o f u : ℕ) → place_of object names ≡ Some o → place_of file names ≡ Some f → place_of function names ≡ Some u → Named names object file function
+named names object file function o f u one two three =
+    let a = number-names names object o one in
+    let b = number-names names file f two in
+    let d = number-names names function u three in
+    (a.0, b.0, d.0, (a.1, b.1, d.1))
+
+named-three : (names : List (List ℕ)) (object file function : List ℕ) → Named (with_three object file function names) object file function
+named-three names object file function =
+    let held = held-three names object file function in
+    named (with_three object file function names) object file function held.0.0 held.1.0 held.2.0 held.0.1 held.1.1 held.2.1
+
+-- the same after three more names
+named-then : (names : List (List ℕ)) (object file function a b d : List ℕ) → Named (with_three a b d (with_three object file function names)) object file function
+named-then names object file function a b d =
+    let mid = with_three object file function names in
+    let held = held-three names object file function in
+    named (with_three a b d mid) object file function held.0.0 held.1.0 held.2.0
+    (kept-by_three mid a b d object held.0.0 held.0.1) (kept-by_three mid a b d file held.1.0 held.1.1) (kept-by_three mid a b d function held.2.0 held.2.1)
+
+-- ---- one more record
+
+held-cost : (c : Content) (cost : Cost) → AreHeld c → AreHeld (with_cost c cost)
+held-cost c cost held =
+    let new = names_with_cost cost c.names in
+    let grows = grows-three c.names cost.object cost.file cost.function in
+    let is = named-three c.names cost.object cost.file cost.function in
+    record {
+      cells = all-merge place_cmp added (PlaceHeld new) c.cells (place_of_cost new cost) cost.costs (held-grows c.names new c.cells grows held.cells) is.3;
+      arcs = arcs-grow c.names new c.arcs grows held.arcs;
+    }
+
+held-call : (c : Content) (callee : Callee) (cost : Cost) → AreHeld c → AreHeld (with_call c callee cost)
+held-call c callee cost held =
+    let mid = names_with_cost cost c.names in
+    let new = names_with_callee callee mid in
+    let grows = grows-more c.names mid new (grows-three c.names cost.object cost.file cost.function) (grows-three mid callee.object callee.file callee.function) in
+    let caller = named-then c.names cost.object cost.file cost.function callee.object callee.file callee.function in
+    let called = named-three mid callee.object callee.file callee.function in
+    record {
+      cells = held-grows c.names new c.cells grows held.cells;
+      arcs = all-merge call_cmp calls_added (CallHeld new) c.arcs (call_of new callee cost) (record { count = callee.count; costs = cost.costs }) (arcs-grow c.names new c.arcs grows held.arcs) (caller.3, called.3);
+    }
+
+cells-cost : (passes : Spot → Bool) (k : ℕ) (c : Content) (cost : Cost) → AreHeld c
+    → sum_where (cell_test passes (with_cost c cost).names) (λ v. slice_index v k) (with_cost c cost).cells ≡ sum_where (cell_test passes c.names) (λ v. slice_index v k) c.cells + (if passes (spot_of cost) then slice_index cost.costs k else 0)
+cells-cost passes k c cost held =
+    let new = names_with_cost cost c.names in
+    let is = named-three c.names cost.object cost.file cost.function in
+    let spot : spot_at new (place_of_cost new cost) ≡ spot_of cost = same_spot _ _ _ _ _ _ cost.line is.0 is.1 is.2 in
+    sum-merge place_cmp-apart added (cell_test passes new) (λ v. slice_index v k) (λ x y. slice_index-added x y k) c.cells (place_of_cost new cost) cost.costs
+    ∙ ap (λ n. n + (if cell_test passes new (place_of_cost new cost) then slice_index cost.costs k else 0))
+    (cells-kept passes (λ v. slice_index v k) c.names new c.cells (grows-three c.names cost.object cost.file cost.function) held.cells)
+    ∙ ap (λ s. sum_where (cell_test passes c.names) (λ v. slice_index v k) c.cells + (if passes s then slice_index cost.costs k else 0)) spot
+
+arcs-call : (passes : Spot → Spot → Bool) (f : Calls → ℕ) (adds : (x y : Calls) → f (calls_added x y) ≡ f x + f y) (c : Content) (callee : Callee) (cost : Cost) → AreHeld c
+    → sum_where (arc_test passes (with_call c callee cost).names) f (with_call c callee cost).arcs ≡ sum_where (arc_test passes c.names) f c.arcs + (if passes (spot_of cost) (callee_spot callee) then f (record { count = callee.count; costs = cost.costs }) else 0)
+arcs-call passes f adds c callee cost held =
+    let mid = names_with_cost cost c.names in
+    let new = names_with_callee callee mid in
+    let grows = grows-more c.names mid new (grows-three c.names cost.object cost.file cost.function) (grows-three mid callee.object callee.file callee.function) in
+    let caller = named-then c.names cost.object cost.file cost.function callee.object callee.file callee.function in
+    let called = named-three mid callee.object callee.file callee.function in
+    let place : spot_at new (place_of_cost new cost) ≡ spot_of cost = same_spot _ _ _ _ _ _ cost.line caller.0 caller.1 caller.2 in
+    let whom : callee_at new (call_of new callee cost) ≡ callee_spot callee = same_spot _ _ _ _ _ _ 0 called.0 called.1 called.2 in
+    let more : Calls = record { count = callee.count; costs = cost.costs } in
+    sum-merge call_cmp-apart calls_added (arc_test passes new) f adds c.arcs (call_of new callee cost) more
+    ∙ ap (λ n. n + (if arc_test passes new (call_of new callee cost) then f more else 0)) (arcs-kept passes f c.names new c.arcs grows held.arcs)
+    ∙ ap (λ s. sum_where (arc_test passes c.names) f c.arcs + (if passes s (callee_at new (call_of new callee cost)) then f more else 0)) place
+    ∙ ap (λ s. sum_where (arc_test passes c.names) f c.arcs + (if passes (spot_of cost) s then f more else 0)) whom
+
+-- ---- all records
+
+plus_none : (n : ℕ) → n ≡ n + 0
+plus_none n = omega arith
+
+law-cells : (passes : Spot → Bool) (k : ℕ) (records : List Record) (c : Content) → AreHeld c
+    → sum_where (cell_test passes (fold with_record c records).names) (λ v. slice_index v k) (fold with_record c records).cells ≡ sum_where (cell_test passes c.names) (λ v. slice_index v k) c.cells + own_sum passes k records
+law-cells passes k [] c held = plus_none _
+law-cells passes k (Own cost ∷ records) c held =
+    law-cells passes k records (with_cost c cost) (held-cost c cost held)
+    ∙ ap (λ n. n + own_sum passes k records) (cells-cost passes k c cost held)
+    ∙ add_assoc (sum_where (cell_test passes c.names) (λ v. slice_index v k) c.cells) (if passes (spot_of cost) then slice_index cost.costs k else 0) (own_sum passes k records)
+law-cells passes k (Called callee cost ∷ records) c held =
+    let mid = names_with_cost cost c.names in
+    let new = names_with_callee callee mid in
+    let grows = grows-more c.names mid new (grows-three c.names cost.object cost.file cost.function) (grows-three mid callee.object callee.file callee.function) in
+    law-cells passes k records (with_call c callee cost) (held-call c callee cost held)
+    ∙ ap (λ n. n + own_sum passes k records) (cells-kept passes (λ v. slice_index v k) c.names new c.cells grows held.cells)
+
+-- what the call records come to by a measure
+abbrev arc_sum : (Calls → ℕ) → (Spot → Spot → Bool) → List Record → ℕ
+arc_sum f passes [] = 0
+arc_sum f passes (Own cost ∷ records) = arc_sum f passes records
+arc_sum f passes (Called callee cost ∷ records) = (if passes (spot_of cost) (callee_spot callee) then f (record { count = callee.count; costs = cost.costs }) else 0) + arc_sum f passes records
+
+law-arcs : (passes : Spot → Spot → Bool) (f : Calls → ℕ) (adds : (x y : Calls) → f (calls_added x y) ≡ f x + f y) (records : List Record) (c : Content) → AreHeld c
+    → sum_where (arc_test passes (fold with_record c records).names) f (fold with_record c records).arcs ≡ sum_where (arc_test passes c.names) f c.arcs + arc_sum f passes records
+law-arcs passes f adds [] c held = plus_none _
+law-arcs passes f adds (Own cost ∷ records) c held =
+    law-arcs passes f adds records (with_cost c cost) (held-cost c cost held)
+    ∙ ap (λ n. n + arc_sum f passes records) (arcs-kept passes f c.names (names_with_cost cost c.names) c.arcs (grows-three c.names cost.object cost.file cost.function) held.arcs)
+law-arcs passes f adds (Called callee cost ∷ records) c held =
+    law-arcs passes f adds records (with_call c callee cost) (held-call c callee cost held)
+    ∙ ap (λ n. n + arc_sum f passes records) (arcs-call passes f adds c callee cost held)
+    ∙ add_assoc (sum_where (arc_test passes c.names) f c.arcs) (if passes (spot_of cost) (callee_spot callee) then f (record { count = callee.count; costs = cost.costs }) else 0) (arc_sum f passes records)
+
+call_sum-is : (passes : Spot → Spot → Bool) (k : ℕ) (records : List Record) → arc_sum (λ calls. slice_index calls.costs k) passes records ≡ call_sum passes k records
+call_sum-is passes k [] = refl
+call_sum-is passes k (Own cost ∷ records) = call_sum-is passes k records
+call_sum-is passes k (Called callee cost ∷ records) = ap (λ n. (if passes (spot_of cost) (callee_spot callee) then slice_index cost.costs k else 0) + n) (call_sum-is passes k records)
+
+count_sum-is : (passes : Spot → Spot → Bool) (records : List Record) → arc_sum (λ calls. calls.count) passes records ≡ count_sum passes records
+count_sum-is passes [] = refl
+count_sum-is passes (Own cost ∷ records) = count_sum-is passes records
+count_sum-is passes (Called callee cost ∷ records) = ap (λ n. (if passes (spot_of cost) (callee_spot callee) then callee.count else 0) + n) (count_sum-is passes records)
+
+none_held : AreHeld empty
+none_held = record { cells = tt; arcs = tt }
+
+none_plus : (n : ℕ) → 0 + n ≡ n
+none_plus n = omega arith
+
+pub sums-cells : (passes : Spot → Bool) (k : ℕ) (records : List Record)
+    → sum_where (cell_test passes (fold with_record empty records).names) (λ v. slice_index v k) (fold with_record empty records).cells ≡ own_sum passes k records
+sums-cells passes k records = law-cells passes k records empty none_held ∙ none_plus (own_sum passes k records)
+
+pub sums-arcs : (passes : Spot → Spot → Bool) (k : ℕ) (records : List Record)
+    → sum_where (arc_test passes (fold with_record empty records).names) (λ calls. slice_index calls.costs k) (fold with_record empty records).arcs ≡ call_sum passes k records
+sums-arcs passes k records =
+    law-arcs passes (λ calls. slice_index calls.costs k) (λ x y. slice_index-added x.costs y.costs k) records empty none_held
+    ∙ none_plus (arc_sum (λ calls. slice_index calls.costs k) passes records) ∙ call_sum-is passes k records
+
+pub sums-counts : (passes : Spot → Spot → Bool) (records : List Record)
+    → sum_where (arc_test passes (fold with_record empty records).names) (λ calls. calls.count) (fold with_record empty records).arcs ≡ count_sum passes records
+sums-counts passes records =
+    law-arcs passes (λ calls. calls.count) (λ x y. refl) records empty none_held
+    ∙ none_plus (arc_sum (λ calls. calls.count) passes records) ∙ count_sum-is passes records
+
+-- ---- order
+
+record InOrder (c : Content) : Type 0 where
+  cells : IsStrictlySortedBy place_cmp (keys_of c.cells)
+  arcs : IsStrictlySortedBy call_cmp (keys_of c.arcs)
+  names : are_distinct c.names ≡ true
+
+distinct-three : (names : List (List ℕ)) (a b d : List ℕ) → are_distinct names ≡ true → are_distinct (with_three a b d names) ≡ true
+distinct-three names a b d h = distinct-with (with_name b (with_name a names)) d (distinct-with (with_name a names) b (distinct-with names a h))
+
+fold-order : (records : List Record) (c : Content) → InOrder c → InOrder (fold with_record c records)
+fold-order [] c is = is
+fold-order (Own cost ∷ records) c is =
+    let new = names_with_cost cost c.names in
+    fold-order records (with_cost c cost) (record {
+      cells = sorted-merge place_cmp-total added c.cells (place_of_cost new cost) cost.costs is.cells;
+      arcs = is.arcs;
+      names = distinct-three c.names cost.object cost.file cost.function is.names;
+    })
+fold-order (Called callee cost ∷ records) c is =
+    let mid = names_with_cost cost c.names in
+    let new = names_with_callee callee mid in
+    fold-order records (with_call c callee cost) (record {
+      cells = is.cells;
+      arcs = sorted-merge call_cmp-total calls_added c.arcs (call_of new callee cost) (record { count = callee.count; costs = cost.costs }) is.arcs;
+      names = distinct-three mid callee.object callee.file callee.function (distinct-three c.names cost.object cost.file cost.function is.names);
+    })
+
+none_in_order : InOrder empty
+unfolding IsStrictlySortedBy
+none_in_order = record { cells = tt; arcs = tt; names = refl }
+
+pub rows-order : (records : List Record) → IsStrictlySortedBy place_cmp (keys_of (fold with_record empty records).cells) × IsStrictlySortedBy call_cmp (keys_of (fold with_record empty records).arcs) × (are_distinct (fold with_record empty records).names ≡ true)
+rows-order records = let is = fold-order records empty none_in_order in (is.cells, is.arcs, is.names)

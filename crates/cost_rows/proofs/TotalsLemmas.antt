@@ -1,0 +1,161 @@
+-- The sums over all entries, while records are merged.
+use Rattle.std.proofs.Common.{◌≡◌, ℕ, ◌+◌, ◌*◌, ◌<◌, ◌≤◌, ◌^◌, zero, suc, true, List, [], ◌∷◌, map, length, slice_index, slice_index_or, get_or, All, lit<, replicate, refl, sym, ap, ◌∙◌, arith}
+use Rattle.std.specs.Map.{values_of}
+use Rattle.std.proofs.lemmas.List.Elements.{All-cons, All-weaker, All-from_get_or}
+use Rattle.cost_rows.specs.Calls.{calls_added, AreSmall}
+use Rattle.cost_rows.specs.Columns.{added}
+use Rattle.cost_rows.specs.Merging.{merge, sum_where}
+use Rattle.cost_rows.specs.Places.{place_cmp, call_cmp}
+use Rattle.cost_rows.specs.Stacks.{bytes_cmp, counts_added}
+use Rattle.cost_rows.specs.Content.{Content}
+use Rattle.cost_rows.specs.Totals.{cell_total, arc_total, count_total, stack_total, AreWithin}
+use Rattle.cost_rows.specs.declared.places.Place.{Place}
+use Rattle.cost_rows.specs.declared.places.Call.{Call}
+use Rattle.cost_rows.specs.declared.calls.Calls.{Calls}
+use Rattle.std.proofs.lemmas.Map.Lookups.{exact_bytes}
+use Rattle.cost_rows.proofs.ColumnsLemmas.{slice_index-added}
+use Rattle.cost_rows.proofs.MergeLemmas.{sum-merge}
+use Rattle.cost_rows.proofs.PlacesLemmas.{place_cmp-apart, call_cmp-apart}
+
+-- ---- what a merge adds to a total
+
+pub cell_total-merge : (k : ℕ) (cells : List (Place × List ℕ)) (place : Place) (costs : List ℕ) → cell_total k (merge place_cmp added cells place costs) ≡ cell_total k cells + slice_index costs k
+cell_total-merge k cells place costs = sum-merge place_cmp-apart added (λ _. true) (λ v. slice_index v k) (λ x y. slice_index-added x y k) cells place costs
+
+pub arc_total-merge : (k : ℕ) (arcs : List (Call × Calls)) (call : Call) (more : Calls) → arc_total k (merge call_cmp calls_added arcs call more) ≡ arc_total k arcs + slice_index more.costs k
+arc_total-merge k arcs call more = sum-merge call_cmp-apart calls_added (λ _. true) (λ v. slice_index v.costs k) (λ x y. slice_index-added x.costs y.costs k) arcs call more
+
+pub count_total-merge : (arcs : List (Call × Calls)) (call : Call) (more : Calls) → count_total (merge call_cmp calls_added arcs call more) ≡ count_total arcs + more.count
+count_total-merge arcs call more = sum-merge call_cmp-apart calls_added (λ _. true) (λ v. v.count) (λ x y. refl) arcs call more
+
+pub stack_total-merge : (stacks : List (List ℕ × ℕ)) (frames : List ℕ) (count : ℕ) → stack_total (merge bytes_cmp counts_added stacks frames count) ≡ stack_total stacks + count
+stack_total-merge stacks frames count = sum-merge exact_bytes counts_added (λ _. true) (λ n. n) (λ x y. refl) stacks frames count
+
+-- ---- no sum is above its total
+
+pub values-within : (cells : List (Place × List ℕ)) (n : ℕ) → ((k : ℕ) → cell_total k cells ≤ n) → All (All (λ s. s ≤ n)) (values_of cells)
+values-within [] n fits = λ k d below. absurd (omega arith)
+values-within (e ∷ es) n fits =
+    All-cons (All (λ s. s ≤ n)) e.1 (values_of es)
+    (All-from_get_or (λ s. s ≤ n) e.1 0 (λ k below. let fit : slice_index e.1 k + cell_total k es ≤ n = fits k in omega arith))
+    (values-within es n (λ k. let fit : slice_index e.1 k + cell_total k es ≤ n = fits k in omega arith))
+
+all_calls : (arcs : List (Call × Calls)) (n : ℕ) → ((k : ℕ) → arc_total k arcs ≤ n) → count_total arcs ≤ n → All (λ c. (c.count ≤ n) × All (λ s. s ≤ n) c.costs) (values_of arcs)
+all_calls [] n fits counts = λ k d below. absurd (omega arith)
+all_calls (e ∷ es) n fits counts =
+    let fit : e.1.count + count_total es ≤ n = counts in
+    All-cons (λ c. (c.count ≤ n) × All (λ s. s ≤ n) c.costs) e.1 (values_of es)
+    (omega arith, All-from_get_or (λ s. s ≤ n) e.1.costs 0 (λ k below. let fit : slice_index e.1.costs k + arc_total k es ≤ n = fits k in omega arith))
+    (all_calls es n (λ k. let fit : slice_index e.1.costs k + arc_total k es ≤ n = fits k in omega arith) (omega arith))
+
+all_counts : (stacks : List (List ℕ × ℕ)) (n : ℕ) → stack_total stacks ≤ n → All (λ s. s ≤ n) (values_of stacks)
+all_counts [] n fits = λ k d below. absurd (omega arith)
+all_counts (e ∷ es) n fits =
+    let fit : e.1 + stack_total es ≤ n = fits in
+    All-cons (λ s. s ≤ n) e.1 (values_of es) (omega arith) (all_counts es n (omega arith))
+
+bounded : (lines s : ℕ) → lines < 2 ^ 64 → s ≤ lines * 2 ^ 63 → s < 2 ^ 127
+bounded lines s few small = omega arith
+
+-- no sum can wrap by one more record
+pub cells-small : (cells : List (Place × List ℕ)) (lines : ℕ) → lines < 2 ^ 64 → ((k : ℕ) → cell_total k cells ≤ lines * 2 ^ 63) → All (All (λ s. s < 2 ^ 127)) (values_of cells)
+cells-small cells lines few fits =
+    All-weaker (All (λ s. s ≤ lines * 2 ^ 63)) (All (λ s. s < 2 ^ 127))
+    (λ v all. All-weaker (λ s. s ≤ lines * 2 ^ 63) (λ s. s < 2 ^ 127) (λ s small. bounded lines s few small) v all)
+    (values_of cells) (values-within cells (lines * 2 ^ 63) fits)
+
+pub arcs-small : (arcs : List (Call × Calls)) (lines : ℕ) → lines < 2 ^ 64 → ((k : ℕ) → arc_total k arcs ≤ lines * 2 ^ 63) → count_total arcs ≤ lines * 2 ^ 63 → All AreSmall (values_of arcs)
+arcs-small arcs lines few fits counts =
+    All-weaker (λ c. (c.count ≤ lines * 2 ^ 63) × All (λ s. s ≤ lines * 2 ^ 63) c.costs) AreSmall
+    (λ c both. (bounded lines c.count few both.0, All-weaker (λ s. s ≤ lines * 2 ^ 63) (λ s. s < 2 ^ 127) (λ s small. bounded lines s few small) c.costs both.1))
+    (values_of arcs) (all_calls arcs (lines * 2 ^ 63) fits counts)
+
+pub counts-small : (stacks : List (List ℕ × ℕ)) (lines : ℕ) → lines < 2 ^ 64 → stack_total stacks ≤ lines * 2 ^ 63 → All (λ s. s < 2 ^ 127) (values_of stacks)
+counts-small stacks lines few fits =
+    All-weaker (λ s. s ≤ lines * 2 ^ 63) (λ s. s < 2 ^ 127) (λ s small. bounded lines s few small) (values_of stacks) (all_counts stacks (lines * 2 ^ 63) fits)
+
+-- ---- one more line
+
+rises : (lines at n m : ℕ) → lines < at → n ≤ lines * 2 ^ 63 → m < 2 ^ 63 → n + m ≤ at * 2 ^ 63
+rises lines at n m more small low = omega arith
+
+stays : (lines at n : ℕ) → lines < at → n ≤ lines * 2 ^ 63 → n ≤ at * 2 ^ 63
+stays lines at n more small = omega arith
+
+low-at : (costs : List ℕ) (k : ℕ) → All (λ c. c < 2 ^ 63) costs → slice_index costs k < 2 ^ 63
+low-at [] k all = lit< tt
+low-at (c ∷ costs) zero all = all 0 0 (omega arith)
+low-at (c ∷ costs) (suc k) all = low-at costs k (λ j d below. all (suc j) d (omega arith))
+
+pub within-own : (cells : List (Place × List ℕ)) (arcs : List (Call × Calls)) (stacks : List (List ℕ × ℕ)) (lines at : ℕ) (place : Place) (costs : List ℕ) → AreWithin cells arcs stacks lines → lines < at → All (λ c. c < 2 ^ 63) costs
+    → AreWithin (merge place_cmp added cells place costs) arcs stacks at
+within-own cells arcs stacks lines at place costs is more low = record {
+  cells_fit = λ k. rw (cell_total-merge k cells place costs) (rises lines at (cell_total k cells) (slice_index costs k) more (is.cells_fit k) (low-at costs k low));
+  arcs_fit = λ k. stays lines at (arc_total k arcs) more (is.arcs_fit k);
+  counts_fit = stays lines at (count_total arcs) more is.counts_fit;
+  stacks_fit = stays lines at (stack_total stacks) more is.stacks_fit;
+}
+
+pub within-call : (cells : List (Place × List ℕ)) (arcs : List (Call × Calls)) (stacks : List (List ℕ × ℕ)) (lines at : ℕ) (call : Call) (calls : Calls) → AreWithin cells arcs stacks lines → lines < at → calls.count < 2 ^ 63 → All (λ c. c < 2 ^ 63) calls.costs
+    → AreWithin cells (merge call_cmp calls_added arcs call calls) stacks at
+within-call cells arcs stacks lines at call calls is more few low = record {
+  cells_fit = λ k. stays lines at (cell_total k cells) more (is.cells_fit k);
+  arcs_fit = λ k. rw (arc_total-merge k arcs call calls) (rises lines at (arc_total k arcs) (slice_index calls.costs k) more (is.arcs_fit k) (low-at calls.costs k low));
+  counts_fit = rw (count_total-merge arcs call calls) (rises lines at (count_total arcs) calls.count more is.counts_fit few);
+  stacks_fit = stays lines at (stack_total stacks) more is.stacks_fit;
+}
+
+pub within-stack : (cells : List (Place × List ℕ)) (arcs : List (Call × Calls)) (stacks : List (List ℕ × ℕ)) (lines at : ℕ) (place : Place) (frames : List ℕ) (count : ℕ) → AreWithin cells arcs stacks lines → lines < at → count < 2 ^ 63
+    → AreWithin (merge place_cmp added cells place (count ∷ [])) arcs (merge bytes_cmp counts_added stacks frames count) at
+within-stack cells arcs stacks lines at place frames count is more low =
+    let own = within-own cells arcs stacks lines at place (count ∷ []) is more (All-cons (λ c. c < 2 ^ 63) count [] low (λ k d below. absurd (omega arith))) in
+    record {
+      cells_fit = own.cells_fit;
+      arcs_fit = own.arcs_fit;
+      counts_fit = own.counts_fit;
+      stacks_fit = rw (stack_total-merge stacks frames count) (rises lines at (stack_total stacks) count more is.stacks_fit low);
+    }
+
+-- contents of equal parts
+pub content-same : (names names' : List (List ℕ)) (cells cells' : List (Place × List ℕ)) (arcs : List (Call × Calls)) (stacks stacks' : List (List ℕ × ℕ)) → names ≡ names' → cells ≡ cells' → stacks ≡ stacks'
+    → ◌≡◌ {A = Content} (record { names = names; cells = cells; arcs = arcs; stacks = stacks }) (record { names = names'; cells = cells'; arcs = arcs; stacks = stacks' })
+content-same names names' cells cells' arcs stacks stacks' a b d =
+    let P : List (List ℕ) → List (Place × List ℕ) → List (List ℕ × ℕ) → Content = λ n c s. record { names = n; cells = c; arcs = arcs; stacks = s } in
+    let e : P names cells stacks ≡ P names' cells' stacks' = ap (λ n. P n cells stacks) a ∙ ap (λ c. P names' c stacks) b ∙ ap (P names' cells') d in
+    e
+
+-- ---- totals, value by value
+
+abbrev pub values_total : ℕ → List (List ℕ) → ℕ
+values_total k [] = 0
+values_total k (v ∷ vs) = slice_index v k + values_total k vs
+
+pub values_total-all : (k : ℕ) (cells : List (Place × List ℕ)) → values_total k (values_of cells) ≡ cell_total k cells
+values_total-all k [] = refl
+values_total-all k (e ∷ cells) = ap (λ n. slice_index e.1 k + n) (values_total-all k cells)
+
+abbrev pub costs_total : ℕ → List Calls → ℕ
+costs_total k [] = 0
+costs_total k (v ∷ vs) = slice_index v.costs k + costs_total k vs
+
+pub costs_total-all : (k : ℕ) (arcs : List (Call × Calls)) → costs_total k (values_of arcs) ≡ arc_total k arcs
+costs_total-all k [] = refl
+costs_total-all k (e ∷ arcs) = ap (λ n. slice_index e.1.costs k + n) (costs_total-all k arcs)
+
+abbrev pub number_total : List Calls → ℕ
+number_total [] = 0
+number_total (v ∷ vs) = v.count + number_total vs
+
+pub number_total-all : (arcs : List (Call × Calls)) → number_total (values_of arcs) ≡ count_total arcs
+number_total-all [] = refl
+number_total-all (e ∷ arcs) = ap (λ n. e.1.count + n) (number_total-all arcs)
+
+zero-at : (n k : ℕ) → slice_index (replicate n 0) k ≡ 0
+zero-at zero k = refl
+zero-at (suc n) zero = refl
+zero-at (suc n) (suc k) = zero-at n k
+
+-- before the first value
+pub totals-start : (totals : List ℕ) (n k : ℕ) (left all : ℕ) → totals ≡ replicate n 0 → left ≡ all → slice_index totals k + left ≡ all
+totals-start totals n k left all zeros same =
+    ap (λ ts. slice_index ts k + left) zeros ∙ ap (λ m. m + left) (zero-at n k) ∙ (let e : 0 + left ≡ left = omega arith in e) ∙ same

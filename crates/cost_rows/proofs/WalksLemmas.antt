@@ -1,0 +1,8 @@
+-- Walking rows.
+use Rattle.std.proofs.Common.{◌≡◌, ℕ, ◌+◌, ◌<◌, ◌≤◌, zero, suc, List, [], ◌∷◌, ◌++◌, length, refl, sym, ap, ◌∙◌, arith}
+use Rattle.cost_rows.specs.declared.places.Place.{Place}
+
+-- how often a walk over cells moves on
+abbrev pub steps : List (Place × List ℕ) → ℕ
+steps [] = 0
+steps (e ∷ cells) = suc (length e.1) + steps cells

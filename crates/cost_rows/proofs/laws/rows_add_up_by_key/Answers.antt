@@ -1,0 +1,19 @@
+use Rattle.std.proofs.Common.{◌≡◌, ℕ, ◌+◌, [], ◌∙◌, arith}
+use Rattle.std.specs.List.Sorted.{IsStrictlySortedBy}
+use Rattle.cost_rows.specs.KeySums.{cost_where}
+use Rattle.cost_rows.proofs.KeySumsLemmas.{sums-rows, sums-are}
+use Rattle.cost_rows.proofs.laws.rows_add_up_by_key.Goals as goal
+
+none_first : (n : ℕ) → 0 + n ≡ n
+none_first n = omega arith
+
+pub returns-clause-sums : goal.returns-clause-sums
+returns-clause-sums c = λ key passes rows. sums-rows passes rows (record { key = key; sums = [] }) ∙ none_first (cost_where key passes rows)
+
+pub returns-clause-order : goal.returns-clause-order
+unfolding IsStrictlySortedBy
+returns-clause-order c = λ key rows. (sums-are rows (record { key = key; sums = [] }) (record { order = tt; above = tt })).order
+
+pub returns-clause-above : goal.returns-clause-above
+unfolding IsStrictlySortedBy
+returns-clause-above c = λ key rows. (sums-are rows (record { key = key; sums = [] }) (record { order = tt; above = tt })).above

@@ -1,0 +1,15 @@
+use Rattle.std.proofs.Common.{◌≡◌, List, ℕ, true, Some, sym, ◌∙◌, ap, subst}
+use Rattle.cg_text.specs.Formulas.{are_distinct}
+use Rattle.cost_rows.specs.Naming.{place_of}
+use Rattle.cost_rows.proofs.NamingLemmas.{with-held, distinct-after}
+use Rattle.cost_rows.proofs.names.Names.id_of.Goals as goal
+
+pub returns-in-Some-clause-names : goal.returns-in-Some-clause-names
+returns-in-Some-clause-names c =
+    let found : place_of c.args.name.now c.args.self.now ≡ Some c.in-Some.number.now = ap (place_of c.args.name.now) (sym c.self.view_is) ∙ sym (c.self.invariant.found c.args.name.now) ∙ sym c.in-Some.ensures.value in
+    sym (with-held c.args.self.now c.args.name.now c.in-Some.number.now found)
+
+pub returns-clause-distinct : goal.returns-clause-distinct
+returns-clause-distinct c =
+    let distinct : are_distinct c.args.self.now ≡ true = ap are_distinct (sym c.self.view_is) ∙ c.self.invariant.distinct in
+    distinct-after c.add.result c.args.self.now c.add.new.self c.args.name.now distinct c.add.ensures.names c.add.ensures.err

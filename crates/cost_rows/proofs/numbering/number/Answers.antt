@@ -1,0 +1,15 @@
+use Rattle.std.proofs.Common.{◌≡◌, Some, sym, ◌∙◌, ap}
+use Rattle.cost_rows.specs.Naming.{place_of}
+use Rattle.cost_rows.proofs.NamingLemmas.{place_at, with-held, same_bytes}
+use Rattle.cost_rows.proofs.numbering.number.Goals as goal
+
+found : (c : goal.Then-eq) → place_of c.args.name.now c.args.names.now ≡ Some c.args.guess
+found c =
+    place_at c.args.names.now c.args.name.now c.args.guess c.len.ensures.distinct
+    (c.name.ensures ∙ ap Some (same_bytes c.name.result.now c.args.name.now (sym c.if-eq.ensures)))
+
+pub returns-then-eq-clause-place : goal.returns-then-eq-clause-place
+returns-then-eq-clause-place c = found c
+
+pub returns-then-eq-clause-names : goal.returns-then-eq-clause-names
+returns-then-eq-clause-names c = sym (with-held c.args.names.now c.args.name.now c.args.guess (found c))

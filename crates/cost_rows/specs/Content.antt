@@ -1,0 +1,76 @@
+-- What the rows of one file hold, as plain lists, and what each record adds to them.
+use Rattle.std.specs.Prelude.{ℕ, ◌+◌, List, [], ◌∷◌, unwrap_or}
+use Rattle.cg_text.specs.Names.{unknown}
+use Rattle.callgrind_reader.specs.Records.{Cost, Callee, Record, Own, Called}
+use Rattle.folded_reader.specs.Files.{Seen}
+use Rattle.folded_reader.specs.Frames.{leaf_of}
+use Rattle.cost_rows.specs.Naming.{place_of, with_name}
+use Rattle.cost_rows.specs.Columns.{added}
+use Rattle.cost_rows.specs.Calls.{calls_added}
+use Rattle.cost_rows.specs.Merging.{merge}
+use Rattle.cost_rows.specs.Places.{place_cmp, call_cmp}
+use Rattle.cost_rows.specs.Stacks.{bytes_cmp, counts_added}
+use Rattle.cost_rows.specs.declared.places.Place.{Place}
+use Rattle.cost_rows.specs.declared.places.Call.{Call}
+use Rattle.cost_rows.specs.declared.calls.Calls.{Calls}
+
+-- names in the order in which they first came; own costs by place, calls, and counts of stacks, each key once, in order
+pub record Content : Type 0 where
+  pub names : List (List ℕ)
+  pub cells : List (Place × List ℕ)
+  pub arcs : List (Call × Calls)
+  pub stacks : List (List ℕ × ℕ)
+
+-- before the first record
+abbrev pub empty : Content
+empty = record { names = []; cells = []; arcs = []; stacks = [] }
+
+-- the number of a name that is held
+abbrev pub number_of : List ℕ → List (List ℕ) → ℕ
+number_of name names = unwrap_or (place_of name names) 0
+
+-- names, and those of an object, a file and a function
+abbrev pub with_three : List ℕ → List ℕ → List ℕ → List (List ℕ) → List (List ℕ)
+with_three object file function names = with_name function (with_name file (with_name object names))
+
+-- a place, where these names are held
+abbrev pub place_in : List (List ℕ) → List ℕ → List ℕ → List ℕ → ℕ → Place
+place_in names object file function line =
+    record { object = number_of object names; file = number_of file names; function = number_of function names; line = line }
+
+abbrev pub names_with_cost : Cost → List (List ℕ) → List (List ℕ)
+names_with_cost cost names = with_three cost.object cost.file cost.function names
+
+abbrev pub names_with_callee : Callee → List (List ℕ) → List (List ℕ)
+names_with_callee callee names = with_three callee.object callee.file callee.function names
+
+abbrev pub place_of_cost : List (List ℕ) → Cost → Place
+place_of_cost names cost = place_in names cost.object cost.file cost.function cost.line
+
+abbrev pub call_of : List (List ℕ) → Callee → Cost → Call
+call_of names callee cost =
+    record { place = place_of_cost names cost; object = number_of callee.object names; file = number_of callee.file names; function = number_of callee.function names }
+
+-- own costs are added at their place
+abbrev pub with_cost : Content → Cost → Content
+with_cost c cost =
+    let names = names_with_cost cost c.names in
+    record c { names = names; cells = merge place_cmp added c.cells (place_of_cost names cost) cost.costs }
+
+-- the costs of calls and their number are added at their calls
+abbrev pub with_call : Content → Callee → Cost → Content
+with_call c callee cost =
+    let names = names_with_callee callee (names_with_cost cost c.names) in
+    record c { names = names; arcs = merge call_cmp calls_added c.arcs (call_of names callee cost) (record { count = callee.count; costs = cost.costs }) }
+
+abbrev pub with_record : Content → Record → Content
+with_record c (Own cost) = with_cost c cost
+with_record c (Called callee cost) = with_call c callee cost
+
+-- a stack's count is an own cost of the function that was running, of no known object, file or line
+abbrev pub leaf_cost : Seen → Cost
+leaf_cost s = record { at = s.at; object = unknown; file = unknown; function = leaf_of s.stack.frames; line = 0; costs = s.stack.count ∷ [] }
+
+-- a count is added to its stack and to the function that was running
+abbrev pub with_stack : Content → Seen → Content
+with_stack c s = record (with_cost c (leaf_cost s)) { stacks = merge bytes_cmp counts_added c.stacks s.stack.frames s.stack.count }

@@ -1,0 +1,38 @@
+-- What rows are added up by, and the part of a place that a key tells.
+use Rattle.std.specs.Prelude.{ℕ, List}
+use Rattle.std.specs.declared.cmp.Ordering.{Ordering}
+use Rattle.std.specs.Ordering.{nat_cmp, ordering_then}
+use Rattle.cg_text.specs.Names.{unknown}
+use Rattle.cost_rows.specs.Merging.{seen}
+use Rattle.cost_rows.specs.Stacks.{bytes_cmp}
+use Rattle.cost_rows.specs.Sums.{Spot}
+use Rattle.cost_rows.specs.declared.keys.Key.{Key}
+use Rattle.cost_rows.specs.declared.keys.Part.{Part}
+use Rattle.cost_rows.specs.declared.rows.CellRow.{CellRow}
+use Rattle.cost_rows.specs.declared.keys.Key.TheVariants.{Object, File, Function, Line}
+
+-- the part of a place that a key tells; the others are unknown
+abbrev pub part_of : Key → Spot → Spot
+part_of Object p = record { object = p.object; file = unknown; function = unknown; line = 0 }
+part_of File p = record { object = unknown; file = p.file; function = unknown; line = 0 }
+part_of Function p = record { object = p.object; file = unknown; function = p.function; line = 0 }
+part_of Line p = record { object = unknown; file = p.file; function = unknown; line = p.line }
+
+-- places by their parts, texts by bytes
+abbrev pub named_cmp : Spot → Spot → Ordering
+named_cmp a b =
+    ordering_then (bytes_cmp a.object b.object)
+    (ordering_then (bytes_cmp a.file b.file)
+    (ordering_then (bytes_cmp a.function b.function) (nat_cmp a.line b.line)))
+
+-- a place as it is kept
+abbrev pub plain_place : Part → Spot
+plain_place p = record { object = p.object.items; file = p.file.items; function = p.function.items; line = p.line }
+
+-- the place of a row
+abbrev pub place_of_row : CellRow (List ℕ) → Spot
+place_of_row r = record { object = r.object; file = r.file; function = r.function; line = r.line }
+
+-- sums by part, the parts as plain data
+abbrev pub plain_sums : {X : Type 0} → List (Part × X) → List (Spot × X)
+plain_sums = seen plain_place

@@ -1,0 +1,9 @@
+-- The parts of a call record that is lent, as plain data.
+use Rattle.callgrind_reader.specs.Records.{Cost, Callee}
+use Rattle.callgrind_reader.specs.declared.sink.CallCost.{CallCost}
+
+abbrev pub cost_of : CallCost → Cost
+cost_of r = record { at = r.at; object = r.object.now; file = r.file.now; function = r.function.now; line = r.line; costs = r.costs.now }
+
+abbrev pub callee_of : CallCost → Callee
+callee_of r = record { object = r.called_object.now; file = r.called_file.now; function = r.called_function.now; count = r.count }

@@ -1,0 +1,32 @@
+-- Sums by key: entries in the order of their keys, into which amounts are merged.
+use Rattle.std.specs.Prelude.{◌≡◌, ℕ, ◌+◌, Bool, List, [], ◌∷◌, fold, if◌then◌else◌}
+use Rattle.std.specs.declared.cmp.Ordering.{Ordering}
+use Rattle.std.specs.declared.cmp.Ordering.TheVariants.{Equal}
+use Rattle.std.specs.Ordering.{match_ordering}
+
+-- an amount is added at its key; a new key goes to its place in the order
+abbrev pub merge : {K X : Type 0} → (K → K → Ordering) → (X → X → X) → List (K × X) → K → X → List (K × X)
+merge cmp add [] key amount = (key, amount) ∷ []
+merge cmp add (e ∷ entries) key amount =
+    match_ordering (cmp key e.0)
+    ((key, amount) ∷ e ∷ entries)
+    ((e.0, add e.1 amount) ∷ entries)
+    (e ∷ merge cmp add entries key amount)
+
+-- amounts with their keys, merged one after another
+abbrev pub merge_all : {K X : Type 0} → (K → K → Ordering) → (X → X → X) → List (K × X) → List (K × X) → List (K × X)
+merge_all cmp add entries amounts = fold (λ es a. merge cmp add es a.0 a.1) entries amounts
+
+-- the sum of a measure over the entries whose keys pass a test
+abbrev pub sum_where : {K X : Type 0} → (K → Bool) → (X → ℕ) → List (K × X) → ℕ
+sum_where passes measure [] = 0
+sum_where passes measure (e ∷ entries) = (if passes e.0 then measure e.1 else 0) + sum_where passes measure entries
+
+-- an order by which only equal keys compare as equal
+abbrev pub TellsApart : {K : Type 0} → (K → K → Ordering) → Type 0
+TellsApart {K} cmp = (x y : K) → cmp x y ≡ Equal → x ≡ y
+
+-- entries, their keys seen as something else
+abbrev pub seen : {K L X : Type 0} → (K → L) → List (K × X) → List (L × X)
+seen see [] = []
+seen see (e ∷ entries) = (see e.0, e.1) ∷ seen see entries

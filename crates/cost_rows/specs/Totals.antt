@@ -1,0 +1,39 @@
+-- The sums over all entries, by column.
+use Rattle.std.specs.Prelude.{◌≡◌, ℕ, ◌*◌, ◌<◌, ◌≤◌, ◌^◌, true, List, length, slice_index}
+use Rattle.cost_rows.specs.Merging.{sum_where}
+use Rattle.cost_rows.specs.Content.{Content}
+use Rattle.cost_rows.specs.declared.places.Place.{Place}
+use Rattle.cost_rows.specs.declared.places.Call.{Call}
+use Rattle.cost_rows.specs.declared.calls.Calls.{Calls}
+use Rattle.cost_rows.specs.declared.rows.FileTotals.{FileTotals}
+
+-- the sum of column k over all cells
+abbrev pub cell_total : ℕ → List (Place × List ℕ) → ℕ
+cell_total k cells = sum_where (λ _. true) (λ costs. slice_index costs k) cells
+
+-- the sum of column k over all calls
+abbrev pub arc_total : ℕ → List (Call × Calls) → ℕ
+arc_total k arcs = sum_where (λ _. true) (λ calls. slice_index calls.costs k) arcs
+
+-- how many calls there were
+abbrev pub count_total : List (Call × Calls) → ℕ
+count_total arcs = sum_where (λ _. true) (λ calls. calls.count) arcs
+
+-- the sum of all stacks' counts
+abbrev pub stack_total : List (List ℕ × ℕ) → ℕ
+stack_total stacks = sum_where (λ _. true) (λ count. count) stacks
+
+-- the sums by column, of so many columns
+pub record AreTotals (t : FileTotals) (c : Content) (events : ℕ) : Type 0 where
+  pub self_columns : length t.self_cost ≡ events
+  pub self_cost : (k : ℕ) → k < events → slice_index t.self_cost k ≡ cell_total k c.cells
+  pub call_columns : length t.call_cost ≡ events
+  pub call_cost : (k : ℕ) → k < events → slice_index t.call_cost k ≡ arc_total k c.arcs
+  pub call_count : t.call_count ≡ count_total c.arcs
+
+-- each line so far added less than 2^63 to each sum
+pub record AreWithin (cells : List (Place × List ℕ)) (arcs : List (Call × Calls)) (stacks : List (List ℕ × ℕ)) (lines : ℕ) : Type 0 where
+  pub cells_fit : (k : ℕ) → cell_total k cells ≤ lines * 2 ^ 63
+  pub arcs_fit : (k : ℕ) → arc_total k arcs ≤ lines * 2 ^ 63
+  pub counts_fit : count_total arcs ≤ lines * 2 ^ 63
+  pub stacks_fit : stack_total stacks ≤ lines * 2 ^ 63

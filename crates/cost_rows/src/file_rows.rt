@@ -1,0 +1,164 @@
+// The rows of one file.
+ghost use Rattle.std.specs.Prelude.{◌≡◌, None, IfOk};
+ghost use Rattle.cost_rows.specs.Stacks.{by_bytes};
+ghost use Rattle.cost_rows.specs.Totals.{AreWithin, AreTotals};
+
+use crate::calls::Calls;
+use crate::costs::Costs;
+use crate::names::Names;
+use crate::places::{Call, Place};
+use crate::records::{merge_call, merge_own};
+use crate::rows::FileTotals;
+use crate::totals::{total_arcs, total_cells, total_count};
+use crate::walks::{ArcWalk, CellWalk, StackWalk};
+use callgrind_reader::{CallCost, SelfCost, Sink};
+use cg_text::Items;
+use std::alloc::{AllocError, Global};
+use std::collections::BTreeMap;
+
+/// The rows of one file: its names, each held once, and its records merged, one sum for each key.
+/// It takes the records of a Callgrind file or the stacks of a folded one. Ordered maps hold the
+/// sums: no file can choose keys that collide.
+#[derive(Drop)]
+pub struct FileRows {
+    pub(crate) alloc: Global,
+    pub(crate) names: Names,
+    pub(crate) cells: BTreeMap<Place, Costs>,
+    pub(crate) arcs: BTreeMap<Call, Calls>,
+    pub(crate) stacks: BTreeMap<Vec<u8>, u128>,
+    pub(crate) recent: Place,
+    recent_call: (Place, Place),
+    pub(crate) last: u64,
+    width: Option<u64>,
+    ghost within: { AreWithin cells.entries arcs.entries (by_bytes stacks.entries) last },
+}
+
+/// The place of no record.
+const NOWHERE: Place = Place {
+    object: 0,
+    file: 0,
+    function: 0,
+    line: 0,
+};
+
+impl FileRows {
+    ghost use Rattle.cost_rows.specs.Content.{empty};
+    ghost use Rattle.cost_rows.specs.Rows.{content_of};
+    ghost use Rattle.cost_rows.specs.Walks.{cell_rows, arc_rows, stack_rows};
+
+    /// No record was taken. Takes no memory.
+    pub fn new(alloc: Global) -> FileRows
+        ensures content { content_of result ≡ empty }
+        ensures last { result.last ≡ 0 }
+        ensures width { result.width ≡ None }
+    {
+        FileRows {
+            alloc,
+            names: Names::new(alloc),
+            cells: BTreeMap::new(alloc),
+            arcs: BTreeMap::new(alloc),
+            stacks: BTreeMap::new(alloc),
+            recent: NOWHERE,
+            recent_call: (NOWHERE, NOWHERE),
+            last: 0,
+            width: None,
+        }
+    }
+
+    /// The sums of calls, every one of them, in the order of the numbers of their names; the line
+    /// comes after the caller's names. Takes no memory.
+    pub fn arcs(&self) -> ArcWalk<'_>
+        ensures { result ≡ arc_rows (content_of self.now).names (content_of self.now).arcs }
+    {
+        ArcWalk {
+            names: &self.names,
+            rest: self.arcs.iter(),
+        }
+    }
+
+    /// The counts of stacks above 0, by the bytes of their frames. Takes no memory.
+    pub fn stacks(&self) -> StackWalk<'_>
+        ensures { result ≡ stack_rows (content_of self.now).stacks }
+    {
+        StackWalk {
+            rest: self.stacks.iter(),
+        }
+    }
+
+    /// The sums of own costs above 0, in the order of the numbers of their names, then by line, then
+    /// by event. Takes no memory.
+    pub fn cells(&self) -> CellWalk<'_>
+        ensures { result ≡ cell_rows (content_of self.now).names (content_of self.now).cells }
+    {
+        CellWalk {
+            names: &self.names,
+            rest: self.cells.iter(),
+            place: NOWHERE,
+            costs: &[],
+            event: 0,
+        }
+    }
+
+    /// The sums of all rows by column, of so many columns: as many as a record has costs, or more.
+    pub fn totals(&self, alloc: Global, events: usize) -> Result<FileTotals, AllocError>
+        ensures { IfOk result (λ t. AreTotals t (content_of self.now) events) }
+    {
+        let _last = self.last;
+        let self_cost = total_cells(alloc, &self.cells, events)?;
+        let call_cost = total_arcs(alloc, &self.arcs, events)?;
+        Ok(FileTotals {
+            self_cost: Items::from_vec(self_cost),
+            call_cost: Items::from_vec(call_cost),
+            call_count: total_count(&self.arcs),
+        })
+    }
+}
+
+impl Sink for FileRows {
+    ghost use Rattle.cost_rows.specs.Content.{Content, with_record};
+    ghost use Rattle.cost_rows.specs.Rows.{content_of};
+
+    ghost Meaning = { Content };
+
+    ghost meaning = { content_of };
+
+    ghost step = { with_record };
+
+    ghost last = { λ r. r.last };
+
+    ghost width = { λ r. r.width };
+
+    fn self_cost(&mut self, r: SelfCost<'_>) -> Result<(), AllocError> {
+        let held = self.names.len();
+        if let Err(refused) = merge_own(
+            self.alloc,
+            &mut self.names,
+            &mut self.recent,
+            &mut self.cells,
+            r,
+        ) {
+            self.names.truncate(held);
+            return Err(refused);
+        }
+        self.last = r.at;
+        self.width = Some(r.costs.len() as u64);
+        Ok(())
+    }
+
+    fn call(&mut self, r: CallCost<'_>) -> Result<(), AllocError> {
+        let held = self.names.len();
+        if let Err(refused) = merge_call(
+            self.alloc,
+            &mut self.names,
+            &mut self.recent_call,
+            &mut self.arcs,
+            r,
+        ) {
+            self.names.truncate(held);
+            return Err(refused);
+        }
+        self.last = r.at;
+        self.width = Some(r.costs.len() as u64);
+        Ok(())
+    }
+}

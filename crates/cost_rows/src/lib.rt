@@ -1,0 +1,36 @@
+//! The rows of profiles: names interned, records merged, and sums that must fit.
+#![tactic(auto)]
+
+mod calls;
+mod costs;
+mod file_rows;
+mod keys;
+mod laws;
+mod limits;
+mod merged;
+mod merges;
+mod names;
+mod numbering;
+mod places;
+mod records;
+mod rows;
+mod stack_rows;
+mod sum_rows;
+#[cfg(test)]
+mod tests;
+#[cfg(test)]
+mod tests_merged;
+mod totals;
+mod walks;
+
+pub use file_rows::FileRows;
+pub use keys::Key;
+pub use laws::{
+    merging_keeps_each_sum, numbers_tell_names_apart, rows_add_up_by_key, rows_come_to_the_records,
+};
+pub use limits::{Overflow, SUM_LIMIT, Side, admit};
+pub use merged::Merged;
+pub use names::Names;
+pub use rows::{ArcRow, CellRow, FileTotals, StackRow};
+pub use sum_rows::SumRows;
+pub use walks::{ArcWalk, CellWalk, StackWalk};

@@ -1,0 +1,107 @@
+// One more amount in a map of sums.
+ghost use Rattle.std.specs.Prelude.{◌≡◌, ◌<◌, ◌≤◌, ◌^◌, OnOk, OnErr, MatchOption, All};
+ghost use Rattle.std.specs.Map.{keys_of, lookup, remove_entry, set_value};
+ghost use Rattle.std.specs.List.Sorted.{IsStrictlySortedBy};
+ghost use Rattle.std.specs.BTreeMap.{is_at, values};
+ghost use Rattle.cost_rows.specs.Calls.{calls_added, AreSmall};
+ghost use Rattle.cost_rows.specs.Columns.{added};
+ghost use Rattle.cost_rows.specs.Merging.{merge};
+ghost use Rattle.cost_rows.specs.Places.{place_cmp, call_cmp};
+ghost use Rattle.cost_rows.specs.Stacks.{bytes_cmp, by_bytes, counts_added};
+
+use crate::calls::Calls;
+use crate::costs::Costs;
+use crate::places::{Call, Place};
+use std::alloc::{AllocError, Global};
+use std::collections::BTreeMap;
+
+/// Merges a row of costs into the sums of its place. A refusal leaves the sums as they were.
+pub(crate) fn merge_cell(
+    alloc: Global,
+    cells: &mut BTreeMap<Place, Costs>,
+    place: Place,
+    costs: &[u64],
+) -> Result<(), AllocError>
+    requires small { All (All (λ s. s < 2 ^ 127)) (values cells.old) }
+    requires low { All (λ c. c < 2 ^ 63) costs.now }
+    ensures ok { OnOk result (cells.new.entries ≡ merge place_cmp added cells.old.entries place costs.now) }
+    ensures err { OnErr result (cells.new.entries ≡ cells.old.entries) }
+{
+    match cells.get_mut(&place) {
+        Some(held) => held.add(costs),
+        None => {
+            let costs = Costs::of(alloc, costs)?;
+            cells.insert(place, costs)?;
+            Ok(())
+        }
+    }
+}
+
+/// Merges a call record into the sums of its calls. A refusal leaves the sums as they were.
+pub(crate) fn merge_arc(
+    alloc: Global,
+    arcs: &mut BTreeMap<Call, Calls>,
+    call: Call,
+    count: u64,
+    costs: &[u64],
+) -> Result<(), AllocError>
+    requires small { All AreSmall (values arcs.old) }
+    requires low { All (λ c. c < 2 ^ 63) costs.now }
+    ensures ok { OnOk result (arcs.new.entries ≡ merge call_cmp calls_added arcs.old.entries call (record { count = count; costs = costs.now })) }
+    ensures err { OnErr result (arcs.new.entries ≡ arcs.old.entries) }
+{
+    match arcs.get_mut(&call) {
+        Some(held) => held.add(count, costs),
+        None => {
+            let calls = Calls::of(alloc, count, costs)?;
+            arcs.insert(call, calls)?;
+            Ok(())
+        }
+    }
+}
+
+/// Merges a count into that of its stack. A refusal leaves the counts as they were.
+pub(crate) fn merge_stack(
+    alloc: Global,
+    stacks: &mut BTreeMap<Vec<u8>, u128>,
+    frames: &[u8],
+    count: u64,
+) -> Result<(), AllocError>
+    requires small { All (λ s. s < 2 ^ 127) (values stacks.old) }
+    ensures ok { OnOk result (by_bytes stacks.new.entries ≡ merge bytes_cmp counts_added (by_bytes stacks.old.entries) frames.now count) }
+    ensures err { OnErr result (stacks.new.entries ≡ stacks.old.entries) }
+{
+    match stacks.get_mut(frames) {
+        Some(held) => *held += u128::from(count),
+        None => {
+            let frames = frames.to_vec(alloc)?;
+            stacks.insert(frames, u128::from(count))?;
+        }
+    }
+    Ok(())
+}
+
+/// How often a stack was seen so far.
+pub(crate) fn count_of(stacks: &BTreeMap<Vec<u8>, u128>, frames: &[u8]) -> Option<u128>
+    ensures count { result ≡ lookup (is_at (bytes_cmp frames.now)) (by_bytes stacks.now.entries) }
+    ensures ordered { IsStrictlySortedBy bytes_cmp (keys_of (by_bytes stacks.now.entries)) }
+{
+    let _ordered = stacks.len();
+    stacks.get(frames).copied()
+}
+
+/// Puts back what a stack had before a count was merged into it.
+pub(crate) fn put_back(stacks: &mut BTreeMap<Vec<u8>, u128>, frames: &[u8], before: Option<u128>)
+    ensures { MatchOption before (by_bytes stacks.new.entries ≡ remove_entry (is_at (bytes_cmp frames.now)) (by_bytes stacks.old.entries)) (λ n. by_bytes stacks.new.entries ≡ set_value (is_at (bytes_cmp frames.now)) (by_bytes stacks.old.entries) n) }
+{
+    match before {
+        Some(count) => {
+            if let Some(held) = stacks.get_mut(frames) {
+                *held = count;
+            }
+        }
+        None => {
+            let _ = stacks.remove(frames);
+        }
+    }
+}

@@ -1,0 +1,74 @@
+// One more record among names and sums.
+ghost use Rattle.std.specs.Prelude.{◌≡◌, ◌<◌, ◌^◌, OnOk, OnErr, All};
+ghost use Rattle.std.specs.BTreeMap.{values};
+ghost use Rattle.cost_rows.specs.Calls.{calls_added, AreSmall};
+ghost use Rattle.cost_rows.specs.Columns.{added};
+ghost use Rattle.cost_rows.specs.Content.{with_three, place_in, call_of};
+ghost use Rattle.cost_rows.specs.Growing.{Grows};
+ghost use Rattle.cost_rows.specs.Lent.{callee_of, cost_of};
+ghost use Rattle.cost_rows.specs.Merging.{merge};
+ghost use Rattle.cost_rows.specs.Places.{place_cmp, call_cmp};
+
+use crate::calls::Calls;
+use crate::costs::Costs;
+use crate::merges::{merge_arc, merge_cell};
+use crate::names::Names;
+use crate::numbering::number_place;
+use crate::places::{Call, Place};
+use callgrind_reader::{CallCost, SelfCost};
+use std::alloc::{AllocError, Global};
+use std::collections::BTreeMap;
+
+/// Merges a self record. A refusal leaves the cells as they were, and may leave names of the record.
+pub(crate) fn merge_own(
+    alloc: Global,
+    names: &mut Names,
+    recent: &mut Place,
+    cells: &mut BTreeMap<Place, Costs>,
+    r: SelfCost<'_>,
+) -> Result<(), AllocError>
+    requires small { All (All (λ s. s < 2 ^ 127)) (values cells.old) }
+    requires low { All (λ c. c < 2 ^ 63) r.costs.now }
+    ensures names { OnOk result (names.new ≡ with_three r.entry.object.now r.entry.file.now r.entry.function.now names.old) }
+    ensures cells { OnOk result (cells.new.entries ≡ merge place_cmp added cells.old.entries (place_in names.new r.entry.object.now r.entry.file.now r.entry.function.now r.entry.line) r.entry.costs.now) }
+    ensures grows { Grows names.old names.new }
+    ensures err { OnErr result (cells.new.entries ≡ cells.old.entries) }
+{
+    let place = number_place(names, *recent, r.object, r.file, r.function, r.line)?;
+    *recent = place;
+    merge_cell(alloc, cells, place, r.costs)
+}
+
+/// Merges a call record. A refusal leaves the calls as they were, and may leave names of the record.
+pub(crate) fn merge_call(
+    alloc: Global,
+    names: &mut Names,
+    recent: &mut (Place, Place),
+    arcs: &mut BTreeMap<Call, Calls>,
+    r: CallCost<'_>,
+) -> Result<(), AllocError>
+    requires small { All AreSmall (values arcs.old) }
+    requires low { All (λ c. c < 2 ^ 63) r.costs.now }
+    ensures names { OnOk result (names.new ≡ with_three r.entry.called_object.now r.entry.called_file.now r.entry.called_function.now (with_three r.entry.object.now r.entry.file.now r.entry.function.now names.old)) }
+    ensures arcs { OnOk result (arcs.new.entries ≡ merge call_cmp calls_added arcs.old.entries (call_of names.new (callee_of r.entry) (cost_of r.entry)) (record { count = r.entry.count; costs = r.entry.costs.now })) }
+    ensures grows { Grows names.old names.new }
+    ensures err { OnErr result (arcs.new.entries ≡ arcs.old.entries) }
+{
+    let place = number_place(names, recent.0, r.object, r.file, r.function, r.line)?;
+    let called = number_place(
+        names,
+        recent.1,
+        r.called_object,
+        r.called_file,
+        r.called_function,
+        0,
+    )?;
+    *recent = (place, called);
+    let call = Call {
+        place,
+        object: called.object,
+        file: called.file,
+        function: called.function,
+    };
+    merge_arc(alloc, arcs, call, r.count, r.costs)
+}
