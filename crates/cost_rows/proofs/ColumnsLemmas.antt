@@ -1,8 +1,7 @@
 -- Costs by column, added.
-use Rattle.std.proofs.Common.{◌≡◌, ℕ, ◌+◌, ◌*◌, ◌<◌, ◌≤◌, zero, suc, List, [], ◌∷◌, ◌++◌, length, replicate, fold, slice_index, slice_index_or, All, lit<, ◌^◌, sym, ◌∙◌, ap, refl, inl, inr, arith, add_assoc, add-zero, zero-add}
+use Rattle.std.proofs.Common.{◌≡◌, ℕ, ◌+◌, ◌<◌, ◌≤◌, zero, suc, List, [], ◌∷◌, ◌++◌, length, replicate, slice_index, sym, ◌∙◌, ap, refl, inl, inr, arith, add-zero, zero-add}
 use Rattle.std.proofs.lemmas.List.{ext_get_or, get_or_past}
 use Rattle.std.proofs.lemmas.Bool.{cases_lt}
-use Rattle.std.proofs.lemmas.List.Elements.{All-from_get_or}
 use Rattle.cost_rows.specs.Columns.{added}
 
 pub slice_index-added : (sums costs : List ℕ) (k : ℕ) → slice_index (added sums costs) k ≡ slice_index sums k + slice_index costs k

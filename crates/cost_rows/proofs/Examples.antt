@@ -1,12 +1,16 @@
 -- The definitions, computed on examples.
-use Rattle.std.proofs.Common.{◌≡◌, ℕ, ◌+◌, ◌-◌, ◌^◌, Bool, true, false, nat_lt, List, [], ◌∷◌, codes, Option, Some, None, refl}
+use Rattle.std.proofs.Common.{◌≡◌, ℕ, ◌+◌, ◌-◌, ◌^◌, true, nat_lt, ◌==◌, map, fold, List, [], ◌∷◌, codes, Some, None, refl}
 use Rattle.std.specs.Ordering.{nat_cmp}
-use Rattle.cg_text.specs.Formulas.{are_distinct}
 use Rattle.cost_rows.specs.Naming.{place_of, with_name, names_among}
-use Rattle.cost_rows.specs.Merging.{merge, merge_all, sum_where}
+use Rattle.callgrind_reader.specs.Records.{Record, Own, Called}
+use Rattle.folded_reader.specs.Files.{Seen}
+use Rattle.cost_rows.specs.Content.{Content, empty, with_record, with_stack}
+use Rattle.cost_rows.specs.Walks.{cell_rows, arc_rows, stack_rows}
+use Rattle.cost_rows.specs.Sums.{own_sum}
+use Rattle.cost_rows.specs.declared.places.Place.{Place}
+use Rattle.cost_rows.specs.Merging.{merge_all, sum_where}
 use Rattle.cost_rows.specs.Admit.{overflow_of}
 use Rattle.cost_rows.specs.declared.rows.FileTotals.{FileTotals}
-use Rattle.cost_rows.specs.declared.limits.Overflow.{Overflow}
 use Rattle.cost_rows.specs.declared.limits.Side.TheVariants.{SelfCost, CallCost, CallCount}
 
 -- ---- names
@@ -68,3 +72,69 @@ merged = refl
 
 sum-below_eight : sum_where (λ k. nat_lt k 8) (λ n. n) ((3, 18) ∷ (7, 5) ∷ (9, 8) ∷ []) ≡ 23
 sum-below_eight = refl
+
+-- ---- the rows of a file
+
+abbrev own : List ℕ → ℕ → List ℕ → Record
+own function line costs = Own (record { at = 1; object = codes "???"; file = codes "a.c"; function = function; line = line; costs = costs })
+
+abbrev called : List ℕ → ℕ → List ℕ → ℕ → List ℕ → Record
+called function line callee count costs =
+    Called (record { object = codes "???"; file = codes "b.c"; function = callee; count = count })
+    (record { at = 1; object = codes "???"; file = codes "a.c"; function = function; line = line; costs = costs })
+
+-- two places that differ in the line alone, one of them met twice, and a call met twice
+abbrev records : List Record
+records = own (codes "f") 3 (1 ∷ 2 ∷ []) ∷ called (codes "f") 3 (codes "g") 2 (10 ∷ []) ∷ own (codes "f") 2 (0 ∷ 5 ∷ []) ∷ own (codes "f") 3 (4 ∷ 0 ∷ 7 ∷ []) ∷ called (codes "f") 3 (codes "g") 1 (20 ∷ 3 ∷ []) ∷ []
+
+abbrev content : Content
+content = fold with_record empty records
+
+content-names : content.names ≡ codes "???" ∷ codes "a.c" ∷ codes "f" ∷ codes "b.c" ∷ codes "g" ∷ []
+content-names = refl
+
+abbrev place : ℕ → Place
+place line = record { object = 0; file = 1; function = 2; line = line }
+
+content-cells : content.cells ≡ (place 2, 0 ∷ 5 ∷ []) ∷ (place 3, 5 ∷ 2 ∷ 7 ∷ []) ∷ []
+content-cells = refl
+
+content-arcs : content.arcs ≡ (record { place = place 3; object = 0; file = 3; function = 4 }, record { count = 3; costs = 30 ∷ 3 ∷ [] }) ∷ []
+content-arcs = refl
+
+-- a cell whose sum is 0 is no row
+rows-cells : map {B = ℕ × ℕ × ℕ} (λ r. (r.line, r.event, r.cost)) (cell_rows content.names content.cells) ≡ (2, 1, 5) ∷ (3, 0, 5) ∷ (3, 1, 2) ∷ (3, 2, 7) ∷ []
+rows-cells = refl
+
+rows-functions : map (λ r. r.function) (cell_rows content.names content.cells) ≡ codes "f" ∷ codes "f" ∷ codes "f" ∷ codes "f" ∷ []
+rows-functions = refl
+
+rows-called : map {B = List ℕ × List ℕ × ℕ} (λ r. (r.called_file, r.called_function, r.count)) (arc_rows content.names content.arcs) ≡ (codes "b.c", codes "g", 3) ∷ []
+rows-called = refl
+
+sum-second_column : own_sum (λ s. true) 1 records ≡ 7
+sum-second_column = refl
+
+sum-line_three : own_sum (λ s. s.line == 3) 0 records ≡ 5
+sum-line_three = refl
+
+-- ---- the rows of a folded file
+
+abbrev seen : List ℕ → ℕ → Seen
+seen frames count = record { at = 1; stack = record { frames = frames; count = count } }
+
+abbrev folded : Content
+folded = fold with_stack empty (seen (codes "main;f") 2 ∷ seen (codes "main") 1 ∷ seen (codes "main;f") 3 ∷ seen (codes "main;g;f") 4 ∷ seen (codes "main;") 0 ∷ [])
+
+folded-names : folded.names ≡ codes "???" ∷ codes "f" ∷ codes "main" ∷ []
+folded-names = refl
+
+folded-stacks : folded.stacks ≡ (codes "main", 1) ∷ (codes "main;", 0) ∷ (codes "main;f", 5) ∷ (codes "main;g;f", 4) ∷ []
+folded-stacks = refl
+
+-- the last frames; one without a name is `???`
+folded-cells : map {B = List ℕ × ℕ} (λ r. (r.function, r.cost)) (cell_rows folded.names folded.cells) ≡ (codes "f", 9) ∷ (codes "main", 1) ∷ []
+folded-cells = refl
+
+folded-rows : map (λ r. r.count) (stack_rows folded.stacks) ≡ 1 ∷ 5 ∷ 4 ∷ []
+folded-rows = refl

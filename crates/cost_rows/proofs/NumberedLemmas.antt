@@ -1,5 +1,5 @@
 -- A map of names to their places, while one more name comes in.
-use Rattle.std.proofs.Common.{◌≡◌, ◌⊎◌, inl, inr, ℕ, ◌+◌, ◌<◌, ◌≤◌, ◌^◌, zero, suc, Bool, true, false, not, ◌&&◌, cond, List, [], ◌∷◌, ◌++◌, length, Option, Some, None, refl, sym, ap, ◌∙◌, arith, length-append}
+use Rattle.std.proofs.Common.{◌≡◌, inl, inr, ℕ, ◌<◌, ◌^◌, Bool, true, false, cond, List, [], ◌∷◌, ◌++◌, length, Option, Some, None, refl, sym, ap, ◌∙◌, arith, length-append}
 use Rattle.std.specs.declared.cmp.Ordering.{Ordering}
 use Rattle.std.specs.declared.cmp.Ordering.TheVariants.{Less, Equal, Greater}
 use Rattle.std.specs.Ordering.{nat_cmp, match_ordering, is_eq}
@@ -9,11 +9,11 @@ use Rattle.std.specs.Map.{lookup, KeepsOthers}
 use Rattle.std.specs.BTreeMap.{BTreeMap, insert_entry, get_by, UpdatesBy}
 use Rattle.std.specs.Str.{bytes_eq}
 use Rattle.std.specs.declared.vec.Vec.{Vec}
-use Rattle.std.proofs.lemmas.Bool.{cases_Bool, cond-true, cond-false}
+use Rattle.std.proofs.lemmas.Bool.{cases_Bool}
 use Rattle.std.proofs.lemmas.Map.Lookups.{exact_bytes}
 use Rattle.std.proofs.lemmas.Map.Text.{is_eq-slice_cmp}
 use Rattle.cg_text.specs.Formulas.{are_distinct}
-use Rattle.cost_rows.specs.Naming.{place_of, with_name}
+use Rattle.cost_rows.specs.Naming.{place_of}
 use Rattle.cost_rows.specs.Numbered.{IsNumbered}
 use Rattle.cost_rows.proofs.NamingLemmas.{same_bytes, bytes-same, place-new, place-other, with-new, distinct-with, distinct-before, absent-before}
 

@@ -13,7 +13,6 @@ use Rattle.std.proofs.lemmas.Cmp.{tied_itself}
 use Rattle.std.proofs.lemmas.Map.Steps.{set_value_same}
 use Rattle.std.specs.BTreeMap.{BTreeMap, is_at, insert_entry, WritesThrough}
 use Rattle.std.specs.declared.vec.Vec.{Vec}
-use Rattle.std.proofs.lemmas.Map.Keys.{sorted_head, sorted_tail}
 use Rattle.cost_rows.specs.Merging.{merge}
 use Rattle.cost_rows.specs.Stacks.{bytes_cmp, by_bytes, counts_added}
 use Rattle.cost_rows.proofs.MergeLemmas.{merge-new, merge-held}

@@ -1,5 +1,5 @@
 -- The rows of merged records come to what the records come to.
-use Rattle.std.proofs.Common.{◌≡◌, ◌⊎◌, inl, inr, ℕ, ◌+◌, ◌<◌, ◌≤◌, zero, suc, Bool, true, false, List, [], ◌∷◌, ◌++◌, length, fold, slice_index, slice_index_or, Option, Some, None, unwrap_or, if◌then◌else◌, refl, sym, ap, ◌∙◌, subst, arith, add_assoc, length-append}
+use Rattle.std.proofs.Common.{◌≡◌, ℕ, ◌+◌, ◌<◌, ◌≤◌, zero, suc, Bool, true, List, [], ◌∷◌, ◌++◌, length, fold, slice_index, Some, unwrap_or, if◌then◌else◌, refl, sym, ap, ◌∙◌, subst, arith, add_assoc, length-append}
 use Rattle.std.specs.declared.cmp.Ordering.{Ordering}
 use Rattle.std.specs.declared.cmp.Ordering.TheVariants.{Less, Equal, Greater}
 use Rattle.std.specs.Ordering.{match_ordering}
@@ -14,14 +14,14 @@ use Rattle.cost_rows.specs.Calls.{calls_added}
 use Rattle.cost_rows.specs.Growing.{Grows}
 use Rattle.cost_rows.specs.Merging.{merge, sum_where}
 use Rattle.cost_rows.specs.Places.{place_cmp, call_cmp}
-use Rattle.cost_rows.specs.Content.{Content, empty, number_of, place_in, with_three, names_with_cost, names_with_callee, place_of_cost, call_of, with_cost, with_call, with_record}
+use Rattle.cost_rows.specs.Content.{Content, empty, number_of, with_three, names_with_cost, names_with_callee, place_of_cost, call_of, with_cost, with_call, with_record}
 use Rattle.cost_rows.specs.Sums.{Spot, spot_of, callee_spot, name_at, spot_at, callee_at, own_sum, call_sum, count_sum}
 use Rattle.cost_rows.specs.declared.places.Place.{Place}
 use Rattle.cost_rows.specs.declared.places.Call.{Call}
 use Rattle.cost_rows.specs.declared.calls.Calls.{Calls}
 use Rattle.cost_rows.proofs.NamingLemmas.{at_place, distinct-with}
 use Rattle.cost_rows.proofs.ColumnsLemmas.{slice_index-added}
-use Rattle.cost_rows.proofs.GrowingLemmas.{grows-more, grows-with, held-with, kept-by_three, held-three}
+use Rattle.cost_rows.proofs.GrowingLemmas.{grows-more, grows-with, kept-by_three, held-three}
 use Rattle.cost_rows.proofs.MergeLemmas.{sum-merge, sorted-merge}
 use Rattle.cost_rows.proofs.PlacesLemmas.{place_cmp-apart, place_cmp-total, call_cmp-apart, call_cmp-total}
 

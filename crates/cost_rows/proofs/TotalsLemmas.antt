@@ -1,10 +1,10 @@
 -- The sums over all entries, while records are merged.
-use Rattle.std.proofs.Common.{◌≡◌, ℕ, ◌+◌, ◌*◌, ◌<◌, ◌≤◌, ◌^◌, zero, suc, true, List, [], ◌∷◌, map, length, slice_index, slice_index_or, get_or, All, lit<, replicate, refl, sym, ap, ◌∙◌, arith}
+use Rattle.std.proofs.Common.{◌≡◌, ℕ, ◌+◌, ◌*◌, ◌<◌, ◌≤◌, ◌^◌, zero, suc, true, List, [], ◌∷◌, slice_index, All, lit<, replicate, refl, ap, ◌∙◌, arith}
 use Rattle.std.specs.Map.{values_of}
 use Rattle.std.proofs.lemmas.List.Elements.{All-cons, All-weaker, All-from_get_or}
 use Rattle.cost_rows.specs.Calls.{calls_added, AreSmall}
 use Rattle.cost_rows.specs.Columns.{added}
-use Rattle.cost_rows.specs.Merging.{merge, sum_where}
+use Rattle.cost_rows.specs.Merging.{merge}
 use Rattle.cost_rows.specs.Places.{place_cmp, call_cmp}
 use Rattle.cost_rows.specs.Stacks.{bytes_cmp, counts_added}
 use Rattle.cost_rows.specs.Content.{Content}

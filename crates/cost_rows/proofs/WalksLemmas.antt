@@ -1,5 +1,5 @@
 -- Walking rows.
-use Rattle.std.proofs.Common.{◌≡◌, ℕ, ◌+◌, ◌<◌, ◌≤◌, zero, suc, List, [], ◌∷◌, ◌++◌, length, refl, sym, ap, ◌∙◌, arith}
+use Rattle.std.proofs.Common.{ℕ, ◌+◌, suc, List, [], ◌∷◌, length}
 use Rattle.cost_rows.specs.declared.places.Place.{Place}
 
 -- how often a walk over cells moves on

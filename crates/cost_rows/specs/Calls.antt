@@ -1,5 +1,5 @@
 -- Calls: how many there were, and what they cost by column.
-use Rattle.std.specs.Prelude.{ℕ, ◌+◌, ◌<◌, ◌^◌, All, List}
+use Rattle.std.specs.Prelude.{◌+◌, ◌<◌, ◌^◌, All}
 use Rattle.cost_rows.specs.Columns.{added}
 use Rattle.cost_rows.specs.declared.calls.Calls.{Calls}
 

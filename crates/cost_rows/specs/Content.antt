@@ -1,5 +1,5 @@
 -- What the rows of one file hold, as plain lists, and what each record adds to them.
-use Rattle.std.specs.Prelude.{ℕ, ◌+◌, List, [], ◌∷◌, unwrap_or}
+use Rattle.std.specs.Prelude.{ℕ, List, [], ◌∷◌, unwrap_or}
 use Rattle.cg_text.specs.Names.{unknown}
 use Rattle.callgrind_reader.specs.Records.{Cost, Callee, Record, Own, Called}
 use Rattle.folded_reader.specs.Files.{Seen}

@@ -1,5 +1,4 @@
 -- The order of places and calls: by the numbers of names, then by line, then by what is called.
-use Rattle.std.specs.Prelude.{ℕ}
 use Rattle.std.specs.declared.cmp.Ordering.{Ordering}
 use Rattle.std.specs.Ordering.{nat_cmp, ordering_then}
 use Rattle.cost_rows.specs.declared.places.Place.{Place}

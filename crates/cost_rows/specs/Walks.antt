@@ -1,6 +1,5 @@
 -- The rows that are walked: names in place of their numbers, and no cell or stack whose sum is 0.
 use Rattle.std.specs.Prelude.{ℕ, suc, List, [], ◌∷◌, ◌++◌, nat_lt, if◌then◌else◌}
-use Rattle.cost_rows.specs.Content.{Content}
 use Rattle.cost_rows.specs.Sums.{name_at}
 use Rattle.cost_rows.specs.declared.places.Place.{Place}
 use Rattle.cost_rows.specs.declared.places.Call.{Call}

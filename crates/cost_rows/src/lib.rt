@@ -20,6 +20,8 @@ mod sum_rows;
 mod tests;
 #[cfg(test)]
 mod tests_merged;
+#[cfg(test)]
+mod tests_rows;
 mod totals;
 mod walks;
 

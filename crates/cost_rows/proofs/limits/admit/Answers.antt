@@ -1,6 +1,6 @@
 use Rattle.std.proofs.Common.{◌+◌, refl, sym, inl, inr}
 use Rattle.std.proofs.lemmas.Bool.{true≢false, cases_lt}
-use Rattle.cost_rows.specs.Admit.{bound, column_sums, first_above}
+use Rattle.cost_rows.specs.Admit.{bound}
 use Rattle.cost_rows.specs.declared.limits.Side.TheVariants.{SelfCost, CallCost}
 use Rattle.cost_rows.proofs.AdmitLemmas.{columns-are, own-above, calls-above, number-above, number-fits}
 use Rattle.cost_rows.proofs.limits.admit.Goals as goal

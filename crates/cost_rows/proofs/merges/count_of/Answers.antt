@@ -1,4 +1,4 @@
-use Rattle.std.proofs.Common.{◌∙◌, sym}
+use Rattle.std.proofs.Common.{◌∙◌}
 use Rattle.cost_rows.proofs.StacksLemmas.{stack-found, by_bytes-sorted}
 use Rattle.cost_rows.proofs.merges.count_of.Goals as goal
 

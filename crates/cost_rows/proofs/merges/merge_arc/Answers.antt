@@ -1,8 +1,7 @@
-use Rattle.std.proofs.Common.{sym, ◌∙◌, ap, Some, None}
+use Rattle.std.proofs.Common.{sym, ◌∙◌, ap}
 use Rattle.std.proofs.lemmas.Result.{on_ok_weaker, on_err_weaker}
 use Rattle.std.specs.BTreeMap.{insert_entry}
 use Rattle.cost_rows.specs.Calls.{calls_added}
-use Rattle.cost_rows.specs.Merging.{merge}
 use Rattle.cost_rows.specs.Places.{call_cmp}
 use Rattle.cost_rows.proofs.MergeLemmas.{merge-new, merge-written, same-written}
 use Rattle.cost_rows.proofs.PlacesLemmas.{call_cmp-total}

@@ -1,4 +1,4 @@
-use Rattle.std.proofs.Common.{◌≡◌, ◌+◌, sym, ◌∙◌, ap}
+use Rattle.std.proofs.Common.{◌+◌, ◌∙◌, ap}
 use Rattle.std.specs.BTreeMap.{insert_entry}
 use Rattle.cost_rows.proofs.StacksLemmas.{vec_cmp, stack-written, stack-new}
 use Rattle.cost_rows.proofs.merges.merge_stack.Goals as goal

@@ -1,4 +1,3 @@
-use Rattle.cost_rows.specs.Growing.{Grows}
 use Rattle.cost_rows.proofs.GrowingLemmas.{grows-more, grows-after, place-numbered}
 use Rattle.cost_rows.proofs.numbering.number_place.Goals as goal
 

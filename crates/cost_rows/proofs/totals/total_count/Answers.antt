@@ -1,4 +1,4 @@
-use Rattle.std.proofs.Common.{◌≡◌, ◌+◌, ◌∙◌, ap, arith}
+use Rattle.std.proofs.Common.{◌≡◌, ◌∙◌, ap, arith}
 use Rattle.cost_rows.specs.Totals.{count_total}
 use Rattle.cost_rows.proofs.TotalsLemmas.{number_total, number_total-all}
 use Rattle.cost_rows.proofs.totals.total_count.Goals as goal

@@ -1,4 +1,4 @@
-use Rattle.std.proofs.Common.{◌≡◌, ◌<◌, ◌^◌, List, ℕ, sym, subst, arith}
+use Rattle.std.proofs.Common.{◌<◌, ◌^◌, List, sym, subst, arith}
 use Rattle.cost_rows.specs.Stacks.{by_bytes}
 use Rattle.cost_rows.specs.Totals.{AreWithin}
 use Rattle.cost_rows.specs.declared.places.Call.{Call}

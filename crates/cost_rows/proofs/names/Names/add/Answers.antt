@@ -1,4 +1,4 @@
-use Rattle.std.proofs.Common.{◌≡◌, ◌+◌, ◌<◌, ◌^◌, ◌++◌, ◌∷◌, [], List, ℕ, length, Some, sym, ◌∙◌, ap, subst, arith}
+use Rattle.std.proofs.Common.{◌≡◌, ◌<◌, ◌^◌, ◌++◌, ◌∷◌, [], List, ℕ, length, Some, sym, ◌∙◌, ap, subst, arith}
 use Rattle.cost_rows.specs.Naming.{place_of}
 use Rattle.cost_rows.specs.Numbered.{IsNumbered}
 use Rattle.cost_rows.proofs.NumberedLemmas.{IsNumbered-more}

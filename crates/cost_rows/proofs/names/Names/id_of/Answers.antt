@@ -1,4 +1,4 @@
-use Rattle.std.proofs.Common.{◌≡◌, List, ℕ, true, Some, sym, ◌∙◌, ap, subst}
+use Rattle.std.proofs.Common.{◌≡◌, true, Some, sym, ◌∙◌, ap}
 use Rattle.cg_text.specs.Formulas.{are_distinct}
 use Rattle.cost_rows.specs.Naming.{place_of}
 use Rattle.cost_rows.proofs.NamingLemmas.{with-held, distinct-after}
