@@ -132,3 +132,15 @@ seen-first = refl
 held-before_a_fault : held adds (end_of reading_of (codes "a;b 1\n\nb 2\n3\nc 4")) ≡ stacks_of_file (codes "a;b 1\n\nb 2\n")
 unfolding reading_of
 held-before_a_fault = refl
+
+-- ---- the example of the format's README
+
+stacks-readme : stacks_of_file (codes "unix`_sys_sysenter_post_swapgs 1401\nunix`_sys_sysenter_post_swapgs;genunix`close 5\n") ≡
+    record { at = 1; stack = record { frames = codes "unix`_sys_sysenter_post_swapgs"; count = 1401 } }
+    ∷ record { at = 2; stack = record { frames = codes "unix`_sys_sysenter_post_swapgs;genunix`close"; count = 5 } } ∷ []
+unfolding reading_of
+stacks-readme = refl
+
+samples-readme : samples_of_file (codes "unix`_sys_sysenter_post_swapgs;genunix`close 5\n") ≡ record { at = 1; function = codes "genunix`close"; count = 5 } ∷ []
+unfolding reading_of
+samples-readme = refl
