@@ -1,0 +1,11 @@
+pub mod Cascades
+pub mod Contents
+pub mod Deletes
+pub mod Effects
+pub mod InPlace
+pub mod Inserts
+pub mod Queries
+pub mod Rows
+pub mod Selects
+pub mod Statements
+pub mod Updates

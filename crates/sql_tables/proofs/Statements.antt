@@ -1,0 +1,148 @@
+-- One statement that writes, by itself or in a transaction: from what it makes of the rows to the clauses of a call.
+use Rattle.std.proofs.Common.{◌≡◌, ◌⊎◌, inl, inr, ℕ, List, [], ◌∷◌, Bool, true, false, if◌then◌else◌, Option, Some, None, Ok, Err, Result, IsTrue, MatchBool, refl, sym, ap, subst, subst₂, ◌∙◌, append-nil}
+use Rattle.std.proofs.lemmas.Bool.{cases_Bool}
+use Rattle.sqlite_value.specs.Order.{Row}
+use Rattle.sqlite_trees.specs.Tree.{Trees}
+use Rattle.sqlite_schema.specs.declared.schema.Schema.{Schema}
+use Rattle.sqlite_schema.specs.declared.command.Command.{Command}
+use Rattle.sqlite_schema.specs.declared.command.Command.TheVariants.{Select, Insert, InsertOr, Update, Delete, CreateTable, CreateIndex, DropTable, DropIndex, Begin, Commit, Rollback, Savepoint, Release, RollbackTo, Nothing, CreateView, DropView, Rows}
+use Rattle.sqlite_resolve.specs.declared.compiled.Compiled.{Compiled}
+use Rattle.sqlite_trees.specs.Objects.{catalog_tree}
+use Rattle.sqlite_catalog.specs.Listing.{IsSound}
+use Rattle.sqlite_catalog.proofs.ReadLemmas.{lists_once}
+use Rattle.sqlite.specs.declared.error.Error.{Error}
+use Rattle.sqlite.specs.declared.run.Mode.{Mode}
+use Rattle.sqlite_schema.specs.declared.schema.Keys.TheVariants.{Enforced}
+use Rattle.sqlite.specs.Effect.{Database, IsDatabase}
+use Rattle.sqlite.specs.Does.{Tally, Does}
+use Rattle.sqlite.specs.Calls.{IsWrite}
+use Rattle.sqlite.specs.Listing.{understood}
+use Rattle.sqlite.specs.State.{State, mode_of, HasCleanDisk, Survives, Runs, Writes, IsUnchanged, IsRolledBack, Executes, ExecutesIn, IsNotRun, CommitsBy, ExecutesInside, ExecutesInsideIn, MayWrite, shows_rows, text_of}
+use Rattle.sqlite.proofs.Callers.{IsPlain, command_of, statement_of, runs_as}
+use Rattle.sqlite.proofs.StateLemmas.{survives_weaker}
+use Rattle.sql_tables.specs.States.{Rests, Works, KeepsCommit}
+
+abbrev pub plain_mode : Mode
+plain_mode = record { keys = Enforced; in_doubt = false; may_wait = false }
+
+pub write_runs : (old new : State) (command : Command) (text : List ℕ) (params : Row) (count : ℕ) → IsWrite command → Runs old new None command text params count → Writes old new None command text params count
+write_runs old new (Select q names) text params count is h = absurd is
+write_runs old new (Insert at from) text params count is h = h
+write_runs old new (InsertOr at how from clauses) text params count is h = h
+write_runs old new (Update at q) text params count is h = h
+write_runs old new (Delete at q) text params count is h = h
+write_runs old new CreateTable text params count is h = h
+write_runs old new (CreateIndex at) text params count is h = h
+write_runs old new (DropTable at) text params count is h = h
+write_runs old new (DropIndex at) text params count is h = h
+write_runs old new Begin text params count is h = absurd is
+write_runs old new Commit text params count is h = absurd is
+write_runs old new Rollback text params count is h = absurd is
+write_runs old new (Savepoint name) text params count is h = absurd is
+write_runs old new (Release name) text params count is h = absurd is
+write_runs old new (RollbackTo name) text params count is h = absurd is
+write_runs old new (Rows values width names) text params count is h = absurd is
+write_runs old new Nothing text params count is h = absurd is
+write_runs old new CreateView text params count is h = h
+write_runs old new (DropView at) text params count is h = h
+
+-- a statement that is refused changes nothing, and one that fails rolls back
+pub refused : (sql : List ℕ) (params : Row) (old new : State) (e : Error) → Executes sql params old new (Err e) → IsUnchanged old new ⊎ IsRolledBack old new
+unfolding ExecutesIn IsNotRun
+refused sql params old new e (inl (inl h)) = inl h.1
+refused sql params old new e (inl (inr h)) = inr h.3
+refused sql params old new e (inr h) = elim (cases_Bool (shows_rows false h.0)) [
+  | inl shows ↦ inl (rw shows at h.2).1
+  | inr runs ↦ elim (rw runs at h.2) [ inl same ↦ inl same.1 | inr fails ↦ inr fails.3 ]
+]
+
+module _ (schema : Schema) (P : Trees → Type 0) where
+  -- a call that was refused leaves what stood
+  pub rests_if_kept : (old new : State) → Rests schema P old → IsTrue new.is_open → IsUnchanged old new ⊎ IsRolledBack old new → Rests schema P new
+  rests_if_kept old new was is_open (inl same) = record {
+    schema_is = ap (λ (d : Database). d.schema) same.0.now_is ∙ was.schema_is;
+    holds = subst (λ (d : Database). P d.trees) (sym same.0.now_is) was.holds;
+    settled = same.0.committed_is ∙ was.settled ∙ sym same.0.now_is;
+    autocommit = same.0.mode ∙ was.autocommit;
+    usable = is_open;
+  }
+  rests_if_kept old new was is_open (inr back) =
+      let now : new.now ≡ old.now = (back.undone is_open).0 ∙ was.settled in
+      record {
+        schema_is = ap (λ (d : Database). d.schema) now ∙ was.schema_is;
+        holds = subst (λ (d : Database). P d.trees) (sym now) was.holds;
+        settled = (back.undone is_open).1 ∙ sym (back.undone is_open).0;
+        autocommit = back.autocommit;
+        usable = is_open;
+      }
+
+  -- a call that only read leaves what stood
+  pub rests_if_same : (old new : State) → Rests schema P old → IsUnchanged old new → Rests schema P new
+  rests_if_same old new was same = rests_if_kept old new was same.0.is_open (inl same)
+
+  pub works_if_same : (old new : State) → Works schema P old → IsUnchanged old new → Works schema P new
+  works_if_same old new was same = record {
+    schema_is = ap (λ (d : Database). d.schema) same.0.now_is ∙ was.schema_is;
+    holds = subst (λ (d : Database). P d.trees) (sym same.0.now_is) was.holds;
+    running = subst IsTrue (sym same.0.mode) was.running;
+  }
+
+-- a statement inside a transaction leaves the last commit
+pub inside_kept : (sql : List ℕ) (params : Row) (old new : State) (r : Result ℕ Error) → ExecutesInside 0 sql params old new r → KeepsCommit old new
+inside_kept sql params old new (Ok count) h is_open = (h.1.was_open, h.1.committed_is)
+inside_kept sql params old new (Err e) (inl h) is_open = elim h.1 [ inl same ↦ (same.0.was_open, same.0.committed_is) | inr back ↦ (back.was_open is_open, (back.undone is_open).1) ]
+inside_kept sql params old new (Err e) (inr h) is_open = (h.2.0.was_open, h.2.0.committed_is)
+
+-- a statement that writes, as a schema understands it
+module _ (schema : Schema) (sql : List ℕ) (params : Row) (command : Command) (means : command_of (understood schema sql) ≡ command) (plain : IsPlain (understood schema sql)) (writes : IsWrite command) where
+  -- what the statement may commit
+  pub commits_as : (s : State) (db : Trees) → s.now.schema ≡ schema → CommitsBy sql params s db → MayWrite s None command (statement_of sql (understood schema sql)) params db
+  unfolding CommitsBy
+  commits_as s db has h =
+      let known = sym h.1.is ∙ ap (λ t. understood t sql) has in
+      let bare = subst IsPlain (sym known) plain in
+      let is : h.0.command ≡ command = ap command_of known ∙ means in
+      let text : text_of sql h.0 ≡ statement_of sql (understood schema sql) = ap (statement_of sql) known in
+      elim (rw (bare.0, bare.1, append-nil params) at h.2) [
+        | inl ends ↦ absurd (elim ends.0 [
+          | inl commit ↦ subst IsWrite (sym is ∙ commit) writes
+          | inr release ↦ subst IsWrite (sym is ∙ release.2) writes
+        ])
+        | inr write ↦ subst₂ (λ k t. MayWrite s None k t params db) is text write
+      ]
+
+  -- what it makes of tables that P holds of
+  module _ (P Q : Trees → Type 0)
+      (makes : (limit : Option ℕ) (trees : Trees) (text : List ℕ) (tally : Tally) (after : Database) → P trees → IsDatabase after
+      → Does limit plain_mode params (record { schema = schema; trees = trees }) text None command (Ok (tally, after))
+      → (after.schema ≡ schema) × Q after.trees) where
+    pub inside_done : (old new : State) (count : ℕ) → Works schema P old → ExecutesInside 0 sql params old new (Ok count) → Works schema Q new
+    inside_done old new count was h =
+        let w = write_runs old new command _ params count writes (runs_as sql params old new schema was.schema_is command means plain count h.0) in
+        let all = makes old.step_limit old.now.trees _ w.tally new.now was.holds w.sound
+        (subst (λ t. Does old.step_limit plain_mode params (record old.now { schema = t }) (statement_of sql (understood schema sql)) None command (Ok (w.tally, new.now))) was.schema_is w.changed) in
+        record { schema_is = all.0; holds = all.1; running = h.1.mode }
+
+    made : (s : State) (tally : Tally) (after : Database) → Rests schema P s → IsDatabase after → Does s.step_limit (mode_of s) params s.now (statement_of sql (understood schema sql)) None command (Ok (tally, after))
+        → (after.schema ≡ schema) × Q after.trees
+    made s tally after was sound h =
+        makes s.step_limit s.now.trees _ tally after was.holds sound
+        (subst (λ t. Does s.step_limit (mode_of s) params (record s.now { schema = t }) (statement_of sql (understood schema sql)) None command (Ok (tally, after))) was.schema_is h)
+
+    pub done : (old new : State) (count : ℕ) → Rests schema P old → Executes sql params old new (Ok count) → Rests schema Q new
+    done old new count was h =
+        let w = write_runs old new command _ params count writes (runs_as sql params old new schema was.schema_is command means plain count h) in
+        let all = made old w.tally new.now was w.sound w.changed in
+        record {
+          schema_is = all.0;
+          holds = all.1;
+          settled = w.shown.committed_is ∙ ap (λ b. if b then old.committed else new.now) was.autocommit;
+          autocommit = w.shown.mode ∙ was.autocommit;
+          usable = w.shown.is_open;
+        }
+
+    pub crash : (old new : State) → Rests schema P old → Survives old new (CommitsBy sql params old) → Survives old new Q
+    crash old new was h = survives_weaker old new (CommitsBy sql params old) Q (λ _ db may.
+        let it = commits_as old db was.schema_is may in
+        let all = made old it.1 it.2 was it.4 it.3 in
+        subst Q (sym it.5) all.1) h
