@@ -1,10 +1,9 @@
 -- DELETE from a table to which nothing refers.
-use Rattle.std.proofs.Common.{◌≡◌, ℕ, List, [], ◌∷◌, map, drop, filter, slice_get, is_some, Bool, true, false, not, if◌then◌else◌, Some, None, Option, Ok, Result, refl, sym, ap, subst, ◌∙◌}
+use Rattle.std.proofs.Common.{◌≡◌, ℕ, List, [], ◌∷◌, map, drop, filter, slice_get, is_some, Bool, true, false, not, if◌then◌else◌, Some, None, Option, Ok, refl, sym, ap, subst, ◌∙◌}
 use Rattle.sqlite_value.specs.declared.value.Value.{Value}
 use Rattle.sqlite_value.specs.declared.value.Value.TheVariants.{Null}
 use Rattle.sqlite_value.specs.Order.{Row}
 use Rattle.sqlite_trees.specs.Tree.{Trees}
-use Rattle.sqlite_trees.specs.View.{IsShaped}
 use Rattle.sqlite_trees.specs.declared.store.Shape.TheVariants as shape
 use Rattle.sqlite_trees.proofs.TreeLemmas.{IsShaped-filter}
 use Rattle.sqlite_sql.specs.Term.{Term, col}
@@ -24,7 +23,7 @@ use Rattle.sqlite_catalog.specs.Listing.{IsSound}
 use Rattle.sqlite.specs.Effect.{Database, IsDatabase}
 use Rattle.sqlite.specs.Does.{Tally, Does}
 use Rattle.sqlite.proofs.Callers.{one_step}
-use Rattle.sql_tables.specs.Contents.{IsContent, Contain, content_at, with_content, stands_alone, rows_that_count}
+use Rattle.sql_tables.specs.Contents.{IsContent, Contain, content_at, with_content, stands_alone}
 use Rattle.sql_tables.specs.Queries.{scan, only}
 use Rattle.sql_tables.proofs.Contents.{content_changed, content_there}
 use Rattle.sql_tables.proofs.Effects.{deletes, plainly}

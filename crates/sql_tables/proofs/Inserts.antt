@@ -1,5 +1,5 @@
 -- INSERT .. VALUES: rows at the end of a table.
-use Rattle.std.proofs.Common.{◌≡◌, ℕ, ◌/◌, ℤ, List, [], ◌∷◌, ◌++◌, map, drop, length, slice_get, is_some, Bool, true, false, if◌then◌else◌, Some, None, Option, Ok, Result, refl, sym, ap, ap₂, subst, ◌∙◌, append-nil}
+use Rattle.std.proofs.Common.{◌≡◌, ℕ, ◌/◌, ℤ, List, [], ◌∷◌, ◌++◌, map, drop, length, slice_get, is_some, true, if◌then◌else◌, Some, None, Option, Ok, refl, sym, ap, subst, ◌∙◌, append-nil}
 use Rattle.std.specs.List.{AllByRecursion}
 use Rattle.std.proofs.lemmas.List.{append_assoc}
 use Rattle.std.specs.declared.cmp.Ordering.TheVariants.{Less}
@@ -21,7 +21,7 @@ use Rattle.sqlite_catalog.specs.Listing.{IsSound}
 use Rattle.sqlite.specs.Effect.{Database, IsDatabase, value_rows}
 use Rattle.sqlite.specs.Rows.{stamped}
 use Rattle.sqlite.specs.Does.{Tally, Does}
-use Rattle.sql_tables.specs.Contents.{IsContent, AllContents, Contain, content_at, with_content, stands_alone, rows_that_count}
+use Rattle.sql_tables.specs.Contents.{IsContent, Contain, content_at, with_content, stands_alone, rows_that_count}
 use Rattle.sql_tables.proofs.Contents.{content_changed, content_there}
 use Rattle.sql_tables.proofs.Effects.{inserts, plainly}
 use Rattle.sql_tables.proofs.Rows.{put_last, below_next, map-append}

@@ -2,11 +2,9 @@
 use Rattle.sqlite_schema.specs.declared.schema.Schema.{Schema}
 use Rattle.sql_tables.proofs.Rows.{passes}
 use Rattle.sql_tables.specs.Queries.{scan}
-use Rattle.std.proofs.Common.{◌≡◌, ◌⊎◌, inl, inr, ℕ, List, [], ◌∷◌, ◌++◌, map, filter, flat_map, slice_get, pos, Bool, true, false, cond, Some, None, Ok, Err, Result, refl, sym, ap, ap₂, subst, subst₂, ◌∙◌, drop, IsTrue, append-nil}
+use Rattle.std.proofs.Common.{◌≡◌, ◌⊎◌, inl, inr, ℕ, List, [], ◌∷◌, ◌++◌, map, filter, flat_map, Bool, true, false, cond, Ok, Err, Result, refl, sym, ap, subst, ◌∙◌}
 use Rattle.std.specs.List.{list_all}
 use Rattle.std.specs.Prelude.{IsPermutation, IsSorted}
-use Rattle.std.proofs.lemmas.Bool.{cases_Bool}
-use Rattle.sqlite_value.specs.declared.value.Value.TheVariants.{Null, Int}
 use Rattle.sqlite_trees.proofs.ListLemmas.{all-permutation}
 use Rattle.sqlite_rules.specs.Lists.{Has}
 use Rattle.sqlite_rules.proofs.ListLemmas.{all_has, all_from}
@@ -16,24 +14,12 @@ use Rattle.sqlite_value.specs.Order.{Row}
 use Rattle.sqlite_value.specs.declared.keys.Key.{Key}
 use Rattle.sqlite_trees.specs.Tree.{Trees}
 use Rattle.sqlite_sql.specs.Term.{Term, Env, holds}
-use Rattle.sqlite_sql.specs.Program.{overlay}
-use Rattle.sqlite_sql.specs.Query.{Query, Output, IsAnswer, matches, inner, end, output, output_cmp}
-use Rattle.sqlite_schema.specs.declared.command.Command.{Command}
-use Rattle.sqlite_schema.specs.declared.command.Command.TheVariants.{Select}
+use Rattle.sqlite_sql.specs.Query.{Query, Output, IsAnswer, output, output_cmp}
 use Rattle.sqlite.specs.declared.error.Error.{Error}
-use Rattle.sqlite.specs.Listing.{understood, reads_listing}
-use Rattle.sqlite.specs.State.{State, IsUnchanged, IsRolledBack, FailsToQuery, QueriesRow, Shown, Begins, IsNotRun, Survives, CommitsShowing}
-use Rattle.sqlite.proofs.Callers.{IsPlain, command_of, first_as, reads_as, never_commits}
+use Rattle.sqlite.specs.Listing.{understood}
+use Rattle.sqlite.specs.State.{State, IsUnchanged, IsRolledBack, FailsToQuery, QueriesRow, Shown, IsNotRun, Survives, CommitsShowing}
+use Rattle.sqlite.proofs.Callers.{IsPlain, never_commits}
 use Rattle.sqlite.proofs.StateLemmas.{survives_weaker}
-use Rattle.sqlite_value.specs.Order.{column}
-use Rattle.std.specs.List.{AllByRecursion}
-use Rattle.std.proofs.lemmas.List.Sorted.{IsPermutation-map}
-use Rattle.sqlite_value.specs.declared.keys.Collation.TheVariants.{Binary}
-use Rattle.sqlite_value.specs.Keys.{ascending}
-use Rattle.sqlite_sql.specs.Term.{col}
-use Rattle.sqlite_trees.specs.Tree.{rowid}
-use Rattle.sqlite_trees.specs.View.{is_int}
-use Rattle.sqlite_keyed.proofs.ListLemmas.{map-map}
 
 module _ (schema : Schema) (sql : List ℕ) (params : Row) (old new : State) (has : old.now.schema ≡ schema) (plain : IsPlain (understood schema sql)) where
   bare : IsPlain (understood old.now.schema sql)
@@ -131,4 +117,3 @@ row_shown tree terms project order rows params answer s r h is =
     let there = mapped_has (output q) _ (params ∷ r ∷ []) (mapped_has (λ (k : Row). params ∷ k ∷ []) _ r (kept_has (passes params terms) rows r h is)) in
     let o = has_permuted s.ordered _ (output q (params ∷ r ∷ [])) (IsPermutation-sym _ _ s.same) there in
     subst (λ l. Has l (output q (params ∷ r ∷ [])).1) (sym s.shown) (mapped_has (λ (k : Output). k.1) s.ordered _ o)
-

@@ -1,22 +1,21 @@
 -- Rows of one table: their rowids, the rows that a test picks, and what is left without them.
-use Rattle.std.proofs.Common.{◌≡◌, ◌⊎◌, inl, inr, ℕ, ℤ, pos, ◌+ℤ◌, ◌<ℤ◌, ◌/◌, List, [], ◌∷◌, ◌++◌, map, drop, length, filter, fold, slice_get, Bool, true, false, not, ◌||◌, cond, is_eq, Equal, bytes_eq, eqb, Some, None, Option, Ok, Err, Result, IsTrue, refl, sym, ap, ap₂, subst, ◌∙◌, arith}
+use Rattle.std.proofs.Common.{◌≡◌, inl, inr, ℕ, ℤ, pos, ◌<ℤ◌, List, [], ◌∷◌, ◌++◌, map, drop, filter, Bool, true, false, not, ◌||◌, cond, is_eq, Equal, bytes_eq, eqb, Some, IsTrue, refl, sym, ap, ap₂, subst, ◌∙◌, arith}
 use Rattle.std.specs.List.{AllByRecursion}
 use Rattle.std.specs.declared.cmp.Ordering.TheVariants.{Less, Greater}
 use Rattle.std.specs.Ordering.{int_cmp}
 use Rattle.sqlite_value.specs.declared.value.Value.{Value}
-use Rattle.sqlite_value.specs.declared.value.Value.TheVariants.{Null, Int, Text}
+use Rattle.sqlite_value.specs.declared.value.Value.TheVariants.{Int, Text}
 use Rattle.sqlite_value.specs.Order.{Row, value_cmp}
 use Rattle.sqlite_value.proofs.OrderLemmas.{value_cmp-Int, value_cmp-Text}
-use Rattle.sqlite_trees.specs.Tree.{Trees, rowid, put_row, IsTable}
+use Rattle.sqlite_trees.specs.Tree.{rowid, put_row, IsTable}
 use Rattle.sqlite_trees.specs.View.{is_int, IsShaped}
 use Rattle.sqlite_trees.specs.declared.store.Shape.TheVariants as shape
-use Rattle.sqlite_trees.proofs.TreeLemmas.{IsShaped-put_row}
 use Rattle.sqlite_rules.specs.Edit.{id_in, next_rowid}
 use Rattle.sqlite_rules.proofs.TableLemmas.{int_is}
 use Rattle.std.proofs.lemmas.Int.{ints}
 use Rattle.sqlite_keyed.specs.Keyed.{IsKeyedBy}
 use Rattle.sqlite_keyed.proofs.KeyedLemmas.{Less-from_lt, lt_from_Less, above_all}
-use Rattle.sqlite_keyed.proofs.ListLemmas.{all_both, map-map}
+use Rattle.sqlite_keyed.proofs.ListLemmas.{all_both}
 use Rattle.std.proofs.lemmas.Bool.{cases_Bool}
 use Rattle.std.proofs.lemmas.Bool.Decides.{nat_tests}
 use Rattle.std.proofs.lemmas.Map.Text.{is_eq-slice_cmp}
@@ -26,7 +25,6 @@ use Rattle.sqlite_sql.specs.declared.ops.BinaryOp.TheVariants.{Compare}
 use Rattle.sqlite_sql.specs.declared.ops.CompareOp.TheVariants.{Eq}
 use Rattle.sqlite_sql.specs.Ops.{binary, is_true, from_truth}
 use Rattle.sqlite_trees.specs.Tree.{has_rowid, without_rowid}
-use Rattle.sqlite_trees.proofs.TreeLemmas.{IsShaped-filter}
 use Rattle.sqlite_sql.specs.Term.{Term, holds}
 use Rattle.sqlite_rules.specs.Edit.{without_all, row_at}
 use Rattle.sqlite_rules.specs.Action.{pairs}
@@ -36,7 +34,6 @@ use Rattle.sqlite_rules.specs.Probe.{AreFound}
 use Rattle.sqlite_rules.proofs.ListLemmas.{some_has, some_from, all_has}
 use Rattle.sqlite_rules.proofs.ProbeLemmas.{has_mapped, mapped_has}
 use Rattle.sqlite_rules.proofs.PlaceLemmas.{row_at_is}
-use Rattle.sqlite_catalog.proofs.LayoutLemmas.{has_own_rowid}
 use Rattle.std.specs.List.{list_any, list_all}
 
 abbrev pub id_of : Row → ℤ

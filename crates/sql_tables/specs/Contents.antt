@@ -45,3 +45,7 @@ abbrev pub stands_alone : ℕ → ℕ → List Table → Bool
 stands_alone tree at [] = true
 stands_alone tree zero (table ∷ tables) = list_all (λ (t : Table). not (t.tree == tree)) tables
 stands_alone tree (suc at) (table ∷ tables) = not (table.tree == tree) && stands_alone tree at tables
+
+-- no table has a row
+abbrev pub no_rows : List Table → List (List Row)
+no_rows tables = map (λ _. []) tables

@@ -1,6 +1,5 @@
 -- Queries on one table.
-use Rattle.std.specs.Prelude.{ℕ, pos, negsuc, false, List, [], ◌∷◌, None}
-use Rattle.sqlite_value.specs.declared.keys.Key.{Key}
+use Rattle.std.specs.Prelude.{ℕ, pos, negsuc, false, List, [], None}
 use Rattle.sqlite_value.specs.declared.keys.Collation.TheVariants.{Binary}
 use Rattle.sqlite_value.specs.declared.value.Value.TheVariants.{Int}
 use Rattle.sqlite_sql.specs.Term.{Term, lit, op2}

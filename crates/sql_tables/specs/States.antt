@@ -37,8 +37,8 @@ pub record IsBlank (empty : Schema) (s : State) : Type 0 where
   pub settled : s.committed ≡ s.now
   pub autocommit : s.in_transaction ≡ false
 
--- within a transaction the tables of the schema are made, and have no row
-pub record Made (schema : Schema) (s : State) : Type 0 where
+-- within a transaction the tables of the schema have no row
+pub record Begins (schema : Schema) (s : State) : Type 0 where
   pub schema_is : s.now.schema ≡ schema
   pub empty : AllByRecursion (λ t. s.now.trees t.tree ≡ []) schema.tables
   pub running : IsTrue s.in_transaction
