@@ -1,0 +1,154 @@
+-- What the tables hold, as plain lists in the order of their rows.
+use Rattle.std.specs.Prelude.{◌≡◌, ℕ, suc, ◌<◌, pos, List, [], ◌∷◌, map, Option, Some, None}
+use Rattle.std.specs.List.{AllByRecursion}
+use Rattle.sqlite_value.specs.declared.value.Value.{Value}
+use Rattle.sqlite_value.specs.declared.value.Value.TheVariants.{Null, Int, Text, Blob}
+use Rattle.sqlite_value.specs.Order.{Row}
+use Rattle.sqlite_trees.specs.Tree.{Trees}
+use Rattle.sql_tables.specs.Contents.{Contain}
+use Rattle.prof_tables.specs.Schema.{schema_one}
+
+-- a run that is held; its kind is 1 for Callgrind and 2 for folded stacks
+pub record RunLine : Type 0 where
+  pub number : ℕ
+  pub kind : ℕ
+  pub digest : List ℕ
+  pub label : List ℕ
+  pub call_count : ℕ
+
+-- an event of a run: its column, its name, its sums, and the total that the file states, in decimal
+pub record EventLine : Type 0 where
+  pub run : ℕ
+  pub place : ℕ
+  pub name : List ℕ
+  pub self_cost : ℕ
+  pub call_cost : ℕ
+  pub stated : Option (List ℕ)
+
+-- a derived event of a run
+pub record DerivedLine : Type 0 where
+  pub run : ℕ
+  pub place : ℕ
+  pub name : List ℕ
+
+-- how often an event counts in a derived one
+pub record CoefLine : Type 0 where
+  pub run : ℕ
+  pub place : ℕ
+  pub event : ℕ
+  pub times : ℕ
+
+-- the sum of an event's own costs at a place, names by number
+pub record CellLine : Type 0 where
+  pub run : ℕ
+  pub object : ℕ
+  pub file : ℕ
+  pub function : ℕ
+  pub line : ℕ
+  pub event : ℕ
+  pub cost : ℕ
+
+-- a part of the calls from a place to a function: part 0 counts them, part k + 1 is their cost in column k
+pub record ArcLine : Type 0 where
+  pub run : ℕ
+  pub object : ℕ
+  pub file : ℕ
+  pub function : ℕ
+  pub line : ℕ
+  pub called_object : ℕ
+  pub called_file : ℕ
+  pub called_function : ℕ
+  pub part : ℕ
+  pub sum : ℕ
+
+-- how often a stack was seen
+pub record StackLine : Type 0 where
+  pub run : ℕ
+  pub frames : List ℕ
+  pub count : ℕ
+
+pub record GroupLine : Type 0 where
+  pub name : List ℕ
+  pub baseline : Option ℕ
+
+pub record MemberLine : Type 0 where
+  pub group : List ℕ
+  pub run : ℕ
+
+-- the next run's number, and the lines of each table; the numbers of the names are their places, from 1
+pub record Tables : Type 0 where
+  pub next : ℕ
+  pub runs : List RunLine
+  pub events : List EventLine
+  pub derived : List DerivedLine
+  pub coefs : List CoefLine
+  pub names : List (List ℕ)
+  pub cells : List CellLine
+  pub arcs : List ArcLine
+  pub stacks : List StackLine
+  pub groups : List GroupLine
+  pub members : List MemberLine
+
+-- ---- the rows; a key that is the rowid stands before the others, and leaves its own column empty
+
+abbrev pub number : ℕ → Value
+number n = Int (pos n)
+
+abbrev pub number_or_null : Option ℕ → Value
+number_or_null None = Null
+number_or_null (Some n) = number n
+
+abbrev pub text_or_null : Option (List ℕ) → Value
+text_or_null None = Null
+text_or_null (Some text) = Text text
+
+abbrev pub meta_columns : ℕ → Row
+meta_columns next = number 1 ∷ Null ∷ number 1 ∷ number next ∷ []
+
+abbrev pub run_columns : RunLine → Row
+run_columns r = number r.number ∷ Null ∷ number r.kind ∷ Blob r.digest ∷ Text r.label ∷ number r.call_count ∷ []
+
+abbrev pub event_columns : EventLine → Row
+event_columns e = number e.run ∷ number e.place ∷ Blob e.name ∷ number e.self_cost ∷ number e.call_cost ∷ text_or_null e.stated ∷ []
+
+abbrev pub derived_columns : DerivedLine → Row
+derived_columns d = number d.run ∷ number d.place ∷ Blob d.name ∷ []
+
+abbrev pub coef_columns : CoefLine → Row
+coef_columns c = number c.run ∷ number c.place ∷ number c.event ∷ number c.times ∷ []
+
+-- the names from a number on
+abbrev pub name_rows : ℕ → List (List ℕ) → List Row
+name_rows n [] = []
+name_rows n (name ∷ names) = (number n ∷ Null ∷ Blob name ∷ []) ∷ name_rows (suc n) names
+
+abbrev pub cell_columns : CellLine → Row
+cell_columns c = number c.run ∷ number c.object ∷ number c.file ∷ number c.function ∷ number c.line ∷ number c.event ∷ number c.cost ∷ []
+
+abbrev pub arc_columns : ArcLine → Row
+arc_columns a =
+    number a.run ∷ number a.object ∷ number a.file ∷ number a.function ∷ number a.line ∷ number a.called_object ∷ number a.called_file ∷ number a.called_function ∷ number a.part ∷ number a.sum ∷ []
+
+abbrev pub stack_columns : StackLine → Row
+stack_columns s = number s.run ∷ Blob s.frames ∷ number s.count ∷ []
+
+abbrev pub group_columns : GroupLine → Row
+group_columns g = Text g.name ∷ number_or_null g.baseline ∷ []
+
+abbrev pub member_columns : MemberLine → Row
+member_columns m = Text m.group ∷ number m.run ∷ []
+
+-- the contents of the tables of schema 1, in its order
+abbrev pub contents_of : Tables → List (List Row)
+contents_of t =
+    (meta_columns t.next ∷ []) ∷ map run_columns t.runs ∷ map event_columns t.events ∷ map derived_columns t.derived ∷ map coef_columns t.coefs ∷ name_rows 1 t.names ∷ map cell_columns t.cells
+    ∷ map arc_columns t.arcs ∷ map stack_columns t.stacks ∷ map group_columns t.groups ∷ map member_columns t.members ∷ []
+
+-- the database has these tables, and each run's number is below the next
+pub record Holds (t : Tables) (db : Trees) : Type 0 where
+  pub contain : Contain schema_one (contents_of t) db
+  pub below : AllByRecursion (λ (r : RunLine). r.number < t.next) t.runs
+
+-- a new store
+abbrev pub new_tables : Tables
+new_tables = record { next = 1; runs = []; events = []; derived = []; coefs = []; names = []; cells = []; arcs = []; stacks = []; groups = []; members = [] }
