@@ -1,0 +1,7 @@
+pub mod Creates
+pub mod Defines
+pub mod Drops
+pub mod Groups
+pub mod Means
+pub mod Rows
+pub mod Values
