@@ -1,4 +1,5 @@
 pub mod Changes
+pub mod Files
 pub mod Schema
 pub mod Tables
 pub mod Texts
