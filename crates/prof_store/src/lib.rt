@@ -2,7 +2,10 @@
 #![tactic(auto)]
 
 mod cell_texts;
+mod dropping;
 mod errors;
+mod groups;
+mod joining;
 mod lines;
 mod making;
 mod store;
