@@ -9,6 +9,8 @@ pub mod StacksLemmas
 pub mod GrowingLemmas
 pub mod TotalsLemmas
 pub mod SumsLemmas
+pub mod StackSumsLemmas
+pub mod TextsLemmas
 pub mod WalksLemmas
 pub mod SeenLemmas
 pub mod KeysLemmas

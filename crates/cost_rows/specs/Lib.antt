@@ -12,6 +12,8 @@ pub mod Totals
 pub mod Rows
 pub mod Lent
 pub mod Sums
+pub mod StackSums
+pub mod Texts
 pub mod Walks
 pub mod Plain
 pub mod Keys
