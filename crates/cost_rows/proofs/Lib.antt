@@ -3,6 +3,7 @@ pub mod NumberedLemmas
 pub mod AdmitLemmas
 pub mod MergeLemmas
 pub mod Examples
+pub mod TextExamples
 pub mod ColumnsLemmas
 pub mod PlacesLemmas
 pub mod StacksLemmas

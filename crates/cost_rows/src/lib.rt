@@ -22,6 +22,8 @@ mod tests;
 mod tests_merged;
 #[cfg(test)]
 mod tests_rows;
+#[cfg(test)]
+mod tests_texts;
 mod texts;
 mod totals;
 mod walks;
