@@ -1,16 +1,13 @@
 -- The rows of stacks come to what the stacks count.
-use Rattle.std.proofs.Common.{◌≡◌, ℕ, ◌+◌, zero, suc, Bool, true, false, List, [], ◌∷◌, fold, slice_index, if◌then◌else◌, refl, ap, ◌∙◌, add_assoc}
+use Rattle.std.proofs.Common.{◌≡◌, ℕ, ◌+◌, suc, Bool, true, false, List, [], ◌∷◌, fold, slice_index, if◌then◌else◌, refl, ap, ◌∙◌, add_assoc}
 use Rattle.std.specs.List.Sorted.{IsStrictlySortedBy}
-use Rattle.cg_text.specs.Formulas.{are_distinct}
 use Rattle.folded_reader.specs.Files.{Seen}
 use Rattle.cost_rows.specs.Columns.{added}
-use Rattle.cost_rows.specs.Content.{Content, empty, names_with_cost, place_of_cost, leaf_cost, with_cost, with_stack}
+use Rattle.cost_rows.specs.Content.{Content, empty, names_with_cost, place_of_cost, leaf_cost, with_stack}
 use Rattle.cost_rows.specs.Merging.{sum_where, TellsApart}
-use Rattle.cost_rows.specs.Places.{place_cmp}
 use Rattle.cost_rows.specs.Stacks.{bytes_cmp, counts_added}
 use Rattle.cost_rows.specs.Sums.{Spot, spot_of}
 use Rattle.cost_rows.specs.StackSums.{leaf_sum, frames_sum, cells_where, content_of_stacks, ComesToStacks, IsInStackOrder}
-use Rattle.std.specs.Map.{keys_of}
 use Rattle.std.specs.Ordering.{is_eq}
 use Rattle.cost_rows.proofs.MergeLemmas.{sum-merge, sorted-merge}
 use Rattle.cost_rows.proofs.NumberedLemmas.{equal-bytes}

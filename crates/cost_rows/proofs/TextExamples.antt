@@ -1,5 +1,5 @@
 -- The rows of whole texts, computed.
-use Rattle.std.proofs.Common.{◌≡◌, ℕ, true, List, [], ◌∷◌, codes, refl}
+use Rattle.std.proofs.Common.{◌≡◌, true, [], ◌∷◌, codes, refl}
 use Rattle.cg_text.specs.Fields.{line_text}
 use Rattle.cg_text.specs.Kinds.{kind_of}
 use Rattle.cg_text.specs.Names.{name_of}
@@ -10,9 +10,8 @@ use Rattle.callgrind_reader.specs.Files.{records_of_file}
 use Rattle.folded_reader.specs.Lines as folded
 use Rattle.folded_reader.specs.Files.{stacks_of_file}
 use Rattle.cost_rows.specs.StackSums.{leaf_sum, frames_sum}
-use Rattle.cost_rows.specs.Sums.{call_sum, count_sum}
+use Rattle.cost_rows.specs.Sums.{count_sum}
 use Rattle.cost_rows.specs.Texts.{content_of_text, content_of_folded, all_counts}
-use Rattle.cost_rows.specs.declared.places.Place.{Place}
 use Rattle.std.specs.Str.{bytes_eq}
 
 -- two rows of one place

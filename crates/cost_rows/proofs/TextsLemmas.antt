@@ -1,5 +1,5 @@
 -- The rows of whole texts come to what the texts say.
-use Rattle.std.proofs.Common.{◌≡◌, ℕ, ◌+◌, true, List, [], ◌∷◌, fold, Result, Ok, Err, refl, sym, ap, subst, ◌∙◌}
+use Rattle.std.proofs.Common.{◌≡◌, ℕ, ◌+◌, true, List, [], ◌∷◌, Result, Ok, Err, refl, sym, ap, subst, ◌∙◌}
 use Rattle.std.specs.Result.{IsErrAnd, MatchResult}
 use Rattle.callgrind_reader.specs.Records.{Record}
 use Rattle.callgrind_reader.specs.Files as callgrind
