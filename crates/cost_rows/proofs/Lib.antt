@@ -13,6 +13,7 @@ pub mod SumsLemmas
 pub mod StackSumsLemmas
 pub mod TextsLemmas
 pub mod WalksLemmas
+pub mod WalkSumsLemmas
 pub mod SeenLemmas
 pub mod KeysLemmas
 pub mod KeySumsLemmas

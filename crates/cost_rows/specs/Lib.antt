@@ -15,6 +15,7 @@ pub mod Sums
 pub mod StackSums
 pub mod Texts
 pub mod Walks
+pub mod WalkSums
 pub mod Plain
 pub mod Keys
 pub mod KeySums

@@ -32,7 +32,7 @@ pub use file_rows::FileRows;
 pub use keys::Key;
 pub use laws::{
     merging_keeps_each_sum, numbers_tell_names_apart, rows_add_up_by_key, rows_come_to_the_records,
-    rows_come_to_the_stacks,
+    rows_come_to_the_stacks, walked_rows_come_to_the_sums,
 };
 pub use limits::{Overflow, SUM_LIMIT, Side, admit};
 pub use merged::Merged;
