@@ -30,14 +30,20 @@ fn delete_member<S: Alter>(conn: &mut Connection<S>, name: &str, run: u32) -> Re
     ensures runs { HasCleanDisk (state S.Store conn.new) → Executes leave_text (Text name.now ∷ Int (pos run) ∷ []) (state S.Store conn.old) (state S.Store conn.new) result }
     ensures survives { Survives (state S.Store conn.old) (state S.Store conn.new) (CommitsBy leave_text (Text name.now ∷ Int (pos run) ∷ []) (state S.Store conn.old)) }
 {
-    conn.execute("DELETE FROM member WHERE grp = ?1 AND run = ?2", params![name, run])
+    conn.execute(
+        "DELETE FROM member WHERE grp = ?1 AND run = ?2",
+        params![name, run],
+    )
 }
 
 fn update_baseline<S: Alter>(conn: &mut Connection<S>, name: &str, run: u32) -> Result<usize, Error>
     ensures runs { HasCleanDisk (state S.Store conn.new) → Executes set_baseline_text (Text name.now ∷ Int (pos run) ∷ []) (state S.Store conn.old) (state S.Store conn.new) result }
     ensures survives { Survives (state S.Store conn.old) (state S.Store conn.new) (CommitsBy set_baseline_text (Text name.now ∷ Int (pos run) ∷ []) (state S.Store conn.old)) }
 {
-    conn.execute("UPDATE grp SET baseline = ?2 WHERE name = ?1", params![name, run])
+    conn.execute(
+        "UPDATE grp SET baseline = ?2 WHERE name = ?1",
+        params![name, run],
+    )
 }
 
 impl<S: Alter> Store<S> {

@@ -49,7 +49,7 @@ impl<S: Alter> Store<S> {
         ensures honest { IsFaithful S.Store self.new → IsFaithful S.Store self.old }
     {
         match select_member(&mut self.conn, name, run) {
-            Ok(rows) => Ok(!rows.is_empty()),
+            Ok(rows) => Ok(!rows.as_slice().is_empty()),
             Err(error) => Err(end_of(error)),
         }
     }

@@ -1,8 +1,6 @@
 -- What queries that look for a line find.
-use Rattle.std.proofs.Common.{◌≡◌, ◌⊎◌, inl, inr, ℕ, List, [], ◌∷◌, map, bytes_eq, ◌&&◌, not, length, ◌==◌, arith, Bool, true, false, refl, sym, ap, ap₂, subst, ◌∙◌}
-use Rattle.std.specs.List.{list_any}
+use Rattle.std.proofs.Common.{◌≡◌, inl, inr, ℕ, List, [], ◌∷◌, map, not, length, ◌==◌, arith, true, false, refl, sym, ap, ◌∙◌}
 use Rattle.std.proofs.lemmas.Bool.{cases_Bool, ne_eqb}
-use Rattle.sqlite_tied.proofs.RuleLemmas.{and_true}
 use Rattle.sqlite_value.specs.declared.value.Value.TheVariants.{Int, Text}
 use Rattle.sqlite_value.specs.Order.{Row}
 use Rattle.sqlite_rules.specs.Lists.{Has}
@@ -23,6 +21,10 @@ use Rattle.prof_tables.specs.Changes.{is_member, has_member}
 use Rattle.prof_tables.proofs.Groups.{member_passes}
 use Rattle.prof_tables.proofs.Means.{find_member_terms, find_member_shown, find_member_order, find_member_means, find_member_plain, find_member_unlisted}
 
+none_has : {X : Type 0} (xs : List X) (x : X) → xs ≡ [] → Has xs x → ⊥
+none_has [] x none there = there
+none_has (y ∷ xs) x none there = cc
+
 -- a member is found exactly where there is one
 module _ (name : List ℕ) (n : ℕ) (t : Tables) (rows answer : List Row) (here : IsContent member_at (map member_columns t.members) rows)
     (s : Selects 21 find_member_terms find_member_shown find_member_order rows (Text name ∷ number n ∷ []) answer) where
@@ -31,7 +33,7 @@ module _ (name : List ℕ) (n : ℕ) (t : Tables) (rows answer : List Row) (here
     | inl is ↦
         let m = some_has (is_member name n) t.members is in
         let r = row_there member_at member_columns rows t.members here m.0 m.1 in
-        absurd (subst (λ l. Has l _) none (row_shown 21 find_member_terms find_member_shown find_member_order rows (Text name ∷ number n ∷ []) answer s _ r.1 (member_passes name n (Int r.0) m.0 ∙ m.2)))
+        absurd (none_has answer _ none (row_shown 21 find_member_terms find_member_shown find_member_order rows (Text name ∷ number n ∷ []) answer s _ r.1 (member_passes name n (Int r.0) m.0 ∙ m.2)))
     | inr isnt ↦ isnt
   ]
 

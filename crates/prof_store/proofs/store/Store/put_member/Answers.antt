@@ -1,4 +1,4 @@
-use Rattle.std.proofs.Common.{◌≡◌, true, [], ◌∷◌, pos}
+use Rattle.std.proofs.Common.{[], ◌∷◌, pos}
 use Rattle.std.specs.Bool.{⊤}
 use Rattle.sqlite_value.specs.declared.value.Value.TheVariants.{Int, Text}
 use Rattle.sql_tables.proofs.Statements.{refused, rests_if_kept}
