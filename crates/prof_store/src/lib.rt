@@ -5,6 +5,7 @@ mod cell_texts;
 mod dropping;
 mod errors;
 mod groups;
+mod head_texts;
 mod joining;
 mod lines;
 mod making;

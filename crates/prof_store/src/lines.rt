@@ -13,3 +13,31 @@ pub(crate) struct CellLine {
     pub event: u32,
     pub cost: Whole,
 }
+
+/// An event of a run: its column, its name, its sums, and the total that the file states.
+#[derive(Drop)]
+pub(crate) struct EventLine {
+    pub run: u32,
+    pub place: u32,
+    pub name: Vec<u8>,
+    pub self_cost: Whole,
+    pub call_cost: Whole,
+    pub stated: Option<String>,
+}
+
+/// A derived event of a run.
+#[derive(Drop)]
+pub(crate) struct DerivedLine {
+    pub run: u32,
+    pub place: u32,
+    pub name: Vec<u8>,
+}
+
+/// How often an event counts in a derived one.
+#[derive(Drop)]
+pub(crate) struct CoefLine {
+    pub run: u32,
+    pub place: u32,
+    pub event: u32,
+    pub times: Whole,
+}
