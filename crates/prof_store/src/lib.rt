@@ -1,9 +1,12 @@
 //! The store: runs, groups and baselines of profiles in SQLite tables.
 #![tactic(auto)]
 
+mod arc_texts;
 mod cell_texts;
 mod errors;
 mod lines;
+mod name_texts;
+mod stack_texts;
 mod store;
 mod whole;
 
