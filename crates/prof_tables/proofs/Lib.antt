@@ -3,5 +3,7 @@ pub mod Defines
 pub mod Drops
 pub mod Groups
 pub mod Means
+pub mod Names
+pub mod Numbering
 pub mod Rows
 pub mod Values
