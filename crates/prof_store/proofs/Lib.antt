@@ -1,1 +1,2 @@
+mod Parts
 mod Writing

@@ -1,7 +1,9 @@
 -- The lines of the code, as plain data.
 use Rattle.std.specs.Prelude.{string_bytes, option_map}
-use Rattle.prof_tables.specs.Tables.{CellLine as Cell, EventLine as Event, DerivedLine as Derived, CoefLine as Coef}
+use Rattle.prof_tables.specs.Tables.{CellLine as Cell, ArcLine as Arc, StackLine as Stack, EventLine as Event, DerivedLine as Derived, CoefLine as Coef}
 use Rattle.prof_store.specs.declared.lines.CellLine.{CellLine}
+use Rattle.prof_store.specs.declared.lines.ArcLine.{ArcLine}
+use Rattle.prof_store.specs.declared.lines.StackLine.{StackLine}
 use Rattle.prof_store.specs.declared.lines.EventLine.{EventLine}
 use Rattle.prof_store.specs.declared.lines.DerivedLine.{DerivedLine}
 use Rattle.prof_store.specs.declared.lines.CoefLine.{CoefLine}
@@ -17,3 +19,20 @@ derived_line d = record { run = d.run; place = d.place; name = d.name.items }
 
 abbrev pub coef_line : CoefLine → Coef
 coef_line c = record { run = c.run; place = c.place; event = c.event; times = c.times }
+
+abbrev pub arc_line : ArcLine → Arc
+arc_line a = record {
+  run = a.run;
+  object = a.object;
+  file = a.file;
+  function = a.function;
+  line = a.line;
+  called_object = a.called_object;
+  called_file = a.called_file;
+  called_function = a.called_function;
+  part = a.part;
+  sum = a.sum;
+}
+
+abbrev pub stack_line : StackLine → Stack
+stack_line s = record { run = s.run; frames = s.frames.now; count = s.count }

@@ -1,6 +1,7 @@
 //! The store: runs, groups and baselines of profiles in SQLite tables.
 #![tactic(auto)]
 
+mod arc_texts;
 mod cell_texts;
 mod dropping;
 mod errors;
@@ -9,6 +10,8 @@ mod head_texts;
 mod joining;
 mod lines;
 mod making;
+mod name_texts;
+mod stack_texts;
 mod store;
 mod whole;
 
