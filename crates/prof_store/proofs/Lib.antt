@@ -1,2 +1,3 @@
+mod Lists
 mod Parts
 mod Writing

@@ -20,10 +20,7 @@ fn update_next<S: Alter>(tx: &mut Transaction<'_, S>, next: u32) -> Result<usize
     ensures runs { HasCleanDisk (state S.Store tx.new.conn.now) → IsTrue (state S.Store tx.old.conn.now).in_transaction → ExecutesInside 0 raise_text (Int (pos next) ∷ []) (state S.Store tx.old.conn.now) (state S.Store tx.new.conn.now) result }
     ensures survives { Survives (state S.Store tx.old.conn.now) (state S.Store tx.new.conn.now) (λ _. ⊥) }
 {
-    tx.execute(
-        "UPDATE meta SET next_run = ?1",
-        params![next],
-    )
+    tx.execute("UPDATE meta SET next_run = ?1", params![next])
 }
 
 /// Sets the number of the next run, within a transaction.
@@ -38,7 +35,14 @@ pub(crate) fn raise_next<S: Alter>(tx: &mut Transaction<'_, S>, next: u32) -> Re
     }
 }
 
-fn insert_run<S: Alter>(tx: &mut Transaction<'_, S>, number: u32, kind: u32, digest: &[u8], label: &str, call_count: &Whole) -> Result<usize, Error>
+fn insert_run<S: Alter>(
+    tx: &mut Transaction<'_, S>,
+    number: u32,
+    kind: u32,
+    digest: &[u8],
+    label: &str,
+    call_count: &Whole,
+) -> Result<usize, Error>
     ensures same_reference { tx.new.conn.ghost_name ≡ tx.old.conn.ghost_name }
     ensures runs { HasCleanDisk (state S.Store tx.new.conn.now) → IsTrue (state S.Store tx.old.conn.now).in_transaction → ExecutesInside 0 put_run_text (Int (pos number) ∷ Int (pos kind) ∷ Blob digest.now ∷ Text label.now ∷ Int (pos call_count.now) ∷ []) (state S.Store tx.old.conn.now) (state S.Store tx.new.conn.now) result }
     ensures survives { Survives (state S.Store tx.old.conn.now) (state S.Store tx.new.conn.now) (λ _. ⊥) }
@@ -50,7 +54,14 @@ fn insert_run<S: Alter>(tx: &mut Transaction<'_, S>, number: u32, kind: u32, dig
 }
 
 /// Writes the line of a run, within a transaction.
-pub(crate) fn put_line_of_run<S: Alter>(tx: &mut Transaction<'_, S>, number: u32, kind: u32, digest: &[u8], label: &str, call_count: &Whole) -> Result<(), StoreEnd>
+pub(crate) fn put_line_of_run<S: Alter>(
+    tx: &mut Transaction<'_, S>,
+    number: u32,
+    kind: u32,
+    digest: &[u8],
+    label: &str,
+    call_count: &Whole,
+) -> Result<(), StoreEnd>
     ensures same_reference { tx.new.conn.ghost_name ≡ tx.old.conn.ghost_name }
     ensures passes { Passes (state S.Store tx.old.conn.now) (state S.Store tx.new.conn.now) }
     ensures made { OnOk result (Makes (IsNext number) (with_run (record { number = number; kind = kind; digest = digest.now; label = label.now; call_count = call_count.now })) (state S.Store tx.old.conn.now) (state S.Store tx.new.conn.now)) }
@@ -68,12 +79,22 @@ fn insert_event<S: Alter>(tx: &mut Transaction<'_, S>, event: &EventLine) -> Res
 {
     tx.execute(
         "INSERT INTO run_event (run, pos, name, self_cost, call_cost, stated) VALUES (?1, ?2, ?3, ?4, ?5, ?6)",
-        params![event.run, event.place, &event.name, &event.self_cost, &event.call_cost, &event.stated],
+        params![
+            event.run,
+            event.place,
+            &event.name,
+            &event.self_cost,
+            &event.call_cost,
+            &event.stated
+        ],
     )
 }
 
 /// Writes an event of a run, within a transaction.
-pub(crate) fn put_event<S: Alter>(tx: &mut Transaction<'_, S>, event: &EventLine) -> Result<(), StoreEnd>
+pub(crate) fn put_event<S: Alter>(
+    tx: &mut Transaction<'_, S>,
+    event: &EventLine,
+) -> Result<(), StoreEnd>
     ensures same_reference { tx.new.conn.ghost_name ≡ tx.old.conn.ghost_name }
     ensures passes { Passes (state S.Store tx.old.conn.now) (state S.Store tx.new.conn.now) }
     ensures made { OnOk result (Makes (λ _. ⊤) (with_events (event_line event.now ∷ [])) (state S.Store tx.old.conn.now) (state S.Store tx.new.conn.now)) }
@@ -84,7 +105,10 @@ pub(crate) fn put_event<S: Alter>(tx: &mut Transaction<'_, S>, event: &EventLine
     }
 }
 
-fn insert_derived<S: Alter>(tx: &mut Transaction<'_, S>, derived: &DerivedLine) -> Result<usize, Error>
+fn insert_derived<S: Alter>(
+    tx: &mut Transaction<'_, S>,
+    derived: &DerivedLine,
+) -> Result<usize, Error>
     ensures same_reference { tx.new.conn.ghost_name ≡ tx.old.conn.ghost_name }
     ensures runs { HasCleanDisk (state S.Store tx.new.conn.now) → IsTrue (state S.Store tx.old.conn.now).in_transaction → ExecutesInside 0 put_derived_text (derived_columns (derived_line derived.now)) (state S.Store tx.old.conn.now) (state S.Store tx.new.conn.now) result }
     ensures survives { Survives (state S.Store tx.old.conn.now) (state S.Store tx.new.conn.now) (λ _. ⊥) }
@@ -96,7 +120,10 @@ fn insert_derived<S: Alter>(tx: &mut Transaction<'_, S>, derived: &DerivedLine) 
 }
 
 /// Writes a derived event of a run, within a transaction.
-pub(crate) fn put_derived<S: Alter>(tx: &mut Transaction<'_, S>, derived: &DerivedLine) -> Result<(), StoreEnd>
+pub(crate) fn put_derived<S: Alter>(
+    tx: &mut Transaction<'_, S>,
+    derived: &DerivedLine,
+) -> Result<(), StoreEnd>
     ensures same_reference { tx.new.conn.ghost_name ≡ tx.old.conn.ghost_name }
     ensures passes { Passes (state S.Store tx.old.conn.now) (state S.Store tx.new.conn.now) }
     ensures made { OnOk result (Makes (λ _. ⊤) (with_derived (derived_line derived.now ∷ [])) (state S.Store tx.old.conn.now) (state S.Store tx.new.conn.now)) }
@@ -119,7 +146,10 @@ fn insert_coef<S: Alter>(tx: &mut Transaction<'_, S>, coef: &CoefLine) -> Result
 }
 
 /// Writes how often an event counts in a derived one, within a transaction.
-pub(crate) fn put_coef<S: Alter>(tx: &mut Transaction<'_, S>, coef: &CoefLine) -> Result<(), StoreEnd>
+pub(crate) fn put_coef<S: Alter>(
+    tx: &mut Transaction<'_, S>,
+    coef: &CoefLine,
+) -> Result<(), StoreEnd>
     ensures same_reference { tx.new.conn.ghost_name ≡ tx.old.conn.ghost_name }
     ensures passes { Passes (state S.Store tx.old.conn.now) (state S.Store tx.new.conn.now) }
     ensures made { OnOk result (Makes (λ _. ⊤) (with_coefs (coef_line coef.now ∷ [])) (state S.Store tx.old.conn.now) (state S.Store tx.new.conn.now)) }
@@ -129,4 +159,3 @@ pub(crate) fn put_coef<S: Alter>(tx: &mut Transaction<'_, S>, coef: &CoefLine) -
         Err(error) => Err(end_of(error)),
     }
 }
-

@@ -6,6 +6,7 @@ mod cell_texts;
 mod dropping;
 mod errors;
 mod groups;
+mod head_lines;
 mod head_texts;
 mod joining;
 mod lines;

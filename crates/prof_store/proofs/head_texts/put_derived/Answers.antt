@@ -1,6 +1,5 @@
-use Rattle.std.proofs.Common.{[], ◌∷◌, pos}
+use Rattle.std.proofs.Common.{[], ◌∷◌}
 use Rattle.std.specs.Bool.{⊤}
-use Rattle.sqlite_value.specs.declared.value.Value.TheVariants.{Int, Text, Blob}
 use Rattle.prof_tables.specs.Texts.{put_derived_text}
 use Rattle.prof_tables.specs.Changes.{with_derived}
 use Rattle.prof_tables.specs.Tables.{derived_columns}

@@ -1,5 +1,4 @@
 use Rattle.std.proofs.Common.{[], ◌∷◌, pos}
-use Rattle.std.specs.Bool.{⊤}
 use Rattle.sqlite_value.specs.declared.value.Value.TheVariants.{Int, Text, Blob}
 use Rattle.prof_tables.specs.Texts.{put_run_text}
 use Rattle.prof_tables.specs.Changes.{with_run}

@@ -1,6 +1,5 @@
 use Rattle.std.proofs.Common.{[], ◌∷◌, pos}
-use Rattle.std.specs.Bool.{⊤}
-use Rattle.sqlite_value.specs.declared.value.Value.TheVariants.{Int, Text, Blob}
+use Rattle.sqlite_value.specs.declared.value.Value.TheVariants.{Int}
 use Rattle.prof_tables.specs.Texts.{raise_text}
 use Rattle.prof_tables.specs.Changes.{with_next}
 use Rattle.prof_tables.proofs.Groups.{raises}
