@@ -14,6 +14,8 @@ mod making;
 mod name_texts;
 mod stack_texts;
 mod store;
+#[cfg(test)]
+mod tests;
 mod whole;
 
 pub use errors::StoreEnd;

@@ -3,6 +3,7 @@
 use sqlite::{Alter, Connection};
 
 /// The tables of schema 1 over a connection.
+#[derive(Drop)]
 pub struct Store<S: Alter> {
     pub(crate) conn: Connection<S>,
 }
