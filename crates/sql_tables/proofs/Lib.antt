@@ -8,5 +8,7 @@ pub mod Inserts
 pub mod Queries
 pub mod Rows
 pub mod Selects
+pub mod Splits
 pub mod Statements
 pub mod Updates
+pub mod Windows
