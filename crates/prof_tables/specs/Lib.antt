@@ -1,3 +1,4 @@
 pub mod Changes
 pub mod Schema
 pub mod Tables
+pub mod WalkTexts

@@ -42,6 +42,11 @@ module _ (schema : Schema) (sql : List ℕ) (params : Row) (old new : State) (ha
   row_keeps (Err e) (inl h) = fails_keeps e h
   row_keeps (Err e) (inr h) = inl (shown_keeps [] h.1)
 
+pub row_unchanged : (schema : Schema) (sql : List ℕ) (params : Row) (old new : State) → old.now.schema ≡ schema → IsPlain (understood schema sql) → (row : Row) → QueriesRow sql params old new (Ok row) → IsUnchanged old new
+unfolding QueriesRow
+row_unchanged schema sql params old new has plain row (inl h) = h.1
+row_unchanged schema sql params old new has plain row (inr h) = shown_keeps schema sql params old new has plain h.0 h.1
+
 pub commits_nothing : (schema : Schema) (sql : List ℕ) (params : Row) (old new : State) → old.now.schema ≡ schema → IsPlain (understood schema sql) → Survives old new (CommitsShowing sql params old) → Survives old new (λ _. ⊥)
 commits_nothing schema sql params old new has plain = survives_weaker old new _ _ (λ _ db. never_commits sql params old db (subst (λ s. IsPlain (understood s sql)) (sym has) plain))
 

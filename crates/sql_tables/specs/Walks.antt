@@ -1,6 +1,5 @@
 -- A walk over some rows of a table, in the order of their rowids, one window of rowids at a time.
-use Rattle.std.specs.Prelude.{◌≡◌, ℕ, pos, ◌&&◌, ◌≤◌, Bool, true, false, List, [], ◌∷◌, ◌++◌, map, filter, drop}
-use Rattle.std.specs.List.{AllByRecursion}
+use Rattle.std.specs.Prelude.{◌≡◌, ℕ, pos, ◌&&◌, ◌≤◌, Bool, true, false, List, ◌∷◌, ◌++◌, map, filter, drop}
 use Rattle.sqlite_value.specs.declared.keys.Collation.TheVariants.{Binary}
 use Rattle.sqlite_value.specs.declared.value.Value.TheVariants.{Int}
 use Rattle.sqlite_value.specs.Order.{Row, column}
