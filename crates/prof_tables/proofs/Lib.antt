@@ -1,1 +1,2 @@
+pub mod RunLines
 pub mod WalkTexts
