@@ -1,2 +1,9 @@
+pub mod Creates
+pub mod Defines
+pub mod Drops
+pub mod Groups
+pub mod Means
+pub mod Rows
 pub mod RunLines
+pub mod Values
 pub mod WalkTexts

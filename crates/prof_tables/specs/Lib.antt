@@ -2,4 +2,5 @@ pub mod Changes
 pub mod RunLines
 pub mod Schema
 pub mod Tables
+pub mod Texts
 pub mod WalkTexts
