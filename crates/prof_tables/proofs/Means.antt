@@ -71,7 +71,7 @@ unfolding understood everything
 put_coef_plain = (refl, refl)
 
 abbrev pub put_name_terms : List Term
-put_name_terms = col 0 0 ∷ lit Null ∷ col 0 1 ∷ []
+put_name_terms = lit Null ∷ lit Null ∷ col 0 0 ∷ []
 
 pub put_name_means : command_of (understood schema_one put_name_text) ≡ Insert 5 (Values put_name_terms 3)
 unfolding understood everything

@@ -1,34 +1,33 @@
 -- What each INSERT makes of the tables.
-use Rattle.std.proofs.Common.{◌≡◌, ℕ, suc, ◌+◌, ◌<◌, pos, List, [], ◌∷◌, ◌++◌, map, length, None, Option, Ok, refl, sym, ap, subst, ◌∙◌, arith}
+use Rattle.std.proofs.Common.{◌≡◌, ℕ, suc, ◌+◌, ◌<◌, ℤ, pos, ◌+ℤ◌, List, [], ◌∷◌, ◌++◌, map, fold, length, Some, None, Option, Ok, refl, sym, ap, subst, ◌∙◌, arith}
 use Rattle.std.specs.List.{AllByRecursion}
 use Rattle.std.specs.declared.cmp.Ordering.TheVariants.{Less}
 use Rattle.sqlite_keyed.proofs.ListLemmas.{all-append}
-use Rattle.sqlite_value.specs.declared.value.Value.TheVariants.{Null, Text, Blob}
+use Rattle.sqlite_value.specs.declared.value.Value.TheVariants.{Null, Int, Text, Blob}
 use Rattle.sqlite_value.specs.Order.{Row, value_cmp}
 use Rattle.sqlite_trees.specs.Tree.{Trees, rowid}
 use Rattle.sqlite_schema.specs.declared.command.Source.TheVariants.{Values}
 use Rattle.sqlite_schema.specs.declared.command.Command.TheVariants.{Insert}
+use Rattle.std.proofs.lemmas.Int.{ints}
+use Rattle.sqlite_rules.specs.Edit.{id_in, next_rowid}
 use Rattle.sqlite.specs.Effect.{Database, IsDatabase}
 use Rattle.sqlite.specs.Does.{Tally, Does}
 use Rattle.sql_tables.specs.Contents.{Contain, with_content, no_rows}
-use Rattle.sql_tables.proofs.Inserts.{inserts_rows, inserts_keyed}
+use Rattle.sql_tables.proofs.Inserts.{inserts_rows, inserts_keyed, inserts_next}
 use Rattle.sql_tables.proofs.Rows.{map-append}
 use Rattle.sql_tables.proofs.Statements.{plain_mode}
 use Rattle.prof_tables.specs.Schema.{schema_one, meta_at, run_at, run_event_at, derived_at, coef_at, name_at, cell_at, arc_at, stack_at, grp_at, member_at}
-use Rattle.prof_tables.specs.Tables.{Tables, Holds, contents_of, RunLine, EventLine, DerivedLine, CoefLine, CellLine, ArcLine, StackLine, GroupLine, MemberLine, run_columns, event_columns, derived_columns, coef_columns, name_rows, cell_columns, arc_columns, stack_columns, group_columns, member_columns, number, new_tables}
-use Rattle.prof_tables.specs.Changes.{with_run, with_event, with_derived, with_coef, with_new_name, with_cells, with_arcs, with_stacks, with_group, with_member}
+use Rattle.prof_tables.specs.Tables.{Tables, Holds, contents_of, RunLine, EventLine, DerivedLine, CoefLine, NameLine, CellLine, ArcLine, StackLine, GroupLine, MemberLine, run_columns, event_columns, derived_columns, coef_columns, name_columns, cell_columns, arc_columns, stack_columns, group_columns, member_columns, number, new_tables}
+use Rattle.prof_tables.specs.Changes.{with_run, with_event, with_derived, with_coef, next_name, with_new_name, with_cells, with_arcs, with_stacks, with_group, with_member}
 use Rattle.prof_tables.proofs.Means.{begin_terms, put_run_terms, put_event_terms, put_derived_terms, put_coef_terms, put_name_terms, put_cell_terms, put_arc_terms, put_stack_terms, put_group_terms, put_member_terms}
 use Rattle.prof_tables.proofs.Values.{cast_null, cast_number, cast_text_or_null, number_below}
 
--- the rows of names, and one more
-name_rows_more : (n : ℕ) (names : List (List ℕ)) (name : List ℕ) → name_rows n (names ++ name ∷ []) ≡ name_rows n names ++ (number (n + length names) ∷ Null ∷ Blob name ∷ []) ∷ []
-name_rows_more n [] name = ap (λ k. (number k ∷ Null ∷ Blob name ∷ []) ∷ []) (omega (arith))
-name_rows_more n (first ∷ names) name =
-    ap (λ l. (number n ∷ Null ∷ Blob first ∷ []) ∷ l) (name_rows_more (suc n) names name ∙ ap (λ k. name_rows (suc n) names ++ (number k ∷ Null ∷ Blob name ∷ []) ∷ []) (omega (arith)))
-
-names_below : (n top : ℕ) (names : List (List ℕ)) → n + length names < suc top → AllByRecursion (λ (r : Row). value_cmp (rowid r) (number top) ≡ Less) (name_rows n names)
-names_below n top [] few = tt
-names_below n top (name ∷ names) few = (number_below n top (omega (arith, few)), names_below (suc n) top names (omega (arith, few)))
+next_is : (names : List NameLine) (n : ℕ) → fold (λ _ r. id_in (rowid r) +ℤ pos 1) (pos n) (map name_columns names) ≡ pos (fold (λ _ (line : NameLine). suc line.number) n names)
+next_is [] n = refl
+next_is (line ∷ names) n = ap (λ z. fold (λ _ r. id_in (rowid r) +ℤ pos 1) z (map name_columns names)) (more line.number) ∙ next_is names (suc line.number)
+  where
+    more : (m : ℕ) → pos m +ℤ pos 1 ≡ pos (suc m)
+    more m = grind (arith, ints)
 
 runs_below : (runs : List RunLine) (n : ℕ) → AllByRecursion (λ (r : RunLine). r.number < n) runs → AllByRecursion (λ (r : Row). value_cmp (rowid r) (number n) ≡ Less) (map run_columns runs)
 runs_below [] n h = tt
@@ -52,12 +51,14 @@ module _ (t : Tables) (limit : Option ℕ) (trees : Trees) (text : List ℕ) (ta
       (it.0, record { contain = subst (λ l. Contain schema_one (with_content 1 l (contents_of t)) after.trees) (sym (map-append run_columns t.runs (r ∷ []))) it.1; below = all-append (λ (q : RunLine). q.number < t.next) t.runs (r ∷ []) was.below (low, tt) })
 
   -- a name, under the next number
-  pub puts_name : (name : List ℕ) → Does limit plain_mode (number (1 + length t.names) ∷ Blob name ∷ []) (record { schema = schema_one; trees = trees }) text None (Insert 5 (Values put_name_terms 3)) (Ok (tally, after))
+  pub puts_name : (name : List ℕ) → Does limit plain_mode (Blob name ∷ []) (record { schema = schema_one; trees = trees }) text None (Insert 5 (Values put_name_terms 3)) (Ok (tally, after))
       → (after.schema ≡ schema_one) × Holds (with_new_name name t) after.trees
   puts_name name h =
-      let it = inserts_keyed schema_one (contents_of t) limit (number (1 + length t.names) ∷ Blob name ∷ []) trees text tally after 5 name_at refl refl put_name_terms 3 was.contain sound h
-      (pos (1 + length t.names)) (Null ∷ Blob name ∷ []) 0 refl (simp (cast_null, cast_number)) (names_below 1 (1 + length t.names) t.names (omega (arith))) in
-      (it.0, record { contain = subst (λ l. Contain schema_one (with_content 5 l (contents_of t)) after.trees) (sym (name_rows_more 1 t.names name)) it.1; below = was.below })
+      let new : NameLine = record { number = next_name t.names; name = name } in
+      let it = inserts_next schema_one (contents_of t) limit (Blob name ∷ []) trees text tally after 5 name_at refl refl put_name_terms 3 was.contain sound h (Null ∷ Blob name ∷ []) 0 refl (simp (cast_null, cast_number)) in
+      let row : map name_columns t.names ++ (Int (next_rowid (map name_columns t.names)) ∷ Null ∷ Blob name ∷ []) ∷ [] ≡ map name_columns (t.names ++ new ∷ []) =
+      ap (λ z. map name_columns t.names ++ (Int z ∷ Null ∷ Blob name ∷ []) ∷ []) (next_is t.names 1) ∙ sym (map-append name_columns t.names (new ∷ [])) in
+      (it.0, record { contain = subst (λ l. Contain schema_one (with_content 5 l (contents_of t)) after.trees) row it.1; below = was.below })
 
   pub puts_event : (e : EventLine) → Does limit plain_mode (event_columns e) (record { schema = schema_one; trees = trees }) text None (Insert 2 (Values put_event_terms 7)) (Ok (tally, after))
       → (after.schema ≡ schema_one) × Holds (with_event e t) after.trees

@@ -1,7 +1,7 @@
 -- The changes of the tables, each as one step on plain lists.
-use Rattle.std.specs.Prelude.{ℕ, Bool, false, not, ◌&&◌, ◌==◌, if◌then◌else◌, bytes_eq, List, [], ◌∷◌, ◌++◌, map, filter, Option, Some, None}
+use Rattle.std.specs.Prelude.{ℕ, suc, Bool, false, not, ◌&&◌, ◌==◌, if◌then◌else◌, bytes_eq, List, [], ◌∷◌, ◌++◌, map, filter, fold, Option, Some, None}
 use Rattle.std.specs.List.{list_any}
-use Rattle.prof_tables.specs.Tables.{Tables, RunLine, EventLine, DerivedLine, CoefLine, CellLine, ArcLine, StackLine, GroupLine, MemberLine}
+use Rattle.prof_tables.specs.Tables.{Tables, RunLine, EventLine, DerivedLine, CoefLine, NameLine, CellLine, ArcLine, StackLine, GroupLine, MemberLine}
 
 abbrev pub with_next : ℕ → Tables → Tables
 with_next next t = record t { next = next }
@@ -18,9 +18,19 @@ with_derived d t = record t { derived = t.derived ++ d ∷ [] }
 abbrev pub with_coef : CoefLine → Tables → Tables
 with_coef c t = record t { coefs = t.coefs ++ c ∷ [] }
 
--- a name that is not held yet gets the next number
+-- the number that a new name gets: one above the last
+abbrev pub next_name : List NameLine → ℕ
+next_name = fold (λ _ (line : NameLine). suc line.number) 1
+
 abbrev pub with_new_name : List ℕ → Tables → Tables
-with_new_name name t = record t { names = t.names ++ name ∷ [] }
+with_new_name name t = record t { names = t.names ++ record { number = next_name t.names; name = name } ∷ [] }
+
+abbrev pub has_name : Tables → List ℕ → Bool
+has_name t name = list_any (λ (line : NameLine). bytes_eq line.name name) t.names
+
+-- a name is held from now on
+abbrev pub named : List ℕ → Tables → Tables
+named name t = if has_name t name then t else with_new_name name t
 
 abbrev pub with_cells : List CellLine → Tables → Tables
 with_cells cells t = record t { cells = t.cells ++ cells }

@@ -38,6 +38,11 @@ pub record CoefLine : Type 0 where
   pub event : ℕ
   pub times : ℕ
 
+-- a name and its number
+pub record NameLine : Type 0 where
+  pub number : ℕ
+  pub name : List ℕ
+
 -- the sum of an event's own costs at a place, names by number
 pub record CellLine : Type 0 where
   pub run : ℕ
@@ -75,14 +80,14 @@ pub record MemberLine : Type 0 where
   pub group : List ℕ
   pub run : ℕ
 
--- the next run's number, and the lines of each table; the numbers of the names are their places, from 1
+-- the next run's number, and the lines of each table
 pub record Tables : Type 0 where
   pub next : ℕ
   pub runs : List RunLine
   pub events : List EventLine
   pub derived : List DerivedLine
   pub coefs : List CoefLine
-  pub names : List (List ℕ)
+  pub names : List NameLine
   pub cells : List CellLine
   pub arcs : List ArcLine
   pub stacks : List StackLine
@@ -117,10 +122,8 @@ derived_columns d = number d.run ∷ number d.place ∷ Blob d.name ∷ []
 abbrev pub coef_columns : CoefLine → Row
 coef_columns c = number c.run ∷ number c.place ∷ number c.event ∷ number c.times ∷ []
 
--- the names from a number on
-abbrev pub name_rows : ℕ → List (List ℕ) → List Row
-name_rows n [] = []
-name_rows n (name ∷ names) = (number n ∷ Null ∷ Blob name ∷ []) ∷ name_rows (suc n) names
+abbrev pub name_columns : NameLine → Row
+name_columns n = number n.number ∷ Null ∷ Blob n.name ∷ []
 
 abbrev pub cell_columns : CellLine → Row
 cell_columns c = number c.run ∷ number c.object ∷ number c.file ∷ number c.function ∷ number c.line ∷ number c.event ∷ number c.cost ∷ []
@@ -141,7 +144,7 @@ member_columns m = Text m.group ∷ number m.run ∷ []
 -- the contents of the tables of schema 1, in its order
 abbrev pub contents_of : Tables → List (List Row)
 contents_of t =
-    (meta_columns t.next ∷ []) ∷ map run_columns t.runs ∷ map event_columns t.events ∷ map derived_columns t.derived ∷ map coef_columns t.coefs ∷ name_rows 1 t.names ∷ map cell_columns t.cells
+    (meta_columns t.next ∷ []) ∷ map run_columns t.runs ∷ map event_columns t.events ∷ map derived_columns t.derived ∷ map coef_columns t.coefs ∷ map name_columns t.names ∷ map cell_columns t.cells
     ∷ map arc_columns t.arcs ∷ map stack_columns t.stacks ∷ map group_columns t.groups ∷ map member_columns t.members ∷ []
 
 -- the database has these tables, and each run's number is below the next

@@ -19,7 +19,7 @@ abbrev pub put_coef_text : List ℕ
 put_coef_text = codes "INSERT INTO coef (run, pos, event, n) VALUES (?1, ?2, ?3, ?4)"
 
 abbrev pub put_name_text : List ℕ
-put_name_text = codes "INSERT INTO name (id, bytes) VALUES (?1, ?2)"
+put_name_text = codes "INSERT INTO name (bytes) VALUES (?1)"
 
 abbrev pub put_cell_text : List ℕ
 put_cell_text = codes "INSERT INTO cell (run, ob, fl, fn, line, event, cost) VALUES (?1, ?2, ?3, ?4, ?5, ?6, ?7)"
