@@ -1,0 +1,22 @@
+// Why a call of the store is refused.
+
+use sqlite::{Error, ErrorCode};
+
+/// Why a call is refused. The tables are as before.
+#[derive(Clone, Copy, Debug, PartialEq, Eq)]
+pub enum StoreEnd {
+    /// A growth was refused.
+    Memory,
+    /// A database call failed for another cause, or rows are out of form.
+    Store,
+    /// The tables are of another schema, or there are none.
+    WrongSchema,
+}
+
+/// What an error of the database is for a caller.
+pub(crate) fn end_of(error: Error) -> StoreEnd {
+    match error {
+        Error::SqliteFailure(ErrorCode::OutOfMemory) => StoreEnd::Memory,
+        _ => StoreEnd::Store,
+    }
+}

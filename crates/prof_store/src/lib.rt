@@ -1,0 +1,12 @@
+//! The store: runs, groups and baselines of profiles in SQLite tables.
+#![tactic(auto)]
+
+mod cell_texts;
+mod errors;
+mod lines;
+mod store;
+mod whole;
+
+pub use errors::StoreEnd;
+pub use sqlite::Alter;
+pub use store::Store;
