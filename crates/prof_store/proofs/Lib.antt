@@ -1,1 +1,3 @@
+pub mod WalkSteps
+pub mod WalkTables
 mod Writing

@@ -5,6 +5,7 @@ mod cell_texts;
 mod errors;
 mod lines;
 mod store;
+mod walks;
 mod whole;
 
 pub use errors::StoreEnd;
