@@ -1,15 +1,15 @@
 -- The steps of a walk, and what it tells.
-use Rattle.std.proofs.Common.{◌≡◌, inl, inr, ℕ, ◌≤◌, List, [], ◌∷◌, ◌++◌, map, drop, filter, Bool, true, false, cond, not, ◌&&◌, refl, sym, ap, ap₂, ◌∙◌, append_assoc, append-nil}
+use Rattle.std.proofs.Common.{◌≡◌, inl, inr, ℕ, suc, pos, ◌≤◌, List, [], ◌∷◌, ◌++◌, map, drop, filter, Bool, true, false, cond, not, ◌&&◌, refl, sym, ap, ap₂, ◌∙◌, append_assoc, append-nil}
 use Rattle.std.specs.List.{AllByRecursion}
 use Rattle.std.proofs.lemmas.Bool.{cases_Bool}
 use Rattle.sqlite_value.specs.declared.value.Value.{Value}
-use Rattle.sqlite_value.specs.Order.{Row}
-use Rattle.sqlite_keyed.proofs.ListLemmas.{map-map}
+use Rattle.sqlite_value.specs.declared.value.Value.TheVariants.{Int}
+use Rattle.sqlite_value.specs.Order.{Row, column}
 use Rattle.sqlite_trees.specs.View.{IsShaped}
 use Rattle.sqlite_trees.specs.declared.store.Shape.TheVariants as shape
 use Rattle.sqlite_rules.specs.Lists.{Has}
 use Rattle.sqlite_rules.proofs.ListLemmas.{all_has}
-use Rattle.sql_tables.specs.Walks.{Asked, is_asked, is_above, is_left, in_window, said, in_page, read_from, Lie, Reads, HasReadAll}
+use Rattle.sql_tables.specs.Walks.{Asked, is_asked, is_above, is_left, in_window, said, in_page, read_from, counted, Lie, Reads, HasReadAll}
 use Rattle.sql_tables.proofs.Rows.{Numbered, map-append, filter_same_on}
 use Rattle.sql_tables.proofs.Splits.{split, row_within, row_lower}
 
@@ -19,6 +19,23 @@ none_kept {X} p xs h = filter_same_on p (λ x. false) xs h ∙ none xs
     none : (ys : List X) → filter (λ x. false) ys ≡ []
     none [] = refl
     none (y ∷ ys) = none ys
+
+-- a page's row says what the table's row says
+module _ (r : Row) where
+  later : (v : Value) (x : Row) (n : ℕ) (places : List ℕ) → map (column (v ∷ x)) (counted (suc n) places) ≡ map (column x) (counted n places)
+  later v x n [] = refl
+  later v x n (p ∷ places) = ap (λ l. column x n ∷ l) (later v x (suc n) places)
+
+  columns_read : (places : List ℕ) → map (column (map (column r) places)) (counted 0 places) ≡ map (column r) places
+  columns_read [] = refl
+  columns_read (p ∷ places) = ap (λ l. column r p ∷ l) (later (column r p) (map (column r) places) 0 places ∙ columns_read places)
+
+  said_in_page : (a : Asked) → read_from a (in_page a r) ≡ said a r
+  said_in_page a = ap (λ l. Int (pos a.number) ∷ l) (later (column r 0) (map (column r) a.places) 0 a.places ∙ columns_read a.places)
+
+page_says : (a : Asked) (rows : List Row) → map (read_from a) (map (in_page a) rows) ≡ map (said a) rows
+page_says a [] = refl
+page_says a (r ∷ rows) = ap₂ ◌∷◌ (said_in_page r a) (page_says a rows)
 
 module _ (a : Asked) (rows : List Row) where
   pub lie_nowhere : (low top : ℕ) → ((r : Row) → Has rows r → is_asked a r ≡ false) → Lie a rows low top
@@ -52,7 +69,7 @@ module _ (a : Asked) (rows : List Row) where
         let later = filter (is_left a high) rows in
         was.all ∙ ap₂ (λ x y. x ++ map (said a) y) (append-nil given) (was.is_left.0 ∙ split a low high order rows numbered)
         ∙ ap (λ y. given ++ y) (map-append (said a) window later) ∙ sym (append_assoc given (map (said a) window) (map (said a) later))
-        ∙ ap (λ x. given ++ x ++ map (said a) later) (sym (map-map (read_from a) (in_page a) window) ∙ ap (map (read_from a)) (sym is));
+        ∙ ap (λ x. given ++ x ++ map (said a) later) (sym (page_says a window) ∙ ap (map (read_from a)) (sym is));
   }
 
   -- one row is taken from those at hand

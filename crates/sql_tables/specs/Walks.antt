@@ -1,5 +1,5 @@
 -- A walk over some rows of a table, in the order of their rowids, one window of rowids at a time.
-use Rattle.std.specs.Prelude.{◌≡◌, ℕ, pos, ◌&&◌, ◌≤◌, Bool, true, false, List, ◌∷◌, ◌++◌, map, filter, drop}
+use Rattle.std.specs.Prelude.{◌≡◌, ℕ, suc, pos, ◌&&◌, ◌≤◌, Bool, true, false, List, [], ◌∷◌, ◌++◌, map, filter}
 use Rattle.sqlite_value.specs.declared.keys.Collation.TheVariants.{Binary}
 use Rattle.sqlite_value.specs.declared.value.Value.TheVariants.{Int}
 use Rattle.sqlite_value.specs.Order.{Row, column}
@@ -39,9 +39,14 @@ said a r = Int (pos a.number) ∷ map (column r) a.places
 abbrev pub in_page : Asked → Row → Row
 in_page a r = column r 0 ∷ map (column r) a.places
 
--- what a row of a page says
+-- a number for each place, counted up
+abbrev pub counted : ℕ → List ℕ → List ℕ
+counted n [] = []
+counted n (place ∷ places) = n ∷ counted (suc n) places
+
+-- what a row of a page says, in its columns behind the rowid
 abbrev pub read_from : Asked → Row → Row
-read_from a x = Int (pos a.number) ∷ drop 1 x
+read_from a x = Int (pos a.number) ∷ map (column x) (counted 1 a.places)
 
 abbrev pub is_left : Asked → ℕ → Row → Bool
 is_left a low r = is_asked a r && is_above low r
