@@ -1,3 +1,4 @@
+pub mod Files
 pub mod Lines
 pub mod Shown
 pub mod Steps

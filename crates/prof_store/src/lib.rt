@@ -4,6 +4,7 @@
 mod cell_texts;
 mod errors;
 mod lines;
+mod making;
 mod store;
 mod walks;
 mod whole;

@@ -1,4 +1,5 @@
 pub mod Changes
+pub mod Files
 pub mod RunLines
 pub mod Schema
 pub mod Tables

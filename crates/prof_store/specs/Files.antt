@@ -1,0 +1,66 @@
+-- The lines that the rows of a file become, names by their numbers in the tables.
+use Rattle.std.specs.Prelude.{ℕ, suc, nat_lt, if◌then◌else◌, List, [], ◌∷◌, ◌++◌, slice_index_or}
+use Rattle.cost_rows.specs.declared.places.Place.{Place}
+use Rattle.cost_rows.specs.declared.places.Call.{Call}
+use Rattle.cost_rows.specs.declared.calls.Calls.{Calls}
+use Rattle.prof_tables.specs.Tables.{CellLine, ArcLine, StackLine}
+
+-- the table's number of a name that the file has under a number of its own
+abbrev pub numbered : List ℕ → ℕ → ℕ
+numbered numbers name = slice_index_or numbers name 0
+
+abbrev pub cell_line_of : ℕ → List ℕ → Place → ℕ → ℕ → CellLine
+cell_line_of run numbers p event cost = record {
+  run = run;
+  object = numbered numbers p.object;
+  file = numbered numbers p.file;
+  function = numbered numbers p.function;
+  line = p.line;
+  event = event;
+  cost = cost;
+}
+
+-- the sums above 0 at a place, from an event on
+abbrev pub cell_lines_at : ℕ → List ℕ → Place → ℕ → List ℕ → List CellLine
+cell_lines_at run numbers p event [] = []
+cell_lines_at run numbers p event (cost ∷ costs) =
+    if nat_lt 0 cost then cell_line_of run numbers p event cost ∷ cell_lines_at run numbers p (suc event) costs
+    else cell_lines_at run numbers p (suc event) costs
+
+abbrev pub cell_lines : ℕ → List ℕ → List (Place × List ℕ) → List CellLine
+cell_lines run numbers [] = []
+cell_lines run numbers (e ∷ cells) = cell_lines_at run numbers e.0 0 e.1 ++ cell_lines run numbers cells
+
+abbrev pub arc_line_of : ℕ → List ℕ → Call → ℕ → ℕ → ArcLine
+arc_line_of run numbers c part sum = record {
+  run = run;
+  object = numbered numbers c.place.object;
+  file = numbered numbers c.place.file;
+  function = numbered numbers c.place.function;
+  line = c.place.line;
+  called_object = numbered numbers c.object;
+  called_file = numbered numbers c.file;
+  called_function = numbered numbers c.function;
+  part = part;
+  sum = sum;
+}
+
+-- the costs above 0 of calls, from a part on
+abbrev pub arc_lines_from : ℕ → List ℕ → Call → ℕ → List ℕ → List ArcLine
+arc_lines_from run numbers c part [] = []
+arc_lines_from run numbers c part (cost ∷ costs) =
+    if nat_lt 0 cost then arc_line_of run numbers c part cost ∷ arc_lines_from run numbers c (suc part) costs
+    else arc_lines_from run numbers c (suc part) costs
+
+-- their number, always, and then their costs
+abbrev pub arc_lines_at : ℕ → List ℕ → Call → Calls → List ArcLine
+arc_lines_at run numbers c calls = arc_line_of run numbers c 0 calls.count ∷ arc_lines_from run numbers c 1 calls.costs
+
+abbrev pub arc_lines : ℕ → List ℕ → List (Call × Calls) → List ArcLine
+arc_lines run numbers [] = []
+arc_lines run numbers (e ∷ arcs) = arc_lines_at run numbers e.0 e.1 ++ arc_lines run numbers arcs
+
+-- the counts of stacks above 0
+abbrev pub stack_lines : ℕ → List (List ℕ × ℕ) → List StackLine
+stack_lines run [] = []
+stack_lines run (e ∷ stacks) = if nat_lt 0 e.1 then record { run = run; frames = e.0; count = e.1 } ∷ stack_lines run stacks else stack_lines run stacks
