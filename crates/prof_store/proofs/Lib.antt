@@ -1,3 +1,4 @@
+pub mod CellWalks
 pub mod WalkSteps
 pub mod WalkTables
 mod Writing

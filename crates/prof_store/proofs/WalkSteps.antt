@@ -1,5 +1,7 @@
 -- The steps of a walk over the store.
-use Rattle.std.proofs.Common.{◌≡◌, ℕ, ◌≤◌, List, [], map, filter, drop, Bool, true, false, Result, Ok, Err, OnOk, sym, ap, subst, ◌∙◌}
+use Rattle.std.proofs.Common.{◌≡◌, ℕ, ◌≤◌, suc, ◌+◌, List, [], ◌∷◌, ◌++◌, map, filter, drop, slice_get, Some, Bool, true, false, Result, Ok, Err, OnOk, sym, ap, subst, ◌∙◌, add-one}
+use Rattle.std.proofs.Math.Seq.{drop-cons}
+use Rattle.std.proofs.lemmas.Option.{slice_get_within, get_or_from_slice_get}
 use Rattle.sqlite_value.specs.Order.{Row}
 use Rattle.sqlite_trees.specs.View.{IsShaped}
 use Rattle.sqlite_trees.specs.declared.store.Store.{Ghosts}
@@ -7,8 +9,9 @@ use Rattle.sqlite_trees.specs.declared.store.Shape.TheVariants as shape
 use Rattle.sqlite.specs.Effect.{Database}
 use Rattle.sqlite.specs.State.{State}
 use Rattle.sql_tables.specs.States.{Rests}
-use Rattle.sql_tables.specs.Walks.{Asked, in_page, in_window, Reads, Lie, HasReadAll}
-use Rattle.sql_tables.proofs.Walks.{reads_placed, reads_turned, reads_ended}
+use Rattle.sql_tables.specs.Walks.{Asked, in_page, in_window, read_from, Reads, Lie, HasReadAll}
+use Rattle.sql_tables.proofs.Walks.{reads_begin, reads_placed, reads_turned, reads_took, reads_ended}
+use Rattle.sql_tables.proofs.Rows.{map-append}
 use Rattle.prof_tables.specs.Schema.{schema_one}
 use Rattle.prof_tables.specs.Tables.{Tables, Holds}
 use Rattle.prof_tables.proofs.RunLines.{cells_there, arcs_there, stacks_there}
@@ -53,6 +56,13 @@ module _ {S : Type 0} (g : Ghosts S) where
         (subst (λ (d : Database). Reads (asked walk.table walk.run) (d.trees (tree_of walk.table)) walk.placed walk.low walk.top given (drop walk.at old.page.items)) (sym now) was.reads);
   }
 
+  -- a walk begins, with no page at hand
+  pub begin_step : (store : Store S) (walk : Walk) → IsReady (shown g store) → walk.placed ≡ false → drop walk.at store.page.items ≡ [] → Walks g [] store walk
+  begin_step store walk was not_yet none =
+      let a = asked walk.table walk.run in
+      let rows = rows_of g walk.table store in
+      record { ready = was; reads = subst (λ l. Reads a rows walk.placed walk.low walk.top [] l) (sym none) (subst (λ b. Reads a rows b walk.low walk.top [] []) (sym not_yet) (reads_begin a rows walk.low walk.top)) }
+
   -- it is known where the rows lie
   pub placed_step : (given : List Row) (old new : Store S) (walk : Walk) (low top : ℕ) → walk.placed ≡ false → (shown g new).now ≡ (shown g old).now → new.page ≡ old.page → Lie (asked walk.table walk.run) (rows_of g walk.table new) low top
       → Walks g given old walk → Walks g given new (record walk { placed = true; low = low; top = top })
@@ -84,3 +94,19 @@ module _ {S : Type 0} (g : Ghosts S) where
         ready = ready_if_now (shown g old) (shown g new) now was.ready;
         reads = subst (λ b. Reads a (rows_of g walk.table new) b high walk.top given page_rows) (sym placed) (subst (λ (d : Database). Reads a (d.trees (tree_of walk.table)) true high walk.top given page_rows) (sym now) after);
       }
+
+-- ---- one line is given
+
+drop_at : {X : Type 0} (xs : List X) (i : ℕ) (x : X) → slice_get xs i ≡ Some x → drop i xs ≡ x ∷ drop (i + 1) xs
+drop_at xs i x h = rw (add-one, drop-cons xs i x (slice_get_within xs i x h)) (ap (λ y. y ∷ drop (suc i) xs) (get_or_from_slice_get xs i x x h))
+
+module _ {S : Type 0} (g : Ghosts S) {X : Type 0} (columns : X → Row) where
+  -- the row at hand is read as a line
+  pub took_step : (given : List X) (store : Store S) (walk : Walk) (x : Row) (line : X) → slice_get store.page.items walk.at ≡ Some x → columns line ≡ read_from (asked walk.table walk.run) x → Walks g (map columns given) store walk
+      → Walks g (map columns (given ++ line ∷ [])) store (record walk { at = walk.at + 1 })
+  took_step given store walk x line there says was =
+      let a = asked walk.table walk.run in
+      let rows = rows_of g walk.table store in
+      let rest = drop (walk.at + 1) store.page.items in
+      let took = reads_took a rows walk.placed walk.low walk.top (map columns given) (drop walk.at store.page.items) rest x (drop_at store.page.items walk.at x there) was.reads in
+      record { ready = was.ready; reads = subst (λ l. Reads a rows walk.placed walk.low walk.top l rest) (sym (map-append columns given (line ∷ []) ∙ ap (λ r. map columns given ++ r ∷ []) says)) took }

@@ -1,3 +1,4 @@
+pub mod CellWalks
 pub mod Files
 pub mod Lines
 pub mod Shown

@@ -1,10 +1,12 @@
 //! The store: runs, groups and baselines of profiles in SQLite tables.
 #![tactic(auto)]
 
+mod cell_lines;
 mod cell_texts;
 mod errors;
 mod lines;
 mod making;
+mod reading;
 mod store;
 mod walks;
 mod whole;

@@ -11,6 +11,7 @@ ghost use Rattle.prof_store.specs.Walks.{tree_of, window_text_of, ends_text_of, 
 ghost use Rattle.std.specs.Prelude.{filter};
 
 use crate::errors::{StoreEnd, end_of};
+use crate::reading::{small_at, small_or_null_at};
 use crate::store::Store;
 use sqlite::{Alter, Connection, Error, Row, params};
 
@@ -30,13 +31,33 @@ struct Span {
 }
 
 /// How far a walk over the rows of a run has come. The rows of its page lie in the store.
+#[derive(Drop)]
 pub(crate) struct Walk {
-    table: Listed,
-    run: u32,
+    pub table: Listed,
+    pub run: u32,
     placed: bool,
     low: u32,
     top: u32,
-    at: usize,
+    pub at: usize,
+}
+
+impl Walk {
+    /// A walk that has given nothing.
+    pub fn over(table: Listed, run: u32) -> Walk
+        ensures table { result.table ≡ table }
+        ensures run { result.run ≡ run }
+        ensures placed { result.placed ≡ false }
+        ensures at { result.at ≡ 0 }
+    {
+        Walk {
+            table,
+            run,
+            placed: false,
+            low: 0,
+            top: 0,
+            at: 0,
+        }
+    }
 }
 
 /// How many rowids a window has.
@@ -87,25 +108,6 @@ fn select_ends<S: Alter>(conn: &mut Connection<S>, table: Listed, run: u32) -> R
     ensures survives { Survives (state S.Store conn.old) (state S.Store conn.new) (CommitsShowing (ends_text_of table) (Int (pos run) ∷ []) (state S.Store conn.old)) }
 {
     conn.query_row(ends_text(table), params![run])
-}
-
-fn small_at(row: &Row, at: usize) -> Result<u32, StoreEnd>
-    ensures { IfOk result (λ n. column row.now at ≡ Int (pos n)) }
-{
-    match row.get(at) {
-        Ok(number) => Ok(number),
-        Err(error) => Err(end_of(error)),
-    }
-}
-
-fn small_or_null_at(row: &Row, at: usize) -> Result<Option<u32>, StoreEnd>
-    ensures { IfOk result (λ number. column row.now at ≡ or_null number) }
-{
-    match row.get::<Option<u32>>(at) {
-        Ok(Some(number)) => Ok(Some(number)),
-        Ok(None) => Ok(None),
-        Err(error) => Err(end_of(error)),
-    }
 }
 
 /// Refuses rows whose rowids do not rise from above `low`.
@@ -227,7 +229,6 @@ impl<S: Alter> Store<S> {
         ensures table { walk.new.table ≡ walk.old.table }
         ensures run { walk.new.run ≡ walk.old.run }
         ensures moved { IsFaithful S.Store self.new → (given : _) → Walks S.Store given self.old walk.old → IfOk result (λ more. Walks S.Store given self.new walk.new × (more ≡ false → HasWalked S.Store given self.new walk.new)) }
-        ensures there { IfOk result (λ more. more ≡ true → walk.new.at < vec_len self.new.page) }
         ensures stays { IsFaithful S.Store self.new → (t : _) → StandsFor S.Store t self.old → OnOk result (StandsFor S.Store t self.new) }
         ensures kept { IsFaithful S.Store self.new → (t : _) → StandsFor S.Store t self.old → IsUsable S.Store self.new → StandsFor S.Store t self.new }
         ensures crash { IsFaithful S.Store self.new → (t : _) → StandsFor S.Store t self.old → LeavesOnly S.Store self.old self.new (λ _. ⊥) }
