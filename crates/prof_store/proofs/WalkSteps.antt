@@ -1,7 +1,6 @@
 -- The steps of a walk over the store.
-use Rattle.std.proofs.Common.{◌≡◌, ℕ, ◌≤◌, suc, ◌+◌, List, [], ◌∷◌, ◌++◌, map, filter, drop, slice_get, Some, Bool, true, false, Result, Ok, Err, OnOk, sym, ap, subst, ◌∙◌, add-one}
+use Rattle.std.proofs.Common.{◌≡◌, ℕ, ◌≤◌, suc, ◌+◌, List, [], ◌∷◌, ◌++◌, map, filter, drop, length, get_or, ◌<◌, Bool, true, false, Result, Ok, Err, OnOk, sym, ap, subst, ◌∙◌, add-one}
 use Rattle.std.proofs.Math.Seq.{drop-cons}
-use Rattle.std.proofs.lemmas.Option.{slice_get_within, get_or_from_slice_get}
 use Rattle.sqlite_value.specs.Order.{Row}
 use Rattle.sqlite_trees.specs.View.{IsShaped}
 use Rattle.sqlite_trees.specs.declared.store.Store.{Ghosts}
@@ -97,16 +96,16 @@ module _ {S : Type 0} (g : Ghosts S) where
 
 -- ---- one line is given
 
-drop_at : {X : Type 0} (xs : List X) (i : ℕ) (x : X) → slice_get xs i ≡ Some x → drop i xs ≡ x ∷ drop (i + 1) xs
-drop_at xs i x h = rw (add-one, drop-cons xs i x (slice_get_within xs i x h)) (ap (λ y. y ∷ drop (suc i) xs) (get_or_from_slice_get xs i x x h))
+drop_at : {X : Type 0} (xs : List X) (i : ℕ) (x : X) → i < length xs → x ≡ get_or xs i x → drop i xs ≡ x ∷ drop (i + 1) xs
+drop_at xs i x within is = rw (add-one, drop-cons xs i x within) (ap (λ y. y ∷ drop (suc i) xs) (sym is))
 
 module _ {S : Type 0} (g : Ghosts S) {X : Type 0} (columns : X → Row) where
   -- the row at hand is read as a line
-  pub took_step : (given : List X) (store : Store S) (walk : Walk) (x : Row) (line : X) → slice_get store.page.items walk.at ≡ Some x → columns line ≡ read_from (asked walk.table walk.run) x → Walks g (map columns given) store walk
+  pub took_step : (given : List X) (store : Store S) (walk : Walk) (x : Row) (line : X) → walk.at < length store.page.items → x ≡ get_or store.page.items walk.at x → columns line ≡ read_from (asked walk.table walk.run) x → Walks g (map columns given) store walk
       → Walks g (map columns (given ++ line ∷ [])) store (record walk { at = walk.at + 1 })
-  took_step given store walk x line there says was =
+  took_step given store walk x line within is says was =
       let a = asked walk.table walk.run in
       let rows = rows_of g walk.table store in
       let rest = drop (walk.at + 1) store.page.items in
-      let took = reads_took a rows walk.placed walk.low walk.top (map columns given) (drop walk.at store.page.items) rest x (drop_at store.page.items walk.at x there) was.reads in
+      let took = reads_took a rows walk.placed walk.low walk.top (map columns given) (drop walk.at store.page.items) rest x (drop_at store.page.items walk.at x within is) was.reads in
       record { ready = was.ready; reads = subst (λ l. Reads a rows walk.placed walk.low walk.top l rest) (sym (map-append columns given (line ∷ []) ∙ ap (λ r. map columns given ++ r ∷ []) says)) took }
