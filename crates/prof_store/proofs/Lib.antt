@@ -1,4 +1,6 @@
+pub mod ArcWalks
 pub mod CellWalks
+pub mod StackWalks
 pub mod WalkSteps
 pub mod WalkTables
 mod Writing

@@ -1,12 +1,14 @@
 //! The store: runs, groups and baselines of profiles in SQLite tables.
 #![tactic(auto)]
 
+mod arc_lines;
 mod cell_lines;
 mod cell_texts;
 mod errors;
 mod lines;
 mod making;
 mod reading;
+mod stack_lines;
 mod store;
 mod walks;
 mod whole;
