@@ -7,6 +7,7 @@ use Rattle.folded_reader.specs.Files.{Seen}
 use Rattle.cost_rows.specs.Content.{Content, empty, with_record, with_stack}
 use Rattle.cost_rows.specs.Walks.{cell_rows, arc_rows, stack_rows}
 use Rattle.cost_rows.specs.Sums.{own_sum}
+use Rattle.cost_rows.specs.WalkSums.{rows_cost, calls_cost, calls_count, stacks_count}
 use Rattle.cost_rows.specs.declared.places.Place.{Place}
 use Rattle.cost_rows.specs.Merging.{merge_all, sum_where}
 use Rattle.cost_rows.specs.Admit.{overflow_of}
@@ -118,6 +119,19 @@ sum-second_column = refl
 sum-line_three : own_sum (λ s. s.line == 3) 0 records ≡ 5
 sum-line_three = refl
 
+-- the same of the rows that are walked
+walked-second_column : rows_cost (λ s. true) 1 (cell_rows content.names content.cells) ≡ 7
+walked-second_column = refl
+
+walked-line_three : rows_cost (λ s. s.line == 3) 0 (cell_rows content.names content.cells) ≡ 5
+walked-line_three = refl
+
+walked-calls : calls_cost (λ caller callee. true) 0 (arc_rows content.names content.arcs) ≡ 30
+walked-calls = refl
+
+walked-count : calls_count (λ caller callee. callee.line == 0) (arc_rows content.names content.arcs) ≡ 3
+walked-count = refl
+
 -- ---- the rows of a folded file
 
 abbrev seen : List ℕ → ℕ → Seen
@@ -138,3 +152,6 @@ folded-cells = refl
 
 folded-rows : map (λ r. r.count) (stack_rows folded.stacks) ≡ 1 ∷ 5 ∷ 4 ∷ []
 folded-rows = refl
+
+walked-stacks : stacks_count (λ frames. true) (stack_rows folded.stacks) ≡ 10
+walked-stacks = refl

@@ -3,13 +3,17 @@ pub mod NumberedLemmas
 pub mod AdmitLemmas
 pub mod MergeLemmas
 pub mod Examples
+pub mod TextExamples
 pub mod ColumnsLemmas
 pub mod PlacesLemmas
 pub mod StacksLemmas
 pub mod GrowingLemmas
 pub mod TotalsLemmas
 pub mod SumsLemmas
+pub mod StackSumsLemmas
+pub mod TextsLemmas
 pub mod WalksLemmas
+pub mod WalkSumsLemmas
 pub mod SeenLemmas
 pub mod KeysLemmas
 pub mod KeySumsLemmas

@@ -95,9 +95,9 @@ abbrev CallHeld : List (List ℕ) → Call → Type 0
 CallHeld names a = PlaceHeld names a.place × IsHeld names a.object a.file a.function
 
 -- each number stands for a name
-record AreHeld (c : Content) : Type 0 where
-  cells : AllByRecursion (PlaceHeld c.names) (keys_of c.cells)
-  arcs : AllByRecursion (CallHeld c.names) (keys_of c.arcs)
+pub record AreHeld (c : Content) : Type 0 where
+  pub cells : AllByRecursion (PlaceHeld c.names) (keys_of c.cells)
+  pub arcs : AllByRecursion (CallHeld c.names) (keys_of c.arcs)
 
 abbrev pub cell_test : (Spot → Bool) → List (List ℕ) → Place → Bool
 cell_test passes names p = passes (spot_at names p)
@@ -162,7 +162,7 @@ named-then names object file function a b d =
 
 -- ---- one more record
 
-held-cost : (c : Content) (cost : Cost) → AreHeld c → AreHeld (with_cost c cost)
+pub held-cost : (c : Content) (cost : Cost) → AreHeld c → AreHeld (with_cost c cost)
 held-cost c cost held =
     let new = names_with_cost cost c.names in
     let grows = grows-three c.names cost.object cost.file cost.function in
@@ -184,7 +184,7 @@ held-call c callee cost held =
       arcs = all-merge call_cmp calls_added (CallHeld new) c.arcs (call_of new callee cost) (record { count = callee.count; costs = cost.costs }) (arcs-grow c.names new c.arcs grows held.arcs) (caller.3, called.3);
     }
 
-cells-cost : (passes : Spot → Bool) (k : ℕ) (c : Content) (cost : Cost) → AreHeld c
+pub cells-cost : (passes : Spot → Bool) (k : ℕ) (c : Content) (cost : Cost) → AreHeld c
     → sum_where (cell_test passes (with_cost c cost).names) (λ v. slice_index v k) (with_cost c cost).cells ≡ sum_where (cell_test passes c.names) (λ v. slice_index v k) c.cells + (if passes (spot_of cost) then slice_index cost.costs k else 0)
 cells-cost passes k c cost held =
     let new = names_with_cost cost c.names in
@@ -213,7 +213,7 @@ arcs-call passes f adds c callee cost held =
 
 -- ---- all records
 
-plus_none : (n : ℕ) → n ≡ n + 0
+pub plus_none : (n : ℕ) → n ≡ n + 0
 plus_none n = omega arith
 
 law-cells : (passes : Spot → Bool) (k : ℕ) (records : List Record) (c : Content) → AreHeld c
@@ -257,10 +257,10 @@ count_sum-is passes [] = refl
 count_sum-is passes (Own cost ∷ records) = count_sum-is passes records
 count_sum-is passes (Called callee cost ∷ records) = ap (λ n. (if passes (spot_of cost) (callee_spot callee) then callee.count else 0) + n) (count_sum-is passes records)
 
-none_held : AreHeld empty
+pub none_held : AreHeld empty
 none_held = record { cells = tt; arcs = tt }
 
-none_plus : (n : ℕ) → 0 + n ≡ n
+pub none_plus : (n : ℕ) → 0 + n ≡ n
 none_plus n = omega arith
 
 pub sums-cells : (passes : Spot → Bool) (k : ℕ) (records : List Record)
@@ -286,7 +286,7 @@ record InOrder (c : Content) : Type 0 where
   arcs : IsStrictlySortedBy call_cmp (keys_of c.arcs)
   names : are_distinct c.names ≡ true
 
-distinct-three : (names : List (List ℕ)) (a b d : List ℕ) → are_distinct names ≡ true → are_distinct (with_three a b d names) ≡ true
+pub distinct-three : (names : List (List ℕ)) (a b d : List ℕ) → are_distinct names ≡ true → are_distinct (with_three a b d names) ≡ true
 distinct-three names a b d h = distinct-with (with_name b (with_name a names)) d (distinct-with (with_name a names) b (distinct-with names a h))
 
 fold-order : (records : List Record) (c : Content) → InOrder c → InOrder (fold with_record c records)

@@ -12,7 +12,10 @@ pub mod Totals
 pub mod Rows
 pub mod Lent
 pub mod Sums
+pub mod StackSums
+pub mod Texts
 pub mod Walks
+pub mod WalkSums
 pub mod Plain
 pub mod Keys
 pub mod KeySums

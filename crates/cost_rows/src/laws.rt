@@ -5,6 +5,7 @@ ghost use Rattle.std.specs.List.Sorted.{IsStrictlySortedBy};
 ghost use Rattle.std.specs.Map.{keys_of, values_of};
 ghost use Rattle.cg_text.specs.Formulas.{are_distinct};
 ghost use Rattle.callgrind_reader.specs.Records.{Record};
+ghost use Rattle.folded_reader.specs.Files.{Seen};
 ghost use Rattle.cost_rows.specs.Content.{empty, with_record};
 ghost use Rattle.cost_rows.specs.Keys.{named_cmp};
 ghost use Rattle.cost_rows.specs.KeySums.{cost_where, sums_by};
@@ -13,6 +14,12 @@ ghost use Rattle.cost_rows.specs.declared.rows.CellRow.{CellRow};
 ghost use Rattle.cost_rows.specs.Merging.{merge_all, sum_where, TellsApart};
 ghost use Rattle.cost_rows.specs.Naming.{place_of, with_name};
 ghost use Rattle.cost_rows.specs.Places.{place_cmp, call_cmp};
+ghost use Rattle.cost_rows.specs.StackSums.{content_of_stacks, ComesToStacks, IsInStackOrder};
+ghost use Rattle.cost_rows.specs.Walks.{cell_rows, arc_rows, stack_rows};
+ghost use Rattle.cost_rows.specs.WalkSums.{rows_cost, calls_cost, calls_count, stacks_count};
+ghost use Rattle.cost_rows.specs.declared.places.Place.{Place};
+ghost use Rattle.cost_rows.specs.declared.places.Call.{Call};
+ghost use Rattle.cost_rows.specs.declared.calls.Calls.{Calls};
 ghost use Rattle.cost_rows.specs.Sums.{Spot, spot_at, callee_at, own_sum, call_sum, count_sum};
 
 /// Equal numbers are given exactly to equal names: a number's name has that number and no other, and
@@ -48,6 +55,27 @@ pub fn rows_come_to_the_records()
         sum_where (λ a. passes (spot_at c.names a.place) (callee_at c.names a)) (λ calls. calls.count) c.arcs ≡ count_sum passes records }
     ensures order { (records : List Record) → let c = fold with_record empty records in
         IsStrictlySortedBy place_cmp (keys_of c.cells) × IsStrictlySortedBy call_cmp (keys_of c.arcs) × (are_distinct c.names ≡ true) }
+{}
+
+/// The rows of merged stacks come to what the stacks count: for every test of places by their names,
+/// the cells, to what the functions that were running count; for every test of frames, the stacks, to
+/// what they count themselves. Each key stands once, in order, and no name stands twice.
+pub fn rows_come_to_the_stacks()
+    ensures sums { (seen : List Seen) → ComesToStacks (content_of_stacks seen) seen }
+    ensures order { (seen : List Seen) → IsInStackOrder (content_of_stacks seen) }
+{}
+
+/// What is walked comes to what is held: for every test of places by their names and each event, the
+/// rows of cells; for every test of calls, their rows and how many there were; for every test of
+/// frames, the rows of stacks.
+pub fn walked_rows_come_to_the_sums()
+    ensures cells { (passes : Spot → Bool) (k : ℕ) (names : List (List ℕ)) (cells : List (Place × List ℕ))
+        → rows_cost passes k (cell_rows names cells) ≡ sum_where (λ p. passes (spot_at names p)) (λ costs. slice_index costs k) cells }
+    ensures arcs { (passes : Spot → Spot → Bool) (k : ℕ) (names : List (List ℕ)) (arcs : List (Call × Calls))
+        → calls_cost passes k (arc_rows names arcs) ≡ sum_where (λ a. passes (spot_at names a.place) (callee_at names a)) (λ calls. slice_index calls.costs k) arcs }
+    ensures counts { (passes : Spot → Spot → Bool) (names : List (List ℕ)) (arcs : List (Call × Calls))
+        → calls_count passes (arc_rows names arcs) ≡ sum_where (λ a. passes (spot_at names a.place) (callee_at names a)) (λ calls. calls.count) arcs }
+    ensures stacks { (passes : List ℕ → Bool) (stacks : List (List ℕ × ℕ)) → stacks_count passes (stack_rows stacks) ≡ sum_where passes (λ count. count) stacks }
 {}
 
 /// What rows that are added one after another come to: for every test of the parts of places that a

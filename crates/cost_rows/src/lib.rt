@@ -22,6 +22,9 @@ mod tests;
 mod tests_merged;
 #[cfg(test)]
 mod tests_rows;
+#[cfg(test)]
+mod tests_texts;
+mod texts;
 mod totals;
 mod walks;
 
@@ -29,10 +32,12 @@ pub use file_rows::FileRows;
 pub use keys::Key;
 pub use laws::{
     merging_keeps_each_sum, numbers_tell_names_apart, rows_add_up_by_key, rows_come_to_the_records,
+    rows_come_to_the_stacks, walked_rows_come_to_the_sums,
 };
 pub use limits::{Overflow, SUM_LIMIT, Side, admit};
 pub use merged::Merged;
 pub use names::Names;
 pub use rows::{ArcRow, CellRow, FileTotals, StackRow};
 pub use sum_rows::SumRows;
+pub use texts::{rows_of_folded, rows_of_text};
 pub use walks::{ArcWalk, CellWalk, StackWalk};

@@ -1,5 +1,5 @@
 -- What a store shows, in the words of the layers above.
-use Rattle.std.specs.Prelude.{IsTrue}
+use Rattle.std.specs.Prelude.{◌≡◌, false, IsTrue}
 use Rattle.sqlite_trees.specs.declared.store.Store.{Ghosts}
 use Rattle.sqlite_trees.specs.Tree.{Trees}
 use Rattle.sqlite.specs.Held.{state}
@@ -20,6 +20,18 @@ module _ {S : Type 0} (g : Ghosts S) where
   -- false once the disk has failed for good: then each call fails until the files are opened again
   abbrev pub IsUsable : Store S → Type 0
   IsUsable store = IsTrue (shown store).is_open
+
+  -- between calls, in tables of schema 1, whatever stands in them
+  pub record IsSettled (store : Store S) : Type 0 where
+    pub schema_is : (shown store).now.schema ≡ schema_one
+    pub committed : (shown store).committed ≡ (shown store).now
+    pub autocommit : (shown store).in_transaction ≡ false
+
+  -- the tables, the last commit and the mode are as they were
+  pub record IsAsBefore (old new : Store S) : Type 0 where
+    pub now_is : (shown new).now ≡ (shown old).now
+    pub committed_is : (shown new).committed ≡ (shown old).committed
+    pub autocommit : (shown new).in_transaction ≡ false
 
   -- between calls the tables hold these lines, and so does the last commit
   abbrev pub StandsFor : Tables → Store S → Type 0

@@ -4,7 +4,10 @@
 mod arc_lines;
 mod cell_lines;
 mod cell_texts;
+mod dropping;
 mod errors;
+mod groups;
+mod joining;
 mod lines;
 mod making;
 mod reading;

@@ -46,7 +46,7 @@ no_group_works_if olds news true e = absurd cc
 some_news : (n : Row) (news : List Row) → (length (n ∷ news) == 0) ≡ false
 some_news n news = ne_eqb (length (n ∷ news)) 0 (λ e. omega (arith, e))
 
-member_passes : (name : List ℕ) (n : ℕ) (id : Value) (m : MemberLine) → passes (Text name ∷ number n ∷ []) leave_terms (id ∷ member_columns m) ≡ is_member name n m
+pub member_passes : (name : List ℕ) (n : ℕ) (id : Value) (m : MemberLine) → passes (Text name ∷ number n ∷ []) leave_terms (id ∷ member_columns m) ≡ is_member name n m
 member_passes name n id m = ap₂ (λ a b. a && (b && true)) (texts_equal m.group name) (numbers_equal m.run n) ∙ ap (λ b. bytes_eq m.group name && b) (and_true _)
 
 pub group_passes : (params : Row) (name : List ℕ) (id : Value) (g : GroupLine) → passes (Text name ∷ params) set_baseline_terms (id ∷ group_columns g) ≡ is_named name g

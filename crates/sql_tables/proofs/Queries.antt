@@ -2,7 +2,7 @@
 use Rattle.sqlite_schema.specs.declared.schema.Schema.{Schema}
 use Rattle.sql_tables.proofs.Rows.{passes}
 use Rattle.sql_tables.specs.Queries.{scan}
-use Rattle.std.proofs.Common.{◌≡◌, ◌⊎◌, inl, inr, ℕ, List, [], ◌∷◌, ◌++◌, map, filter, flat_map, Bool, true, false, cond, Ok, Err, Result, refl, sym, ap, subst, ◌∙◌}
+use Rattle.std.proofs.Common.{◌≡◌, ◌⊎◌, inl, inr, ℕ, List, [], ◌∷◌, ◌++◌, map, filter, flat_map, Bool, true, false, cond, Ok, Err, Option, Some, None, Result, refl, sym, ap, subst, ◌∙◌}
 use Rattle.std.specs.List.{list_all}
 use Rattle.std.specs.Prelude.{IsPermutation, IsSorted}
 use Rattle.sqlite_trees.proofs.ListLemmas.{all-permutation}
@@ -17,7 +17,9 @@ use Rattle.sqlite_sql.specs.Term.{Term, Env, holds}
 use Rattle.sqlite_sql.specs.Query.{Query, Output, IsAnswer, output, output_cmp}
 use Rattle.sqlite.specs.declared.error.Error.{Error}
 use Rattle.sqlite.specs.Listing.{understood}
-use Rattle.sqlite.specs.State.{State, IsUnchanged, IsRolledBack, FailsToQuery, QueriesRow, Shown, IsNotRun, Survives, CommitsShowing}
+use Rattle.sqlite_schema.specs.declared.command.Returning.{Returning}
+use Rattle.sqlite.specs.Clock.{timed}
+use Rattle.sqlite.specs.State.{FailsToShow, State, IsUnchanged, IsRolledBack, FailsToQuery, QueriesRow, Shown, IsNotRun, Survives, CommitsShowing}
 use Rattle.sqlite.proofs.Callers.{IsPlain, never_commits}
 use Rattle.sqlite.proofs.StateLemmas.{survives_weaker}
 
@@ -46,6 +48,18 @@ pub row_unchanged : (schema : Schema) (sql : List ℕ) (params : Row) (old new :
 unfolding QueriesRow
 row_unchanged schema sql params old new has plain row (inl h) = h.1
 row_unchanged schema sql params old new has plain row (inr h) = shown_keeps schema sql params old new has plain h.0 h.1
+
+-- a query that fails changes nothing, or rolls back, whatever its text
+pub failed_keeps : (sql : List ℕ) (params : Row) (old new : State) (e : Error) → FailsToQuery sql params old new e → IsUnchanged old new ⊎ IsRolledBack old new
+unfolding FailsToQuery IsNotRun
+failed_keeps sql params old new e (inl (inl h)) = inl h.1
+failed_keeps sql params old new e (inl (inr h)) = inr h.3
+failed_keeps sql params old new e (inr h) = shown_or_run h.0.returning h.2
+  where
+    shown_or_run : (returning : Option Returning) → FailsToShow old new sql h.0 (timed params h.0.formats h.1.now) e returning → IsUnchanged old new ⊎ IsRolledBack old new
+    shown_or_run None k = inl k.3
+    shown_or_run (Some what) (inl k) = inl k.1
+    shown_or_run (Some what) (inr k) = inr k.3
 
 pub commits_nothing : (schema : Schema) (sql : List ℕ) (params : Row) (old new : State) → old.now.schema ≡ schema → IsPlain (understood schema sql) → Survives old new (CommitsShowing sql params old) → Survives old new (λ _. ⊥)
 commits_nothing schema sql params old new has plain = survives_weaker old new _ _ (λ _ db. never_commits sql params old db (subst (λ s. IsPlain (understood s sql)) (sym has) plain))

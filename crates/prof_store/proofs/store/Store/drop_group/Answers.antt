@@ -1,0 +1,32 @@
+use Rattle.std.proofs.Common.{◌≡◌, true, [], ◌∷◌}
+use Rattle.sqlite_value.specs.declared.value.Value.TheVariants.{Text}
+use Rattle.sql_tables.proofs.Statements.{refused, rests_if_kept}
+use Rattle.prof_tables.specs.Schema.{schema_one}
+use Rattle.prof_tables.specs.Tables.{Holds}
+use Rattle.prof_tables.specs.Texts.{drop_group_text}
+use Rattle.prof_tables.specs.Changes.{without_group, has_group}
+use Rattle.prof_tables.proofs.Means.{drop_group_means, drop_group_plain}
+use Rattle.prof_tables.proofs.Drops.{drops_group}
+use Rattle.prof_store.proofs.Writing.{rests, leaves as survives, as_before}
+use Rattle.prof_store.proofs.store.Store.drop_group.Goals as goal
+
+pub returns-in-Ok-clause-done : goal.returns-in-Ok-clause-done
+returns-in-Ok-clause-done g c clean t was held =
+    let name = c.args.name.now in
+    rests drop_group_text (Text name ∷ []) _ drop_group_means drop_group_plain tt (λ t. has_group t name ≡ true) (without_group name) (λ t is limit trees text tally after was sound. drops_group name t is limit trees text tally after was sound) _ _ _ t held was (c.in-Ok.ensures.runs clean)
+
+pub returns-in-Ok-clause-crash : goal.returns-in-Ok-clause-crash
+returns-in-Ok-clause-crash g c clean t was held =
+    let name = c.args.name.now in
+    (survives drop_group_text (Text name ∷ []) _ drop_group_means drop_group_plain tt (λ t. has_group t name ≡ true) (without_group name) (λ t is limit trees text tally after was sound. drops_group name t is limit trees text tally after was sound) _ _ 0 t held was c.delete_group.ensures.survives).crash clean
+
+pub returns-in-Err-clause-kept : goal.returns-in-Err-clause-kept
+returns-in-Err-clause-kept g c clean t was is_open = rests_if_kept schema_one (Holds t) _ _ was is_open (refused drop_group_text _ _ _ c.in-Err.error (c.in-Err.ensures.runs clean))
+
+pub returns-in-Err-clause-unchanged : goal.returns-in-Err-clause-unchanged
+returns-in-Err-clause-unchanged g c clean was is_open = as_before g.S.Store _ _ was is_open (refused drop_group_text _ _ _ c.in-Err.error (c.in-Err.ensures.runs clean))
+
+pub returns-in-Err-clause-crash : goal.returns-in-Err-clause-crash
+returns-in-Err-clause-crash g c clean t was held =
+    let name = c.args.name.now in
+    (survives drop_group_text (Text name ∷ []) _ drop_group_means drop_group_plain tt (λ t. has_group t name ≡ true) (without_group name) (λ t is limit trees text tally after was sound. drops_group name t is limit trees text tally after was sound) _ _ 0 t held was c.delete_group.ensures.survives).crash clean

@@ -1,0 +1,53 @@
+-- What queries that look for a line find.
+use Rattle.std.proofs.Common.{◌≡◌, inl, inr, ℕ, List, [], ◌∷◌, map, not, length, ◌==◌, arith, true, false, refl, sym, ap, ◌∙◌}
+use Rattle.std.proofs.lemmas.Bool.{cases_Bool, ne_eqb}
+use Rattle.sqlite_value.specs.declared.value.Value.TheVariants.{Int, Text}
+use Rattle.sqlite_value.specs.Order.{Row}
+use Rattle.sqlite_rules.specs.Lists.{Has}
+use Rattle.sqlite_rules.proofs.ListLemmas.{some_has, some_from}
+use Rattle.sqlite.specs.State.{State, Shown}
+use Rattle.sql_tables.specs.Contents.{IsContent}
+use Rattle.sql_tables.specs.States.{Rests}
+use Rattle.sql_tables.proofs.Cascades.{row_there}
+use Rattle.sql_tables.proofs.Contents.{content_there}
+use Rattle.sql_tables.proofs.Queries.{Selects, shown_row, row_shown}
+use Rattle.sql_tables.proofs.Rows.{id_of, passes}
+use Rattle.sql_tables.proofs.Selects.{selected}
+use Rattle.sql_tables.proofs.Updates.{entry_there}
+use Rattle.prof_tables.specs.Schema.{schema_one, member_at}
+use Rattle.prof_tables.specs.Tables.{Tables, Holds, contents_of, member_columns, number}
+use Rattle.prof_tables.specs.Texts.{find_member_text}
+use Rattle.prof_tables.specs.Changes.{is_member, has_member}
+use Rattle.prof_tables.proofs.Groups.{member_passes}
+use Rattle.prof_tables.proofs.Means.{find_member_terms, find_member_shown, find_member_order, find_member_means, find_member_plain, find_member_unlisted}
+
+none_has : {X : Type 0} (xs : List X) (x : X) → xs ≡ [] → Has xs x → ⊥
+none_has [] x none there = there
+none_has (y ∷ xs) x none there = cc
+
+-- a member is found exactly where there is one
+module _ (name : List ℕ) (n : ℕ) (t : Tables) (rows answer : List Row) (here : IsContent member_at (map member_columns t.members) rows)
+    (s : Selects 21 find_member_terms find_member_shown find_member_order rows (Text name ∷ number n ∷ []) answer) where
+  found_none : answer ≡ [] → has_member t name n ≡ false
+  found_none none = elim (cases_Bool (has_member t name n)) [
+    | inl is ↦
+        let m = some_has (is_member name n) t.members is in
+        let r = row_there member_at member_columns rows t.members here m.0 m.1 in
+        absurd (none_has answer _ none (row_shown 21 find_member_terms find_member_shown find_member_order rows (Text name ∷ number n ∷ []) answer s _ r.1 (member_passes name n (Int r.0) m.0 ∙ m.2)))
+    | inr isnt ↦ isnt
+  ]
+
+  found_some : (r : Row) → Has answer r → has_member t name n ≡ true
+  found_some r there =
+      let q = shown_row 21 find_member_terms find_member_shown find_member_order rows (Text name ∷ number n ∷ []) answer s r there in
+      let e = entry_there member_at member_columns rows t.members here q.0 q.1 in
+      some_from (is_member name n) t.members e.0 e.1 (sym (member_passes name n (Int (id_of q.0)) e.0) ∙ sym (ap (λ x. passes (Text name ∷ number n ∷ []) find_member_terms x) e.2) ∙ q.2)
+
+pub member_found : (name : List ℕ) (n : ℕ) (t : Tables) (old new : State) (answer : List Row) → Rests schema_one (Holds t) old → Shown find_member_text (Text name ∷ number n ∷ []) old new answer → not (length answer == 0) ≡ has_member t name n
+member_found name n t old new [] was h =
+    sym (found_none name n t (old.now.trees 21) [] (content_there schema_one.tables (contents_of t) old.now.trees 10 member_at refl was.holds.contain.contents_are)
+    (selected schema_one find_member_text 21 find_member_terms find_member_shown find_member_order _ find_member_means find_member_plain find_member_unlisted old new was.schema_is refl (Text name ∷ number n ∷ []) [] h) refl)
+member_found name n t old new (r ∷ more) was h =
+    ap not (ne_eqb (length (r ∷ more)) 0 (λ e. omega (arith, e)))
+    ∙ sym (found_some name n t (old.now.trees 21) (r ∷ more) (content_there schema_one.tables (contents_of t) old.now.trees 10 member_at refl was.holds.contain.contents_are)
+    (selected schema_one find_member_text 21 find_member_terms find_member_shown find_member_order _ find_member_means find_member_plain find_member_unlisted old new was.schema_is refl (Text name ∷ number n ∷ []) (r ∷ more) h) r (inl refl))
