@@ -1,5 +1,5 @@
 -- A walk over the arcs of a run, in the words of the tables.
-use Rattle.std.proofs.Common.{◌≡◌, List, [], ◌∷◌, ◌++◌, map, drop, Option, Some, None, Result, Ok, Err, OnOk, IfOk, subst, ◌∙◌, append_assoc}
+use Rattle.std.proofs.Common.{List, [], ◌∷◌, ◌++◌, map, drop, Option, Some, None, Result, Ok, Err, OnOk, IfOk, subst, ◌∙◌, append_assoc}
 use Rattle.sqlite_trees.specs.declared.store.Store.{Ghosts}
 use Rattle.sql_tables.specs.Walks.{Reads, HasReadAll}
 use Rattle.prof_tables.specs.Tables.{Tables, ArcLine as Arc, arc_columns}
@@ -10,7 +10,7 @@ use Rattle.prof_store.specs.declared.arc_lines.ArcLines.{ArcLines}
 use Rattle.prof_store.specs.Lines.{arc_line}
 use Rattle.prof_store.specs.Shown.{shown, StandsFor}
 use Rattle.prof_store.specs.Walks.{asked, rows_of}
-use Rattle.prof_store.specs.ArcWalks.{GivesArcs, GivesArcsOn, TellsArcs}
+use Rattle.prof_store.specs.ArcWalks.{GivesArcsOn, TellsArcs}
 
 pub tells_arcs : {S : Type 0} (g : Ghosts S) (t : Tables) (c : ArcLines S) (given : List Arc) (result : Result (Option ArcLine) StoreEnd) → OnOk result (StandsFor g t c.store.now) → IfOk result (GivesArcsOn g given c)
     → IfOk result (TellsArcs c.walk.run t given)

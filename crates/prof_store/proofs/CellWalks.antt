@@ -1,5 +1,5 @@
 -- A walk over the cells of a run, in the words of the tables.
-use Rattle.std.proofs.Common.{◌≡◌, List, [], ◌∷◌, ◌++◌, map, drop, Option, Some, None, Result, Ok, Err, OnOk, IfOk, subst, ◌∙◌, append_assoc}
+use Rattle.std.proofs.Common.{List, [], ◌∷◌, ◌++◌, map, drop, Option, Some, None, Result, Ok, Err, OnOk, IfOk, subst, ◌∙◌, append_assoc}
 use Rattle.sqlite_trees.specs.declared.store.Store.{Ghosts}
 use Rattle.sql_tables.specs.Walks.{Reads, HasReadAll}
 use Rattle.prof_tables.specs.Tables.{Tables, CellLine as Cell, cell_columns}
@@ -10,7 +10,7 @@ use Rattle.prof_store.specs.declared.cell_lines.CellLines.{CellLines}
 use Rattle.prof_store.specs.Lines.{cell_line}
 use Rattle.prof_store.specs.Shown.{shown, StandsFor}
 use Rattle.prof_store.specs.Walks.{asked, rows_of}
-use Rattle.prof_store.specs.CellWalks.{GivesCells, GivesCellsOn, TellsCells}
+use Rattle.prof_store.specs.CellWalks.{GivesCellsOn, TellsCells}
 
 pub tells_cells : {S : Type 0} (g : Ghosts S) (t : Tables) (c : CellLines S) (given : List Cell) (result : Result (Option CellLine) StoreEnd) → OnOk result (StandsFor g t c.store.now) → IfOk result (GivesCellsOn g given c)
     → IfOk result (TellsCells c.walk.run t given)

@@ -1,5 +1,5 @@
 -- A walk over the stacks of a run, in the words of the tables.
-use Rattle.std.proofs.Common.{◌≡◌, List, [], ◌∷◌, ◌++◌, map, drop, Option, Some, None, Result, Ok, Err, OnOk, IfOk, subst, ◌∙◌, append_assoc}
+use Rattle.std.proofs.Common.{List, [], ◌∷◌, ◌++◌, map, drop, Option, Some, None, Result, Ok, Err, OnOk, IfOk, subst, ◌∙◌, append_assoc}
 use Rattle.sqlite_trees.specs.declared.store.Store.{Ghosts}
 use Rattle.sql_tables.specs.Walks.{Reads, HasReadAll}
 use Rattle.prof_tables.specs.Tables.{Tables, StackLine as Stack, stack_columns}
@@ -10,7 +10,7 @@ use Rattle.prof_store.specs.declared.stack_lines.StackLines.{StackLines}
 use Rattle.prof_store.specs.Lines.{stack_line}
 use Rattle.prof_store.specs.Shown.{shown, StandsFor}
 use Rattle.prof_store.specs.Walks.{asked, rows_of}
-use Rattle.prof_store.specs.StackWalks.{GivesStacks, GivesStacksOn, TellsStacks}
+use Rattle.prof_store.specs.StackWalks.{GivesStacksOn, TellsStacks}
 
 pub tells_stacks : {S : Type 0} (g : Ghosts S) (t : Tables) (c : StackLines S) (given : List Stack) (result : Result (Option StackLine) StoreEnd) → OnOk result (StandsFor g t c.store.now) → IfOk result (GivesStacksOn g given c)
     → IfOk result (TellsStacks c.walk.run t given)

@@ -1,5 +1,5 @@
 -- The steps of a walk over the store.
-use Rattle.std.proofs.Common.{◌≡◌, ℕ, ◌≤◌, suc, ◌+◌, List, [], ◌∷◌, ◌++◌, map, filter, drop, length, get_or, ◌<◌, Bool, true, false, Result, Ok, Err, OnOk, sym, ap, subst, ◌∙◌, add-one}
+use Rattle.std.proofs.Common.{◌≡◌, ℕ, ◌≤◌, suc, ◌+◌, List, [], ◌∷◌, ◌++◌, map, filter, drop, length, get_or, ◌<◌, true, false, Result, Ok, Err, OnOk, sym, ap, subst, ◌∙◌, add-one}
 use Rattle.std.proofs.Math.Seq.{drop-cons}
 use Rattle.sqlite_value.specs.Order.{Row}
 use Rattle.sqlite_trees.specs.View.{IsShaped}
@@ -8,7 +8,7 @@ use Rattle.sqlite_trees.specs.declared.store.Shape.TheVariants as shape
 use Rattle.sqlite.specs.Effect.{Database}
 use Rattle.sqlite.specs.State.{State}
 use Rattle.sql_tables.specs.States.{Rests}
-use Rattle.sql_tables.specs.Walks.{Asked, in_page, in_window, read_from, Reads, Lie, HasReadAll}
+use Rattle.sql_tables.specs.Walks.{in_page, in_window, read_from, Reads, Lie}
 use Rattle.sql_tables.proofs.Walks.{reads_begin, reads_placed, reads_turned, reads_took, reads_ended}
 use Rattle.sql_tables.proofs.Rows.{map-append}
 use Rattle.prof_tables.specs.Schema.{schema_one}

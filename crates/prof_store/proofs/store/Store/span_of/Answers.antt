@@ -1,4 +1,4 @@
-use Rattle.std.proofs.Common.{[], ◌∷◌, pos, inl, sym, subst}
+use Rattle.std.proofs.Common.{[], ◌∷◌, pos, sym, subst}
 use Rattle.sqlite_value.specs.declared.value.Value.TheVariants.{Int}
 use Rattle.sqlite_exec.proofs.MarkLemmas.{if_ok_then}
 use Rattle.sqlite.specs.Effect.{Database}
