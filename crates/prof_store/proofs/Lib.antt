@@ -3,4 +3,6 @@ pub mod CellWalks
 pub mod StackWalks
 pub mod WalkSteps
 pub mod WalkTables
+mod Lists
+mod Parts
 mod Writing

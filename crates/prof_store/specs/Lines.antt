@@ -1,11 +1,25 @@
 -- The lines of the code, as plain data.
-use Rattle.prof_tables.specs.Tables.{CellLine as Cell, ArcLine as Arc, StackLine as Stack}
+use Rattle.std.specs.Prelude.{string_bytes, option_map}
+use Rattle.prof_tables.specs.Tables.{CellLine as Cell, ArcLine as Arc, StackLine as Stack, EventLine as Event, DerivedLine as Derived, CoefLine as Coef}
 use Rattle.prof_store.specs.declared.lines.CellLine.{CellLine}
 use Rattle.prof_store.specs.declared.lines.ArcLine.{ArcLine}
 use Rattle.prof_store.specs.declared.lines.StackLine.{StackLine}
+use Rattle.prof_store.specs.declared.lines.HeldStack.{HeldStack}
+use Rattle.prof_store.specs.declared.lines.EventLine.{EventLine}
+use Rattle.prof_store.specs.declared.lines.DerivedLine.{DerivedLine}
+use Rattle.prof_store.specs.declared.lines.CoefLine.{CoefLine}
 
 abbrev pub cell_line : CellLine → Cell
 cell_line c = record { run = c.run; object = c.object; file = c.file; function = c.function; line = c.line; event = c.event; cost = c.cost }
+
+abbrev pub event_line : EventLine → Event
+event_line e = record { run = e.run; place = e.place; name = e.name.items; self_cost = e.self_cost; call_cost = e.call_cost; stated = option_map string_bytes e.stated }
+
+abbrev pub derived_line : DerivedLine → Derived
+derived_line d = record { run = d.run; place = d.place; name = d.name.items }
+
+abbrev pub coef_line : CoefLine → Coef
+coef_line c = record { run = c.run; place = c.place; event = c.event; times = c.times }
 
 abbrev pub arc_line : ArcLine → Arc
 arc_line a = record {
@@ -22,4 +36,7 @@ arc_line a = record {
 }
 
 abbrev pub stack_line : StackLine → Stack
-stack_line s = record { run = s.run; frames = s.frames.items; count = s.count }
+stack_line s = record { run = s.run; frames = s.frames.now; count = s.count }
+
+abbrev pub held_stack : HeldStack → Stack
+held_stack s = record { run = s.run; frames = s.frames.items; count = s.count }

@@ -1,9 +1,10 @@
 -- What a part of a transaction does to what a connection shows.
-use Rattle.std.specs.Prelude.{IsTrue}
+use Rattle.std.specs.Prelude.{ℕ, ◌<◌, IsTrue}
+use Rattle.std.specs.List.{AllByRecursion}
 use Rattle.sqlite.specs.State.{HasCleanDisk, State, Survives}
 use Rattle.sql_tables.specs.States.{Works, KeepsCommit}
 use Rattle.prof_tables.specs.Schema.{schema_one}
-use Rattle.prof_tables.specs.Tables.{Tables, Holds}
+use Rattle.prof_tables.specs.Tables.{Tables, Holds, RunLine}
 
 -- whatever comes of it, it commits nothing
 pub record Passes (old new : State) : Type 0 where
@@ -14,3 +15,11 @@ pub record Passes (old new : State) : Type 0 where
 pub record Makes (P : Tables → Type 0) (change : Tables → Tables) (old new : State) : Type 0 where
   pub running : HasCleanDisk new → IsTrue old.in_transaction → IsTrue new.in_transaction
   pub done : HasCleanDisk new → (t : Tables) → P t → Works schema_one (Holds t) old → Works schema_one (Holds (change t)) new
+
+-- each run's number is below a number
+abbrev pub IsAbove : ℕ → Tables → Type 0
+IsAbove n t = AllByRecursion (λ (r : RunLine). r.number < n) t.runs
+
+-- a number is above each run's, and below the next
+abbrev pub IsNext : ℕ → Tables → Type 0
+IsNext n t = (n < t.next) × IsAbove n t

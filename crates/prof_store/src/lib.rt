@@ -2,16 +2,21 @@
 #![tactic(auto)]
 
 mod arc_lines;
+mod arc_texts;
 mod cell_lines;
 mod cell_texts;
 mod dropping;
 mod errors;
 mod groups;
+mod head_lines;
+mod head_texts;
 mod joining;
 mod lines;
 mod making;
+mod name_texts;
 mod reading;
 mod stack_lines;
+mod stack_texts;
 mod store;
 mod walks;
 mod whole;

@@ -14,7 +14,36 @@ pub(crate) struct CellLine {
     pub cost: Whole,
 }
 
-/// A part of the calls from a place to a function: part 0 counts them, part `k + 1` is their cost in column `k`.
+/// An event of a run: its column, its name, its sums, and the total that the file states.
+#[derive(Drop)]
+pub(crate) struct EventLine {
+    pub run: u32,
+    pub place: u32,
+    pub name: Vec<u8>,
+    pub self_cost: Whole,
+    pub call_cost: Whole,
+    pub stated: Option<String>,
+}
+
+/// A derived event of a run.
+#[derive(Drop)]
+pub(crate) struct DerivedLine {
+    pub run: u32,
+    pub place: u32,
+    pub name: Vec<u8>,
+}
+
+/// How often an event counts in a derived one.
+#[derive(Drop)]
+pub(crate) struct CoefLine {
+    pub run: u32,
+    pub place: u32,
+    pub event: u32,
+    pub times: Whole,
+}
+
+/// A part of the calls from a place to a function, names by number: part 0 counts them, part k + 1
+/// is their cost in column k.
 #[derive(Drop)]
 pub(crate) struct ArcLine {
     pub run: u32,
@@ -31,7 +60,15 @@ pub(crate) struct ArcLine {
 
 /// How often a stack was seen.
 #[derive(Drop)]
-pub(crate) struct StackLine {
+pub(crate) struct StackLine<'a> {
+    pub run: u32,
+    pub frames: &'a [u8],
+    pub count: Whole,
+}
+
+/// How often a stack was seen, as it is read.
+#[derive(Drop)]
+pub(crate) struct HeldStack {
     pub run: u32,
     pub frames: Vec<u8>,
     pub count: Whole,

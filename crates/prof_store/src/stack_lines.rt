@@ -3,13 +3,13 @@ ghost use Rattle.std.specs.Prelude.{◌≡◌, [], Some, None, IfOk, IfErr, OnOk
 ghost use Rattle.sql_tables.specs.Walks.{read_from};
 ghost use Rattle.prof_tables.specs.Tables.{stack_columns};
 ghost use Rattle.prof_tables.specs.WalkTexts.{stacks_of};
-ghost use Rattle.prof_store.specs.Lines.{stack_line};
+ghost use Rattle.prof_store.specs.Lines.{held_stack};
 ghost use Rattle.prof_store.specs.Shown.{shown, IsFaithful, IsUsable, StandsFor, LeavesOnly};
 ghost use Rattle.prof_store.specs.Walks.{IsReady};
 ghost use Rattle.prof_store.specs.StackWalks.{GivesStacks, GivesStacksOn, TellsStacks};
 
 use crate::errors::StoreEnd;
-use crate::lines::StackLine;
+use crate::lines::HeldStack;
 use crate::reading::{bytes_at, whole_at};
 use crate::store::Store;
 use crate::walks::{Listed, Walk};
@@ -22,12 +22,12 @@ pub(crate) struct StackLines<'a, S: Alter> {
     failed: Option<StoreEnd>,
 }
 
-fn read_stack(run: u32, row: &Row) -> Result<StackLine, StoreEnd>
-    ensures { IfOk result (λ s. stack_columns (stack_line s) ≡ read_from (stacks_of run) row.now) }
+fn read_stack(run: u32, row: &Row) -> Result<HeldStack, StoreEnd>
+    ensures { IfOk result (λ s. stack_columns (held_stack s) ≡ read_from (stacks_of run) row.now) }
 {
     let frames = bytes_at(row, 1)?;
     let count = whole_at(row, 2)?;
-    Ok(StackLine { run, frames, count })
+    Ok(HeldStack { run, frames, count })
 }
 
 impl<S: Alter> Store<S> {
@@ -52,7 +52,7 @@ impl<S: Alter> Store<S> {
 }
 
 impl<S: Alter> StackLines<'_, S> {
-    fn step(&mut self) -> Result<Option<StackLine>, StoreEnd>
+    fn step(&mut self) -> Result<Option<HeldStack>, StoreEnd>
         ensures same_reference { self.new.store.ghost_name ≡ self.old.store.ghost_name }
         ensures run { self.new.walk.run ≡ self.old.walk.run }
         ensures failed { self.new.failed ≡ self.old.failed }
@@ -76,7 +76,7 @@ impl<S: Alter> StackLines<'_, S> {
     }
 
     /// The next stack.
-    pub(crate) fn next(&mut self) -> Result<Option<StackLine>, StoreEnd>
+    pub(crate) fn next(&mut self) -> Result<Option<HeldStack>, StoreEnd>
         ensures same_reference { self.new.store.ghost_name ≡ self.old.store.ghost_name }
         ensures run { self.new.walk.run ≡ self.old.walk.run }
         ensures failed { MatchResult result (λ _. self.new.failed ≡ self.old.failed) (λ e. self.new.failed ≡ Some e) }

@@ -4,6 +4,8 @@ pub mod Drops
 pub mod Finds
 pub mod Groups
 pub mod Means
+pub mod Names
+pub mod Numbering
 pub mod Rows
 pub mod RunLines
 pub mod Values

@@ -18,7 +18,7 @@ use Rattle.sql_tables.proofs.Rows.{map-append}
 use Rattle.sql_tables.proofs.Statements.{plain_mode}
 use Rattle.prof_tables.specs.Schema.{schema_one, meta_at, run_at, run_event_at, derived_at, coef_at, name_at, cell_at, arc_at, stack_at, grp_at, member_at}
 use Rattle.prof_tables.specs.Tables.{Tables, Holds, contents_of, RunLine, EventLine, DerivedLine, CoefLine, NameLine, CellLine, ArcLine, StackLine, GroupLine, MemberLine, run_columns, event_columns, derived_columns, coef_columns, name_columns, cell_columns, arc_columns, stack_columns, group_columns, member_columns, number, new_tables}
-use Rattle.prof_tables.specs.Changes.{with_run, with_event, with_derived, with_coef, next_name, with_new_name, with_cells, with_arcs, with_stacks, with_group, with_member}
+use Rattle.prof_tables.specs.Changes.{with_run, with_events, with_derived, with_coefs, next_name, with_new_name, with_cells, with_arcs, with_stacks, with_group, with_member}
 use Rattle.prof_tables.proofs.Means.{begin_terms, put_run_terms, put_event_terms, put_derived_terms, put_coef_terms, put_name_terms, put_cell_terms, put_arc_terms, put_stack_terms, put_group_terms, put_member_terms}
 use Rattle.prof_tables.proofs.Values.{cast_null, cast_number, cast_text_or_null, number_below}
 
@@ -61,19 +61,19 @@ module _ (t : Tables) (limit : Option ℕ) (trees : Trees) (text : List ℕ) (ta
       (it.0, record { contain = subst (λ l. Contain schema_one (with_content 5 l (contents_of t)) after.trees) row it.1; below = was.below })
 
   pub puts_event : (e : EventLine) → Does limit plain_mode (event_columns e) (record { schema = schema_one; trees = trees }) text None (Insert 2 (Values put_event_terms 7)) (Ok (tally, after))
-      → (after.schema ≡ schema_one) × Holds (with_event e t) after.trees
+      → (after.schema ≡ schema_one) × Holds (with_events (e ∷ []) t) after.trees
   puts_event e h =
       let it = inserts_rows schema_one (contents_of t) limit (event_columns e) trees text tally after 2 run_event_at refl refl put_event_terms 7 was.contain sound h (event_columns e ∷ []) refl (simp (cast_null, cast_number, cast_text_or_null)) in
       (it.0, record { contain = subst (λ l. Contain schema_one (with_content 2 l (contents_of t)) after.trees) (sym (map-append event_columns t.events (e ∷ []))) it.1; below = was.below })
 
   pub puts_derived : (d : DerivedLine) → Does limit plain_mode (derived_columns d) (record { schema = schema_one; trees = trees }) text None (Insert 3 (Values put_derived_terms 4)) (Ok (tally, after))
-      → (after.schema ≡ schema_one) × Holds (with_derived d t) after.trees
+      → (after.schema ≡ schema_one) × Holds (with_derived (d ∷ []) t) after.trees
   puts_derived d h =
       let it = inserts_rows schema_one (contents_of t) limit (derived_columns d) trees text tally after 3 derived_at refl refl put_derived_terms 4 was.contain sound h (derived_columns d ∷ []) refl (simp (cast_null, cast_number)) in
       (it.0, record { contain = subst (λ l. Contain schema_one (with_content 3 l (contents_of t)) after.trees) (sym (map-append derived_columns t.derived (d ∷ []))) it.1; below = was.below })
 
   pub puts_coef : (c : CoefLine) → Does limit plain_mode (coef_columns c) (record { schema = schema_one; trees = trees }) text None (Insert 4 (Values put_coef_terms 5)) (Ok (tally, after))
-      → (after.schema ≡ schema_one) × Holds (with_coef c t) after.trees
+      → (after.schema ≡ schema_one) × Holds (with_coefs (c ∷ []) t) after.trees
   puts_coef c h =
       let it = inserts_rows schema_one (contents_of t) limit (coef_columns c) trees text tally after 4 coef_at refl refl put_coef_terms 5 was.contain sound h (coef_columns c ∷ []) refl (simp (cast_null, cast_number)) in
       (it.0, record { contain = subst (λ l. Contain schema_one (with_content 4 l (contents_of t)) after.trees) (sym (map-append coef_columns t.coefs (c ∷ []))) it.1; below = was.below })

@@ -9,14 +9,14 @@ with_next next t = record t { next = next }
 abbrev pub with_run : RunLine → Tables → Tables
 with_run r t = record t { runs = t.runs ++ r ∷ [] }
 
-abbrev pub with_event : EventLine → Tables → Tables
-with_event e t = record t { events = t.events ++ e ∷ [] }
+abbrev pub with_events : List EventLine → Tables → Tables
+with_events lines t = record t { events = t.events ++ lines }
 
-abbrev pub with_derived : DerivedLine → Tables → Tables
-with_derived d t = record t { derived = t.derived ++ d ∷ [] }
+abbrev pub with_derived : List DerivedLine → Tables → Tables
+with_derived lines t = record t { derived = t.derived ++ lines }
 
-abbrev pub with_coef : CoefLine → Tables → Tables
-with_coef c t = record t { coefs = t.coefs ++ c ∷ [] }
+abbrev pub with_coefs : List CoefLine → Tables → Tables
+with_coefs lines t = record t { coefs = t.coefs ++ lines }
 
 -- the number that a new name gets: one above the last
 abbrev pub next_name : List NameLine → ℕ
