@@ -4,6 +4,7 @@ use Rattle.prof_tables.specs.Tables.{CellLine as Cell, ArcLine as Arc, StackLine
 use Rattle.prof_store.specs.declared.lines.CellLine.{CellLine}
 use Rattle.prof_store.specs.declared.lines.ArcLine.{ArcLine}
 use Rattle.prof_store.specs.declared.lines.StackLine.{StackLine}
+use Rattle.prof_store.specs.declared.lines.HeldStack.{HeldStack}
 use Rattle.prof_store.specs.declared.lines.EventLine.{EventLine}
 use Rattle.prof_store.specs.declared.lines.DerivedLine.{DerivedLine}
 use Rattle.prof_store.specs.declared.lines.CoefLine.{CoefLine}
@@ -36,3 +37,6 @@ arc_line a = record {
 
 abbrev pub stack_line : StackLine → Stack
 stack_line s = record { run = s.run; frames = s.frames.now; count = s.count }
+
+abbrev pub held_stack : HeldStack → Stack
+held_stack s = record { run = s.run; frames = s.frames.items; count = s.count }

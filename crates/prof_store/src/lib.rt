@@ -1,7 +1,9 @@
 //! The store: runs, groups and baselines of profiles in SQLite tables.
 #![tactic(auto)]
 
+mod arc_lines;
 mod arc_texts;
+mod cell_lines;
 mod cell_texts;
 mod dropping;
 mod errors;
@@ -12,10 +14,13 @@ mod joining;
 mod lines;
 mod making;
 mod name_texts;
+mod reading;
+mod stack_lines;
 mod stack_texts;
 mod store;
 #[cfg(test)]
 mod tests;
+mod walks;
 mod whole;
 
 pub use errors::StoreEnd;

@@ -65,3 +65,11 @@ pub(crate) struct StackLine<'a> {
     pub frames: &'a [u8],
     pub count: Whole,
 }
+
+/// How often a stack was seen, as it is read.
+#[derive(Drop)]
+pub(crate) struct HeldStack {
+    pub run: u32,
+    pub frames: Vec<u8>,
+    pub count: Whole,
+}

@@ -12,6 +12,7 @@ ghost use Rattle.prof_store.specs.Steps.{Passes};
 use crate::errors::{StoreEnd, end_of};
 use crate::store::Store;
 use sqlite::{Alter, Connection, Error, Transaction};
+use std::alloc::Global;
 
 /// Makes the tables of runs and their events.
 fn make_first_tables<S: Alter>(tx: &mut Transaction<'_, S>) -> Result<(), Error>
@@ -126,7 +127,10 @@ fn create_in<S: Alter>(conn: &mut Connection<S>) -> Result<(), Error>
 impl<S: Alter> Store<S> {
     /// Makes a new store, in one transaction, in a database that has no table. A refusal hands the
     /// connection back.
-    pub fn create(mut conn: Connection<S>) -> Result<Store<S>, (StoreEnd, Connection<S>)>
+    pub fn create(
+        alloc: Global,
+        mut conn: Connection<S>,
+    ) -> Result<Store<S>, (StoreEnd, Connection<S>)>
         ensures done { IfOk result (λ store. IsFaithful S.Store store → IsBlank empty_schema (state S.Store conn) → StandsFor S.Store new_tables store) }
         ensures kept { IfErr result (λ e. HasCleanDisk (state S.Store e.1) → IsBlank empty_schema (state S.Store conn) → IsTrue (state S.Store e.1).is_open → IsBlank empty_schema (state S.Store e.1)) }
         ensures crash { IfOk result (λ store. IsFaithful S.Store store → IsBlank empty_schema (state S.Store conn) → Leaves (state S.Store conn) (shown S.Store store) (Holds new_tables)) }
@@ -136,7 +140,10 @@ impl<S: Alter> Store<S> {
             return Err((StoreEnd::Store, conn));
         }
         match create_in(&mut conn) {
-            Ok(()) => Ok(Store { conn }),
+            Ok(()) => Ok(Store {
+                conn,
+                page: Vec::new(alloc),
+            }),
             Err(error) => Err((end_of(error), conn)),
         }
     }

@@ -7,4 +7,6 @@ pub mod Means
 pub mod Names
 pub mod Numbering
 pub mod Rows
+pub mod RunLines
 pub mod Values
+pub mod WalkTexts

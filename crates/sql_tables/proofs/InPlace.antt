@@ -15,13 +15,14 @@ use Rattle.sqlite_rules.specs.Lists.{Has}
 use Rattle.sqlite_rules.proofs.ListLemmas.{all_has, all_from}
 use Rattle.sqlite_rules.proofs.TableLemmas.{put_all_has, put_all_keeps, put_all_adds}
 use Rattle.sqlite_rules.proofs.ProbeLemmas.{has_mapped, mapped_has}
+use Rattle.sql_tables.proofs.Queries.{has_kept, kept_has}
 use Rattle.sql_tables.proofs.Rows.{Picks, left_by_picks}
 
 never_both : (a b : Row) → value_cmp (rowid a) (rowid b) ≡ Less → value_cmp (rowid b) (rowid a) ≡ Less → ⊥
 never_both a b p q = let e = value_cmp_total.antisymm (rowid a) (rowid b) ∙ ap ordering_reverse q in cc
 
 -- two tables with the same rows are one
-same_rows : (xs ys : List Row) → IsTable xs → IsTable ys → ((r : Row) → Has xs r → Has ys r) → ((r : Row) → Has ys r → Has xs r) → xs ≡ ys
+pub same_rows : (xs ys : List Row) → IsTable xs → IsTable ys → ((r : Row) → Has xs r → Has ys r) → ((r : Row) → Has ys r → Has xs r) → xs ≡ ys
 same_rows [] [] p q a b = refl
 same_rows [] (y ∷ ys) p q a b = absurd (b y (inl refl))
 same_rows (x ∷ xs) [] p q a b = absurd (a x (inl refl))
@@ -49,24 +50,6 @@ map_table f (r ∷ rows) same up = (
       rw (y.2, same r (inl refl), same y.0 (inr y.1)) lower),
   map_table f rows (λ s h. same s (inr h)) up.1,
 )
-
-has_kept : {X : Type 0} (p : X → Bool) (xs : List X) (x : X) → Has (filter p xs) x → Has xs x × (p x ≡ true)
-has_kept p [] x h = absurd h
-has_kept {X} p (y ∷ xs) x h = go (p y) refl h (has_kept p xs x)
-  where
-    go : (b : Bool) → p y ≡ b → Has (cond b (y ∷ filter p xs) (filter p xs)) x → (Has (filter p xs) x → Has xs x × (p x ≡ true)) → Has (y ∷ xs) x × (p x ≡ true)
-    go true is (inl same) more = (inl same, ap p same ∙ is)
-    go true is (inr later) more = let it = more later in (inr it.0, it.1)
-    go false is later more = let it = more later in (inr it.0, it.1)
-
-kept_has : {X : Type 0} (p : X → Bool) (xs : List X) (x : X) → Has xs x → p x ≡ true → Has (filter p xs) x
-kept_has p [] x h is = absurd h
-kept_has p (y ∷ xs) x (inl same) is = rw (← same, is) (inl refl)
-kept_has {X} p (y ∷ xs) x (inr later) is = go (p y) (kept_has p xs x later is)
-  where
-    go : (b : Bool) → Has (filter p xs) x → Has (cond b (y ∷ filter p xs) (filter p xs)) x
-    go true h = inr h
-    go false h = h
 
 -- the row, or what the update makes of it
 abbrev pub updated : (Row → Bool) → (Row → Row) → Row → Row

@@ -3,10 +3,14 @@ pub mod Contents
 pub mod Creates
 pub mod Deletes
 pub mod Effects
+pub mod Ends
 pub mod InPlace
 pub mod Inserts
 pub mod Queries
 pub mod Rows
 pub mod Selects
+pub mod Splits
 pub mod Statements
 pub mod Updates
+pub mod Walks
+pub mod Windows

@@ -44,6 +44,11 @@ module _ (schema : Schema) (sql : List ℕ) (params : Row) (old new : State) (ha
   row_keeps (Err e) (inl h) = fails_keeps e h
   row_keeps (Err e) (inr h) = inl (shown_keeps [] h.1)
 
+pub row_unchanged : (schema : Schema) (sql : List ℕ) (params : Row) (old new : State) → old.now.schema ≡ schema → IsPlain (understood schema sql) → (row : Row) → QueriesRow sql params old new (Ok row) → IsUnchanged old new
+unfolding QueriesRow
+row_unchanged schema sql params old new has plain row (inl h) = h.1
+row_unchanged schema sql params old new has plain row (inr h) = shown_keeps schema sql params old new has plain h.0 h.1
+
 -- a query that fails changes nothing, or rolls back, whatever its text
 pub failed_keeps : (sql : List ℕ) (params : Row) (old new : State) (e : Error) → FailsToQuery sql params old new e → IsUnchanged old new ⊎ IsRolledBack old new
 unfolding FailsToQuery IsNotRun
@@ -63,7 +68,7 @@ module _ (tree : ℕ) (terms : List Term) (project : List Term) (order : List (T
   abbrev pub sorted_scan : Query
   sorted_scan = record (scan tree terms project) { order = order }
 
-  matched : (params : Row) (rows : List Row) → flat_map (λ r. cond (list_all (holds (params ∷ r ∷ [])) terms) ((params ∷ r ∷ []) ∷ []) []) rows ≡ map (λ r. params ∷ r ∷ []) (filter (passes params terms) rows)
+  pub matched : (params : Row) (rows : List Row) → flat_map (λ r. cond (list_all (holds (params ∷ r ∷ [])) terms) ((params ∷ r ∷ []) ∷ []) []) rows ≡ map (λ r. params ∷ r ∷ []) (filter (passes params terms) rows)
   matched params [] = refl
   matched params (r ∷ rows) = go (passes params terms r) (matched params rows)
     where
@@ -91,10 +96,10 @@ module _ (tree : ℕ) (terms : List Term) (project : List Term) (order : List (T
     shown = a.shown;
   }
 
-has_permuted : {X : Type 0} (xs ys : List X) (x : X) → IsPermutation xs ys → Has ys x → Has xs x
+pub has_permuted : {X : Type 0} (xs ys : List X) (x : X) → IsPermutation xs ys → Has ys x → Has xs x
 has_permuted xs ys x same = all_has (Has xs) ys x (all-permutation (Has xs) xs ys same (all_from (Has xs) xs (λ e h. h)))
 
-has_kept : {X : Type 0} (p : X → Bool) (xs : List X) (x : X) → Has (filter p xs) x → Has xs x × (p x ≡ true)
+pub has_kept : {X : Type 0} (p : X → Bool) (xs : List X) (x : X) → Has (filter p xs) x → Has xs x × (p x ≡ true)
 has_kept p [] x h = absurd h
 has_kept {X} p (y ∷ xs) x h = go (p y) refl h (has_kept p xs x)
   where
@@ -114,7 +119,7 @@ shown_row tree terms project order rows params answer s x h =
     let k = has_kept (passes params terms) rows r.0 r.1 in
     (r.0, k.0, k.1, o.2 ∙ ap (λ (p : Output). p.1) (e.2 ∙ ap (output q) r.2))
 
-kept_has : {X : Type 0} (p : X → Bool) (xs : List X) (x : X) → Has xs x → p x ≡ true → Has (filter p xs) x
+pub kept_has : {X : Type 0} (p : X → Bool) (xs : List X) (x : X) → Has xs x → p x ≡ true → Has (filter p xs) x
 kept_has p [] x h is = absurd h
 kept_has p (y ∷ xs) x (inl same) is = rw (← same, is) (inl refl)
 kept_has {X} p (y ∷ xs) x (inr later) is = go (p y) (kept_has p xs x later is)

@@ -50,7 +50,7 @@ pub put_last : (new : Row) (rows : List Row) → AllByRecursion (λ r. value_cmp
 put_last new [] h = refl
 put_last new (r ∷ rows) h = rw h.0 (ap (λ l. r ∷ l) (put_last new rows h.1))
 
-below_is : (a b : Row) → Numbered a → Numbered b → value_cmp (rowid a) (rowid b) ≡ Less → id_of a <ℤ id_of b
+pub below_is : (a b : Row) → Numbered a → Numbered b → value_cmp (rowid a) (rowid b) ≡ Less → id_of a <ℤ id_of b
 below_is a b one two h = lt_from_Less _ _ (sym (value_cmp-Int (id_of a) (id_of b)) ∙ (rw (id_is a one, id_is b two) at h))
 
 is_below : (a : Row) (n : ℤ) → Numbered a → id_of a <ℤ n → value_cmp (rowid a) (Int n) ≡ Less

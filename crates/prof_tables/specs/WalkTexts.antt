@@ -1,0 +1,32 @@
+-- The texts that read the lines of a run, a window of rowids at a time, from `cell`, `arc` and `stack`.
+use Rattle.std.specs.Prelude.{ℕ, List, [], ◌∷◌, codes}
+use Rattle.sql_tables.specs.Walks.{Asked}
+
+abbrev pub cell_window_text : List ℕ
+cell_window_text = codes "SELECT rowid, ob, fl, fn, line, event, cost FROM cell WHERE run = ?1 AND rowid > ?2 AND rowid <= ?3 ORDER BY rowid"
+
+abbrev pub cell_ends_text : List ℕ
+cell_ends_text = codes "SELECT min(rowid), max(rowid) FROM cell WHERE run = ?1"
+
+abbrev pub arc_window_text : List ℕ
+arc_window_text = codes "SELECT rowid, ob, fl, fn, line, cob, cfl, cfn, part, n FROM arc WHERE run = ?1 AND rowid > ?2 AND rowid <= ?3 ORDER BY rowid"
+
+abbrev pub arc_ends_text : List ℕ
+arc_ends_text = codes "SELECT min(rowid), max(rowid) FROM arc WHERE run = ?1"
+
+abbrev pub stack_window_text : List ℕ
+stack_window_text = codes "SELECT rowid, frames, n FROM stack WHERE run = ?1 AND rowid > ?2 AND rowid <= ?3 ORDER BY rowid"
+
+abbrev pub stack_ends_text : List ℕ
+stack_ends_text = codes "SELECT min(rowid), max(rowid) FROM stack WHERE run = ?1"
+
+-- ---- the rows of a run, and their columns behind its number
+
+abbrev pub cells_of : ℕ → Asked
+cells_of run = record { at = 1; number = run; places = 2 ∷ 3 ∷ 4 ∷ 5 ∷ 6 ∷ 7 ∷ [] }
+
+abbrev pub arcs_of : ℕ → Asked
+arcs_of run = record { at = 1; number = run; places = 2 ∷ 3 ∷ 4 ∷ 5 ∷ 6 ∷ 7 ∷ 8 ∷ 9 ∷ 10 ∷ [] }
+
+abbrev pub stacks_of : ℕ → Asked
+stacks_of run = record { at = 1; number = run; places = 2 ∷ 3 ∷ [] }
