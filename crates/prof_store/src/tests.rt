@@ -6,7 +6,7 @@ use std::test::Fail;
 
 fn new_store(alloc: Global) -> Result<Store<MemStore>, Fail> {
     let conn = Connection::open_in_memory(alloc)?;
-    match Store::create(conn) {
+    match Store::create(alloc, conn) {
         Ok(store) => Ok(store),
         Err((end, _)) => Err(Fail::from(end)),
     }
@@ -134,9 +134,8 @@ fn a_name_is_taken_once(rt: HostRuntime) -> Result<(), Fail> {
 
 #[test]
 fn tables_are_made_once(rt: HostRuntime) -> Result<(), Fail> {
-    let store = new_store(rt.alloc())?;
-    let Store { conn } = store;
-    match Store::create(conn) {
+    let Store { conn, page: _ } = new_store(rt.alloc())?;
+    match Store::create(rt.alloc(), conn) {
         Ok(_) => Err(Fail::from("made twice")),
         Err((end, _)) => {
             assert_eq!(rt; end, StoreEnd::Store);
