@@ -16,3 +16,4 @@ pub mod Walks
 pub mod Plain
 pub mod Keys
 pub mod KeySums
+pub mod ByNumber

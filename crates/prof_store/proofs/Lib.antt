@@ -1,1 +1,3 @@
+mod Finding
+mod Parts
 mod Writing

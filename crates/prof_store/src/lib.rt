@@ -3,6 +3,7 @@
 
 mod arc_texts;
 mod cell_texts;
+mod columns;
 mod errors;
 mod lines;
 mod name_texts;
