@@ -1,3 +1,4 @@
 mod Finding
 mod Parts
+mod RowLines
 mod Writing

@@ -1,4 +1,5 @@
 pub mod Files
+pub mod FromRows
 pub mod Lines
 pub mod Names
 pub mod Shown

@@ -5,6 +5,7 @@ mod arc_texts;
 mod cell_texts;
 mod columns;
 mod errors;
+mod file_lines;
 mod lines;
 mod name_texts;
 mod stack_texts;
