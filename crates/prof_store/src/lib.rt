@@ -6,6 +6,7 @@ mod cell_texts;
 mod columns;
 mod errors;
 mod file_lines;
+mod file_rows;
 mod lines;
 mod name_texts;
 mod stack_texts;
