@@ -19,3 +19,4 @@ pub mod WalkSums
 pub mod Plain
 pub mod Keys
 pub mod KeySums
+pub mod ByNumber

@@ -6,6 +6,7 @@ ghost use Rattle.cost_rows.specs.Totals.{AreWithin, AreTotals};
 use crate::calls::Calls;
 use crate::costs::Costs;
 use crate::names::Names;
+use crate::numbered::{NumberedArcs, NumberedCells};
 use crate::places::{Call, Place};
 use crate::records::{merge_call, merge_own};
 use crate::rows::FileTotals;
@@ -44,6 +45,7 @@ const NOWHERE: Place = Place {
 impl FileRows {
     ghost use Rattle.cost_rows.specs.Content.{empty};
     ghost use Rattle.cost_rows.specs.Rows.{content_of};
+    ghost use Rattle.cost_rows.specs.ByNumber.{numbered_cells, numbered_arcs};
     ghost use Rattle.cost_rows.specs.Walks.{cell_rows, arc_rows, stack_rows};
 
     /// No record was taken. Takes no memory.
@@ -96,6 +98,36 @@ impl FileRows {
             place: NOWHERE,
             costs: &[],
             event: 0,
+        }
+    }
+
+    /// The names, each held once.
+    pub fn names(&self) -> &Names
+        ensures { result.now ≡ (content_of self.now).names }
+    {
+        &self.names
+    }
+
+    /// The sums of own costs above 0 with names by their numbers, in the order of these, then by
+    /// line, then by event. Takes no memory.
+    pub fn numbered_cells(&self) -> NumberedCells<'_>
+        ensures { result ≡ numbered_cells (content_of self.now).cells }
+    {
+        NumberedCells {
+            rest: self.cells.iter(),
+            place: NOWHERE,
+            costs: &[],
+            event: 0,
+        }
+    }
+
+    /// The sums of calls, every one of them, with names by their numbers, in the order of these; the
+    /// line comes after the caller's names. Takes no memory.
+    pub fn numbered_arcs(&self) -> NumberedArcs<'_>
+        ensures { result ≡ numbered_arcs (content_of self.now).arcs }
+    {
+        NumberedArcs {
+            rest: self.arcs.iter(),
         }
     }
 

@@ -10,6 +10,7 @@ mod limits;
 mod merged;
 mod merges;
 mod names;
+mod numbered;
 mod numbering;
 mod places;
 mod records;
@@ -37,6 +38,7 @@ pub use laws::{
 pub use limits::{Overflow, SUM_LIMIT, Side, admit};
 pub use merged::Merged;
 pub use names::Names;
+pub use numbered::{NumberedArcs, NumberedCells};
 pub use rows::{ArcRow, CellRow, FileTotals, StackRow};
 pub use sum_rows::SumRows;
 pub use texts::{rows_of_folded, rows_of_text};

@@ -1,5 +1,7 @@
 -- Parts of a transaction, one after another.
-use Rattle.std.proofs.Common.{◌≡◌, ◌⊎◌, inl, inr, ℕ, List, IsTrue, if◌then◌else◌, Option, Some, None, refl, sym, ap, subst, ◌∙◌, arith}
+use Rattle.std.proofs.Common.{◌≡◌, ◌⊎◌, inl, inr, ℕ, List, [], ◌++◌, IsTrue, if◌then◌else◌, Option, Some, None, Err, refl, sym, ap, subst, ◌∙◌, append-nil, arith}
+use Rattle.std.specs.Bool.{⊤}
+use Rattle.std.proofs.lemmas.List.{append_assoc}
 use Rattle.sqlite_value.specs.Order.{Row}
 use Rattle.sqlite_schema.specs.declared.command.Returning.{Returning}
 use Rattle.sqlite.specs.declared.error.Error.{Error}
@@ -12,7 +14,8 @@ use Rattle.sql_tables.specs.States.{Works, KeepsCommit}
 use Rattle.sql_tables.proofs.Queries.{shown_keeps}
 use Rattle.sql_tables.proofs.Statements.{works_if_same}
 use Rattle.prof_tables.specs.Schema.{schema_one}
-use Rattle.prof_tables.specs.Tables.{Tables, Holds}
+use Rattle.prof_tables.specs.Tables.{Tables, Holds, CellLine, ArcLine, StackLine}
+use Rattle.prof_tables.specs.Changes.{with_cells, with_arcs, with_stacks}
 use Rattle.prof_store.specs.Steps.{Passes, Makes}
 
 pub survives_none : (s : State) → Survives s s (λ _. ⊥)
@@ -92,3 +95,30 @@ module _ (sql : List ℕ) (params : Row) (old new : State) where
     running = λ clean running. (shown_kept rows (h clean) running).1;
     done = λ clean t is was. works_if_same schema_one (Holds t) old new was (shown_keeps schema_one sql params old new was.schema_is plain rows (h clean));
   }
+
+-- ---- lines, and then further lines
+
+pub cells_then : (first more : List CellLine) (a b c : State) → Makes (λ _. ⊤) (with_cells first) a b → Passes b c → Makes (λ _. ⊤) (with_cells more) b c → Makes (λ _. ⊤) (with_cells (first ++ more)) a c
+cells_then first more a b c one pass two =
+    makes_same (λ _. ⊤) (λ t. with_cells more (with_cells first t)) (with_cells (first ++ more)) a c (makes_then (λ _. ⊤) (λ _. ⊤) (with_cells first) (with_cells more) a b c one pass two (λ t is. is))
+    (λ clean t is was. ap (λ l. let u : Tables = record t { cells = l } in u) (append_assoc t.cells first more))
+
+pub arcs_then : (first more : List ArcLine) (a b c : State) → Makes (λ _. ⊤) (with_arcs first) a b → Passes b c → Makes (λ _. ⊤) (with_arcs more) b c → Makes (λ _. ⊤) (with_arcs (first ++ more)) a c
+arcs_then first more a b c one pass two =
+    makes_same (λ _. ⊤) (λ t. with_arcs more (with_arcs first t)) (with_arcs (first ++ more)) a c (makes_then (λ _. ⊤) (λ _. ⊤) (with_arcs first) (with_arcs more) a b c one pass two (λ t is. is))
+    (λ clean t is was. ap (λ l. let u : Tables = record t { arcs = l } in u) (append_assoc t.arcs first more))
+
+pub stacks_then : (first more : List StackLine) (a b c : State) → Makes (λ _. ⊤) (with_stacks first) a b → Passes b c → Makes (λ _. ⊤) (with_stacks more) b c → Makes (λ _. ⊤) (with_stacks (first ++ more)) a c
+stacks_then first more a b c one pass two =
+    makes_same (λ _. ⊤) (λ t. with_stacks more (with_stacks first t)) (with_stacks (first ++ more)) a c (makes_then (λ _. ⊤) (λ _. ⊤) (with_stacks first) (with_stacks more) a b c one pass two (λ t is. is))
+    (λ clean t is was. ap (λ l. let u : Tables = record t { stacks = l } in u) (append_assoc t.stacks first more))
+
+-- none so far
+pub no_cells : (s : State) → Makes (λ _. ⊤) (with_cells []) s s
+no_cells s = makes_same (λ _. ⊤) (λ t. t) (with_cells []) s s (makes_none (λ _. ⊤) s) (λ clean t is was. ap (λ l. let u : Tables = record t { cells = l } in u) (sym (append-nil t.cells)))
+
+pub no_arcs : (s : State) → Makes (λ _. ⊤) (with_arcs []) s s
+no_arcs s = makes_same (λ _. ⊤) (λ t. t) (with_arcs []) s s (makes_none (λ _. ⊤) s) (λ clean t is was. ap (λ l. let u : Tables = record t { arcs = l } in u) (sym (append-nil t.arcs)))
+
+pub no_stacks : (s : State) → Makes (λ _. ⊤) (with_stacks []) s s
+no_stacks s = makes_same (λ _. ⊤) (λ t. t) (with_stacks []) s s (makes_none (λ _. ⊤) s) (λ clean t is was. ap (λ l. let u : Tables = record t { stacks = l } in u) (sym (append-nil t.stacks)))

@@ -1,7 +1,9 @@
 pub mod ArcWalks
 pub mod CellWalks
 pub mod Files
+pub mod FromRows
 pub mod Lines
+pub mod Names
 pub mod Shown
 pub mod StackWalks
 pub mod Steps

@@ -1,0 +1,54 @@
+-- The rows that are walked with names by their numbers, and no cell whose sum is 0.
+use Rattle.std.specs.Prelude.{ℕ, suc, List, [], ◌∷◌, ◌++◌, nat_lt, if◌then◌else◌}
+use Rattle.std.specs.Borrow.{Bor}
+use Rattle.cost_rows.specs.declared.places.Place.{Place}
+use Rattle.cost_rows.specs.declared.places.Call.{Call}
+use Rattle.cost_rows.specs.declared.calls.Calls.{Calls}
+use Rattle.cost_rows.specs.declared.rows.CellRow.{CellRow}
+use Rattle.cost_rows.specs.declared.rows.ArcRow.{ArcRow}
+
+-- the row of an event's sum at a place
+abbrev pub numbered_cell : Place → ℕ → ℕ → CellRow ℕ
+numbered_cell p event cost = record { object = p.object; file = p.file; function = p.function; line = p.line; event = event; cost = cost }
+
+-- the rows of a place, from an event on
+abbrev pub numbered_at : Place → ℕ → List ℕ → List (CellRow ℕ)
+numbered_at p event [] = []
+numbered_at p event (cost ∷ costs) =
+    if nat_lt 0 cost then numbered_cell p event cost ∷ numbered_at p (suc event) costs
+    else numbered_at p (suc event) costs
+
+abbrev pub numbered_cells : List (Place × List ℕ) → List (CellRow ℕ)
+numbered_cells [] = []
+numbered_cells (e ∷ cells) = numbered_at e.0 0 e.1 ++ numbered_cells cells
+
+abbrev pub numbered_arc : Call × Calls → ArcRow ℕ (List ℕ)
+numbered_arc e = record {
+  object = e.0.place.object;
+  file = e.0.place.file;
+  function = e.0.place.function;
+  line = e.0.place.line;
+  called_object = e.0.object;
+  called_file = e.0.file;
+  called_function = e.0.function;
+  count = e.1.count;
+  costs = e.1.costs;
+}
+
+abbrev pub numbered_arcs : List (Call × Calls) → List (ArcRow ℕ (List ℕ))
+numbered_arcs [] = []
+numbered_arcs (e ∷ arcs) = numbered_arc e ∷ numbered_arcs arcs
+
+-- a row as the code lends it, without where its costs lie in memory
+abbrev pub plain_numbered : ArcRow ℕ (Bor (List ℕ)) → ArcRow ℕ (List ℕ)
+plain_numbered r = record {
+  object = r.object;
+  file = r.file;
+  function = r.function;
+  line = r.line;
+  called_object = r.called_object;
+  called_file = r.called_file;
+  called_function = r.called_function;
+  count = r.count;
+  costs = r.costs.now;
+}

@@ -1,0 +1,111 @@
+// The rows of a file with names by their numbers, one after another.
+
+use crate::calls::Calls;
+use crate::costs::Costs;
+use crate::places::{Call, Place};
+use crate::rows::{ArcRow, CellRow};
+use std::collections::btree_map::Iter;
+use std::marker::Model;
+
+/// The sums of calls with names by their numbers, in the order of these, the line after the caller's
+/// names. Takes no memory.
+#[derive(Drop)]
+pub struct NumberedArcs<'a> {
+    pub(crate) rest: Iter<'a, Call, Calls>,
+}
+
+impl<'a> Model for NumberedArcs<'a> {
+    ghost use Rattle.std.specs.Prelude.{ℕ, List};
+    ghost use Rattle.cost_rows.specs.declared.rows.ArcRow.{ArcRow};
+    ghost use Rattle.cost_rows.specs.ByNumber.{numbered_arcs};
+
+    ghost Value = { List (ArcRow ℕ (List ℕ)) };
+
+    ghost view = { λ a. numbered_arcs a.rest };
+}
+
+impl<'a> Iterator for NumberedArcs<'a> {
+    ghost use Rattle.std.specs.Iterator.{YieldsFirstBy, item_count};
+    ghost use Rattle.cost_rows.specs.ByNumber.{plain_numbered};
+
+    type Item = ArcRow<u32, &'a [u128]>;
+
+    ghost next_gives = { YieldsFirstBy plain_numbered (λ s. s) };
+
+    ghost remaining = { item_count (λ s. s) };
+
+    fn next(&mut self) -> Option<ArcRow<u32, &'a [u128]>> {
+        let (call, calls) = self.rest.next()?;
+        Some(ArcRow {
+            object: call.place.object,
+            file: call.place.file,
+            function: call.place.function,
+            line: call.place.line,
+            called_object: call.object,
+            called_file: call.file,
+            called_function: call.function,
+            count: calls.count,
+            costs: calls.costs.as_slice(),
+        })
+    }
+}
+
+/// The sums of own costs above 0 with names by their numbers, in the order of these, then by line,
+/// then by event. Takes no memory.
+#[derive(Drop)]
+pub struct NumberedCells<'a> {
+    pub(crate) rest: Iter<'a, Place, Costs>,
+    pub(crate) place: Place,
+    pub(crate) costs: &'a [u128],
+    pub(crate) event: usize,
+}
+
+impl<'a> Model for NumberedCells<'a> {
+    ghost use Rattle.std.specs.Prelude.{ℕ, List, ◌+◌, ◌<◌, ◌^◌, ◌++◌, length};
+    ghost use Rattle.cost_rows.specs.declared.rows.CellRow.{CellRow};
+    ghost use Rattle.cost_rows.specs.ByNumber.{numbered_at, numbered_cells};
+
+    ghost Value = { List (CellRow ℕ) };
+
+    ghost view = { λ a. numbered_at a.place a.event a.costs.now ++ numbered_cells a.rest };
+
+    ghost invariant = { λ a. a.event + length a.costs.now < 2 ^ 64 };
+}
+
+impl<'a> Iterator for NumberedCells<'a> {
+    ghost use Rattle.std.specs.Iterator.{YieldsFirst, item_count};
+
+    type Item = CellRow<u32>;
+
+    ghost next_gives = { YieldsFirst (λ s. s) };
+
+    ghost remaining = { item_count (λ s. s) };
+
+    fn next(&mut self) -> Option<CellRow<u32>> {
+        loop {
+            match self.costs.split_first() {
+                Some((cost, more)) => {
+                    let event = self.event;
+                    self.costs = more;
+                    self.event += 1;
+                    if *cost > 0 {
+                        return Some(CellRow {
+                            object: self.place.object,
+                            file: self.place.file,
+                            function: self.place.function,
+                            line: self.place.line,
+                            event,
+                            cost: *cost,
+                        });
+                    }
+                }
+                None => {
+                    let (place, costs) = self.rest.next()?;
+                    self.place = *place;
+                    self.costs = costs.as_slice();
+                    self.event = 0;
+                }
+            }
+        }
+    }
+}

@@ -1,0 +1,21 @@
+use Rattle.std.proofs.Common.{◌≡◌, map, take, ◌++◌, ◌∷◌}
+use Rattle.std.specs.Bool.{⊤}
+use Rattle.sqlite.specs.Held.{state}
+use Rattle.prof_store.specs.Steps.{Passes, Makes}
+use Rattle.cost_rows.specs.Rows.{content_of}
+use Rattle.cost_rows.specs.ByNumber.{numbered_cells}
+use Rattle.prof_tables.specs.Changes.{with_cells}
+use Rattle.prof_store.proofs.RowLines.{line_of_cell}
+use Rattle.prof_store.proofs.file_rows.put_cells.Given as goal
+
+-- the lines of the rows so far are written
+abbrev pub invariant-rows : goal.invariant-rows
+invariant-rows g l =
+    let old = state g.S.Store l.fn.tx.conn.now in
+    let now = state g.S.Store l.tx.conn.now in
+    record {
+      same_reference : l.tx.conn.ghost_name ≡ l.fn.tx.conn.ghost_name;
+      passes : Passes old now;
+      made : Makes (λ _. ⊤) (with_cells (map (line_of_cell l.run l.numbers) l.yielded)) old now;
+      rest : l.yielded ++ l.row-iterator ≡ numbered_cells (content_of l.rows).cells;
+    }
