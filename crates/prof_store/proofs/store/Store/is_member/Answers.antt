@@ -4,7 +4,7 @@ use Rattle.sql_tables.proofs.Statements.{rests_if_kept, rests_if_same}
 use Rattle.prof_tables.specs.Schema.{schema_one}
 use Rattle.prof_tables.specs.Tables.{Holds}
 use Rattle.prof_tables.specs.Texts.{find_member_text}
-use Rattle.prof_tables.proofs.Finds.{member_found}
+use Rattle.prof_tables.proofs.MemberFinds.{member_found}
 use Rattle.prof_tables.proofs.Means.{find_member_plain}
 use Rattle.prof_store.proofs.Writing.{as_before}
 use Rattle.prof_store.proofs.store.Store.is_member.Goals as goal
