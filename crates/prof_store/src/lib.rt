@@ -2,8 +2,10 @@
 #![tactic(auto)]
 
 mod cell_texts;
+mod columns;
 mod errors;
 mod lines;
+mod next;
 mod store;
 mod whole;
 
