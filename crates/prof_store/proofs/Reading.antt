@@ -1,6 +1,7 @@
 -- From what a query leaves to the clauses of a call: it changes nothing.
-use Rattle.std.specs.Result.{OnOk}
-use Rattle.std.proofs.Common.{◌≡◌, ◌⊎◌, inl, inr, ℕ, List, [], ◌∷◌, Ok, Err, Result, IsTrue}
+use Rattle.std.specs.Result.{OnOk, IfOk, IfErr}
+use Rattle.std.specs.Option.{MatchOption}
+use Rattle.std.proofs.Common.{◌≡◌, ◌⊎◌, inl, inr, ℕ, List, [], ◌∷◌, Ok, Err, Result, Option, Some, None, IsTrue}
 use Rattle.sqlite_value.specs.Order.{Row}
 use Rattle.sqlite_trees.specs.Tree.{Trees}
 use Rattle.sqlite.specs.declared.error.Error.{Error}
@@ -16,6 +17,18 @@ use Rattle.prof_tables.specs.Schema.{schema_one}
 pub on_ok : {T E : Type 0} (P : Type 0) (r : Result T E) → P → OnOk r P
 on_ok P (Ok x) p = p
 on_ok P (Err e) p = tt
+
+pub if_err_then : {T E : Type 0} {P Q : E → Type 0} (r : Result T E) → IfErr r P → ((e : E) → P e → Q e) → IfErr r Q
+if_err_then (Ok x) p f = tt
+if_err_then (Err e) p f = f e p
+
+pub either_found : {X : Type 0} {P R : Type 0} {Q S : X → Type 0} (found : Option X) → MatchOption found P Q → (P → R) → ((x : X) → Q x → S x) → MatchOption found R S
+either_found None h f k = f h
+either_found (Some x) h f k = k x h
+
+pub either_case : {X : Type 0} {P R : Type 0} {Q : X → Type 0} (found : Option X) → MatchOption found P Q → (P → R) → ((x : X) → Q x → R) → R
+either_case None h f k = f h
+either_case (Some x) h f k = k x h
 
 module _ (sql : List ℕ) (params : Row) (plain : IsPlain (understood schema_one sql)) (P : Trees → Type 0) (old new : State) (was : Rests schema_one P old) where
   -- after a query for one row

@@ -3,9 +3,11 @@
 
 mod cell_texts;
 mod columns;
+mod digests;
 mod errors;
 mod lines;
 mod next;
+mod open;
 mod store;
 mod whole;
 

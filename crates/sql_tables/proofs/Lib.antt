@@ -3,6 +3,7 @@ pub mod Contents
 pub mod Creates
 pub mod Deletes
 pub mod Effects
+pub mod Failures
 pub mod InPlace
 pub mod Inserts
 pub mod Queries

@@ -10,12 +10,12 @@ use Rattle.prof_store.proofs.store.Store.next_run.Goals as goal
 pub returns-in-Ok-clause-told : goal.returns-in-Ok-clause-told
 returns-in-Ok-clause-told g c clean t was =
     let it = next_found _ _ _ was.schema_is (c.in-Ok.ensures.row clean) in
-    if_ok_then c.number_at.result c.number_at.ensures (λ n is. next_is t _ it.0 n was.holds it.1 (sym it.2 ∙ is))
+    if_ok_then c.number_at.result c.number_at.ensures.read (λ n is. next_is t _ it.0 n was.holds it.1 (sym it.2 ∙ is))
 
 pub returns-in-Ok-clause-found : goal.returns-in-Ok-clause-found
 returns-in-Ok-clause-found g c clean has =
     let it = next_found _ _ _ has (c.in-Ok.ensures.row clean) in
-    if_ok_then c.number_at.result c.number_at.ensures (λ n is. (it.0, it.1, sym it.2 ∙ is))
+    if_ok_then c.number_at.result c.number_at.ensures.read (λ n is. (it.0, it.1, sym it.2 ∙ is))
 
 pub returns-in-Ok-clause-kept : goal.returns-in-Ok-clause-kept
 returns-in-Ok-clause-kept g c clean t was is_open = row_kept next_text [] next_plain (Holds t) _ _ was _ (c.select_next.ensures.row clean) is_open
