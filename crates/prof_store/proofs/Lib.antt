@@ -1,2 +1,3 @@
+mod Listing
 mod Reading
 mod Writing

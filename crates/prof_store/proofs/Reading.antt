@@ -18,6 +18,10 @@ pub on_ok : {T E : Type 0} (P : Type 0) (r : Result T E) → P → OnOk r P
 on_ok P (Ok x) p = p
 on_ok P (Err e) p = tt
 
+pub both_ok : {T E : Type 0} (P Q : T → Type 0) (r : Result T E) → IfOk r P → IfOk r Q → IfOk r (λ x. P x × Q x)
+both_ok P Q (Ok x) p q = (p, q)
+both_ok P Q (Err e) p q = tt
+
 pub if_err_then : {T E : Type 0} {P Q : E → Type 0} (r : Result T E) → IfErr r P → ((e : E) → P e → Q e) → IfErr r Q
 if_err_then (Ok x) p f = tt
 if_err_then (Err e) p f = f e p
@@ -49,3 +53,6 @@ module _ (sql : List ℕ) (params : Row) (plain : IsPlain (understood schema_one
 
   pub leaves_nothing : Survives old new (CommitsShowing sql params old) → HasCleanDisk new → LeavesOnly old new (λ _. ⊥)
   leaves_nothing h clean = (commits_nothing schema_one sql params old new was.schema_is plain h).crash clean
+
+pub same_after : (sql : List ℕ) (params : Row) → IsPlain (understood schema_one sql) → (old new : State) → old.now.schema ≡ schema_one → (rows : List Row) → Shown sql params old new rows → new.now ≡ old.now
+same_after sql params plain old new has rows h = (shown_keeps schema_one sql params old new has plain rows h).0.now_is

@@ -4,13 +4,21 @@
 mod cell_texts;
 mod columns;
 mod digests;
+mod entries;
 mod errors;
+mod groups;
+mod kinds;
+mod labels;
 mod lines;
 mod next;
 mod open;
+mod runs;
 mod store;
 mod whole;
 
+pub use entries::RunEntry;
 pub use errors::StoreEnd;
+pub use groups::{GroupLine, MemberLine};
+pub use kinds::Kind;
 pub use sqlite::Alter;
 pub use store::Store;

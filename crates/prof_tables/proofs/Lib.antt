@@ -3,6 +3,7 @@ pub mod Defines
 pub mod Drops
 pub mod Finds
 pub mod Groups
+pub mod Lists
 pub mod Means
 pub mod Rows
 pub mod Values

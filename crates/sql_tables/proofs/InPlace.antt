@@ -21,7 +21,7 @@ never_both : (a b : Row) → value_cmp (rowid a) (rowid b) ≡ Less → value_cm
 never_both a b p q = let e = value_cmp_total.antisymm (rowid a) (rowid b) ∙ ap ordering_reverse q in cc
 
 -- two tables with the same rows are one
-same_rows : (xs ys : List Row) → IsTable xs → IsTable ys → ((r : Row) → Has xs r → Has ys r) → ((r : Row) → Has ys r → Has xs r) → xs ≡ ys
+pub same_rows : (xs ys : List Row) → IsTable xs → IsTable ys → ((r : Row) → Has xs r → Has ys r) → ((r : Row) → Has ys r → Has xs r) → xs ≡ ys
 same_rows [] [] p q a b = refl
 same_rows [] (y ∷ ys) p q a b = absurd (b y (inl refl))
 same_rows (x ∷ xs) [] p q a b = absurd (a x (inl refl))

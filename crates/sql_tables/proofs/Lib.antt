@@ -6,6 +6,7 @@ pub mod Effects
 pub mod Failures
 pub mod InPlace
 pub mod Inserts
+pub mod Orders
 pub mod Queries
 pub mod Rows
 pub mod Selects
