@@ -1,8 +1,10 @@
 pub mod ArcWalks
 pub mod CellWalks
 mod Finding
+mod Listing
 mod Lists
 mod Parts
+mod Reading
 mod RowLines
 pub mod StackWalks
 pub mod WalkSteps

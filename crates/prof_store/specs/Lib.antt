@@ -1,7 +1,11 @@
 pub mod ArcWalks
 pub mod CellWalks
+pub mod Entries
 pub mod Files
 pub mod FromRows
+pub mod Groups
+pub mod Kinds
+pub mod Labels
 pub mod Lines
 pub mod Names
 pub mod Shown

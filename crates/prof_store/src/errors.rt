@@ -1,4 +1,6 @@
 // Why a call of the store is refused.
+ghost use Rattle.std.specs.Prelude.{◌≢◌};
+ghost use Rattle.prof_store.specs.declared.errors.StoreEnd.TheVariants as ends;
 
 use sqlite::{Error, ErrorCode};
 
@@ -14,7 +16,9 @@ pub enum StoreEnd {
 }
 
 /// What an error of the database is for a caller.
-pub(crate) fn end_of(error: Error) -> StoreEnd {
+pub(crate) fn end_of(error: Error) -> StoreEnd
+    ensures { result ≢ ends.WrongSchema }
+{
     match error {
         Error::SqliteFailure(ErrorCode::OutOfMemory) => StoreEnd::Memory,
         _ => StoreEnd::Store,

@@ -1,9 +1,11 @@
 pub mod Creates
 pub mod Defines
 pub mod Drops
-pub mod MemberFinds
+pub mod Finds
 pub mod Groups
+pub mod Lists
 pub mod Means
+pub mod MemberFinds
 pub mod Names
 pub mod Numbering
 pub mod Rows

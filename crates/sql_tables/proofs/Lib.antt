@@ -4,8 +4,10 @@ pub mod Creates
 pub mod Deletes
 pub mod Effects
 pub mod Ends
+pub mod Failures
 pub mod InPlace
 pub mod Inserts
+pub mod Orders
 pub mod Queries
 pub mod Rows
 pub mod Selects

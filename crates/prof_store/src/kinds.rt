@@ -1,0 +1,26 @@
+// The kinds of runs.
+ghost use Rattle.std.specs.Prelude.{◌≡◌, pos, IfOk};
+ghost use Rattle.sqlite_value.specs.declared.value.Value.TheVariants.{Int};
+ghost use Rattle.sqlite_value.specs.Order.{column};
+ghost use Rattle.prof_store.specs.Kinds.{kind_number};
+
+use crate::columns::number_at;
+use crate::errors::StoreEnd;
+use sqlite::Row;
+
+/// What the file of a run was.
+#[derive(Clone, Copy, Debug, PartialEq, Eq)]
+pub enum Kind {
+    Callgrind,
+    Folded,
+}
+
+pub(crate) fn kind_at(row: &Row, at: usize) -> Result<Kind, StoreEnd>
+    ensures { IfOk result (λ kind. column row.now at ≡ Int (pos (kind_number kind))) }
+{
+    match number_at(row, at)? {
+        1 => Ok(Kind::Callgrind),
+        2 => Ok(Kind::Folded),
+        _ => Err(StoreEnd::Store),
+    }
+}

@@ -1,0 +1,39 @@
+// The forms of digests and labels.
+ghost use Rattle.std.specs.Prelude.{◌≡◌, string_bytes, IfOk, IsTrue};
+ghost use Rattle.sqlite_value.specs.declared.value.Value.TheVariants.{Text, Blob};
+ghost use Rattle.sqlite_value.specs.Order.{column};
+ghost use Rattle.prof_store.specs.Labels.{IsLabel};
+
+use crate::columns::{bytes_at, text_at};
+use crate::errors::StoreEnd;
+use sqlite::Row;
+
+/// Whether a text is a label: 1 to 1,024 bytes, and no control character.
+fn is_label(text: &str) -> bool
+    ensures { IsTrue result → IsLabel text.now }
+{
+    let bytes = text.as_bytes();
+    !bytes.is_empty() && bytes.len() <= 1024 && bytes.iter().all(|byte| *byte >= 32 && *byte != 127)
+}
+
+pub(crate) fn label_at(row: &Row, at: usize) -> Result<String, StoreEnd>
+    ensures read { IfOk result (λ label. column row.now at ≡ Text (string_bytes label)) }
+    ensures form { IfOk result (λ label. IsLabel (string_bytes label)) }
+{
+    let label = text_at(row, at)?;
+    if is_label(label.as_str()) {
+        Ok(label)
+    } else {
+        Err(StoreEnd::Store)
+    }
+}
+
+pub(crate) fn digest_at(row: &Row, at: usize) -> Result<[u8; 32], StoreEnd>
+    ensures { IfOk result (λ digest. column row.now at ≡ Blob digest) }
+{
+    let bytes = bytes_at(row, at)?;
+    match <[u8; 32]>::try_from(bytes.as_slice()) {
+        Ok(digest) => Ok(digest),
+        Err(_) => Err(StoreEnd::Store),
+    }
+}

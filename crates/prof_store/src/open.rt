@@ -1,0 +1,80 @@
+// A store is taken up and handed back.
+ghost use Rattle.std.specs.Prelude.{◌≡◌, ◌≢◌, pos, [], Ok, Err, IfOk, IfErr, OnOk, IsTrue};
+ghost use Rattle.sqlite.specs.Held.{state};
+ghost use Rattle.sqlite.specs.State.{HasCleanDisk, Survives, QueriesRow, CommitsShowing};
+ghost use Rattle.sqlite_value.specs.declared.value.Value.TheVariants.{Int};
+ghost use Rattle.sqlite_value.specs.Order.{column};
+ghost use Rattle.sqlite_rules.specs.Lists.{Has};
+ghost use Rattle.sql_tables.specs.States.{Rests, LeavesOnly as Leaves};
+ghost use Rattle.prof_tables.specs.Schema.{schema_one};
+ghost use Rattle.prof_tables.specs.Tables.{Holds};
+ghost use Rattle.prof_tables.specs.Texts.{schema_text};
+ghost use Rattle.prof_store.specs.Shown.{shown, IsFaithful, StandsFor};
+ghost use Rattle.sqlite.specs.declared.error.Error.TheVariants as errors;
+ghost use Rattle.prof_store.specs.declared.errors.StoreEnd.TheVariants as ends;
+
+use crate::columns::number_at;
+use crate::errors::{StoreEnd, end_of};
+use crate::store::Store;
+use sqlite::{Alter, Connection, Error, Row};
+
+fn select_schema<S: Alter>(conn: &mut Connection<S>) -> Result<Row, Error>
+    ensures row { HasCleanDisk (state S.Store conn.new) → QueriesRow schema_text [] (state S.Store conn.old) (state S.Store conn.new) result }
+    ensures survives { Survives (state S.Store conn.old) (state S.Store conn.new) (CommitsShowing schema_text [] (state S.Store conn.old)) }
+{
+    conn.query_row("SELECT schema FROM meta", &[])
+}
+
+/// The number in a row of one column. A text that is not understood finds no such tables.
+fn schema_in(answer: Result<Row, Error>) -> Result<u32, StoreEnd>
+    ensures read { IfOk result (λ n. (row : _) × (answer ≡ Ok row) × (column row 0 ≡ Int (pos n))) }
+    ensures wrong { IfErr result (λ e. e ≡ ends.WrongSchema → (fault : _) × (answer ≡ Err (errors.SqlInputError fault))) }
+{
+    match answer {
+        Ok(row) => number_at(&row, 0),
+        Err(Error::SqlInputError(_)) => Err(StoreEnd::WrongSchema),
+        Err(error) => Err(end_of(error)),
+    }
+}
+
+/// The number of the schema that the tables are of.
+fn schema_of<S: Alter>(conn: &mut Connection<S>) -> Result<u32, StoreEnd>
+    ensures found { HasCleanDisk (state S.Store conn.new) → (state S.Store conn.old).now.schema ≡ schema_one → IfOk result (λ n. (r : _) × Has ((state S.Store conn.old).now.trees 0) r × (column r 2 ≡ Int (pos n))) }
+    ensures told { HasCleanDisk (state S.Store conn.new) → (t : _) → Rests schema_one (Holds t) (state S.Store conn.old) → IfOk result (λ n. n ≡ 1) }
+    ensures right { HasCleanDisk (state S.Store conn.new) → (state S.Store conn.old).now.schema ≡ schema_one → IfErr result (λ e. e ≢ ends.WrongSchema) }
+    ensures stays { HasCleanDisk (state S.Store conn.new) → (t : _) → Rests schema_one (Holds t) (state S.Store conn.old) → OnOk result (Rests schema_one (Holds t) (state S.Store conn.new)) }
+    ensures kept { HasCleanDisk (state S.Store conn.new) → (t : _) → Rests schema_one (Holds t) (state S.Store conn.old) → IsTrue (state S.Store conn.new).is_open → Rests schema_one (Holds t) (state S.Store conn.new) }
+    ensures crash { HasCleanDisk (state S.Store conn.new) → (t : _) → Rests schema_one (Holds t) (state S.Store conn.old) → Leaves (state S.Store conn.old) (state S.Store conn.new) (λ _. ⊥) }
+    ensures honest { HasCleanDisk (state S.Store conn.new) → HasCleanDisk (state S.Store conn.old) }
+{
+    let answer = select_schema(conn);
+    schema_in(answer)
+}
+
+impl<S: Alter> Store<S> {
+    /// Takes up a store. A refusal hands the connection back.
+    pub fn open(mut conn: Connection<S>) -> Result<Store<S>, (StoreEnd, Connection<S>)>
+        ensures done { IfOk result (λ store. IsFaithful S.Store store → (t : _) → Rests schema_one (Holds t) (state S.Store conn) → StandsFor S.Store t store) }
+        ensures found { IfOk result (λ store. IsFaithful S.Store store → (state S.Store conn).now.schema ≡ schema_one → (r : _) × Has ((state S.Store conn).now.trees 0) r × (column r 2 ≡ Int (pos 1))) }
+        ensures right { IfErr result (λ e. HasCleanDisk (state S.Store e.1) → (t : _) → Rests schema_one (Holds t) (state S.Store conn) → e.0 ≢ ends.WrongSchema) }
+        ensures kept { IfErr result (λ e. HasCleanDisk (state S.Store e.1) → (t : _) → Rests schema_one (Holds t) (state S.Store conn) → IsTrue (state S.Store e.1).is_open → Rests schema_one (Holds t) (state S.Store e.1)) }
+        ensures crash { IfOk result (λ store. IsFaithful S.Store store → (t : _) → Rests schema_one (Holds t) (state S.Store conn) → Leaves (state S.Store conn) (shown S.Store store) (λ _. ⊥)) }
+        ensures crash_refused { IfErr result (λ e. HasCleanDisk (state S.Store e.1) → (t : _) → Rests schema_one (Holds t) (state S.Store conn) → Leaves (state S.Store conn) (state S.Store e.1) (λ _. ⊥)) }
+        ensures honest { IfOk result (λ store. IsFaithful S.Store store → HasCleanDisk (state S.Store conn)) }
+        ensures honest_refused { IfErr result (λ e. HasCleanDisk (state S.Store e.1) → HasCleanDisk (state S.Store conn)) }
+    {
+        match schema_of(&mut conn) {
+            Ok(1) => Ok(Store { conn }),
+            Ok(_) => Err((StoreEnd::WrongSchema, conn)),
+            Err(end) => Err((end, conn)),
+        }
+    }
+
+    /// Hands the connection back.
+    pub fn into_connection(self) -> Connection<S>
+        ensures { result ≡ self.conn }
+    {
+        let Store { conn } = self;
+        conn
+    }
+}
