@@ -113,8 +113,9 @@ impl FileRows {
     pub fn numbered_cells(&self) -> NumberedCells<'_>
         ensures { result ≡ numbered_cells (content_of self.now).cells }
     {
+        let rest = self.cells.iter();
         NumberedCells {
-            rest: self.cells.iter(),
+            rest,
             place: NOWHERE,
             costs: &[],
             event: 0,
@@ -126,8 +127,9 @@ impl FileRows {
     pub fn numbered_arcs(&self) -> NumberedArcs<'_>
         ensures { result ≡ numbered_arcs (content_of self.now).arcs }
     {
+        let rest = self.arcs.iter();
         NumberedArcs {
-            rest: self.arcs.iter(),
+            rest,
         }
     }
 

@@ -3,7 +3,10 @@ use Rattle.std.specs.Prelude.{ℕ, suc, nat_lt, if◌then◌else◌, List, [], �
 use Rattle.cost_rows.specs.declared.places.Place.{Place}
 use Rattle.cost_rows.specs.declared.places.Call.{Call}
 use Rattle.cost_rows.specs.declared.calls.Calls.{Calls}
-use Rattle.prof_tables.specs.Tables.{CellLine, ArcLine, StackLine}
+use Rattle.cost_rows.specs.Content.{Content}
+use Rattle.prof_tables.specs.Tables.{Tables, RunLine, EventLine, DerivedLine, CoefLine, CellLine, ArcLine, StackLine}
+use Rattle.prof_tables.specs.Changes.{with_next, with_run, with_events, with_derived, with_coefs, with_cells, with_arcs, with_stacks}
+use Rattle.prof_tables.specs.Files.{all_named, numbers_in}
 
 -- the table's number of a name that the file has under a number of its own
 abbrev pub numbered : List ℕ → ℕ → ℕ
@@ -64,3 +67,14 @@ arc_lines run numbers (e ∷ arcs) = arc_lines_at run numbers e.0 e.1 ++ arc_lin
 abbrev pub stack_lines : ℕ → List (List ℕ × ℕ) → List StackLine
 stack_lines run [] = []
 stack_lines run (e ∷ stacks) = if nat_lt 0 e.1 then record { run = run; frames = e.0; count = e.1 } ∷ stack_lines run stacks else stack_lines run stacks
+
+-- what the rows of a file make of the tables: its names are held, and its lines follow the others
+abbrev pub with_rows : ℕ → Content → Tables → Tables
+with_rows run c t =
+    let known = all_named c.names t in
+    let numbers = numbers_in known c.names in
+    with_stacks (stack_lines run c.stacks) (with_arcs (arc_lines run numbers c.arcs) (with_cells (cell_lines run numbers c.cells) known))
+
+-- what a run says of itself makes this of them
+abbrev pub with_head : RunLine → List EventLine → List DerivedLine → List CoefLine → Tables → Tables
+with_head r events derived coefs t = with_coefs coefs (with_derived derived (with_events events (with_run r (with_next (suc r.number) t))))

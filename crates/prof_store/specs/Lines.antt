@@ -1,6 +1,7 @@
 -- The lines of the code, as plain data.
 use Rattle.std.specs.Prelude.{string_bytes, option_map}
-use Rattle.prof_tables.specs.Tables.{CellLine as Cell, ArcLine as Arc, StackLine as Stack, EventLine as Event, DerivedLine as Derived, CoefLine as Coef}
+use Rattle.prof_store.specs.declared.lines.RunLine.{RunLine}
+use Rattle.prof_tables.specs.Tables.{RunLine as Run, CellLine as Cell, ArcLine as Arc, StackLine as Stack, EventLine as Event, DerivedLine as Derived, CoefLine as Coef}
 use Rattle.prof_store.specs.declared.lines.CellLine.{CellLine}
 use Rattle.prof_store.specs.declared.lines.ArcLine.{ArcLine}
 use Rattle.prof_store.specs.declared.lines.StackLine.{StackLine}
@@ -40,3 +41,6 @@ stack_line s = record { run = s.run; frames = s.frames.now; count = s.count }
 
 abbrev pub held_stack : HeldStack → Stack
 held_stack s = record { run = s.run; frames = s.frames.items; count = s.count }
+
+abbrev pub run_line : RunLine → Run
+run_line r = record { number = r.number; kind = r.kind; digest = r.digest.now; label = r.label.now; call_count = r.call_count }

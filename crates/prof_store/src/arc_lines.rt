@@ -10,7 +10,7 @@ ghost use Rattle.prof_store.specs.ArcWalks.{GivesArcs, GivesArcsOn, TellsArcs};
 
 use crate::errors::StoreEnd;
 use crate::lines::ArcLine;
-use crate::reading::{small_at, whole_at};
+use crate::row_values::{small_at, whole_at};
 use crate::store::Store;
 use crate::walks::{Listed, Walk};
 use sqlite::{Alter, Row};

@@ -10,7 +10,7 @@ ghost use Rattle.prof_store.specs.CellWalks.{GivesCells, GivesCellsOn, TellsCell
 
 use crate::errors::StoreEnd;
 use crate::lines::CellLine;
-use crate::reading::{small_at, whole_at};
+use crate::row_values::{small_at, whole_at};
 use crate::store::Store;
 use crate::walks::{Listed, Walk};
 use sqlite::{Alter, Row};

@@ -73,3 +73,22 @@ pub(crate) struct HeldStack {
     pub frames: Vec<u8>,
     pub count: Whole,
 }
+
+/// A run: its number, its kind (1 for Callgrind, 2 for folded stacks), the SHA-256 of its file, its
+/// label, and how many calls it has.
+#[derive(Drop)]
+pub(crate) struct RunLine<'a> {
+    pub number: u32,
+    pub kind: u32,
+    pub digest: &'a [u8],
+    pub label: &'a str,
+    pub call_count: Whole,
+}
+
+/// What a run says of itself: its events, its derived events, and their coefficients.
+#[derive(Drop)]
+pub(crate) struct HeadLines {
+    pub events: Vec<EventLine>,
+    pub derived: Vec<DerivedLine>,
+    pub coefs: Vec<CoefLine>,
+}

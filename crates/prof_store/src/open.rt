@@ -13,6 +13,7 @@ ghost use Rattle.prof_store.specs.Shown.{shown, IsFaithful, StandsFor};
 ghost use Rattle.sqlite.specs.declared.error.Error.TheVariants as errors;
 ghost use Rattle.prof_store.specs.declared.errors.StoreEnd.TheVariants as ends;
 
+use std::alloc::Global;
 use crate::columns::number_at;
 use crate::errors::{StoreEnd, end_of};
 use crate::store::Store;
@@ -53,7 +54,7 @@ fn schema_of<S: Alter>(conn: &mut Connection<S>) -> Result<u32, StoreEnd>
 
 impl<S: Alter> Store<S> {
     /// Takes up a store. A refusal hands the connection back.
-    pub fn open(mut conn: Connection<S>) -> Result<Store<S>, (StoreEnd, Connection<S>)>
+    pub fn open(alloc: Global, mut conn: Connection<S>) -> Result<Store<S>, (StoreEnd, Connection<S>)>
         ensures done { IfOk result (λ store. IsFaithful S.Store store → (t : _) → Rests schema_one (Holds t) (state S.Store conn) → StandsFor S.Store t store) }
         ensures found { IfOk result (λ store. IsFaithful S.Store store → (state S.Store conn).now.schema ≡ schema_one → (r : _) × Has ((state S.Store conn).now.trees 0) r × (column r 2 ≡ Int (pos 1))) }
         ensures right { IfErr result (λ e. HasCleanDisk (state S.Store e.1) → (t : _) → Rests schema_one (Holds t) (state S.Store conn) → e.0 ≢ ends.WrongSchema) }
@@ -64,7 +65,10 @@ impl<S: Alter> Store<S> {
         ensures honest_refused { IfErr result (λ e. HasCleanDisk (state S.Store e.1) → HasCleanDisk (state S.Store conn)) }
     {
         match schema_of(&mut conn) {
-            Ok(1) => Ok(Store { conn }),
+            Ok(1) => Ok(Store {
+                conn,
+                page: Vec::new(alloc),
+            }),
             Ok(_) => Err((StoreEnd::WrongSchema, conn)),
             Err(end) => Err((end, conn)),
         }
@@ -74,7 +78,7 @@ impl<S: Alter> Store<S> {
     pub fn into_connection(self) -> Connection<S>
         ensures { result ≡ self.conn }
     {
-        let Store { conn } = self;
+        let Store { conn, page: _ } = self;
         conn
     }
 }

@@ -10,7 +10,7 @@ ghost use Rattle.prof_store.specs.StackWalks.{GivesStacks, GivesStacksOn, TellsS
 
 use crate::errors::StoreEnd;
 use crate::lines::HeldStack;
-use crate::reading::{bytes_at, whole_at};
+use crate::row_values::{bytes_at, whole_at};
 use crate::store::Store;
 use crate::walks::{Listed, Walk};
 use sqlite::{Alter, Row};

@@ -11,7 +11,7 @@ ghost use Rattle.prof_store.specs.Walks.{tree_of, window_text_of, ends_text_of, 
 ghost use Rattle.std.specs.Prelude.{filter};
 
 use crate::errors::{StoreEnd, end_of};
-use crate::reading::{small_at, small_or_null_at};
+use crate::row_values::{small_at, small_or_null_at};
 use crate::store::Store;
 use sqlite::{Alter, Connection, Error, Row, params};
 

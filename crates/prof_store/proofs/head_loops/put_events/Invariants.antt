@@ -4,7 +4,7 @@ use Rattle.sqlite.specs.Held.{state}
 use Rattle.prof_tables.specs.Changes.{with_events}
 use Rattle.prof_store.specs.Lines.{event_line}
 use Rattle.prof_store.specs.Steps.{Passes, Makes}
-use Rattle.prof_store.proofs.head_lines.put_events.Given as goal
+use Rattle.prof_store.proofs.head_loops.put_events.Given as goal
 
 abbrev pub invariant-lines : goal.invariant-lines
 invariant-lines g l =

@@ -4,7 +4,7 @@ use Rattle.prof_tables.specs.Changes.{with_derived}
 use Rattle.prof_store.specs.Lines.{derived_line}
 use Rattle.prof_store.proofs.Lists.{one_more}
 use Rattle.prof_store.proofs.Parts.{passes_then, makes_then, makes_same}
-use Rattle.prof_store.proofs.head_lines.put_all_derived.Goals as goal
+use Rattle.prof_store.proofs.head_loops.put_all_derived.Goals as goal
 
 pub lines-preserved : goal.lines-preserved
 lines-preserved g c =

@@ -4,7 +4,7 @@ use Rattle.prof_tables.specs.Changes.{with_events}
 use Rattle.prof_store.specs.Lines.{event_line}
 use Rattle.prof_store.proofs.Lists.{one_more}
 use Rattle.prof_store.proofs.Parts.{passes_then, makes_then, makes_same}
-use Rattle.prof_store.proofs.head_lines.put_events.Goals as goal
+use Rattle.prof_store.proofs.head_loops.put_events.Goals as goal
 
 pub lines-preserved : goal.lines-preserved
 lines-preserved g c =

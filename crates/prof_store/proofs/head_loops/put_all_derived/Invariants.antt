@@ -1,10 +1,10 @@
 use Rattle.std.proofs.Common.{◌≡◌, take, map}
 use Rattle.std.specs.Bool.{⊤}
 use Rattle.sqlite.specs.Held.{state}
-use Rattle.prof_tables.specs.Changes.{with_coefs}
-use Rattle.prof_store.specs.Lines.{coef_line}
+use Rattle.prof_tables.specs.Changes.{with_derived}
+use Rattle.prof_store.specs.Lines.{derived_line}
 use Rattle.prof_store.specs.Steps.{Passes, Makes}
-use Rattle.prof_store.proofs.head_lines.put_coefs.Given as goal
+use Rattle.prof_store.proofs.head_loops.put_all_derived.Given as goal
 
 abbrev pub invariant-lines : goal.invariant-lines
 invariant-lines g l =
@@ -13,5 +13,5 @@ invariant-lines g l =
     record {
       same_reference : l.tx.conn.ghost_name ≡ l.fn.tx.conn.ghost_name;
       passes : Passes old now;
-      made : Makes (λ _. ⊤) (with_coefs (map coef_line (take l.line-index l.lines))) old now;
+      made : Makes (λ _. ⊤) (with_derived (map derived_line (take l.line-index l.lines))) old now;
     }

@@ -1,0 +1,48 @@
+// A run is written, within a transaction.
+ghost use Rattle.std.specs.Prelude.{◌≡◌, ◌∷◌, [], suc, map, OnOk, OnErr, IsTrue, ⊤};
+ghost use Rattle.sqlite.specs.Held.{state};
+ghost use Rattle.sqlite.specs.State.{HasCleanDisk, Survives};
+ghost use Rattle.sql_tables.specs.States.{Rests};
+ghost use Rattle.prof_tables.specs.Schema.{schema_one};
+ghost use Rattle.prof_tables.specs.Tables.{Holds};
+ghost use Rattle.cost_rows.specs.Rows.{content_of};
+ghost use Rattle.prof_store.specs.Files.{with_rows, with_head};
+ghost use Rattle.prof_store.specs.Lines.{event_line, derived_line, coef_line, run_line};
+ghost use Rattle.prof_store.specs.Steps.{Passes, Makes, IsAbove};
+
+use crate::errors::StoreEnd;
+use crate::file_rows::{number_names, put_arcs, put_cells, put_stacks};
+use crate::head_loops::{put_all_derived, put_coefs, put_events};
+use crate::head_texts::{put_line_of_run, raise_next};
+use crate::lines::{HeadLines, RunLine};
+use cost_rows::FileRows;
+use sqlite::{Alter, Connection, Transaction};
+use std::alloc::Global;
+
+/// Writes what a run says of itself, and raises the next number above its own.
+fn put_head<S: Alter>(tx: &mut Transaction<'_, S>, run: &RunLine<'_>, head: &HeadLines) -> Result<(), StoreEnd>
+    ensures same_reference { tx.new.conn.ghost_name ≡ tx.old.conn.ghost_name }
+    ensures passes { Passes (state S.Store tx.old.conn.now) (state S.Store tx.new.conn.now) }
+    ensures made { OnOk result (Makes (IsAbove run.now.number) (with_head (run_line run.now) (map event_line head.now.events.items) (map derived_line head.now.derived.items) (map coef_line head.now.coefs.items)) (state S.Store tx.old.conn.now) (state S.Store tx.new.conn.now)) }
+{
+    let Some(next) = run.number.checked_add(1) else {
+        return Err(StoreEnd::Store);
+    };
+    raise_next(tx, next)?;
+    put_line_of_run(tx, run.number, run.kind, run.digest, run.label, &run.call_count)?;
+    put_events(tx, &head.events)?;
+    put_all_derived(tx, &head.derived)?;
+    put_coefs(tx, &head.coefs)
+}
+
+/// Writes the rows of a run.
+fn put_rows<S: Alter>(tx: &mut Transaction<'_, S>, alloc: Global, run: u32, rows: &FileRows) -> Result<(), StoreEnd>
+    ensures same_reference { tx.new.conn.ghost_name ≡ tx.old.conn.ghost_name }
+    ensures passes { Passes (state S.Store tx.old.conn.now) (state S.Store tx.new.conn.now) }
+    ensures made { OnOk result (Makes (λ _. ⊤) (with_rows run (content_of rows.now)) (state S.Store tx.old.conn.now) (state S.Store tx.new.conn.now)) }
+{
+    let numbers = number_names(tx, alloc, rows.names())?;
+    put_cells(tx, run, &numbers, rows)?;
+    put_arcs(tx, run, &numbers, rows)?;
+    put_stacks(tx, run, rows)
+}
