@@ -16,9 +16,8 @@ mod runs;
 mod store;
 mod whole;
 
-pub use entries::RunEntry;
+pub use entries::{GroupEntry, RunEntry};
 pub use errors::StoreEnd;
-pub use groups::{GroupLine, MemberLine};
 pub use kinds::Kind;
 pub use sqlite::Alter;
 pub use store::Store;
