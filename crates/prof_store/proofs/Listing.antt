@@ -1,5 +1,5 @@
 -- From the rows of an answer to what was read from them.
-use Rattle.std.proofs.Common.{◌≡◌, ℕ, zero, suc, ◌+◌, ◌<◌, ◌≤◌, arith, length, get_or, take, drop, flat_map, ◌++◌, append-nil, append_assoc, pos, Option, Some, None, unwrap_or, List, [], ◌∷◌, map, refl, sym, ap, ap₂, subst, subst₂, ◌∙◌, IsPermutation}
+use Rattle.std.proofs.Common.{◌≡◌, ℕ, zero, suc, ◌+◌, ◌<◌, ◌≤◌, arith, length, get_or, take, drop, flat_map, ◌++◌, append-nil, append_assoc, pos, Option, Some, None, unwrap_or, List, [], ◌∷◌, map, refl, sym, ap, ap₂, subst₂, ◌∙◌, IsPermutation}
 use Rattle.std.proofs.lemmas.List.Sorted.{IsPermutation-map}
 use Rattle.std.proofs.lemmas.List.{take_more}
 use Rattle.sql_tables.proofs.Rows.{map-append}

@@ -1,12 +1,12 @@
 -- From what a query leaves to the clauses of a call: it changes nothing.
 use Rattle.std.specs.Result.{OnOk, IfOk, IfErr, is_ok}
 use Rattle.std.specs.Option.{MatchOption}
-use Rattle.std.proofs.Common.{◌≡◌, ◌⊎◌, inl, inr, ℕ, List, [], ◌∷◌, Ok, Err, Result, Option, Some, None, IsTrue, true}
+use Rattle.std.proofs.Common.{◌≡◌, inl, inr, ℕ, List, Ok, Err, Result, Option, Some, None, IsTrue, true}
 use Rattle.sqlite_value.specs.Order.{Row}
 use Rattle.sqlite_trees.specs.Tree.{Trees}
 use Rattle.sqlite.specs.declared.error.Error.{Error}
 use Rattle.sqlite.specs.Listing.{understood}
-use Rattle.sqlite.specs.State.{State, HasCleanDisk, Survives, CommitsShowing, QueriesRow, Shown, FailsToQuery, IsUnchanged}
+use Rattle.sqlite.specs.State.{State, HasCleanDisk, Survives, CommitsShowing, QueriesRow, Shown, FailsToQuery}
 use Rattle.sqlite.proofs.Callers.{IsPlain}
 use Rattle.sql_tables.specs.States.{Rests, LeavesOnly}
 use Rattle.sql_tables.proofs.Queries.{row_keeps, shown_keeps, fails_keeps, commits_nothing}

@@ -1,10 +1,8 @@
-use Rattle.std.proofs.Common.{◌≡◌, ◌∙◌, map, flat_map, ap, sym, subst, subst₂, IsPermutation}
-use Rattle.std.specs.Result.{IfOk}
+use Rattle.std.proofs.Common.{◌∙◌, map, ap, sym, subst, IsPermutation}
 use Rattle.sqlite_exec.proofs.MarkLemmas.{if_ok_then}
 use Rattle.sqlite_keyed.proofs.ListLemmas.{map-map}
 use Rattle.sqlite.specs.Effect.{Database}
-use Rattle.prof_tables.specs.Schema.{schema_one}
-use Rattle.prof_tables.specs.Seen.{group_seen, member_seen}
+use Rattle.prof_tables.specs.Seen.{group_seen}
 use Rattle.prof_tables.specs.Tables.{group_columns, member_columns}
 use Rattle.prof_store.specs.Groups.{entry_group, member_line}
 use Rattle.prof_store.specs.declared.entries.GroupEntry.{GroupEntry}

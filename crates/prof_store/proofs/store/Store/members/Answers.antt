@@ -1,4 +1,4 @@
-use Rattle.std.proofs.Common.{◌≡◌, ◌∙◌, [], map, ap, refl, sym, subst, subst₂, IsPermutation}
+use Rattle.std.proofs.Common.{◌∙◌, [], map, ap, refl, sym, subst₂, IsPermutation}
 use Rattle.sqlite_exec.proofs.MarkLemmas.{if_ok_then}
 use Rattle.sqlite_keyed.proofs.ListLemmas.{map-map}
 use Rattle.prof_tables.specs.Seen.{member_seen}
