@@ -7,6 +7,7 @@ mod digests;
 mod entries;
 mod errors;
 mod groups;
+mod head_lines;
 mod kinds;
 mod labels;
 mod lines;

@@ -6,4 +6,5 @@ pub mod Groups
 pub mod Lists
 pub mod Means
 pub mod Rows
+pub mod RunLists
 pub mod Values
