@@ -1,6 +1,6 @@
-use Rattle.std.proofs.Common.{◌≡◌, ◌∙◌, [], ◌∷◌, map, ap, refl, subst, IsPermutation}
+use Rattle.std.proofs.Common.{◌∙◌, [], ◌∷◌, map, ap, refl, subst, IsPermutation}
 use Rattle.sqlite_exec.proofs.MarkLemmas.{if_ok_then}
-use Rattle.prof_tables.specs.Seen.{is_at, coef_seen}
+use Rattle.prof_tables.specs.Seen.{coef_seen}
 use Rattle.prof_tables.specs.Texts.{coefs_of_text}
 use Rattle.prof_tables.specs.Tables.{Holds, number}
 use Rattle.prof_tables.proofs.Means.{coefs_of_plain}
