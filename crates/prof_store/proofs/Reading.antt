@@ -1,12 +1,12 @@
 -- From what a query leaves to the clauses of a call: it changes nothing.
-use Rattle.std.specs.Result.{OnOk, IfOk, IfErr}
+use Rattle.std.specs.Result.{OnOk, IfOk, IfErr, is_ok}
 use Rattle.std.specs.Option.{MatchOption}
-use Rattle.std.proofs.Common.{◌≡◌, ◌⊎◌, inl, inr, ℕ, List, [], ◌∷◌, Ok, Err, Result, Option, Some, None, IsTrue}
+use Rattle.std.proofs.Common.{◌≡◌, inl, inr, ℕ, List, Ok, Err, Result, Option, Some, None, IsTrue, true}
 use Rattle.sqlite_value.specs.Order.{Row}
 use Rattle.sqlite_trees.specs.Tree.{Trees}
 use Rattle.sqlite.specs.declared.error.Error.{Error}
 use Rattle.sqlite.specs.Listing.{understood}
-use Rattle.sqlite.specs.State.{State, HasCleanDisk, Survives, CommitsShowing, QueriesRow, Shown, FailsToQuery, IsUnchanged}
+use Rattle.sqlite.specs.State.{State, HasCleanDisk, Survives, CommitsShowing, QueriesRow, Shown, FailsToQuery}
 use Rattle.sqlite.proofs.Callers.{IsPlain}
 use Rattle.sql_tables.specs.States.{Rests, LeavesOnly}
 use Rattle.sql_tables.proofs.Queries.{row_keeps, shown_keeps, fails_keeps, commits_nothing}
@@ -17,6 +17,10 @@ use Rattle.prof_tables.specs.Schema.{schema_one}
 pub on_ok : {T E : Type 0} (P : Type 0) (r : Result T E) → P → OnOk r P
 on_ok P (Ok x) p = p
 on_ok P (Err e) p = tt
+
+pub is_ok_then : {T E : Type 0} {P : Type 0} (r : Result T E) → is_ok r ≡ true → OnOk r P → P
+is_ok_then (Ok x) is p = p
+is_ok_then (Err e) is p = absurd cc
 
 pub both_ok : {T E : Type 0} (P Q : T → Type 0) (r : Result T E) → IfOk r P → IfOk r Q → IfOk r (λ x. P x × Q x)
 both_ok P Q (Ok x) p q = (p, q)

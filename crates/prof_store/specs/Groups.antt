@@ -1,15 +1,29 @@
--- The rows of groups and members that a report was read from.
-use Rattle.std.specs.Prelude.{[], ◌∷◌, string_bytes}
+-- Groups and members as a report shows them.
+use Rattle.std.specs.Prelude.{◌≡◌, ℕ, List, [], ◌∷◌, map, string_bytes}
+use Rattle.std.specs.Ordering.{nat_cmp}
+use Rattle.std.specs.Cmp.Lexicographic.{slice_cmp}
+use Rattle.std.specs.declared.cmp.Ordering.TheVariants.{Less}
 use Rattle.sqlite_value.specs.Order.{Row, column}
-use Rattle.prof_tables.specs.Tables.{group_columns, member_columns}
-use Rattle.prof_store.specs.declared.groups.GroupLine.{GroupLine}
-use Rattle.prof_store.specs.declared.groups.MemberLine.{MemberLine}
+use Rattle.prof_tables.specs.Tables.{GroupLine, MemberLine}
+use Rattle.prof_store.specs.declared.entries.GroupEntry.{GroupEntry}
+use Rattle.prof_store.specs.declared.groups.Member.{Member}
 
 abbrev pub first_two : Row → Row
 first_two r = column r 0 ∷ column r 1 ∷ []
 
-abbrev pub line_columns : GroupLine → Row
-line_columns line = group_columns (record { name = string_bytes line.name; baseline = line.baseline })
+abbrev pub member_line : Member → MemberLine
+member_line m = record { group = string_bytes m.group; run = m.run }
 
-abbrev pub member_line_columns : MemberLine → Row
-member_line_columns line = member_columns (record { group = string_bytes line.group; run = line.run })
+abbrev pub member_of : List ℕ → ℕ → MemberLine
+member_of name run = record { group = name; run = run }
+
+abbrev pub entry_group : GroupEntry → GroupLine
+entry_group e = record { name = string_bytes e.name; baseline = e.baseline }
+
+-- the members of an entry, one line for each
+abbrev pub entry_members : GroupEntry → List MemberLine
+entry_members e = map (member_of (string_bytes e.name)) e.members
+
+-- by the bytes of the names
+abbrev pub IsBefore : GroupEntry → GroupEntry → Type 0
+IsBefore a b = slice_cmp nat_cmp (string_bytes a.name) (string_bytes b.name) ≡ Less

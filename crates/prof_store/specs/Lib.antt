@@ -4,6 +4,7 @@ pub mod Entries
 pub mod Files
 pub mod FromRows
 pub mod Groups
+pub mod HeadLines
 pub mod Kinds
 pub mod Labels
 pub mod Lines

@@ -1,8 +1,8 @@
 // The values in the columns of a row. A value that the type does not show is refused.
-ghost use Rattle.std.specs.Prelude.{◌≡◌, ◌≢◌, pos, string_bytes, IfOk, IfErr};
+ghost use Rattle.std.specs.Prelude.{◌≡◌, ◌≢◌, pos, option_map, string_bytes, IfOk, IfErr};
 ghost use Rattle.sqlite_value.specs.declared.value.Value.TheVariants.{Int, Text, Blob};
 ghost use Rattle.sqlite_value.specs.Order.{column};
-ghost use Rattle.prof_tables.specs.Tables.{number_or_null};
+ghost use Rattle.prof_tables.specs.Tables.{number_or_null, text_or_null};
 ghost use Rattle.prof_store.specs.declared.errors.StoreEnd.TheVariants as ends;
 
 use crate::errors::{StoreEnd, end_of};
@@ -45,6 +45,17 @@ pub(crate) fn text_at(row: &Row, at: usize) -> Result<String, StoreEnd>
 {
     match row.get(at) {
         Ok(text) => Ok(text),
+        Err(error) => Err(end_of(error)),
+    }
+}
+
+pub(crate) fn text_or_null_at(row: &Row, at: usize) -> Result<Option<String>, StoreEnd>
+    ensures read { IfOk result (λ text. column row.now at ≡ text_or_null (option_map string_bytes text)) }
+    ensures refused { IfErr result (λ e. e ≢ ends.WrongSchema) }
+{
+    match row.get::<Option<String>>(at) {
+        Ok(Some(text)) => Ok(Some(text)),
+        Ok(None) => Ok(None),
         Err(error) => Err(end_of(error)),
     }
 }

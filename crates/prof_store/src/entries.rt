@@ -1,8 +1,10 @@
 // The entries of reports.
-ghost use Rattle.std.specs.Prelude.{string_bytes};
+ghost use Rattle.std.specs.Prelude.{string_bytes, length, ◌<◌};
+ghost use Rattle.std.specs.List.{AllAdjacentBelow};
 ghost use Rattle.prof_store.specs.Labels.{IsLabel};
 
 use crate::kinds::Kind;
+use cg_text::Items;
 
 /// A run that is held.
 #[derive(Drop)]
@@ -12,4 +14,13 @@ pub struct RunEntry {
     pub digest: [u8; 32],
     pub label: String,
     ghost form: { IsLabel (string_bytes label) },
+}
+
+/// A group with its baseline, if it has one, and the numbers of its members, which rise.
+#[derive(Drop)]
+pub struct GroupEntry {
+    pub name: String,
+    pub baseline: Option<u32>,
+    pub members: Items<u32>,
+    ghost rising: { AllAdjacentBelow (λ a b. a < b) members (length members) },
 }

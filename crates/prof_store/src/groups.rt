@@ -1,30 +1,27 @@
 // The groups with their members.
-ghost use Rattle.std.specs.Prelude.{◌≡◌, [], map, IfOk, IfErr, OnOk, IsPermutation};
+ghost use Rattle.std.specs.Prelude.{◌≡◌, ◌<◌, ◌≤◌, ◌++◌, [], map, flat_map, length, take, string_bytes, IfOk, IfErr, OnOk, IsTrue, IsPermutation};
+ghost use Rattle.std.specs.List.{AllAdjacentBelow};
 ghost use Rattle.sqlite.specs.Held.{state};
 ghost use Rattle.sqlite.specs.State.{HasCleanDisk, Survives, Shown, FailsToQuery, CommitsShowing};
 ghost use Rattle.prof_tables.specs.Schema.{schema_one};
 ghost use Rattle.prof_tables.specs.Seen.{group_seen, member_seen};
 ghost use Rattle.prof_tables.specs.Tables.{group_columns, member_columns};
 ghost use Rattle.prof_tables.specs.Texts.{groups_text, members_text};
-ghost use Rattle.prof_store.specs.Groups.{first_two, line_columns, member_line_columns};
+ghost use Rattle.prof_store.specs.Groups.{first_two, IsBefore, entry_group, entry_members, member_of, member_line};
 ghost use Rattle.prof_store.specs.Shown.{shown, IsFaithful, IsUsable, StandsFor, LeavesOnly};
 
 use crate::columns::{number_at, number_or_null_at, text_at};
+use crate::entries::GroupEntry;
 use crate::errors::{StoreEnd, end_of};
 use crate::store::Store;
+use cg_text::Items;
 use sqlite::{Alter, Connection, Error, Row};
 use std::alloc::Global;
+use std::cmp::Ordering;
 
-/// A row of the groups.
+/// A run that is in a group.
 #[derive(Drop)]
-pub struct GroupLine {
-    pub name: String,
-    pub baseline: Option<u32>,
-}
-
-/// A row of the members.
-#[derive(Drop)]
-pub struct MemberLine {
+pub(crate) struct Member {
     pub group: String,
     pub run: u32,
 }
@@ -45,55 +42,123 @@ fn select_members<S: Alter>(conn: &mut Connection<S>) -> Result<Vec<Row>, Error>
     conn.query_all("SELECT grp, run FROM member ORDER BY grp, run", &[])
 }
 
-fn groups_in(alloc: Global, rows: &[Row]) -> Result<Vec<GroupLine>, StoreEnd>
-    ensures { IfOk result (λ lines. map line_columns lines.items ≡ map first_two rows.now) }
+fn members_in(alloc: Global, rows: &[Row]) -> Result<Vec<Member>, StoreEnd>
+    ensures { IfOk result (λ members. map (λ m. member_columns (member_line m)) members.items ≡ map first_two rows.now) }
 {
-    let mut lines = Vec::new(alloc);
-    'rows: for row in rows {
-        let name = text_at(row, 0)?;
-        let baseline = number_or_null_at(row, 1)?;
-        if lines.push(GroupLine { name, baseline }).is_err() {
-            return Err(StoreEnd::Memory);
-        }
-    }
-    Ok(lines)
-}
-
-fn members_in(alloc: Global, rows: &[Row]) -> Result<Vec<MemberLine>, StoreEnd>
-    ensures { IfOk result (λ lines. map member_line_columns lines.items ≡ map first_two rows.now) }
-{
-    let mut lines = Vec::new(alloc);
+    let mut members = Vec::new(alloc);
     'rows: for row in rows {
         let group = text_at(row, 0)?;
         let run = number_at(row, 1)?;
-        if lines.push(MemberLine { group, run }).is_err() {
+        if members.push(Member { group, run }).is_err() {
             return Err(StoreEnd::Memory);
         }
     }
-    Ok(lines)
+    Ok(members)
+}
+
+/// The runs of the members at the front that are of one group.
+fn runs_of(alloc: Global, name: &str, members: &[Member]) -> Result<Items<u32>, StoreEnd>
+    ensures within { IfOk result (λ runs. length runs ≤ length members.now) }
+    ensures front { IfOk result (λ runs. map (member_of name.now) runs ≡ map member_line (take (length runs) members.now)) }
+{
+    let mut runs = Items::new(alloc);
+    'members: for member in members {
+        if member.group.as_str() != name {
+            return Ok(runs);
+        }
+        if runs.push(member.run).is_err() {
+            return Err(StoreEnd::Memory);
+        }
+    }
+    Ok(runs)
+}
+
+/// Whether numbers rise.
+fn rise(numbers: &[u32]) -> bool
+    ensures { IsTrue result → AllAdjacentBelow (λ a b. a < b) numbers.now (length numbers.now) }
+{
+    for k in 1..numbers.len() {
+        if numbers[k] <= numbers[k - 1] {
+            return false;
+        }
+    }
+    true
+}
+
+/// Whether the names rise, by bytes.
+fn names_rise(entries: &[GroupEntry]) -> bool
+    ensures { IsTrue result → AllAdjacentBelow IsBefore entries.now (length entries.now) }
+{
+    for k in 1..entries.len() {
+        match entries[k - 1].name.as_str().cmp(entries[k].name.as_str()) {
+            Ordering::Less => {}
+            _ => return false,
+        }
+    }
+    true
+}
+
+/// A group whose members rise.
+fn group_entry(
+    name: String,
+    baseline: Option<u32>,
+    members: Items<u32>,
+) -> Result<GroupEntry, StoreEnd>
+    ensures { IfOk result (λ entry. (entry.name ≡ name) × (entry.baseline ≡ baseline) × (entry.members ≡ members)) }
+{
+    if !rise(members.as_slice()) {
+        return Err(StoreEnd::Store);
+    }
+    Ok(GroupEntry {
+        name,
+        baseline,
+        members,
+    })
+}
+
+/// The groups in rows, each with the next members that are of it, and the members that are left.
+fn joined(alloc: Global, rows: &[Row], members: &[Member]) -> Result<Vec<GroupEntry>, StoreEnd>
+    ensures groups { IfOk result (λ entries. map (λ e. group_columns (entry_group e)) entries.items ≡ map first_two rows.now) }
+    ensures members { IfOk result (λ entries. flat_map entry_members entries.items ≡ map member_line members.now) }
+{
+    let mut entries = Vec::new(alloc);
+    let mut joined = 0;
+    'rows: for row in rows {
+        let name = text_at(row, 0)?;
+        let baseline = number_or_null_at(row, 1)?;
+        let runs = runs_of(alloc, name.as_str(), &members[joined..])?;
+        joined += runs.len();
+        let entry = group_entry(name, baseline, runs)?;
+        if entries.push(entry).is_err() {
+            return Err(StoreEnd::Memory);
+        }
+    }
+    if joined == members.len() {
+        Ok(entries)
+    } else {
+        Err(StoreEnd::Store)
+    }
+}
+
+/// The groups in rows, of which none comes twice, each with its members.
+fn groups_in(alloc: Global, rows: &[Row], members: &[Member]) -> Result<Vec<GroupEntry>, StoreEnd>
+    ensures groups { IfOk result (λ entries. map (λ e. group_columns (entry_group e)) entries.items ≡ map first_two rows.now) }
+    ensures members { IfOk result (λ entries. flat_map entry_members entries.items ≡ map member_line members.now) }
+    ensures rising { IfOk result (λ entries. AllAdjacentBelow IsBefore entries.items (length entries.items)) }
+{
+    let entries = joined(alloc, rows, members)?;
+    if names_rise(&entries) {
+        Ok(entries)
+    } else {
+        Err(StoreEnd::Store)
+    }
 }
 
 impl<S: Alter> Store<S> {
-    /// The rows of the groups, by name.
-    pub fn group_lines(&mut self, alloc: Global) -> Result<Vec<GroupLine>, StoreEnd>
-        ensures told { IsFaithful S.Store self.new → (t : _) → StandsFor S.Store t self.old → IfOk result (λ lines. IsPermutation (map group_columns t.groups) (map line_columns lines.items)) }
-        ensures found { IsFaithful S.Store self.new → (shown S.Store self.old).now.schema ≡ schema_one → IfOk result (λ lines. IsPermutation (map group_seen ((shown S.Store self.old).now.trees 19)) (map line_columns lines.items)) }
-        ensures same { IsFaithful S.Store self.new → (shown S.Store self.old).now.schema ≡ schema_one → OnOk result ((shown S.Store self.new).now ≡ (shown S.Store self.old).now) }
-        ensures kept { IsFaithful S.Store self.new → (t : _) → StandsFor S.Store t self.old → IsUsable S.Store self.new → StandsFor S.Store t self.new }
-        ensures stays { IsFaithful S.Store self.new → (t : _) → StandsFor S.Store t self.old → OnOk result (StandsFor S.Store t self.new) }
-        ensures crash { IsFaithful S.Store self.new → (t : _) → StandsFor S.Store t self.old → LeavesOnly S.Store self.old self.new (λ _. ⊥) }
-        ensures honest { IsFaithful S.Store self.new → IsFaithful S.Store self.old }
-    {
-        match select_groups(&mut self.conn) {
-            Ok(rows) => groups_in(alloc, &rows),
-            Err(error) => Err(end_of(error)),
-        }
-    }
-
-    /// The rows of the members, by group and run.
-    pub fn member_lines(&mut self, alloc: Global) -> Result<Vec<MemberLine>, StoreEnd>
-        ensures told { IsFaithful S.Store self.new → (t : _) → StandsFor S.Store t self.old → IfOk result (λ lines. IsPermutation (map member_columns t.members) (map member_line_columns lines.items)) }
-        ensures found { IsFaithful S.Store self.new → (shown S.Store self.old).now.schema ≡ schema_one → IfOk result (λ lines. IsPermutation (map member_seen ((shown S.Store self.old).now.trees 21)) (map member_line_columns lines.items)) }
+    /// The members of all groups, by group and run.
+    fn members(&mut self, alloc: Global) -> Result<Vec<Member>, StoreEnd>
+        ensures told { IsFaithful S.Store self.new → (t : _) → StandsFor S.Store t self.old → IfOk result (λ members. IsPermutation t.members (map member_line members.items)) }
+        ensures found { IsFaithful S.Store self.new → (shown S.Store self.old).now.schema ≡ schema_one → IfOk result (λ members. IsPermutation (map member_seen ((shown S.Store self.old).now.trees 21)) (map (λ m. member_columns (member_line m)) members.items)) }
         ensures same { IsFaithful S.Store self.new → (shown S.Store self.old).now.schema ≡ schema_one → OnOk result ((shown S.Store self.new).now ≡ (shown S.Store self.old).now) }
         ensures kept { IsFaithful S.Store self.new → (t : _) → StandsFor S.Store t self.old → IsUsable S.Store self.new → StandsFor S.Store t self.new }
         ensures stays { IsFaithful S.Store self.new → (t : _) → StandsFor S.Store t self.old → OnOk result (StandsFor S.Store t self.new) }
@@ -104,5 +169,36 @@ impl<S: Alter> Store<S> {
             Ok(rows) => members_in(alloc, &rows),
             Err(error) => Err(end_of(error)),
         }
+    }
+
+    /// The groups with these members, by name.
+    fn groups_of(&mut self, alloc: Global, members: &[Member]) -> Result<Vec<GroupEntry>, StoreEnd>
+        ensures told { IsFaithful S.Store self.new → (t : _) → StandsFor S.Store t self.old → IfOk result (λ entries. IsPermutation t.groups (map entry_group entries.items)) }
+        ensures found { IsFaithful S.Store self.new → (shown S.Store self.old).now.schema ≡ schema_one → IfOk result (λ entries. IsPermutation (map group_seen ((shown S.Store self.old).now.trees 19)) (map (λ e. group_columns (entry_group e)) entries.items)) }
+        ensures members { IfOk result (λ entries. flat_map entry_members entries.items ≡ map member_line members.now) }
+        ensures rising { IfOk result (λ entries. AllAdjacentBelow IsBefore entries.items (length entries.items)) }
+        ensures kept { IsFaithful S.Store self.new → (t : _) → StandsFor S.Store t self.old → IsUsable S.Store self.new → StandsFor S.Store t self.new }
+        ensures stays { IsFaithful S.Store self.new → (t : _) → StandsFor S.Store t self.old → OnOk result (StandsFor S.Store t self.new) }
+        ensures crash { IsFaithful S.Store self.new → (t : _) → StandsFor S.Store t self.old → LeavesOnly S.Store self.old self.new (λ _. ⊥) }
+        ensures honest { IsFaithful S.Store self.new → IsFaithful S.Store self.old }
+    {
+        match select_groups(&mut self.conn) {
+            Ok(rows) => groups_in(alloc, &rows, members),
+            Err(error) => Err(end_of(error)),
+        }
+    }
+
+    /// The groups with their members, by name.
+    pub fn groups(&mut self, alloc: Global) -> Result<Vec<GroupEntry>, StoreEnd>
+        ensures told { IsFaithful S.Store self.new → (t : _) → StandsFor S.Store t self.old → IfOk result (λ entries. IsPermutation t.groups (map entry_group entries.items) × IsPermutation t.members (flat_map entry_members entries.items)) }
+        ensures found { IsFaithful S.Store self.new → (shown S.Store self.old).now.schema ≡ schema_one → IfOk result (λ entries. IsPermutation (map group_seen ((shown S.Store self.old).now.trees 19)) (map (λ e. group_columns (entry_group e)) entries.items) × IsPermutation (map member_seen ((shown S.Store self.old).now.trees 21)) (map member_columns (flat_map entry_members entries.items))) }
+        ensures rising { IfOk result (λ entries. AllAdjacentBelow IsBefore entries.items (length entries.items)) }
+        ensures kept { IsFaithful S.Store self.new → (t : _) → StandsFor S.Store t self.old → IsUsable S.Store self.new → StandsFor S.Store t self.new }
+        ensures stays { IsFaithful S.Store self.new → (t : _) → StandsFor S.Store t self.old → OnOk result (StandsFor S.Store t self.new) }
+        ensures crash { IsFaithful S.Store self.new → (t : _) → StandsFor S.Store t self.old → LeavesOnly S.Store self.old self.new (λ _. ⊥) }
+        ensures honest { IsFaithful S.Store self.new → IsFaithful S.Store self.old }
+    {
+        let members = self.members(alloc)?;
+        self.groups_of(alloc, &members)
     }
 }

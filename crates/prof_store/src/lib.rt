@@ -15,6 +15,7 @@ mod file_rows;
 mod first_columns;
 mod group_changes;
 mod groups;
+mod head_lines;
 mod head_loops;
 mod head_texts;
 mod joining;
@@ -36,9 +37,8 @@ mod tests;
 mod walks;
 mod whole;
 
-pub use entries::RunEntry;
+pub use entries::{GroupEntry, RunEntry};
 pub use errors::StoreEnd;
-pub use groups::{GroupLine, MemberLine};
 pub use kinds::Kind;
 pub use sqlite::Alter;
 pub use store::Store;

@@ -10,5 +10,6 @@ pub mod Names
 pub mod Numbering
 pub mod Rows
 pub mod RunLines
+pub mod RunLists
 pub mod Values
 pub mod WalkTexts

@@ -1,5 +1,5 @@
 -- Why a query fails that the schema understands.
-use Rattle.std.proofs.Common.{◌≡◌, inl, inr, ℕ, List, [], None, Ok, Err, sym, ap, subst, ◌∙◌}
+use Rattle.std.proofs.Common.{◌≡◌, inl, inr, ℕ, List, [], Err, sym, ap, subst, ◌∙◌}
 use Rattle.std.specs.Bool.{⊤}
 use Rattle.sqlite_value.specs.Order.{Row}
 use Rattle.sqlite_trees.specs.declared.error.StoreError.{StoreError}
@@ -13,7 +13,7 @@ use Rattle.sqlite.specs.declared.error.Error.TheVariants.{SqlInputError, QueryRe
 use Rattle.sqlite.specs.Clock.{timed}
 use Rattle.sqlite.specs.Effect.{Database, RefusesToRead, RefusesQuery}
 use Rattle.sqlite.specs.Listing.{understood}
-use Rattle.sqlite.specs.State.{State, FailsToQuery, QueriesRow, Shown, IsNotRun, FailsToShow, store_error}
+use Rattle.sqlite.specs.State.{State, FailsToQuery, QueriesRow, Shown, IsNotRun, store_error}
 use Rattle.sqlite.proofs.Callers.{IsPlain, command_of}
 
 -- an error that blames neither the text nor a want of rows

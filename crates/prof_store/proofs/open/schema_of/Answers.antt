@@ -1,7 +1,6 @@
-use Rattle.std.proofs.Common.{◌≡◌, ◌∙◌, pos, [], sym, subst, Ok, Err}
-use Rattle.sqlite.specs.State.{QueriesRow, Shown}
+use Rattle.std.proofs.Common.{◌∙◌, [], sym, subst}
+use Rattle.sqlite.specs.State.{QueriesRow}
 use Rattle.sqlite_exec.proofs.MarkLemmas.{if_ok_then}
-use Rattle.sqlite_value.specs.declared.value.Value.TheVariants.{Int}
 use Rattle.sql_tables.proofs.Failures.{never_blames}
 use Rattle.prof_tables.specs.Texts.{schema_text}
 use Rattle.prof_tables.specs.Tables.{Holds}

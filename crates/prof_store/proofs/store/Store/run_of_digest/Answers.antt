@@ -1,7 +1,7 @@
-use Rattle.std.proofs.Common.{◌≡◌, ◌∙◌, pos, [], ◌∷◌, sym, subst, Ok, Err, Some, None}
-use Rattle.sqlite.specs.State.{QueriesRow, Shown}
+use Rattle.std.proofs.Common.{◌∙◌, [], ◌∷◌, sym, subst}
+use Rattle.sqlite.specs.State.{QueriesRow}
 use Rattle.sqlite_exec.proofs.MarkLemmas.{if_ok_then}
-use Rattle.sqlite_value.specs.declared.value.Value.TheVariants.{Int, Blob}
+use Rattle.sqlite_value.specs.declared.value.Value.TheVariants.{Blob}
 use Rattle.sql_tables.proofs.Failures.{none_there}
 use Rattle.prof_tables.specs.Schema.{schema_one}
 use Rattle.prof_tables.specs.Texts.{by_digest_text}

@@ -1,11 +1,10 @@
-use Rattle.std.proofs.Common.{◌≡◌, ◌∙◌, [], map, ap, ap₂, sym, subst, refl, pos}
+use Rattle.std.proofs.Common.{◌≡◌, ◌∙◌, [], map, ap, ap₂, sym, refl}
 use Rattle.sqlite_exec.proofs.MarkLemmas.{if_ok_then}
 use Rattle.sqlite_keyed.proofs.ListLemmas.{map-map}
-use Rattle.sqlite_value.specs.declared.value.Value.TheVariants.{Int, Text, Blob}
 use Rattle.sql_tables.proofs.Orders.{rising}
 use Rattle.prof_tables.specs.Seen.{run_seen}
 use Rattle.prof_tables.specs.Texts.{runs_text}
-use Rattle.prof_tables.specs.Tables.{Holds, run_columns}
+use Rattle.prof_tables.specs.Tables.{Holds}
 use Rattle.prof_tables.proofs.Means.{runs_plain}
 use Rattle.prof_tables.proofs.Lists.{runs_listed, runs_in_order, numbered_table}
 use Rattle.prof_store.specs.Entries.{HeldRun, held_run, entry_run, held_columns, entry_columns, first_four}

@@ -1,29 +1,28 @@
-use Rattle.std.proofs.Common.{◌≡◌, ◌∙◌, [], map, ap, refl, subst, IsPermutation}
+use Rattle.std.proofs.Common.{◌∙◌, [], map, ap, refl, sym, subst₂, IsPermutation}
 use Rattle.sqlite_exec.proofs.MarkLemmas.{if_ok_then}
-use Rattle.prof_tables.specs.Schema.{schema_one}
+use Rattle.sqlite_keyed.proofs.ListLemmas.{map-map}
 use Rattle.prof_tables.specs.Seen.{group_seen}
 use Rattle.prof_tables.specs.Texts.{groups_text}
-use Rattle.prof_tables.specs.Tables.{Holds}
+use Rattle.prof_tables.specs.Tables.{Holds, group_columns}
 use Rattle.prof_tables.proofs.Means.{groups_plain}
 use Rattle.prof_tables.proofs.Lists.{groups_listed, groups_are}
-use Rattle.prof_store.specs.Groups.{line_columns, first_two}
-use Rattle.prof_store.proofs.Listing.{read_permutes}
-use Rattle.prof_store.proofs.Reading.{on_ok, same_after, rows_stay, fails_kept, leaves_nothing}
-use Rattle.prof_store.proofs.store.Store.group_lines.Goals as goal
+use Rattle.prof_store.specs.Groups.{entry_group, first_two}
+use Rattle.prof_store.specs.declared.entries.GroupEntry.{GroupEntry}
+use Rattle.prof_store.proofs.Listing.{read_permutes, read_back, group_back, group_read}
+use Rattle.prof_store.proofs.Reading.{on_ok, rows_stay, fails_kept, leaves_nothing}
+use Rattle.prof_store.proofs.store.Store.groups_of.Goals as goal
 
 pub returns-in-Ok-clause-told : goal.returns-in-Ok-clause-told
 returns-in-Ok-clause-told g c clean t was =
     let p = groups_listed _ _ c.in-Ok.rows.items was.schema_is (c.in-Ok.ensures.ok clean) in
-    if_ok_then c.groups_in.result c.groups_in.ensures (λ lines is.
-    subst (λ l. IsPermutation l (map line_columns lines.items)) (groups_are t _ was.holds) (read_permutes group_seen first_two line_columns (λ r. refl) _ c.in-Ok.rows.items lines.items p (is ∙ ap (map first_two) c.deref.ensures.value)))
+    if_ok_then c.groups_in.result c.groups_in.ensures.groups (λ entries is.
+    let q = read_permutes group_seen first_two (λ (e : GroupEntry). group_columns (entry_group e)) (λ r. refl) _ c.in-Ok.rows.items entries.items p (is ∙ ap (map first_two) c.deref.ensures.value) in
+    read_back group_columns group_back group_read t.groups (map entry_group entries.items) (subst₂ IsPermutation (groups_are t _ was.holds) (sym (map-map group_columns entry_group entries.items)) q))
 
 pub returns-in-Ok-clause-found : goal.returns-in-Ok-clause-found
 returns-in-Ok-clause-found g c clean has =
     let p = groups_listed _ _ c.in-Ok.rows.items has (c.in-Ok.ensures.ok clean) in
-    if_ok_then c.groups_in.result c.groups_in.ensures (λ lines is. read_permutes group_seen first_two line_columns (λ r. refl) _ c.in-Ok.rows.items lines.items p (is ∙ ap (map first_two) c.deref.ensures.value))
-
-pub returns-in-Ok-clause-same : goal.returns-in-Ok-clause-same
-returns-in-Ok-clause-same g c clean has = on_ok _ c.groups_in.result (same_after groups_text [] groups_plain _ _ has c.in-Ok.rows.items (c.in-Ok.ensures.ok clean))
+    if_ok_then c.groups_in.result c.groups_in.ensures.groups (λ entries is. read_permutes group_seen first_two (λ (e : GroupEntry). group_columns (entry_group e)) (λ r. refl) _ c.in-Ok.rows.items entries.items p (is ∙ ap (map first_two) c.deref.ensures.value))
 
 pub returns-in-Ok-clause-kept : goal.returns-in-Ok-clause-kept
 returns-in-Ok-clause-kept g c clean t was is_open = rows_stay groups_text [] groups_plain (Holds t) _ _ was c.in-Ok.rows.items (c.in-Ok.ensures.ok clean)

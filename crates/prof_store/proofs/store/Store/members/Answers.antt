@@ -1,26 +1,28 @@
-use Rattle.std.proofs.Common.{◌≡◌, ◌∙◌, [], map, ap, refl, subst, IsPermutation}
+use Rattle.std.proofs.Common.{◌∙◌, [], map, ap, refl, sym, subst₂, IsPermutation}
 use Rattle.sqlite_exec.proofs.MarkLemmas.{if_ok_then}
-use Rattle.prof_tables.specs.Schema.{schema_one}
+use Rattle.sqlite_keyed.proofs.ListLemmas.{map-map}
 use Rattle.prof_tables.specs.Seen.{member_seen}
 use Rattle.prof_tables.specs.Texts.{members_text}
-use Rattle.prof_tables.specs.Tables.{Holds}
+use Rattle.prof_tables.specs.Tables.{Holds, member_columns}
 use Rattle.prof_tables.proofs.Means.{members_plain}
 use Rattle.prof_tables.proofs.Lists.{members_listed, members_are}
-use Rattle.prof_store.specs.Groups.{member_line_columns, first_two}
-use Rattle.prof_store.proofs.Listing.{read_permutes}
+use Rattle.prof_store.specs.Groups.{member_line, first_two}
+use Rattle.prof_store.specs.declared.groups.Member.{Member}
+use Rattle.prof_store.proofs.Listing.{read_permutes, read_back, member_back, member_read}
 use Rattle.prof_store.proofs.Reading.{on_ok, same_after, rows_stay, fails_kept, leaves_nothing}
-use Rattle.prof_store.proofs.store.Store.member_lines.Goals as goal
+use Rattle.prof_store.proofs.store.Store.members.Goals as goal
 
 pub returns-in-Ok-clause-told : goal.returns-in-Ok-clause-told
 returns-in-Ok-clause-told g c clean t was =
     let p = members_listed _ _ c.in-Ok.rows.items was.schema_is (c.in-Ok.ensures.ok clean) in
-    if_ok_then c.members_in.result c.members_in.ensures (λ lines is.
-    subst (λ l. IsPermutation l (map member_line_columns lines.items)) (members_are t _ was.holds) (read_permutes member_seen first_two member_line_columns (λ r. refl) _ c.in-Ok.rows.items lines.items p (is ∙ ap (map first_two) c.deref.ensures.value)))
+    if_ok_then c.members_in.result c.members_in.ensures (λ members is.
+    let q = read_permutes member_seen first_two (λ (m : Member). member_columns (member_line m)) (λ r. refl) _ c.in-Ok.rows.items members.items p (is ∙ ap (map first_two) c.deref.ensures.value) in
+    read_back member_columns member_back member_read t.members (map member_line members.items) (subst₂ IsPermutation (members_are t _ was.holds) (sym (map-map member_columns member_line members.items)) q))
 
 pub returns-in-Ok-clause-found : goal.returns-in-Ok-clause-found
 returns-in-Ok-clause-found g c clean has =
     let p = members_listed _ _ c.in-Ok.rows.items has (c.in-Ok.ensures.ok clean) in
-    if_ok_then c.members_in.result c.members_in.ensures (λ lines is. read_permutes member_seen first_two member_line_columns (λ r. refl) _ c.in-Ok.rows.items lines.items p (is ∙ ap (map first_two) c.deref.ensures.value))
+    if_ok_then c.members_in.result c.members_in.ensures (λ members is. read_permutes member_seen first_two (λ (m : Member). member_columns (member_line m)) (λ r. refl) _ c.in-Ok.rows.items members.items p (is ∙ ap (map first_two) c.deref.ensures.value))
 
 pub returns-in-Ok-clause-same : goal.returns-in-Ok-clause-same
 returns-in-Ok-clause-same g c clean has = on_ok _ c.members_in.result (same_after members_text [] members_plain _ _ has c.in-Ok.rows.items (c.in-Ok.ensures.ok clean))

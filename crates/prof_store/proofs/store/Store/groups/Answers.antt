@@ -1,0 +1,27 @@
+use Rattle.std.proofs.Common.{◌∙◌, map, ap, sym, subst, IsPermutation}
+use Rattle.sqlite_exec.proofs.MarkLemmas.{if_ok_then}
+use Rattle.sqlite_keyed.proofs.ListLemmas.{map-map}
+use Rattle.sqlite.specs.Effect.{Database}
+use Rattle.prof_tables.specs.Seen.{group_seen}
+use Rattle.prof_tables.specs.Tables.{group_columns, member_columns}
+use Rattle.prof_store.specs.Groups.{entry_group, member_line}
+use Rattle.prof_store.specs.declared.entries.GroupEntry.{GroupEntry}
+use Rattle.prof_store.proofs.Reading.{both_ok}
+use Rattle.prof_store.proofs.store.Store.groups.Goals as goal
+
+pub returns-clause-told : goal.returns-clause-told
+returns-clause-told g c clean t was =
+    let mid = c.in_ok-members.ensures.stays (c.groups_of.ensures.honest clean) t was in
+    let first = c.in_ok-members.ensures.told (c.groups_of.ensures.honest clean) t was in
+    if_ok_then c.groups_of.result (both_ok _ _ c.groups_of.result (c.groups_of.ensures.told clean t mid) c.groups_of.ensures.members) (λ entries is.
+    (is.0, subst (IsPermutation t.members) (sym (is.1 ∙ ap (map member_line) c.deref.ensures.value)) first))
+
+pub returns-clause-found : goal.returns-clause-found
+returns-clause-found g c clean has =
+    let same = c.in_ok-members.ensures.same (c.groups_of.ensures.honest clean) has in
+    let first = c.in_ok-members.ensures.found (c.groups_of.ensures.honest clean) has in
+    let has_too = ap (λ (d : Database). d.schema) same ∙ has in
+    if_ok_then c.groups_of.result (both_ok _ _ c.groups_of.result (c.groups_of.ensures.found clean has_too) c.groups_of.ensures.members) (λ entries is. (
+      subst (λ (d : Database). IsPermutation (map group_seen (d.trees 19)) (map (λ (e : GroupEntry). group_columns (entry_group e)) entries.items)) same is.0,
+      subst (IsPermutation _) (sym (map-map member_columns member_line c.in_ok-members.members.items) ∙ ap (map member_columns) (sym (is.1 ∙ ap (map member_line) c.deref.ensures.value))) first,
+    ))
