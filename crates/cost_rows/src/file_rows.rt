@@ -5,6 +5,7 @@ ghost use Rattle.cost_rows.specs.Totals.{AreWithin, AreTotals};
 
 use crate::calls::Calls;
 use crate::costs::Costs;
+use crate::guesses::{Guesses, NOWHERE};
 use crate::names::Names;
 use crate::numbered::{NumberedArcs, NumberedCells};
 use crate::places::{Call, Place};
@@ -27,20 +28,12 @@ pub struct FileRows {
     pub(crate) cells: BTreeMap<Place, Costs>,
     pub(crate) arcs: BTreeMap<Call, Calls>,
     pub(crate) stacks: BTreeMap<Vec<u8>, u128>,
-    pub(crate) recent: Place,
-    recent_call: (Place, Place),
+    pub(crate) guesses: Guesses,
+    called_guesses: Guesses,
     pub(crate) last: u64,
     width: Option<u64>,
     ghost within: { AreWithin cells.entries arcs.entries (by_bytes stacks.entries) last },
 }
-
-/// The place of no record.
-const NOWHERE: Place = Place {
-    object: 0,
-    file: 0,
-    function: 0,
-    line: 0,
-};
 
 impl FileRows {
     ghost use Rattle.cost_rows.specs.Content.{empty};
@@ -60,8 +53,8 @@ impl FileRows {
             cells: BTreeMap::new(alloc),
             arcs: BTreeMap::new(alloc),
             stacks: BTreeMap::new(alloc),
-            recent: NOWHERE,
-            recent_call: (NOWHERE, NOWHERE),
+            guesses: Guesses::new(alloc),
+            called_guesses: Guesses::new(alloc),
             last: 0,
             width: None,
         }
@@ -167,7 +160,7 @@ impl Sink for FileRows {
         if let Err(refused) = merge_own(
             self.alloc,
             &mut self.names,
-            &mut self.recent,
+            &mut self.guesses,
             &mut self.cells,
             r,
         ) {
@@ -184,7 +177,8 @@ impl Sink for FileRows {
         if let Err(refused) = merge_call(
             self.alloc,
             &mut self.names,
-            &mut self.recent_call,
+            &mut self.guesses,
+            &mut self.called_guesses,
             &mut self.arcs,
             r,
         ) {

@@ -4,6 +4,7 @@
 mod calls;
 mod costs;
 mod file_rows;
+mod guesses;
 mod keys;
 mod laws;
 mod limits;

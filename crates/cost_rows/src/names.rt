@@ -68,6 +68,13 @@ impl Names {
         }
     }
 
+    /// The number of a name, if it is held. Takes no memory.
+    pub(crate) fn find(&self, name: &[u8]) -> Option<u32>
+        ensures { result ≡ place_of name.now self.now }
+    {
+        self.numbers.get(name).copied()
+    }
+
     /// Holds a name that is not held yet.
     fn add(&mut self, name: &[u8]) -> Result<u32, AllocError>
         requires { place_of name.now self.old ≡ None }
@@ -96,11 +103,13 @@ impl Names {
         ensures distinct { are_distinct self.new ≡ true }
         ensures err { OnErr result (self.new ≡ self.old) }
     {
-        if let Some(number) = self.numbers.get(name) {
-            return Ok(*number);
+        let _ = &self.alloc;
+        if let Some(number) = self.find(name) {
+            return Ok(number);
         }
         self.add(name)
     }
+
     /// Forgets the names from the last back, until no more than a number of them is held.
     pub(crate) fn truncate(&mut self, len: usize)
         ensures { self.new ≡ take len self.old }

@@ -11,6 +11,7 @@ ghost use Rattle.cost_rows.specs.Places.{place_cmp, call_cmp};
 
 use crate::calls::Calls;
 use crate::costs::Costs;
+use crate::guesses::Guesses;
 use crate::merges::{merge_arc, merge_cell};
 use crate::names::Names;
 use crate::numbering::number_place;
@@ -23,7 +24,7 @@ use std::collections::BTreeMap;
 pub(crate) fn merge_own(
     alloc: Global,
     names: &mut Names,
-    recent: &mut Place,
+    guesses: &mut Guesses,
     cells: &mut BTreeMap<Place, Costs>,
     r: SelfCost<'_>,
 ) -> Result<(), AllocError>
@@ -34,8 +35,9 @@ pub(crate) fn merge_own(
     ensures grows { Grows names.old names.new }
     ensures err { OnErr result (cells.new.entries ≡ cells.old.entries) }
 {
-    let place = number_place(names, *recent, r.object, r.file, r.function, r.line)?;
-    *recent = place;
+    let guess = guesses.guess(names, r.function);
+    let place = number_place(names, guess, r.object, r.file, r.function, r.line)?;
+    guesses.keep(place)?;
     merge_cell(alloc, cells, place, r.costs)
 }
 
@@ -43,7 +45,8 @@ pub(crate) fn merge_own(
 pub(crate) fn merge_call(
     alloc: Global,
     names: &mut Names,
-    recent: &mut (Place, Place),
+    guesses: &mut Guesses,
+    called_guesses: &mut Guesses,
     arcs: &mut BTreeMap<Call, Calls>,
     r: CallCost<'_>,
 ) -> Result<(), AllocError>
@@ -54,16 +57,19 @@ pub(crate) fn merge_call(
     ensures grows { Grows names.old names.new }
     ensures err { OnErr result (arcs.new.entries ≡ arcs.old.entries) }
 {
-    let place = number_place(names, recent.0, r.object, r.file, r.function, r.line)?;
+    let guess = guesses.guess(names, r.function);
+    let place = number_place(names, guess, r.object, r.file, r.function, r.line)?;
+    guesses.keep(place)?;
+    let called_guess = called_guesses.guess(names, r.called_function);
     let called = number_place(
         names,
-        recent.1,
+        called_guess,
         r.called_object,
         r.called_file,
         r.called_function,
         0,
     )?;
-    *recent = (place, called);
+    called_guesses.keep(called)?;
     let call = Call {
         place,
         object: called.object,

@@ -34,7 +34,7 @@ impl StackSink for FileRows {
         if let Err(refused) = merge_own(
             self.alloc,
             &mut self.names,
-            &mut self.recent,
+            &mut self.guesses,
             &mut self.cells,
             cost,
         ) {

@@ -6,8 +6,8 @@ use Rattle.cost_rows.proofs.names.Names.id_of.Goals as goal
 
 pub returns-in-Some-clause-names : goal.returns-in-Some-clause-names
 returns-in-Some-clause-names c =
-    let found : place_of c.args.name.now c.args.self.now ≡ Some c.in-Some.number.now = ap (place_of c.args.name.now) (sym c.self.view_is) ∙ sym (c.self.invariant.found c.args.name.now) ∙ sym c.in-Some.ensures.value in
-    sym (with-held c.args.self.now c.args.name.now c.in-Some.number.now found)
+    let found : place_of c.args.name.now c.args.self.now ≡ Some c.in-Some.number = sym c.find.ensures ∙ c.in-Some.is in
+    sym (with-held c.args.self.now c.args.name.now c.in-Some.number found)
 
 pub returns-clause-distinct : goal.returns-clause-distinct
 returns-clause-distinct c =

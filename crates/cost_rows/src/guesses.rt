@@ -1,0 +1,58 @@
+// The numbers that a record's names are thought to have.
+
+use crate::names::Names;
+use crate::places::Place;
+use std::alloc::{AllocError, Global};
+
+/// The place of no record.
+pub(crate) const NOWHERE: Place = Place {
+    object: 0,
+    file: 0,
+    function: 0,
+    line: 0,
+};
+
+/// The place of the last record, and that of the last record of each function, by the number of its
+/// name. No clause speaks of them: whoever takes a guess compares it with the record's names first.
+#[derive(Drop)]
+pub(crate) struct Guesses {
+    recent: Place,
+    by_function: Vec<Place>,
+}
+
+impl Guesses {
+    /// No place is kept. Takes no memory.
+    pub(crate) fn new(alloc: Global) -> Guesses {
+        Guesses {
+            recent: NOWHERE,
+            by_function: Vec::new(alloc),
+        }
+    }
+
+    /// The place that a record of a function is thought to have.
+    pub(crate) fn guess(&self, names: &Names, function: &[u8]) -> Place {
+        let recent = self.recent;
+        if (recent.function as usize) < names.len() && names.name(recent.function) == function {
+            return recent;
+        }
+        let Some(number) = names.find(function) else {
+            return recent;
+        };
+        let kept = self.by_function.get(number as usize).copied();
+        Place {
+            function: number,
+            ..kept.unwrap_or(recent)
+        }
+    }
+
+    /// Keeps the place of a record.
+    pub(crate) fn keep(&mut self, place: Place) -> Result<(), AllocError> {
+        let function = place.function as usize;
+        if self.by_function.len() <= function {
+            self.by_function.resize(function + 1, NOWHERE)?;
+        }
+        self.by_function[function] = place;
+        self.recent = place;
+        Ok(())
+    }
+}
