@@ -2,6 +2,7 @@ pub mod Creates
 pub mod Defines
 pub mod Drops
 pub mod Groups
+pub mod Many
 pub mod Means
 pub mod Names
 pub mod Numbering

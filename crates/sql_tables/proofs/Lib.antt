@@ -5,6 +5,7 @@ pub mod Deletes
 pub mod Effects
 pub mod InPlace
 pub mod Inserts
+pub mod Many
 pub mod Queries
 pub mod Rows
 pub mod Selects
