@@ -1,4 +1,5 @@
 mod Finding
+mod ManyLines
 mod Parts
 mod RowLines
 mod Writing

@@ -8,9 +8,11 @@ mod errors;
 mod file_lines;
 mod file_rows;
 mod lines;
+mod many_cells;
 mod name_texts;
 mod stack_texts;
 mod store;
+mod values;
 mod whole;
 
 pub use errors::StoreEnd;
