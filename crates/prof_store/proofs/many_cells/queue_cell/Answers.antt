@@ -1,4 +1,4 @@
-use Rattle.std.proofs.Common.{◌≡◌, [], ◌∷◌, ◌++◌, map, not, if◌then◌else◌, ap, ◌∙◌}
+use Rattle.std.proofs.Common.{[], ◌∷◌, ◌++◌, map, not, if◌then◌else◌, ap, ◌∙◌}
 use Rattle.sqlite.specs.Held.{state}
 use Rattle.sql_tables.proofs.Rows.{map-append}
 use Rattle.prof_store.specs.Lines.{cell_line}
