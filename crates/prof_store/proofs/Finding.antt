@@ -1,7 +1,7 @@
 -- The number of a name, as the query finds it.
-use Rattle.std.proofs.Common.{◌≡◌, ℕ, List, [], ◌∷◌, inl, pos, Bool, true, false, Option, Some, None, if◌then◌else◌, refl, sym, ap, ◌∙◌}
-use Rattle.sqlite_value.specs.declared.value.Value.TheVariants.{Int, Blob}
-use Rattle.sqlite_value.specs.Order.{Row, column}
+use Rattle.std.proofs.Common.{◌≡◌, ℕ, List, [], ◌∷◌, inl, Bool, true, false, Option, Some, None, if◌then◌else◌, refl, sym, ap, ◌∙◌}
+use Rattle.sqlite_value.specs.declared.value.Value.TheVariants.{Blob}
+use Rattle.sqlite_value.specs.Order.{Row}
 use Rattle.sqlite.specs.State.{State, Shown}
 use Rattle.sql_tables.specs.States.{Works}
 use Rattle.sql_tables.proofs.Selects.{selected}

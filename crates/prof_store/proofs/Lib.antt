@@ -3,6 +3,7 @@ pub mod CellWalks
 mod Finding
 mod Listing
 mod Lists
+mod ManyLines
 mod Parts
 mod Reading
 mod RowLines

@@ -7,7 +7,7 @@ use Rattle.cost_rows.specs.declared.calls.Calls.{Calls}
 use Rattle.cost_rows.specs.declared.rows.CellRow.{CellRow}
 use Rattle.cost_rows.specs.declared.rows.ArcRow.{ArcRow}
 use Rattle.cost_rows.specs.declared.rows.StackRow.{StackRow}
-use Rattle.cost_rows.specs.ByNumber.{numbered_at, numbered_cells, numbered_arc, numbered_arcs}
+use Rattle.cost_rows.specs.ByNumber.{numbered_at, numbered_cells, numbered_arcs}
 use Rattle.cost_rows.specs.Walks.{stack_rows}
 use Rattle.sql_tables.proofs.Rows.{map-append}
 use Rattle.prof_tables.specs.Tables.{CellLine, ArcLine, StackLine}

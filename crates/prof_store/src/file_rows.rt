@@ -13,9 +13,9 @@ ghost use Rattle.prof_store.specs.FromRows.{call_of_arc, calls_of_arc};
 ghost use Rattle.prof_store.specs.Steps.{Passes, Makes};
 
 use crate::arc_texts::put_arc;
-use crate::cell_texts::put_cell;
 use crate::errors::StoreEnd;
 use crate::file_lines::{arc_of, cell_of, stack_of};
+use crate::many_cells::{put_cell_lines, queue_cell};
 use crate::name_texts::number_name;
 use crate::stack_texts::put_stack;
 use cost_rows::{ArcRow, FileRows, Names};
@@ -46,6 +46,7 @@ pub(crate) fn number_names<S: Alter>(
 /// Writes the sums of a run's own costs, under the tables' numbers of the file's names.
 pub(crate) fn put_cells<S: Alter>(
     tx: &mut Transaction<'_, S>,
+    alloc: Global,
     run: u32,
     numbers: &[u32],
     rows: &FileRows,
@@ -54,13 +55,14 @@ pub(crate) fn put_cells<S: Alter>(
     ensures passes { Passes (state S.Store tx.old.conn.now) (state S.Store tx.new.conn.now) }
     ensures made { OnOk result (Makes (λ _. ⊤) (with_cells (cell_lines run numbers.now (content_of rows.now).cells)) (state S.Store tx.old.conn.now) (state S.Store tx.new.conn.now)) }
 {
+    let mut waiting = Vec::new(alloc);
     'rows: for row in rows.numbered_cells() {
         match cell_of(run, numbers, &row) {
-            Some(line) => put_cell(tx, &line)?,
+            Some(line) => queue_cell(tx, alloc, &mut waiting, line)?,
             None => return Err(StoreEnd::Store),
         }
     }
-    Ok(())
+    put_cell_lines(tx, alloc, &waiting)
 }
 
 /// Writes a part of the calls of a row.

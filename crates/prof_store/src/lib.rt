@@ -23,6 +23,7 @@ mod kinds;
 mod labels;
 mod lines;
 mod making;
+mod many_cells;
 mod name_texts;
 mod next;
 mod open;
@@ -34,6 +35,7 @@ mod stack_texts;
 mod store;
 #[cfg(test)]
 mod tests;
+mod values;
 mod walks;
 mod whole;
 

@@ -4,6 +4,7 @@ pub mod Drops
 pub mod Finds
 pub mod Groups
 pub mod Lists
+pub mod Many
 pub mod Means
 pub mod MemberFinds
 pub mod Names

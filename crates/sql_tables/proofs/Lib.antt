@@ -7,6 +7,7 @@ pub mod Ends
 pub mod Failures
 pub mod InPlace
 pub mod Inserts
+pub mod Many
 pub mod Orders
 pub mod Queries
 pub mod Rows

@@ -1,14 +1,11 @@
-use Rattle.std.proofs.Common.{◌≡◌, ℕ, [], ◌∷◌, ◌++◌, ◌+◌, List, take, get_or, Some, slice_get, length, ◌<◌, not, if◌then◌else◌, sym, ap, ap₂, subst, ◌∙◌, rules, arith}
+use Rattle.std.proofs.Common.{◌≡◌, [], ◌∷◌, ◌++◌, ◌+◌, take, length, ◌<◌, not, if◌then◌else◌, sym, ap, ap₂, ◌∙◌, rules}
 use Rattle.std.specs.Bool.{⊤}
 use Rattle.std.proofs.lemmas.List.{take_more}
 use Rattle.std.proofs.lemmas.Option.{get_or_from_slice_get}
 use Rattle.sqlite.specs.Held.{state}
-use Rattle.sql_tables.specs.States.{Works}
-use Rattle.prof_tables.specs.Tables.{Tables}
 use Rattle.prof_tables.specs.Changes.{named}
 use Rattle.prof_tables.specs.Files.{all_named, numbers_in}
 use Rattle.prof_tables.proofs.Numbering.{one_named, numbers_more}
-use Rattle.prof_store.specs.Steps.{Makes}
 use Rattle.prof_store.proofs.Parts.{passes_then, makes_then, makes_same, clean_before}
 use Rattle.prof_store.proofs.file_rows.number_names.Goals as goal
 

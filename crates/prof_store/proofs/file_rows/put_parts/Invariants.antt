@@ -1,4 +1,4 @@
-use Rattle.std.proofs.Common.{◌≡◌, map, take, ◌++◌, ◌∷◌}
+use Rattle.std.proofs.Common.{◌≡◌, take, ◌∷◌}
 use Rattle.std.specs.Bool.{⊤}
 use Rattle.sqlite.specs.Held.{state}
 use Rattle.prof_store.specs.Steps.{Passes, Makes}

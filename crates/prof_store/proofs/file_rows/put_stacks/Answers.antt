@@ -1,4 +1,4 @@
-use Rattle.std.proofs.Common.{◌≡◌, [], ◌∷◌, ◌++◌, map, sym, ap, subst, ◌∙◌, append-nil}
+use Rattle.std.proofs.Common.{[], ◌∷◌, ◌++◌, map, sym, ap, subst, ◌∙◌, append-nil}
 use Rattle.std.specs.Bool.{⊤}
 use Rattle.std.proofs.lemmas.List.{append_assoc}
 use Rattle.sqlite.specs.Held.{state}

@@ -1,8 +1,8 @@
-use Rattle.std.proofs.Common.{◌≡◌, ◌∙◌, List, ℕ, sym, ap, subst}
+use Rattle.std.proofs.Common.{◌∙◌, sym, ap}
 use Rattle.std.specs.Bool.{⊤}
 use Rattle.sqlite_exec.proofs.MarkLemmas.{if_ok_then}
 use Rattle.prof_tables.specs.Tables.{Tables}
-use Rattle.prof_tables.specs.Changes.{has_name, named, with_new_name}
+use Rattle.prof_tables.specs.Changes.{named, with_new_name}
 use Rattle.prof_tables.specs.Files.{number_in}
 use Rattle.prof_tables.proofs.Numbering.{named_held, named_new}
 use Rattle.prof_store.proofs.Parts.{makes_then, makes_same, clean_before}
