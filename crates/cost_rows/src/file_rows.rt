@@ -121,9 +121,7 @@ impl FileRows {
         ensures { result ≡ numbered_arcs (content_of self.now).arcs }
     {
         let rest = self.arcs.iter();
-        NumberedArcs {
-            rest,
-        }
+        NumberedArcs { rest }
     }
 
     /// The sums of all rows by column, of so many columns: as many as a record has costs, or more.

@@ -56,6 +56,10 @@ makes_then P Q f g a b c one pass two next = record {
   done = λ clean t is was. two.done clean (f t) (next t is) (one.done (clean_before b c pass clean) t is was);
 }
 
+-- the same change, which asks for more
+pub makes_asking : (P Q : Tables → Type 0) (f : Tables → Tables) (a b : State) → Makes P f a b → ((t : Tables) → Q t → P t) → Makes Q f a b
+makes_asking P Q f a b made asks = record { running = made.running; done = λ clean t is was. made.done clean t (asks t is) was }
+
 -- the same change in other words, where the tables are known
 pub makes_same : (P : Tables → Type 0) (f g : Tables → Tables) (a b : State) → Makes P f a b → (HasCleanDisk b → (t : Tables) → P t → Works schema_one (Holds t) a → f t ≡ g t) → Makes P g a b
 makes_same P f g a b made same = record { running = made.running; done = λ clean t is was. subst (λ u. Works schema_one (Holds u) b) (same clean t is was) (made.done clean t is was) }

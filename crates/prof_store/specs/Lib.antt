@@ -9,6 +9,7 @@ pub mod Kinds
 pub mod Labels
 pub mod Lines
 pub mod Names
+pub mod Runs
 pub mod Shown
 pub mod StackWalks
 pub mod Steps

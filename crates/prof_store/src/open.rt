@@ -13,11 +13,11 @@ ghost use Rattle.prof_store.specs.Shown.{shown, IsFaithful, StandsFor};
 ghost use Rattle.sqlite.specs.declared.error.Error.TheVariants as errors;
 ghost use Rattle.prof_store.specs.declared.errors.StoreEnd.TheVariants as ends;
 
-use std::alloc::Global;
 use crate::columns::number_at;
 use crate::errors::{StoreEnd, end_of};
 use crate::store::Store;
 use sqlite::{Alter, Connection, Error, Row};
+use std::alloc::Global;
 
 fn select_schema<S: Alter>(conn: &mut Connection<S>) -> Result<Row, Error>
     ensures row { HasCleanDisk (state S.Store conn.new) → QueriesRow schema_text [] (state S.Store conn.old) (state S.Store conn.new) result }
@@ -54,7 +54,10 @@ fn schema_of<S: Alter>(conn: &mut Connection<S>) -> Result<u32, StoreEnd>
 
 impl<S: Alter> Store<S> {
     /// Takes up a store. A refusal hands the connection back.
-    pub fn open(alloc: Global, mut conn: Connection<S>) -> Result<Store<S>, (StoreEnd, Connection<S>)>
+    pub fn open(
+        alloc: Global,
+        mut conn: Connection<S>,
+    ) -> Result<Store<S>, (StoreEnd, Connection<S>)>
         ensures done { IfOk result (λ store. IsFaithful S.Store store → (t : _) → Rests schema_one (Holds t) (state S.Store conn) → StandsFor S.Store t store) }
         ensures found { IfOk result (λ store. IsFaithful S.Store store → (state S.Store conn).now.schema ≡ schema_one → (r : _) × Has ((state S.Store conn).now.trees 0) r × (column r 2 ≡ Int (pos 1))) }
         ensures right { IfErr result (λ e. HasCleanDisk (state S.Store e.1) → (t : _) → Rests schema_one (Holds t) (state S.Store conn) → e.0 ≢ ends.WrongSchema) }
