@@ -35,6 +35,8 @@ mod stack_texts;
 mod store;
 #[cfg(test)]
 mod tests;
+#[cfg(test)]
+mod tests_queries;
 mod values;
 mod walks;
 mod whole;

@@ -12,24 +12,25 @@ fn new_store(alloc: Global) -> Result<Store<MemStore>, Fail> {
     }
 }
 
+/// Runs a text with a run's number.
+fn write(store: &mut Store<MemStore>, text: &str, run: u32) -> Result<(), Fail> {
+    store.conn.execute(text, params![run])?;
+    Ok(())
+}
+
 /// Writes the line of a run by hand, with an event, a cell and a stack.
 fn add_run(store: &mut Store<MemStore>, run: u32, digest: &[u8]) -> Result<(), Fail> {
     store.conn.execute(
         "INSERT INTO run (run, kind, digest, label, call_count) VALUES (?1, 1, ?2, 'a', 0)",
         params![run, digest],
     )?;
-    store.conn.execute(
+    for text in [
         "INSERT INTO run_event (run, pos, name, self_cost, call_cost) VALUES (?1, 0, x'4972', 5, 0)",
-        params![run],
-    )?;
-    store.conn.execute(
         "INSERT INTO cell (run, ob, fl, fn, line, event, cost) VALUES (?1, 1, 1, 1, 7, 0, 5)",
-        params![run],
-    )?;
-    store.conn.execute(
         "INSERT INTO stack (run, frames, n) VALUES (?1, x'61', 5)",
-        params![run],
-    )?;
+    ] {
+        write(store, text, run)?;
+    }
     Ok(())
 }
 

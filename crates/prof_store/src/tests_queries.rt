@@ -1,0 +1,139 @@
+// What the store tells, over rows that are written by hand.
+use crate::{Kind, Store, StoreEnd};
+use sqlite::{Connection, MemStore, params};
+use std::alloc::Global;
+use std::test::Fail;
+
+fn new_store(alloc: Global) -> Result<Store<MemStore>, Fail> {
+    let conn = Connection::open_in_memory(alloc)?;
+    match Store::create(alloc, conn) {
+        Ok(store) => Ok(store),
+        Err((end, _)) => Err(Fail::from(end)),
+    }
+}
+
+/// Writes the line of a run by hand.
+fn add_run(
+    store: &mut Store<MemStore>,
+    run: u32,
+    kind: u32,
+    digest: &[u8],
+    label: &str,
+) -> Result<(), Fail> {
+    store.conn.execute(
+        "INSERT INTO run (run, kind, digest, label, call_count) VALUES (?1, ?2, ?3, ?4, 0)",
+        params![run, kind, digest, label],
+    )?;
+    Ok(())
+}
+
+#[test]
+fn runs_are_listed(rt: HostRuntime) -> Result<(), Fail> {
+    let mut store = new_store(rt.alloc())?;
+    assert_eq!(rt; store.next_run()?, 1);
+    assert_eq!(rt; store.runs(rt.alloc())?.len(), 0);
+    add_run(&mut store, 2, 2, &[7; 32], "b.folded")?;
+    add_run(&mut store, 1, 1, &[9; 32], "a.out")?;
+    assert_eq!(rt; store.run_of_digest(&[7; 32])?, Some(2));
+    assert_eq!(rt; store.run_of_digest(&[8; 32])?, None);
+    let runs = store.runs(rt.alloc())?;
+    assert_eq!(rt; runs.len(), 2);
+    assert_eq!(rt; runs[0].number, 1);
+    assert_eq!(rt; runs[0].kind, Kind::Callgrind);
+    assert_eq!(rt; runs[1].kind, Kind::Folded);
+    assert_eq!(rt; runs[1].digest, [7; 32]);
+    assert_eq!(rt; runs[1].label.as_str(), "b.folded");
+    Ok(())
+}
+
+#[test]
+fn a_kind_of_no_name_is_refused(rt: HostRuntime) -> Result<(), Fail> {
+    let mut store = new_store(rt.alloc())?;
+    add_run(&mut store, 1, 3, &[9; 32], "a.out")?;
+    assert_eq!(rt; store.runs(rt.alloc()).err(), Some(StoreEnd::Store));
+    Ok(())
+}
+
+#[test]
+fn a_digest_of_another_length_is_refused(rt: HostRuntime) -> Result<(), Fail> {
+    let mut store = new_store(rt.alloc())?;
+    add_run(&mut store, 1, 1, &[9; 31], "a.out")?;
+    assert_eq!(rt; store.runs(rt.alloc()).err(), Some(StoreEnd::Store));
+    Ok(())
+}
+
+#[test]
+fn a_label_out_of_form_is_refused(rt: HostRuntime) -> Result<(), Fail> {
+    let mut store = new_store(rt.alloc())?;
+    add_run(&mut store, 1, 1, &[9; 32], "")?;
+    assert_eq!(rt; store.runs(rt.alloc()).err(), Some(StoreEnd::Store));
+    Ok(())
+}
+
+#[test]
+fn groups_are_listed_with_their_members(rt: HostRuntime) -> Result<(), Fail> {
+    let mut store = new_store(rt.alloc())?;
+    add_run(&mut store, 1, 1, b"1", "a")?;
+    add_run(&mut store, 2, 1, b"2", "a")?;
+    store.put_group("h")?;
+    store.put_group("g")?;
+    store.join("g", 2)?;
+    store.join("g", 1)?;
+    store.set_baseline("h", 2)?;
+    let groups = store.groups(rt.alloc())?;
+    assert_eq!(rt; groups.len(), 2);
+    assert_eq!(rt; groups[0].name.as_str(), "g");
+    assert_eq!(rt; groups[0].baseline, None);
+    assert_eq!(rt; groups[0].members.as_slice(), [1, 2].as_slice());
+    assert_eq!(rt; groups[1].name.as_str(), "h");
+    assert_eq!(rt; groups[1].baseline, Some(2));
+    assert_eq!(rt; groups[1].members.len(), 0);
+    Ok(())
+}
+
+#[test]
+fn a_store_is_opened_again(rt: HostRuntime) -> Result<(), Fail> {
+    let mut store = new_store(rt.alloc())?;
+    add_run(&mut store, 1, 1, &[9; 32], "a.out")?;
+    let conn = store.into_connection();
+    match Store::open(rt.alloc(), conn) {
+        Ok(mut store) => {
+            assert_eq!(rt; store.runs(rt.alloc())?.len(), 1);
+            Ok(())
+        }
+        Err((end, _)) => Err(Fail::from(end)),
+    }
+}
+
+/// What an open says of tables that are made by hand.
+fn opened(alloc: Global, texts: &[&str]) -> Result<Option<StoreEnd>, Fail> {
+    let mut conn = Connection::open_in_memory(alloc)?;
+    for text in texts {
+        conn.execute(text, &[])?;
+    }
+    match Store::open(alloc, conn) {
+        Ok(_) => Ok(None),
+        Err((end, _)) => Ok(Some(end)),
+    }
+}
+
+#[test]
+fn other_tables_are_of_another_schema(rt: HostRuntime) -> Result<(), Fail> {
+    let meta =
+        "CREATE TABLE meta (id INTEGER PRIMARY KEY, schema INTEGER NOT NULL, next_run INTEGER NOT NULL) STRICT";
+    let wrong = Some(StoreEnd::WrongSchema);
+    assert_eq!(rt; opened(rt.alloc(), &[])?, wrong);
+    assert_eq!(rt;
+        opened(rt.alloc(), &[meta, "INSERT INTO meta VALUES (1, 0, 1)"])?,
+        wrong
+    );
+    assert_eq!(rt;
+        opened(rt.alloc(), &[meta, "INSERT INTO meta VALUES (1, 2, 1)"])?,
+        wrong
+    );
+    assert_eq!(rt;
+        opened(rt.alloc(), &[meta, "INSERT INTO meta VALUES (1, 3, 1)"])?,
+        wrong
+    );
+    Ok(())
+}
