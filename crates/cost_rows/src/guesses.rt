@@ -21,7 +21,7 @@ pub(crate) struct Guesses {
 }
 
 impl Guesses {
-    /// No place is kept. Takes no memory.
+    /// No place is kept. Takes no memory. No clause: a guess may be any place.
     pub(crate) fn new(alloc: Global) -> Guesses {
         Guesses {
             recent: NOWHERE,
@@ -29,7 +29,7 @@ impl Guesses {
         }
     }
 
-    /// The place that a record of a function is thought to have.
+    /// The place that a record of a function is thought to have. No clause: a wrong one costs time.
     pub(crate) fn guess(&self, names: &Names, function: &[u8]) -> Place {
         let recent = self.recent;
         if (recent.function as usize) < names.len() && names.name(recent.function) == function {
@@ -45,7 +45,7 @@ impl Guesses {
         }
     }
 
-    /// Keeps the place of a record.
+    /// Keeps the place of a record. No clause: a guess may be any place.
     pub(crate) fn keep(&mut self, place: Place) -> Result<(), AllocError> {
         let function = place.function as usize;
         if self.by_function.len() <= function {
