@@ -1,4 +1,5 @@
 pub mod ArcWalks
+pub mod Book
 pub mod CellWalks
 pub mod Entries
 pub mod Files

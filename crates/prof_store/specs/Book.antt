@@ -1,0 +1,141 @@
+-- What is held, with names in place of their numbers.
+use Rattle.std.specs.Prelude.{ℕ, suc, nat_lt, ◌==◌, if◌then◌else◌, List, [], ◌∷◌, map, filter, flat_map}
+use Rattle.std.specs.List.{AllByRecursion, list_any}
+use Rattle.std.specs.Bool.{IsTrue}
+use Rattle.cost_rows.specs.declared.rows.CellRow.{CellRow}
+use Rattle.cost_rows.specs.declared.rows.ArcRow.{ArcRow}
+use Rattle.cost_rows.specs.declared.rows.StackRow.{StackRow}
+use Rattle.prof_tables.specs.Tables.{Tables, RunLine, EventLine, DerivedLine, CoefLine, NameLine, CellLine, ArcLine, StackLine, GroupLine, MemberLine}
+use Rattle.prof_tables.specs.RunLines.{cells_in, arcs_in, stacks_in}
+
+-- the name of a number, empty where there is none
+abbrev pub name_of : List NameLine → ℕ → List ℕ
+name_of [] n = []
+name_of (line ∷ lines) n = if line.number == n then line.name else name_of lines n
+
+-- ---- cells
+
+abbrev pub cell_held : List NameLine → CellLine → CellRow (List ℕ)
+cell_held names c = record {
+  object = name_of names c.object;
+  file = name_of names c.file;
+  function = name_of names c.function;
+  line = c.line;
+  event = c.event;
+  cost = c.cost;
+}
+
+-- the sums of a run's own costs
+abbrev pub cells_held : ℕ → Tables → List (CellRow (List ℕ))
+cells_held run t = map (cell_held t.names) (cells_in run t)
+
+-- ---- calls
+
+-- a part of calls: part 0 counts them, part k + 1 is their cost in column k
+pub record CallPart : Type 0 where
+  pub object : List ℕ
+  pub file : List ℕ
+  pub function : List ℕ
+  pub line : ℕ
+  pub called_object : List ℕ
+  pub called_file : List ℕ
+  pub called_function : List ℕ
+  pub part : ℕ
+  pub sum : ℕ
+
+abbrev pub part_held : List NameLine → ArcLine → CallPart
+part_held names a = record {
+  object = name_of names a.object;
+  file = name_of names a.file;
+  function = name_of names a.function;
+  line = a.line;
+  called_object = name_of names a.called_object;
+  called_file = name_of names a.called_file;
+  called_function = name_of names a.called_function;
+  part = a.part;
+  sum = a.sum;
+}
+
+-- the parts of a run's calls
+abbrev pub parts_held : ℕ → Tables → List CallPart
+parts_held run t = map (part_held t.names) (arcs_in run t)
+
+-- a part of a row of calls
+abbrev pub part_of : ArcRow (List ℕ) (List ℕ) → ℕ → ℕ → CallPart
+part_of r part sum = record {
+  object = r.object;
+  file = r.file;
+  function = r.function;
+  line = r.line;
+  called_object = r.called_object;
+  called_file = r.called_file;
+  called_function = r.called_function;
+  part = part;
+  sum = sum;
+}
+
+-- the costs above 0, from a part on
+abbrev pub parts_from : ArcRow (List ℕ) (List ℕ) → ℕ → List ℕ → List CallPart
+parts_from r part [] = []
+parts_from r part (cost ∷ costs) = if nat_lt 0 cost then part_of r part cost ∷ parts_from r (suc part) costs else parts_from r (suc part) costs
+
+-- what a row of calls has: their number, always, and then their costs
+abbrev pub parts_of : ArcRow (List ℕ) (List ℕ) → List CallPart
+parts_of r = part_of r 0 r.count ∷ parts_from r 1 r.costs
+
+-- ---- stacks
+
+abbrev pub stack_held : StackLine → StackRow (List ℕ)
+stack_held s = record { stack = s.frames; count = s.count }
+
+-- the counts of a run's stacks
+abbrev pub stacks_held : ℕ → Tables → List (StackRow (List ℕ))
+stacks_held run t = map stack_held (stacks_in run t)
+
+-- ---- the book
+
+-- a run: what it says of itself, and its rows
+pub record RunBook : Type 0 where
+  pub line : RunLine
+  pub events : List EventLine
+  pub derived : List DerivedLine
+  pub coefs : List CoefLine
+  pub cells : List (CellRow (List ℕ))
+  pub parts : List CallPart
+  pub stacks : List (StackRow (List ℕ))
+
+pub record Book : Type 0 where
+  pub next : ℕ
+  pub runs : List RunBook
+  pub groups : List GroupLine
+  pub members : List MemberLine
+
+abbrev pub run_held : Tables → RunLine → RunBook
+run_held t r = record {
+  line = r;
+  events = filter (λ (e : EventLine). e.run == r.number) t.events;
+  derived = filter (λ (d : DerivedLine). d.run == r.number) t.derived;
+  coefs = filter (λ (c : CoefLine). c.run == r.number) t.coefs;
+  cells = cells_held r.number t;
+  parts = parts_held r.number t;
+  stacks = stacks_held r.number t;
+}
+
+abbrev pub book_of : Tables → Book
+book_of t = record { next = t.next; runs = map (run_held t) t.runs; groups = t.groups; members = t.members }
+
+-- ---- the names that are used are held
+
+abbrev pub IsHeld : List NameLine → ℕ → Type 0
+IsHeld names n = IsTrue (list_any (λ (line : NameLine). line.number == n) names)
+
+abbrev pub CellIsNamed : List NameLine → CellLine → Type 0
+CellIsNamed names c = IsHeld names c.object × IsHeld names c.file × IsHeld names c.function
+
+abbrev pub ArcIsNamed : List NameLine → ArcLine → Type 0
+ArcIsNamed names a = IsHeld names a.object × IsHeld names a.file × IsHeld names a.function × IsHeld names a.called_object × IsHeld names a.called_file × IsHeld names a.called_function
+
+-- in tables that stand for a book
+pub record IsNamed (t : Tables) : Type 0 where
+  pub cells : AllByRecursion (CellIsNamed t.names) t.cells
+  pub arcs : AllByRecursion (ArcIsNamed t.names) t.arcs
