@@ -13,13 +13,22 @@ use Rattle.cost_rows.proofs.MergeLemmas.{sum-merge, sorted-merge}
 use Rattle.cost_rows.proofs.NumberedLemmas.{equal-bytes}
 use Rattle.cost_rows.proofs.PlacesLemmas.{place_cmp-total}
 use Rattle.cost_rows.proofs.StacksLemmas.{bytes_cmp-total}
-use Rattle.cost_rows.proofs.SumsLemmas.{AreHeld, held-cost, cells-cost, none_held, plus_none, none_plus, distinct-three}
+use Rattle.cost_rows.specs.Held.{AreHeld}
+use Rattle.cost_rows.proofs.SumsLemmas.{held-cost, cells-cost, none_held, plus_none, none_plus, distinct-three}
 
 bytes_cmp-apart : TellsApart bytes_cmp
 bytes_cmp-apart x y h = equal-bytes x y (ap is_eq h)
 
 held-stack : (c : Content) (s : Seen) → AreHeld c → AreHeld (with_stack c s)
 held-stack c s held = let is = held-cost c (leaf_cost s) held in record { cells = is.cells; arcs = is.arcs }
+
+held-all : (seen : List Seen) (c : Content) → AreHeld c → AreHeld (fold with_stack c seen)
+held-all [] c held = held
+held-all (s ∷ seen) c held = held-all seen (with_stack c s) (held-stack c s held)
+
+-- each number of the rows of a folded file stands for a name
+pub held-stacks : (seen : List Seen) → AreHeld (content_of_stacks seen)
+held-stacks seen = held-all seen empty none_held
 
 -- what column k of these stacks comes to
 abbrev column_sum : (Spot → Bool) → ℕ → List Seen → ℕ

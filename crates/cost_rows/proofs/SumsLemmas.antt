@@ -12,6 +12,7 @@ use Rattle.cost_rows.specs.Naming.{place_of, with_name}
 use Rattle.cost_rows.specs.Columns.{added}
 use Rattle.cost_rows.specs.Calls.{calls_added}
 use Rattle.cost_rows.specs.Growing.{Grows}
+use Rattle.cost_rows.specs.Held.{IsHeld, PlaceHeld, CallHeld, AreHeld}
 use Rattle.cost_rows.specs.Merging.{merge, sum_where}
 use Rattle.cost_rows.specs.Places.{place_cmp, call_cmp}
 use Rattle.cost_rows.specs.Content.{Content, empty, number_of, with_three, names_with_cost, names_with_callee, place_of_cost, call_of, with_cost, with_call, with_record}
@@ -43,10 +44,6 @@ number-names names name n h =
     let is : number_of name names ≡ n = ap (λ o. unwrap_or o 0) h in
     let found = name-found names n name (at_place names name n h) in
     (ap (name_at names) is ∙ found.0, subst (λ (m : ℕ). m < length names) (sym is) found.1)
-
--- all three names of a place are held
-abbrev IsHeld : List (List ℕ) → ℕ → ℕ → ℕ → Type 0
-IsHeld names a b d = (a < length names) × (b < length names) × (d < length names)
 
 same_spot : (a b d a' b' d' : List ℕ) (line : ℕ) → a ≡ a' → b ≡ b' → d ≡ d' → ◌≡◌ {A = Spot} (record { object = a; file = b; function = d; line = line }) (record { object = a'; file = b'; function = d'; line = line })
 same_spot a b d a' b' d' line x y z =
@@ -87,17 +84,6 @@ sum-same p q f [] same = refl
 sum-same p q f (e ∷ es) same =
     ap (λ b. (if b then f e.1 else 0) + sum_where p f es) same.0
     ∙ ap (λ n. (if q e.0 then f e.1 else 0) + n) (sum-same p q f es same.1)
-
-abbrev PlaceHeld : List (List ℕ) → Place → Type 0
-PlaceHeld names p = IsHeld names p.object p.file p.function
-
-abbrev CallHeld : List (List ℕ) → Call → Type 0
-CallHeld names a = PlaceHeld names a.place × IsHeld names a.object a.file a.function
-
--- each number stands for a name
-pub record AreHeld (c : Content) : Type 0 where
-  pub cells : AllByRecursion (PlaceHeld c.names) (keys_of c.cells)
-  pub arcs : AllByRecursion (CallHeld c.names) (keys_of c.arcs)
 
 abbrev pub cell_test : (Spot → Bool) → List (List ℕ) → Place → Bool
 cell_test passes names p = passes (spot_at names p)
@@ -259,6 +245,15 @@ count_sum-is passes (Called callee cost ∷ records) = ap (λ n. (if passes (spo
 
 pub none_held : AreHeld empty
 none_held = record { cells = tt; arcs = tt }
+
+held-all : (records : List Record) (c : Content) → AreHeld c → AreHeld (fold with_record c records)
+held-all [] c held = held
+held-all (Own cost ∷ records) c held = held-all records (with_cost c cost) (held-cost c cost held)
+held-all (Called callee cost ∷ records) c held = held-all records (with_call c callee cost) (held-call c callee cost held)
+
+-- each number of the rows of a file stands for a name
+pub held-records : (records : List Record) → AreHeld (fold with_record empty records)
+held-records records = held-all records empty none_held
 
 pub none_plus : (n : ℕ) → 0 + n ≡ n
 none_plus n = omega arith

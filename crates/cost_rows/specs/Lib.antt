@@ -18,5 +18,6 @@ pub mod Walks
 pub mod WalkSums
 pub mod Plain
 pub mod Keys
+pub mod Held
 pub mod KeySums
 pub mod ByNumber

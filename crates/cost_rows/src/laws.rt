@@ -7,6 +7,7 @@ ghost use Rattle.cg_text.specs.Formulas.{are_distinct};
 ghost use Rattle.callgrind_reader.specs.Records.{Record};
 ghost use Rattle.folded_reader.specs.Files.{Seen};
 ghost use Rattle.cost_rows.specs.Content.{empty, with_record};
+ghost use Rattle.cost_rows.specs.Held.{AreHeld};
 ghost use Rattle.cost_rows.specs.Keys.{named_cmp};
 ghost use Rattle.cost_rows.specs.KeySums.{cost_where, sums_by};
 ghost use Rattle.cost_rows.specs.declared.keys.Key.{Key};
@@ -63,6 +64,12 @@ pub fn rows_come_to_the_records()
 pub fn rows_come_to_the_stacks()
     ensures sums { (seen : List Seen) → ComesToStacks (content_of_stacks seen) seen }
     ensures order { (seen : List Seen) → IsInStackOrder (content_of_stacks seen) }
+{}
+
+/// Each number of the rows of a file stands for a name of the file.
+pub fn rows_have_their_names()
+    ensures records { (records : List Record) → AreHeld (fold with_record empty records) }
+    ensures stacks { (seen : List Seen) → AreHeld (content_of_stacks seen) }
 {}
 
 /// What is walked comes to what is held: for every test of places by their names and each event, the

@@ -11,7 +11,7 @@ use Rattle.cost_rows.specs.ByNumber.{numbered_at, numbered_cells, numbered_arcs}
 use Rattle.cost_rows.specs.Walks.{stack_rows}
 use Rattle.sql_tables.proofs.Rows.{map-append}
 use Rattle.prof_tables.specs.Tables.{CellLine, ArcLine, StackLine}
-use Rattle.prof_store.specs.Files.{cell_line_of, cell_lines_at, cell_lines, arc_line_of, arc_lines_from, arc_lines_at, arc_lines, stack_lines}
+use Rattle.prof_books.specs.Files.{cell_line_of, cell_lines_at, cell_lines, arc_line_of, arc_lines_from, arc_lines_at, arc_lines, stack_lines}
 use Rattle.prof_store.specs.FromRows.{place_of_cell}
 
 abbrev pub line_of_cell : ℕ → List ℕ → CellRow ℕ → CellLine

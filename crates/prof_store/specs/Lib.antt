@@ -1,8 +1,6 @@
 pub mod ArcWalks
-pub mod Book
 pub mod CellWalks
 pub mod Entries
-pub mod Files
 pub mod FromRows
 pub mod Groups
 pub mod HeadLines

@@ -3,7 +3,7 @@ use Rattle.std.specs.Prelude.{map}
 use Rattle.cost_rows.specs.Rows.{content_of}
 use Rattle.cost_rows.specs.declared.file_rows.FileRows.{FileRows}
 use Rattle.prof_tables.specs.Tables.{Tables}
-use Rattle.prof_store.specs.Files.{with_rows, with_head}
+use Rattle.prof_books.specs.Files.{with_rows, with_head}
 use Rattle.prof_store.specs.Lines.{run_line, event_line, derived_line, coef_line}
 use Rattle.prof_store.specs.declared.lines.RunLine.{RunLine}
 use Rattle.prof_store.specs.declared.lines.HeadLines.{HeadLines}

@@ -1,6 +1,6 @@
 // The lines of the tables that the rows of a file become.
 ghost use Rattle.std.specs.Prelude.{◌≡◌, IfSome, slice_index_or};
-ghost use Rattle.prof_store.specs.Files.{cell_line_of, arc_line_of};
+ghost use Rattle.prof_books.specs.Files.{cell_line_of, arc_line_of};
 ghost use Rattle.prof_store.specs.FromRows.{place_of_cell, call_of_arc, line_of_stack};
 ghost use Rattle.prof_store.specs.Lines.{cell_line, arc_line, stack_line};
 

@@ -8,7 +8,7 @@ ghost use Rattle.prof_tables.specs.Changes.{with_cells, with_arcs, with_stacks};
 ghost use Rattle.prof_tables.specs.Files.{all_named, numbers_in};
 ghost use Rattle.prof_tables.specs.Schema.{schema_one};
 ghost use Rattle.prof_tables.specs.Tables.{Tables, Holds};
-ghost use Rattle.prof_store.specs.Files.{cell_lines, arc_line_of, arc_lines_at, arc_lines, stack_lines};
+ghost use Rattle.prof_books.specs.Files.{cell_lines, arc_line_of, arc_lines_at, arc_lines, stack_lines};
 ghost use Rattle.prof_store.specs.FromRows.{call_of_arc, calls_of_arc};
 ghost use Rattle.prof_store.specs.Steps.{Passes, Makes};
 

@@ -6,7 +6,7 @@ ghost use Rattle.sql_tables.specs.States.{Rests, Works, KeepsCommit};
 ghost use Rattle.prof_tables.specs.Schema.{schema_one};
 ghost use Rattle.prof_tables.specs.Tables.{Holds};
 ghost use Rattle.cost_rows.specs.Rows.{content_of};
-ghost use Rattle.prof_store.specs.Files.{with_rows, with_head};
+ghost use Rattle.prof_books.specs.Files.{with_rows, with_head};
 ghost use Rattle.prof_store.specs.Runs.{with_run_of};
 ghost use Rattle.prof_store.specs.Lines.{event_line, derived_line, coef_line, run_line};
 ghost use Rattle.prof_store.specs.Steps.{Passes, Makes, IsAbove};

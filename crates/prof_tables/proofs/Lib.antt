@@ -9,6 +9,7 @@ pub mod Means
 pub mod MemberFinds
 pub mod Names
 pub mod Numbering
+pub mod Parents
 pub mod Rows
 pub mod RunLines
 pub mod RunLists

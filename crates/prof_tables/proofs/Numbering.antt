@@ -71,7 +71,7 @@ number_kept t name other h = go (has_name t other)
     go false = number_stays name t.names (record { number = next_name t.names; name = other }) h
 
 -- each of these names is held
-abbrev AllHeld : Tables → List (List ℕ) → Type 0
+abbrev pub AllHeld : Tables → List (List ℕ) → Type 0
 AllHeld t = AllByRecursion (λ name. has_name t name ≡ true)
 
 all_still : (t : Tables) (names : List (List ℕ)) (other : List ℕ) → AllHeld t names → AllHeld (named other t) names
@@ -82,7 +82,7 @@ still_all : (t : Tables) (name : List ℕ) (names : List (List ℕ)) → has_nam
 still_all t name [] h = h
 still_all t name (other ∷ names) h = still_all (named other t) name names (still_has t name other h)
 
-all_held : (t : Tables) (names : List (List ℕ)) → AllHeld (all_named names t) names
+pub all_held : (t : Tables) (names : List (List ℕ)) → AllHeld (all_named names t) names
 all_held t [] = tt
 all_held t (name ∷ names) = (still_all (named name t) name names (has_named t name), all_held (named name t) names)
 

@@ -3,7 +3,7 @@ use Rattle.std.specs.Bool.{⊤}
 use Rattle.std.specs.Result.{OnOk}
 use Rattle.sqlite.specs.Held.{state}
 use Rattle.prof_tables.specs.Changes.{with_arcs}
-use Rattle.prof_store.specs.Files.{arc_line_of}
+use Rattle.prof_books.specs.Files.{arc_line_of}
 use Rattle.prof_store.specs.FromRows.{call_of_arc}
 use Rattle.prof_store.specs.Steps.{Makes}
 use Rattle.prof_store.proofs.file_rows.put_cost.Goals as goal

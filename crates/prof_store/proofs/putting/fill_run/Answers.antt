@@ -4,7 +4,7 @@ use Rattle.std.specs.List.{AllByRecursion}
 use Rattle.std.proofs.lemmas.Result.{on_ok_weaker}
 use Rattle.cost_rows.specs.Rows.{content_of}
 use Rattle.prof_tables.specs.Tables.{RunLine}
-use Rattle.prof_store.specs.Files.{with_rows, with_head}
+use Rattle.prof_books.specs.Files.{with_rows, with_head}
 use Rattle.prof_store.specs.Lines.{run_line, event_line, derived_line, coef_line}
 use Rattle.prof_store.specs.Steps.{IsAbove}
 use Rattle.prof_store.proofs.Parts.{makes_then}

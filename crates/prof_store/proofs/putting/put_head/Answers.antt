@@ -4,7 +4,7 @@ use Rattle.std.proofs.lemmas.Result.{on_ok_weaker}
 use Rattle.sqlite_keyed.proofs.ListLemmas.{all_weaker}
 use Rattle.prof_tables.specs.Tables.{RunLine}
 use Rattle.prof_tables.specs.Changes.{with_next, with_run, with_events, with_derived, with_coefs}
-use Rattle.prof_store.specs.Files.{with_head}
+use Rattle.prof_books.specs.Files.{with_head}
 use Rattle.prof_store.specs.Lines.{run_line, event_line, derived_line, coef_line}
 use Rattle.prof_store.specs.Steps.{IsAbove, IsNext}
 use Rattle.prof_store.proofs.Parts.{makes_then, makes_same, makes_asking}

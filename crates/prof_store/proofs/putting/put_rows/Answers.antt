@@ -4,7 +4,7 @@ use Rattle.std.proofs.lemmas.Result.{on_ok_weaker}
 use Rattle.cost_rows.specs.Rows.{content_of}
 use Rattle.prof_tables.specs.Changes.{with_cells, with_arcs, with_stacks}
 use Rattle.prof_tables.specs.Files.{all_named, numbers_in}
-use Rattle.prof_store.specs.Files.{cell_lines, arc_lines, stack_lines, with_rows}
+use Rattle.prof_books.specs.Files.{cell_lines, arc_lines, stack_lines, with_rows}
 use Rattle.prof_store.proofs.Parts.{clean_before, makes_then, makes_same}
 use Rattle.prof_store.proofs.putting.put_rows.Goals as goal
 

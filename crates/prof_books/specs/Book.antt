@@ -1,12 +1,15 @@
 -- What is held, with names in place of their numbers.
-use Rattle.std.specs.Prelude.{ℕ, suc, nat_lt, ◌==◌, if◌then◌else◌, List, [], ◌∷◌, map, filter, flat_map}
+use Rattle.std.specs.Prelude.{ℕ, suc, nat_lt, not, ◌==◌, if◌then◌else◌, List, [], ◌∷◌, ◌++◌, map, filter, flat_map}
 use Rattle.std.specs.List.{AllByRecursion, list_any}
 use Rattle.std.specs.Bool.{IsTrue}
+use Rattle.cost_rows.specs.Content.{Content}
+use Rattle.cost_rows.specs.Walks.{cell_rows, arc_rows, stack_rows}
 use Rattle.cost_rows.specs.declared.rows.CellRow.{CellRow}
 use Rattle.cost_rows.specs.declared.rows.ArcRow.{ArcRow}
 use Rattle.cost_rows.specs.declared.rows.StackRow.{StackRow}
 use Rattle.prof_tables.specs.Tables.{Tables, RunLine, EventLine, DerivedLine, CoefLine, NameLine, CellLine, ArcLine, StackLine, GroupLine, MemberLine}
 use Rattle.prof_tables.specs.RunLines.{cells_in, arcs_in, stacks_in}
+use Rattle.prof_tables.specs.Changes.{has_baseline, unbased}
 
 -- the name of a number, empty where there is none
 abbrev pub name_of : List NameLine → ℕ → List ℕ
@@ -139,3 +142,33 @@ ArcIsNamed names a = IsHeld names a.object × IsHeld names a.file × IsHeld name
 pub record IsNamed (t : Tables) : Type 0 where
   pub cells : AllByRecursion (CellIsNamed t.names) t.cells
   pub arcs : AllByRecursion (ArcIsNamed t.names) t.arcs
+
+-- ---- the changes of the book
+
+-- a run more, under the next number
+abbrev pub with_run_book : RunBook → Book → Book
+with_run_book r b = record b { next = suc r.line.number; runs = b.runs ++ r ∷ [] }
+
+-- a run goes; groups lose it as a member and as a baseline
+abbrev pub without_run_book : ℕ → Book → Book
+without_run_book n b = record b {
+  runs = filter (λ (r : RunBook). not (r.line.number == n)) b.runs;
+  groups = map (λ g. if has_baseline n g then unbased g else g) b.groups;
+  members = filter (λ (m : MemberLine). not (m.run == n)) b.members;
+}
+
+-- what a file is told as: what it says of itself, and its rows
+abbrev pub run_book : RunLine → List EventLine → List DerivedLine → List CoefLine → Content → RunBook
+run_book r events derived coefs c = record {
+  line = r;
+  events = events;
+  derived = derived;
+  coefs = coefs;
+  cells = cell_rows c.names c.cells;
+  parts = flat_map parts_of (arc_rows c.names c.arcs);
+  stacks = stack_rows c.stacks;
+}
+
+-- a new store
+abbrev pub new_book : Book
+new_book = record { next = 1; runs = []; groups = []; members = [] }

@@ -1,0 +1,183 @@
+-- The lines that a file's rows become, with names in place, are its rows.
+use Rattle.std.proofs.Common.{◌≡◌, ℕ, ◌<◌, zero, suc, List, [], ◌∷◌, ◌++◌, map, length, flat_map, Bool, true, false, nat_lt, ◌==◌, bytes_eq, if◌then◌else◌, refl, ap, ap₂, ◌∙◌, arith}
+use Rattle.std.specs.List.{AllByRecursion, list_any}
+use Rattle.std.specs.Map.{keys_of}
+use Rattle.sqlite_keyed.proofs.ListLemmas.{all-append}
+use Rattle.sql_tables.proofs.Rows.{map-append}
+use Rattle.cost_rows.specs.Held.{PlaceHeld, CallHeld}
+use Rattle.cost_rows.specs.Sums.{name_at}
+use Rattle.cost_rows.specs.Walks.{cell_row, rows_at, cell_rows, arc_row, arc_rows, stack_rows}
+use Rattle.cost_rows.specs.declared.places.Place.{Place}
+use Rattle.cost_rows.specs.declared.places.Call.{Call}
+use Rattle.cost_rows.specs.declared.calls.Calls.{Calls}
+use Rattle.cost_rows.specs.declared.rows.CellRow.{CellRow}
+use Rattle.prof_tables.specs.Tables.{NameLine, CellLine, ArcLine, StackLine}
+use Rattle.prof_tables.specs.Files.{number_in}
+use Rattle.prof_books.specs.Book.{name_of, cell_held, part_held, CallPart, part_of, parts_from, parts_of, stack_held, IsHeld, CellIsNamed, ArcIsNamed}
+use Rattle.prof_books.specs.Files.{numbered, cell_line_of, cell_lines_at, cell_lines, arc_line_of, arc_lines_from, arc_lines_at, arc_lines, stack_lines}
+use Rattle.prof_books.proofs.Names.{Rising, name_back, number_held}
+
+-- a name that the tables have
+abbrev pub Stands : List NameLine → List ℕ → Type 0
+Stands known name = list_any (λ (line : NameLine). bytes_eq line.name name) known ≡ true
+
+module _ (known : List NameLine) (up : Rising known) where
+  abbrev numbers_of : List (List ℕ) → List ℕ
+  numbers_of names = map (number_in known) names
+
+  -- a file's number, by way of the table's number, leads to its name
+  through : (names : List (List ℕ)) → AllByRecursion (Stands known) names → (n : ℕ) → n < length names → name_of known (numbered (numbers_of names) n) ≡ name_at names n
+  through [] all n below = absurd (omega arith)
+  through (name ∷ names) all zero below = name_back known name up all.0
+  through (name ∷ names) all (suc n) below = through names all.1 n (omega arith)
+
+  held : (names : List (List ℕ)) → AllByRecursion (Stands known) names → (n : ℕ) → n < length names → list_any (λ (line : NameLine). line.number == numbered (numbers_of names) n) known ≡ true
+  held [] all n below = absurd (omega arith)
+  held (name ∷ names) all zero below = number_held known name all.0
+  held (name ∷ names) all (suc n) below = held names all.1 n (omega arith)
+
+  module _ (run : ℕ) (names : List (List ℕ)) (all : AllByRecursion (Stands known) names) where
+    abbrev numbers : List ℕ
+    numbers = numbers_of names
+
+    -- ---- cells
+
+    one_cell : (p : Place) (event cost : ℕ) → PlaceHeld names p → cell_held known (cell_line_of run numbers p event cost) ≡ cell_row names p event cost
+    one_cell p event cost h =
+        let P : List ℕ → List ℕ → List ℕ → CellRow (List ℕ) = λ a b d. record { object = a; file = b; function = d; line = p.line; event = event; cost = cost } in
+        let e : P (name_of known (numbered numbers p.object)) (name_of known (numbered numbers p.file)) (name_of known (numbered numbers p.function)) ≡ P (name_at names p.object) (name_at names p.file) (name_at names p.function) =
+        ap (λ a. P a (name_of known (numbered numbers p.file)) (name_of known (numbered numbers p.function))) (through names all p.object h.0)
+        ∙ ap (λ b. P (name_at names p.object) b (name_of known (numbered numbers p.function))) (through names all p.file h.1) ∙ ap (P (name_at names p.object) (name_at names p.file)) (through names all p.function h.2) in
+        e
+
+    cells_at : (p : Place) (event : ℕ) (costs : List ℕ) → PlaceHeld names p → map (cell_held known) (cell_lines_at run numbers p event costs) ≡ rows_at names p event costs
+    cells_at p event [] h = refl
+    cells_at p event (cost ∷ costs) h = go (nat_lt 0 cost) (cells_at p (suc event) costs h)
+      where
+        go : (b : Bool) → map (cell_held known) (cell_lines_at run numbers p (suc event) costs) ≡ rows_at names p (suc event) costs
+            → map (cell_held known) (if b then cell_line_of run numbers p event cost ∷ cell_lines_at run numbers p (suc event) costs else cell_lines_at run numbers p (suc event) costs)
+            ≡ (if b then cell_row names p event cost ∷ rows_at names p (suc event) costs else rows_at names p (suc event) costs)
+        go true rest = ap₂ ◌∷◌ (one_cell p event cost h) rest
+        go false rest = rest
+
+    pub cells_are : (cells : List (Place × List ℕ)) → AllByRecursion (PlaceHeld names) (keys_of cells) → map (cell_held known) (cell_lines run numbers cells) ≡ cell_rows names cells
+    cells_are [] h = refl
+    cells_are (e ∷ cells) h =
+        map-append (cell_held known) (cell_lines_at run numbers e.0 0 e.1) (cell_lines run numbers cells) ∙ ap₂ ◌++◌ (cells_at e.0 0 e.1 h.0) (cells_are cells h.1)
+
+    -- ---- calls
+
+    one_part : (e : Call × Calls) (part sum : ℕ) → CallHeld names e.0 → part_held known (arc_line_of run numbers e.0 part sum) ≡ part_of (arc_row names e) part sum
+    one_part e part sum h =
+        let P : List ℕ → List ℕ → List ℕ → List ℕ → List ℕ → List ℕ → CallPart =
+        λ a b d x y z. record { object = a; file = b; function = d; line = e.0.place.line; called_object = x; called_file = y; called_function = z; part = part; sum = sum } in
+        let n : ℕ → List ℕ = λ k. name_of known (numbered numbers k) in
+        let m : ℕ → List ℕ = name_at names in
+        let at = e.0.place in
+        let same : P (n at.object) (n at.file) (n at.function) (n e.0.object) (n e.0.file) (n e.0.function) ≡ P (m at.object) (m at.file) (m at.function) (m e.0.object) (m e.0.file) (m e.0.function) =
+        ap (λ a. P a (n at.file) (n at.function) (n e.0.object) (n e.0.file) (n e.0.function)) (through names all at.object h.0.0)
+        ∙ ap (λ b. P (m at.object) b (n at.function) (n e.0.object) (n e.0.file) (n e.0.function)) (through names all at.file h.0.1)
+        ∙ ap (λ d. P (m at.object) (m at.file) d (n e.0.object) (n e.0.file) (n e.0.function)) (through names all at.function h.0.2)
+        ∙ ap (λ x. P (m at.object) (m at.file) (m at.function) x (n e.0.file) (n e.0.function)) (through names all e.0.object h.1.0)
+        ∙ ap (λ y. P (m at.object) (m at.file) (m at.function) (m e.0.object) y (n e.0.function)) (through names all e.0.file h.1.1)
+        ∙ ap (P (m at.object) (m at.file) (m at.function) (m e.0.object) (m e.0.file)) (through names all e.0.function h.1.2) in
+        same
+
+    parts_at : (e : Call × Calls) (part : ℕ) (costs : List ℕ) → CallHeld names e.0 → map (part_held known) (arc_lines_from run numbers e.0 part costs) ≡ parts_from (arc_row names e) part costs
+    parts_at e part [] h = refl
+    parts_at e part (cost ∷ costs) h = go (nat_lt 0 cost) (parts_at e (suc part) costs h)
+      where
+        go : (b : Bool) → map (part_held known) (arc_lines_from run numbers e.0 (suc part) costs) ≡ parts_from (arc_row names e) (suc part) costs
+            → map (part_held known) (if b then arc_line_of run numbers e.0 part cost ∷ arc_lines_from run numbers e.0 (suc part) costs else arc_lines_from run numbers e.0 (suc part) costs)
+            ≡ (if b then part_of (arc_row names e) part cost ∷ parts_from (arc_row names e) (suc part) costs else parts_from (arc_row names e) (suc part) costs)
+        go true rest = ap₂ ◌∷◌ (one_part e part cost h) rest
+        go false rest = rest
+
+    pub parts_are : (arcs : List (Call × Calls)) → AllByRecursion (CallHeld names) (keys_of arcs) → map (part_held known) (arc_lines run numbers arcs) ≡ flat_map parts_of (arc_rows names arcs)
+    parts_are [] h = refl
+    parts_are (e ∷ arcs) h =
+        map-append (part_held known) (arc_lines_at run numbers e.0 e.1) (arc_lines run numbers arcs)
+        ∙ ap₂ ◌++◌ (ap₂ ◌∷◌ (one_part e 0 e.1.count h.0) (parts_at e 1 e.1.costs h.0)) (parts_are arcs h.1)
+
+    -- ---- their names are held
+
+    named_at : (p : Place) (event : ℕ) (costs : List ℕ) → PlaceHeld names p → AllByRecursion (CellIsNamed known) (cell_lines_at run numbers p event costs)
+    named_at p event [] h = tt
+    named_at p event (cost ∷ costs) h = go (nat_lt 0 cost) (named_at p (suc event) costs h)
+      where
+        go : (b : Bool) → AllByRecursion (CellIsNamed known) (cell_lines_at run numbers p (suc event) costs)
+            → AllByRecursion (CellIsNamed known) (if b then cell_line_of run numbers p event cost ∷ cell_lines_at run numbers p (suc event) costs else cell_lines_at run numbers p (suc event) costs)
+        go true rest = ((held names all p.object h.0, held names all p.file h.1, held names all p.function h.2), rest)
+        go false rest = rest
+
+    pub cells_named : (cells : List (Place × List ℕ)) → AllByRecursion (PlaceHeld names) (keys_of cells) → AllByRecursion (CellIsNamed known) (cell_lines run numbers cells)
+    cells_named [] h = tt
+    cells_named (e ∷ cells) h = all-append (CellIsNamed known) (cell_lines_at run numbers e.0 0 e.1) (cell_lines run numbers cells) (named_at e.0 0 e.1 h.0) (cells_named cells h.1)
+
+    call_named : (e : Call × Calls) (part sum : ℕ) → CallHeld names e.0 → ArcIsNamed known (arc_line_of run numbers e.0 part sum)
+    call_named e part sum h =
+        let it : (n : ℕ) → n < length names → IsHeld known (numbered numbers n) = held names all in
+        (it e.0.place.object h.0.0, it e.0.place.file h.0.1, it e.0.place.function h.0.2, it e.0.object h.1.0, it e.0.file h.1.1, it e.0.function h.1.2)
+
+    costs_named : (e : Call × Calls) (part : ℕ) (costs : List ℕ) → CallHeld names e.0 → AllByRecursion (ArcIsNamed known) (arc_lines_from run numbers e.0 part costs)
+    costs_named e part [] h = tt
+    costs_named e part (cost ∷ costs) h = go (nat_lt 0 cost) (costs_named e (suc part) costs h)
+      where
+        go : (b : Bool) → AllByRecursion (ArcIsNamed known) (arc_lines_from run numbers e.0 (suc part) costs)
+            → AllByRecursion (ArcIsNamed known) (if b then arc_line_of run numbers e.0 part cost ∷ arc_lines_from run numbers e.0 (suc part) costs else arc_lines_from run numbers e.0 (suc part) costs)
+        go true rest = (call_named e part cost h, rest)
+        go false rest = rest
+
+    pub calls_named : (arcs : List (Call × Calls)) → AllByRecursion (CallHeld names) (keys_of arcs) → AllByRecursion (ArcIsNamed known) (arc_lines run numbers arcs)
+    calls_named [] h = tt
+    calls_named (e ∷ arcs) h =
+        all-append (ArcIsNamed known) (arc_lines_at run numbers e.0 e.1) (arc_lines run numbers arcs) (call_named e 0 e.1.count h.0, costs_named e 1 e.1.costs h.0) (calls_named arcs h.1)
+
+-- ---- stacks
+
+pub stacks_are : (run : ℕ) (stacks : List (List ℕ × ℕ)) → map stack_held (stack_lines run stacks) ≡ stack_rows stacks
+stacks_are run [] = refl
+stacks_are run (e ∷ stacks) = go (nat_lt 0 e.1) (stacks_are run stacks)
+  where
+    go : (b : Bool) → map stack_held (stack_lines run stacks) ≡ stack_rows stacks
+        → map stack_held (if b then record { run = run; frames = e.0; count = e.1 } ∷ stack_lines run stacks else stack_lines run stacks) ≡ (if b then record { stack = e.0; count = e.1 } ∷ stack_rows stacks else stack_rows stacks)
+    go true rest = ap₂ ◌∷◌ refl rest
+    go false rest = rest
+
+-- ---- each of these lines is of the run
+
+cells_of_run_at : (run : ℕ) (known_as : List ℕ) (p : Place) (event : ℕ) (costs : List ℕ) → AllByRecursion (λ (c : CellLine). c.run ≡ run) (cell_lines_at run known_as p event costs)
+cells_of_run_at run known_as p event [] = tt
+cells_of_run_at run known_as p event (cost ∷ costs) = go (nat_lt 0 cost) (cells_of_run_at run known_as p (suc event) costs)
+  where
+    go : (b : Bool) → AllByRecursion (λ (c : CellLine). c.run ≡ run) (cell_lines_at run known_as p (suc event) costs)
+        → AllByRecursion (λ (c : CellLine). c.run ≡ run) (if b then cell_line_of run known_as p event cost ∷ cell_lines_at run known_as p (suc event) costs else cell_lines_at run known_as p (suc event) costs)
+    go true rest = (refl, rest)
+    go false rest = rest
+
+pub cells_of_run : (run : ℕ) (known_as : List ℕ) (cells : List (Place × List ℕ)) → AllByRecursion (λ (c : CellLine). c.run ≡ run) (cell_lines run known_as cells)
+cells_of_run run known_as [] = tt
+cells_of_run run known_as (e ∷ cells) = all-append (λ (c : CellLine). c.run ≡ run) (cell_lines_at run known_as e.0 0 e.1) (cell_lines run known_as cells) (cells_of_run_at run known_as e.0 0 e.1) (cells_of_run run known_as cells)
+
+costs_of_run : (run : ℕ) (known_as : List ℕ) (call : Call) (part : ℕ) (costs : List ℕ) → AllByRecursion (λ (a : ArcLine). a.run ≡ run) (arc_lines_from run known_as call part costs)
+costs_of_run run known_as call part [] = tt
+costs_of_run run known_as call part (cost ∷ costs) = go (nat_lt 0 cost) (costs_of_run run known_as call (suc part) costs)
+  where
+    go : (b : Bool) → AllByRecursion (λ (a : ArcLine). a.run ≡ run) (arc_lines_from run known_as call (suc part) costs)
+        → AllByRecursion (λ (a : ArcLine). a.run ≡ run) (if b then arc_line_of run known_as call part cost ∷ arc_lines_from run known_as call (suc part) costs else arc_lines_from run known_as call (suc part) costs)
+    go true rest = (refl, rest)
+    go false rest = rest
+
+pub calls_of_run : (run : ℕ) (known_as : List ℕ) (arcs : List (Call × Calls)) → AllByRecursion (λ (a : ArcLine). a.run ≡ run) (arc_lines run known_as arcs)
+calls_of_run run known_as [] = tt
+calls_of_run run known_as (e ∷ arcs) =
+    all-append (λ (a : ArcLine). a.run ≡ run) (arc_lines_at run known_as e.0 e.1) (arc_lines run known_as arcs) (refl, costs_of_run run known_as e.0 1 e.1.costs) (calls_of_run run known_as arcs)
+
+pub stacks_of_run : (run : ℕ) (stacks : List (List ℕ × ℕ)) → AllByRecursion (λ (s : StackLine). s.run ≡ run) (stack_lines run stacks)
+stacks_of_run run [] = tt
+stacks_of_run run (e ∷ stacks) = go (nat_lt 0 e.1) (stacks_of_run run stacks)
+  where
+    go : (b : Bool) → AllByRecursion (λ (s : StackLine). s.run ≡ run) (stack_lines run stacks)
+        → AllByRecursion (λ (s : StackLine). s.run ≡ run) (if b then record { run = run; frames = e.0; count = e.1 } ∷ stack_lines run stacks else stack_lines run stacks)
+    go true rest = (refl, rest)
+    go false rest = rest
