@@ -10,11 +10,11 @@ use Rattle.cost_rows.specs.declared.places.Place.{Place}
 use Rattle.cost_rows.specs.declared.places.Call.{Call}
 use Rattle.cost_rows.specs.declared.calls.Calls.{Calls}
 
-is_above : (n : ℕ) → nat_lt 0 (suc n) ≡ true
+pub is_above : (n : ℕ) → nat_lt 0 (suc n) ≡ true
 is_above n = grind (arith, nat_tests)
 
 -- the cost of event k among costs of which the first is of event e
-abbrev column_from : ℕ → ℕ → List ℕ → ℕ
+abbrev pub column_from : ℕ → ℕ → List ℕ → ℕ
 column_from e k [] = 0
 column_from e k (cost ∷ costs) = (if e == k then cost else 0) + column_from (suc e) k costs
 
@@ -24,14 +24,14 @@ when_other e k n other = grind (arith, nat_tests)
 when_same : (e k n : ℕ) → e ≡ k → (if e == k then n else 0) ≡ n
 when_same e k n same = grind (arith, nat_tests)
 
-column-before : (e k : ℕ) (costs : List ℕ) → k < e → column_from e k costs ≡ 0
+pub column-before : (e k : ℕ) (costs : List ℕ) → k < e → column_from e k costs ≡ 0
 column-before e k [] before = refl
 column-before e k (cost ∷ costs) before =
     let first : (if e == k then cost else 0) ≡ 0 = when_other e k cost (λ h. absurd (omega arith)) in
     let rest : column_from (suc e) k costs ≡ 0 = column-before (suc e) k costs (omega arith) in
     omega (arith, first, rest)
 
-column-at : (e j k : ℕ) (costs : List ℕ) → e + j ≡ k → column_from e k costs ≡ slice_index costs j
+pub column-at : (e j k : ℕ) (costs : List ℕ) → e + j ≡ k → column_from e k costs ≡ slice_index costs j
 column-at e j k [] is = refl
 column-at e zero k (cost ∷ costs) is =
     let first : (if e == k then cost else 0) ≡ cost = when_same e k cost (omega arith) in
@@ -42,19 +42,19 @@ column-at e (suc j) k (cost ∷ costs) is =
     let rest : column_from (suc e) k costs ≡ slice_index costs j = column-at (suc e) j k costs (omega arith) in
     omega (arith, first, rest)
 
-one_more : (b t : Bool) (n m : ℕ) → (if b && t then n else 0) + (if b then m else 0) ≡ (if b then (if t then n else 0) + m else 0)
+pub one_more : (b t : Bool) (n m : ℕ) → (if b && t then n else 0) + (if b then m else 0) ≡ (if b then (if t then n else 0) + m else 0)
 one_more true t n m = refl
 one_more false t n m = refl
 
-none_more : (b t : Bool) (m : ℕ) → (if b then m else 0) ≡ (if b then (if t then 0 else 0) + m else 0)
+pub none_more : (b t : Bool) (m : ℕ) → (if b then m else 0) ≡ (if b then (if t then 0 else 0) + m else 0)
 none_more true true m = omega arith
 none_more true false m = omega arith
 none_more false t m = refl
 
-abbrev neither : Bool → ℕ
+abbrev pub neither : Bool → ℕ
 neither b = if b then 0 else 0
 
-nothing_each_way : (b : Bool) → 0 ≡ neither b
+pub nothing_each_way : (b : Bool) → 0 ≡ neither b
 nothing_each_way true = refl
 nothing_each_way false = refl
 

@@ -13,7 +13,7 @@ use Rattle.prof_tables.specs.Files.{all_named, numbers_in}
 use Rattle.prof_tables.specs.RunLines.{cells_in, arcs_in, stacks_in}
 use Rattle.prof_tables.proofs.Numbering.{AllHeld, all_held}
 use Rattle.prof_tables.proofs.Parents.{events_below, derived_below, coefs_below, cells_below, arcs_below, stacks_below}
-use Rattle.prof_books.specs.Book.{Book, RunBook, book_of, run_held, run_book, with_run_book, without_run_book, new_book, cell_held, part_held, stack_held, IsNamed, CellIsNamed, ArcIsNamed}
+use Rattle.prof_books.specs.Book.{AreOf, Book, RunBook, book_of, run_held, run_book, with_run_book, without_run_book, new_book, cell_held, part_held, stack_held, IsNamed, CellIsNamed, ArcIsNamed}
 use Rattle.prof_books.specs.Files.{with_head, with_rows, cell_lines, arc_lines, stack_lines}
 use Rattle.prof_books.proofs.Names.{Rising, names_rise, name_kept, held_more, all_grown}
 use Rattle.prof_books.proofs.Rows.{cells_are, parts_are, cells_named, calls_named, stacks_are, cells_of_run, calls_of_run, stacks_of_run}
@@ -164,13 +164,7 @@ module _ (r : RunLine) (events : List EventLine) (derived : List DerivedLine) (c
       (λ (u : Tables). let v : Tables = record u { cells = u.cells ++ cell_lines r.number numbers c.cells; arcs = u.arcs ++ arc_lines r.number numbers c.arcs; stacks = u.stacks ++ stack_lines r.number c.stacks } in v)
       known_is
 
-  -- lines that say of which run they are
-  pub record AreOf : Type 0 where
-    pub events_of : AllByRecursion (λ (e : EventLine). e.run ≡ r.number) events
-    pub derived_of : AllByRecursion (λ (d : DerivedLine). d.run ≡ r.number) derived
-    pub coefs_of : AllByRecursion (λ (k : CoefLine). k.run ≡ r.number) coefs
-
-  module _ (db next : Trees) (was : Holds t db) (is : Holds after next) (named : IsNamed t) (held : AreHeld c) (number : r.number ≡ t.next) (of : AreOf) where
+  module _ (db next : Trees) (was : Holds t db) (is : Holds after next) (named : IsNamed t) (held : AreHeld c) (number : r.number ≡ t.next) (of : AreOf r.number events derived coefs) where
     up : Rising known.names
     up = names_rise after next is
 

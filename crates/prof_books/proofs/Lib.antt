@@ -1,3 +1,4 @@
 pub mod Books
 pub mod Names
+pub mod Parts
 pub mod Rows

@@ -1,5 +1,5 @@
 -- What is held, with names in place of their numbers.
-use Rattle.std.specs.Prelude.{ℕ, suc, nat_lt, not, ◌==◌, if◌then◌else◌, List, [], ◌∷◌, ◌++◌, map, filter, flat_map}
+use Rattle.std.specs.Prelude.{◌≡◌, ℕ, suc, nat_lt, not, ◌==◌, if◌then◌else◌, List, [], ◌∷◌, ◌++◌, map, filter, flat_map}
 use Rattle.std.specs.List.{AllByRecursion, list_any}
 use Rattle.std.specs.Bool.{IsTrue}
 use Rattle.cost_rows.specs.Content.{Content}
@@ -172,3 +172,9 @@ run_book r events derived coefs c = record {
 -- a new store
 abbrev pub new_book : Book
 new_book = record { next = 1; runs = []; groups = []; members = [] }
+
+-- lines that say of which run they are
+pub record AreOf (n : ℕ) (events : List EventLine) (derived : List DerivedLine) (coefs : List CoefLine) : Type 0 where
+  pub events_of : AllByRecursion (λ (e : EventLine). e.run ≡ n) events
+  pub derived_of : AllByRecursion (λ (d : DerivedLine). d.run ≡ n) derived
+  pub coefs_of : AllByRecursion (λ (k : CoefLine). k.run ≡ n) coefs

@@ -1,0 +1,61 @@
+-- The parts of rows of calls come to what the rows come to.
+use Rattle.std.proofs.Common.{◌≡◌, ℕ, ◌+◌, zero, suc, Bool, true, false, ◌&&◌, ◌==◌, nat_lt, List, [], ◌∷◌, ◌++◌, flat_map, slice_index, if◌then◌else◌, refl, ap, ◌∙◌, arith, eqb}
+use Rattle.std.proofs.lemmas.Bool.Decides.{nat_tests}
+use Rattle.cost_rows.specs.Sums.{Spot}
+use Rattle.cost_rows.specs.WalkSums.{caller_of_row, callee_of_row, calls_cost, calls_count}
+use Rattle.cost_rows.specs.declared.rows.ArcRow.{ArcRow}
+use Rattle.cost_rows.proofs.WalkSumsLemmas.{is_above, column_from, column-before, column-at, one_more, none_more, nothing_each_way}
+use Rattle.prof_books.specs.Book.{CallPart, part_of, parts_from, parts_of}
+use Rattle.prof_books.specs.Parts.{parts_sum}
+
+module _ (passes : Spot → Spot → Bool) (n : ℕ) where
+  abbrev passes_row : ArcRow (List ℕ) (List ℕ) → Bool
+  passes_row r = passes (caller_of_row r) (callee_of_row r)
+
+  sum-append : (xs ys : List CallPart) → parts_sum passes n (xs ++ ys) ≡ parts_sum passes n xs + parts_sum passes n ys
+  sum-append [] ys = let m : ℕ = parts_sum passes n ys in let e : m ≡ 0 + m = omega arith in e
+  sum-append (x ∷ xs) ys =
+      let m : ℕ = parts_sum passes n (x ∷ []) in
+      let a : ℕ = parts_sum passes n xs in
+      let b : ℕ = parts_sum passes n ys in
+      let rest : parts_sum passes n (xs ++ ys) ≡ a + b = sum-append xs ys in
+      omega (arith, rest)
+
+  sum-from : (r : ArcRow (List ℕ) (List ℕ)) (part : ℕ) (costs : List ℕ) → parts_sum passes n (parts_from r part costs) ≡ (if passes_row r then column_from part n costs else 0)
+  sum-from r part [] = nothing_each_way (passes_row r)
+  sum-from r part (zero ∷ costs) = sum-from r (suc part) costs ∙ none_more (passes_row r) (part == n) (column_from (suc part) n costs)
+  sum-from r part (suc m ∷ costs) =
+      ap (λ b. parts_sum passes n (if b then part_of r part (suc m) ∷ parts_from r (suc part) costs else parts_from r (suc part) costs)) (is_above m)
+      ∙ ap (λ k. (if passes_row r && (part == n) then suc m else 0) + k) (sum-from r (suc part) costs)
+      ∙ one_more (passes_row r) (part == n) (suc m) (column_from (suc part) n costs)
+
+-- the parts of a row, by number
+counted : (b : Bool) (count : ℕ) → (if b && true then count else 0) + (if b then 0 else 0) ≡ (if b then count else 0)
+counted true count = omega arith
+counted false count = refl
+
+cost_alone : (b : Bool) (count cost : ℕ) → (if b && false then count else 0) + (if b then cost else 0) ≡ (if b then cost else 0)
+cost_alone true count cost = omega arith
+cost_alone false count cost = refl
+
+same : (n : ℕ) → eqb n n ≡ true
+same n = grind (arith, nat_tests)
+
+module _ (passes : Spot → Spot → Bool) where
+  pub counts_are : (rows : List (ArcRow (List ℕ) (List ℕ))) → calls_count passes rows ≡ parts_sum passes 0 (flat_map parts_of rows)
+  counts_are [] = refl
+  counts_are (r ∷ rows) =
+      let p = passes (caller_of_row r) (callee_of_row r) in
+      let one : parts_sum passes 0 (parts_of r) ≡ (if p then r.count else 0) =
+      ap (λ m. (if p && true then r.count else 0) + m) (sum-from passes 0 r 1 r.costs ∙ ap (λ m. if p then m else 0) (column-before 1 0 r.costs (omega arith))) ∙ counted p r.count in
+      let rest : calls_count passes rows ≡ parts_sum passes 0 (flat_map parts_of rows) = counts_are rows in
+      omega (arith, one, rest, sum-append passes 0 (parts_of r) (flat_map parts_of rows))
+
+  pub costs_are : (k : ℕ) (rows : List (ArcRow (List ℕ) (List ℕ))) → calls_cost passes k rows ≡ parts_sum passes (suc k) (flat_map parts_of rows)
+  costs_are k [] = refl
+  costs_are k (r ∷ rows) =
+      let p = passes (caller_of_row r) (callee_of_row r) in
+      let one : parts_sum passes (suc k) (parts_of r) ≡ (if p then slice_index r.costs k else 0) =
+      ap (λ m. (if p && false then r.count else 0) + m) (sum-from passes (suc k) r 1 r.costs ∙ ap (λ m. if p then m else 0) (column-at 1 k (suc k) r.costs (omega arith))) ∙ cost_alone p r.count (slice_index r.costs k) in
+      let rest : calls_cost passes k rows ≡ parts_sum passes (suc k) (flat_map parts_of rows) = costs_are k rows in
+      omega (arith, one, rest, sum-append passes (suc k) (parts_of r) (flat_map parts_of rows))

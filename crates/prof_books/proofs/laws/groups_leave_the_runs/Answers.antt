@@ -1,0 +1,14 @@
+use Rattle.prof_books.proofs.Books.{book_grouped, named_grouped, book_new, named_new}
+use Rattle.prof_books.proofs.laws.groups_leave_the_runs.Goals as goal
+
+pub returns-clause-book : goal.returns-clause-book
+returns-clause-book c = book_grouped
+
+pub returns-clause-named : goal.returns-clause-named
+returns-clause-named c = named_grouped
+
+pub returns-clause-new : goal.returns-clause-new
+returns-clause-new c = book_new
+
+pub returns-clause-new_named : goal.returns-clause-new_named
+returns-clause-new_named c = named_new
