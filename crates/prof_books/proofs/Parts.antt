@@ -1,5 +1,5 @@
 -- The parts of rows of calls come to what the rows come to.
-use Rattle.std.proofs.Common.{◌≡◌, ℕ, ◌+◌, zero, suc, Bool, true, false, ◌&&◌, ◌==◌, nat_lt, List, [], ◌∷◌, ◌++◌, flat_map, slice_index, if◌then◌else◌, refl, ap, ◌∙◌, arith, eqb}
+use Rattle.std.proofs.Common.{◌≡◌, ℕ, ◌+◌, zero, suc, Bool, true, false, ◌&&◌, ◌==◌, List, [], ◌∷◌, ◌++◌, flat_map, slice_index, if◌then◌else◌, refl, ap, ◌∙◌, arith, eqb}
 use Rattle.std.proofs.lemmas.Bool.Decides.{nat_tests}
 use Rattle.cost_rows.specs.Sums.{Spot}
 use Rattle.cost_rows.specs.WalkSums.{caller_of_row, callee_of_row, calls_cost, calls_count}
@@ -38,8 +38,8 @@ cost_alone : (b : Bool) (count cost : ℕ) → (if b && false then count else 0)
 cost_alone true count cost = omega arith
 cost_alone false count cost = refl
 
-same : (n : ℕ) → eqb n n ≡ true
-same n = grind (arith, nat_tests)
+none_is : (k : ℕ) → eqb 0 (suc k) ≡ false
+none_is k = grind (arith, nat_tests)
 
 module _ (passes : Spot → Spot → Bool) where
   pub counts_are : (rows : List (ArcRow (List ℕ) (List ℕ))) → calls_count passes rows ≡ parts_sum passes 0 (flat_map parts_of rows)
@@ -56,6 +56,6 @@ module _ (passes : Spot → Spot → Bool) where
   costs_are k (r ∷ rows) =
       let p = passes (caller_of_row r) (callee_of_row r) in
       let one : parts_sum passes (suc k) (parts_of r) ≡ (if p then slice_index r.costs k else 0) =
-      ap (λ m. (if p && false then r.count else 0) + m) (sum-from passes (suc k) r 1 r.costs ∙ ap (λ m. if p then m else 0) (column-at 1 k (suc k) r.costs (omega arith))) ∙ cost_alone p r.count (slice_index r.costs k) in
+      ap (λ b. (if p && b then r.count else 0) + parts_sum passes (suc k) (parts_from r 1 r.costs)) (none_is k) ∙ ap (λ m. (if p && false then r.count else 0) + m) (sum-from passes (suc k) r 1 r.costs ∙ ap (λ m. if p then m else 0) (column-at 1 k (suc k) r.costs (omega arith))) ∙ cost_alone p r.count (slice_index r.costs k) in
       let rest : calls_cost passes k rows ≡ parts_sum passes (suc k) (flat_map parts_of rows) = costs_are k rows in
       omega (arith, one, rest, sum-append passes (suc k) (parts_of r) (flat_map parts_of rows))
