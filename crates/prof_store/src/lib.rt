@@ -23,6 +23,7 @@ mod kinds;
 mod labels;
 mod lines;
 mod making;
+mod many_arcs;
 mod many_cells;
 mod name_texts;
 mod next;

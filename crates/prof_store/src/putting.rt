@@ -60,7 +60,7 @@ fn put_rows<S: Alter>(
 {
     let numbers = number_names(tx, alloc, rows.names())?;
     put_cells(tx, alloc, run, &numbers, rows)?;
-    put_arcs(tx, run, &numbers, rows)?;
+    put_arcs(tx, alloc, run, &numbers, rows)?;
     put_stacks(tx, run, rows)
 }
 
