@@ -19,8 +19,8 @@ use crate::file_lines::{arc_of, cell_of, stack_of};
 use crate::lines::ArcLine;
 use crate::many_arcs::{put_arc_lines, queue_arc};
 use crate::many_cells::{put_cell_lines, queue_cell};
+use crate::many_stacks::{put_stack_lines, queue_stack};
 use crate::name_texts::number_name;
-use crate::stack_texts::put_stack;
 use cost_rows::{ArcRow, FileRows, Names};
 use sqlite::{Alter, Transaction};
 use std::alloc::Global;
@@ -154,6 +154,7 @@ pub(crate) fn put_arcs<S: Alter>(
 /// Writes the counts of a run's stacks.
 pub(crate) fn put_stacks<S: Alter>(
     tx: &mut Transaction<'_, S>,
+    alloc: Global,
     run: u32,
     rows: &FileRows,
 ) -> Result<(), StoreEnd>
@@ -161,11 +162,12 @@ pub(crate) fn put_stacks<S: Alter>(
     ensures passes { Passes (state S.Store tx.old.conn.now) (state S.Store tx.new.conn.now) }
     ensures made { OnOk result (Makes (λ _. ⊤) (with_stacks (stack_lines run (content_of rows.now).stacks)) (state S.Store tx.old.conn.now) (state S.Store tx.new.conn.now)) }
 {
+    let mut waiting = Vec::new(alloc);
     'rows: for row in rows.stacks() {
         match stack_of(run, &row) {
-            Some(line) => put_stack(tx, &line)?,
+            Some(line) => queue_stack(tx, alloc, &mut waiting, line)?,
             None => return Err(StoreEnd::Store),
         }
     }
-    Ok(())
+    put_stack_lines(tx, alloc, &waiting)
 }

@@ -25,6 +25,7 @@ mod lines;
 mod making;
 mod many_arcs;
 mod many_cells;
+mod many_stacks;
 mod name_texts;
 mod next;
 mod open;
