@@ -1,9 +1,14 @@
 -- Rows one after another, as the values of one statement.
-use Rattle.std.proofs.Common.{◌≡◌, suc, List, [], ◌∷◌, ◌++◌, map, length, refl, sym, ap, ◌∙◌, append-nil}
+use Rattle.std.proofs.Common.{◌≡◌, suc, List, [], ◌∷◌, ◌++◌, map, length, refl, sym, ap, subst, ◌∙◌, append-nil}
+use Rattle.std.specs.Bool.{⊤}
 use Rattle.std.proofs.lemmas.List.{append_assoc}
 use Rattle.sqlite_value.specs.Order.{Row}
 use Rattle.sql_tables.proofs.Many.{all_values}
 use Rattle.sql_tables.proofs.Rows.{map-append}
+use Rattle.sqlite.specs.State.{State}
+use Rattle.prof_tables.specs.Tables.{Tables}
+use Rattle.prof_store.specs.Steps.{Passes, Makes}
+use Rattle.prof_store.specs.Queues.{Queues}
 
 values_more : (rows : List Row) (row : Row) → all_values (rows ++ row ∷ []) ≡ all_values rows ++ row
 values_more [] row = append-nil row
@@ -20,3 +25,24 @@ mapped_length f (x ∷ xs) = ap suc (mapped_length f xs)
 -- as many rows as lines
 pub as_many : {X Y : Type 0} (columns : Y → Row) (line : X → Y) (xs : List X) → length (map columns (map line xs)) ≡ length xs
 as_many columns line xs = mapped_length columns (map line xs) ∙ mapped_length line xs
+
+-- ---- lines that wait
+
+module _ {Y : Type 0} (writes : List Y → Tables → Tables) where
+  -- no lines are taken up
+  pub queues_none : ((s : State) → Makes (λ _. ⊤) (writes []) s s) → (waited : List Y) (s : State) → Queues writes waited [] waited s s
+  queues_none none waited s = record { written = []; made = none s; lines = sym (append-nil waited) }
+
+  -- lines are taken up, and then further lines
+  pub queues_then : ((first more : List Y) (a b c : State) → Makes (λ _. ⊤) (writes first) a b → Passes b c → Makes (λ _. ⊤) (writes more) b c → Makes (λ _. ⊤) (writes (first ++ more)) a c)
+      → (waited first mid more waits : List Y) (a b c : State) → Queues writes waited first mid a b → Passes b c → Queues writes mid more waits b c → Queues writes waited (first ++ more) waits a c
+  queues_then both waited first mid more waits a b c one pass two = record {
+    written = one.written ++ two.written;
+    made = both one.written two.written a b c one.made pass two.made;
+    lines = append_assoc one.written two.written waits ∙ ap (λ l. one.written ++ l) two.lines ∙ sym (append_assoc one.written mid more) ∙ ap (λ l. l ++ more) one.lines ∙ append_assoc waited first more;
+  }
+
+  -- nothing waited, and those that wait are written: so all lines are
+  pub queues_end : ((first more : List Y) (a b c : State) → Makes (λ _. ⊤) (writes first) a b → Passes b c → Makes (λ _. ⊤) (writes more) b c → Makes (λ _. ⊤) (writes (first ++ more)) a c)
+      → (more waits : List Y) (a b c : State) → Queues writes [] more waits a b → Passes b c → Makes (λ _. ⊤) (writes waits) b c → Makes (λ _. ⊤) (writes more) a c
+  queues_end both more waits a b c one pass two = subst (λ l. Makes (λ _. ⊤) (writes l) a c) one.lines (both one.written waits a b c one.made pass two)

@@ -8,6 +8,7 @@ pub mod Kinds
 pub mod Labels
 pub mod Lines
 pub mod Names
+pub mod Queues
 pub mod Runs
 pub mod Shown
 pub mod StackWalks

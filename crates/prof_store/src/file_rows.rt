@@ -1,5 +1,5 @@
 // The rows of a file are written, within a transaction.
-ghost use Rattle.std.specs.Prelude.{◌≡◌, ◌∷◌, [], OnOk, IfOk, nat_lt, if◌then◌else◌, ⊤};
+ghost use Rattle.std.specs.Prelude.{◌≡◌, ◌∷◌, [], map, OnOk, IfOk, nat_lt, if◌then◌else◌, ⊤};
 ghost use Rattle.sqlite.specs.Held.{state};
 ghost use Rattle.sqlite.specs.State.{HasCleanDisk};
 ghost use Rattle.sql_tables.specs.States.{Works};
@@ -10,14 +10,17 @@ ghost use Rattle.prof_tables.specs.Schema.{schema_one};
 ghost use Rattle.prof_tables.specs.Tables.{Tables, Holds};
 ghost use Rattle.prof_books.specs.Files.{cell_lines, arc_line_of, arc_lines_at, arc_lines, stack_lines};
 ghost use Rattle.prof_store.specs.FromRows.{call_of_arc, calls_of_arc};
+ghost use Rattle.prof_store.specs.Lines.{arc_line};
+ghost use Rattle.prof_store.specs.Queues.{Queues};
 ghost use Rattle.prof_store.specs.Steps.{Passes, Makes};
 
-use crate::arc_texts::put_arc;
 use crate::errors::StoreEnd;
 use crate::file_lines::{arc_of, cell_of, stack_of};
+use crate::lines::ArcLine;
+use crate::many_arcs::{put_arc_lines, queue_arc};
 use crate::many_cells::{put_cell_lines, queue_cell};
+use crate::many_stacks::{put_stack_lines, queue_stack};
 use crate::name_texts::number_name;
-use crate::stack_texts::put_stack;
 use cost_rows::{ArcRow, FileRows, Names};
 use sqlite::{Alter, Transaction};
 use std::alloc::Global;
@@ -65,9 +68,11 @@ pub(crate) fn put_cells<S: Alter>(
     put_cell_lines(tx, alloc, &waiting)
 }
 
-/// Writes a part of the calls of a row.
+/// Takes up a part of the calls of a row.
 fn put_part<S: Alter>(
     tx: &mut Transaction<'_, S>,
+    alloc: Global,
+    waiting: &mut Vec<ArcLine>,
     run: u32,
     numbers: &[u32],
     row: &ArcRow<u32, &[u128]>,
@@ -76,17 +81,19 @@ fn put_part<S: Alter>(
 ) -> Result<(), StoreEnd>
     ensures same_reference { tx.new.conn.ghost_name ≡ tx.old.conn.ghost_name }
     ensures passes { Passes (state S.Store tx.old.conn.now) (state S.Store tx.new.conn.now) }
-    ensures made { OnOk result (Makes (λ _. ⊤) (with_arcs (arc_line_of run numbers.now (call_of_arc row.now) part sum ∷ [])) (state S.Store tx.old.conn.now) (state S.Store tx.new.conn.now)) }
+    ensures made { OnOk result (Queues with_arcs (map arc_line waiting.old.items) (arc_line_of run numbers.now (call_of_arc row.now) part sum ∷ []) (map arc_line waiting.new.items) (state S.Store tx.old.conn.now) (state S.Store tx.new.conn.now)) }
 {
     match arc_of(run, numbers, row, part, sum) {
-        Some(line) => put_arc(tx, &line),
+        Some(line) => queue_arc(tx, alloc, waiting, line),
         None => Err(StoreEnd::Store),
     }
 }
 
-/// Writes a cost of the calls of a row, unless it is 0.
+/// Takes up a cost of the calls of a row, unless it is 0.
 fn put_cost<S: Alter>(
     tx: &mut Transaction<'_, S>,
+    alloc: Global,
+    waiting: &mut Vec<ArcLine>,
     run: u32,
     numbers: &[u32],
     row: &ArcRow<u32, &[u128]>,
@@ -95,30 +102,32 @@ fn put_cost<S: Alter>(
 ) -> Result<(), StoreEnd>
     ensures same_reference { tx.new.conn.ghost_name ≡ tx.old.conn.ghost_name }
     ensures passes { Passes (state S.Store tx.old.conn.now) (state S.Store tx.new.conn.now) }
-    ensures made { OnOk result (Makes (λ _. ⊤) (with_arcs (if nat_lt 0 cost then arc_line_of run numbers.now (call_of_arc row.now) part cost ∷ [] else [])) (state S.Store tx.old.conn.now) (state S.Store tx.new.conn.now)) }
+    ensures made { OnOk result (Queues with_arcs (map arc_line waiting.old.items) (if nat_lt 0 cost then arc_line_of run numbers.now (call_of_arc row.now) part cost ∷ [] else []) (map arc_line waiting.new.items) (state S.Store tx.old.conn.now) (state S.Store tx.new.conn.now)) }
 {
     if cost > 0 {
-        put_part(tx, run, numbers, row, part, cost)
+        put_part(tx, alloc, waiting, run, numbers, row, part, cost)
     } else {
         Ok(())
     }
 }
 
-/// Writes the number of the calls of a row, and each cost above 0.
+/// Takes up the number of the calls of a row, and each cost above 0.
 fn put_parts<S: Alter>(
     tx: &mut Transaction<'_, S>,
+    alloc: Global,
+    waiting: &mut Vec<ArcLine>,
     run: u32,
     numbers: &[u32],
     row: &ArcRow<u32, &[u128]>,
 ) -> Result<(), StoreEnd>
     ensures same_reference { tx.new.conn.ghost_name ≡ tx.old.conn.ghost_name }
     ensures passes { Passes (state S.Store tx.old.conn.now) (state S.Store tx.new.conn.now) }
-    ensures made { OnOk result (Makes (λ _. ⊤) (with_arcs (arc_lines_at run numbers.now (call_of_arc row.now) (calls_of_arc row.now))) (state S.Store tx.old.conn.now) (state S.Store tx.new.conn.now)) }
+    ensures made { OnOk result (Queues with_arcs (map arc_line waiting.old.items) (arc_lines_at run numbers.now (call_of_arc row.now) (calls_of_arc row.now)) (map arc_line waiting.new.items) (state S.Store tx.old.conn.now) (state S.Store tx.new.conn.now)) }
 {
-    put_part(tx, run, numbers, row, 0, row.count)?;
+    put_part(tx, alloc, waiting, run, numbers, row, 0, row.count)?;
     let costs = row.costs;
     'costs: for (column, cost) in costs.iter().enumerate() {
-        put_cost(tx, run, numbers, row, column + 1, *cost)?;
+        put_cost(tx, alloc, waiting, run, numbers, row, column + 1, *cost)?;
     }
     Ok(())
 }
@@ -126,6 +135,7 @@ fn put_parts<S: Alter>(
 /// Writes the sums of a run's calls, under the tables' numbers of the file's names.
 pub(crate) fn put_arcs<S: Alter>(
     tx: &mut Transaction<'_, S>,
+    alloc: Global,
     run: u32,
     numbers: &[u32],
     rows: &FileRows,
@@ -134,15 +144,17 @@ pub(crate) fn put_arcs<S: Alter>(
     ensures passes { Passes (state S.Store tx.old.conn.now) (state S.Store tx.new.conn.now) }
     ensures made { OnOk result (Makes (λ _. ⊤) (with_arcs (arc_lines run numbers.now (content_of rows.now).arcs)) (state S.Store tx.old.conn.now) (state S.Store tx.new.conn.now)) }
 {
+    let mut waiting = Vec::new(alloc);
     'rows: for row in rows.numbered_arcs() {
-        put_parts(tx, run, numbers, &row)?;
+        put_parts(tx, alloc, &mut waiting, run, numbers, &row)?;
     }
-    Ok(())
+    put_arc_lines(tx, alloc, &waiting)
 }
 
 /// Writes the counts of a run's stacks.
 pub(crate) fn put_stacks<S: Alter>(
     tx: &mut Transaction<'_, S>,
+    alloc: Global,
     run: u32,
     rows: &FileRows,
 ) -> Result<(), StoreEnd>
@@ -150,11 +162,12 @@ pub(crate) fn put_stacks<S: Alter>(
     ensures passes { Passes (state S.Store tx.old.conn.now) (state S.Store tx.new.conn.now) }
     ensures made { OnOk result (Makes (λ _. ⊤) (with_stacks (stack_lines run (content_of rows.now).stacks)) (state S.Store tx.old.conn.now) (state S.Store tx.new.conn.now)) }
 {
+    let mut waiting = Vec::new(alloc);
     'rows: for row in rows.stacks() {
         match stack_of(run, &row) {
-            Some(line) => put_stack(tx, &line)?,
+            Some(line) => queue_stack(tx, alloc, &mut waiting, line)?,
             None => return Err(StoreEnd::Store),
         }
     }
-    Ok(())
+    put_stack_lines(tx, alloc, &waiting)
 }

@@ -1,13 +1,14 @@
 // Cells are written fifty in a statement.
-ghost use Rattle.std.specs.Prelude.{◌≡◌, ◌∷◌, ◌++◌, [], List, map, length, IsTrue, OnOk, IfOk, ⊤};
+ghost use Rattle.std.specs.Prelude.{◌≡◌, ◌∷◌, [], map, length, IsTrue, OnOk, IfOk, ⊤};
 ghost use Rattle.sqlite.specs.Held.{state};
 ghost use Rattle.sqlite.specs.State.{HasCleanDisk, Survives, ExecutesInside};
 ghost use Rattle.sqlite.specs.Values.{bound};
 ghost use Rattle.sql_tables.proofs.Many.{all_values};
 ghost use Rattle.prof_tables.specs.ManyTexts.{put_cells_text};
 ghost use Rattle.prof_tables.specs.Changes.{with_cells};
-ghost use Rattle.prof_tables.specs.Tables.{cell_columns, CellLine as Cell};
+ghost use Rattle.prof_tables.specs.Tables.{cell_columns};
 ghost use Rattle.prof_store.specs.Lines.{cell_line};
+ghost use Rattle.prof_store.specs.Queues.{Queues};
 ghost use Rattle.prof_store.specs.Steps.{Passes, Makes};
 
 use crate::cell_texts::put_cell;
@@ -106,7 +107,7 @@ pub(crate) fn queue_cell<S: Alter>(
 ) -> Result<(), StoreEnd>
     ensures same_reference { tx.new.conn.ghost_name ≡ tx.old.conn.ghost_name }
     ensures passes { Passes (state S.Store tx.old.conn.now) (state S.Store tx.new.conn.now) }
-    ensures made { OnOk result ((written : List Cell) × Makes (λ _. ⊤) (with_cells written) (state S.Store tx.old.conn.now) (state S.Store tx.new.conn.now) × (written ++ map cell_line waiting.new.items ≡ map cell_line waiting.old.items ++ cell_line cell ∷ [])) }
+    ensures made { OnOk result (Queues with_cells (map cell_line waiting.old.items) (cell_line cell ∷ []) (map cell_line waiting.new.items) (state S.Store tx.old.conn.now) (state S.Store tx.new.conn.now)) }
 {
     if waiting.push(cell).is_err() {
         return Err(StoreEnd::Memory);

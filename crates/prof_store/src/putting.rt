@@ -60,8 +60,8 @@ fn put_rows<S: Alter>(
 {
     let numbers = number_names(tx, alloc, rows.names())?;
     put_cells(tx, alloc, run, &numbers, rows)?;
-    put_arcs(tx, run, &numbers, rows)?;
-    put_stacks(tx, run, rows)
+    put_arcs(tx, alloc, run, &numbers, rows)?;
+    put_stacks(tx, alloc, run, rows)
 }
 
 /// Writes a run whose number is the next one: what it says of itself, and its rows.

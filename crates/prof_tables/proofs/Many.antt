@@ -18,10 +18,10 @@ use Rattle.sql_tables.proofs.Inserts.{inserts_rows, unnumbered}
 use Rattle.sql_tables.proofs.Many.{rows_from, all_values, values_are}
 use Rattle.sql_tables.proofs.Rows.{map-append}
 use Rattle.sql_tables.proofs.Statements.{plain_mode}
-use Rattle.prof_tables.specs.Schema.{schema_one, cell_at, arc_at}
-use Rattle.prof_tables.specs.Tables.{Tables, Holds, contents_of, CellLine, ArcLine, cell_columns, arc_columns}
-use Rattle.prof_tables.specs.ManyTexts.{put_cells_text, put_arcs_text}
-use Rattle.prof_tables.specs.Changes.{with_cells, with_arcs}
+use Rattle.prof_tables.specs.Schema.{schema_one, cell_at, arc_at, stack_at}
+use Rattle.prof_tables.specs.Tables.{Tables, Holds, contents_of, CellLine, ArcLine, StackLine, cell_columns, arc_columns, stack_columns}
+use Rattle.prof_tables.specs.ManyTexts.{put_cells_text, put_arcs_text, put_stacks_text}
+use Rattle.prof_tables.specs.Changes.{with_cells, with_arcs, with_stacks}
 use Rattle.prof_tables.proofs.Values.{cast_null, cast_number}
 
 pub put_cells_means : command_of (understood schema_one put_cells_text) ≡ Insert 6 (Values (rows_from 7 0 50) 8)
@@ -40,6 +40,14 @@ pub put_arcs_plain : IsPlain (understood schema_one put_arcs_text)
 unfolding understood everything
 put_arcs_plain = (refl, refl)
 
+pub put_stacks_means : command_of (understood schema_one put_stacks_text) ≡ Insert 8 (Values (rows_from 3 0 50) 4)
+unfolding understood everything
+put_stacks_means = refl
+
+pub put_stacks_plain : IsPlain (understood schema_one put_stacks_text)
+unfolding understood everything
+put_stacks_plain = (refl, refl)
+
 cells_wide : (cells : List CellLine) → AllByRecursion (λ row. length row ≡ 7) (map cell_columns cells)
 cells_wide [] = tt
 cells_wide (c ∷ cells) = (refl, cells_wide cells)
@@ -48,6 +56,10 @@ arcs_wide : (arcs : List ArcLine) → AllByRecursion (λ row. length row ≡ 10)
 arcs_wide [] = tt
 arcs_wide (a ∷ arcs) = (refl, arcs_wide arcs)
 
+stacks_wide : (stacks : List StackLine) → AllByRecursion (λ row. length row ≡ 3) (map stack_columns stacks)
+stacks_wide [] = tt
+stacks_wide (s ∷ stacks) = (refl, stacks_wide stacks)
+
 cast_cells : (cells : List CellLine) → map (λ s. cast_row (plainly cell_at) s) (unnumbered (map cell_columns cells)) ≡ unnumbered (map cell_columns cells)
 cast_cells [] = refl
 cast_cells (c ∷ cells) = let one : cast_row (plainly cell_at) (Null ∷ cell_columns c) ≡ Null ∷ cell_columns c = simp (cast_null, cast_number) refl in ap₂ ◌∷◌ one (cast_cells cells)
@@ -55,6 +67,10 @@ cast_cells (c ∷ cells) = let one : cast_row (plainly cell_at) (Null ∷ cell_c
 cast_arcs : (arcs : List ArcLine) → map (λ s. cast_row (plainly arc_at) s) (unnumbered (map arc_columns arcs)) ≡ unnumbered (map arc_columns arcs)
 cast_arcs [] = refl
 cast_arcs (a ∷ arcs) = let one : cast_row (plainly arc_at) (Null ∷ arc_columns a) ≡ Null ∷ arc_columns a = simp (cast_null, cast_number) refl in ap₂ ◌∷◌ one (cast_arcs arcs)
+
+cast_stacks : (stacks : List StackLine) → map (λ s. cast_row (plainly stack_at) s) (unnumbered (map stack_columns stacks)) ≡ unnumbered (map stack_columns stacks)
+cast_stacks [] = refl
+cast_stacks (s ∷ stacks) = let one : cast_row (plainly stack_at) (Null ∷ stack_columns s) ≡ Null ∷ stack_columns s = simp (cast_null, cast_number) refl in ap₂ ◌∷◌ one (cast_stacks stacks)
 
 -- fifty rows as the statement is given them
 fifty_given : (width : ℕ) (rows : List Row) → AllByRecursion (λ row. length row ≡ width) rows → length rows ≡ 50
@@ -81,3 +97,12 @@ module _ (t : Tables) (limit : Option ℕ) (trees : Trees) (text : List ℕ) (ta
       let written = ap (map (λ s. cast_row (plainly arc_at) s)) (fifty_given 10 rows (arcs_wide arcs) count) ∙ cast_arcs arcs in
       let it = inserts_rows schema_one (contents_of t) limit (all_values rows) trees text tally after 7 arc_at refl refl (rows_from 10 0 50) 11 was.contain sound h rows refl written in
       (it.0, record { contain = subst (λ l. Contain schema_one (with_content 7 l (contents_of t)) after.trees) (sym (map-append arc_columns t.arcs arcs)) it.1; below = was.below })
+
+  pub puts_stacks : (stacks : List StackLine) → length (map stack_columns stacks) ≡ 50
+      → Does limit plain_mode (all_values (map stack_columns stacks)) (record { schema = schema_one; trees = trees }) text None (Insert 8 (Values (rows_from 3 0 50) 4)) (Ok (tally, after))
+      → (after.schema ≡ schema_one) × Holds (with_stacks stacks t) after.trees
+  puts_stacks stacks count h =
+      let rows = map stack_columns stacks in
+      let written = ap (map (λ s. cast_row (plainly stack_at) s)) (fifty_given 3 rows (stacks_wide stacks) count) ∙ cast_stacks stacks in
+      let it = inserts_rows schema_one (contents_of t) limit (all_values rows) trees text tally after 8 stack_at refl refl (rows_from 3 0 50) 4 was.contain sound h rows refl written in
+      (it.0, record { contain = subst (λ l. Contain schema_one (with_content 8 l (contents_of t)) after.trees) (sym (map-append stack_columns t.stacks stacks)) it.1; below = was.below })

@@ -1,14 +1,15 @@
-use Rattle.std.proofs.Common.{◌≡◌, map, ◌++◌}
-use Rattle.std.specs.Bool.{⊤}
+use Rattle.std.proofs.Common.{◌≡◌, [], map, ◌++◌}
 use Rattle.sqlite.specs.Held.{state}
-use Rattle.prof_store.specs.Steps.{Passes, Makes}
+use Rattle.prof_store.specs.Steps.{Passes}
+use Rattle.prof_store.specs.Lines.{arc_line}
+use Rattle.prof_store.specs.Queues.{Queues}
 use Rattle.cost_rows.specs.Rows.{content_of}
 use Rattle.cost_rows.specs.ByNumber.{numbered_arcs, plain_numbered}
 use Rattle.prof_tables.specs.Changes.{with_arcs}
 use Rattle.prof_store.proofs.RowLines.{lines_of_arcs}
 use Rattle.prof_store.proofs.file_rows.put_arcs.Given as goal
 
--- the lines of the rows so far are written
+-- the lines of the rows so far are taken up
 abbrev pub invariant-rows : goal.invariant-rows
 invariant-rows g l =
     let old = state g.S.Store l.fn.tx.conn.now in
@@ -16,6 +17,6 @@ invariant-rows g l =
     record {
       same_reference : l.tx.conn.ghost_name ≡ l.fn.tx.conn.ghost_name;
       passes : Passes old now;
-      made : Makes (λ _. ⊤) (with_arcs (lines_of_arcs l.run l.numbers (map plain_numbered l.yielded))) old now;
+      made : Queues with_arcs [] (lines_of_arcs l.run l.numbers (map plain_numbered l.yielded)) (map arc_line l.waiting.items) old now;
       rest : map plain_numbered l.yielded ++ l.row-iterator ≡ numbered_arcs (content_of l.rows).arcs;
     }

@@ -1,14 +1,17 @@
-use Rattle.std.proofs.Common.{[], ◌∷◌, ◌++◌, map, refl, sym, ap, ap₂, subst, ◌∙◌, append-nil}
+use Rattle.std.proofs.Common.{[], ◌∷◌, ◌++◌, map, refl, sym, ap, subst, ◌∙◌, append-nil}
 use Rattle.std.specs.Bool.{⊤}
 use Rattle.std.proofs.lemmas.List.{append_assoc}
+use Rattle.std.specs.Result.{OnOk}
+use Rattle.std.proofs.lemmas.Result.{on_ok_weaker}
 use Rattle.sqlite.specs.Held.{state}
-use Rattle.sqlite_exec.proofs.MarkLemmas.{if_ok_then}
 use Rattle.sql_tables.proofs.Rows.{map-append}
 use Rattle.cost_rows.specs.Rows.{content_of}
 use Rattle.prof_tables.specs.Changes.{with_cells}
 use Rattle.prof_store.specs.Lines.{cell_line}
+use Rattle.prof_store.specs.Queues.{Queues}
 use Rattle.prof_store.specs.Steps.{Makes}
 use Rattle.prof_store.proofs.Parts.{passes_none, passes_then, no_cells, cells_then}
+use Rattle.prof_store.proofs.ManyLines.{queues_then, queues_end}
 use Rattle.prof_store.proofs.RowLines.{line_of_cell, cells_are}
 use Rattle.prof_store.proofs.file_rows.put_cells.Goals as goal
 
@@ -18,7 +21,7 @@ rows-init g c =
     record {
       same_reference = refl;
       passes = passes_none old;
-      made = ([], no_cells old, ap (map cell_line) c.new-waiting.ensures.items);
+      made = record { written = []; made = no_cells old; lines = ap (map cell_line) c.new-waiting.ensures.items };
       rest = c.into_iter-row-iterator.ensures.into_iter_gives ∙ c.numbered_cells-row-items.ensures;
     }
 
@@ -30,19 +33,14 @@ rows-preserved g c =
     let new = state g.S.Store c.queue_cell.new.tx.conn.now in
     let line = line_of_cell c.args.run c.args.numbers.now in
     let row = c.in-Some.row in
-    let first = was.made.0 in
-    let more = c.in_ok-queue_cell-in-Some-cell_of.ensures.made in
     let waited = map cell_line c.rows.waiting.items in
-    let cell = cell_line c.in-Some-cell_of.line in
+    let waits = map cell_line c.queue_cell.new.waiting.items in
+    let one = subst (λ l. Queues with_cells waited (l ∷ []) waits mid new) c.in-Some-cell_of.ensures c.in_ok-queue_cell-in-Some-cell_of.ensures.made in
     record {
       same_reference = c.queue_cell.ensures.same_reference ∙ was.same_reference;
-      passes = passes_then old mid new was.passes was.made.1.running c.queue_cell.ensures.passes;
-      made = (
-        first ++ more.0,
-        cells_then first more.0 old mid new was.made.1 c.queue_cell.ensures.passes more.1,
-        append_assoc first more.0 (map cell_line c.queue_cell.new.waiting.items) ∙ ap (λ l. first ++ l) more.2 ∙ sym (append_assoc first waited (cell ∷ []))
-            ∙ ap₂ (λ l x. l ++ x ∷ []) was.made.2 c.in-Some-cell_of.ensures ∙ sym (map-append line c.rows.yielded (row ∷ [])),
-      );
+      passes = passes_then old mid new was.passes was.made.made.running c.queue_cell.ensures.passes;
+      made = subst (λ l. Queues with_cells [] l waits old new) (sym (map-append line c.rows.yielded (row ∷ [])))
+          (queues_then with_cells cells_then [] (map line c.rows.yielded) waited (line row ∷ []) waits old mid new was.made c.queue_cell.ensures.passes one);
       rest = append_assoc c.rows.yielded (row ∷ []) c.next.new.self ∙ ap (λ l. c.rows.yielded ++ l) (sym c.in-Some.ensures.steps) ∙ was.rest;
     }
 
@@ -54,6 +52,7 @@ returns-clause-made g c =
     let new = state g.S.Store c.put_cell_lines.new.tx.conn.now in
     let line = line_of_cell c.args.run c.args.numbers.now in
     let all = sym (append-nil c.rows.yielded) ∙ ap (λ l. c.rows.yielded ++ l) (sym c.in-None.ensures.steps.0) ∙ was.rest in
-    let lines = ap (λ l. was.made.0 ++ map cell_line l) c.deref.ensures.value ∙ was.made.2 ∙ ap (map line) all ∙ cells_are c.args.run c.args.numbers.now (content_of c.args.rows.now).cells in
-    if_ok_then c.put_cell_lines.result c.put_cell_lines.ensures.made (λ u made.
-    subst (λ l. Makes (λ _. ⊤) (with_cells l) old new) lines (cells_then was.made.0 (map cell_line c.deref.result.now) old mid new was.made.1 c.put_cell_lines.ensures.passes made))
+    let lines = ap (map line) all ∙ cells_are c.args.run c.args.numbers.now (content_of c.args.rows.now).cells in
+    let taken = subst (λ l. Queues with_cells [] l (map cell_line c.rows.waiting.items) old mid) lines was.made in
+    let last = subst (λ l. OnOk c.put_cell_lines.result (Makes (λ _. ⊤) (with_cells (map cell_line l)) mid new)) c.deref.ensures.value c.put_cell_lines.ensures.made in
+    on_ok_weaker c.put_cell_lines.result (λ made. queues_end with_cells cells_then _ (map cell_line c.rows.waiting.items) old mid new taken c.put_cell_lines.ensures.passes made) last

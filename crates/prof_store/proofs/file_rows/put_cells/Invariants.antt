@@ -1,16 +1,15 @@
-use Rattle.std.proofs.Common.{◌≡◌, ◌++◌, List, map}
-use Rattle.std.specs.Bool.{⊤}
+use Rattle.std.proofs.Common.{◌≡◌, ◌++◌, [], map}
 use Rattle.sqlite.specs.Held.{state}
 use Rattle.cost_rows.specs.Rows.{content_of}
 use Rattle.cost_rows.specs.ByNumber.{numbered_cells}
-use Rattle.prof_tables.specs.Tables.{CellLine}
 use Rattle.prof_tables.specs.Changes.{with_cells}
 use Rattle.prof_store.specs.Lines.{cell_line}
-use Rattle.prof_store.specs.Steps.{Passes, Makes}
+use Rattle.prof_store.specs.Queues.{Queues}
+use Rattle.prof_store.specs.Steps.{Passes}
 use Rattle.prof_store.proofs.RowLines.{line_of_cell}
 use Rattle.prof_store.proofs.file_rows.put_cells.Given as goal
 
--- the lines of the rows so far are written, or wait
+-- the lines of the rows so far are taken up
 abbrev pub invariant-rows : goal.invariant-rows
 invariant-rows g l =
     let old = state g.S.Store l.fn.tx.conn.now in
@@ -18,6 +17,6 @@ invariant-rows g l =
     record {
       same_reference : l.tx.conn.ghost_name ≡ l.fn.tx.conn.ghost_name;
       passes : Passes old now;
-      made : (written : List CellLine) × Makes (λ _. ⊤) (with_cells written) old now × (written ++ map cell_line l.waiting.items ≡ map (line_of_cell l.run l.numbers) l.yielded);
+      made : Queues with_cells [] (map (line_of_cell l.run l.numbers) l.yielded) (map cell_line l.waiting.items) old now;
       rest : l.yielded ++ l.row-iterator ≡ numbered_cells (content_of l.rows).cells;
     }

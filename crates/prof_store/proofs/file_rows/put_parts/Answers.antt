@@ -1,12 +1,13 @@
-use Rattle.std.proofs.Common.{◌≡◌, ℕ, [], ◌∷◌, ◌++◌, ◌+◌, ◌<◌, nat_lt, if◌then◌else◌, length, take, get_or, sym, ap, subst, ◌∙◌, rules, arith, length-take-le}
-use Rattle.std.specs.Bool.{⊤}
+use Rattle.std.proofs.Common.{◌≡◌, ℕ, [], ◌∷◌, ◌++◌, ◌+◌, ◌<◌, nat_lt, if◌then◌else◌, length, map, take, get_or, sym, ap, subst, ◌∙◌, rules, arith, length-take-le}
 use Rattle.std.proofs.lemmas.List.{take_more}
 use Rattle.sqlite.specs.Held.{state}
 use Rattle.prof_tables.specs.Changes.{with_arcs}
 use Rattle.prof_books.specs.Files.{arc_line_of, arc_lines_from}
 use Rattle.prof_store.specs.FromRows.{call_of_arc}
-use Rattle.prof_store.specs.Steps.{Makes}
+use Rattle.prof_store.specs.Lines.{arc_line}
+use Rattle.prof_store.specs.Queues.{Queues}
 use Rattle.prof_store.proofs.Parts.{passes_then, arcs_then}
+use Rattle.prof_store.proofs.ManyLines.{queues_then}
 use Rattle.prof_store.proofs.RowLines.{parts_more}
 use Rattle.prof_store.proofs.file_rows.put_parts.Goals as goal
 
@@ -22,6 +23,8 @@ costs-preserved g c =
     let called = call_of_arc row in
     let costs = row.costs.now in
     let at = c.costs.column in
+    let waited = map arc_line c.args.waiting.now.items in
+    let waits = map arc_line c.put_cost.new.waiting.items in
     let cost = get_or costs at 0 in
     let within : at < length costs = search rules in
     let long : length (take at costs) ≡ at = grind (arith, length-take-le) in
@@ -30,7 +33,7 @@ costs-preserved g c =
     ∙ ap (λ (n : ℕ). arc_lines_from run numbers called 1 (take at costs) ++ (if nat_lt 0 cost then arc_line_of run numbers called n cost ∷ [] else [])) (omega (arith, long)) in
     record {
       same_reference = c.put_cost.ensures.same_reference ∙ was.same_reference;
-      passes = passes_then old mid new was.passes was.made.running c.put_cost.ensures.passes;
-      made = subst (λ l. Makes (λ _. ⊤) (with_arcs (arc_line_of run numbers called 0 row.count ∷ l)) old new) (sym more)
-          (arcs_then (arc_line_of run numbers called 0 row.count ∷ arc_lines_from run numbers called 1 (take at costs)) _ old mid new was.made c.put_cost.ensures.passes c.in_ok-put_cost.ensures.made);
+      passes = passes_then old mid new was.passes was.made.made.running c.put_cost.ensures.passes;
+      made = subst (λ l. Queues with_arcs waited (arc_line_of run numbers called 0 row.count ∷ l) waits old new) (sym more)
+          (queues_then with_arcs arcs_then waited (arc_line_of run numbers called 0 row.count ∷ arc_lines_from run numbers called 1 (take at costs)) (map arc_line c.costs.waiting.items) _ waits old mid new was.made c.put_cost.ensures.passes c.in_ok-put_cost.ensures.made);
     }

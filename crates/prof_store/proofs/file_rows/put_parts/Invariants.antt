@@ -1,13 +1,14 @@
-use Rattle.std.proofs.Common.{◌≡◌, take, ◌∷◌}
-use Rattle.std.specs.Bool.{⊤}
+use Rattle.std.proofs.Common.{◌≡◌, take, map, ◌∷◌}
 use Rattle.sqlite.specs.Held.{state}
-use Rattle.prof_store.specs.Steps.{Passes, Makes}
+use Rattle.prof_store.specs.Steps.{Passes}
+use Rattle.prof_store.specs.Lines.{arc_line}
+use Rattle.prof_store.specs.Queues.{Queues}
 use Rattle.prof_tables.specs.Changes.{with_arcs}
 use Rattle.prof_books.specs.Files.{arc_line_of, arc_lines_from}
 use Rattle.prof_store.specs.FromRows.{call_of_arc}
 use Rattle.prof_store.proofs.file_rows.put_parts.Given as goal
 
--- the calls' number and the costs so far are written
+-- the calls' number and the costs so far are taken up
 abbrev pub invariant-costs : goal.invariant-costs
 invariant-costs g l =
     let old = state g.S.Store l.fn.tx.conn.now in
@@ -15,5 +16,5 @@ invariant-costs g l =
     record {
       same_reference : l.tx.conn.ghost_name ≡ l.fn.tx.conn.ghost_name;
       passes : Passes old now;
-      made : Makes (λ _. ⊤) (with_arcs (arc_line_of l.run l.numbers (call_of_arc l.row) 0 l.row.count ∷ arc_lines_from l.run l.numbers (call_of_arc l.row) 1 (take l.column l.costs))) old now;
+      made : Queues with_arcs (map arc_line l.fn.waiting.items) (arc_line_of l.run l.numbers (call_of_arc l.row) 0 l.row.count ∷ arc_lines_from l.run l.numbers (call_of_arc l.row) 1 (take l.column l.costs)) (map arc_line l.waiting.items) old now;
     }

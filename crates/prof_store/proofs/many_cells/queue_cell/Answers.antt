@@ -9,4 +9,4 @@ pub returns-else-len-eq50-clause-made : goal.returns-else-len-eq50-clause-made
 returns-else-len-eq50-clause-made g c =
     let held = c.args.waiting.now.items in
     let pushed = c.push.ensures.items ∙ ap (λ b. if b then held ++ c.args.cell ∷ [] else held) (c.is_err.ensures.negation ∙ ap not c.if-is_err.false) in
-    ([], no_cells (state g.S.Store c.args.tx.now.conn.now), ap (map cell_line) pushed ∙ map-append cell_line held (c.args.cell ∷ []))
+    record { written = []; made = no_cells (state g.S.Store c.args.tx.now.conn.now); lines = ap (map cell_line) pushed ∙ map-append cell_line held (c.args.cell ∷ []) }
