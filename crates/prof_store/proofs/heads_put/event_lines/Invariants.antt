@@ -1,0 +1,10 @@
+use Rattle.std.proofs.Common.{◌≡◌, ◌++◌, map, drop, length}
+use Rattle.cost_rows.specs.Content.{Content}
+use Rattle.cost_rows.specs.Totals.{AreTotals}
+use Rattle.prof_store.specs.HeadsPut.{event_lines, event_lines_from}
+use Rattle.prof_store.specs.Lines.{event_line}
+use Rattle.prof_store.proofs.heads_put.event_lines.Given as goal
+
+-- the lines so far, and those of the events that are left, are all of them
+abbrev pub invariant-events : goal.invariant-events
+invariant-events l = (c : Content) → AreTotals l.totals c (length l.head.events) → map event_line l.lines.items ++ event_lines_from l.run l.head c l.place (drop l.place l.head.events) ≡ event_lines l.run l.head c
