@@ -38,6 +38,8 @@ mod store;
 #[cfg(test)]
 mod tests;
 #[cfg(test)]
+mod tests_memory;
+#[cfg(test)]
 mod tests_put;
 #[cfg(test)]
 mod tests_queries;

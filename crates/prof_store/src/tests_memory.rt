@@ -17,12 +17,13 @@ calls=2 1
 1 2
 ";
 
-fn create(alloc: Global) -> Result<Store<MemStore>, Fail> {
-    let conn = Connection::open_in_memory(alloc)?;
+fn create(alloc: Global) -> Result<Store<MemStore>, StoreEnd> {
+    let Ok(conn) = Connection::open_in_memory(alloc) else {
+        return Err(StoreEnd::Memory);
+    };
     match Store::create(alloc, conn) {
         Ok(store) => Ok(store),
-        Err((StoreEnd::Memory, _)) => Err(Fail::from("memory")),
-        Err((end, _)) => Err(Fail::from(end)),
+        Err((end, _)) => Err(end),
     }
 }
 
@@ -30,7 +31,7 @@ fn create(alloc: Global) -> Result<Store<MemStore>, Fail> {
 fn new_store(alloc: Global) -> Result<Store<MemStore>, Fail> {
     match create(alloc) {
         Ok(store) => Ok(store),
-        Err(_) => create(alloc),
+        Err(_) => Ok(create(alloc)?),
     }
 }
 
