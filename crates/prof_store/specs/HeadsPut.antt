@@ -1,5 +1,5 @@
 -- The lines that the head of a file becomes.
-use Rattle.std.specs.Prelude.{ℕ, suc, ◌≡◌, nat_lt, if◌then◌else◌, List, [], ◌∷◌, ◌++◌, length, option_map, Option, Some, None, slice_get, ⊤}
+use Rattle.std.specs.Prelude.{ℕ, suc, ◌≡◌, ◌<◌, ◌^◌, nat_lt, if◌then◌else◌, List, [], ◌∷◌, ◌++◌, length, option_map, Option, Some, None, slice_get, ⊤}
 use Rattle.std.specs.Fmt.{decimal}
 use Rattle.cg_text.specs.declared.heads.FileHead.{FileHead}
 use Rattle.cost_rows.specs.Content.{Content}
@@ -52,6 +52,10 @@ coef_lines_from run place (d ∷ derived) = coef_lines_at run place 0 d.1 ++ coe
 -- the coefficients above 0
 abbrev pub coef_lines : ℕ → FileHead → List CoefLine
 coef_lines run head = coef_lines_from run 0 head.derived.derived
+
+-- the sums of a column are those that a column of the tables can hold
+abbrev pub ColumnFits : Content → ℕ → Type 0
+ColumnFits c k = (cell_total k c.cells < 2 ^ 63) × (arc_total k c.arcs < 2 ^ 63)
 
 abbrev pub AreStated : Option (List ℕ) → ℕ → Type 0
 AreStated None events = ⊤

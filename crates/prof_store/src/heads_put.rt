@@ -1,9 +1,9 @@
 // The lines that the head of a file becomes.
-ghost use Rattle.std.specs.Prelude.{◌≡◌, ◌<◌, ◌++◌, ◌∷◌, [], ◌↔◌, map, option_map, string_bytes, slice_index, length, IfOk, OnOk, IsTrue};
+ghost use Rattle.std.specs.Prelude.{ℕ, ◌≡◌, ◌<◌, ◌^◌, ◌++◌, ◌∷◌, [], ◌↔◌, map, option_map, string_bytes, slice_index, length, IfOk, OnOk, IsTrue};
 ghost use Rattle.cost_rows.specs.Content.{Content};
 ghost use Rattle.cost_rows.specs.Totals.{AreTotals};
 ghost use Rattle.prof_store.specs.HeadsPut as specs;
-ghost use Rattle.prof_store.specs.HeadsPut.{stated_at, event_line_of, coef_lines_at, derived_lines_from, coef_lines_from, AreStated, IsWhole};
+ghost use Rattle.prof_store.specs.HeadsPut.{stated_at, event_line_of, coef_lines_at, derived_lines_from, coef_lines_from, AreStated, IsWhole, ColumnFits};
 ghost use Rattle.prof_store.specs.Lines.{event_line, derived_line, coef_line};
 
 use crate::errors::StoreEnd;
@@ -34,7 +34,8 @@ fn place_of(place: usize) -> Result<u32, StoreEnd>
 
 /// The sum of a column, if it fits.
 fn sum_at(sums: &[u128], place: usize) -> Result<Whole, StoreEnd>
-    ensures { IfOk result (λ w. w ≡ slice_index sums.now place) }
+    ensures value { IfOk result (λ w. w ≡ slice_index sums.now place) }
+    ensures fits { OnOk result (slice_index sums.now place < 2 ^ 63) }
 {
     let Some(sum) = sums.get(place) else {
         return Err(StoreEnd::Store);
@@ -71,7 +72,8 @@ fn event_of(
     place: usize,
     name: &[u8],
 ) -> Result<EventLine, StoreEnd>
-    ensures { (c : Content) → AreTotals totals.now c (length head.now.events) → place < length head.now.events → IfOk result (λ e. event_line e ≡ event_line_of run head.now c place name.now) }
+    ensures value { (c : Content) → AreTotals totals.now c (length head.now.events) → place < length head.now.events → IfOk result (λ e. event_line e ≡ event_line_of run head.now c place name.now) }
+    ensures fits { (c : Content) → AreTotals totals.now c (length head.now.events) → place < length head.now.events → OnOk result (ColumnFits c place) }
 {
     Ok(EventLine {
         run,
@@ -90,7 +92,8 @@ fn event_lines(
     head: &FileHead,
     totals: &FileTotals,
 ) -> Result<Vec<EventLine>, StoreEnd>
-    ensures { (c : Content) → AreTotals totals.now c (length head.now.events) → IfOk result (λ lines. map event_line lines.items ≡ specs.event_lines run head.now c) }
+    ensures value { (c : Content) → AreTotals totals.now c (length head.now.events) → IfOk result (λ lines. map event_line lines.items ≡ specs.event_lines run head.now c) }
+    ensures fits { (c : Content) → AreTotals totals.now c (length head.now.events) → OnOk result ((k : ℕ) → k < length head.now.events → ColumnFits c k) }
 {
     let events = head.events.as_slice();
     let mut lines = Vec::new(alloc);
@@ -182,6 +185,7 @@ pub(crate) fn head_lines(
 ) -> Result<HeadLines, StoreEnd>
     ensures whole { IfOk result (λ _. IsWhole head.now) }
     ensures events { (c : Content) → AreTotals totals.now c (length head.now.events) → IfOk result (λ lines. map event_line lines.events.items ≡ specs.event_lines run head.now c) }
+    ensures fits { (c : Content) → AreTotals totals.now c (length head.now.events) → OnOk result ((k : ℕ) → k < length head.now.events → ColumnFits c k) }
     ensures derived { IfOk result (λ lines. map derived_line lines.derived.items ≡ specs.derived_lines run head.now) }
     ensures coefs { IfOk result (λ lines. map coef_line lines.coefs.items ≡ specs.coef_lines run head.now) }
 {

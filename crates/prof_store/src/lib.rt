@@ -50,5 +50,6 @@ mod whole;
 pub use entries::{GroupEntry, RunEntry};
 pub use errors::StoreEnd;
 pub use kinds::Kind;
+pub use labels::is_label;
 pub use sqlite::Alter;
 pub use store::Store;
