@@ -1,5 +1,6 @@
 pub mod ArcWalks
 pub mod CellWalks
+mod FilePuts
 mod Finding
 mod Listing
 mod Lists

@@ -4,12 +4,14 @@ pub mod Entries
 pub mod FromRows
 pub mod Groups
 pub mod HeadLines
+pub mod HeadsPut
 pub mod Kinds
 pub mod Labels
 pub mod Lines
 pub mod Names
 pub mod Queues
 pub mod Runs
+pub mod RunsPut
 pub mod Shown
 pub mod StackWalks
 pub mod Steps

@@ -3,6 +3,7 @@ ghost use Rattle.std.specs.Prelude.{◌≢◌};
 ghost use Rattle.prof_store.specs.declared.errors.StoreEnd.TheVariants as ends;
 
 use sqlite::{Error, ErrorCode};
+use std::alloc::AllocError;
 
 /// Why a call is refused. The tables are as before.
 #[derive(Clone, Copy, Debug, PartialEq, Eq)]
@@ -22,5 +23,16 @@ pub(crate) fn end_of(error: Error) -> StoreEnd
     match error {
         Error::SqliteFailure(ErrorCode::OutOfMemory) => StoreEnd::Memory,
         _ => StoreEnd::Store,
+    }
+}
+
+impl From<AllocError> for StoreEnd {
+    ghost use Rattle.std.specs.Prelude.{◌≡◌};
+    ghost use Rattle.prof_store.specs.declared.errors.StoreEnd.TheVariants as ends;
+
+    ghost from_gives = { λ _ end. end ≡ ends.Memory };
+
+    fn from(_error: AllocError) -> StoreEnd {
+        StoreEnd::Memory
     }
 }

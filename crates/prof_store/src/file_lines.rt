@@ -19,7 +19,7 @@ fn number_of(numbers: &[u32], name: u32) -> Option<u32>
 }
 
 /// A sum that a column can hold.
-fn whole_of(sum: u128) -> Option<Whole>
+pub(crate) fn whole_of(sum: u128) -> Option<Whole>
     ensures { IfSome result (λ w. w ≡ sum) }
 {
     match u64::try_from(sum) {
@@ -29,7 +29,7 @@ fn whole_of(sum: u128) -> Option<Whole>
 }
 
 /// A number of 32 bits.
-fn small_of(number: usize) -> Option<u32>
+pub(crate) fn small_of(number: usize) -> Option<u32>
     ensures { IfSome result (λ n. n ≡ number) }
 {
     match u32::try_from(number) {

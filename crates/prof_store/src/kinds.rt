@@ -15,6 +15,16 @@ pub enum Kind {
     Folded,
 }
 
+/// The number of a kind in the tables.
+pub(crate) fn number_of_kind(kind: Kind) -> u32
+    ensures { result ≡ kind_number kind }
+{
+    match kind {
+        Kind::Callgrind => 1,
+        Kind::Folded => 2,
+    }
+}
+
 pub(crate) fn kind_at(row: &Row, at: usize) -> Result<Kind, StoreEnd>
     ensures { IfOk result (λ kind. column row.now at ≡ Int (pos (kind_number kind))) }
 {

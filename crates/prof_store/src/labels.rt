@@ -9,7 +9,7 @@ use crate::errors::StoreEnd;
 use sqlite::Row;
 
 /// Whether a text is a label: 1 to 1,024 bytes, and no control character.
-fn is_label(text: &str) -> bool
+pub fn is_label(text: &str) -> bool
     ensures { IsTrue result → IsLabel text.now }
 {
     let bytes = text.as_bytes();

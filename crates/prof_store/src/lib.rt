@@ -18,6 +18,7 @@ mod groups;
 mod head_lines;
 mod head_loops;
 mod head_texts;
+mod heads_put;
 mod joining;
 mod kinds;
 mod labels;
@@ -29,6 +30,7 @@ mod many_stacks;
 mod name_texts;
 mod next;
 mod open;
+mod put_run;
 mod putting;
 mod row_values;
 mod runs;
@@ -38,6 +40,10 @@ mod store;
 #[cfg(test)]
 mod tests;
 #[cfg(test)]
+mod tests_memory;
+#[cfg(test)]
+mod tests_put;
+#[cfg(test)]
 mod tests_queries;
 mod values;
 mod walks;
@@ -46,5 +52,6 @@ mod whole;
 pub use entries::{GroupEntry, RunEntry};
 pub use errors::StoreEnd;
 pub use kinds::Kind;
+pub use labels::is_label;
 pub use sqlite::Alter;
 pub use store::Store;

@@ -9,7 +9,7 @@ ghost use Rattle.cost_rows.specs.Rows.{content_of};
 ghost use Rattle.prof_books.specs.Files.{with_rows, with_head};
 ghost use Rattle.prof_store.specs.Runs.{with_run_of};
 ghost use Rattle.prof_store.specs.Lines.{event_line, derived_line, coef_line, run_line};
-ghost use Rattle.prof_store.specs.Steps.{Passes, Makes, IsAbove};
+ghost use Rattle.prof_store.specs.Steps.{Passes, Makes, IsAbove, IsUndone};
 
 use crate::errors::{StoreEnd, end_of};
 use crate::file_rows::{number_names, put_arcs, put_cells, put_stacks};
@@ -75,8 +75,31 @@ pub(crate) fn fill_run<S: Alter>(
     ensures same_reference { tx.new.conn.ghost_name ≡ tx.old.conn.ghost_name }
     ensures done { HasCleanDisk (state S.Store tx.new.conn.now) → (t : _) → t.next ≡ run.now.number → Works schema_one (Holds t) (state S.Store tx.old.conn.now) → OnOk result (Works schema_one (Holds (with_run_of run.now head.now rows.now t)) (state S.Store tx.new.conn.now)) }
     ensures kept { HasCleanDisk (state S.Store tx.new.conn.now) → IsTrue (state S.Store tx.old.conn.now).in_transaction → KeepsCommit (state S.Store tx.old.conn.now) (state S.Store tx.new.conn.now) }
+    ensures running { HasCleanDisk (state S.Store tx.new.conn.now) → IsTrue (state S.Store tx.old.conn.now).in_transaction → OnOk result (IsTrue (state S.Store tx.new.conn.now).in_transaction) }
     ensures survives { Survives (state S.Store tx.old.conn.now) (state S.Store tx.new.conn.now) (λ _. ⊥) }
 {
     put_head(tx, run, head)?;
     put_rows(tx, alloc, run.number, rows)
+}
+
+/// Writes a run in one transaction.
+pub(crate) fn put_in<S: Alter>(
+    conn: &mut Connection<S>,
+    alloc: Global,
+    run: &RunLine<'_>,
+    head: &HeadLines,
+    rows: &FileRows,
+) -> Result<(), StoreEnd>
+    requires { conn.old.in_transaction ≡ false }
+    ensures done { HasCleanDisk (state S.Store conn.new) → (t : _) → t.next ≡ run.now.number → Rests schema_one (Holds t) (state S.Store conn.old) → OnOk result (Rests schema_one (Holds (with_run_of run.now head.now rows.now t)) (state S.Store conn.new)) }
+    ensures undone { HasCleanDisk (state S.Store conn.new) → OnErr result (IsUndone (state S.Store conn.old) (state S.Store conn.new)) }
+    ensures crash { (t : _) → t.next ≡ run.now.number → Rests schema_one (Holds t) (state S.Store conn.old) → Survives (state S.Store conn.old) (state S.Store conn.new) (Holds (with_run_of run.now head.now rows.now t)) }
+    ensures honest { HasCleanDisk (state S.Store conn.new) → HasCleanDisk (state S.Store conn.old) }
+{
+    let mut tx = conn.transaction();
+    fill_run(&mut tx, alloc, run, head, rows)?;
+    match tx.commit() {
+        Ok(()) => Ok(()),
+        Err(error) => Err(end_of(error)),
+    }
 }

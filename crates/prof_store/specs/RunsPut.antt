@@ -1,0 +1,19 @@
+-- What a file that is put makes of the tables.
+use Rattle.std.specs.Prelude.{ℕ, List}
+use Rattle.cg_text.specs.declared.heads.FileHead.{FileHead}
+use Rattle.cost_rows.specs.Content.{Content}
+use Rattle.cost_rows.specs.Totals.{count_total}
+use Rattle.prof_tables.specs.Tables.{Tables, RunLine}
+use Rattle.prof_store.specs.Files.{with_rows, with_head}
+use Rattle.prof_store.specs.HeadsPut.{event_lines, derived_lines, coef_lines}
+use Rattle.prof_store.specs.Kinds.{kind_number}
+use Rattle.prof_store.specs.declared.kinds.Kind.{Kind}
+
+-- its run, with the number of its calls
+abbrev pub run_line_of : ℕ → Kind → List ℕ → List ℕ → Content → RunLine
+run_line_of number kind digest label c = record { number = number; kind = kind_number kind; digest = digest; label = label; call_count = count_total c.arcs }
+
+-- a file under a number: its run, its head and its rows, and the next number is one above it
+abbrev pub with_file : ℕ → Kind → List ℕ → List ℕ → FileHead → Content → Tables → Tables
+with_file number kind digest label head c t =
+    with_rows number c (with_head (run_line_of number kind digest label c) (event_lines number head c) (derived_lines number head) (coef_lines number head) t)

@@ -1,0 +1,90 @@
+// A file is put as a run.
+ghost use Rattle.std.specs.Prelude.{ℕ, ◌≡◌, ◌<◌, ◌^◌, length, IfOk, OnOk, OnErr};
+ghost use Rattle.cost_rows.specs.Totals.{count_total};
+ghost use Rattle.cost_rows.specs.Rows.{content_of};
+ghost use Rattle.prof_tables.specs.Tables.{Holds};
+ghost use Rattle.prof_store.specs.HeadsPut.{IsWhole, ColumnFits};
+ghost use Rattle.prof_store.specs.Labels.{IsLabel};
+ghost use Rattle.prof_store.specs.RunsPut.{with_file};
+ghost use Rattle.prof_store.specs.Shown.{IsFaithful, IsUsable, StandsFor, IsSettled, IsAsBefore, LeavesOnly};
+
+use crate::errors::StoreEnd;
+use crate::file_lines::whole_of;
+use crate::heads_put::head_lines;
+use crate::kinds::{Kind, number_of_kind};
+use crate::lines::RunLine;
+use crate::putting::put_in;
+use crate::store::Store;
+use cg_text::FileHead;
+use cost_rows::FileRows;
+use sqlite::Alter;
+use std::alloc::Global;
+
+impl<S: Alter> Store<S> {
+    /// Puts a file under a number, which is the next run's.
+    fn put_numbered(
+        &mut self,
+        alloc: Global,
+        number: u32,
+        kind: Kind,
+        digest: &[u8; 32],
+        label: &str,
+        head: &FileHead,
+        rows: &FileRows,
+    ) -> Result<(), StoreEnd>
+        ensures whole { OnOk result (IsWhole head.now) }
+        ensures fits { OnOk result ((k : ℕ) → k < length head.now.events → ColumnFits (content_of rows.now) k) }
+        ensures counted { OnOk result (count_total (content_of rows.now).arcs < 2 ^ 63) }
+        ensures done { IsFaithful S.Store self.new → (t : _) → StandsFor S.Store t self.old → t.next ≡ number → OnOk result (StandsFor S.Store (with_file number kind digest.now label.now head.now (content_of rows.now) t) self.new) }
+        ensures kept { IsFaithful S.Store self.new → (t : _) → StandsFor S.Store t self.old → OnErr result (IsUsable S.Store self.new → StandsFor S.Store t self.new) }
+        ensures unchanged { IsFaithful S.Store self.new → IsSettled S.Store self.old → OnErr result (IsUsable S.Store self.new → IsAsBefore S.Store self.old self.new) }
+        ensures crash { IsFaithful S.Store self.new → (t : _) → StandsFor S.Store t self.old → t.next ≡ number → LeavesOnly S.Store self.old self.new (Holds (with_file number kind digest.now label.now head.now (content_of rows.now) t)) }
+        ensures honest { IsFaithful S.Store self.new → IsFaithful S.Store self.old }
+    {
+        if !self.conn.is_autocommit() {
+            return Err(StoreEnd::Store);
+        }
+        let totals = rows.totals(alloc, head.events.len())?;
+        let lines = head_lines(alloc, number, head, &totals)?;
+        let Some(call_count) = whole_of(totals.call_count) else {
+            return Err(StoreEnd::Store);
+        };
+        let run = RunLine {
+            number,
+            kind: number_of_kind(kind),
+            digest,
+            label,
+            call_count,
+        };
+        put_in(&mut self.conn, alloc, &run, &lines, rows)
+    }
+
+    /// Puts a file as a run, and answers its number, which no run had before: what its head says
+    /// and the sums of its rows, in one transaction. `digest` is the SHA-256 of the file, `label` a
+    /// text in form (`is_label`). `Store` answers a digest that is held, a sum of a column or a
+    /// number of calls above 2^63-1, a head that states a total for some events alone, and a
+    /// connection within a transaction.
+    pub fn put_run(
+        &mut self,
+        alloc: Global,
+        kind: Kind,
+        digest: &[u8; 32],
+        label: &str,
+        head: &FileHead,
+        rows: &FileRows,
+    ) -> Result<u32, StoreEnd>
+        requires { IsLabel label.now }
+        ensures told { IsFaithful S.Store self.new → (t : _) → StandsFor S.Store t self.old → IfOk result (λ number. number ≡ t.next) }
+        ensures whole { OnOk result (IsWhole head.now) }
+        ensures fits { OnOk result ((k : ℕ) → k < length head.now.events → ColumnFits (content_of rows.now) k) }
+        ensures counted { OnOk result (count_total (content_of rows.now).arcs < 2 ^ 63) }
+        ensures done { IsFaithful S.Store self.new → (t : _) → StandsFor S.Store t self.old → OnOk result (StandsFor S.Store (with_file t.next kind digest.now label.now head.now (content_of rows.now) t) self.new) }
+        ensures kept { IsFaithful S.Store self.new → (t : _) → StandsFor S.Store t self.old → OnErr result (IsUsable S.Store self.new → StandsFor S.Store t self.new) }
+        ensures crash { IsFaithful S.Store self.new → (t : _) → StandsFor S.Store t self.old → LeavesOnly S.Store self.old self.new (Holds (with_file t.next kind digest.now label.now head.now (content_of rows.now) t)) }
+        ensures honest { IsFaithful S.Store self.new → IsFaithful S.Store self.old }
+    {
+        let number = self.next_run()?;
+        self.put_numbered(alloc, number, kind, digest, label, head, rows)?;
+        Ok(number)
+    }
+}
