@@ -4,6 +4,7 @@ mod Finding
 mod Listing
 mod Lists
 mod ManyLines
+mod NameLists
 mod Parts
 mod Reading
 mod RowLines

@@ -6,9 +6,11 @@ pub mod Files
 pub mod FromRows
 pub mod Groups
 pub mod HeadLines
+pub mod HeldCells
 pub mod Kinds
 pub mod Labels
 pub mod Lines
+pub mod NameLines
 pub mod Names
 pub mod Runs
 pub mod Shown

@@ -4,7 +4,7 @@ use Rattle.prof_tables.specs.Tables.{cell_columns}
 use Rattle.prof_store.specs.Lines.{cell_line}
 use Rattle.prof_store.specs.Walks.{asked}
 use Rattle.prof_store.proofs.WalkSteps.{took_step}
-use Rattle.prof_store.proofs.cell_lines.CellLines.step.Goals as goal
+use Rattle.prof_store.proofs.store.Store.next_cell.Goals as goal
 
 pub returns-then-not-branch-clause-given : goal.returns-then-not-branch-clause-given
 returns-then-not-branch-clause-given g c clean given was =
