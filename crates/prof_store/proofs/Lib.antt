@@ -1,4 +1,6 @@
+pub mod ArcRows
 pub mod ArcWalks
+pub mod CellRows
 pub mod CellWalks
 mod Finding
 mod Listing
@@ -8,6 +10,7 @@ mod NameLists
 mod Parts
 mod Reading
 mod RowLines
+pub mod StackRows
 pub mod StackWalks
 pub mod WalkSteps
 pub mod WalkTables

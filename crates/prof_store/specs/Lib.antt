@@ -6,7 +6,9 @@ pub mod Files
 pub mod FromRows
 pub mod Groups
 pub mod HeadLines
+pub mod HeldArcs
 pub mod HeldCells
+pub mod HeldStacks
 pub mod Kinds
 pub mod Labels
 pub mod Lines

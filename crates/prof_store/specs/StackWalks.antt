@@ -1,19 +1,13 @@
 -- What a walk over the stacks of a run has given.
 use Rattle.std.specs.Prelude.{◌≡◌, ℕ, List, [], ◌∷◌, ◌++◌, map, Option, Some, None}
 use Rattle.sqlite_trees.specs.declared.store.Store.{Ghosts}
-use Rattle.prof_tables.specs.Tables.{Tables, StackLine as Stack, stack_columns}
-use Rattle.prof_tables.specs.RunLines.{stacks_in}
+use Rattle.prof_tables.specs.Tables.{StackLine as Stack, stack_columns}
 use Rattle.prof_store.specs.declared.lines.HeldStack.{HeldStack}
 use Rattle.prof_store.specs.declared.store.Store.{Store}
 use Rattle.prof_store.specs.declared.walks.Walk.{Walk}
 use Rattle.prof_store.specs.declared.walks.Listed.TheVariants.{Stacks}
 use Rattle.prof_store.specs.Lines.{held_stack}
 use Rattle.prof_store.specs.Walks.{Walks, HasWalked}
-
--- the stacks given and this one begin those of the run, or they are all of them
-abbrev pub TellsStacks : ℕ → Tables → List Stack → Option HeldStack → Type 0
-TellsStacks run t given (Some stack) = (rest : List Stack) × (stacks_in run t ≡ given ++ held_stack stack ∷ rest)
-TellsStacks run t given None = stacks_in run t ≡ given
 
 module _ {S : Type 0} (g : Ghosts S) where
   -- the walk has given these stacks

@@ -3,6 +3,7 @@
 
 mod arc_lines;
 mod arc_texts;
+mod arcs;
 mod cell_lines;
 mod cell_texts;
 mod cells;
@@ -34,6 +35,7 @@ mod row_values;
 mod runs;
 mod stack_lines;
 mod stack_texts;
+mod stacks;
 mod store;
 #[cfg(test)]
 mod tests;
@@ -43,10 +45,12 @@ mod values;
 mod walks;
 mod whole;
 
+pub use arcs::Arcs;
 pub use cells::Cells;
 pub use entries::{GroupEntry, RunEntry};
 pub use errors::StoreEnd;
 pub use held_names::HeldNames;
 pub use kinds::Kind;
 pub use sqlite::Alter;
+pub use stacks::Stacks;
 pub use store::Store;
