@@ -1,7 +1,8 @@
 -- A walk over the calls of a run, with names in place.
-use Rattle.std.proofs.Common.{◌≡◌, ℕ, suc, ◌+◌, nat_lt, if◌then◌else◌, Bool, true, false, List, [], ◌∷◌, ◌++◌, map, flat_map, length, Option, Some, None, Result, Ok, Err, OnOk, IfOk, refl, sym, ap, ap₂, subst, ◌∙◌, append-nil, append_assoc, add-zero, arith}
+use Rattle.std.proofs.Common.{◌≡◌, ℕ, suc, ◌+◌, ◌<◌, nat_lt, if◌then◌else◌, Bool, true, false, List, [], ◌∷◌, ◌++◌, map, flat_map, length, Option, Some, None, Result, Ok, Err, OnOk, IfOk, refl, sym, ap, ap₂, subst, ◌∙◌, append-nil, append_assoc, add-zero, arith}
 use Rattle.std.specs.Borrow.{Bor}
 use Rattle.std.specs.List.{AllByRecursion}
+use Rattle.std.proofs.lemmas.Bool.Decides.{nat_tests}
 use Rattle.std.proofs.lemmas.Grind.{flat_map-append}
 use Rattle.std.proofs.lemmas.List.{map-append}
 use Rattle.sqlite_trees.specs.declared.store.Store.{Ghosts}
@@ -35,6 +36,16 @@ lines_more first part (c ∷ costs) cost = go (nat_lt 0 c) (lines_more first (su
 
 pub zero_more : (first : Arc) (part : ℕ) (costs : List ℕ) → lines_from first part (costs ++ 0 ∷ []) ≡ lines_from first part costs
 zero_more first part costs = lines_more first part costs 0 ∙ append-nil (lines_from first part costs)
+
+positive : (n : ℕ) → 0 < n → nat_lt 0 n ≡ true
+positive n h = grind (arith, nat_tests)
+
+-- a part is added behind costs that reach up to its column
+pub part_more : (first : Arc) (costs full : List ℕ) (part sum cost : ℕ) → lines_from first 1 full ≡ lines_from first 1 costs → part ≡ length full + 1 → cost ≡ sum → 0 < sum
+    → lines_from first 1 (full ++ cost ∷ []) ≡ lines_from first 1 costs ++ part_line first part sum ∷ []
+part_more first costs full part sum cost same at is above =
+    let here : 1 + length full ≡ part = omega (arith, at) in
+    lines_more first 1 full cost ∙ ap₂ ◌++◌ same (ap₂ (λ n c. if nat_lt 0 c then part_line first n c ∷ [] else []) here is ∙ ap (λ b. if b then part_line first part sum ∷ [] else []) (positive sum above))
 
 -- ---- names in place
 
@@ -78,14 +89,14 @@ module _ {S : Type 0} (g : Ghosts S) where
   -- a row shows its lines
   pub one_row : (given : List (ArcRow (List ℕ) (List ℕ))) (old new : Arcs S) (first : Arc) (costs : List ℕ) (row : ArcRow (Bor (List ℕ)) (List ℕ)) → new.names.now ≡ old.names.now → first.part ≡ 0 → (was : HasGivenArcs g given old)
       → HasUsedArcs g ((was.lines ++ first ∷ []) ++ lines_from first 1 costs) new → plain_given row ≡ row_of old.names.now first costs → ArcIsNamed old.names.now first → HasGivenArcs g (given ++ plain_given row ∷ []) new
-  one_row given old new first costs row names zero was used says named =
+  one_row given old new first costs row names counts was used says named =
       let more = first ∷ lines_from first 1 costs in
       let same = append_assoc was.lines (first ∷ []) (lines_from first 1 costs) in
       record {
         lines = was.lines ++ more;
         used = subst (λ l. HasUsedArcs g l new) same used;
         parts_are = ap (λ (n : List NameLine). map (part_held n) (was.lines ++ more)) names ∙ map-append (part_held old.names.now) was.lines more
-            ∙ ap₂ ◌++◌ was.parts_are (row_parts old.names.now first costs zero ∙ ap parts_of (sym says) ∙ sym (append-nil (parts_of (plain_given row)))) ∙ sym (flat_map-append parts_of given (plain_given row ∷ []));
+            ∙ ap₂ ◌++◌ was.parts_are (row_parts old.names.now first costs counts ∙ ap parts_of (sym says) ∙ sym (append-nil (parts_of (plain_given row)))) ∙ sym (flat_map-append parts_of given (plain_given row ∷ []));
         named = subst (λ (n : List NameLine). AllByRecursion (ArcIsNamed n) (was.lines ++ more)) (sym names) (all_append _ was.lines more was.named (named, parts_are_named old.names.now first named 1 costs));
       }
 
@@ -111,11 +122,10 @@ module _ {S : Type 0} (g : Ghosts S) where
       ap₂ (λ (n : List NameLine) l. map (part_held n) l) (sym names) all ∙ has.has.parts_are
   tells_arc_rows t c given (Ok (Some row)) names was has =
       let begun = arcs_begin g t c.store.now c.walk (has.lines ++ waiting_line c.waiting) was has.used.gives in
-      let more = waiting_line c.waiting ++ begun.0 in
-      (
+      let more = waiting_line c.waiting ++ begun.0 in (
         map (part_held c.names.now) more,
         ap₂ (λ (n : List NameLine) l. map (part_held n) l) (sym names) (begun.1 ∙ append_assoc has.lines (waiting_line c.waiting) begun.0) ∙ map-append (part_held c.names.now) has.lines more
-        ∙ ap (λ l. l ++ map (part_held c.names.now) more) has.parts_are,
+            ∙ ap (λ l. l ++ map (part_held c.names.now) more) has.parts_are,
       )
 
   -- and all names are held

@@ -40,9 +40,11 @@ module _ {S : Type 0} (g : Ghosts S) where
       ap₂ (λ (n : List NameLine) l. map (cell_held n) l) (sym names) all ∙ has.has.rows_are
   tells_cell_rows t c given (Ok (Some row)) names was has =
       let begun = cells_begin g t c.store.now c.walk has.lines was has.gives in
-      let rest = map (cell_held t.names) begun.0 in
-      (rest, ap₂ (λ (n : List NameLine) l. map (cell_held n) l) (sym names) begun.1 ∙ map-append (cell_held c.names.now) has.lines begun.0
-        ∙ ap₂ (λ a (n : List NameLine). a ++ map (cell_held n) begun.0) has.rows_are names ∙ append_assoc given (plain_cell row ∷ []) rest)
+      let rest = map (cell_held t.names) begun.0 in (
+        rest,
+        ap₂ (λ (n : List NameLine) l. map (cell_held n) l) (sym names) begun.1 ∙ map-append (cell_held c.names.now) has.lines begun.0
+            ∙ ap₂ (λ a (n : List NameLine). a ++ map (cell_held n) begun.0) has.rows_are names ∙ append_assoc given (plain_cell row ∷ []) rest,
+      )
 
   -- and all names are held
   pub cells_are_named : (t : Tables) (c : Cells S) (given : List (CellRow (List ℕ))) → StandsFor g t c.store.now → HasGivenAllCells g given c → AllByRecursion (CellIsNamed c.names.now) (cells_in c.walk.run t)

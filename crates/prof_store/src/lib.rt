@@ -17,10 +17,10 @@ mod file_rows;
 mod first_columns;
 mod group_changes;
 mod groups;
-mod held_names;
 mod head_lines;
 mod head_loops;
 mod head_texts;
+mod held_names;
 mod joining;
 mod kinds;
 mod labels;
@@ -41,6 +41,8 @@ mod store;
 mod tests;
 #[cfg(test)]
 mod tests_queries;
+#[cfg(test)]
+mod tests_walks;
 mod values;
 mod walks;
 mod whole;
