@@ -1,24 +1,24 @@
 -- A walk over the arcs of a run, in the words of the tables.
-use Rattle.std.proofs.Common.{List, [], ◌∷◌, ◌++◌, map, drop, Option, Some, None, Result, Ok, Err, OnOk, IfOk, subst, ◌∙◌, append_assoc}
+use Rattle.std.proofs.Common.{◌≡◌, List, ◌++◌, map, drop, subst}
 use Rattle.sqlite_trees.specs.declared.store.Store.{Ghosts}
 use Rattle.sql_tables.specs.Walks.{Reads, HasReadAll}
-use Rattle.prof_tables.specs.Tables.{Tables, ArcLine as Arc, arc_columns}
+use Rattle.prof_tables.specs.Tables.{Tables, ArcLine, arc_columns}
+use Rattle.prof_tables.specs.RunLines.{arcs_in}
 use Rattle.prof_tables.proofs.RunLines.{arcs_begun, arcs_all}
-use Rattle.prof_store.specs.declared.errors.StoreEnd.{StoreEnd}
-use Rattle.prof_store.specs.declared.lines.ArcLine.{ArcLine}
-use Rattle.prof_store.specs.declared.arc_lines.ArcLines.{ArcLines}
-use Rattle.prof_store.specs.Lines.{arc_line}
+use Rattle.prof_store.specs.declared.store.Store.{Store}
+use Rattle.prof_store.specs.declared.walks.Walk.{Walk}
 use Rattle.prof_store.specs.Shown.{shown, StandsFor}
-use Rattle.prof_store.specs.Walks.{asked, rows_of}
-use Rattle.prof_store.specs.ArcWalks.{GivesArcsOn, TellsArcs}
+use Rattle.prof_store.specs.Walks.{asked, rows_of, HasWalked}
+use Rattle.prof_store.specs.ArcWalks.{GivesArcs}
 
-pub tells_arcs : {S : Type 0} (g : Ghosts S) (t : Tables) (c : ArcLines S) (given : List Arc) (result : Result (Option ArcLine) StoreEnd) → OnOk result (StandsFor g t c.store.now) → IfOk result (GivesArcsOn g given c)
-    → IfOk result (TellsArcs c.walk.run t given)
-tells_arcs g t c given (Err e) was gives = tt
-tells_arcs g t c given (Ok None) was gives =
-    arcs_all c.walk.run t (shown g c.store.now).now.trees was.holds given (subst (λ k. HasReadAll (asked k c.walk.run) (rows_of g k c.store.now) (map arc_columns given)) gives.0.table_is gives.1)
-tells_arcs g t c given (Ok (Some arc)) was gives =
-    let more = given ++ arc_line arc ∷ [] in
-    let at_hand = drop c.walk.at c.store.now.page.items in
-    let reads = subst (λ k. Reads (asked k c.walk.run) (rows_of g k c.store.now) c.walk.placed c.walk.low c.walk.top (map arc_columns more) at_hand) gives.table_is gives.walks.reads in
-    let it = arcs_begun c.walk.run t (shown g c.store.now).now.trees was.holds c.walk.placed c.walk.low c.walk.top more at_hand reads in (it.0, it.1 ∙ append_assoc given (arc_line arc ∷ []) it.0)
+module _ {S : Type 0} (g : Ghosts S) (t : Tables) (store : Store S) (walk : Walk) (given : List ArcLine) (was : StandsFor g t store) (gives : GivesArcs g given store walk) where
+  -- the arcs given begin those of the run
+  pub arcs_begin : (rest : List ArcLine) × (arcs_in walk.run t ≡ given ++ rest)
+  arcs_begin =
+      let at_hand = drop walk.at store.page.items in
+      let reads = subst (λ k. Reads (asked k walk.run) (rows_of g k store) walk.placed walk.low walk.top (map arc_columns given) at_hand) gives.table_is gives.walks.reads in
+      arcs_begun walk.run t (shown g store).now.trees was.holds walk.placed walk.low walk.top given at_hand reads
+
+  -- and are all, once the walk has ended
+  pub arcs_end : HasWalked g (map arc_columns given) store walk → arcs_in walk.run t ≡ given
+  arcs_end all = arcs_all walk.run t (shown g store).now.trees was.holds given (subst (λ k. HasReadAll (asked k walk.run) (rows_of g k store) (map arc_columns given)) gives.table_is all)

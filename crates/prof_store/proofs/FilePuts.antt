@@ -5,7 +5,7 @@ use Rattle.cost_rows.specs.Rows.{content_of}
 use Rattle.cost_rows.specs.Totals.{count_total}
 use Rattle.cost_rows.specs.declared.file_rows.FileRows.{FileRows}
 use Rattle.prof_tables.specs.Tables.{Tables, EventLine, DerivedLine, CoefLine}
-use Rattle.prof_store.specs.Files.{with_rows, with_head}
+use Rattle.prof_books.specs.Files.{with_rows, with_head}
 use Rattle.prof_store.specs.HeadsPut.{event_lines, derived_lines, coef_lines}
 use Rattle.prof_store.specs.Kinds.{kind_number}
 use Rattle.prof_store.specs.Lines.{event_line, derived_line, coef_line}

@@ -1,13 +1,17 @@
+pub mod ArcRows
 pub mod ArcWalks
+pub mod CellRows
 pub mod CellWalks
 mod FilePuts
 mod Finding
 mod Listing
 mod Lists
 mod ManyLines
+mod NameLists
 mod Parts
 mod Reading
 mod RowLines
+pub mod StackRows
 pub mod StackWalks
 pub mod WalkSteps
 pub mod WalkTables

@@ -1,26 +1,21 @@
 -- What a walk over the arcs of a run has given.
 use Rattle.std.specs.Prelude.{◌≡◌, ℕ, List, [], ◌∷◌, ◌++◌, map, Option, Some, None}
 use Rattle.sqlite_trees.specs.declared.store.Store.{Ghosts}
-use Rattle.prof_tables.specs.Tables.{Tables, ArcLine as Arc, arc_columns}
-use Rattle.prof_tables.specs.RunLines.{arcs_in}
+use Rattle.prof_tables.specs.Tables.{ArcLine as Arc, arc_columns}
 use Rattle.prof_store.specs.declared.lines.ArcLine.{ArcLine}
-use Rattle.prof_store.specs.declared.arc_lines.ArcLines.{ArcLines}
+use Rattle.prof_store.specs.declared.store.Store.{Store}
+use Rattle.prof_store.specs.declared.walks.Walk.{Walk}
 use Rattle.prof_store.specs.declared.walks.Listed.TheVariants.{Arcs}
 use Rattle.prof_store.specs.Lines.{arc_line}
 use Rattle.prof_store.specs.Walks.{Walks, HasWalked}
 
--- the arcs given and this one begin those of the run, or they are all of them
-abbrev pub TellsArcs : ℕ → Tables → List Arc → Option ArcLine → Type 0
-TellsArcs run t given (Some arc) = (rest : List Arc) × (arcs_in run t ≡ given ++ arc_line arc ∷ rest)
-TellsArcs run t given None = arcs_in run t ≡ given
-
 module _ {S : Type 0} (g : Ghosts S) where
   -- the walk has given these arcs
-  pub record GivesArcs (given : List Arc) (c : ArcLines S) : Type 0 where
-    pub table_is : c.walk.table ≡ Arcs
-    pub walks : Walks g (map arc_columns given) c.store.now c.walk
+  pub record GivesArcs (given : List Arc) (store : Store S) (walk : Walk) : Type 0 where
+    pub table_is : walk.table ≡ Arcs
+    pub walks : Walks g (map arc_columns given) store walk
 
   -- one more is given, or those so far are all
-  abbrev pub GivesArcsOn : List Arc → ArcLines S → Option ArcLine → Type 0
-  GivesArcsOn given c (Some arc) = GivesArcs (given ++ arc_line arc ∷ []) c
-  GivesArcsOn given c None = GivesArcs given c × HasWalked g (map arc_columns given) c.store.now c.walk
+  abbrev pub GivesArcsOn : List Arc → Store S → Walk → Option ArcLine → Type 0
+  GivesArcsOn given store walk (Some arc) = GivesArcs (given ++ arc_line arc ∷ []) store walk
+  GivesArcsOn given store walk None = GivesArcs given store walk × HasWalked g (map arc_columns given) store walk

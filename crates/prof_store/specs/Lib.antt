@@ -5,9 +5,13 @@ pub mod FromRows
 pub mod Groups
 pub mod HeadLines
 pub mod HeadsPut
+pub mod HeldArcs
+pub mod HeldCells
+pub mod HeldStacks
 pub mod Kinds
 pub mod Labels
 pub mod Lines
+pub mod NameLines
 pub mod Names
 pub mod Queues
 pub mod Runs

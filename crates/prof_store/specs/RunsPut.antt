@@ -4,7 +4,7 @@ use Rattle.cg_text.specs.declared.heads.FileHead.{FileHead}
 use Rattle.cost_rows.specs.Content.{Content}
 use Rattle.cost_rows.specs.Totals.{count_total}
 use Rattle.prof_tables.specs.Tables.{Tables, RunLine}
-use Rattle.prof_store.specs.Files.{with_rows, with_head}
+use Rattle.prof_books.specs.Files.{with_rows, with_head}
 use Rattle.prof_store.specs.HeadsPut.{event_lines, derived_lines, coef_lines}
 use Rattle.prof_store.specs.Kinds.{kind_number}
 use Rattle.prof_store.specs.declared.kinds.Kind.{Kind}

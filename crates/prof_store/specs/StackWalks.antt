@@ -1,26 +1,21 @@
 -- What a walk over the stacks of a run has given.
 use Rattle.std.specs.Prelude.{◌≡◌, ℕ, List, [], ◌∷◌, ◌++◌, map, Option, Some, None}
 use Rattle.sqlite_trees.specs.declared.store.Store.{Ghosts}
-use Rattle.prof_tables.specs.Tables.{Tables, StackLine as Stack, stack_columns}
-use Rattle.prof_tables.specs.RunLines.{stacks_in}
+use Rattle.prof_tables.specs.Tables.{StackLine as Stack, stack_columns}
 use Rattle.prof_store.specs.declared.lines.HeldStack.{HeldStack}
-use Rattle.prof_store.specs.declared.stack_lines.StackLines.{StackLines}
+use Rattle.prof_store.specs.declared.store.Store.{Store}
+use Rattle.prof_store.specs.declared.walks.Walk.{Walk}
 use Rattle.prof_store.specs.declared.walks.Listed.TheVariants.{Stacks}
 use Rattle.prof_store.specs.Lines.{held_stack}
 use Rattle.prof_store.specs.Walks.{Walks, HasWalked}
 
--- the stacks given and this one begin those of the run, or they are all of them
-abbrev pub TellsStacks : ℕ → Tables → List Stack → Option HeldStack → Type 0
-TellsStacks run t given (Some stack) = (rest : List Stack) × (stacks_in run t ≡ given ++ held_stack stack ∷ rest)
-TellsStacks run t given None = stacks_in run t ≡ given
-
 module _ {S : Type 0} (g : Ghosts S) where
   -- the walk has given these stacks
-  pub record GivesStacks (given : List Stack) (c : StackLines S) : Type 0 where
-    pub table_is : c.walk.table ≡ Stacks
-    pub walks : Walks g (map stack_columns given) c.store.now c.walk
+  pub record GivesStacks (given : List Stack) (store : Store S) (walk : Walk) : Type 0 where
+    pub table_is : walk.table ≡ Stacks
+    pub walks : Walks g (map stack_columns given) store walk
 
   -- one more is given, or those so far are all
-  abbrev pub GivesStacksOn : List Stack → StackLines S → Option HeldStack → Type 0
-  GivesStacksOn given c (Some stack) = GivesStacks (given ++ held_stack stack ∷ []) c
-  GivesStacksOn given c None = GivesStacks given c × HasWalked g (map stack_columns given) c.store.now c.walk
+  abbrev pub GivesStacksOn : List Stack → Store S → Walk → Option HeldStack → Type 0
+  GivesStacksOn given store walk (Some stack) = GivesStacks (given ++ held_stack stack ∷ []) store walk
+  GivesStacksOn given store walk None = GivesStacks given store walk × HasWalked g (map stack_columns given) store walk

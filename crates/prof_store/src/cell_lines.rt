@@ -1,26 +1,18 @@
-// The cells of a run, one at a time.
-ghost use Rattle.std.specs.Prelude.{◌≡◌, [], Some, None, IfOk, IfErr, OnOk, MatchResult};
+// The cells of a run, one at a time, as they lie in the table.
+ghost use Rattle.std.specs.Prelude.{◌≡◌, IfOk, OnOk};
 ghost use Rattle.sql_tables.specs.Walks.{read_from};
 ghost use Rattle.prof_tables.specs.Tables.{cell_columns};
 ghost use Rattle.prof_tables.specs.WalkTexts.{cells_of};
 ghost use Rattle.prof_store.specs.Lines.{cell_line};
-ghost use Rattle.prof_store.specs.Shown.{shown, IsFaithful, IsUsable, StandsFor, LeavesOnly};
-ghost use Rattle.prof_store.specs.Walks.{IsReady};
-ghost use Rattle.prof_store.specs.CellWalks.{GivesCells, GivesCellsOn, TellsCells};
+ghost use Rattle.prof_store.specs.Shown.{IsFaithful, IsUsable, StandsFor, LeavesOnly};
+ghost use Rattle.prof_store.specs.CellWalks.{GivesCells, GivesCellsOn};
 
 use crate::errors::StoreEnd;
 use crate::lines::CellLine;
 use crate::row_values::{small_at, whole_at};
 use crate::store::Store;
-use crate::walks::{Listed, Walk};
+use crate::walks::Walk;
 use sqlite::{Alter, Row};
-
-/// The cells of a run, read one at a time. An error ends the walk, and is answered again at each later call.
-pub(crate) struct CellLines<'a, S: Alter> {
-    store: &'a mut Store<S>,
-    walk: Walk,
-    failed: Option<StoreEnd>,
-}
 
 fn read_cell(run: u32, row: &Row) -> Result<CellLine, StoreEnd>
     ensures { IfOk result (λ c. cell_columns (cell_line c) ≡ read_from (cells_of run) row.now) }
@@ -43,84 +35,25 @@ fn read_cell(run: u32, row: &Row) -> Result<CellLine, StoreEnd>
 }
 
 impl<S: Alter> Store<S> {
-    /// The cells of a run. The value borrows the store until it is dropped, which it may be at any of them.
-    pub(crate) fn cell_lines(&mut self, run: u32) -> CellLines<'_, S>
-        ensures same_reference { result.store.ghost_name ≡ self.entry.ghost_name }
-        ensures run { result.walk.run ≡ run }
-        ensures ready { IsReady (shown S.Store self.old) → GivesCells S.Store [] result }
-        ensures begun { (t : _) → StandsFor S.Store t self.old → GivesCells S.Store [] result }
-        ensures failed { result.failed ≡ None }
-        ensures stays { (t : _) → StandsFor S.Store t self.old → StandsFor S.Store t result.store.now }
-        ensures crash { LeavesOnly S.Store self.old result.store.now (λ _. ⊥) }
-        ensures honest { IsFaithful S.Store result.store.now → IsFaithful S.Store self.old }
+    /// The next cell of a walk.
+    pub(crate) fn next_cell(&mut self, walk: &mut Walk) -> Result<Option<CellLine>, StoreEnd>
+        ensures run { walk.new.run ≡ walk.old.run }
+        ensures given { IsFaithful S.Store self.new → (given : _) → GivesCells S.Store given self.old walk.old → IfOk result (GivesCellsOn S.Store given self.new walk.new) }
+        ensures stays { IsFaithful S.Store self.new → (t : _) → StandsFor S.Store t self.old → OnOk result (StandsFor S.Store t self.new) }
+        ensures kept { IsFaithful S.Store self.new → (t : _) → StandsFor S.Store t self.old → IsUsable S.Store self.new → StandsFor S.Store t self.new }
+        ensures crash { IsFaithful S.Store self.new → (t : _) → StandsFor S.Store t self.old → LeavesOnly S.Store self.old self.new (λ _. ⊥) }
+        ensures honest { IsFaithful S.Store self.new → IsFaithful S.Store self.old }
     {
-        self.page.clear();
-        CellLines {
-            store: self,
-            walk: Walk::over(Listed::Cells, run),
-            failed: None,
-        }
-    }
-}
-
-impl<S: Alter> CellLines<'_, S> {
-    fn step(&mut self) -> Result<Option<CellLine>, StoreEnd>
-        ensures same_reference { self.new.store.ghost_name ≡ self.old.store.ghost_name }
-        ensures run { self.new.walk.run ≡ self.old.walk.run }
-        ensures failed { self.new.failed ≡ self.old.failed }
-        ensures given { IsFaithful S.Store self.new.store.now → (given : _) → GivesCells S.Store given self.old → IfOk result (GivesCellsOn S.Store given self.new) }
-        ensures stays { IsFaithful S.Store self.new.store.now → (t : _) → StandsFor S.Store t self.old.store.now → OnOk result (StandsFor S.Store t self.new.store.now) }
-        ensures kept { IsFaithful S.Store self.new.store.now → (t : _) → StandsFor S.Store t self.old.store.now → IsUsable S.Store self.new.store.now → StandsFor S.Store t self.new.store.now }
-        ensures crash { IsFaithful S.Store self.new.store.now → (t : _) → StandsFor S.Store t self.old.store.now → LeavesOnly S.Store self.old.store.now self.new.store.now (λ _. ⊥) }
-        ensures honest { IsFaithful S.Store self.new.store.now → IsFaithful S.Store self.old.store.now }
-    {
-        if !self.store.has_row(&mut self.walk)? {
+        if !self.has_row(walk)? {
             return Ok(None);
         }
-        match self.store.page.get(self.walk.at) {
+        match self.page.get(walk.at) {
             Some(row) => {
-                let line = read_cell(self.walk.run, row)?;
-                self.walk.at += 1;
+                let line = read_cell(walk.run, row)?;
+                walk.at += 1;
                 Ok(Some(line))
             }
             None => Err(StoreEnd::Store),
         }
-    }
-
-    /// The next cell.
-    pub(crate) fn next(&mut self) -> Result<Option<CellLine>, StoreEnd>
-        ensures same_reference { self.new.store.ghost_name ≡ self.old.store.ghost_name }
-        ensures run { self.new.walk.run ≡ self.old.walk.run }
-        ensures failed { MatchResult result (λ _. self.new.failed ≡ self.old.failed) (λ e. self.new.failed ≡ Some e) }
-        ensures again { (e : _) → self.old.failed ≡ Some e → (result ≡ Err e) × (self.new.store.now ≡ self.old.store.now) }
-        ensures given { IsFaithful S.Store self.new.store.now → (given : _) → GivesCells S.Store given self.old → IfOk result (GivesCellsOn S.Store given self.new) }
-        ensures told { IsFaithful S.Store self.new.store.now → (t : _) → StandsFor S.Store t self.old.store.now → (given : _) → GivesCells S.Store given self.old → IfOk result (TellsCells self.new.walk.run t given) }
-        ensures stays { IsFaithful S.Store self.new.store.now → (t : _) → StandsFor S.Store t self.old.store.now → OnOk result (StandsFor S.Store t self.new.store.now) }
-        ensures kept { IsFaithful S.Store self.new.store.now → (t : _) → StandsFor S.Store t self.old.store.now → IsUsable S.Store self.new.store.now → StandsFor S.Store t self.new.store.now }
-        ensures crash { IsFaithful S.Store self.new.store.now → (t : _) → StandsFor S.Store t self.old.store.now → LeavesOnly S.Store self.old.store.now self.new.store.now (λ _. ⊥) }
-        ensures honest { IsFaithful S.Store self.new.store.now → IsFaithful S.Store self.old.store.now }
-    {
-        if let Some(end) = self.failed {
-            return Err(end);
-        }
-        match self.step() {
-            Ok(line) => Ok(line),
-            Err(end) => {
-                self.failed = Some(end);
-                Err(end)
-            }
-        }
-    }
-}
-
-impl<S: Alter> Drop for CellLines<'_, S> {
-    fn drop(self)
-        ensures { self.exit.0.now ≡ self.entry.store.now }
-    {
-        let CellLines {
-            store: _,
-            walk: _,
-            failed: _,
-        } = self;
     }
 }

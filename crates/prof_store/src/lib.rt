@@ -3,8 +3,10 @@
 
 mod arc_lines;
 mod arc_texts;
+mod arcs;
 mod cell_lines;
 mod cell_texts;
+mod cells;
 mod columns;
 mod digests;
 mod dropping;
@@ -19,6 +21,7 @@ mod head_lines;
 mod head_loops;
 mod head_texts;
 mod heads_put;
+mod held_names;
 mod joining;
 mod kinds;
 mod labels;
@@ -36,6 +39,7 @@ mod row_values;
 mod runs;
 mod stack_lines;
 mod stack_texts;
+mod stacks;
 mod store;
 #[cfg(test)]
 mod tests;
@@ -45,13 +49,19 @@ mod tests_memory;
 mod tests_put;
 #[cfg(test)]
 mod tests_queries;
+#[cfg(test)]
+mod tests_walks;
 mod values;
 mod walks;
 mod whole;
 
+pub use arcs::Arcs;
+pub use cells::Cells;
 pub use entries::{GroupEntry, RunEntry};
 pub use errors::StoreEnd;
+pub use held_names::HeldNames;
 pub use kinds::Kind;
 pub use labels::is_label;
 pub use sqlite::Alter;
+pub use stacks::Stacks;
 pub use store::Store;

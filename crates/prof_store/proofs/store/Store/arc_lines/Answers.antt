@@ -1,9 +1,0 @@
-use Rattle.std.proofs.Common.{drop, ap₂}
-use Rattle.prof_store.proofs.WalkSteps.{begin_step, ready_for}
-use Rattle.prof_store.proofs.store.Store.arc_lines.Goals as goal
-
-pub returns-clause-ready : goal.returns-clause-ready
-returns-clause-ready g c was = record { table_is = c.over.ensures.table; walks = begin_step g.S.Store _ c.over.result was c.over.ensures.placed (ap₂ drop c.over.ensures.at c.clear.ensures.items) }
-
-pub returns-clause-begun : goal.returns-clause-begun
-returns-clause-begun g c t was = returns-clause-ready g c (ready_for t _ was)
