@@ -6,6 +6,7 @@ pub mod Files
 pub mod FromRows
 pub mod Groups
 pub mod HeadLines
+pub mod HeldHeads
 pub mod Kinds
 pub mod Labels
 pub mod Lines
