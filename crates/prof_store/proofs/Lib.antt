@@ -1,6 +1,7 @@
 pub mod ArcWalks
 pub mod CellWalks
 mod Finding
+mod HeadReading
 mod Listing
 mod Lists
 mod ManyLines

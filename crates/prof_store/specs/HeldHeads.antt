@@ -1,11 +1,15 @@
 -- The head of a run, as the rows of its lines say it.
-use Rattle.std.specs.Prelude.{◌≡◌, ℕ, suc, nat_lt, if◌then◌else◌, List, [], ◌∷◌, ◌++◌, map, length, Option, Some, None, unwrap_or, option_map, string_bytes, IfSome, IsPermutation, true}
+use Rattle.std.specs.Prelude.{◌≡◌, ℕ, suc, nat_lt, ◌==◌, if◌then◌else◌, IsTrue, List, [], ◌∷◌, ◌++◌, map, filter, length, Option, Some, None, unwrap_or, option_map, string_bytes, IfSome, IsPermutation, true}
 use Rattle.std.specs.Fmt.{decimal}
 use Rattle.sqlite_value.specs.declared.value.Value.TheVariants.{Blob}
 use Rattle.sqlite_value.specs.Order.{Row}
+use Rattle.std.specs.List.{list_any}
+use Rattle.sqlite_trees.specs.Tree.{Trees}
 use Rattle.cg_text.specs.Formulas.{are_distinct}
 use Rattle.cg_text.specs.declared.heads.FileHead.{FileHead}
-use Rattle.prof_tables.specs.Tables.{number, text_or_null}
+use Rattle.prof_tables.specs.Changes.{has_run}
+use Rattle.prof_tables.specs.Seen.{is_at, event_seen, derived_seen, coef_seen, event_shown, derived_shown, coef_shown}
+use Rattle.prof_tables.specs.Tables.{Tables, EventLine, DerivedLine, CoefLine, number, text_or_null}
 use Rattle.prof_store.specs.declared.head_lines.HeadEvent.{HeadEvent}
 use Rattle.prof_store.specs.declared.head_lines.HeadDerived.{HeadDerived}
 use Rattle.prof_store.specs.declared.head_lines.HeadCoef.{HeadCoef}
@@ -117,3 +121,18 @@ pub record IsReadFrom (head : FileHead) (events : List HeadEvent) (derived : Lis
   pub events_are : map event_line_said events ≡ events_said head
   pub derived_are : map derived_place derived ≡ derived_said head
   pub coefs_are : map coef_line_said coefs ≡ coefs_said head
+
+-- ---- in the tables
+
+-- the head of a run that is held is what its lines say
+abbrev pub IsHeadIn : ℕ → Tables → FileHead → Type 0
+IsHeadIn run t head =
+    IsTrue (has_run t run)
+    × IsHeadOf head (map event_shown (filter (λ (e : EventLine). e.run == run) t.events)) (map derived_shown (filter (λ (d : DerivedLine). d.run == run) t.derived))
+    (map coef_shown (filter (λ (c : CoefLine). c.run == run) t.coefs))
+
+-- and in any tables of schema 1 what its rows say
+abbrev pub IsHeadAt : ℕ → Trees → FileHead → Type 0
+IsHeadAt run db head =
+    IsTrue (list_any (is_at 0 (number run)) (db 1))
+    × IsHeadOf head (map event_seen (filter (is_at 1 (number run)) (db 3))) (map derived_seen (filter (is_at 1 (number run)) (db 6))) (map coef_seen (filter (is_at 1 (number run)) (db 9)))

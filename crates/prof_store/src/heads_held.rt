@@ -1,5 +1,5 @@
 // The head of a run, from its lines.
-ghost use Rattle.std.specs.Prelude.{◌≡◌, ◌≤◌, ◌++◌, [], ◌∷◌, if◌then◌else◌, nat_lt, map, take, length, true, All, Some, None, IfOk, MatchOption};
+ghost use Rattle.std.specs.Prelude.{◌≡◌, ◌≤◌, ◌++◌, [], ◌∷◌, map, take, length, true, All, Some, None, IfOk, MatchOption};
 ghost use Rattle.std.specs.Fmt.{decimal};
 ghost use Rattle.prof_store.specs.HeldHeads.{placed, event_place, event_total, derived_place, coef_line_said, coefs_at, coefs_from, IsReadFrom};
 
@@ -79,13 +79,19 @@ fn stated_in(alloc: Global, lines: &[HeadEvent]) -> Result<Option<Items<u128>>, 
     Ok(Some(all_stated(alloc, lines)?))
 }
 
-/// How often an event counts in a derived one: as the first line says if it is of them, else 0.
-fn first_times(place: usize, event: usize, coefs: &[HeadCoef]) -> u64
-    ensures { map coef_line_said (take (if nat_lt 0 result then 1 else 0) coefs.now) ≡ coefs_at place event (result ∷ []) }
+/// How often an event counts in a derived one, and how many lines at the front say it: 0 and none
+/// where the first line is not of them.
+fn first_times(place: usize, event: usize, coefs: &[HeadCoef]) -> (u64, usize)
+    ensures within { result.1 ≤ length coefs.now }
+    ensures said { map coef_line_said (take result.1 coefs.now) ≡ coefs_at place event (result.0 ∷ []) }
 {
     match coefs.first() {
-        Some(coef) if coef.place as usize == place && coef.event as usize == event => coef.times,
-        _ => 0,
+        Some(coef)
+            if coef.place as usize == place && coef.event as usize == event && coef.times > 0 =>
+        {
+            (coef.times, 1)
+        }
+        _ => (0, 0),
     }
 }
 
@@ -102,10 +108,8 @@ fn row_in(
     let mut row = Items::new(alloc);
     let mut used = 0;
     'events: for event in 0..events {
-        let times = first_times(place, event, &coefs[used..]);
-        if times > 0 {
-            used += 1;
-        }
+        let (times, more) = first_times(place, event, &coefs[used..]);
+        used += more;
         if row.push(times).is_err() {
             return Err(StoreEnd::Memory);
         }

@@ -18,6 +18,7 @@ mod groups;
 mod head_lines;
 mod head_loops;
 mod head_texts;
+mod heads;
 mod heads_held;
 mod joining;
 mod kinds;

@@ -10,6 +10,7 @@ pub mod MemberFinds
 pub mod Names
 pub mod Numbering
 pub mod Rows
+pub mod RunFinds
 pub mod RunLines
 pub mod RunLists
 pub mod Values
