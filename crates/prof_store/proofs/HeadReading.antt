@@ -144,3 +144,8 @@ is_head_of head events derived coefs event_rows derived_rows coef_rows es ds cs 
   derived_are = subst (IsPermutation derived_rows) (sym (map-map name_columns derived_place derived) ∙ ap (map name_columns) read.derived_are) ds;
   coefs_are = subst (IsPermutation coef_rows) (sym (map-map times_columns coef_line_said coefs) ∙ ap (map times_columns) read.coefs_are) cs;
 }
+
+pub read_from_same : (head : FileHead) (events events' : List HeadEvent) (derived derived' : List HeadDerived) (coefs coefs' : List HeadCoef) → events ≡ events' → derived ≡ derived' → coefs ≡ coefs' → IsReadFrom head events derived coefs
+    → IsReadFrom head events' derived' coefs'
+read_from_same head events events' derived derived' coefs coefs' es ds cs read =
+    subst (λ l. IsReadFrom head l derived' coefs') es (subst (λ l. IsReadFrom head events l coefs') ds (subst (λ l. IsReadFrom head events derived l) cs read))

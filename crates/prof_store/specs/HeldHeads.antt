@@ -124,15 +124,20 @@ pub record IsReadFrom (head : FileHead) (events : List HeadEvent) (derived : Lis
 
 -- ---- in the tables
 
--- the head of a run that is held is what its lines say
-abbrev pub IsHeadIn : ℕ → Tables → FileHead → Type 0
-IsHeadIn run t head =
-    IsTrue (has_run t run)
-    × IsHeadOf head (map event_shown (filter (λ (e : EventLine). e.run == run) t.events)) (map derived_shown (filter (λ (d : DerivedLine). d.run == run) t.derived))
+-- the head is what the lines of a run say
+abbrev pub IsReadIn : ℕ → Tables → FileHead → Type 0
+IsReadIn run t head =
+    IsHeadOf head (map event_shown (filter (λ (e : EventLine). e.run == run) t.events)) (map derived_shown (filter (λ (d : DerivedLine). d.run == run) t.derived))
     (map coef_shown (filter (λ (c : CoefLine). c.run == run) t.coefs))
 
--- and in any tables of schema 1 what its rows say
+-- and the run is held
+abbrev pub IsHeadIn : ℕ → Tables → FileHead → Type 0
+IsHeadIn run t head = IsTrue (has_run t run) × IsReadIn run t head
+
+-- the same in any tables of schema 1, of their rows
+abbrev pub IsReadAt : ℕ → Trees → FileHead → Type 0
+IsReadAt run db head =
+    IsHeadOf head (map event_seen (filter (is_at 1 (number run)) (db 3))) (map derived_seen (filter (is_at 1 (number run)) (db 6))) (map coef_seen (filter (is_at 1 (number run)) (db 9)))
+
 abbrev pub IsHeadAt : ℕ → Trees → FileHead → Type 0
-IsHeadAt run db head =
-    IsTrue (list_any (is_at 0 (number run)) (db 1))
-    × IsHeadOf head (map event_seen (filter (is_at 1 (number run)) (db 3))) (map derived_seen (filter (is_at 1 (number run)) (db 6))) (map coef_seen (filter (is_at 1 (number run)) (db 9)))
+IsHeadAt run db head = IsTrue (list_any (is_at 0 (number run)) (db 1)) × IsReadAt run db head

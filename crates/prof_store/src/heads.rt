@@ -8,7 +8,7 @@ ghost use Rattle.prof_tables.specs.Schema.{schema_one};
 ghost use Rattle.prof_tables.specs.Seen.{is_at};
 ghost use Rattle.prof_tables.specs.Tables.{number};
 ghost use Rattle.prof_tables.specs.Texts.{kind_of_text};
-ghost use Rattle.prof_store.specs.HeldHeads.{IsHeadIn, IsHeadAt};
+ghost use Rattle.prof_store.specs.HeldHeads.{IsHeadIn, IsHeadAt, IsReadIn, IsReadAt};
 ghost use Rattle.prof_store.specs.Shown.{shown, IsFaithful, IsUsable, IsSettled, IsAsBefore, StandsFor, LeavesOnly};
 ghost use Rattle.prof_store.specs.declared.errors.StoreEnd.TheVariants as ends;
 
@@ -36,6 +36,7 @@ impl<S: Alter> Store<S> {
         ensures stays { IsFaithful S.Store self.new → (t : _) → StandsFor S.Store t self.old → OnOk result (StandsFor S.Store t self.new) }
         ensures kept { IsFaithful S.Store self.new → (t : _) → StandsFor S.Store t self.old → IsUsable S.Store self.new → StandsFor S.Store t self.new }
         ensures unchanged { IsFaithful S.Store self.new → IsSettled S.Store self.old → IsUsable S.Store self.new → IsAsBefore S.Store self.old self.new }
+        ensures usable { IsFaithful S.Store self.new → IsSettled S.Store self.old → OnOk result (IsUsable S.Store self.new) }
         ensures crash { IsFaithful S.Store self.new → (t : _) → StandsFor S.Store t self.old → LeavesOnly S.Store self.old self.new (λ _. ⊥) }
         ensures honest { IsFaithful S.Store self.new → IsFaithful S.Store self.old }
         ensures refused { IfErr result (λ e. e ≢ ends.WrongSchema) }
@@ -48,7 +49,16 @@ impl<S: Alter> Store<S> {
 
     /// The head of a run whose number is held, as its lines say it.
     fn said_head(&mut self, alloc: Global, run: u32) -> Result<FileHead, StoreEnd>
-        ensures told { IsFaithful S.Store self.new → (t : _) → StandsFor S.Store t self.old → IfOk result (IsHeadIn run t) }
+        ensures told { IsFaithful S.Store self.new → (t : _) → StandsFor S.Store t self.old → IfOk result (IsReadIn run t) }
+        ensures found { IsFaithful S.Store self.new → (shown S.Store self.old).now.schema ≡ schema_one → IfOk result (IsReadAt run (shown S.Store self.old).now.trees) }
+        ensures same { IsFaithful S.Store self.new → (shown S.Store self.old).now.schema ≡ schema_one → OnOk result ((shown S.Store self.new).now ≡ (shown S.Store self.old).now) }
+        ensures stays { IsFaithful S.Store self.new → (t : _) → StandsFor S.Store t self.old → OnOk result (StandsFor S.Store t self.new) }
+        ensures kept { IsFaithful S.Store self.new → (t : _) → StandsFor S.Store t self.old → IsUsable S.Store self.new → StandsFor S.Store t self.new }
+        ensures unchanged { IsFaithful S.Store self.new → IsSettled S.Store self.old → IsUsable S.Store self.new → IsAsBefore S.Store self.old self.new }
+        ensures usable { IsFaithful S.Store self.new → IsSettled S.Store self.old → OnOk result (IsUsable S.Store self.new) }
+        ensures crash { IsFaithful S.Store self.new → (t : _) → StandsFor S.Store t self.old → LeavesOnly S.Store self.old self.new (λ _. ⊥) }
+        ensures honest { IsFaithful S.Store self.new → IsFaithful S.Store self.old }
+        ensures refused { IfErr result (λ e. e ≢ ends.WrongSchema) }
     {
         let events = self.events_of(alloc, run)?;
         let derived = self.derived_of(alloc, run)?;
@@ -67,6 +77,7 @@ impl<S: Alter> Store<S> {
         ensures stays { IsFaithful S.Store self.new → (t : _) → StandsFor S.Store t self.old → OnOk result (StandsFor S.Store t self.new) }
         ensures kept { IsFaithful S.Store self.new → (t : _) → StandsFor S.Store t self.old → IsUsable S.Store self.new → StandsFor S.Store t self.new }
         ensures unchanged { IsFaithful S.Store self.new → IsSettled S.Store self.old → IsUsable S.Store self.new → IsAsBefore S.Store self.old self.new }
+        ensures usable { IsFaithful S.Store self.new → IsSettled S.Store self.old → OnOk result (IsUsable S.Store self.new) }
         ensures crash { IsFaithful S.Store self.new → (t : _) → StandsFor S.Store t self.old → LeavesOnly S.Store self.old self.new (λ _. ⊥) }
         ensures honest { IsFaithful S.Store self.new → IsFaithful S.Store self.old }
         ensures refused { IfErr result (λ e. e ≢ ends.WrongSchema) }

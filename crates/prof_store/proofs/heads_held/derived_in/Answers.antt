@@ -23,7 +23,7 @@ lines-preserved c =
     let low = c.lines.invariant.1 in
     let pushed : c.push.new.self ≡ derived ++ (name, row) ∷ [] = is_ok_then c.push.result c.if-is_err.ensures.negation c.push.ensures.ok in
     let place : c.len-place.result ≡ length derived = c.len-place.ensures in
-    let one : derived_place line ≡ at_place (length (map name_of derived)) name = ap₂ at_place (c.in_ok-name.ensures.0 ∙ place ∙ sym (length-map derived name_of)) (sym (c.in_ok-name.ensures.1 ∙ c.deref.ensures.value)) in
+    let one : derived_place line ≡ at_place (length (map name_of derived)) name = ap₂ at_place (c.in_ok-name.ensures.read.0 ∙ place ∙ sym (length-map derived name_of)) (sym (c.in_ok-name.ensures.read.1 ∙ c.deref.ensures.value)) in
     let names : map name_of c.push.new.self ≡ map name_of derived ++ name ∷ [] = ap (map name_of) pushed ∙ map-append name_of derived ((name, row) ∷ []) in
     let rows : map row_of c.push.new.self ≡ map row_of derived ++ row ∷ [] = ap (map row_of) pushed ∙ map-append row_of derived ((name, row) ∷ []) in (
       read_on derived_place c.args.lines.now c.lines.line-index line (placed 0 (map name_of derived)) c.lines-test.true c.line-item.is c.lines.invariant.0

@@ -10,5 +10,5 @@ lines-preserved c =
     let name = c.in_ok-name.name in
     let line = c.line-item.result in
     let pushed : c.push.new.self ≡ names ++ name ∷ [] = is_ok_then c.push.result c.if-is_err.ensures.negation c.push.ensures.ok in
-    let one : event_place line ≡ at_place (length names) name = ap₂ at_place (c.in_ok-name.ensures.0 ∙ c.len.ensures) (sym (c.in_ok-name.ensures.1 ∙ c.deref.ensures.value)) in
+    let one : event_place line ≡ at_place (length names) name = ap₂ at_place (c.in_ok-name.ensures.read.0 ∙ c.len.ensures) (sym (c.in_ok-name.ensures.read.1 ∙ c.deref.ensures.value)) in
     read_on event_place c.args.lines.now c.lines.line-index line (placed 0 names) c.lines-test.true c.line-item.is c.lines.invariant ∙ ap (λ p. placed 0 names ++ p ∷ []) one ∙ sym (placed-one_more names name) ∙ sym (ap (placed 0) pushed)
