@@ -2,6 +2,7 @@ pub mod ArcWalks
 pub mod CellWalks
 mod Finding
 mod HeadReading
+mod HeldSums
 mod Listing
 mod Lists
 mod ManyLines

@@ -15,4 +15,5 @@ pub mod Runs
 pub mod Shown
 pub mod StackWalks
 pub mod Steps
+pub mod Totals
 pub mod Walks

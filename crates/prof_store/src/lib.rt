@@ -35,10 +35,14 @@ mod runs;
 mod stack_lines;
 mod stack_texts;
 mod store;
+mod sums;
 #[cfg(test)]
 mod tests;
 #[cfg(test)]
+mod tests_heads;
+#[cfg(test)]
 mod tests_queries;
+mod totals;
 mod values;
 mod walks;
 mod whole;
