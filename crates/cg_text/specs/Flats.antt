@@ -1,9 +1,9 @@
 -- Coefficients as the code keeps them, and the values that they give.
-use Rattle.std.specs.Prelude.{◌≡◌, ℕ, List, [], ◌∷◌, Option, Some, None, Result, Ok, Err, ⊤, if◌then◌else◌}
+use Rattle.std.specs.Prelude.{◌≡◌, ◌≤◌, ℕ, true, All, length, sum, List, [], ◌∷◌, Option, Some, None, Result, Ok, Err, ⊤, if◌then◌else◌}
 use Rattle.std.specs.List.{list_any}
 use Rattle.std.specs.Map.{lookup}
 use Rattle.std.specs.Str.{bytes_eq}
-use Rattle.cg_text.specs.Formulas.{Definition, coefficients, weighed, formula_fault, derived_of}
+use Rattle.cg_text.specs.Formulas.{Definition, are_distinct, coefficients, weighed, formula_fault, derived_of}
 use Rattle.cg_text.specs.Definitions.{plain_definition}
 use Rattle.cg_text.specs.declared.definitions.Definition as kept
 use Rattle.cg_text.specs.declared.flats.Flat.{Flat}
@@ -15,6 +15,10 @@ abbrev pub row_of : Flat → List ℕ → Option (List ℕ)
 row_of flat name =
     if list_any (bytes_eq name) flat.events then Some (coefficients flat.events name [])
     else lookup (bytes_eq name) flat.derived
+
+-- no event stands twice, and each derived event has a coefficient for each event, which come to 1,000,000 at most
+abbrev pub IsFlat : List (List ℕ) → List (List ℕ × List ℕ) → Type 0
+IsFlat events derived = (are_distinct events ≡ true) × All (λ d. (length d.1 ≡ length events) × (sum d.1 ≤ 1000000)) derived
 
 abbrev pub value_by : Option (List ℕ) → List ℕ → Option ℕ
 value_by None costs = None

@@ -1,5 +1,5 @@
 // The coefficients of derived events over the events of a file, and their values.
-ghost use Rattle.std.specs.Prelude.{◌≡◌, ◌+◌, ◌*◌, ◌<◌, ◌≤◌, ◌^◌, ℕ, All, List, [], true, false, length, sum, position, is_some, IsTrue, IfOk, IfSome};
+ghost use Rattle.std.specs.Prelude.{◌≡◌, ◌↔◌, ◌+◌, ◌*◌, ◌<◌, ◌≤◌, ◌^◌, ℕ, All, List, [], true, false, length, sum, position, is_some, IsTrue, IfOk, IfSome};
 ghost use Rattle.std.specs.List.{list_all};
 ghost use Rattle.std.specs.Map.{lookup};
 ghost use Rattle.std.specs.Option.{option_copied};
@@ -9,6 +9,7 @@ ghost use Rattle.cg_text.specs.Formulas.{are_distinct, is_known, is_defined, coe
 ghost use Rattle.cg_text.specs.Rows.{IsRow, counted};
 
 use crate::definitions::Definition;
+use crate::distinct::are_distinct;
 use crate::faults::Fault;
 use crate::items::Items;
 use crate::rows::{add_times, total, weighed};
@@ -80,8 +81,38 @@ fn copied(alloc: Global, names: &[Items<u8>]) -> Result<Items<Items<u8>>, AllocE
     Ok(copies)
 }
 
+/// Whether a derived event has one coefficient for each event, and they come to no more than the
+/// most.
+fn is_row(row: &[u64], events: usize) -> bool
+    ensures { IsTrue result ↔ ((length row.now ≡ events) × (sum row.now ≤ 1000000)) }
+{
+    row.len() == events && total(row) <= MOST_COUNTS
+}
+
+/// Whether each derived event has a coefficient for each event, and none comes to more than the most.
+fn are_rows(derived: &[(Items<u8>, Items<u64>)], events: usize) -> bool
+    ensures { IsTrue result ↔ All (λ d. (length d.1 ≡ events) × (sum d.1 ≤ 1000000)) derived.now }
+{
+    derived
+        .iter()
+        .all(|(_, row)| is_row(row.as_slice(), events))
+}
+
 impl Flat {
-    ghost use Rattle.cg_text.specs.Flats.{flat_value, Flattens, Defines};
+    ghost use Rattle.cg_text.specs.Flats.{flat_value, Flattens, Defines, IsFlat};
+
+    /// The coefficients that are given, if no event stands twice and each derived event has one for
+    /// each event, which come to 1,000,000 at most. Takes no memory.
+    pub fn of(events: Items<Items<u8>>, derived: Items<(Items<u8>, Items<u64>)>) -> Option<Flat>
+        ensures given { IfSome result (λ flat. (flat.events ≡ events) × (flat.derived ≡ derived)) }
+        ensures which { IsTrue (is_some result) ↔ IsFlat events derived }
+    {
+        if are_distinct(events.as_slice()) && are_rows(derived.as_slice(), events.len()) {
+            Some(Flat { events, derived })
+        } else {
+            None
+        }
+    }
 
     /// No event is derived yet.
     pub(crate) fn new(alloc: Global, events: &[Items<u8>]) -> Result<Flat, AllocError>

@@ -4,6 +4,8 @@ pub mod CellRows
 pub mod CellWalks
 mod FilePuts
 mod Finding
+mod HeadReading
+mod HeldSums
 mod Listing
 mod Lists
 mod ManyLines

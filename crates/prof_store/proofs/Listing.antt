@@ -68,7 +68,7 @@ pub read_more : {X Y Z : Type 0} (f : X → Z) (g : Y → Z) (xs : List X) (ys :
 read_more f g xs ys k x y low is same h =
     map-append f xs (x ∷ []) ∙ ap₂ ◌++◌ h (ap (λ z. z ∷ []) same) ∙ sym (ap (map g) (take_more ys k y low ∙ ap (λ z. take k ys ++ z ∷ []) (sym is)) ∙ map-append g (take k ys) (y ∷ []))
 
-take_sum : {X : Type 0} (i n : ℕ) (xs : List X) → i ≤ length xs → take (i + n) xs ≡ take i xs ++ take n (drop i xs)
+pub take_sum : {X : Type 0} (i n : ℕ) (xs : List X) → i ≤ length xs → take (i + n) xs ≡ take i xs ++ take n (drop i xs)
 take_sum zero n xs low = ap (λ k. take k xs) (omega arith)
 take_sum (suc i) n [] low = absurd (omega arith)
 take_sum (suc i) n (x ∷ xs) low = let more : suc i + n ≡ suc (i + n) = omega arith in ap (λ k. take k (x ∷ xs)) more ∙ ap (λ l. x ∷ l) (take_sum i n xs (omega arith))

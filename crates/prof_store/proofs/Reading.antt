@@ -8,10 +8,14 @@ use Rattle.sqlite.specs.declared.error.Error.{Error}
 use Rattle.sqlite.specs.Listing.{understood}
 use Rattle.sqlite.specs.State.{State, HasCleanDisk, Survives, CommitsShowing, QueriesRow, Shown, FailsToQuery}
 use Rattle.sqlite.proofs.Callers.{IsPlain}
+use Rattle.sqlite_trees.specs.declared.store.Store.{Ghosts}
 use Rattle.sql_tables.specs.States.{Rests, LeavesOnly}
-use Rattle.sql_tables.proofs.Queries.{row_keeps, shown_keeps, fails_keeps, commits_nothing}
+use Rattle.sql_tables.proofs.Queries.{row_keeps, row_unchanged, shown_keeps, fails_keeps, commits_nothing}
 use Rattle.sql_tables.proofs.Statements.{rests_if_kept, rests_if_same}
 use Rattle.prof_tables.specs.Schema.{schema_one}
+use Rattle.prof_store.specs.declared.store.Store.{Store}
+use Rattle.prof_store.specs.Shown.{shown, IsUsable, IsSettled, IsAsBefore}
+use Rattle.prof_store.proofs.Writing.{as_before}
 
 -- what holds however it goes
 pub on_ok : {T E : Type 0} (P : Type 0) (r : Result T E) → P → OnOk r P
@@ -60,3 +64,22 @@ module _ (sql : List ℕ) (params : Row) (plain : IsPlain (understood schema_one
 
 pub same_after : (sql : List ℕ) (params : Row) → IsPlain (understood schema_one sql) → (old new : State) → old.now.schema ≡ schema_one → (rows : List Row) → Shown sql params old new rows → new.now ≡ old.now
 same_after sql params plain old new has rows h = (shown_keeps schema_one sql params old new has plain rows h).0.now_is
+
+-- in tables of schema 1, whatever stands in them
+module _ (sql : List ℕ) (params : Row) (plain : IsPlain (understood schema_one sql)) {S : Type 0} (g : Ghosts S) (old new : Store S) (was : IsSettled g old) where
+  pub rows_as_before : (rows : List Row) → Shown sql params (shown g old) (shown g new) rows → IsUsable g new → IsAsBefore g old new
+  rows_as_before rows h is_open = as_before g old new was is_open (inl (shown_keeps schema_one sql params (shown g old) (shown g new) was.schema_is plain rows h))
+
+  pub fails_as_before : (e : Error) → FailsToQuery sql params (shown g old) (shown g new) e → IsUsable g new → IsAsBefore g old new
+  fails_as_before e h is_open = as_before g old new was is_open (fails_keeps schema_one sql params (shown g old) (shown g new) was.schema_is plain e h)
+
+  pub row_as_before : (r : Result Row Error) → QueriesRow sql params (shown g old) (shown g new) r → IsUsable g new → IsAsBefore g old new
+  row_as_before r h is_open = as_before g old new was is_open (row_keeps schema_one sql params (shown g old) (shown g new) was.schema_is plain r h)
+
+-- what answered is open
+module _ (sql : List ℕ) (params : Row) (plain : IsPlain (understood schema_one sql)) (old new : State) (has : old.now.schema ≡ schema_one) where
+  pub rows_open : (rows : List Row) → Shown sql params old new rows → IsTrue new.is_open
+  rows_open rows h = (shown_keeps schema_one sql params old new has plain rows h).0.is_open
+
+  pub row_open : (row : Row) → QueriesRow sql params old new (Ok row) → IsTrue new.is_open
+  row_open row h = (row_unchanged schema_one sql params old new has plain row h).0.is_open

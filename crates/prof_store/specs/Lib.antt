@@ -7,6 +7,7 @@ pub mod HeadLines
 pub mod HeadsPut
 pub mod HeldArcs
 pub mod HeldCells
+pub mod HeldHeads
 pub mod HeldStacks
 pub mod Kinds
 pub mod Labels
@@ -19,4 +20,5 @@ pub mod RunsPut
 pub mod Shown
 pub mod StackWalks
 pub mod Steps
+pub mod Totals
 pub mod Walks

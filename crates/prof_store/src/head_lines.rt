@@ -1,5 +1,5 @@
 // The lines of a run that its head is made of.
-ghost use Rattle.std.specs.Prelude.{◌≡◌, ◌==◌, [], ◌∷◌, map, filter, IfOk, IfErr, OnOk, IsPermutation};
+ghost use Rattle.std.specs.Prelude.{◌≡◌, ◌≢◌, ◌==◌, [], ◌∷◌, map, filter, IfOk, IfErr, OnOk, IsPermutation};
 ghost use Rattle.sqlite.specs.Held.{state};
 ghost use Rattle.sqlite.specs.State.{HasCleanDisk, Survives, Shown, FailsToQuery, CommitsShowing};
 ghost use Rattle.prof_tables.specs.Schema.{schema_one};
@@ -7,7 +7,8 @@ ghost use Rattle.prof_tables.specs.Seen.{is_at, event_seen, derived_seen, coef_s
 ghost use Rattle.prof_tables.specs.Tables.{number};
 ghost use Rattle.prof_tables.specs.Texts.{events_of_text, derived_of_text, coefs_of_text};
 ghost use Rattle.prof_store.specs.HeadLines.{first_two, first_three, event_columns, derived_columns, coef_columns};
-ghost use Rattle.prof_store.specs.Shown.{shown, IsFaithful, IsUsable, StandsFor, LeavesOnly};
+ghost use Rattle.prof_store.specs.Shown.{shown, IsFaithful, IsUsable, IsSettled, IsAsBefore, StandsFor, LeavesOnly};
+ghost use Rattle.prof_store.specs.declared.errors.StoreEnd.TheVariants as ends;
 
 use crate::columns::{bytes_at, number_at, sum_at, text_or_null_at};
 use crate::errors::{StoreEnd, end_of};
@@ -72,7 +73,8 @@ fn select_coefs<S: Alter>(conn: &mut Connection<S>, run: u32) -> Result<Vec<Row>
 }
 
 fn events_in(alloc: Global, rows: &[Row]) -> Result<Vec<HeadEvent>, StoreEnd>
-    ensures { IfOk result (λ lines. map event_columns lines.items ≡ map first_three rows.now) }
+    ensures read { IfOk result (λ lines. map event_columns lines.items ≡ map first_three rows.now) }
+    ensures refused { IfErr result (λ e. e ≢ ends.WrongSchema) }
 {
     let mut lines = Vec::new(alloc);
     'rows: for row in rows {
@@ -92,7 +94,8 @@ fn events_in(alloc: Global, rows: &[Row]) -> Result<Vec<HeadEvent>, StoreEnd>
 }
 
 fn derived_in(alloc: Global, rows: &[Row]) -> Result<Vec<HeadDerived>, StoreEnd>
-    ensures { IfOk result (λ lines. map derived_columns lines.items ≡ map first_two rows.now) }
+    ensures read { IfOk result (λ lines. map derived_columns lines.items ≡ map first_two rows.now) }
+    ensures refused { IfErr result (λ e. e ≢ ends.WrongSchema) }
 {
     let mut lines = Vec::new(alloc);
     'rows: for row in rows {
@@ -107,7 +110,8 @@ fn derived_in(alloc: Global, rows: &[Row]) -> Result<Vec<HeadDerived>, StoreEnd>
 }
 
 fn coefs_in(alloc: Global, rows: &[Row]) -> Result<Vec<HeadCoef>, StoreEnd>
-    ensures { IfOk result (λ lines. map coef_columns lines.items ≡ map first_three rows.now) }
+    ensures read { IfOk result (λ lines. map coef_columns lines.items ≡ map first_three rows.now) }
+    ensures refused { IfErr result (λ e. e ≢ ends.WrongSchema) }
 {
     let mut lines = Vec::new(alloc);
     'rows: for row in rows {
@@ -134,8 +138,11 @@ impl<S: Alter> Store<S> {
         ensures same { IsFaithful S.Store self.new → (shown S.Store self.old).now.schema ≡ schema_one → OnOk result ((shown S.Store self.new).now ≡ (shown S.Store self.old).now) }
         ensures kept { IsFaithful S.Store self.new → (t : _) → StandsFor S.Store t self.old → IsUsable S.Store self.new → StandsFor S.Store t self.new }
         ensures stays { IsFaithful S.Store self.new → (t : _) → StandsFor S.Store t self.old → OnOk result (StandsFor S.Store t self.new) }
+        ensures unchanged { IsFaithful S.Store self.new → IsSettled S.Store self.old → IsUsable S.Store self.new → IsAsBefore S.Store self.old self.new }
+        ensures usable { IsFaithful S.Store self.new → IsSettled S.Store self.old → OnOk result (IsUsable S.Store self.new) }
         ensures crash { IsFaithful S.Store self.new → (t : _) → StandsFor S.Store t self.old → LeavesOnly S.Store self.old self.new (λ _. ⊥) }
         ensures honest { IsFaithful S.Store self.new → IsFaithful S.Store self.old }
+        ensures refused { IfErr result (λ e. e ≢ ends.WrongSchema) }
     {
         match select_events(&mut self.conn, run) {
             Ok(rows) => events_in(alloc, &rows),
@@ -154,8 +161,11 @@ impl<S: Alter> Store<S> {
         ensures same { IsFaithful S.Store self.new → (shown S.Store self.old).now.schema ≡ schema_one → OnOk result ((shown S.Store self.new).now ≡ (shown S.Store self.old).now) }
         ensures kept { IsFaithful S.Store self.new → (t : _) → StandsFor S.Store t self.old → IsUsable S.Store self.new → StandsFor S.Store t self.new }
         ensures stays { IsFaithful S.Store self.new → (t : _) → StandsFor S.Store t self.old → OnOk result (StandsFor S.Store t self.new) }
+        ensures unchanged { IsFaithful S.Store self.new → IsSettled S.Store self.old → IsUsable S.Store self.new → IsAsBefore S.Store self.old self.new }
+        ensures usable { IsFaithful S.Store self.new → IsSettled S.Store self.old → OnOk result (IsUsable S.Store self.new) }
         ensures crash { IsFaithful S.Store self.new → (t : _) → StandsFor S.Store t self.old → LeavesOnly S.Store self.old self.new (λ _. ⊥) }
         ensures honest { IsFaithful S.Store self.new → IsFaithful S.Store self.old }
+        ensures refused { IfErr result (λ e. e ≢ ends.WrongSchema) }
     {
         match select_derived(&mut self.conn, run) {
             Ok(rows) => derived_in(alloc, &rows),
@@ -170,8 +180,11 @@ impl<S: Alter> Store<S> {
         ensures same { IsFaithful S.Store self.new → (shown S.Store self.old).now.schema ≡ schema_one → OnOk result ((shown S.Store self.new).now ≡ (shown S.Store self.old).now) }
         ensures kept { IsFaithful S.Store self.new → (t : _) → StandsFor S.Store t self.old → IsUsable S.Store self.new → StandsFor S.Store t self.new }
         ensures stays { IsFaithful S.Store self.new → (t : _) → StandsFor S.Store t self.old → OnOk result (StandsFor S.Store t self.new) }
+        ensures unchanged { IsFaithful S.Store self.new → IsSettled S.Store self.old → IsUsable S.Store self.new → IsAsBefore S.Store self.old self.new }
+        ensures usable { IsFaithful S.Store self.new → IsSettled S.Store self.old → OnOk result (IsUsable S.Store self.new) }
         ensures crash { IsFaithful S.Store self.new → (t : _) → StandsFor S.Store t self.old → LeavesOnly S.Store self.old self.new (λ _. ⊥) }
         ensures honest { IsFaithful S.Store self.new → IsFaithful S.Store self.old }
+        ensures refused { IfErr result (λ e. e ≢ ends.WrongSchema) }
     {
         match select_coefs(&mut self.conn, run) {
             Ok(rows) => coefs_in(alloc, &rows),

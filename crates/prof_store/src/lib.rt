@@ -22,6 +22,8 @@ mod head_loops;
 mod head_texts;
 mod heads_put;
 mod held_names;
+mod heads;
+mod heads_held;
 mod joining;
 mod kinds;
 mod labels;
@@ -41,6 +43,7 @@ mod stack_lines;
 mod stack_texts;
 mod stacks;
 mod store;
+mod sums;
 #[cfg(test)]
 mod tests;
 #[cfg(test)]
@@ -51,6 +54,10 @@ mod tests_put;
 mod tests_queries;
 #[cfg(test)]
 mod tests_walks;
+mod tests_heads;
+#[cfg(test)]
+mod tests_queries;
+mod totals;
 mod values;
 mod walks;
 mod whole;

@@ -11,6 +11,7 @@ pub mod Names
 pub mod Numbering
 pub mod Parents
 pub mod Rows
+pub mod RunFinds
 pub mod RunLines
 pub mod RunLists
 pub mod Values

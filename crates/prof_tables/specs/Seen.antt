@@ -17,6 +17,10 @@ is_at at v r = is_true (binary (Compare Eq Binary) (column r at) v)
 abbrev pub run_seen : Row → Row
 run_seen r = column r 0 ∷ column r 2 ∷ column r 3 ∷ column r 4 ∷ []
 
+-- of a run its kind
+abbrev pub kind_seen : Row → Row
+kind_seen r = column r 2 ∷ []
+
 -- of a group its name and its baseline
 abbrev pub group_seen : Row → Row
 group_seen r = column r 1 ∷ column r 2 ∷ []

@@ -7,19 +7,19 @@ use Rattle.prof_tables.proofs.Means.{events_of_plain}
 use Rattle.prof_tables.proofs.RunLists.{events_listed, events_are}
 use Rattle.prof_store.specs.HeadLines.{event_columns, first_three}
 use Rattle.prof_store.proofs.Listing.{read_permutes}
-use Rattle.prof_store.proofs.Reading.{on_ok, same_after, rows_stay, fails_kept, leaves_nothing}
+use Rattle.prof_store.proofs.Reading.{on_ok, same_after, rows_stay, fails_kept, leaves_nothing, rows_as_before, rows_open, fails_as_before}
 use Rattle.prof_store.proofs.store.Store.events_of.Goals as goal
 
 pub returns-in-Ok-clause-told : goal.returns-in-Ok-clause-told
 returns-in-Ok-clause-told g c clean t was =
     let p = events_listed c.args.run _ _ c.in-Ok.rows.items was.schema_is (c.in-Ok.ensures.ok clean) in
-    if_ok_then c.events_in.result c.events_in.ensures (λ lines is.
+    if_ok_then c.events_in.result c.events_in.ensures.read (λ lines is.
     subst (λ l. IsPermutation l (map event_columns lines.items)) (events_are t _ was.holds c.args.run) (read_permutes event_seen first_three event_columns (λ r. refl) _ c.in-Ok.rows.items lines.items p (is ∙ ap (map first_three) c.deref.ensures.value)))
 
 pub returns-in-Ok-clause-found : goal.returns-in-Ok-clause-found
 returns-in-Ok-clause-found g c clean has =
     let p = events_listed c.args.run _ _ c.in-Ok.rows.items has (c.in-Ok.ensures.ok clean) in
-    if_ok_then c.events_in.result c.events_in.ensures (λ lines is. read_permutes event_seen first_three event_columns (λ r. refl) _ c.in-Ok.rows.items lines.items p (is ∙ ap (map first_three) c.deref.ensures.value))
+    if_ok_then c.events_in.result c.events_in.ensures.read (λ lines is. read_permutes event_seen first_three event_columns (λ r. refl) _ c.in-Ok.rows.items lines.items p (is ∙ ap (map first_three) c.deref.ensures.value))
 
 pub returns-in-Ok-clause-same : goal.returns-in-Ok-clause-same
 returns-in-Ok-clause-same g c clean has = on_ok _ c.events_in.result (same_after events_of_text (number c.args.run ∷ []) events_of_plain _ _ has c.in-Ok.rows.items (c.in-Ok.ensures.ok clean))
@@ -38,3 +38,12 @@ returns-in-Err-clause-kept g c clean t was is_open = fails_kept events_of_text (
 
 pub returns-in-Err-clause-crash : goal.returns-in-Err-clause-crash
 returns-in-Err-clause-crash g c clean t was = leaves_nothing events_of_text (number c.args.run ∷ []) events_of_plain (Holds t) _ _ was c.select_events.ensures.survives clean
+
+pub returns-in-Ok-clause-unchanged : goal.returns-in-Ok-clause-unchanged
+returns-in-Ok-clause-unchanged g c clean was is_open = rows_as_before events_of_text (number c.args.run ∷ []) events_of_plain g.S.Store _ _ was c.in-Ok.rows.items (c.in-Ok.ensures.ok clean) is_open
+
+pub returns-in-Ok-clause-usable : goal.returns-in-Ok-clause-usable
+returns-in-Ok-clause-usable g c clean was = on_ok _ c.events_in.result (rows_open events_of_text (number c.args.run ∷ []) events_of_plain _ _ was.schema_is c.in-Ok.rows.items (c.in-Ok.ensures.ok clean))
+
+pub returns-in-Err-clause-unchanged : goal.returns-in-Err-clause-unchanged
+returns-in-Err-clause-unchanged g c clean was is_open = fails_as_before events_of_text (number c.args.run ∷ []) events_of_plain g.S.Store _ _ was _ (c.in-Err.ensures.err clean) is_open

@@ -1,0 +1,71 @@
+-- Sums over all runs that are held.
+use Rattle.std.specs.Prelude.{◌≡◌, ◌<◌, ◌^◌, ℕ, pos, List, map, filter, sum_by, bytes_eq, All}
+use Rattle.sqlite_value.specs.declared.value.Value.{Value}
+use Rattle.sqlite_value.specs.declared.value.Value.TheVariants.{Int, Blob}
+use Rattle.sqlite_value.specs.Order.{Row, column}
+use Rattle.sqlite_trees.specs.Tree.{Trees}
+use Rattle.cost_rows.specs.declared.rows.FileTotals.{FileTotals}
+use Rattle.prof_tables.specs.Seen.{is_at}
+use Rattle.prof_tables.specs.Tables.{Tables, EventLine, RunLine, number}
+
+-- ---- in the tables
+
+abbrev pub lines_named : List ℕ → Tables → List EventLine
+lines_named name t = filter (λ (e : EventLine). bytes_eq e.name name) t.events
+
+-- the own costs of an event, in all runs that have it
+abbrev pub held_self : Tables → List ℕ → ℕ
+held_self t name = sum_by (λ (e : EventLine). e.self_cost) (lines_named name t)
+
+-- and the costs of its calls
+abbrev pub held_calls : Tables → List ℕ → ℕ
+held_calls t name = sum_by (λ (e : EventLine). e.call_cost) (lines_named name t)
+
+-- the calls of all runs
+abbrev pub held_count : Tables → ℕ
+held_count t = sum_by (λ (r : RunLine). r.call_count) t.runs
+
+pub record IsHeldIn (t : Tables) (events : List (List ℕ)) (totals : FileTotals) : Type 0 where
+  pub self_cost : totals.self_cost ≡ map (held_self t) events
+  pub call_cost : totals.call_cost ≡ map (held_calls t) events
+  pub call_count : totals.call_count ≡ held_count t
+
+-- ---- in any tables of schema 1, of their rows
+
+-- the number that a value is, and 0 where it is none
+abbrev pub number_in : Value → ℕ
+number_in (Int (pos n)) = n
+number_in v = 0
+
+abbrev pub IsNumber : Value → Type 0
+IsNumber v = v ≡ number (number_in v)
+
+-- the sum of a column
+abbrev pub column_sum : ℕ → List Row → ℕ
+column_sum at rows = sum_by (λ r. number_in (column r at)) rows
+
+abbrev pub HasNumbers : ℕ → List Row → Type 0
+HasNumbers at rows = All (λ r. IsNumber (column r at)) rows
+
+-- a column of numbers has the sum
+abbrev pub IsSum : ℕ → List Row → ℕ → Type 0
+IsSum at rows sum = HasNumbers at rows × (sum ≡ column_sum at rows)
+
+abbrev pub rows_named : List ℕ → Trees → List Row
+rows_named name db = filter (is_at 3 (Blob name)) (db 3)
+
+-- own costs and costs of calls, by event
+abbrev pub AreSums : Trees → List (List ℕ) → List ℕ × List ℕ → Type 0
+AreSums db events sums =
+    All (λ name. HasNumbers 4 (rows_named name db) × HasNumbers 5 (rows_named name db)) events
+    × (sums.0 ≡ map (λ name. column_sum 4 (rows_named name db)) events)
+    × (sums.1 ≡ map (λ name. column_sum 5 (rows_named name db)) events)
+
+abbrev pub IsHeldAt : Trees → List (List ℕ) → FileTotals → Type 0
+IsHeldAt db events totals = AreSums db events (totals.self_cost, totals.call_cost) × IsSum 5 (db 1) totals.call_count
+
+-- each sum is below the bound of all sums
+pub record IsBounded (totals : FileTotals) : Type 0 where
+  pub self_cost : All (λ n. n < 2 ^ 112) totals.self_cost
+  pub call_cost : All (λ n. n < 2 ^ 112) totals.call_cost
+  pub call_count : totals.call_count < 2 ^ 112

@@ -1,0 +1,27 @@
+// The sums of columns.
+ghost use Rattle.std.specs.Prelude.{◌≢◌, ◌<◌, ◌^◌, IfOk, IfErr};
+ghost use Rattle.prof_store.specs.Totals.{IsSum};
+ghost use Rattle.prof_store.specs.declared.errors.StoreEnd.TheVariants as ends;
+
+use crate::columns::sum_at;
+use crate::errors::StoreEnd;
+use sqlite::Row;
+
+/// Sums of 2^112 and more are refused.
+const SUM_END: u128 = 1 << 112;
+
+/// The sum of a column, of numbers alone.
+pub(crate) fn column_sum(rows: &[Row], at: usize) -> Result<u128, StoreEnd>
+    ensures read { IfOk result (IsSum at rows.now) }
+    ensures bounded { IfOk result (λ sum. sum < 2 ^ 112) }
+    ensures refused { IfErr result (λ e. e ≢ ends.WrongSchema) }
+{
+    let mut sum: u128 = 0;
+    'rows: for row in rows {
+        sum += u128::from(sum_at(row, at)?);
+        if sum >= SUM_END {
+            return Err(StoreEnd::Store);
+        }
+    }
+    Ok(sum)
+}

@@ -1,0 +1,153 @@
+// The sums over all runs that are held.
+ghost use Rattle.std.specs.Prelude.{◌≡◌, ◌≢◌, ◌<◌, ◌^◌, ◌∷◌, [], map, All, IfOk, IfErr, OnOk};
+ghost use Rattle.sqlite.specs.Held.{state};
+ghost use Rattle.sqlite.specs.State.{HasCleanDisk, Survives, Shown, FailsToQuery, CommitsShowing};
+ghost use Rattle.sqlite_value.specs.declared.value.Value.TheVariants.{Blob};
+ghost use Rattle.prof_tables.specs.Schema.{schema_one};
+ghost use Rattle.prof_tables.specs.Texts.{sums_of_text, call_counts_text};
+ghost use Rattle.prof_store.specs.Shown.{shown, IsFaithful, IsUsable, IsSettled, IsAsBefore, StandsFor, LeavesOnly};
+ghost use Rattle.prof_store.specs.Totals.{AreSums, held_self, held_calls, held_count, column_sum, rows_named, HasNumbers, IsSum, IsHeldIn, IsHeldAt, IsBounded};
+ghost use Rattle.prof_store.specs.declared.errors.StoreEnd.TheVariants as ends;
+
+use crate::errors::{StoreEnd, end_of};
+use crate::store::Store;
+use crate::sums::column_sum;
+use cg_text::Items;
+use cost_rows::FileTotals;
+use sqlite::{Alter, Connection, Error, Row, params};
+use std::alloc::Global;
+
+/// The sums of an event over all runs: of own costs, and of the costs of calls.
+#[derive(Drop)]
+struct EventSums {
+    own: u128,
+    calls: u128,
+}
+
+fn select_sums<S: Alter>(conn: &mut Connection<S>, name: &[u8]) -> Result<Vec<Row>, Error>
+    ensures ok { HasCleanDisk (state S.Store conn.new) → IfOk result (λ rows. Shown sums_of_text (Blob name.now ∷ []) (state S.Store conn.old) (state S.Store conn.new) rows.items) }
+    ensures err { HasCleanDisk (state S.Store conn.new) → IfErr result (FailsToQuery sums_of_text (Blob name.now ∷ []) (state S.Store conn.old) (state S.Store conn.new)) }
+    ensures survives { Survives (state S.Store conn.old) (state S.Store conn.new) (CommitsShowing sums_of_text (Blob name.now ∷ []) (state S.Store conn.old)) }
+{
+    conn.query_all(
+        "SELECT self_cost, call_cost FROM run_event WHERE name = ?1",
+        params![name],
+    )
+}
+
+fn select_call_counts<S: Alter>(conn: &mut Connection<S>) -> Result<Vec<Row>, Error>
+    ensures ok { HasCleanDisk (state S.Store conn.new) → IfOk result (λ rows. Shown call_counts_text [] (state S.Store conn.old) (state S.Store conn.new) rows.items) }
+    ensures err { HasCleanDisk (state S.Store conn.new) → IfErr result (FailsToQuery call_counts_text [] (state S.Store conn.old) (state S.Store conn.new)) }
+    ensures survives { Survives (state S.Store conn.old) (state S.Store conn.new) (CommitsShowing call_counts_text [] (state S.Store conn.old)) }
+{
+    conn.query_all("SELECT call_count FROM run", &[])
+}
+
+/// The sums of two columns.
+fn sums_in(rows: &[Row]) -> Result<EventSums, StoreEnd>
+    ensures own { IfOk result (λ sums. IsSum 0 rows.now sums.own) }
+    ensures calls { IfOk result (λ sums. IsSum 1 rows.now sums.calls) }
+    ensures bounded { IfOk result (λ sums. (sums.own < 2 ^ 112) × (sums.calls < 2 ^ 112)) }
+    ensures refused { IfErr result (λ e. e ≢ ends.WrongSchema) }
+{
+    let own = column_sum(rows, 0)?;
+    let calls = column_sum(rows, 1)?;
+    Ok(EventSums { own, calls })
+}
+
+impl<S: Alter> Store<S> {
+    /// The sums of the lines of an event, in all runs that have it.
+    fn sums_of(&mut self, name: &[u8]) -> Result<EventSums, StoreEnd>
+        ensures told { IsFaithful S.Store self.new → (t : _) → StandsFor S.Store t self.old → IfOk result (λ sums. (sums.own ≡ held_self t name.now) × (sums.calls ≡ held_calls t name.now)) }
+        ensures found { IsFaithful S.Store self.new → (shown S.Store self.old).now.schema ≡ schema_one → IfOk result (λ sums. IsSum 4 (rows_named name.now (shown S.Store self.old).now.trees) sums.own × IsSum 5 (rows_named name.now (shown S.Store self.old).now.trees) sums.calls) }
+        ensures bounded { IfOk result (λ sums. (sums.own < 2 ^ 112) × (sums.calls < 2 ^ 112)) }
+        ensures same { IsFaithful S.Store self.new → (shown S.Store self.old).now.schema ≡ schema_one → OnOk result ((shown S.Store self.new).now ≡ (shown S.Store self.old).now) }
+        ensures stays { IsFaithful S.Store self.new → (t : _) → StandsFor S.Store t self.old → OnOk result (StandsFor S.Store t self.new) }
+        ensures kept { IsFaithful S.Store self.new → (t : _) → StandsFor S.Store t self.old → IsUsable S.Store self.new → StandsFor S.Store t self.new }
+        ensures unchanged { IsFaithful S.Store self.new → IsSettled S.Store self.old → IsUsable S.Store self.new → IsAsBefore S.Store self.old self.new }
+        ensures usable { IsFaithful S.Store self.new → IsSettled S.Store self.old → OnOk result (IsUsable S.Store self.new) }
+        ensures crash { IsFaithful S.Store self.new → (t : _) → StandsFor S.Store t self.old → LeavesOnly S.Store self.old self.new (λ _. ⊥) }
+        ensures honest { IsFaithful S.Store self.new → IsFaithful S.Store self.old }
+        ensures refused { IfErr result (λ e. e ≢ ends.WrongSchema) }
+    {
+        match select_sums(&mut self.conn, name) {
+            Ok(rows) => sums_in(&rows),
+            Err(error) => Err(end_of(error)),
+        }
+    }
+
+    /// The sum of the call counts of all runs.
+    fn calls_of_all(&mut self) -> Result<u128, StoreEnd>
+        ensures told { IsFaithful S.Store self.new → (t : _) → StandsFor S.Store t self.old → IfOk result (λ count. count ≡ held_count t) }
+        ensures found { IsFaithful S.Store self.new → (shown S.Store self.old).now.schema ≡ schema_one → IfOk result (IsSum 5 ((shown S.Store self.old).now.trees 1)) }
+        ensures bounded { IfOk result (λ count. count < 2 ^ 112) }
+        ensures same { IsFaithful S.Store self.new → (shown S.Store self.old).now.schema ≡ schema_one → OnOk result ((shown S.Store self.new).now ≡ (shown S.Store self.old).now) }
+        ensures stays { IsFaithful S.Store self.new → (t : _) → StandsFor S.Store t self.old → OnOk result (StandsFor S.Store t self.new) }
+        ensures kept { IsFaithful S.Store self.new → (t : _) → StandsFor S.Store t self.old → IsUsable S.Store self.new → StandsFor S.Store t self.new }
+        ensures unchanged { IsFaithful S.Store self.new → IsSettled S.Store self.old → IsUsable S.Store self.new → IsAsBefore S.Store self.old self.new }
+        ensures usable { IsFaithful S.Store self.new → IsSettled S.Store self.old → OnOk result (IsUsable S.Store self.new) }
+        ensures crash { IsFaithful S.Store self.new → (t : _) → StandsFor S.Store t self.old → LeavesOnly S.Store self.old self.new (λ _. ⊥) }
+        ensures honest { IsFaithful S.Store self.new → IsFaithful S.Store self.old }
+        ensures refused { IfErr result (λ e. e ≢ ends.WrongSchema) }
+    {
+        match select_call_counts(&mut self.conn) {
+            Ok(rows) => column_sum(&rows, 0),
+            Err(error) => Err(end_of(error)),
+        }
+    }
+
+    /// The sums of events, own costs and costs of calls, in their order.
+    fn sums_of_all(
+        &mut self,
+        alloc: Global,
+        events: &[Items<u8>],
+    ) -> Result<(Items<u128>, Items<u128>), StoreEnd>
+        ensures told { IsFaithful S.Store self.new → (t : _) → StandsFor S.Store t self.old → IfOk result (λ sums. (sums.0 ≡ map (held_self t) events.now) × (sums.1 ≡ map (held_calls t) events.now)) }
+        ensures found { IsFaithful S.Store self.new → (shown S.Store self.old).now.schema ≡ schema_one → IfOk result (AreSums (shown S.Store self.old).now.trees events.now) }
+        ensures bounded { IfOk result (λ sums. All (λ n. n < 2 ^ 112) sums.0 × All (λ n. n < 2 ^ 112) sums.1) }
+        ensures same { IsFaithful S.Store self.new → (shown S.Store self.old).now.schema ≡ schema_one → OnOk result ((shown S.Store self.new).now ≡ (shown S.Store self.old).now) }
+        ensures stays { IsFaithful S.Store self.new → (t : _) → StandsFor S.Store t self.old → OnOk result (StandsFor S.Store t self.new) }
+        ensures kept { IsFaithful S.Store self.new → (t : _) → StandsFor S.Store t self.old → IsUsable S.Store self.new → StandsFor S.Store t self.new }
+        ensures unchanged { IsFaithful S.Store self.new → IsSettled S.Store self.old → IsUsable S.Store self.new → IsAsBefore S.Store self.old self.new }
+        ensures crash { IsFaithful S.Store self.new → (t : _) → StandsFor S.Store t self.old → LeavesOnly S.Store self.old self.new (λ _. ⊥) }
+        ensures honest { IsFaithful S.Store self.new → IsFaithful S.Store self.old }
+        ensures refused { IfErr result (λ e. e ≢ ends.WrongSchema) }
+    {
+        let mut own = Items::new(alloc);
+        let mut calls = Items::new(alloc);
+        'events: for event in events {
+            let sums = self.sums_of(event.as_slice())?;
+            if own.push(sums.own).is_err() || calls.push(sums.calls).is_err() {
+                return Err(StoreEnd::Memory);
+            }
+        }
+        Ok((own, calls))
+    }
+
+    /// For each of these event names the sum of its own costs and of the costs of its calls, over all
+    /// runs that are held and have it, and the number of calls of all runs. `Store` where a sum is
+    /// 2^112 or more, or a row holds no number from 0 on.
+    pub fn totals_of(
+        &mut self,
+        alloc: Global,
+        events: &[Items<u8>],
+    ) -> Result<FileTotals, StoreEnd>
+        ensures told { IsFaithful S.Store self.new → (t : _) → StandsFor S.Store t self.old → IfOk result (IsHeldIn t events.now) }
+        ensures found { IsFaithful S.Store self.new → (shown S.Store self.old).now.schema ≡ schema_one → IfOk result (IsHeldAt (shown S.Store self.old).now.trees events.now) }
+        ensures bounded { IfOk result IsBounded }
+        ensures stays { IsFaithful S.Store self.new → (t : _) → StandsFor S.Store t self.old → OnOk result (StandsFor S.Store t self.new) }
+        ensures kept { IsFaithful S.Store self.new → (t : _) → StandsFor S.Store t self.old → IsUsable S.Store self.new → StandsFor S.Store t self.new }
+        ensures unchanged { IsFaithful S.Store self.new → IsSettled S.Store self.old → IsUsable S.Store self.new → IsAsBefore S.Store self.old self.new }
+        ensures crash { IsFaithful S.Store self.new → (t : _) → StandsFor S.Store t self.old → LeavesOnly S.Store self.old self.new (λ _. ⊥) }
+        ensures honest { IsFaithful S.Store self.new → IsFaithful S.Store self.old }
+        ensures refused { IfErr result (λ e. e ≢ ends.WrongSchema) }
+    {
+        let call_count = self.calls_of_all()?;
+        let (self_cost, call_cost) = self.sums_of_all(alloc, events)?;
+        Ok(FileTotals {
+            self_cost,
+            call_cost,
+            call_count,
+        })
+    }
+}
