@@ -20,10 +20,10 @@ mod groups;
 mod head_lines;
 mod head_loops;
 mod head_texts;
-mod heads_put;
-mod held_names;
 mod heads;
 mod heads_held;
+mod heads_put;
+mod held_names;
 mod joining;
 mod kinds;
 mod labels;
@@ -47,6 +47,8 @@ mod sums;
 #[cfg(test)]
 mod tests;
 #[cfg(test)]
+mod tests_heads;
+#[cfg(test)]
 mod tests_memory;
 #[cfg(test)]
 mod tests_put;
@@ -54,9 +56,6 @@ mod tests_put;
 mod tests_queries;
 #[cfg(test)]
 mod tests_walks;
-mod tests_heads;
-#[cfg(test)]
-mod tests_queries;
 mod totals;
 mod values;
 mod walks;
