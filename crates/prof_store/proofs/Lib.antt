@@ -2,6 +2,7 @@ pub mod ArcWalks
 pub mod CellWalks
 mod FilePuts
 mod Finding
+mod HeldDigests
 mod Listing
 mod Lists
 mod ManyLines
