@@ -5,6 +5,7 @@ pub mod CellWalks
 mod FilePuts
 mod Finding
 mod HeadReading
+mod HeldDigests
 mod HeldSums
 mod Listing
 mod Lists

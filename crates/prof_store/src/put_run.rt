@@ -2,6 +2,7 @@
 ghost use Rattle.std.specs.Prelude.{ℕ, ◌≡◌, ◌<◌, ◌^◌, length, IfOk, OnOk, OnErr};
 ghost use Rattle.cost_rows.specs.Totals.{count_total};
 ghost use Rattle.cost_rows.specs.Rows.{content_of};
+ghost use Rattle.sqlite_rules.specs.Lists.{Has};
 ghost use Rattle.prof_tables.specs.Tables.{Holds};
 ghost use Rattle.prof_store.specs.HeadsPut.{IsWhole, ColumnFits};
 ghost use Rattle.prof_store.specs.Labels.{IsLabel};
@@ -75,6 +76,7 @@ impl<S: Alter> Store<S> {
     ) -> Result<u32, StoreEnd>
         requires { IsLabel label.now }
         ensures told { IsFaithful S.Store self.new → (t : _) → StandsFor S.Store t self.old → IfOk result (λ number. number ≡ t.next) }
+        ensures taken { IsFaithful S.Store self.new → (t : _) → StandsFor S.Store t self.old → (r : _) → Has t.runs r → r.digest ≡ digest.now → OnOk result ⊥ }
         ensures whole { OnOk result (IsWhole head.now) }
         ensures fits { OnOk result ((k : ℕ) → k < length head.now.events → ColumnFits (content_of rows.now) k) }
         ensures counted { OnOk result (count_total (content_of rows.now).arcs < 2 ^ 63) }
