@@ -1,5 +1,5 @@
 -- A walk over the calls of a run, with names in place.
-use Rattle.std.proofs.Common.{◌≡◌, ℕ, suc, ◌+◌, ◌<◌, nat_lt, if◌then◌else◌, Bool, true, false, List, [], ◌∷◌, ◌++◌, map, flat_map, length, Option, Some, None, Result, Ok, Err, OnOk, IfOk, refl, sym, ap, ap₂, subst, ◌∙◌, append-nil, append_assoc, add-zero, arith}
+use Rattle.std.proofs.Common.{◌≡◌, ℕ, suc, ◌+◌, ◌<◌, nat_lt, if◌then◌else◌, Bool, true, false, List, [], ◌∷◌, ◌++◌, map, length, Option, Some, None, Result, Ok, Err, OnOk, IfOk, refl, sym, ap, ap₂, subst, ◌∙◌, append-nil, append_assoc, add-zero, arith}
 use Rattle.std.specs.Borrow.{Bor}
 use Rattle.std.specs.List.{AllByRecursion}
 use Rattle.std.proofs.lemmas.Bool.Decides.{nat_tests}
@@ -11,11 +11,9 @@ use Rattle.prof_tables.specs.Tables.{Tables, NameLine, ArcLine as Arc}
 use Rattle.prof_tables.specs.RunLines.{arcs_in}
 use Rattle.prof_store.specs.declared.arcs.Arcs.{Arcs}
 use Rattle.prof_store.specs.declared.errors.StoreEnd.{StoreEnd}
-use Rattle.prof_store.specs.declared.lines.ArcLine.{ArcLine}
 use Rattle.prof_store.specs.ArcWalks.{GivesArcs}
-use Rattle.prof_books.specs.Book.{CallPart, part_held, part_of, parts_from, parts_of, ArcIsNamed}
+use Rattle.prof_books.specs.Book.{part_held, part_of, parts_from, parts_of, ArcIsNamed}
 use Rattle.prof_store.specs.HeldArcs.{HasUsedArcs, HasTakenArc, HasGivenArcs, HasGivenAllArcs, HasGivenArcsOn, TellsArcRows, lines_from, part_line, plain_given, row_of, waiting_line}
-use Rattle.prof_store.specs.Lines.{arc_line}
 use Rattle.prof_store.specs.Shown.{StandsFor}
 use Rattle.prof_store.proofs.ArcWalks.{arcs_begin, arcs_end}
 

@@ -1,20 +1,18 @@
 -- A walk over the cells of a run, with names in place.
-use Rattle.std.proofs.Common.{◌≡◌, ℕ, List, [], ◌∷◌, ◌++◌, map, Option, Some, None, Result, Ok, Err, OnOk, IfOk, refl, sym, ap, ap₂, subst, ◌∙◌, append_assoc}
+use Rattle.std.proofs.Common.{◌≡◌, ℕ, List, [], ◌∷◌, ◌++◌, map, Option, Some, None, Result, Ok, Err, OnOk, IfOk, sym, ap, ap₂, subst, ◌∙◌, append_assoc}
 use Rattle.std.specs.Borrow.{Bor}
 use Rattle.std.specs.List.{AllByRecursion}
 use Rattle.std.proofs.lemmas.List.{map-append}
 use Rattle.sqlite_trees.specs.declared.store.Store.{Ghosts}
 use Rattle.cost_rows.specs.Plain.{plain_cell}
 use Rattle.cost_rows.specs.declared.rows.CellRow.{CellRow}
-use Rattle.prof_tables.specs.Tables.{Tables, NameLine, CellLine as Cell}
+use Rattle.prof_tables.specs.Tables.{Tables, NameLine}
 use Rattle.prof_tables.specs.RunLines.{cells_in}
 use Rattle.prof_store.specs.declared.cells.Cells.{Cells}
 use Rattle.prof_store.specs.declared.errors.StoreEnd.{StoreEnd}
-use Rattle.prof_store.specs.declared.lines.CellLine.{CellLine}
-use Rattle.prof_books.specs.Book.{cell_held, cells_held, CellIsNamed}
-use Rattle.prof_store.specs.CellWalks.{GivesCells, GivesCellsOn}
+use Rattle.prof_books.specs.Book.{cell_held, CellIsNamed}
+use Rattle.prof_store.specs.CellWalks.{GivesCellsOn}
 use Rattle.prof_store.specs.HeldCells.{HasGivenCells, HasGivenAllCells, HasGivenCellsOn, TellsCellRows}
-use Rattle.prof_store.specs.Lines.{cell_line}
 use Rattle.prof_store.specs.Shown.{StandsFor}
 use Rattle.prof_store.proofs.CellWalks.{cells_begin, cells_end}
 

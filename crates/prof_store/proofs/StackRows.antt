@@ -1,16 +1,14 @@
 -- A walk over the stacks of a run, in the words of the book.
-use Rattle.std.proofs.Common.{◌≡◌, ℕ, List, [], ◌∷◌, ◌++◌, map, Option, Some, None, Result, Ok, Err, OnOk, IfOk, sym, ap, ap₂, ◌∙◌, append_assoc}
+use Rattle.std.proofs.Common.{ℕ, List, [], ◌∷◌, ◌++◌, map, Option, Some, None, Result, Ok, Err, OnOk, IfOk, ap, ◌∙◌, append_assoc}
 use Rattle.std.specs.declared.vec.Vec.{Vec}
 use Rattle.std.proofs.lemmas.List.{map-append}
 use Rattle.sqlite_trees.specs.declared.store.Store.{Ghosts}
 use Rattle.cost_rows.specs.declared.rows.StackRow.{StackRow}
 use Rattle.prof_tables.specs.Tables.{Tables}
 use Rattle.prof_store.specs.declared.errors.StoreEnd.{StoreEnd}
-use Rattle.prof_store.specs.declared.lines.HeldStack.{HeldStack}
 use Rattle.prof_store.specs.declared.stacks.Stacks.{Stacks}
 use Rattle.prof_books.specs.Book.{stack_held}
 use Rattle.prof_store.specs.HeldStacks.{HasGivenStacks, HasGivenAllStacks, HasGivenStacksOn, TellsStackRows, plain_held}
-use Rattle.prof_store.specs.Lines.{held_stack}
 use Rattle.prof_store.specs.Shown.{StandsFor}
 use Rattle.prof_store.specs.StackWalks.{GivesStacksOn}
 use Rattle.prof_store.proofs.StackWalks.{stacks_begin, stacks_end}

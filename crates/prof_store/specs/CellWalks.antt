@@ -1,5 +1,5 @@
 -- What a walk over the cells of a run has given.
-use Rattle.std.specs.Prelude.{◌≡◌, ℕ, List, [], ◌∷◌, ◌++◌, map, Option, Some, None}
+use Rattle.std.specs.Prelude.{◌≡◌, List, [], ◌∷◌, ◌++◌, map, Option, Some, None}
 use Rattle.sqlite_trees.specs.declared.store.Store.{Ghosts}
 use Rattle.prof_tables.specs.Tables.{CellLine as Cell, cell_columns}
 use Rattle.prof_store.specs.declared.lines.CellLine.{CellLine}

@@ -1,4 +1,4 @@
-use Rattle.std.proofs.Common.{None, refl, subst}
+use Rattle.std.proofs.Common.{refl, subst}
 use Rattle.prof_store.specs.CellWalks.{GivesCellsOn}
 use Rattle.prof_store.proofs.CellRows.{no_cell}
 use Rattle.prof_store.proofs.cells.Cells.row.Goals as goal

@@ -1,4 +1,4 @@
-use Rattle.std.proofs.Common.{refl, subst}
+use Rattle.std.proofs.Common.{subst}
 use Rattle.prof_store.specs.StackWalks.{GivesStacksOn}
 use Rattle.prof_store.proofs.StackRows.{no_stack}
 use Rattle.prof_store.proofs.stacks.Stacks.row.Goals as goal

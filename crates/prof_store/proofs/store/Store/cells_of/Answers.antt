@@ -1,5 +1,4 @@
 use Rattle.std.proofs.Common.{drop, ap₂, [], refl}
-use Rattle.prof_store.specs.CellWalks.{GivesCells}
 use Rattle.prof_store.proofs.WalkSteps.{begin_step, ready_for}
 use Rattle.prof_store.proofs.store.Store.cells_of.Goals as goal
 

@@ -1,4 +1,4 @@
-use Rattle.std.proofs.Common.{◌≡◌, ◌∙◌, [], map, ap, refl}
+use Rattle.std.proofs.Common.{◌∙◌, [], map, ap, refl}
 use Rattle.sqlite_exec.proofs.MarkLemmas.{if_ok_then}
 use Rattle.prof_tables.specs.Tables.{Holds, NameLine}
 use Rattle.prof_tables.specs.Texts.{names_text}
