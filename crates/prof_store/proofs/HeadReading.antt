@@ -10,7 +10,7 @@ use Rattle.sqlite_keyed.proofs.ListLemmas.{map-map}
 use Rattle.sqlite_value.specs.Order.{Row}
 use Rattle.cg_text.specs.declared.heads.FileHead.{FileHead}
 use Rattle.prof_store.specs.HeadLines.{event_columns, derived_columns, coef_columns}
-use Rattle.prof_store.specs.HeldHeads.{PlacedName, placed, name_columns, EventSaid, events_from, said_columns, events_said, derived_said, CoefSaid, coefs_at, coefs_from, coefs_said, times_columns, IsHeadOf, IsReadFrom, event_place, event_total, event_line_said, derived_place, coef_line_said}
+use Rattle.prof_store.specs.HeldHeads.{PlacedName, placed, name_columns, EventSaid, events_from, said_columns, CoefSaid, coefs_at, coefs_from, times_columns, IsHeadOf, IsReadFrom, event_place, event_total, event_line_said, derived_place, coef_line_said}
 use Rattle.prof_store.specs.declared.head_lines.HeadEvent.{HeadEvent}
 use Rattle.prof_store.specs.declared.head_lines.HeadDerived.{HeadDerived}
 use Rattle.prof_store.specs.declared.head_lines.HeadCoef.{HeadCoef}

@@ -57,7 +57,7 @@ pub sums_more : (db : Trees) (events : List (List ℕ)) (k : ℕ) (name : List �
 sums_more db events k name own calls a b low is was x y =
     let more : take (k + 1) events ≡ take k events ++ name ∷ [] = take_more events k name low ∙ ap (λ z. take k events ++ z ∷ []) (sym is) in (
       subst (All (λ n. HasNumbers 4 (rows_named n db) × HasNumbers 5 (rows_named n db))) (sym more)
-      (All-push (λ n. HasNumbers 4 (rows_named n db) × HasNumbers 5 (rows_named n db)) (take k events) name was.0 (x.0, y.0)),
+          (All-push (λ n. HasNumbers 4 (rows_named n db) × HasNumbers 5 (rows_named n db)) (take k events) name was.0 (x.0, y.0)),
       ap (λ n. own ++ n ∷ []) x.1 ∙ sym (read_on (λ n. column_sum 4 (rows_named n db)) events k name own low is (sym was.1)),
       ap (λ n. calls ++ n ∷ []) y.1 ∙ sym (read_on (λ n. column_sum 5 (rows_named n db)) events k name calls low is (sym was.2)),
     )

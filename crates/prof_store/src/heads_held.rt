@@ -93,8 +93,7 @@ fn first_times(place: usize, event: usize, coefs: &[HeadCoef]) -> (u64, usize)
 {
     match coefs.first() {
         Some(coef)
-            if coef.place as usize == place && coef.event as usize == event && coef.times > 0 =>
-        {
+            if coef.place as usize == place && coef.event as usize == event && coef.times > 0 => {
             (coef.times, 1)
         }
         _ => (0, 0),

@@ -7,13 +7,19 @@ use std::test::Fail;
 
 const RUN_ONE: &str =
     "INSERT INTO run (run, kind, digest, label, call_count) VALUES (1, 1, x'01', 'a', 7)";
+
 const RUN_TWO: &str =
     "INSERT INTO run (run, kind, digest, label, call_count) VALUES (2, 1, x'02', 'b', 11)";
+
 const FOLDED_RUN: &str =
     "INSERT INTO run (run, kind, digest, label, call_count) VALUES (2, 2, x'02', 'b', 0)";
+
 const IR: &str = "INSERT INTO run_event VALUES (1, 0, x'4972', 10, 3, NULL)";
+
 const DR: &str = "INSERT INTO run_event VALUES (1, 1, x'4472', 5, 0, NULL)";
+
 const SAMPLES: &str = "INSERT INTO run_event VALUES (2, 0, x'73616d706c6573', 9, 0, NULL)";
+
 const SUM: &str = "INSERT INTO derived VALUES (1, 0, x'53')";
 
 /// A store that these statements fill.
@@ -268,8 +274,14 @@ fn totals_may_pass_64_bits(rt: HostRuntime) -> Result<(), Fail> {
     )?;
     let names = three_names(rt.alloc())?;
     let totals = store.totals_of(rt.alloc(), names.as_slice())?;
-    assert_eq!(rt; totals.self_cost.as_slice(), [18446744073709551614u128, 0, 0].as_slice());
-    assert_eq!(rt; totals.call_cost.as_slice(), [0u128, 9223372036854775807, 0].as_slice());
+    assert_eq!(rt;
+        totals.self_cost.as_slice(),
+        [18446744073709551614u128, 0, 0].as_slice()
+    );
+    assert_eq!(rt;
+        totals.call_cost.as_slice(),
+        [0u128, 9223372036854775807, 0].as_slice()
+    );
     Ok(())
 }
 

@@ -127,11 +127,7 @@ impl<S: Alter> Store<S> {
     /// For each of these event names the sum of its own costs and of the costs of its calls, over all
     /// runs that are held and have it, and the number of calls of all runs. `Store` where a sum is
     /// 2^112 or more, or a row holds no number from 0 on.
-    pub fn totals_of(
-        &mut self,
-        alloc: Global,
-        events: &[Items<u8>],
-    ) -> Result<FileTotals, StoreEnd>
+    pub fn totals_of(&mut self, alloc: Global, events: &[Items<u8>]) -> Result<FileTotals, StoreEnd>
         ensures told { IsFaithful S.Store self.new → (t : _) → StandsFor S.Store t self.old → IfOk result (IsHeldIn t events.now) }
         ensures found { IsFaithful S.Store self.new → (shown S.Store self.old).now.schema ≡ schema_one → IfOk result (IsHeldAt (shown S.Store self.old).now.trees events.now) }
         ensures bounded { IfOk result IsBounded }

@@ -27,12 +27,12 @@ lines-preserved c =
     let names : map name_of c.push.new.self ≡ map name_of derived ++ name ∷ [] = ap (map name_of) pushed ∙ map-append name_of derived ((name, row) ∷ []) in
     let rows : map row_of c.push.new.self ≡ map row_of derived ++ row ∷ [] = ap (map row_of) pushed ∙ map-append row_of derived ((name, row) ∷ []) in (
       read_on derived_place c.args.lines.now c.lines.line-index line (placed 0 (map name_of derived)) c.lines-test.true c.line-item.is c.lines.invariant.0
-      ∙ ap (λ p. placed 0 (map name_of derived) ++ p ∷ []) one
-      ∙ sym (placed-one_more (map name_of derived) name)
-      ∙ sym (ap (placed 0) names),
+          ∙ ap (λ p. placed 0 (map name_of derived) ++ p ∷ []) one
+          ∙ sym (placed-one_more (map name_of derived) name)
+          ∙ sym (ap (placed 0) names),
       part_within coefs c.lines.used more low c.in_ok-row.ensures.within,
       read_part coef_line_said coefs c.lines.used more (coefs_from 0 (map row_of derived)) _ low c.lines.invariant.2 c.in_ok-row.ensures.said
-      ∙ ap (λ k. coefs_from 0 (map row_of derived) ++ coefs_at k 0 row) (place ∙ sym (length-map derived row_of))
-      ∙ sym (coefs_from-one_more (map row_of derived) row)
-      ∙ sym (ap (coefs_from 0) rows),
+          ∙ ap (λ k. coefs_from 0 (map row_of derived) ++ coefs_at k 0 row) (place ∙ sym (length-map derived row_of))
+          ∙ sym (coefs_from-one_more (map row_of derived) row)
+          ∙ sym (ap (coefs_from 0) rows),
     )

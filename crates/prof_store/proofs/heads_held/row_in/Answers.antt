@@ -15,7 +15,7 @@ events-preserved c =
       ap length pushed ∙ length_push row times ∙ omega (arith, c.events.invariant.0),
       part_within coefs c.events.used c.first_times-times.result.1 c.events.invariant.1 c.first_times-times.ensures.within,
       read_part coef_line_said coefs c.events.used c.first_times-times.result.1 (coefs_at place 0 row) _ c.events.invariant.1 c.events.invariant.2 c.first_times-times.ensures.said
-      ∙ ap (λ k. coefs_at place 0 row ++ coefs_at place k (times ∷ [])) (sym c.events.invariant.0)
-      ∙ sym (coefs_at-one_more place row times)
-      ∙ sym (ap (coefs_at place 0) pushed),
+          ∙ ap (λ k. coefs_at place 0 row ++ coefs_at place k (times ∷ [])) (sym c.events.invariant.0)
+          ∙ sym (coefs_at-one_more place row times)
+          ∙ sym (ap (coefs_at place 0) pushed),
     )

@@ -1,15 +1,13 @@
-use Rattle.std.proofs.Common.{◌∙◌, [], ◌∷◌, ap, refl, sym, subst}
+use Rattle.std.proofs.Common.{[], refl, subst}
 use Rattle.sqlite_exec.proofs.MarkLemmas.{if_ok_then}
-use Rattle.sqlite_value.specs.declared.value.Value.TheVariants.{Blob}
-use Rattle.prof_tables.specs.Seen.{sums_seen, sums_shown, calls_seen}
+use Rattle.prof_tables.specs.Seen.{calls_seen}
 use Rattle.prof_tables.specs.Texts.{call_counts_text}
-use Rattle.prof_tables.specs.Tables.{Holds, RunLine, EventLine, run_columns}
+use Rattle.prof_tables.specs.Tables.{Holds, RunLine, run_columns}
 use Rattle.prof_tables.proofs.Means.{call_counts_plain}
-use Rattle.prof_tables.proofs.RunLists.{sums_listed, sums_are}
 use Rattle.prof_tables.proofs.Lists.{calls_listed, calls_are}
-use Rattle.prof_store.specs.Totals.{IsSum, rows_named, lines_named}
+use Rattle.prof_store.specs.Totals.{IsSum}
 use Rattle.prof_store.proofs.HeldSums.{sum_permuted, sum_seen, sum_shown}
-use Rattle.prof_store.proofs.Reading.{both_ok, on_ok, same_after, rows_stay, fails_kept, leaves_nothing, rows_as_before, rows_open, fails_as_before}
+use Rattle.prof_store.proofs.Reading.{on_ok, same_after, rows_stay, fails_kept, leaves_nothing, rows_as_before, rows_open, fails_as_before}
 use Rattle.prof_store.proofs.store.Store.calls_of_all.Goals as goal
 
 pub returns-in-Ok-clause-told : goal.returns-in-Ok-clause-told

@@ -1,13 +1,12 @@
-use Rattle.std.proofs.Common.{◌∙◌, [], ◌∷◌, ap, refl, sym, subst}
+use Rattle.std.proofs.Common.{[], ◌∷◌, refl, subst}
 use Rattle.sqlite_exec.proofs.MarkLemmas.{if_ok_then}
 use Rattle.sqlite_value.specs.declared.value.Value.TheVariants.{Blob}
-use Rattle.prof_tables.specs.Seen.{sums_seen, sums_shown, calls_seen}
+use Rattle.prof_tables.specs.Seen.{sums_seen, sums_shown}
 use Rattle.prof_tables.specs.Texts.{sums_of_text}
-use Rattle.prof_tables.specs.Tables.{Holds, RunLine, EventLine, run_columns}
+use Rattle.prof_tables.specs.Tables.{Holds, EventLine}
 use Rattle.prof_tables.proofs.Means.{sums_of_plain}
 use Rattle.prof_tables.proofs.RunLists.{sums_listed, sums_are}
-use Rattle.prof_tables.proofs.Lists.{calls_listed, calls_are}
-use Rattle.prof_store.specs.Totals.{IsSum, rows_named, lines_named}
+use Rattle.prof_store.specs.Totals.{IsSum, lines_named}
 use Rattle.prof_store.proofs.HeldSums.{sum_permuted, sum_seen, sum_shown}
 use Rattle.prof_store.proofs.Reading.{both_ok, on_ok, same_after, rows_stay, fails_kept, leaves_nothing, rows_as_before, rows_open, fails_as_before}
 use Rattle.prof_store.proofs.store.Store.sums_of.Goals as goal
@@ -19,9 +18,9 @@ returns-in-Ok-clause-told g c clean t was =
     let lines = lines_named name t in
     if_ok_then c.sums_in.result (both_ok _ _ c.sums_in.result c.sums_in.ensures.own c.sums_in.ensures.calls) (λ sums is. (
       sum_shown sums_shown 0 (λ (e : EventLine). e.self_cost) (λ e. refl) lines sums.own
-      (subst (λ l. IsSum 0 l sums.own) (sums_are t _ was.holds name) (sum_permuted 0 _ c.in-Ok.rows.items sums.own p (subst (λ l. IsSum 0 l sums.own) c.deref.ensures.value is.0))),
+          (subst (λ l. IsSum 0 l sums.own) (sums_are t _ was.holds name) (sum_permuted 0 _ c.in-Ok.rows.items sums.own p (subst (λ l. IsSum 0 l sums.own) c.deref.ensures.value is.0))),
       sum_shown sums_shown 1 (λ (e : EventLine). e.call_cost) (λ e. refl) lines sums.calls
-      (subst (λ l. IsSum 1 l sums.calls) (sums_are t _ was.holds name) (sum_permuted 1 _ c.in-Ok.rows.items sums.calls p (subst (λ l. IsSum 1 l sums.calls) c.deref.ensures.value is.1))),
+          (subst (λ l. IsSum 1 l sums.calls) (sums_are t _ was.holds name) (sum_permuted 1 _ c.in-Ok.rows.items sums.calls p (subst (λ l. IsSum 1 l sums.calls) c.deref.ensures.value is.1))),
     ))
 
 pub returns-in-Ok-clause-found : goal.returns-in-Ok-clause-found

@@ -30,24 +30,24 @@ events-preserved g c =
       λ clean has. let same = i.0 (s.honest clean) has in s.same clean (ap (λ (d : Database). d.schema) same ∙ has) ∙ same,
       λ clean t was. s.stays clean t (i.1 (s.honest clean) t was),
       λ clean was.
-      let mid = i.2 (s.honest clean) was in
-      let settled = settled_still g.S.Store _ _ was mid in
-      before_then g.S.Store _ _ _ mid (s.unchanged clean settled (s.usable clean settled)),
+          let mid = i.2 (s.honest clean) was in
+          let settled = settled_still g.S.Store _ _ was mid in
+          before_then g.S.Store _ _ _ mid (s.unchanged clean settled (s.usable clean settled)),
       λ clean t was left may. elim (s.crash clean t (i.1 (s.honest clean) t was) left may) [ inl before ↦ i.3 (s.honest clean) t was left before | inr never ↦ absurd never ],
       λ clean. i.4 (s.honest clean),
       λ clean t was.
-      let told = s.told clean t (i.1 (s.honest clean) t was) in
-      let far = i.5 (s.honest clean) t was in (
-        pushed_own ∙ ap (λ n. own ++ n ∷ []) (told.0 ∙ ap (held_self t) named) ∙ sym (read_on (held_self t) events k name own low is (sym far.0)),
-        pushed_calls ∙ ap (λ n. calls ++ n ∷ []) (told.1 ∙ ap (held_calls t) named) ∙ sym (read_on (held_calls t) events k name calls low is (sym far.1)),
-      ),
+          let told = s.told clean t (i.1 (s.honest clean) t was) in
+          let far = i.5 (s.honest clean) t was in (
+            pushed_own ∙ ap (λ n. own ++ n ∷ []) (told.0 ∙ ap (held_self t) named) ∙ sym (read_on (held_self t) events k name own low is (sym far.0)),
+            pushed_calls ∙ ap (λ n. calls ++ n ∷ []) (told.1 ∙ ap (held_calls t) named) ∙ sym (read_on (held_calls t) events k name calls low is (sym far.1)),
+          ),
       λ clean has.
-      let same = i.0 (s.honest clean) has in
-      let found = s.found clean (ap (λ (d : Database). d.schema) same ∙ has) in
-      let x = subst (λ n. IsSum 4 (rows_named n db) a) named (subst (λ (d : Database). IsSum 4 (rows_named c.as_slice.result.now d.trees) a) same found.0) in
-      let y = subst (λ n. IsSum 5 (rows_named n db) b) named (subst (λ (d : Database). IsSum 5 (rows_named c.as_slice.result.now d.trees) b) same found.1) in
-      subst (λ l. AreSums db (take (k + 1) events) (l, c.push-else-is_err.new.self)) (sym pushed_own)
-      (subst (λ l. AreSums db (take (k + 1) events) (own ++ a ∷ [], l)) (sym pushed_calls) (sums_more db events k name own calls a b low is (i.6 (s.honest clean) has) x y)),
+          let same = i.0 (s.honest clean) has in
+          let found = s.found clean (ap (λ (d : Database). d.schema) same ∙ has) in
+          let x = subst (λ n. IsSum 4 (rows_named n db) a) named (subst (λ (d : Database). IsSum 4 (rows_named c.as_slice.result.now d.trees) a) same found.0) in
+          let y = subst (λ n. IsSum 5 (rows_named n db) b) named (subst (λ (d : Database). IsSum 5 (rows_named c.as_slice.result.now d.trees) b) same found.1) in
+          subst (λ l. AreSums db (take (k + 1) events) (l, c.push-else-is_err.new.self)) (sym pushed_own)
+          (subst (λ l. AreSums db (take (k + 1) events) (own ++ a ∷ [], l)) (sym pushed_calls) (sums_more db events k name own calls a b low is (i.6 (s.honest clean) has) x y)),
       (
         subst (All (λ n. n < 2 ^ 112)) (sym pushed_own) (All-push (λ n. n < 2 ^ 112) own a i.7.0 s.bounded.0),
         subst (All (λ n. n < 2 ^ 112)) (sym pushed_calls) (All-push (λ n. n < 2 ^ 112) calls b i.7.1 s.bounded.1),
