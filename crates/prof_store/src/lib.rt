@@ -38,6 +38,8 @@ mod store;
 #[cfg(test)]
 mod tests;
 #[cfg(test)]
+mod tests_many;
+#[cfg(test)]
 mod tests_queries;
 mod values;
 mod walks;
