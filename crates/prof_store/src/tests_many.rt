@@ -100,6 +100,9 @@ fn write_stacks(
 
 /// Writes so many rows of each kind.
 fn write_all(store: &mut Store<MemStore>, alloc: Global, rows: u32) -> Result<(), Fail> {
+    if !store.conn.is_autocommit() {
+        return Err(Fail::from(StoreEnd::Store));
+    }
     let mut tx = store.conn.transaction();
     write_cells(&mut tx, alloc, rows)?;
     write_arcs(&mut tx, alloc, rows)?;
