@@ -33,6 +33,10 @@ module _ {Y : Type 0} (writes : List Y → Tables → Tables) where
   pub queues_none : ((s : State) → Makes (λ _. ⊤) (writes []) s s) → (waited : List Y) (s : State) → Queues writes waited [] waited s s
   queues_none none waited s = record { written = []; made = none s; lines = sym (append-nil waited) }
 
+  -- one line is taken up, and waits
+  pub queues_waiting : {X : Type 0} (line : X → Y) (held : List X) (x : X) (waiting : List X) (s : State) → Makes (λ _. ⊤) (writes []) s s → waiting ≡ held ++ x ∷ [] → Queues writes (map line held) (line x ∷ []) (map line waiting) s s
+  queues_waiting line held x waiting s none pushed = record { written = []; made = none; lines = ap (map line) pushed ∙ map-append line held (x ∷ []) }
+
   -- lines are taken up, and then further lines
   pub queues_then : ((first more : List Y) (a b c : State) → Makes (λ _. ⊤) (writes first) a b → Passes b c → Makes (λ _. ⊤) (writes more) b c → Makes (λ _. ⊤) (writes (first ++ more)) a c)
       → (waited first mid more waits : List Y) (a b c : State) → Queues writes waited first mid a b → Passes b c → Queues writes mid more waits b c → Queues writes waited (first ++ more) waits a c

@@ -49,6 +49,8 @@ mod tests;
 #[cfg(test)]
 mod tests_heads;
 #[cfg(test)]
+mod tests_many;
+#[cfg(test)]
 mod tests_memory;
 #[cfg(test)]
 mod tests_put;

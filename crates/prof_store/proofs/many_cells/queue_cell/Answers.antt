@@ -1,12 +1,13 @@
-use Rattle.std.proofs.Common.{[], ◌∷◌, ◌++◌, map, not, if◌then◌else◌, ap, ◌∙◌}
+use Rattle.std.proofs.Common.{[], ◌∷◌, ◌++◌, not, if◌then◌else◌, ap, ◌∙◌}
 use Rattle.sqlite.specs.Held.{state}
-use Rattle.sql_tables.proofs.Rows.{map-append}
+use Rattle.prof_tables.specs.Changes.{with_cells}
 use Rattle.prof_store.specs.Lines.{cell_line}
 use Rattle.prof_store.proofs.Parts.{no_cells}
+use Rattle.prof_store.proofs.ManyLines.{queues_waiting}
 use Rattle.prof_store.proofs.many_cells.queue_cell.Goals as goal
 
 pub returns-else-len-eq50-clause-made : goal.returns-else-len-eq50-clause-made
 returns-else-len-eq50-clause-made g c =
     let held = c.args.waiting.now.items in
-    let pushed = c.push.ensures.items ∙ ap (λ b. if b then held ++ c.args.cell ∷ [] else held) (c.is_err.ensures.negation ∙ ap not c.if-is_err.false) in
-    record { written = []; made = no_cells (state g.S.Store c.args.tx.now.conn.now); lines = ap (map cell_line) pushed ∙ map-append cell_line held (c.args.cell ∷ []) }
+    let old = state g.S.Store c.args.tx.now.conn.now in
+    queues_waiting with_cells cell_line held c.args.cell _ old (no_cells old) (c.push.ensures.items ∙ ap (λ b. if b then held ++ c.args.cell ∷ [] else held) (c.is_err.ensures.negation ∙ ap not c.if-is_err.false))
