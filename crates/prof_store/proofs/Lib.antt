@@ -3,6 +3,7 @@ pub mod ArcWalks
 pub mod CellRows
 pub mod CellWalks
 mod FilePuts
+mod Filed
 mod Finding
 mod HeadReading
 mod HeldDigests

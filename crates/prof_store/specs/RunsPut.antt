@@ -4,6 +4,7 @@ use Rattle.cg_text.specs.declared.heads.FileHead.{FileHead}
 use Rattle.cost_rows.specs.Content.{Content}
 use Rattle.cost_rows.specs.Totals.{count_total}
 use Rattle.prof_tables.specs.Tables.{Tables, RunLine}
+use Rattle.prof_books.specs.Book.{RunBook, run_book}
 use Rattle.prof_books.specs.Files.{with_rows, with_head}
 use Rattle.prof_store.specs.HeadsPut.{event_lines, derived_lines, coef_lines}
 use Rattle.prof_store.specs.Kinds.{kind_number}
@@ -17,3 +18,8 @@ run_line_of number kind digest label c = record { number = number; kind = kind_n
 abbrev pub with_file : ℕ → Kind → List ℕ → List ℕ → FileHead → Content → Tables → Tables
 with_file number kind digest label head c t =
     with_rows number c (with_head (run_line_of number kind digest label c) (event_lines number head c) (derived_lines number head) (coef_lines number head) t)
+
+-- what the book tells of it
+abbrev pub file_book : ℕ → Kind → List ℕ → List ℕ → FileHead → Content → RunBook
+file_book number kind digest label head c =
+    run_book (run_line_of number kind digest label c) (event_lines number head c) (derived_lines number head) (coef_lines number head) c

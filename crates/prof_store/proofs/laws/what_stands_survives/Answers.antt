@@ -1,0 +1,9 @@
+use Rattle.std.proofs.Common.{◌≡◌, sym, subst, ap, ◌∙◌}
+use Rattle.sqlite.specs.Effect.{Database}
+use Rattle.prof_tables.specs.Tables.{Holds}
+use Rattle.prof_store.proofs.laws.what_stands_survives.Goals as goal
+
+pub returns-clause : goal.returns-clause
+returns-clause g c t store was db may =
+    let same : db ≡ _ = g.met.S.Store.settled store.conn.store db was.usable may in
+    subst (Holds t) (sym (same ∙ ap (λ (d : Database). d.trees) was.settled)) was.holds
