@@ -5,6 +5,7 @@ use crate::steps::Timer;
 use anyhow::Result;
 use prof_store::{HeldNames, Store};
 use sqlite::Alter;
+use std::alloc::Global;
 
 /// How many rows were walked, and what they add up to.
 #[derive(Clone, Copy)]
@@ -42,9 +43,15 @@ fn cells_sum<S: Alter>(store: &mut Store<S>, names: &HeldNames, run: u32) -> Res
     Ok(sum)
 }
 
-fn arcs_sum<S: Alter>(store: &mut Store<S>, names: &HeldNames, run: u32, events: usize) -> Result<Sum> {
+fn arcs_sum<S: Alter>(
+    store: &mut Store<S>,
+    alloc: Global,
+    names: &HeldNames,
+    run: u32,
+    events: usize,
+) -> Result<Sum> {
     let mut sum = Sum::none();
-    let mut arcs = store.arcs_of(run, names, events);
+    let mut arcs = store.arcs_of(alloc, run, names, events);
     for _ in 0..u64::MAX {
         match arcs.next().map_err(refused)? {
             Some(arc) => sum.add(arc.count),
@@ -64,7 +71,7 @@ pub(crate) fn walk_run<S: Alter>(rt: &HostRuntime, store: &mut Store<S>, run: u3
     timer.say(rt, "cells walked")?;
     let head = store.head_of(rt.alloc(), run).map_err(refused)?;
     let timer = Timer::new(rt)?;
-    let arcs = arcs_sum(store, &names, run, head.events.len())?;
+    let arcs = arcs_sum(store, rt.alloc(), &names, run, head.events.len())?;
     timer.say(rt, "calls walked")?;
     cells.say(rt, "cells")?;
     arcs.say(rt, "calls")
