@@ -3,7 +3,7 @@ use Rattle.sqlite.specs.Effect.{Database}
 use Rattle.prof_tables.specs.Tables.{Holds}
 use Rattle.prof_store.proofs.laws.what_stands_survives.Goals as goal
 
-pub returns-clause : goal.returns-clause
-returns-clause g c t store was db may =
+pub returns : goal.returns
+returns g c t store was db may =
     let same : db ≡ _ = g.met.S.Store.settled store.conn.store db was.usable may in
     subst (Holds t) (sym (same ∙ ap (λ (d : Database). d.trees) was.settled)) was.holds
