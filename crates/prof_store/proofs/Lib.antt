@@ -5,6 +5,7 @@ pub mod CellWalks
 mod FilePuts
 mod Filed
 mod Finding
+mod GroupMembers
 mod HeadReading
 mod HeldDigests
 mod HeldSums

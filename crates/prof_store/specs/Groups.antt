@@ -1,5 +1,5 @@
 -- Groups and members as a report shows them.
-use Rattle.std.specs.Prelude.{◌≡◌, ℕ, List, [], ◌∷◌, map, string_bytes}
+use Rattle.std.specs.Prelude.{◌≡◌, ℕ, List, [], ◌∷◌, bytes_eq, filter, map, string_bytes}
 use Rattle.std.specs.Ordering.{nat_cmp}
 use Rattle.std.specs.Cmp.Lexicographic.{slice_cmp}
 use Rattle.std.specs.declared.cmp.Ordering.TheVariants.{Less}
@@ -23,6 +23,10 @@ entry_group e = record { name = string_bytes e.name; baseline = e.baseline }
 -- the members of an entry, one line for each
 abbrev pub entry_members : GroupEntry → List MemberLine
 entry_members e = map (member_of (string_bytes e.name)) e.members
+
+-- the members of a group
+abbrev pub members_in : List ℕ → List MemberLine → List MemberLine
+members_in name lines = filter (λ (m : MemberLine). bytes_eq m.group name) lines
 
 -- by the bytes of the names
 abbrev pub IsBefore : GroupEntry → GroupEntry → Type 0

@@ -1,5 +1,5 @@
 // The run that a digest has.
-ghost use Rattle.std.specs.Prelude.{◌≡◌, ◌≢◌, pos, [], ◌∷◌, Ok, Err, IfOk, OnOk, MatchOption};
+ghost use Rattle.std.specs.Prelude.{◌≡◌, ◌≢◌, pos, [], ◌∷◌, Ok, Err, IfOk, OnOk, MatchOption, IfErr};
 ghost use Rattle.sqlite.specs.Held.{state};
 ghost use Rattle.sqlite.specs.State.{HasCleanDisk, Survives, QueriesRow, CommitsShowing};
 ghost use Rattle.sqlite.specs.declared.error.Error.TheVariants as errors;
@@ -8,7 +8,8 @@ ghost use Rattle.sqlite_value.specs.Order.{column};
 ghost use Rattle.sqlite_rules.specs.Lists.{Has};
 ghost use Rattle.prof_tables.specs.Schema.{schema_one};
 ghost use Rattle.prof_tables.specs.Texts.{by_digest_text};
-ghost use Rattle.prof_store.specs.Shown.{shown, IsFaithful, IsUsable, StandsFor, LeavesOnly};
+ghost use Rattle.prof_store.specs.Shown.{shown, IsFaithful, IsUsable, StandsFor, LeavesOnly, IsSettled, IsAsBefore};
+ghost use Rattle.prof_store.specs.declared.errors.StoreEnd.TheVariants as ends;
 
 use crate::columns::number_at;
 use crate::errors::{StoreEnd, end_of};
@@ -24,7 +25,8 @@ fn select_by_digest<S: Alter>(conn: &mut Connection<S>, digest: &[u8]) -> Result
 
 /// The number in a row of one column, if there is a row.
 fn number_in(answer: Result<Row, Error>) -> Result<Option<u32>, StoreEnd>
-    ensures { IfOk result (λ found. MatchOption found (answer ≡ Err errors.QueryReturnedNoRows) (λ n. (row : _) × (answer ≡ Ok row) × (column row 0 ≡ Int (pos n)))) }
+    ensures read { IfOk result (λ found. MatchOption found (answer ≡ Err errors.QueryReturnedNoRows) (λ n. (row : _) × (answer ≡ Ok row) × (column row 0 ≡ Int (pos n)))) }
+    ensures refused { IfErr result (λ e. e ≢ ends.WrongSchema) }
 {
     match answer {
         Ok(row) => Ok(Some(number_at(&row, 0)?)),
@@ -40,8 +42,10 @@ impl<S: Alter> Store<S> {
         ensures found { IsFaithful S.Store self.new → (shown S.Store self.old).now.schema ≡ schema_one → IfOk result (λ found. MatchOption found ((r : _) → Has ((shown S.Store self.old).now.trees 1) r → column r 3 ≢ Blob digest.now) (λ n. (r : _) × Has ((shown S.Store self.old).now.trees 1) r × (column r 3 ≡ Blob digest.now) × (column r 0 ≡ Int (pos n)))) }
         ensures kept { IsFaithful S.Store self.new → (t : _) → StandsFor S.Store t self.old → IsUsable S.Store self.new → StandsFor S.Store t self.new }
         ensures stays { IsFaithful S.Store self.new → (t : _) → StandsFor S.Store t self.old → OnOk result (StandsFor S.Store t self.new) }
+        ensures unchanged { IsFaithful S.Store self.new → IsSettled S.Store self.old → IsUsable S.Store self.new → IsAsBefore S.Store self.old self.new }
         ensures crash { IsFaithful S.Store self.new → (t : _) → StandsFor S.Store t self.old → LeavesOnly S.Store self.old self.new (λ _. ⊥) }
         ensures honest { IsFaithful S.Store self.new → IsFaithful S.Store self.old }
+        ensures refused { IfErr result (λ e. e ≢ ends.WrongSchema) }
     {
         let answer = select_by_digest(&mut self.conn, digest);
         number_in(answer)

@@ -1,7 +1,7 @@
 // The entries of reports.
 ghost use Rattle.std.specs.Prelude.{string_bytes, length, ◌<◌};
 ghost use Rattle.std.specs.List.{AllAdjacentBelow};
-ghost use Rattle.prof_store.specs.Labels.{IsLabel};
+ghost use Rattle.prof_store.specs.Labels.{IsLabel, IsGroupName};
 
 use crate::kinds::Kind;
 use cg_text::Items;
@@ -22,5 +22,6 @@ pub struct GroupEntry {
     pub name: String,
     pub baseline: Option<u32>,
     pub members: Items<u32>,
+    ghost form: { IsGroupName (string_bytes name) },
     ghost rising: { AllAdjacentBelow (λ a b. a < b) members (length members) },
 }

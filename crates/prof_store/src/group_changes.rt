@@ -1,12 +1,14 @@
 // Groups, their members and baselines.
-ghost use Rattle.std.specs.Prelude.{◌≡◌, ◌∷◌, [], pos, true, OnOk, OnErr};
+ghost use Rattle.std.specs.Prelude.{◌≡◌, ◌∷◌, [], pos, true, OnOk, OnErr, ◌≢◌, IfErr};
 ghost use Rattle.sqlite.specs.Held.{state};
 ghost use Rattle.sqlite.specs.State.{HasCleanDisk, Survives, Executes, CommitsBy};
 ghost use Rattle.sqlite_value.specs.declared.value.Value.TheVariants.{Int, Text};
 ghost use Rattle.prof_tables.specs.Texts.{put_group_text, drop_group_text, leave_text, set_baseline_text};
 ghost use Rattle.prof_tables.specs.Tables.{Holds};
 ghost use Rattle.prof_tables.specs.Changes.{has_group, with_group, without_group, without_member, with_baseline};
+ghost use Rattle.prof_store.specs.Labels.{IsGroupName};
 ghost use Rattle.prof_store.specs.Shown.{IsFaithful, IsUsable, StandsFor, IsSettled, IsAsBefore, LeavesOnly};
+ghost use Rattle.prof_store.specs.declared.errors.StoreEnd.TheVariants as ends;
 
 use crate::errors::{StoreEnd, end_of};
 use crate::store::Store;
@@ -47,13 +49,15 @@ fn update_baseline<S: Alter>(conn: &mut Connection<S>, name: &str, run: u32) -> 
 }
 
 impl<S: Alter> Store<S> {
-    /// Makes a group with no member and no baseline.
+    /// Makes a group with no member and no baseline. The name is in form (`is_group_name`).
     pub fn put_group(&mut self, name: &str) -> Result<(), StoreEnd>
+        requires { IsGroupName name.now }
         ensures done { IsFaithful S.Store self.new → (t : _) → StandsFor S.Store t self.old → OnOk result (StandsFor S.Store (with_group name.now t) self.new) }
         ensures kept { IsFaithful S.Store self.new → (t : _) → StandsFor S.Store t self.old → OnErr result (IsUsable S.Store self.new → StandsFor S.Store t self.new) }
         ensures unchanged { IsFaithful S.Store self.new → IsSettled S.Store self.old → OnErr result (IsUsable S.Store self.new → IsAsBefore S.Store self.old self.new) }
         ensures crash { IsFaithful S.Store self.new → (t : _) → StandsFor S.Store t self.old → LeavesOnly S.Store self.old self.new (Holds (with_group name.now t)) }
         ensures honest { IsFaithful S.Store self.new → IsFaithful S.Store self.old }
+        ensures refused { IfErr result (λ e. e ≢ ends.WrongSchema) }
     {
         match insert_group(&mut self.conn, name) {
             Ok(_) => Ok(()),
@@ -68,6 +72,7 @@ impl<S: Alter> Store<S> {
         ensures unchanged { IsFaithful S.Store self.new → IsSettled S.Store self.old → OnErr result (IsUsable S.Store self.new → IsAsBefore S.Store self.old self.new) }
         ensures crash { IsFaithful S.Store self.new → (t : _) → StandsFor S.Store t self.old → has_group t name.now ≡ true → LeavesOnly S.Store self.old self.new (Holds (without_group name.now t)) }
         ensures honest { IsFaithful S.Store self.new → IsFaithful S.Store self.old }
+        ensures refused { IfErr result (λ e. e ≢ ends.WrongSchema) }
     {
         match delete_group(&mut self.conn, name) {
             Ok(_) => Ok(()),
@@ -82,6 +87,7 @@ impl<S: Alter> Store<S> {
         ensures unchanged { IsFaithful S.Store self.new → IsSettled S.Store self.old → OnErr result (IsUsable S.Store self.new → IsAsBefore S.Store self.old self.new) }
         ensures crash { IsFaithful S.Store self.new → (t : _) → StandsFor S.Store t self.old → LeavesOnly S.Store self.old self.new (Holds (without_member name.now run t)) }
         ensures honest { IsFaithful S.Store self.new → IsFaithful S.Store self.old }
+        ensures refused { IfErr result (λ e. e ≢ ends.WrongSchema) }
     {
         match delete_member(&mut self.conn, name, run) {
             Ok(_) => Ok(()),
@@ -96,6 +102,7 @@ impl<S: Alter> Store<S> {
         ensures unchanged { IsFaithful S.Store self.new → IsSettled S.Store self.old → OnErr result (IsUsable S.Store self.new → IsAsBefore S.Store self.old self.new) }
         ensures crash { IsFaithful S.Store self.new → (t : _) → StandsFor S.Store t self.old → LeavesOnly S.Store self.old self.new (Holds (with_baseline name.now run t)) }
         ensures honest { IsFaithful S.Store self.new → IsFaithful S.Store self.old }
+        ensures refused { IfErr result (λ e. e ≢ ends.WrongSchema) }
     {
         match update_baseline(&mut self.conn, name, run) {
             Ok(_) => Ok(()),

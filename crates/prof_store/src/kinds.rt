@@ -1,8 +1,9 @@
 // The kinds of runs.
-ghost use Rattle.std.specs.Prelude.{◌≡◌, pos, IfOk};
+ghost use Rattle.std.specs.Prelude.{◌≡◌, pos, IfOk, ◌≢◌, IfErr};
 ghost use Rattle.sqlite_value.specs.declared.value.Value.TheVariants.{Int};
 ghost use Rattle.sqlite_value.specs.Order.{column};
 ghost use Rattle.prof_store.specs.Kinds.{kind_number};
+ghost use Rattle.prof_store.specs.declared.errors.StoreEnd.TheVariants as ends;
 
 use crate::columns::number_at;
 use crate::errors::StoreEnd;
@@ -26,7 +27,8 @@ pub(crate) fn number_of_kind(kind: Kind) -> u32
 }
 
 pub(crate) fn kind_at(row: &Row, at: usize) -> Result<Kind, StoreEnd>
-    ensures { IfOk result (λ kind. column row.now at ≡ Int (pos (kind_number kind))) }
+    ensures read { IfOk result (λ kind. column row.now at ≡ Int (pos (kind_number kind))) }
+    ensures refused { IfErr result (λ e. e ≢ ends.WrongSchema) }
 {
     match number_at(row, at)? {
         1 => Ok(Kind::Callgrind),

@@ -70,7 +70,7 @@ pub use entries::{GroupEntry, RunEntry};
 pub use errors::StoreEnd;
 pub use held_names::HeldNames;
 pub use kinds::Kind;
-pub use labels::is_label;
+pub use labels::{is_group_name, is_label};
 pub use laws::{a_file_that_is_put_is_in_the_book, what_stands_survives};
 pub use sqlite::Alter;
 pub use stacks::Stacks;

@@ -118,6 +118,7 @@ fn create_in<S: Alter>(conn: &mut Connection<S>) -> Result<(), Error>
     ensures done { HasCleanDisk (state S.Store conn.new) → IsBlank empty_schema (state S.Store conn.old) → OnOk result (Rests schema_one (Holds new_tables) (state S.Store conn.new)) }
     ensures kept { HasCleanDisk (state S.Store conn.new) → IsBlank empty_schema (state S.Store conn.old) → OnErr result (IsTrue (state S.Store conn.new).is_open → IsBlank empty_schema (state S.Store conn.new)) }
     ensures crash { IsBlank empty_schema (state S.Store conn.old) → Survives (state S.Store conn.old) (state S.Store conn.new) (Holds new_tables) }
+    ensures honest { HasCleanDisk (state S.Store conn.new) → HasCleanDisk (state S.Store conn.old) }
 {
     let mut tx = conn.transaction();
     fill_new(&mut tx)?;
@@ -135,6 +136,8 @@ impl<S: Alter> Store<S> {
         ensures kept { IfErr result (λ e. HasCleanDisk (state S.Store e.1) → IsBlank empty_schema (state S.Store conn) → IsTrue (state S.Store e.1).is_open → IsBlank empty_schema (state S.Store e.1)) }
         ensures crash { IfOk result (λ store. IsFaithful S.Store store → IsBlank empty_schema (state S.Store conn) → Leaves (state S.Store conn) (shown S.Store store) (Holds new_tables)) }
         ensures crash_err { IfErr result (λ e. HasCleanDisk (state S.Store e.1) → IsBlank empty_schema (state S.Store conn) → Leaves (state S.Store conn) (state S.Store e.1) (Holds new_tables)) }
+        ensures honest { IfOk result (λ store. IsFaithful S.Store store → HasCleanDisk (state S.Store conn)) }
+        ensures honest_err { IfErr result (λ e. HasCleanDisk (state S.Store e.1) → HasCleanDisk (state S.Store conn)) }
     {
         if !conn.is_autocommit() {
             return Err((StoreEnd::Store, conn));

@@ -1,5 +1,5 @@
 // The next run's number.
-ghost use Rattle.std.specs.Prelude.{◌≡◌, pos, [], IfOk, OnOk};
+ghost use Rattle.std.specs.Prelude.{◌≡◌, pos, [], IfOk, OnOk, ◌≢◌, IfErr};
 ghost use Rattle.sqlite.specs.Held.{state};
 ghost use Rattle.sqlite.specs.State.{HasCleanDisk, Survives, QueriesRow, CommitsShowing};
 ghost use Rattle.sqlite_value.specs.declared.value.Value.TheVariants.{Int};
@@ -7,7 +7,8 @@ ghost use Rattle.sqlite_value.specs.Order.{column};
 ghost use Rattle.sqlite_rules.specs.Lists.{Has};
 ghost use Rattle.prof_tables.specs.Schema.{schema_one};
 ghost use Rattle.prof_tables.specs.Texts.{next_text};
-ghost use Rattle.prof_store.specs.Shown.{shown, IsFaithful, IsUsable, StandsFor, LeavesOnly};
+ghost use Rattle.prof_store.specs.Shown.{shown, IsFaithful, IsUsable, StandsFor, LeavesOnly, IsSettled, IsAsBefore};
+ghost use Rattle.prof_store.specs.declared.errors.StoreEnd.TheVariants as ends;
 
 use crate::columns::number_at;
 use crate::errors::{StoreEnd, end_of};
@@ -28,8 +29,11 @@ impl<S: Alter> Store<S> {
         ensures found { IsFaithful S.Store self.new → (shown S.Store self.old).now.schema ≡ schema_one → IfOk result (λ n. (r : _) × Has ((shown S.Store self.old).now.trees 0) r × (column r 3 ≡ Int (pos n))) }
         ensures kept { IsFaithful S.Store self.new → (t : _) → StandsFor S.Store t self.old → IsUsable S.Store self.new → StandsFor S.Store t self.new }
         ensures stays { IsFaithful S.Store self.new → (t : _) → StandsFor S.Store t self.old → OnOk result (StandsFor S.Store t self.new) }
+        ensures unchanged { IsFaithful S.Store self.new → IsSettled S.Store self.old → IsUsable S.Store self.new → IsAsBefore S.Store self.old self.new }
+        ensures usable { IsFaithful S.Store self.new → IsSettled S.Store self.old → OnOk result (IsUsable S.Store self.new) }
         ensures crash { IsFaithful S.Store self.new → (t : _) → StandsFor S.Store t self.old → LeavesOnly S.Store self.old self.new (λ _. ⊥) }
         ensures honest { IsFaithful S.Store self.new → IsFaithful S.Store self.old }
+        ensures refused { IfErr result (λ e. e ≢ ends.WrongSchema) }
     {
         match select_next(&mut self.conn) {
             Ok(row) => number_at(&row, 0),

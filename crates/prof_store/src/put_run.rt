@@ -82,6 +82,7 @@ impl<S: Alter> Store<S> {
         ensures counted { OnOk result (count_total (content_of rows.now).arcs < 2 ^ 63) }
         ensures done { IsFaithful S.Store self.new → (t : _) → StandsFor S.Store t self.old → OnOk result (StandsFor S.Store (with_file t.next kind digest.now label.now head.now (content_of rows.now) t) self.new) }
         ensures kept { IsFaithful S.Store self.new → (t : _) → StandsFor S.Store t self.old → OnErr result (IsUsable S.Store self.new → StandsFor S.Store t self.new) }
+        ensures unchanged { IsFaithful S.Store self.new → IsSettled S.Store self.old → OnErr result (IsUsable S.Store self.new → IsAsBefore S.Store self.old self.new) }
         ensures crash { IsFaithful S.Store self.new → (t : _) → StandsFor S.Store t self.old → LeavesOnly S.Store self.old self.new (Holds (with_file t.next kind digest.now label.now head.now (content_of rows.now) t)) }
         ensures honest { IsFaithful S.Store self.new → IsFaithful S.Store self.old }
     {

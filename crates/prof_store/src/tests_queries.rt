@@ -1,5 +1,5 @@
 // What the store tells, over rows that are written by hand.
-use crate::{Kind, Store, StoreEnd};
+use crate::{Kind, Store, StoreEnd, is_group_name, is_label};
 use sqlite::{Connection, MemStore, params};
 use std::alloc::Global;
 use std::test::Fail;
@@ -88,6 +88,40 @@ fn groups_are_listed_with_their_members(rt: HostRuntime) -> Result<(), Fail> {
     assert_eq!(rt; groups[1].name.as_str(), "h");
     assert_eq!(rt; groups[1].baseline, Some(2));
     assert_eq!(rt; groups[1].members.len(), 0);
+    Ok(())
+}
+
+#[test]
+fn a_name_out_of_form_is_refused(rt: HostRuntime) -> Result<(), Fail> {
+    let mut store = new_store(rt.alloc())?;
+    store
+        .conn
+        .execute("INSERT INTO grp (name) VALUES ('a b')", &[])?;
+    assert_eq!(rt; store.groups(rt.alloc()).err(), Some(StoreEnd::Store));
+    Ok(())
+}
+
+#[test]
+fn names_in_form(rt: HostRuntime) -> Result<(), Fail> {
+    let longest = "0123456789abcdef0123456789ABCDEF0123456789abcdef0123456789ABCDEF";
+    for name in ["a", "nightly.build_7-x", longest] {
+        assert_eq!(rt; is_group_name(name), true, "{name}");
+    }
+    for name in [
+        "",
+        "a b",
+        "a/b",
+        "\u{e9}",
+        "0123456789abcdef0123456789ABCDEF0123456789abcdef0123456789ABCDEFx",
+    ] {
+        assert_eq!(rt; is_group_name(name), false, "{name}");
+    }
+    for label in ["a", "dir/a.out 4", "\u{e9}"] {
+        assert_eq!(rt; is_label(label), true, "{label}");
+    }
+    for label in ["", "a\n", "a\u{7f}", "\u{1f}"] {
+        assert_eq!(rt; is_label(label), false, "{label}");
+    }
     Ok(())
 }
 

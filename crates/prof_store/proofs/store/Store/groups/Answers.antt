@@ -6,6 +6,7 @@ use Rattle.prof_tables.specs.Seen.{group_seen}
 use Rattle.prof_tables.specs.Tables.{group_columns, member_columns}
 use Rattle.prof_store.specs.Groups.{entry_group, member_line}
 use Rattle.prof_store.specs.declared.entries.GroupEntry.{GroupEntry}
+use Rattle.prof_store.proofs.GroupMembers.{members_told}
 use Rattle.prof_store.proofs.Reading.{both_ok}
 use Rattle.prof_store.proofs.store.Store.groups.Goals as goal
 
@@ -25,3 +26,10 @@ returns-clause-found g c clean has =
       subst (λ (d : Database). IsPermutation (map group_seen (d.trees 19)) (map (λ (e : GroupEntry). group_columns (entry_group e)) entries.items)) same is.0,
       subst (IsPermutation _) (sym (map-map member_columns member_line c.in_ok-members.members.items) ∙ ap (map member_columns) (sym (is.1 ∙ ap (map member_line) c.deref.ensures.value))) first,
     ))
+
+pub returns-clause-members : goal.returns-clause-members
+returns-clause-members g c clean t was =
+    let mid = c.in_ok-members.ensures.stays (c.groups_of.ensures.honest clean) t was in
+    let first = c.in_ok-members.ensures.told (c.groups_of.ensures.honest clean) t was in
+    if_ok_then c.groups_of.result (both_ok _ _ c.groups_of.result c.groups_of.ensures.rising c.groups_of.ensures.members) (λ entries is.
+    members_told t.members entries.items is.0 (subst (IsPermutation t.members) (sym (is.1 ∙ ap (map member_line) c.deref.ensures.value)) first))

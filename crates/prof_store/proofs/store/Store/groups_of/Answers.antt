@@ -9,7 +9,7 @@ use Rattle.prof_tables.proofs.Lists.{groups_listed, groups_are}
 use Rattle.prof_store.specs.Groups.{entry_group, first_two}
 use Rattle.prof_store.specs.declared.entries.GroupEntry.{GroupEntry}
 use Rattle.prof_store.proofs.Listing.{read_permutes, read_back, group_back, group_read}
-use Rattle.prof_store.proofs.Reading.{on_ok, rows_stay, fails_kept, leaves_nothing}
+use Rattle.prof_store.proofs.Reading.{on_ok, rows_stay, fails_kept, leaves_nothing, rows_as_before, fails_as_before}
 use Rattle.prof_store.proofs.store.Store.groups_of.Goals as goal
 
 pub returns-in-Ok-clause-told : goal.returns-in-Ok-clause-told
@@ -38,3 +38,9 @@ returns-in-Err-clause-kept g c clean t was is_open = fails_kept groups_text [] g
 
 pub returns-in-Err-clause-crash : goal.returns-in-Err-clause-crash
 returns-in-Err-clause-crash g c clean t was = leaves_nothing groups_text [] groups_plain (Holds t) _ _ was c.select_groups.ensures.survives clean
+
+pub returns-in-Ok-clause-unchanged : goal.returns-in-Ok-clause-unchanged
+returns-in-Ok-clause-unchanged g c clean was is_open = rows_as_before groups_text [] groups_plain g.S.Store _ _ was c.in-Ok.rows.items (c.in-Ok.ensures.ok clean) is_open
+
+pub returns-in-Err-clause-unchanged : goal.returns-in-Err-clause-unchanged
+returns-in-Err-clause-unchanged g c clean was is_open = fails_as_before groups_text [] groups_plain g.S.Store _ _ was _ (c.in-Err.ensures.err clean) is_open

@@ -9,20 +9,20 @@ use Rattle.prof_tables.proofs.Lists.{members_listed, members_are}
 use Rattle.prof_store.specs.Groups.{member_line, first_two}
 use Rattle.prof_store.specs.declared.groups.Member.{Member}
 use Rattle.prof_store.proofs.Listing.{read_permutes, read_back, member_back, member_read}
-use Rattle.prof_store.proofs.Reading.{on_ok, same_after, rows_stay, fails_kept, leaves_nothing}
+use Rattle.prof_store.proofs.Reading.{on_ok, same_after, rows_stay, fails_kept, leaves_nothing, rows_as_before, rows_open, fails_as_before}
 use Rattle.prof_store.proofs.store.Store.members.Goals as goal
 
 pub returns-in-Ok-clause-told : goal.returns-in-Ok-clause-told
 returns-in-Ok-clause-told g c clean t was =
     let p = members_listed _ _ c.in-Ok.rows.items was.schema_is (c.in-Ok.ensures.ok clean) in
-    if_ok_then c.members_in.result c.members_in.ensures (λ members is.
+    if_ok_then c.members_in.result c.members_in.ensures.read (λ members is.
     let q = read_permutes member_seen first_two (λ (m : Member). member_columns (member_line m)) (λ r. refl) _ c.in-Ok.rows.items members.items p (is ∙ ap (map first_two) c.deref.ensures.value) in
     read_back member_columns member_back member_read t.members (map member_line members.items) (subst₂ IsPermutation (members_are t _ was.holds) (sym (map-map member_columns member_line members.items)) q))
 
 pub returns-in-Ok-clause-found : goal.returns-in-Ok-clause-found
 returns-in-Ok-clause-found g c clean has =
     let p = members_listed _ _ c.in-Ok.rows.items has (c.in-Ok.ensures.ok clean) in
-    if_ok_then c.members_in.result c.members_in.ensures (λ members is. read_permutes member_seen first_two (λ (m : Member). member_columns (member_line m)) (λ r. refl) _ c.in-Ok.rows.items members.items p (is ∙ ap (map first_two) c.deref.ensures.value))
+    if_ok_then c.members_in.result c.members_in.ensures.read (λ members is. read_permutes member_seen first_two (λ (m : Member). member_columns (member_line m)) (λ r. refl) _ c.in-Ok.rows.items members.items p (is ∙ ap (map first_two) c.deref.ensures.value))
 
 pub returns-in-Ok-clause-same : goal.returns-in-Ok-clause-same
 returns-in-Ok-clause-same g c clean has = on_ok _ c.members_in.result (same_after members_text [] members_plain _ _ has c.in-Ok.rows.items (c.in-Ok.ensures.ok clean))
@@ -41,3 +41,12 @@ returns-in-Err-clause-kept g c clean t was is_open = fails_kept members_text [] 
 
 pub returns-in-Err-clause-crash : goal.returns-in-Err-clause-crash
 returns-in-Err-clause-crash g c clean t was = leaves_nothing members_text [] members_plain (Holds t) _ _ was c.select_members.ensures.survives clean
+
+pub returns-in-Ok-clause-unchanged : goal.returns-in-Ok-clause-unchanged
+returns-in-Ok-clause-unchanged g c clean was is_open = rows_as_before members_text [] members_plain g.S.Store _ _ was c.in-Ok.rows.items (c.in-Ok.ensures.ok clean) is_open
+
+pub returns-in-Err-clause-unchanged : goal.returns-in-Err-clause-unchanged
+returns-in-Err-clause-unchanged g c clean was is_open = fails_as_before members_text [] members_plain g.S.Store _ _ was _ (c.in-Err.ensures.err clean) is_open
+
+pub returns-in-Ok-clause-usable : goal.returns-in-Ok-clause-usable
+returns-in-Ok-clause-usable g c clean was = on_ok _ c.members_in.result (rows_open members_text [] members_plain _ _ was.schema_is c.in-Ok.rows.items (c.in-Ok.ensures.ok clean))

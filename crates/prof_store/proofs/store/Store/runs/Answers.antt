@@ -10,7 +10,7 @@ use Rattle.prof_tables.proofs.Lists.{runs_listed, runs_in_order, numbered_table}
 use Rattle.prof_store.specs.Entries.{HeldRun, held_run, entry_run, held_columns, entry_columns, first_four}
 use Rattle.prof_store.specs.declared.entries.RunEntry.{RunEntry}
 use Rattle.prof_store.proofs.Listing.{read_permutes, map_injective}
-use Rattle.prof_store.proofs.Reading.{both_ok, on_ok, rows_stay, fails_kept, leaves_nothing}
+use Rattle.prof_store.proofs.Reading.{both_ok, on_ok, rows_stay, fails_kept, leaves_nothing, rows_as_before, fails_as_before}
 use Rattle.prof_store.proofs.store.Store.runs.Goals as goal
 
 same_held : (a b : HeldRun) → held_columns a ≡ held_columns b → a ≡ b
@@ -49,3 +49,9 @@ returns-in-Err-clause-kept g c clean t was is_open = fails_kept runs_text [] run
 
 pub returns-in-Err-clause-crash : goal.returns-in-Err-clause-crash
 returns-in-Err-clause-crash g c clean t was = leaves_nothing runs_text [] runs_plain (Holds t) _ _ was c.select_runs.ensures.survives clean
+
+pub returns-in-Ok-clause-unchanged : goal.returns-in-Ok-clause-unchanged
+returns-in-Ok-clause-unchanged g c clean was is_open = rows_as_before runs_text [] runs_plain g.S.Store _ _ was c.in-Ok.rows.items (c.in-Ok.ensures.ok clean) is_open
+
+pub returns-in-Err-clause-unchanged : goal.returns-in-Err-clause-unchanged
+returns-in-Err-clause-unchanged g c clean was is_open = fails_as_before runs_text [] runs_plain g.S.Store _ _ was _ (c.in-Err.ensures.err clean) is_open
