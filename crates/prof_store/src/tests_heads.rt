@@ -109,13 +109,11 @@ fn totals_that_are_stated_are_read(rt: HostRuntime) -> Result<(), Fail> {
         ],
         1,
     )?;
-    match head.stated {
-        Some(sums) => {
-            assert_eq!(rt; sums.as_slice(), [0u128, 18446744073709551616].as_slice());
-            Ok(())
-        }
-        None => Err(Fail::from(StoreEnd::Store)),
-    }
+    let Some(sums) = &head.stated else {
+        return Err(Fail::from(StoreEnd::Store));
+    };
+    assert_eq!(rt; sums.as_slice(), [0u128, 18446744073709551616].as_slice());
+    Ok(())
 }
 
 #[test]

@@ -1,5 +1,5 @@
 // Walks over the rows of a run, over rows that are written by hand.
-use crate::{HeldNames, Store, StoreEnd};
+use crate::{Arcs, HeldNames, Store, StoreEnd};
 use sqlite::types::ToSql;
 use sqlite::{Connection, MemStore};
 use std::alloc::Global;
@@ -35,16 +35,24 @@ fn store_of_names(alloc: Global) -> Result<Store<MemStore>, Fail> {
     Ok(store)
 }
 
+/// Whether a number has this name.
+fn is_name(names: &HeldNames, number: u32, bytes: &[u8]) -> bool {
+    match names.name(number) {
+        Some(name) => name == bytes,
+        None => false,
+    }
+}
+
 #[test]
 fn names_are_found_by_their_numbers(rt: HostRuntime) -> Result<(), Fail> {
     let mut store = store_of_names(rt.alloc())?;
     let names = store.names(rt.alloc())?;
-    assert_eq!(rt; names.name(1), Some(b"a".as_slice()));
-    assert_eq!(rt; names.name(3), Some(b"c".as_slice()));
-    assert_eq!(rt; names.name(7), Some(b"g".as_slice()));
-    assert_eq!(rt; names.name(0), None);
-    assert_eq!(rt; names.name(4), None);
-    assert_eq!(rt; names.name(8), None);
+    assert!(rt; is_name(&names, 1, b"a"));
+    assert!(rt; is_name(&names, 3, b"c"));
+    assert!(rt; is_name(&names, 7, b"g"));
+    for number in [0, 4, 6, 8] {
+        assert!(rt; names.name(number).is_none(), "{number}");
+    }
     Ok(())
 }
 
@@ -117,13 +125,14 @@ fn sum_of_cells(
     run: u32,
 ) -> Result<(u64, u128), Fail> {
     let mut cells = store.cells_of(run, names);
-    let mut count = 0;
-    let mut sum = 0;
-    while let Some(row) = cells.next()? {
-        count += 1;
-        sum += row.cost;
+    let mut sum = 0u128;
+    for count in 0..u64::MAX {
+        let Some(row) = cells.next()? else {
+            return Ok((count, sum));
+        };
+        sum = sum.saturating_add(row.cost);
     }
-    Ok((count, sum))
+    Err(Fail::from(StoreEnd::Store))
 }
 
 #[test]
@@ -216,9 +225,9 @@ fn add_arc(
     Ok(())
 }
 
-#[test]
-fn calls_have_their_costs(rt: HostRuntime) -> Result<(), Fail> {
-    let mut store = store_of_names(rt.alloc())?;
+/// A store with three rows of calls of run 1.
+fn store_of_calls(alloc: Global) -> Result<Store<MemStore>, Fail> {
+    let mut store = store_of_names(alloc)?;
     add_arc(&mut store, 1, 16, 0, 3)?;
     add_arc(&mut store, 1, 16, 2, 400)?;
     add_arc(&mut store, 2, 16, 0, 9)?;
@@ -226,6 +235,12 @@ fn calls_have_their_costs(rt: HostRuntime) -> Result<(), Fail> {
     add_arc(&mut store, 1, 17, 1, 5)?;
     add_arc(&mut store, 1, 17, 3, 7)?;
     add_arc(&mut store, 1, 18, 0, 0)?;
+    Ok(store)
+}
+
+#[test]
+fn calls_have_their_names(rt: HostRuntime) -> Result<(), Fail> {
+    let mut store = store_of_calls(rt.alloc())?;
     let names = store.names(rt.alloc())?;
     let mut arcs = store.arcs_of(rt.alloc(), 1, &names, 3);
     let Some(first) = arcs.next()? else {
@@ -240,18 +255,30 @@ fn calls_have_their_costs(rt: HostRuntime) -> Result<(), Fail> {
     assert_eq!(rt; first.called_function, b"b".as_slice());
     assert_eq!(rt; first.count, 3);
     assert_eq!(rt; first.costs.as_slice(), [0, 400, 0].as_slice());
-    let Some(second) = arcs.next()? else {
-        return Err(Fail::from(StoreEnd::Store));
-    };
-    assert_eq!(rt; second.line, 17);
-    assert_eq!(rt; second.count, 1);
-    assert_eq!(rt; second.costs.as_slice(), [5, 0, 7].as_slice());
-    let Some(third) = arcs.next()? else {
-        return Err(Fail::from(StoreEnd::Store));
-    };
-    assert_eq!(rt; third.line, 18);
-    assert_eq!(rt; third.count, 0);
-    assert_eq!(rt; third.costs.as_slice(), [0, 0, 0].as_slice());
+    Ok(())
+}
+
+/// Whether the next calls are at a line, of a count and of costs.
+fn next_are(
+    arcs: &mut Arcs<'_, MemStore>,
+    line: u64,
+    count: u128,
+    costs: &[u128],
+) -> Result<bool, Fail> {
+    match arcs.next()? {
+        Some(row) => Ok(row.line == line && row.count == count && row.costs.as_slice() == costs),
+        None => Ok(false),
+    }
+}
+
+#[test]
+fn calls_come_row_by_row(rt: HostRuntime) -> Result<(), Fail> {
+    let mut store = store_of_calls(rt.alloc())?;
+    let names = store.names(rt.alloc())?;
+    let mut arcs = store.arcs_of(rt.alloc(), 1, &names, 3);
+    assert!(rt; next_are(&mut arcs, 16, 3, &[0, 400, 0])?);
+    assert!(rt; next_are(&mut arcs, 17, 1, &[5, 0, 7])?);
+    assert!(rt; next_are(&mut arcs, 18, 0, &[0, 0, 0])?);
     assert_eq!(rt; arcs.next()?.is_none(), true);
     assert_eq!(rt; arcs.next()?.is_none(), true);
     drop(arcs);
