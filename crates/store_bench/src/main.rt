@@ -42,7 +42,7 @@ fn main(rt: HostRuntime) -> Result<()> {
     };
     timer.say(&rt, "tables")?;
     for place in 2..words.len() {
-        put_file(&rt, &mut store, words[place].as_str(), place as u8)?;
+        put_file(&rt, &mut store, words[place].as_str(), (place % 256) as u8)?;
     }
     walk_all(&rt, &mut store)
 }

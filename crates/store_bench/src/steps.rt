@@ -4,6 +4,7 @@ use anyhow::Result;
 use std::time::Instant;
 
 /// When a step began.
+#[derive(Drop)]
 pub struct Timer {
     start: Instant,
 }
