@@ -1,5 +1,5 @@
-//! Writes files into a new store, walks what it holds, and prints the time of each step: for
-//! `bench/store` and `tests/sqlite3`.
+//! Writes files into a new store, or opens one, walks what it holds, and prints the time of each step:
+//! for `bench/store` and `tests/sqlite3`.
 #![tactic(auto)]
 
 mod files;
@@ -31,16 +31,23 @@ fn walk_all<S: Alter>(rt: &HostRuntime, store: &mut Store<S>) -> Result<()> {
 fn main(rt: HostRuntime) -> Result<()> {
     let words: Vec<String> = env::args(&rt)?.collect(rt.alloc())?;
     let Some(base) = words.get(1) else {
-        println!(rt; "usage: store_bench DATABASE FILE..., where the database is new")?;
+        println!(rt;
+            "usage: store_bench DATABASE [FILE..]: a new database of these files, or one that is there"
+        )?;
         return Ok(());
     };
-    let conn = Connection::open(&rt, base.as_str())?;
     let timer = Timer::new(&rt)?;
-    let mut store = match Store::create(rt.alloc(), conn) {
+    let conn = Connection::open(&rt, base.as_str())?;
+    let made = if words.len() > 2 {
+        Store::create(rt.alloc(), conn)
+    } else {
+        Store::open(rt.alloc(), conn)
+    };
+    let mut store = match made {
         Ok(store) => store,
         Err((end, _)) => return Err(refused(end)),
     };
-    timer.say(&rt, "tables")?;
+    timer.say(&rt, "opened")?;
     for place in 2..words.len() {
         put_file(&rt, &mut store, words[place].as_str(), (place % 256) as u8)?;
     }
