@@ -1,4 +1,5 @@
 pub mod Books
+pub mod Filed
 pub mod Names
 pub mod Parts
 pub mod Rows

@@ -2,6 +2,7 @@
 // function that does nothing.
 ghost use Rattle.std.specs.Prelude.{◌≡◌, ℕ, suc, Bool, List, flat_map};
 ghost use Rattle.sqlite_trees.specs.Tree.{Trees};
+ghost use Rattle.cg_text.specs.declared.heads.FileHead.{FileHead};
 ghost use Rattle.cost_rows.specs.Content.{Content};
 ghost use Rattle.cost_rows.specs.Held.{AreHeld};
 ghost use Rattle.cost_rows.specs.Sums.{Spot};
@@ -12,6 +13,8 @@ ghost use Rattle.prof_tables.specs.Tables.{Tables, Holds, RunLine, EventLine, De
 ghost use Rattle.prof_books.specs.Book.{AreOf, IsNamed, book_of, new_book, parts_of, run_book, with_run_book, without_run_book};
 ghost use Rattle.prof_books.specs.Files.{with_head, with_rows};
 ghost use Rattle.prof_books.specs.Parts.{parts_sum};
+ghost use Rattle.prof_books.specs.Runs.{file_book, with_file};
+ghost use Rattle.prof_books.specs.declared.kinds.Kind.{Kind};
 
 /// A file that is written under the next number is in the book as what it says of itself and as its
 /// rows, names in place; the runs before it are as they were.
@@ -22,6 +25,16 @@ pub fn a_file_is_in_the_book()
     ensures named { (r : RunLine) (events : List EventLine) (derived : List DerivedLine) (coefs : List CoefLine) (c : Content) (t : Tables) (db next : Trees)
         → Holds t db → Holds (with_rows r.number c (with_head r events derived coefs t)) next → IsNamed t → AreHeld c → r.number ≡ t.next → AreOf r.number events derived coefs
         → IsNamed (with_rows r.number c (with_head r events derived coefs t)) }
+{}
+
+/// A file that is put under the next number is in the book with its head and its rows, names in place,
+/// and the runs before it are as they were. `content_of` the rows of a file has each number's name
+/// (`rows_have_their_names` of `cost_rows`).
+pub fn a_file_that_is_put_is_in_the_book()
+    ensures book { (number : ℕ) (kind : Kind) (digest label : List ℕ) (head : FileHead) (c : Content) (t : Tables) (db next : Trees) → Holds t db → Holds (with_file number kind digest label head c t) next
+        → IsNamed t → AreHeld c → number ≡ t.next → book_of (with_file number kind digest label head c t) ≡ with_run_book (file_book number kind digest label head c) (book_of t) }
+    ensures named { (number : ℕ) (kind : Kind) (digest label : List ℕ) (head : FileHead) (c : Content) (t : Tables) (db next : Trees) → Holds t db → Holds (with_file number kind digest label head c t) next
+        → IsNamed t → AreHeld c → number ≡ t.next → IsNamed (with_file number kind digest label head c t) }
 {}
 
 /// A run that is dropped is in the book no more; the other runs are as they were.

@@ -6,11 +6,11 @@ use Rattle.cost_rows.specs.Totals.{count_total}
 use Rattle.cost_rows.specs.declared.file_rows.FileRows.{FileRows}
 use Rattle.prof_tables.specs.Tables.{Tables, EventLine, DerivedLine, CoefLine}
 use Rattle.prof_books.specs.Files.{with_rows, with_head}
-use Rattle.prof_store.specs.HeadsPut.{event_lines, derived_lines, coef_lines}
-use Rattle.prof_store.specs.Kinds.{kind_number}
+use Rattle.prof_books.specs.Heads.{event_lines, derived_lines, coef_lines}
+use Rattle.prof_books.specs.Kinds.{kind_number}
 use Rattle.prof_store.specs.Lines.{event_line, derived_line, coef_line}
-use Rattle.prof_store.specs.RunsPut.{with_file, run_line_of}
-use Rattle.prof_store.specs.declared.kinds.Kind.{Kind}
+use Rattle.prof_books.specs.Runs.{with_file, run_line_of}
+use Rattle.prof_books.specs.declared.kinds.Kind.{Kind}
 use Rattle.prof_store.specs.declared.lines.HeadLines.{HeadLines}
 
 -- its run and its lines are those of the head and the rows

@@ -25,8 +25,8 @@ use Rattle.prof_tables.specs.Tables.{Tables, Holds, RunLine, run_columns, number
 use Rattle.prof_tables.specs.Changes.{named, has_name, with_new_name}
 use Rattle.prof_tables.specs.Files.{all_named}
 use Rattle.prof_tables.proofs.Values.{blobs_equal}
-use Rattle.prof_store.specs.RunsPut.{with_file, run_line_of}
-use Rattle.prof_store.specs.declared.kinds.Kind.{Kind}
+use Rattle.prof_books.specs.Runs.{with_file, run_line_of}
+use Rattle.prof_books.specs.declared.kinds.Kind.{Kind}
 
 -- SQL's <> on two numbers
 numbers_differ : (a b : ℕ) → differ (number a) (number b) ≡ not (eqb a b)

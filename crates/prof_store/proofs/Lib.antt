@@ -3,7 +3,6 @@ pub mod ArcWalks
 pub mod CellRows
 pub mod CellWalks
 mod FilePuts
-mod Filed
 mod Finding
 mod GroupMembers
 mod HeadReading

@@ -3,7 +3,7 @@ use Rattle.std.specs.Prelude.{ℕ, List, [], ◌∷◌, string_bytes}
 use Rattle.sqlite_value.specs.declared.value.Value.TheVariants.{Text, Blob}
 use Rattle.sqlite_value.specs.Order.{Row, column}
 use Rattle.prof_tables.specs.Tables.{RunLine, number}
-use Rattle.prof_store.specs.Kinds.{kind_number}
+use Rattle.prof_books.specs.Kinds.{kind_number}
 use Rattle.prof_store.specs.declared.entries.RunEntry.{RunEntry}
 
 abbrev pub first_four : Row → Row

@@ -1,5 +1,5 @@
 // The run that a digest has.
-ghost use Rattle.std.specs.Prelude.{◌≡◌, ◌≢◌, pos, [], ◌∷◌, Ok, Err, IfOk, OnOk, MatchOption, IfErr};
+ghost use Rattle.std.specs.Prelude.{◌≡◌, ◌≢◌, pos, [], ◌∷◌, Ok, Err, IfOk, OnOk, MatchOption};
 ghost use Rattle.sqlite.specs.Held.{state};
 ghost use Rattle.sqlite.specs.State.{HasCleanDisk, Survives, QueriesRow, CommitsShowing};
 ghost use Rattle.sqlite.specs.declared.error.Error.TheVariants as errors;
@@ -9,7 +9,6 @@ ghost use Rattle.sqlite_rules.specs.Lists.{Has};
 ghost use Rattle.prof_tables.specs.Schema.{schema_one};
 ghost use Rattle.prof_tables.specs.Texts.{by_digest_text};
 ghost use Rattle.prof_store.specs.Shown.{shown, IsFaithful, IsUsable, StandsFor, LeavesOnly, IsSettled, IsAsBefore};
-ghost use Rattle.prof_store.specs.declared.errors.StoreEnd.TheVariants as ends;
 
 use crate::columns::number_at;
 use crate::errors::{StoreEnd, end_of};
@@ -26,7 +25,6 @@ fn select_by_digest<S: Alter>(conn: &mut Connection<S>, digest: &[u8]) -> Result
 /// The number in a row of one column, if there is a row.
 fn number_in(answer: Result<Row, Error>) -> Result<Option<u32>, StoreEnd>
     ensures read { IfOk result (λ found. MatchOption found (answer ≡ Err errors.QueryReturnedNoRows) (λ n. (row : _) × (answer ≡ Ok row) × (column row 0 ≡ Int (pos n)))) }
-    ensures refused { IfErr result (λ e. e ≢ ends.WrongSchema) }
 {
     match answer {
         Ok(row) => Ok(Some(number_at(&row, 0)?)),
@@ -45,7 +43,6 @@ impl<S: Alter> Store<S> {
         ensures unchanged { IsFaithful S.Store self.new → IsSettled S.Store self.old → IsUsable S.Store self.new → IsAsBefore S.Store self.old self.new }
         ensures crash { IsFaithful S.Store self.new → (t : _) → StandsFor S.Store t self.old → LeavesOnly S.Store self.old self.new (λ _. ⊥) }
         ensures honest { IsFaithful S.Store self.new → IsFaithful S.Store self.old }
-        ensures refused { IfErr result (λ e. e ≢ ends.WrongSchema) }
     {
         let answer = select_by_digest(&mut self.conn, digest);
         number_in(answer)

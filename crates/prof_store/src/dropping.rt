@@ -1,5 +1,5 @@
 // A run is dropped.
-ghost use Rattle.std.specs.Prelude.{◌≡◌, ◌∷◌, [], pos, true, OnOk, OnErr, ◌≢◌, IfErr};
+ghost use Rattle.std.specs.Prelude.{◌≡◌, ◌∷◌, [], pos, true, OnOk, OnErr};
 ghost use Rattle.sqlite.specs.Held.{state};
 ghost use Rattle.sqlite.specs.State.{HasCleanDisk, Survives, Executes, CommitsBy};
 ghost use Rattle.sqlite_value.specs.declared.value.Value.TheVariants.{Int};
@@ -7,7 +7,6 @@ ghost use Rattle.prof_tables.specs.Texts.{drop_run_text};
 ghost use Rattle.prof_tables.specs.Tables.{Holds};
 ghost use Rattle.prof_tables.specs.Changes.{has_run, without_run};
 ghost use Rattle.prof_store.specs.Shown.{IsFaithful, IsUsable, StandsFor, IsSettled, IsAsBefore, LeavesOnly};
-ghost use Rattle.prof_store.specs.declared.errors.StoreEnd.TheVariants as ends;
 
 use crate::errors::{StoreEnd, end_of};
 use crate::store::Store;
@@ -29,7 +28,6 @@ impl<S: Alter> Store<S> {
         ensures unchanged { IsFaithful S.Store self.new → IsSettled S.Store self.old → OnErr result (IsUsable S.Store self.new → IsAsBefore S.Store self.old self.new) }
         ensures crash { IsFaithful S.Store self.new → (t : _) → StandsFor S.Store t self.old → has_run t run ≡ true → LeavesOnly S.Store self.old self.new (Holds (without_run run t)) }
         ensures honest { IsFaithful S.Store self.new → IsFaithful S.Store self.old }
-        ensures refused { IfErr result (λ e. e ≢ ends.WrongSchema) }
     {
         match delete_run(&mut self.conn, run) {
             Ok(_) => Ok(()),

@@ -1,10 +1,10 @@
 // The entries of reports.
 ghost use Rattle.std.specs.Prelude.{string_bytes, length, ◌<◌};
 ghost use Rattle.std.specs.List.{AllAdjacentBelow};
-ghost use Rattle.prof_store.specs.Labels.{IsLabel, IsGroupName};
+ghost use Rattle.prof_books.specs.Labels.{IsLabel, IsGroupName};
 
-use crate::kinds::Kind;
 use cg_text::Items;
+use prof_books::Kind;
 
 /// A run that is held.
 #[derive(Drop)]

@@ -1,5 +1,5 @@
 // The groups with their members.
-ghost use Rattle.std.specs.Prelude.{◌≡◌, ◌<◌, ◌≤◌, ◌++◌, [], map, flat_map, length, take, string_bytes, IfOk, IfErr, OnOk, IsTrue, IsPermutation, ◌≢◌};
+ghost use Rattle.std.specs.Prelude.{◌≡◌, ◌<◌, ◌≤◌, ◌++◌, [], map, flat_map, length, take, string_bytes, IfOk, IfErr, OnOk, IsTrue, IsPermutation};
 ghost use Rattle.std.specs.List.{AllAdjacentBelow, AllByRecursion};
 ghost use Rattle.sqlite.specs.Held.{state};
 ghost use Rattle.sqlite.specs.State.{HasCleanDisk, Survives, Shown, FailsToQuery, CommitsShowing};
@@ -9,7 +9,6 @@ ghost use Rattle.prof_tables.specs.Tables.{group_columns, member_columns};
 ghost use Rattle.prof_tables.specs.Texts.{groups_text, members_text};
 ghost use Rattle.prof_store.specs.Groups.{first_two, IsBefore, entry_group, entry_members, member_of, member_line, members_in};
 ghost use Rattle.prof_store.specs.Shown.{shown, IsFaithful, IsUsable, StandsFor, LeavesOnly, IsSettled, IsAsBefore};
-ghost use Rattle.prof_store.specs.declared.errors.StoreEnd.TheVariants as ends;
 
 use crate::columns::{number_at, number_or_null_at, text_at};
 use crate::entries::GroupEntry;
@@ -46,7 +45,6 @@ fn select_members<S: Alter>(conn: &mut Connection<S>) -> Result<Vec<Row>, Error>
 
 fn members_in(alloc: Global, rows: &[Row]) -> Result<Vec<Member>, StoreEnd>
     ensures read { IfOk result (λ members. map (λ m. member_columns (member_line m)) members.items ≡ map first_two rows.now) }
-    ensures refused { IfErr result (λ e. e ≢ ends.WrongSchema) }
 {
     let mut members = Vec::new(alloc);
     'rows: for row in rows {
@@ -63,7 +61,6 @@ fn members_in(alloc: Global, rows: &[Row]) -> Result<Vec<Member>, StoreEnd>
 fn runs_of(alloc: Global, name: &str, members: &[Member]) -> Result<Items<u32>, StoreEnd>
     ensures within { IfOk result (λ runs. length runs ≤ length members.now) }
     ensures front { IfOk result (λ runs. map (member_of name.now) runs ≡ map member_line (take (length runs) members.now)) }
-    ensures refused { IfErr result (λ e. e ≢ ends.WrongSchema) }
 {
     let mut runs = Items::new(alloc);
     'members: for member in members {
@@ -109,7 +106,6 @@ fn group_entry(
     members: Items<u32>,
 ) -> Result<GroupEntry, StoreEnd>
     ensures read { IfOk result (λ entry. (entry.name ≡ name) × (entry.baseline ≡ baseline) × (entry.members ≡ members)) }
-    ensures refused { IfErr result (λ e. e ≢ ends.WrongSchema) }
 {
     if !is_group_name(name.as_str()) || !rise(members.as_slice()) {
         return Err(StoreEnd::Store);
@@ -125,7 +121,6 @@ fn group_entry(
 fn joined(alloc: Global, rows: &[Row], members: &[Member]) -> Result<Vec<GroupEntry>, StoreEnd>
     ensures groups { IfOk result (λ entries. map (λ e. group_columns (entry_group e)) entries.items ≡ map first_two rows.now) }
     ensures members { IfOk result (λ entries. flat_map entry_members entries.items ≡ map member_line members.now) }
-    ensures refused { IfErr result (λ e. e ≢ ends.WrongSchema) }
 {
     let mut entries = Vec::new(alloc);
     let mut joined = 0;
@@ -151,7 +146,6 @@ fn groups_in(alloc: Global, rows: &[Row], members: &[Member]) -> Result<Vec<Grou
     ensures groups { IfOk result (λ entries. map (λ e. group_columns (entry_group e)) entries.items ≡ map first_two rows.now) }
     ensures members { IfOk result (λ entries. flat_map entry_members entries.items ≡ map member_line members.now) }
     ensures rising { IfOk result (λ entries. AllAdjacentBelow IsBefore entries.items (length entries.items)) }
-    ensures refused { IfErr result (λ e. e ≢ ends.WrongSchema) }
 {
     let entries = joined(alloc, rows, members)?;
     if names_rise(&entries) {
@@ -173,7 +167,6 @@ impl<S: Alter> Store<S> {
         ensures usable { IsFaithful S.Store self.new → IsSettled S.Store self.old → OnOk result (IsUsable S.Store self.new) }
         ensures crash { IsFaithful S.Store self.new → (t : _) → StandsFor S.Store t self.old → LeavesOnly S.Store self.old self.new (λ _. ⊥) }
         ensures honest { IsFaithful S.Store self.new → IsFaithful S.Store self.old }
-        ensures refused { IfErr result (λ e. e ≢ ends.WrongSchema) }
     {
         match select_members(&mut self.conn) {
             Ok(rows) => members_in(alloc, &rows),
@@ -192,7 +185,6 @@ impl<S: Alter> Store<S> {
         ensures unchanged { IsFaithful S.Store self.new → IsSettled S.Store self.old → IsUsable S.Store self.new → IsAsBefore S.Store self.old self.new }
         ensures crash { IsFaithful S.Store self.new → (t : _) → StandsFor S.Store t self.old → LeavesOnly S.Store self.old self.new (λ _. ⊥) }
         ensures honest { IsFaithful S.Store self.new → IsFaithful S.Store self.old }
-        ensures refused { IfErr result (λ e. e ≢ ends.WrongSchema) }
     {
         match select_groups(&mut self.conn) {
             Ok(rows) => groups_in(alloc, &rows, members),
@@ -211,7 +203,6 @@ impl<S: Alter> Store<S> {
         ensures unchanged { IsFaithful S.Store self.new → IsSettled S.Store self.old → IsUsable S.Store self.new → IsAsBefore S.Store self.old self.new }
         ensures crash { IsFaithful S.Store self.new → (t : _) → StandsFor S.Store t self.old → LeavesOnly S.Store self.old self.new (λ _. ⊥) }
         ensures honest { IsFaithful S.Store self.new → IsFaithful S.Store self.old }
-        ensures refused { IfErr result (λ e. e ≢ ends.WrongSchema) }
     {
         let members = self.members(alloc)?;
         self.groups_of(alloc, &members)

@@ -1,5 +1,5 @@
 // The lines of a run that its head is made of.
-ghost use Rattle.std.specs.Prelude.{◌≡◌, ◌≢◌, ◌==◌, [], ◌∷◌, map, filter, IfOk, IfErr, OnOk, IsPermutation};
+ghost use Rattle.std.specs.Prelude.{◌≡◌, ◌==◌, [], ◌∷◌, map, filter, IfOk, IfErr, OnOk, IsPermutation};
 ghost use Rattle.sqlite.specs.Held.{state};
 ghost use Rattle.sqlite.specs.State.{HasCleanDisk, Survives, Shown, FailsToQuery, CommitsShowing};
 ghost use Rattle.prof_tables.specs.Schema.{schema_one};
@@ -8,7 +8,6 @@ ghost use Rattle.prof_tables.specs.Tables.{number};
 ghost use Rattle.prof_tables.specs.Texts.{events_of_text, derived_of_text, coefs_of_text};
 ghost use Rattle.prof_store.specs.HeadLines.{first_two, first_three, event_columns, derived_columns, coef_columns};
 ghost use Rattle.prof_store.specs.Shown.{shown, IsFaithful, IsUsable, IsSettled, IsAsBefore, StandsFor, LeavesOnly};
-ghost use Rattle.prof_store.specs.declared.errors.StoreEnd.TheVariants as ends;
 
 use crate::columns::{bytes_at, number_at, sum_at, text_or_null_at};
 use crate::errors::{StoreEnd, end_of};
@@ -74,7 +73,6 @@ fn select_coefs<S: Alter>(conn: &mut Connection<S>, run: u32) -> Result<Vec<Row>
 
 fn events_in(alloc: Global, rows: &[Row]) -> Result<Vec<HeadEvent>, StoreEnd>
     ensures read { IfOk result (λ lines. map event_columns lines.items ≡ map first_three rows.now) }
-    ensures refused { IfErr result (λ e. e ≢ ends.WrongSchema) }
 {
     let mut lines = Vec::new(alloc);
     'rows: for row in rows {
@@ -95,7 +93,6 @@ fn events_in(alloc: Global, rows: &[Row]) -> Result<Vec<HeadEvent>, StoreEnd>
 
 fn derived_in(alloc: Global, rows: &[Row]) -> Result<Vec<HeadDerived>, StoreEnd>
     ensures read { IfOk result (λ lines. map derived_columns lines.items ≡ map first_two rows.now) }
-    ensures refused { IfErr result (λ e. e ≢ ends.WrongSchema) }
 {
     let mut lines = Vec::new(alloc);
     'rows: for row in rows {
@@ -111,7 +108,6 @@ fn derived_in(alloc: Global, rows: &[Row]) -> Result<Vec<HeadDerived>, StoreEnd>
 
 fn coefs_in(alloc: Global, rows: &[Row]) -> Result<Vec<HeadCoef>, StoreEnd>
     ensures read { IfOk result (λ lines. map coef_columns lines.items ≡ map first_three rows.now) }
-    ensures refused { IfErr result (λ e. e ≢ ends.WrongSchema) }
 {
     let mut lines = Vec::new(alloc);
     'rows: for row in rows {
@@ -142,7 +138,6 @@ impl<S: Alter> Store<S> {
         ensures usable { IsFaithful S.Store self.new → IsSettled S.Store self.old → OnOk result (IsUsable S.Store self.new) }
         ensures crash { IsFaithful S.Store self.new → (t : _) → StandsFor S.Store t self.old → LeavesOnly S.Store self.old self.new (λ _. ⊥) }
         ensures honest { IsFaithful S.Store self.new → IsFaithful S.Store self.old }
-        ensures refused { IfErr result (λ e. e ≢ ends.WrongSchema) }
     {
         match select_events(&mut self.conn, run) {
             Ok(rows) => events_in(alloc, &rows),
@@ -165,7 +160,6 @@ impl<S: Alter> Store<S> {
         ensures usable { IsFaithful S.Store self.new → IsSettled S.Store self.old → OnOk result (IsUsable S.Store self.new) }
         ensures crash { IsFaithful S.Store self.new → (t : _) → StandsFor S.Store t self.old → LeavesOnly S.Store self.old self.new (λ _. ⊥) }
         ensures honest { IsFaithful S.Store self.new → IsFaithful S.Store self.old }
-        ensures refused { IfErr result (λ e. e ≢ ends.WrongSchema) }
     {
         match select_derived(&mut self.conn, run) {
             Ok(rows) => derived_in(alloc, &rows),
@@ -184,7 +178,6 @@ impl<S: Alter> Store<S> {
         ensures usable { IsFaithful S.Store self.new → IsSettled S.Store self.old → OnOk result (IsUsable S.Store self.new) }
         ensures crash { IsFaithful S.Store self.new → (t : _) → StandsFor S.Store t self.old → LeavesOnly S.Store self.old self.new (λ _. ⊥) }
         ensures honest { IsFaithful S.Store self.new → IsFaithful S.Store self.old }
-        ensures refused { IfErr result (λ e. e ≢ ends.WrongSchema) }
     {
         match select_coefs(&mut self.conn, run) {
             Ok(rows) => coefs_in(alloc, &rows),

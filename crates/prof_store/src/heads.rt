@@ -1,5 +1,5 @@
 // The head of a run that is held.
-ghost use Rattle.std.specs.Prelude.{◌≡◌, ◌≢◌, ◌∷◌, [], IfOk, IfErr, OnOk};
+ghost use Rattle.std.specs.Prelude.{◌≡◌, ◌∷◌, [], IfOk, IfErr, OnOk};
 ghost use Rattle.std.specs.List.{list_any};
 ghost use Rattle.sqlite.specs.Held.{state};
 ghost use Rattle.sqlite.specs.State.{HasCleanDisk, Survives, Shown, FailsToQuery, CommitsShowing};
@@ -10,7 +10,6 @@ ghost use Rattle.prof_tables.specs.Tables.{number};
 ghost use Rattle.prof_tables.specs.Texts.{kind_of_text};
 ghost use Rattle.prof_store.specs.HeldHeads.{IsHeadIn, IsHeadAt, IsReadIn, IsReadAt};
 ghost use Rattle.prof_store.specs.Shown.{shown, IsFaithful, IsUsable, IsSettled, IsAsBefore, StandsFor, LeavesOnly};
-ghost use Rattle.prof_store.specs.declared.errors.StoreEnd.TheVariants as ends;
 
 use crate::errors::{StoreEnd, end_of};
 use crate::heads_held::head_in;
@@ -39,7 +38,6 @@ impl<S: Alter> Store<S> {
         ensures usable { IsFaithful S.Store self.new → IsSettled S.Store self.old → OnOk result (IsUsable S.Store self.new) }
         ensures crash { IsFaithful S.Store self.new → (t : _) → StandsFor S.Store t self.old → LeavesOnly S.Store self.old self.new (λ _. ⊥) }
         ensures honest { IsFaithful S.Store self.new → IsFaithful S.Store self.old }
-        ensures refused { IfErr result (λ e. e ≢ ends.WrongSchema) }
     {
         match select_kind(&mut self.conn, run) {
             Ok(rows) => Ok(!rows.as_slice().is_empty()),
@@ -58,7 +56,6 @@ impl<S: Alter> Store<S> {
         ensures usable { IsFaithful S.Store self.new → IsSettled S.Store self.old → OnOk result (IsUsable S.Store self.new) }
         ensures crash { IsFaithful S.Store self.new → (t : _) → StandsFor S.Store t self.old → LeavesOnly S.Store self.old self.new (λ _. ⊥) }
         ensures honest { IsFaithful S.Store self.new → IsFaithful S.Store self.old }
-        ensures refused { IfErr result (λ e. e ≢ ends.WrongSchema) }
     {
         let events = self.events_of(alloc, run)?;
         let derived = self.derived_of(alloc, run)?;
@@ -80,7 +77,6 @@ impl<S: Alter> Store<S> {
         ensures usable { IsFaithful S.Store self.new → IsSettled S.Store self.old → OnOk result (IsUsable S.Store self.new) }
         ensures crash { IsFaithful S.Store self.new → (t : _) → StandsFor S.Store t self.old → LeavesOnly S.Store self.old self.new (λ _. ⊥) }
         ensures honest { IsFaithful S.Store self.new → IsFaithful S.Store self.old }
-        ensures refused { IfErr result (λ e. e ≢ ends.WrongSchema) }
     {
         if !self.has_run(run)? {
             return Err(StoreEnd::Store);

@@ -1,8 +1,7 @@
 // The head of a run, from its lines.
-ghost use Rattle.std.specs.Prelude.{◌≡◌, ◌≢◌, ◌≤◌, ◌++◌, [], ◌∷◌, map, take, length, true, All, Some, None, IfOk, IfErr, MatchOption};
+ghost use Rattle.std.specs.Prelude.{◌≡◌, ◌≤◌, ◌++◌, [], ◌∷◌, map, take, length, true, All, Some, None, IfOk, MatchOption};
 ghost use Rattle.std.specs.Fmt.{decimal};
 ghost use Rattle.prof_store.specs.HeldHeads.{placed, event_place, event_total, derived_place, coef_line_said, coefs_at, coefs_from, IsReadFrom};
-ghost use Rattle.prof_store.specs.declared.errors.StoreEnd.TheVariants as ends;
 
 use crate::errors::StoreEnd;
 use crate::head_lines::{HeadCoef, HeadDerived, HeadEvent};
@@ -12,7 +11,6 @@ use std::alloc::Global;
 /// A copy of a name whose place is the next.
 fn name_at(alloc: Global, place: u32, next: usize, name: &[u8]) -> Result<Items<u8>, StoreEnd>
     ensures read { IfOk result (λ copy. (place ≡ next) × (copy ≡ name.now)) }
-    ensures refused { IfErr result (λ e. e ≢ ends.WrongSchema) }
 {
     if place as usize != next {
         return Err(StoreEnd::Store);
@@ -26,7 +24,6 @@ fn name_at(alloc: Global, place: u32, next: usize, name: &[u8]) -> Result<Items<
 /// The names of events whose places go up from 0 by one.
 fn event_names(alloc: Global, lines: &[HeadEvent]) -> Result<Items<Items<u8>>, StoreEnd>
     ensures read { IfOk result (λ names. map event_place lines.now ≡ placed 0 names) }
-    ensures refused { IfErr result (λ e. e ≢ ends.WrongSchema) }
 {
     let mut names = Items::new(alloc);
     'lines: for line in lines {
@@ -41,7 +38,6 @@ fn event_names(alloc: Global, lines: &[HeadEvent]) -> Result<Items<Items<u8>>, S
 /// The number that a text is in decimal, without a leading zero.
 fn decimal_in(alloc: Global, text: &str) -> Result<u128, StoreEnd>
     ensures read { IfOk result (λ number. decimal number ≡ text.now) }
-    ensures refused { IfErr result (λ e. e ≢ ends.WrongSchema) }
 {
     let Ok(number) = text.parse::<u128>() else {
         return Err(StoreEnd::Store);
@@ -59,7 +55,6 @@ fn decimal_in(alloc: Global, text: &str) -> Result<u128, StoreEnd>
 /// The totals that are stated, where each event has one.
 fn all_stated(alloc: Global, lines: &[HeadEvent]) -> Result<Items<u128>, StoreEnd>
     ensures read { IfOk result (λ sums. map event_total lines.now ≡ map (λ n. Some (decimal n)) sums) }
-    ensures refused { IfErr result (λ e. e ≢ ends.WrongSchema) }
 {
     let mut sums = Items::new(alloc);
     'lines: for line in lines {
@@ -77,7 +72,6 @@ fn all_stated(alloc: Global, lines: &[HeadEvent]) -> Result<Items<u128>, StoreEn
 /// The totals that are stated, if each event has one, or none has.
 fn stated_in(alloc: Global, lines: &[HeadEvent]) -> Result<Option<Items<u128>>, StoreEnd>
     ensures read { IfOk result (λ stated. MatchOption stated (All (λ line. line.stated ≡ None) lines.now) (λ sums. map event_total lines.now ≡ map (λ n. Some (decimal n)) sums)) }
-    ensures refused { IfErr result (λ e. e ≢ ends.WrongSchema) }
 {
     if lines.iter().all(|line| line.stated.is_none()) {
         return Ok(None);
@@ -109,7 +103,6 @@ fn row_in(
 ) -> Result<(Items<u64>, usize), StoreEnd>
     ensures within { IfOk result (λ r. r.1 ≤ length coefs.now) }
     ensures said { IfOk result (λ r. map coef_line_said (take r.1 coefs.now) ≡ coefs_at place 0 r.0) }
-    ensures refused { IfErr result (λ e. e ≢ ends.WrongSchema) }
 {
     let mut row = Items::new(alloc);
     let mut used = 0;
@@ -132,7 +125,6 @@ fn derived_in(
 ) -> Result<Items<(Items<u8>, Items<u64>)>, StoreEnd>
     ensures names { IfOk result (λ derived. map derived_place lines.now ≡ placed 0 (map (λ d. d.0) derived)) }
     ensures rows { IfOk result (λ derived. map coef_line_said coefs.now ≡ coefs_from 0 (map (λ d. d.1) derived)) }
-    ensures refused { IfErr result (λ e. e ≢ ends.WrongSchema) }
 {
     let mut derived = Items::new(alloc);
     let mut used = 0;
@@ -159,7 +151,6 @@ fn all_names(
     derived: &[HeadDerived],
 ) -> Result<Items<Items<u8>>, StoreEnd>
     ensures read { IfOk result (λ names. names ≡ map (λ e. e.name.items) events.now ++ map (λ d. d.name.items) derived.now) }
-    ensures refused { IfErr result (λ e. e ≢ ends.WrongSchema) }
 {
     let mut names = event_names(alloc, events)?;
     'derived: for line in derived {
@@ -179,7 +170,6 @@ pub(crate) fn head_in(
     coefs: &[HeadCoef],
 ) -> Result<FileHead, StoreEnd>
     ensures read { IfOk result (λ head. IsReadFrom head events.now derived.now coefs.now) }
-    ensures refused { IfErr result (λ e. e ≢ ends.WrongSchema) }
 {
     let all = all_names(alloc, events, derived)?;
     if !are_distinct(all.as_slice()) {

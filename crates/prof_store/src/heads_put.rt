@@ -2,8 +2,8 @@
 ghost use Rattle.std.specs.Prelude.{ℕ, ◌≡◌, ◌<◌, ◌^◌, ◌++◌, ◌∷◌, [], ◌↔◌, map, option_map, string_bytes, slice_index, length, IfOk, OnOk, IsTrue};
 ghost use Rattle.cost_rows.specs.Content.{Content};
 ghost use Rattle.cost_rows.specs.Totals.{AreTotals};
-ghost use Rattle.prof_store.specs.HeadsPut as specs;
-ghost use Rattle.prof_store.specs.HeadsPut.{stated_at, event_line_of, coef_lines_at, derived_lines_from, coef_lines_from, AreStated, IsWhole, ColumnFits};
+ghost use Rattle.prof_books.specs.Heads as specs;
+ghost use Rattle.prof_books.specs.Heads.{stated_at, event_line_of, coef_lines_at, derived_lines_from, coef_lines_from, AreStated, IsWhole, ColumnFits};
 ghost use Rattle.prof_store.specs.Lines.{event_line, derived_line, coef_line};
 
 use crate::errors::StoreEnd;

@@ -1,5 +1,5 @@
 // A run joins a group.
-ghost use Rattle.std.specs.Prelude.{◌≡◌, ◌∷◌, [], pos, true, false, OnOk, OnErr, IfOk, IfErr, ◌≢◌};
+ghost use Rattle.std.specs.Prelude.{◌≡◌, ◌∷◌, [], pos, true, false, OnOk, OnErr, IfOk, IfErr};
 ghost use Rattle.sqlite.specs.Held.{state};
 ghost use Rattle.sqlite.specs.State.{HasCleanDisk, Survives, Executes, CommitsBy, Shown, FailsToQuery, CommitsShowing};
 ghost use Rattle.sqlite_value.specs.declared.value.Value.TheVariants.{Int, Text};
@@ -7,7 +7,6 @@ ghost use Rattle.prof_tables.specs.Texts.{put_member_text, find_member_text};
 ghost use Rattle.prof_tables.specs.Tables.{Holds};
 ghost use Rattle.prof_tables.specs.Changes.{has_member, joined, with_member};
 ghost use Rattle.prof_store.specs.Shown.{IsFaithful, IsUsable, StandsFor, IsSettled, IsAsBefore, LeavesOnly};
-ghost use Rattle.prof_store.specs.declared.errors.StoreEnd.TheVariants as ends;
 
 use crate::errors::{StoreEnd, end_of};
 use crate::store::Store;
@@ -48,7 +47,6 @@ impl<S: Alter> Store<S> {
         ensures unchanged_err { IsFaithful S.Store self.new → IsSettled S.Store self.old → OnErr result (IsUsable S.Store self.new → IsAsBefore S.Store self.old self.new) }
         ensures crash { IsFaithful S.Store self.new → (t : _) → StandsFor S.Store t self.old → LeavesOnly S.Store self.old self.new (λ _. ⊥) }
         ensures honest { IsFaithful S.Store self.new → IsFaithful S.Store self.old }
-        ensures refused { IfErr result (λ e. e ≢ ends.WrongSchema) }
     {
         match select_member(&mut self.conn, name, run) {
             Ok(rows) => Ok(!rows.as_slice().is_empty()),
@@ -63,7 +61,6 @@ impl<S: Alter> Store<S> {
         ensures unchanged { IsFaithful S.Store self.new → IsSettled S.Store self.old → OnErr result (IsUsable S.Store self.new → IsAsBefore S.Store self.old self.new) }
         ensures crash { IsFaithful S.Store self.new → (t : _) → StandsFor S.Store t self.old → LeavesOnly S.Store self.old self.new (Holds (with_member name.now run t)) }
         ensures honest { IsFaithful S.Store self.new → IsFaithful S.Store self.old }
-        ensures refused { IfErr result (λ e. e ≢ ends.WrongSchema) }
     {
         match insert_member(&mut self.conn, name, run) {
             Ok(_) => Ok(()),
@@ -78,7 +75,6 @@ impl<S: Alter> Store<S> {
         ensures unchanged { IsFaithful S.Store self.new → IsSettled S.Store self.old → OnErr result (IsUsable S.Store self.new → IsAsBefore S.Store self.old self.new) }
         ensures crash { IsFaithful S.Store self.new → (t : _) → StandsFor S.Store t self.old → LeavesOnly S.Store self.old self.new (Holds (joined name.now run t)) }
         ensures honest { IsFaithful S.Store self.new → IsFaithful S.Store self.old }
-        ensures refused { IfErr result (λ e. e ≢ ends.WrongSchema) }
     {
         if self.is_member(name, run)? {
             return Ok(());

@@ -1,20 +1,13 @@
 // The kinds of runs.
-ghost use Rattle.std.specs.Prelude.{◌≡◌, pos, IfOk, ◌≢◌, IfErr};
+ghost use Rattle.std.specs.Prelude.{◌≡◌, pos, IfOk};
 ghost use Rattle.sqlite_value.specs.declared.value.Value.TheVariants.{Int};
 ghost use Rattle.sqlite_value.specs.Order.{column};
-ghost use Rattle.prof_store.specs.Kinds.{kind_number};
-ghost use Rattle.prof_store.specs.declared.errors.StoreEnd.TheVariants as ends;
+ghost use Rattle.prof_books.specs.Kinds.{kind_number};
 
 use crate::columns::number_at;
 use crate::errors::StoreEnd;
+use prof_books::Kind;
 use sqlite::Row;
-
-/// What the file of a run was.
-#[derive(Clone, Copy, Debug, PartialEq, Eq)]
-pub enum Kind {
-    Callgrind,
-    Folded,
-}
 
 /// The number of a kind in the tables.
 pub(crate) fn number_of_kind(kind: Kind) -> u32
@@ -28,7 +21,6 @@ pub(crate) fn number_of_kind(kind: Kind) -> u32
 
 pub(crate) fn kind_at(row: &Row, at: usize) -> Result<Kind, StoreEnd>
     ensures read { IfOk result (λ kind. column row.now at ≡ Int (pos (kind_number kind))) }
-    ensures refused { IfErr result (λ e. e ≢ ends.WrongSchema) }
 {
     match number_at(row, at)? {
         1 => Ok(Kind::Callgrind),

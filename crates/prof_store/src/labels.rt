@@ -1,10 +1,9 @@
 // The forms of digests, labels and names of groups.
-ghost use Rattle.std.specs.Prelude.{◌≡◌, string_bytes, IfOk, IsTrue, ◌≢◌, ◌↔◌, IfErr};
+ghost use Rattle.std.specs.Prelude.{◌≡◌, string_bytes, IfOk, IsTrue, ◌↔◌};
 ghost use Rattle.sqlite_value.specs.declared.value.Value.TheVariants.{Text, Blob};
 ghost use Rattle.sqlite_value.specs.Order.{column};
-ghost use Rattle.prof_store.specs.Labels as specs;
-ghost use Rattle.prof_store.specs.Labels.{IsLabel, IsGroupName};
-ghost use Rattle.prof_store.specs.declared.errors.StoreEnd.TheVariants as ends;
+ghost use Rattle.prof_books.specs.Labels as specs;
+ghost use Rattle.prof_books.specs.Labels.{IsLabel, IsGroupName};
 
 use crate::columns::{bytes_at, text_at};
 use crate::errors::StoreEnd;
@@ -36,7 +35,6 @@ pub fn is_group_name(text: &str) -> bool
 pub(crate) fn label_at(row: &Row, at: usize) -> Result<String, StoreEnd>
     ensures read { IfOk result (λ label. column row.now at ≡ Text (string_bytes label)) }
     ensures form { IfOk result (λ label. IsLabel (string_bytes label)) }
-    ensures refused { IfErr result (λ e. e ≢ ends.WrongSchema) }
 {
     let label = text_at(row, at)?;
     if is_label(label.as_str()) {
@@ -48,7 +46,6 @@ pub(crate) fn label_at(row: &Row, at: usize) -> Result<String, StoreEnd>
 
 pub(crate) fn digest_at(row: &Row, at: usize) -> Result<[u8; 32], StoreEnd>
     ensures read { IfOk result (λ digest. column row.now at ≡ Blob digest) }
-    ensures refused { IfErr result (λ e. e ≢ ends.WrongSchema) }
 {
     let bytes = bytes_at(row, at)?;
     match <[u8; 32]>::try_from(bytes.as_slice()) {

@@ -1,5 +1,5 @@
 // The next run's number.
-ghost use Rattle.std.specs.Prelude.{◌≡◌, pos, [], IfOk, OnOk, ◌≢◌, IfErr};
+ghost use Rattle.std.specs.Prelude.{◌≡◌, pos, [], IfOk, OnOk};
 ghost use Rattle.sqlite.specs.Held.{state};
 ghost use Rattle.sqlite.specs.State.{HasCleanDisk, Survives, QueriesRow, CommitsShowing};
 ghost use Rattle.sqlite_value.specs.declared.value.Value.TheVariants.{Int};
@@ -8,7 +8,6 @@ ghost use Rattle.sqlite_rules.specs.Lists.{Has};
 ghost use Rattle.prof_tables.specs.Schema.{schema_one};
 ghost use Rattle.prof_tables.specs.Texts.{next_text};
 ghost use Rattle.prof_store.specs.Shown.{shown, IsFaithful, IsUsable, StandsFor, LeavesOnly, IsSettled, IsAsBefore};
-ghost use Rattle.prof_store.specs.declared.errors.StoreEnd.TheVariants as ends;
 
 use crate::columns::number_at;
 use crate::errors::{StoreEnd, end_of};
@@ -33,7 +32,6 @@ impl<S: Alter> Store<S> {
         ensures usable { IsFaithful S.Store self.new → IsSettled S.Store self.old → OnOk result (IsUsable S.Store self.new) }
         ensures crash { IsFaithful S.Store self.new → (t : _) → StandsFor S.Store t self.old → LeavesOnly S.Store self.old self.new (λ _. ⊥) }
         ensures honest { IsFaithful S.Store self.new → IsFaithful S.Store self.old }
-        ensures refused { IfErr result (λ e. e ≢ ends.WrongSchema) }
     {
         match select_next(&mut self.conn) {
             Ok(row) => number_at(&row, 0),

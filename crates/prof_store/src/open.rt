@@ -11,10 +11,10 @@ ghost use Rattle.prof_tables.specs.Tables.{Holds};
 ghost use Rattle.prof_tables.specs.Texts.{schema_text};
 ghost use Rattle.prof_store.specs.Shown.{shown, IsFaithful, StandsFor};
 ghost use Rattle.sqlite.specs.declared.error.Error.TheVariants as errors;
-ghost use Rattle.prof_store.specs.declared.errors.StoreEnd.TheVariants as ends;
+ghost use Rattle.prof_store.specs.declared.errors.OpenEnd.TheVariants as ends;
 
 use crate::columns::number_at;
-use crate::errors::{StoreEnd, end_of};
+use crate::errors::{OpenEnd, end_of};
 use crate::store::Store;
 use sqlite::{Alter, Connection, Error, Row};
 use std::alloc::Global;
@@ -27,19 +27,19 @@ fn select_schema<S: Alter>(conn: &mut Connection<S>) -> Result<Row, Error>
 }
 
 /// The number in a row of one column. A text that is not understood finds no such tables.
-fn schema_in(answer: Result<Row, Error>) -> Result<u32, StoreEnd>
+fn schema_in(answer: Result<Row, Error>) -> Result<u32, OpenEnd>
     ensures read { IfOk result (λ n. (row : _) × (answer ≡ Ok row) × (column row 0 ≡ Int (pos n))) }
     ensures wrong { IfErr result (λ e. e ≡ ends.WrongSchema → (fault : _) × (answer ≡ Err (errors.SqlInputError fault))) }
 {
     match answer {
-        Ok(row) => number_at(&row, 0),
-        Err(Error::SqlInputError(_)) => Err(StoreEnd::WrongSchema),
-        Err(error) => Err(end_of(error)),
+        Ok(row) => Ok(number_at(&row, 0)?),
+        Err(Error::SqlInputError(_)) => Err(OpenEnd::WrongSchema),
+        Err(error) => Err(OpenEnd::from(end_of(error))),
     }
 }
 
 /// The number of the schema that the tables are of.
-fn schema_of<S: Alter>(conn: &mut Connection<S>) -> Result<u32, StoreEnd>
+fn schema_of<S: Alter>(conn: &mut Connection<S>) -> Result<u32, OpenEnd>
     ensures found { HasCleanDisk (state S.Store conn.new) → (state S.Store conn.old).now.schema ≡ schema_one → IfOk result (λ n. (r : _) × Has ((state S.Store conn.old).now.trees 0) r × (column r 2 ≡ Int (pos n))) }
     ensures told { HasCleanDisk (state S.Store conn.new) → (t : _) → Rests schema_one (Holds t) (state S.Store conn.old) → IfOk result (λ n. n ≡ 1) }
     ensures right { HasCleanDisk (state S.Store conn.new) → (state S.Store conn.old).now.schema ≡ schema_one → IfErr result (λ e. e ≢ ends.WrongSchema) }
@@ -57,7 +57,7 @@ impl<S: Alter> Store<S> {
     pub fn open(
         alloc: Global,
         mut conn: Connection<S>,
-    ) -> Result<Store<S>, (StoreEnd, Connection<S>)>
+    ) -> Result<Store<S>, (OpenEnd, Connection<S>)>
         ensures done { IfOk result (λ store. IsFaithful S.Store store → (t : _) → Rests schema_one (Holds t) (state S.Store conn) → StandsFor S.Store t store) }
         ensures found { IfOk result (λ store. IsFaithful S.Store store → (state S.Store conn).now.schema ≡ schema_one → (r : _) × Has ((state S.Store conn).now.trees 0) r × (column r 2 ≡ Int (pos 1))) }
         ensures right { IfErr result (λ e. HasCleanDisk (state S.Store e.1) → (t : _) → Rests schema_one (Holds t) (state S.Store conn) → e.0 ≢ ends.WrongSchema) }
@@ -72,7 +72,7 @@ impl<S: Alter> Store<S> {
                 conn,
                 page: Vec::new(alloc),
             }),
-            Ok(_) => Err((StoreEnd::WrongSchema, conn)),
+            Ok(_) => Err((OpenEnd::WrongSchema, conn)),
             Err(end) => Err((end, conn)),
         }
     }

@@ -4,20 +4,21 @@ ghost use Rattle.cost_rows.specs.Totals.{count_total};
 ghost use Rattle.cost_rows.specs.Rows.{content_of};
 ghost use Rattle.sqlite_rules.specs.Lists.{Has};
 ghost use Rattle.prof_tables.specs.Tables.{Holds};
-ghost use Rattle.prof_store.specs.HeadsPut.{IsWhole, ColumnFits};
-ghost use Rattle.prof_store.specs.Labels.{IsLabel};
-ghost use Rattle.prof_store.specs.RunsPut.{with_file};
+ghost use Rattle.prof_books.specs.Heads.{IsWhole, ColumnFits};
+ghost use Rattle.prof_books.specs.Labels.{IsLabel};
+ghost use Rattle.prof_books.specs.Runs.{with_file};
 ghost use Rattle.prof_store.specs.Shown.{IsFaithful, IsUsable, StandsFor, IsSettled, IsAsBefore, LeavesOnly};
 
 use crate::errors::StoreEnd;
 use crate::file_lines::whole_of;
 use crate::heads_put::head_lines;
-use crate::kinds::{Kind, number_of_kind};
+use crate::kinds::number_of_kind;
 use crate::lines::RunLine;
 use crate::putting::put_in;
 use crate::store::Store;
 use cg_text::FileHead;
 use cost_rows::FileRows;
+use prof_books::Kind;
 use sqlite::Alter;
 use std::alloc::Global;
 

@@ -1,5 +1,5 @@
 // The runs that are held.
-ghost use Rattle.std.specs.Prelude.{◌≡◌, ◌<◌, [], map, length, IfOk, IfErr, OnOk, IsTrue, IsPermutation, ◌≢◌};
+ghost use Rattle.std.specs.Prelude.{◌≡◌, ◌<◌, [], map, length, IfOk, IfErr, OnOk, IsTrue, IsPermutation};
 ghost use Rattle.std.specs.List.{AllAdjacentBelow};
 ghost use Rattle.sqlite.specs.Held.{state};
 ghost use Rattle.sqlite.specs.State.{HasCleanDisk, Survives, Shown, FailsToQuery, CommitsShowing};
@@ -8,7 +8,6 @@ ghost use Rattle.prof_tables.specs.Seen.{run_seen};
 ghost use Rattle.prof_tables.specs.Texts.{runs_text};
 ghost use Rattle.prof_store.specs.Entries.{first_four, entry_columns, entry_run, held_run};
 ghost use Rattle.prof_store.specs.Shown.{shown, IsFaithful, IsUsable, StandsFor, LeavesOnly, IsSettled, IsAsBefore};
-ghost use Rattle.prof_store.specs.declared.errors.StoreEnd.TheVariants as ends;
 
 use crate::columns::number_at;
 use crate::entries::RunEntry;
@@ -29,7 +28,6 @@ fn select_runs<S: Alter>(conn: &mut Connection<S>) -> Result<Vec<Row>, Error>
 
 fn run_entry(row: &Row) -> Result<RunEntry, StoreEnd>
     ensures read { IfOk result (λ entry. entry_columns entry ≡ first_four row.now) }
-    ensures refused { IfErr result (λ e. e ≢ ends.WrongSchema) }
 {
     let number = number_at(row, 0)?;
     let kind = kind_at(row, 1)?;
@@ -45,7 +43,6 @@ fn run_entry(row: &Row) -> Result<RunEntry, StoreEnd>
 
 fn run_entries(alloc: Global, rows: &[Row]) -> Result<Vec<RunEntry>, StoreEnd>
     ensures read { IfOk result (λ entries. map entry_columns entries.items ≡ map first_four rows.now) }
-    ensures refused { IfErr result (λ e. e ≢ ends.WrongSchema) }
 {
     let mut entries = Vec::new(alloc);
     'rows: for row in rows {
@@ -73,7 +70,6 @@ fn rise(entries: &[RunEntry]) -> bool
 fn runs_in(alloc: Global, rows: &[Row]) -> Result<Vec<RunEntry>, StoreEnd>
     ensures read { IfOk result (λ entries. map entry_columns entries.items ≡ map first_four rows.now) }
     ensures rising { IfOk result (λ entries. AllAdjacentBelow (λ a b. a.number < b.number) entries.items (length entries.items)) }
-    ensures refused { IfErr result (λ e. e ≢ ends.WrongSchema) }
 {
     let entries = run_entries(alloc, rows)?;
     if rise(&entries) {
@@ -94,7 +90,6 @@ impl<S: Alter> Store<S> {
         ensures unchanged { IsFaithful S.Store self.new → IsSettled S.Store self.old → IsUsable S.Store self.new → IsAsBefore S.Store self.old self.new }
         ensures crash { IsFaithful S.Store self.new → (t : _) → StandsFor S.Store t self.old → LeavesOnly S.Store self.old self.new (λ _. ⊥) }
         ensures honest { IsFaithful S.Store self.new → IsFaithful S.Store self.old }
-        ensures refused { IfErr result (λ e. e ≢ ends.WrongSchema) }
     {
         match select_runs(&mut self.conn) {
             Ok(rows) => runs_in(alloc, &rows),

@@ -1,7 +1,6 @@
 // The sums of columns.
-ghost use Rattle.std.specs.Prelude.{◌≢◌, ◌<◌, ◌^◌, IfOk, IfErr};
+ghost use Rattle.std.specs.Prelude.{◌<◌, ◌^◌, IfOk};
 ghost use Rattle.prof_store.specs.Totals.{IsSum};
-ghost use Rattle.prof_store.specs.declared.errors.StoreEnd.TheVariants as ends;
 
 use crate::columns::sum_at;
 use crate::errors::StoreEnd;
@@ -14,7 +13,6 @@ const SUM_END: u128 = 1 << 112;
 pub(crate) fn column_sum(rows: &[Row], at: usize) -> Result<u128, StoreEnd>
     ensures read { IfOk result (IsSum at rows.now) }
     ensures bounded { IfOk result (λ sum. sum < 2 ^ 112) }
-    ensures refused { IfErr result (λ e. e ≢ ends.WrongSchema) }
 {
     let mut sum: u128 = 0;
     'rows: for row in rows {

@@ -1,6 +1,6 @@
 // Memory that is refused once: `rt try --test --fail-alloc N` refuses the Nth allocation. The call
 // that meets it says so and leaves what stood, and the next one is answered.
-use crate::{Kind, Store, StoreEnd};
+use crate::{Kind, OpenEnd, Store, StoreEnd};
 use cg_text::FileHead;
 use cost_rows::{FileRows, rows_of_text};
 use sqlite::{Connection, MemStore};
@@ -110,7 +110,7 @@ fn memory_refused_to_create(rt: HostRuntime) -> Result<(), Fail> {
     let mut store = match Store::open(alloc, conn) {
         Ok(store) => store,
         Err((end, conn)) => {
-            assert_eq!(rt; end, StoreEnd::Memory);
+            assert_eq!(rt; end, OpenEnd::Memory);
             match Store::open(alloc, conn) {
                 Ok(store) => store,
                 Err((end, _)) => return Err(Fail::from(end)),

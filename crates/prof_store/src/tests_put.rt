@@ -1,6 +1,6 @@
 // Files that are put, and what the tables hold then. What is wanted is written by hand.
 ghost use Rattle.std.specs.Prelude.{◌≡◌, ◌≤◌, length};
-ghost use Rattle.prof_store.specs.Labels.{IsLabel};
+ghost use Rattle.prof_books.specs.Labels.{IsLabel};
 
 use crate::{Kind, Store, StoreEnd};
 use cg_text::{FileHead, Items};

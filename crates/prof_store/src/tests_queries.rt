@@ -1,5 +1,5 @@
 // What the store tells, over rows that are written by hand.
-use crate::{Kind, Store, StoreEnd, is_group_name, is_label};
+use crate::{Kind, OpenEnd, Store, StoreEnd, is_group_name, is_label};
 use sqlite::{Connection, MemStore, params};
 use std::alloc::Global;
 use std::test::Fail;
@@ -140,7 +140,7 @@ fn a_store_is_opened_again(rt: HostRuntime) -> Result<(), Fail> {
 }
 
 /// What an open says of tables that are made by hand.
-fn opened(alloc: Global, texts: &[&str]) -> Result<Option<StoreEnd>, Fail> {
+fn opened(alloc: Global, texts: &[&str]) -> Result<Option<OpenEnd>, Fail> {
     let mut conn = Connection::open_in_memory(alloc)?;
     for text in texts {
         conn.execute(text, &[])?;
@@ -155,7 +155,7 @@ fn opened(alloc: Global, texts: &[&str]) -> Result<Option<StoreEnd>, Fail> {
 fn other_tables_are_of_another_schema(rt: HostRuntime) -> Result<(), Fail> {
     let meta =
         "CREATE TABLE meta (id INTEGER PRIMARY KEY, schema INTEGER NOT NULL, next_run INTEGER NOT NULL) STRICT";
-    let wrong = Some(StoreEnd::WrongSchema);
+    let wrong = Some(OpenEnd::WrongSchema);
     assert_eq!(rt; opened(rt.alloc(), &[])?, wrong);
     assert_eq!(rt;
         opened(rt.alloc(), &[meta, "INSERT INTO meta VALUES (1, 0, 1)"])?,

@@ -1,5 +1,5 @@
 // The sums over all runs that are held.
-ghost use Rattle.std.specs.Prelude.{◌≡◌, ◌≢◌, ◌<◌, ◌^◌, ◌∷◌, [], map, All, IfOk, IfErr, OnOk};
+ghost use Rattle.std.specs.Prelude.{◌≡◌, ◌<◌, ◌^◌, ◌∷◌, [], map, All, IfOk, IfErr, OnOk};
 ghost use Rattle.sqlite.specs.Held.{state};
 ghost use Rattle.sqlite.specs.State.{HasCleanDisk, Survives, Shown, FailsToQuery, CommitsShowing};
 ghost use Rattle.sqlite_value.specs.declared.value.Value.TheVariants.{Blob};
@@ -7,7 +7,6 @@ ghost use Rattle.prof_tables.specs.Schema.{schema_one};
 ghost use Rattle.prof_tables.specs.Texts.{sums_of_text, call_counts_text};
 ghost use Rattle.prof_store.specs.Shown.{shown, IsFaithful, IsUsable, IsSettled, IsAsBefore, StandsFor, LeavesOnly};
 ghost use Rattle.prof_store.specs.Totals.{AreSums, held_self, held_calls, held_count, column_sum, rows_named, HasNumbers, IsSum, IsHeldIn, IsHeldAt, IsBounded};
-ghost use Rattle.prof_store.specs.declared.errors.StoreEnd.TheVariants as ends;
 
 use crate::errors::{StoreEnd, end_of};
 use crate::store::Store;
@@ -48,7 +47,6 @@ fn sums_in(rows: &[Row]) -> Result<EventSums, StoreEnd>
     ensures own { IfOk result (λ sums. IsSum 0 rows.now sums.own) }
     ensures calls { IfOk result (λ sums. IsSum 1 rows.now sums.calls) }
     ensures bounded { IfOk result (λ sums. (sums.own < 2 ^ 112) × (sums.calls < 2 ^ 112)) }
-    ensures refused { IfErr result (λ e. e ≢ ends.WrongSchema) }
 {
     let own = column_sum(rows, 0)?;
     let calls = column_sum(rows, 1)?;
@@ -68,7 +66,6 @@ impl<S: Alter> Store<S> {
         ensures usable { IsFaithful S.Store self.new → IsSettled S.Store self.old → OnOk result (IsUsable S.Store self.new) }
         ensures crash { IsFaithful S.Store self.new → (t : _) → StandsFor S.Store t self.old → LeavesOnly S.Store self.old self.new (λ _. ⊥) }
         ensures honest { IsFaithful S.Store self.new → IsFaithful S.Store self.old }
-        ensures refused { IfErr result (λ e. e ≢ ends.WrongSchema) }
     {
         match select_sums(&mut self.conn, name) {
             Ok(rows) => sums_in(&rows),
@@ -88,7 +85,6 @@ impl<S: Alter> Store<S> {
         ensures usable { IsFaithful S.Store self.new → IsSettled S.Store self.old → OnOk result (IsUsable S.Store self.new) }
         ensures crash { IsFaithful S.Store self.new → (t : _) → StandsFor S.Store t self.old → LeavesOnly S.Store self.old self.new (λ _. ⊥) }
         ensures honest { IsFaithful S.Store self.new → IsFaithful S.Store self.old }
-        ensures refused { IfErr result (λ e. e ≢ ends.WrongSchema) }
     {
         match select_call_counts(&mut self.conn) {
             Ok(rows) => column_sum(&rows, 0),
@@ -111,7 +107,6 @@ impl<S: Alter> Store<S> {
         ensures unchanged { IsFaithful S.Store self.new → IsSettled S.Store self.old → IsUsable S.Store self.new → IsAsBefore S.Store self.old self.new }
         ensures crash { IsFaithful S.Store self.new → (t : _) → StandsFor S.Store t self.old → LeavesOnly S.Store self.old self.new (λ _. ⊥) }
         ensures honest { IsFaithful S.Store self.new → IsFaithful S.Store self.old }
-        ensures refused { IfErr result (λ e. e ≢ ends.WrongSchema) }
     {
         let mut own = Items::new(alloc);
         let mut calls = Items::new(alloc);
@@ -136,7 +131,6 @@ impl<S: Alter> Store<S> {
         ensures unchanged { IsFaithful S.Store self.new → IsSettled S.Store self.old → IsUsable S.Store self.new → IsAsBefore S.Store self.old self.new }
         ensures crash { IsFaithful S.Store self.new → (t : _) → StandsFor S.Store t self.old → LeavesOnly S.Store self.old self.new (λ _. ⊥) }
         ensures honest { IsFaithful S.Store self.new → IsFaithful S.Store self.old }
-        ensures refused { IfErr result (λ e. e ≢ ends.WrongSchema) }
     {
         let call_count = self.calls_of_all()?;
         let (self_cost, call_cost) = self.sums_of_all(alloc, events)?;

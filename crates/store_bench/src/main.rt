@@ -38,14 +38,16 @@ fn main(rt: HostRuntime) -> Result<()> {
     };
     let timer = Timer::new(&rt)?;
     let conn = Connection::open(&rt, base.as_str())?;
-    let made = if words.len() > 2 {
-        Store::create(rt.alloc(), conn)
+    let mut store = if words.len() > 2 {
+        match Store::create(rt.alloc(), conn) {
+            Ok(store) => store,
+            Err((end, _)) => return Err(refused(end)),
+        }
     } else {
-        Store::open(rt.alloc(), conn)
-    };
-    let mut store = match made {
-        Ok(store) => store,
-        Err((end, _)) => return Err(refused(end)),
+        match Store::open(rt.alloc(), conn) {
+            Ok(store) => store,
+            Err((end, _)) => return Err(anyhow!("{end:?}")),
+        }
     };
     timer.say(&rt, "opened")?;
     for place in 2..words.len() {

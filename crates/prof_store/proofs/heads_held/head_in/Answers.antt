@@ -10,8 +10,8 @@ name_of d = d.0
 abbrev row_of : List ℕ × List ℕ → List ℕ
 row_of d = d.1
 
-pub returns-in-Some-clause-read : goal.returns-in-Some-clause-read
-returns-in-Some-clause-read c =
+pub returns-in-Some : goal.returns-in-Some-clause-read
+returns-in-Some c =
     let names = c.in_ok-names.names in
     let events = c.args.events.now in
     let derived = c.args.derived.now in

@@ -1,5 +1,5 @@
 use Rattle.std.proofs.Common.{◌≡◌, ◌++◌, map, drop}
-use Rattle.prof_store.specs.HeadsPut.{coef_lines_from}
+use Rattle.prof_books.specs.Heads.{coef_lines_from}
 use Rattle.prof_store.specs.Lines.{coef_line}
 use Rattle.prof_store.proofs.heads_put.coef_lines.Given as goal
 

@@ -1,5 +1,5 @@
 use Rattle.std.proofs.Common.{◌≡◌, ◌++◌, map, drop}
-use Rattle.prof_store.specs.HeadsPut.{derived_lines_from}
+use Rattle.prof_books.specs.Heads.{derived_lines_from}
 use Rattle.prof_store.specs.Lines.{derived_line}
 use Rattle.prof_store.proofs.heads_put.derived_lines.Given as goal
 

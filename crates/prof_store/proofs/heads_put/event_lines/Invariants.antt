@@ -1,7 +1,7 @@
 use Rattle.std.proofs.Common.{◌≡◌, ◌++◌, ◌<◌, ℕ, map, drop, length}
 use Rattle.cost_rows.specs.Content.{Content}
 use Rattle.cost_rows.specs.Totals.{AreTotals}
-use Rattle.prof_store.specs.HeadsPut.{event_lines, event_lines_from, ColumnFits}
+use Rattle.prof_books.specs.Heads.{event_lines, event_lines_from, ColumnFits}
 use Rattle.prof_store.specs.Lines.{event_line}
 use Rattle.prof_store.proofs.heads_put.event_lines.Given as goal
 

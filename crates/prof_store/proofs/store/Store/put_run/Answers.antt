@@ -2,7 +2,7 @@ use Rattle.std.proofs.Common.{inl, inr, sym, subst}
 use Rattle.sqlite.specs.Held.{state}
 use Rattle.prof_tables.specs.Tables.{Holds}
 use Rattle.cost_rows.specs.Rows.{content_of}
-use Rattle.prof_store.specs.RunsPut.{with_file}
+use Rattle.prof_books.specs.Runs.{with_file}
 use Rattle.prof_store.proofs.HeldDigests.{taken}
 use Rattle.prof_store.proofs.store.Store.put_run.Goals as goal
 

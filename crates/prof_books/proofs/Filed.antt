@@ -1,12 +1,12 @@
 -- A file that is put is in the book.
-use Rattle.std.proofs.Common.{◌≡◌, ℕ, suc, List, [], ◌∷◌, ◌++◌, nat_lt, if◌then◌else◌, Bool, true, false, refl}
+use Rattle.std.proofs.Common.{◌≡◌, ℕ, suc, List, [], ◌∷◌, nat_lt, if◌then◌else◌, Bool, true, false, refl}
 use Rattle.std.specs.List.{AllByRecursion}
 use Rattle.sqlite_keyed.proofs.ListLemmas.{all-append}
 use Rattle.cg_text.specs.declared.heads.FileHead.{FileHead}
 use Rattle.cost_rows.specs.Content.{Content}
 use Rattle.prof_tables.specs.Tables.{EventLine, DerivedLine, CoefLine}
 use Rattle.prof_books.specs.Book.{AreOf}
-use Rattle.prof_store.specs.HeadsPut.{event_lines, event_lines_from, derived_lines, derived_lines_from, coef_lines, coef_lines_at, coef_lines_from}
+use Rattle.prof_books.specs.Heads.{event_lines, event_lines_from, derived_lines, derived_lines_from, coef_lines, coef_lines_at, coef_lines_from}
 
 events_of_run : (run : ℕ) (head : FileHead) (c : Content) (place : ℕ) (names : List (List ℕ)) → AllByRecursion (λ (e : EventLine). e.run ≡ run) (event_lines_from run head c place names)
 events_of_run run head c place [] = tt

@@ -1,0 +1,149 @@
+-- A history: commands and what they were answered, and what is held after it.
+use Rattle.std.specs.Prelude.{ℕ, suc, Bool, true, false, not, ◌&&◌, ◌||◌, ◌==◌, bytes_eq, if◌then◌else◌, List, [], ◌∷◌, ◌++◌, map, filter, length, Option, Some, None}
+use Rattle.std.specs.List.{list_any}
+use Rattle.prof_books.specs.declared.kinds.Kind.{Kind}
+use Rattle.histories.specs.declared.answers.Answer.{Answer}
+use Rattle.histories.specs.declared.answers.Answer.TheVariants.{Run, Done}
+use Rattle.histories.specs.declared.answers.Query.{Query}
+
+-- what a read of a source came to: bytes, none where it has ended, or a failure
+pub data Outcome : Type 0 where
+  Gave : List ℕ → Outcome
+  Failed : Outcome
+
+-- a command; an import with what the reads of its source came to
+pub data Said : Type 0 where
+  Import : Kind → List ℕ → List Outcome → Said
+  Remove : ℕ → Said
+  MakeGroup : List ℕ → Said
+  DropGroup : List ℕ → Said
+  Join : List ℕ → ℕ → Said
+  Leave : List ℕ → ℕ → Said
+  SetBaseline : List ℕ → ℕ → Said
+  Ask : Query → Said
+
+-- a command and its answer
+pub record Turn : Type 0 where
+  pub said : Said
+  pub answer : Answer
+
+-- the oldest first
+abbrev pub History : Type 0
+History = List Turn
+
+-- the bytes that reads gave
+abbrev pub bytes_of : List Outcome → List ℕ
+bytes_of [] = []
+bytes_of (Gave bytes ∷ outcomes) = bytes ++ bytes_of outcomes
+bytes_of (Failed ∷ outcomes) = bytes_of outcomes
+
+-- ---- the files that are held
+
+pub record File : Type 0 where
+  pub number : ℕ
+  pub kind : Kind
+  pub label : List ℕ
+  pub bytes : List ℕ
+
+-- a file is held from an import that is answered with its number on
+abbrev pub taken_by : Said → Answer → Option File
+taken_by (Import kind label outcomes) (Run n) = Some (record { number = n; kind = kind; label = label; bytes = bytes_of outcomes })
+taken_by said answer = None
+
+abbrev pub removes : ℕ → Said → Answer → Bool
+removes n (Remove m) Done = m == n
+removes n said answer = false
+
+abbrev pub is_removed : ℕ → History → Bool
+is_removed n later = list_any (λ (turn : Turn). removes n turn.said turn.answer) later
+
+abbrev pub unless_removed : Option File → History → List File
+unless_removed None later = []
+unless_removed (Some f) later = if is_removed f.number later then [] else f ∷ []
+
+-- those that were taken and not removed later, the oldest first
+abbrev pub held : History → List File
+held [] = []
+held (turn ∷ later) = unless_removed (taken_by turn.said turn.answer) later ++ held later
+
+-- ---- numbers
+
+abbrev pub is_run : Answer → Bool
+is_run (Run n) = true
+is_run answer = false
+
+-- the number of the next run: one above how many there were
+abbrev pub next : History → ℕ
+next h = suc (length (filter (λ (turn : Turn). is_run turn.answer) h))
+
+-- ---- groups
+
+abbrev pub made_by : Said → Answer → Option (List ℕ)
+made_by (MakeGroup name) Done = Some name
+made_by said answer = None
+
+abbrev pub drops : List ℕ → Said → Answer → Bool
+drops name (DropGroup other) Done = bytes_eq other name
+drops name said answer = false
+
+abbrev pub is_dropped : List ℕ → History → Bool
+is_dropped name later = list_any (λ (turn : Turn). drops name turn.said turn.answer) later
+
+abbrev pub unless_dropped : Option (List ℕ) → History → List (List ℕ)
+unless_dropped None later = []
+unless_dropped (Some name) later = if is_dropped name later then [] else name ∷ []
+
+-- the names of those that were made and not dropped later, the oldest first
+abbrev pub groups : History → List (List ℕ)
+groups [] = []
+groups (turn ∷ later) = unless_dropped (made_by turn.said turn.answer) later ++ groups later
+
+-- ---- members
+
+abbrev pub joins : List ℕ → ℕ → Said → Answer → Bool
+joins name n (Join other m) Done = bytes_eq other name && (m == n)
+joins name n said answer = false
+
+-- it leaves, or is removed, or the group is dropped
+abbrev pub parts : List ℕ → ℕ → Said → Answer → Bool
+parts name n (Leave other m) Done = bytes_eq other name && (m == n)
+parts name n (Remove m) Done = m == n
+parts name n (DropGroup other) Done = bytes_eq other name
+parts name n said answer = false
+
+abbrev pub is_parted : List ℕ → ℕ → History → Bool
+is_parted name n later = list_any (λ (turn : Turn). parts name n turn.said turn.answer) later
+
+-- whether a run joined a group and did not part from it later
+abbrev pub is_member : History → List ℕ → ℕ → Bool
+is_member [] name n = false
+is_member (turn ∷ later) name n = (joins name n turn.said turn.answer && not (is_parted name n later)) || is_member later name n
+
+-- the members of a group, their numbers rising as those of the files
+abbrev pub members : History → List ℕ → List ℕ
+members h name = filter (is_member h name) (map (λ (f : File). f.number) (held h))
+
+-- ---- baselines
+
+abbrev pub based_by : List ℕ → Said → Answer → Option ℕ
+based_by name (SetBaseline other n) Done = if bytes_eq other name then Some n else None
+based_by name said answer = None
+
+-- another baseline is set, or the run is removed, or the group is dropped
+abbrev pub unbases : List ℕ → ℕ → Said → Answer → Bool
+unbases name n (SetBaseline other m) Done = bytes_eq other name
+unbases name n (Remove m) Done = m == n
+unbases name n (DropGroup other) Done = bytes_eq other name
+unbases name n said answer = false
+
+abbrev pub is_unbased : List ℕ → ℕ → History → Bool
+is_unbased name n later = list_any (λ (turn : Turn). unbases name n turn.said turn.answer) later
+
+abbrev pub unless_unbased : List ℕ → Option ℕ → History → Option ℕ → Option ℕ
+unless_unbased name None later other = other
+unless_unbased name (Some n) later other = if is_unbased name n later then other else Some n
+
+-- the run that was set last, unless it was removed or the group dropped since
+abbrev pub baseline : History → List ℕ → Option ℕ
+baseline [] name = None
+baseline (turn ∷ later) name = unless_unbased name (based_by name turn.said turn.answer) later (baseline later name)

@@ -1,0 +1,129 @@
+-- The legal answers to a command, after a history.
+use Rattle.std.specs.Prelude.{◌≡◌, ◌⊎◌, ℕ, ◌≤◌, ◌==◌, Bool, true, false, not, nat_lt, nat_le, bytes_eq, if◌then◌else◌, List, [], ◌∷◌, ◌++◌, length, Option, Some, None, option_map}
+use Rattle.std.specs.List.{list_any}
+use Rattle.std.specs.Str.{IsUtf8}
+use Rattle.sha2.specs.Sha256.{sha256}
+use Rattle.cg_text.specs.declared.faults.Fault as faults
+use Rattle.prof_books.specs.Labels.{IsLabel, IsGroupName}
+use Rattle.prof_books.specs.declared.kinds.Kind.{Kind}
+use Rattle.histories.specs.Files.{fault_of}
+use Rattle.histories.specs.History.{Outcome, Gave, Failed, Said, Import, Remove, MakeGroup, DropGroup, Join, Leave, SetBaseline, Ask, Turn, History, File, bytes_of, held, next, groups}
+use Rattle.histories.specs.Sums.{excess_of}
+use Rattle.histories.specs.Texts.{text_of}
+use Rattle.histories.specs.declared.limits.Limits.{Limits}
+use Rattle.histories.specs.declared.answers.Answer.{Answer}
+use Rattle.histories.specs.declared.answers.Answer.TheVariants.{Run, Held, Done, Text, Refused}
+use Rattle.histories.specs.declared.answers.Refusal.TheVariants as reasons
+
+-- ---- the forms of names, and how much was read of a source
+
+-- a label is UTF-8; the name of a group that is made has its own form
+abbrev pub IsInForm : Said → Type 0
+IsInForm (Import kind label outcomes) = IsUtf8 label × IsLabel label
+IsInForm (MakeGroup name) = IsGroupName name
+IsInForm said = Unit {0}
+
+-- the source of an import is not read
+abbrev pub IsUnread : Said → Type 0
+IsUnread (Import kind label outcomes) = outcomes ≡ []
+IsUnread said = Unit {0}
+
+abbrev pub is_failed : Outcome → Bool
+is_failed Failed = true
+is_failed (Gave bytes) = false
+
+-- a read that gives no byte says that the source has ended
+abbrev pub is_end : Outcome → Bool
+is_end Failed = false
+is_end (Gave []) = true
+is_end (Gave (b ∷ bytes)) = false
+
+-- ---- answers by the first condition that holds
+
+abbrev pub when : Bool → Answer → Option Answer
+when true answer = Some answer
+when false answer = None
+
+abbrev pub first_or : List (Option Answer) → Answer → Answer
+first_or [] last = last
+first_or (Some answer ∷ later) last = answer
+first_or (None ∷ later) last = first_or later last
+
+-- ---- imports
+
+-- the number of the file with this digest
+abbrev pub number_of : List ℕ → List File → Option ℕ
+number_of digest [] = None
+number_of digest (f ∷ files) = if bytes_eq (sha256 f.bytes) digest then Some f.number else number_of digest files
+
+abbrev pub faulty : faults.Fault × ℕ → Answer
+faulty fault = Refused (reasons.File fault.0 fault.1)
+
+-- once the source has ended
+abbrev pub file_due : Limits → History → Kind → List ℕ → Answer
+file_due limits h kind bytes = first_or
+    (option_map Held (number_of (sha256 bytes) (held h))
+    ∷ option_map faulty (fault_of kind bytes)
+    ∷ option_map (λ excess. Refused (reasons.Overflow excess)) (excess_of (held h) kind bytes)
+    ∷ when (nat_le limits.runs (length (held h))) (Refused reasons.Full)
+    ∷ when (nat_le limits.numbers (next h)) (Refused reasons.NumbersSpent)
+    ∷ [])
+    (Run (next h))
+
+-- none is due while the source goes on
+abbrev pub import_due : Limits → History → Kind → List Outcome → Option Answer
+import_due limits h kind outcomes =
+    if nat_lt limits.bytes (length (bytes_of outcomes)) then Some (Refused reasons.TooLong)
+    else if list_any is_failed outcomes then Some (Refused reasons.ReadFault)
+    else if list_any is_end outcomes then Some (file_due limits h kind (bytes_of outcomes))
+    else None
+
+-- ---- all commands
+
+abbrev pub has_run : History → ℕ → Bool
+has_run h n = list_any (λ (f : File). f.number == n) (held h)
+
+abbrev pub has_group : History → List ℕ → Bool
+has_group h name = list_any (λ other. bytes_eq other name) (groups h)
+
+abbrev pub no_group : History → List ℕ → Option Answer
+no_group h name = when (not (has_group h name)) (Refused reasons.NoSuchGroup)
+
+abbrev pub no_run : History → ℕ → Option Answer
+no_run h n = when (not (has_run h n)) (Refused reasons.NoSuchRun)
+
+-- what a command in form is answered, if it is answered at all
+abbrev pub due : Limits → History → Said → Option Answer
+due limits h (Import kind label outcomes) = import_due limits h kind outcomes
+due limits h (Remove n) = Some (first_or (no_run h n ∷ []) Done)
+due limits h (MakeGroup name) = Some (first_or (when (has_group h name) (Refused reasons.GroupTaken) ∷ when (nat_le limits.groups (length (groups h))) (Refused reasons.Full) ∷ []) Done)
+due limits h (DropGroup name) = Some (first_or (no_group h name ∷ []) Done)
+due limits h (Join name n) = Some (first_or (no_group h name ∷ no_run h n ∷ []) Done)
+due limits h (Leave name n) = Some (first_or (no_group h name ∷ no_run h n ∷ []) Done)
+due limits h (SetBaseline name n) = Some (first_or (no_group h name ∷ no_run h n ∷ []) Done)
+due limits h (Ask query) = Some (Text (text_of h query))
+
+-- want of memory, or a database call that failed
+abbrev pub IsWant : Answer → Type 0
+IsWant answer = (answer ≡ Refused reasons.Memory) ⊎ (answer ≡ Refused reasons.Store)
+
+-- a command in form is answered what is due, or want, at any moment; one out of form is refused as such, and no source is read
+abbrev pub IsLegal : Limits → History → Said → Answer → Type 0
+IsLegal limits h said answer =
+    (IsInForm said × ((due limits h said ≡ Some answer) ⊎ IsWant answer))
+    ⊎ ((IsInForm said → ⊥) × IsUnread said × (answer ≡ Refused reasons.BadName))
+
+-- ---- lists of commands
+
+-- each answer is legal after the history and the turns before it
+abbrev pub AreLegal : Limits → History → History → Type 0
+AreLegal limits h [] = Unit {0}
+AreLegal limits h (turn ∷ later) = IsLegal limits h turn.said turn.answer × AreLegal limits (h ++ turn ∷ []) later
+
+-- each turn is legal under some limits
+abbrev pub IsHistoryAfter : History → History → Type 0
+IsHistoryAfter before [] = Unit {0}
+IsHistoryAfter before (turn ∷ later) = ((limits : Limits) × IsLegal limits before turn.said turn.answer) × IsHistoryAfter (before ++ turn ∷ []) later
+
+abbrev pub IsHistory : History → Type 0
+IsHistory h = IsHistoryAfter [] h

@@ -1,0 +1,6 @@
+pub mod Files
+pub mod History
+pub mod Legal
+pub mod Stands
+pub mod Sums
+pub mod Texts

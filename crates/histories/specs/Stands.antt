@@ -1,0 +1,66 @@
+-- When tables stand for a history.
+use Rattle.std.specs.Prelude.{◌≡◌, ℕ, suc, ◌<◌, true, Bool, ◌==◌, List, [], ◌∷◌, map}
+use Rattle.std.specs.List.{AllByRecursion}
+use Rattle.sha2.specs.Sha256.{sha256}
+use Rattle.cost_rows.specs.Sums.{Spot, own_sum, call_sum, count_sum}
+use Rattle.cost_rows.specs.StackSums.{frames_sum}
+use Rattle.cost_rows.specs.WalkSums.{rows_cost, stacks_count}
+use Rattle.prof_tables.specs.Changes.{has_member}
+use Rattle.prof_tables.specs.Tables.{Tables, EventLine, DerivedLine, CoefLine, GroupLine}
+use Rattle.prof_books.specs.Book.{RunBook, book_of, IsNamed}
+use Rattle.prof_books.specs.Heads.{stated_at, derived_lines_from, coef_lines_from}
+use Rattle.prof_books.specs.Kinds.{kind_number}
+use Rattle.prof_books.specs.Parts.{parts_sum}
+use Rattle.histories.specs.Files.{events_of, derived_of, stated_of, records_of, stacks_of}
+use Rattle.histories.specs.History.{History, File, held, next, groups, is_member, baseline}
+use Rattle.histories.specs.Legal.{IsHistory}
+use Rattle.histories.specs.Sums.{own_column, call_column, calls_of}
+
+-- ---- a run of the book and a file
+
+-- a line for each event, with the sums of its column and what the file states
+abbrev pub event_lines_from : File → ℕ → List (List ℕ) → List EventLine
+event_lines_from f place [] = []
+event_lines_from f place (event ∷ events) = record {
+  run = f.number;
+  place = place;
+  name = event;
+  self_cost = own_column f.kind f.bytes place;
+  call_cost = call_column f.kind f.bytes place;
+  stated = stated_at (stated_of f.kind f.bytes) place;
+} ∷ event_lines_from f (suc place) events
+
+-- what the book says of a run is what its file says
+pub record IsBookOf (f : File) (r : RunBook) : Type 0 where
+  pub number : r.line.number ≡ f.number
+  pub kind : r.line.kind ≡ kind_number f.kind
+  pub digest : r.line.digest ≡ sha256 f.bytes
+  pub label : r.line.label ≡ f.label
+  pub call_count : r.line.call_count ≡ calls_of f.kind f.bytes
+  pub events : r.events ≡ event_lines_from f 0 (events_of f.kind f.bytes)
+  pub derived : r.derived ≡ derived_lines_from f.number 0 (derived_of f.kind f.bytes)
+  pub coefs : r.coefs ≡ coef_lines_from f.number 0 (derived_of f.kind f.bytes)
+  -- for every test of places and each column, the cells come to the self records
+  pub cells : (passes : Spot → Bool) (k : ℕ) → rows_cost passes k r.cells ≡ own_sum passes k (records_of f.kind f.bytes)
+  -- for every test of calls, part 0 to how many there were, and part k + 1 to what they cost in column k
+  pub counts : (passes : Spot → Spot → Bool) → parts_sum passes 0 r.parts ≡ count_sum passes (records_of f.kind f.bytes)
+  pub costs : (passes : Spot → Spot → Bool) (k : ℕ) → parts_sum passes (suc k) r.parts ≡ call_sum passes k (records_of f.kind f.bytes)
+  -- for every test of frames, the stacks to what they count
+  pub stacks : (passes : List ℕ → Bool) → stacks_count passes r.stacks ≡ frames_sum passes (stacks_of f.kind f.bytes)
+
+-- each run is that of a file, in the same order
+abbrev pub AreBooksOf : List File → List RunBook → Type 0
+AreBooksOf [] [] = Unit {0}
+AreBooksOf (f ∷ files) (r ∷ runs) = IsBookOf f r × AreBooksOf files runs
+AreBooksOf files runs = ⊥
+
+-- ---- tables and a history
+
+pub record TablesTell (h : History) (t : Tables) : Type 0 where
+  pub legal : IsHistory h
+  pub named : IsNamed t
+  pub next : t.next ≡ next h
+  pub runs : AreBooksOf (held h) (book_of t).runs
+  pub groups : map (λ (g : GroupLine). g.name) t.groups ≡ groups h
+  pub baselines : AllByRecursion (λ (g : GroupLine). g.baseline ≡ baseline h g.name) t.groups
+  pub members : (name : List ℕ) (n : ℕ) → has_member t name n ≡ is_member h name n

@@ -1,0 +1,66 @@
+-- The sums over files, by the names of events, and the first that would pass its bound.
+use Rattle.std.specs.Prelude.{ℕ, suc, ◌+◌, true, nat_lt, bytes_eq, if◌then◌else◌, List, [], ◌∷◌, ◌++◌, sum_by, Option, Some, None}
+use Rattle.cost_rows.specs.Admit.{bound}
+use Rattle.cost_rows.specs.Sums.{own_sum, call_sum, count_sum}
+use Rattle.prof_books.specs.declared.kinds.Kind.{Kind}
+use Rattle.histories.specs.Files.{events_of, records_of}
+use Rattle.histories.specs.History.{File}
+use Rattle.histories.specs.declared.answers.Excess.{Excess}
+use Rattle.histories.specs.declared.answers.Excess.TheVariants.{SelfCost, CallCost, CallCount}
+
+-- ---- of one file: the sums of its columns over all self records, over all call records, and how many calls these count
+
+abbrev pub own_column : Kind → List ℕ → ℕ → ℕ
+own_column kind bytes k = own_sum (λ _. true) k (records_of kind bytes)
+
+abbrev pub call_column : Kind → List ℕ → ℕ → ℕ
+call_column kind bytes k = call_sum (λ _ _. true) k (records_of kind bytes)
+
+abbrev pub calls_of : Kind → List ℕ → ℕ
+calls_of kind bytes = count_sum (λ _ _. true) (records_of kind bytes)
+
+-- the sum of the column that has this name, from column k on
+abbrev pub column_named : List ℕ → (ℕ → ℕ) → ℕ → List (List ℕ) → ℕ
+column_named name column k [] = 0
+column_named name column k (event ∷ events) = (if bytes_eq event name then column k else 0) + column_named name column (suc k) events
+
+-- ---- of all files
+
+abbrev pub own_held : List File → List ℕ → ℕ
+own_held files name = sum_by (λ (f : File). column_named name (own_column f.kind f.bytes) 0 (events_of f.kind f.bytes)) files
+
+abbrev pub calls_cost_held : List File → List ℕ → ℕ
+calls_cost_held files name = sum_by (λ (f : File). column_named name (call_column f.kind f.bytes) 0 (events_of f.kind f.bytes)) files
+
+abbrev pub calls_held : List File → ℕ
+calls_held files = sum_by (λ (f : File). calls_of f.kind f.bytes) files
+
+-- ---- with one file more
+
+-- a sum, and what is refused if it passes the bound
+pub record Sum : Type 0 where
+  pub of : Excess
+  pub sum : ℕ
+
+abbrev pub own_sums : List File → (ℕ → ℕ) → ℕ → List (List ℕ) → List Sum
+own_sums files column k [] = []
+own_sums files column k (event ∷ events) = record { of = SelfCost event; sum = own_held files event + column k } ∷ own_sums files column (suc k) events
+
+abbrev pub call_sums : List File → (ℕ → ℕ) → ℕ → List (List ℕ) → List Sum
+call_sums files column k [] = []
+call_sums files column k (event ∷ events) = record { of = CallCost event; sum = calls_cost_held files event + column k } ∷ call_sums files column (suc k) events
+
+-- own costs by event, then costs of calls by event, then the number of calls
+abbrev pub sums_with : List File → Kind → List ℕ → List Sum
+sums_with files kind bytes =
+    own_sums files (own_column kind bytes) 0 (events_of kind bytes)
+    ++ call_sums files (call_column kind bytes) 0 (events_of kind bytes)
+    ++ record { of = CallCount; sum = calls_held files + calls_of kind bytes } ∷ []
+
+abbrev pub first_above : List Sum → Option Excess
+first_above [] = None
+first_above (s ∷ sums) = if nat_lt bound s.sum then Some s.of else first_above sums
+
+-- the first sum over these files and one more that is above 2^63-1
+abbrev pub excess_of : List File → Kind → List ℕ → Option Excess
+excess_of files kind bytes = first_above (sums_with files kind bytes)

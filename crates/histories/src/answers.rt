@@ -1,0 +1,63 @@
+// What commands are answered.
+use cg_text::{Fault, Items};
+
+/// A sum over all runs that would pass 2^63-1.
+#[derive(Drop)]
+pub enum Excess {
+    /// The own costs of an event.
+    SelfCost(Items<u8>),
+    /// The costs of calls, by an event.
+    CallCost(Items<u8>),
+    /// How many calls there were.
+    CallCount,
+}
+
+/// Why a command is refused. It changed nothing.
+#[derive(Drop)]
+pub enum Refusal {
+    /// A growth was refused.
+    Memory,
+    /// A database call failed for another cause.
+    Store,
+    /// A read of the source failed.
+    ReadFault,
+    /// The source gave more bytes than a file may have.
+    TooLong,
+    /// The first fault of the file, and its line.
+    File(Fault, u64),
+    /// A sum that would pass its bound.
+    Overflow(Excess),
+    /// As many runs, or groups, are held as may be.
+    Full,
+    /// All numbers were given out.
+    NumbersSpent,
+    /// No run has this number.
+    NoSuchRun,
+    /// No group has this name.
+    NoSuchGroup,
+    /// A group has this name.
+    GroupTaken,
+    /// A label or the name of a group is out of form.
+    BadName,
+}
+
+/// A question to the warehouse.
+#[derive(Clone, Copy, Debug, PartialEq, Eq)]
+pub enum Query {
+    /// Which runs are held.
+    Runs,
+    /// Which groups are there, with their baselines and members.
+    Groups,
+}
+
+/// What a command is answered.
+#[derive(Drop)]
+pub enum Answer {
+    /// The file is held from now on, as the run of this number.
+    Run(u32),
+    /// The file was held already, as the run of this number.
+    Held(u32),
+    Done,
+    Text(Items<u8>),
+    Refused(Refusal),
+}
