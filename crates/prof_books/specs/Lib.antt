@@ -1,7 +1,9 @@
 pub mod Book
+pub mod Entries
 pub mod Files
 pub mod Heads
 pub mod Kinds
 pub mod Labels
 pub mod Parts
 pub mod Runs
+pub mod Totals

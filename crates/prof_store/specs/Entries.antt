@@ -1,23 +1,14 @@
 -- The entries of reports, beside the rows and the lines that they show.
-use Rattle.std.specs.Prelude.{ℕ, List, [], ◌∷◌, string_bytes}
+use Rattle.std.specs.Prelude.{List, [], ◌∷◌, string_bytes}
 use Rattle.sqlite_value.specs.declared.value.Value.TheVariants.{Text, Blob}
 use Rattle.sqlite_value.specs.Order.{Row, column}
-use Rattle.prof_tables.specs.Tables.{RunLine, number}
+use Rattle.prof_tables.specs.Tables.{number}
+use Rattle.prof_books.specs.Entries.{HeldRun}
 use Rattle.prof_books.specs.Kinds.{kind_number}
 use Rattle.prof_store.specs.declared.entries.RunEntry.{RunEntry}
 
 abbrev pub first_four : Row → Row
 first_four r = column r 0 ∷ column r 1 ∷ column r 2 ∷ column r 3 ∷ []
-
--- what is told of a run
-pub record HeldRun : Type 0 where
-  pub number : ℕ
-  pub kind : ℕ
-  pub digest : List ℕ
-  pub label : List ℕ
-
-abbrev pub held_run : RunLine → HeldRun
-held_run r = record { number = r.number; kind = r.kind; digest = r.digest; label = r.label }
 
 abbrev pub entry_run : RunEntry → HeldRun
 entry_run e = record { number = e.number; kind = kind_number e.kind; digest = e.digest; label = string_bytes e.label }

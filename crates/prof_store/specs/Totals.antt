@@ -1,36 +1,12 @@
--- Sums over all runs that are held.
-use Rattle.std.specs.Prelude.{◌≡◌, ◌<◌, ◌^◌, ℕ, pos, List, map, filter, sum_by, bytes_eq, All}
+-- Sums over all runs that are held, in the rows of any tables of schema 1.
+use Rattle.std.specs.Prelude.{◌≡◌, ◌<◌, ◌^◌, ℕ, pos, List, map, filter, sum_by, All}
 use Rattle.sqlite_value.specs.declared.value.Value.{Value}
 use Rattle.sqlite_value.specs.declared.value.Value.TheVariants.{Int, Blob}
 use Rattle.sqlite_value.specs.Order.{Row, column}
 use Rattle.sqlite_trees.specs.Tree.{Trees}
 use Rattle.cost_rows.specs.declared.rows.FileTotals.{FileTotals}
 use Rattle.prof_tables.specs.Seen.{is_at}
-use Rattle.prof_tables.specs.Tables.{Tables, EventLine, RunLine, number}
-
--- ---- in the tables
-
-abbrev pub lines_named : List ℕ → Tables → List EventLine
-lines_named name t = filter (λ (e : EventLine). bytes_eq e.name name) t.events
-
--- the own costs of an event, in all runs that have it
-abbrev pub held_self : Tables → List ℕ → ℕ
-held_self t name = sum_by (λ (e : EventLine). e.self_cost) (lines_named name t)
-
--- and the costs of its calls
-abbrev pub held_calls : Tables → List ℕ → ℕ
-held_calls t name = sum_by (λ (e : EventLine). e.call_cost) (lines_named name t)
-
--- the calls of all runs
-abbrev pub held_count : Tables → ℕ
-held_count t = sum_by (λ (r : RunLine). r.call_count) t.runs
-
-pub record IsHeldIn (t : Tables) (events : List (List ℕ)) (totals : FileTotals) : Type 0 where
-  pub self_cost : totals.self_cost ≡ map (held_self t) events
-  pub call_cost : totals.call_cost ≡ map (held_calls t) events
-  pub call_count : totals.call_count ≡ held_count t
-
--- ---- in any tables of schema 1, of their rows
+use Rattle.prof_tables.specs.Tables.{number}
 
 -- the number that a value is, and 0 where it is none
 abbrev pub number_in : Value → ℕ

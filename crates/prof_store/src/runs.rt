@@ -6,7 +6,8 @@ ghost use Rattle.sqlite.specs.State.{HasCleanDisk, Survives, Shown, FailsToQuery
 ghost use Rattle.prof_tables.specs.Schema.{schema_one};
 ghost use Rattle.prof_tables.specs.Seen.{run_seen};
 ghost use Rattle.prof_tables.specs.Texts.{runs_text};
-ghost use Rattle.prof_store.specs.Entries.{first_four, entry_columns, entry_run, held_run};
+ghost use Rattle.prof_store.specs.Entries.{first_four, entry_columns, entry_run};
+ghost use Rattle.prof_books.specs.Entries.{held_run};
 ghost use Rattle.prof_store.specs.Shown.{shown, IsFaithful, IsUsable, StandsFor, LeavesOnly, IsSettled, IsAsBefore};
 
 use crate::columns::number_at;

@@ -6,7 +6,8 @@ ghost use Rattle.sqlite_value.specs.declared.value.Value.TheVariants.{Blob};
 ghost use Rattle.prof_tables.specs.Schema.{schema_one};
 ghost use Rattle.prof_tables.specs.Texts.{sums_of_text, call_counts_text};
 ghost use Rattle.prof_store.specs.Shown.{shown, IsFaithful, IsUsable, IsSettled, IsAsBefore, StandsFor, LeavesOnly};
-ghost use Rattle.prof_store.specs.Totals.{AreSums, held_self, held_calls, held_count, column_sum, rows_named, HasNumbers, IsSum, IsHeldIn, IsHeldAt, IsBounded};
+ghost use Rattle.prof_store.specs.Totals.{AreSums, column_sum, rows_named, HasNumbers, IsSum, IsHeldAt, IsBounded};
+ghost use Rattle.prof_books.specs.Totals.{held_self, held_calls, held_count, IsHeldIn};
 
 use crate::errors::{StoreEnd, end_of};
 use crate::store::Store;

@@ -7,7 +7,8 @@ use Rattle.prof_tables.specs.Texts.{runs_text}
 use Rattle.prof_tables.specs.Tables.{Holds}
 use Rattle.prof_tables.proofs.Means.{runs_plain}
 use Rattle.prof_tables.proofs.Lists.{runs_listed, runs_in_order, numbered_table}
-use Rattle.prof_store.specs.Entries.{HeldRun, held_run, entry_run, held_columns, entry_columns, first_four}
+use Rattle.prof_store.specs.Entries.{entry_run, held_columns, entry_columns, first_four}
+use Rattle.prof_books.specs.Entries.{HeldRun, held_run}
 use Rattle.prof_store.specs.declared.entries.RunEntry.{RunEntry}
 use Rattle.prof_store.proofs.Listing.{read_permutes, map_injective}
 use Rattle.prof_store.proofs.Reading.{both_ok, on_ok, rows_stay, fails_kept, leaves_nothing, rows_as_before, fails_as_before}

@@ -6,7 +6,8 @@ use Rattle.prof_tables.specs.Texts.{sums_of_text}
 use Rattle.prof_tables.specs.Tables.{Holds, EventLine}
 use Rattle.prof_tables.proofs.Means.{sums_of_plain}
 use Rattle.prof_tables.proofs.RunLists.{sums_listed, sums_are}
-use Rattle.prof_store.specs.Totals.{IsSum, lines_named}
+use Rattle.prof_store.specs.Totals.{IsSum}
+use Rattle.prof_books.specs.Totals.{lines_named}
 use Rattle.prof_store.proofs.HeldSums.{sum_permuted, sum_seen, sum_shown}
 use Rattle.prof_store.proofs.Reading.{both_ok, on_ok, same_after, rows_stay, fails_kept, leaves_nothing, rows_as_before, rows_open, fails_as_before}
 use Rattle.prof_store.proofs.store.Store.sums_of.Goals as goal

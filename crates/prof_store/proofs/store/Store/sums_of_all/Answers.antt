@@ -3,7 +3,8 @@ use Rattle.std.proofs.lemmas.List.{take_all}
 use Rattle.std.proofs.lemmas.List.Elements.{All-push}
 use Rattle.sqlite.specs.Effect.{Database}
 use Rattle.prof_store.specs.Shown.{shown}
-use Rattle.prof_store.specs.Totals.{AreSums, held_self, held_calls, IsSum, rows_named}
+use Rattle.prof_store.specs.Totals.{AreSums, IsSum, rows_named}
+use Rattle.prof_books.specs.Totals.{held_self, held_calls}
 use Rattle.prof_store.proofs.HeadReading.{read_on}
 use Rattle.prof_store.proofs.HeldSums.{sums_more}
 use Rattle.prof_store.proofs.Reading.{is_ok_then}

@@ -2,7 +2,8 @@ use Rattle.std.proofs.Common.{◌≡◌, ◌<◌, ◌^◌, map, take, All}
 use Rattle.prof_tables.specs.Schema.{schema_one}
 use Rattle.prof_tables.specs.Tables.{Tables}
 use Rattle.prof_store.specs.Shown.{shown, IsFaithful, IsSettled, IsAsBefore, StandsFor, LeavesOnly}
-use Rattle.prof_store.specs.Totals.{AreSums, held_self, held_calls}
+use Rattle.prof_store.specs.Totals.{AreSums}
+use Rattle.prof_books.specs.Totals.{held_self, held_calls}
 use Rattle.prof_store.proofs.store.Store.sums_of_all.Given as goal
 
 -- the store is as it was, and the sums are those of the events so far
