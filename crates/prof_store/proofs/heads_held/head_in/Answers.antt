@@ -10,7 +10,7 @@ name_of d = d.0
 abbrev row_of : List ℕ × List ℕ → List ℕ
 row_of d = d.1
 
-pub returns-in-Some : goal.returns-in-Some-clause-read
+pub returns-in-Some : goal.returns-in-Some
 returns-in-Some c =
     let names = c.in_ok-names.names in
     let events = c.args.events.now in
@@ -21,7 +21,7 @@ returns-in-Some c =
     let rows : flat.derived ≡ c.in_ok-rows.rows = c.in-Some.ensures.given.1 in
     let both : c.in_ok-all.all ≡ names ++ map name_of flat.derived =
     c.in_ok-all.ensures.read ∙ ap₂ ◌++◌ (sym (names_of_places events names c.in_ok-names.ensures.read)) (sym (names_of_derived derived (map name_of c.in_ok-rows.rows) c.in_ok-rows.ensures.names) ∙ sym (ap (map name_of) rows)) in
-    let once : are_distinct c.in_ok-all.all ≡ true = search rules in record {
+    let once : are_distinct c.in_ok-all.all ≡ true = search rules in record { read = record {
       sound = record {
         events_same = c.in-Some.ensures.given.0 ∙ sym same;
         stated_all = stated_for_all events names stated c.in_ok-names.ensures.read c.in_ok-stated.ensures.read;
@@ -30,4 +30,4 @@ returns-in-Some c =
       events_are = said_events events names stated c.in_ok-names.ensures.read c.in_ok-stated.ensures.read;
       derived_are = c.in_ok-rows.ensures.names ∙ sym (ap (λ d. placed 0 (map name_of d)) rows);
       coefs_are = c.in_ok-rows.ensures.rows ∙ sym (ap (λ d. coefs_from 0 (map row_of d)) rows);
-    }
+    } }
