@@ -22,7 +22,7 @@ IsFailure (SqlInputError fault) = ⊥
 IsFailure QueryReturnedNoRows = ⊥
 IsFailure e = ⊤
 
-failure_of : (cause : StoreError) → IsFailure (store_error cause)
+pub failure_of : (cause : StoreError) → IsFailure (store_error cause)
 failure_of OutOfMemory = tt
 failure_of Io = tt
 failure_of Corrupt = tt

@@ -8,6 +8,7 @@ pub mod Failures
 pub mod InPlace
 pub mod Inserts
 pub mod Many
+pub mod Opens
 pub mod Orders
 pub mod Queries
 pub mod Rows
