@@ -10,7 +10,7 @@ use Rattle.sqlite.specs.State.{State, HasCleanDisk, Survives, CommitsShowing, Qu
 use Rattle.sqlite.proofs.Callers.{IsPlain}
 use Rattle.sqlite_trees.specs.declared.store.Store.{Ghosts}
 use Rattle.sql_tables.specs.States.{Rests, LeavesOnly}
-use Rattle.sql_tables.proofs.Queries.{row_keeps, row_unchanged, shown_keeps, fails_keeps, commits_nothing}
+use Rattle.sql_tables.proofs.Queries.{row_keeps, shown_keeps, fails_keeps, commits_nothing}
 use Rattle.sql_tables.proofs.Statements.{rests_if_kept, rests_if_same}
 use Rattle.prof_tables.specs.Schema.{schema_one}
 use Rattle.prof_store.specs.declared.store.Store.{Store}
@@ -75,11 +75,3 @@ module _ (sql : List ℕ) (params : Row) (plain : IsPlain (understood schema_one
 
   pub row_as_before : (r : Result Row Error) → QueriesRow sql params (shown g old) (shown g new) r → IsUsable g new → IsAsBefore g old new
   row_as_before r h is_open = as_before g old new was is_open (row_keeps schema_one sql params (shown g old) (shown g new) was.schema_is plain r h)
-
--- what answered is open
-module _ (sql : List ℕ) (params : Row) (plain : IsPlain (understood schema_one sql)) (old new : State) (has : old.now.schema ≡ schema_one) where
-  pub rows_open : (rows : List Row) → Shown sql params old new rows → IsTrue new.is_open
-  rows_open rows h = (shown_keeps schema_one sql params old new has plain rows h).0.is_open
-
-  pub row_open : (row : Row) → QueriesRow sql params old new (Ok row) → IsTrue new.is_open
-  row_open row h = (row_unchanged schema_one sql params old new has plain row h).0.is_open

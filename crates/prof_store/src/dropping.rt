@@ -26,6 +26,8 @@ impl<S: Alter> Store<S> {
         ensures done { IsFaithful S.Store self.new → (t : _) → StandsFor S.Store t self.old → has_run t run ≡ true → OnOk result (StandsFor S.Store (without_run run t) self.new) }
         ensures kept { IsFaithful S.Store self.new → (t : _) → StandsFor S.Store t self.old → OnErr result (IsUsable S.Store self.new → StandsFor S.Store t self.new) }
         ensures unchanged { IsFaithful S.Store self.new → IsSettled S.Store self.old → OnErr result (IsUsable S.Store self.new → IsAsBefore S.Store self.old self.new) }
+        ensures answers { IsFaithful S.Store self.new → OnOk result (IsUsable S.Store self.new) }
+        ensures was_usable { IsFaithful S.Store self.new → IsUsable S.Store self.new → IsUsable S.Store self.old }
         ensures crash { IsFaithful S.Store self.new → (t : _) → StandsFor S.Store t self.old → has_run t run ≡ true → LeavesOnly S.Store self.old self.new (Holds (without_run run t)) }
         ensures honest { IsFaithful S.Store self.new → IsFaithful S.Store self.old }
     {

@@ -54,6 +54,8 @@ impl<S: Alter> Store<S> {
         ensures done { IsFaithful S.Store self.new → (t : _) → StandsFor S.Store t self.old → OnOk result (StandsFor S.Store (with_group name.now t) self.new) }
         ensures kept { IsFaithful S.Store self.new → (t : _) → StandsFor S.Store t self.old → OnErr result (IsUsable S.Store self.new → StandsFor S.Store t self.new) }
         ensures unchanged { IsFaithful S.Store self.new → IsSettled S.Store self.old → OnErr result (IsUsable S.Store self.new → IsAsBefore S.Store self.old self.new) }
+        ensures answers { IsFaithful S.Store self.new → OnOk result (IsUsable S.Store self.new) }
+        ensures was_usable { IsFaithful S.Store self.new → IsUsable S.Store self.new → IsUsable S.Store self.old }
         ensures crash { IsFaithful S.Store self.new → (t : _) → StandsFor S.Store t self.old → LeavesOnly S.Store self.old self.new (Holds (with_group name.now t)) }
         ensures honest { IsFaithful S.Store self.new → IsFaithful S.Store self.old }
     {
@@ -68,6 +70,8 @@ impl<S: Alter> Store<S> {
         ensures done { IsFaithful S.Store self.new → (t : _) → StandsFor S.Store t self.old → has_group t name.now ≡ true → OnOk result (StandsFor S.Store (without_group name.now t) self.new) }
         ensures kept { IsFaithful S.Store self.new → (t : _) → StandsFor S.Store t self.old → OnErr result (IsUsable S.Store self.new → StandsFor S.Store t self.new) }
         ensures unchanged { IsFaithful S.Store self.new → IsSettled S.Store self.old → OnErr result (IsUsable S.Store self.new → IsAsBefore S.Store self.old self.new) }
+        ensures answers { IsFaithful S.Store self.new → OnOk result (IsUsable S.Store self.new) }
+        ensures was_usable { IsFaithful S.Store self.new → IsUsable S.Store self.new → IsUsable S.Store self.old }
         ensures crash { IsFaithful S.Store self.new → (t : _) → StandsFor S.Store t self.old → has_group t name.now ≡ true → LeavesOnly S.Store self.old self.new (Holds (without_group name.now t)) }
         ensures honest { IsFaithful S.Store self.new → IsFaithful S.Store self.old }
     {
@@ -82,6 +86,8 @@ impl<S: Alter> Store<S> {
         ensures done { IsFaithful S.Store self.new → (t : _) → StandsFor S.Store t self.old → OnOk result (StandsFor S.Store (without_member name.now run t) self.new) }
         ensures kept { IsFaithful S.Store self.new → (t : _) → StandsFor S.Store t self.old → OnErr result (IsUsable S.Store self.new → StandsFor S.Store t self.new) }
         ensures unchanged { IsFaithful S.Store self.new → IsSettled S.Store self.old → OnErr result (IsUsable S.Store self.new → IsAsBefore S.Store self.old self.new) }
+        ensures answers { IsFaithful S.Store self.new → OnOk result (IsUsable S.Store self.new) }
+        ensures was_usable { IsFaithful S.Store self.new → IsUsable S.Store self.new → IsUsable S.Store self.old }
         ensures crash { IsFaithful S.Store self.new → (t : _) → StandsFor S.Store t self.old → LeavesOnly S.Store self.old self.new (Holds (without_member name.now run t)) }
         ensures honest { IsFaithful S.Store self.new → IsFaithful S.Store self.old }
     {
@@ -96,6 +102,8 @@ impl<S: Alter> Store<S> {
         ensures done { IsFaithful S.Store self.new → (t : _) → StandsFor S.Store t self.old → OnOk result (StandsFor S.Store (with_baseline name.now run t) self.new) }
         ensures kept { IsFaithful S.Store self.new → (t : _) → StandsFor S.Store t self.old → OnErr result (IsUsable S.Store self.new → StandsFor S.Store t self.new) }
         ensures unchanged { IsFaithful S.Store self.new → IsSettled S.Store self.old → OnErr result (IsUsable S.Store self.new → IsAsBefore S.Store self.old self.new) }
+        ensures answers { IsFaithful S.Store self.new → OnOk result (IsUsable S.Store self.new) }
+        ensures was_usable { IsFaithful S.Store self.new → IsUsable S.Store self.new → IsUsable S.Store self.old }
         ensures crash { IsFaithful S.Store self.new → (t : _) → StandsFor S.Store t self.old → LeavesOnly S.Store self.old self.new (Holds (with_baseline name.now run t)) }
         ensures honest { IsFaithful S.Store self.new → IsFaithful S.Store self.old }
     {

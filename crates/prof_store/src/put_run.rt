@@ -40,6 +40,8 @@ impl<S: Alter> Store<S> {
         ensures done { IsFaithful S.Store self.new → (t : _) → StandsFor S.Store t self.old → t.next ≡ number → OnOk result (StandsFor S.Store (with_file number kind digest.now label.now head.now (content_of rows.now) t) self.new) }
         ensures kept { IsFaithful S.Store self.new → (t : _) → StandsFor S.Store t self.old → OnErr result (IsUsable S.Store self.new → StandsFor S.Store t self.new) }
         ensures unchanged { IsFaithful S.Store self.new → IsSettled S.Store self.old → OnErr result (IsUsable S.Store self.new → IsAsBefore S.Store self.old self.new) }
+        ensures answers { IsFaithful S.Store self.new → OnOk result (IsUsable S.Store self.new) }
+        ensures was_usable { IsFaithful S.Store self.new → IsUsable S.Store self.new → IsUsable S.Store self.old }
         ensures crash { IsFaithful S.Store self.new → (t : _) → StandsFor S.Store t self.old → t.next ≡ number → LeavesOnly S.Store self.old self.new (Holds (with_file number kind digest.now label.now head.now (content_of rows.now) t)) }
         ensures honest { IsFaithful S.Store self.new → IsFaithful S.Store self.old }
     {
@@ -84,6 +86,8 @@ impl<S: Alter> Store<S> {
         ensures done { IsFaithful S.Store self.new → (t : _) → StandsFor S.Store t self.old → OnOk result (StandsFor S.Store (with_file t.next kind digest.now label.now head.now (content_of rows.now) t) self.new) }
         ensures kept { IsFaithful S.Store self.new → (t : _) → StandsFor S.Store t self.old → OnErr result (IsUsable S.Store self.new → StandsFor S.Store t self.new) }
         ensures unchanged { IsFaithful S.Store self.new → IsSettled S.Store self.old → OnErr result (IsUsable S.Store self.new → IsAsBefore S.Store self.old self.new) }
+        ensures answers { IsFaithful S.Store self.new → OnOk result (IsUsable S.Store self.new) }
+        ensures was_usable { IsFaithful S.Store self.new → IsUsable S.Store self.new → IsUsable S.Store self.old }
         ensures crash { IsFaithful S.Store self.new → (t : _) → StandsFor S.Store t self.old → LeavesOnly S.Store self.old self.new (Holds (with_file t.next kind digest.now label.now head.now (content_of rows.now) t)) }
         ensures honest { IsFaithful S.Store self.new → IsFaithful S.Store self.old }
     {

@@ -93,6 +93,8 @@ pub(crate) fn put_in<S: Alter>(
     requires { conn.old.in_transaction ≡ false }
     ensures done { HasCleanDisk (state S.Store conn.new) → (t : _) → t.next ≡ run.now.number → Rests schema_one (Holds t) (state S.Store conn.old) → OnOk result (Rests schema_one (Holds (with_run_of run.now head.now rows.now t)) (state S.Store conn.new)) }
     ensures undone { HasCleanDisk (state S.Store conn.new) → OnErr result (IsUndone (state S.Store conn.old) (state S.Store conn.new)) }
+    ensures answers { HasCleanDisk (state S.Store conn.new) → OnOk result (IsTrue (state S.Store conn.new).is_open) }
+    ensures was_open { HasCleanDisk (state S.Store conn.new) → IsTrue (state S.Store conn.new).is_open → IsTrue (state S.Store conn.old).is_open }
     ensures crash { (t : _) → t.next ≡ run.now.number → Rests schema_one (Holds t) (state S.Store conn.old) → Survives (state S.Store conn.old) (state S.Store conn.new) (Holds (with_run_of run.now head.now rows.now t)) }
     ensures honest { HasCleanDisk (state S.Store conn.new) → HasCleanDisk (state S.Store conn.old) }
 {

@@ -16,3 +16,4 @@ pub mod RunLines
 pub mod RunLists
 pub mod Values
 pub mod WalkTexts
+pub mod Writes

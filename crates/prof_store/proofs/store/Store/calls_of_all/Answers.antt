@@ -7,7 +7,8 @@ use Rattle.prof_tables.proofs.Means.{call_counts_plain}
 use Rattle.prof_tables.proofs.Lists.{calls_listed, calls_are}
 use Rattle.prof_store.specs.Totals.{IsSum}
 use Rattle.prof_store.proofs.HeldSums.{sum_permuted, sum_seen, sum_shown}
-use Rattle.prof_store.proofs.Reading.{on_ok, same_after, rows_stay, fails_kept, leaves_nothing, rows_as_before, rows_open, fails_as_before}
+use Rattle.prof_store.proofs.Reading.{on_ok, same_after, rows_stay, fails_kept, leaves_nothing, rows_as_before, fails_as_before}
+use Rattle.sql_tables.proofs.Opens.{shown_open, fails_was_open}
 use Rattle.prof_store.proofs.store.Store.calls_of_all.Goals as goal
 
 pub returns-in-Ok-clause-told : goal.returns-in-Ok-clause-told
@@ -34,9 +35,6 @@ returns-in-Ok-clause-kept g c clean t was is_open = rows_stay call_counts_text [
 pub returns-in-Ok-clause-unchanged : goal.returns-in-Ok-clause-unchanged
 returns-in-Ok-clause-unchanged g c clean was is_open = rows_as_before call_counts_text [] call_counts_plain g.S.Store _ _ was c.in-Ok.rows.items (c.in-Ok.ensures.ok clean) is_open
 
-pub returns-in-Ok-clause-usable : goal.returns-in-Ok-clause-usable
-returns-in-Ok-clause-usable g c clean was = on_ok _ c.column_sum.result (rows_open call_counts_text [] call_counts_plain _ _ was.schema_is c.in-Ok.rows.items (c.in-Ok.ensures.ok clean))
-
 pub returns-in-Ok-clause-crash : goal.returns-in-Ok-clause-crash
 returns-in-Ok-clause-crash g c clean t was = leaves_nothing call_counts_text [] call_counts_plain (Holds t) _ _ was c.select_call_counts.ensures.survives clean
 
@@ -48,3 +46,12 @@ returns-in-Err-clause-unchanged g c clean was is_open = fails_as_before call_cou
 
 pub returns-in-Err-clause-crash : goal.returns-in-Err-clause-crash
 returns-in-Err-clause-crash g c clean t was = leaves_nothing call_counts_text [] call_counts_plain (Holds t) _ _ was c.select_call_counts.ensures.survives clean
+
+pub returns-in-Ok-clause-answers : goal.returns-in-Ok-clause-answers
+returns-in-Ok-clause-answers g c clean = on_ok _ c.column_sum.result (shown_open _ _ _ _ _ (c.in-Ok.ensures.ok clean)).is_open
+
+pub returns-in-Ok-clause-was_usable : goal.returns-in-Ok-clause-was_usable
+returns-in-Ok-clause-was_usable g c clean is_open = (shown_open _ _ _ _ _ (c.in-Ok.ensures.ok clean)).was_open
+
+pub returns-in-Err-clause-was_usable : goal.returns-in-Err-clause-was_usable
+returns-in-Err-clause-was_usable g c clean is_open = fails_was_open _ _ _ _ _ (c.in-Err.ensures.err clean) is_open

@@ -8,6 +8,8 @@ use Rattle.prof_tables.specs.Changes.{without_group, has_group}
 use Rattle.prof_tables.proofs.Means.{drop_group_means, drop_group_plain}
 use Rattle.prof_tables.proofs.Drops.{drops_group}
 use Rattle.prof_store.proofs.Writing.{rests, leaves as survives, as_before}
+use Rattle.sql_tables.proofs.Opens.{ran_open, was_open_if_kept}
+use Rattle.prof_tables.proofs.Writes.{drop_group_writes}
 use Rattle.prof_store.proofs.store.Store.drop_group.Goals as goal
 
 pub returns-in-Ok-clause-done : goal.returns-in-Ok-clause-done
@@ -30,3 +32,12 @@ pub returns-in-Err-clause-crash : goal.returns-in-Err-clause-crash
 returns-in-Err-clause-crash g c clean t was held =
     let name = c.args.name.now in
     (survives drop_group_text (Text name ∷ []) _ drop_group_means drop_group_plain tt (λ t. has_group t name ≡ true) (without_group name) (λ t is limit trees text tally after was sound. drops_group name t is limit trees text tally after was sound) _ _ 0 t held was c.delete_group.ensures.survives).crash clean
+
+pub returns-in-Ok-clause-answers : goal.returns-in-Ok-clause-answers
+returns-in-Ok-clause-answers g c clean = (ran_open _ _ _ _ _ drop_group_writes (c.in-Ok.ensures.runs clean)).is_open
+
+pub returns-in-Ok-clause-was_usable : goal.returns-in-Ok-clause-was_usable
+returns-in-Ok-clause-was_usable g c clean is_open = (ran_open _ _ _ _ _ drop_group_writes (c.in-Ok.ensures.runs clean)).was_open
+
+pub returns-in-Err-clause-was_usable : goal.returns-in-Err-clause-was_usable
+returns-in-Err-clause-was_usable g c clean is_open = was_open_if_kept _ _ (refused _ _ _ _ _ (c.in-Err.ensures.runs clean)) is_open

@@ -7,7 +7,8 @@ use Rattle.prof_tables.proofs.Means.{events_of_plain}
 use Rattle.prof_tables.proofs.RunLists.{events_listed, events_are}
 use Rattle.prof_store.specs.HeadLines.{event_columns, first_three}
 use Rattle.prof_store.proofs.Listing.{read_permutes}
-use Rattle.prof_store.proofs.Reading.{on_ok, same_after, rows_stay, fails_kept, leaves_nothing, rows_as_before, rows_open, fails_as_before}
+use Rattle.prof_store.proofs.Reading.{on_ok, same_after, rows_stay, fails_kept, leaves_nothing, rows_as_before, fails_as_before}
+use Rattle.sql_tables.proofs.Opens.{shown_open, fails_was_open}
 use Rattle.prof_store.proofs.store.Store.events_of.Goals as goal
 
 pub returns-in-Ok-clause-told : goal.returns-in-Ok-clause-told
@@ -42,8 +43,14 @@ returns-in-Err-clause-crash g c clean t was = leaves_nothing events_of_text (num
 pub returns-in-Ok-clause-unchanged : goal.returns-in-Ok-clause-unchanged
 returns-in-Ok-clause-unchanged g c clean was is_open = rows_as_before events_of_text (number c.args.run ∷ []) events_of_plain g.S.Store _ _ was c.in-Ok.rows.items (c.in-Ok.ensures.ok clean) is_open
 
-pub returns-in-Ok-clause-usable : goal.returns-in-Ok-clause-usable
-returns-in-Ok-clause-usable g c clean was = on_ok _ c.events_in.result (rows_open events_of_text (number c.args.run ∷ []) events_of_plain _ _ was.schema_is c.in-Ok.rows.items (c.in-Ok.ensures.ok clean))
-
 pub returns-in-Err-clause-unchanged : goal.returns-in-Err-clause-unchanged
 returns-in-Err-clause-unchanged g c clean was is_open = fails_as_before events_of_text (number c.args.run ∷ []) events_of_plain g.S.Store _ _ was _ (c.in-Err.ensures.err clean) is_open
+
+pub returns-in-Ok-clause-answers : goal.returns-in-Ok-clause-answers
+returns-in-Ok-clause-answers g c clean = on_ok _ c.events_in.result (shown_open _ _ _ _ _ (c.in-Ok.ensures.ok clean)).is_open
+
+pub returns-in-Ok-clause-was_usable : goal.returns-in-Ok-clause-was_usable
+returns-in-Ok-clause-was_usable g c clean is_open = (shown_open _ _ _ _ _ (c.in-Ok.ensures.ok clean)).was_open
+
+pub returns-in-Err-clause-was_usable : goal.returns-in-Err-clause-was_usable
+returns-in-Err-clause-was_usable g c clean is_open = fails_was_open _ _ _ _ _ (c.in-Err.ensures.err clean) is_open

@@ -3,7 +3,8 @@ use Rattle.prof_tables.specs.Texts.{kind_of_text}
 use Rattle.prof_tables.specs.Tables.{Holds, number}
 use Rattle.prof_tables.proofs.Means.{kind_of_plain}
 use Rattle.prof_tables.proofs.RunFinds.{run_listed, run_there}
-use Rattle.prof_store.proofs.Reading.{same_after, rows_stay, fails_kept, leaves_nothing, rows_as_before, rows_open, fails_as_before}
+use Rattle.prof_store.proofs.Reading.{same_after, rows_stay, fails_kept, leaves_nothing, rows_as_before, fails_as_before}
+use Rattle.sql_tables.proofs.Opens.{shown_open, fails_was_open}
 use Rattle.prof_store.proofs.store.Store.has_run.Goals as goal
 
 pub returns-in-Ok-clause-told : goal.returns-in-Ok-clause-told
@@ -25,9 +26,6 @@ returns-in-Ok-clause-kept g c clean t was is_open = rows_stay kind_of_text (numb
 pub returns-in-Ok-clause-unchanged : goal.returns-in-Ok-clause-unchanged
 returns-in-Ok-clause-unchanged g c clean was is_open = rows_as_before kind_of_text (number c.args.run ∷ []) kind_of_plain g.S.Store _ _ was c.in-Ok.rows.items (c.in-Ok.ensures.ok clean) is_open
 
-pub returns-in-Ok-clause-usable : goal.returns-in-Ok-clause-usable
-returns-in-Ok-clause-usable g c clean was = rows_open kind_of_text (number c.args.run ∷ []) kind_of_plain _ _ was.schema_is c.in-Ok.rows.items (c.in-Ok.ensures.ok clean)
-
 pub returns-in-Ok-clause-crash : goal.returns-in-Ok-clause-crash
 returns-in-Ok-clause-crash g c clean t was = leaves_nothing kind_of_text (number c.args.run ∷ []) kind_of_plain (Holds t) _ _ was c.select_kind.ensures.survives clean
 
@@ -39,3 +37,12 @@ returns-in-Err-clause-unchanged g c clean was is_open = fails_as_before kind_of_
 
 pub returns-in-Err-clause-crash : goal.returns-in-Err-clause-crash
 returns-in-Err-clause-crash g c clean t was = leaves_nothing kind_of_text (number c.args.run ∷ []) kind_of_plain (Holds t) _ _ was c.select_kind.ensures.survives clean
+
+pub returns-in-Ok-clause-answers : goal.returns-in-Ok-clause-answers
+returns-in-Ok-clause-answers g c clean = (shown_open _ _ _ _ _ (c.in-Ok.ensures.ok clean)).is_open
+
+pub returns-in-Ok-clause-was_usable : goal.returns-in-Ok-clause-was_usable
+returns-in-Ok-clause-was_usable g c clean is_open = (shown_open _ _ _ _ _ (c.in-Ok.ensures.ok clean)).was_open
+
+pub returns-in-Err-clause-was_usable : goal.returns-in-Err-clause-was_usable
+returns-in-Err-clause-was_usable g c clean is_open = fails_was_open _ _ _ _ _ (c.in-Err.ensures.err clean) is_open

@@ -9,7 +9,8 @@ use Rattle.prof_tables.proofs.Lists.{members_listed, members_are}
 use Rattle.prof_store.specs.Groups.{member_line, first_two}
 use Rattle.prof_store.specs.declared.groups.Member.{Member}
 use Rattle.prof_store.proofs.Listing.{read_permutes, read_back, member_back, member_read}
-use Rattle.prof_store.proofs.Reading.{on_ok, same_after, rows_stay, fails_kept, leaves_nothing, rows_as_before, rows_open, fails_as_before}
+use Rattle.prof_store.proofs.Reading.{on_ok, same_after, rows_stay, fails_kept, leaves_nothing, rows_as_before, fails_as_before}
+use Rattle.sql_tables.proofs.Opens.{shown_open, fails_was_open}
 use Rattle.prof_store.proofs.store.Store.members.Goals as goal
 
 pub returns-in-Ok-clause-told : goal.returns-in-Ok-clause-told
@@ -48,5 +49,11 @@ returns-in-Ok-clause-unchanged g c clean was is_open = rows_as_before members_te
 pub returns-in-Err-clause-unchanged : goal.returns-in-Err-clause-unchanged
 returns-in-Err-clause-unchanged g c clean was is_open = fails_as_before members_text [] members_plain g.S.Store _ _ was _ (c.in-Err.ensures.err clean) is_open
 
-pub returns-in-Ok-clause-usable : goal.returns-in-Ok-clause-usable
-returns-in-Ok-clause-usable g c clean was = on_ok _ c.members_in.result (rows_open members_text [] members_plain _ _ was.schema_is c.in-Ok.rows.items (c.in-Ok.ensures.ok clean))
+pub returns-in-Ok-clause-answers : goal.returns-in-Ok-clause-answers
+returns-in-Ok-clause-answers g c clean = on_ok _ c.members_in.result (shown_open _ _ _ _ _ (c.in-Ok.ensures.ok clean)).is_open
+
+pub returns-in-Ok-clause-was_usable : goal.returns-in-Ok-clause-was_usable
+returns-in-Ok-clause-was_usable g c clean is_open = (shown_open _ _ _ _ _ (c.in-Ok.ensures.ok clean)).was_open
+
+pub returns-in-Err-clause-was_usable : goal.returns-in-Err-clause-was_usable
+returns-in-Err-clause-was_usable g c clean is_open = fails_was_open _ _ _ _ _ (c.in-Err.ensures.err clean) is_open

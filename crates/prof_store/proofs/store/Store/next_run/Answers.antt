@@ -4,7 +4,8 @@ use Rattle.prof_tables.specs.Texts.{next_text}
 use Rattle.prof_tables.specs.Tables.{Holds}
 use Rattle.prof_tables.proofs.Means.{next_plain}
 use Rattle.prof_tables.proofs.Finds.{next_found, next_is}
-use Rattle.prof_store.proofs.Reading.{on_ok, row_kept, row_stays, leaves_nothing, row_as_before, row_open}
+use Rattle.prof_store.proofs.Reading.{on_ok, row_kept, row_stays, leaves_nothing, row_as_before}
+use Rattle.sql_tables.proofs.Opens.{row_open, row_was_open}
 use Rattle.prof_store.proofs.store.Store.next_run.Goals as goal
 
 pub returns-in-Ok-clause-told : goal.returns-in-Ok-clause-told
@@ -38,5 +39,11 @@ returns-in-Ok-clause-unchanged g c clean was is_open = row_as_before next_text [
 pub returns-in-Err-clause-unchanged : goal.returns-in-Err-clause-unchanged
 returns-in-Err-clause-unchanged g c clean was is_open = row_as_before next_text [] next_plain g.S.Store _ _ was _ (c.select_next.ensures.row clean) is_open
 
-pub returns-in-Ok-clause-usable : goal.returns-in-Ok-clause-usable
-returns-in-Ok-clause-usable g c clean was = on_ok _ c.number_at.result (row_open next_text [] next_plain _ _ was.schema_is c.in-Ok.row (c.in-Ok.ensures.row clean))
+pub returns-in-Ok-clause-answers : goal.returns-in-Ok-clause-answers
+returns-in-Ok-clause-answers g c clean = on_ok _ c.number_at.result (row_open _ _ _ _ c.in-Ok.row (c.in-Ok.ensures.row clean)).is_open
+
+pub returns-in-Ok-clause-was_usable : goal.returns-in-Ok-clause-was_usable
+returns-in-Ok-clause-was_usable g c clean is_open = row_was_open _ _ _ _ _ (c.select_next.ensures.row clean) is_open
+
+pub returns-in-Err-clause-was_usable : goal.returns-in-Err-clause-was_usable
+returns-in-Err-clause-was_usable g c clean is_open = row_was_open _ _ _ _ _ (c.select_next.ensures.row clean) is_open

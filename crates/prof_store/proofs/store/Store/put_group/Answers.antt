@@ -9,6 +9,8 @@ use Rattle.prof_tables.specs.Changes.{with_group}
 use Rattle.prof_tables.proofs.Means.{put_group_means, put_group_plain}
 use Rattle.prof_tables.proofs.Rows.{puts_group}
 use Rattle.prof_store.proofs.Writing.{rests, leaves as survives, as_before}
+use Rattle.sql_tables.proofs.Opens.{ran_open, was_open_if_kept}
+use Rattle.prof_tables.proofs.Writes.{put_group_writes}
 use Rattle.prof_store.proofs.store.Store.put_group.Goals as goal
 
 pub returns-in-Ok-clause-done : goal.returns-in-Ok-clause-done
@@ -31,3 +33,12 @@ pub returns-in-Err-clause-crash : goal.returns-in-Err-clause-crash
 returns-in-Err-clause-crash g c clean t was =
     let name = c.args.name.now in
     (survives put_group_text (Text name ∷ []) _ put_group_means put_group_plain tt (λ _. ⊤) (with_group name) (λ t is limit trees text tally after was sound. puts_group t limit trees text tally after was sound name) _ _ 0 t tt was c.insert_group.ensures.survives).crash clean
+
+pub returns-in-Ok-clause-answers : goal.returns-in-Ok-clause-answers
+returns-in-Ok-clause-answers g c clean = (ran_open _ _ _ _ _ put_group_writes (c.in-Ok.ensures.runs clean)).is_open
+
+pub returns-in-Ok-clause-was_usable : goal.returns-in-Ok-clause-was_usable
+returns-in-Ok-clause-was_usable g c clean is_open = (ran_open _ _ _ _ _ put_group_writes (c.in-Ok.ensures.runs clean)).was_open
+
+pub returns-in-Err-clause-was_usable : goal.returns-in-Err-clause-was_usable
+returns-in-Err-clause-was_usable g c clean is_open = was_open_if_kept _ _ (refused _ _ _ _ _ (c.in-Err.ensures.runs clean)) is_open

@@ -9,6 +9,7 @@ use Rattle.prof_tables.specs.Tables.{Holds}
 use Rattle.prof_tables.proofs.Means.{by_digest_means, by_digest_plain}
 use Rattle.prof_tables.proofs.Finds.{digest_found, digest_absent, no_run_of, run_of}
 use Rattle.prof_store.proofs.Reading.{row_kept, row_stays, rows_stay, leaves_nothing, either_found, either_case, row_as_before}
+use Rattle.sql_tables.proofs.Opens.{row_open, no_row_open, row_was_open}
 use Rattle.prof_store.proofs.store.Store.run_of_digest.Goals as goal
 
 pub returns-clause-told : goal.returns-clause-told
@@ -44,3 +45,13 @@ returns-clause-crash g c clean t was = leaves_nothing by_digest_text (Blob c.arg
 
 pub returns-clause-unchanged : goal.returns-clause-unchanged
 returns-clause-unchanged g c clean was is_open = row_as_before by_digest_text (Blob c.args.digest.now ∷ []) by_digest_plain g.S.Store _ _ was _ (c.select_by_digest-answer.ensures.row clean) is_open
+
+pub returns-clause-answers : goal.returns-clause-answers
+returns-clause-answers g c clean =
+    let params = Blob c.args.digest.now ∷ [] in
+    if_ok_then c.number_in.result c.number_in.ensures.read (λ found is. either_case found is
+    (λ none. (no_row_open _ _ _ _ (subst (QueriesRow by_digest_text params _ _) none (c.select_by_digest-answer.ensures.row clean))).is_open)
+    (λ n some. (row_open _ _ _ _ some.0 (subst (QueriesRow by_digest_text params _ _) some.1 (c.select_by_digest-answer.ensures.row clean))).is_open))
+
+pub returns-clause-was_usable : goal.returns-clause-was_usable
+returns-clause-was_usable g c clean is_open = row_was_open _ _ _ _ _ (c.select_by_digest-answer.ensures.row clean) is_open

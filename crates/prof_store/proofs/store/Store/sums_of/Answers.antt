@@ -9,7 +9,8 @@ use Rattle.prof_tables.proofs.RunLists.{sums_listed, sums_are}
 use Rattle.prof_store.specs.Totals.{IsSum}
 use Rattle.prof_books.specs.Totals.{lines_named}
 use Rattle.prof_store.proofs.HeldSums.{sum_permuted, sum_seen, sum_shown}
-use Rattle.prof_store.proofs.Reading.{both_ok, on_ok, same_after, rows_stay, fails_kept, leaves_nothing, rows_as_before, rows_open, fails_as_before}
+use Rattle.prof_store.proofs.Reading.{both_ok, on_ok, same_after, rows_stay, fails_kept, leaves_nothing, rows_as_before, fails_as_before}
+use Rattle.sql_tables.proofs.Opens.{shown_open, fails_was_open}
 use Rattle.prof_store.proofs.store.Store.sums_of.Goals as goal
 
 pub returns-in-Ok-clause-told : goal.returns-in-Ok-clause-told
@@ -45,9 +46,6 @@ returns-in-Ok-clause-kept g c clean t was is_open = rows_stay sums_of_text (Blob
 pub returns-in-Ok-clause-unchanged : goal.returns-in-Ok-clause-unchanged
 returns-in-Ok-clause-unchanged g c clean was is_open = rows_as_before sums_of_text (Blob c.args.name.now ∷ []) sums_of_plain g.S.Store _ _ was c.in-Ok.rows.items (c.in-Ok.ensures.ok clean) is_open
 
-pub returns-in-Ok-clause-usable : goal.returns-in-Ok-clause-usable
-returns-in-Ok-clause-usable g c clean was = on_ok _ c.sums_in.result (rows_open sums_of_text (Blob c.args.name.now ∷ []) sums_of_plain _ _ was.schema_is c.in-Ok.rows.items (c.in-Ok.ensures.ok clean))
-
 pub returns-in-Ok-clause-crash : goal.returns-in-Ok-clause-crash
 returns-in-Ok-clause-crash g c clean t was = leaves_nothing sums_of_text (Blob c.args.name.now ∷ []) sums_of_plain (Holds t) _ _ was c.select_sums.ensures.survives clean
 
@@ -59,3 +57,12 @@ returns-in-Err-clause-unchanged g c clean was is_open = fails_as_before sums_of_
 
 pub returns-in-Err-clause-crash : goal.returns-in-Err-clause-crash
 returns-in-Err-clause-crash g c clean t was = leaves_nothing sums_of_text (Blob c.args.name.now ∷ []) sums_of_plain (Holds t) _ _ was c.select_sums.ensures.survives clean
+
+pub returns-in-Ok-clause-answers : goal.returns-in-Ok-clause-answers
+returns-in-Ok-clause-answers g c clean = on_ok _ c.sums_in.result (shown_open _ _ _ _ _ (c.in-Ok.ensures.ok clean)).is_open
+
+pub returns-in-Ok-clause-was_usable : goal.returns-in-Ok-clause-was_usable
+returns-in-Ok-clause-was_usable g c clean is_open = (shown_open _ _ _ _ _ (c.in-Ok.ensures.ok clean)).was_open
+
+pub returns-in-Err-clause-was_usable : goal.returns-in-Err-clause-was_usable
+returns-in-Err-clause-was_usable g c clean is_open = fails_was_open _ _ _ _ _ (c.in-Err.ensures.err clean) is_open

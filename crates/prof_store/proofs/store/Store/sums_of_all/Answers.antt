@@ -33,7 +33,7 @@ events-preserved g c =
       λ clean was.
           let mid = i.2 (s.honest clean) was in
           let settled = settled_still g.S.Store _ _ was mid in
-          before_then g.S.Store _ _ _ mid (s.unchanged clean settled (s.usable clean settled)),
+          before_then g.S.Store _ _ _ mid (s.unchanged clean settled (s.answers clean)),
       λ clean t was left may. elim (s.crash clean t (i.1 (s.honest clean) t was) left may) [ inl before ↦ i.3 (s.honest clean) t was left before | inr never ↦ absurd never ],
       λ clean. i.4 (s.honest clean),
       λ clean t was.
@@ -53,6 +53,8 @@ events-preserved g c =
         subst (All (λ n. n < 2 ^ 112)) (sym pushed_own) (All-push (λ n. n < 2 ^ 112) own a i.7.0 s.bounded.0),
         subst (All (λ n. n < 2 ^ 112)) (sym pushed_calls) (All-push (λ n. n < 2 ^ 112) calls b i.7.1 s.bounded.1),
       ),
+      λ clean was. s.answers clean,
+      λ clean is_open. i.9 (s.honest clean) (s.was_usable clean is_open),
     )
 
 pub returns-clause-found : goal.returns-clause-found
