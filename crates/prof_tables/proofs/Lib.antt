@@ -2,6 +2,7 @@ pub mod Creates
 pub mod Defines
 pub mod Drops
 pub mod Finds
+pub mod GroupFinds
 pub mod Groups
 pub mod Lists
 pub mod Many

@@ -1,5 +1,5 @@
 -- What the texts mean, computed.
-use Rattle.std.proofs.Common.{◌≡◌, List, [], ◌∷◌, false, codes, pos, refl}
+use Rattle.std.proofs.Common.{◌≡◌, ℕ, List, [], ◌∷◌, false, codes, pos, refl}
 use Rattle.sqlite_value.specs.declared.keys.Key.{Key}
 use Rattle.sqlite_value.specs.declared.keys.Collation.TheVariants.{Binary}
 use Rattle.sqlite_value.specs.declared.value.Value.TheVariants.{Null, Int}
@@ -10,10 +10,10 @@ use Rattle.sqlite_schema.specs.declared.command.Command.TheVariants.{Select, Ins
 use Rattle.sqlite.specs.Listing.{understood, reads_listing}
 use Rattle.sqlite.proofs.Callers.{IsPlain, command_of}
 use Rattle.sqlite_tied.specs.Compute.{everything}
-use Rattle.sql_tables.specs.Queries.{scan, only, is}
+use Rattle.sql_tables.specs.Queries.{scan, only, is, count_query}
 use Rattle.sql_tables.proofs.Queries.{sorted_scan}
 use Rattle.prof_tables.specs.Schema.{schema_one}
-use Rattle.prof_tables.specs.Texts.{begin_text, put_run_text, put_event_text, put_derived_text, put_coef_text, put_name_text, put_cell_text, put_arc_text, put_stack_text, put_group_text, put_member_text, raise_text, set_baseline_text, drop_run_text, drop_group_text, leave_text, schema_text, next_text, by_digest_text, runs_text, call_counts_text, kind_of_text, events_of_text, derived_of_text, coefs_of_text, sums_of_text, names_text, id_of_name_text, groups_text, members_text, find_member_text}
+use Rattle.prof_tables.specs.Texts.{begin_text, put_run_text, put_event_text, put_derived_text, put_coef_text, put_name_text, put_cell_text, put_arc_text, put_stack_text, put_group_text, put_member_text, raise_text, set_baseline_text, drop_run_text, drop_group_text, leave_text, schema_text, next_text, by_digest_text, runs_text, call_counts_text, kind_of_text, events_of_text, derived_of_text, coefs_of_text, sums_of_text, names_text, id_of_name_text, groups_text, members_text, find_member_text, find_group_text, run_count_text, group_count_text}
 
 abbrev pub begin_terms : List Term
 begin_terms = lit (Int (pos 1)) ∷ lit Null ∷ lit (Int (pos 1)) ∷ lit (Int (pos 1)) ∷ []
@@ -511,3 +511,51 @@ find_member_plain = (refl, refl)
 pub find_member_unlisted : reads_listing schema_one find_member_text ≡ false
 unfolding understood everything
 find_member_unlisted = refl
+
+abbrev pub find_group_terms : List Term
+find_group_terms = is (col 1 1) (col 0 0) ∷ []
+
+abbrev pub find_group_shown : List Term
+find_group_shown = col 1 1 ∷ []
+
+abbrev pub find_group_order : List (Term × Key)
+find_group_order = []
+
+pub find_group_means : command_of (understood schema_one find_group_text) ≡ Select (only (sorted_scan 19 find_group_terms find_group_shown find_group_order)) (codes "name" ∷ [])
+unfolding understood everything
+find_group_means = refl
+
+pub find_group_plain : IsPlain (understood schema_one find_group_text)
+unfolding understood everything
+find_group_plain = (refl, refl)
+
+pub find_group_unlisted : reads_listing schema_one find_group_text ≡ false
+unfolding understood everything
+find_group_unlisted = refl
+
+abbrev pub count_names : List (List ℕ)
+count_names = codes "count(*)" ∷ []
+
+pub run_count_means : command_of (understood schema_one run_count_text) ≡ Select (only (count_query 1)) count_names
+unfolding understood everything
+run_count_means = refl
+
+pub run_count_plain : IsPlain (understood schema_one run_count_text)
+unfolding understood everything
+run_count_plain = (refl, refl)
+
+pub run_count_unlisted : reads_listing schema_one run_count_text ≡ false
+unfolding understood everything
+run_count_unlisted = refl
+
+pub group_count_means : command_of (understood schema_one group_count_text) ≡ Select (only (count_query 19)) count_names
+unfolding understood everything
+group_count_means = refl
+
+pub group_count_plain : IsPlain (understood schema_one group_count_text)
+unfolding understood everything
+group_count_plain = (refl, refl)
+
+pub group_count_unlisted : reads_listing schema_one group_count_text ≡ false
+unfolding understood everything
+group_count_unlisted = refl

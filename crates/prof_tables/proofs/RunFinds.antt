@@ -25,7 +25,7 @@ kind_listed n old new rows has h =
     (selected schema_one kind_of_text 1 kind_of_terms kind_of_shown kind_of_order _ kind_of_means kind_of_plain kind_of_unlisted old new has refl (number n ∷ []) rows h))
 
 -- a test passes an element exactly where it leaves some
-any_left : {X : Type 0} (p : X → Bool) (xs : List X) → not (length (filter p xs) == 0) ≡ list_any p xs
+pub any_left : {X : Type 0} (p : X → Bool) (xs : List X) → not (length (filter p xs) == 0) ≡ list_any p xs
 any_left p [] = refl
 any_left p (x ∷ xs) = go (p x) (any_left p xs)
   where

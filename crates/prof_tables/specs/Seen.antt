@@ -25,6 +25,10 @@ kind_seen r = column r 2 ∷ []
 abbrev pub group_seen : Row → Row
 group_seen r = column r 1 ∷ column r 2 ∷ []
 
+-- of a group its name
+abbrev pub name_of_group_seen : Row → Row
+name_of_group_seen r = column r 1 ∷ []
+
 -- of a member its group and its run
 abbrev pub member_seen : Row → Row
 member_seen r = column r 1 ∷ column r 2 ∷ []

@@ -101,3 +101,12 @@ members_text = codes "SELECT grp, run FROM member ORDER BY grp, run"
 
 abbrev pub find_member_text : List ℕ
 find_member_text = codes "SELECT run FROM member WHERE grp = ?1 AND run = ?2"
+
+abbrev pub find_group_text : List ℕ
+find_group_text = codes "SELECT name FROM grp WHERE name = ?1"
+
+abbrev pub run_count_text : List ℕ
+run_count_text = codes "SELECT count(*) FROM run"
+
+abbrev pub group_count_text : List ℕ
+group_count_text = codes "SELECT count(*) FROM grp"

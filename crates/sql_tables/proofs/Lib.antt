@@ -1,5 +1,6 @@
 pub mod Cascades
 pub mod Contents
+pub mod Counts
 pub mod Creates
 pub mod Deletes
 pub mod Effects

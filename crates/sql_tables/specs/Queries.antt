@@ -1,7 +1,7 @@
 -- Queries on one table.
 use Rattle.std.specs.Prelude.{ℕ, pos, negsuc, false, List, [], ◌∷◌, map, Some, None}
 use Rattle.sqlite_value.specs.declared.keys.Collation.TheVariants.{Binary}
-use Rattle.sqlite_value.specs.declared.value.Value.TheVariants.{Int}
+use Rattle.sqlite_value.specs.declared.value.Value.TheVariants.{Null, Int}
 use Rattle.sqlite_value.specs.declared.keys.Key.{Key}
 use Rattle.sqlite_value.specs.Keys.{ascending}
 use Rattle.sqlite_sql.specs.Term.{Term, lit, col, op2}
@@ -60,3 +60,10 @@ ends_grouping = record { keys = []; collations = []; aggregates = rowids_by by.M
 
 abbrev pub ends_query : ℕ → ℕ → Query
 ends_query tree at = record (scan tree (ends_terms at) (columns_at (0 ∷ 1 ∷ []))) { group = Some ends_grouping }
+
+-- how many rows there are
+abbrev pub counting : Grouping
+counting = record { keys = []; collations = []; aggregates = record { op = by.CountRows; distinct = false; collation = Binary; argument = lit Null } ∷ []; having = [] }
+
+abbrev pub count_query : ℕ → Query
+count_query tree = record (scan tree [] (columns_at (0 ∷ []))) { group = Some counting }
