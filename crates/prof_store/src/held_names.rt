@@ -9,7 +9,7 @@ ghost use Rattle.prof_tables.specs.Texts.{names_text};
 ghost use Rattle.prof_books.specs.Book.{name_of, IsHeld};
 ghost use Rattle.prof_store.specs.HeadLines.{first_two};
 ghost use Rattle.prof_store.specs.NameLines.{name_line, name_seen, name_shown, has_number};
-ghost use Rattle.prof_store.specs.Shown.{shown, IsFaithful, IsUsable, StandsFor, LeavesOnly};
+ghost use Rattle.prof_store.specs.Shown.{shown, IsFaithful, IsUsable, StandsFor, LeavesOnly, IsSettled, IsAsBefore};
 
 use crate::columns::{bytes_at, number_at};
 use crate::errors::{StoreEnd, end_of};
@@ -151,6 +151,9 @@ impl<S: Alter> Store<S> {
         ensures rising { IfOk result (IsAscending (λ a b. a.number < b.number)) }
         ensures kept { IsFaithful S.Store self.new → (t : _) → StandsFor S.Store t self.old → IsUsable S.Store self.new → StandsFor S.Store t self.new }
         ensures stays { IsFaithful S.Store self.new → (t : _) → StandsFor S.Store t self.old → OnOk result (StandsFor S.Store t self.new) }
+        ensures unchanged { IsFaithful S.Store self.new → IsSettled S.Store self.old → IsUsable S.Store self.new → IsAsBefore S.Store self.old self.new }
+        ensures answers { IsFaithful S.Store self.new → OnOk result (IsUsable S.Store self.new) }
+        ensures was_usable { IsFaithful S.Store self.new → IsUsable S.Store self.new → IsUsable S.Store self.old }
         ensures crash { IsFaithful S.Store self.new → (t : _) → StandsFor S.Store t self.old → LeavesOnly S.Store self.old self.new (λ _. ⊥) }
         ensures honest { IsFaithful S.Store self.new → IsFaithful S.Store self.old }
     {

@@ -92,6 +92,36 @@ fn groups_are_listed_with_their_members(rt: HostRuntime) -> Result<(), Fail> {
 }
 
 #[test]
+fn runs_and_groups_are_found_and_counted(rt: HostRuntime) -> Result<(), Fail> {
+    let mut store = new_store(rt.alloc())?;
+    assert_eq!(rt; store.run_count()?, 0);
+    assert_eq!(rt; store.group_count()?, 0);
+    assert_eq!(rt; store.has_run(1)?, false);
+    assert_eq!(rt; store.has_group("g")?, false);
+    add_run(&mut store, 1, 1, &[9; 32], "a.out")?;
+    add_run(&mut store, 4, 2, &[7; 32], "b.folded")?;
+    store.put_group("g")?;
+    store.put_group("h")?;
+    store.put_group("i")?;
+    store.join("g", 4)?;
+    assert_eq!(rt; store.run_count()?, 2);
+    assert_eq!(rt; store.group_count()?, 3);
+    assert_eq!(rt; store.has_run(1)?, true);
+    assert_eq!(rt; store.has_run(2)?, false);
+    assert_eq!(rt; store.has_run(4)?, true);
+    assert_eq!(rt; store.has_group("h")?, true);
+    assert_eq!(rt; store.has_group("H")?, false);
+    assert_eq!(rt; store.has_group("")?, false);
+    store.drop_run(1)?;
+    store.drop_group("h")?;
+    assert_eq!(rt; store.run_count()?, 1);
+    assert_eq!(rt; store.group_count()?, 2);
+    assert_eq!(rt; store.has_run(1)?, false);
+    assert_eq!(rt; store.has_group("h")?, false);
+    Ok(())
+}
+
+#[test]
 fn a_name_out_of_form_is_refused(rt: HostRuntime) -> Result<(), Fail> {
     let mut store = new_store(rt.alloc())?;
     store

@@ -8,7 +8,8 @@ use Rattle.prof_store.specs.HeadLines.{first_two}
 use Rattle.prof_store.specs.NameLines.{name_seen, name_shown}
 use Rattle.prof_store.proofs.Listing.{read_permutes, map_injective}
 use Rattle.prof_store.proofs.NameLists.{names_listed, names_in_order, same_line}
-use Rattle.prof_store.proofs.Reading.{both_ok, on_ok, rows_stay, fails_kept, leaves_nothing}
+use Rattle.prof_store.proofs.Reading.{both_ok, on_ok, rows_stay, fails_kept, leaves_nothing, rows_as_before, fails_as_before}
+use Rattle.sql_tables.proofs.Opens.{shown_open, fails_was_open}
 use Rattle.prof_store.proofs.store.Store.names.Goals as goal
 
 pub returns-in-Ok-clause-told : goal.returns-in-Ok-clause-told
@@ -38,3 +39,18 @@ returns-in-Err-clause-kept g c clean t was is_open = fails_kept names_text [] na
 
 pub returns-in-Err-clause-crash : goal.returns-in-Err-clause-crash
 returns-in-Err-clause-crash g c clean t was = leaves_nothing names_text [] names_plain (Holds t) _ _ was c.select_names.ensures.survives clean
+
+pub returns-in-Ok-clause-unchanged : goal.returns-in-Ok-clause-unchanged
+returns-in-Ok-clause-unchanged g c clean was is_open = rows_as_before names_text [] names_plain g.S.Store _ _ was c.in-Ok.rows.items (c.in-Ok.ensures.ok clean) is_open
+
+pub returns-in-Ok-clause-answers : goal.returns-in-Ok-clause-answers
+returns-in-Ok-clause-answers g c clean = on_ok _ c.names_in.result (shown_open _ _ _ _ _ (c.in-Ok.ensures.ok clean)).is_open
+
+pub returns-in-Ok-clause-was_usable : goal.returns-in-Ok-clause-was_usable
+returns-in-Ok-clause-was_usable g c clean is_open = (shown_open _ _ _ _ _ (c.in-Ok.ensures.ok clean)).was_open
+
+pub returns-in-Err-clause-unchanged : goal.returns-in-Err-clause-unchanged
+returns-in-Err-clause-unchanged g c clean was is_open = fails_as_before names_text [] names_plain g.S.Store _ _ was _ (c.in-Err.ensures.err clean) is_open
+
+pub returns-in-Err-clause-was_usable : goal.returns-in-Err-clause-was_usable
+returns-in-Err-clause-was_usable g c clean is_open = fails_was_open _ _ _ _ _ (c.in-Err.ensures.err clean) is_open
