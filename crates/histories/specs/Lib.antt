@@ -1,4 +1,5 @@
 pub mod Files
+pub mod Heads
 pub mod History
 pub mod Legal
 pub mod Stands

@@ -1,0 +1,2 @@
+mod Fed
+mod Outcomes

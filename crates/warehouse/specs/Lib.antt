@@ -1,0 +1,5 @@
+pub mod Answered
+pub mod Changes
+pub mod Intakes
+pub mod Reads
+pub mod Refused
