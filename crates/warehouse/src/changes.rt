@@ -1,5 +1,5 @@
 // Runs are removed; groups are made, changed and dropped.
-ghost use Rattle.std.specs.Prelude.{◌≡◌, ¬◌, string_bytes, MatchOption, IfOk, OnOk, OnErr};
+ghost use Rattle.std.specs.Prelude.{◌≡◌, MatchOption, IfOk, OnOk, OnErr};
 ghost use Rattle.prof_tables.specs.Changes.{has_run, has_group};
 ghost use Rattle.prof_tables.specs.Tables.{Holds};
 ghost use Rattle.prof_books.specs.Labels.{IsGroupName};
@@ -148,7 +148,7 @@ fn change_held<S: Alter>(
 }
 
 /// Changes a group by a run.
-pub(crate) fn change<S: Alter>(
+pub(crate) fn change_group<S: Alter>(
     store: &mut Store<S>,
     change: Change,
     name: &str,

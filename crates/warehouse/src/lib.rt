@@ -1,10 +1,14 @@
 //! The warehouse: commands over a store of runs, and their answers.
 #![tactic(auto)]
 
+mod changes;
+mod command;
 mod intake;
 mod reading;
+mod refusals;
 mod source;
 
+pub use command::Command;
 pub use histories::{Answer, Excess, Limits, Query, Refusal};
 pub use prof_books::Kind;
 pub use source::{ReadFault, Source};
