@@ -1,1 +1,6 @@
+pub mod Baselines
+pub mod Groups
+pub mod Held
+pub mod Members
+pub mod Tests
 pub mod Turns
