@@ -70,29 +70,23 @@ held_removed h n =
     held_more h (record { said = Remove n; answer = Done }) ∙ append-nil (filter (stays (Remove n) Done) (held h))
     ∙ filter_same (stays (Remove n) Done) (λ (f : File). not (f.number == n)) (held h) (λ f. ap not (number-flip n f.number))
 
--- groups leave the files as they were
-abbrev pub IsOfGroups : Said → Type 0
-IsOfGroups (MakeGroup name) = Unit {0}
-IsOfGroups (DropGroup name) = Unit {0}
-IsOfGroups (Join name n) = Unit {0}
-IsOfGroups (Leave name n) = Unit {0}
-IsOfGroups (SetBaseline name n) = Unit {0}
-IsOfGroups said = ⊥
+-- no other command leaves another file out
+abbrev pub IsNoRemoval : Said → Type 0
+IsNoRemoval (Remove n) = ⊥
+IsNoRemoval said = Unit {0}
 
-grouped_removes : (n : ℕ) (said : Said) → IsOfGroups said → removes n said Done ≡ false
-grouped_removes n (Import kind label outcomes) of = absurd of
-grouped_removes n (Remove m) of = absurd of
-grouped_removes n (Ask query) of = absurd of
-grouped_removes n said of = refl
+done_removes : (n : ℕ) (said : Said) → IsNoRemoval said → removes n said Done ≡ false
+done_removes n (Remove m) of = absurd of
+done_removes n said of = refl
 
-grouped_taken : (said : Said) → taken said Done ≡ []
-grouped_taken (Import kind label outcomes) = refl
-grouped_taken said = refl
+done_taken : (said : Said) → taken said Done ≡ []
+done_taken (Import kind label outcomes) = refl
+done_taken said = refl
 
-pub held_grouped : (h : History) (said : Said) → IsOfGroups said → held (h ++ record { said = said; answer = Done } ∷ []) ≡ held h
-held_grouped h said of =
+pub held_done : (h : History) (said : Said) → IsNoRemoval said → held (h ++ record { said = said; answer = Done } ∷ []) ≡ held h
+held_done h said of =
     held_more h (record { said = said; answer = Done })
-    ∙ ap₂ ◌++◌ (filter_all (stays said Done) (held h) (λ f. ap not (grouped_removes f.number said of))) (grouped_taken said)
+    ∙ ap₂ ◌++◌ (filter_all (stays said Done) (held h) (λ f. ap not (done_removes f.number said of))) (done_taken said)
     ∙ append-nil (held h)
 
 -- ---- the next number

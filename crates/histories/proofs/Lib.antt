@@ -1,4 +1,5 @@
 pub mod Baselines
+pub mod Due
 pub mod Groups
 pub mod Held
 pub mod Members
