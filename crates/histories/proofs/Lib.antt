@@ -1,8 +1,10 @@
 pub mod Baselines
+pub mod Books
 pub mod Due
 pub mod Groups
 pub mod Held
 pub mod Invariants
 pub mod Members
+pub mod Steps
 pub mod Tests
 pub mod Turns
