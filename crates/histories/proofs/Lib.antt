@@ -5,6 +5,8 @@ pub mod Groups
 pub mod Held
 pub mod Invariants
 pub mod Members
+pub mod Put
+pub mod Rows
 pub mod Steps
 pub mod Tests
 pub mod Turns
