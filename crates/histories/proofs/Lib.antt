@@ -8,5 +8,6 @@ pub mod Members
 pub mod Put
 pub mod Rows
 pub mod Steps
+pub mod Tells
 pub mod Tests
 pub mod Turns
