@@ -5,9 +5,11 @@ pub mod Groups
 pub mod Held
 pub mod Invariants
 pub mod Members
+pub mod Parents
 pub mod Put
 pub mod Rows
 pub mod Steps
 pub mod Tells
 pub mod Tests
+pub mod Totals
 pub mod Turns
