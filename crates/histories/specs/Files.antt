@@ -1,12 +1,15 @@
 -- What a file says, by its kind, straight from the definitions of its format.
 use Rattle.std.specs.Prelude.{ℕ, List, [], map, Option, None}
 use Rattle.cg_text.specs.declared.faults.Fault.{Fault}
+use Rattle.cg_text.specs.declared.heads.FileHead.{FileHead}
 use Rattle.callgrind_reader.specs.Files as callgrind
+use Rattle.callgrind_reader.specs.Reads.{HeadOfFile}
 use Rattle.callgrind_reader.specs.Records.{Record, Own}
 use Rattle.folded_reader.specs.Files as folded
 use Rattle.folded_reader.specs.Files.{Seen}
-use Rattle.folded_reader.specs.Heads.{samples_alone}
-use Rattle.cost_rows.specs.Content.{leaf_cost}
+use Rattle.folded_reader.specs.Heads.{HeadIs, samples_alone}
+use Rattle.cost_rows.specs.Content.{Content, leaf_cost}
+use Rattle.cost_rows.specs.Texts.{content_of_text, content_of_folded}
 use Rattle.prof_books.specs.declared.kinds.Kind.{Kind}
 use Rattle.prof_books.specs.declared.kinds.Kind.TheVariants.{Callgrind, Folded}
 
@@ -43,3 +46,15 @@ records_of Folded bytes = map sample (folded.stacks_of_file bytes)
 abbrev pub stacks_of : Kind → List ℕ → List Seen
 stacks_of Callgrind bytes = []
 stacks_of Folded bytes = folded.stacks_of_file bytes
+
+-- ---- what is told of a file that is accepted
+
+-- its head, as its reader tells it
+abbrev pub IsHeadOf : Kind → FileHead → List ℕ → Type 0
+IsHeadOf Callgrind head bytes = HeadOfFile head bytes
+IsHeadOf Folded head bytes = HeadIs head
+
+-- its rows
+abbrev pub rows_of : Kind → List ℕ → Content
+rows_of Callgrind bytes = content_of_text bytes
+rows_of Folded bytes = content_of_folded bytes

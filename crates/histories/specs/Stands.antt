@@ -8,6 +8,7 @@ use Rattle.cost_rows.specs.WalkSums.{rows_cost, stacks_count}
 use Rattle.prof_tables.specs.Changes.{has_member}
 use Rattle.prof_tables.specs.Tables.{Tables, EventLine, DerivedLine, CoefLine, GroupLine}
 use Rattle.prof_books.specs.Book.{RunBook, book_of, IsNamed}
+use Rattle.prof_books.specs.Entries.{HeldRun}
 use Rattle.prof_books.specs.Heads.{stated_at, derived_lines_from, coef_lines_from}
 use Rattle.prof_books.specs.Kinds.{kind_number}
 use Rattle.prof_books.specs.Parts.{parts_sum}
@@ -53,6 +54,10 @@ abbrev pub AreBooksOf : List File → List RunBook → Type 0
 AreBooksOf [] [] = Unit {0}
 AreBooksOf (f ∷ files) (r ∷ runs) = IsBookOf f r × AreBooksOf files runs
 AreBooksOf files runs = ⊥
+
+-- what is told of a file that is held
+abbrev pub file_run : File → HeldRun
+file_run f = record { number = f.number; kind = kind_number f.kind; digest = sha256 f.bytes; label = f.label }
 
 -- ---- tables and a history
 

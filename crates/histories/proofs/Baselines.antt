@@ -1,0 +1,143 @@
+-- The baseline of a group after one turn more.
+use Rattle.std.proofs.Common.{◌≡◌, ℕ, Bool, true, false, not, ◌&&◌, ◌||◌, ◌==◌, if◌then◌else◌, List, [], ◌∷◌, ◌++◌, Option, Some, None, refl, sym, ap, ap₂, ◌∙◌, inl, inr}
+use Rattle.std.specs.Str.{bytes_eq}
+use Rattle.std.proofs.lemmas.Bool.{cases_Bool, or_parts}
+use Rattle.histories.specs.History.{Said, Import, Remove, MakeGroup, DropGroup, Join, Leave, SetBaseline, Ask, Turn, History, based_by, unbases, is_unbased, unless_unbased, baseline}
+use Rattle.histories.specs.declared.answers.Answer.{Answer}
+use Rattle.histories.specs.declared.answers.Answer.TheVariants.{Run, Held, Done, Text, Refused}
+use Rattle.histories.proofs.Groups.{IsNotDone}
+use Rattle.histories.proofs.Tests.{any-append}
+
+-- what a turn leaves of a baseline, and that which it sets in place of it
+abbrev pub left_by : List ℕ → Said → Answer → Option ℕ → Option ℕ
+left_by name said answer None = None
+left_by name said answer (Some n) = if unbases name n said answer then None else Some n
+
+abbrev pub set_or : Option ℕ → Option ℕ → Option ℕ
+set_or None other = other
+set_or (Some n) other = Some n
+
+-- a turn that sets a baseline takes away each older one
+setting_unbases : (name : List ℕ) (n m : ℕ) (said : Said) (answer : Answer) → based_by name said answer ≡ Some m → unbases name n said answer ≡ true
+setting_unbases name n m (SetBaseline other k) Done is = go (bytes_eq other name) is
+  where
+    go : (b : Bool) → (if b then Some k else None) ≡ Some m → b ≡ true
+    go true e = refl
+    go false e = absurd cc
+setting_unbases name n m said answer is = absurd cc
+
+pub not_set : (name : List ℕ) (n : ℕ) (said : Said) (answer : Answer) → unbases name n said answer ≡ false → based_by name said answer ≡ None
+not_set name n said answer stays = go (based_by name said answer) refl
+  where
+    go : (o : Option ℕ) → based_by name said answer ≡ o → o ≡ None
+    go None e = refl
+    go (Some m) e = absurd (let t : unbases name n said answer ≡ true = setting_unbases name n m said answer e in cc)
+
+none_later : (name : List ℕ) (n : ℕ) (later : History) → is_unbased name n later ≡ false → baseline later name ≡ None
+none_later name n [] stays = refl
+none_later name n (turn ∷ later) stays =
+    let parts = or_parts (unbases name n turn.said turn.answer) (is_unbased name n later) stays in
+    ap (λ o. unless_unbased name o later (baseline later name)) (not_set name n turn.said turn.answer parts.0) ∙ none_later name n later parts.1
+
+pub baseline_more : (h : History) (turn : Turn) (name : List ℕ) → baseline (h ++ turn ∷ []) name ≡ set_or (based_by name turn.said turn.answer) (left_by name turn.said turn.answer (baseline h name))
+baseline_more [] turn name = alone (based_by name turn.said turn.answer)
+  where
+    alone : (o : Option ℕ) → unless_unbased name o [] None ≡ set_or o None
+    alone None = refl
+    alone (Some n) = refl
+baseline_more (first ∷ later) turn name = go (based_by name first.said first.answer) (baseline_more later turn name)
+  where
+    now : Option ℕ
+    now = set_or (based_by name turn.said turn.answer) (left_by name turn.said turn.answer (baseline later name))
+
+    go : (o : Option ℕ) → baseline (later ++ turn ∷ []) name ≡ set_or (based_by name turn.said turn.answer) (left_by name turn.said turn.answer (baseline later name))
+        → unless_unbased name o (later ++ turn ∷ []) (baseline (later ++ turn ∷ []) name) ≡ set_or (based_by name turn.said turn.answer) (left_by name turn.said turn.answer (unless_unbased name o later (baseline later name)))
+    go None rest = rest
+    go (Some n) rest = ap (λ b. if b then baseline (later ++ turn ∷ []) name else Some n) (any-append (λ (t : Turn). unbases name n t.said t.answer) later (turn ∷ [])) ∙ before (is_unbased name n later) refl
+      where
+        after : (b : Bool) → unbases name n turn.said turn.answer ≡ b → is_unbased name n later ≡ false
+            → (if b || false then baseline (later ++ turn ∷ []) name else Some n) ≡ set_or (based_by name turn.said turn.answer) (if b then None else Some n)
+        after true is stays = rest ∙ ap (λ o. set_or (based_by name turn.said turn.answer) (left_by name turn.said turn.answer o)) (none_later name n later stays)
+        after false is stays = ap (λ o. set_or o (Some n)) (sym (not_set name n turn.said turn.answer is))
+
+        before : (b : Bool) → is_unbased name n later ≡ b
+            → (if b || (unbases name n turn.said turn.answer || false) then baseline (later ++ turn ∷ []) name else Some n) ≡ set_or (based_by name turn.said turn.answer) (left_by name turn.said turn.answer (if b then baseline later name else Some n))
+        before true is = rest
+        before false is = after (unbases name n turn.said turn.answer) refl is
+
+-- answers but `Done` leave it as it was
+other_based : (name : List ℕ) (said : Said) (answer : Answer) → IsNotDone answer → based_by name said answer ≡ None
+other_based name (SetBaseline g n) Done other = absurd other
+other_based name (SetBaseline g n) answer other = refl
+other_based name said answer other = refl
+
+other_unbases : (name : List ℕ) (n : ℕ) (said : Said) (answer : Answer) → IsNotDone answer → unbases name n said answer ≡ false
+other_unbases name n (SetBaseline g m) Done other = absurd other
+other_unbases name n (SetBaseline g m) answer other = refl
+other_unbases name n (Remove m) Done other = absurd other
+other_unbases name n (Remove m) answer other = refl
+other_unbases name n (DropGroup g) Done other = absurd other
+other_unbases name n (DropGroup g) answer other = refl
+other_unbases name n said answer other = refl
+
+left_whole : (name : List ℕ) (said : Said) (answer : Answer) (o : Option ℕ) → ((n : ℕ) → unbases name n said answer ≡ false) → left_by name said answer o ≡ o
+left_whole name said answer None none = refl
+left_whole name said answer (Some n) none = ap (λ b. if b then None else Some n) (none n)
+
+pub baseline_other : (h : History) (said : Said) (answer : Answer) (name : List ℕ) → IsNotDone answer → baseline (h ++ record { said = said; answer = answer } ∷ []) name ≡ baseline h name
+baseline_other h said answer name other =
+    baseline_more h (record { said = said; answer = answer }) name
+    ∙ ap₂ set_or (other_based name said answer other) (left_whole name said answer (baseline h name) (λ n. other_unbases name n said answer other))
+
+pub baseline_made : (h : History) (group name : List ℕ) → baseline (h ++ record { said = MakeGroup group; answer = Done } ∷ []) name ≡ baseline h name
+baseline_made h group name = baseline_more h (record { said = MakeGroup group; answer = Done }) name ∙ left_whole name (MakeGroup group) Done (baseline h name) (λ n. refl)
+
+pub baseline_joined : (h : History) (group : List ℕ) (m : ℕ) (name : List ℕ) → baseline (h ++ record { said = Join group m; answer = Done } ∷ []) name ≡ baseline h name
+baseline_joined h group m name = baseline_more h (record { said = Join group m; answer = Done }) name ∙ left_whole name (Join group m) Done (baseline h name) (λ n. refl)
+
+pub baseline_left : (h : History) (group : List ℕ) (m : ℕ) (name : List ℕ) → baseline (h ++ record { said = Leave group m; answer = Done } ∷ []) name ≡ baseline h name
+baseline_left h group m name = baseline_more h (record { said = Leave group m; answer = Done }) name ∙ left_whole name (Leave group m) Done (baseline h name) (λ n. refl)
+
+-- a baseline, unless it is this run
+abbrev pub but : ℕ → Option ℕ → Option ℕ
+but m None = None
+but m (Some n) = if m == n then None else Some n
+
+pub baseline_removed : (h : History) (m : ℕ) (name : List ℕ) → baseline (h ++ record { said = Remove m; answer = Done } ∷ []) name ≡ but m (baseline h name)
+baseline_removed h m name = baseline_more h (record { said = Remove m; answer = Done }) name ∙ same (baseline h name)
+  where
+    same : (o : Option ℕ) → left_by name (Remove m) Done o ≡ but m o
+    same None = refl
+    same (Some n) = refl
+
+-- none, if it is of this group
+abbrev pub none_if : Bool → Option ℕ → Option ℕ
+none_if b o = if b then None else o
+
+pub baseline_dropped : (h : History) (group name : List ℕ) → baseline (h ++ record { said = DropGroup group; answer = Done } ∷ []) name ≡ none_if (bytes_eq group name) (baseline h name)
+baseline_dropped h group name = baseline_more h (record { said = DropGroup group; answer = Done }) name ∙ same (baseline h name)
+  where
+    none_either : (b : Bool) → let none : Option ℕ = None in none ≡ (if b then none else none)
+    none_either true = refl
+    none_either false = refl
+
+    same : (o : Option ℕ) → left_by name (DropGroup group) Done o ≡ none_if (bytes_eq group name) o
+    same None = none_either (bytes_eq group name)
+    same (Some n) = refl
+
+pub baseline_based : (h : History) (group : List ℕ) (m : ℕ) (name : List ℕ) → baseline (h ++ record { said = SetBaseline group m; answer = Done } ∷ []) name ≡ (if bytes_eq group name then Some m else baseline h name)
+baseline_based h group m name = baseline_more h (record { said = SetBaseline group m; answer = Done }) name ∙ ap (λ o. set_or (if bytes_eq group name then Some m else None) o) (left (baseline h name)) ∙ same (bytes_eq group name) (baseline h name)
+  where
+    gone : Bool → Option ℕ → Option ℕ
+    gone b None = None
+    gone b (Some n) = if b then None else Some n
+
+    left : (o : Option ℕ) → left_by name (SetBaseline group m) Done o ≡ gone (bytes_eq group name) o
+    left None = refl
+    left (Some n) = refl
+
+    same : (b : Bool) (o : Option ℕ) → set_or (if b then Some m else None) (gone b o) ≡ (if b then Some m else o)
+    same true None = refl
+    same true (Some n) = refl
+    same false None = refl
+    same false (Some n) = refl

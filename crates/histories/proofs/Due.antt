@@ -1,0 +1,101 @@
+-- What a legal answer says of what was held.
+use Rattle.std.proofs.Common.{◌≡◌, ℕ, Bool, true, false, not, nat_lt, nat_le, if◌then◌else◌, List, [], ◌∷◌, ◌++◌, length, Option, Some, None, option_map, refl, sym, ap, ◌∙◌, inl, inr, ◌⊎◌}
+use Rattle.std.specs.List.{list_any}
+use Rattle.sha2.specs.Sha256.{sha256}
+use Rattle.cg_text.specs.declared.faults.Fault as faults
+use Rattle.prof_books.specs.Labels.{IsGroupName}
+use Rattle.prof_books.specs.declared.kinds.Kind.{Kind}
+use Rattle.histories.specs.Files.{fault_of}
+use Rattle.histories.specs.History.{Outcome, Said, Import, Remove, MakeGroup, DropGroup, Join, Leave, SetBaseline, Ask, History, bytes_of, held, next, groups}
+use Rattle.histories.specs.Legal.{IsLegal, IsInForm, IsWant, due, import_due, file_due, first_or, when, faulty, number_of, has_run, has_group, no_run, no_group, is_failed, is_end}
+use Rattle.histories.specs.Sums.{excess_of}
+use Rattle.histories.specs.declared.limits.Limits.{Limits}
+use Rattle.histories.specs.declared.answers.Answer.{Answer}
+use Rattle.histories.specs.declared.answers.Answer.TheVariants.{Run, Held, Done, Text, Refused}
+use Rattle.histories.specs.declared.answers.Excess.{Excess}
+use Rattle.histories.specs.declared.answers.Refusal.{Refusal}
+use Rattle.histories.specs.declared.answers.Refusal.TheVariants as reasons
+
+-- an answer that is no refusal is that which is due
+abbrev pub IsTaken : Answer → Type 0
+IsTaken (Refused refusal) = ⊥
+IsTaken answer = Unit {0}
+
+refused_not : (answer : Answer) (refusal : Refusal) → IsTaken answer → answer ≡ Refused refusal → ⊥
+refused_not (Refused other) refusal is same = is
+refused_not (Run n) refusal is same = cc
+refused_not (Held n) refusal is same = cc
+refused_not Done refusal is same = cc
+refused_not (Text text) refusal is same = cc
+
+pub was_due : (limits : Limits) (h : History) (said : Said) (answer : Answer) → IsTaken answer → IsLegal limits h said answer → IsInForm said × (due limits h said ≡ Some answer)
+was_due limits h said answer is legal = elim legal [
+  | inl form ↦ (form.0, elim form.1 [
+    | inl same ↦ same
+    | inr want ↦ elim want [ inl memory ↦ absurd (refused_not answer reasons.Memory is memory) | inr store ↦ absurd (refused_not answer reasons.Store is store) ]
+  ])
+  | inr bad ↦ absurd (refused_not answer reasons.BadName is bad.2)
+]
+
+-- ---- groups
+
+pub made_legal : (limits : Limits) (h : History) (name : List ℕ) → IsLegal limits h (MakeGroup name) Done → IsGroupName name × (has_group h name ≡ false)
+made_legal limits h name legal = let is = was_due limits h (MakeGroup name) Done tt legal in (is.0, go (has_group h name) is.1)
+  where
+    go : (b : Bool) → Some (first_or (when b (Refused reasons.GroupTaken) ∷ when (nat_le limits.groups (length (groups h))) (Refused reasons.Full) ∷ []) Done) ≡ Some Done → b ≡ false
+    go true e = absurd cc
+    go false e = refl
+
+both : (a b : Bool) → Some (first_or (when (not a) (Refused reasons.NoSuchGroup) ∷ when (not b) (Refused reasons.NoSuchRun) ∷ []) Done) ≡ Some Done → (a ≡ true) × (b ≡ true)
+both true true e = (refl, refl)
+both true false e = absurd cc
+both false b e = absurd cc
+
+pub joined_legal : (limits : Limits) (h : History) (name : List ℕ) (n : ℕ) → IsLegal limits h (Join name n) Done → (has_group h name ≡ true) × (has_run h n ≡ true)
+joined_legal limits h name n legal = both (has_group h name) (has_run h n) (was_due limits h (Join name n) Done tt legal).1
+
+pub based_legal : (limits : Limits) (h : History) (name : List ℕ) (n : ℕ) → IsLegal limits h (SetBaseline name n) Done → (has_group h name ≡ true) × (has_run h n ≡ true)
+based_legal limits h name n legal = both (has_group h name) (has_run h n) (was_due limits h (SetBaseline name n) Done tt legal).1
+
+-- ---- imports
+
+module _ (limits : Limits) (h : History) (kind : Kind) (bytes : List ℕ) (n : ℕ) where
+  pub run_due : file_due limits h kind bytes ≡ Run n → (n ≡ next h) × (number_of (sha256 bytes) (held h) ≡ None)
+  run_due is = first (number_of (sha256 bytes) (held h)) refl is
+    where
+      spent : (e : Bool) → first_or (when e (Refused reasons.NumbersSpent) ∷ []) (Run (next h)) ≡ Run n → n ≡ next h
+      spent true same = absurd cc
+      spent false same = cc
+
+      full : (d e : Bool) → first_or (when d (Refused reasons.Full) ∷ when e (Refused reasons.NumbersSpent) ∷ []) (Run (next h)) ≡ Run n → n ≡ next h
+      full true e same = absurd cc
+      full false e same = spent e same
+
+      excess : (c : Option Excess) (d e : Bool) → first_or (option_map (λ excess. Refused (reasons.Overflow excess)) c ∷ when d (Refused reasons.Full) ∷ when e (Refused reasons.NumbersSpent) ∷ []) (Run (next h)) ≡ Run n → n ≡ next h
+      excess (Some c) d e same = absurd cc
+      excess None d e same = full d e same
+
+      fault : (b : Option (faults.Fault × ℕ)) (c : Option Excess) (d e : Bool)
+          → first_or (option_map faulty b ∷ option_map (λ excess. Refused (reasons.Overflow excess)) c ∷ when d (Refused reasons.Full) ∷ when e (Refused reasons.NumbersSpent) ∷ []) (Run (next h)) ≡ Run n → n ≡ next h
+      fault (Some b) c d e same = absurd cc
+      fault None c d e same = excess c d e same
+
+      first : (a : Option ℕ) → number_of (sha256 bytes) (held h) ≡ a
+          → first_or (option_map Held a ∷ option_map faulty (fault_of kind bytes) ∷ option_map (λ excess. Refused (reasons.Overflow excess)) (excess_of (held h) kind bytes)
+            ∷ when (nat_le limits.runs (length (held h))) (Refused reasons.Full) ∷ when (nat_le limits.numbers (next h)) (Refused reasons.NumbersSpent) ∷ []) (Run (next h)) ≡ Run n
+          → (n ≡ next h) × (number_of (sha256 bytes) (held h) ≡ None)
+      first (Some m) here same = absurd cc
+      first None here same = (fault (fault_of kind bytes) (excess_of (held h) kind bytes) (nat_le limits.runs (length (held h))) (nat_le limits.numbers (next h)) same, here)
+
+pub run_legal : (limits : Limits) (h : History) (kind : Kind) (label : List ℕ) (outcomes : List Outcome) (n : ℕ) → IsLegal limits h (Import kind label outcomes) (Run n) → (n ≡ next h) × (number_of (sha256 (bytes_of outcomes)) (held h) ≡ None)
+run_legal limits h kind label outcomes n legal =
+    run_due limits h kind (bytes_of outcomes) n
+    (go (nat_lt limits.bytes (length (bytes_of outcomes))) (list_any is_failed outcomes) (list_any is_end outcomes) (was_due limits h (Import kind label outcomes) (Run n) tt legal).1)
+  where
+    go : (a b c : Bool)
+        → (if a then Some (Refused reasons.TooLong) else if b then Some (Refused reasons.ReadFault) else if c then Some (file_due limits h kind (bytes_of outcomes)) else None) ≡ Some (Run n)
+        → file_due limits h kind (bytes_of outcomes) ≡ Run n
+    go true b c same = absurd cc
+    go false true c same = absurd cc
+    go false false true same = cc
+    go false false false same = absurd cc

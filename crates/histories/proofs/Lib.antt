@@ -1,0 +1,15 @@
+pub mod Baselines
+pub mod Books
+pub mod Due
+pub mod Groups
+pub mod Held
+pub mod Invariants
+pub mod Members
+pub mod Parents
+pub mod Put
+pub mod Rows
+pub mod Steps
+pub mod Tells
+pub mod Tests
+pub mod Totals
+pub mod Turns

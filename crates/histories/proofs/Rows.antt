@@ -1,0 +1,77 @@
+-- The rows of a file come to what its records and stacks come to.
+use Rattle.std.proofs.Common.{◌≡◌, ℕ, ◌+◌, suc, zero, Bool, true, false, if◌then◌else◌, List, [], ◌∷◌, map, fold, slice_index, refl, sym, ap, subst, ◌∙◌, arith}
+use Rattle.callgrind_reader.specs.Files.{records_of_file}
+use Rattle.callgrind_reader.specs.Records.{Record, Own, Called}
+use Rattle.folded_reader.specs.Files.{Seen, stacks_of_file}
+use Rattle.cost_rows.specs.Content.{Content, empty, with_record, leaf_cost}
+use Rattle.cost_rows.specs.Held.{AreHeld}
+use Rattle.cost_rows.specs.Merging.{sum_where}
+use Rattle.cost_rows.specs.StackSums.{cells_where, content_of_stacks, frames_sum, leaf_sum}
+use Rattle.cost_rows.specs.Sums.{Spot, spot_of, spot_at, callee_at, own_sum, call_sum, count_sum}
+use Rattle.cost_rows.proofs.StackSumsLemmas.{held-stacks, sums-stacks, stacks-order}
+use Rattle.cost_rows.proofs.SumsLemmas.{held-records, sums-cells, sums-arcs, sums-counts, none_plus}
+use Rattle.prof_books.specs.declared.kinds.Kind.{Kind}
+use Rattle.prof_books.specs.declared.kinds.Kind.TheVariants.{Callgrind, Folded}
+use Rattle.histories.specs.Files.{records_of, stacks_of, rows_of, sample}
+
+pub record ComesTo (c : Content) (records : List Record) (stacks : List Seen) : Type 0 where
+  pub held : AreHeld c
+  pub cells : (passes : Spot → Bool) (k : ℕ) → cells_where passes k c ≡ own_sum passes k records
+  pub arcs : (passes : Spot → Spot → Bool) (k : ℕ) → sum_where (λ a. passes (spot_at c.names a.place) (callee_at c.names a)) (λ calls. slice_index calls.costs k) c.arcs ≡ call_sum passes k records
+  pub counts : (passes : Spot → Spot → Bool) → sum_where (λ a. passes (spot_at c.names a.place) (callee_at c.names a)) (λ calls. calls.count) c.arcs ≡ count_sum passes records
+  pub stacks_are : (passes : List ℕ → Bool) → sum_where passes (λ count. count) c.stacks ≡ frames_sum passes stacks
+
+-- records make no stacks
+no_stacks : (records : List Record) (c : Content) → (fold with_record c records).stacks ≡ c.stacks
+no_stacks [] c = refl
+no_stacks (Own cost ∷ records) c = no_stacks records (with_record c (Own cost))
+no_stacks (Called callee cost ∷ records) c = no_stacks records (with_record c (Called callee cost))
+
+records_come : (records : List Record) → ComesTo (fold with_record empty records) records []
+records_come records = record {
+  held = held-records records;
+  cells = λ passes k. sums-cells passes k records;
+  arcs = λ passes k. sums-arcs passes k records;
+  counts = λ passes. sums-counts passes records;
+  stacks_are = λ passes. ap (sum_where passes (λ count. count)) (no_stacks records empty);
+}
+
+-- a stack counts in the first column alone, and calls nothing
+own_first : (passes : Spot → Bool) (seen : List Seen) → leaf_sum passes seen ≡ own_sum passes 0 (map sample seen)
+own_first passes [] = refl
+own_first passes (s ∷ seen) = ap (λ n. (if passes (spot_of (leaf_cost s)) then s.stack.count else 0) + n) (own_first passes seen)
+
+nothing : (b : Bool) (n : ℕ) → n ≡ 0 → (if b then 0 else 0) + n ≡ 0
+nothing true n is = omega arith
+nothing false n is = omega arith
+
+own_further : (passes : Spot → Bool) (k : ℕ) (seen : List Seen) → own_sum passes (suc k) (map sample seen) ≡ 0
+own_further passes k [] = refl
+own_further passes k (s ∷ seen) = nothing (passes (spot_of (leaf_cost s))) (own_sum passes (suc k) (map sample seen)) (own_further passes k seen)
+
+no_calls : (passes : Spot → Spot → Bool) (k : ℕ) (seen : List Seen) → call_sum passes k (map sample seen) ≡ 0
+no_calls passes k [] = refl
+no_calls passes k (s ∷ seen) = no_calls passes k seen
+
+no_counts : (passes : Spot → Spot → Bool) (seen : List Seen) → count_sum passes (map sample seen) ≡ 0
+no_counts passes [] = refl
+no_counts passes (s ∷ seen) = no_counts passes seen
+
+stacks_come : (seen : List Seen) → ComesTo (content_of_stacks seen) (map sample seen) seen
+stacks_come seen = record {
+  held = held-stacks seen;
+  cells = columns;
+  arcs = λ passes k.
+      ap (sum_where (λ a. passes (spot_at (content_of_stacks seen).names a.place) (callee_at (content_of_stacks seen).names a)) (λ calls. slice_index calls.costs k)) (stacks-order seen).arcs ∙ sym (no_calls passes k seen);
+  counts = λ passes.
+      ap (sum_where (λ a. passes (spot_at (content_of_stacks seen).names a.place) (callee_at (content_of_stacks seen).names a)) (λ calls. calls.count)) (stacks-order seen).arcs ∙ sym (no_counts passes seen);
+  stacks_are = (sums-stacks seen).stacks;
+}
+  where
+    columns : (passes : Spot → Bool) (k : ℕ) → cells_where passes k (content_of_stacks seen) ≡ own_sum passes k (map sample seen)
+    columns passes zero = (sums-stacks seen).cells passes ∙ own_first passes seen
+    columns passes (suc k) = (sums-stacks seen).further passes k ∙ sym (own_further passes k seen)
+
+pub rows_come : (kind : Kind) (bytes : List ℕ) → ComesTo (rows_of kind bytes) (records_of kind bytes) (stacks_of kind bytes)
+rows_come Callgrind bytes = records_come (records_of_file bytes)
+rows_come Folded bytes = stacks_come (stacks_of_file bytes)
