@@ -1,5 +1,4 @@
 pub mod Files
-pub mod Heads
 pub mod History
 pub mod Legal
 pub mod Stands

@@ -1,2 +1,4 @@
+mod Dues
 mod Fed
+mod Names
 mod Outcomes

@@ -18,7 +18,7 @@ use Rattle.sha2.specs.Sha256.{sha256}
 use Rattle.prof_books.specs.declared.kinds.Kind.{Kind}
 use Rattle.prof_books.specs.declared.kinds.Kind.TheVariants as kinds
 use Rattle.histories.specs.Files.{fault_of}
-use Rattle.histories.specs.Heads.{IsHeadOf, rows_of}
+use Rattle.histories.specs.Files.{IsHeadOf, rows_of}
 use Rattle.warehouse.specs.declared.intake.FileReader.{FileReader}
 use Rattle.warehouse.specs.declared.intake.FileReader.TheVariants as readers
 use Rattle.warehouse.specs.declared.intake.Intake.{Intake}

@@ -2,7 +2,7 @@
 ghost use Rattle.std.specs.Prelude.{◌≡◌, ℕ, ◌+◌, ◌≤◌, List, [], ◌++◌, length, None, IfOk, OnOk};
 ghost use Rattle.cost_rows.specs.Content.{empty};
 ghost use Rattle.cost_rows.specs.Rows.{content_of};
-ghost use Rattle.histories.specs.Heads.{rows_of};
+ghost use Rattle.histories.specs.Files.{rows_of};
 ghost use Rattle.prof_books.specs.declared.kinds.Kind.{Kind};
 ghost use Rattle.cost_rows.specs.declared.file_rows.FileRows.{FileRows};
 ghost use Rattle.warehouse.specs.Intakes.{Stands, HasTaken, IsTakenOf, HasEndedAs};
