@@ -1,6 +1,7 @@
 pub mod Baselines
 pub mod Books
 pub mod Due
+pub mod Excesses
 pub mod Groups
 pub mod Held
 pub mod Invariants
