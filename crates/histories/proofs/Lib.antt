@@ -5,6 +5,7 @@ pub mod Excesses
 pub mod Groups
 pub mod Held
 pub mod Invariants
+pub mod Lists
 pub mod Members
 pub mod Parents
 pub mod Put
@@ -12,5 +13,6 @@ pub mod Rows
 pub mod Steps
 pub mod Tells
 pub mod Tests
+pub mod Texts
 pub mod Totals
 pub mod Turns
