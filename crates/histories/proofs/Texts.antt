@@ -1,4 +1,4 @@
--- What tables that stand for a history tell of its groups, and so the text of its list.
+-- What tables that stand for a history tell of its groups, and so the texts of lists.
 use Rattle.std.proofs.Common.{◌≡◌, ℕ, ◌<◌, suc, Bool, true, false, ◌&&◌, ◌||◌, ◌==◌, eqb, List, [], ◌∷◌, ◌++◌, map, filter, flat_map, length, Option, refl, sym, ap, ap₂, subst, ◌∙◌, cond, inl, inr, arith, IsPermutation}
 use Rattle.std.specs.List.{list_any, AllByRecursion, AllAdjacentBelow}
 use Rattle.std.specs.Ordering.{nat_cmp}
@@ -9,18 +9,50 @@ use Rattle.std.proofs.lemmas.Bool.{cases_Bool, eqb-true, eq-eqb}
 use Rattle.std.proofs.lemmas.List.Elements.{All-from_recursion, recursion_from_All}
 use Rattle.std.proofs.lemmas.List.Sorted.{All-permutation, IsPermutation-map, list_any-IsPermutation}
 use Rattle.cost_rows.proofs.NamingLemmas.{same_bytes, bytes-same}
+use Rattle.sha2.specs.Sha256.{sha256}
 use Rattle.prof_tables.specs.Tables.{Tables, GroupLine, MemberLine}
 use Rattle.prof_tables.specs.Changes as changes
-use Rattle.prof_books.specs.Entries.{HeldRun}
+use Rattle.prof_books.specs.Entries.{HeldRun, held_run}
+use Rattle.prof_books.specs.Kinds.{kind_number}
 use Rattle.prof_books.specs.declared.kinds.Kind.{Kind}
 use Rattle.prof_books.specs.declared.kinds.Kind.TheVariants.{Callgrind, Folded}
 use Rattle.histories.specs.History.{History, File, held, groups, members, is_member, baseline}
 use Rattle.histories.specs.Legal.{IsHistory, has_run}
-use Rattle.histories.specs.Stands.{TablesTell}
-use Rattle.histories.specs.Texts.{rising, group_line, groups_text}
+use Rattle.histories.specs.Stands.{TablesTell, file_run}
+use Rattle.histories.specs.Texts.{rising, group_line, groups_text, run_line, run_text, runs_text}
 use Rattle.histories.proofs.Invariants.{IsBefore, members_held, numbered, groups_named}
 use Rattle.histories.proofs.Lists.{Before, before_trans, before_irreflexive, any_rising, up_rising, pairs_of, pairs_map, same_rising}
+use Rattle.histories.proofs.Tells.{tells_runs}
 use Rattle.histories.proofs.Tests.{Pairs, pairs_filter, any-filter, any_same, bytes-self}
+
+-- ---- entries, each with the number, the kind, the digest and the label of a run
+
+same_kind : (a b : Kind) → kind_number a ≡ kind_number b → a ≡ b
+same_kind Callgrind Callgrind same = refl
+same_kind Callgrind Folded same = absurd (omega (arith, same))
+same_kind Folded Callgrind same = absurd (omega (arith, same))
+same_kind Folded Folded same = refl
+
+module _ {E : Type 0} (number : E → ℕ) (kind : E → Kind) (digest : E → List ℕ) (label : E → List ℕ) where
+  abbrev run : E → HeldRun
+  run e = record { number = number e; kind = kind_number (kind e); digest = digest e; label = label e }
+
+  run_lines : (es : List E) (files : List File) → map run es ≡ map file_run files → flat_map run_line files ≡ flat_map (λ e. run_text (number e) (kind e) (digest e) (label e)) es
+  run_lines [] [] same = refl
+  run_lines [] (f ∷ files) same = absurd cc
+  run_lines (e ∷ es) [] same = absurd cc
+  run_lines (e ∷ es) (f ∷ files) same =
+      let first : run e ≡ file_run f = cc in
+      let later : map run es ≡ map file_run files = cc in
+      ap₂ ◌++◌
+      (ap₂ (λ n k. run_text n k (sha256 f.bytes) f.label) (sym (ap (λ (r : HeldRun). r.number) first)) (sym (same_kind (kind e) f.kind (ap (λ (r : HeldRun). r.kind) first)))
+      ∙ ap₂ (λ d l. run_text (number e) (kind e) d l) (sym (ap (λ (r : HeldRun). r.digest) first)) (sym (ap (λ (r : HeldRun). r.label) first)))
+      (run_lines es files later)
+
+  -- the text of the list of runs is that of the entries
+  pub tells_runs_text : (h : History) (t : Tables) (entries : List E) → TablesTell h t → map (λ e. let r : HeldRun = record { number = number e; kind = kind_number (kind e); digest = digest e; label = label e } in r) entries ≡ map held_run t.runs
+      → runs_text h ≡ flat_map (λ e. run_text (number e) (kind e) (digest e) (label e)) entries
+  tells_runs_text h t entries tell told = run_lines entries (held h) (told ∙ tells_runs h t tell)
 
 -- ---- the members of a group rise, and are those that joined it
 
