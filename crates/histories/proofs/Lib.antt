@@ -1,9 +1,11 @@
 pub mod Baselines
 pub mod Books
 pub mod Due
+pub mod Excesses
 pub mod Groups
 pub mod Held
 pub mod Invariants
+pub mod Lists
 pub mod Members
 pub mod Parents
 pub mod Put
@@ -11,5 +13,6 @@ pub mod Rows
 pub mod Steps
 pub mod Tells
 pub mod Tests
+pub mod Texts
 pub mod Totals
 pub mod Turns

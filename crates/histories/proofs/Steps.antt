@@ -22,7 +22,7 @@ use Rattle.histories.proofs.Groups.{groups_other, groups_same, groups_made, grou
 use Rattle.histories.proofs.Held.{IsStill, held_still, held_done, held_removed, next_still, next_done}
 use Rattle.histories.proofs.Invariants.{no_baseline}
 use Rattle.histories.proofs.Members.{member_other, member_made, member_based, member_removed, member_dropped, member_left, member_joined}
-use Rattle.histories.proofs.Tests.{all_on, all_push, all_filter, any-append, any-filter, or-false, number-flip, bytes-flip, bytes-self}
+use Rattle.histories.proofs.Tests.{all_on, all_map, all_push, all_filter, any-append, any-filter, or-false, number-flip, bytes-flip, bytes-self}
 use Rattle.histories.proofs.Turns.{history_more}
 
 abbrev pub grown : History → Said → Answer → History
@@ -49,10 +49,6 @@ tell_same limits h said answer t still tell legal =
     }
 
 -- ---- a run is removed
-
-all_map : {X Y : Type 0} (P : X → Type 0) (Q : Y → Type 0) (f : X → Y) (xs : List X) → ((x : X) → P x → Q (f x)) → AllByRecursion P xs → AllByRecursion Q (map f xs)
-all_map P Q f [] more all = tt
-all_map P Q f (x ∷ xs) more all = (more x all.0, all_map P Q f xs more all.1)
 
 map_same : {X Y : Type 0} (f : X → X) (g : X → Y) (xs : List X) → ((x : X) → g (f x) ≡ g x) → map g (map f xs) ≡ map g xs
 map_same f g [] same = refl

@@ -1,5 +1,5 @@
 -- Facts on tests and filters.
-use Rattle.std.proofs.Common.{◌≡◌, ◌≢◌, ℕ, Bool, true, false, not, ◌&&◌, ◌||◌, ◌==◌, eqb, List, [], ◌∷◌, ◌++◌, filter, refl, sym, ap, ap₂, ◌∙◌, cond, inl, inr, arith}
+use Rattle.std.proofs.Common.{◌≡◌, ◌≢◌, ℕ, Bool, true, false, not, ◌&&◌, ◌||◌, ◌==◌, eqb, List, [], ◌∷◌, ◌++◌, map, filter, refl, sym, ap, ap₂, ◌∙◌, cond, inl, inr, arith}
 use Rattle.std.specs.List.{list_any, AllByRecursion}
 use Rattle.std.specs.Str.{bytes_eq}
 use Rattle.std.proofs.lemmas.Bool.{cases_Bool, eqb-true, eq-eqb}
@@ -68,6 +68,10 @@ all_push P (x ∷ xs) ys all last = (all.0, all_push P xs ys all.1 last)
 pub all_on : {X : Type 0} (P Q : X → Type 0) (xs : List X) → ((x : X) → P x → Q x) → AllByRecursion P xs → AllByRecursion Q xs
 all_on P Q [] weaker all = tt
 all_on P Q (x ∷ xs) weaker all = (weaker x all.0, all_on P Q xs weaker all.1)
+
+pub all_map : {X Y : Type 0} (P : X → Type 0) (Q : Y → Type 0) (f : X → Y) (xs : List X) → ((x : X) → P x → Q (f x)) → AllByRecursion P xs → AllByRecursion Q (map f xs)
+all_map P Q f [] more all = tt
+all_map P Q f (x ∷ xs) more all = (more x all.0, all_map P Q f xs more all.1)
 
 -- what relates each element to each later one
 abbrev pub Pairs : {X : Type 0} → (X → X → Type 0) → List X → Type 0

@@ -1,7 +1,10 @@
 -- The sums over files, by the names of events, and the first that would pass its bound.
-use Rattle.std.specs.Prelude.{ℕ, suc, ◌+◌, true, nat_lt, bytes_eq, if◌then◌else◌, List, [], ◌∷◌, ◌++◌, sum_by, Option, Some, None}
+use Rattle.std.specs.Prelude.{ℕ, suc, ◌+◌, true, nat_lt, bytes_eq, if◌then◌else◌, List, [], ◌∷◌, ◌++◌, sum_by, slice_index_or, Option, Some, None}
 use Rattle.cost_rows.specs.Admit.{bound}
 use Rattle.cost_rows.specs.Sums.{own_sum, call_sum, count_sum}
+use Rattle.cost_rows.specs.declared.limits.Overflow.{Overflow}
+use Rattle.cost_rows.specs.declared.limits.Side.{Side}
+use Rattle.cost_rows.specs.declared.limits.Side.TheVariants as sides
 use Rattle.prof_books.specs.declared.kinds.Kind.{Kind}
 use Rattle.histories.specs.Files.{events_of, records_of}
 use Rattle.histories.specs.History.{File}
@@ -64,3 +67,15 @@ first_above (s ∷ sums) = if nat_lt bound s.sum then Some s.of else first_above
 -- the first sum over these files and one more that is above 2^63-1
 abbrev pub excess_of : List File → Kind → List ℕ → Option Excess
 excess_of files kind bytes = first_above (sums_with files kind bytes)
+
+-- ---- by column
+
+-- a sum of this side, by the name of its event
+abbrev pub excess_on : Side → List ℕ → Excess
+excess_on sides.SelfCost name = SelfCost name
+excess_on sides.CallCost name = CallCost name
+excess_on sides.CallCount name = CallCount
+
+-- what does not fit, where these are the events by column
+abbrev pub excess_at : List (List ℕ) → Overflow → Excess
+excess_at events o = excess_on o.side (slice_index_or events o.column [])
