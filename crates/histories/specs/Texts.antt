@@ -38,7 +38,7 @@ baseline_text (Some n) = decimal n
 -- numbers behind a first one
 abbrev pub more_text : List ℕ → List ℕ
 more_text [] = []
-more_text (n ∷ numbers) = codes "," ++ (decimal n ++ more_text numbers)
+more_text (n ∷ numbers) = (codes "," ++ decimal n) ++ more_text numbers
 
 abbrev pub members_text : List ℕ → List ℕ
 members_text [] = codes "-"

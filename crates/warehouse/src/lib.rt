@@ -4,6 +4,7 @@
 mod changes;
 mod command;
 mod intake;
+mod lists;
 mod reading;
 mod refusals;
 mod source;
