@@ -1,4 +1,6 @@
 mod Dues
 mod Fed
+mod Imports
 mod Names
 mod Outcomes
+mod Puts

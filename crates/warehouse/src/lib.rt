@@ -3,6 +3,7 @@
 
 mod changes;
 mod command;
+mod import;
 mod intake;
 mod lists;
 mod reading;

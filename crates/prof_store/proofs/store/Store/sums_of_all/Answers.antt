@@ -1,5 +1,5 @@
-use Rattle.std.proofs.Common.{◌≡◌, ◌<◌, ◌^◌, ◌+◌, ◌∙◌, ◌++◌, ◌∷◌, [], inl, inr, take, All, ap, sym, subst, arith}
-use Rattle.std.proofs.lemmas.List.{take_all}
+use Rattle.std.proofs.Common.{◌≡◌, ◌<◌, ◌^◌, ◌+◌, ◌∙◌, ◌++◌, ◌∷◌, [], inl, inr, take, length, All, ap, sym, subst, arith}
+use Rattle.std.proofs.lemmas.List.{take_all, length-append}
 use Rattle.std.proofs.lemmas.List.Elements.{All-push}
 use Rattle.sqlite.specs.Effect.{Database}
 use Rattle.prof_store.specs.Shown.{shown}
@@ -55,6 +55,8 @@ events-preserved g c =
       ),
       λ clean was. s.answers clean,
       λ clean is_open. i.9 (s.honest clean) (s.was_usable clean is_open),
+      (let e = ap length pushed_own ∙ length-append own (a ∷ []) in omega (arith, e, i.10)),
+      (let e = ap length pushed_calls ∙ length-append calls (b ∷ []) in omega (arith, e, i.11)),
     )
 
 pub returns-clause-found : goal.returns-clause-found

@@ -1,4 +1,4 @@
-use Rattle.std.proofs.Common.{◌≡◌, ◌<◌, ◌^◌, map, take, All}
+use Rattle.std.proofs.Common.{◌≡◌, ◌<◌, ◌^◌, map, take, length, All}
 use Rattle.prof_tables.specs.Schema.{schema_one}
 use Rattle.prof_tables.specs.Tables.{Tables}
 use Rattle.prof_store.specs.Shown.{shown, IsFaithful, IsUsable, IsSettled, IsAsBefore, StandsFor, LeavesOnly}
@@ -19,3 +19,4 @@ invariant-events g l =
     × (All (λ n. n < 2 ^ 112) l.own × All (λ n. n < 2 ^ 112) l.calls)
     × (IsFaithful g.S.Store l.self → IsUsable g.S.Store l.fn.self → IsUsable g.S.Store l.self)
     × (IsFaithful g.S.Store l.self → IsUsable g.S.Store l.self → IsUsable g.S.Store l.fn.self)
+    × (length l.own ≡ l.event-index) × (length l.calls ≡ l.event-index)
