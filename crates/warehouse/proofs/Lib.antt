@@ -4,3 +4,4 @@ mod Imports
 mod Names
 mod Outcomes
 mod Puts
+mod Settled

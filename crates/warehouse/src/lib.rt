@@ -1,6 +1,7 @@
 //! The warehouse: commands over a store of runs, and their answers.
 #![tactic(auto)]
 
+mod answering;
 mod changes;
 mod command;
 mod import;
@@ -9,8 +10,10 @@ mod lists;
 mod reading;
 mod refusals;
 mod source;
+mod warehouse;
 
 pub use command::Command;
 pub use histories::{Answer, Excess, Limits, Query, Refusal};
 pub use prof_books::Kind;
 pub use source::{ReadFault, Source};
+pub use warehouse::Warehouse;

@@ -5,7 +5,7 @@ ghost use Rattle.prof_store.specs.Shown.{IsFaithful, IsUsable, StandsFor, Leaves
 ghost use Rattle.histories.specs.History.{History, Ask};
 ghost use Rattle.histories.specs.Texts as texts;
 ghost use Rattle.histories.specs.declared.limits.Limits.{Limits};
-ghost use Rattle.warehouse.specs.Answered.{StandsForHistory, WasDue, Follows};
+ghost use Rattle.warehouse.specs.Answered.{StandsForHistory, WasDue, IsAccepted, Follows};
 ghost use Rattle.warehouse.specs.Lists.{entry_line, group_entry_line};
 
 use cg_text::Items;
@@ -154,7 +154,7 @@ pub(crate) fn ask<S: Alter>(
 ) -> Result<Answer, StoreEnd>
     ensures answered { IsFaithful S.Store store.new → (limits : Limits) (h : History) → StandsForHistory S.Store h store.old → IfOk result (λ answer. WasDue S.Store limits h (Ask query) answer store.new) }
     ensures kept { IsFaithful S.Store store.new → (t : _) → StandsFor S.Store t store.old → OnErr result (IsUsable S.Store store.new → StandsFor S.Store t store.new) }
-    ensures same { IsFaithful S.Store store.new → (t : _) → StandsFor S.Store t store.old → OnOk result (StandsFor S.Store t store.new) }
+    ensures same { IsFaithful S.Store store.new → (t : _) → StandsFor S.Store t store.old → IfOk result (λ answer. (IsAccepted answer → ⊥) → StandsFor S.Store t store.new) }
     ensures crash { IsFaithful S.Store store.new → (limits : Limits) (h : History) → StandsForHistory S.Store h store.old → LeavesOnly S.Store store.old store.new (Follows limits h (Ask query)) }
     ensures answers { IsFaithful S.Store store.new → OnOk result (IsUsable S.Store store.new) }
     ensures was_usable { IsFaithful S.Store store.new → IsUsable S.Store store.new → IsUsable S.Store store.old }

@@ -1,0 +1,15 @@
+use Rattle.std.proofs.Common.{◌≡◌, List, [], ℕ, Some, inl, refl, sym, ap, subst, ◌∙◌}
+use Rattle.histories.specs.History.{Import, Remove, MakeGroup, DropGroup, Ask}
+use Rattle.histories.specs.declared.answers.Answer.TheVariants.{Refused}
+use Rattle.histories.specs.declared.answers.Refusal.TheVariants.{BadName, NoSuchGroup}
+use Rattle.warehouse.specs.Answered.{IsAnswered}
+use Rattle.warehouse.specs.Changes.{said_of}
+use Rattle.warehouse.proofs.Dues.{change_form, change_due, drop_due}
+use Rattle.warehouse.proofs.Settled.{settled, untouched, bad_name, no_group_named, unread_answered}
+use Rattle.warehouse.proofs.answering.ask_in.Goals as goal
+
+pub returns-clause-answered : goal.returns-clause-answered
+returns-clause-answered g c clean limits h has =
+    subst (λ a. IsAnswered g.S.Store limits h (Ask c.args.query) a c.args.store.now c.ask.new.store) (sym c.answer_of.ensures)
+    (settled g.S.Store limits h (Ask c.args.query) c.args.store.now c.ask.new.store has (c.ask.ensures.was_usable clean) c.ask.result tt (c.ask.ensures.answered clean limits h) (c.ask.ensures.kept clean) (c.ask.ensures.same clean)
+    (c.ask.ensures.crash clean limits h) (c.ask.ensures.answers clean))

@@ -1,0 +1,24 @@
+use Rattle.std.proofs.Common.{◌≡◌, List, [], ℕ, Some, inl, refl, sym, ap, subst, ◌∙◌}
+use Rattle.prof_books.specs.Labels.{IsGroupName}
+use Rattle.histories.specs.History.{Import, Remove, MakeGroup, DropGroup, Ask}
+use Rattle.histories.specs.declared.answers.Answer.TheVariants.{Refused}
+use Rattle.histories.specs.declared.answers.Refusal.TheVariants.{BadName, NoSuchGroup}
+use Rattle.warehouse.specs.Answered.{IsAnswered}
+use Rattle.warehouse.specs.Changes.{said_of}
+use Rattle.warehouse.proofs.Dues.{change_form, change_due, drop_due}
+use Rattle.warehouse.proofs.Settled.{settled, untouched, bad_name, no_group_named, unread_answered}
+use Rattle.warehouse.proofs.answering.make_in.Goals as goal
+
+pub returns-in-Some-clause-answered : goal.returns-in-Some-clause-answered
+returns-in-Some-clause-answered g c clean h has =
+    let limits = c.args.limits in
+    let name = c.in-Some.name.now in
+    subst (λ l. IsAnswered g.S.Store limits h (MakeGroup l) c.answer_of.result c.args.store.now c.make_group.new.store) c.in-Some.ensures.0 (
+    subst (λ a. IsAnswered g.S.Store limits h (MakeGroup name) a c.args.store.now c.make_group.new.store) (sym c.answer_of.ensures)
+    (settled g.S.Store limits h (MakeGroup name) c.args.store.now c.make_group.new.store has (c.make_group.ensures.was_usable clean) c.make_group.result (subst IsGroupName (sym c.in-Some.ensures.0) c.in-Some.ensures.1) (c.make_group.ensures.answered clean h) (c.make_group.ensures.kept clean) (c.make_group.ensures.same clean)
+    (c.make_group.ensures.crash clean h) (c.make_group.ensures.answers clean))
+    )
+
+pub returns-in-None-clause-answered : goal.returns-in-None-clause-answered
+returns-in-None-clause-answered g c clean h has =
+    untouched g.S.Store c.args.limits h (MakeGroup c.args.name.now) c.args.store.now has (Refused BadName) tt (bad_name c.args.limits h (MakeGroup c.args.name.now) c.in-None.ensures tt)
