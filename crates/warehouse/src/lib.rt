@@ -2,6 +2,7 @@
 #![tactic(auto)]
 
 mod answering;
+mod apply;
 mod changes;
 mod command;
 mod import;

@@ -1,0 +1,66 @@
+// Commands, one by one and in lists.
+ghost use Rattle.std.specs.Prelude.{◌≡◌, List};
+ghost use Rattle.prof_store.specs.Shown.{IsFaithful, IsUsable};
+ghost use Rattle.histories.specs.History.{History, Outcome, Said, Import};
+ghost use Rattle.warehouse.specs.Answered.{HasHistory, IsAnswered, Says};
+ghost use Rattle.warehouse.specs.Reads.{Come};
+
+use crate::answering::{ask_in, change_in, drop_in, import_in, make_in, remove_in};
+use crate::changes::Change;
+use crate::command::Command;
+use crate::source::Source;
+use crate::warehouse::Warehouse;
+use histories::Answer;
+use prof_books::Kind;
+use sqlite::Alter;
+use std::alloc::Global;
+
+impl<S: Alter> Warehouse<S> {
+    /// Takes in the file that a source gives, a piece at a time. The source is read to its end even
+    /// after a fault of the file, unless a read fails, memory is refused or the file is too long; under
+    /// a label out of form it is not read.
+    pub fn import<R: Source>(
+        &mut self,
+        alloc: Global,
+        kind: Kind,
+        label: &[u8],
+        source: &mut R,
+    ) -> Answer
+        ensures limits { self.new.limits ≡ self.old.limits }
+        ensures answered { IsFaithful S.Store self.new.store → (h : History) → HasHistory S.Store h self.old.store → (outcomes : List Outcome) × Come R.comes source.old outcomes source.new × IsAnswered S.Store self.old.limits h (Import kind label.now outcomes) result self.old.store self.new.store }
+        ensures was_usable { IsFaithful S.Store self.new.store → IsUsable S.Store self.new.store → IsUsable S.Store self.old.store }
+        ensures honest { IsFaithful S.Store self.new.store → IsFaithful S.Store self.old.store }
+    {
+        import_in(&mut self.store, alloc, self.limits, kind, label, source)
+    }
+
+    /// Does what a command says, and answers it. A refused command changes nothing.
+    pub fn apply<R: Source + Drop>(&mut self, alloc: Global, command: Command<R>) -> Answer
+        ensures limits { self.new.limits ≡ self.old.limits }
+        ensures answered { IsFaithful S.Store self.new.store → (h : History) → HasHistory S.Store h self.old.store → (said : Said) × Says R.comes command said × IsAnswered S.Store self.old.limits h said result self.old.store self.new.store }
+        ensures was_usable { IsFaithful S.Store self.new.store → IsUsable S.Store self.new.store → IsUsable S.Store self.old.store }
+        ensures honest { IsFaithful S.Store self.new.store → IsFaithful S.Store self.old.store }
+    {
+        let store = &mut self.store;
+        match command {
+            Command::Import {
+                kind,
+                label,
+                mut source,
+            } => import_in(store, alloc, self.limits, kind, label.as_slice(), &mut source),
+            Command::Remove(number) => remove_in(store, number),
+            Command::MakeGroup(name) => make_in(store, self.limits, name.as_slice()),
+            Command::DropGroup(name) => drop_in(store, name.as_slice()),
+            Command::Join(name, number) => {
+                change_in(store, Change::Join, name.as_slice(), number)
+            }
+            Command::Leave(name, number) => {
+                change_in(store, Change::Leave, name.as_slice(), number)
+            }
+            Command::SetBaseline(name, number) => {
+                change_in(store, Change::SetBaseline, name.as_slice(), number)
+            }
+            Command::Ask(query) => ask_in(store, alloc, query),
+        }
+    }
+}
