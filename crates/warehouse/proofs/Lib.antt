@@ -4,4 +4,5 @@ mod Imports
 mod Names
 mod Outcomes
 mod Puts
+mod Runs
 mod Settled

@@ -1,5 +1,5 @@
 -- What is answered to a command, and what it leaves.
-use Rattle.std.specs.Prelude.{◌≡◌, ℕ, Some, Result, Ok, Err, List, [], ◌∷◌, ◌++◌}
+use Rattle.std.specs.Prelude.{◌≡◌, ◌⊎◌, ℕ, map, Some, Result, Ok, Err, List, [], ◌∷◌, ◌++◌}
 use Rattle.sqlite_trees.specs.declared.store.Store.{Ghosts}
 use Rattle.sqlite_trees.specs.Tree.{Trees}
 use Rattle.prof_tables.specs.Tables.{Tables, Holds}
@@ -9,7 +9,7 @@ use Rattle.prof_store.specs.declared.errors.StoreEnd.{StoreEnd}
 use Rattle.prof_store.specs.declared.errors.StoreEnd.TheVariants as ends
 use Rattle.prof_store.specs.declared.store.Store.{Store}
 use Rattle.histories.specs.History.{History, Said, Turn, Outcome, Import, Remove, MakeGroup, DropGroup, Join, Leave, SetBaseline, Ask}
-use Rattle.histories.specs.Legal.{IsLegal, IsHistory, due}
+use Rattle.histories.specs.Legal.{IsLegal, AreLegal, IsHistory, due}
 use Rattle.histories.specs.Stands.{TablesTell}
 use Rattle.histories.specs.declared.answers.Answer.{Answer}
 use Rattle.histories.specs.declared.answers.Answer.TheVariants as answers
@@ -77,6 +77,26 @@ module _ {R : Type 0} (comes : R → Outcome → R → Type 0) where
   Says (command.Leave name n) said = said ≡ Leave name.items n
   Says (command.SetBaseline name n) said = said ≡ SetBaseline name.items n
   Says (command.Ask query) said = said ≡ Ask query
+
+  abbrev pub AreSaid : List (commands.Command R) → History → Type 0
+  AreSaid [] [] = Unit {0}
+  AreSaid (one ∷ more) (turn ∷ later) = Says one turn.said × AreSaid more later
+  AreSaid more later = ⊥
+
+-- tables after some of the turns, with the command of the next one done
+abbrev pub Stops : Limits → History → History → Trees → Type 0
+Stops limits h [] db = ⊥
+Stops limits h (turn ∷ later) db = Follows limits h turn.said db ⊎ Stops limits (h ++ turn ∷ []) later db
+
+module _ {S R : Type 0} (g : Ghosts S) (comes : R → Outcome → R → Type 0) where
+  -- commands were run: each answer is legal after the history and the turns before it, and the store has the history with all of them; where it can be used at the end, a crash on the way left what could be left before, or tables after some of the turns with the next command done
+  pub record WasRun (limits : Limits) (h : History) (list : List (commands.Command R)) (given : List Answer) (old new : Store S) : Type 0 where
+    pub turns : History
+    pub said : AreSaid comes list turns
+    pub answered : map (λ (turn : Turn). turn.answer) turns ≡ given
+    pub legal : AreLegal limits h turns
+    pub after : HasHistory g (h ++ turns) new
+    pub crash : IsUsable g new → LeavesOnly g old new (Stops limits h turns)
 
 -- ---- answers from what lies below
 

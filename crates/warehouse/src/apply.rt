@@ -1,8 +1,8 @@
 // Commands, one by one and in lists.
-ghost use Rattle.std.specs.Prelude.{◌≡◌, List};
+ghost use Rattle.std.specs.Prelude.{◌≡◌, List, IfOk, OnErr};
 ghost use Rattle.prof_store.specs.Shown.{IsFaithful, IsUsable};
 ghost use Rattle.histories.specs.History.{History, Outcome, Said, Import};
-ghost use Rattle.warehouse.specs.Answered.{HasHistory, IsAnswered, Says};
+ghost use Rattle.warehouse.specs.Answered.{HasHistory, IsAnswered, Says, WasRun};
 ghost use Rattle.warehouse.specs.Reads.{Come};
 
 use crate::answering::{ask_in, change_in, drop_in, import_in, make_in, remove_in};
@@ -13,7 +13,8 @@ use crate::warehouse::Warehouse;
 use histories::Answer;
 use prof_books::Kind;
 use sqlite::Alter;
-use std::alloc::Global;
+use std::alloc::{AllocError, Global};
+use std::collections::VecDeque;
 
 impl<S: Alter> Warehouse<S> {
     /// Takes in the file that a source gives, a piece at a time. The source is read to its end even
@@ -62,5 +63,33 @@ impl<S: Alter> Warehouse<S> {
             }
             Command::Ask(query) => ask_in(store, alloc, query),
         }
+    }
+
+    /// Does what each command says, in turn, and answers each. The room for all answers is taken
+    /// first: an error means that no command was run.
+    pub fn run<R: Source + Drop>(
+        &mut self,
+        alloc: Global,
+        commands: Vec<Command<R>>,
+    ) -> Result<Vec<Answer>, AllocError>
+        ensures limits { self.new.limits ≡ self.old.limits }
+        ensures answered { IsFaithful S.Store self.new.store → (h : History) → HasHistory S.Store h self.old.store → IfOk result (λ answers. WasRun S.Store R.comes self.old.limits h commands.items answers.items self.old.store self.new.store) }
+        ensures err { OnErr result (self.new ≡ self.old) }
+        ensures was_usable { IsFaithful S.Store self.new.store → IsUsable S.Store self.new.store → IsUsable S.Store self.old.store }
+        ensures honest { IsFaithful S.Store self.new.store → IsFaithful S.Store self.old.store }
+    {
+        let count = commands.len();
+        let mut answers = Vec::with_capacity(alloc, count)?;
+        let mut rest = VecDeque::from(commands);
+        'commands: for _ in 0..count {
+            let Some(command) = rest.pop_front() else {
+                return Ok(answers);
+            };
+            let answer = self.apply(alloc, command);
+            if answers.push(answer).is_err() {
+                return Err(AllocError);
+            }
+        }
+        Ok(answers)
     }
 }
