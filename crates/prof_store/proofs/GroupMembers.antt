@@ -1,9 +1,8 @@
 -- The members of each group, where the names of groups rise.
-use Rattle.std.proofs.Common.{◌≡◌, ℕ, suc, ◌+◌, ◌<◌, List, [], ◌∷◌, ◌++◌, map, filter, flat_map, length, get_or, Bool, true, false, bytes_eq, if◌then◌else◌, string_bytes, refl, sym, ap, ap₂, subst, ◌∙◌, arith, append-nil, IsPermutation}
+use Rattle.std.proofs.Common.{◌≡◌, ℕ, suc, ◌+◌, List, [], ◌∷◌, ◌++◌, map, filter, flat_map, length, get_or, Bool, true, false, bytes_eq, if◌then◌else◌, string_bytes, refl, sym, ap, ap₂, subst, ◌∙◌, arith, append-nil, IsPermutation}
 use Rattle.std.specs.Ordering.{nat_cmp, ordering_reverse}
 use Rattle.std.specs.declared.cmp.Ordering.{Ordering}
 use Rattle.std.specs.declared.cmp.Ordering.TheVariants.{Less}
-use Rattle.std.specs.Cmp.{IsTotalOrder}
 use Rattle.std.specs.Cmp.Lexicographic.{slice_cmp, nat_list_cmp_total}
 use Rattle.std.specs.List.{AllByRecursion, AllAdjacentBelow}
 use Rattle.std.proofs.lemmas.Slice.Eq.{bytes_eq-Decides}

@@ -1,5 +1,5 @@
 -- The entries of reports, beside the rows and the lines that they show.
-use Rattle.std.specs.Prelude.{List, [], ◌∷◌, string_bytes}
+use Rattle.std.specs.Prelude.{[], ◌∷◌, string_bytes}
 use Rattle.sqlite_value.specs.declared.value.Value.TheVariants.{Text, Blob}
 use Rattle.sqlite_value.specs.Order.{Row, column}
 use Rattle.prof_tables.specs.Tables.{number}

@@ -1,12 +1,15 @@
 // A run joins a group.
 ghost use Rattle.std.specs.Prelude.{◌≡◌, ◌∷◌, [], pos, true, false, OnOk, OnErr, IfOk, IfErr};
+ghost use Rattle.std.specs.List.{list_any};
 ghost use Rattle.sqlite.specs.Held.{state};
 ghost use Rattle.sqlite.specs.State.{HasCleanDisk, Survives, Executes, CommitsBy, Shown, FailsToQuery, CommitsShowing};
 ghost use Rattle.sqlite_value.specs.declared.value.Value.TheVariants.{Int, Text};
 ghost use Rattle.prof_tables.specs.Texts.{put_member_text, find_member_text};
 ghost use Rattle.prof_tables.specs.Tables.{Holds};
 ghost use Rattle.prof_tables.specs.Changes.{has_member, joined, with_member};
-ghost use Rattle.prof_store.specs.Shown.{IsFaithful, IsUsable, StandsFor, IsSettled, IsAsBefore, LeavesOnly};
+ghost use Rattle.prof_tables.specs.Schema.{schema_one};
+ghost use Rattle.prof_tables.specs.Seen.{is_member_row};
+ghost use Rattle.prof_store.specs.Shown.{shown, IsFaithful, IsUsable, StandsFor, IsSettled, IsAsBefore, LeavesOnly};
 
 use crate::errors::{StoreEnd, end_of};
 use crate::store::Store;
@@ -41,6 +44,7 @@ impl<S: Alter> Store<S> {
     /// Whether a run is in a group.
     pub fn is_member(&mut self, name: &str, run: u32) -> Result<bool, StoreEnd>
         ensures told { IsFaithful S.Store self.new → (t : _) → StandsFor S.Store t self.old → IfOk result (λ is. is ≡ has_member t name.now run) }
+        ensures found { IsFaithful S.Store self.new → (shown S.Store self.old).now.schema ≡ schema_one → IfOk result (λ is. is ≡ list_any (is_member_row name.now run) ((shown S.Store self.old).now.trees 21)) }
         ensures stays { IsFaithful S.Store self.new → (t : _) → StandsFor S.Store t self.old → OnOk result (StandsFor S.Store t self.new) }
         ensures kept { IsFaithful S.Store self.new → (t : _) → StandsFor S.Store t self.old → IsUsable S.Store self.new → StandsFor S.Store t self.new }
         ensures unchanged { IsFaithful S.Store self.new → IsSettled S.Store self.old → IsUsable S.Store self.new → IsAsBefore S.Store self.old self.new }

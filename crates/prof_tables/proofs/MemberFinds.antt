@@ -1,5 +1,9 @@
 -- What queries that look for a line find.
-use Rattle.std.proofs.Common.{◌≡◌, inl, inr, ℕ, List, [], ◌∷◌, map, not, length, ◌==◌, arith, true, false, refl, sym, ap, ◌∙◌}
+use Rattle.std.proofs.Common.{◌≡◌, inl, inr, ℕ, List, [], ◌∷◌, map, filter, not, ◌&&◌, length, ◌==◌, arith, true, false, refl, sym, ap, subst, ◌∙◌, IsPermutation}
+use Rattle.std.specs.List.{list_any}
+use Rattle.std.proofs.lemmas.List.{length-map}
+use Rattle.std.proofs.lemmas.List.Sorted.{length_permutation}
+use Rattle.sqlite_tied.proofs.RuleLemmas.{and_true}
 use Rattle.std.proofs.lemmas.Bool.{cases_Bool, ne_eqb}
 use Rattle.sqlite_value.specs.declared.value.Value.TheVariants.{Int, Text}
 use Rattle.sqlite_value.specs.Order.{Row}
@@ -11,13 +15,16 @@ use Rattle.sql_tables.specs.States.{Rests}
 use Rattle.sql_tables.proofs.Cascades.{row_there}
 use Rattle.sql_tables.proofs.Contents.{content_there}
 use Rattle.sql_tables.proofs.Queries.{Selects, shown_row, row_shown}
-use Rattle.sql_tables.proofs.Rows.{id_of, passes}
+use Rattle.sql_tables.proofs.Orders.{answer_permutes}
+use Rattle.sql_tables.proofs.Rows.{id_of, passes, filter_same_on}
 use Rattle.sql_tables.proofs.Selects.{selected}
 use Rattle.sql_tables.proofs.Updates.{entry_there}
 use Rattle.prof_tables.specs.Schema.{schema_one, member_at}
 use Rattle.prof_tables.specs.Tables.{Tables, Holds, contents_of, member_columns, number}
 use Rattle.prof_tables.specs.Texts.{find_member_text}
 use Rattle.prof_tables.specs.Changes.{is_member, has_member}
+use Rattle.prof_tables.specs.Seen.{is_at, run_of_member_seen, is_member_row}
+use Rattle.prof_tables.proofs.RunFinds.{any_left}
 use Rattle.prof_tables.proofs.Groups.{member_passes}
 use Rattle.prof_tables.proofs.Means.{find_member_terms, find_member_shown, find_member_order, find_member_means, find_member_plain, find_member_unlisted}
 
@@ -51,3 +58,15 @@ member_found name n t old new (r ∷ more) was h =
     ap not (ne_eqb (length (r ∷ more)) 0 (λ e. omega (arith, e)))
     ∙ sym (found_some name n t (old.now.trees 21) (r ∷ more) (content_there schema_one.tables (contents_of t) old.now.trees 10 member_at refl was.holds.contain.contents_are)
     (selected schema_one find_member_text 21 find_member_terms find_member_shown find_member_order _ find_member_means find_member_plain find_member_unlisted old new was.schema_is refl (Text name ∷ number n ∷ []) (r ∷ more) h) r (inl refl))
+
+-- rows are found exactly where a row is that of the member, whatever the tables hold
+pub member_listed : (name : List ℕ) (n : ℕ) (old new : State) (rows : List Row) → old.now.schema ≡ schema_one → Shown find_member_text (Text name ∷ number n ∷ []) old new rows
+    → not (length rows == 0) ≡ list_any (is_member_row name n) (old.now.trees 21)
+member_listed name n old new rows has h =
+    let params = Text name ∷ number n ∷ [] in
+    let picked = filter (is_member_row name n) (old.now.trees 21) in
+    let all : IsPermutation (map run_of_member_seen picked) rows =
+    subst (λ l. IsPermutation (map run_of_member_seen l) rows) (filter_same_on (passes params find_member_terms) (is_member_row name n) (old.now.trees 21) (λ r there. ap (λ b. is_at 1 (Text name) r && b) (and_true _)))
+    (answer_permutes 21 find_member_terms find_member_shown find_member_order (old.now.trees 21) params rows
+    (selected schema_one find_member_text 21 find_member_terms find_member_shown find_member_order _ find_member_means find_member_plain find_member_unlisted old new has refl params rows h)) in
+    ap (λ k. not (k == 0)) (length_permutation (map run_of_member_seen picked) rows all ∙ length-map picked run_of_member_seen) ∙ any_left (is_member_row name n) (old.now.trees 21)

@@ -1,5 +1,5 @@
 -- What the text that looks for a run finds.
-use Rattle.std.proofs.Common.{◌≡◌, ℕ, ◌==◌, Bool, true, false, not, ◌||◌, cond, arith, length, List, [], ◌∷◌, map, filter, refl, sym, ap, ap₂, subst, ◌∙◌, IsPermutation}
+use Rattle.std.proofs.Common.{◌≡◌, ℕ, ◌==◌, Bool, true, false, not, ◌||◌, cond, arith, length, List, [], ◌∷◌, map, filter, refl, ap, ap₂, subst, ◌∙◌, IsPermutation}
 use Rattle.std.specs.List.{list_any}
 use Rattle.std.proofs.lemmas.Bool.{ne_eqb}
 use Rattle.std.proofs.lemmas.List.{length-map}

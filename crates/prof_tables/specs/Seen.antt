@@ -1,11 +1,11 @@
 -- What the texts that list rows show of a row.
-use Rattle.std.specs.Prelude.{ℕ, Bool, [], ◌∷◌}
+use Rattle.std.specs.Prelude.{ℕ, Bool, ◌&&◌, List, [], ◌∷◌}
 use Rattle.sqlite_value.specs.declared.keys.Collation.TheVariants.{Binary}
 use Rattle.sqlite_value.specs.declared.value.Value.{Value}
 use Rattle.sqlite_sql.specs.Ops.{binary, is_true}
 use Rattle.sqlite_sql.specs.declared.ops.BinaryOp.TheVariants.{Compare}
 use Rattle.sqlite_sql.specs.declared.ops.CompareOp.TheVariants.{Eq}
-use Rattle.sqlite_value.specs.declared.value.Value.TheVariants.{Blob}
+use Rattle.sqlite_value.specs.declared.value.Value.TheVariants.{Text, Blob}
 use Rattle.sqlite_value.specs.Order.{Row, column}
 use Rattle.prof_tables.specs.Tables.{EventLine, DerivedLine, CoefLine, number, text_or_null}
 
@@ -32,6 +32,14 @@ name_of_group_seen r = column r 1 ∷ []
 -- of a member its group and its run
 abbrev pub member_seen : Row → Row
 member_seen r = column r 1 ∷ column r 2 ∷ []
+
+-- of a member its run
+abbrev pub run_of_member_seen : Row → Row
+run_of_member_seen r = column r 2 ∷ []
+
+-- whether a row is that of a member
+abbrev pub is_member_row : List ℕ → ℕ → Row → Bool
+is_member_row name n r = is_at 1 (Text name) r && is_at 2 (number n) r
 
 -- of an event of a run its sums
 abbrev pub sums_seen : Row → Row

@@ -1,5 +1,5 @@
 -- A call that answers finds the connection open and leaves it so, and no call opens a connection that is shut, whatever its schema.
-use Rattle.std.proofs.Common.{◌≡◌, ◌⊎◌, inl, inr, ℕ, ◌+◌, List, [], Bool, true, false, if◌then◌else◌, ◌==◌, length, Option, None, Some, Ok, Err, Result, IsTrue, refl, sym, ap, subst, ◌∙◌}
+use Rattle.std.proofs.Common.{◌≡◌, ◌⊎◌, inl, inr, ℕ, ◌+◌, List, [], Bool, true, false, if◌then◌else◌, ◌==◌, length, Option, None, Some, Ok, Err, Result, IsTrue, sym, subst}
 use Rattle.std.specs.Bool.{⊤}
 use Rattle.std.specs.Result.{IfOk}
 use Rattle.std.proofs.lemmas.Bool.{cases_Bool}
@@ -15,7 +15,7 @@ use Rattle.sqlite_trees.specs.declared.error.StoreError.{StoreError}
 use Rattle.sqlite_schema.specs.declared.schema.Schema.{Schema}
 use Rattle.sqlite_schema.specs.declared.schema.Table.{Table}
 use Rattle.sqlite_schema.specs.declared.command.Command.{Command}
-use Rattle.sqlite_schema.specs.declared.command.Command.TheVariants.{Select, Insert, InsertOr, Update, Delete, CreateTable, CreateIndex, DropTable, DropIndex, Begin, Commit, Rollback, Savepoint, Release, RollbackTo, Nothing, CreateView, DropView, Rows}
+use Rattle.sqlite_schema.specs.declared.command.Command.TheVariants.{Insert, InsertOr, Update, Delete, CreateTable, CreateIndex, DropTable, DropIndex, CreateView, DropView}
 use Rattle.sqlite_schema.specs.declared.command.Conflict.{Conflict}
 use Rattle.sqlite_schema.specs.declared.command.Conflict.TheVariants as how
 use Rattle.sqlite_schema.specs.declared.command.Returning.{Returning}
@@ -33,7 +33,7 @@ use Rattle.sqlite.specs.declared.error.Error.TheVariants.{QueryReturnedNoRows}
 use Rattle.sqlite.specs.Calls.{IsWrite}
 use Rattle.sqlite.specs.Clock.{timed}
 use Rattle.sqlite.specs.Listing.{understood, reads_listing, if_select, is_select, listing_schema}
-use Rattle.sqlite.specs.State.{State, Runs, Writes, IsUnchanged, IsRolledBack, Executes, ExecutesIn, IsNotRun, QueriesRow, Shown, ShowsRows, FailsToQuery, FailsToShow, shows_rows, text_of, store_error}
+use Rattle.sqlite.specs.State.{State, Runs, IsUnchanged, IsRolledBack, Executes, ExecutesIn, IsNotRun, QueriesRow, Shown, ShowsRows, FailsToQuery, FailsToShow, shows_rows, text_of, store_error}
 use Rattle.sql_tables.proofs.Failures.{IsFailure, failure_of}
 
 -- the connection was open and is

@@ -4,7 +4,7 @@ use Rattle.sql_tables.proofs.Statements.{rests_if_kept, rests_if_same}
 use Rattle.prof_tables.specs.Schema.{schema_one}
 use Rattle.prof_tables.specs.Tables.{Holds}
 use Rattle.prof_tables.specs.Texts.{find_member_text}
-use Rattle.prof_tables.proofs.MemberFinds.{member_found}
+use Rattle.prof_tables.proofs.MemberFinds.{member_found, member_listed}
 use Rattle.prof_tables.proofs.Means.{find_member_plain}
 use Rattle.prof_store.proofs.Writing.{as_before}
 use Rattle.sql_tables.proofs.Opens.{shown_open, fails_was_open}
@@ -12,6 +12,9 @@ use Rattle.prof_store.proofs.store.Store.is_member.Goals as goal
 
 pub returns-in-Ok-clause-told : goal.returns-in-Ok-clause-told
 returns-in-Ok-clause-told g c clean t was = ap not (c.is_empty.ensures ∙ ap (λ l. length l == 0) c.as_slice.ensures.value) ∙ member_found c.args.name.now c.args.run t _ _ c.in-Ok.rows.items was (c.in-Ok.ensures.ok clean)
+
+pub returns-in-Ok-clause-found : goal.returns-in-Ok-clause-found
+returns-in-Ok-clause-found g c clean has = ap not (c.is_empty.ensures ∙ ap (λ l. length l == 0) c.as_slice.ensures.value) ∙ member_listed c.args.name.now c.args.run _ _ c.in-Ok.rows.items has (c.in-Ok.ensures.ok clean)
 
 pub returns-in-Ok-clause-stays : goal.returns-in-Ok-clause-stays
 returns-in-Ok-clause-stays g c clean t was =

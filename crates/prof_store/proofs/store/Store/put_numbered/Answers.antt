@@ -1,4 +1,4 @@
-use Rattle.std.proofs.Common.{inl, inr, subst, length, ◌∙◌}
+use Rattle.std.proofs.Common.{inl, inr, subst, ◌∙◌}
 use Rattle.std.proofs.lemmas.Result.{on_ok_weaker}
 use Rattle.cost_rows.specs.Rows.{content_of}
 use Rattle.cost_rows.specs.Totals.{AreTotals}

@@ -1,10 +1,9 @@
-use Rattle.std.proofs.Common.{◌≡◌, ◌∙◌, map, filter, ap, subst, IsPermutation}
+use Rattle.std.proofs.Common.{◌∙◌, map, filter, ap, subst, IsPermutation}
 use Rattle.sqlite_exec.proofs.MarkLemmas.{if_ok_then}
 use Rattle.sqlite.specs.Effect.{Database}
 use Rattle.prof_tables.specs.Seen.{is_at, derived_seen, coef_seen}
 use Rattle.prof_tables.specs.Tables.{number}
 use Rattle.prof_store.specs.HeadLines.{derived_columns, coef_columns}
-use Rattle.prof_store.specs.HeldHeads.{IsReadFrom}
 use Rattle.prof_store.proofs.HeadReading.{is_head_of, read_from_same}
 use Rattle.prof_store.proofs.store.Store.said_head.Goals as goal
 
