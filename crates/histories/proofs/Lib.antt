@@ -1,6 +1,8 @@
 pub mod Baselines
 pub mod Books
 pub mod Due
+pub mod Dues
+pub mod Examples
 pub mod Excesses
 pub mod Groups
 pub mod Held
