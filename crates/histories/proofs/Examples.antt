@@ -1,5 +1,5 @@
 -- The definitions, computed on worked histories.
-use Rattle.std.proofs.Common.{◌≡◌, ◌≢◌, inl, inr, ℕ, zero, suc, ◌≤◌, ◌^◌, ◌-◌, true, false, Bool, List, [], ◌∷◌, ◌++◌, map, length, codes, Option, Some, None, refl, arith, ap}
+use Rattle.std.proofs.Common.{◌≡◌, ◌≢◌, inl, ℕ, zero, suc, ◌≤◌, ◌^◌, false, List, [], ◌∷◌, ◌++◌, codes, Some, None, refl, arith}
 use Rattle.std.specs.Fmt.{digits}
 use Rattle.std.proofs.lemmas.Str.{IsUtf8-from_ascii}
 use Rattle.std.specs.Str.{IsAscii, IsUtf8}
@@ -14,17 +14,15 @@ use Rattle.cg_text.specs.Numbers.{number_of, amount_of}
 use Rattle.cg_text.specs.Readings.{reading_of}
 use Rattle.cg_text.specs.Subpositions.{subpos_of}
 use Rattle.cg_text.specs.declared.faults.Fault.TheVariants.{NumberTooLarge}
-use Rattle.folded_reader.specs.Lines as folded
 use Rattle.prof_books.specs.declared.kinds.Kind.{Kind}
 use Rattle.prof_books.specs.declared.kinds.Kind.TheVariants.{Callgrind, Folded}
-use Rattle.histories.specs.History.{Outcome, Gave, Failed, Said, Import, Remove, MakeGroup, DropGroup, Join, Leave, SetBaseline, Ask, Turn, History, File, held, next, groups, members, is_member, baseline, bytes_of}
+use Rattle.histories.specs.History.{Outcome, Gave, Failed, Said, Import, Remove, MakeGroup, DropGroup, Join, Leave, SetBaseline, Ask, Turn, History, File, held, next, groups, members, is_member, baseline}
 use Rattle.histories.specs.Legal.{due, AreLegal}
-use Rattle.histories.specs.Sums.{excess_of, own_held}
-use Rattle.histories.specs.Texts.{groups_text, runs_text, rising}
+use Rattle.histories.specs.Texts.{groups_text, runs_text}
 use Rattle.histories.specs.declared.answers.Answer.{Answer}
 use Rattle.histories.specs.declared.answers.Answer.TheVariants.{Run, Held, Done, Text, Refused}
 use Rattle.histories.specs.declared.answers.Excess.TheVariants.{SelfCost, CallCost, CallCount}
-use Rattle.histories.specs.declared.answers.Query.TheVariants.{Runs, Groups}
+use Rattle.histories.specs.declared.answers.Query.TheVariants.{Groups}
 use Rattle.histories.specs.declared.answers.Refusal.TheVariants as reasons
 use Rattle.histories.specs.declared.limits.Limits.{Limits}
 
