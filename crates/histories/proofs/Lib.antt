@@ -7,6 +7,7 @@ pub mod Excesses
 pub mod Groups
 pub mod Held
 pub mod Invariants
+pub mod Legality
 pub mod Lists
 pub mod Members
 pub mod Parents
