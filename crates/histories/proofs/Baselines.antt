@@ -1,10 +1,10 @@
 -- The baseline of a group after one turn more.
-use Rattle.std.proofs.Common.{◌≡◌, ℕ, Bool, true, false, not, ◌&&◌, ◌||◌, ◌==◌, if◌then◌else◌, List, [], ◌∷◌, ◌++◌, Option, Some, None, refl, sym, ap, ap₂, ◌∙◌, inl, inr}
+use Rattle.std.proofs.Common.{◌≡◌, ℕ, Bool, true, false, ◌||◌, ◌==◌, if◌then◌else◌, List, [], ◌∷◌, ◌++◌, Option, Some, None, refl, sym, ap, ap₂, ◌∙◌}
 use Rattle.std.specs.Str.{bytes_eq}
-use Rattle.std.proofs.lemmas.Bool.{cases_Bool, or_parts}
-use Rattle.histories.specs.History.{Said, Import, Remove, MakeGroup, DropGroup, Join, Leave, SetBaseline, Ask, Turn, History, based_by, unbases, is_unbased, unless_unbased, baseline}
+use Rattle.std.proofs.lemmas.Bool.{or_parts}
+use Rattle.histories.specs.History.{Said, Remove, MakeGroup, DropGroup, Join, Leave, SetBaseline, Turn, History, based_by, unbases, is_unbased, unless_unbased, baseline}
 use Rattle.histories.specs.declared.answers.Answer.{Answer}
-use Rattle.histories.specs.declared.answers.Answer.TheVariants.{Run, Held, Done, Text, Refused}
+use Rattle.histories.specs.declared.answers.Answer.TheVariants.{Done}
 use Rattle.histories.proofs.Groups.{IsNotDone}
 use Rattle.histories.proofs.Tests.{any-append}
 

@@ -1,5 +1,5 @@
 -- Runs of the book that are those of files.
-use Rattle.std.proofs.Common.{◌≡◌, ℕ, Bool, true, false, not, ◌==◌, eqb, List, [], ◌∷◌, ◌++◌, filter, refl, sym, ap, subst, ◌∙◌, cond}
+use Rattle.std.proofs.Common.{◌≡◌, ℕ, Bool, true, false, not, ◌==◌, List, [], ◌∷◌, ◌++◌, filter, ap, cond}
 use Rattle.prof_books.specs.Book.{RunBook}
 use Rattle.histories.specs.History.{File}
 use Rattle.histories.specs.Stands.{IsBookOf, AreBooksOf}
@@ -20,7 +20,7 @@ books_left n (f ∷ files) (r ∷ runs) all = go (f.number == n) (r.line.number 
   where
     go : (a b : Bool) → b ≡ a → AreBooksOf (filter (λ (f : File). not (f.number == n)) files) (filter (λ (r : RunBook). not (r.line.number == n)) runs)
         → AreBooksOf (cond (not a) (f ∷ filter (λ (f : File). not (f.number == n)) files) (filter (λ (f : File). not (f.number == n)) files))
-          (cond (not b) (r ∷ filter (λ (r : RunBook). not (r.line.number == n)) runs) (filter (λ (r : RunBook). not (r.line.number == n)) runs))
+        (cond (not b) (r ∷ filter (λ (r : RunBook). not (r.line.number == n)) runs) (filter (λ (r : RunBook). not (r.line.number == n)) runs))
     go true true same rest = rest
     go false false same rest = (all.0, rest)
     go true false same rest = absurd cc

@@ -1,13 +1,13 @@
 -- What a legal answer says of what was held.
-use Rattle.std.proofs.Common.{◌≡◌, ℕ, Bool, true, false, not, nat_lt, nat_le, if◌then◌else◌, List, [], ◌∷◌, ◌++◌, length, Option, Some, None, option_map, refl, sym, ap, ◌∙◌, inl, inr, ◌⊎◌}
+use Rattle.std.proofs.Common.{◌≡◌, ℕ, Bool, true, false, not, nat_lt, nat_le, if◌then◌else◌, List, [], ◌∷◌, length, Option, Some, None, option_map, refl, inl, inr}
 use Rattle.std.specs.List.{list_any}
 use Rattle.sha2.specs.Sha256.{sha256}
 use Rattle.cg_text.specs.declared.faults.Fault as faults
 use Rattle.prof_books.specs.Labels.{IsGroupName}
 use Rattle.prof_books.specs.declared.kinds.Kind.{Kind}
 use Rattle.histories.specs.Files.{fault_of}
-use Rattle.histories.specs.History.{Outcome, Said, Import, Remove, MakeGroup, DropGroup, Join, Leave, SetBaseline, Ask, History, bytes_of, held, next, groups}
-use Rattle.histories.specs.Legal.{IsLegal, IsInForm, IsWant, due, import_due, file_due, first_or, when, faulty, number_of, has_run, has_group, no_run, no_group, is_failed, is_end}
+use Rattle.histories.specs.History.{Outcome, Said, Import, MakeGroup, Join, SetBaseline, History, bytes_of, held, next, groups}
+use Rattle.histories.specs.Legal.{IsLegal, IsInForm, due, file_due, first_or, when, faulty, number_of, has_run, has_group, is_failed, is_end}
 use Rattle.histories.specs.Sums.{excess_of}
 use Rattle.histories.specs.declared.limits.Limits.{Limits}
 use Rattle.histories.specs.declared.answers.Answer.{Answer}
@@ -30,10 +30,13 @@ refused_not (Text text) refusal is same = cc
 
 pub was_due : (limits : Limits) (h : History) (said : Said) (answer : Answer) → IsTaken answer → IsLegal limits h said answer → IsInForm said × (due limits h said ≡ Some answer)
 was_due limits h said answer is legal = elim legal [
-  | inl form ↦ (form.0, elim form.1 [
-    | inl same ↦ same
-    | inr want ↦ elim want [ inl memory ↦ absurd (refused_not answer reasons.Memory is memory) | inr store ↦ absurd (refused_not answer reasons.Store is store) ]
-  ])
+  | inl form ↦ (
+    form.0,
+    elim form.1 [
+      | inl same ↦ same
+      | inr want ↦ elim want [ inl memory ↦ absurd (refused_not answer reasons.Memory is memory) | inr store ↦ absurd (refused_not answer reasons.Store is store) ]
+    ],
+  )
   | inr bad ↦ absurd (refused_not answer reasons.BadName is bad.2)
 ]
 
@@ -82,7 +85,7 @@ module _ (limits : Limits) (h : History) (kind : Kind) (bytes : List ℕ) (n : �
 
       first : (a : Option ℕ) → number_of (sha256 bytes) (held h) ≡ a
           → first_or (option_map Held a ∷ option_map faulty (fault_of kind bytes) ∷ option_map (λ excess. Refused (reasons.Overflow excess)) (excess_of (held h) kind bytes)
-            ∷ when (nat_le limits.runs (length (held h))) (Refused reasons.Full) ∷ when (nat_le limits.numbers (next h)) (Refused reasons.NumbersSpent) ∷ []) (Run (next h)) ≡ Run n
+          ∷ when (nat_le limits.runs (length (held h))) (Refused reasons.Full) ∷ when (nat_le limits.numbers (next h)) (Refused reasons.NumbersSpent) ∷ []) (Run (next h)) ≡ Run n
           → (n ≡ next h) × (number_of (sha256 bytes) (held h) ≡ None)
       first (Some m) here same = absurd cc
       first None here same = (fault (fault_of kind bytes) (excess_of (held h) kind bytes) (nat_le limits.runs (length (held h))) (nat_le limits.numbers (next h)) same, here)

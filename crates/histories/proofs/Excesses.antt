@@ -1,22 +1,19 @@
 -- The first sum that passes its bound, by the sums of tables and by the files that are held.
-use Rattle.std.proofs.Common.{◌≡◌, ℕ, zero, suc, ◌+◌, ◌<◌, Bool, true, false, nat_lt, if◌then◌else◌, List, [], ◌∷◌, ◌++◌, map, length, slice_index, slice_index_or, Option, Some, None, option_map, refl, sym, ap, ap₂, subst, ◌∙◌, arith}
+use Rattle.std.proofs.Common.{◌≡◌, ℕ, suc, ◌+◌, ◌<◌, Bool, true, false, nat_lt, if◌then◌else◌, List, [], ◌∷◌, ◌++◌, map, length, slice_index, slice_index_or, Some, None, option_map, refl, sym, ap, ap₂, subst, ◌∙◌, arith}
 use Rattle.sqlite_trees.specs.Tree.{Trees}
 use Rattle.cost_rows.specs.Admit as admit
 use Rattle.cost_rows.specs.Admit.{bound, column_sums, sums_of, overflow_of}
-use Rattle.cost_rows.specs.Content.{Content}
 use Rattle.cost_rows.specs.Totals.{AreTotals}
 use Rattle.cost_rows.specs.declared.limits.Overflow.{Overflow}
-use Rattle.cost_rows.specs.declared.limits.Side.{Side}
 use Rattle.cost_rows.specs.declared.limits.Side.TheVariants as sides
 use Rattle.cost_rows.specs.declared.rows.FileTotals.{FileTotals}
 use Rattle.prof_tables.specs.Tables.{Tables, Holds}
-use Rattle.prof_books.specs.Totals.{held_self, held_calls, held_count, IsHeldIn}
+use Rattle.prof_books.specs.Totals.{held_self, held_calls, IsHeldIn}
 use Rattle.prof_books.specs.declared.kinds.Kind.{Kind}
 use Rattle.histories.specs.Files.{events_of, rows_of}
 use Rattle.histories.specs.History.{History, File, held}
 use Rattle.histories.specs.Stands.{TablesTell}
-use Rattle.histories.specs.Sums.{Sum, own_column, call_column, calls_of, own_held, calls_cost_held, calls_held, own_sums, call_sums, sums_with, first_above, excess_of, excess_at, excess_on}
-use Rattle.histories.specs.declared.answers.Excess.{Excess}
+use Rattle.histories.specs.Sums.{Sum, own_column, call_column, calls_of, own_held, calls_cost_held, calls_held, own_sums, call_sums, sums_with, first_above, excess_of, excess_at}
 use Rattle.histories.specs.declared.answers.Excess.TheVariants.{SelfCost, CallCost, CallCount}
 use Rattle.histories.proofs.Rows.{rows_come}
 use Rattle.histories.proofs.Totals.{tells_self, tells_calls, tells_count}
@@ -120,13 +117,13 @@ tells_excess h t db kind bytes held_totals file_totals was tell in_tables in_fil
     ap₂ ◌+◌ (in_tables.call_count ∙ tells_count h t tell) (in_file.call_count ∙ all.counts (λ _ _. true)) in
     first_same events (sums_of held_totals file_totals) (sums_with (held h) kind bytes)
     (same_append events
-      (column_sums sides.SelfCost 0 held_totals.self_cost file_totals.self_cost ++ column_sums sides.CallCost 0 held_totals.call_cost file_totals.call_cost)
-      (record { of = record { side = sides.CallCount; column = 0 }; sum = held_totals.call_count + file_totals.call_count } ∷ [])
-      (own_sums (held h) (own_column kind bytes) 0 events ++ call_sums (held h) (call_column kind bytes) 0 events)
-      (record { of = CallCount; sum = calls_held (held h) + calls_of kind bytes } ∷ [])
-      (same_append events (column_sums sides.SelfCost 0 held_totals.self_cost file_totals.self_cost) (column_sums sides.CallCost 0 held_totals.call_cost file_totals.call_cost) (own_sums (held h) (own_column kind bytes) 0 events)
-        (call_sums (held h) (call_column kind bytes) 0 events) own calls)
-      (record { of = refl; sum = count }, tt))
+    (column_sums sides.SelfCost 0 held_totals.self_cost file_totals.self_cost ++ column_sums sides.CallCost 0 held_totals.call_cost file_totals.call_cost)
+    (record { of = record { side = sides.CallCount; column = 0 }; sum = held_totals.call_count + file_totals.call_count } ∷ [])
+    (own_sums (held h) (own_column kind bytes) 0 events ++ call_sums (held h) (call_column kind bytes) 0 events)
+    (record { of = CallCount; sum = calls_held (held h) + calls_of kind bytes } ∷ [])
+    (same_append events (column_sums sides.SelfCost 0 held_totals.self_cost file_totals.self_cost) (column_sums sides.CallCost 0 held_totals.call_cost file_totals.call_cost) (own_sums (held h) (own_column kind bytes) 0 events)
+    (call_sums (held h) (call_column kind bytes) 0 events) own calls)
+    (record { of = refl; sum = count }, tt))
 
 pub tells_fits : (h : History) (t : Tables) (db : Trees) (kind : Kind) (bytes : List ℕ) (held_totals file_totals : FileTotals) → Holds t db → TablesTell h t → IsHeldIn t (events_of kind bytes) held_totals
     → AreTotals file_totals (rows_of kind bytes) (length (events_of kind bytes)) → overflow_of held_totals file_totals ≡ None → excess_of (held h) kind bytes ≡ None

@@ -2,9 +2,9 @@
 use Rattle.std.proofs.Common.{◌≡◌, ℕ, Bool, true, false, not, ◌||◌, if◌then◌else◌, cond, List, [], ◌∷◌, ◌++◌, filter, Option, Some, None, refl, sym, ap, ap₂, ◌∙◌, append-nil, append_assoc}
 use Rattle.std.specs.Str.{bytes_eq}
 use Rattle.std.proofs.lemmas.List.Elements.{filter-append}
-use Rattle.histories.specs.History.{Said, Import, Remove, MakeGroup, DropGroup, Join, Leave, SetBaseline, Ask, Turn, History, groups, made_by, drops, is_dropped, unless_dropped}
+use Rattle.histories.specs.History.{Said, MakeGroup, DropGroup, Turn, History, groups, made_by, drops, is_dropped, unless_dropped}
 use Rattle.histories.specs.declared.answers.Answer.{Answer}
-use Rattle.histories.specs.declared.answers.Answer.TheVariants.{Run, Held, Done, Text, Refused}
+use Rattle.histories.specs.declared.answers.Answer.TheVariants.{Run, Done}
 use Rattle.histories.proofs.Held.{IsStill}
 use Rattle.histories.proofs.Tests.{any-append, filter_all, filter_same, bytes-flip}
 

@@ -1,15 +1,15 @@
 -- What holds of every history: numbers rise, digests and names stand apart, and members and baselines are held.
-use Rattle.std.proofs.Common.{◌≡◌, ℕ, ◌<◌, ◌≤◌, ◌+◌, suc, Bool, true, false, not, ◌&&◌, ◌||◌, ◌==◌, eqb, if◌then◌else◌, List, [], ◌∷◌, ◌++◌, map, filter, Option, Some, None, refl, sym, ap, ap₂, subst, ◌∙◌, inl, inr, ◌⊎◌, arith, cond, append-nil}
+use Rattle.std.proofs.Common.{◌≡◌, ℕ, ◌<◌, ◌≤◌, ◌+◌, Bool, true, false, not, ◌&&◌, ◌||◌, ◌==◌, if◌then◌else◌, List, [], ◌∷◌, ◌++◌, filter, Option, Some, None, refl, sym, ap, subst, ◌∙◌, inl, inr, ◌⊎◌, arith, append-nil}
 use Rattle.std.specs.List.{list_any, AllByRecursion}
 use Rattle.std.specs.Str.{bytes_eq}
-use Rattle.std.proofs.lemmas.Bool.{cases_Bool, eqb-true, eq-eqb, and_parts, and_from, or_parts, or_cases, not-true}
+use Rattle.std.proofs.lemmas.Bool.{eqb-true, and_parts, or_parts, or_cases, not-true}
 use Rattle.sha2.specs.Sha256.{sha256}
-use Rattle.cost_rows.proofs.NamingLemmas.{same_bytes, bytes-same}
+use Rattle.cost_rows.proofs.NamingLemmas.{same_bytes}
 use Rattle.prof_books.specs.Labels.{IsGroupName}
-use Rattle.histories.specs.History.{Outcome, bytes_of, Said, Import, Remove, MakeGroup, DropGroup, Join, Leave, SetBaseline, Ask, Turn, History, File, held, next, groups, removes, drops, joins, parts, is_member, based_by, unbases, baseline}
+use Rattle.histories.specs.History.{bytes_of, Said, Import, Remove, MakeGroup, DropGroup, Join, SetBaseline, Turn, History, File, held, next, groups, removes, drops, joins, parts, is_member, based_by, unbases, baseline}
 use Rattle.histories.specs.Legal.{IsLegal, IsHistory, number_of, has_run, has_group}
 use Rattle.histories.specs.declared.answers.Answer.{Answer}
-use Rattle.histories.specs.declared.answers.Answer.TheVariants.{Run, Held, Done, Text, Refused}
+use Rattle.histories.specs.declared.answers.Answer.TheVariants.{Run, Done}
 use Rattle.histories.specs.declared.limits.Limits.{Limits}
 use Rattle.histories.proofs.Baselines.{baseline_more, left_by, set_or}
 use Rattle.histories.proofs.Due.{run_legal, made_legal, joined_legal, based_legal}
@@ -18,7 +18,7 @@ use Rattle.histories.proofs.Groups.{groups_more, made}
 use Rattle.histories.proofs.Held as held
 use Rattle.histories.proofs.Held.{held_more, taken, next_more, step}
 use Rattle.histories.proofs.Members.{member_more}
-use Rattle.histories.proofs.Tests.{any-append, any-filter, all_filter, all_push, all_on, Pairs, pairs_filter, pairs_push, bytes-flip, bytes-self}
+use Rattle.histories.proofs.Tests.{any-append, any-filter, all_filter, all_push, all_on, Pairs, pairs_filter, pairs_push}
 use Rattle.histories.proofs.Turns.{by_turns}
 
 -- ---- numbers rise, and are below the next
@@ -164,14 +164,14 @@ run_more h turn n =
     ap (list_any (λ (f : File). f.number == n)) (held_more h turn)
     ∙ any-append (λ (f : File). f.number == n) (filter (held.stays turn.said turn.answer) (held h)) (taken turn.said turn.answer)
     ∙ ap (λ b. b || list_any (λ (f : File). f.number == n) (taken turn.said turn.answer))
-      (any-filter (λ (f : File). f.number == n) (held.stays turn.said turn.answer) (not (removes n turn.said turn.answer)) (held h) (λ f same. ap (λ m. not (removes m turn.said turn.answer)) (eqb-true f.number n same)))
+    (any-filter (λ (f : File). f.number == n) (held.stays turn.said turn.answer) (not (removes n turn.said turn.answer)) (held h) (λ f same. ap (λ m. not (removes m turn.said turn.answer)) (eqb-true f.number n same)))
 
 pub group_more : (h : History) (turn : Turn) (name : List ℕ) → has_group (h ++ turn ∷ []) name ≡ (has_group h name && not (drops name turn.said turn.answer)) || list_any (λ other. bytes_eq other name) (made turn.said turn.answer)
 group_more h turn name =
     ap (list_any (λ other. bytes_eq other name)) (groups_more h turn)
     ∙ any-append (λ other. bytes_eq other name) (filter (groups.stays turn.said turn.answer) (groups h)) (made turn.said turn.answer)
     ∙ ap (λ b. b || list_any (λ other. bytes_eq other name) (made turn.said turn.answer))
-      (any-filter (λ other. bytes_eq other name) (groups.stays turn.said turn.answer) (not (drops name turn.said turn.answer)) (groups h) (λ other same. ap (λ o. not (drops o turn.said turn.answer)) (same_bytes other name same)))
+    (any-filter (λ other. bytes_eq other name) (groups.stays turn.said turn.answer) (not (drops name turn.said turn.answer)) (groups h) (λ other same. ap (λ o. not (drops o turn.said turn.answer)) (same_bytes other name same)))
 
 -- ---- members and baselines are of groups and runs that are held
 
@@ -208,13 +208,13 @@ pub members_held : (h : History) → IsHistory h → (name : List ℕ) (n : ℕ)
 members_held h is name n =
     by_turns (λ h. is_member h name n ≡ true → AreHeld h name n) (λ none. absurd cc)
     (λ limits h turn is was legal member.
-      elim (or_cases (is_member h name n && not (parts name n turn.said turn.answer)) (joins name n turn.said turn.answer) (sym (member_more h turn name n) ∙ member)) [
-        | inl stays ↦
-            let two = and_parts (is_member h name n) (not (parts name n turn.said turn.answer)) stays in
-            let left = parts_both name n turn.said turn.answer (not-true (parts name n turn.said turn.answer) two.1) in
-            held_stays h turn name n (was two.0) left.0 left.1
-        | inr new ↦ let two = joins_both limits h name n turn.said turn.answer legal new in held_stays h turn name n two.0 two.1 two.2
-      ])
+    elim (or_cases (is_member h name n && not (parts name n turn.said turn.answer)) (joins name n turn.said turn.answer) (sym (member_more h turn name n) ∙ member)) [
+      | inl stays ↦
+          let two = and_parts (is_member h name n) (not (parts name n turn.said turn.answer)) stays in
+          let left = parts_both name n turn.said turn.answer (not-true (parts name n turn.said turn.answer) two.1) in
+          held_stays h turn name n (was two.0) left.0 left.1
+      | inr new ↦ let two = joins_both limits h name n turn.said turn.answer legal new in held_stays h turn name n two.0 two.1 two.2
+    ])
     h is
 
 unbases_both : (name : List ℕ) (n : ℕ) (said : Said) (answer : Answer) → unbases name n said answer ≡ false → (drops name said answer ≡ false) × (removes n said answer ≡ false)

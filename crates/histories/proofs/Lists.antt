@@ -1,5 +1,5 @@
 -- Lists that rise, and lists with the same elements.
-use Rattle.std.proofs.Common.{◌≡◌, ℕ, zero, suc, ◌+◌, ◌<◌, Bool, true, false, ◌&&◌, ◌||◌, List, [], ◌∷◌, ◌++◌, map, filter, length, slice_index_or, refl, sym, ap, ap₂, subst, ◌∙◌, cond, inl, inr, ◌⊎◌, arith}
+use Rattle.std.proofs.Common.{◌≡◌, ℕ, suc, ◌+◌, Bool, true, false, ◌||◌, List, [], ◌∷◌, map, length, slice_index_or, refl, sym, ap, ap₂, subst, ◌∙◌, inl, inr, arith}
 use Rattle.std.specs.List.{list_any, AllByRecursion, AllAdjacentBelow}
 use Rattle.std.specs.Ordering.{nat_cmp, ordering_reverse}
 use Rattle.std.specs.Cmp.Lexicographic.{slice_cmp}
@@ -7,13 +7,13 @@ use Rattle.std.specs.declared.cmp.Ordering.{Ordering}
 use Rattle.std.specs.declared.cmp.Ordering.TheVariants.{Less, Equal, Greater}
 use Rattle.std.specs.Str.{bytes_eq}
 use Rattle.std.specs.Ordering.{is_eq}
-use Rattle.std.proofs.lemmas.Bool.{or_cases, or_parts, cases_Bool, and_parts}
+use Rattle.std.proofs.lemmas.Bool.{or_cases, cases_Bool}
 use Rattle.std.proofs.lemmas.Cmp.{tied_itself}
-use Rattle.cost_rows.proofs.NamingLemmas.{same_bytes, bytes-same}
+use Rattle.cost_rows.proofs.NamingLemmas.{bytes-same}
 use Rattle.cost_rows.proofs.NumberedLemmas.{equal-bytes}
 use Rattle.cost_rows.proofs.StacksLemmas.{bytes_cmp-total}
 use Rattle.histories.specs.Texts.{placed, among, rising}
-use Rattle.histories.proofs.Tests.{Pairs, all_on, bytes-self, bytes_apart, all_map}
+use Rattle.histories.proofs.Tests.{Pairs, all_on, all_map}
 
 -- ---- each element is before the next, so before each later one
 

@@ -1,17 +1,16 @@
 -- What an import makes of tables that stand for a history.
-use Rattle.std.proofs.Common.{◌≡◌, ℕ, suc, Bool, true, List, [], ◌∷◌, ◌++◌, map, flat_map, Option, refl, sym, ap, ap₂, subst, ◌∙◌}
+use Rattle.std.proofs.Common.{◌≡◌, ℕ, suc, true, List, [], ◌∷◌, ◌++◌, map, refl, sym, ap, ap₂, subst, ◌∙◌}
 use Rattle.std.specs.List.{list_any, AllByRecursion}
 use Rattle.sha2.specs.Sha256.{sha256}
 use Rattle.sqlite_trees.specs.Tree.{Trees}
 use Rattle.cg_text.specs.declared.heads.FileHead.{FileHead}
 use Rattle.cost_rows.specs.Content.{Content}
 use Rattle.cost_rows.specs.Held.{AreHeld}
-use Rattle.cost_rows.specs.Sums.{Spot}
 use Rattle.cost_rows.specs.Walks.{arc_rows}
 use Rattle.cost_rows.proofs.WalkSumsLemmas.{walked-cells, walked-costs, walked-counts, walked-stacks}
 use Rattle.prof_tables.specs.Tables.{Tables, Holds, GroupLine}
 use Rattle.prof_tables.specs.Changes as changes
-use Rattle.prof_books.specs.Book.{Book, RunBook, book_of, with_run_book}
+use Rattle.prof_books.specs.Book.{Book, book_of, with_run_book}
 use Rattle.prof_books.specs.Heads as heads
 use Rattle.prof_books.specs.Heads.{event_lines, derived_lines, coef_lines, derived_lines_from, coef_lines_from, stated_at}
 use Rattle.prof_books.specs.Runs.{run_line_of, with_file, file_book}
@@ -20,8 +19,8 @@ use Rattle.prof_books.specs.declared.kinds.Kind.TheVariants.{Callgrind, Folded}
 use Rattle.prof_books.proofs.Books.{book_put, named_put}
 use Rattle.prof_books.proofs.Filed.{head_of_run}
 use Rattle.prof_books.proofs.Parts.{counts_are, costs_are}
-use Rattle.histories.specs.Files.{events_of, derived_of, stated_of, records_of, stacks_of, IsHeadOf, rows_of}
-use Rattle.histories.specs.History.{Outcome, Said, Import, Turn, History, File, bytes_of, held, baseline}
+use Rattle.histories.specs.Files.{events_of, derived_of, stated_of, IsHeadOf, rows_of}
+use Rattle.histories.specs.History.{Outcome, Import, History, File, bytes_of, held, baseline}
 use Rattle.histories.specs.Legal.{IsLegal}
 use Rattle.histories.specs.Stands.{IsBookOf, AreBooksOf, TablesTell, event_lines_from}
 use Rattle.histories.specs.declared.answers.Answer.TheVariants.{Run}
@@ -31,7 +30,7 @@ use Rattle.histories.proofs.Books.{books_push}
 use Rattle.histories.proofs.Groups.{groups_other}
 use Rattle.histories.proofs.Held.{held_put, next_run}
 use Rattle.histories.proofs.Members.{member_other}
-use Rattle.histories.proofs.Rows.{ComesTo, rows_come}
+use Rattle.histories.proofs.Rows.{rows_come}
 use Rattle.histories.proofs.Tests.{all_on}
 use Rattle.histories.proofs.Turns.{history_more}
 

@@ -1,19 +1,19 @@
 -- What each legal turn but an import makes of tables that stand for a history.
-use Rattle.std.proofs.Common.{◌≡◌, ℕ, Bool, true, false, not, ◌&&◌, ◌||◌, ◌==◌, eqb, if◌then◌else◌, List, [], ◌∷◌, ◌++◌, map, filter, Option, Some, None, refl, sym, ap, ap₂, subst, ◌∙◌, cond, inl, inr}
-use Rattle.std.specs.List.{list_any, AllByRecursion}
+use Rattle.std.proofs.Common.{◌≡◌, ℕ, Bool, true, false, not, ◌&&◌, ◌||◌, ◌==◌, eqb, if◌then◌else◌, List, [], ◌∷◌, ◌++◌, map, filter, Option, Some, None, refl, sym, ap, ap₂, subst, ◌∙◌, cond}
+use Rattle.std.specs.List.{AllByRecursion}
 use Rattle.std.specs.Str.{bytes_eq}
-use Rattle.std.proofs.lemmas.Bool.{cases_Bool, and_parts, eqb-true}
+use Rattle.std.proofs.lemmas.Bool.{and_parts, eqb-true}
 use Rattle.cost_rows.proofs.NamingLemmas.{same_bytes}
 use Rattle.prof_tables.specs.Tables.{Tables, GroupLine, MemberLine, new_tables}
 use Rattle.prof_tables.specs.Changes as changes
 use Rattle.prof_tables.specs.Changes.{without_run, has_baseline, is_baseline, unbased, is_named, with_group, without_group, joined, with_member, without_member, rebased, with_baseline, has_member}
 use Rattle.prof_books.specs.Book.{book_of, Book}
 use Rattle.prof_books.proofs.Books.{book_dropped, named_dropped, named_grouped, named_new}
-use Rattle.histories.specs.History.{Said, Import, Remove, MakeGroup, DropGroup, Join, Leave, SetBaseline, Ask, Turn, History, held, next, groups, is_member, baseline}
-use Rattle.histories.specs.Legal.{IsLegal, IsHistory, has_group}
+use Rattle.histories.specs.History.{Said, Remove, MakeGroup, DropGroup, Join, Leave, SetBaseline, History, held, is_member, baseline}
+use Rattle.histories.specs.Legal.{IsLegal}
 use Rattle.histories.specs.Stands.{AreBooksOf, TablesTell}
 use Rattle.histories.specs.declared.answers.Answer.{Answer}
-use Rattle.histories.specs.declared.answers.Answer.TheVariants.{Run, Held, Done, Text, Refused}
+use Rattle.histories.specs.declared.answers.Answer.TheVariants.{Done}
 use Rattle.histories.specs.declared.limits.Limits.{Limits}
 use Rattle.histories.proofs.Baselines.{baseline_other, baseline_made, baseline_joined, baseline_left, baseline_removed, baseline_dropped, baseline_based, but, none_if}
 use Rattle.histories.proofs.Books.{books_left}
@@ -22,7 +22,7 @@ use Rattle.histories.proofs.Groups.{groups_other, groups_same, groups_made, grou
 use Rattle.histories.proofs.Held.{IsStill, held_still, held_done, held_removed, next_still, next_done}
 use Rattle.histories.proofs.Invariants.{no_baseline}
 use Rattle.histories.proofs.Members.{member_other, member_made, member_based, member_removed, member_dropped, member_left, member_joined}
-use Rattle.histories.proofs.Tests.{all_on, all_map, all_push, all_filter, any-append, any-filter, or-false, number-flip, bytes-flip, bytes-self}
+use Rattle.histories.proofs.Tests.{all_on, all_map, all_push, any-append, any-filter, or-false, number-flip, bytes-flip}
 use Rattle.histories.proofs.Turns.{history_more}
 
 abbrev pub grown : History → Said → Answer → History
@@ -209,8 +209,8 @@ tell_left limits h name n t tell legal = record {
   members = λ other k.
       any-filter (changes.is_member other k) (λ m. not (changes.is_member name n m)) (not (bytes_eq name other && (n == k))) t.members
       (λ m same.
-        let two = and_parts (bytes_eq m.group other) (m.run == k) same in
-        ap not (ap₂ (λ g r. bytes_eq g name && eqb r n) (same_bytes m.group other two.0) (eqb-true m.run k two.1) ∙ ap₂ ◌&&◌ (bytes-flip other name) (number-flip k n)))
+      let two = and_parts (bytes_eq m.group other) (m.run == k) same in
+      ap not (ap₂ (λ g r. bytes_eq g name && eqb r n) (same_bytes m.group other two.0) (eqb-true m.run k two.1) ∙ ap₂ ◌&&◌ (bytes-flip other name) (number-flip k n)))
       ∙ ap (λ b. b && not (bytes_eq name other && (n == k))) (tell.members other k) ∙ sym (member_left h name n other k);
 }
 

@@ -1,22 +1,20 @@
 -- What tables that stand for a history tell of it: runs, groups and digests.
-use Rattle.std.proofs.Common.{◌≡◌, ◌≢◌, ℕ, suc, Bool, true, false, ◌||◌, ◌==◌, if◌then◌else◌, List, [], ◌∷◌, map, length, Option, Some, None, refl, sym, ap, ap₂, subst, ◌∙◌, inl, inr, ◌⊎◌}
+use Rattle.std.proofs.Common.{◌≡◌, ◌≢◌, ℕ, suc, false, ◌||◌, ◌==◌, if◌then◌else◌, List, [], ◌∷◌, map, length, Option, Some, None, refl, sym, ap, ap₂, ◌∙◌, inl, inr}
 use Rattle.std.specs.List.{list_any, AllByRecursion}
 use Rattle.std.specs.Option.{MatchOption}
 use Rattle.std.specs.Str.{bytes_eq}
 use Rattle.std.proofs.lemmas.List.{length-map}
-use Rattle.std.proofs.lemmas.Bool.{cases_Bool}
 use Rattle.sha2.specs.Sha256.{sha256}
 use Rattle.sqlite_rules.specs.Lists.{Has}
-use Rattle.cost_rows.proofs.NamingLemmas.{same_bytes, bytes-same}
+use Rattle.cost_rows.proofs.NamingLemmas.{bytes-same}
 use Rattle.prof_tables.specs.Tables.{Tables, RunLine, GroupLine}
 use Rattle.prof_tables.specs.Changes as changes
-use Rattle.prof_books.specs.Book.{book_of, run_held}
-use Rattle.prof_books.specs.Entries.{HeldRun, held_run}
-use Rattle.prof_books.specs.Kinds.{kind_number}
+use Rattle.prof_books.specs.Book.{run_held}
+use Rattle.prof_books.specs.Entries.{held_run}
 use Rattle.prof_books.specs.Labels.{IsGroupName}
 use Rattle.histories.specs.History.{History, File, held, next, groups}
 use Rattle.histories.specs.Legal.{number_of, has_run, has_group}
-use Rattle.histories.specs.Stands.{IsBookOf, AreBooksOf, TablesTell, file_run}
+use Rattle.histories.specs.Stands.{AreBooksOf, TablesTell, file_run}
 use Rattle.histories.proofs.Invariants.{OtherDigest, digests_apart, groups_named}
 use Rattle.histories.proofs.Tests.{Pairs, bytes_apart}
 

@@ -1,14 +1,14 @@
 -- What tables that stand for a history tell of its groups, and so the texts of lists.
-use Rattle.std.proofs.Common.{◌≡◌, ℕ, ◌<◌, suc, Bool, true, false, ◌&&◌, ◌||◌, ◌==◌, eqb, List, [], ◌∷◌, ◌++◌, map, filter, flat_map, length, Option, refl, sym, ap, ap₂, subst, ◌∙◌, cond, inl, inr, arith, IsPermutation}
+use Rattle.std.proofs.Common.{◌≡◌, ℕ, ◌<◌, Bool, true, false, ◌&&◌, ◌||◌, ◌==◌, eqb, List, [], ◌∷◌, ◌++◌, map, filter, flat_map, length, Option, refl, sym, ap, ap₂, subst, ◌∙◌, cond, arith, IsPermutation}
 use Rattle.std.specs.List.{list_any, AllByRecursion, AllAdjacentBelow}
 use Rattle.std.specs.Ordering.{nat_cmp}
 use Rattle.std.specs.Cmp.Lexicographic.{slice_cmp}
 use Rattle.std.specs.declared.cmp.Ordering.TheVariants.{Less}
 use Rattle.std.specs.Str.{bytes_eq}
-use Rattle.std.proofs.lemmas.Bool.{cases_Bool, eqb-true, eq-eqb}
+use Rattle.std.proofs.lemmas.Bool.{eqb-true, eq-eqb}
 use Rattle.std.proofs.lemmas.List.Elements.{All-from_recursion, recursion_from_All}
 use Rattle.std.proofs.lemmas.List.Sorted.{All-permutation, IsPermutation-map, list_any-IsPermutation}
-use Rattle.cost_rows.proofs.NamingLemmas.{same_bytes, bytes-same}
+use Rattle.cost_rows.proofs.NamingLemmas.{same_bytes}
 use Rattle.sha2.specs.Sha256.{sha256}
 use Rattle.prof_tables.specs.Tables.{Tables, GroupLine, MemberLine}
 use Rattle.prof_tables.specs.Changes as changes
@@ -23,7 +23,7 @@ use Rattle.histories.specs.Texts.{rising, group_line, groups_text, run_line, run
 use Rattle.histories.proofs.Invariants.{IsBefore, members_held, numbered, groups_named}
 use Rattle.histories.proofs.Lists.{Before, before_trans, before_irreflexive, any_rising, up_rising, pairs_of, pairs_map, same_rising}
 use Rattle.histories.proofs.Tells.{tells_runs}
-use Rattle.histories.proofs.Tests.{Pairs, pairs_filter, any-filter, any_same, bytes-self}
+use Rattle.histories.proofs.Tests.{Pairs, pairs_filter, any-filter, bytes-self}
 
 -- ---- entries, each with the number, the kind, the digest and the label of a run
 
@@ -147,8 +147,8 @@ module _ {E : Type 0} (name : E → List ℕ) (base : E → Option ℕ) (numbers
     tells_members e lines up =
         same_rising eqb eqb-true IsLess number_self less_irreflexive less_trans (members h (name e)) (numbers e) (members_up h tell.legal (name e)) (pairs_of IsLess less_trans (numbers e) up)
         (λ n.
-          members_are h tell.legal (name e) n ∙ sym (tell.members (name e) n) ∙ sym (any_two (name e) n t.members)
-          ∙ list_any-IsPermutation (λ (m : MemberLine). m.run == n) (filter (λ (m : MemberLine). bytes_eq m.group (name e)) t.members) (map (in_group e) (numbers e)) lines ∙ any_in_group e n (numbers e))
+        members_are h tell.legal (name e) n ∙ sym (tell.members (name e) n) ∙ sym (any_two (name e) n t.members)
+        ∙ list_any-IsPermutation (λ (m : MemberLine). m.run == n) (filter (λ (m : MemberLine). bytes_eq m.group (name e)) t.members) (map (in_group e) (numbers e)) lines ∙ any_in_group e n (numbers e))
 
     lines_of : (es : List E) → AllByRecursion (λ e. base e ≡ baseline h (name e)) es
         → AllByRecursion (λ e. IsPermutation (filter (λ (m : MemberLine). bytes_eq m.group (name e)) t.members) (map (in_group e) (numbers e))) es

@@ -1,14 +1,13 @@
 -- The sums over all runs are those over the files that are held.
-use Rattle.std.proofs.Common.{◌≡◌, ℕ, suc, ◌+◌, ◌<◌, ◌≤◌, Bool, true, false, ◌||◌, ◌==◌, eqb, if◌then◌else◌, List, [], ◌∷◌, map, filter, refl, sym, ap, ap₂, ◌∙◌, cond, arith}
+use Rattle.std.proofs.Common.{◌≡◌, ℕ, suc, ◌+◌, ◌<◌, Bool, true, false, ◌||◌, ◌==◌, eqb, if◌then◌else◌, List, [], ◌∷◌, map, filter, refl, sym, ap, ap₂, ◌∙◌, cond, arith}
 use Rattle.std.specs.List.{list_any, AllByRecursion, sum_by}
 use Rattle.std.specs.Str.{bytes_eq}
 use Rattle.std.proofs.lemmas.List.Sums.{sum_by-cons}
-use Rattle.std.proofs.lemmas.Bool.{or_cases, or_parts, eqb-true, ne_eqb}
+use Rattle.std.proofs.lemmas.Bool.{eqb-true, ne_eqb}
 use Rattle.std.proofs.lemmas.Bool.Decides.{nat_tests}
 use Rattle.sqlite_trees.specs.Tree.{Trees}
 use Rattle.prof_tables.specs.Tables.{Tables, Holds, RunLine, EventLine}
-use Rattle.prof_tables.specs.Changes.{has_run}
-use Rattle.prof_books.specs.Book.{book_of, run_held}
+use Rattle.prof_books.specs.Book.{run_held}
 use Rattle.prof_books.specs.Totals.{held_self, held_calls, held_count, lines_named}
 use Rattle.prof_books.specs.Heads.{stated_at}
 use Rattle.histories.specs.Files.{events_of, stated_of}
@@ -82,7 +81,7 @@ per_run m runs (e ∷ events) up there =
     sum_by-cons m e events ∙ ap₂ ◌+◌ (sym (once_at (m e) e.run runs up there.0)) (per_run m runs events up there.1)
     ∙ sym (sum_both (λ (r : RunLine). part (e.run == r.number) (m e)) (λ (r : RunLine). sum_by m (filter (λ (f : EventLine). f.run == r.number) events)) runs)
     ∙ sym (sum_same (λ (r : RunLine). sum_by m (filter (λ (f : EventLine). f.run == r.number) (e ∷ events))) (λ (r : RunLine). part (e.run == r.number) (m e) + sum_by m (filter (λ (f : EventLine). f.run == r.number) events)) runs
-      (λ r. one (e.run == r.number) (filter (λ (f : EventLine). f.run == r.number) events)))
+    (λ r. one (e.run == r.number) (filter (λ (f : EventLine). f.run == r.number) events)))
   where
     one : (b : Bool) (rest : List EventLine) → sum_by m (cond b (e ∷ rest) rest) ≡ part b (m e) + sum_by m rest
     one true rest = sum_by-cons m e rest

@@ -1,5 +1,5 @@
 -- Histories grow by legal turns.
-use Rattle.std.proofs.Common.{◌≡◌, List, [], ◌∷◌, ◌++◌, refl, sym, subst, append-nil, append_assoc}
+use Rattle.std.proofs.Common.{[], ◌∷◌, ◌++◌, sym, subst, append-nil, append_assoc}
 use Rattle.histories.specs.History.{Said, Turn, History}
 use Rattle.histories.specs.Legal.{IsLegal, AreLegal, IsHistory, IsHistoryAfter}
 use Rattle.histories.specs.declared.answers.Answer.{Answer}

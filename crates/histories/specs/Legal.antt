@@ -1,5 +1,5 @@
 -- The legal answers to a command, after a history.
-use Rattle.std.specs.Prelude.{◌≡◌, ◌⊎◌, ℕ, ◌≤◌, ◌==◌, Bool, true, false, not, nat_lt, nat_le, bytes_eq, if◌then◌else◌, List, [], ◌∷◌, ◌++◌, length, Option, Some, None, option_map}
+use Rattle.std.specs.Prelude.{◌≡◌, ◌⊎◌, ℕ, ◌==◌, Bool, true, false, not, nat_lt, nat_le, bytes_eq, if◌then◌else◌, List, [], ◌∷◌, ◌++◌, length, Option, Some, None, option_map}
 use Rattle.std.specs.List.{list_any}
 use Rattle.std.specs.Str.{IsUtf8}
 use Rattle.sha2.specs.Sha256.{sha256}
@@ -7,7 +7,7 @@ use Rattle.cg_text.specs.declared.faults.Fault as faults
 use Rattle.prof_books.specs.Labels.{IsLabel, IsGroupName}
 use Rattle.prof_books.specs.declared.kinds.Kind.{Kind}
 use Rattle.histories.specs.Files.{fault_of}
-use Rattle.histories.specs.History.{Outcome, Gave, Failed, Said, Import, Remove, MakeGroup, DropGroup, Join, Leave, SetBaseline, Ask, Turn, History, File, bytes_of, held, next, groups}
+use Rattle.histories.specs.History.{Outcome, Gave, Failed, Said, Import, Remove, MakeGroup, DropGroup, Join, Leave, SetBaseline, Ask, History, File, bytes_of, held, next, groups}
 use Rattle.histories.specs.Sums.{excess_of}
 use Rattle.histories.specs.Texts.{text_of}
 use Rattle.histories.specs.declared.limits.Limits.{Limits}

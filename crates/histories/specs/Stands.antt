@@ -1,12 +1,12 @@
 -- When tables stand for a history.
-use Rattle.std.specs.Prelude.{◌≡◌, ℕ, suc, ◌<◌, true, Bool, ◌==◌, List, [], ◌∷◌, map}
+use Rattle.std.specs.Prelude.{◌≡◌, ℕ, suc, Bool, List, [], ◌∷◌, map}
 use Rattle.std.specs.List.{AllByRecursion}
 use Rattle.sha2.specs.Sha256.{sha256}
 use Rattle.cost_rows.specs.Sums.{Spot, own_sum, call_sum, count_sum}
 use Rattle.cost_rows.specs.StackSums.{frames_sum}
 use Rattle.cost_rows.specs.WalkSums.{rows_cost, stacks_count}
 use Rattle.prof_tables.specs.Changes.{has_member}
-use Rattle.prof_tables.specs.Tables.{Tables, EventLine, DerivedLine, CoefLine, GroupLine}
+use Rattle.prof_tables.specs.Tables.{Tables, EventLine, GroupLine}
 use Rattle.prof_books.specs.Book.{RunBook, book_of, IsNamed}
 use Rattle.prof_books.specs.Entries.{HeldRun}
 use Rattle.prof_books.specs.Heads.{stated_at, derived_lines_from, coef_lines_from}

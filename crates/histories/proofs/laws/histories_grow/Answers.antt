@@ -1,0 +1,11 @@
+use Rattle.histories.proofs.Turns.{history_more, history_all, legal_append}
+use Rattle.histories.proofs.laws.histories_grow.Goals as goal
+
+pub returns-clause-one : goal.returns-clause-one
+returns-clause-one c = history_more
+
+pub returns-clause-all : goal.returns-clause-all
+returns-clause-all c = history_all
+
+pub returns-clause-append : goal.returns-clause-append
+returns-clause-append c = legal_append
