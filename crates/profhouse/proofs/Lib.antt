@@ -1,4 +1,5 @@
 pub mod SumsLemmas
 pub mod TotalsLemmas
 pub mod ReadersLemmas
+pub mod PlansLemmas
 pub mod Examples

@@ -4,3 +4,5 @@ pub mod Sums
 pub mod Totals
 pub mod Running
 pub mod Readers
+pub mod Answers
+pub mod Plans
