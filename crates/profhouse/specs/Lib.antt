@@ -6,3 +6,4 @@ pub mod Running
 pub mod Readers
 pub mod Answers
 pub mod Plans
+pub mod Grammar
