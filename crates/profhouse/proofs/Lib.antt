@@ -2,4 +2,5 @@ pub mod SumsLemmas
 pub mod TotalsLemmas
 pub mod ReadersLemmas
 pub mod PlansLemmas
+pub mod CommandLemmas
 pub mod Examples

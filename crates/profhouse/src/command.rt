@@ -1,7 +1,8 @@
 // From the words of a command line to a plan.
-ghost use Rattle.std.specs.Prelude.{codes, IfOk, IfSome};
-ghost use Rattle.clap.specs.Words.{found_of, rows_of};
-ghost use Rattle.profhouse.specs.Plans.{HasWord, HasRun, IsRunNumber, IsSound, IsPlanOf};
+ghost use Rattle.std.specs.Prelude.{codes, map, string_bytes, IfOk, IfSome};
+ghost use Rattle.clap.specs.Words.{found_of, rows_of, subcommand_of};
+ghost use Rattle.profhouse.specs.Grammar.{command_line};
+ghost use Rattle.profhouse.specs.Plans.{HasWord, HasRun, IsRunNumber, IsSound, IsPlanOf, IsPlanFor};
 
 use crate::grammar::grammar;
 use crate::plans::{Plan, PlanEnd};
@@ -128,6 +129,7 @@ fn plan_of<'a>(
 /// The plan for the words of a command line, of which the first is the program's name.
 pub fn plan<'a>(alloc: Global, words: &'a [String]) -> Result<Plan<'a>, PlanEnd>
     ensures sound { IfOk result IsSound }
+    ensures plan { IfOk result (IsPlanFor (subcommand_of command_line (map string_bytes words.now))) }
 {
     let mut grammar = grammar(alloc)?;
     let matches = grammar.try_get_matches_from_mut(words)?;
