@@ -2,10 +2,16 @@
 use Rattle.std.specs.Prelude.{◌≡◌, ◌≢◌, ◌≤◌, ℕ, Bool, true, false, List, [], map, Option, Some, None, option_map, codes}
 use Rattle.std.specs.List.{All}
 use Rattle.std.specs.Str.Parse.{IsNumeral, digits_value, without_leading_plus}
+use Rattle.clap.specs.Kinds.{IsAmong, Kinds}
+use Rattle.clap.specs.Values.{kind_of}
 use Rattle.clap.specs.Walk.{Row, Text, all_of, first_of, one_of}
+use Rattle.clap.specs.declared.error.Error.{Error}
+use Rattle.clap.specs.declared.error.kind.ErrorKind.TheVariants.{OutOfMemory}
 use Rattle.prof_books.specs.declared.kinds.Kind.{Kind}
 use Rattle.prof_books.specs.declared.kinds.Kind.TheVariants.{Callgrind, Folded}
 use Rattle.profhouse.specs.declared.plans.Plan.{Plan}
+use Rattle.profhouse.specs.declared.plans.PlanEnd.{PlanEnd}
+use Rattle.profhouse.specs.declared.plans.PlanEnd.TheVariants.{Memory, Clap}
 use Rattle.profhouse.specs.declared.plans.Plan.TheVariants.{Total, Import, Remove, Runs, Group, Join, Leave, Baseline, Groups}
 
 -- ---- the numbers of runs
@@ -75,3 +81,15 @@ IsPlanOf name rows (Groups db) = (name ≡ codes "groups") × HasWord rows (code
 abbrev pub IsPlanFor : Option (Text × List Row) → Plan → Type 0
 IsPlanFor None plan = ⊥
 IsPlanFor (Some found) plan = IsPlanOf found.0 found.1 plan
+
+-- ---- why there is no plan
+
+-- what a clap error is to the program
+abbrev pub IsEndBy : Error → PlanEnd → Type 0
+IsEndBy error Memory = kind_of error ≡ OutOfMemory
+IsEndBy error (Clap kept) = (kept ≡ error) × (kind_of error ≢ OutOfMemory)
+
+-- a fault of words that have these kinds of faults is one of them, and want of memory may come at any time
+abbrev pub IsEndOf : Kinds → PlanEnd → Type 0
+IsEndOf kinds Memory = Unit {0}
+IsEndOf kinds (Clap error) = kinds ≢ [] → IsAmong (kind_of error) kinds

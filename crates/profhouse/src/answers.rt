@@ -10,12 +10,7 @@ use histories::{Answer, Excess, Refusal};
 use std::alloc::{AllocError, Global};
 
 /// Adds a fault and its line.
-fn push_fault(
-    text: &mut Vec<u8>,
-    alloc: Global,
-    fault: Fault,
-    line: u64,
-) -> Result<(), AllocError>
+fn push_fault(text: &mut Vec<u8>, alloc: Global, fault: Fault, line: u64) -> Result<(), AllocError>
     ensures { OnOk result (text.new.items ≡ text.old.items ++ end_text (ends.Fault fault line)) }
 {
     let reason = ReadEnd::Fault(fault, line).to_string(alloc)?;
@@ -88,12 +83,21 @@ pub fn line_of(alloc: Global, answer: &Answer) -> Result<Items<u8>, AllocError>
     Ok(Items::from_vec(line))
 }
 
+/// Whether an answer is a refusal.
+fn is_refused(answer: &Answer) -> bool
+    ensures { result ≡ told.is_refused answer.now }
+{
+    matches!(answer, Answer::Refused(_))
+}
+
 /// The status of a program whose commands were answered so: 1 if one of them was refused, else 0.
 pub fn status_of(answers: &[Answer]) -> u8
     ensures { result ≡ told.status_of answers.now }
 {
-    let refused = answers
-        .iter()
-        .any(|answer| matches!(answer, Answer::Refused(_)));
-    u8::from(refused)
+    for answer in answers {
+        if is_refused(answer) {
+            return 1;
+        }
+    }
+    0
 }

@@ -1,8 +1,8 @@
 // From the words of a command line to a plan.
-ghost use Rattle.std.specs.Prelude.{codes, map, string_bytes, IfOk, IfSome};
-ghost use Rattle.clap.specs.Words.{found_of, rows_of, subcommand_of};
+ghost use Rattle.std.specs.Prelude.{◌≡◌, [], codes, map, string_bytes, IfOk, IfErr, IfSome};
+ghost use Rattle.clap.specs.Words.{fault_of, found_of, rows_of, subcommand_of};
 ghost use Rattle.profhouse.specs.Grammar.{command_line};
-ghost use Rattle.profhouse.specs.Plans.{HasWord, HasRun, IsRunNumber, IsSound, IsPlanOf, IsPlanFor};
+ghost use Rattle.profhouse.specs.Plans.{HasWord, HasRun, IsRunNumber, IsSound, IsPlanOf, IsPlanFor, IsEndOf};
 
 use crate::grammar::grammar;
 use crate::plans::{Plan, PlanEnd};
@@ -130,6 +130,8 @@ fn plan_of<'a>(
 pub fn plan<'a>(alloc: Global, words: &'a [String]) -> Result<Plan<'a>, PlanEnd>
     ensures sound { IfOk result IsSound }
     ensures plan { IfOk result (IsPlanFor (subcommand_of command_line (map string_bytes words.now))) }
+    ensures faultless { IfOk result (λ _. fault_of command_line (map string_bytes words.now) ≡ []) }
+    ensures fault { IfErr result (IsEndOf (fault_of command_line (map string_bytes words.now))) }
 {
     let mut grammar = grammar(alloc)?;
     let matches = grammar.try_get_matches_from_mut(words)?;

@@ -27,9 +27,7 @@ fn operand<'a>(alloc: Global, id: &'a str, help: &'a str) -> Arg<'a>
     ensures rule { rule_of result ≡ line.operand id.entry.now }
     ensures local { result.global ≡ false }
 {
-    Arg::new(alloc, id)
-        .required(true)
-        .help(help)
+    Arg::new(alloc, id).required(true).help(help)
 }
 
 /// A flag, by its long name.
@@ -56,9 +54,8 @@ fn run_number<'a>(alloc: Global) -> Arg<'a>
     ensures rule { rule_of result ≡ line.run_number }
     ensures local { result.global ≡ false }
 {
-    operand(alloc, "N", "The number of a run").value_parser(
-        value_parser!(u32).range(1..=i64::from(LAST_RUN)),
-    )
+    let numbers = value_parser!(u32).range(1..=i64::from(LAST_RUN));
+    operand(alloc, "N", "The number of a run").value_parser(numbers)
 }
 
 /// A subcommand that wants the database.
@@ -70,9 +67,7 @@ fn over_database<'a>(
     ensures app { IfOk result (λ command. app_of command ≡ line.over_database name.entry.now) }
     ensures local { IfOk result (λ command. (fields_of command).has_globals ≡ false) }
 {
-    Command::new(alloc, name)
-        .about(about)
-        .arg(database(alloc))
+    Command::new(alloc, name).about(about).arg(database(alloc))
 }
 
 /// A subcommand that wants a group and a run.

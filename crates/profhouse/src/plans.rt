@@ -8,7 +8,9 @@ use std::alloc::AllocError;
 #[derive(Drop)]
 pub enum Plan<'a> {
     /// Print the total of the file at a path.
-    Total { path: &'a str },
+    Total {
+        path: &'a str,
+    },
     /// Take in files.
     Import {
         db: &'a str,
@@ -16,9 +18,14 @@ pub enum Plan<'a> {
         files: Items<&'a str>,
     },
     /// Remove runs.
-    Remove { db: &'a str, numbers: Items<u32> },
+    Remove {
+        db: &'a str,
+        numbers: Items<u32>,
+    },
     /// List the runs.
-    Runs { db: &'a str },
+    Runs {
+        db: &'a str,
+    },
     /// Make a group, or drop it.
     Group {
         db: &'a str,
@@ -44,7 +51,9 @@ pub enum Plan<'a> {
         number: u32,
     },
     /// List the groups.
-    Groups { db: &'a str },
+    Groups {
+        db: &'a str,
+    },
 }
 
 /// Why there is no plan.
@@ -68,6 +77,10 @@ impl From<AllocError> for PlanEnd {
 }
 
 impl From<clap::Error> for PlanEnd {
+    ghost use Rattle.profhouse.specs.Plans.{IsEndBy};
+
+    ghost from_gives = { IsEndBy };
+
     fn from(error: clap::Error) -> PlanEnd {
         if error.kind() == ErrorKind::OutOfMemory {
             PlanEnd::Memory

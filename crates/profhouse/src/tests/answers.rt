@@ -37,9 +37,18 @@ fn refusals(rt: HostRuntime) -> Result<(), Fail> {
         (Refusal::Store, "refused: store failed\n"),
         (Refusal::ReadFault, "refused: read failed\n"),
         (Refusal::TooLong, "refused: too long\n"),
-        (Refusal::File(Fault::CallWithoutCost, 3), "refused: line 3: F15 call without cost\n"),
-        (Refusal::File(Fault::UnknownId, 18446744073709551615), "refused: line 18446744073709551615: F13 unknown identifier\n"),
-        (Refusal::Overflow(Excess::CallCount), "refused: overflow of call count\n"),
+        (
+            Refusal::File(Fault::CallWithoutCost, 3),
+            "refused: line 3: F15 call without cost\n",
+        ),
+        (
+            Refusal::File(Fault::UnknownId, 18446744073709551615),
+            "refused: line 18446744073709551615: F13 unknown identifier\n",
+        ),
+        (
+            Refusal::Overflow(Excess::CallCount),
+            "refused: overflow of call count\n",
+        ),
         (Refusal::Full, "refused: full\n"),
         (Refusal::NumbersSpent, "refused: run numbers spent\n"),
         (Refusal::NoSuchRun, "refused: no such run\n"),
@@ -47,7 +56,10 @@ fn refusals(rt: HostRuntime) -> Result<(), Fail> {
         (Refusal::GroupTaken, "refused: group exists\n"),
         (Refusal::BadName, "refused: bad name\n"),
     ] {
-        assert!(rt; is_printed(alloc, Answer::Refused(refusal), wanted.as_bytes())?, "{wanted}");
+        assert!(rt;
+            is_printed(alloc, Answer::Refused(refusal), wanted.as_bytes())?,
+            "{wanted}"
+        );
     }
     Ok(())
 }
@@ -67,8 +79,14 @@ fn overflows(rt: HostRuntime) -> Result<(), Fail> {
 #[test]
 fn statuses(rt: HostRuntime) {
     assert_eq!(rt; status_of(&[]), 0);
-    assert_eq!(rt; status_of(&[Answer::Run(1), Answer::Held(1), Answer::Done]), 0);
+    assert_eq!(rt;
+        status_of(&[Answer::Run(1), Answer::Held(1), Answer::Done]),
+        0
+    );
     assert_eq!(rt; status_of(&[Answer::Text(Items::new(rt.alloc()))]), 0);
     assert_eq!(rt; status_of(&[Answer::Refused(Refusal::Full)]), 1);
-    assert_eq!(rt; status_of(&[Answer::Run(1), Answer::Refused(Refusal::Full), Answer::Done]), 1);
+    assert_eq!(rt;
+        status_of(&[Answer::Run(1), Answer::Refused(Refusal::Full), Answer::Done]),
+        1
+    );
 }

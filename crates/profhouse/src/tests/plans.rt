@@ -37,7 +37,10 @@ fn import(rt: HostRuntime) -> Result<(), Fail> {
             return Err(Fail::from("no import"));
         };
         assert!(rt; db == "d" && kind == wanted, "{line}");
-        assert!(rt; files.as_slice() == ["a.cg", "b.cg", "c"].as_slice(), "{line}");
+        assert!(rt;
+            files.as_slice() == ["a.cg", "b.cg", "c"].as_slice(),
+            "{line}"
+        );
     }
     Ok(())
 }
@@ -47,7 +50,10 @@ fn remove(rt: HostRuntime) -> Result<(), Fail> {
     for (line, wanted) in [
         ("remove --db d 3", [3].as_slice()),
         ("remove 3 1 3 --db d", [3, 1, 3].as_slice()),
-        ("remove --db d +1 0002 2147483647", [1, 2, 2147483647].as_slice()),
+        (
+            "remove --db d +1 0002 2147483647",
+            [1, 2, 2147483647].as_slice(),
+        ),
     ] {
         let words = words(rt.alloc(), line)?;
         let Ok(Plan::Remove { db, numbers }) = plan(rt.alloc(), words.as_slice()) else {
@@ -62,8 +68,18 @@ fn remove(rt: HostRuntime) -> Result<(), Fail> {
 fn lists(rt: HostRuntime) -> Result<(), Fail> {
     let runs = words(rt.alloc(), "runs --db d")?;
     let groups = words(rt.alloc(), "groups --db d")?;
-    assert!(rt; matches!(plan(rt.alloc(), runs.as_slice()), Ok(Plan::Runs { db: "d" })));
-    assert!(rt; matches!(plan(rt.alloc(), groups.as_slice()), Ok(Plan::Groups { db: "d" })));
+    assert!(rt;
+        matches!(
+            plan(rt.alloc(), runs.as_slice()),
+            Ok(Plan::Runs { db: "d" })
+        )
+    );
+    assert!(rt;
+        matches!(
+            plan(rt.alloc(), groups.as_slice()),
+            Ok(Plan::Groups { db: "d" })
+        )
+    );
     Ok(())
 }
 
@@ -88,18 +104,36 @@ fn members(rt: HostRuntime) -> Result<(), Fail> {
     let join = words(rt.alloc(), "join --db d g 1")?;
     let leave = words(rt.alloc(), "leave --db d g 2147483647")?;
     let baseline = words(rt.alloc(), "baseline g --db d +7")?;
-    assert!(rt; matches!(
-        plan(rt.alloc(), join.as_slice()),
-        Ok(Plan::Join { db: "d", group: "g", number: 1 })
-    ));
-    assert!(rt; matches!(
-        plan(rt.alloc(), leave.as_slice()),
-        Ok(Plan::Leave { db: "d", group: "g", number: 2147483647 })
-    ));
-    assert!(rt; matches!(
-        plan(rt.alloc(), baseline.as_slice()),
-        Ok(Plan::Baseline { db: "d", group: "g", number: 7 })
-    ));
+    assert!(rt;
+        matches!(
+            plan(rt.alloc(), join.as_slice()),
+            Ok(Plan::Join {
+                db: "d",
+                group: "g",
+                number: 1
+            })
+        )
+    );
+    assert!(rt;
+        matches!(
+            plan(rt.alloc(), leave.as_slice()),
+            Ok(Plan::Leave {
+                db: "d",
+                group: "g",
+                number: 2147483647
+            })
+        )
+    );
+    assert!(rt;
+        matches!(
+            plan(rt.alloc(), baseline.as_slice()),
+            Ok(Plan::Baseline {
+                db: "d",
+                group: "g",
+                number: 7
+            })
+        )
+    );
     Ok(())
 }
 
@@ -123,7 +157,10 @@ const FAULTS: [(&str, ErrorKind); 29] = [
     ("remove --db d 1 2147483648", ErrorKind::ValueValidation),
     ("remove --db d 1 one", ErrorKind::ValueValidation),
     ("remove --db d 1 1.0", ErrorKind::ValueValidation),
-    ("remove --db d 99999999999999999999", ErrorKind::ValueValidation),
+    (
+        "remove --db d 99999999999999999999",
+        ErrorKind::ValueValidation,
+    ),
     ("remove --db d -- -1", ErrorKind::ValueValidation),
     ("remove --db d -1", ErrorKind::UnknownArgument),
     ("runs", ErrorKind::MissingRequiredArgument),
@@ -153,7 +190,14 @@ fn faults(rt: HostRuntime) -> Result<(), Fail> {
 /// Help has status 0 and goes to the standard output.
 #[test]
 fn help(rt: HostRuntime) -> Result<(), Fail> {
-    for line in ["--help", "-h", "help", "help join", "import --help", "remove -h"] {
+    for line in [
+        "--help",
+        "-h",
+        "help",
+        "help join",
+        "import --help",
+        "remove -h",
+    ] {
         let words = words(rt.alloc(), line)?;
         let Err(PlanEnd::Clap(error)) = plan(rt.alloc(), words.as_slice()) else {
             return Err(Fail::from("no help"));
@@ -190,7 +234,10 @@ fn texts_of_faults(rt: HostRuntime) -> Result<(), Fail> {
         ),
     ] {
         let text = fault_text(rt.alloc(), line)?;
-        assert!(rt; text.as_ref().is_some_and(|text| text.as_str() == wanted), "{text:?}");
+        assert!(rt;
+            text.as_ref().is_some_and(|text| text.as_str() == wanted),
+            "{text:?}"
+        );
     }
     Ok(())
 }
