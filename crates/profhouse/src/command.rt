@@ -72,16 +72,16 @@ fn group_and_run<'a>(words: &ArgMatches<'a>) -> Option<(&'a str, u32)>
 }
 
 /// What a run and a group are to each other from now on.
-fn member<'a>(name: &str, db: &'a str, words: &ArgMatches<'a>) -> Option<Plan<'a>>
+fn member<'a>(subcommand: &str, db: &'a str, words: &ArgMatches<'a>) -> Option<Plan<'a>>
     requires { HasWord (rows_of (found_of words.now)) (codes "db") db.now }
     ensures sound { IfSome result IsSound }
-    ensures plan { IfSome result (IsPlanOf name.now (rows_of (found_of words.now))) }
+    ensures plan { IfSome result (IsPlanOf subcommand.now (rows_of (found_of words.now))) }
 {
-    let (group, number) = group_and_run(words)?;
-    match name {
-        "join" => Some(Plan::Join { db, group, number }),
-        "leave" => Some(Plan::Leave { db, group, number }),
-        "baseline" => Some(Plan::Baseline { db, group, number }),
+    let (name, number) = group_and_run(words)?;
+    match subcommand {
+        "join" => Some(Plan::Join { db, name, number }),
+        "leave" => Some(Plan::Leave { db, name, number }),
+        "baseline" => Some(Plan::Baseline { db, name, number }),
         _ => None,
     }
 }

@@ -35,19 +35,19 @@ pub enum Plan<'a> {
     /// Let a run join a group.
     Join {
         db: &'a str,
-        group: &'a str,
+        name: &'a str,
         number: u32,
     },
     /// Let a run leave a group.
     Leave {
         db: &'a str,
-        group: &'a str,
+        name: &'a str,
         number: u32,
     },
     /// Make a run the baseline of a group.
     Baseline {
         db: &'a str,
-        group: &'a str,
+        name: &'a str,
         number: u32,
     },
     /// List the groups.

@@ -109,7 +109,7 @@ fn members(rt: HostRuntime) -> Result<(), Fail> {
             plan(rt.alloc(), join.as_slice()),
             Ok(Plan::Join {
                 db: "d",
-                group: "g",
+                name: "g",
                 number: 1
             })
         )
@@ -119,7 +119,7 @@ fn members(rt: HostRuntime) -> Result<(), Fail> {
             plan(rt.alloc(), leave.as_slice()),
             Ok(Plan::Leave {
                 db: "d",
-                group: "g",
+                name: "g",
                 number: 2147483647
             })
         )
@@ -129,7 +129,7 @@ fn members(rt: HostRuntime) -> Result<(), Fail> {
             plan(rt.alloc(), baseline.as_slice()),
             Ok(Plan::Baseline {
                 db: "d",
-                group: "g",
+                name: "g",
                 number: 7
             })
         )
