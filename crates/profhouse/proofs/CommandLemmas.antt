@@ -1,5 +1,5 @@
 -- From what clap says of a parse to the plan of the words.
-use Rattle.std.proofs.Common.{◌≡◌, ◌≢◌, refl, inl, inr, ℕ, true, List, [], ◌∷◌, map, Option, Some, None, option_map, ap, ap₂, sym, subst, ◌∙◌}
+use Rattle.std.proofs.Common.{◌≡◌, ◌≢◌, refl, inl, inr, true, List, [], Option, Some, None, option_map, ap, ap₂, sym, subst, ◌∙◌}
 use Rattle.std.specs.Prelude.{Box}
 use Rattle.std.specs.Box.{box_value}
 use Rattle.std.specs.Borrow.{Bor}

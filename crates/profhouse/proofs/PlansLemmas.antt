@@ -3,7 +3,7 @@ use Rattle.std.proofs.Common.{◌≡◌, refl, ℕ, Bool, true, false, List, [],
 use Rattle.std.specs.Borrow.{Bor}
 use Rattle.std.specs.declared.alloc.AllocError.{AllocError}
 use Rattle.clap.specs.Matches.{first_value, matched_of, one_text, raw_values}
-use Rattle.clap.specs.Walk.{Row, Text, all_of, first_of, one_of, rows_of}
+use Rattle.clap.specs.Walk.{Row, Text, all_of, one_of, rows_of}
 use Rattle.clap.specs.declared.parser.matches.Found.{Found}
 use Rattle.clap.proofs.WalkLemmas.{first_value-rows, one_text-rows, raw_values-rows}
 use Rattle.profhouse.specs.Plans.{HasWord, IsFlag, number_of}
