@@ -1,4 +1,6 @@
 pub mod SumsLemmas
 pub mod TotalsLemmas
 pub mod ReadersLemmas
+pub mod PlansLemmas
+pub mod CommandLemmas
 pub mod Examples

@@ -1,5 +1,5 @@
 -- A reader whose bytes are known, part of which a total has read.
-use Rattle.std.proofs.Common.{◌≡◌, ℕ, ◌+◌, ◌<◌, ◌≤◌, ◌⊎◌, ◌↔◌, inl, inr, IsTrue, false, List, [], ◌++◌, length, take, Option, Some, None, Result, Ok, Err, IfOk, codes, ap, sym, subst, ◌∙◌, append_assoc, refl, arith}
+use Rattle.std.proofs.Common.{◌≡◌, ℕ, ◌+◌, ◌<◌, ◌≤◌, ◌↔◌, inl, inr, IsTrue, false, List, [], ◌++◌, length, take, Option, Some, None, Result, Ok, Err, IfOk, codes, ap, sym, subst, ◌∙◌, append_assoc, refl, arith}
 use Rattle.std.proofs.lemmas.List.{append-nil, length-append, length-take}
 use Rattle.std.specs.declared.alloc.AllocError.{AllocError}
 use Rattle.callgrind_reader.specs.Files.{fault_of_file}

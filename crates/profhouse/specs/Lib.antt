@@ -4,3 +4,6 @@ pub mod Sums
 pub mod Totals
 pub mod Running
 pub mod Readers
+pub mod Answers
+pub mod Plans
+pub mod Grammar

@@ -1,47 +1,33 @@
 //! A warehouse of run profiles whose every figure is exact.
 #![tactic(auto)]
 
+mod answers;
 mod command;
 mod escapes;
 mod files;
+mod grammar;
 mod lines;
+mod plans;
+mod running;
 mod sums;
 #[cfg(test)]
 mod tests;
 mod total;
+mod words;
 
 use anyhow::Result;
-use clap::error::ErrorKind;
-use command::{Command, read_command};
-use files::total_file;
-use std::alloc::AllocError;
-use std::io::Write;
+use command::plan;
+use plans::PlanEnd;
+use running::{print_refused, run_plan};
+use std::env;
 use std::process::ExitCode;
-use std::rt::{Env, Files};
-use std::{env, io};
-use total::TotalText;
-
-/// Prints what a command came to.
-fn print_total<R: Print>(rt: &R, total: Result<TotalText, AllocError>) -> io::Result<ExitCode> {
-    let mut out = io::writer(rt);
-    let Ok(total) = total else {
-        out.write_all(b"refused: out of memory\n")?;
-        return Ok(ExitCode::FAILURE);
-    };
-    out.write_all(total.text.as_slice())?;
-    Ok(if total.accepted {
-        ExitCode::SUCCESS
-    } else {
-        ExitCode::FAILURE
-    })
-}
 
 fn main(rt: HostRuntime) -> Result<ExitCode> {
     let words: Vec<String> = env::args(&rt)?.collect(rt.alloc())?;
-    let code = match read_command(rt.alloc(), words.as_slice()) {
-        Ok(Command::Total { path }) => print_total(&rt, total_file(&rt, path))?,
-        Err(error) if error.kind() == ErrorKind::OutOfMemory => print_total(&rt, Err(AllocError))?,
-        Err(error) => {
+    let code = match plan(rt.alloc(), words.as_slice()) {
+        Ok(plan) => run_plan(&rt, plan)?,
+        Err(PlanEnd::Memory) => print_refused(&rt, "out of memory")?,
+        Err(PlanEnd::Clap(error)) => {
             error.print(&rt)?;
             ExitCode::from(error.exit_code() as u8)
         }

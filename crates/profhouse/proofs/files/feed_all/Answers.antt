@@ -1,4 +1,4 @@
-use Rattle.std.proofs.Common.{rules, ℕ, ◌+◌, ◌≤◌, ◌<◌, ◌++◌, length, take, arith}
+use Rattle.std.proofs.Common.{rules, ◌+◌, ◌≤◌, ◌<◌, ◌++◌, length, take, arith}
 use Rattle.std.proofs.lemmas.List.{length-append}
 use Rattle.profhouse.specs.Running.{room_left}
 use Rattle.profhouse.proofs.ReadersLemmas.{IsLeft-more, IsLeft-ended, IsLeft-too_long}

@@ -1,4 +1,4 @@
-use Rattle.std.proofs.Common.{rules, [], ◌≤◌, ◌<◌, length, arith}
+use Rattle.std.proofs.Common.{rules, [], arith}
 use Rattle.profhouse.proofs.ReadersLemmas.{IsAnswer-total, IsAnswer-failed, IsAnswer-too_long}
 use Rattle.profhouse.proofs.files.total_read.Goals as goal
 

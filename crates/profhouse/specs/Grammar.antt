@@ -1,0 +1,64 @@
+-- The command line that the program reads, as clap's definitions see it.
+use Rattle.std.specs.Prelude.{true, pos, Some, codes}
+use Rattle.clap.specs.Lexer.{usize_max}
+use Rattle.clap.specs.Words.{App, Rule, Text, new_app, new_rule, with_rule, with_subcommand}
+use Rattle.clap.specs.Simple.{on_top}
+use Rattle.clap.specs.declared.builder.action.ArgAction.TheVariants.{SetTrue}
+use Rattle.clap.specs.declared.builder.value_parser.ValueParser.TheVariants.{Signed}
+
+-- ---- arguments
+
+abbrev pub operand : Text → Rule
+operand id = record (new_rule id) { required = true }
+
+abbrev pub database : Rule
+database = record (operand (codes "db")) { long = Some (codes "db"); value_names = 1 }
+
+abbrev pub flag : Text → Rule
+flag id = record (new_rule id) { long = Some id; action = Some SetTrue }
+
+-- one or more
+abbrev pub several : Rule → Rule
+several r = record r { range = Some (record { start_inclusive = 1; end_inclusive = usize_max }) }
+
+abbrev pub run_number : Rule
+run_number = record (operand (codes "N")) { parser = Some (Signed (pos 1) (pos 2147483647)) }
+
+-- ---- subcommands
+
+abbrev pub over_database : Text → App
+over_database name = with_rule (new_app name) database
+
+abbrev pub over_group_and_run : Text → App
+over_group_and_run name = with_rule (with_rule (over_database name) (operand (codes "NAME"))) run_number
+
+abbrev pub total : App
+total = with_rule (new_app (codes "total")) (operand (codes "FILE"))
+
+abbrev pub import : App
+import = with_rule (with_rule (over_database (codes "import")) (flag (codes "folded"))) (several (operand (codes "FILE")))
+
+abbrev pub remove : App
+remove = with_rule (over_database (codes "remove")) (several run_number)
+
+abbrev pub group : App
+group = with_rule (with_rule (over_database (codes "group")) (flag (codes "drop"))) (operand (codes "NAME"))
+
+-- ---- the program
+
+abbrev pub wants_subcommand : App → App
+wants_subcommand = on_top (λ s. record s { subcommand_required = true })
+
+abbrev pub with_files : App → App
+with_files a = with_subcommand (with_subcommand (with_subcommand a total.top) import.top) remove.top
+
+abbrev pub with_lists : App → App
+with_lists a = with_subcommand (with_subcommand (with_subcommand a (over_database (codes "runs")).top) (over_database (codes "groups")).top) group.top
+
+abbrev pub with_members : App → App
+with_members a =
+    with_subcommand (with_subcommand (with_subcommand a (over_group_and_run (codes "join")).top) (over_group_and_run (codes "leave")).top)
+    (over_group_and_run (codes "baseline")).top
+
+abbrev pub command_line : App
+command_line = with_members (with_lists (with_files (wants_subcommand (new_app (codes "profhouse")))))
