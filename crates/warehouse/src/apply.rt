@@ -86,9 +86,7 @@ impl<S: Alter> Warehouse<S> {
                 return Ok(answers);
             };
             let answer = self.apply(alloc, command);
-            if answers.push(answer).is_err() {
-                return Err(AllocError);
-            }
+            answers.push_reserved(answer);
         }
         Ok(answers)
     }
