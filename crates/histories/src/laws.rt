@@ -2,7 +2,7 @@
 // the contract of a function that does nothing.
 ghost use Rattle.std.specs.Prelude.{◌≡◌, ◌≢◌, ℕ, ◌<◌, ◌++◌, [], ◌∷◌, true, List, Option, Some, option_map, map, filter, flat_map, length, bytes_eq, IsPermutation};
 ghost use Rattle.std.specs.Cmp.Lexicographic.{slice_cmp};
-ghost use Rattle.std.specs.List.{AllAdjacentBelow, AllByRecursion};
+ghost use Rattle.std.specs.List.{AllAdjacentBelow, AllByRecursion, list_any};
 ghost use Rattle.std.specs.Option.{MatchOption};
 ghost use Rattle.std.specs.Ordering.{nat_cmp};
 ghost use Rattle.std.specs.declared.cmp.Ordering.TheVariants.{Less};
@@ -25,7 +25,7 @@ ghost use Rattle.prof_books.specs.Totals.{held_self, held_calls, held_count, IsH
 ghost use Rattle.prof_books.specs.declared.kinds.Kind.{Kind};
 ghost use Rattle.histories.specs.Files.{events_of, rows_of, IsHeadOf};
 ghost use Rattle.histories.specs.History.{Outcome, Said, Import, Remove, MakeGroup, DropGroup, Join, Leave, SetBaseline, Turn, History, bytes_of, held, next, groups, members, is_member, baseline};
-ghost use Rattle.histories.specs.Legal.{IsLegal, AreLegal, IsHistory, number_of, has_run, has_group};
+ghost use Rattle.histories.specs.Legal.{IsLegal, AreLegal, IsHistory, due, is_failed, is_end, number_of, has_run, has_group};
 ghost use Rattle.histories.specs.Stands.{TablesTell, file_run};
 ghost use Rattle.histories.specs.Sums.{own_held, calls_cost_held, calls_held, excess_of, excess_at};
 ghost use Rattle.histories.specs.Texts.{rising, run_text, runs_text, group_line, groups_text};
@@ -113,4 +113,11 @@ pub fn tables_tell_the_lists<E>()
         → AllByRecursion (λ e. IsPermutation (filter (λ (m : MemberLine). bytes_eq m.group (name e)) t.members) (map (λ n. let m : MemberLine = record { group = name e; run = n } in m) (numbers e))) entries
         → ((e : E) → AllAdjacentBelow (λ a b. a < b) (numbers e) (length (numbers e)))
         → groups_text h ≡ flat_map (λ e. group_line (name e) (base e) (numbers e)) entries }
+{}
+
+/// How the bytes of a source are cut into reads does not show: imports of the same bytes, of which a
+/// read failed in both or in none, and that both ended or did not, are due the same answer.
+pub fn cuts_do_not_show()
+    ensures { (limits : Limits) (h : History) (kind : Kind) (label : List ℕ) (xs ys : List Outcome) → bytes_of xs ≡ bytes_of ys → list_any is_failed xs ≡ list_any is_failed ys → list_any is_end xs ≡ list_any is_end ys
+        → due limits h (Import kind label xs) ≡ due limits h (Import kind label ys) }
 {}
