@@ -1,24 +1,20 @@
 -- Answers that were due, and what they leave.
-use Rattle.std.proofs.Common.{◌≡◌, ℕ, ◌<◌, ◌≤◌, Bool, true, false, not, nat_le, List, [], ◌∷◌, length, Some, inl, inr, refl, sym, ap, ap₂, subst, ◌∙◌, arith}
+use Rattle.std.proofs.Common.{◌≡◌, ℕ, ◌<◌, ◌≤◌, Bool, true, false, not, nat_le, List, [], ◌∷◌, length, Some, inl, inr, refl, ap, ap₂, ◌∙◌, arith}
 use Rattle.std.proofs.lemmas.Bool.Decides.{nat_tests}
 use Rattle.sqlite_trees.specs.declared.store.Store.{Ghosts}
 use Rattle.sqlite_trees.specs.Tree.{Trees}
-use Rattle.prof_tables.specs.Changes as changes
 use Rattle.prof_tables.specs.Tables.{Tables, Holds}
-use Rattle.prof_books.specs.Labels.{IsGroupName}
 use Rattle.prof_store.specs.Shown.{StandsFor, LeavesOnly}
 use Rattle.prof_store.specs.declared.store.Store.{Store}
-use Rattle.histories.specs.History.{History, Said, Remove, MakeGroup, DropGroup, Join, Leave, SetBaseline, groups}
+use Rattle.histories.specs.History.{History, Said, Remove, MakeGroup, DropGroup, groups}
 use Rattle.histories.specs.Legal.{IsInForm, IsLegal, due, when, first_or, has_run, has_group}
 use Rattle.histories.specs.Stands.{TablesTell}
 use Rattle.histories.specs.declared.answers.Answer.{Answer}
 use Rattle.histories.specs.declared.answers.Answer.TheVariants as answers
-use Rattle.histories.specs.declared.answers.Refusal.{Refusal}
 use Rattle.histories.specs.declared.answers.Refusal.TheVariants as reasons
 use Rattle.histories.specs.declared.limits.Limits.{Limits}
 use Rattle.histories.proofs.Held.{IsStill}
-use Rattle.histories.proofs.Steps.{tell_same, tell_removed, tell_made, tell_dropped, tell_joined, tell_left, tell_based}
-use Rattle.histories.proofs.Tells.{tells_run, tells_group, tells_groups}
+use Rattle.histories.proofs.Steps.{tell_same, tell_joined, tell_left, tell_based}
 use Rattle.warehouse.specs.Answered.{with_turn, Follows, StandsForHistory, WasDue}
 use Rattle.warehouse.specs.Changes.{changed, said_of}
 use Rattle.warehouse.specs.Refused.{missing_of, refused_or}
@@ -63,6 +59,7 @@ module _ (limits : Limits) (h : History) where
       go change.Join = refl
       go change.Leave = refl
       go change.SetBaseline = refl
+
       same : (group run : Bool) → Some (missing group run) ≡ Some (refused_or (missing_of group run) answers.Done)
       same false run = refl
       same true false = refl

@@ -1,5 +1,5 @@
 -- What readers make of a piece and of the end, by the kind of the file.
-use Rattle.std.proofs.Common.{◌≡◌, ℕ, ◌+◌, List, ◌++◌, length, fold, Result, Ok, Err, OnOk, refl, sym, ap, subst, ◌∙◌, arith}
+use Rattle.std.proofs.Common.{◌≡◌, ℕ, ◌+◌, List, ◌++◌, length, fold, Result, Ok, Err, OnOk, sym, ap, subst, ◌∙◌, arith}
 use Rattle.std.proofs.lemmas.Grind.{fold-append}
 use Rattle.std.proofs.lemmas.List.{length-append}
 use Rattle.std.specs.declared.alloc.AllocError.{AllocError}

@@ -1,5 +1,5 @@
 -- A file that was put.
-use Rattle.std.proofs.Common.{◌≡◌, ℕ, List, Some, inl, sym, ap, subst, ◌∙◌}
+use Rattle.std.proofs.Common.{◌≡◌, ℕ, List, Some, inl, sym, subst}
 use Rattle.sqlite_trees.specs.declared.store.Store.{Ghosts}
 use Rattle.sqlite_trees.specs.Tree.{Trees}
 use Rattle.cg_text.specs.declared.heads.FileHead.{FileHead}

@@ -1,16 +1,15 @@
 -- One command more is run.
-use Rattle.std.proofs.Common.{◌≡◌, List, [], ◌∷◌, ◌++◌, map, length, arith, inl, inr, refl, sym, ap, ap₂, subst, ◌∙◌, append_assoc, append-nil}
+use Rattle.std.proofs.Common.{◌≡◌, List, [], ◌∷◌, ◌++◌, length, arith, inl, inr, refl, sym, ap, subst, ◌∙◌, append_assoc, append-nil}
 use Rattle.sqlite_trees.specs.declared.store.Store.{Ghosts}
 use Rattle.sqlite_trees.specs.Tree.{Trees}
 use Rattle.sql_tables.proofs.Rows.{map-append}
-use Rattle.prof_store.specs.Shown.{IsUsable, LeavesOnly}
+use Rattle.prof_store.specs.Shown.{IsUsable}
 use Rattle.prof_store.specs.declared.store.Store.{Store}
 use Rattle.histories.specs.History.{History, Outcome, Said, Turn}
-use Rattle.histories.specs.Legal.{AreLegal}
 use Rattle.histories.specs.declared.answers.Answer.{Answer}
 use Rattle.histories.specs.declared.limits.Limits.{Limits}
 use Rattle.histories.proofs.Turns.{legal_append}
-use Rattle.warehouse.specs.Answered.{with_turn, Follows, HasHistory, IsAnswered, Says, AreSaid, Stops, WasRun}
+use Rattle.warehouse.specs.Answered.{Follows, HasHistory, IsAnswered, Says, AreSaid, Stops, WasRun}
 use Rattle.warehouse.specs.declared.command.Command as commands
 
 module _ {R : Type 0} (comes : R → Outcome → R → Type 0) where

@@ -1,8 +1,7 @@
 -- An answer and what it leaves, whatever came of the calls below.
-use Rattle.std.proofs.Common.{◌≡◌, ℕ, Bool, true, false, List, [], ◌∷◌, bytes_eq, ◌||◌, Result, Ok, Err, IfOk, OnOk, OnErr, Option, Some, None, nat_lt, length, if◌then◌else◌, inl, inr, refl, sym, ap, ap₂, subst, ◌∙◌}
+use Rattle.std.proofs.Common.{◌≡◌, ℕ, Bool, false, List, [], ◌∷◌, bytes_eq, ◌||◌, Result, Ok, Err, IfOk, OnOk, OnErr, Option, Some, None, if◌then◌else◌, inl, inr, refl, ap, ap₂, subst}
 use Rattle.std.specs.List.{AllByRecursion, list_any}
 use Rattle.sqlite_trees.specs.declared.store.Store.{Ghosts}
-use Rattle.sqlite_trees.specs.Tree.{Trees}
 use Rattle.prof_tables.specs.Tables.{Tables}
 use Rattle.prof_books.specs.Labels.{IsGroupName}
 use Rattle.prof_books.specs.declared.kinds.Kind.{Kind}
@@ -10,8 +9,8 @@ use Rattle.prof_store.specs.Shown.{StandsFor, IsUsable, LeavesOnly}
 use Rattle.prof_store.specs.declared.errors.StoreEnd.{StoreEnd}
 use Rattle.prof_store.specs.declared.errors.StoreEnd.TheVariants as ends
 use Rattle.prof_store.specs.declared.store.Store.{Store}
-use Rattle.histories.specs.History.{History, Said, Outcome, Import, MakeGroup, DropGroup, bytes_of, groups}
-use Rattle.histories.specs.Legal.{IsInForm, IsUnread, IsLegal, IsWant, IsHistory, due, has_group, has_run, is_failed, is_end, file_due}
+use Rattle.histories.specs.History.{History, Said, Outcome, Import, bytes_of, groups}
+use Rattle.histories.specs.Legal.{IsInForm, IsUnread, IsLegal, IsHistory, has_group, is_failed, is_end, file_due}
 use Rattle.histories.specs.declared.answers.Answer.{Answer}
 use Rattle.histories.specs.declared.answers.Answer.TheVariants as answers
 use Rattle.histories.specs.declared.answers.Refusal.TheVariants as reasons

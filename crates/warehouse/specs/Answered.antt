@@ -1,9 +1,8 @@
 -- What is answered to a command, and what it leaves.
-use Rattle.std.specs.Prelude.{◌≡◌, ◌⊎◌, ℕ, map, Some, Result, Ok, Err, List, [], ◌∷◌, ◌++◌}
+use Rattle.std.specs.Prelude.{◌≡◌, ◌⊎◌, map, Some, Result, Ok, Err, List, [], ◌∷◌, ◌++◌}
 use Rattle.sqlite_trees.specs.declared.store.Store.{Ghosts}
 use Rattle.sqlite_trees.specs.Tree.{Trees}
 use Rattle.prof_tables.specs.Tables.{Tables, Holds}
-use Rattle.prof_books.specs.declared.kinds.Kind.{Kind}
 use Rattle.prof_store.specs.Shown.{StandsFor, IsUsable, LeavesOnly}
 use Rattle.prof_store.specs.declared.errors.StoreEnd.{StoreEnd}
 use Rattle.prof_store.specs.declared.errors.StoreEnd.TheVariants as ends

@@ -1,5 +1,5 @@
 -- The reads of a source, and how far a file was read.
-use Rattle.std.specs.Prelude.{◌≡◌, ℕ, true, false, nat_lt, List, [], ◌∷◌, length, Result, Ok, Err}
+use Rattle.std.specs.Prelude.{◌≡◌, ℕ, true, false, nat_lt, List, [], ◌∷◌, length}
 use Rattle.std.specs.List.{list_any}
 use Rattle.histories.specs.History.{Outcome, bytes_of}
 use Rattle.histories.specs.Legal.{is_failed, is_end}

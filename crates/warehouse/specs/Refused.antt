@@ -1,5 +1,5 @@
 -- Refusals in the order in which they are looked for.
-use Rattle.std.specs.Prelude.{Bool, true, false, ℕ, nat_le, List, [], ◌∷◌, length, Option, Some, None, option_map}
+use Rattle.std.specs.Prelude.{Bool, true, false, ℕ, nat_le, List, length, Option, Some, None, option_map}
 use Rattle.prof_books.specs.declared.kinds.Kind.{Kind}
 use Rattle.histories.specs.History.{History, held, next}
 use Rattle.histories.specs.Sums.{excess_of}

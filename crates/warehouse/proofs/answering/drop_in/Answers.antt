@@ -1,11 +1,10 @@
-use Rattle.std.proofs.Common.{◌≡◌, List, [], ℕ, Some, false, inl, refl, sym, ap, subst, ◌∙◌}
-use Rattle.histories.specs.History.{Import, Remove, MakeGroup, DropGroup, Ask}
+use Rattle.std.proofs.Common.{false, inl, sym, subst}
+use Rattle.histories.specs.History.{DropGroup}
 use Rattle.histories.specs.declared.answers.Answer.TheVariants.{Refused}
-use Rattle.histories.specs.declared.answers.Refusal.TheVariants.{BadName, NoSuchGroup}
+use Rattle.histories.specs.declared.answers.Refusal.TheVariants.{NoSuchGroup}
 use Rattle.warehouse.specs.Answered.{IsAnswered}
-use Rattle.warehouse.specs.Changes.{said_of}
-use Rattle.warehouse.proofs.Dues.{change_form, change_due, drop_due}
-use Rattle.warehouse.proofs.Settled.{settled, untouched, bad_name, no_group_named, unread_answered}
+use Rattle.warehouse.proofs.Dues.{drop_due}
+use Rattle.warehouse.proofs.Settled.{settled, untouched, no_group_named}
 use Rattle.warehouse.proofs.answering.drop_in.Goals as goal
 
 pub returns-in-Some-clause-answered : goal.returns-in-Some-clause-answered

@@ -1,11 +1,8 @@
-use Rattle.std.proofs.Common.{◌≡◌, List, [], ℕ, Some, inl, refl, sym, ap, subst, ◌∙◌}
-use Rattle.histories.specs.History.{Import, Remove, MakeGroup, DropGroup, Ask}
+use Rattle.std.proofs.Common.{[], refl}
+use Rattle.histories.specs.History.{Import}
 use Rattle.histories.specs.declared.answers.Answer.TheVariants.{Refused}
-use Rattle.histories.specs.declared.answers.Refusal.TheVariants.{BadName, NoSuchGroup}
-use Rattle.warehouse.specs.Answered.{IsAnswered}
-use Rattle.warehouse.specs.Changes.{said_of}
-use Rattle.warehouse.proofs.Dues.{change_form, change_due, drop_due}
-use Rattle.warehouse.proofs.Settled.{settled, untouched, bad_name, no_group_named, unread_answered}
+use Rattle.histories.specs.declared.answers.Refusal.TheVariants.{BadName}
+use Rattle.warehouse.proofs.Settled.{untouched, bad_name}
 use Rattle.warehouse.proofs.answering.import_in.Goals as goal
 
 pub returns-in-None-clause-answered : goal.returns-in-None-clause-answered

@@ -1,4 +1,4 @@
-use Rattle.std.proofs.Common.{◌≡◌, true, false, Some, None, sym, ap, ◌∙◌}
+use Rattle.std.proofs.Common.{◌≡◌, Some, sym, ap, ◌∙◌}
 use Rattle.prof_tables.specs.Changes as changes
 use Rattle.prof_tables.specs.Tables.{Holds}
 use Rattle.histories.specs.declared.answers.Answer.TheVariants.{Done, Refused}
@@ -6,7 +6,7 @@ use Rattle.histories.specs.Legal.{due}
 use Rattle.histories.proofs.Tells.{tells_run, tells_group}
 use Rattle.warehouse.specs.Answered.{Follows}
 use Rattle.warehouse.specs.Changes.{changed, said_of}
-use Rattle.warehouse.specs.Refused.{missing_of, refused_or}
+use Rattle.warehouse.specs.Refused.{refused_or}
 use Rattle.warehouse.proofs.Dues.{was_still, was_done, follows, change_due, change_form, tell_changed, then_crash}
 use Rattle.warehouse.proofs.changes.change_group.Goals as goal
 

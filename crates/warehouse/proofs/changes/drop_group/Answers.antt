@@ -1,18 +1,14 @@
-use Rattle.std.proofs.Common.{◌≡◌, Bool, true, false, sym, ◌∙◌}
-use Rattle.sqlite_trees.specs.Tree.{Trees}
+use Rattle.std.proofs.Common.{◌≡◌, true, false, sym, ◌∙◌}
 use Rattle.prof_tables.specs.Changes.{without_group}
 use Rattle.prof_tables.specs.Tables.{Holds}
-use Rattle.histories.specs.History.{History, DropGroup}
+use Rattle.histories.specs.History.{DropGroup}
 use Rattle.histories.specs.Legal.{has_group}
-use Rattle.histories.specs.declared.answers.Answer.TheVariants.{Done, Refused}
+use Rattle.histories.specs.declared.answers.Answer.TheVariants.{Refused}
 use Rattle.histories.specs.declared.answers.Refusal.TheVariants.{NoSuchGroup}
-use Rattle.histories.specs.declared.limits.Limits.{Limits}
 use Rattle.histories.proofs.Steps.{tell_dropped}
 use Rattle.histories.proofs.Tells.{tells_group}
-use Rattle.prof_store.specs.Shown.{IsFaithful}
-use Rattle.warehouse.specs.Answered.{StandsForHistory, Follows}
+use Rattle.warehouse.specs.Answered.{Follows}
 use Rattle.warehouse.proofs.Dues.{was_still, was_done, follows, drop_due, then_crash}
-use Rattle.warehouse.proofs.changes.drop_group.Given as given
 use Rattle.warehouse.proofs.changes.drop_group.Goals as goal
 
 pub returns-then-not-branch-clause-answered : goal.returns-then-not-branch-clause-answered

@@ -1,10 +1,9 @@
-use Rattle.std.proofs.Common.{rules, ◌≡◌, ◌≤◌, ◌<◌, Bool, true, false, nat_le, length, refl, sym, ap, ◌∙◌, arith}
-use Rattle.std.proofs.lemmas.Bool.Decides.{nat_tests}
+use Rattle.std.proofs.Common.{rules, ◌≡◌, true, false, nat_le, length, refl, sym, ◌∙◌}
 use Rattle.prof_tables.specs.Changes.{with_group}
 use Rattle.prof_tables.specs.Tables.{Holds}
-use Rattle.histories.specs.History.{History, MakeGroup, groups}
+use Rattle.histories.specs.History.{MakeGroup, groups}
 use Rattle.histories.specs.Legal.{has_group}
-use Rattle.histories.specs.declared.answers.Answer.TheVariants.{Done, Refused}
+use Rattle.histories.specs.declared.answers.Answer.TheVariants.{Refused}
 use Rattle.histories.specs.declared.answers.Refusal.TheVariants.{GroupTaken, Full}
 use Rattle.histories.proofs.Steps.{tell_made}
 use Rattle.histories.proofs.Tells.{tells_group, tells_groups}

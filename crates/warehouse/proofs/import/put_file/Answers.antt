@@ -1,4 +1,4 @@
-use Rattle.std.proofs.Common.{◌≡◌, Some, None, sym, ap, ◌∙◌}
+use Rattle.std.proofs.Common.{◌≡◌, Some, sym, ap, ◌∙◌}
 use Rattle.cost_rows.specs.Rows.{content_of}
 use Rattle.prof_tables.specs.Tables.{Holds}
 use Rattle.prof_books.specs.Runs.{with_file}

@@ -1,8 +1,7 @@
-use Rattle.std.proofs.Common.{rules, ◌≡◌, None, length, sym, ap, ◌∙◌}
+use Rattle.std.proofs.Common.{rules, ◌≡◌, None, length, sym, ◌∙◌}
 use Rattle.histories.specs.History.{held, next}
 use Rattle.histories.specs.Sums.{excess_of}
 use Rattle.histories.proofs.Tells.{tells_many}
-use Rattle.warehouse.specs.Answered.{StandsForHistory}
 use Rattle.warehouse.proofs.Dues.{has_room, has_none}
 use Rattle.warehouse.proofs.Imports.{room_full, room_spent, room_left}
 use Rattle.warehouse.proofs.import.refusal_of.Goals as goal

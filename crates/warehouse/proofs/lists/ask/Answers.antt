@@ -1,6 +1,5 @@
-use Rattle.std.proofs.Common.{◌≡◌, Some, sym, ap, ◌∙◌}
+use Rattle.std.proofs.Common.{Some, sym, ap, ◌∙◌}
 use Rattle.histories.specs.History.{Ask}
-use Rattle.histories.specs.Legal.{due}
 use Rattle.histories.specs.Texts.{text_of}
 use Rattle.histories.specs.declared.answers.Answer.TheVariants.{Text}
 use Rattle.warehouse.proofs.Dues.{was_still}

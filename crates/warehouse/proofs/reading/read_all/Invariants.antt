@@ -1,4 +1,4 @@
-use Rattle.std.proofs.Common.{◌≡◌, ℕ, ◌+◌, ◌<◌, ◌≤◌, ◌^◌, false, List, [], length}
+use Rattle.std.proofs.Common.{◌≡◌, ◌+◌, ◌<◌, ◌≤◌, ◌^◌, false, List, [], length}
 use Rattle.std.specs.List.{list_any}
 use Rattle.histories.specs.History.{Outcome, bytes_of}
 use Rattle.histories.specs.Legal.{is_failed}

@@ -1,5 +1,5 @@
-use Rattle.std.proofs.Common.{◌≡◌, refl, sym, ap, subst}
-use Rattle.histories.specs.History.{Import, Remove, MakeGroup, DropGroup, Join, Leave, SetBaseline, Ask}
+use Rattle.std.proofs.Common.{refl, sym, ap, subst}
+use Rattle.histories.specs.History.{Import, Remove, DropGroup, Join, Leave, SetBaseline, Ask}
 use Rattle.warehouse.specs.Answered.{Says}
 use Rattle.warehouse.proofs.warehouse.Warehouse.apply.Goals as goal
 

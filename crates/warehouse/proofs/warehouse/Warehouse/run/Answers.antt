@@ -1,11 +1,16 @@
-use Rattle.std.proofs.Common.{◌≡◌, ◌+◌, ◌++◌, ◌∷◌, [], option_to_list, refl, sym, ap, subst, ◌∙◌, arith, length, append_assoc, append-nil}
+use Rattle.std.proofs.Common.{◌≡◌, ◌+◌, ◌++◌, ◌∷◌, [], refl, sym, ap, subst, ◌∙◌, arith, length, append_assoc, append-nil}
 use Rattle.warehouse.specs.Answered.{IsAnswered, WasRun}
 use Rattle.warehouse.proofs.Runs.{run_nothing, run_on, no_items}
 use Rattle.warehouse.proofs.warehouse.Warehouse.run.Goals as goal
 
 pub commands-init : goal.commands-init
 commands-init g c = (
-  refl, c.in_ok-answers.ensures.len, c.in_ok-answers.ensures.exact, omega (arith, c.from-rest.ensures.1, c.len-count.ensures), λ clean. clean, λ clean usable. usable,
+  refl,
+  c.in_ok-answers.ensures.len,
+  c.in_ok-answers.ensures.exact,
+  omega (arith, c.from-rest.ensures.1, c.len-count.ensures),
+  λ clean. clean,
+  λ clean usable. usable,
   ([], sym c.from-rest.ensures.0, λ clean h has. subst (λ l. WasRun g.S.Store g.R.Source.comes c.args.self.now.limits h [] l c.args.self.now.store c.args.self.now.store) (sym c.in_ok-answers.ensures.items) (run_nothing g.S.Store g.R.Source.comes c.args.self.now.limits h c.args.self.now.store has)),
 )
 
@@ -15,7 +20,11 @@ commands-preserved g c =
     let front = i.6.0 in
     let rest = c.pop_front.new.self.items in
     let one = c.in-Some.command in (
-      c.apply-answer.ensures.limits ∙ i.0, c.push_reserved.ensures.len ∙ ap (λ n. n + 1) i.1, c.push_reserved.ensures.capacity ∙ i.2, omega (arith, c.in-Some.ensures.cases, i.3), λ clean. i.4 (c.apply-answer.ensures.honest clean),
+      c.apply-answer.ensures.limits ∙ i.0,
+      c.push_reserved.ensures.len ∙ ap (λ n. n + 1) i.1,
+      c.push_reserved.ensures.capacity ∙ i.2,
+      omega (arith, c.in-Some.ensures.cases, i.3),
+      λ clean. i.4 (c.apply-answer.ensures.honest clean),
       λ clean usable. i.5 (c.apply-answer.ensures.honest clean) (c.apply-answer.ensures.was_usable clean usable),
       (
         front ++ one ∷ [],
