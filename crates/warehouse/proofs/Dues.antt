@@ -63,7 +63,6 @@ module _ (limits : Limits) (h : History) where
       go change.Join = refl
       go change.Leave = refl
       go change.SetBaseline = refl
-
       same : (group run : Bool) → Some (missing group run) ≡ Some (refused_or (missing_of group run) answers.Done)
       same false run = refl
       same true false = refl

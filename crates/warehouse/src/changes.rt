@@ -39,7 +39,10 @@ pub(crate) enum Change {
 }
 
 /// Drops a run.
-pub(crate) fn remove<S: Alter>(store: &mut Store<S>, number: u32) -> Result<Answer, StoreEnd>
+pub(crate) fn remove<S: Alter>(
+    store: &mut Store<S>,
+    number: u32,
+) -> Result<Answer, StoreEnd>
     ensures answered { IsFaithful S.Store store.new → (limits : Limits) (h : History) → StandsForHistory S.Store h store.old → IfOk result (λ answer. WasDue S.Store limits h (Remove number) answer store.new) }
     ensures kept { IsFaithful S.Store store.new → (t : _) → StandsFor S.Store t store.old → OnErr result (IsUsable S.Store store.new → StandsFor S.Store t store.new) }
     ensures same { IsFaithful S.Store store.new → (t : _) → StandsFor S.Store t store.old → IfOk result (λ answer. (IsAccepted answer → ⊥) → StandsFor S.Store t store.new) }
@@ -81,7 +84,10 @@ pub(crate) fn make_group<S: Alter>(
 }
 
 /// Drops a group.
-pub(crate) fn drop_group<S: Alter>(store: &mut Store<S>, name: &str) -> Result<Answer, StoreEnd>
+pub(crate) fn drop_group<S: Alter>(
+    store: &mut Store<S>,
+    name: &str,
+) -> Result<Answer, StoreEnd>
     ensures answered { IsFaithful S.Store store.new → (limits : Limits) (h : History) → StandsForHistory S.Store h store.old → IfOk result (λ answer. WasDue S.Store limits h (DropGroup name.now) answer store.new) }
     ensures kept { IsFaithful S.Store store.new → (t : _) → StandsFor S.Store t store.old → OnErr result (IsUsable S.Store store.new → StandsFor S.Store t store.new) }
     ensures same { IsFaithful S.Store store.new → (t : _) → StandsFor S.Store t store.old → IfOk result (λ answer. (IsAccepted answer → ⊥) → StandsFor S.Store t store.new) }

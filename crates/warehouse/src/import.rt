@@ -24,7 +24,11 @@ use sqlite::Alter;
 use std::alloc::{AllocError, Global};
 
 /// What would pass its bound, by the name of its event.
-fn excess_of(alloc: Global, events: &[Items<u8>], overflow: Overflow) -> Result<Excess, AllocError>
+fn excess_of(
+    alloc: Global,
+    events: &[Items<u8>],
+    overflow: Overflow,
+) -> Result<Excess, AllocError>
     ensures { IfOk result (λ excess. excess ≡ sums.excess_at events.now overflow) }
 {
     let event = match events.get(overflow.column) {
@@ -49,7 +53,13 @@ pub(crate) fn label_of(bytes: &[u8]) -> Option<&str>
     ensures { MatchOption result (IsUtf8 bytes.now × IsLabel bytes.now → ⊥) (λ label. (label.now ≡ bytes.now) × IsUtf8 bytes.now × IsLabel bytes.now) }
 {
     match str::from_utf8(bytes) {
-        Ok(label) => { if is_label(label) { Some(label) } else { None } }
+        Ok(label) => {
+            if is_label(label) {
+                Some(label)
+            } else {
+                None
+            }
+        }
         Err(_) => None,
     }
 }
