@@ -82,8 +82,6 @@ impl Pieces {
 }
 
 impl Source for Pieces {
-    ghost use Rattle.std.specs.Prelude.{Unit};
-
     ghost comes = { λ from outcome to. Unit {0} };
 
     fn read(&mut self, buf: &mut [u8]) -> Result<usize, ReadFault> {
@@ -104,8 +102,6 @@ impl Source for Pieces {
 pub(crate) struct Endless;
 
 impl Source for Endless {
-    ghost use Rattle.std.specs.Prelude.{Unit};
-
     ghost comes = { λ from outcome to. Unit {0} };
 
     fn read(&mut self, buf: &mut [u8]) -> Result<usize, ReadFault> {
