@@ -11,6 +11,14 @@ mod lists;
 mod reading;
 mod refusals;
 mod source;
+#[cfg(test)]
+mod tests;
+#[cfg(test)]
+mod tests_groups;
+#[cfg(test)]
+mod tests_reads;
+#[cfg(test)]
+mod tests_sources;
 mod warehouse;
 
 pub use command::Command;
