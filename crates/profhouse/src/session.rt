@@ -1,6 +1,10 @@
 // Commands over an opened store, each with its answer printed as it is there.
+ghost use Rattle.std.specs.Prelude.{◌≡◌, ◌∷◌, [], if◌then◌else◌, ◌==◌, OnOk};
+ghost use Rattle.profhouse.specs.Answers as told;
+
 use crate::answers::{line_of, status_of};
 use crate::sources::FileSource;
+use cg_text::Items;
 use histories::{Answer, Query, Refusal};
 use prof_books::Kind;
 use prof_store::is_group_name;
@@ -22,6 +26,18 @@ pub enum GroupChange {
     Leave(u32),
     /// A run becomes its baseline.
     SetBaseline(u32),
+}
+
+/// What is done over an opened store.
+#[derive(Drop)]
+pub enum Work<'a> {
+    /// Take in the files at paths.
+    Import(Kind, Items<&'a str>),
+    /// Remove runs.
+    Remove(Items<u32>),
+    /// Change the group of a name.
+    Group(&'a str, GroupChange),
+    Ask(Query),
 }
 
 /// Prints an answer. Where there is no memory for its line, it says so, and the command stands.
@@ -62,9 +78,14 @@ impl<'a, R: Files + Print + AllocGlobal, S: Alter> Session<'a, R, S> {
     }
 
     /// Prints an answer and keeps what it says of the status.
-    fn tell(&mut self, answer: Answer) -> io::Result<()> {
+    fn tell(&mut self, answer: Answer) -> io::Result<()>
+        ensures status { OnOk result (self.new.status ≡ (if told.status_of (answer ∷ []) == 1 then 1 else self.old.status)) }
+        ensures warehouse { self.new.warehouse ≡ self.old.warehouse }
+    {
         print_answer(self.rt, &answer)?;
-        self.status = self.status.max(status_of(&[answer]));
+        if status_of(&[answer]) == 1 {
+            self.status = 1;
+        }
         Ok(())
     }
 
@@ -75,7 +96,7 @@ impl<'a, R: Files + Print + AllocGlobal, S: Alter> Session<'a, R, S> {
     }
 
     /// Takes in files, each under its path as its label.
-    pub fn import(&mut self, kind: Kind, paths: &[&'a str]) -> io::Result<()> {
+    fn import(&mut self, kind: Kind, paths: &[&'a str]) -> io::Result<()> {
         for path in paths {
             let path: &'a str = *path;
             let mut source = FileSource::new(self.rt, path);
@@ -89,20 +110,15 @@ impl<'a, R: Files + Print + AllocGlobal, S: Alter> Session<'a, R, S> {
     }
 
     /// Removes runs.
-    pub fn remove(&mut self, numbers: &[u32]) -> io::Result<()> {
+    fn remove(&mut self, numbers: &[u32]) -> io::Result<()> {
         for number in numbers {
             self.apply(Command::Remove(*number))?;
         }
         Ok(())
     }
 
-    /// Answers a question.
-    pub fn ask(&mut self, query: Query) -> io::Result<()> {
-        self.apply(Command::Ask(query))
-    }
-
     /// Changes a group. A new group's name is looked at before memory is asked for it.
-    pub fn change_group(&mut self, name: &str, change: GroupChange) -> io::Result<()> {
+    fn change_group(&mut self, name: &str, change: GroupChange) -> io::Result<()> {
         if change == GroupChange::Make && !is_group_name(name) {
             return self.tell(Answer::Refused(Refusal::BadName));
         }
@@ -116,5 +132,15 @@ impl<'a, R: Files + Print + AllocGlobal, S: Alter> Session<'a, R, S> {
             GroupChange::Leave(number) => Command::Leave(name, number),
             GroupChange::SetBaseline(number) => Command::SetBaseline(name, number),
         })
+    }
+
+    /// Runs the commands that a work comes to, and prints their answers.
+    pub fn run(&mut self, work: Work<'a>) -> io::Result<()> {
+        match work {
+            Work::Import(kind, paths) => self.import(kind, paths.as_slice()),
+            Work::Remove(numbers) => self.remove(numbers.as_slice()),
+            Work::Group(name, change) => self.change_group(name, change),
+            Work::Ask(query) => self.apply(Command::Ask(query)),
+        }
     }
 }
