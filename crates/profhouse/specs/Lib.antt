@@ -7,3 +7,4 @@ pub mod Readers
 pub mod Answers
 pub mod Plans
 pub mod Grammar
+pub mod Stores

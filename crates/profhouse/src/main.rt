@@ -9,6 +9,9 @@ mod grammar;
 mod lines;
 mod plans;
 mod running;
+mod session;
+mod sources;
+mod stores;
 mod sums;
 #[cfg(test)]
 mod tests;

@@ -1,14 +1,16 @@
 // What is done for a plan.
-use crate::answers::{line_of, status_of};
 use crate::files::total_file;
 use crate::plans::Plan;
+use crate::session::{GroupChange, Session, Work};
+use crate::stores::{end_line, store_at};
 use crate::total::TotalText;
-use histories::Answer;
+use histories::{Limits, Query};
 use std::alloc::AllocError;
 use std::io;
 use std::io::Write;
 use std::process::ExitCode;
-use std::rt::Files;
+use std::rt::HostRuntime;
+use warehouse::Warehouse;
 
 /// Prints the line of a refusal.
 pub fn print_refused<R: Print>(rt: &R, reason: &str) -> io::Result<ExitCode> {
@@ -29,23 +31,56 @@ fn print_total<R: Print>(rt: &R, total: Result<TotalText, AllocError>) -> io::Re
     })
 }
 
-/// Prints what commands were answered, a line each. Where there is no memory for a line, it says so,
-/// and the command stands.
-fn print_answers<R: Print + AllocGlobal>(rt: &R, answers: &[Answer]) -> io::Result<ExitCode> {
-    let mut out = io::writer(rt);
-    for answer in answers {
-        match line_of(rt.alloc(), answer) {
-            Ok(line) => out.write_all(line.as_slice())?,
-            Err(AllocError) => out.write_all(b"refused: out of memory\n")?,
+/// Does a work over the store at a path. At the end what was committed is copied from the log into the
+/// file; where that fails, it stands in the log.
+fn run_over<'a>(rt: &'a HostRuntime, db: &str, work: Work<'a>) -> io::Result<ExitCode> {
+    let store = match store_at(rt, db) {
+        Ok(store) => store,
+        Err(end) => {
+            println!(rt; "{}", end_line(end))?;
+            return Ok(ExitCode::FAILURE);
         }
-    }
-    Ok(ExitCode::from(status_of(answers)))
+    };
+    let mut session = Session::new(rt, Warehouse::new(store, Limits::standard()));
+    let ended = session.run(work);
+    let (status, warehouse) = session.finish();
+    let _closed = warehouse.into_store().into_connection().close();
+    ended?;
+    Ok(ExitCode::from(status))
+}
+
+/// Does a change of a group.
+fn run_group<'a>(
+    rt: &'a HostRuntime,
+    db: &str,
+    name: &'a str,
+    change: GroupChange,
+) -> io::Result<ExitCode> {
+    run_over(rt, db, Work::Group(name, change))
 }
 
 /// Does what a plan says, and prints what it came to.
-pub fn run_plan<R: Files + Print + AllocGlobal>(rt: &R, plan: Plan<'_>) -> io::Result<ExitCode> {
+pub fn run_plan<'a>(rt: &'a HostRuntime, plan: Plan<'a>) -> io::Result<ExitCode> {
     match plan {
         Plan::Total { path } => print_total(rt, total_file(rt, path)),
-        _ => print_refused(rt, "not built yet"),
+        Plan::Import { db, kind, files } => run_over(rt, db, Work::Import(kind, files)),
+        Plan::Remove { db, numbers } => run_over(rt, db, Work::Remove(numbers)),
+        Plan::Runs { db } => run_over(rt, db, Work::Ask(Query::Runs)),
+        Plan::Group {
+            db,
+            drop: false,
+            name,
+        } => run_group(rt, db, name, GroupChange::Make),
+        Plan::Group {
+            db,
+            drop: true,
+            name,
+        } => run_group(rt, db, name, GroupChange::Drop),
+        Plan::Join { db, name, number } => run_group(rt, db, name, GroupChange::Join(number)),
+        Plan::Leave { db, name, number } => run_group(rt, db, name, GroupChange::Leave(number)),
+        Plan::Baseline { db, name, number } => {
+            run_group(rt, db, name, GroupChange::SetBaseline(number))
+        }
+        Plan::Groups { db } => run_over(rt, db, Work::Ask(Query::Groups)),
     }
 }
