@@ -39,8 +39,6 @@ impl<'a, R: Files> FileSource<'a, R> {
 }
 
 impl<R: Files> Source for FileSource<'_, R> {
-    ghost use Rattle.std.specs.Prelude.{Unit};
-
     // Of the bytes of a file at a path nothing is known: a read may come to anything.
     ghost comes = { λ _ _ _. Unit {0} };
 
