@@ -14,8 +14,6 @@ mod sink;
 mod spaces;
 mod state;
 mod tables;
-#[cfg(test)]
-mod tests;
 mod totals;
 
 pub use laws::{handed_on_at_each_moment, looking_back_is_exact};

@@ -21,10 +21,6 @@ mod rows;
 mod split;
 mod subpositions;
 mod terms;
-#[cfg(test)]
-mod tests;
-#[cfg(test)]
-mod tests_formulas;
 mod words;
 
 pub use blanks::{line_text, strip_carriage_return};

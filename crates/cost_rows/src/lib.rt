@@ -18,14 +18,6 @@ mod records;
 mod rows;
 mod stack_rows;
 mod sum_rows;
-#[cfg(test)]
-mod tests;
-#[cfg(test)]
-mod tests_merged;
-#[cfg(test)]
-mod tests_rows;
-#[cfg(test)]
-mod tests_texts;
 mod texts;
 mod totals;
 mod walks;

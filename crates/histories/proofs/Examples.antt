@@ -210,6 +210,22 @@ numbers_are_spent : due narrow (two ++ turn (import Callgrind ticks) (Refused re
 unfolding reading_of line_text kind_of name_of number_of amount_of subpos_of first_words schedule rounds compress hash_after digest_bytes sha256
 numbers_are_spent = refl
 
+-- a fault comes before a sum above its bound, that before a full warehouse, and that before spent numbers
+abbrev alone : Limits
+alone = record { bytes = 2 ^ 30; runs = 1; groups = 1; numbers = 2; bytes_fit = omega arith; runs_fit = omega arith; groups_fit = omega arith; numbers_fit = omega arith }
+
+fault_before_full : due alone with_most (import Callgrind (codes "events: Ir\n1 9223372036854775808\n")) ≡ Some (Refused (reasons.File NumberTooLarge 2))
+unfolding reading_of line_text kind_of name_of number_of amount_of subpos_of first_words schedule rounds compress hash_after digest_bytes sha256
+fault_before_full = refl
+
+overflow_before_full : due alone with_most (import Callgrind one) ≡ Some (Refused (reasons.Overflow (SelfCost (codes "Ir"))))
+unfolding reading_of line_text kind_of name_of number_of amount_of subpos_of first_words schedule rounds compress hash_after digest_bytes sha256
+overflow_before_full = refl
+
+full_before_spent : due alone with_most (import Callgrind cycles) ≡ Some (Refused reasons.Full)
+unfolding reading_of line_text kind_of name_of number_of amount_of subpos_of first_words schedule rounds compress hash_after digest_bytes sha256
+full_before_spent = refl
+
 no_run_there : due standard [] (Remove 5) ≡ Some (Refused reasons.NoSuchRun)
 no_run_there = refl
 
@@ -311,6 +327,14 @@ list_renewed = refl
 baseline-renewed : baseline renewed g ≡ None
 baseline-renewed = refl
 
+-- members by their numbers, whatever the order in which they joined
+abbrev crowded : History
+crowded = two ++ turn (MakeGroup g) Done ∷ turn (Join g 2) Done ∷ turn (SetBaseline g 1) Done ∷ turn (Join g 1) Done ∷ turn (SetBaseline g 2) Done ∷ []
+
+list_crowded : groups_text crowded ≡ codes "g 2 1,2\n"
+unfolding digits
+list_crowded = refl
+
 -- a run that leaves stays a baseline, and a baseline need not be a member
 baseline-stays : baseline (joined ++ turn (SetBaseline g 1) Done ∷ turn (Leave g 1) Done ∷ []) g ≡ Some 1
 baseline-stays = refl
@@ -330,3 +354,10 @@ empty_is_run = refl
 list_of_runs : runs_text empty ≡ codes "1 callgrind e3b0c44298fc1c149afbf4c8996fb92427ae41e4649b934ca495991b7852b855 empty.out\n"
 unfolding first_words schedule rounds compress hash_after digest_bytes sha256 encode_with digits
 list_of_runs = refl
+
+abbrev sampled : History
+sampled = turn (Import Folded (codes "b c") (Gave (codes "a;b 2\n") ∷ Gave [] ∷ [])) (Run 1) ∷ []
+
+list_of_samples : runs_text sampled ≡ codes "1 folded fe491dc98a03200ded9c49087a54ebfbb0543dff4f7fb17679c74d30e2eecc64 b c\n"
+unfolding first_words schedule rounds compress hash_after digest_bytes sha256 encode_with digits
+list_of_samples = refl

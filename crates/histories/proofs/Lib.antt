@@ -1,5 +1,6 @@
 pub mod Baselines
 pub mod Books
+pub mod Cuts
 pub mod Due
 pub mod Dues
 pub mod Examples

@@ -116,8 +116,11 @@ pub fn tables_tell_the_lists<E>()
 {}
 
 /// How the bytes of a source are cut into reads does not show: imports of the same bytes, of which a
-/// read failed in both or in none, and that both ended or did not, are due the same answer.
+/// read failed in both or in none, and that both ended or did not, are due the same answer; and tables
+/// stand for a history with the one where they stand for it with the other.
 pub fn cuts_do_not_show()
-    ensures { (limits : Limits) (h : History) (kind : Kind) (label : List ℕ) (xs ys : List Outcome) → bytes_of xs ≡ bytes_of ys → list_any is_failed xs ≡ list_any is_failed ys → list_any is_end xs ≡ list_any is_end ys
+    ensures due { (limits : Limits) (h : History) (kind : Kind) (label : List ℕ) (xs ys : List Outcome) → bytes_of xs ≡ bytes_of ys → list_any is_failed xs ≡ list_any is_failed ys → list_any is_end xs ≡ list_any is_end ys
         → due limits h (Import kind label xs) ≡ due limits h (Import kind label ys) }
+    ensures tables { (limits : Limits) (h : History) (kind : Kind) (label : List ℕ) (xs ys : List Outcome) (answer : Answer) (t : Tables) → IsHistory h → bytes_of xs ≡ bytes_of ys → IsLegal limits h (Import kind label ys) answer
+        → TablesTell (h ++ record { said = Import kind label xs; answer = answer } ∷ []) t → TablesTell (h ++ record { said = Import kind label ys; answer = answer } ∷ []) t }
 {}

@@ -12,19 +12,20 @@ use Rattle.prof_store.specs.declared.cells.Cells.{Cells}
 use Rattle.prof_store.specs.declared.errors.StoreEnd.{StoreEnd}
 use Rattle.prof_books.specs.Book.{cell_held, CellIsNamed}
 use Rattle.prof_store.specs.CellWalks.{GivesCellsOn}
-use Rattle.prof_store.specs.HeldCells.{HasGivenCells, HasGivenAllCells, HasGivenCellsOn, TellsCellRows}
+use Rattle.prof_store.specs.HeldCells.{HasGivenCells, HasGivenAllCells, HasGivenCellsOn, IsOfAnEvent, TellsCellRows}
 use Rattle.prof_store.specs.Shown.{StandsFor}
 use Rattle.prof_store.proofs.CellWalks.{cells_begin, cells_end}
 
 module _ {S : Type 0} (g : Ghosts S) where
   -- the lines given are all
-  pub no_cell : (given : List (CellRow (List ℕ))) (old new : Cells S) → new.names.now ≡ old.names.now → (was : HasGivenCells g given old) → GivesCellsOn g was.lines new.store.now new.walk None → HasGivenAllCells g given new
-  no_cell given old new names was gives = record {
+  pub no_cell : (given : List (CellRow (List ℕ))) (old new : Cells S) → new.names.now ≡ old.names.now → new.events ≡ old.events → (was : HasGivenCells g given old) → GivesCellsOn g was.lines new.store.now new.walk None → HasGivenAllCells g given new
+  no_cell given old new names events was gives = record {
     has = record {
       lines = was.lines;
       gives = gives.0;
       rows_are = ap (λ (n : List NameLine). map (cell_held n) was.lines) names ∙ was.rows_are;
       named = subst (λ (n : List NameLine). AllByRecursion (CellIsNamed n) was.lines) (sym names) was.named;
+      of_events = subst (λ n. AllByRecursion (IsOfAnEvent n) was.lines) (sym events) was.of_events;
     };
     all = gives.1;
   }
@@ -47,3 +48,7 @@ module _ {S : Type 0} (g : Ghosts S) where
   -- and all names are held
   pub cells_are_named : (t : Tables) (c : Cells S) (given : List (CellRow (List ℕ))) → StandsFor g t c.store.now → HasGivenAllCells g given c → AllByRecursion (CellIsNamed c.names.now) (cells_in c.walk.run t)
   cells_are_named t c given was has = subst (AllByRecursion (CellIsNamed c.names.now)) (sym (cells_end g t c.store.now c.walk has.has.lines was has.has.gives has.all)) has.has.named
+
+  -- and all are of the events
+  pub cells_are_of_events : (t : Tables) (c : Cells S) (given : List (CellRow (List ℕ))) → StandsFor g t c.store.now → HasGivenAllCells g given c → AllByRecursion (IsOfAnEvent c.events) (cells_in c.walk.run t)
+  cells_are_of_events t c given was has = subst (AllByRecursion (IsOfAnEvent c.events)) (sym (cells_end g t c.store.now c.walk has.has.lines was has.has.gives has.all)) has.has.of_events

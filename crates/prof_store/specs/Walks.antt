@@ -1,6 +1,5 @@
 -- A walk over the rows of a run, in one of the tables whose rows are lines of runs.
-use Rattle.std.specs.Prelude.{◌≡◌, ◌≢◌, ℕ, ◌+◌, pos, List, Option, Some, None, drop}
-use Rattle.sqlite_value.specs.declared.value.Value.{Value}
+use Rattle.std.specs.Prelude.{◌≡◌, ◌≢◌, ℕ, ◌+◌, pos, List, drop}
 use Rattle.sqlite_value.specs.declared.value.Value.TheVariants.{Null, Int}
 use Rattle.sqlite_value.specs.Order.{Row, column}
 use Rattle.sqlite_trees.specs.View.{IsShaped}
@@ -37,10 +36,6 @@ abbrev pub asked : Listed → ℕ → Asked
 asked Cells = cells_of
 asked Arcs = arcs_of
 asked Stacks = stacks_of
-
-abbrev pub or_null : Option ℕ → Value
-or_null None = Null
-or_null (Some n) = Int (pos n)
 
 -- where the rows lie, by the row of the least and the greatest rowid, which has NULL where there are none
 abbrev pub IsSpanIn : Row → Span → Type 0

@@ -4,12 +4,12 @@ ghost use Rattle.sql_tables.specs.Walks.{read_from};
 ghost use Rattle.prof_tables.specs.Tables.{arc_columns};
 ghost use Rattle.prof_tables.specs.WalkTexts.{arcs_of};
 ghost use Rattle.prof_store.specs.Lines.{arc_line};
-ghost use Rattle.prof_store.specs.Shown.{IsFaithful, IsUsable, StandsFor, LeavesOnly};
+ghost use Rattle.prof_store.specs.Shown.{IsFaithful, IsUsable, IsSettled, IsAsBefore, StandsFor, LeavesOnly};
 ghost use Rattle.prof_store.specs.ArcWalks.{GivesArcs, GivesArcsOn};
 
+use crate::columns::{number_at, whole_at};
 use crate::errors::StoreEnd;
 use crate::lines::ArcLine;
-use crate::row_values::{small_at, whole_at};
 use crate::store::Store;
 use crate::walks::Walk;
 use sqlite::{Alter, Row};
@@ -17,14 +17,14 @@ use sqlite::{Alter, Row};
 fn read_arc(run: u32, row: &Row) -> Result<ArcLine, StoreEnd>
     ensures { IfOk result (λ a. arc_columns (arc_line a) ≡ read_from (arcs_of run) row.now) }
 {
-    let object = small_at(row, 1)?;
-    let file = small_at(row, 2)?;
-    let function = small_at(row, 3)?;
+    let object = number_at(row, 1)?;
+    let file = number_at(row, 2)?;
+    let function = number_at(row, 3)?;
     let line = whole_at(row, 4)?;
-    let called_object = small_at(row, 5)?;
-    let called_file = small_at(row, 6)?;
-    let called_function = small_at(row, 7)?;
-    let part = small_at(row, 8)?;
+    let called_object = number_at(row, 5)?;
+    let called_file = number_at(row, 6)?;
+    let called_function = number_at(row, 7)?;
+    let part = number_at(row, 8)?;
     let sum = whole_at(row, 9)?;
     Ok(ArcLine {
         run,
@@ -47,6 +47,9 @@ impl<S: Alter> Store<S> {
         ensures given { IsFaithful S.Store self.new → (given : _) → GivesArcs S.Store given self.old walk.old → IfOk result (GivesArcsOn S.Store given self.new walk.new) }
         ensures stays { IsFaithful S.Store self.new → (t : _) → StandsFor S.Store t self.old → OnOk result (StandsFor S.Store t self.new) }
         ensures kept { IsFaithful S.Store self.new → (t : _) → StandsFor S.Store t self.old → IsUsable S.Store self.new → StandsFor S.Store t self.new }
+        ensures unchanged { IsFaithful S.Store self.new → IsSettled S.Store self.old → IsUsable S.Store self.new → IsAsBefore S.Store self.old self.new }
+        ensures usable { IsFaithful S.Store self.new → IsUsable S.Store self.old → OnOk result (IsUsable S.Store self.new) }
+        ensures was_usable { IsFaithful S.Store self.new → IsUsable S.Store self.new → IsUsable S.Store self.old }
         ensures crash { IsFaithful S.Store self.new → (t : _) → StandsFor S.Store t self.old → LeavesOnly S.Store self.old self.new (λ _. ⊥) }
         ensures honest { IsFaithful S.Store self.new → IsFaithful S.Store self.old }
     {

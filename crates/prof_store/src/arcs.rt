@@ -5,7 +5,7 @@ ghost use Rattle.prof_tables.specs.RunLines.{arcs_in};
 ghost use Rattle.prof_books.specs.Book.{ArcIsNamed};
 ghost use Rattle.prof_store.specs.HeldArcs.{HasUsedArcs, HasTakenArc, HasGivenArcs, HasGivenArcsOn, TellsArcRows, lines_from, part_line, plain_given, row_of};
 ghost use Rattle.prof_store.specs.Lines.{arc_line};
-ghost use Rattle.prof_store.specs.Shown.{shown, IsFaithful, IsUsable, StandsFor, LeavesOnly};
+ghost use Rattle.prof_store.specs.Shown.{shown, IsFaithful, IsUsable, IsSettled, IsAsBefore, StandsFor, LeavesOnly};
 ghost use Rattle.prof_store.specs.Walks.{IsReady};
 
 use crate::errors::StoreEnd;
@@ -128,6 +128,9 @@ impl<S: Alter> Store<S> {
         ensures begun { (t : _) → StandsFor S.Store t self.old → HasGivenArcs S.Store [] result }
         ensures failed { result.failed ≡ None }
         ensures stays { (t : _) → StandsFor S.Store t self.old → StandsFor S.Store t result.store.now }
+        ensures unchanged { IsSettled S.Store self.old → IsAsBefore S.Store self.old result.store.now }
+        ensures usable { IsUsable S.Store self.old → IsUsable S.Store result.store.now }
+        ensures was_usable { IsUsable S.Store result.store.now → IsUsable S.Store self.old }
         ensures crash { LeavesOnly S.Store self.old result.store.now (λ _. ⊥) }
         ensures honest { IsFaithful S.Store result.store.now → IsFaithful S.Store self.old }
     {
@@ -155,6 +158,9 @@ impl<'a, S: Alter> Arcs<'a, S> {
         ensures taken { IsFaithful S.Store self.new.store.now → (used : _) → HasUsedArcs S.Store used self.old → IfOk result (HasTakenArc S.Store used self.new) }
         ensures stays { IsFaithful S.Store self.new.store.now → (t : _) → StandsFor S.Store t self.old.store.now → OnOk result (StandsFor S.Store t self.new.store.now) }
         ensures kept { IsFaithful S.Store self.new.store.now → (t : _) → StandsFor S.Store t self.old.store.now → IsUsable S.Store self.new.store.now → StandsFor S.Store t self.new.store.now }
+        ensures unchanged { IsFaithful S.Store self.new.store.now → IsSettled S.Store self.old.store.now → IsUsable S.Store self.new.store.now → IsAsBefore S.Store self.old.store.now self.new.store.now }
+        ensures usable { IsFaithful S.Store self.new.store.now → IsUsable S.Store self.old.store.now → OnOk result (IsUsable S.Store self.new.store.now) }
+        ensures was_usable { IsFaithful S.Store self.new.store.now → IsUsable S.Store self.new.store.now → IsUsable S.Store self.old.store.now }
         ensures crash { IsFaithful S.Store self.new.store.now → (t : _) → StandsFor S.Store t self.old.store.now → LeavesOnly S.Store self.old.store.now self.new.store.now (λ _. ⊥) }
         ensures honest { IsFaithful S.Store self.new.store.now → IsFaithful S.Store self.old.store.now }
     {
@@ -175,6 +181,9 @@ impl<'a, S: Alter> Arcs<'a, S> {
         ensures long { IfOk result (λ costs. length costs ≡ self.old.events) }
         ensures stays { IsFaithful S.Store self.new.store.now → (t : _) → StandsFor S.Store t self.old.store.now → OnOk result (StandsFor S.Store t self.new.store.now) }
         ensures kept { IsFaithful S.Store self.new.store.now → (t : _) → StandsFor S.Store t self.old.store.now → IsUsable S.Store self.new.store.now → StandsFor S.Store t self.new.store.now }
+        ensures unchanged { IsFaithful S.Store self.new.store.now → IsSettled S.Store self.old.store.now → IsUsable S.Store self.new.store.now → IsAsBefore S.Store self.old.store.now self.new.store.now }
+        ensures usable { IsFaithful S.Store self.new.store.now → IsUsable S.Store self.old.store.now → OnOk result (IsUsable S.Store self.new.store.now) }
+        ensures was_usable { IsFaithful S.Store self.new.store.now → IsUsable S.Store self.new.store.now → IsUsable S.Store self.old.store.now }
         ensures crash { IsFaithful S.Store self.new.store.now → (t : _) → StandsFor S.Store t self.old.store.now → LeavesOnly S.Store self.old.store.now self.new.store.now (λ _. ⊥) }
         ensures honest { IsFaithful S.Store self.new.store.now → IsFaithful S.Store self.old.store.now }
     {
@@ -202,6 +211,9 @@ impl<'a, S: Alter> Arcs<'a, S> {
         ensures given { IsFaithful S.Store self.new.store.now → (given : _) → HasGivenArcs S.Store given self.old → IfOk result (HasGivenArcsOn S.Store given self.new) }
         ensures stays { IsFaithful S.Store self.new.store.now → (t : _) → StandsFor S.Store t self.old.store.now → OnOk result (StandsFor S.Store t self.new.store.now) }
         ensures kept { IsFaithful S.Store self.new.store.now → (t : _) → StandsFor S.Store t self.old.store.now → IsUsable S.Store self.new.store.now → StandsFor S.Store t self.new.store.now }
+        ensures unchanged { IsFaithful S.Store self.new.store.now → IsSettled S.Store self.old.store.now → IsUsable S.Store self.new.store.now → IsAsBefore S.Store self.old.store.now self.new.store.now }
+        ensures usable { IsFaithful S.Store self.new.store.now → IsUsable S.Store self.old.store.now → OnOk result (IsUsable S.Store self.new.store.now) }
+        ensures was_usable { IsFaithful S.Store self.new.store.now → IsUsable S.Store self.new.store.now → IsUsable S.Store self.old.store.now }
         ensures crash { IsFaithful S.Store self.new.store.now → (t : _) → StandsFor S.Store t self.old.store.now → LeavesOnly S.Store self.old.store.now self.new.store.now (λ _. ⊥) }
         ensures honest { IsFaithful S.Store self.new.store.now → IsFaithful S.Store self.old.store.now }
     {
@@ -232,6 +244,9 @@ impl<'a, S: Alter> Arcs<'a, S> {
         ensures named { IsFaithful S.Store self.new.store.now → (t : _) → StandsFor S.Store t self.old.store.now → (given : _) → HasGivenArcs S.Store given self.old → IfOk result (λ row. row ≡ None → AllByRecursion (ArcIsNamed self.old.names.now) (arcs_in self.old.walk.run t)) }
         ensures stays { IsFaithful S.Store self.new.store.now → (t : _) → StandsFor S.Store t self.old.store.now → OnOk result (StandsFor S.Store t self.new.store.now) }
         ensures kept { IsFaithful S.Store self.new.store.now → (t : _) → StandsFor S.Store t self.old.store.now → IsUsable S.Store self.new.store.now → StandsFor S.Store t self.new.store.now }
+        ensures unchanged { IsFaithful S.Store self.new.store.now → IsSettled S.Store self.old.store.now → IsUsable S.Store self.new.store.now → IsAsBefore S.Store self.old.store.now self.new.store.now }
+        ensures usable { IsFaithful S.Store self.new.store.now → IsUsable S.Store self.old.store.now → OnOk result (IsUsable S.Store self.new.store.now) }
+        ensures was_usable { IsFaithful S.Store self.new.store.now → IsUsable S.Store self.new.store.now → IsUsable S.Store self.old.store.now }
         ensures crash { IsFaithful S.Store self.new.store.now → (t : _) → StandsFor S.Store t self.old.store.now → LeavesOnly S.Store self.old.store.now self.new.store.now (λ _. ⊥) }
         ensures honest { IsFaithful S.Store self.new.store.now → IsFaithful S.Store self.old.store.now }
     {

@@ -4,12 +4,12 @@ ghost use Rattle.sql_tables.specs.Walks.{read_from};
 ghost use Rattle.prof_tables.specs.Tables.{cell_columns};
 ghost use Rattle.prof_tables.specs.WalkTexts.{cells_of};
 ghost use Rattle.prof_store.specs.Lines.{cell_line};
-ghost use Rattle.prof_store.specs.Shown.{IsFaithful, IsUsable, StandsFor, LeavesOnly};
+ghost use Rattle.prof_store.specs.Shown.{IsFaithful, IsUsable, IsSettled, IsAsBefore, StandsFor, LeavesOnly};
 ghost use Rattle.prof_store.specs.CellWalks.{GivesCells, GivesCellsOn};
 
+use crate::columns::{number_at, whole_at};
 use crate::errors::StoreEnd;
 use crate::lines::CellLine;
-use crate::row_values::{small_at, whole_at};
 use crate::store::Store;
 use crate::walks::Walk;
 use sqlite::{Alter, Row};
@@ -17,11 +17,11 @@ use sqlite::{Alter, Row};
 fn read_cell(run: u32, row: &Row) -> Result<CellLine, StoreEnd>
     ensures { IfOk result (λ c. cell_columns (cell_line c) ≡ read_from (cells_of run) row.now) }
 {
-    let object = small_at(row, 1)?;
-    let file = small_at(row, 2)?;
-    let function = small_at(row, 3)?;
+    let object = number_at(row, 1)?;
+    let file = number_at(row, 2)?;
+    let function = number_at(row, 3)?;
     let line = whole_at(row, 4)?;
-    let event = small_at(row, 5)?;
+    let event = number_at(row, 5)?;
     let cost = whole_at(row, 6)?;
     Ok(CellLine {
         run,
@@ -41,6 +41,9 @@ impl<S: Alter> Store<S> {
         ensures given { IsFaithful S.Store self.new → (given : _) → GivesCells S.Store given self.old walk.old → IfOk result (GivesCellsOn S.Store given self.new walk.new) }
         ensures stays { IsFaithful S.Store self.new → (t : _) → StandsFor S.Store t self.old → OnOk result (StandsFor S.Store t self.new) }
         ensures kept { IsFaithful S.Store self.new → (t : _) → StandsFor S.Store t self.old → IsUsable S.Store self.new → StandsFor S.Store t self.new }
+        ensures unchanged { IsFaithful S.Store self.new → IsSettled S.Store self.old → IsUsable S.Store self.new → IsAsBefore S.Store self.old self.new }
+        ensures usable { IsFaithful S.Store self.new → IsUsable S.Store self.old → OnOk result (IsUsable S.Store self.new) }
+        ensures was_usable { IsFaithful S.Store self.new → IsUsable S.Store self.new → IsUsable S.Store self.old }
         ensures crash { IsFaithful S.Store self.new → (t : _) → StandsFor S.Store t self.old → LeavesOnly S.Store self.old self.new (λ _. ⊥) }
         ensures honest { IsFaithful S.Store self.new → IsFaithful S.Store self.old }
     {

@@ -3,8 +3,10 @@ ghost use Rattle.std.specs.Prelude.{◌≡◌, pos, option_map, string_bytes, If
 ghost use Rattle.sqlite_value.specs.declared.value.Value.TheVariants.{Int, Text, Blob};
 ghost use Rattle.sqlite_value.specs.Order.{column};
 ghost use Rattle.prof_tables.specs.Tables.{number_or_null, text_or_null};
+ghost use Rattle.prof_store.specs.Names.{ShowsFirst};
 
 use crate::errors::{StoreEnd, end_of};
+use crate::whole::Whole;
 use sqlite::Row;
 
 pub(crate) fn number_at(row: &Row, at: usize) -> Result<u32, StoreEnd>
@@ -35,6 +37,15 @@ pub(crate) fn sum_at(row: &Row, at: usize) -> Result<u64, StoreEnd>
     }
 }
 
+pub(crate) fn whole_at(row: &Row, at: usize) -> Result<Whole, StoreEnd>
+    ensures { IfOk result (λ number. column row.now at ≡ Int (pos number)) }
+{
+    match row.get::<u64>(at) {
+        Ok(number) => Whole::of(number).ok_or(StoreEnd::Store),
+        Err(error) => Err(end_of(error)),
+    }
+}
+
 pub(crate) fn text_at(row: &Row, at: usize) -> Result<String, StoreEnd>
     ensures read { IfOk result (λ text. column row.now at ≡ Text (string_bytes text)) }
 {
@@ -60,5 +71,15 @@ pub(crate) fn bytes_at(row: &Row, at: usize) -> Result<Vec<u8>, StoreEnd>
     match row.get(at) {
         Ok(bytes) => Ok(bytes),
         Err(error) => Err(end_of(error)),
+    }
+}
+
+/// The number in the first row, if there is a row.
+pub(crate) fn first_number(rows: &[Row]) -> Result<Option<u32>, StoreEnd>
+    ensures { IfOk result (ShowsFirst rows.now) }
+{
+    match rows.first() {
+        Some(row) => Ok(Some(number_at(row, 0)?)),
+        None => Ok(None),
     }
 }

@@ -12,8 +12,8 @@ ghost use Rattle.sql_tables.specs.States.{Works};
 ghost use Rattle.prof_store.specs.Names.{number_if_held};
 ghost use Rattle.prof_store.specs.Steps.{Passes, Makes};
 
+use crate::columns::first_number;
 use crate::errors::{StoreEnd, end_of};
-use crate::first_columns::first_number;
 use sqlite::types::ToSql;
 use sqlite::{Alter, Error, Row, Transaction, params};
 

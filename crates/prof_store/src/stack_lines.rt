@@ -4,12 +4,12 @@ ghost use Rattle.sql_tables.specs.Walks.{read_from};
 ghost use Rattle.prof_tables.specs.Tables.{stack_columns};
 ghost use Rattle.prof_tables.specs.WalkTexts.{stacks_of};
 ghost use Rattle.prof_store.specs.Lines.{held_stack};
-ghost use Rattle.prof_store.specs.Shown.{IsFaithful, IsUsable, StandsFor, LeavesOnly};
+ghost use Rattle.prof_store.specs.Shown.{IsFaithful, IsUsable, IsSettled, IsAsBefore, StandsFor, LeavesOnly};
 ghost use Rattle.prof_store.specs.StackWalks.{GivesStacks, GivesStacksOn};
 
+use crate::columns::{bytes_at, whole_at};
 use crate::errors::StoreEnd;
 use crate::lines::HeldStack;
-use crate::row_values::{bytes_at, whole_at};
 use crate::store::Store;
 use crate::walks::Walk;
 use sqlite::{Alter, Row};
@@ -29,6 +29,9 @@ impl<S: Alter> Store<S> {
         ensures given { IsFaithful S.Store self.new → (given : _) → GivesStacks S.Store given self.old walk.old → IfOk result (GivesStacksOn S.Store given self.new walk.new) }
         ensures stays { IsFaithful S.Store self.new → (t : _) → StandsFor S.Store t self.old → OnOk result (StandsFor S.Store t self.new) }
         ensures kept { IsFaithful S.Store self.new → (t : _) → StandsFor S.Store t self.old → IsUsable S.Store self.new → StandsFor S.Store t self.new }
+        ensures unchanged { IsFaithful S.Store self.new → IsSettled S.Store self.old → IsUsable S.Store self.new → IsAsBefore S.Store self.old self.new }
+        ensures usable { IsFaithful S.Store self.new → IsUsable S.Store self.old → OnOk result (IsUsable S.Store self.new) }
+        ensures was_usable { IsFaithful S.Store self.new → IsUsable S.Store self.new → IsUsable S.Store self.old }
         ensures crash { IsFaithful S.Store self.new → (t : _) → StandsFor S.Store t self.old → LeavesOnly S.Store self.old self.new (λ _. ⊥) }
         ensures honest { IsFaithful S.Store self.new → IsFaithful S.Store self.old }
     {

@@ -3,7 +3,7 @@ ghost use Rattle.std.specs.Prelude.{◌≡◌, [], Some, None, IfOk, OnOk, Match
 ghost use Rattle.prof_books.specs.Book.{stack_held};
 ghost use Rattle.prof_store.specs.HeldStacks.{HasGivenStacks, HasGivenStacksOn, TellsStackRows, plain_held};
 ghost use Rattle.prof_store.specs.Lines.{held_stack};
-ghost use Rattle.prof_store.specs.Shown.{shown, IsFaithful, IsUsable, StandsFor, LeavesOnly};
+ghost use Rattle.prof_store.specs.Shown.{shown, IsFaithful, IsUsable, IsSettled, IsAsBefore, StandsFor, LeavesOnly};
 ghost use Rattle.prof_store.specs.Walks.{IsReady};
 
 use crate::errors::StoreEnd;
@@ -39,6 +39,9 @@ impl<S: Alter> Store<S> {
         ensures begun { (t : _) → StandsFor S.Store t self.old → HasGivenStacks S.Store [] result }
         ensures failed { result.failed ≡ None }
         ensures stays { (t : _) → StandsFor S.Store t self.old → StandsFor S.Store t result.store.now }
+        ensures unchanged { IsSettled S.Store self.old → IsAsBefore S.Store self.old result.store.now }
+        ensures usable { IsUsable S.Store self.old → IsUsable S.Store result.store.now }
+        ensures was_usable { IsUsable S.Store result.store.now → IsUsable S.Store self.old }
         ensures crash { LeavesOnly S.Store self.old result.store.now (λ _. ⊥) }
         ensures honest { IsFaithful S.Store result.store.now → IsFaithful S.Store self.old }
     {
@@ -59,6 +62,9 @@ impl<S: Alter> Stacks<'_, S> {
         ensures given { IsFaithful S.Store self.new.store.now → (given : _) → HasGivenStacks S.Store given self.old → IfOk result (HasGivenStacksOn S.Store given self.new) }
         ensures stays { IsFaithful S.Store self.new.store.now → (t : _) → StandsFor S.Store t self.old.store.now → OnOk result (StandsFor S.Store t self.new.store.now) }
         ensures kept { IsFaithful S.Store self.new.store.now → (t : _) → StandsFor S.Store t self.old.store.now → IsUsable S.Store self.new.store.now → StandsFor S.Store t self.new.store.now }
+        ensures unchanged { IsFaithful S.Store self.new.store.now → IsSettled S.Store self.old.store.now → IsUsable S.Store self.new.store.now → IsAsBefore S.Store self.old.store.now self.new.store.now }
+        ensures usable { IsFaithful S.Store self.new.store.now → IsUsable S.Store self.old.store.now → OnOk result (IsUsable S.Store self.new.store.now) }
+        ensures was_usable { IsFaithful S.Store self.new.store.now → IsUsable S.Store self.new.store.now → IsUsable S.Store self.old.store.now }
         ensures crash { IsFaithful S.Store self.new.store.now → (t : _) → StandsFor S.Store t self.old.store.now → LeavesOnly S.Store self.old.store.now self.new.store.now (λ _. ⊥) }
         ensures honest { IsFaithful S.Store self.new.store.now → IsFaithful S.Store self.old.store.now }
     {
@@ -79,6 +85,9 @@ impl<S: Alter> Stacks<'_, S> {
         ensures told { IsFaithful S.Store self.new.store.now → (t : _) → StandsFor S.Store t self.old.store.now → (given : _) → HasGivenStacks S.Store given self.old → IfOk result (TellsStackRows self.old.walk.run t given) }
         ensures stays { IsFaithful S.Store self.new.store.now → (t : _) → StandsFor S.Store t self.old.store.now → OnOk result (StandsFor S.Store t self.new.store.now) }
         ensures kept { IsFaithful S.Store self.new.store.now → (t : _) → StandsFor S.Store t self.old.store.now → IsUsable S.Store self.new.store.now → StandsFor S.Store t self.new.store.now }
+        ensures unchanged { IsFaithful S.Store self.new.store.now → IsSettled S.Store self.old.store.now → IsUsable S.Store self.new.store.now → IsAsBefore S.Store self.old.store.now self.new.store.now }
+        ensures usable { IsFaithful S.Store self.new.store.now → IsUsable S.Store self.old.store.now → OnOk result (IsUsable S.Store self.new.store.now) }
+        ensures was_usable { IsFaithful S.Store self.new.store.now → IsUsable S.Store self.new.store.now → IsUsable S.Store self.old.store.now }
         ensures crash { IsFaithful S.Store self.new.store.now → (t : _) → StandsFor S.Store t self.old.store.now → LeavesOnly S.Store self.old.store.now self.new.store.now (λ _. ⊥) }
         ensures honest { IsFaithful S.Store self.new.store.now → IsFaithful S.Store self.old.store.now }
     {

@@ -141,3 +141,72 @@ fn memory_refused_to_join(rt: HostRuntime) -> Result<(), Fail> {
     assert_eq!(rt; number(&mut store, "SELECT count(*) FROM member")?, 1);
     Ok(())
 }
+
+/// What all cells of run 1 cost, and how many calls it has.
+fn walked(store: &mut Store<MemStore>, alloc: Global) -> Result<(u128, u128), StoreEnd> {
+    let names = store.names(alloc)?;
+    let mut costs = 0u128;
+    let mut cells = store.cells_of(1, &names, 1);
+    for _ in 0..10 {
+        let Some(cell) = cells.next()? else {
+            break;
+        };
+        costs = costs.saturating_add(cell.cost);
+    }
+    drop(cells);
+    let mut count = 0u128;
+    let mut arcs = store.arcs_of(alloc, 1, &names, 1);
+    for _ in 0..10 {
+        let Some(arc) = arcs.next()? else {
+            break;
+        };
+        count = count.saturating_add(arc.count);
+    }
+    Ok((costs, count))
+}
+
+#[test]
+fn memory_refused_to_walk(rt: HostRuntime) -> Result<(), Fail> {
+    let alloc = rt.alloc();
+    let mut store = new_store(alloc)?;
+    if put(&mut store, alloc)?.is_err() {
+        assert_eq!(rt; put(&mut store, alloc)?, Ok(1));
+    }
+    match walked(&mut store, alloc) {
+        Ok(sums) => assert_eq!(rt; sums, (3, 2)),
+        Err(end) => {
+            assert_eq!(rt; end, StoreEnd::Memory);
+            assert_eq!(rt; count_rows(&mut store)?, ROWS);
+            assert_eq!(rt; walked(&mut store, alloc)?, (3, 2));
+        }
+    }
+    Ok(())
+}
+
+#[test]
+fn memory_refused_to_tell(rt: HostRuntime) -> Result<(), Fail> {
+    let alloc = rt.alloc();
+    let mut store = new_store(alloc)?;
+    if put(&mut store, alloc)?.is_err() {
+        assert_eq!(rt; put(&mut store, alloc)?, Ok(1));
+    }
+    let head = match store.head_of(alloc, 1) {
+        Ok(head) => head,
+        Err(end) => {
+            assert_eq!(rt; end, StoreEnd::Memory);
+            store.head_of(alloc, 1)?
+        }
+    };
+    assert_eq!(rt; head.events.len(), 1);
+    let totals = match store.totals_of(alloc, head.events.as_slice()) {
+        Ok(totals) => totals,
+        Err(end) => {
+            assert_eq!(rt; end, StoreEnd::Memory);
+            store.totals_of(alloc, head.events.as_slice())?
+        }
+    };
+    assert_eq!(rt; totals.self_cost.as_slice(), [3].as_slice());
+    assert_eq!(rt; totals.call_cost.as_slice(), [2].as_slice());
+    assert_eq!(rt; totals.call_count, 2);
+    Ok(())
+}

@@ -88,7 +88,7 @@ fn cells_have_their_names(rt: HostRuntime) -> Result<(), Fail> {
         ],
     )?;
     let names = store.names(rt.alloc())?;
-    let mut cells = store.cells_of(1, &names);
+    let mut cells = store.cells_of(1, &names, 2);
     let Some(first) = cells.next()? else {
         return Err(Fail::from(StoreEnd::Store));
     };
@@ -124,7 +124,7 @@ fn sum_of_cells(
     names: &HeldNames,
     run: u32,
 ) -> Result<(u64, u128), Fail> {
-    let mut cells = store.cells_of(run, names);
+    let mut cells = store.cells_of(run, names, 1);
     let mut sum = 0u128;
     for count in 0..u64::MAX {
         let Some(row) = cells.next()? else {
@@ -159,7 +159,7 @@ fn a_walk_may_be_left(rt: HostRuntime) -> Result<(), Fail> {
         add_cell(&mut store, 1, line, 2)?;
     }
     let names = store.names(rt.alloc())?;
-    let mut cells = store.cells_of(1, &names);
+    let mut cells = store.cells_of(1, &names, 1);
     for _ in 0..600 {
         cells.next()?;
     }
@@ -175,7 +175,7 @@ fn refusals(
     alloc: Global,
 ) -> Result<(Option<StoreEnd>, Option<StoreEnd>), Fail> {
     let names = store.names(alloc)?;
-    let mut cells = store.cells_of(1, &names);
+    let mut cells = store.cells_of(1, &names, 1);
     let first = cells.next().err();
     let again = cells.next().err();
     Ok((first, again))
@@ -205,6 +205,7 @@ fn cells_out_of_form_are_refused(rt: HostRuntime) -> Result<(), Fail> {
         "INSERT INTO cell (run, ob, fl, fn, line, event, cost) VALUES (1, 1, 2, 3, 1, 0, -1)",
         "INSERT INTO cell (run, ob, fl, fn, line, event, cost) VALUES (1, 1, 2, 3, -1, 0, 1)",
         "INSERT INTO cell (run, ob, fl, fn, line, event, cost) VALUES (1, 1, 2, 3, 1, -1, 1)",
+        "INSERT INTO cell (run, ob, fl, fn, line, event, cost) VALUES (1, 1, 2, 3, 1, 1, 1)",
     ] {
         assert_eq!(rt; refusals_of_cell(rt.alloc(), text)?, REFUSED);
     }

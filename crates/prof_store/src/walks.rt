@@ -5,13 +5,13 @@ ghost use Rattle.sqlite.specs.Held.{state};
 ghost use Rattle.sqlite_value.specs.declared.value.Value.TheVariants.{Int};
 ghost use Rattle.sqlite_value.specs.Order.{column};
 ghost use Rattle.sqlite_trees.specs.Tree.{IsTable};
-ghost use Rattle.prof_store.specs.Shown.{shown, IsFaithful, IsUsable, StandsFor, LeavesOnly};
+ghost use Rattle.prof_store.specs.Shown.{shown, IsFaithful, IsUsable, IsSettled, IsAsBefore, StandsFor, LeavesOnly};
 ghost use Rattle.sql_tables.specs.Walks.{in_page, in_window, Lie};
-ghost use Rattle.prof_store.specs.Walks.{tree_of, window_text_of, ends_text_of, asked, rows_of, or_null, IsSpanIn, IsReady, Walks, HasWalked};
+ghost use Rattle.prof_store.specs.Walks.{tree_of, window_text_of, ends_text_of, asked, rows_of, IsSpanIn, IsReady, Walks, HasWalked};
 ghost use Rattle.std.specs.Prelude.{filter};
 
+use crate::columns::{number_at, number_or_null_at};
 use crate::errors::{StoreEnd, end_of};
-use crate::row_values::{small_at, small_or_null_at};
 use crate::store::Store;
 use sqlite::{Alter, Connection, Error, Row, params};
 
@@ -116,7 +116,7 @@ fn rise(rows: &[Row], low: u32) -> Result<(), StoreEnd>
 {
     let mut last = low;
     'rows: for row in rows {
-        let id = small_at(row, 0)?;
+        let id = number_at(row, 0)?;
         if id <= last {
             return Err(StoreEnd::Store);
         }
@@ -129,10 +129,10 @@ fn rise(rows: &[Row], low: u32) -> Result<(), StoreEnd>
 fn span_in(row: &Row) -> Result<Span, StoreEnd>
     ensures { IfOk result (IsSpanIn row.now) }
 {
-    let Some(first) = small_or_null_at(row, 0)? else {
+    let Some(first) = number_or_null_at(row, 0)? else {
         return Ok(Span { low: 0, top: 0 });
     };
-    let top = small_at(row, 1)?;
+    let top = number_at(row, 1)?;
     if first == 0 {
         return Err(StoreEnd::Store);
     }
@@ -150,6 +150,9 @@ impl<S: Alter> Store<S> {
         ensures page { self.new.page ≡ self.old.page }
         ensures stays { IsFaithful S.Store self.new → (t : _) → StandsFor S.Store t self.old → OnOk result (StandsFor S.Store t self.new) }
         ensures kept { IsFaithful S.Store self.new → (t : _) → StandsFor S.Store t self.old → IsUsable S.Store self.new → StandsFor S.Store t self.new }
+        ensures unchanged { IsFaithful S.Store self.new → IsSettled S.Store self.old → IsUsable S.Store self.new → IsAsBefore S.Store self.old self.new }
+        ensures usable { IsFaithful S.Store self.new → IsUsable S.Store self.old → OnOk result (IsUsable S.Store self.new) }
+        ensures was_usable { IsFaithful S.Store self.new → IsUsable S.Store self.new → IsUsable S.Store self.old }
         ensures crash { IsFaithful S.Store self.new → (t : _) → StandsFor S.Store t self.old → LeavesOnly S.Store self.old self.new (λ _. ⊥) }
         ensures honest { IsFaithful S.Store self.new → IsFaithful S.Store self.old }
     {
@@ -165,6 +168,9 @@ impl<S: Alter> Store<S> {
         ensures same { IsFaithful S.Store self.new → IsReady (shown S.Store self.old) → OnOk result ((shown S.Store self.new).now ≡ (shown S.Store self.old).now) }
         ensures stays { IsFaithful S.Store self.new → (t : _) → StandsFor S.Store t self.old → OnOk result (StandsFor S.Store t self.new) }
         ensures kept { IsFaithful S.Store self.new → (t : _) → StandsFor S.Store t self.old → IsUsable S.Store self.new → StandsFor S.Store t self.new }
+        ensures unchanged { IsFaithful S.Store self.new → IsSettled S.Store self.old → IsUsable S.Store self.new → IsAsBefore S.Store self.old self.new }
+        ensures usable { IsFaithful S.Store self.new → IsUsable S.Store self.old → OnOk result (IsUsable S.Store self.new) }
+        ensures was_usable { IsFaithful S.Store self.new → IsUsable S.Store self.new → IsUsable S.Store self.old }
         ensures crash { IsFaithful S.Store self.new → (t : _) → StandsFor S.Store t self.old → LeavesOnly S.Store self.old self.new (λ _. ⊥) }
         ensures honest { IsFaithful S.Store self.new → IsFaithful S.Store self.old }
     {
@@ -187,6 +193,9 @@ impl<S: Alter> Store<S> {
         ensures moved { IsFaithful S.Store self.new → (given : _) → Walks S.Store given self.old walk.old → OnOk result (Walks S.Store given self.new walk.new) }
         ensures stays { IsFaithful S.Store self.new → (t : _) → StandsFor S.Store t self.old → OnOk result (StandsFor S.Store t self.new) }
         ensures kept { IsFaithful S.Store self.new → (t : _) → StandsFor S.Store t self.old → IsUsable S.Store self.new → StandsFor S.Store t self.new }
+        ensures unchanged { IsFaithful S.Store self.new → IsSettled S.Store self.old → IsUsable S.Store self.new → IsAsBefore S.Store self.old self.new }
+        ensures usable { IsFaithful S.Store self.new → IsUsable S.Store self.old → OnOk result (IsUsable S.Store self.new) }
+        ensures was_usable { IsFaithful S.Store self.new → IsUsable S.Store self.new → IsUsable S.Store self.old }
         ensures crash { IsFaithful S.Store self.new → (t : _) → StandsFor S.Store t self.old → LeavesOnly S.Store self.old self.new (λ _. ⊥) }
         ensures honest { IsFaithful S.Store self.new → IsFaithful S.Store self.old }
     {
@@ -206,6 +215,9 @@ impl<S: Alter> Store<S> {
         ensures moved { IsFaithful S.Store self.new → (given : _) → Walks S.Store given self.old walk.old → drop walk.old.at self.old.page.items ≡ [] → IfOk result (λ more. Walks S.Store given self.new walk.new × (more ≡ false → HasWalked S.Store given self.new walk.new)) }
         ensures stays { IsFaithful S.Store self.new → (t : _) → StandsFor S.Store t self.old → OnOk result (StandsFor S.Store t self.new) }
         ensures kept { IsFaithful S.Store self.new → (t : _) → StandsFor S.Store t self.old → IsUsable S.Store self.new → StandsFor S.Store t self.new }
+        ensures unchanged { IsFaithful S.Store self.new → IsSettled S.Store self.old → IsUsable S.Store self.new → IsAsBefore S.Store self.old self.new }
+        ensures usable { IsFaithful S.Store self.new → IsUsable S.Store self.old → OnOk result (IsUsable S.Store self.new) }
+        ensures was_usable { IsFaithful S.Store self.new → IsUsable S.Store self.new → IsUsable S.Store self.old }
         ensures crash { IsFaithful S.Store self.new → (t : _) → StandsFor S.Store t self.old → LeavesOnly S.Store self.old self.new (λ _. ⊥) }
         ensures honest { IsFaithful S.Store self.new → IsFaithful S.Store self.old }
     {
@@ -231,6 +243,9 @@ impl<S: Alter> Store<S> {
         ensures moved { IsFaithful S.Store self.new → (given : _) → Walks S.Store given self.old walk.old → IfOk result (λ more. Walks S.Store given self.new walk.new × (more ≡ false → HasWalked S.Store given self.new walk.new)) }
         ensures stays { IsFaithful S.Store self.new → (t : _) → StandsFor S.Store t self.old → OnOk result (StandsFor S.Store t self.new) }
         ensures kept { IsFaithful S.Store self.new → (t : _) → StandsFor S.Store t self.old → IsUsable S.Store self.new → StandsFor S.Store t self.new }
+        ensures unchanged { IsFaithful S.Store self.new → IsSettled S.Store self.old → IsUsable S.Store self.new → IsAsBefore S.Store self.old self.new }
+        ensures usable { IsFaithful S.Store self.new → IsUsable S.Store self.old → OnOk result (IsUsable S.Store self.new) }
+        ensures was_usable { IsFaithful S.Store self.new → IsUsable S.Store self.new → IsUsable S.Store self.old }
         ensures crash { IsFaithful S.Store self.new → (t : _) → StandsFor S.Store t self.old → LeavesOnly S.Store self.old self.new (λ _. ⊥) }
         ensures honest { IsFaithful S.Store self.new → IsFaithful S.Store self.old }
     {

@@ -4,3 +4,4 @@ pub mod ReadersLemmas
 pub mod PlansLemmas
 pub mod CommandLemmas
 pub mod Examples
+pub mod SessionLemmas

@@ -8,3 +8,4 @@ pub mod Answers
 pub mod Plans
 pub mod Grammar
 pub mod Stores
+pub mod Sessions

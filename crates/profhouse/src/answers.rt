@@ -84,7 +84,7 @@ pub fn line_of(alloc: Global, answer: &Answer) -> Result<Items<u8>, AllocError>
 }
 
 /// Whether an answer is a refusal.
-fn is_refused(answer: &Answer) -> bool
+pub fn is_refused(answer: &Answer) -> bool
     ensures { result ≡ told.is_refused answer.now }
 {
     matches!(answer, Answer::Refused(_))

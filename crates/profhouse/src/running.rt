@@ -12,7 +12,7 @@ use std::process::ExitCode;
 use std::rt::HostRuntime;
 use warehouse::Warehouse;
 
-/// Prints the line of a refusal.
+/// Prints the line of a refusal. No clause: of what is printed the checker knows nothing.
 pub fn print_refused<R: Print>(rt: &R, reason: &str) -> io::Result<ExitCode> {
     println!(rt; "refused: {reason}")?;
     Ok(ExitCode::FAILURE)
@@ -32,7 +32,9 @@ fn print_total<R: Print>(rt: &R, total: Result<TotalText, AllocError>) -> io::Re
 }
 
 /// Does a work over the store at a path. At the end what was committed is copied from the log into the
-/// file; where that fails, it stands in the log.
+/// file; where that fails, it stands in the log. No clause: which history the store at a path has, the
+/// checker does not know; `Session::run` says what is done over a store of any history, and which status
+/// comes of it.
 fn run_over<'a>(rt: &'a HostRuntime, db: &str, work: Work<'a>) -> io::Result<ExitCode> {
     let store = match store_at(rt, db) {
         Ok(store) => store,
@@ -41,7 +43,8 @@ fn run_over<'a>(rt: &'a HostRuntime, db: &str, work: Work<'a>) -> io::Result<Exi
             return Ok(ExitCode::FAILURE);
         }
     };
-    let mut session = Session::new(rt, Warehouse::new(store, Limits::standard()));
+    let warehouse = Warehouse::new(store, Limits::standard());
+    let mut session = Session::new(rt, io::writer(rt), warehouse);
     let ended = session.run(work);
     let (status, warehouse) = session.finish();
     let _closed = warehouse.into_store().into_connection().close();
@@ -59,7 +62,8 @@ fn run_group<'a>(
     run_over(rt, db, Work::Group(name, change))
 }
 
-/// Does what a plan says, and prints what it came to.
+/// Does what a plan says, and prints what it came to. No clause: of the files that a plan names the
+/// checker knows nothing; `total_read` and `Session::run` say what is made of them.
 pub fn run_plan<'a>(rt: &'a HostRuntime, plan: Plan<'a>) -> io::Result<ExitCode> {
     match plan {
         Plan::Total { path } => print_total(rt, total_file(rt, path)),

@@ -5,7 +5,8 @@ use std::rt::Files;
 use warehouse::{ReadFault, Source};
 
 /// The file at a path, opened by the first read; where it cannot be opened, that read fails. Every
-/// error of a read is a failed read, an interrupted one too.
+/// error of a read is a failed read, an interrupted one too. No clause: of the file at a path the checker
+/// knows nothing.
 #[derive(Drop)]
 pub struct FileSource<'a, R: Files> {
     rt: &'a R,
@@ -14,7 +15,7 @@ pub struct FileSource<'a, R: Files> {
 }
 
 impl<'a, R: Files> FileSource<'a, R> {
-    /// The file at a path, not opened yet.
+    /// The file at a path, not opened yet. No clause: what its reads give, the checker does not know.
     pub fn new(rt: &'a R, path: &'a str) -> FileSource<'a, R> {
         FileSource {
             rt,

@@ -22,32 +22,52 @@ fn end_of_open(error: Error) -> OpenEnd
     }
 }
 
-/// Whether there is no file at a path, or an empty one.
-fn is_blank(rt: &HostRuntime, path: &str) -> Result<bool, OpenEnd> {
+/// How many bytes the file at a path has: none where there is no file.
+fn length_at(rt: &HostRuntime, path: &str) -> Result<u64, OpenEnd> {
     match fs::metadata(rt, path) {
-        Ok(metadata) => Ok(metadata.len() == 0),
-        Err(error) if error.kind() == ErrorKind::NotFound => Ok(true),
+        Ok(metadata) => Ok(metadata.len()),
+        Err(error) if error.kind() == ErrorKind::NotFound => Ok(0),
         Err(error) if error.kind() == ErrorKind::OutOfMemory => Err(OpenEnd::Memory),
         Err(_) => Err(OpenEnd::Store),
     }
 }
 
+/// A new store over a database. One that is refused is closed.
+fn new_store(rt: &HostRuntime, conn: Connection<StoreFile>) -> Result<Store<StoreFile>, OpenEnd> {
+    match Store::create(rt.alloc(), conn) {
+        Ok(store) => Ok(store),
+        Err((end, conn)) => {
+            let _closed = conn.close();
+            Err(OpenEnd::from(end))
+        }
+    }
+}
+
+/// The store that a database holds. One that is refused is closed.
+fn old_store(rt: &HostRuntime, conn: Connection<StoreFile>) -> Result<Store<StoreFile>, OpenEnd> {
+    match Store::open(rt.alloc(), conn) {
+        Ok(store) => Ok(store),
+        Err((end, conn)) => {
+            let _closed = conn.close();
+            Err(end)
+        }
+    }
+}
+
 /// The store at a path: a new one where there is no file or an empty one, else the one that is there.
-/// No clause: of the files at a path the checker knows nothing; `Store::create` and `Store::open` say
-/// what is made of a database.
+/// A file of one byte is none, and is not opened: the database would take it for a new one that a stop
+/// left half made, and write over it. No clause: of the files at a path the checker knows nothing;
+/// `Store::create` and `Store::open` say what is made of a database.
 pub fn store_at(rt: &HostRuntime, path: &str) -> Result<Store<StoreFile>, OpenEnd> {
-    let is_new = is_blank(rt, path)?;
+    let length = length_at(rt, path)?;
+    if length == 1 {
+        return Err(OpenEnd::WrongSchema);
+    }
     let conn = Connection::open(rt, path).map_err(end_of_open)?;
-    if is_new {
-        match Store::create(rt.alloc(), conn) {
-            Ok(store) => Ok(store),
-            Err((end, _)) => Err(OpenEnd::from(end)),
-        }
+    if length == 0 {
+        new_store(rt, conn)
     } else {
-        match Store::open(rt.alloc(), conn) {
-            Ok(store) => Ok(store),
-            Err((end, _)) => Err(end),
-        }
+        old_store(rt, conn)
     }
 }
 

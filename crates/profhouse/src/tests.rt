@@ -1,4 +1,5 @@
 //! Tests of the program's parts.
 mod answers;
 mod plans;
+mod sessions;
 mod totals;

@@ -68,6 +68,7 @@ fn add_call<S: Sink>(sink: &mut S, places: &Places, at: u64, place: u64) -> Resu
 }
 
 /// Gives a sink one record of own costs at each of so many places, and one of calls at each tenth.
+/// No clause: only time is measured.
 pub fn add_records<S: Sink>(
     sink: &mut S,
     places: &Places,

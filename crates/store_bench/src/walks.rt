@@ -31,9 +31,14 @@ impl Sum {
     }
 }
 
-fn cells_sum<S: Alter>(store: &mut Store<S>, names: &HeldNames, run: u32) -> Result<Sum> {
+fn cells_sum<S: Alter>(
+    store: &mut Store<S>,
+    names: &HeldNames,
+    run: u32,
+    events: usize,
+) -> Result<Sum> {
     let mut sum = Sum::none();
-    let mut cells = store.cells_of(run, names);
+    let mut cells = store.cells_of(run, names, events);
     for _ in 0..u64::MAX {
         match cells.next().map_err(refused)? {
             Some(cell) => sum.add(cell.cost),
@@ -66,12 +71,16 @@ pub(crate) fn walk_run<S: Alter>(rt: &HostRuntime, store: &mut Store<S>, run: u3
     let timer = Timer::new(rt)?;
     let names = store.names(rt.alloc()).map_err(refused)?;
     timer.say(rt, "names")?;
+    let events = store
+        .head_of(rt.alloc(), run)
+        .map_err(refused)?
+        .events
+        .len();
     let timer = Timer::new(rt)?;
-    let cells = cells_sum(store, &names, run)?;
+    let cells = cells_sum(store, &names, run, events)?;
     timer.say(rt, "cells walked")?;
-    let head = store.head_of(rt.alloc(), run).map_err(refused)?;
     let timer = Timer::new(rt)?;
-    let arcs = arcs_sum(store, rt.alloc(), &names, run, head.events.len())?;
+    let arcs = arcs_sum(store, rt.alloc(), &names, run, events)?;
     timer.say(rt, "calls walked")?;
     cells.say(rt, "cells")?;
     arcs.say(rt, "calls")

@@ -7,6 +7,7 @@ mod changes;
 mod command;
 mod import;
 mod intake;
+mod laws;
 mod lists;
 mod reading;
 mod refusals;
@@ -14,7 +15,11 @@ mod source;
 #[cfg(test)]
 mod tests;
 #[cfg(test)]
+mod tests_files;
+#[cfg(test)]
 mod tests_groups;
+#[cfg(test)]
+mod tests_memory;
 #[cfg(test)]
 mod tests_reads;
 #[cfg(test)]
@@ -23,6 +28,7 @@ mod warehouse;
 
 pub use command::Command;
 pub use histories::{Answer, Excess, Limits, Query, Refusal};
+pub use laws::histories_survive;
 pub use prof_books::Kind;
 pub use source::{ReadFault, Source};
 pub use warehouse::Warehouse;

@@ -22,12 +22,12 @@ fn a_file_is_held_once(rt: HostRuntime) -> Result<(), Fail> {
         (Kind::Callgrind, b"held 1".as_slice()),
         (Kind::Folded, b"held 1".as_slice()),
     ] {
-        let answer = import(&mut house, alloc, kind, CALLS)?;
+        let answer = import(&mut house, alloc, kind, EVENTS)?;
         assert_eq!(rt; answer.as_slice(), wanted);
     }
     let removed = apply(&mut house, alloc, Command::Remove(1))?;
     assert_eq!(rt; removed.as_slice(), b"done".as_slice());
-    let again = import(&mut house, alloc, Kind::Callgrind, CALLS)?;
+    let again = import(&mut house, alloc, Kind::Callgrind, EVENTS)?;
     assert_eq!(rt; again.as_slice(), b"run 2".as_slice());
     for number in [0, 1, 3] {
         let missing = apply(&mut house, alloc, Command::Remove(number))?;
@@ -186,6 +186,31 @@ fn a_refused_file_takes_no_number(rt: HostRuntime) -> Result<(), Fail> {
     // The bytes are held, whatever fault they have as another kind.
     let held = import(&mut house, alloc, Kind::Folded, SMALL)?;
     assert_eq!(rt; held.as_slice(), b"held 1".as_slice());
+    Ok(())
+}
+
+#[test]
+fn a_full_warehouse_takes_no_number(rt: HostRuntime) -> Result<(), Fail> {
+    let alloc = rt.alloc();
+    let one_run = Limits {
+        bytes: 1000,
+        runs: 1,
+        groups: 1,
+        numbers: 9,
+    };
+    let mut house = warehouse(alloc, one_run)?;
+    for (bytes, wanted) in [
+        (EVENTS, b"run 1".as_slice()),
+        (CALLS, b"refused: full".as_slice()),
+        (TICKS, b"refused: full".as_slice()),
+    ] {
+        let answer = import(&mut house, alloc, Kind::Callgrind, bytes)?;
+        assert_eq!(rt; answer.as_slice(), wanted);
+    }
+    let removed = apply(&mut house, alloc, Command::Remove(1))?;
+    assert_eq!(rt; removed.as_slice(), b"done".as_slice());
+    let second = import(&mut house, alloc, Kind::Callgrind, CALLS)?;
+    assert_eq!(rt; second.as_slice(), b"run 2".as_slice());
     Ok(())
 }
 

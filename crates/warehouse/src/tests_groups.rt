@@ -2,12 +2,12 @@
 use crate::tests_sources::{CALLS, EVENTS, Pieces, TICKS, import, line, warehouse};
 use crate::{Command, Kind, Limits, Query, Warehouse};
 use sqlite::MemStore;
-use std::alloc::Global;
+use std::alloc::{AllocError, Global};
 use std::test::Fail;
 
 /// What is asked of a group in a step of a test.
 #[derive(Clone, Copy)]
-enum Step {
+pub(crate) enum Step {
     Make(&'static [u8]),
     Drop(&'static [u8]),
     Join(&'static [u8], u32),
@@ -17,7 +17,7 @@ enum Step {
     Groups,
 }
 
-fn command(alloc: Global, step: Step) -> Result<Command<Pieces>, Fail> {
+pub(crate) fn command(alloc: Global, step: Step) -> Result<Command<Pieces>, AllocError> {
     let command = match step {
         Step::Make(name) => Command::MakeGroup(name.to_vec(alloc)?),
         Step::Drop(name) => Command::DropGroup(name.to_vec(alloc)?),

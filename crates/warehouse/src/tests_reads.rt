@@ -102,6 +102,21 @@ fn a_read_fails(rt: HostRuntime) -> Result<(), Fail> {
 }
 
 #[test]
+fn a_file_is_taken_after_its_source_failed(rt: HostRuntime) -> Result<(), Fail> {
+    let alloc = rt.alloc();
+    let mut house = warehouse(alloc, Limits::standard())?;
+    // The second read fails.
+    for most in [1, 100, usize::MAX] {
+        let mut failing = Pieces::new(CALLS, most, 1);
+        let failed = import_from(&mut house, alloc, Kind::Callgrind, &mut failing)?;
+        assert_eq!(rt; failed.as_slice(), b"refused: read failed".as_slice());
+    }
+    let taken = import(&mut house, alloc, Kind::Callgrind, CALLS)?;
+    assert_eq!(rt; taken.as_slice(), b"run 1".as_slice());
+    Ok(())
+}
+
+#[test]
 fn reading_goes_on_after_a_fault(rt: HostRuntime) -> Result<(), Fail> {
     let alloc = rt.alloc();
     let mut house = warehouse(alloc, of_bytes(20))?;

@@ -7,12 +7,16 @@ use Rattle.histories.specs.declared.answers.Answer.{Answer}
 use Rattle.histories.specs.declared.answers.Answer.TheVariants.{Refused}
 use Rattle.histories.specs.declared.answers.Refusal.TheVariants.{TooLong, ReadFault}
 use Rattle.histories.specs.declared.limits.Limits.{Limits}
+use Rattle.histories.proofs.Cuts.{tell_same}
 use Rattle.histories.proofs.laws.cuts_do_not_show.Goals as goal
 
 abbrev by_bytes : Limits → History → Kind → List ℕ → Bool → Bool → Option Answer
 by_bytes limits h kind bytes failed over =
     if nat_lt limits.bytes (length bytes) then Some (Refused TooLong) else if failed then Some (Refused ReadFault) else if over then Some (file_due limits h kind bytes) else None
 
-pub returns : goal.returns
-returns c limits h kind label xs ys same failed over =
+pub returns-clause-due : goal.returns-clause-due
+returns-clause-due c limits h kind label xs ys same failed over =
     ap (λ bytes. by_bytes limits h kind bytes (list_any is_failed xs) (list_any is_end xs)) same ∙ ap₂ (by_bytes limits h kind (bytes_of ys)) failed over
+
+pub returns-clause-tables : goal.returns-clause-tables
+returns-clause-tables c limits h kind label xs ys answer t is same legal tell = tell_same h kind label xs ys answer same limits t is legal tell

@@ -13,7 +13,7 @@ rows-preserved c =
     let at = c.rows.row-index in
     let within : at < length rows = search rules in
     let grown = take_more rows at c.row-item.result within ∙ ap (λ r. take at rows ++ r ∷ []) (sym c.row-item.is) in
-    subst (λ l. IsTable l × AllByRecursion (IsUpTo c.in_ok-id.id) l) (sym grown) (table_more (take at rows) c.row-item.result c.rows.last c.in_ok-id.id c.rows.invariant.0 c.rows.invariant.1 c.in_ok-id.ensures c.if-id-last.false)
+    subst (λ l. IsTable l × AllByRecursion (IsUpTo c.in_ok-id.id) l) (sym grown) (table_more (take at rows) c.row-item.result c.rows.last c.in_ok-id.id c.rows.invariant.0 c.rows.invariant.1 c.in_ok-id.ensures.read c.if-id-last.false)
 
 pub returns : goal.returns
 returns c =

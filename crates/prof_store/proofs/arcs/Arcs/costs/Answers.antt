@@ -4,6 +4,7 @@ use Rattle.prof_store.specs.ArcWalks.{GivesArcs}
 use Rattle.prof_store.specs.HeldArcs.{HasTakenArc, lines_from, part_line}
 use Rattle.prof_store.specs.Lines.{arc_line}
 use Rattle.prof_store.proofs.ArcRows.{used_none}
+use Rattle.prof_store.proofs.Writing.{before_then, settled_still}
 use Rattle.prof_store.proofs.arcs.Arcs.costs.Goals as goal
 
 pub parts-preserved : goal.parts-preserved
@@ -25,6 +26,11 @@ parts-preserved g c =
       honest = λ clean. inv.honest (e.honest clean);
       stays = λ clean t was. e.stays clean t (inv.stays (e.honest clean) t was);
       crash = λ clean t was db may. elim (e.crash clean t (inv.stays (e.honest clean) t was) db may) [ inl earlier ↦ inv.crash (e.honest clean) t was db earlier | inr never ↦ inr never ];
+      unchanged = λ clean was is_open.
+          let before_it = inv.unchanged (e.honest clean) was (e.was_usable clean is_open) in
+          before_then g.S.Store _ _ _ before_it (e.unchanged clean (settled_still g.S.Store _ _ was before_it) is_open);
+      usable = λ clean was. e.usable clean (inv.usable (e.honest clean) was);
+      was_usable = λ clean is_open. inv.was_usable (e.honest clean) (e.was_usable clean is_open);
       used = λ clean used was.
           let taken = subst (HasTakenArc g.S.Store (used ++ before) mid) c.in-Some.is (e.taken clean (used ++ before) (inv.used (e.honest clean) used was)) in
           let grown = append_assoc used before (arc_line line ∷ []) ∙ ap (λ l. used ++ l) (ap (λ x. before ++ x ∷ []) same ∙ sym (c.in_ok-add_part.ensures.lines first)) in

@@ -3,8 +3,8 @@ use Rattle.std.specs.List.{AllByRecursion}
 use Rattle.prof_tables.specs.RunLines.{cells_in}
 use Rattle.prof_tables.specs.Tables.{NameLine}
 use Rattle.prof_books.specs.Book.{CellIsNamed}
-use Rattle.prof_store.specs.HeldCells.{HasGivenCellsOn, TellsCellRows}
-use Rattle.prof_store.proofs.CellRows.{tells_cell_rows, cells_are_named}
+use Rattle.prof_store.specs.HeldCells.{HasGivenCellsOn, IsOfAnEvent, TellsCellRows}
+use Rattle.prof_store.proofs.CellRows.{tells_cell_rows, cells_are_named, cells_are_of_events}
 use Rattle.prof_store.proofs.cells.Cells.next.Goals as goal
 
 pub returns-in-Ok-clause-told : goal.returns-in-Ok-clause-told
@@ -17,3 +17,9 @@ returns-in-Ok-clause-named g c clean t was given has none =
     let e = c.in-Ok.ensures in
     let all = subst (HasGivenCellsOn g.S.Store given c.row.new.self) none (e.given clean given has) in
     subst₂ (λ (n : List NameLine) run. AllByRecursion (CellIsNamed n) (cells_in run t)) e.names e.run (cells_are_named g.S.Store t c.row.new.self given (e.stays clean t was) all)
+
+pub returns-in-Ok-clause-of_events : goal.returns-in-Ok-clause-of_events
+returns-in-Ok-clause-of_events g c clean t was given has none =
+    let e = c.in-Ok.ensures in
+    let all = subst (HasGivenCellsOn g.S.Store given c.row.new.self) none (e.given clean given has) in
+    subst₂ (λ n run. AllByRecursion (IsOfAnEvent n) (cells_in run t)) e.events e.run (cells_are_of_events g.S.Store t c.row.new.self given (e.stays clean t was) all)

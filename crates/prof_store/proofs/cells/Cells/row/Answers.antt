@@ -5,4 +5,4 @@ use Rattle.prof_store.proofs.cells.Cells.row.Goals as goal
 
 pub returns-in_default-clause-given : goal.returns-in_default-clause-given
 returns-in_default-clause-given g c clean given was =
-    no_cell g.S.Store given c.args.self.now _ refl was (subst (GivesCellsOn g.S.Store was.lines c.next_cell.new.self c.next_cell.new.walk) c.in_default.is (c.in_ok-line.ensures.given clean was.lines was.gives))
+    no_cell g.S.Store given c.args.self.now _ refl refl was (subst (GivesCellsOn g.S.Store was.lines c.next_cell.new.self c.next_cell.new.walk) c.in_default.is (c.in_ok-line.ensures.given clean was.lines was.gives))

@@ -8,6 +8,7 @@ returns-clause-ready g c was = record {
   gives = record { table_is = c.over.ensures.table; walks = begin_step g.S.Store _ c.over.result was c.over.ensures.placed (ap₂ drop c.over.ensures.at c.clear.ensures.items) };
   rows_are = refl;
   named = tt;
+  of_events = tt;
 }
 
 pub returns-clause-begun : goal.returns-clause-begun

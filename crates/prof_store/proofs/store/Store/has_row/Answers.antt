@@ -1,5 +1,6 @@
 use Rattle.std.proofs.Common.{rules, ◌≡◌, inl, inr, true, false, [], drop, ◌∙◌}
 use Rattle.std.proofs.lemmas.List.{drop_all}
+use Rattle.prof_store.proofs.Writing.{before_then, settled_still}
 use Rattle.prof_store.proofs.store.Store.has_row.Goals as goal
 
 pub returns-then-walk-len-clause-moved : goal.returns-then-walk-len-clause-moved
@@ -22,4 +23,9 @@ pages-preserved g c =
       λ clean tables was. t.stays clean tables (i.3 (t.honest clean) tables was),
       λ clean tables was db may. elim (t.crash clean tables (i.3 (t.honest clean) tables was) db may) [ inl before ↦ i.4 (t.honest clean) tables was db before | inr never ↦ absurd never ],
       λ clean given was. (t.moved clean given (i.5 (t.honest clean) given was) none).0,
+      λ clean was is_open.
+          let mid = i.6 (t.honest clean) was (t.was_usable clean is_open) in
+          before_then g.S.Store _ _ _ mid (t.unchanged clean (settled_still g.S.Store _ _ was mid) is_open),
+      λ clean was. t.usable clean (i.7 (t.honest clean) was),
+      λ clean is_open. i.8 (t.honest clean) (t.was_usable clean is_open),
     )

@@ -1,10 +1,12 @@
 use Rattle.std.proofs.Common.{[], ◌∷◌, pos, subst}
 use Rattle.sqlite_value.specs.declared.value.Value.TheVariants.{Int}
 use Rattle.sqlite_trees.specs.Tree.{IsTable}
+use Rattle.sql_tables.proofs.Opens.{shown_open, fails_was_open}
 use Rattle.sql_tables.proofs.Queries.{shown_keeps, fails_keeps, commits_nothing}
 use Rattle.sql_tables.proofs.Statements.{rests_if_kept, rests_if_same}
 use Rattle.prof_tables.specs.Schema.{schema_one}
 use Rattle.prof_store.specs.Walks.{window_text_of}
+use Rattle.prof_store.proofs.Reading.{rows_as_before, fails_as_before}
 use Rattle.prof_store.proofs.WalkTables.{window_plain, window_is}
 use Rattle.prof_store.proofs.WalkSteps.{on_ok_then, on_ok_any}
 use Rattle.prof_store.proofs.store.Store.load.Goals as goal
@@ -37,3 +39,18 @@ returns-in-Err-clause-kept g c clean t was is_open =
 pub returns-in-Err-clause-crash : goal.returns-in-Err-clause-crash
 returns-in-Err-clause-crash g c clean t was =
     (commits_nothing schema_one (window_text_of c.args.table) (Int (pos c.args.run) ∷ Int (pos c.args.low) ∷ Int (pos c.args.high) ∷ []) _ _ was.schema_is (window_plain c.args.table) c.select_window.ensures.survives).crash clean
+
+pub returns-in-Ok-clause-unchanged : goal.returns-in-Ok-clause-unchanged
+returns-in-Ok-clause-unchanged g c clean was is_open = rows_as_before (window_text_of c.args.table) (Int (pos c.args.run) ∷ Int (pos c.args.low) ∷ Int (pos c.args.high) ∷ []) (window_plain c.args.table) g.S.Store _ _ was c.in-Ok.rows.items (c.in-Ok.ensures.ok clean) is_open
+
+pub returns-in-Ok-clause-usable : goal.returns-in-Ok-clause-usable
+returns-in-Ok-clause-usable g c clean was = on_ok_any c.rise.result _ (shown_open _ _ _ _ _ (c.in-Ok.ensures.ok clean)).is_open
+
+pub returns-in-Ok-clause-was_usable : goal.returns-in-Ok-clause-was_usable
+returns-in-Ok-clause-was_usable g c clean is_open = (shown_open _ _ _ _ _ (c.in-Ok.ensures.ok clean)).was_open
+
+pub returns-in-Err-clause-unchanged : goal.returns-in-Err-clause-unchanged
+returns-in-Err-clause-unchanged g c clean was is_open = fails_as_before (window_text_of c.args.table) (Int (pos c.args.run) ∷ Int (pos c.args.low) ∷ Int (pos c.args.high) ∷ []) (window_plain c.args.table) g.S.Store _ _ was _ (c.in-Err.ensures.err clean) is_open
+
+pub returns-in-Err-clause-was_usable : goal.returns-in-Err-clause-was_usable
+returns-in-Err-clause-was_usable g c clean is_open = fails_was_open _ _ _ _ _ (c.in-Err.ensures.err clean) is_open
