@@ -45,20 +45,6 @@ mod stack_texts;
 mod stacks;
 mod store;
 mod sums;
-#[cfg(test)]
-mod tests;
-#[cfg(test)]
-mod tests_heads;
-#[cfg(test)]
-mod tests_many;
-#[cfg(test)]
-mod tests_memory;
-#[cfg(test)]
-mod tests_put;
-#[cfg(test)]
-mod tests_queries;
-#[cfg(test)]
-mod tests_walks;
 mod totals;
 mod values;
 mod walks;

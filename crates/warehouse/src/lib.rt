@@ -12,18 +12,6 @@ mod lists;
 mod reading;
 mod refusals;
 mod source;
-#[cfg(test)]
-mod tests;
-#[cfg(test)]
-mod tests_files;
-#[cfg(test)]
-mod tests_groups;
-#[cfg(test)]
-mod tests_memory;
-#[cfg(test)]
-mod tests_reads;
-#[cfg(test)]
-mod tests_sources;
 mod warehouse;
 
 pub use command::Command;

@@ -1,9 +1,9 @@
 // What the tests share: sources, small files, and answers as lines.
-use crate::{Answer, Excess, Kind, Limits, ReadFault, Refusal, Source, Warehouse};
 use prof_store::Store;
 use sqlite::{Connection, MemStore};
 use std::alloc::Global;
 use std::test::Fail;
+use warehouse::{Answer, Excess, Kind, Limits, ReadFault, Refusal, Source, Warehouse};
 
 pub(crate) const EVENTS: &[u8] = b"# callgrind format
 events: Cycles Instructions Flops
@@ -113,7 +113,7 @@ impl Source for Endless {
 }
 
 /// A warehouse in memory, without runs and groups.
-pub(crate) fn warehouse(alloc: Global, limits: Limits) -> Result<Warehouse<MemStore>, Fail> {
+pub(crate) fn empty_house(alloc: Global, limits: Limits) -> Result<Warehouse<MemStore>, Fail> {
     let conn = Connection::open_in_memory(alloc)?;
     match Store::create(alloc, conn) {
         Ok(store) => Ok(Warehouse::new(store, limits)),

@@ -1,12 +1,12 @@
 // Memory that is refused once: `rt try --test --fail-alloc N` refuses the Nth allocation. The command
 // that meets it is refused for want of memory and leaves what stood, and the next one is answered.
-use crate::tests_groups::{Step, command};
-use crate::tests_sources::Pieces;
-use crate::{Answer, Command, Kind, Limits, Query, Refusal, Warehouse};
+use crate::groups::{Step, command};
+use crate::sources::Pieces;
 use prof_store::{Store, StoreEnd};
 use sqlite::{Connection, MemStore};
 use std::alloc::{AllocError, Global};
 use std::test::Fail;
+use warehouse::{Answer, Command, Kind, Limits, Query, Refusal, Warehouse};
 
 const FILE: &[u8] = b"event: Est = 2 Ir
 events: Ir
@@ -38,7 +38,7 @@ fn create(alloc: Global) -> Result<Store<MemStore>, StoreEnd> {
     }
 }
 
-/// A new warehouse, at the second try if memory is refused at the first.
+/// A new empty_house, at the second try if memory is refused at the first.
 fn new_house(alloc: Global) -> Result<Warehouse<MemStore>, Fail> {
     let store = match create(alloc) {
         Ok(store) => store,

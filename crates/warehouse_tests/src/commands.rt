@@ -1,9 +1,9 @@
 // Imports and removals, with the answers that the specification gives.
-use crate::tests_sources::{CALLS, EVENTS, FULL, Pieces, SMALL, TICKS, import, line, warehouse};
-use crate::{Command, Kind, Limits, Query, Warehouse};
+use crate::sources::{CALLS, EVENTS, FULL, Pieces, SMALL, TICKS, empty_house, import, line};
 use sqlite::MemStore;
 use std::alloc::Global;
 use std::test::Fail;
+use warehouse::{Command, Kind, Limits, Query, Warehouse};
 
 fn apply(
     warehouse: &mut Warehouse<MemStore>,
@@ -16,7 +16,7 @@ fn apply(
 #[test]
 fn a_file_is_held_once(rt: HostRuntime) -> Result<(), Fail> {
     let alloc = rt.alloc();
-    let mut house = warehouse(alloc, Limits::standard())?;
+    let mut house = empty_house(alloc, Limits::standard())?;
     for (kind, wanted) in [
         (Kind::Callgrind, b"run 1".as_slice()),
         (Kind::Callgrind, b"held 1".as_slice()),
@@ -39,7 +39,7 @@ fn a_file_is_held_once(rt: HostRuntime) -> Result<(), Fail> {
 #[test]
 fn own_costs_have_room_together(rt: HostRuntime) -> Result<(), Fail> {
     let alloc = rt.alloc();
-    let mut house = warehouse(alloc, Limits::standard())?;
+    let mut house = empty_house(alloc, Limits::standard())?;
     let first = import(&mut house, alloc, Kind::Callgrind, FULL)?;
     assert_eq!(rt; first.as_slice(), b"run 1".as_slice());
     let second = import(&mut house, alloc, Kind::Callgrind, SMALL)?;
@@ -59,7 +59,7 @@ fn own_costs_have_room_together(rt: HostRuntime) -> Result<(), Fail> {
 
 /// What the first import into a new warehouse is answered.
 fn first_answer(alloc: Global, kind: Kind, bytes: &'static [u8]) -> Result<Vec<u8>, Fail> {
-    let mut house = warehouse(alloc, Limits::standard())?;
+    let mut house = empty_house(alloc, Limits::standard())?;
     import(&mut house, alloc, kind, bytes)
 }
 
@@ -143,7 +143,7 @@ fn runs_and_numbers_are_bounded(rt: HostRuntime) -> Result<(), Fail> {
         groups: 1,
         numbers: 3,
     };
-    let mut house = warehouse(alloc, limits)?;
+    let mut house = empty_house(alloc, limits)?;
     for (bytes, wanted) in [
         (EVENTS, b"run 1".as_slice()),
         (CALLS, b"run 2".as_slice()),
@@ -175,7 +175,7 @@ fn runs_and_numbers_are_bounded(rt: HostRuntime) -> Result<(), Fail> {
 #[test]
 fn a_refused_file_takes_no_number(rt: HostRuntime) -> Result<(), Fail> {
     let alloc = rt.alloc();
-    let mut house = warehouse(alloc, Limits::standard())?;
+    let mut house = empty_house(alloc, Limits::standard())?;
     let fault = import(&mut house, alloc, Kind::Folded, SMALL)?;
     assert_eq!(rt;
         fault.as_slice(),
@@ -198,7 +198,7 @@ fn a_full_warehouse_takes_no_number(rt: HostRuntime) -> Result<(), Fail> {
         groups: 1,
         numbers: 9,
     };
-    let mut house = warehouse(alloc, one_run)?;
+    let mut house = empty_house(alloc, one_run)?;
     for (bytes, wanted) in [
         (EVENTS, b"run 1".as_slice()),
         (CALLS, b"refused: full".as_slice()),
@@ -217,7 +217,7 @@ fn a_full_warehouse_takes_no_number(rt: HostRuntime) -> Result<(), Fail> {
 #[test]
 fn runs_are_listed(rt: HostRuntime) -> Result<(), Fail> {
     let alloc = rt.alloc();
-    let mut house = warehouse(alloc, Limits::standard())?;
+    let mut house = empty_house(alloc, Limits::standard())?;
     let none = apply(&mut house, alloc, Command::Ask(Query::Runs))?;
     assert_eq!(rt; none.as_slice(), b"".as_slice());
     let mut source = Pieces::whole(b"");
@@ -244,7 +244,7 @@ fn runs_are_listed(rt: HostRuntime) -> Result<(), Fail> {
 #[test]
 fn commands_are_answered_in_turn(rt: HostRuntime) -> Result<(), Fail> {
     let alloc = rt.alloc();
-    let mut house = warehouse(alloc, Limits::standard())?;
+    let mut house = empty_house(alloc, Limits::standard())?;
     let commands = Vec::from_array(
         alloc,
         [
@@ -291,7 +291,7 @@ fn a_store_is_handed_back(rt: HostRuntime) -> Result<(), Fail> {
         groups: 5,
         numbers: 9,
     };
-    let mut house = warehouse(alloc, limits)?;
+    let mut house = empty_house(alloc, limits)?;
     assert_eq!(rt; house.limits(), limits);
     let first = import(&mut house, alloc, Kind::Callgrind, b"")?;
     assert_eq!(rt; first.as_slice(), b"run 1".as_slice());

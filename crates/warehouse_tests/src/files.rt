@@ -1,12 +1,10 @@
 // Files of both kinds, with the answers that a reading of them by hand gives.
-use crate::tests_sources::{
-    CALLS, EVENTS, Pieces, SMALL, TICKS, import, import_from, line, warehouse,
-};
-use crate::{Answer, Command, Kind, Limits, Query, ReadFault, Source, Warehouse};
+use crate::sources::{CALLS, EVENTS, Pieces, SMALL, TICKS, empty_house, import, import_from, line};
 use prof_store::Store;
 use sqlite::{MemStore, params};
 use std::alloc::Global;
 use std::test::Fail;
+use warehouse::{Answer, Command, Kind, Limits, Query, ReadFault, Source, Warehouse};
 
 /// The manual's example with calls, its names by identifiers.
 const COMPRESSED: &[u8] =
@@ -57,9 +55,9 @@ const FILES: [&[u8]; 14] = [
 /// Folded files; the second has the stacks of the first in another order.
 const STACKS: [&[u8]; 2] = [b"a;b;a 3\na;b 2\n", b"a;b 2\na;b;a 3\n"];
 
-/// Whether each of these files is the next run of a new warehouse, and is held then.
+/// Whether each of these files is the next run of a new empty_house, and is held then.
 fn are_runs(alloc: Global, kind: Kind, files: &[&'static [u8]]) -> Result<bool, Fail> {
-    let mut house = warehouse(alloc, Limits::standard())?;
+    let mut house = empty_house(alloc, Limits::standard())?;
     let mut next = 1u32;
     let mut well = true;
     for bytes in files {
@@ -84,7 +82,7 @@ fn each_new_file_is_the_next_run(rt: HostRuntime) -> Result<(), Fail> {
 #[test]
 fn formulas_are_looked_at(rt: HostRuntime) -> Result<(), Fail> {
     let alloc = rt.alloc();
-    let mut house = warehouse(alloc, Limits::standard())?;
+    let mut house = empty_house(alloc, Limits::standard())?;
     for (bytes, wanted) in [
         (
             b"event: Est = Ir + 10 L1m + 100 * LLm : Estimate\nevents: Ir L1m LLm\nfn=f\n1 1000 20 3\nevent: Bad = Ir + Xx\n".as_slice(),
@@ -151,7 +149,7 @@ impl Source for Halves {
 #[test]
 fn a_cut_does_not_show(rt: HostRuntime) -> Result<(), Fail> {
     let alloc = rt.alloc();
-    let mut house = warehouse(alloc, Limits::standard())?;
+    let mut house = empty_house(alloc, Limits::standard())?;
     let first = import(&mut house, alloc, Kind::Callgrind, LAYOUT)?;
     assert_eq!(rt; first.as_slice(), b"run 1".as_slice());
     for place in 0..LAYOUT.len() {
@@ -161,7 +159,7 @@ fn a_cut_does_not_show(rt: HostRuntime) -> Result<(), Fail> {
         assert_eq!(rt; held.as_slice(), b"held 1".as_slice());
     }
     for most in [1, 7] {
-        let mut house = warehouse(alloc, Limits::standard())?;
+        let mut house = empty_house(alloc, Limits::standard())?;
         let mut pieces = Pieces::new(LAYOUT, most, u64::MAX);
         let run = import_from(&mut house, alloc, Kind::Callgrind, &mut pieces)?;
         assert_eq!(rt; run.as_slice(), b"run 1".as_slice());
@@ -193,7 +191,7 @@ fn a_line_end_is_cut(rt: HostRuntime) -> Result<(), Fail> {
             b"refused: line 2: F3 bad number".as_slice(),
         ),
     ] {
-        let mut house = warehouse(alloc, Limits::standard())?;
+        let mut house = empty_house(alloc, Limits::standard())?;
         let mut cut = Halves { front, rest };
         let answer = import_from(&mut house, alloc, Kind::Callgrind, &mut cut)?;
         assert_eq!(rt; answer.as_slice(), wanted);
@@ -248,7 +246,7 @@ fn a_line_has_a_mebibyte(rt: HostRuntime) -> Result<(), Fail> {
         (1_048_576, b"run 1".as_slice()),
         (1_048_577, b"refused: line 2: F1 line too long".as_slice()),
     ] {
-        let mut house = warehouse(alloc, Limits::standard())?;
+        let mut house = empty_house(alloc, Limits::standard())?;
         let mut long = LongComment::new(bytes);
         let answer = import_from(&mut house, alloc, Kind::Callgrind, &mut long)?;
         assert_eq!(rt; answer.as_slice(), wanted);
@@ -265,7 +263,7 @@ fn files_are_cut_short(rt: HostRuntime) -> Result<(), Fail> {
         (83, b"refused: line 8: F10 short line".as_slice()),
         (86, b"refused: line 8: F15 call without cost".as_slice()),
     ] {
-        let mut house = warehouse(alloc, Limits::standard())?;
+        let mut house = empty_house(alloc, Limits::standard())?;
         assert!(rt; place <= CALLS.len());
         let (front, _) = CALLS.split_at(place);
         let answer = import(&mut house, alloc, Kind::Callgrind, front)?;
@@ -295,8 +293,8 @@ fn passing<R: Source>(
 fn fronts_are_answered_byte_by_byte(rt: HostRuntime) -> Result<(), Fail> {
     let alloc = rt.alloc();
     for bytes in [CALLS, LAYOUT] {
-        let mut house = warehouse(alloc, Limits::standard())?;
-        let mut other = warehouse(alloc, Limits::standard())?;
+        let mut house = empty_house(alloc, Limits::standard())?;
+        let mut other = empty_house(alloc, Limits::standard())?;
         for place in 0..bytes.len() {
             let (front, _) = bytes.split_at(place);
             let whole = passing(&mut house, alloc, &mut Pieces::whole(front))?;
@@ -321,7 +319,7 @@ fn runs(house: &mut Warehouse<MemStore>, alloc: Global) -> Result<Vec<u8>, Fail>
 #[test]
 fn a_store_is_opened_again(rt: HostRuntime) -> Result<(), Fail> {
     let alloc = rt.alloc();
-    let mut house = warehouse(alloc, Limits::standard())?;
+    let mut house = empty_house(alloc, Limits::standard())?;
     let run = import(&mut house, alloc, Kind::Folded, b"a;b 2\n")?;
     assert_eq!(rt; run.as_slice(), b"run 1".as_slice());
     let conn = house.into_store().into_connection();
@@ -344,7 +342,7 @@ fn a_store_is_opened_again(rt: HostRuntime) -> Result<(), Fail> {
 #[test]
 fn a_line_out_of_form_is_the_stores_fault(rt: HostRuntime) -> Result<(), Fail> {
     let alloc = rt.alloc();
-    let mut house = warehouse(alloc, Limits::standard())?;
+    let mut house = empty_house(alloc, Limits::standard())?;
     let run = import(&mut house, alloc, Kind::Callgrind, SMALL)?;
     assert_eq!(rt; run.as_slice(), b"run 1".as_slice());
     let mut conn = house.into_store().into_connection();

@@ -1,11 +1,11 @@
 // Sources that give little, fail or never end, and labels out of form.
-use crate::tests_sources::{
-    CALLS, EVENTS, Endless, Pieces, SMALL, import, import_from, line, warehouse,
+use crate::sources::{
+    CALLS, EVENTS, Endless, Pieces, SMALL, empty_house, import, import_from, line,
 };
-use crate::{Command, Kind, Limits, Query, Warehouse};
 use sqlite::MemStore;
 use std::alloc::Global;
 use std::test::Fail;
+use warehouse::{Command, Kind, Limits, Query, Warehouse};
 
 /// The manual's example with calls in another layout: CR LF line ends, and none at the last line.
 const CALLS_OTHER_ENDS: &[u8] =
@@ -33,7 +33,7 @@ fn pieces_make_no_difference(rt: HostRuntime) -> Result<(), Fail> {
     let alloc = rt.alloc();
     for bytes in [CALLS, CALLS_OTHER_ENDS] {
         for most in [1, 7, 100] {
-            let mut house = warehouse(alloc, Limits::standard())?;
+            let mut house = empty_house(alloc, Limits::standard())?;
             let mut source = Pieces::new(bytes, most, u64::MAX);
             let answer = import_from(&mut house, alloc, Kind::Callgrind, &mut source)?;
             assert_eq!(rt; answer.as_slice(), b"run 1".as_slice());
@@ -56,7 +56,7 @@ fn a_file_has_at_most_so_many_bytes(rt: HostRuntime) -> Result<(), Fail> {
         (14, 1, 15, b"refused: too long".as_slice()),
         (14, 1, 14, b"refused: read failed".as_slice()),
     ] {
-        let mut house = warehouse(alloc, of_bytes(limit))?;
+        let mut house = empty_house(alloc, of_bytes(limit))?;
         let mut source = Pieces::new(SMALL, most, sound);
         let answer = import_from(&mut house, alloc, Kind::Callgrind, &mut source)?;
         assert_eq!(rt; answer.as_slice(), wanted);
@@ -67,7 +67,7 @@ fn a_file_has_at_most_so_many_bytes(rt: HostRuntime) -> Result<(), Fail> {
 #[test]
 fn a_source_without_an_end_is_too_long(rt: HostRuntime) -> Result<(), Fail> {
     let alloc = rt.alloc();
-    let mut house = warehouse(alloc, of_bytes(15))?;
+    let mut house = empty_house(alloc, of_bytes(15))?;
     let answer = import_from(&mut house, alloc, Kind::Callgrind, &mut Endless)?;
     assert_eq!(rt; answer.as_slice(), b"refused: too long".as_slice());
     assert_eq!(rt; runs(&mut house, alloc)?.as_slice(), b"".as_slice());
@@ -77,7 +77,7 @@ fn a_source_without_an_end_is_too_long(rt: HostRuntime) -> Result<(), Fail> {
 #[test]
 fn a_read_fails(rt: HostRuntime) -> Result<(), Fail> {
     let alloc = rt.alloc();
-    let mut house = warehouse(alloc, Limits::standard())?;
+    let mut house = empty_house(alloc, Limits::standard())?;
     let held = import(&mut house, alloc, Kind::Callgrind, SMALL)?;
     assert_eq!(rt; held.as_slice(), b"run 1".as_slice());
     let before = runs(&mut house, alloc)?;
@@ -104,7 +104,7 @@ fn a_read_fails(rt: HostRuntime) -> Result<(), Fail> {
 #[test]
 fn a_file_is_taken_after_its_source_failed(rt: HostRuntime) -> Result<(), Fail> {
     let alloc = rt.alloc();
-    let mut house = warehouse(alloc, Limits::standard())?;
+    let mut house = empty_house(alloc, Limits::standard())?;
     // The second read fails.
     for most in [1, 100, usize::MAX] {
         let mut failing = Pieces::new(CALLS, most, 1);
@@ -119,7 +119,7 @@ fn a_file_is_taken_after_its_source_failed(rt: HostRuntime) -> Result<(), Fail> 
 #[test]
 fn reading_goes_on_after_a_fault(rt: HostRuntime) -> Result<(), Fail> {
     let alloc = rt.alloc();
-    let mut house = warehouse(alloc, of_bytes(20))?;
+    let mut house = empty_house(alloc, of_bytes(20))?;
     // The fault stands at the second byte; one byte a read.
     let mut failing = Pieces::new(b"x\nevents: Ir\n1 1\n", 1, 16);
     let failed = import_from(&mut house, alloc, Kind::Callgrind, &mut failing)?;
@@ -140,7 +140,7 @@ fn reading_goes_on_after_a_fault(rt: HostRuntime) -> Result<(), Fail> {
 #[test]
 fn a_label_is_in_form(rt: HostRuntime) -> Result<(), Fail> {
     let alloc = rt.alloc();
-    let mut house = warehouse(alloc, Limits::standard())?;
+    let mut house = empty_house(alloc, Limits::standard())?;
     let long = [b'a'; 1025];
     for label in [
         b"\x7f".as_slice(),

@@ -1,9 +1,9 @@
 // Groups, their members and their baselines.
-use crate::tests_sources::{CALLS, EVENTS, Pieces, TICKS, import, line, warehouse};
-use crate::{Command, Kind, Limits, Query, Warehouse};
+use crate::sources::{CALLS, EVENTS, Pieces, TICKS, empty_house, import, line};
 use sqlite::MemStore;
 use std::alloc::{AllocError, Global};
 use std::test::Fail;
+use warehouse::{Command, Kind, Limits, Query, Warehouse};
 
 /// What is asked of a group in a step of a test.
 #[derive(Clone, Copy)]
@@ -47,7 +47,7 @@ fn one_group() -> Limits {
 #[test]
 fn a_group_is_made_changed_and_dropped(rt: HostRuntime) -> Result<(), Fail> {
     let alloc = rt.alloc();
-    let mut house = warehouse(alloc, one_group())?;
+    let mut house = empty_house(alloc, one_group())?;
     for (step, wanted) in [
         (Step::Groups, b"".as_slice()),
         (Step::Make(b"g"), b"done".as_slice()),
@@ -87,7 +87,7 @@ fn a_group_is_made_changed_and_dropped(rt: HostRuntime) -> Result<(), Fail> {
 #[test]
 fn a_removed_run_leaves_its_groups(rt: HostRuntime) -> Result<(), Fail> {
     let alloc = rt.alloc();
-    let mut house = warehouse(alloc, Limits::standard())?;
+    let mut house = empty_house(alloc, Limits::standard())?;
     let run = import(&mut house, alloc, Kind::Callgrind, CALLS)?;
     assert_eq!(rt; run.as_slice(), b"run 1".as_slice());
     for (step, wanted) in [
@@ -109,7 +109,7 @@ fn a_removed_run_leaves_its_groups(rt: HostRuntime) -> Result<(), Fail> {
 #[test]
 fn members_and_baselines_are_listed(rt: HostRuntime) -> Result<(), Fail> {
     let alloc = rt.alloc();
-    let mut house = warehouse(alloc, Limits::standard())?;
+    let mut house = empty_house(alloc, Limits::standard())?;
     for (bytes, wanted) in [
         (CALLS, b"run 1".as_slice()),
         (EVENTS, b"run 2".as_slice()),
@@ -146,7 +146,7 @@ fn members_and_baselines_are_listed(rt: HostRuntime) -> Result<(), Fail> {
 #[test]
 fn a_name_out_of_form_is_no_groups(rt: HostRuntime) -> Result<(), Fail> {
     let alloc = rt.alloc();
-    let mut house = warehouse(alloc, one_group())?;
+    let mut house = empty_house(alloc, one_group())?;
     for name in [
         b"".as_slice(),
         b"a b".as_slice(),

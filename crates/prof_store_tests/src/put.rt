@@ -2,10 +2,11 @@
 ghost use Rattle.std.specs.Prelude.{◌≡◌, ◌≤◌, length};
 ghost use Rattle.prof_books.specs.Labels.{IsLabel};
 
-use crate::{Kind, Store, StoreEnd};
+use crate::behind::{new_store, number, put_back, taken, write};
 use cg_text::{FileHead, Items};
 use cost_rows::{rows_of_folded, rows_of_text};
-use sqlite::{Connection, MemStore};
+use prof_store::{Kind, Store, StoreEnd};
+use sqlite::MemStore;
 use std::alloc::Global;
 use std::test::Fail;
 
@@ -106,14 +107,6 @@ const ARCS: &str =
 const STACKS: &str =
     "SELECT run || ' ' || CAST(frames AS TEXT) || ' ' || n FROM stack ORDER BY run, frames";
 
-fn new_store(alloc: Global) -> Result<Store<MemStore>, Fail> {
-    let conn = Connection::open_in_memory(alloc)?;
-    match Store::create(alloc, conn) {
-        Ok(store) => Ok(store),
-        Err((end, _)) => Err(Fail::from(end)),
-    }
-}
-
 /// Puts a Callgrind text under a label, with a digest of one byte over and over.
 fn put_text(
     store: &mut Store<MemStore>,
@@ -143,21 +136,18 @@ fn put_folded(
 /// The rows that a query answers, each one text.
 fn shown(store: &mut Store<MemStore>, alloc: Global, sql: &str) -> Result<String, Fail> {
     let mut text = String::new(alloc);
-    for row in store.conn.query_all(sql, &[])?.as_slice() {
+    let mut conn = taken(store, alloc)?;
+    for row in conn.query_all(sql, &[])?.as_slice() {
         let line: String = row.get(0)?;
         text.push_str(line.as_str())?;
         text.push_str("\n")?;
     }
+    put_back(store, alloc, conn)?;
     Ok(text)
 }
 
-/// The number that a query answers.
-fn number(store: &mut Store<MemStore>, sql: &str) -> Result<i64, Fail> {
-    Ok(store.conn.query_row(sql, &[])?.get(0)?)
-}
-
 /// How many rows all tables have that a run's rows stand in.
-fn count_rows(store: &mut Store<MemStore>) -> Result<i64, Fail> {
+fn count_rows(store: &mut Store<MemStore>, alloc: Global) -> Result<i64, Fail> {
     let mut count = 0;
     for sql in [
         "SELECT count(*) FROM run",
@@ -169,7 +159,7 @@ fn count_rows(store: &mut Store<MemStore>) -> Result<i64, Fail> {
         "SELECT count(*) FROM arc",
         "SELECT count(*) FROM stack",
     ] {
-        let more = number(store, sql)?;
+        let more = number(store, alloc, sql)?;
         count = more.saturating_add(count);
     }
     Ok(count)
@@ -335,12 +325,12 @@ fn a_digest_is_put_once(rt: HostRuntime) -> Result<(), Fail> {
     let alloc = rt.alloc();
     let mut store = new_store(alloc)?;
     assert_eq!(rt; put_text(&mut store, alloc, OBJECT, 7)?, Ok(1));
-    let count = count_rows(&mut store)?;
+    let count = count_rows(&mut store, alloc)?;
     assert_eq!(rt;
         put_text(&mut store, alloc, CALLS, 7)?,
         Err(StoreEnd::Store)
     );
-    assert_eq!(rt; count_rows(&mut store)?, count);
+    assert_eq!(rt; count_rows(&mut store, alloc)?, count);
     assert_eq!(rt; store.next_run()?, 2);
     assert_eq!(rt; put_text(&mut store, alloc, CALLS, 8)?, Ok(2));
     Ok(())
@@ -360,7 +350,7 @@ fn sums_that_do_not_fit_are_refused(rt: HostRuntime) -> Result<(), Fail> {
         assert!(rt; text.len() <= 1000);
         let end = put_text(&mut store, alloc, text.as_bytes(), 1)?;
         assert_eq!(rt; end, Err(StoreEnd::Store), "{text}");
-        assert_eq!(rt; count_rows(&mut store)?, 0, "{text}");
+        assert_eq!(rt; count_rows(&mut store, alloc)?, 0, "{text}");
     }
     assert_eq!(rt; store.next_run()?, 1);
     let text = b"events: Ir\n1 9223372036854775806\n2 1\n";
@@ -384,7 +374,7 @@ fn a_total_is_stated_for_each_event(rt: HostRuntime) -> Result<(), Fail> {
     };
     let end = store.put_run(alloc, Kind::Callgrind, &[1; 32], "a", &head, &rows);
     assert_eq!(rt; end, Err(StoreEnd::Store));
-    assert_eq!(rt; count_rows(&mut store)?, 0);
+    assert_eq!(rt; count_rows(&mut store, alloc)?, 0);
     Ok(())
 }
 
@@ -392,13 +382,13 @@ fn a_total_is_stated_for_each_event(rt: HostRuntime) -> Result<(), Fail> {
 fn nothing_is_put_within_a_transaction(rt: HostRuntime) -> Result<(), Fail> {
     let alloc = rt.alloc();
     let mut store = new_store(alloc)?;
-    store.conn.execute("BEGIN", &[])?;
+    write(&mut store, alloc, &["BEGIN"])?;
     assert_eq!(rt;
         put_text(&mut store, alloc, OBJECT, 1)?,
         Err(StoreEnd::Store)
     );
-    store.conn.execute("COMMIT", &[])?;
-    assert_eq!(rt; count_rows(&mut store)?, 0);
+    write(&mut store, alloc, &["COMMIT"])?;
+    assert_eq!(rt; count_rows(&mut store, alloc)?, 0);
     assert_eq!(rt; put_text(&mut store, alloc, OBJECT, 1)?, Ok(1));
     Ok(())
 }

@@ -1,26 +1,19 @@
 // The store over memory: each call once, and what it leaves in the tables.
-use crate::{Store, StoreEnd};
-use sqlite::{Connection, MemStore, params};
+use crate::behind::{new_store, number, put_back, taken};
+use prof_store::{Store, StoreEnd};
+use sqlite::{MemStore, params};
 use std::alloc::Global;
 use std::test::Fail;
 
-fn new_store(alloc: Global) -> Result<Store<MemStore>, Fail> {
-    let conn = Connection::open_in_memory(alloc)?;
-    match Store::create(alloc, conn) {
-        Ok(store) => Ok(store),
-        Err((end, _)) => Err(Fail::from(end)),
-    }
-}
-
-/// Runs a text with a run's number.
-fn write(store: &mut Store<MemStore>, text: &str, run: u32) -> Result<(), Fail> {
-    store.conn.execute(text, params![run])?;
-    Ok(())
-}
-
 /// Writes the line of a run by hand, with an event, a cell and a stack.
-fn add_run(store: &mut Store<MemStore>, run: u32, digest: &[u8]) -> Result<(), Fail> {
-    store.conn.execute(
+fn add_run(
+    store: &mut Store<MemStore>,
+    alloc: Global,
+    run: u32,
+    digest: &[u8],
+) -> Result<(), Fail> {
+    let mut conn = taken(store, alloc)?;
+    conn.execute(
         "INSERT INTO run (run, kind, digest, label, call_count) VALUES (?1, 1, ?2, 'a', 0)",
         params![run, digest],
     )?;
@@ -29,30 +22,37 @@ fn add_run(store: &mut Store<MemStore>, run: u32, digest: &[u8]) -> Result<(), F
         "INSERT INTO cell (run, ob, fl, fn, line, event, cost) VALUES (?1, 1, 1, 1, 7, 0, 5)",
         "INSERT INTO stack (run, frames, n) VALUES (?1, x'61', 5)",
     ] {
-        write(store, text, run)?;
+        conn.execute(text, params![run])?;
     }
-    Ok(())
-}
-
-/// The number that a query answers.
-fn number(store: &mut Store<MemStore>, sql: &str) -> Result<i64, Fail> {
-    Ok(store.conn.query_row(sql, &[])?.get(0)?)
+    put_back(store, alloc, conn)
 }
 
 #[test]
 fn a_new_store_has_no_lines(rt: HostRuntime) -> Result<(), Fail> {
     let mut store = new_store(rt.alloc())?;
-    assert_eq!(rt; number(&mut store, "SELECT schema FROM meta")?, 1);
-    assert_eq!(rt; number(&mut store, "SELECT next_run FROM meta")?, 1);
-    assert_eq!(rt; number(&mut store, "SELECT count(*) FROM run")?, 0);
-    assert_eq!(rt; number(&mut store, "SELECT count(*) FROM stack")?, 0);
+    assert_eq!(rt;
+        number(&mut store, rt.alloc(), "SELECT schema FROM meta")?,
+        1
+    );
+    assert_eq!(rt;
+        number(&mut store, rt.alloc(), "SELECT next_run FROM meta")?,
+        1
+    );
+    assert_eq!(rt;
+        number(&mut store, rt.alloc(), "SELECT count(*) FROM run")?,
+        0
+    );
+    assert_eq!(rt;
+        number(&mut store, rt.alloc(), "SELECT count(*) FROM stack")?,
+        0
+    );
     Ok(())
 }
 
 #[test]
 fn a_group_has_members_and_a_baseline(rt: HostRuntime) -> Result<(), Fail> {
     let mut store = new_store(rt.alloc())?;
-    add_run(&mut store, 1, b"1")?;
+    add_run(&mut store, rt.alloc(), 1, b"1")?;
     store.put_group("g")?;
     store.join("g", 1)?;
     store.join("g", 1)?;
@@ -60,12 +60,17 @@ fn a_group_has_members_and_a_baseline(rt: HostRuntime) -> Result<(), Fail> {
     assert_eq!(rt;
         number(
             &mut store,
+            rt.alloc(),
             "SELECT count(*) FROM member WHERE grp = 'g' AND run = 1"
         )?,
         1
     );
     assert_eq!(rt;
-        number(&mut store, "SELECT baseline FROM grp WHERE name = 'g'")?,
+        number(
+            &mut store,
+            rt.alloc(),
+            "SELECT baseline FROM grp WHERE name = 'g'"
+        )?,
         1
     );
     assert_eq!(rt; store.is_member("g", 1)?, true);
@@ -78,27 +83,40 @@ fn a_group_has_members_and_a_baseline(rt: HostRuntime) -> Result<(), Fail> {
 #[test]
 fn a_group_goes_with_its_members(rt: HostRuntime) -> Result<(), Fail> {
     let mut store = new_store(rt.alloc())?;
-    add_run(&mut store, 1, b"1")?;
+    add_run(&mut store, rt.alloc(), 1, b"1")?;
     store.put_group("g")?;
     store.put_group("h")?;
     store.join("g", 1)?;
     store.join("h", 1)?;
     store.drop_group("g")?;
-    assert_eq!(rt; number(&mut store, "SELECT count(*) FROM grp")?, 1);
     assert_eq!(rt;
-        number(&mut store, "SELECT count(*) FROM member WHERE grp = 'h'")?,
+        number(&mut store, rt.alloc(), "SELECT count(*) FROM grp")?,
         1
     );
-    assert_eq!(rt; number(&mut store, "SELECT count(*) FROM member")?, 1);
-    assert_eq!(rt; number(&mut store, "SELECT count(*) FROM run")?, 1);
+    assert_eq!(rt;
+        number(
+            &mut store,
+            rt.alloc(),
+            "SELECT count(*) FROM member WHERE grp = 'h'"
+        )?,
+        1
+    );
+    assert_eq!(rt;
+        number(&mut store, rt.alloc(), "SELECT count(*) FROM member")?,
+        1
+    );
+    assert_eq!(rt;
+        number(&mut store, rt.alloc(), "SELECT count(*) FROM run")?,
+        1
+    );
     Ok(())
 }
 
 #[test]
 fn a_run_goes_with_its_lines(rt: HostRuntime) -> Result<(), Fail> {
     let mut store = new_store(rt.alloc())?;
-    add_run(&mut store, 1, b"1")?;
-    add_run(&mut store, 2, b"2")?;
+    add_run(&mut store, rt.alloc(), 1, b"1")?;
+    add_run(&mut store, rt.alloc(), 2, b"2")?;
     store.put_group("g")?;
     store.put_group("h")?;
     store.join("g", 1)?;
@@ -118,7 +136,7 @@ fn a_run_goes_with_its_lines(rt: HostRuntime) -> Result<(), Fail> {
         ),
         ("SELECT baseline FROM grp WHERE name = 'h'", 2),
     ] {
-        assert_eq!(rt; number(&mut store, sql)?, left, "{sql}");
+        assert_eq!(rt; number(&mut store, rt.alloc(), sql)?, left, "{sql}");
     }
     Ok(())
 }
@@ -129,13 +147,16 @@ fn a_name_is_taken_once(rt: HostRuntime) -> Result<(), Fail> {
     store.put_group("g")?;
     assert_eq!(rt; store.put_group("g"), Err(StoreEnd::Store));
     assert_eq!(rt; store.join("g", 7), Err(StoreEnd::Store));
-    assert_eq!(rt; number(&mut store, "SELECT count(*) FROM grp")?, 1);
+    assert_eq!(rt;
+        number(&mut store, rt.alloc(), "SELECT count(*) FROM grp")?,
+        1
+    );
     Ok(())
 }
 
 #[test]
 fn tables_are_made_once(rt: HostRuntime) -> Result<(), Fail> {
-    let Store { conn, page: _ } = new_store(rt.alloc())?;
+    let conn = new_store(rt.alloc())?.into_connection();
     match Store::create(rt.alloc(), conn) {
         Ok(_) => Err(Fail::from("made twice")),
         Err((end, _)) => {

@@ -1,10 +1,11 @@
 // Memory that is refused once: `rt try --test --fail-alloc N` refuses the Nth allocation. The call
 // that meets it says so and leaves what stood, and the next one is answered.
-use crate::{Kind, OpenEnd, Store, StoreEnd};
 use cg_text::FileHead;
 use cost_rows::{FileRows, rows_of_text};
+use prof_store::{Kind, OpenEnd, Store, StoreEnd};
 use sqlite::{Connection, MemStore};
 use std::alloc::Global;
+use std::mem::replace;
 use std::test::Fail;
 
 const FILE: &[u8] = b"event: Est = 2 Ir
@@ -42,19 +43,34 @@ fn read(alloc: Global) -> Result<(FileHead, FileRows), Fail> {
     }
 }
 
-/// The number that a query answers, at the second try if memory is refused at the first.
-fn number(store: &mut Store<MemStore>, sql: &str) -> Result<i64, Fail> {
-    let row = match store.conn.query_row(sql, &[]) {
+/// Opens a store over a connection, at the second try if memory is refused at the first.
+fn reopened(alloc: Global, conn: Connection<MemStore>) -> Result<Store<MemStore>, Fail> {
+    match Store::open(alloc, conn) {
+        Ok(store) => Ok(store),
+        Err((_, conn)) => match Store::open(alloc, conn) {
+            Ok(store) => Ok(store),
+            Err((end, _)) => Err(Fail::from(end)),
+        },
+    }
+}
+
+/// The number that a query answers, each call at the second try if memory is refused at the first.
+fn number(store: &mut Store<MemStore>, alloc: Global, sql: &str) -> Result<i64, Fail> {
+    let other = new_store(alloc)?;
+    let mut conn = replace(store, other).into_connection();
+    let row = match conn.query_row(sql, &[]) {
         Ok(row) => row,
-        Err(_) => store.conn.query_row(sql, &[])?,
+        Err(_) => conn.query_row(sql, &[])?,
     };
+    *store = reopened(alloc, conn)?;
     Ok(row.get(0)?)
 }
 
 /// How many rows some tables have.
-fn count_rows(store: &mut Store<MemStore>) -> Result<i64, Fail> {
+fn count_rows(store: &mut Store<MemStore>, alloc: Global) -> Result<i64, Fail> {
     number(
         store,
+        alloc,
         "SELECT (SELECT count(*) FROM run) + (SELECT count(*) FROM run_event) + (SELECT count(*) FROM derived) + (SELECT count(*) FROM coef) + (SELECT count(*) FROM name) + (SELECT count(*) FROM cell) + (SELECT count(*) FROM arc)",
     )
 }
@@ -75,17 +91,17 @@ fn memory_refused_to_put_and_drop(rt: HostRuntime) -> Result<(), Fail> {
         Ok(number) => assert_eq!(rt; number, 1),
         Err(end) => {
             assert_eq!(rt; end, StoreEnd::Memory);
-            assert_eq!(rt; count_rows(&mut store)?, 0);
+            assert_eq!(rt; count_rows(&mut store, alloc)?, 0);
             assert_eq!(rt; put(&mut store, alloc)?, Ok(1));
         }
     }
-    assert_eq!(rt; count_rows(&mut store)?, ROWS);
+    assert_eq!(rt; count_rows(&mut store, alloc)?, ROWS);
     if let Err(end) = store.drop_run(1) {
         assert_eq!(rt; end, StoreEnd::Memory);
-        assert_eq!(rt; count_rows(&mut store)?, ROWS);
+        assert_eq!(rt; count_rows(&mut store, alloc)?, ROWS);
         store.drop_run(1)?;
     }
-    assert_eq!(rt; count_rows(&mut store)?, 3);
+    assert_eq!(rt; count_rows(&mut store, alloc)?, 3);
     Ok(())
 }
 
@@ -106,8 +122,7 @@ fn memory_refused_to_create(rt: HostRuntime) -> Result<(), Fail> {
             }
         }
     };
-    let Store { conn, page: _ } = store;
-    let mut store = match Store::open(alloc, conn) {
+    let mut store = match Store::open(alloc, store.into_connection()) {
         Ok(store) => store,
         Err((end, conn)) => {
             assert_eq!(rt; end, OpenEnd::Memory);
@@ -117,7 +132,7 @@ fn memory_refused_to_create(rt: HostRuntime) -> Result<(), Fail> {
             }
         }
     };
-    assert_eq!(rt; number(&mut store, "SELECT next_run FROM meta")?, 1);
+    assert_eq!(rt; number(&mut store, alloc, "SELECT next_run FROM meta")?, 1);
     Ok(())
 }
 
@@ -130,15 +145,21 @@ fn memory_refused_to_join(rt: HostRuntime) -> Result<(), Fail> {
     }
     if let Err(end) = store.put_group("g") {
         assert_eq!(rt; end, StoreEnd::Memory);
-        assert_eq!(rt; number(&mut store, "SELECT count(*) FROM grp")?, 0);
+        assert_eq!(rt; number(&mut store, alloc, "SELECT count(*) FROM grp")?, 0);
         store.put_group("g")?;
     }
     if let Err(end) = store.join("g", 1) {
         assert_eq!(rt; end, StoreEnd::Memory);
-        assert_eq!(rt; number(&mut store, "SELECT count(*) FROM member")?, 0);
+        assert_eq!(rt;
+            number(&mut store, alloc, "SELECT count(*) FROM member")?,
+            0
+        );
         store.join("g", 1)?;
     }
-    assert_eq!(rt; number(&mut store, "SELECT count(*) FROM member")?, 1);
+    assert_eq!(rt;
+        number(&mut store, alloc, "SELECT count(*) FROM member")?,
+        1
+    );
     Ok(())
 }
 
@@ -176,7 +197,7 @@ fn memory_refused_to_walk(rt: HostRuntime) -> Result<(), Fail> {
         Ok(sums) => assert_eq!(rt; sums, (3, 2)),
         Err(end) => {
             assert_eq!(rt; end, StoreEnd::Memory);
-            assert_eq!(rt; count_rows(&mut store)?, ROWS);
+            assert_eq!(rt; count_rows(&mut store, alloc)?, ROWS);
             assert_eq!(rt; walked(&mut store, alloc)?, (3, 2));
         }
     }

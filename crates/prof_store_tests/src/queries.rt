@@ -1,30 +1,25 @@
 // What the store tells, over rows that are written by hand.
-use crate::{Kind, OpenEnd, Store, StoreEnd, is_group_name, is_label};
+use crate::behind::{new_store, put_back, taken, write};
+use prof_store::{Kind, OpenEnd, Store, StoreEnd, is_group_name, is_label};
 use sqlite::{Connection, MemStore, params};
 use std::alloc::Global;
 use std::test::Fail;
 
-fn new_store(alloc: Global) -> Result<Store<MemStore>, Fail> {
-    let conn = Connection::open_in_memory(alloc)?;
-    match Store::create(alloc, conn) {
-        Ok(store) => Ok(store),
-        Err((end, _)) => Err(Fail::from(end)),
-    }
-}
-
 /// Writes the line of a run by hand.
 fn add_run(
     store: &mut Store<MemStore>,
+    alloc: Global,
     run: u32,
     kind: u32,
     digest: &[u8],
     label: &str,
 ) -> Result<(), Fail> {
-    store.conn.execute(
+    let mut conn = taken(store, alloc)?;
+    conn.execute(
         "INSERT INTO run (run, kind, digest, label, call_count) VALUES (?1, ?2, ?3, ?4, 0)",
         params![run, kind, digest, label],
     )?;
-    Ok(())
+    put_back(store, alloc, conn)
 }
 
 #[test]
@@ -32,8 +27,8 @@ fn runs_are_listed(rt: HostRuntime) -> Result<(), Fail> {
     let mut store = new_store(rt.alloc())?;
     assert_eq!(rt; store.next_run()?, 1);
     assert_eq!(rt; store.runs(rt.alloc())?.len(), 0);
-    add_run(&mut store, 2, 2, &[7; 32], "b.folded")?;
-    add_run(&mut store, 1, 1, &[9; 32], "a.out")?;
+    add_run(&mut store, rt.alloc(), 2, 2, &[7; 32], "b.folded")?;
+    add_run(&mut store, rt.alloc(), 1, 1, &[9; 32], "a.out")?;
     assert_eq!(rt; store.run_of_digest(&[7; 32])?, Some(2));
     assert_eq!(rt; store.run_of_digest(&[8; 32])?, None);
     let runs = store.runs(rt.alloc())?;
@@ -49,7 +44,7 @@ fn runs_are_listed(rt: HostRuntime) -> Result<(), Fail> {
 #[test]
 fn a_kind_of_no_name_is_refused(rt: HostRuntime) -> Result<(), Fail> {
     let mut store = new_store(rt.alloc())?;
-    add_run(&mut store, 1, 3, &[9; 32], "a.out")?;
+    add_run(&mut store, rt.alloc(), 1, 3, &[9; 32], "a.out")?;
     assert_eq!(rt; store.runs(rt.alloc()).err(), Some(StoreEnd::Store));
     Ok(())
 }
@@ -57,7 +52,7 @@ fn a_kind_of_no_name_is_refused(rt: HostRuntime) -> Result<(), Fail> {
 #[test]
 fn a_digest_of_another_length_is_refused(rt: HostRuntime) -> Result<(), Fail> {
     let mut store = new_store(rt.alloc())?;
-    add_run(&mut store, 1, 1, &[9; 31], "a.out")?;
+    add_run(&mut store, rt.alloc(), 1, 1, &[9; 31], "a.out")?;
     assert_eq!(rt; store.runs(rt.alloc()).err(), Some(StoreEnd::Store));
     Ok(())
 }
@@ -65,7 +60,7 @@ fn a_digest_of_another_length_is_refused(rt: HostRuntime) -> Result<(), Fail> {
 #[test]
 fn a_label_out_of_form_is_refused(rt: HostRuntime) -> Result<(), Fail> {
     let mut store = new_store(rt.alloc())?;
-    add_run(&mut store, 1, 1, &[9; 32], "")?;
+    add_run(&mut store, rt.alloc(), 1, 1, &[9; 32], "")?;
     assert_eq!(rt; store.runs(rt.alloc()).err(), Some(StoreEnd::Store));
     Ok(())
 }
@@ -73,8 +68,8 @@ fn a_label_out_of_form_is_refused(rt: HostRuntime) -> Result<(), Fail> {
 #[test]
 fn groups_are_listed_with_their_members(rt: HostRuntime) -> Result<(), Fail> {
     let mut store = new_store(rt.alloc())?;
-    add_run(&mut store, 1, 1, b"1", "a")?;
-    add_run(&mut store, 2, 1, b"2", "a")?;
+    add_run(&mut store, rt.alloc(), 1, 1, b"1", "a")?;
+    add_run(&mut store, rt.alloc(), 2, 1, b"2", "a")?;
     store.put_group("h")?;
     store.put_group("g")?;
     store.join("g", 2)?;
@@ -98,8 +93,8 @@ fn runs_and_groups_are_found_and_counted(rt: HostRuntime) -> Result<(), Fail> {
     assert_eq!(rt; store.group_count()?, 0);
     assert_eq!(rt; store.has_run(1)?, false);
     assert_eq!(rt; store.has_group("g")?, false);
-    add_run(&mut store, 1, 1, &[9; 32], "a.out")?;
-    add_run(&mut store, 4, 2, &[7; 32], "b.folded")?;
+    add_run(&mut store, rt.alloc(), 1, 1, &[9; 32], "a.out")?;
+    add_run(&mut store, rt.alloc(), 4, 2, &[7; 32], "b.folded")?;
     store.put_group("g")?;
     store.put_group("h")?;
     store.put_group("i")?;
@@ -124,9 +119,11 @@ fn runs_and_groups_are_found_and_counted(rt: HostRuntime) -> Result<(), Fail> {
 #[test]
 fn a_name_out_of_form_is_refused(rt: HostRuntime) -> Result<(), Fail> {
     let mut store = new_store(rt.alloc())?;
-    store
-        .conn
-        .execute("INSERT INTO grp (name) VALUES ('a b')", &[])?;
+    write(
+        &mut store,
+        rt.alloc(),
+        &["INSERT INTO grp (name) VALUES ('a b')"],
+    )?;
     assert_eq!(rt; store.groups(rt.alloc()).err(), Some(StoreEnd::Store));
     Ok(())
 }
@@ -158,7 +155,7 @@ fn names_in_form(rt: HostRuntime) -> Result<(), Fail> {
 #[test]
 fn a_store_is_opened_again(rt: HostRuntime) -> Result<(), Fail> {
     let mut store = new_store(rt.alloc())?;
-    add_run(&mut store, 1, 1, &[9; 32], "a.out")?;
+    add_run(&mut store, rt.alloc(), 1, 1, &[9; 32], "a.out")?;
     let conn = store.into_connection();
     match Store::open(rt.alloc(), conn) {
         Ok(mut store) => {

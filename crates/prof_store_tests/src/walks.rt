@@ -1,38 +1,21 @@
 // Walks over the rows of a run, over rows that are written by hand.
-use crate::{Arcs, HeldNames, Store, StoreEnd};
+use crate::behind::{filled, new_store, put_back, taken, write};
+use prof_store::{Arcs, HeldNames, Store, StoreEnd};
 use sqlite::types::ToSql;
 use sqlite::{Connection, MemStore};
 use std::alloc::Global;
 use std::test::Fail;
 
-fn new_store(alloc: Global) -> Result<Store<MemStore>, Fail> {
-    let conn = Connection::open_in_memory(alloc)?;
-    match Store::create(alloc, conn) {
-        Ok(store) => Ok(store),
-        Err((end, _)) => Err(Fail::from(end)),
-    }
-}
-
-/// Runs texts.
-fn write(store: &mut Store<MemStore>, texts: &[&str]) -> Result<(), Fail> {
-    for text in texts {
-        store.conn.execute(text, &[])?;
-    }
-    Ok(())
-}
-
 /// A store with two runs and the names `a` (1), `b` (2), `c` (3) and `g` (7).
 fn store_of_names(alloc: Global) -> Result<Store<MemStore>, Fail> {
-    let mut store = new_store(alloc)?;
-    write(
-        &mut store,
+    filled(
+        alloc,
         &[
             "INSERT INTO run (run, kind, digest, label, call_count) VALUES (1, 1, x'01', 'a', 0)",
             "INSERT INTO run (run, kind, digest, label, call_count) VALUES (2, 1, x'02', 'b', 0)",
             "INSERT INTO name (id, bytes) VALUES (1, x'61'), (2, x'62'), (3, x'63'), (7, x'67')",
         ],
-    )?;
-    Ok(store)
+    )
 }
 
 /// Whether a number has this name.
@@ -70,6 +53,7 @@ fn a_number_of_a_name_below_0_is_refused(rt: HostRuntime) -> Result<(), Fail> {
     let mut store = store_of_names(rt.alloc())?;
     write(
         &mut store,
+        rt.alloc(),
         &["INSERT INTO name (id, bytes) VALUES (-1, x'00')"],
     )?;
     assert_eq!(rt; store.names(rt.alloc()).err(), Some(StoreEnd::Store));
@@ -81,6 +65,7 @@ fn cells_have_their_names(rt: HostRuntime) -> Result<(), Fail> {
     let mut store = store_of_names(rt.alloc())?;
     write(
         &mut store,
+        rt.alloc(),
         &[
             "INSERT INTO cell (run, ob, fl, fn, line, event, cost) VALUES (1, 1, 2, 3, 16, 0, 400)",
             "INSERT INTO cell (run, ob, fl, fn, line, event, cost) VALUES (2, 1, 1, 1, 5, 0, 9)",
@@ -110,8 +95,8 @@ fn cells_have_their_names(rt: HostRuntime) -> Result<(), Fail> {
     Ok(())
 }
 
-fn add_cell(store: &mut Store<MemStore>, run: u32, line: u32, cost: u32) -> Result<(), Fail> {
-    store.conn.execute(
+fn add_cell(conn: &mut Connection<MemStore>, run: u32, line: u32, cost: u32) -> Result<(), Fail> {
+    conn.execute(
         "INSERT INTO cell (run, ob, fl, fn, line, event, cost) VALUES (?1, 1, 2, 3, ?2, 0, ?3)",
         &[run.to_sql(), line.to_sql(), cost.to_sql()],
     )?;
@@ -138,12 +123,14 @@ fn sum_of_cells(
 #[test]
 fn a_walk_turns_pages(rt: HostRuntime) -> Result<(), Fail> {
     let mut store = store_of_names(rt.alloc())?;
+    let mut conn = taken(&mut store, rt.alloc())?;
     for line in 1..1301 {
-        add_cell(&mut store, 1, line, line)?;
+        add_cell(&mut conn, 1, line, line)?;
         if line % 3 == 0 {
-            add_cell(&mut store, 2, line, 1)?;
+            add_cell(&mut conn, 2, line, 1)?;
         }
     }
+    put_back(&mut store, rt.alloc(), conn)?;
     let names = store.names(rt.alloc())?;
     // the sum of 1 to 1300
     assert_eq!(rt; sum_of_cells(&mut store, &names, 1)?, (1300, 845650));
@@ -155,9 +142,11 @@ fn a_walk_turns_pages(rt: HostRuntime) -> Result<(), Fail> {
 #[test]
 fn a_walk_may_be_left(rt: HostRuntime) -> Result<(), Fail> {
     let mut store = store_of_names(rt.alloc())?;
+    let mut conn = taken(&mut store, rt.alloc())?;
     for line in 1..1301 {
-        add_cell(&mut store, 1, line, 2)?;
+        add_cell(&mut conn, 1, line, 2)?;
     }
+    put_back(&mut store, rt.alloc(), conn)?;
     let names = store.names(rt.alloc())?;
     let mut cells = store.cells_of(1, &names, 1);
     for _ in 0..600 {
@@ -192,8 +181,10 @@ fn refusals_of_cell(
     text: &str,
 ) -> Result<(Option<StoreEnd>, Option<StoreEnd>), Fail> {
     let mut store = store_of_names(alloc)?;
-    write(&mut store, &[text])?;
-    add_cell(&mut store, 1, 5, 5)?;
+    let mut conn = taken(&mut store, alloc)?;
+    conn.execute(text, &[])?;
+    add_cell(&mut conn, 1, 5, 5)?;
+    put_back(&mut store, alloc, conn)?;
     refusals(&mut store, alloc)
 }
 
@@ -213,13 +204,13 @@ fn cells_out_of_form_are_refused(rt: HostRuntime) -> Result<(), Fail> {
 }
 
 fn add_arc(
-    store: &mut Store<MemStore>,
+    conn: &mut Connection<MemStore>,
     run: u32,
     line: u32,
     part: u32,
     n: u32,
 ) -> Result<(), Fail> {
-    store.conn.execute(
+    conn.execute(
         "INSERT INTO arc (run, ob, fl, fn, line, cob, cfl, cfn, part, n) VALUES (?1, 1, 2, 3, ?2, 7, 3, 2, ?3, ?4)",
         &[run.to_sql(), line.to_sql(), part.to_sql(), n.to_sql()],
     )?;
@@ -229,13 +220,15 @@ fn add_arc(
 /// A store with three rows of calls of run 1.
 fn store_of_calls(alloc: Global) -> Result<Store<MemStore>, Fail> {
     let mut store = store_of_names(alloc)?;
-    add_arc(&mut store, 1, 16, 0, 3)?;
-    add_arc(&mut store, 1, 16, 2, 400)?;
-    add_arc(&mut store, 2, 16, 0, 9)?;
-    add_arc(&mut store, 1, 17, 0, 1)?;
-    add_arc(&mut store, 1, 17, 1, 5)?;
-    add_arc(&mut store, 1, 17, 3, 7)?;
-    add_arc(&mut store, 1, 18, 0, 0)?;
+    let mut conn = taken(&mut store, alloc)?;
+    add_arc(&mut conn, 1, 16, 0, 3)?;
+    add_arc(&mut conn, 1, 16, 2, 400)?;
+    add_arc(&mut conn, 2, 16, 0, 9)?;
+    add_arc(&mut conn, 1, 17, 0, 1)?;
+    add_arc(&mut conn, 1, 17, 1, 5)?;
+    add_arc(&mut conn, 1, 17, 3, 7)?;
+    add_arc(&mut conn, 1, 18, 0, 0)?;
+    put_back(&mut store, alloc, conn)?;
     Ok(store)
 }
 
@@ -294,10 +287,12 @@ fn refusals_of_arc(
     parts: &[(u32, u32)],
 ) -> Result<(Option<StoreEnd>, Option<StoreEnd>), Fail> {
     let mut store = store_of_names(alloc)?;
+    let mut conn = taken(&mut store, alloc)?;
     for (part, n) in parts {
-        add_arc(&mut store, 1, 16, *part, *n)?;
+        add_arc(&mut conn, 1, 16, *part, *n)?;
     }
-    add_arc(&mut store, 1, 17, 0, 1)?;
+    add_arc(&mut conn, 1, 17, 0, 1)?;
+    put_back(&mut store, alloc, conn)?;
     let names = store.names(alloc)?;
     let mut arcs = store.arcs_of(alloc, 1, &names, 2);
     let first = arcs.next().err();
@@ -330,6 +325,7 @@ fn stacks_have_their_counts(rt: HostRuntime) -> Result<(), Fail> {
     let mut store = store_of_names(rt.alloc())?;
     write(
         &mut store,
+        rt.alloc(),
         &[
             "INSERT INTO stack (run, frames, n) VALUES (1, x'613b62', 3)",
             "INSERT INTO stack (run, frames, n) VALUES (2, x'61', 4)",
@@ -356,6 +352,7 @@ fn a_count_of_stacks_below_0_is_refused(rt: HostRuntime) -> Result<(), Fail> {
     let mut store = store_of_names(rt.alloc())?;
     write(
         &mut store,
+        rt.alloc(),
         &[
             "INSERT INTO stack (run, frames, n) VALUES (1, x'61', -1)",
             "INSERT INTO stack (run, frames, n) VALUES (1, x'62', 5)",

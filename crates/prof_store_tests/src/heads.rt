@@ -1,7 +1,7 @@
 // Heads and totals, over rows that are written by hand.
-use crate::{Store, StoreEnd};
+use crate::behind::{filled, write};
 use cg_text::{FileHead, Items};
-use sqlite::{Connection, MemStore};
+use prof_store::StoreEnd;
 use std::alloc::Global;
 use std::test::Fail;
 
@@ -22,20 +22,6 @@ const SAMPLES: &str = "INSERT INTO run_event VALUES (2, 0, x'73616d706c6573', 9,
 
 const SUM: &str = "INSERT INTO derived VALUES (1, 0, x'53')";
 
-/// A store that these statements fill.
-fn filled(alloc: Global, texts: &[&str]) -> Result<Store<MemStore>, Fail> {
-    let conn = Connection::open_in_memory(alloc)?;
-    match Store::create(alloc, conn) {
-        Ok(mut store) => {
-            for text in texts {
-                store.conn.execute(text, &[])?;
-            }
-            Ok(store)
-        }
-        Err((end, _)) => Err(Fail::from(end)),
-    }
-}
-
 fn head(alloc: Global, texts: &[&str], run: u32) -> Result<FileHead, Fail> {
     let mut store = filled(alloc, texts)?;
     Ok(store.head_of(alloc, run)?)
@@ -44,9 +30,7 @@ fn head(alloc: Global, texts: &[&str], run: u32) -> Result<FileHead, Fail> {
 /// Why the head of run 1 is refused, beside the run and an event Ir.
 fn head_refused(alloc: Global, texts: &[&str]) -> Result<Option<StoreEnd>, Fail> {
     let mut store = filled(alloc, &[RUN_ONE, IR])?;
-    for text in texts {
-        store.conn.execute(text, &[])?;
-    }
+    write(&mut store, alloc, texts)?;
     Ok(store.head_of(alloc, 1).err())
 }
 
