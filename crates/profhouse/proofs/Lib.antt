@@ -1,7 +1,1 @@
-pub mod SumsLemmas
-pub mod TotalsLemmas
-pub mod ReadersLemmas
-pub mod PlansLemmas
-pub mod CommandLemmas
-pub mod Examples
 pub mod SessionLemmas

@@ -10,8 +10,8 @@ use Rattle.histories.specs.declared.answers.Excess.{Excess}
 use Rattle.histories.specs.declared.answers.Excess.TheVariants.{SelfCost, CallCost, CallCount}
 use Rattle.histories.specs.declared.answers.Refusal.{Refusal}
 use Rattle.histories.specs.declared.answers.Refusal.TheVariants.{Memory, Store, ReadFault, TooLong, File, Overflow, Full, NumbersSpent, NoSuchRun, NoSuchGroup, GroupTaken, BadName}
-use Rattle.profhouse.specs.Escapes.{escaped}
-use Rattle.profhouse.specs.TotalLines.{refused_line}
+use Rattle.printed_names.specs.Escapes.{escaped}
+use Rattle.file_totals.specs.TotalLines.{refused_line}
 
 -- the sum that would pass its bound, an event by its name
 abbrev pub excess_text : Excess → List ℕ

@@ -4,9 +4,9 @@ ghost use Rattle.cg_text.specs.Ends.{end_text};
 ghost use Rattle.cg_text.specs.declared.faults.ReadEnd.TheVariants as ends;
 ghost use Rattle.profhouse.specs.Answers as told;
 
-use crate::escapes::push_escaped;
 use cg_text::{Fault, Items, ReadEnd};
 use histories::{Answer, Excess, Refusal};
+use printed_names::push_escaped;
 use std::alloc::{AllocError, Global};
 
 /// Adds a fault and its line.

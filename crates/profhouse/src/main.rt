@@ -2,25 +2,15 @@
 #![tactic(auto)]
 
 mod answers;
-mod command;
-mod escapes;
-mod files;
-mod grammar;
-mod lines;
-mod plans;
 mod running;
 mod session;
 mod sources;
 mod stores;
-mod sums;
 #[cfg(test)]
 mod tests;
-mod total;
-mod words;
 
 use anyhow::Result;
-use command::plan;
-use plans::PlanEnd;
+use command_line::{PlanEnd, plan};
 use running::{print_refused, run_plan};
 use std::env;
 use std::process::ExitCode;

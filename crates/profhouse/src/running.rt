@@ -1,9 +1,8 @@
 // What is done for a plan.
-use crate::files::total_file;
-use crate::plans::Plan;
 use crate::session::{GroupChange, Session, Work};
 use crate::stores::{end_line, store_at};
-use crate::total::TotalText;
+use command_line::Plan;
+use file_totals::{TotalText, total_file};
 use histories::{Limits, Query};
 use std::alloc::AllocError;
 use std::io;

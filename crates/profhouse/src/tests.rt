@@ -1,5 +1,3 @@
 //! Tests of the program's parts.
 mod answers;
-mod plans;
 mod sessions;
-mod totals;

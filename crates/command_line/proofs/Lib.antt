@@ -1,0 +1,2 @@
+pub mod PlansLemmas
+pub mod CommandLemmas

@@ -1,0 +1,145 @@
+// From the words of a command line to a plan.
+ghost use Rattle.std.specs.Prelude.{◌≡◌, [], codes, map, string_bytes, IfOk, IfErr, IfSome};
+ghost use Rattle.clap.specs.Words.{fault_of, found_of, rows_of, subcommand_of};
+ghost use Rattle.command_line.specs.Grammar.{command_line};
+ghost use Rattle.command_line.specs.Plans.{HasWord, HasRun, IsRunNumber, IsSound, IsPlanOf, IsPlanFor, IsEndOf};
+
+use crate::grammar::grammar;
+use crate::plans::{Plan, PlanEnd};
+use crate::words::{files, is_given, run, runs, word};
+use clap::ArgMatches;
+use clap::error::ErrorKind;
+use prof_books::Kind;
+use std::alloc::{AllocError, Global};
+
+/// Files to be taken in.
+fn import<'a>(
+    alloc: Global,
+    db: &'a str,
+    words: &ArgMatches<'a>,
+) -> Result<Option<Plan<'a>>, AllocError>
+    requires { HasWord (rows_of (found_of words.now)) (codes "db") db.now }
+    ensures sound { IfOk result (λ found. IfSome found IsSound) }
+    ensures plan { IfOk result (λ found. IfSome found (IsPlanOf (codes "import") (rows_of (found_of words.now)))) }
+{
+    let Some(files) = files(alloc, words)? else {
+        return Ok(None);
+    };
+    let kind = if is_given(words, "folded") {
+        Kind::Folded
+    } else {
+        Kind::Callgrind
+    };
+    Ok(Some(Plan::Import { db, kind, files }))
+}
+
+/// Runs to be removed.
+fn remove<'a>(
+    alloc: Global,
+    db: &'a str,
+    words: &ArgMatches<'a>,
+) -> Result<Option<Plan<'a>>, AllocError>
+    requires { HasWord (rows_of (found_of words.now)) (codes "db") db.now }
+    ensures sound { IfOk result (λ found. IfSome found IsSound) }
+    ensures plan { IfOk result (λ found. IfSome found (IsPlanOf (codes "remove") (rows_of (found_of words.now)))) }
+{
+    match runs(alloc, words)? {
+        Some(numbers) => Ok(Some(Plan::Remove { db, numbers })),
+        None => Ok(None),
+    }
+}
+
+/// A group to be made or dropped.
+fn group<'a>(db: &'a str, words: &ArgMatches<'a>) -> Option<Plan<'a>>
+    requires { HasWord (rows_of (found_of words.now)) (codes "db") db.now }
+    ensures sound { IfSome result IsSound }
+    ensures plan { IfSome result (IsPlanOf (codes "group") (rows_of (found_of words.now))) }
+{
+    let name = word(words, "NAME")?;
+    let drop = is_given(words, "drop");
+    Some(Plan::Group { db, drop, name })
+}
+
+/// The group and the run that were named.
+fn group_and_run<'a>(words: &ArgMatches<'a>) -> Option<(&'a str, u32)>
+    ensures range { IfSome result (λ found. IsRunNumber found.1) }
+    ensures name { IfSome result (λ found. HasWord (rows_of (found_of words.now)) (codes "NAME") found.0.now) }
+    ensures number { IfSome result (λ found. HasRun (rows_of (found_of words.now)) found.1) }
+{
+    let name = word(words, "NAME")?;
+    let number = run(words)?;
+    Some((name, number))
+}
+
+/// What a run and a group are to each other from now on.
+fn member<'a>(subcommand: &str, db: &'a str, words: &ArgMatches<'a>) -> Option<Plan<'a>>
+    requires { HasWord (rows_of (found_of words.now)) (codes "db") db.now }
+    ensures sound { IfSome result IsSound }
+    ensures plan { IfSome result (IsPlanOf subcommand.now (rows_of (found_of words.now))) }
+{
+    let (name, number) = group_and_run(words)?;
+    match subcommand {
+        "join" => Some(Plan::Join { db, name, number }),
+        "leave" => Some(Plan::Leave { db, name, number }),
+        "baseline" => Some(Plan::Baseline { db, name, number }),
+        _ => None,
+    }
+}
+
+/// The plan for a subcommand that wants the database.
+fn over_database<'a>(
+    alloc: Global,
+    name: &str,
+    words: &ArgMatches<'a>,
+) -> Result<Option<Plan<'a>>, AllocError>
+    ensures sound { IfOk result (λ found. IfSome found IsSound) }
+    ensures plan { IfOk result (λ found. IfSome found (IsPlanOf name.now (rows_of (found_of words.now)))) }
+{
+    let Some(db) = word(words, "db") else {
+        return Ok(None);
+    };
+    match name {
+        "import" => import(alloc, db, words),
+        "remove" => remove(alloc, db, words),
+        "runs" => Ok(Some(Plan::Runs { db })),
+        "group" => Ok(group(db, words)),
+        "groups" => Ok(Some(Plan::Groups { db })),
+        _ => Ok(member(name, db, words)),
+    }
+}
+
+/// The plan for a subcommand.
+fn plan_of<'a>(
+    alloc: Global,
+    name: &str,
+    words: &ArgMatches<'a>,
+) -> Result<Option<Plan<'a>>, AllocError>
+    ensures sound { IfOk result (λ found. IfSome found IsSound) }
+    ensures plan { IfOk result (λ found. IfSome found (IsPlanOf name.now (rows_of (found_of words.now)))) }
+{
+    if name == "total" {
+        return match word(words, "FILE") {
+            Some(path) => Ok(Some(Plan::Total { path })),
+            None => Ok(None),
+        };
+    }
+    over_database(alloc, name, words)
+}
+
+/// The plan for the words of a command line, of which the first is the program's name.
+pub fn plan<'a>(alloc: Global, words: &'a [String]) -> Result<Plan<'a>, PlanEnd>
+    ensures sound { IfOk result IsSound }
+    ensures plan { IfOk result (IsPlanFor (subcommand_of command_line (map string_bytes words.now))) }
+    ensures faultless { IfOk result (λ _. fault_of command_line (map string_bytes words.now) ≡ []) }
+    ensures fault { IfErr result (IsEndOf (fault_of command_line (map string_bytes words.now))) }
+{
+    let mut grammar = grammar(alloc)?;
+    let matches = grammar.try_get_matches_from_mut(words)?;
+    if let Some((name, words)) = matches.subcommand() {
+        if let Some(plan) = plan_of(alloc, name, words)? {
+            return Ok(plan);
+        }
+    }
+    let error = grammar.error(ErrorKind::MissingSubcommand, "a subcommand is required")?;
+    Err(PlanEnd::Clap(error))
+}

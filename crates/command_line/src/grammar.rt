@@ -1,0 +1,172 @@
+// The grammar of the command line.
+ghost use Rattle.std.specs.Prelude.{◌≡◌, false, codes, IfOk};
+ghost use Rattle.clap.specs.Words.{app_of, rule_of};
+ghost use Rattle.clap.specs.declared.builder.command.Command.TheViews.{out-Command as fields_of};
+ghost use Rattle.command_line.specs.Grammar as line;
+
+use clap::{Arg, ArgAction, Command, value_parser};
+use std::alloc::{AllocError, Global};
+
+/// The greatest number of a run.
+pub const LAST_RUN: u32 = 2_147_483_647;
+
+/// The option that names the database.
+fn database<'a>(alloc: Global) -> Arg<'a>
+    ensures rule { rule_of result ≡ line.database }
+    ensures local { result.global ≡ false }
+{
+    Arg::new(alloc, "db")
+        .long("db")
+        .value_name("D")
+        .required(true)
+        .help("The database file")
+}
+
+/// A word that has to be given.
+fn operand<'a>(alloc: Global, id: &'a str, help: &'a str) -> Arg<'a>
+    ensures rule { rule_of result ≡ line.operand id.entry.now }
+    ensures local { result.global ≡ false }
+{
+    Arg::new(alloc, id).required(true).help(help)
+}
+
+/// A flag, by its long name.
+fn flag<'a>(alloc: Global, id: &'a str, help: &'a str) -> Arg<'a>
+    ensures rule { rule_of result ≡ line.flag id.entry.now }
+    ensures local { result.global ≡ false }
+{
+    Arg::new(alloc, id)
+        .long(id)
+        .action(ArgAction::SetTrue)
+        .help(help)
+}
+
+/// The same, once or more.
+fn several<'a>(arg: Arg<'a>) -> Arg<'a>
+    ensures rule { rule_of result ≡ line.several (rule_of arg.entry) }
+    ensures local { result.global ≡ arg.entry.global }
+{
+    arg.num_args(1..)
+}
+
+/// The number of a run, which has to be given.
+fn run_number<'a>(alloc: Global) -> Arg<'a>
+    ensures rule { rule_of result ≡ line.run_number }
+    ensures local { result.global ≡ false }
+{
+    let numbers = value_parser!(u32).range(1..=i64::from(LAST_RUN));
+    operand(alloc, "N", "The number of a run").value_parser(numbers)
+}
+
+/// A subcommand that wants the database.
+fn over_database<'a>(
+    alloc: Global,
+    name: &'a str,
+    about: &'a str,
+) -> Result<Command<'a>, AllocError>
+    ensures app { IfOk result (λ command. app_of command ≡ line.over_database name.entry.now) }
+    ensures local { IfOk result (λ command. (fields_of command).has_globals ≡ false) }
+{
+    Command::new(alloc, name).about(about).arg(database(alloc))
+}
+
+/// A subcommand that wants a group and a run.
+fn over_group_and_run<'a>(
+    alloc: Global,
+    name: &'a str,
+    about: &'a str,
+) -> Result<Command<'a>, AllocError>
+    ensures app { IfOk result (λ command. app_of command ≡ line.over_group_and_run name.entry.now) }
+    ensures local { IfOk result (λ command. (fields_of command).has_globals ≡ false) }
+{
+    over_database(alloc, name, about)?
+        .arg(operand(alloc, "NAME", "The name of a group"))?
+        .arg(run_number(alloc))
+}
+
+fn total<'a>(alloc: Global) -> Result<Command<'a>, AllocError>
+    ensures app { IfOk result (λ command. app_of command ≡ line.total) }
+    ensures local { IfOk result (λ command. (fields_of command).has_globals ≡ false) }
+{
+    Command::new(alloc, "total")
+        .about("Print the exact sums of a file's self costs, by event")
+        .arg(operand(alloc, "FILE", "A file in the Callgrind format"))
+}
+
+fn import<'a>(alloc: Global) -> Result<Command<'a>, AllocError>
+    ensures app { IfOk result (λ command. app_of command ≡ line.import) }
+    ensures local { IfOk result (λ command. (fields_of command).has_globals ≡ false) }
+{
+    let files = operand(alloc, "FILE", "The files, each a run of its own");
+    over_database(alloc, "import", "Take in files")?
+        .arg(flag(alloc, "folded", "The files hold folded stacks"))?
+        .arg(several(files))
+}
+
+fn remove<'a>(alloc: Global) -> Result<Command<'a>, AllocError>
+    ensures app { IfOk result (λ command. app_of command ≡ line.remove) }
+    ensures local { IfOk result (λ command. (fields_of command).has_globals ≡ false) }
+{
+    over_database(alloc, "remove", "Remove runs")?.arg(several(run_number(alloc)))
+}
+
+fn group<'a>(alloc: Global) -> Result<Command<'a>, AllocError>
+    ensures app { IfOk result (λ command. app_of command ≡ line.group) }
+    ensures local { IfOk result (λ command. (fields_of command).has_globals ≡ false) }
+{
+    over_database(alloc, "group", "Make a group, or drop one")?
+        .arg(flag(alloc, "drop", "Drop the group"))?
+        .arg(operand(alloc, "NAME", "The name of the group"))
+}
+
+/// With the subcommands on files and runs.
+fn with_files<'a>(alloc: Global, command: Command<'a>) -> Result<Command<'a>, AllocError>
+    requires { (fields_of command).has_globals ≡ false }
+    ensures app { IfOk result (λ more. app_of more ≡ line.with_files (app_of command.entry)) }
+    ensures local { IfOk result (λ more. (fields_of more).has_globals ≡ false) }
+{
+    command
+        .subcommand(total(alloc)?)?
+        .subcommand(import(alloc)?)?
+        .subcommand(remove(alloc)?)
+}
+
+/// With the lists, and the subcommand on a group.
+fn with_lists<'a>(alloc: Global, command: Command<'a>) -> Result<Command<'a>, AllocError>
+    requires { (fields_of command).has_globals ≡ false }
+    ensures app { IfOk result (λ more. app_of more ≡ line.with_lists (app_of command.entry)) }
+    ensures local { IfOk result (λ more. (fields_of more).has_globals ≡ false) }
+{
+    command
+        .subcommand(over_database(alloc, "runs", "List the runs")?)?
+        .subcommand(over_database(alloc, "groups", "List the groups")?)?
+        .subcommand(group(alloc)?)
+}
+
+/// With the subcommands on a run and a group.
+fn with_members<'a>(alloc: Global, command: Command<'a>) -> Result<Command<'a>, AllocError>
+    requires { (fields_of command).has_globals ≡ false }
+    ensures app { IfOk result (λ more. app_of more ≡ line.with_members (app_of command.entry)) }
+    ensures local { IfOk result (λ more. (fields_of more).has_globals ≡ false) }
+{
+    let join = over_group_and_run(alloc, "join", "Let a run join a group")?;
+    let leave = over_group_and_run(alloc, "leave", "Let a run leave a group")?;
+    let baseline = over_group_and_run(alloc, "baseline", "Make a run the baseline of a group")?;
+    command
+        .subcommand(join)?
+        .subcommand(leave)?
+        .subcommand(baseline)
+}
+
+/// The command line that the program reads.
+pub fn grammar<'a>(alloc: Global) -> Result<Command<'a>, AllocError>
+    ensures app { IfOk result (λ command. app_of command ≡ line.command_line) }
+    ensures local { IfOk result (λ command. (fields_of command).has_globals ≡ false) }
+{
+    let command = Command::new(alloc, "profhouse")
+        .about("A warehouse of run profiles whose every figure is exact")
+        .subcommand_required(true);
+    let command = with_files(alloc, command)?;
+    let command = with_lists(alloc, command)?;
+    with_members(alloc, command)
+}

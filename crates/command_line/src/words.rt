@@ -1,0 +1,95 @@
+// What was found of the arguments of a subcommand.
+ghost use Rattle.std.specs.Prelude.{◌≡◌, ◌≢◌, ◌↔◌, [], All, map, codes, option_map, Some, IfOk, IfSome, IsSome};
+ghost use Rattle.clap.specs.Words.{all_of, found_of, one_of, rows_of};
+ghost use Rattle.command_line.specs.Plans.{IsRunNumber, SaysRun, number_of, HasWord, HasRun, IsFlag};
+
+use crate::grammar::LAST_RUN;
+use cg_text::Items;
+use clap::ArgMatches;
+use std::alloc::{AllocError, Global};
+
+/// The word of an argument.
+pub fn word<'a>(words: &ArgMatches<'a>, id: &str) -> Option<&'a str>
+    ensures { IfSome result (λ word. HasWord (rows_of (found_of words.now)) id.now word.now) }
+{
+    words.get_str(id)
+}
+
+/// Whether a flag was given.
+pub fn is_given(words: &ArgMatches<'_>, id: &str) -> bool
+    ensures { IsFlag (one_of id.now (rows_of (found_of words.now))) result }
+{
+    words.get_flag(id)
+}
+
+/// The words of an argument that takes several, of which there is one at least.
+fn all_words<'m, 'a>(words: &'m ArgMatches<'a>, id: &str) -> Option<&'m [&'a str]>
+    ensures some { IfSome result (λ texts. texts.now ≢ []) }
+    ensures words { IfSome result (λ texts. all_of id.now (rows_of (found_of words.now)) ≡ Some (map (λ text. text.now) texts.now)) }
+{
+    let texts = words.get_strs(id)?;
+    if texts.is_empty() {
+        return None;
+    }
+    Some(texts)
+}
+
+/// The files that were named.
+pub fn files<'a>(
+    alloc: Global,
+    words: &ArgMatches<'a>,
+) -> Result<Option<Items<&'a str>>, AllocError>
+    ensures some { IfOk result (λ found. IfSome found (λ files. files ≢ [])) }
+    ensures words { IfOk result (λ found. IfSome found (λ files. all_of (codes "FILE") (rows_of (found_of words.now)) ≡ Some (map (λ file. file.now) files))) }
+{
+    match all_words(words, "FILE") {
+        Some(files) => Ok(Some(Items::from_vec(files.to_vec(alloc)?))),
+        None => Ok(None),
+    }
+}
+
+/// The number of a run, where a text is one.
+fn run_of(text: &str) -> Option<u32>
+    ensures one { IsSome result ↔ SaysRun text.now }
+    ensures value { IfSome result (λ number. number ≡ number_of text.now) }
+{
+    match text.parse::<u32>() {
+        Ok(number) if 1 <= number && number <= LAST_RUN => Some(number),
+        _ => None,
+    }
+}
+
+/// The number of the run that was named.
+pub fn run(words: &ArgMatches<'_>) -> Option<u32>
+    ensures range { IfSome result IsRunNumber }
+    ensures number { IfSome result (HasRun (rows_of (found_of words.now))) }
+{
+    run_of(word(words, "N")?)
+}
+
+/// The numbers of runs, where all texts are such.
+fn runs_of(alloc: Global, texts: &[&str]) -> Result<Option<Items<u32>>, AllocError>
+    ensures range { IfOk result (λ found. IfSome found (All IsRunNumber)) }
+    ensures value { IfOk result (λ found. IfSome found (λ numbers. numbers ≡ map (λ text. number_of text.now) texts.now)) }
+{
+    let mut numbers = Vec::new(alloc);
+    for text in texts {
+        let Some(number) = run_of(text) else {
+            return Ok(None);
+        };
+        numbers.push(number)?;
+    }
+    Ok(Some(Items::from_vec(numbers)))
+}
+
+/// The numbers of the runs that were named.
+pub fn runs(alloc: Global, words: &ArgMatches<'_>) -> Result<Option<Items<u32>>, AllocError>
+    ensures some { IfOk result (λ found. IfSome found (λ numbers. numbers ≢ [])) }
+    ensures range { IfOk result (λ found. IfSome found (All IsRunNumber)) }
+    ensures numbers { IfOk result (λ found. IfSome found (λ numbers. option_map (map number_of) (all_of (codes "N") (rows_of (found_of words.now))) ≡ Some numbers)) }
+{
+    match all_words(words, "N") {
+        Some(texts) => runs_of(alloc, texts),
+        None => Ok(None),
+    }
+}

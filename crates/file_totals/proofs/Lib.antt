@@ -1,0 +1,4 @@
+pub mod SumsLemmas
+pub mod TotalsLemmas
+pub mod ReadersLemmas
+pub mod Examples

@@ -1,0 +1,5 @@
+pub mod TotalLines
+pub mod Sums
+pub mod Totals
+pub mod Running
+pub mod Readers

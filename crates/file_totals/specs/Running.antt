@@ -1,0 +1,19 @@
+-- A total that is being read.
+use Rattle.std.specs.Prelude.{◌≡◌, ℕ, List, [], fold}
+use Rattle.callgrind_reader.specs.Records.{Record}
+use Rattle.callgrind_reader.specs.Reads as reads
+use Rattle.callgrind_reader.specs.Reads.{Reads, Takes}
+use Rattle.file_totals.specs.Sums.{add_record}
+use Rattle.file_totals.specs.declared.total.Total.{Total}
+
+-- its sums take the reader's next record
+abbrev pub IsReady : Total → Type 0
+IsReady t = Takes t.reader t.sums.last t.sums.width
+
+-- it has read this text so far, and has the sums of the records that were handed on
+abbrev pub SumsUp : Total → List ℕ → Type 0
+SumsUp t text = (told : List Record) × Reads t.reader text told × (t.sums.sums.items ≡ fold add_record [] told)
+
+-- how many bytes it still takes
+abbrev pub room_left : Total → ℕ
+room_left t = reads.room_of t.reader

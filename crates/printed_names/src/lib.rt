@@ -1,0 +1,6 @@
+//! Names as they are printed.
+#![tactic(auto)]
+
+mod escapes;
+
+pub use escapes::push_escaped;

@@ -1,6 +1,0 @@
-use Rattle.clap.specs.Words.{found_of}
-use Rattle.profhouse.proofs.PlansLemmas.{word_found}
-use Rattle.profhouse.proofs.words.word.Goals as goal
-
-pub returns : goal.returns
-returns c = word_found (found_of c.args.words.now) c.args.id.now c.get_str.result c.get_str.ensures
