@@ -10,7 +10,7 @@ use Rattle.cost_rows.specs.declared.rows.ArcRow.{ArcRow}
 use Rattle.prof_tables.specs.Tables.{Tables, NameLine, ArcLine as Arc}
 use Rattle.prof_tables.specs.RunLines.{arcs_in}
 use Rattle.prof_store.specs.declared.arcs.Arcs.{Arcs}
-use Rattle.prof_store.specs.declared.errors.StoreEnd.{StoreEnd}
+use Rattle.run_rows.specs.declared.errors.StoreEnd.{StoreEnd}
 use Rattle.prof_store.specs.ArcWalks.{GivesArcs}
 use Rattle.prof_books.specs.Book.{part_held, part_of, parts_from, parts_of, ArcIsNamed}
 use Rattle.prof_store.specs.HeldArcs.{HasUsedArcs, HasTakenArc, HasGivenArcs, HasGivenAllArcs, HasGivenArcsOn, TellsArcRows, lines_from, part_line, plain_given, row_of, waiting_line}

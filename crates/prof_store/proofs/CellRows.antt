@@ -9,7 +9,7 @@ use Rattle.cost_rows.specs.declared.rows.CellRow.{CellRow}
 use Rattle.prof_tables.specs.Tables.{Tables, NameLine}
 use Rattle.prof_tables.specs.RunLines.{cells_in}
 use Rattle.prof_store.specs.declared.cells.Cells.{Cells}
-use Rattle.prof_store.specs.declared.errors.StoreEnd.{StoreEnd}
+use Rattle.run_rows.specs.declared.errors.StoreEnd.{StoreEnd}
 use Rattle.prof_books.specs.Book.{cell_held, CellIsNamed}
 use Rattle.prof_store.specs.CellWalks.{GivesCellsOn}
 use Rattle.prof_store.specs.HeldCells.{HasGivenCells, HasGivenAllCells, HasGivenCellsOn, IsOfAnEvent, TellsCellRows}

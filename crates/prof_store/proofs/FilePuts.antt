@@ -8,10 +8,10 @@ use Rattle.prof_tables.specs.Tables.{Tables, EventLine, DerivedLine, CoefLine}
 use Rattle.prof_books.specs.Files.{with_rows, with_head}
 use Rattle.prof_books.specs.Heads.{event_lines, derived_lines, coef_lines}
 use Rattle.prof_books.specs.Kinds.{kind_number}
-use Rattle.prof_store.specs.Lines.{event_line, derived_line, coef_line}
+use Rattle.run_rows.specs.Lines.{event_line, derived_line, coef_line}
 use Rattle.prof_books.specs.Runs.{with_file, run_line_of}
 use Rattle.prof_books.specs.declared.kinds.Kind.{Kind}
-use Rattle.prof_store.specs.declared.lines.HeadLines.{HeadLines}
+use Rattle.run_rows.specs.declared.lines.HeadLines.{HeadLines}
 
 -- its run and its lines are those of the head and the rows
 pub file_is : (n k calls : ℕ) (digest label : List ℕ) (head : HeadLines) (rows : FileRows) (t : Tables) (kind : Kind) (h : FileHead) → k ≡ kind_number kind → calls ≡ count_total (content_of rows).arcs

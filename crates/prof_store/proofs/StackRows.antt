@@ -5,7 +5,7 @@ use Rattle.std.proofs.lemmas.List.{map-append}
 use Rattle.sqlite_trees.specs.declared.store.Store.{Ghosts}
 use Rattle.cost_rows.specs.declared.rows.StackRow.{StackRow}
 use Rattle.prof_tables.specs.Tables.{Tables}
-use Rattle.prof_store.specs.declared.errors.StoreEnd.{StoreEnd}
+use Rattle.run_rows.specs.declared.errors.StoreEnd.{StoreEnd}
 use Rattle.prof_store.specs.declared.stacks.Stacks.{Stacks}
 use Rattle.prof_books.specs.Book.{stack_held}
 use Rattle.prof_store.specs.HeldStacks.{HasGivenStacks, HasGivenAllStacks, HasGivenStacksOn, TellsStackRows, plain_held}

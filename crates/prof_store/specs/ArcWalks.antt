@@ -2,11 +2,11 @@
 use Rattle.std.specs.Prelude.{◌≡◌, List, [], ◌∷◌, ◌++◌, map, Option, Some, None}
 use Rattle.sqlite_trees.specs.declared.store.Store.{Ghosts}
 use Rattle.prof_tables.specs.Tables.{ArcLine as Arc, arc_columns}
-use Rattle.prof_store.specs.declared.lines.ArcLine.{ArcLine}
+use Rattle.run_rows.specs.declared.lines.ArcLine.{ArcLine}
 use Rattle.prof_store.specs.declared.store.Store.{Store}
 use Rattle.prof_store.specs.declared.walks.Walk.{Walk}
 use Rattle.prof_store.specs.declared.walks.Listed.TheVariants.{Arcs}
-use Rattle.prof_store.specs.Lines.{arc_line}
+use Rattle.run_rows.specs.Lines.{arc_line}
 use Rattle.prof_store.specs.Walks.{Walks, HasWalked}
 
 module _ {S : Type 0} (g : Ghosts S) where

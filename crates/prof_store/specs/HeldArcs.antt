@@ -7,9 +7,9 @@ use Rattle.cost_rows.specs.declared.rows.ArcRow.{ArcRow}
 use Rattle.prof_tables.specs.Tables.{Tables, NameLine, ArcLine as Arc, arc_columns}
 use Rattle.prof_books.specs.Book.{CallPart, name_of, part_held, parts_held, parts_of, ArcIsNamed}
 use Rattle.prof_store.specs.ArcWalks.{GivesArcs}
-use Rattle.prof_store.specs.Lines.{arc_line}
+use Rattle.run_rows.specs.Lines.{arc_line}
 use Rattle.prof_store.specs.Walks.{HasWalked}
-use Rattle.prof_store.specs.declared.lines.ArcLine.{ArcLine}
+use Rattle.run_rows.specs.declared.lines.ArcLine.{ArcLine}
 use Rattle.prof_store.specs.declared.arcs.Arcs.{Arcs}
 
 -- a row as it is lent

@@ -2,11 +2,11 @@
 use Rattle.std.specs.Prelude.{◌≡◌, List, [], ◌∷◌, ◌++◌, map, Option, Some, None}
 use Rattle.sqlite_trees.specs.declared.store.Store.{Ghosts}
 use Rattle.prof_tables.specs.Tables.{StackLine as Stack, stack_columns}
-use Rattle.prof_store.specs.declared.lines.HeldStack.{HeldStack}
+use Rattle.run_rows.specs.declared.lines.HeldStack.{HeldStack}
 use Rattle.prof_store.specs.declared.store.Store.{Store}
 use Rattle.prof_store.specs.declared.walks.Walk.{Walk}
 use Rattle.prof_store.specs.declared.walks.Listed.TheVariants.{Stacks}
-use Rattle.prof_store.specs.Lines.{held_stack}
+use Rattle.run_rows.specs.Lines.{held_stack}
 use Rattle.prof_store.specs.Walks.{Walks, HasWalked}
 
 module _ {S : Type 0} (g : Ghosts S) where

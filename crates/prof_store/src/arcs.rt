@@ -4,17 +4,16 @@ ghost use Rattle.std.specs.List.{AllByRecursion};
 ghost use Rattle.prof_tables.specs.RunLines.{arcs_in};
 ghost use Rattle.prof_books.specs.Book.{ArcIsNamed};
 ghost use Rattle.prof_store.specs.HeldArcs.{HasUsedArcs, HasTakenArc, HasGivenArcs, HasGivenArcsOn, TellsArcRows, lines_from, part_line, plain_given, row_of};
-ghost use Rattle.prof_store.specs.Lines.{arc_line};
+ghost use Rattle.run_rows.specs.Lines.{arc_line};
 ghost use Rattle.prof_store.specs.Shown.{shown, IsFaithful, IsUsable, IsSettled, IsAsBefore, StandsFor, LeavesOnly};
 ghost use Rattle.prof_store.specs.Walks.{IsReady};
 
-use crate::errors::StoreEnd;
 use crate::held_names::HeldNames;
-use crate::lines::ArcLine;
 use crate::store::Store;
 use crate::walks::{Listed, Walk};
 use cg_text::Items;
 use cost_rows::ArcRow;
+use run_rows::{ArcLine, StoreEnd};
 use sqlite::Alter;
 use std::alloc::Global;
 

@@ -3,15 +3,13 @@ ghost use Rattle.std.specs.Prelude.{◌≡◌, IfOk, OnOk};
 ghost use Rattle.sql_tables.specs.Walks.{read_from};
 ghost use Rattle.prof_tables.specs.Tables.{cell_columns};
 ghost use Rattle.prof_tables.specs.WalkTexts.{cells_of};
-ghost use Rattle.prof_store.specs.Lines.{cell_line};
+ghost use Rattle.run_rows.specs.Lines.{cell_line};
 ghost use Rattle.prof_store.specs.Shown.{IsFaithful, IsUsable, IsSettled, IsAsBefore, StandsFor, LeavesOnly};
 ghost use Rattle.prof_store.specs.CellWalks.{GivesCells, GivesCellsOn};
 
-use crate::columns::{number_at, whole_at};
-use crate::errors::StoreEnd;
-use crate::lines::CellLine;
 use crate::store::Store;
 use crate::walks::Walk;
+use run_rows::{CellLine, StoreEnd, number_at, whole_at};
 use sqlite::{Alter, Row};
 
 fn read_cell(run: u32, row: &Row) -> Result<CellLine, StoreEnd>

@@ -5,16 +5,15 @@ ghost use Rattle.cost_rows.specs.Plain.{plain_cell};
 ghost use Rattle.prof_tables.specs.RunLines.{cells_in};
 ghost use Rattle.prof_books.specs.Book.{cell_held, CellIsNamed};
 ghost use Rattle.prof_store.specs.HeldCells.{HasGivenCells, HasGivenCellsOn, IsOfAnEvent, TellsCellRows};
-ghost use Rattle.prof_store.specs.Lines.{cell_line};
+ghost use Rattle.run_rows.specs.Lines.{cell_line};
 ghost use Rattle.prof_store.specs.Shown.{shown, IsFaithful, IsUsable, IsSettled, IsAsBefore, StandsFor, LeavesOnly};
 ghost use Rattle.prof_store.specs.Walks.{IsReady};
 
-use crate::errors::StoreEnd;
 use crate::held_names::HeldNames;
-use crate::lines::CellLine;
 use crate::store::Store;
 use crate::walks::{Listed, Walk};
 use cost_rows::CellRow;
+use run_rows::{CellLine, StoreEnd};
 use sqlite::Alter;
 
 /// The sums of a run's own costs, read one at a time.

@@ -8,9 +8,8 @@ ghost use Rattle.prof_tables.specs.Schema.{schema_one};
 ghost use Rattle.prof_tables.specs.Texts.{run_count_text, group_count_text};
 ghost use Rattle.prof_store.specs.Shown.{shown, IsFaithful, IsUsable, StandsFor, LeavesOnly, IsSettled, IsAsBefore};
 
-use crate::columns::sum_at;
-use crate::errors::{StoreEnd, end_of};
 use crate::store::Store;
+use run_rows::{StoreEnd, end_of, sum_at};
 use sqlite::{Alter, Connection, Error, Row};
 
 /// SQL counts no further.

@@ -8,8 +8,8 @@ ghost use Rattle.prof_tables.specs.Tables.{Holds};
 ghost use Rattle.prof_tables.specs.Changes.{has_run, without_run};
 ghost use Rattle.prof_store.specs.Shown.{IsFaithful, IsUsable, StandsFor, IsSettled, IsAsBefore, LeavesOnly};
 
-use crate::errors::{StoreEnd, end_of};
 use crate::store::Store;
+use run_rows::{StoreEnd, end_of};
 use sqlite::{Alter, Connection, Error, params};
 
 fn delete_run<S: Alter>(conn: &mut Connection<S>, run: u32) -> Result<usize, Error>

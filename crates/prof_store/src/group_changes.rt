@@ -9,8 +9,8 @@ ghost use Rattle.prof_tables.specs.Changes.{has_group, with_group, without_group
 ghost use Rattle.prof_books.specs.Labels.{IsGroupName};
 ghost use Rattle.prof_store.specs.Shown.{IsFaithful, IsUsable, StandsFor, IsSettled, IsAsBefore, LeavesOnly};
 
-use crate::errors::{StoreEnd, end_of};
 use crate::store::Store;
+use run_rows::{StoreEnd, end_of};
 use sqlite::{Alter, Connection, Error, params};
 
 fn insert_group<S: Alter>(conn: &mut Connection<S>, name: &str) -> Result<usize, Error>

@@ -10,12 +10,10 @@ ghost use Rattle.prof_tables.specs.Texts.{groups_text, members_text};
 ghost use Rattle.prof_store.specs.Groups.{first_two, IsBefore, entry_group, entry_members, member_of, member_line, members_in};
 ghost use Rattle.prof_store.specs.Shown.{shown, IsFaithful, IsUsable, StandsFor, LeavesOnly, IsSettled, IsAsBefore};
 
-use crate::columns::{number_at, number_or_null_at, text_at};
 use crate::entries::GroupEntry;
-use crate::errors::{StoreEnd, end_of};
-use crate::labels::is_group_name;
 use crate::store::Store;
 use cg_text::Items;
+use run_rows::{StoreEnd, end_of, is_group_name, number_at, number_or_null_at, text_at};
 use sqlite::{Alter, Connection, Error, Row};
 use std::alloc::Global;
 use std::cmp::Ordering;

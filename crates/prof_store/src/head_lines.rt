@@ -9,9 +9,8 @@ ghost use Rattle.prof_tables.specs.Texts.{events_of_text, derived_of_text, coefs
 ghost use Rattle.prof_store.specs.HeadLines.{first_two, first_three, event_columns, derived_columns, coef_columns};
 ghost use Rattle.prof_store.specs.Shown.{shown, IsFaithful, IsUsable, IsSettled, IsAsBefore, StandsFor, LeavesOnly};
 
-use crate::columns::{bytes_at, number_at, sum_at, text_or_null_at};
-use crate::errors::{StoreEnd, end_of};
 use crate::store::Store;
+use run_rows::{StoreEnd, bytes_at, end_of, number_at, sum_at, text_or_null_at};
 use sqlite::{Alter, Connection, Error, Row, params};
 use std::alloc::Global;
 

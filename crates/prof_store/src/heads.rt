@@ -4,10 +4,10 @@ ghost use Rattle.prof_tables.specs.Schema.{schema_one};
 ghost use Rattle.prof_store.specs.HeldHeads.{IsHeadIn, IsHeadAt, IsReadIn, IsReadAt};
 ghost use Rattle.prof_store.specs.Shown.{shown, IsFaithful, IsUsable, IsSettled, IsAsBefore, StandsFor, LeavesOnly};
 
-use crate::errors::StoreEnd;
 use crate::heads_held::head_in;
 use crate::store::Store;
 use cg_text::FileHead;
+use run_rows::StoreEnd;
 use sqlite::Alter;
 use std::alloc::Global;
 

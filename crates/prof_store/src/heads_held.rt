@@ -3,9 +3,9 @@ ghost use Rattle.std.specs.Prelude.{◌≡◌, ◌≤◌, ◌++◌, [], ◌∷�
 ghost use Rattle.std.specs.Fmt.{decimal};
 ghost use Rattle.prof_store.specs.HeldHeads.{placed, event_place, event_total, derived_place, coef_line_said, coefs_at, coefs_from, IsReadFrom};
 
-use crate::errors::StoreEnd;
 use crate::head_lines::{HeadCoef, HeadDerived, HeadEvent};
 use cg_text::{FileHead, Flat, Items, are_distinct};
+use run_rows::StoreEnd;
 use std::alloc::Global;
 
 /// A copy of a name whose place is the next.

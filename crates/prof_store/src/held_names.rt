@@ -11,9 +11,8 @@ ghost use Rattle.prof_store.specs.HeadLines.{first_two};
 ghost use Rattle.prof_store.specs.NameLines.{name_line, name_seen, name_shown, has_number};
 ghost use Rattle.prof_store.specs.Shown.{shown, IsFaithful, IsUsable, StandsFor, LeavesOnly, IsSettled, IsAsBefore};
 
-use crate::columns::{bytes_at, number_at};
-use crate::errors::{StoreEnd, end_of};
 use crate::store::Store;
+use run_rows::{StoreEnd, bytes_at, end_of, number_at};
 use sqlite::{Alter, Connection, Error, Row};
 use std::alloc::Global;
 use std::marker::Model;

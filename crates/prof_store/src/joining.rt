@@ -11,8 +11,8 @@ ghost use Rattle.prof_tables.specs.Schema.{schema_one};
 ghost use Rattle.prof_tables.specs.Seen.{is_member_row};
 ghost use Rattle.prof_store.specs.Shown.{shown, IsFaithful, IsUsable, StandsFor, IsSettled, IsAsBefore, LeavesOnly};
 
-use crate::errors::{StoreEnd, end_of};
 use crate::store::Store;
+use run_rows::{StoreEnd, end_of};
 use sqlite::{Alter, Connection, Error, Row, params};
 
 fn select_member<S: Alter>(

@@ -11,8 +11,8 @@ ghost use Rattle.prof_tables.specs.Tables.{number};
 ghost use Rattle.prof_tables.specs.Texts.{kind_of_text, find_group_text};
 ghost use Rattle.prof_store.specs.Shown.{shown, IsFaithful, IsUsable, IsSettled, IsAsBefore, StandsFor, LeavesOnly};
 
-use crate::errors::{StoreEnd, end_of};
 use crate::store::Store;
+use run_rows::{StoreEnd, end_of};
 use sqlite::{Alter, Connection, Error, Row, params};
 
 fn select_kind<S: Alter>(conn: &mut Connection<S>, run: u32) -> Result<Vec<Row>, Error>

@@ -7,10 +7,10 @@ ghost use Rattle.sql_tables.specs.States.{Begins, Works, Rests, IsBlank, LeavesO
 ghost use Rattle.prof_tables.specs.Schema.{empty_schema, schema_to_derived, schema_to_arc, schema_one};
 ghost use Rattle.prof_tables.specs.Tables.{Holds, new_tables};
 ghost use Rattle.prof_store.specs.Shown.{shown, IsFaithful, StandsFor};
-ghost use Rattle.prof_store.specs.Steps.{Passes};
+ghost use Rattle.run_rows.specs.Steps.{Passes};
 
-use crate::errors::{StoreEnd, end_of};
 use crate::store::Store;
+use run_rows::{StoreEnd, end_of};
 use sqlite::{Alter, Connection, Error, Transaction};
 use std::alloc::Global;
 

@@ -9,9 +9,8 @@ ghost use Rattle.prof_tables.specs.Schema.{schema_one};
 ghost use Rattle.prof_tables.specs.Texts.{next_text};
 ghost use Rattle.prof_store.specs.Shown.{shown, IsFaithful, IsUsable, StandsFor, LeavesOnly, IsSettled, IsAsBefore};
 
-use crate::columns::number_at;
-use crate::errors::{StoreEnd, end_of};
 use crate::store::Store;
+use run_rows::{StoreEnd, end_of, number_at};
 use sqlite::{Alter, Connection, Error, Row};
 
 fn select_next<S: Alter>(conn: &mut Connection<S>) -> Result<Row, Error>

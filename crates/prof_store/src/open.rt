@@ -11,11 +11,10 @@ ghost use Rattle.prof_tables.specs.Tables.{Holds};
 ghost use Rattle.prof_tables.specs.Texts.{schema_text};
 ghost use Rattle.prof_store.specs.Shown.{shown, IsFaithful, StandsFor};
 ghost use Rattle.sqlite.specs.declared.error.Error.TheVariants as errors;
-ghost use Rattle.prof_store.specs.declared.errors.OpenEnd.TheVariants as ends;
+ghost use Rattle.run_rows.specs.declared.errors.OpenEnd.TheVariants as ends;
 
-use crate::columns::number_at;
-use crate::errors::{OpenEnd, end_of};
 use crate::store::Store;
+use run_rows::{OpenEnd, end_of, number_at};
 use sqlite::{Alter, Connection, Error, Row};
 use std::alloc::Global;
 

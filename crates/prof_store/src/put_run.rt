@@ -9,16 +9,11 @@ ghost use Rattle.prof_books.specs.Labels.{IsLabel};
 ghost use Rattle.prof_books.specs.Runs.{with_file};
 ghost use Rattle.prof_store.specs.Shown.{IsFaithful, IsUsable, StandsFor, IsSettled, IsAsBefore, LeavesOnly};
 
-use crate::errors::StoreEnd;
-use crate::file_lines::whole_of;
-use crate::heads_put::head_lines;
-use crate::kinds::number_of_kind;
-use crate::lines::RunLine;
-use crate::putting::put_in;
 use crate::store::Store;
 use cg_text::FileHead;
 use cost_rows::FileRows;
 use prof_books::Kind;
+use run_rows::{RunLine, StoreEnd, head_lines, number_of_kind, put_in, whole_of};
 use sqlite::Alter;
 use std::alloc::Global;
 

@@ -10,12 +10,9 @@ ghost use Rattle.prof_store.specs.Entries.{first_four, entry_columns, entry_run}
 ghost use Rattle.prof_books.specs.Entries.{held_run};
 ghost use Rattle.prof_store.specs.Shown.{shown, IsFaithful, IsUsable, StandsFor, LeavesOnly, IsSettled, IsAsBefore};
 
-use crate::columns::number_at;
 use crate::entries::RunEntry;
-use crate::errors::{StoreEnd, end_of};
-use crate::kinds::kind_at;
-use crate::labels::{digest_at, label_at};
 use crate::store::Store;
+use run_rows::{StoreEnd, digest_at, end_of, kind_at, label_at, number_at};
 use sqlite::{Alter, Connection, Error, Row};
 use std::alloc::Global;
 

@@ -3,15 +3,13 @@ ghost use Rattle.std.specs.Prelude.{◌≡◌, IfOk, OnOk};
 ghost use Rattle.sql_tables.specs.Walks.{read_from};
 ghost use Rattle.prof_tables.specs.Tables.{stack_columns};
 ghost use Rattle.prof_tables.specs.WalkTexts.{stacks_of};
-ghost use Rattle.prof_store.specs.Lines.{held_stack};
+ghost use Rattle.run_rows.specs.Lines.{held_stack};
 ghost use Rattle.prof_store.specs.Shown.{IsFaithful, IsUsable, IsSettled, IsAsBefore, StandsFor, LeavesOnly};
 ghost use Rattle.prof_store.specs.StackWalks.{GivesStacks, GivesStacksOn};
 
-use crate::columns::{bytes_at, whole_at};
-use crate::errors::StoreEnd;
-use crate::lines::HeldStack;
 use crate::store::Store;
 use crate::walks::Walk;
+use run_rows::{HeldStack, StoreEnd, bytes_at, whole_at};
 use sqlite::{Alter, Row};
 
 fn read_stack(run: u32, row: &Row) -> Result<HeldStack, StoreEnd>

@@ -2,15 +2,14 @@
 ghost use Rattle.std.specs.Prelude.{◌≡◌, [], Some, None, IfOk, OnOk, MatchResult};
 ghost use Rattle.prof_books.specs.Book.{stack_held};
 ghost use Rattle.prof_store.specs.HeldStacks.{HasGivenStacks, HasGivenStacksOn, TellsStackRows, plain_held};
-ghost use Rattle.prof_store.specs.Lines.{held_stack};
+ghost use Rattle.run_rows.specs.Lines.{held_stack};
 ghost use Rattle.prof_store.specs.Shown.{shown, IsFaithful, IsUsable, IsSettled, IsAsBefore, StandsFor, LeavesOnly};
 ghost use Rattle.prof_store.specs.Walks.{IsReady};
 
-use crate::errors::StoreEnd;
-use crate::lines::HeldStack;
 use crate::store::Store;
 use crate::walks::{Listed, Walk};
 use cost_rows::StackRow;
+use run_rows::{HeldStack, StoreEnd};
 use sqlite::Alter;
 
 /// How often a run's stacks were seen, read one at a time.

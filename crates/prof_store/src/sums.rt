@@ -2,8 +2,7 @@
 ghost use Rattle.std.specs.Prelude.{◌<◌, ◌^◌, IfOk};
 ghost use Rattle.prof_store.specs.Totals.{IsSum};
 
-use crate::columns::sum_at;
-use crate::errors::StoreEnd;
+use run_rows::{StoreEnd, sum_at};
 use sqlite::Row;
 
 /// Sums of 2^112 and more are refused.

@@ -9,11 +9,11 @@ ghost use Rattle.prof_store.specs.Shown.{shown, IsFaithful, IsUsable, IsSettled,
 ghost use Rattle.prof_store.specs.Totals.{AreSums, column_sum, rows_named, HasNumbers, IsSum, IsHeldAt, IsBounded};
 ghost use Rattle.prof_books.specs.Totals.{held_self, held_calls, held_count, IsHeldIn};
 
-use crate::errors::{StoreEnd, end_of};
 use crate::store::Store;
 use crate::sums::column_sum;
 use cg_text::Items;
 use cost_rows::FileTotals;
+use run_rows::{StoreEnd, end_of};
 use sqlite::{Alter, Connection, Error, Row, params};
 use std::alloc::Global;
 

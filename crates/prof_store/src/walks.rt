@@ -10,9 +10,8 @@ ghost use Rattle.sql_tables.specs.Walks.{in_page, in_window, Lie};
 ghost use Rattle.prof_store.specs.Walks.{tree_of, window_text_of, ends_text_of, asked, rows_of, IsSpanIn, IsReady, Walks, HasWalked};
 ghost use Rattle.std.specs.Prelude.{filter};
 
-use crate::columns::{number_at, number_or_null_at};
-use crate::errors::{StoreEnd, end_of};
 use crate::store::Store;
+use run_rows::{StoreEnd, end_of, number_at, number_or_null_at};
 use sqlite::{Alter, Connection, Error, Row, params};
 
 /// A table whose rows are lines of runs.

@@ -1,7 +1,7 @@
 -- What is printed where a store is not opened.
 use Rattle.std.specs.Prelude.{ℕ, List, codes}
-use Rattle.prof_store.specs.declared.errors.OpenEnd.{OpenEnd}
-use Rattle.prof_store.specs.declared.errors.OpenEnd.TheVariants as ends
+use Rattle.run_rows.specs.declared.errors.OpenEnd.{OpenEnd}
+use Rattle.run_rows.specs.declared.errors.OpenEnd.TheVariants as ends
 
 abbrev pub store_text : OpenEnd → List ℕ
 store_text ends.Memory = codes "store: out of memory"

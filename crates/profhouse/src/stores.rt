@@ -1,6 +1,6 @@
 // The store at a path.
 ghost use Rattle.std.specs.Prelude.{◌≡◌};
-ghost use Rattle.prof_store.specs.Ends.{end_for, opening};
+ghost use Rattle.run_rows.specs.Ends.{end_for, opening};
 ghost use Rattle.profhouse.specs.Stores.{store_text};
 
 use prof_store::{OpenEnd, Store, StoreEnd};

@@ -6,8 +6,8 @@ use Rattle.prof_tables.specs.Tables.{Tables}
 use Rattle.prof_books.specs.Labels.{IsGroupName}
 use Rattle.prof_books.specs.declared.kinds.Kind.{Kind}
 use Rattle.prof_store.specs.Shown.{StandsFor, IsUsable, LeavesOnly}
-use Rattle.prof_store.specs.declared.errors.StoreEnd.{StoreEnd}
-use Rattle.prof_store.specs.declared.errors.StoreEnd.TheVariants as ends
+use Rattle.run_rows.specs.declared.errors.StoreEnd.{StoreEnd}
+use Rattle.run_rows.specs.declared.errors.StoreEnd.TheVariants as ends
 use Rattle.prof_store.specs.declared.store.Store.{Store}
 use Rattle.histories.specs.History.{History, Said, Outcome, Import, bytes_of, groups}
 use Rattle.histories.specs.Legal.{IsInForm, IsUnread, IsLegal, IsHistory, has_group, is_failed, is_end, file_due}

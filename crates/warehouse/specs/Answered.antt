@@ -4,8 +4,8 @@ use Rattle.sqlite_trees.specs.declared.store.Store.{Ghosts}
 use Rattle.sqlite_trees.specs.Tree.{Trees}
 use Rattle.prof_tables.specs.Tables.{Tables, Holds}
 use Rattle.prof_store.specs.Shown.{StandsFor, IsUsable, LeavesOnly}
-use Rattle.prof_store.specs.declared.errors.StoreEnd.{StoreEnd}
-use Rattle.prof_store.specs.declared.errors.StoreEnd.TheVariants as ends
+use Rattle.run_rows.specs.declared.errors.StoreEnd.{StoreEnd}
+use Rattle.run_rows.specs.declared.errors.StoreEnd.TheVariants as ends
 use Rattle.prof_store.specs.declared.store.Store.{Store}
 use Rattle.histories.specs.History.{History, Said, Turn, Outcome, Import, Remove, MakeGroup, DropGroup, Join, Leave, SetBaseline, Ask}
 use Rattle.histories.specs.Legal.{IsLegal, AreLegal, IsHistory, due}

@@ -2,7 +2,7 @@ use Rattle.std.proofs.Common.{rules, ◌≡◌, ◌≤◌, ◌∙◌, ◌++◌, 
 use Rattle.prof_tables.specs.Tables.{ArcLine as Arc}
 use Rattle.prof_store.specs.ArcWalks.{GivesArcs}
 use Rattle.prof_store.specs.HeldArcs.{HasTakenArc, lines_from, part_line}
-use Rattle.prof_store.specs.Lines.{arc_line}
+use Rattle.run_rows.specs.Lines.{arc_line}
 use Rattle.prof_store.proofs.ArcRows.{used_none}
 use Rattle.prof_store.proofs.Writing.{before_then, settled_still}
 use Rattle.prof_store.proofs.arcs.Arcs.costs.Goals as goal

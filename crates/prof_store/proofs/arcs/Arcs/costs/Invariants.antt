@@ -1,7 +1,7 @@
 use Rattle.std.proofs.Common.{◌≡◌, ◌≤◌, ◌++◌, List, length}
 use Rattle.prof_tables.specs.Tables.{Tables, ArcLine as Arc}
 use Rattle.prof_store.specs.HeldArcs.{HasUsedArcs, lines_from}
-use Rattle.prof_store.specs.Lines.{arc_line}
+use Rattle.run_rows.specs.Lines.{arc_line}
 use Rattle.prof_store.specs.Shown.{IsFaithful, IsUsable, IsSettled, IsAsBefore, StandsFor, LeavesOnly}
 use Rattle.prof_store.proofs.arcs.Arcs.costs.Given as goal
 

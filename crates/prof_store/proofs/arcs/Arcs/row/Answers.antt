@@ -2,7 +2,7 @@ use Rattle.std.proofs.Common.{◌≡◌, ◌∙◌, ◌++◌, ◌∷◌, [], Lis
 use Rattle.prof_tables.specs.Tables.{NameLine}
 use Rattle.prof_books.specs.Book.{ArcIsNamed}
 use Rattle.prof_store.specs.HeldArcs.{HasTakenArc, plain_given, row_of}
-use Rattle.prof_store.specs.Lines.{arc_line}
+use Rattle.run_rows.specs.Lines.{arc_line}
 use Rattle.prof_store.proofs.ArcRows.{no_row, one_row, used_none}
 use Rattle.prof_store.proofs.arcs.Arcs.row.Goals as goal
 

@@ -1,7 +1,7 @@
 use Rattle.std.proofs.Common.{◌≡◌, ◌<◌, map, length, get_or, sym, ap, subst, ◌∙◌}
 use Rattle.sql_tables.specs.Walks.{read_from}
 use Rattle.prof_tables.specs.Tables.{arc_columns}
-use Rattle.prof_store.specs.Lines.{arc_line}
+use Rattle.run_rows.specs.Lines.{arc_line}
 use Rattle.prof_store.specs.Walks.{asked}
 use Rattle.prof_store.proofs.WalkSteps.{took_step}
 use Rattle.prof_store.proofs.store.Store.next_arc.Goals as goal

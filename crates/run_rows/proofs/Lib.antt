@@ -1,0 +1,6 @@
+pub mod Effects
+pub mod Finding
+pub mod Lists
+pub mod ManyLines
+pub mod Parts
+pub mod RowLines

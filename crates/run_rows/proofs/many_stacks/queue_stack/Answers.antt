@@ -1,0 +1,13 @@
+use Rattle.std.proofs.Common.{[], ◌∷◌, ◌++◌, not, if◌then◌else◌, ap, ◌∙◌}
+use Rattle.sqlite.specs.Held.{state}
+use Rattle.prof_tables.specs.Changes.{with_stacks}
+use Rattle.run_rows.specs.Lines.{stack_line}
+use Rattle.run_rows.proofs.Parts.{no_stacks}
+use Rattle.run_rows.proofs.ManyLines.{queues_waiting}
+use Rattle.run_rows.proofs.many_stacks.queue_stack.Goals as goal
+
+pub returns-else-len-eq50-clause-made : goal.returns-else-len-eq50-clause-made
+returns-else-len-eq50-clause-made g c =
+    let held = c.args.waiting.now.items in
+    let old = state g.S.Store c.args.tx.now.conn.now in
+    queues_waiting with_stacks stack_line held c.args.stack _ old (no_stacks old) (c.push.ensures.items ∙ ap (λ b. if b then held ++ c.args.stack ∷ [] else held) (c.is_err.ensures.negation ∙ ap not c.if-is_err.false))

@@ -1,0 +1,52 @@
+// Whole numbers that a column can hold.
+ghost use Rattle.std.specs.Prelude.{◌≡◌, ◌<◌, ◌^◌, IfSome, None, ◌↔◌, ◌≤◌};
+
+use sqlite::types::{ToSql, ValueRef};
+use std::marker::Model;
+
+/// A number from 0 to 2^63-1. Contracts see it as a number.
+#[derive(Drop)]
+pub struct Whole {
+    number: u64,
+}
+
+impl Model for Whole {
+    ghost use Rattle.std.specs.Prelude.{ℕ, ◌<◌, ◌^◌};
+
+    ghost Value = { ℕ };
+
+    ghost view = { λ a. a.number };
+
+    ghost invariant = { λ a. a.number < 2 ^ 63 };
+}
+
+impl Whole {
+    /// Takes a number that a column can hold.
+    pub fn of(number: u64) -> Option<Whole>
+        ensures some { IfSome result (λ w. w ≡ number) }
+        ensures none { (result ≡ None) ↔ (2 ^ 63 ≤ number) }
+    {
+        if number < 1 << 63 {
+            Some(Whole { number })
+        } else {
+            None
+        }
+    }
+
+    pub fn get(&self) -> u64
+        ensures { result ≡ self.now }
+    {
+        self.number
+    }
+}
+
+impl<'a> ToSql<'a> for &'a Whole {
+    ghost use Rattle.std.specs.Prelude.{pos};
+    ghost use Rattle.sqlite_value.specs.declared.value.Value.TheVariants.{Int};
+
+    ghost to_sql = { λ w. Int (pos w.now) };
+
+    fn to_sql(self) -> ValueRef<'a> {
+        ValueRef::Int(self.number as i64)
+    }
+}
