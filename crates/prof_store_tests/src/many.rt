@@ -55,7 +55,7 @@ fn put(store: &mut Store<MemStore>, alloc: Global, rows: u32) -> Result<(), Fail
 fn told(alloc: Global, rows: u32) -> Result<[i64; 6], Fail> {
     let mut store = new_store(alloc)?;
     put(&mut store, alloc, rows)?;
-    let cells = number(&mut store, alloc, "SELECT count(*) FROM cell")?;
+    let cells = number(&mut store, alloc, "SELECT count(*) FROM cell WHERE run = 1")?;
     let costs = number(
         &mut store,
         alloc,
