@@ -10,7 +10,7 @@ use Rattle.sqlite_value.specs.Order.{Row, column}
 use Rattle.prof_tables.specs.Tables.{number}
 use Rattle.sqlite_trees.specs.Tree.{Trees}
 use Rattle.prof_store.specs.Totals.{number_in, IsNumber, IsSum, AreSums, HasNumbers, column_sum, rows_named}
-use Rattle.prof_store.proofs.HeadReading.{read_on}
+use Rattle.prof_store.proofs.Listing.{read_on}
 
 -- a row more is read
 pub sum_more : (at : ℕ) (rows : List Row) (k : ℕ) (row : Row) (sum n : ℕ) → k < length rows → row ≡ get_or rows k row → column row at ≡ Int (pos n) → IsSum at (take k rows) sum → IsSum at (take (k + 1) rows) (sum + n)

@@ -80,3 +80,7 @@ flat_map-append f (z ∷ xs) x = ap (λ l. f z ++ l) (flat_map-append f xs x) �
 -- the next n items are read more
 pub joined_more : {X Y Z : Type 0} (f : X → List Z) (g : Y → Z) (xs : List X) (ys : List Y) (at n : ℕ) (x : X) → at ≤ length ys → f x ≡ map g (take n (drop at ys)) → flat_map f xs ≡ map g (take at ys) → flat_map f (xs ++ x ∷ []) ≡ map g (take (at + n) ys)
 joined_more f g xs ys at n x low same h = flat_map-append f xs x ∙ ap₂ ◌++◌ h same ∙ sym (ap (map g) (take_sum at n ys low) ∙ map-append g (take at ys) (take n (drop at ys)))
+
+-- one line more is read
+pub read_on : {Y Z : Type 0} (f : Y → Z) (ys : List Y) (k : ℕ) (y : Y) (zs : List Z) → k < length ys → y ≡ get_or ys k y → map f (take k ys) ≡ zs → map f (take (k + 1) ys) ≡ zs ++ f y ∷ []
+read_on f ys k y zs low is h = ap (map f) (take_more ys k y low ∙ ap (λ z. take k ys ++ z ∷ []) (sym is)) ∙ map-append f (take k ys) (y ∷ []) ∙ ap (λ l. l ++ f y ∷ []) h

@@ -1,14 +1,4 @@
-pub mod ArcWalks
-pub mod CellWalks
 pub mod Entries
 pub mod Groups
-pub mod HeadLines
-pub mod HeldArcs
-pub mod HeldCells
-pub mod HeldHeads
-pub mod HeldStacks
-pub mod NameLines
 pub mod Shown
-pub mod StackWalks
 pub mod Totals
-pub mod Walks

@@ -9,8 +9,8 @@ ghost use Rattle.prof_tables.specs.Texts.{run_count_text, group_count_text};
 ghost use Rattle.prof_store.specs.Shown.{shown, IsFaithful, IsUsable, StandsFor, LeavesOnly, IsSettled, IsAsBefore};
 
 use crate::store::Store;
-use run_rows::{StoreEnd, end_of, sum_at};
 use sqlite::{Alter, Connection, Error, Row};
+use store_columns::{StoreEnd, end_of, sum_at};
 
 /// SQL counts no further.
 const MOST: u64 = 0x7fff_ffff_ffff_ffff;

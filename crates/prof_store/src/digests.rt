@@ -11,8 +11,8 @@ ghost use Rattle.prof_tables.specs.Texts.{by_digest_text};
 ghost use Rattle.prof_store.specs.Shown.{shown, IsFaithful, IsUsable, StandsFor, LeavesOnly, IsSettled, IsAsBefore};
 
 use crate::store::Store;
-use run_rows::{StoreEnd, end_of, number_at};
 use sqlite::{Alter, Connection, Error, Row, params};
+use store_columns::{StoreEnd, end_of, number_at};
 
 fn select_by_digest<S: Alter>(conn: &mut Connection<S>, digest: &[u8]) -> Result<Row, Error>
     ensures row { HasCleanDisk (state S.Store conn.new) → QueriesRow by_digest_text (Blob digest.now ∷ []) (state S.Store conn.old) (state S.Store conn.new) result }

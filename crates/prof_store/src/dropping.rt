@@ -9,8 +9,8 @@ ghost use Rattle.prof_tables.specs.Changes.{has_run, without_run};
 ghost use Rattle.prof_store.specs.Shown.{IsFaithful, IsUsable, StandsFor, IsSettled, IsAsBefore, LeavesOnly};
 
 use crate::store::Store;
-use run_rows::{StoreEnd, end_of};
 use sqlite::{Alter, Connection, Error, params};
+use store_columns::{StoreEnd, end_of};
 
 fn delete_run<S: Alter>(conn: &mut Connection<S>, run: u32) -> Result<usize, Error>
     ensures runs { HasCleanDisk (state S.Store conn.new) → Executes drop_run_text (Int (pos run) ∷ []) (state S.Store conn.old) (state S.Store conn.new) result }

@@ -10,8 +10,8 @@ ghost use Rattle.prof_books.specs.Labels.{IsGroupName};
 ghost use Rattle.prof_store.specs.Shown.{IsFaithful, IsUsable, StandsFor, IsSettled, IsAsBefore, LeavesOnly};
 
 use crate::store::Store;
-use run_rows::{StoreEnd, end_of};
 use sqlite::{Alter, Connection, Error, params};
+use store_columns::{StoreEnd, end_of};
 
 fn insert_group<S: Alter>(conn: &mut Connection<S>, name: &str) -> Result<usize, Error>
     ensures runs { HasCleanDisk (state S.Store conn.new) → Executes put_group_text (Text name.now ∷ []) (state S.Store conn.old) (state S.Store conn.new) result }

@@ -13,10 +13,10 @@ ghost use Rattle.prof_store.specs.Shown.{shown, IsFaithful, IsUsable, StandsFor,
 use crate::entries::GroupEntry;
 use crate::store::Store;
 use cg_text::Items;
-use run_rows::{StoreEnd, end_of, is_group_name, number_at, number_or_null_at, text_at};
 use sqlite::{Alter, Connection, Error, Row};
 use std::alloc::Global;
 use std::cmp::Ordering;
+use store_columns::{StoreEnd, end_of, is_group_name, number_at, number_or_null_at, text_at};
 
 /// A run that is in a group.
 #[derive(Drop)]

@@ -12,8 +12,8 @@ ghost use Rattle.prof_tables.specs.Seen.{is_member_row};
 ghost use Rattle.prof_store.specs.Shown.{shown, IsFaithful, IsUsable, StandsFor, IsSettled, IsAsBefore, LeavesOnly};
 
 use crate::store::Store;
-use run_rows::{StoreEnd, end_of};
 use sqlite::{Alter, Connection, Error, Row, params};
+use store_columns::{StoreEnd, end_of};
 
 fn select_member<S: Alter>(
     conn: &mut Connection<S>,

@@ -12,8 +12,8 @@ ghost use Rattle.prof_tables.specs.Texts.{kind_of_text, find_group_text};
 ghost use Rattle.prof_store.specs.Shown.{shown, IsFaithful, IsUsable, IsSettled, IsAsBefore, StandsFor, LeavesOnly};
 
 use crate::store::Store;
-use run_rows::{StoreEnd, end_of};
 use sqlite::{Alter, Connection, Error, Row, params};
+use store_columns::{StoreEnd, end_of};
 
 fn select_kind<S: Alter>(conn: &mut Connection<S>, run: u32) -> Result<Vec<Row>, Error>
     ensures ok { HasCleanDisk (state S.Store conn.new) → IfOk result (λ rows. Shown kind_of_text (number run ∷ []) (state S.Store conn.old) (state S.Store conn.new) rows.items) }

@@ -10,8 +10,8 @@ ghost use Rattle.prof_tables.specs.Texts.{next_text};
 ghost use Rattle.prof_store.specs.Shown.{shown, IsFaithful, IsUsable, StandsFor, LeavesOnly, IsSettled, IsAsBefore};
 
 use crate::store::Store;
-use run_rows::{StoreEnd, end_of, number_at};
 use sqlite::{Alter, Connection, Error, Row};
+use store_columns::{StoreEnd, end_of, number_at};
 
 fn select_next<S: Alter>(conn: &mut Connection<S>) -> Result<Row, Error>
     ensures row { HasCleanDisk (state S.Store conn.new) → QueriesRow next_text [] (state S.Store conn.old) (state S.Store conn.new) result }

@@ -11,12 +11,12 @@ ghost use Rattle.prof_tables.specs.Tables.{Holds};
 ghost use Rattle.prof_tables.specs.Texts.{schema_text};
 ghost use Rattle.prof_store.specs.Shown.{shown, IsFaithful, StandsFor};
 ghost use Rattle.sqlite.specs.declared.error.Error.TheVariants as errors;
-ghost use Rattle.run_rows.specs.declared.errors.OpenEnd.TheVariants as ends;
+ghost use Rattle.store_columns.specs.declared.errors.OpenEnd.TheVariants as ends;
 
 use crate::store::Store;
-use run_rows::{OpenEnd, end_of, number_at};
 use sqlite::{Alter, Connection, Error, Row};
 use std::alloc::Global;
+use store_columns::{OpenEnd, end_of, number_at};
 
 fn select_schema<S: Alter>(conn: &mut Connection<S>) -> Result<Row, Error>
     ensures row { HasCleanDisk (state S.Store conn.new) → QueriesRow schema_text [] (state S.Store conn.old) (state S.Store conn.new) result }

@@ -12,9 +12,9 @@ ghost use Rattle.prof_store.specs.Shown.{shown, IsFaithful, IsUsable, StandsFor,
 
 use crate::entries::RunEntry;
 use crate::store::Store;
-use run_rows::{StoreEnd, digest_at, end_of, kind_at, label_at, number_at};
 use sqlite::{Alter, Connection, Error, Row};
 use std::alloc::Global;
+use store_columns::{StoreEnd, digest_at, end_of, kind_at, label_at, number_at};
 
 fn select_runs<S: Alter>(conn: &mut Connection<S>) -> Result<Vec<Row>, Error>
     ensures ok { HasCleanDisk (state S.Store conn.new) → IfOk result (λ rows. Shown runs_text [] (state S.Store conn.old) (state S.Store conn.new) rows.items) }

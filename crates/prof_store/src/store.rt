@@ -2,9 +2,11 @@
 
 use sqlite::{Alter, Connection, Row};
 
-/// The tables of schema 1 over a connection, and room for rows that are read ahead.
+/// The tables of schema 1 over a connection, and room for rows that are read ahead. Both are open to
+/// the crates that read more of a store than this one does: what a store is to stand for is said of each
+/// call, and rests on no private field.
 #[derive(Drop)]
 pub struct Store<S: Alter> {
-    pub(crate) conn: Connection<S>,
-    pub(crate) page: Vec<Row>,
+    pub conn: Connection<S>,
+    pub page: Vec<Row>,
 }

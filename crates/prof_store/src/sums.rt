@@ -2,8 +2,8 @@
 ghost use Rattle.std.specs.Prelude.{◌<◌, ◌^◌, IfOk};
 ghost use Rattle.prof_store.specs.Totals.{IsSum};
 
-use run_rows::{StoreEnd, sum_at};
 use sqlite::Row;
+use store_columns::{StoreEnd, sum_at};
 
 /// Sums of 2^112 and more are refused.
 const SUM_END: u128 = 1 << 112;

@@ -13,9 +13,9 @@ use crate::store::Store;
 use crate::sums::column_sum;
 use cg_text::Items;
 use cost_rows::FileTotals;
-use run_rows::{StoreEnd, end_of};
 use sqlite::{Alter, Connection, Error, Row, params};
 use std::alloc::Global;
+use store_columns::{StoreEnd, end_of};
 
 /// The sums of an event over all runs: of own costs, and of the costs of calls.
 #[derive(Drop)]

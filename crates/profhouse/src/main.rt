@@ -1,17 +1,9 @@
 //! A warehouse of run profiles whose every figure is exact.
 #![tactic(auto)]
 
-mod answers;
-mod running;
-mod session;
-mod sources;
-mod stores;
-#[cfg(test)]
-mod tests;
-
 use anyhow::Result;
 use command_line::{PlanEnd, plan};
-use running::{print_refused, run_plan};
+use sessions::{print_refused, run_plan};
 use std::env;
 use std::process::ExitCode;
 

@@ -12,7 +12,7 @@ use Rattle.prof_tables.specs.Changes.{has_name}
 use Rattle.prof_tables.specs.Files.{number_in}
 use Rattle.prof_tables.proofs.Means.{id_of_name_terms, id_of_name_shown, id_of_name_order, id_of_name_means, id_of_name_plain, id_of_name_unlisted}
 use Rattle.prof_tables.proofs.Names.{shows_number, shows_none}
-use Rattle.run_rows.specs.Names.{number_if_held, ShowsFirst}
+use Rattle.store_columns.specs.Names.{number_if_held, ShowsFirst}
 
 same_numbers : (m n : ℕ) → number m ≡ number n → m ≡ n
 same_numbers m n h = cc

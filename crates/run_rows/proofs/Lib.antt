@@ -1,4 +1,3 @@
-pub mod Effects
 pub mod Finding
 pub mod Lists
 pub mod ManyLines

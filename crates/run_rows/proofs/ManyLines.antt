@@ -7,7 +7,7 @@ use Rattle.sql_tables.proofs.Many.{all_values}
 use Rattle.sql_tables.proofs.Rows.{map-append}
 use Rattle.sqlite.specs.State.{State}
 use Rattle.prof_tables.specs.Tables.{Tables}
-use Rattle.run_rows.specs.Steps.{Passes, Makes}
+use Rattle.store_columns.specs.Steps.{Passes, Makes}
 use Rattle.run_rows.specs.Queues.{Queues}
 
 values_more : (rows : List Row) (row : Row) → all_values (rows ++ row ∷ []) ≡ all_values rows ++ row

@@ -16,7 +16,7 @@ use Rattle.sql_tables.proofs.Statements.{works_if_same}
 use Rattle.prof_tables.specs.Schema.{schema_one}
 use Rattle.prof_tables.specs.Tables.{Tables, Holds, CellLine, ArcLine, StackLine}
 use Rattle.prof_tables.specs.Changes.{with_cells, with_arcs, with_stacks}
-use Rattle.run_rows.specs.Steps.{Passes, Makes}
+use Rattle.store_columns.specs.Steps.{Passes, Makes}
 
 pub survives_none : (s : State) → Survives s s (λ _. ⊥)
 survives_none s = record {

@@ -3,7 +3,7 @@ use Rattle.std.specs.Prelude.{◌≡◌, ◌++◌, List}
 use Rattle.std.specs.Bool.{⊤}
 use Rattle.sqlite.specs.State.{State}
 use Rattle.prof_tables.specs.Tables.{Tables}
-use Rattle.run_rows.specs.Steps.{Makes}
+use Rattle.store_columns.specs.Steps.{Makes}
 
 -- further lines are taken up after those that waited: the first of them all are written now, and the others wait
 pub record Queues {Y : Type 0} (writes : List Y → Tables → Tables) (waited more waits : List Y) (old new : State) : Type 0 where

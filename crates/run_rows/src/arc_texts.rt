@@ -5,13 +5,12 @@ ghost use Rattle.sqlite.specs.State.{HasCleanDisk, Survives, ExecutesInside};
 ghost use Rattle.prof_tables.specs.Texts.{put_arc_text};
 ghost use Rattle.prof_tables.specs.Changes.{with_arcs};
 ghost use Rattle.prof_tables.specs.Tables.{arc_columns};
-ghost use Rattle.run_rows.specs.Lines.{arc_line};
-ghost use Rattle.run_rows.specs.Steps.{Passes, Makes};
+ghost use Rattle.store_columns.specs.Lines.{arc_line};
+ghost use Rattle.store_columns.specs.Steps.{Passes, Makes};
 
-use crate::errors::{StoreEnd, end_of};
-use crate::lines::ArcLine;
 use sqlite::types::ToSql;
 use sqlite::{Alter, Error, Transaction};
+use store_columns::{ArcLine, StoreEnd, end_of};
 
 fn insert_arc<S: Alter>(tx: &mut Transaction<'_, S>, arc: &ArcLine) -> Result<usize, Error>
     ensures same_reference { tx.new.conn.ghost_name ≡ tx.old.conn.ghost_name }

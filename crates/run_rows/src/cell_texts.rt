@@ -6,12 +6,11 @@ ghost use Rattle.sqlite_value.specs.declared.value.Value.TheVariants.{Int};
 ghost use Rattle.prof_tables.specs.Texts.{put_cell_text};
 ghost use Rattle.prof_tables.specs.Changes.{with_cells};
 ghost use Rattle.prof_tables.specs.Tables.{cell_columns};
-ghost use Rattle.run_rows.specs.Lines.{cell_line};
-ghost use Rattle.run_rows.specs.Steps.{Passes, Makes};
+ghost use Rattle.store_columns.specs.Lines.{cell_line};
+ghost use Rattle.store_columns.specs.Steps.{Passes, Makes};
 
-use crate::errors::{StoreEnd, end_of};
-use crate::lines::CellLine;
 use sqlite::{Alter, Error, Transaction, params};
+use store_columns::{CellLine, StoreEnd, end_of};
 
 fn insert_cell<S: Alter>(tx: &mut Transaction<'_, S>, cell: &CellLine) -> Result<usize, Error>
     ensures same_reference { tx.new.conn.ghost_name ≡ tx.old.conn.ghost_name }

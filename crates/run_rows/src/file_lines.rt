@@ -2,11 +2,10 @@
 ghost use Rattle.std.specs.Prelude.{◌≡◌, IfSome, slice_index_or};
 ghost use Rattle.prof_books.specs.Files.{cell_line_of, arc_line_of};
 ghost use Rattle.run_rows.specs.FromRows.{place_of_cell, call_of_arc, line_of_stack};
-ghost use Rattle.run_rows.specs.Lines.{cell_line, arc_line, stack_line};
+ghost use Rattle.store_columns.specs.Lines.{cell_line, arc_line, stack_line};
 
-use crate::lines::{ArcLine, CellLine, StackLine};
-use crate::whole::Whole;
 use cost_rows::{ArcRow, CellRow, StackRow};
+use store_columns::{ArcLine, CellLine, StackLine, Whole};
 
 /// The table's number of a name that the file has under a number of its own.
 fn number_of(numbers: &[u32], name: u32) -> Option<u32>

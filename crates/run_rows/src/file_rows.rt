@@ -10,13 +10,11 @@ ghost use Rattle.prof_tables.specs.Schema.{schema_one};
 ghost use Rattle.prof_tables.specs.Tables.{Tables, Holds};
 ghost use Rattle.prof_books.specs.Files.{cell_lines, arc_line_of, arc_lines_at, arc_lines, stack_lines};
 ghost use Rattle.run_rows.specs.FromRows.{call_of_arc, calls_of_arc};
-ghost use Rattle.run_rows.specs.Lines.{arc_line};
+ghost use Rattle.store_columns.specs.Lines.{arc_line};
 ghost use Rattle.run_rows.specs.Queues.{Queues};
-ghost use Rattle.run_rows.specs.Steps.{Passes, Makes};
+ghost use Rattle.store_columns.specs.Steps.{Passes, Makes};
 
-use crate::errors::StoreEnd;
 use crate::file_lines::{arc_of, cell_of, stack_of};
-use crate::lines::ArcLine;
 use crate::many_arcs::{put_arc_lines, queue_arc};
 use crate::many_cells::{put_cell_lines, queue_cell};
 use crate::many_stacks::{put_stack_lines, queue_stack};
@@ -24,6 +22,7 @@ use crate::name_texts::number_name;
 use cost_rows::{ArcRow, FileRows, Names};
 use sqlite::{Alter, Transaction};
 use std::alloc::Global;
+use store_columns::{ArcLine, StoreEnd};
 
 /// The numbers of a file's names, which are held from now on.
 pub fn number_names<S: Alter>(

@@ -2,13 +2,12 @@
 ghost use Rattle.std.specs.Prelude.{◌≡◌, map, OnOk, ⊤};
 ghost use Rattle.sqlite.specs.Held.{state};
 ghost use Rattle.prof_tables.specs.Changes.{with_events, with_derived, with_coefs};
-ghost use Rattle.run_rows.specs.Lines.{event_line, derived_line, coef_line};
-ghost use Rattle.run_rows.specs.Steps.{Passes, Makes};
+ghost use Rattle.store_columns.specs.Lines.{event_line, derived_line, coef_line};
+ghost use Rattle.store_columns.specs.Steps.{Passes, Makes};
 
-use crate::errors::StoreEnd;
 use crate::head_texts::{put_coef, put_derived, put_event};
-use crate::lines::{CoefLine, DerivedLine, EventLine};
 use sqlite::{Alter, Transaction};
+use store_columns::{CoefLine, DerivedLine, EventLine, StoreEnd};
 
 /// Writes events of a run, within a transaction.
 pub fn put_events<S: Alter>(

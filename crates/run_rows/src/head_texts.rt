@@ -7,13 +7,11 @@ ghost use Rattle.sqlite_value.specs.declared.value.Value.TheVariants.{Int, Text,
 ghost use Rattle.prof_tables.specs.Texts.{raise_text, put_run_text, put_event_text, put_derived_text, put_coef_text};
 ghost use Rattle.prof_tables.specs.Changes.{with_next, with_run, with_events, with_derived, with_coefs};
 ghost use Rattle.prof_tables.specs.Tables.{event_columns, derived_columns, coef_columns};
-ghost use Rattle.run_rows.specs.Lines.{event_line, derived_line, coef_line};
-ghost use Rattle.run_rows.specs.Steps.{Passes, Makes, IsAbove, IsNext};
+ghost use Rattle.store_columns.specs.Lines.{event_line, derived_line, coef_line};
+ghost use Rattle.store_columns.specs.Steps.{Passes, Makes, IsAbove, IsNext};
 
-use crate::errors::{StoreEnd, end_of};
-use crate::lines::{CoefLine, DerivedLine, EventLine};
-use crate::whole::Whole;
 use sqlite::{Alter, Error, Transaction, params};
+use store_columns::{CoefLine, DerivedLine, EventLine, StoreEnd, Whole, end_of};
 
 fn update_next<S: Alter>(tx: &mut Transaction<'_, S>, next: u32) -> Result<usize, Error>
     ensures same_reference { tx.new.conn.ghost_name ≡ tx.old.conn.ghost_name }

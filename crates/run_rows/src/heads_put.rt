@@ -4,15 +4,13 @@ ghost use Rattle.cost_rows.specs.Content.{Content};
 ghost use Rattle.cost_rows.specs.Totals.{AreTotals};
 ghost use Rattle.prof_books.specs.Heads as specs;
 ghost use Rattle.prof_books.specs.Heads.{stated_at, event_line_of, coef_lines_at, derived_lines_from, coef_lines_from, AreStated, IsWhole, ColumnFits};
-ghost use Rattle.run_rows.specs.Lines.{event_line, derived_line, coef_line};
+ghost use Rattle.store_columns.specs.Lines.{event_line, derived_line, coef_line};
 
-use crate::errors::StoreEnd;
 use crate::file_lines::{small_of, whole_of};
-use crate::lines::{CoefLine, DerivedLine, EventLine, HeadLines};
-use crate::whole::Whole;
 use cg_text::{FileHead, Items};
 use cost_rows::FileTotals;
 use std::alloc::{AllocError, Global};
+use store_columns::{CoefLine, DerivedLine, EventLine, HeadLines, StoreEnd, Whole};
 
 /// Adds a line at the end.
 fn add<T: Drop>(lines: &mut Vec<T>, line: T) -> Result<(), AllocError>

@@ -7,17 +7,16 @@ ghost use Rattle.sql_tables.proofs.Many.{all_values};
 ghost use Rattle.prof_tables.specs.ManyTexts.{put_arcs_text};
 ghost use Rattle.prof_tables.specs.Changes.{with_arcs};
 ghost use Rattle.prof_tables.specs.Tables.{arc_columns};
-ghost use Rattle.run_rows.specs.Lines.{arc_line};
+ghost use Rattle.store_columns.specs.Lines.{arc_line};
 ghost use Rattle.run_rows.specs.Queues.{Queues};
-ghost use Rattle.run_rows.specs.Steps.{Passes, Makes};
+ghost use Rattle.store_columns.specs.Steps.{Passes, Makes};
 
 use crate::arc_texts::put_arc;
-use crate::errors::{StoreEnd, end_of};
-use crate::lines::ArcLine;
 use crate::values::push_values;
 use sqlite::types::{ToSql, ValueRef};
 use sqlite::{Alter, Error, Transaction};
 use std::alloc::{AllocError, Global};
+use store_columns::{ArcLine, StoreEnd, end_of};
 
 fn insert_arcs<S: Alter>(
     tx: &mut Transaction<'_, S>,

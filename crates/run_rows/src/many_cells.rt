@@ -7,17 +7,16 @@ ghost use Rattle.sql_tables.proofs.Many.{all_values};
 ghost use Rattle.prof_tables.specs.ManyTexts.{put_cells_text};
 ghost use Rattle.prof_tables.specs.Changes.{with_cells};
 ghost use Rattle.prof_tables.specs.Tables.{cell_columns};
-ghost use Rattle.run_rows.specs.Lines.{cell_line};
+ghost use Rattle.store_columns.specs.Lines.{cell_line};
 ghost use Rattle.run_rows.specs.Queues.{Queues};
-ghost use Rattle.run_rows.specs.Steps.{Passes, Makes};
+ghost use Rattle.store_columns.specs.Steps.{Passes, Makes};
 
 use crate::cell_texts::put_cell;
-use crate::errors::{StoreEnd, end_of};
-use crate::lines::CellLine;
 use crate::values::push_values;
 use sqlite::types::{ToSql, ValueRef};
 use sqlite::{Alter, Error, Transaction};
 use std::alloc::{AllocError, Global};
+use store_columns::{CellLine, StoreEnd, end_of};
 
 fn insert_cells<S: Alter>(
     tx: &mut Transaction<'_, S>,

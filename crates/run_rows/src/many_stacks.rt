@@ -7,17 +7,16 @@ ghost use Rattle.sql_tables.proofs.Many.{all_values};
 ghost use Rattle.prof_tables.specs.ManyTexts.{put_stacks_text};
 ghost use Rattle.prof_tables.specs.Changes.{with_stacks};
 ghost use Rattle.prof_tables.specs.Tables.{stack_columns};
-ghost use Rattle.run_rows.specs.Lines.{stack_line};
+ghost use Rattle.store_columns.specs.Lines.{stack_line};
 ghost use Rattle.run_rows.specs.Queues.{Queues};
-ghost use Rattle.run_rows.specs.Steps.{Passes, Makes};
+ghost use Rattle.store_columns.specs.Steps.{Passes, Makes};
 
-use crate::errors::{StoreEnd, end_of};
-use crate::lines::StackLine;
 use crate::stack_texts::put_stack;
 use crate::values::push_values;
 use sqlite::types::{ToSql, ValueRef};
 use sqlite::{Alter, Error, Transaction};
 use std::alloc::{AllocError, Global};
+use store_columns::{StackLine, StoreEnd, end_of};
 
 fn insert_stacks<S: Alter>(
     tx: &mut Transaction<'_, S>,

@@ -9,13 +9,12 @@ ghost use Rattle.prof_tables.specs.Files.{number_in};
 ghost use Rattle.prof_tables.specs.Schema.{schema_one};
 ghost use Rattle.prof_tables.specs.Tables.{Tables, Holds};
 ghost use Rattle.sql_tables.specs.States.{Works};
-ghost use Rattle.run_rows.specs.Names.{number_if_held};
-ghost use Rattle.run_rows.specs.Steps.{Passes, Makes};
+ghost use Rattle.store_columns.specs.Names.{number_if_held};
+ghost use Rattle.store_columns.specs.Steps.{Passes, Makes};
 
-use crate::columns::first_number;
-use crate::errors::{StoreEnd, end_of};
 use sqlite::types::ToSql;
 use sqlite::{Alter, Error, Row, Transaction, params};
+use store_columns::{StoreEnd, end_of, first_number};
 
 fn insert_name<S: Alter>(tx: &mut Transaction<'_, S>, name: &[u8]) -> Result<usize, Error>
     ensures same_reference { tx.new.conn.ghost_name ≡ tx.old.conn.ghost_name }

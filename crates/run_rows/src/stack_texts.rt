@@ -5,12 +5,11 @@ ghost use Rattle.sqlite.specs.State.{HasCleanDisk, Survives, ExecutesInside};
 ghost use Rattle.prof_tables.specs.Texts.{put_stack_text};
 ghost use Rattle.prof_tables.specs.Changes.{with_stacks};
 ghost use Rattle.prof_tables.specs.Tables.{stack_columns};
-ghost use Rattle.run_rows.specs.Lines.{stack_line};
-ghost use Rattle.run_rows.specs.Steps.{Passes, Makes};
+ghost use Rattle.store_columns.specs.Lines.{stack_line};
+ghost use Rattle.store_columns.specs.Steps.{Passes, Makes};
 
-use crate::errors::{StoreEnd, end_of};
-use crate::lines::StackLine;
 use sqlite::{Alter, Error, Transaction, params};
+use store_columns::{StackLine, StoreEnd, end_of};
 
 fn insert_stack<S: Alter>(
     tx: &mut Transaction<'_, S>,

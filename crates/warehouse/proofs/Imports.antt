@@ -25,7 +25,7 @@ use Rattle.histories.specs.declared.answers.Refusal.{Refusal}
 use Rattle.histories.specs.declared.answers.Refusal.TheVariants as reasons
 use Rattle.histories.specs.declared.limits.Limits.{Limits}
 use Rattle.histories.proofs.Excesses.{tells_excess}
-use Rattle.warehouse.specs.Reads.{HasEnded}
+use Rattle.file_intake.specs.Reads.{HasEnded}
 use Rattle.warehouse.specs.Refused.{or_later, if_some, room_refusal, refused_or}
 
 -- ---- sums

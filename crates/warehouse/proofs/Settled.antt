@@ -6,8 +6,8 @@ use Rattle.prof_tables.specs.Tables.{Tables}
 use Rattle.prof_books.specs.Labels.{IsGroupName}
 use Rattle.prof_books.specs.declared.kinds.Kind.{Kind}
 use Rattle.prof_store.specs.Shown.{StandsFor, IsUsable, LeavesOnly}
-use Rattle.run_rows.specs.declared.errors.StoreEnd.{StoreEnd}
-use Rattle.run_rows.specs.declared.errors.StoreEnd.TheVariants as ends
+use Rattle.store_columns.specs.declared.errors.StoreEnd.{StoreEnd}
+use Rattle.store_columns.specs.declared.errors.StoreEnd.TheVariants as ends
 use Rattle.prof_store.specs.declared.store.Store.{Store}
 use Rattle.histories.specs.History.{History, Said, Outcome, Import, bytes_of, groups}
 use Rattle.histories.specs.Legal.{IsInForm, IsUnread, IsLegal, IsHistory, has_group, is_failed, is_end, file_due}
@@ -21,9 +21,9 @@ use Rattle.histories.proofs.Steps.{tell_same}
 use Rattle.histories.proofs.Tests.{bytes_apart}
 use Rattle.histories.proofs.Turns.{history_more}
 use Rattle.warehouse.specs.Answered.{with_turn, IsAccepted, Follows, StandsForHistory, HasHistory, WasDue, IsAnswered, answer_for, unread_for}
-use Rattle.warehouse.specs.Reads.{IsUnreadFor}
-use Rattle.warehouse.specs.declared.reading.Unread.{Unread}
-use Rattle.warehouse.specs.declared.reading.Unread.TheVariants as unreads
+use Rattle.file_intake.specs.Reads.{IsUnreadFor}
+use Rattle.file_intake.specs.declared.reading.Unread.{Unread}
+use Rattle.file_intake.specs.declared.reading.Unread.TheVariants as unreads
 
 module _ {S : Type 0} (g : Ghosts S) (limits : Limits) (h : History) (said : Said) (old new : Store S) (has : HasHistory g h old) (was_usable : IsUsable g new → IsUsable g old) where
   -- what was there stays, if a legal answer says that nothing changed

@@ -4,8 +4,8 @@ use Rattle.sqlite_trees.specs.declared.store.Store.{Ghosts}
 use Rattle.sqlite_trees.specs.Tree.{Trees}
 use Rattle.prof_tables.specs.Tables.{Tables, Holds}
 use Rattle.prof_store.specs.Shown.{StandsFor, IsUsable, LeavesOnly}
-use Rattle.run_rows.specs.declared.errors.StoreEnd.{StoreEnd}
-use Rattle.run_rows.specs.declared.errors.StoreEnd.TheVariants as ends
+use Rattle.store_columns.specs.declared.errors.StoreEnd.{StoreEnd}
+use Rattle.store_columns.specs.declared.errors.StoreEnd.TheVariants as ends
 use Rattle.prof_store.specs.declared.store.Store.{Store}
 use Rattle.histories.specs.History.{History, Said, Turn, Outcome, Import, Remove, MakeGroup, DropGroup, Join, Leave, SetBaseline, Ask}
 use Rattle.histories.specs.Legal.{IsLegal, AreLegal, IsHistory, due}
@@ -14,11 +14,11 @@ use Rattle.histories.specs.declared.answers.Answer.{Answer}
 use Rattle.histories.specs.declared.answers.Answer.TheVariants as answers
 use Rattle.histories.specs.declared.answers.Refusal.TheVariants as reasons
 use Rattle.histories.specs.declared.limits.Limits.{Limits}
-use Rattle.warehouse.specs.Reads.{Come}
+use Rattle.file_intake.specs.Reads.{Come}
 use Rattle.warehouse.specs.declared.command.Command as commands
 use Rattle.warehouse.specs.declared.command.Command.TheVariants as command
-use Rattle.warehouse.specs.declared.reading.Unread.{Unread}
-use Rattle.warehouse.specs.declared.reading.Unread.TheVariants as unread
+use Rattle.file_intake.specs.declared.reading.Unread.{Unread}
+use Rattle.file_intake.specs.declared.reading.Unread.TheVariants as unread
 
 -- a history that goes on by one turn
 abbrev pub with_turn : History → Said → Answer → History

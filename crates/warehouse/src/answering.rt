@@ -5,14 +5,13 @@ ghost use Rattle.prof_store.specs.Shown.{IsFaithful, IsUsable};
 ghost use Rattle.histories.specs.History.{History, Outcome, Import, Remove, MakeGroup, DropGroup, Ask};
 ghost use Rattle.warehouse.specs.Answered.{HasHistory, IsAnswered};
 ghost use Rattle.warehouse.specs.Changes.{said_of};
-ghost use Rattle.warehouse.specs.Reads.{Come};
+ghost use Rattle.file_intake.specs.Reads.{Come};
 
 use crate::changes::{Change, change_group, drop_group, group_name, make_group, remove};
 use crate::import::{label_of, take_in};
 use crate::lists::ask;
-use crate::reading::take_file;
 use crate::refusals::{answer_of, unread_answer};
-use crate::source::Source;
+use file_intake::{Source, take_file};
 use histories::{Answer, Limits, Query, Refusal};
 use prof_books::Kind;
 use prof_store::Store;

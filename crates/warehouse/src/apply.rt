@@ -3,13 +3,13 @@ ghost use Rattle.std.specs.Prelude.{◌≡◌, List, IfOk, OnErr};
 ghost use Rattle.prof_store.specs.Shown.{IsFaithful, IsUsable};
 ghost use Rattle.histories.specs.History.{History, Outcome, Said, Import};
 ghost use Rattle.warehouse.specs.Answered.{HasHistory, IsAnswered, Says, WasRun};
-ghost use Rattle.warehouse.specs.Reads.{Come};
+ghost use Rattle.file_intake.specs.Reads.{Come};
 
 use crate::answering::{ask_in, change_in, drop_in, import_in, make_in, remove_in};
 use crate::changes::Change;
 use crate::command::Command;
-use crate::source::Source;
 use crate::warehouse::Warehouse;
+use file_intake::Source;
 use histories::Answer;
 use prof_books::Kind;
 use sqlite::Alter;

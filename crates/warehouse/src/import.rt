@@ -10,16 +10,17 @@ ghost use Rattle.histories.specs.History.{History, Outcome, Import, bytes_of, he
 ghost use Rattle.histories.specs.Sums as sums;
 ghost use Rattle.warehouse.specs.Answered.{StandsForHistory, WasDue, IsAccepted, Follows};
 ghost use Rattle.warehouse.specs.Imports.{IsNewFile};
-ghost use Rattle.warehouse.specs.Intakes.{IsTakenOf};
-ghost use Rattle.warehouse.specs.Reads.{HasEnded};
+ghost use Rattle.file_intake.specs.Intakes.{IsTakenOf};
+ghost use Rattle.file_intake.specs.Reads.{HasEnded};
 ghost use Rattle.warehouse.specs.Refused.{room_refusal};
 
-use crate::intake::Taken;
 use cg_text::{FileHead, Items};
 use cost_rows::{FileRows, Overflow, Side, admit};
+use file_intake::Taken;
 use histories::{Answer, Excess, Limits, Refusal};
 use prof_books::Kind;
 use prof_store::{Store, StoreEnd, is_label};
+use run_putting::put_run;
 use sqlite::Alter;
 use std::alloc::{AllocError, Global};
 
@@ -135,7 +136,7 @@ fn put_file<S: Alter>(
     if let Some(refusal) = refusal_of(store, alloc, limits, head, rows)? {
         return Ok(Answer::Refused(refusal));
     }
-    let number = store.put_run(alloc, kind, digest, label, head, rows)?;
+    let number = put_run(store, alloc, kind, digest, label, head, rows)?;
     Ok(Answer::Run(number))
 }
 

@@ -6,17 +6,14 @@ mod apply;
 mod changes;
 mod command;
 mod import;
-mod intake;
 mod laws;
 mod lists;
-mod reading;
 mod refusals;
-mod source;
 mod warehouse;
 
 pub use command::Command;
+pub use file_intake::{ReadFault, Source};
 pub use histories::{Answer, Excess, Limits, Query, Refusal};
 pub use laws::histories_survive;
 pub use prof_books::Kind;
-pub use source::{ReadFault, Source};
 pub use warehouse::Warehouse;

@@ -2,7 +2,7 @@
 ghost use Rattle.std.specs.Prelude.{◌≡◌};
 ghost use Rattle.warehouse.specs.Answered.{answer_for, unread_for};
 
-use crate::reading::Unread;
+use file_intake::Unread;
 use histories::{Answer, Refusal};
 use prof_store::StoreEnd;
 

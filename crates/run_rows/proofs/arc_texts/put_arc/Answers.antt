@@ -5,8 +5,8 @@ use Rattle.prof_tables.specs.Tables.{arc_columns}
 use Rattle.prof_tables.specs.Changes.{with_arcs}
 use Rattle.prof_tables.proofs.Means.{put_arc_means, put_arc_plain}
 use Rattle.prof_tables.proofs.Rows.{puts_arc}
-use Rattle.run_rows.specs.Lines.{arc_line}
-use Rattle.run_rows.proofs.Effects.{makes}
+use Rattle.store_columns.specs.Lines.{arc_line}
+use Rattle.store_columns.proofs.Effects.{makes}
 use Rattle.run_rows.proofs.arc_texts.put_arc.Goals as goal
 
 pub returns-in-Ok-clause-made : goal.returns-in-Ok-clause-made

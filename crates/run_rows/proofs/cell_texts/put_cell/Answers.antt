@@ -5,8 +5,8 @@ use Rattle.prof_tables.specs.Tables.{cell_columns}
 use Rattle.prof_tables.specs.Changes.{with_cells}
 use Rattle.prof_tables.proofs.Means.{put_cell_means, put_cell_plain}
 use Rattle.prof_tables.proofs.Rows.{puts_cell}
-use Rattle.run_rows.specs.Lines.{cell_line}
-use Rattle.run_rows.proofs.Effects.{makes}
+use Rattle.store_columns.specs.Lines.{cell_line}
+use Rattle.store_columns.proofs.Effects.{makes}
 use Rattle.run_rows.proofs.cell_texts.put_cell.Goals as goal
 
 pub returns-in-Ok-clause-made : goal.returns-in-Ok-clause-made

@@ -1,7 +1,7 @@
 use Rattle.std.proofs.Common.{◌≡◌, take}
 use Rattle.std.specs.Bool.{⊤}
 use Rattle.sqlite.specs.Held.{state}
-use Rattle.run_rows.specs.Steps.{Passes, Makes}
+use Rattle.store_columns.specs.Steps.{Passes, Makes}
 use Rattle.sqlite.specs.State.{HasCleanDisk}
 use Rattle.sql_tables.specs.States.{Works}
 use Rattle.prof_tables.specs.Schema.{schema_one}

@@ -7,9 +7,9 @@ use Rattle.sqlite.specs.Held.{state}
 use Rattle.sql_tables.proofs.Rows.{map-append}
 use Rattle.cost_rows.specs.Rows.{content_of}
 use Rattle.prof_tables.specs.Changes.{with_cells}
-use Rattle.run_rows.specs.Lines.{cell_line}
+use Rattle.store_columns.specs.Lines.{cell_line}
 use Rattle.run_rows.specs.Queues.{Queues}
-use Rattle.run_rows.specs.Steps.{Makes}
+use Rattle.store_columns.specs.Steps.{Makes}
 use Rattle.run_rows.proofs.Parts.{passes_none, passes_then, no_cells, cells_then}
 use Rattle.run_rows.proofs.ManyLines.{queues_then, queues_end}
 use Rattle.run_rows.proofs.RowLines.{line_of_cell, cells_are}

@@ -3,9 +3,9 @@ use Rattle.sqlite.specs.Held.{state}
 use Rattle.cost_rows.specs.Rows.{content_of}
 use Rattle.cost_rows.specs.ByNumber.{numbered_cells}
 use Rattle.prof_tables.specs.Changes.{with_cells}
-use Rattle.run_rows.specs.Lines.{cell_line}
+use Rattle.store_columns.specs.Lines.{cell_line}
 use Rattle.run_rows.specs.Queues.{Queues}
-use Rattle.run_rows.specs.Steps.{Passes}
+use Rattle.store_columns.specs.Steps.{Passes}
 use Rattle.run_rows.proofs.RowLines.{line_of_cell}
 use Rattle.run_rows.proofs.file_rows.put_cells.Given as goal
 

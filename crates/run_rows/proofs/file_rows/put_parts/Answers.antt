@@ -4,7 +4,7 @@ use Rattle.sqlite.specs.Held.{state}
 use Rattle.prof_tables.specs.Changes.{with_arcs}
 use Rattle.prof_books.specs.Files.{arc_line_of, arc_lines_from}
 use Rattle.run_rows.specs.FromRows.{call_of_arc}
-use Rattle.run_rows.specs.Lines.{arc_line}
+use Rattle.store_columns.specs.Lines.{arc_line}
 use Rattle.run_rows.specs.Queues.{Queues}
 use Rattle.run_rows.proofs.Parts.{passes_then, arcs_then}
 use Rattle.run_rows.proofs.ManyLines.{queues_then}

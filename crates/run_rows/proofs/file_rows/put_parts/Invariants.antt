@@ -1,7 +1,7 @@
 use Rattle.std.proofs.Common.{◌≡◌, take, map, ◌∷◌}
 use Rattle.sqlite.specs.Held.{state}
-use Rattle.run_rows.specs.Steps.{Passes}
-use Rattle.run_rows.specs.Lines.{arc_line}
+use Rattle.store_columns.specs.Steps.{Passes}
+use Rattle.store_columns.specs.Lines.{arc_line}
 use Rattle.run_rows.specs.Queues.{Queues}
 use Rattle.prof_tables.specs.Changes.{with_arcs}
 use Rattle.prof_books.specs.Files.{arc_line_of, arc_lines_from}

@@ -8,9 +8,9 @@ use Rattle.sql_tables.proofs.Rows.{map-append}
 use Rattle.cost_rows.specs.Rows.{content_of}
 use Rattle.cost_rows.specs.Plain.{plain_stack}
 use Rattle.prof_tables.specs.Changes.{with_stacks}
-use Rattle.run_rows.specs.Lines.{stack_line}
+use Rattle.store_columns.specs.Lines.{stack_line}
 use Rattle.run_rows.specs.Queues.{Queues}
-use Rattle.run_rows.specs.Steps.{Makes}
+use Rattle.store_columns.specs.Steps.{Makes}
 use Rattle.run_rows.proofs.Parts.{passes_none, passes_then, no_stacks, stacks_then}
 use Rattle.run_rows.proofs.ManyLines.{queues_then, queues_end}
 use Rattle.run_rows.proofs.RowLines.{plain_line_of_stack, stacks_are}

@@ -1,7 +1,7 @@
 use Rattle.std.proofs.Common.{◌≡◌, [], map, ◌++◌}
 use Rattle.sqlite.specs.Held.{state}
-use Rattle.run_rows.specs.Steps.{Passes}
-use Rattle.run_rows.specs.Lines.{stack_line}
+use Rattle.store_columns.specs.Steps.{Passes}
+use Rattle.store_columns.specs.Lines.{stack_line}
 use Rattle.run_rows.specs.Queues.{Queues}
 use Rattle.cost_rows.specs.Rows.{content_of}
 use Rattle.cost_rows.specs.Walks.{stack_rows}

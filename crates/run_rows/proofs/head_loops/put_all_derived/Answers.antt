@@ -1,7 +1,7 @@
 use Rattle.std.proofs.Common.{rules, [], ◌∷◌, map, take, ap, ◌∙◌}
 use Rattle.std.specs.Bool.{⊤}
 use Rattle.prof_tables.specs.Changes.{with_derived}
-use Rattle.run_rows.specs.Lines.{derived_line}
+use Rattle.store_columns.specs.Lines.{derived_line}
 use Rattle.run_rows.proofs.Lists.{one_more}
 use Rattle.run_rows.proofs.Parts.{passes_then, makes_then, makes_same}
 use Rattle.run_rows.proofs.head_loops.put_all_derived.Goals as goal

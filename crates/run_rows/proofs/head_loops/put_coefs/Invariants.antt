@@ -2,8 +2,8 @@ use Rattle.std.proofs.Common.{◌≡◌, take, map}
 use Rattle.std.specs.Bool.{⊤}
 use Rattle.sqlite.specs.Held.{state}
 use Rattle.prof_tables.specs.Changes.{with_coefs}
-use Rattle.run_rows.specs.Lines.{coef_line}
-use Rattle.run_rows.specs.Steps.{Passes, Makes}
+use Rattle.store_columns.specs.Lines.{coef_line}
+use Rattle.store_columns.specs.Steps.{Passes, Makes}
 use Rattle.run_rows.proofs.head_loops.put_coefs.Given as goal
 
 abbrev pub invariant-lines : goal.invariant-lines

@@ -4,9 +4,9 @@ use Rattle.prof_tables.specs.Texts.{put_coef_text}
 use Rattle.prof_tables.specs.Changes.{with_coefs}
 use Rattle.prof_tables.specs.Tables.{coef_columns}
 use Rattle.prof_tables.proofs.Rows.{puts_coef}
-use Rattle.run_rows.specs.Lines.{coef_line}
+use Rattle.store_columns.specs.Lines.{coef_line}
 use Rattle.prof_tables.proofs.Means.{put_coef_means, put_coef_plain}
-use Rattle.run_rows.proofs.Effects.{makes}
+use Rattle.store_columns.proofs.Effects.{makes}
 use Rattle.run_rows.proofs.head_texts.put_coef.Goals as goal
 
 pub returns-in-Ok-clause-made : goal.returns-in-Ok-clause-made

@@ -4,9 +4,9 @@ use Rattle.prof_tables.specs.Texts.{put_derived_text}
 use Rattle.prof_tables.specs.Changes.{with_derived}
 use Rattle.prof_tables.specs.Tables.{derived_columns}
 use Rattle.prof_tables.proofs.Rows.{puts_derived}
-use Rattle.run_rows.specs.Lines.{derived_line}
+use Rattle.store_columns.specs.Lines.{derived_line}
 use Rattle.prof_tables.proofs.Means.{put_derived_means, put_derived_plain}
-use Rattle.run_rows.proofs.Effects.{makes}
+use Rattle.store_columns.proofs.Effects.{makes}
 use Rattle.run_rows.proofs.head_texts.put_derived.Goals as goal
 
 pub returns-in-Ok-clause-made : goal.returns-in-Ok-clause-made

@@ -4,9 +4,9 @@ use Rattle.prof_tables.specs.Texts.{put_event_text}
 use Rattle.prof_tables.specs.Changes.{with_events}
 use Rattle.prof_tables.specs.Tables.{event_columns}
 use Rattle.prof_tables.proofs.Rows.{puts_event}
-use Rattle.run_rows.specs.Lines.{event_line}
+use Rattle.store_columns.specs.Lines.{event_line}
 use Rattle.prof_tables.proofs.Means.{put_event_means, put_event_plain}
-use Rattle.run_rows.proofs.Effects.{makes}
+use Rattle.store_columns.proofs.Effects.{makes}
 use Rattle.run_rows.proofs.head_texts.put_event.Goals as goal
 
 pub returns-in-Ok-clause-made : goal.returns-in-Ok-clause-made

@@ -4,9 +4,9 @@ use Rattle.prof_tables.specs.Texts.{put_run_text}
 use Rattle.prof_tables.specs.Changes.{with_run}
 use Rattle.prof_tables.specs.Tables.{RunLine}
 use Rattle.prof_tables.proofs.Rows.{puts_run}
-use Rattle.run_rows.specs.Steps.{IsNext}
+use Rattle.store_columns.specs.Steps.{IsNext}
 use Rattle.prof_tables.proofs.Means.{put_run_means, put_run_plain}
-use Rattle.run_rows.proofs.Effects.{makes}
+use Rattle.store_columns.proofs.Effects.{makes}
 use Rattle.run_rows.proofs.head_texts.put_line_of_run.Goals as goal
 
 pub returns-in-Ok-clause-made : goal.returns-in-Ok-clause-made

@@ -3,9 +3,9 @@ use Rattle.sqlite_value.specs.declared.value.Value.TheVariants.{Int}
 use Rattle.prof_tables.specs.Texts.{raise_text}
 use Rattle.prof_tables.specs.Changes.{with_next}
 use Rattle.prof_tables.proofs.Groups.{raises}
-use Rattle.run_rows.specs.Steps.{IsAbove}
+use Rattle.store_columns.specs.Steps.{IsAbove}
 use Rattle.prof_tables.proofs.Means.{raise_means, raise_plain}
-use Rattle.run_rows.proofs.Effects.{makes}
+use Rattle.store_columns.proofs.Effects.{makes}
 use Rattle.run_rows.proofs.head_texts.raise_next.Goals as goal
 
 pub returns-in-Ok-clause-made : goal.returns-in-Ok-clause-made

@@ -1,6 +1,6 @@
 use Rattle.std.proofs.Common.{◌≡◌, ◌++◌, map, drop}
 use Rattle.prof_books.specs.Heads.{coef_lines_from}
-use Rattle.run_rows.specs.Lines.{coef_line}
+use Rattle.store_columns.specs.Lines.{coef_line}
 use Rattle.run_rows.proofs.heads_put.coef_lines.Given as goal
 
 -- the lines so far, and those of the derived events that are left, are all of them

@@ -2,7 +2,7 @@ use Rattle.std.proofs.Common.{◌≡◌, ◌++◌, ◌<◌, ℕ, map, drop, leng
 use Rattle.cost_rows.specs.Content.{Content}
 use Rattle.cost_rows.specs.Totals.{AreTotals}
 use Rattle.prof_books.specs.Heads.{event_lines, event_lines_from, ColumnFits}
-use Rattle.run_rows.specs.Lines.{event_line}
+use Rattle.store_columns.specs.Lines.{event_line}
 use Rattle.run_rows.proofs.heads_put.event_lines.Given as goal
 
 -- the lines so far, and those of the events that are left, are all of them, and the columns so far fit

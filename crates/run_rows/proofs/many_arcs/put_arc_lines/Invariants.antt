@@ -2,8 +2,8 @@ use Rattle.std.proofs.Common.{◌≡◌, map, take}
 use Rattle.std.specs.Bool.{⊤}
 use Rattle.sqlite.specs.Held.{state}
 use Rattle.prof_tables.specs.Changes.{with_arcs}
-use Rattle.run_rows.specs.Lines.{arc_line}
-use Rattle.run_rows.specs.Steps.{Passes, Makes}
+use Rattle.store_columns.specs.Lines.{arc_line}
+use Rattle.store_columns.specs.Steps.{Passes, Makes}
 use Rattle.run_rows.proofs.many_arcs.put_arc_lines.Given as goal
 
 -- the arcs so far are written

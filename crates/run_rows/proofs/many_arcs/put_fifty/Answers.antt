@@ -8,9 +8,9 @@ use Rattle.prof_tables.specs.ManyTexts.{put_arcs_text}
 use Rattle.prof_tables.specs.Tables.{arc_columns}
 use Rattle.prof_tables.specs.Changes.{with_arcs}
 use Rattle.prof_tables.proofs.Many.{put_arcs_means, put_arcs_plain, puts_arcs}
-use Rattle.run_rows.specs.Lines.{arc_line}
+use Rattle.store_columns.specs.Lines.{arc_line}
 use Rattle.run_rows.proofs.ManyLines.{as_many}
-use Rattle.run_rows.proofs.Effects.{makes}
+use Rattle.store_columns.proofs.Effects.{makes}
 use Rattle.run_rows.proofs.many_arcs.put_fifty.Goals as goal
 
 pub returns-in-Ok-insert_arcs-clause-made : goal.returns-in-Ok-insert_arcs-clause-made

@@ -5,7 +5,7 @@ use Rattle.sqlite_value.specs.Value.{owned}
 use Rattle.sql_tables.proofs.Many.{all_values}
 use Rattle.sql_tables.proofs.Rows.{map-append}
 use Rattle.prof_tables.specs.Tables.{cell_columns}
-use Rattle.run_rows.specs.Lines.{cell_line}
+use Rattle.store_columns.specs.Lines.{cell_line}
 use Rattle.run_rows.proofs.ManyLines.{line_more}
 use Rattle.run_rows.proofs.many_cells.cell_values.Goals as goal
 

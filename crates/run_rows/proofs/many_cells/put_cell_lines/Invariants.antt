@@ -2,8 +2,8 @@ use Rattle.std.proofs.Common.{◌≡◌, map, take}
 use Rattle.std.specs.Bool.{⊤}
 use Rattle.sqlite.specs.Held.{state}
 use Rattle.prof_tables.specs.Changes.{with_cells}
-use Rattle.run_rows.specs.Lines.{cell_line}
-use Rattle.run_rows.specs.Steps.{Passes, Makes}
+use Rattle.store_columns.specs.Lines.{cell_line}
+use Rattle.store_columns.specs.Steps.{Passes, Makes}
 use Rattle.run_rows.proofs.many_cells.put_cell_lines.Given as goal
 
 -- the cells so far are written

@@ -8,9 +8,9 @@ use Rattle.prof_tables.specs.ManyTexts.{put_cells_text}
 use Rattle.prof_tables.specs.Tables.{cell_columns}
 use Rattle.prof_tables.specs.Changes.{with_cells}
 use Rattle.prof_tables.proofs.Many.{put_cells_means, put_cells_plain, puts_cells}
-use Rattle.run_rows.specs.Lines.{cell_line}
+use Rattle.store_columns.specs.Lines.{cell_line}
 use Rattle.run_rows.proofs.ManyLines.{as_many}
-use Rattle.run_rows.proofs.Effects.{makes}
+use Rattle.store_columns.proofs.Effects.{makes}
 use Rattle.run_rows.proofs.many_cells.put_fifty.Goals as goal
 
 pub returns-in-Ok-insert_cells-clause-made : goal.returns-in-Ok-insert_cells-clause-made

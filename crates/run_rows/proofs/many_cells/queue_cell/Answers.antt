@@ -1,7 +1,7 @@
 use Rattle.std.proofs.Common.{[], ◌∷◌, ◌++◌, not, if◌then◌else◌, ap, ◌∙◌}
 use Rattle.sqlite.specs.Held.{state}
 use Rattle.prof_tables.specs.Changes.{with_cells}
-use Rattle.run_rows.specs.Lines.{cell_line}
+use Rattle.store_columns.specs.Lines.{cell_line}
 use Rattle.run_rows.proofs.Parts.{no_cells}
 use Rattle.run_rows.proofs.ManyLines.{queues_waiting}
 use Rattle.run_rows.proofs.many_cells.queue_cell.Goals as goal

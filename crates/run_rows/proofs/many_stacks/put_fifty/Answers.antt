@@ -8,9 +8,9 @@ use Rattle.prof_tables.specs.ManyTexts.{put_stacks_text}
 use Rattle.prof_tables.specs.Tables.{stack_columns}
 use Rattle.prof_tables.specs.Changes.{with_stacks}
 use Rattle.prof_tables.proofs.Many.{put_stacks_means, put_stacks_plain, puts_stacks}
-use Rattle.run_rows.specs.Lines.{stack_line}
+use Rattle.store_columns.specs.Lines.{stack_line}
 use Rattle.run_rows.proofs.ManyLines.{as_many}
-use Rattle.run_rows.proofs.Effects.{makes}
+use Rattle.store_columns.proofs.Effects.{makes}
 use Rattle.run_rows.proofs.many_stacks.put_fifty.Goals as goal
 
 pub returns-in-Ok-insert_stacks-clause-made : goal.returns-in-Ok-insert_stacks-clause-made

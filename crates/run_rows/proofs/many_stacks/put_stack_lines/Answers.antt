@@ -4,8 +4,8 @@ use Rattle.std.proofs.lemmas.List.{take_more}
 use Rattle.sqlite.specs.Held.{state}
 use Rattle.sql_tables.proofs.Rows.{map-append}
 use Rattle.prof_tables.specs.Changes.{with_stacks}
-use Rattle.run_rows.specs.Lines.{stack_line}
-use Rattle.run_rows.specs.Steps.{Makes}
+use Rattle.store_columns.specs.Lines.{stack_line}
+use Rattle.store_columns.specs.Steps.{Makes}
 use Rattle.run_rows.proofs.Parts.{passes_then, stacks_then}
 use Rattle.run_rows.proofs.many_stacks.put_stack_lines.Goals as goal
 

@@ -5,7 +5,7 @@ use Rattle.sqlite_value.specs.Value.{owned}
 use Rattle.sql_tables.proofs.Many.{all_values}
 use Rattle.sql_tables.proofs.Rows.{map-append}
 use Rattle.prof_tables.specs.Tables.{stack_columns}
-use Rattle.run_rows.specs.Lines.{stack_line}
+use Rattle.store_columns.specs.Lines.{stack_line}
 use Rattle.run_rows.proofs.ManyLines.{line_more}
 use Rattle.run_rows.proofs.many_stacks.stack_values.Goals as goal
 

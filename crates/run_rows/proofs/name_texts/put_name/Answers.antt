@@ -5,7 +5,7 @@ use Rattle.prof_tables.specs.Texts.{put_name_text}
 use Rattle.prof_tables.specs.Changes.{with_new_name}
 use Rattle.prof_tables.proofs.Means.{put_name_means, put_name_plain}
 use Rattle.prof_tables.proofs.Rows.{puts_name}
-use Rattle.run_rows.proofs.Effects.{makes}
+use Rattle.store_columns.proofs.Effects.{makes}
 use Rattle.run_rows.proofs.name_texts.put_name.Goals as goal
 
 pub returns-in-Ok-clause-made : goal.returns-in-Ok-clause-made

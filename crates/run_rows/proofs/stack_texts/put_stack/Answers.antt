@@ -5,8 +5,8 @@ use Rattle.prof_tables.specs.Tables.{stack_columns}
 use Rattle.prof_tables.specs.Changes.{with_stacks}
 use Rattle.prof_tables.proofs.Means.{put_stack_means, put_stack_plain}
 use Rattle.prof_tables.proofs.Rows.{puts_stack}
-use Rattle.run_rows.specs.Lines.{stack_line}
-use Rattle.run_rows.proofs.Effects.{makes}
+use Rattle.store_columns.specs.Lines.{stack_line}
+use Rattle.store_columns.proofs.Effects.{makes}
 use Rattle.run_rows.proofs.stack_texts.put_stack.Goals as goal
 
 pub returns-in-Ok-clause-made : goal.returns-in-Ok-clause-made

@@ -25,7 +25,7 @@ returns-in_err-number-clause-crash g c clean h outcomes s ended new db leaves =
     let none = sym (c.in_ok-refusal.ensures.told early h c.args.kind (bytes_of outcomes) s new.head_is new.rows_are) ∙ c.in_default.is in
     let is : due c.args.limits h (Import c.args.kind c.args.label.now outcomes) ≡ Some (Run s.t.next) =
     room_due c.args.limits h c.args.kind c.args.label.now outcomes ended new.is_new new.sound ∙ ap (λ r. Some (refused_or r (Run (next h)))) none ∙ ap (λ n. Some (Run n)) (sym s.tells.next) in
-    then_crash g.S.Store c.args.store.now c.refusal_of.new.store c.put_run.new.self
+    then_crash g.S.Store c.args.store.now c.refusal_of.new.store c.put_run.new.store
     (Holds (with_file s.t.next c.args.kind c.args.digest.now c.args.label.now c.args.head.now (content_of c.args.rows.now) s.t)) (Follows c.args.limits h (Import c.args.kind c.args.label.now outcomes))
     (c.refusal_of.ensures.crash early s.t s.stands) (c.put_run.ensures.crash clean s.t once)
     (follows_run c.args.limits h c.args.kind c.args.label.now outcomes c.args.digest.now c.args.head.now c.args.rows.now s.t _ (c.utf8.label, c.requires) is new s.stands.holds s.tells) db leaves
@@ -37,7 +37,7 @@ returns-clause-answered g c clean h outcomes s ended new =
     let none = sym (c.in_ok-refusal.ensures.told early h c.args.kind (bytes_of outcomes) s new.head_is new.rows_are) ∙ c.in_default.is in
     let is : due c.args.limits h (Import c.args.kind c.args.label.now outcomes) ≡ Some (Run s.t.next) =
     room_due c.args.limits h c.args.kind c.args.label.now outcomes ended new.is_new new.sound ∙ ap (λ r. Some (refused_or r (Run (next h)))) none ∙ ap (λ n. Some (Run n)) (sym s.tells.next) in
-    was_run c.args.limits h c.args.kind c.args.label.now outcomes c.args.digest.now c.args.head.now c.args.rows.now s.t _ (c.utf8.label, c.requires) is new s.stands.holds s.tells g.S.Store c.put_run.new.self c.in_ok-number.number
+    was_run c.args.limits h c.args.kind c.args.label.now outcomes c.args.digest.now c.args.head.now c.args.rows.now s.t _ (c.utf8.label, c.requires) is new s.stands.holds s.tells g.S.Store c.put_run.new.store c.in_ok-number.number
     (c.in_ok-number.ensures.told clean s.t once) (c.in_ok-number.ensures.done clean s.t once)
 
 pub returns-clause-crash : goal.returns-clause-crash
@@ -47,7 +47,7 @@ returns-clause-crash g c clean h outcomes s ended new db leaves =
     let none = sym (c.in_ok-refusal.ensures.told early h c.args.kind (bytes_of outcomes) s new.head_is new.rows_are) ∙ c.in_default.is in
     let is : due c.args.limits h (Import c.args.kind c.args.label.now outcomes) ≡ Some (Run s.t.next) =
     room_due c.args.limits h c.args.kind c.args.label.now outcomes ended new.is_new new.sound ∙ ap (λ r. Some (refused_or r (Run (next h)))) none ∙ ap (λ n. Some (Run n)) (sym s.tells.next) in
-    then_crash g.S.Store c.args.store.now c.refusal_of.new.store c.put_run.new.self
+    then_crash g.S.Store c.args.store.now c.refusal_of.new.store c.put_run.new.store
     (Holds (with_file s.t.next c.args.kind c.args.digest.now c.args.label.now c.args.head.now (content_of c.args.rows.now) s.t)) (Follows c.args.limits h (Import c.args.kind c.args.label.now outcomes))
     (c.refusal_of.ensures.crash early s.t s.stands) (c.put_run.ensures.crash clean s.t once)
     (follows_run c.args.limits h c.args.kind c.args.label.now outcomes c.args.digest.now c.args.head.now c.args.rows.now s.t _ (c.utf8.label, c.requires) is new s.stands.holds s.tells) db leaves

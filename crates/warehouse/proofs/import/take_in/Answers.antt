@@ -8,7 +8,7 @@ use Rattle.histories.specs.declared.answers.Refusal.TheVariants.{File}
 use Rattle.histories.proofs.Tells.{tells_digest}
 use Rattle.warehouse.specs.Answered.{StandsForHistory, Follows}
 use Rattle.warehouse.specs.Imports.{IsNewFile}
-use Rattle.warehouse.specs.Intakes.{IsFileOf}
+use Rattle.file_intake.specs.Intakes.{IsFileOf}
 use Rattle.warehouse.proofs.Dues.{was_still, then_crash}
 use Rattle.warehouse.proofs.Imports.{held_due, fault_due}
 use Rattle.warehouse.proofs.import.take_in.Goals as goal

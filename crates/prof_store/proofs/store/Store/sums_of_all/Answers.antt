@@ -5,7 +5,7 @@ use Rattle.sqlite.specs.Effect.{Database}
 use Rattle.prof_store.specs.Shown.{shown}
 use Rattle.prof_store.specs.Totals.{AreSums, IsSum, rows_named}
 use Rattle.prof_books.specs.Totals.{held_self, held_calls}
-use Rattle.prof_store.proofs.HeadReading.{read_on}
+use Rattle.prof_store.proofs.Listing.{read_on}
 use Rattle.prof_store.proofs.HeldSums.{sums_more}
 use Rattle.prof_store.proofs.Reading.{is_ok_then}
 use Rattle.prof_store.proofs.Writing.{settled_still, before_then}

@@ -1,0 +1,2 @@
+pub mod Fed
+pub mod Outcomes

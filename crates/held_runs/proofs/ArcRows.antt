@@ -1,0 +1,132 @@
+-- A walk over the calls of a run, with names in place.
+use Rattle.std.proofs.Common.{◌≡◌, ℕ, suc, ◌+◌, ◌<◌, nat_lt, if◌then◌else◌, Bool, true, false, List, [], ◌∷◌, ◌++◌, map, length, Option, Some, None, Result, Ok, Err, OnOk, IfOk, refl, sym, ap, ap₂, subst, ◌∙◌, append-nil, append_assoc, add-zero, arith}
+use Rattle.std.specs.Borrow.{Bor}
+use Rattle.std.specs.List.{AllByRecursion}
+use Rattle.std.proofs.lemmas.Bool.Decides.{nat_tests}
+use Rattle.std.proofs.lemmas.Grind.{flat_map-append}
+use Rattle.std.proofs.lemmas.List.{map-append}
+use Rattle.sqlite_trees.specs.declared.store.Store.{Ghosts}
+use Rattle.cost_rows.specs.declared.rows.ArcRow.{ArcRow}
+use Rattle.prof_tables.specs.Tables.{Tables, NameLine, ArcLine as Arc}
+use Rattle.prof_tables.specs.RunLines.{arcs_in}
+use Rattle.held_runs.specs.declared.arcs.Arcs.{Arcs}
+use Rattle.store_columns.specs.declared.errors.StoreEnd.{StoreEnd}
+use Rattle.held_runs.specs.ArcWalks.{GivesArcs}
+use Rattle.prof_books.specs.Book.{part_held, part_of, parts_from, parts_of, ArcIsNamed}
+use Rattle.held_runs.specs.HeldArcs.{HasUsedArcs, HasTakenArc, HasGivenArcs, HasGivenAllArcs, HasGivenArcsOn, TellsArcRows, lines_from, part_line, plain_given, row_of, waiting_line}
+use Rattle.prof_store.specs.Shown.{StandsFor}
+use Rattle.held_runs.proofs.ArcWalks.{arcs_begin, arcs_end}
+
+-- ---- costs and the lines of their parts
+
+pub lines_more : (first : Arc) (part : ℕ) (costs : List ℕ) (cost : ℕ) → lines_from first part (costs ++ cost ∷ []) ≡ lines_from first part costs ++ (if nat_lt 0 cost then part_line first (part + length costs) cost ∷ [] else [])
+lines_more first part [] cost = ap (λ n. if nat_lt 0 cost then part_line first n cost ∷ [] else []) (sym (add-zero part))
+lines_more first part (c ∷ costs) cost = go (nat_lt 0 c) (lines_more first (suc part) costs cost ∙ ap (λ n. lines_from first (suc part) costs ++ (if nat_lt 0 cost then part_line first n cost ∷ [] else [])) here)
+  where
+    here : suc part + length costs ≡ part + suc (length costs)
+    here = omega arith
+
+    go : (b : Bool) → lines_from first (suc part) (costs ++ cost ∷ []) ≡ lines_from first (suc part) costs ++ (if nat_lt 0 cost then part_line first (part + suc (length costs)) cost ∷ [] else [])
+        → (if b then part_line first part c ∷ lines_from first (suc part) (costs ++ cost ∷ []) else lines_from first (suc part) (costs ++ cost ∷ []))
+        ≡ (if b then part_line first part c ∷ lines_from first (suc part) costs else lines_from first (suc part) costs) ++ (if nat_lt 0 cost then part_line first (part + suc (length costs)) cost ∷ [] else [])
+    go true more = ap (λ l. part_line first part c ∷ l) more
+    go false more = more
+
+pub zero_more : (first : Arc) (part : ℕ) (costs : List ℕ) → lines_from first part (costs ++ 0 ∷ []) ≡ lines_from first part costs
+zero_more first part costs = lines_more first part costs 0 ∙ append-nil (lines_from first part costs)
+
+positive : (n : ℕ) → 0 < n → nat_lt 0 n ≡ true
+positive n h = grind (arith, nat_tests)
+
+-- a part is added behind costs that reach up to its column
+pub part_more : (first : Arc) (costs full : List ℕ) (part sum cost : ℕ) → lines_from first 1 full ≡ lines_from first 1 costs → part ≡ length full + 1 → cost ≡ sum → 0 < sum
+    → lines_from first 1 (full ++ cost ∷ []) ≡ lines_from first 1 costs ++ part_line first part sum ∷ []
+part_more first costs full part sum cost same at is above =
+    let here : 1 + length full ≡ part = omega (arith, at) in
+    lines_more first 1 full cost ∙ ap₂ ◌++◌ same (ap₂ (λ n c. if nat_lt 0 c then part_line first n c ∷ [] else []) here is ∙ ap (λ b. if b then part_line first part sum ∷ [] else []) (positive sum above))
+
+-- ---- names in place
+
+module _ (names : List NameLine) (first : Arc) where
+  parts_named : (all : List ℕ) (part : ℕ) (costs : List ℕ) → map (part_held names) (lines_from first part costs) ≡ parts_from (row_of names first all) part costs
+  parts_named all part [] = refl
+  parts_named all part (c ∷ costs) = go (nat_lt 0 c) (parts_named all (suc part) costs)
+    where
+      go : (b : Bool) → map (part_held names) (lines_from first (suc part) costs) ≡ parts_from (row_of names first all) (suc part) costs
+          → map (part_held names) (if b then part_line first part c ∷ lines_from first (suc part) costs else lines_from first (suc part) costs)
+          ≡ (if b then part_of (row_of names first all) part c ∷ parts_from (row_of names first all) (suc part) costs else parts_from (row_of names first all) (suc part) costs)
+      go true more = ap (λ l. part_of (row_of names first all) part c ∷ l) more
+      go false more = more
+
+  -- the lines of a row show its parts
+  pub row_parts : (costs : List ℕ) → first.part ≡ 0 → map (part_held names) (first ∷ lines_from first 1 costs) ≡ parts_of (row_of names first costs)
+  row_parts costs zero = ap₂ (λ n l. part_of (row_of names first costs) n first.sum ∷ l) zero (parts_named costs 1 costs)
+
+  pub parts_are_named : ArcIsNamed names first → (part : ℕ) (costs : List ℕ) → AllByRecursion (ArcIsNamed names) (lines_from first part costs)
+  parts_are_named named part [] = tt
+  parts_are_named named part (c ∷ costs) = go (nat_lt 0 c) (parts_are_named named (suc part) costs)
+    where
+      go : (b : Bool) → AllByRecursion (ArcIsNamed names) (lines_from first (suc part) costs) → AllByRecursion (ArcIsNamed names) (if b then part_line first part c ∷ lines_from first (suc part) costs else lines_from first (suc part) costs)
+      go true more = (named, more)
+      go false more = more
+
+all_append : {X : Type 0} (P : X → Type 0) (xs ys : List X) → AllByRecursion P xs → AllByRecursion P ys → AllByRecursion P (xs ++ ys)
+all_append P [] ys h k = k
+all_append P (x ∷ xs) ys h k = (h.0, all_append P xs ys h.1 k)
+
+-- ---- the walk
+
+module _ {S : Type 0} (g : Ghosts S) where
+  -- no line waits
+  pub used_none : (used : List Arc) (c : Arcs S) → c.waiting ≡ None → GivesArcs g used c.store.now c.walk → HasUsedArcs g used c
+  used_none used c none gives = record { gives = subst (λ w. GivesArcs g (used ++ waiting_line w) c.store.now c.walk) (sym none) (subst (λ l. GivesArcs g l c.store.now c.walk) (sym (append-nil used)) gives) }
+
+  pub gives_none : (used : List Arc) (c : Arcs S) → c.waiting ≡ None → HasUsedArcs g used c → GivesArcs g used c.store.now c.walk
+  gives_none used c none was = subst (λ l. GivesArcs g l c.store.now c.walk) (append-nil used) (subst (λ w. GivesArcs g (used ++ waiting_line w) c.store.now c.walk) none was.gives)
+
+  -- a row shows its lines
+  pub one_row : (given : List (ArcRow (List ℕ) (List ℕ))) (old new : Arcs S) (first : Arc) (costs : List ℕ) (row : ArcRow (Bor (List ℕ)) (List ℕ)) → new.names.now ≡ old.names.now → first.part ≡ 0 → (was : HasGivenArcs g given old)
+      → HasUsedArcs g ((was.lines ++ first ∷ []) ++ lines_from first 1 costs) new → plain_given row ≡ row_of old.names.now first costs → ArcIsNamed old.names.now first → HasGivenArcs g (given ++ plain_given row ∷ []) new
+  one_row given old new first costs row names counts was used says named =
+      let more = first ∷ lines_from first 1 costs in
+      let same = append_assoc was.lines (first ∷ []) (lines_from first 1 costs) in
+      record {
+        lines = was.lines ++ more;
+        used = subst (λ l. HasUsedArcs g l new) same used;
+        parts_are = ap (λ (n : List NameLine). map (part_held n) (was.lines ++ more)) names ∙ map-append (part_held old.names.now) was.lines more
+            ∙ ap₂ ◌++◌ was.parts_are (row_parts old.names.now first costs counts ∙ ap parts_of (sym says) ∙ sym (append-nil (parts_of (plain_given row)))) ∙ sym (flat_map-append parts_of given (plain_given row ∷ []));
+        named = subst (λ (n : List NameLine). AllByRecursion (ArcIsNamed n) (was.lines ++ more)) (sym names) (all_append _ was.lines more was.named (named, parts_are_named old.names.now first named 1 costs));
+      }
+
+  -- the lines given are all
+  pub no_row : (given : List (ArcRow (List ℕ) (List ℕ))) (old new : Arcs S) → new.names.now ≡ old.names.now → (was : HasGivenArcs g given old) → HasTakenArc g was.lines new None → HasGivenAllArcs g given new
+  no_row given old new names was taken = record {
+    has = record {
+      lines = was.lines;
+      used = used_none was.lines new taken.0 taken.1;
+      parts_are = ap (λ (n : List NameLine). map (part_held n) was.lines) names ∙ was.parts_are;
+      named = subst (λ (n : List NameLine). AllByRecursion (ArcIsNamed n) was.lines) (sym names) was.named;
+    };
+    none_waits = taken.0;
+    all = taken.2;
+  }
+
+  -- in the words of the book
+  pub tells_arc_rows : (t : Tables) (c : Arcs S) (given : List (ArcRow (List ℕ) (List ℕ))) (result : Result (Option (ArcRow (Bor (List ℕ)) (List ℕ))) StoreEnd) → c.names.now ≡ t.names → OnOk result (StandsFor g t c.store.now) → IfOk result (HasGivenArcsOn g given c)
+      → IfOk result (TellsArcRows c.walk.run t given)
+  tells_arc_rows t c given (Err e) names was has = tt
+  tells_arc_rows t c given (Ok None) names was has =
+      let all = arcs_end g t c.store.now c.walk has.has.lines was (gives_none has.has.lines c has.none_waits has.has.used) has.all in
+      ap₂ (λ (n : List NameLine) l. map (part_held n) l) (sym names) all ∙ has.has.parts_are
+  tells_arc_rows t c given (Ok (Some row)) names was has =
+      let begun = arcs_begin g t c.store.now c.walk (has.lines ++ waiting_line c.waiting) was has.used.gives in
+      let more = waiting_line c.waiting ++ begun.0 in (
+        map (part_held c.names.now) more,
+        ap₂ (λ (n : List NameLine) l. map (part_held n) l) (sym names) (begun.1 ∙ append_assoc has.lines (waiting_line c.waiting) begun.0) ∙ map-append (part_held c.names.now) has.lines more
+            ∙ ap (λ l. l ++ map (part_held c.names.now) more) has.parts_are,
+      )
+
+  -- and all names are held
+  pub arcs_are_named : (t : Tables) (c : Arcs S) (given : List (ArcRow (List ℕ) (List ℕ))) → StandsFor g t c.store.now → HasGivenAllArcs g given c → AllByRecursion (ArcIsNamed c.names.now) (arcs_in c.walk.run t)
+  arcs_are_named t c given was has =
+      subst (AllByRecursion (ArcIsNamed c.names.now)) (sym (arcs_end g t c.store.now c.walk has.has.lines was (gives_none has.has.lines c has.none_waits has.has.used) has.all)) has.has.named

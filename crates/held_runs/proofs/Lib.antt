@@ -1,0 +1,10 @@
+pub mod ArcRows
+pub mod ArcWalks
+pub mod CellRows
+pub mod CellWalks
+mod HeadReading
+mod NameLists
+pub mod StackRows
+pub mod StackWalks
+pub mod WalkSteps
+pub mod WalkTables

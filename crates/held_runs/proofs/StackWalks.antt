@@ -1,0 +1,24 @@
+-- A walk over the stacks of a run, in the words of the tables.
+use Rattle.std.proofs.Common.{◌≡◌, List, ◌++◌, map, drop, subst}
+use Rattle.sqlite_trees.specs.declared.store.Store.{Ghosts}
+use Rattle.sql_tables.specs.Walks.{Reads, HasReadAll}
+use Rattle.prof_tables.specs.Tables.{Tables, StackLine, stack_columns}
+use Rattle.prof_tables.specs.RunLines.{stacks_in}
+use Rattle.prof_tables.proofs.RunLines.{stacks_begun, stacks_all}
+use Rattle.prof_store.specs.declared.store.Store.{Store}
+use Rattle.held_runs.specs.declared.walks.Walk.{Walk}
+use Rattle.prof_store.specs.Shown.{shown, StandsFor}
+use Rattle.held_runs.specs.Walks.{asked, rows_of, HasWalked}
+use Rattle.held_runs.specs.StackWalks.{GivesStacks}
+
+module _ {S : Type 0} (g : Ghosts S) (t : Tables) (store : Store S) (walk : Walk) (given : List StackLine) (was : StandsFor g t store) (gives : GivesStacks g given store walk) where
+  -- the stacks given begin those of the run
+  pub stacks_begin : (rest : List StackLine) × (stacks_in walk.run t ≡ given ++ rest)
+  stacks_begin =
+      let at_hand = drop walk.at store.page.items in
+      let reads = subst (λ k. Reads (asked k walk.run) (rows_of g k store) walk.placed walk.low walk.top (map stack_columns given) at_hand) gives.table_is gives.walks.reads in
+      stacks_begun walk.run t (shown g store).now.trees was.holds walk.placed walk.low walk.top given at_hand reads
+
+  -- and are all, once the walk has ended
+  pub stacks_end : HasWalked g (map stack_columns given) store walk → stacks_in walk.run t ≡ given
+  stacks_end all = stacks_all walk.run t (shown g store).now.trees was.holds given (subst (λ k. HasReadAll (asked k walk.run) (rows_of g k store) (map stack_columns given)) gives.table_is all)

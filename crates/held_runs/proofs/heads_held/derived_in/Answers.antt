@@ -1,0 +1,39 @@
+use Rattle.std.proofs.Common.{◌≡◌, ◌∙◌, ◌++◌, ◌∷◌, [], ℕ, List, map, length, sym, ap, ap₂}
+use Rattle.std.proofs.lemmas.List.{length-map}
+use Rattle.sql_tables.proofs.Rows.{map-append}
+use Rattle.held_runs.specs.HeldHeads.{placed, derived_place, coef_line_said, coefs_at, coefs_from}
+use Rattle.prof_store.proofs.Listing.{read_on}
+use Rattle.held_runs.proofs.HeadReading.{at_place, placed-one_more, coefs_from-one_more, read_part, part_within}
+use Rattle.prof_store.proofs.Reading.{is_ok_then}
+use Rattle.held_runs.proofs.heads_held.derived_in.Goals as goal
+
+abbrev name_of : List ℕ × List ℕ → List ℕ
+name_of d = d.0
+
+abbrev row_of : List ℕ × List ℕ → List ℕ
+row_of d = d.1
+
+pub lines-preserved : goal.lines-preserved
+lines-preserved c =
+    let derived = c.lines.derived in
+    let coefs = c.args.coefs.now in
+    let name = c.in_ok-name.name in
+    let row = c.in_ok-row.row in
+    let more = c.in_ok-row.more in
+    let line = c.line-item.result in
+    let low = c.lines.invariant.1 in
+    let pushed : c.push.new.self ≡ derived ++ (name, row) ∷ [] = is_ok_then c.push.result c.if-is_err.ensures.negation c.push.ensures.ok in
+    let place : c.len-place.result ≡ length derived = c.len-place.ensures in
+    let one : derived_place line ≡ at_place (length (map name_of derived)) name = ap₂ at_place (c.in_ok-name.ensures.read.0 ∙ place ∙ sym (length-map derived name_of)) (sym (c.in_ok-name.ensures.read.1 ∙ c.deref.ensures.value)) in
+    let names : map name_of c.push.new.self ≡ map name_of derived ++ name ∷ [] = ap (map name_of) pushed ∙ map-append name_of derived ((name, row) ∷ []) in
+    let rows : map row_of c.push.new.self ≡ map row_of derived ++ row ∷ [] = ap (map row_of) pushed ∙ map-append row_of derived ((name, row) ∷ []) in (
+      read_on derived_place c.args.lines.now c.lines.line-index line (placed 0 (map name_of derived)) c.lines-test.true c.line-item.is c.lines.invariant.0
+          ∙ ap (λ p. placed 0 (map name_of derived) ++ p ∷ []) one
+          ∙ sym (placed-one_more (map name_of derived) name)
+          ∙ sym (ap (placed 0) names),
+      part_within coefs c.lines.used more low c.in_ok-row.ensures.within,
+      read_part coef_line_said coefs c.lines.used more (coefs_from 0 (map row_of derived)) _ low c.lines.invariant.2 c.in_ok-row.ensures.said
+          ∙ ap (λ k. coefs_from 0 (map row_of derived) ++ coefs_at k 0 row) (place ∙ sym (length-map derived row_of))
+          ∙ sym (coefs_from-one_more (map row_of derived) row)
+          ∙ sym (ap (coefs_from 0) rows),
+    )

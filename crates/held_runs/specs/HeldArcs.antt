@@ -1,0 +1,88 @@
+-- What a walk over the calls of a run has given, with names in place.
+use Rattle.std.specs.Prelude.{◌≡◌, ℕ, suc, nat_lt, if◌then◌else◌, List, [], ◌∷◌, ◌++◌, map, flat_map, Option, Some, None}
+use Rattle.std.specs.Borrow.{Bor}
+use Rattle.std.specs.List.{AllByRecursion}
+use Rattle.sqlite_trees.specs.declared.store.Store.{Ghosts}
+use Rattle.cost_rows.specs.declared.rows.ArcRow.{ArcRow}
+use Rattle.prof_tables.specs.Tables.{Tables, NameLine, ArcLine as Arc, arc_columns}
+use Rattle.prof_books.specs.Book.{CallPart, name_of, part_held, parts_held, parts_of, ArcIsNamed}
+use Rattle.held_runs.specs.ArcWalks.{GivesArcs}
+use Rattle.store_columns.specs.Lines.{arc_line}
+use Rattle.held_runs.specs.Walks.{HasWalked}
+use Rattle.store_columns.specs.declared.lines.ArcLine.{ArcLine}
+use Rattle.held_runs.specs.declared.arcs.Arcs.{Arcs}
+
+-- a row as it is lent
+abbrev pub plain_given : ArcRow (Bor (List ℕ)) (List ℕ) → ArcRow (List ℕ) (List ℕ)
+plain_given r = record {
+  object = r.object.now;
+  file = r.file.now;
+  function = r.function.now;
+  line = r.line;
+  called_object = r.called_object.now;
+  called_file = r.called_file.now;
+  called_function = r.called_function.now;
+  count = r.count;
+  costs = r.costs;
+}
+
+-- the parts of the rows given and of this one begin those of the run, or those given are all of them
+abbrev pub TellsArcRows : ℕ → Tables → List (ArcRow (List ℕ) (List ℕ)) → Option (ArcRow (Bor (List ℕ)) (List ℕ)) → Type 0
+TellsArcRows run t given (Some row) = (rest : List CallPart) × (parts_held run t ≡ flat_map parts_of (given ++ plain_given row ∷ []) ++ rest)
+TellsArcRows run t given None = parts_held run t ≡ flat_map parts_of given
+
+-- the row of the calls whose count this line has
+abbrev pub row_of : List NameLine → Arc → List ℕ → ArcRow (List ℕ) (List ℕ)
+row_of names first costs = record {
+  object = name_of names first.object;
+  file = name_of names first.file;
+  function = name_of names first.function;
+  line = first.line;
+  called_object = name_of names first.called_object;
+  called_file = name_of names first.called_file;
+  called_function = name_of names first.called_function;
+  count = first.sum;
+  costs = costs;
+}
+
+-- the line of a part of the same calls
+abbrev pub part_line : Arc → ℕ → ℕ → Arc
+part_line first part sum = record first { part = part; sum = sum }
+
+-- the lines of costs above 0, from a part on
+abbrev pub lines_from : Arc → ℕ → List ℕ → List Arc
+lines_from first part [] = []
+lines_from first part (cost ∷ costs) = if nat_lt 0 cost then part_line first part cost ∷ lines_from first (suc part) costs else lines_from first (suc part) costs
+
+-- the line that is read and waits for the next row
+abbrev pub waiting_line : Option ArcLine → List Arc
+waiting_line None = []
+waiting_line (Some line) = arc_line line ∷ []
+
+module _ {S : Type 0} (g : Ghosts S) where
+  -- these lines are used, and that which waits comes next
+  pub record HasUsedArcs (used : List Arc) (c : Arcs S) : Type 0 where
+    pub gives : GivesArcs g (used ++ waiting_line c.waiting) c.store.now c.walk
+
+  -- one line more is taken, or there is none; none waits
+  abbrev pub HasTakenArc : List Arc → Arcs S → Option ArcLine → Type 0
+  HasTakenArc used c (Some line) = (c.waiting ≡ None) × GivesArcs g (used ++ arc_line line ∷ []) c.store.now c.walk
+  HasTakenArc used c None = (c.waiting ≡ None) × GivesArcs g used c.store.now c.walk × HasWalked g (map arc_columns used) c.store.now c.walk
+
+  -- the walk has given these rows: they show lines of the table, whose names are held
+  pub record HasGivenArcs (given : List (ArcRow (List ℕ) (List ℕ))) (c : Arcs S) : Type 0 where
+    pub lines : List Arc
+    pub used : HasUsedArcs lines c
+    pub parts_are : map (part_held c.names.now) lines ≡ flat_map parts_of given
+    pub named : AllByRecursion (ArcIsNamed c.names.now) lines
+
+  -- and they are all that the table has of the run
+  pub record HasGivenAllArcs (given : List (ArcRow (List ℕ) (List ℕ))) (c : Arcs S) : Type 0 where
+    pub has : HasGivenArcs given c
+    pub none_waits : c.waiting ≡ None
+    pub all : HasWalked g (map arc_columns has.lines) c.store.now c.walk
+
+  -- one more is given, or those so far are all
+  abbrev pub HasGivenArcsOn : List (ArcRow (List ℕ) (List ℕ)) → Arcs S → Option (ArcRow (Bor (List ℕ)) (List ℕ)) → Type 0
+  HasGivenArcsOn given c (Some row) = HasGivenArcs (given ++ plain_given row ∷ []) c
+  HasGivenArcsOn given c None = HasGivenAllArcs given c

@@ -1,0 +1,10 @@
+pub mod ArcWalks
+pub mod CellWalks
+pub mod HeadLines
+pub mod HeldArcs
+pub mod HeldCells
+pub mod HeldHeads
+pub mod HeldStacks
+pub mod NameLines
+pub mod StackWalks
+pub mod Walks

@@ -1,0 +1,21 @@
+-- The names that are held, beside the rows and the lines that they show.
+use Rattle.std.specs.Prelude.{ℕ, Bool, ◌==◌, List, [], ◌∷◌}
+use Rattle.std.specs.List.{list_any}
+use Rattle.sqlite_value.specs.declared.value.Value.TheVariants.{Blob}
+use Rattle.sqlite_value.specs.Order.{Row, column}
+use Rattle.prof_tables.specs.Tables.{NameLine, number}
+use Rattle.held_runs.specs.declared.held_names.HeldName.{HeldName}
+
+abbrev pub name_line : HeldName → NameLine
+name_line n = record { number = n.number; name = n.bytes.items }
+
+-- of a name its number and its bytes, which the query shows
+abbrev pub name_seen : Row → Row
+name_seen r = column r 0 ∷ column r 2 ∷ []
+
+abbrev pub name_shown : NameLine → Row
+name_shown line = number line.number ∷ Blob line.name ∷ []
+
+-- whether a name has this number
+abbrev pub has_number : List NameLine → ℕ → Bool
+has_number names n = list_any (λ (line : NameLine). line.number == n) names

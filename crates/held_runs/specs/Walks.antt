@@ -1,0 +1,61 @@
+-- A walk over the rows of a run, in one of the tables whose rows are lines of runs.
+use Rattle.std.specs.Prelude.{◌≡◌, ◌≢◌, ℕ, ◌+◌, pos, List, drop}
+use Rattle.sqlite_value.specs.declared.value.Value.TheVariants.{Null, Int}
+use Rattle.sqlite_value.specs.Order.{Row, column}
+use Rattle.sqlite_trees.specs.View.{IsShaped}
+use Rattle.sqlite_trees.specs.declared.store.Store.{Ghosts}
+use Rattle.sqlite_trees.specs.declared.store.Shape.TheVariants as shape
+use Rattle.sqlite.specs.State.{State}
+use Rattle.sql_tables.specs.Walks.{Asked, Reads, HasReadAll}
+use Rattle.prof_tables.specs.Schema.{schema_one, cell_at, arc_at, stack_at}
+use Rattle.prof_tables.specs.WalkTexts.{cell_window_text, cell_ends_text, cells_of, arc_window_text, arc_ends_text, arcs_of, stack_window_text, stack_ends_text, stacks_of}
+use Rattle.prof_store.specs.declared.store.Store.{Store}
+use Rattle.held_runs.specs.declared.walks.Listed.{Listed}
+use Rattle.held_runs.specs.declared.walks.Listed.TheVariants.{Cells, Arcs, Stacks}
+use Rattle.held_runs.specs.declared.walks.Span.{Span}
+use Rattle.held_runs.specs.declared.walks.Walk.{Walk}
+use Rattle.prof_store.specs.Shown.{shown}
+
+abbrev pub tree_of : Listed → ℕ
+tree_of Cells = cell_at.tree
+tree_of Arcs = arc_at.tree
+tree_of Stacks = stack_at.tree
+
+abbrev pub window_text_of : Listed → List ℕ
+window_text_of Cells = cell_window_text
+window_text_of Arcs = arc_window_text
+window_text_of Stacks = stack_window_text
+
+abbrev pub ends_text_of : Listed → List ℕ
+ends_text_of Cells = cell_ends_text
+ends_text_of Arcs = arc_ends_text
+ends_text_of Stacks = stack_ends_text
+
+-- the rows of a run, and of each its columns
+abbrev pub asked : Listed → ℕ → Asked
+asked Cells = cells_of
+asked Arcs = arcs_of
+asked Stacks = stacks_of
+
+-- where the rows lie, by the row of the least and the greatest rowid, which has NULL where there are none
+abbrev pub IsSpanIn : Row → Span → Type 0
+IsSpanIn row span = column row 0 ≢ Null → (column row 0 ≡ Int (pos (span.low + 1))) × (column row 1 ≡ Int (pos span.top))
+
+-- the schema is schema 1, and the rows of these tables have rowids that rise
+pub record IsReady (s : State) : Type 0 where
+  pub schema_is : s.now.schema ≡ schema_one
+  pub numbered : (table : Listed) → IsShaped shape.Table (s.now.trees (tree_of table))
+
+module _ {S : Type 0} (g : Ghosts S) where
+  -- the rows of a table
+  abbrev pub rows_of : Listed → Store S → List Row
+  rows_of table store = (shown g store).now.trees (tree_of table)
+
+  -- the walk has given these rows
+  pub record Walks (given : List Row) (store : Store S) (walk : Walk) : Type 0 where
+    pub ready : IsReady (shown g store)
+    pub reads : Reads (asked walk.table walk.run) (rows_of walk.table store) walk.placed walk.low walk.top given (drop walk.at store.page.items)
+
+  -- the rows given are all of the run
+  abbrev pub HasWalked : List Row → Store S → Walk → Type 0
+  HasWalked given store walk = HasReadAll (asked walk.table walk.run) (rows_of walk.table store) given

@@ -1,0 +1,278 @@
+// The calls of a run, row by row, with names in place.
+ghost use Rattle.std.specs.Prelude.{◌≡◌, ◌≤◌, ◌++◌, ◌∷◌, [], Some, None, IfOk, OnOk, IfSome, IsTrue, MatchResult, length};
+ghost use Rattle.std.specs.List.{AllByRecursion};
+ghost use Rattle.prof_tables.specs.RunLines.{arcs_in};
+ghost use Rattle.prof_books.specs.Book.{ArcIsNamed};
+ghost use Rattle.held_runs.specs.HeldArcs.{HasUsedArcs, HasTakenArc, HasGivenArcs, HasGivenArcsOn, TellsArcRows, lines_from, part_line, plain_given, row_of};
+ghost use Rattle.store_columns.specs.Lines.{arc_line};
+ghost use Rattle.prof_store.specs.Shown.{shown, IsFaithful, IsUsable, IsSettled, IsAsBefore, StandsFor, LeavesOnly};
+ghost use Rattle.held_runs.specs.Walks.{IsReady};
+
+use crate::arc_lines::next_arc;
+use crate::held_names::HeldNames;
+use crate::walks::{Listed, Walk};
+use cg_text::Items;
+use cost_rows::ArcRow;
+use prof_store::Store;
+use sqlite::Alter;
+use std::alloc::Global;
+use store_columns::{ArcLine, StoreEnd};
+
+/// The sums of a run's calls, read one row at a time.
+pub struct Arcs<'a, S: Alter> {
+    store: &'a mut Store<S>,
+    names: &'a HeldNames,
+    alloc: Global,
+    events: usize,
+    walk: Walk,
+    waiting: Option<ArcLine>,
+    failed: Option<StoreEnd>,
+}
+
+/// Adds zeros, up to a length.
+fn fill(costs: &mut Items<u128>, len: usize) -> Result<(), StoreEnd>
+    ensures lines { OnOk result ((first : _) (part : _) → lines_from first part costs.new ≡ lines_from first part costs.old) }
+    ensures len { OnOk result (length costs.old ≤ len → length costs.new ≡ len) }
+{
+    'columns: for _ in costs.len()..len {
+        if costs.push(0).is_err() {
+            return Err(StoreEnd::Memory);
+        }
+    }
+    Ok(())
+}
+
+/// Adds a part at its column, and a 0 for each column before it that has none.
+fn add_part(costs: &mut Items<u128>, line: &ArcLine, events: usize) -> Result<(), StoreEnd>
+    ensures lines { OnOk result ((first : _) → lines_from first 1 costs.new ≡ lines_from first 1 costs.old ++ part_line first line.now.part line.now.sum ∷ []) }
+    ensures within { OnOk result (length costs.new ≤ events) }
+{
+    let part = line.part as usize;
+    let sum = line.sum.get();
+    if part <= costs.len() || part > events || sum == 0 {
+        return Err(StoreEnd::Store);
+    }
+    fill(costs, part - 1)?;
+    match costs.push(u128::from(sum)) {
+        Ok(()) => Ok(()),
+        Err(_) => Err(StoreEnd::Memory),
+    }
+}
+
+/// The costs of all columns.
+fn filled(mut costs: Items<u128>, events: usize) -> Result<Items<u128>, StoreEnd>
+    ensures lines { IfOk result (λ full. (first : _) (part : _) → lines_from first part full ≡ lines_from first part costs) }
+    ensures events { IfOk result (λ full. length costs ≤ events → length full ≡ events) }
+{
+    fill(&mut costs, events)?;
+    Ok(costs)
+}
+
+/// Whether a line has a part of the same calls.
+fn is_part_of(first: &ArcLine, line: &ArcLine) -> bool
+    ensures { IsTrue result → arc_line line.now ≡ part_line (arc_line first.now) line.now.part line.now.sum }
+{
+    first.run == line.run
+        && first.object == line.object
+        && first.file == line.file
+        && first.function == line.function
+        && first.line.get() == line.line.get()
+        && first.called_object == line.called_object
+        && first.called_file == line.called_file
+        && first.called_function == line.called_function
+}
+
+/// A row of calls with its names, which have to be held.
+fn arc_row<'a>(
+    first: &ArcLine,
+    names: &'a HeldNames,
+    costs: Items<u128>,
+) -> Result<ArcRow<&'a [u8], Items<u128>>, StoreEnd>
+    ensures row { IfOk result (λ row. plain_given row ≡ row_of names.now (arc_line first.now) costs) }
+    ensures named { OnOk result (ArcIsNamed names.now (arc_line first.now)) }
+{
+    let object = names.held(first.object)?;
+    let file = names.held(first.file)?;
+    let function = names.held(first.function)?;
+    let called_object = names.held(first.called_object)?;
+    let called_file = names.held(first.called_file)?;
+    let called_function = names.held(first.called_function)?;
+    Ok(ArcRow {
+        object,
+        file,
+        function,
+        line: first.line.get(),
+        called_object,
+        called_file,
+        called_function,
+        count: u128::from(first.sum.get()),
+        costs,
+    })
+}
+
+/// The sums of a run's calls, with so many events and the names that `names` has: those of this
+/// store. The value borrows the store until it is dropped, which it may be at any row.
+pub fn arcs_of<'a, S: Alter>(
+    store: &'a mut Store<S>,
+    alloc: Global,
+    run: u32,
+    names: &'a HeldNames,
+    events: usize,
+) -> Arcs<'a, S>
+    ensures same_reference { result.store.ghost_name ≡ store.entry.ghost_name }
+    ensures run { result.walk.run ≡ run }
+    ensures names { result.names.now ≡ names.now }
+    ensures events { result.events ≡ events }
+    ensures ready { IsReady (shown S.Store store.old) → HasGivenArcs S.Store [] result }
+    ensures begun { (t : _) → StandsFor S.Store t store.old → HasGivenArcs S.Store [] result }
+    ensures failed { result.failed ≡ None }
+    ensures stays { (t : _) → StandsFor S.Store t store.old → StandsFor S.Store t result.store.now }
+    ensures unchanged { IsSettled S.Store store.old → IsAsBefore S.Store store.old result.store.now }
+    ensures usable { IsUsable S.Store store.old → IsUsable S.Store result.store.now }
+    ensures was_usable { IsUsable S.Store result.store.now → IsUsable S.Store store.old }
+    ensures crash { LeavesOnly S.Store store.old result.store.now (λ _. ⊥) }
+    ensures honest { IsFaithful S.Store result.store.now → IsFaithful S.Store store.old }
+{
+    store.page.clear();
+    Arcs {
+        store,
+        names,
+        alloc,
+        events,
+        walk: Walk::over(Listed::Arcs, run),
+        waiting: None,
+        failed: None,
+    }
+}
+
+impl<'a, S: Alter> Arcs<'a, S> {
+    /// The line that waits, or the next one.
+    fn line(&mut self) -> Result<Option<ArcLine>, StoreEnd>
+        ensures same_reference { self.new.store.ghost_name ≡ self.old.store.ghost_name }
+        ensures run { self.new.walk.run ≡ self.old.walk.run }
+        ensures names { self.new.names.now ≡ self.old.names.now }
+        ensures events { self.new.events ≡ self.old.events }
+        ensures failed { self.new.failed ≡ self.old.failed }
+        ensures taken { IsFaithful S.Store self.new.store.now → (used : _) → HasUsedArcs S.Store used self.old → IfOk result (HasTakenArc S.Store used self.new) }
+        ensures stays { IsFaithful S.Store self.new.store.now → (t : _) → StandsFor S.Store t self.old.store.now → OnOk result (StandsFor S.Store t self.new.store.now) }
+        ensures kept { IsFaithful S.Store self.new.store.now → (t : _) → StandsFor S.Store t self.old.store.now → IsUsable S.Store self.new.store.now → StandsFor S.Store t self.new.store.now }
+        ensures unchanged { IsFaithful S.Store self.new.store.now → IsSettled S.Store self.old.store.now → IsUsable S.Store self.new.store.now → IsAsBefore S.Store self.old.store.now self.new.store.now }
+        ensures usable { IsFaithful S.Store self.new.store.now → IsUsable S.Store self.old.store.now → OnOk result (IsUsable S.Store self.new.store.now) }
+        ensures was_usable { IsFaithful S.Store self.new.store.now → IsUsable S.Store self.new.store.now → IsUsable S.Store self.old.store.now }
+        ensures crash { IsFaithful S.Store self.new.store.now → (t : _) → StandsFor S.Store t self.old.store.now → LeavesOnly S.Store self.old.store.now self.new.store.now (λ _. ⊥) }
+        ensures honest { IsFaithful S.Store self.new.store.now → IsFaithful S.Store self.old.store.now }
+    {
+        match self.waiting.take() {
+            Some(line) => Ok(Some(line)),
+            None => next_arc(self.store, &mut self.walk),
+        }
+    }
+
+    /// The costs of the row whose count stands in `first`. The line behind them waits.
+    fn costs(&mut self, first: &ArcLine) -> Result<Items<u128>, StoreEnd>
+        ensures same_reference { self.new.store.ghost_name ≡ self.old.store.ghost_name }
+        ensures run { self.new.walk.run ≡ self.old.walk.run }
+        ensures names { self.new.names.now ≡ self.old.names.now }
+        ensures events { self.new.events ≡ self.old.events }
+        ensures failed { self.new.failed ≡ self.old.failed }
+        ensures used { IsFaithful S.Store self.new.store.now → (used : _) → HasUsedArcs S.Store used self.old → IfOk result (λ costs. HasUsedArcs S.Store (used ++ lines_from (arc_line first.now) 1 costs) self.new) }
+        ensures long { IfOk result (λ costs. length costs ≡ self.old.events) }
+        ensures stays { IsFaithful S.Store self.new.store.now → (t : _) → StandsFor S.Store t self.old.store.now → OnOk result (StandsFor S.Store t self.new.store.now) }
+        ensures kept { IsFaithful S.Store self.new.store.now → (t : _) → StandsFor S.Store t self.old.store.now → IsUsable S.Store self.new.store.now → StandsFor S.Store t self.new.store.now }
+        ensures unchanged { IsFaithful S.Store self.new.store.now → IsSettled S.Store self.old.store.now → IsUsable S.Store self.new.store.now → IsAsBefore S.Store self.old.store.now self.new.store.now }
+        ensures usable { IsFaithful S.Store self.new.store.now → IsUsable S.Store self.old.store.now → OnOk result (IsUsable S.Store self.new.store.now) }
+        ensures was_usable { IsFaithful S.Store self.new.store.now → IsUsable S.Store self.new.store.now → IsUsable S.Store self.old.store.now }
+        ensures crash { IsFaithful S.Store self.new.store.now → (t : _) → StandsFor S.Store t self.old.store.now → LeavesOnly S.Store self.old.store.now self.new.store.now (λ _. ⊥) }
+        ensures honest { IsFaithful S.Store self.new.store.now → IsFaithful S.Store self.old.store.now }
+    {
+        let mut costs = Items::new(self.alloc);
+        'parts: for _ in 0..u64::MAX {
+            let Some(line) = self.line()? else {
+                return filled(costs, self.events);
+            };
+            if !is_part_of(first, &line) {
+                self.waiting = Some(line);
+                return filled(costs, self.events);
+            }
+            add_part(&mut costs, &line, self.events)?;
+        }
+        Err(StoreEnd::Store)
+    }
+
+    fn row(&mut self) -> Result<Option<ArcRow<&'a [u8], Items<u128>>>, StoreEnd>
+        ensures same_reference { self.new.store.ghost_name ≡ self.old.store.ghost_name }
+        ensures run { self.new.walk.run ≡ self.old.walk.run }
+        ensures names { self.new.names.now ≡ self.old.names.now }
+        ensures events { self.new.events ≡ self.old.events }
+        ensures failed { self.new.failed ≡ self.old.failed }
+        ensures long { IfOk result (λ row. IfSome row (λ r. length r.costs ≡ self.old.events)) }
+        ensures given { IsFaithful S.Store self.new.store.now → (given : _) → HasGivenArcs S.Store given self.old → IfOk result (HasGivenArcsOn S.Store given self.new) }
+        ensures stays { IsFaithful S.Store self.new.store.now → (t : _) → StandsFor S.Store t self.old.store.now → OnOk result (StandsFor S.Store t self.new.store.now) }
+        ensures kept { IsFaithful S.Store self.new.store.now → (t : _) → StandsFor S.Store t self.old.store.now → IsUsable S.Store self.new.store.now → StandsFor S.Store t self.new.store.now }
+        ensures unchanged { IsFaithful S.Store self.new.store.now → IsSettled S.Store self.old.store.now → IsUsable S.Store self.new.store.now → IsAsBefore S.Store self.old.store.now self.new.store.now }
+        ensures usable { IsFaithful S.Store self.new.store.now → IsUsable S.Store self.old.store.now → OnOk result (IsUsable S.Store self.new.store.now) }
+        ensures was_usable { IsFaithful S.Store self.new.store.now → IsUsable S.Store self.new.store.now → IsUsable S.Store self.old.store.now }
+        ensures crash { IsFaithful S.Store self.new.store.now → (t : _) → StandsFor S.Store t self.old.store.now → LeavesOnly S.Store self.old.store.now self.new.store.now (λ _. ⊥) }
+        ensures honest { IsFaithful S.Store self.new.store.now → IsFaithful S.Store self.old.store.now }
+    {
+        let Some(first) = self.line()? else {
+            return Ok(None);
+        };
+        if first.part != 0 {
+            return Err(StoreEnd::Store);
+        }
+        let costs = self.costs(&first)?;
+        let row = arc_row(&first, self.names, costs)?;
+        Ok(Some(row))
+    }
+
+    /// The next row, or `None` behind the last one. An error ends the walk, and is answered again
+    /// at each later call; a name that is not held is one, and so are parts out of form: without
+    /// the count, not rising, of cost 0, or of a column that is none of the events.
+    pub fn next(&mut self) -> Result<Option<ArcRow<&'a [u8], Items<u128>>>, StoreEnd>
+        ensures same_reference { self.new.store.ghost_name ≡ self.old.store.ghost_name }
+        ensures run { self.new.walk.run ≡ self.old.walk.run }
+        ensures names { self.new.names.now ≡ self.old.names.now }
+        ensures events { self.new.events ≡ self.old.events }
+        ensures failed { MatchResult result (λ _. self.new.failed ≡ self.old.failed) (λ e. self.new.failed ≡ Some e) }
+        ensures again { (e : _) → self.old.failed ≡ Some e → (result ≡ Err e) × (self.new.store.now ≡ self.old.store.now) }
+        ensures long { IfOk result (λ row. IfSome row (λ r. length r.costs ≡ self.old.events)) }
+        ensures given { IsFaithful S.Store self.new.store.now → (given : _) → HasGivenArcs S.Store given self.old → IfOk result (HasGivenArcsOn S.Store given self.new) }
+        ensures told { IsFaithful S.Store self.new.store.now → (t : _) → StandsFor S.Store t self.old.store.now → self.old.names.now ≡ t.names → (given : _) → HasGivenArcs S.Store given self.old → IfOk result (TellsArcRows self.old.walk.run t given) }
+        ensures named { IsFaithful S.Store self.new.store.now → (t : _) → StandsFor S.Store t self.old.store.now → (given : _) → HasGivenArcs S.Store given self.old → IfOk result (λ row. row ≡ None → AllByRecursion (ArcIsNamed self.old.names.now) (arcs_in self.old.walk.run t)) }
+        ensures stays { IsFaithful S.Store self.new.store.now → (t : _) → StandsFor S.Store t self.old.store.now → OnOk result (StandsFor S.Store t self.new.store.now) }
+        ensures kept { IsFaithful S.Store self.new.store.now → (t : _) → StandsFor S.Store t self.old.store.now → IsUsable S.Store self.new.store.now → StandsFor S.Store t self.new.store.now }
+        ensures unchanged { IsFaithful S.Store self.new.store.now → IsSettled S.Store self.old.store.now → IsUsable S.Store self.new.store.now → IsAsBefore S.Store self.old.store.now self.new.store.now }
+        ensures usable { IsFaithful S.Store self.new.store.now → IsUsable S.Store self.old.store.now → OnOk result (IsUsable S.Store self.new.store.now) }
+        ensures was_usable { IsFaithful S.Store self.new.store.now → IsUsable S.Store self.new.store.now → IsUsable S.Store self.old.store.now }
+        ensures crash { IsFaithful S.Store self.new.store.now → (t : _) → StandsFor S.Store t self.old.store.now → LeavesOnly S.Store self.old.store.now self.new.store.now (λ _. ⊥) }
+        ensures honest { IsFaithful S.Store self.new.store.now → IsFaithful S.Store self.old.store.now }
+    {
+        if let Some(end) = self.failed {
+            return Err(end);
+        }
+        match self.row() {
+            Ok(row) => Ok(row),
+            Err(end) => {
+                self.failed = Some(end);
+                Err(end)
+            }
+        }
+    }
+}
+
+impl<S: Alter> Drop for Arcs<'_, S> {
+    fn drop(self)
+        ensures { self.exit.0.now ≡ self.entry.store.now }
+    {
+        let Arcs {
+            store: _,
+            names: _,
+            alloc: _,
+            events: _,
+            walk: _,
+            waiting: _,
+            failed: _,
+        } = self;
+    }
+}

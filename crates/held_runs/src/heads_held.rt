@@ -1,0 +1,189 @@
+// The head of a run, from its lines.
+ghost use Rattle.std.specs.Prelude.{◌≡◌, ◌≤◌, ◌++◌, [], ◌∷◌, map, take, length, true, All, Some, None, IfOk, MatchOption};
+ghost use Rattle.std.specs.Fmt.{decimal};
+ghost use Rattle.held_runs.specs.HeldHeads.{placed, event_place, event_total, derived_place, coef_line_said, coefs_at, coefs_from, IsReadFrom};
+
+use crate::head_lines::{HeadCoef, HeadDerived, HeadEvent};
+use cg_text::{FileHead, Flat, Items, are_distinct};
+use std::alloc::Global;
+use store_columns::StoreEnd;
+
+/// A copy of a name whose place is the next.
+fn name_at(alloc: Global, place: u32, next: usize, name: &[u8]) -> Result<Items<u8>, StoreEnd>
+    ensures read { IfOk result (λ copy. (place ≡ next) × (copy ≡ name.now)) }
+{
+    if place as usize != next {
+        return Err(StoreEnd::Store);
+    }
+    match name.to_vec(alloc) {
+        Ok(copy) => Ok(Items::from_vec(copy)),
+        Err(_) => Err(StoreEnd::Memory),
+    }
+}
+
+/// The names of events whose places go up from 0 by one.
+fn event_names(alloc: Global, lines: &[HeadEvent]) -> Result<Items<Items<u8>>, StoreEnd>
+    ensures read { IfOk result (λ names. map event_place lines.now ≡ placed 0 names) }
+{
+    let mut names = Items::new(alloc);
+    'lines: for line in lines {
+        let name = name_at(alloc, line.place, names.len(), &line.name)?;
+        if names.push(name).is_err() {
+            return Err(StoreEnd::Memory);
+        }
+    }
+    Ok(names)
+}
+
+/// The number that a text is in decimal, without a leading zero.
+fn decimal_in(alloc: Global, text: &str) -> Result<u128, StoreEnd>
+    ensures read { IfOk result (λ number. decimal number ≡ text.now) }
+{
+    let Ok(number) = text.parse::<u128>() else {
+        return Err(StoreEnd::Store);
+    };
+    let Ok(again) = format!(in alloc; "{number}") else {
+        return Err(StoreEnd::Memory);
+    };
+    if again.as_str() == text {
+        Ok(number)
+    } else {
+        Err(StoreEnd::Store)
+    }
+}
+
+/// The totals that are stated, where each event has one.
+fn all_stated(alloc: Global, lines: &[HeadEvent]) -> Result<Items<u128>, StoreEnd>
+    ensures read { IfOk result (λ sums. map event_total lines.now ≡ map (λ n. Some (decimal n)) sums) }
+{
+    let mut sums = Items::new(alloc);
+    'lines: for line in lines {
+        let Some(text) = &line.stated else {
+            return Err(StoreEnd::Store);
+        };
+        let sum = decimal_in(alloc, text.as_str())?;
+        if sums.push(sum).is_err() {
+            return Err(StoreEnd::Memory);
+        }
+    }
+    Ok(sums)
+}
+
+/// The totals that are stated, if each event has one, or none has.
+fn stated_in(alloc: Global, lines: &[HeadEvent]) -> Result<Option<Items<u128>>, StoreEnd>
+    ensures read { IfOk result (λ stated. MatchOption stated (All (λ line. line.stated ≡ None) lines.now) (λ sums. map event_total lines.now ≡ map (λ n. Some (decimal n)) sums)) }
+{
+    if lines.iter().all(|line| line.stated.is_none()) {
+        return Ok(None);
+    }
+    Ok(Some(all_stated(alloc, lines)?))
+}
+
+/// How often an event counts in a derived one, and how many lines at the front say it: 0 and none
+/// where the first line is not of them.
+fn first_times(place: usize, event: usize, coefs: &[HeadCoef]) -> (u64, usize)
+    ensures within { result.1 ≤ length coefs.now }
+    ensures said { map coef_line_said (take result.1 coefs.now) ≡ coefs_at place event (result.0 ∷ []) }
+{
+    match coefs.first() {
+        Some(coef)
+            if coef.place as usize == place && coef.event as usize == event && coef.times > 0 => {
+            (coef.times, 1)
+        }
+        _ => (0, 0),
+    }
+}
+
+/// A derived event's coefficients, one for each event, and how many lines at the front say them.
+fn row_in(
+    alloc: Global,
+    place: usize,
+    events: usize,
+    coefs: &[HeadCoef],
+) -> Result<(Items<u64>, usize), StoreEnd>
+    ensures within { IfOk result (λ r. r.1 ≤ length coefs.now) }
+    ensures said { IfOk result (λ r. map coef_line_said (take r.1 coefs.now) ≡ coefs_at place 0 r.0) }
+{
+    let mut row = Items::new(alloc);
+    let mut used = 0;
+    'events: for event in 0..events {
+        let (times, more) = first_times(place, event, &coefs[used..]);
+        used += more;
+        if row.push(times).is_err() {
+            return Err(StoreEnd::Memory);
+        }
+    }
+    Ok((row, used))
+}
+
+/// The derived events with their coefficients, where every line is used in turn.
+fn derived_in(
+    alloc: Global,
+    events: usize,
+    lines: &[HeadDerived],
+    coefs: &[HeadCoef],
+) -> Result<Items<(Items<u8>, Items<u64>)>, StoreEnd>
+    ensures names { IfOk result (λ derived. map derived_place lines.now ≡ placed 0 (map (λ d. d.0) derived)) }
+    ensures rows { IfOk result (λ derived. map coef_line_said coefs.now ≡ coefs_from 0 (map (λ d. d.1) derived)) }
+{
+    let mut derived = Items::new(alloc);
+    let mut used = 0;
+    'lines: for line in lines {
+        let place = derived.len();
+        let name = name_at(alloc, line.place, place, &line.name)?;
+        let (row, more) = row_in(alloc, place, events, &coefs[used..])?;
+        used += more;
+        if derived.push((name, row)).is_err() {
+            return Err(StoreEnd::Memory);
+        }
+    }
+    if used == coefs.len() {
+        Ok(derived)
+    } else {
+        Err(StoreEnd::Store)
+    }
+}
+
+/// The names of events, and behind them those of derived events.
+fn all_names(
+    alloc: Global,
+    events: &[HeadEvent],
+    derived: &[HeadDerived],
+) -> Result<Items<Items<u8>>, StoreEnd>
+    ensures read { IfOk result (λ names. names ≡ map (λ e. e.name.items) events.now ++ map (λ d. d.name.items) derived.now) }
+{
+    let mut names = event_names(alloc, events)?;
+    'derived: for line in derived {
+        let name = name_at(alloc, line.place, line.place as usize, &line.name)?;
+        if names.push(name).is_err() {
+            return Err(StoreEnd::Memory);
+        }
+    }
+    Ok(names)
+}
+
+/// The head that lines say, where they say one.
+pub(crate) fn head_in(
+    alloc: Global,
+    events: &[HeadEvent],
+    derived: &[HeadDerived],
+    coefs: &[HeadCoef],
+) -> Result<FileHead, StoreEnd>
+    ensures read { IfOk result (λ head. IsReadFrom head events.now derived.now coefs.now) }
+{
+    let all = all_names(alloc, events, derived)?;
+    if !are_distinct(all.as_slice()) {
+        return Err(StoreEnd::Store);
+    }
+    let names = event_names(alloc, events)?;
+    let stated = stated_in(alloc, events)?;
+    let rows = derived_in(alloc, names.len(), derived, coefs)?;
+    match Flat::of(event_names(alloc, events)?, rows) {
+        Some(derived) => Ok(FileHead {
+            events: names,
+            derived,
+            stated,
+        }),
+        None => Err(StoreEnd::Store),
+    }
+}

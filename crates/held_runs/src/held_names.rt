@@ -1,0 +1,162 @@
+// The names that are held, with their numbers.
+ghost use Rattle.std.specs.Prelude.{◌≡◌, ◌≢◌, ◌<◌, false, None, [], map, length, get_or, vec_len, IfOk, IfErr, OnOk, IsTrue, IsPermutation, IfSome};
+ghost use Rattle.std.specs.List.{AllAdjacentBelow};
+ghost use Rattle.sqlite_trees.specs.Tree.{IsAscending};
+ghost use Rattle.sqlite.specs.Held.{state};
+ghost use Rattle.sqlite.specs.State.{HasCleanDisk, Survives, Shown, FailsToQuery, CommitsShowing};
+ghost use Rattle.prof_tables.specs.Schema.{schema_one};
+ghost use Rattle.prof_tables.specs.Texts.{names_text};
+ghost use Rattle.prof_books.specs.Book.{name_of, IsHeld};
+ghost use Rattle.held_runs.specs.HeadLines.{first_two};
+ghost use Rattle.held_runs.specs.NameLines.{name_line, name_seen, name_shown, has_number};
+ghost use Rattle.prof_store.specs.Shown.{shown, IsFaithful, IsUsable, StandsFor, LeavesOnly, IsSettled, IsAsBefore};
+
+use prof_store::Store;
+use sqlite::{Alter, Connection, Error, Row};
+use std::alloc::Global;
+use std::marker::Model;
+use store_columns::{StoreEnd, bytes_at, end_of, number_at};
+
+/// A name and its number.
+#[derive(Drop)]
+struct HeldName {
+    number: u32,
+    bytes: Vec<u8>,
+}
+
+/// The names of a store with their numbers, which rise. Contracts see them as a list of lines.
+#[derive(Drop)]
+pub struct HeldNames {
+    names: Vec<HeldName>,
+}
+
+impl Model for HeldNames {
+    ghost use Rattle.std.specs.Prelude.{List, map, ◌<◌};
+    ghost use Rattle.sqlite_trees.specs.Tree.{IsAscending};
+    ghost use Rattle.prof_tables.specs.Tables.{NameLine};
+
+    ghost Value = { List NameLine };
+
+    ghost use Rattle.held_runs.specs.NameLines.{name_line};
+
+    ghost view = { λ h. map name_line h.names.items };
+
+    ghost invariant = { λ h. IsAscending (λ a b. a.number < b.number) h.names.items };
+}
+
+fn select_names<S: Alter>(conn: &mut Connection<S>) -> Result<Vec<Row>, Error>
+    ensures ok { HasCleanDisk (state S.Store conn.new) → IfOk result (λ rows. Shown names_text [] (state S.Store conn.old) (state S.Store conn.new) rows.items) }
+    ensures err { HasCleanDisk (state S.Store conn.new) → IfErr result (FailsToQuery names_text [] (state S.Store conn.old) (state S.Store conn.new)) }
+    ensures survives { Survives (state S.Store conn.old) (state S.Store conn.new) (CommitsShowing names_text [] (state S.Store conn.old)) }
+{
+    conn.query_all("SELECT id, bytes FROM name ORDER BY id", &[])
+}
+
+fn read_name(row: &Row) -> Result<HeldName, StoreEnd>
+    ensures { IfOk result (λ name. name_shown (name_line name) ≡ first_two row.now) }
+{
+    let number = number_at(row, 0)?;
+    let bytes = bytes_at(row, 1)?;
+    Ok(HeldName { number, bytes })
+}
+
+fn read_names(alloc: Global, rows: &[Row]) -> Result<Vec<HeldName>, StoreEnd>
+    ensures { IfOk result (λ names. map (λ n. name_shown (name_line n)) names.items ≡ map first_two rows.now) }
+{
+    let mut names = Vec::new(alloc);
+    'rows: for row in rows {
+        let name = read_name(row)?;
+        if names.push(name).is_err() {
+            return Err(StoreEnd::Memory);
+        }
+    }
+    Ok(names)
+}
+
+/// Whether the numbers rise.
+fn rise(names: &[HeldName]) -> bool
+    ensures { IsTrue result → AllAdjacentBelow (λ a b. a.number < b.number) names.now (length names.now) }
+{
+    for k in 1..names.len() {
+        if names[k].number <= names[k - 1].number {
+            return false;
+        }
+    }
+    true
+}
+
+/// The names in rows, whose numbers rise.
+fn names_in(alloc: Global, rows: &[Row]) -> Result<HeldNames, StoreEnd>
+    ensures read { IfOk result (λ names. map name_shown names ≡ map first_two rows.now) }
+    ensures rising { IfOk result (IsAscending (λ a b. a.number < b.number)) }
+{
+    let names = read_names(alloc, rows)?;
+    if rise(&names) {
+        Ok(HeldNames { names })
+    } else {
+        Err(StoreEnd::Store)
+    }
+}
+
+/// The name at a place, if it has the number.
+fn name_at(names: &[HeldName], at: usize, number: u32) -> Option<&[u8]>
+    ensures none { result ≡ None → (d : _) → at < length names.now → (get_or names.now at d).number ≢ number }
+    ensures some { IfSome result (λ name. (at < length names.now) × ((d : _) → ((get_or names.now at d).number ≡ number) × (name.now ≡ (get_or names.now at d).bytes.items))) }
+{
+    match names.get(at) {
+        Some(name) if name.number == number => Some(&name.bytes),
+        _ => None,
+    }
+}
+
+/// The name of a number, among names whose numbers rise.
+fn name_in(names: &[HeldName], number: u32) -> Option<&[u8]>
+    requires { IsAscending (λ a b. a.number < b.number) names.now }
+    ensures none { result ≡ None → has_number (map name_line names.now) number ≡ false }
+    ensures some { IfSome result (λ name. IsHeld (map name_line names.now) number × (name.now ≡ name_of (map name_line names.now) number)) }
+{
+    if number > 0 {
+        // a store numbers its own names 1, 2, 3, ..
+        if let Some(name) = name_at(names, number as usize - 1, number) {
+            return Some(name);
+        }
+    }
+    let at = names.partition_point(|name| name.number < number);
+    name_at(names, at, number)
+}
+
+impl HeldNames {
+    /// The name of a number, if there is one. Takes no memory.
+    pub fn name(&self, number: u32) -> Option<&[u8]>
+        ensures none { result ≡ None → has_number self.now number ≡ false }
+        ensures some { IfSome result (λ name. IsHeld self.now number × (name.now ≡ name_of self.now number)) }
+    {
+        name_in(&self.names, number)
+    }
+
+    /// The name of a number, which has to be held.
+    pub(crate) fn held(&self, number: u32) -> Result<&[u8], StoreEnd>
+        ensures { IfOk result (λ name. IsHeld self.now number × (name.now ≡ name_of self.now number)) }
+    {
+        self.name(number).ok_or(StoreEnd::Store)
+    }
+}
+
+/// The names that are held, in the order of their numbers: read once, for any number of walks.
+pub fn names_of<S: Alter>(store: &mut Store<S>, alloc: Global) -> Result<HeldNames, StoreEnd>
+    ensures told { IsFaithful S.Store store.new → (t : _) → StandsFor S.Store t store.old → IfOk result (λ names. names ≡ t.names) }
+    ensures found { IsFaithful S.Store store.new → (shown S.Store store.old).now.schema ≡ schema_one → IfOk result (λ names. IsPermutation (map name_seen ((shown S.Store store.old).now.trees 11)) (map name_shown names)) }
+    ensures rising { IfOk result (IsAscending (λ a b. a.number < b.number)) }
+    ensures kept { IsFaithful S.Store store.new → (t : _) → StandsFor S.Store t store.old → IsUsable S.Store store.new → StandsFor S.Store t store.new }
+    ensures stays { IsFaithful S.Store store.new → (t : _) → StandsFor S.Store t store.old → OnOk result (StandsFor S.Store t store.new) }
+    ensures unchanged { IsFaithful S.Store store.new → IsSettled S.Store store.old → IsUsable S.Store store.new → IsAsBefore S.Store store.old store.new }
+    ensures answers { IsFaithful S.Store store.new → OnOk result (IsUsable S.Store store.new) }
+    ensures was_usable { IsFaithful S.Store store.new → IsUsable S.Store store.new → IsUsable S.Store store.old }
+    ensures crash { IsFaithful S.Store store.new → (t : _) → StandsFor S.Store t store.old → LeavesOnly S.Store store.old store.new (λ _. ⊥) }
+    ensures honest { IsFaithful S.Store store.new → IsFaithful S.Store store.old }
+{
+    match select_names(&mut store.conn) {
+        Ok(rows) => names_in(alloc, &rows),
+        Err(error) => Err(end_of(error)),
+    }
+}

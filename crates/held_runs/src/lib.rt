@@ -1,0 +1,20 @@
+//! What a store tells of the runs that it holds: their heads, and their rows one at a time.
+#![tactic(auto)]
+
+mod arc_lines;
+mod arcs;
+mod cell_lines;
+mod cells;
+mod head_lines;
+mod heads;
+mod heads_held;
+mod held_names;
+mod stack_lines;
+mod stacks;
+mod walks;
+
+pub use arcs::{Arcs, arcs_of};
+pub use cells::{Cells, cells_of};
+pub use heads::head_of;
+pub use held_names::{HeldNames, names_of};
+pub use stacks::{Stacks, stacks_of};

@@ -1,0 +1,265 @@
+// Walks over the rows of a run.
+ghost use Rattle.std.specs.Prelude.{◌≡◌, ◌⊎◌, ◌++◌, ◌∷◌, [], ◌≤◌, ◌<◌, true, false, pos, map, drop, IfOk, IfErr, OnOk, OnErr, vec_len};
+ghost use Rattle.sqlite.specs.State.{HasCleanDisk, Survives, QueriesRow, CommitsShowing, Shown, FailsToQuery};
+ghost use Rattle.sqlite.specs.Held.{state};
+ghost use Rattle.sqlite_value.specs.declared.value.Value.TheVariants.{Int};
+ghost use Rattle.sqlite_value.specs.Order.{column};
+ghost use Rattle.sqlite_trees.specs.Tree.{IsTable};
+ghost use Rattle.prof_store.specs.Shown.{shown, IsFaithful, IsUsable, IsSettled, IsAsBefore, StandsFor, LeavesOnly};
+ghost use Rattle.sql_tables.specs.Walks.{in_page, in_window, Lie};
+ghost use Rattle.held_runs.specs.Walks.{tree_of, window_text_of, ends_text_of, asked, rows_of, IsSpanIn, IsReady, Walks, HasWalked};
+ghost use Rattle.std.specs.Prelude.{filter};
+
+use prof_store::Store;
+use sqlite::{Alter, Connection, Error, Row, params};
+use store_columns::{StoreEnd, end_of, number_at, number_or_null_at};
+
+/// A table whose rows are lines of runs.
+#[derive(Clone, Copy, Debug, PartialEq, Eq)]
+pub(crate) enum Listed {
+    Cells,
+    Arcs,
+    Stacks,
+}
+
+/// The rowids above `low`, up to `top`.
+#[derive(Clone, Copy)]
+struct Span {
+    low: u32,
+    top: u32,
+}
+
+/// How far a walk over the rows of a run has come. The rows of its page lie in the store.
+#[derive(Drop)]
+pub(crate) struct Walk {
+    pub table: Listed,
+    pub run: u32,
+    placed: bool,
+    low: u32,
+    top: u32,
+    pub at: usize,
+}
+
+impl Walk {
+    /// A walk that has given nothing.
+    pub fn over(table: Listed, run: u32) -> Walk
+        ensures table { result.table ≡ table }
+        ensures run { result.run ≡ run }
+        ensures placed { result.placed ≡ false }
+        ensures at { result.at ≡ 0 }
+    {
+        Walk {
+            table,
+            run,
+            placed: false,
+            low: 0,
+            top: 0,
+            at: 0,
+        }
+    }
+}
+
+/// How many rowids a window has.
+const WINDOW: u32 = 512;
+
+fn window_text(table: Listed) -> &'static str
+    ensures { result.now ≡ window_text_of table }
+{
+    match table {
+        Listed::Cells => {
+            "SELECT rowid, ob, fl, fn, line, event, cost FROM cell WHERE run = ?1 AND rowid > ?2 AND rowid <= ?3 ORDER BY rowid"
+        }
+        Listed::Arcs => {
+            "SELECT rowid, ob, fl, fn, line, cob, cfl, cfn, part, n FROM arc WHERE run = ?1 AND rowid > ?2 AND rowid <= ?3 ORDER BY rowid"
+        }
+        Listed::Stacks => {
+            "SELECT rowid, frames, n FROM stack WHERE run = ?1 AND rowid > ?2 AND rowid <= ?3 ORDER BY rowid"
+        }
+    }
+}
+
+fn ends_text(table: Listed) -> &'static str
+    ensures { result.now ≡ ends_text_of table }
+{
+    match table {
+        Listed::Cells => "SELECT min(rowid), max(rowid) FROM cell WHERE run = ?1",
+        Listed::Arcs => "SELECT min(rowid), max(rowid) FROM arc WHERE run = ?1",
+        Listed::Stacks => "SELECT min(rowid), max(rowid) FROM stack WHERE run = ?1",
+    }
+}
+
+fn select_window<S: Alter>(
+    conn: &mut Connection<S>,
+    table: Listed,
+    run: u32,
+    low: u32,
+    high: u32,
+) -> Result<Vec<Row>, Error>
+    ensures ok { HasCleanDisk (state S.Store conn.new) → IfOk result (λ rows. Shown (window_text_of table) (Int (pos run) ∷ Int (pos low) ∷ Int (pos high) ∷ []) (state S.Store conn.old) (state S.Store conn.new) rows.items) }
+    ensures err { HasCleanDisk (state S.Store conn.new) → IfErr result (FailsToQuery (window_text_of table) (Int (pos run) ∷ Int (pos low) ∷ Int (pos high) ∷ []) (state S.Store conn.old) (state S.Store conn.new)) }
+    ensures survives { Survives (state S.Store conn.old) (state S.Store conn.new) (CommitsShowing (window_text_of table) (Int (pos run) ∷ Int (pos low) ∷ Int (pos high) ∷ []) (state S.Store conn.old)) }
+{
+    conn.query_all(window_text(table), params![run, low, high])
+}
+
+fn select_ends<S: Alter>(conn: &mut Connection<S>, table: Listed, run: u32) -> Result<Row, Error>
+    ensures row { HasCleanDisk (state S.Store conn.new) → QueriesRow (ends_text_of table) (Int (pos run) ∷ []) (state S.Store conn.old) (state S.Store conn.new) result }
+    ensures survives { Survives (state S.Store conn.old) (state S.Store conn.new) (CommitsShowing (ends_text_of table) (Int (pos run) ∷ []) (state S.Store conn.old)) }
+{
+    conn.query_row(ends_text(table), params![run])
+}
+
+/// Refuses rows whose rowids do not rise from above `low`.
+fn rise(rows: &[Row], low: u32) -> Result<(), StoreEnd>
+    ensures { OnOk result (IsTable rows.now) }
+{
+    let mut last = low;
+    'rows: for row in rows {
+        let id = number_at(row, 0)?;
+        if id <= last {
+            return Err(StoreEnd::Store);
+        }
+        last = id;
+    }
+    Ok(())
+}
+
+/// Where the rows lie, by the least and the greatest rowid. Without any they may lie anywhere.
+fn span_in(row: &Row) -> Result<Span, StoreEnd>
+    ensures { IfOk result (IsSpanIn row.now) }
+{
+    let Some(first) = number_or_null_at(row, 0)? else {
+        return Ok(Span { low: 0, top: 0 });
+    };
+    let top = number_at(row, 1)?;
+    if first == 0 {
+        return Err(StoreEnd::Store);
+    }
+    Ok(Span {
+        low: first - 1,
+        top,
+    })
+}
+
+/// Where the rows of a run lie.
+fn span_of<S: Alter>(store: &mut Store<S>, table: Listed, run: u32) -> Result<Span, StoreEnd>
+    ensures lie { IsFaithful S.Store store.new → IsReady (shown S.Store store.old) → IfOk result (λ span. Lie (asked table run) (rows_of S.Store table store.new) span.low span.top) }
+    ensures same { IsFaithful S.Store store.new → IsReady (shown S.Store store.old) → OnOk result ((shown S.Store store.new).now ≡ (shown S.Store store.old).now) }
+    ensures page { store.new.page ≡ store.old.page }
+    ensures stays { IsFaithful S.Store store.new → (t : _) → StandsFor S.Store t store.old → OnOk result (StandsFor S.Store t store.new) }
+    ensures kept { IsFaithful S.Store store.new → (t : _) → StandsFor S.Store t store.old → IsUsable S.Store store.new → StandsFor S.Store t store.new }
+    ensures unchanged { IsFaithful S.Store store.new → IsSettled S.Store store.old → IsUsable S.Store store.new → IsAsBefore S.Store store.old store.new }
+    ensures usable { IsFaithful S.Store store.new → IsUsable S.Store store.old → OnOk result (IsUsable S.Store store.new) }
+    ensures was_usable { IsFaithful S.Store store.new → IsUsable S.Store store.new → IsUsable S.Store store.old }
+    ensures crash { IsFaithful S.Store store.new → (t : _) → StandsFor S.Store t store.old → LeavesOnly S.Store store.old store.new (λ _. ⊥) }
+    ensures honest { IsFaithful S.Store store.new → IsFaithful S.Store store.old }
+{
+    match select_ends(&mut store.conn, table, run) {
+        Ok(row) => span_in(&row),
+        Err(error) => Err(end_of(error)),
+    }
+}
+
+/// Reads the rows of a window into the page.
+fn load<S: Alter>(
+    store: &mut Store<S>,
+    table: Listed,
+    run: u32,
+    low: u32,
+    high: u32,
+) -> Result<(), StoreEnd>
+    ensures loaded { IsFaithful S.Store store.new → IsReady (shown S.Store store.old) → OnOk result (store.new.page.items ≡ map (in_page (asked table run)) (filter (in_window (asked table run) low high) (rows_of S.Store table store.old))) }
+    ensures same { IsFaithful S.Store store.new → IsReady (shown S.Store store.old) → OnOk result ((shown S.Store store.new).now ≡ (shown S.Store store.old).now) }
+    ensures stays { IsFaithful S.Store store.new → (t : _) → StandsFor S.Store t store.old → OnOk result (StandsFor S.Store t store.new) }
+    ensures kept { IsFaithful S.Store store.new → (t : _) → StandsFor S.Store t store.old → IsUsable S.Store store.new → StandsFor S.Store t store.new }
+    ensures unchanged { IsFaithful S.Store store.new → IsSettled S.Store store.old → IsUsable S.Store store.new → IsAsBefore S.Store store.old store.new }
+    ensures usable { IsFaithful S.Store store.new → IsUsable S.Store store.old → OnOk result (IsUsable S.Store store.new) }
+    ensures was_usable { IsFaithful S.Store store.new → IsUsable S.Store store.new → IsUsable S.Store store.old }
+    ensures crash { IsFaithful S.Store store.new → (t : _) → StandsFor S.Store t store.old → LeavesOnly S.Store store.old store.new (λ _. ⊥) }
+    ensures honest { IsFaithful S.Store store.new → IsFaithful S.Store store.old }
+{
+    match select_window(&mut store.conn, table, run, low, high) {
+        Ok(rows) => {
+            store.page = rows;
+            rise(&store.page, low)
+        }
+        Err(error) => Err(end_of(error)),
+    }
+}
+
+/// Finds out where the rows of the walk lie.
+fn place<S: Alter>(store: &mut Store<S>, walk: &mut Walk) -> Result<(), StoreEnd>
+    ensures table { walk.new.table ≡ walk.old.table }
+    ensures run { walk.new.run ≡ walk.old.run }
+    ensures page { store.new.page ≡ store.old.page }
+    ensures at { walk.new.at ≡ walk.old.at }
+    ensures placed { OnOk result (walk.new.placed ≡ true) }
+    ensures moved { IsFaithful S.Store store.new → (given : _) → Walks S.Store given store.old walk.old → OnOk result (Walks S.Store given store.new walk.new) }
+    ensures stays { IsFaithful S.Store store.new → (t : _) → StandsFor S.Store t store.old → OnOk result (StandsFor S.Store t store.new) }
+    ensures kept { IsFaithful S.Store store.new → (t : _) → StandsFor S.Store t store.old → IsUsable S.Store store.new → StandsFor S.Store t store.new }
+    ensures unchanged { IsFaithful S.Store store.new → IsSettled S.Store store.old → IsUsable S.Store store.new → IsAsBefore S.Store store.old store.new }
+    ensures usable { IsFaithful S.Store store.new → IsUsable S.Store store.old → OnOk result (IsUsable S.Store store.new) }
+    ensures was_usable { IsFaithful S.Store store.new → IsUsable S.Store store.new → IsUsable S.Store store.old }
+    ensures crash { IsFaithful S.Store store.new → (t : _) → StandsFor S.Store t store.old → LeavesOnly S.Store store.old store.new (λ _. ⊥) }
+    ensures honest { IsFaithful S.Store store.new → IsFaithful S.Store store.old }
+{
+    if !walk.placed {
+        let span = span_of(store, walk.table, walk.run)?;
+        walk.low = span.low;
+        walk.top = span.top;
+        walk.placed = true;
+    }
+    Ok(())
+}
+
+/// Turns to the next page. `false`: there is none.
+fn turn<S: Alter>(store: &mut Store<S>, walk: &mut Walk) -> Result<bool, StoreEnd>
+    ensures table { walk.new.table ≡ walk.old.table }
+    ensures run { walk.new.run ≡ walk.old.run }
+    ensures moved { IsFaithful S.Store store.new → (given : _) → Walks S.Store given store.old walk.old → drop walk.old.at store.old.page.items ≡ [] → IfOk result (λ more. Walks S.Store given store.new walk.new × (more ≡ false → HasWalked S.Store given store.new walk.new)) }
+    ensures stays { IsFaithful S.Store store.new → (t : _) → StandsFor S.Store t store.old → OnOk result (StandsFor S.Store t store.new) }
+    ensures kept { IsFaithful S.Store store.new → (t : _) → StandsFor S.Store t store.old → IsUsable S.Store store.new → StandsFor S.Store t store.new }
+    ensures unchanged { IsFaithful S.Store store.new → IsSettled S.Store store.old → IsUsable S.Store store.new → IsAsBefore S.Store store.old store.new }
+    ensures usable { IsFaithful S.Store store.new → IsUsable S.Store store.old → OnOk result (IsUsable S.Store store.new) }
+    ensures was_usable { IsFaithful S.Store store.new → IsUsable S.Store store.new → IsUsable S.Store store.old }
+    ensures crash { IsFaithful S.Store store.new → (t : _) → StandsFor S.Store t store.old → LeavesOnly S.Store store.old store.new (λ _. ⊥) }
+    ensures honest { IsFaithful S.Store store.new → IsFaithful S.Store store.old }
+{
+    place(store, walk)?;
+    if walk.low >= walk.top {
+        return Ok(false);
+    }
+    let high = if walk.top - walk.low > WINDOW {
+        walk.low + WINDOW
+    } else {
+        walk.top
+    };
+    load(store, walk.table, walk.run, walk.low, high)?;
+    walk.at = 0;
+    walk.low = high;
+    Ok(true)
+}
+
+/// Whether a row is at hand, after as many turns as it takes.
+pub(crate) fn has_row<S: Alter>(store: &mut Store<S>, walk: &mut Walk) -> Result<bool, StoreEnd>
+    ensures table { walk.new.table ≡ walk.old.table }
+    ensures run { walk.new.run ≡ walk.old.run }
+    ensures moved { IsFaithful S.Store store.new → (given : _) → Walks S.Store given store.old walk.old → IfOk result (λ more. Walks S.Store given store.new walk.new × (more ≡ false → HasWalked S.Store given store.new walk.new)) }
+    ensures stays { IsFaithful S.Store store.new → (t : _) → StandsFor S.Store t store.old → OnOk result (StandsFor S.Store t store.new) }
+    ensures kept { IsFaithful S.Store store.new → (t : _) → StandsFor S.Store t store.old → IsUsable S.Store store.new → StandsFor S.Store t store.new }
+    ensures unchanged { IsFaithful S.Store store.new → IsSettled S.Store store.old → IsUsable S.Store store.new → IsAsBefore S.Store store.old store.new }
+    ensures usable { IsFaithful S.Store store.new → IsUsable S.Store store.old → OnOk result (IsUsable S.Store store.new) }
+    ensures was_usable { IsFaithful S.Store store.new → IsUsable S.Store store.new → IsUsable S.Store store.old }
+    ensures crash { IsFaithful S.Store store.new → (t : _) → StandsFor S.Store t store.old → LeavesOnly S.Store store.old store.new (λ _. ⊥) }
+    ensures honest { IsFaithful S.Store store.new → IsFaithful S.Store store.old }
+{
+    'pages: for _ in 0..u64::MAX {
+        if walk.at < store.page.len() {
+            return Ok(true);
+        }
+        if !turn(store, walk)? {
+            return Ok(false);
+        }
+    }
+    Err(StoreEnd::Store)
+}

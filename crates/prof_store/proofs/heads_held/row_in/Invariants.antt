@@ -1,6 +1,0 @@
-use Rattle.std.proofs.Common.{◌≡◌, ◌≤◌, map, take, length}
-use Rattle.prof_store.specs.HeldHeads.{coef_line_said, coefs_at}
-use Rattle.prof_store.proofs.heads_held.row_in.Given as goal
-
-abbrev pub invariant-events : goal.invariant-events
-invariant-events l = (length l.row ≡ l.event) × (l.used ≤ length l.coefs) × (map coef_line_said (take l.used l.coefs) ≡ coefs_at l.place 0 l.row)

@@ -1,7 +1,0 @@
-use Rattle.prof_store.proofs.WalkSteps.{placed_step}
-use Rattle.prof_store.proofs.store.Store.place.Goals as goal
-
-pub returns-in_ok-span-clause-moved : goal.returns-in_ok-span-clause-moved
-returns-in_ok-span-clause-moved g c clean given was =
-    let e = c.in_ok-span.ensures in
-    placed_step g.S.Store given c.args.self.now c.span_of.new.self c.args.walk.now c.in_ok-span.span.low c.in_ok-span.span.top c.if-not-walk.true (e.same clean was.ready) e.page (e.lie clean was.ready) was

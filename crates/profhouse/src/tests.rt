@@ -1,3 +1,0 @@
-//! Tests of the program's parts.
-mod answers;
-mod sessions;

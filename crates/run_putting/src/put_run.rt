@@ -1,0 +1,93 @@
+// A file is put as a run.
+ghost use Rattle.std.specs.Prelude.{ℕ, ◌≡◌, ◌<◌, ◌^◌, length, IfOk, OnOk, OnErr};
+ghost use Rattle.cost_rows.specs.Totals.{count_total};
+ghost use Rattle.cost_rows.specs.Rows.{content_of};
+ghost use Rattle.sqlite_rules.specs.Lists.{Has};
+ghost use Rattle.prof_tables.specs.Tables.{Holds};
+ghost use Rattle.prof_books.specs.Heads.{IsWhole, ColumnFits};
+ghost use Rattle.prof_books.specs.Labels.{IsLabel};
+ghost use Rattle.prof_books.specs.Runs.{with_file};
+ghost use Rattle.prof_store.specs.Shown.{IsFaithful, IsUsable, StandsFor, IsSettled, IsAsBefore, LeavesOnly};
+
+use crate::putting::put_in;
+use cg_text::FileHead;
+use cost_rows::FileRows;
+use prof_books::Kind;
+use prof_store::Store;
+use run_rows::{head_lines, whole_of};
+use sqlite::Alter;
+use std::alloc::Global;
+use store_columns::{RunLine, StoreEnd, number_of_kind};
+
+/// Puts a file under a number, which is the next run's.
+fn put_numbered<S: Alter>(
+    store: &mut Store<S>,
+    alloc: Global,
+    number: u32,
+    kind: Kind,
+    digest: &[u8; 32],
+    label: &str,
+    head: &FileHead,
+    rows: &FileRows,
+) -> Result<(), StoreEnd>
+    ensures whole { OnOk result (IsWhole head.now) }
+    ensures fits { OnOk result ((k : ℕ) → k < length head.now.events → ColumnFits (content_of rows.now) k) }
+    ensures counted { OnOk result (count_total (content_of rows.now).arcs < 2 ^ 63) }
+    ensures done { IsFaithful S.Store store.new → (t : _) → StandsFor S.Store t store.old → t.next ≡ number → OnOk result (StandsFor S.Store (with_file number kind digest.now label.now head.now (content_of rows.now) t) store.new) }
+    ensures kept { IsFaithful S.Store store.new → (t : _) → StandsFor S.Store t store.old → OnErr result (IsUsable S.Store store.new → StandsFor S.Store t store.new) }
+    ensures unchanged { IsFaithful S.Store store.new → IsSettled S.Store store.old → OnErr result (IsUsable S.Store store.new → IsAsBefore S.Store store.old store.new) }
+    ensures answers { IsFaithful S.Store store.new → OnOk result (IsUsable S.Store store.new) }
+    ensures was_usable { IsFaithful S.Store store.new → IsUsable S.Store store.new → IsUsable S.Store store.old }
+    ensures crash { IsFaithful S.Store store.new → (t : _) → StandsFor S.Store t store.old → t.next ≡ number → LeavesOnly S.Store store.old store.new (Holds (with_file number kind digest.now label.now head.now (content_of rows.now) t)) }
+    ensures honest { IsFaithful S.Store store.new → IsFaithful S.Store store.old }
+{
+    if !store.conn.is_autocommit() {
+        return Err(StoreEnd::Store);
+    }
+    let totals = rows.totals(alloc, head.events.len())?;
+    let lines = head_lines(alloc, number, head, &totals)?;
+    let Some(call_count) = whole_of(totals.call_count) else {
+        return Err(StoreEnd::Store);
+    };
+    let run = RunLine {
+        number,
+        kind: number_of_kind(kind),
+        digest,
+        label,
+        call_count,
+    };
+    put_in(&mut store.conn, alloc, &run, &lines, rows)
+}
+
+/// Puts a file as a run, and answers its number, which no run had before: what its head says
+/// and the sums of its rows, in one transaction. `digest` is the SHA-256 of the file, `label` a
+/// text in form (`is_label`). `Store` answers a digest that is held, a sum of a column or a
+/// number of calls above 2^63-1, a head that states a total for some events alone, and a
+/// connection within a transaction.
+pub fn put_run<S: Alter>(
+    store: &mut Store<S>,
+    alloc: Global,
+    kind: Kind,
+    digest: &[u8; 32],
+    label: &str,
+    head: &FileHead,
+    rows: &FileRows,
+) -> Result<u32, StoreEnd>
+    requires { IsLabel label.now }
+    ensures told { IsFaithful S.Store store.new → (t : _) → StandsFor S.Store t store.old → IfOk result (λ number. number ≡ t.next) }
+    ensures taken { IsFaithful S.Store store.new → (t : _) → StandsFor S.Store t store.old → (r : _) → Has t.runs r → r.digest ≡ digest.now → OnOk result ⊥ }
+    ensures whole { OnOk result (IsWhole head.now) }
+    ensures fits { OnOk result ((k : ℕ) → k < length head.now.events → ColumnFits (content_of rows.now) k) }
+    ensures counted { OnOk result (count_total (content_of rows.now).arcs < 2 ^ 63) }
+    ensures done { IsFaithful S.Store store.new → (t : _) → StandsFor S.Store t store.old → OnOk result (StandsFor S.Store (with_file t.next kind digest.now label.now head.now (content_of rows.now) t) store.new) }
+    ensures kept { IsFaithful S.Store store.new → (t : _) → StandsFor S.Store t store.old → OnErr result (IsUsable S.Store store.new → StandsFor S.Store t store.new) }
+    ensures unchanged { IsFaithful S.Store store.new → IsSettled S.Store store.old → OnErr result (IsUsable S.Store store.new → IsAsBefore S.Store store.old store.new) }
+    ensures answers { IsFaithful S.Store store.new → OnOk result (IsUsable S.Store store.new) }
+    ensures was_usable { IsFaithful S.Store store.new → IsUsable S.Store store.new → IsUsable S.Store store.old }
+    ensures crash { IsFaithful S.Store store.new → (t : _) → StandsFor S.Store t store.old → LeavesOnly S.Store store.old store.new (Holds (with_file t.next kind digest.now label.now head.now (content_of rows.now) t)) }
+    ensures honest { IsFaithful S.Store store.new → IsFaithful S.Store store.old }
+{
+    let number = store.next_run()?;
+    put_numbered(store, alloc, number, kind, digest, label, head, rows)?;
+    Ok(number)
+}

@@ -1,0 +1,103 @@
+-- What is done over an opened store, in the words of a history.
+use Rattle.std.specs.Prelude.{◌≡◌, ◌⊎◌, ℕ, if◌then◌else◌, List, [], ◌∷◌, ◌++◌, map, Option, Result, MatchResult, OnOk}
+use Rattle.std.specs.Io.KnownBytes.{Appends}
+use Rattle.std.specs.List.{list_any}
+use Rattle.sqlite_trees.specs.declared.store.Store.{Ghosts}
+use Rattle.prof_books.specs.declared.kinds.Kind.{Kind}
+use Rattle.prof_store.specs.Shown.{IsUsable, LeavesOnly}
+use Rattle.histories.specs.History as history
+use Rattle.histories.specs.History.{History, Outcome, Said, Turn}
+use Rattle.histories.specs.Legal.{AreLegal}
+use Rattle.histories.specs.declared.answers.Answer.{Answer}
+use Rattle.histories.specs.declared.answers.Answer.TheVariants.{Refused}
+use Rattle.histories.specs.declared.answers.Refusal.TheVariants.{Memory}
+use Rattle.warehouse.specs.Answered.{HasHistory, Stops}
+use Rattle.sessions.specs.Answers.{is_refused, line_text}
+use Rattle.sessions.specs.declared.session.GroupChange.{GroupChange}
+use Rattle.sessions.specs.declared.session.GroupChange.TheVariants as changes
+use Rattle.sessions.specs.declared.session.Session.{Session}
+use Rattle.sessions.specs.declared.session.Work.{Work}
+use Rattle.sessions.specs.declared.session.Work.TheVariants as works
+
+-- ---- the commands that a work comes to
+
+-- an import of each path in turn, under the path as its label; what its reads came to is free, since nothing is known of the files of a disk
+abbrev pub AreImports : Kind → List (List ℕ) → List Said → Type 0
+AreImports kind [] [] = Unit {0}
+AreImports kind (path ∷ paths) (said ∷ later) = (outcomes : List Outcome) × (said ≡ history.Import kind path outcomes) × AreImports kind paths later
+AreImports kind paths list = ⊥
+
+abbrev pub change_said : GroupChange → List ℕ → Said
+change_said changes.Make name = history.MakeGroup name
+change_said changes.Drop name = history.DropGroup name
+change_said (changes.Join n) name = history.Join name n
+change_said (changes.Leave n) name = history.Leave name n
+change_said (changes.SetBaseline n) name = history.SetBaseline name n
+
+abbrev pub AreOf : Work → List Said → Type 0
+AreOf (works.Import kind paths) list = AreImports kind (map (λ path. path.now) paths) list
+AreOf (works.Remove numbers) list = list ≡ map history.Remove numbers
+AreOf (works.Group name change) list = list ≡ change_said change name.now ∷ []
+AreOf (works.Ask query) list = list ≡ history.Ask query ∷ []
+
+-- of the files of a disk nothing is known: a read may come to anything
+abbrev pub AnyReads : {X : Type 0} → X → Outcome → X → Type 0
+AnyReads from outcome to = Unit {0}
+
+-- ---- turns
+
+abbrev pub commands_of : History → List Said
+commands_of turns = map (λ (turn : Turn). turn.said) turns
+
+abbrev pub answers_of : History → List Answer
+answers_of turns = map (λ (turn : Turn). turn.answer) turns
+
+-- 1 where one of the answers is a refusal, else what the status was
+abbrev pub status_after : ℕ → List Answer → ℕ
+status_after status answers = if list_any is_refused answers then 1 else status
+
+-- the line of an answer, or that of want of memory, where there was none for its line
+abbrev pub IsLineOf : Answer → List ℕ → Type 0
+IsLineOf answer line = (line ≡ line_text answer) ⊎ (line ≡ line_text (Refused Memory))
+
+-- the lines of answers, one after another
+abbrev pub AreLinesOf : List Answer → List ℕ → Type 0
+AreLinesOf [] text = text ≡ []
+AreLinesOf (answer ∷ answers) text = (line later : List ℕ) × IsLineOf answer line × AreLinesOf answers later × (text ≡ line ++ later)
+
+-- the known bytes of what is printed to grow by the lines of these answers
+abbrev pub ArePrinted : List Answer → Option (List ℕ) → Option (List ℕ) → Type 0
+ArePrinted answers old new = (text : List ℕ) × AreLinesOf answers text × Appends old new text
+
+-- ---- what is done
+
+module _ {R W S : Type 0} (g : Ghosts S) where
+  -- these turns were taken after a history: each answer is legal after those before it, the store has the history with all of them, and the status is 1 where one is a refusal, else what it was; where the store can be used at the end, a crash on the way left what could be left before, or tables after some of the turns with the next command done
+  pub record Took (h turns : History) (old new : Session R W S) : Type 0 where
+    pub legal : AreLegal old.warehouse.limits h turns
+    pub after : HasHistory g (h ++ turns) new.warehouse.store
+    pub status : new.status ≡ status_after old.status (answers_of turns)
+    pub crash : IsUsable g new.warehouse.store → LeavesOnly g old.warehouse.store new.warehouse.store (Stops old.warehouse.limits h turns)
+
+  -- what was wanted is done: its commands are those of turns that were taken, and their answers were printed
+  pub record WasDone (contents : W → Option (List ℕ)) (h : History) (wanted : List Said → Type 0) (old new : Session R W S) : Type 0 where
+    pub turns : History
+    pub commands : wanted (commands_of turns)
+    pub took : Took h turns old new
+    pub printed : ArePrinted (answers_of turns) (contents old.out) (contents new.out)
+
+  -- what was wanted is done as far as answers could be printed: the commands of the turns that were taken are the first of its commands
+  pub record WasCut (h : History) (wanted : List Said → Type 0) (old new : Session R W S) : Type 0 where
+    pub turns : History
+    pub rest : List Said
+    pub commands : wanted (commands_of turns ++ rest)
+    pub took : Took h turns old new
+
+  abbrev pub WasRun : (W → Option (List ℕ)) → History → (List Said → Type 0) → {E : Type 0} → Result Unit E → Session R W S → Session R W S → Type 0
+  WasRun contents h wanted result old new = MatchResult result (λ done. WasDone contents h wanted old new) (λ e. WasCut h wanted old new)
+
+  -- a command was answered, and the answer printed unless that failed
+  pub record WasTold (contents : W → Option (List ℕ)) (h : History) (said : Said) {E : Type 0} (result : Result Unit E) (old new : Session R W S) : Type 0 where
+    pub answer : Answer
+    pub took : Took h (record { said = said; answer = answer } ∷ []) old new
+    pub printed : OnOk result (ArePrinted (answer ∷ []) (contents old.out) (contents new.out))

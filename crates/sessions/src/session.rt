@@ -1,0 +1,225 @@
+// Commands over an opened store, each with its answer printed as it is there.
+ghost use Rattle.std.specs.Prelude.{◌≡◌, ◌↔◌, IsTrue, List, [], ◌∷◌, map, OnOk};
+ghost use Rattle.prof_store.specs.Shown.{IsFaithful, IsUsable};
+ghost use Rattle.histories.specs.History.{History, Outcome, Said, Import, Remove};
+ghost use Rattle.histories.specs.Legal.{IsInForm, IsLegal};
+ghost use Rattle.histories.specs.declared.answers.Answer.TheVariants as answers;
+ghost use Rattle.warehouse.specs.Answered.{HasHistory, Says};
+ghost use Rattle.sessions.specs.Sessions.{AnyReads, AreImports, AreOf, ArePrinted, WasRun, WasTold, change_said, status_after};
+
+use crate::answers::{is_refused, line_of};
+use crate::sources::FileSource;
+use cg_text::Items;
+use histories::{Answer, Query, Refusal};
+use prof_books::Kind;
+use prof_store::is_group_name;
+use sqlite::Alter;
+use std::alloc::{AllocError, Global};
+use std::io;
+use std::io::Write;
+use std::rt::Files;
+use warehouse::{Command, Warehouse};
+
+/// What is done to a group by its name.
+#[derive(Clone, Copy, Debug, PartialEq, Eq)]
+pub enum GroupChange {
+    Make,
+    Drop,
+    /// A run joins it.
+    Join(u32),
+    /// A run leaves it.
+    Leave(u32),
+    /// A run becomes its baseline.
+    SetBaseline(u32),
+}
+
+/// What is done over an opened store.
+#[derive(Drop)]
+pub enum Work<'a> {
+    /// Take in the files at paths.
+    Import(Kind, Items<&'a str>),
+    /// Remove runs.
+    Remove(Items<u32>),
+    /// Change the group of a name.
+    Group(&'a str, GroupChange),
+    Ask(Query),
+}
+
+/// Prints an answer. Where there is no memory for its line, it says so, and the command stands.
+fn print_answer<W: Write>(out: &mut W, alloc: Global, answer: &Answer) -> io::Result<()>
+    ensures { OnOk result (ArePrinted (answer.now ∷ []) (W.contents out.old) (W.contents out.new)) }
+{
+    match line_of(alloc, answer) {
+        Ok(line) => out.write_all(line.as_slice()),
+        Err(AllocError) => out.write_all(b"refused: out of memory\n"),
+    }
+}
+
+/// Whether a change is in form: a group that is made has a name of its own form.
+fn is_in_form(name: &str, change: GroupChange) -> bool
+    ensures { IsTrue result ↔ IsInForm (change_said change name.now) }
+{
+    match change {
+        GroupChange::Make => is_group_name(name),
+        GroupChange::Drop
+        | GroupChange::Join(_)
+        | GroupChange::Leave(_)
+        | GroupChange::SetBaseline(_) => true,
+    }
+}
+
+/// The command of a change.
+fn change_command<R>(name: Vec<u8>, change: GroupChange) -> Command<R>
+    ensures { Says AnyReads result (change_said change name.items) }
+{
+    match change {
+        GroupChange::Make => Command::MakeGroup(name),
+        GroupChange::Drop => Command::DropGroup(name),
+        GroupChange::Join(number) => Command::Join(name, number),
+        GroupChange::Leave(number) => Command::Leave(name, number),
+        GroupChange::SetBaseline(number) => Command::SetBaseline(name, number),
+    }
+}
+
+/// A warehouse, where its answers are printed, and the status that those so far come to.
+#[derive(Drop)]
+pub struct Session<'a, R, W: Drop, S: Alter> {
+    rt: &'a R,
+    out: W,
+    warehouse: Warehouse<S>,
+    status: u8,
+}
+
+impl<'a, R: Files + AllocGlobal, W: Write + Drop, S: Alter> Session<'a, R, W, S> {
+    /// No command was run yet.
+    pub fn new(rt: &'a R, out: W, warehouse: Warehouse<S>) -> Session<'a, R, W, S>
+        ensures warehouse { result.warehouse ≡ warehouse }
+        ensures status { result.status ≡ 0 }
+        ensures out { result.out ≡ out }
+    {
+        Session {
+            rt,
+            out,
+            warehouse,
+            status: 0,
+        }
+    }
+
+    /// The status of what was answered, and the warehouse.
+    pub fn finish(self) -> (u8, Warehouse<S>)
+        ensures status { result.0 ≡ self.entry.status }
+        ensures warehouse { result.1 ≡ self.entry.warehouse }
+    {
+        let Session {
+            rt: _,
+            out: _,
+            warehouse,
+            status,
+        } = self;
+        (status, warehouse)
+    }
+
+    /// Keeps what an answer says of the status, and prints it.
+    fn tell(&mut self, answer: Answer) -> io::Result<()>
+        ensures status { self.new.status ≡ status_after self.old.status (answer ∷ []) }
+        ensures warehouse { self.new.warehouse ≡ self.old.warehouse }
+        ensures printed { OnOk result (ArePrinted (answer ∷ []) (W.contents self.old.out) (W.contents self.new.out)) }
+    {
+        if is_refused(&answer) {
+            self.status = 1;
+        }
+        print_answer(&mut self.out, self.rt.alloc(), &answer)
+    }
+
+    /// Refuses a command that the warehouse is not asked.
+    fn refuse(&mut self, refusal: Refusal) -> io::Result<()>
+        ensures limits { self.new.warehouse.limits ≡ self.old.warehouse.limits }
+        ensures answered { (h : History) → HasHistory S.Store h self.old.warehouse.store → (said : Said) → IsLegal self.old.warehouse.limits h said (answers.Refused refusal) → WasTold S.Store W.contents h said result self.old self.new }
+        ensures store { self.new.warehouse.store ≡ self.old.warehouse.store }
+    {
+        self.tell(Answer::Refused(refusal))
+    }
+
+    /// Runs a command that reads no file.
+    fn apply(&mut self, command: Command<FileSource<'a, R>>) -> io::Result<()>
+        ensures limits { self.new.warehouse.limits ≡ self.old.warehouse.limits }
+        ensures answered { IsFaithful S.Store self.new.warehouse.store → (h : History) → HasHistory S.Store h self.old.warehouse.store → (said : Said) × Says AnyReads command.entry said × WasTold S.Store W.contents h said result self.old self.new }
+        ensures was_usable { IsFaithful S.Store self.new.warehouse.store → IsUsable S.Store self.new.warehouse.store → IsUsable S.Store self.old.warehouse.store }
+        ensures honest { IsFaithful S.Store self.new.warehouse.store → IsFaithful S.Store self.old.warehouse.store }
+    {
+        let answer = self.warehouse.apply(self.rt.alloc(), command);
+        self.tell(answer)
+    }
+
+    /// Takes in a file, under its path as its label.
+    fn import_file(&mut self, kind: Kind, path: &'a str) -> io::Result<()>
+        ensures limits { self.new.warehouse.limits ≡ self.old.warehouse.limits }
+        ensures answered { IsFaithful S.Store self.new.warehouse.store → (h : History) → HasHistory S.Store h self.old.warehouse.store → (outcomes : List Outcome) × WasTold S.Store W.contents h (Import kind path.now outcomes) result self.old self.new }
+        ensures was_usable { IsFaithful S.Store self.new.warehouse.store → IsUsable S.Store self.new.warehouse.store → IsUsable S.Store self.old.warehouse.store }
+        ensures honest { IsFaithful S.Store self.new.warehouse.store → IsFaithful S.Store self.old.warehouse.store }
+    {
+        let mut source = FileSource::new(self.rt, path);
+        let label = path.as_bytes();
+        let answer = self
+            .warehouse
+            .import(self.rt.alloc(), kind, label, &mut source);
+        self.tell(answer)
+    }
+
+    /// Takes in files, each under its path as its label.
+    fn import(&mut self, kind: Kind, paths: &[&'a str]) -> io::Result<()>
+        ensures limits { self.new.warehouse.limits ≡ self.old.warehouse.limits }
+        ensures done { IsFaithful S.Store self.new.warehouse.store → (h : History) → HasHistory S.Store h self.old.warehouse.store → WasRun S.Store W.contents h (AreImports kind (map (λ path. path.now) paths.now)) result self.old self.new }
+        ensures was_usable { IsFaithful S.Store self.new.warehouse.store → IsUsable S.Store self.new.warehouse.store → IsUsable S.Store self.old.warehouse.store }
+        ensures honest { IsFaithful S.Store self.new.warehouse.store → IsFaithful S.Store self.old.warehouse.store }
+    {
+        for path in paths {
+            self.import_file(kind, path)?;
+        }
+        Ok(())
+    }
+
+    /// Removes runs.
+    fn remove(&mut self, numbers: &[u32]) -> io::Result<()>
+        ensures limits { self.new.warehouse.limits ≡ self.old.warehouse.limits }
+        ensures done { IsFaithful S.Store self.new.warehouse.store → (h : History) → HasHistory S.Store h self.old.warehouse.store → WasRun S.Store W.contents h (λ list. list ≡ map Remove numbers.now) result self.old self.new }
+        ensures was_usable { IsFaithful S.Store self.new.warehouse.store → IsUsable S.Store self.new.warehouse.store → IsUsable S.Store self.old.warehouse.store }
+        ensures honest { IsFaithful S.Store self.new.warehouse.store → IsFaithful S.Store self.old.warehouse.store }
+    {
+        for number in numbers {
+            self.apply(Command::Remove(*number))?;
+        }
+        Ok(())
+    }
+
+    /// Changes a group. A new group's name is looked at before memory is asked for it.
+    fn change_group(&mut self, name: &str, change: GroupChange) -> io::Result<()>
+        ensures limits { self.new.warehouse.limits ≡ self.old.warehouse.limits }
+        ensures answered { IsFaithful S.Store self.new.warehouse.store → (h : History) → HasHistory S.Store h self.old.warehouse.store → WasTold S.Store W.contents h (change_said change name.now) result self.old self.new }
+        ensures was_usable { IsFaithful S.Store self.new.warehouse.store → IsUsable S.Store self.new.warehouse.store → IsUsable S.Store self.old.warehouse.store }
+        ensures honest { IsFaithful S.Store self.new.warehouse.store → IsFaithful S.Store self.old.warehouse.store }
+    {
+        if !is_in_form(name, change) {
+            return self.refuse(Refusal::BadName);
+        }
+        let Ok(name) = Vec::from_slice(self.rt.alloc(), name.as_bytes()) else {
+            return self.refuse(Refusal::Memory);
+        };
+        self.apply(change_command(name, change))
+    }
+
+    /// Runs the commands that a work comes to, and prints their answers. It stops where printing fails.
+    pub fn run(&mut self, work: Work<'a>) -> io::Result<()>
+        ensures limits { self.new.warehouse.limits ≡ self.old.warehouse.limits }
+        ensures done { IsFaithful S.Store self.new.warehouse.store → (h : History) → HasHistory S.Store h self.old.warehouse.store → WasRun S.Store W.contents h (AreOf work.entry) result self.old self.new }
+        ensures was_usable { IsFaithful S.Store self.new.warehouse.store → IsUsable S.Store self.new.warehouse.store → IsUsable S.Store self.old.warehouse.store }
+        ensures honest { IsFaithful S.Store self.new.warehouse.store → IsFaithful S.Store self.old.warehouse.store }
+    {
+        match work {
+            Work::Import(kind, paths) => self.import(kind, paths.as_slice()),
+            Work::Remove(numbers) => self.remove(numbers.as_slice()),
+            Work::Group(name, change) => self.change_group(name, change),
+            Work::Ask(query) => self.apply(Command::Ask(query)),
+        }
+    }
+}

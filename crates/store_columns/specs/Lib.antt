@@ -1,0 +1,4 @@
+pub mod Ends
+pub mod Lines
+pub mod Names
+pub mod Steps
