@@ -6,8 +6,6 @@ mod running;
 mod session;
 mod sources;
 mod stores;
-#[cfg(test)]
-mod tests;
 
 use anyhow::Result;
 use command_line::{PlanEnd, plan};
