@@ -7,7 +7,7 @@ use Rattle.file_totals.specs.Readers.{IsAnswer}
 use Rattle.file_totals.specs.TotalLines.{refused_line}
 use Rattle.file_totals.specs.Totals.{total_of_file}
 use Rattle.file_totals.specs.declared.total.TotalText.{TotalText}
-use Rattle.std.specs.Io.KnownBytes.{Consumes, Keeps, IsAtEnd}
+use Rattle.std.specs.Io.KnownBytes.{Consumes, IsAtEnd}
 use Rattle.file_totals.specs.Running.{SumsUp, room_left}
 use Rattle.file_totals.specs.declared.total.Total.{Total}
 
@@ -19,19 +19,6 @@ pub record IsLeft (remaining : Option (List ℕ)) (total : Total) (whole : List 
   pub sums : SumsUp total so_far
   pub joined : so_far ++ left ≡ whole
   pub room : room_left total + length so_far ≡ most
-
--- a read that was interrupted
-pub IsLeft-kept : (old new : Option (List ℕ)) (total : Total) (whole : List ℕ) (most : ℕ) → Keeps old new → IsLeft old total whole most → IsLeft new total whole most
-IsLeft-kept None new total whole most kept h = let known : None ≡ Some h.left = h.known in cc
-IsLeft-kept (Some xs) None total whole most kept h = absurd kept
-IsLeft-kept (Some xs) (Some ys) total whole most kept h = record {
-  left = h.left;
-  so_far = h.so_far;
-  known = ap (λ bs. Some bs) kept ∙ h.known;
-  sums = h.sums;
-  joined = h.joined;
-  room = h.room;
-}
 
 -- a piece that was read and fed
 pub IsLeft-more : (old new : Option (List ℕ)) (total next : Total) (whole piece : List ℕ) (most : ℕ) → Consumes old new piece → ((text : List ℕ) → SumsUp total text → SumsUp next (text ++ piece))

@@ -44,7 +44,6 @@ fn feed_all<F: Read>(total: &mut Total, buffer: &mut [u8], file: &mut F) -> Resu
     for _ in 0..u64::MAX {
         let count = match file.read(buffer) {
             Ok(count) => count,
-            Err(error) if error.kind() == ErrorKind::Interrupted => continue,
             Err(_) => return Err(Unread::Failed),
         };
         if count == 0 {

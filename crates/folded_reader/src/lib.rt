@@ -9,10 +9,6 @@ mod reader;
 mod sink;
 mod stacks;
 mod state;
-#[cfg(test)]
-mod tests;
-#[cfg(test)]
-mod tests_files;
 
 pub use frames::leaf;
 pub use laws::{handed_on_at_each_moment, looking_back_is_exact, the_leaf_is_the_last_function};

@@ -3,8 +3,6 @@
 
 mod pieces;
 mod takes;
-#[cfg(test)]
-mod tests;
 
 pub use pieces::{FILE_LIMIT, Pieces};
 pub use takes::{Line, TakesLines};

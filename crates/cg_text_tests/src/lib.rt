@@ -1,7 +1,0 @@
-//! Tests of `cg_text`, over its public calls: a crate is proved a second time with the tests that stand in it.
-#![tactic(auto)]
-
-#[cfg(test)]
-mod formulas;
-#[cfg(test)]
-mod texts;
