@@ -1,7 +1,7 @@
 //! A file is put into a store as a run, in one transaction.
 #![tactic(auto)]
 
-mod put_run;
 mod putting;
+mod runs_put;
 
-pub use put_run::put_run;
+pub use runs_put::put_run;

@@ -4,7 +4,7 @@ use Rattle.prof_tables.specs.Tables.{Holds}
 use Rattle.cost_rows.specs.Rows.{content_of}
 use Rattle.prof_books.specs.Runs.{with_file}
 use Rattle.prof_store.proofs.HeldDigests.{taken}
-use Rattle.run_putting.proofs.put_run.put_run.Goals as goal
+use Rattle.run_putting.proofs.runs_put.put_run.Goals as goal
 
 pub returns-clause-taken : goal.returns-clause-taken
 returns-clause-taken g c clean t was r there is =

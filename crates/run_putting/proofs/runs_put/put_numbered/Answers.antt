@@ -8,7 +8,7 @@ use Rattle.prof_tables.specs.Schema.{schema_one}
 use Rattle.prof_tables.specs.Tables.{Holds}
 use Rattle.run_putting.proofs.FilePuts.{file_is}
 use Rattle.prof_store.proofs.Reading.{on_ok}
-use Rattle.run_putting.proofs.put_run.put_numbered.Goals as goal
+use Rattle.run_putting.proofs.runs_put.put_numbered.Goals as goal
 
 pub returns-clause-fits : goal.returns-clause-fits
 returns-clause-fits g c =
