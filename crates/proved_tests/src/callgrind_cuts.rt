@@ -50,7 +50,12 @@ impl Sink for Listing {
     fn call(&mut self, r: CallCost<'_>) -> Result<(), AllocError> {
         let numbers = format!(in self.alloc; "{} {} {:?} {}", r.at, r.line, r.costs, r.count)?;
         self.text.extend_from_slice(numbers.as_bytes())?;
-        let names = [r.function, r.called_object, r.called_file, r.called_function];
+        let names = [
+            r.function,
+            r.called_object,
+            r.called_file,
+            r.called_function,
+        ];
         push_names(&mut self.text, &names)?;
         self.last = r.at;
         self.width = Some(r.costs.len() as u64);

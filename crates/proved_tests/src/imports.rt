@@ -1,6 +1,6 @@
 // Imports of sources that give little, fail or never end, and into a warehouse of small limits.
 use crate::given::{Endless, Given};
-use crate::stores::filled;
+use crate::stores::empty;
 use prof_store::StoreEnd;
 use sqlite::MemStore;
 use std::alloc::Global;
@@ -19,6 +19,7 @@ fn word(answer: &Answer) -> &'static str {
         Answer::Held(1) => "held 1",
         Answer::Held(2) => "held 2",
         Answer::Done => "done",
+        Answer::Refused(Refusal::Store) => "store failed",
         Answer::Refused(Refusal::ReadFault) => "read failed",
         Answer::Refused(Refusal::TooLong) => "too long",
         Answer::Refused(Refusal::Full) => "full",
@@ -37,11 +38,15 @@ fn small_house(alloc: Global, bytes: u16) -> Result<Warehouse<MemStore>, StoreEn
         groups: 1,
         numbers: 3,
     };
-    Ok(Warehouse::new(filled(alloc, &[], 0)?, limits))
+    Ok(Warehouse::new(empty(alloc, false)?, limits))
 }
 
 /// What the import of a source is answered.
-fn import<R: Source + Drop>(house: &mut Warehouse<MemStore>, alloc: Global, mut source: R) -> &'static str {
+fn import<R: Source + Drop>(
+    house: &mut Warehouse<MemStore>,
+    alloc: Global,
+    mut source: R,
+) -> &'static str {
     word(&house.import(alloc, Kind::Callgrind, b"a", &mut source))
 }
 
@@ -118,7 +123,25 @@ fn limits_made_small(rt: HostRuntime) -> Result<(), Fail> {
     )? {
         assert_eq!(rt; word(&house.apply::<Given>(alloc, command)), wanted);
     }
-    assert_eq!(rt; import(&mut house, alloc, Given::sound(b"events: Bc\n", 100)), "run numbers spent");
-    assert_eq!(rt; import(&mut house, alloc, Given::sound(b"events: Dr\n", 100)), "held 2");
+    assert_eq!(rt;
+        import(&mut house, alloc, Given::sound(b"events: Bc\n", 100)),
+        "run numbers spent"
+    );
+    assert_eq!(rt;
+        import(&mut house, alloc, Given::sound(b"events: Dr\n", 100)),
+        "held 2"
+    );
+    Ok(())
+}
+
+/// An import would end the transaction that another began.
+#[test]
+fn nothing_is_put_within_a_transaction(rt: HostRuntime) -> Result<(), Fail> {
+    let alloc = rt.alloc();
+    let mut house = Warehouse::new(empty(alloc, true)?, Limits::standard());
+    let answer = import(&mut house, alloc, Given::sound(SMALL, 100));
+    assert_eq!(rt; answer, "store failed");
+    let runs = house.into_store().runs(alloc)?;
+    assert!(rt; runs.is_empty());
     Ok(())
 }
