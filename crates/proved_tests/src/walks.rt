@@ -5,47 +5,68 @@ use sqlite::MemStore;
 use std::alloc::Global;
 use std::test::Fail;
 
+/// What a walk over the cells of run 1 comes to: the costs of those of the objects `a` and `g`, and the
+/// lines of all.
+fn cells(store: &mut Store<MemStore>, alloc: Global) -> Result<(u128, u128, u64), StoreEnd> {
+    let names = store.names(alloc)?;
+    let mut walk = store.cells_of(1, &names, 2);
+    let (mut of_a, mut of_g, mut lines) = (0u128, 0u128, 0u64);
+    for _ in 0..1000 {
+        let Some(cell) = walk.next()? else {
+            break;
+        };
+        if cell.object == b"a".as_slice() && cell.file == b"b".as_slice() {
+            of_a = of_a.saturating_add(cell.cost);
+        }
+        if cell.object == b"g".as_slice() && cell.function == b"c".as_slice() && cell.event == 1 {
+            of_g = of_g.saturating_add(cell.cost);
+        }
+        lines = lines.saturating_add(cell.line);
+    }
+    Ok((of_a, of_g, lines))
+}
+
+/// What a walk over the calls of run 1 comes to, of those to the function `b` in `c` of `g`: how many they
+/// are, and what they cost of the second event.
+fn calls(store: &mut Store<MemStore>, alloc: Global) -> Result<(u128, u128), StoreEnd> {
+    let names = store.names(alloc)?;
+    let mut walk = store.arcs_of(alloc, 1, &names, 2);
+    let (mut count, mut costs) = (0u128, 0u128);
+    for _ in 0..1000 {
+        let Some(call) = walk.next()? else {
+            break;
+        };
+        let (object, file, function) = (call.called_object, call.called_file, call.called_function);
+        if object == b"g".as_slice() && file == b"c".as_slice() && function == b"b".as_slice() {
+            count = count.saturating_add(call.count);
+        }
+        if let [0, cost] = call.costs.as_slice() {
+            costs = costs.saturating_add(*cost);
+        }
+    }
+    Ok((count, costs))
+}
+
 /// There are 601 cells, of which a page has 512.
 #[test]
 fn cells_are_walked(rt: HostRuntime) -> Result<(), Fail> {
     let text = "INSERT INTO cell VALUES (1, 7, 2, 3, 0, 1, 9223372036854775807)";
     let mut store = filled(rt.alloc(), text, 600)?;
-    let names = store.names(rt.alloc())?;
-    let mut cells = store.cells_of(1, &names, 2);
-    let mut sum = 0u128;
-    for place in 0..601 {
-        let Some(cell) = cells.next()? else {
-            return Err(Fail::from("no cell"));
-        };
-        let object = if place == 0 { b"g".as_slice() } else { b"a" };
-        assert!(rt; cell.object == object && cell.file == b"b".as_slice());
-        assert!(rt; cell.function == b"c".as_slice() && cell.line == place);
-        assert!(rt; cell.event == usize::from(place == 0));
-        sum = sum.saturating_add(cell.cost);
-    }
-    assert!(rt; cells.next()?.is_none());
-    // The sum of 1 to 600, and 2^63 - 1.
-    assert!(rt; sum == 9223372036854956107);
+    let told = cells(&mut store, rt.alloc())?;
+    // 180300 is the sum of 1 to 600.
+    assert!(rt; told == (180300, 9223372036854775807, 180300));
     Ok(())
 }
 
+/// Calls of a run: three with a cost of the second event, and one without a cost.
+const CALLS: &str =
+    "INSERT INTO arc VALUES (1, 1, 2, 3, 4, 7, 3, 2, 0, 3), (1, 1, 2, 3, 4, 7, 3, 2, 2, 400), (1, 1, 2, 3, 5, 7, 3, 2, 0, 1)";
+
 #[test]
 fn calls_are_walked(rt: HostRuntime) -> Result<(), Fail> {
-    let text =
-        "INSERT INTO arc VALUES (1, 1, 2, 3, 16, 7, 3, 2, 0, 3), (1, 1, 2, 3, 16, 7, 3, 2, 2, 400), (1, 1, 2, 3, 17, 7, 3, 2, 0, 1)";
-    let mut store = filled(rt.alloc(), text, 0)?;
-    let names = store.names(rt.alloc())?;
-    let mut calls = store.arcs_of(rt.alloc(), 1, &names, 2);
-    for (line, count, cost) in [(16, 3, 400), (17, 1, 0)] {
-        let Some(call) = calls.next()? else {
-            return Err(Fail::from("no call"));
-        };
-        assert!(rt; call.object == b"a".as_slice() && call.function == b"c".as_slice());
-        assert!(rt; call.called_object == b"g".as_slice() && call.called_file == b"c".as_slice());
-        assert!(rt; call.called_function == b"b".as_slice() && call.line == line);
-        assert!(rt; call.count == count && call.costs.as_slice() == [0, cost].as_slice());
-    }
-    assert!(rt; calls.next()?.is_none());
+    let mut store = filled(rt.alloc(), CALLS, 0)?;
+    let told = calls(&mut store, rt.alloc())?;
+    assert!(rt; told == (4, 400));
     Ok(())
 }
 
@@ -120,36 +141,22 @@ fn rows_out_of_form_are_refused(rt: HostRuntime) -> Result<(), Fail> {
     Ok(())
 }
 
-/// What two cells and the first call are told to cost, and how often it was made.
-fn walked(store: &mut Store<MemStore>, alloc: Global) -> Result<(u128, u128), StoreEnd> {
-    let names = store.names(alloc)?;
-    let mut cells = store.cells_of(1, &names, 1);
-    let (mut costs, mut count) = (0u128, 0);
-    for _ in 0..2 {
-        if let Some(cell) = cells.next()? {
-            costs = costs.saturating_add(cell.cost);
-        }
-    }
-    drop(cells);
-    if let Some(call) = store.arcs_of(alloc, 1, &names, 1).next()? {
-        count = call.count;
-    }
-    Ok((costs, count))
-}
-
 /// With one allocation refused (`tests/refuse_each`), the walk that meets it says so, and the next is whole.
 #[test]
 fn memory_refused_to_walk(rt: HostRuntime) -> Result<(), Fail> {
     let alloc = rt.alloc();
-    let text = "INSERT INTO arc VALUES (1, 1, 2, 3, 4, 7, 3, 2, 0, 5)";
-    let mut store = match filled(alloc, text, 2) {
+    let mut store = match filled(alloc, CALLS, 2) {
         Ok(store) => store,
-        Err(_) => filled(alloc, text, 2)?,
+        Err(_) => filled(alloc, CALLS, 2)?,
     };
-    let (costs, count) = match walked(&mut store, alloc) {
-        Err(StoreEnd::Memory) => walked(&mut store, alloc)?,
+    let costs = match cells(&mut store, alloc) {
+        Err(StoreEnd::Memory) => cells(&mut store, alloc)?,
         told => told?,
     };
-    assert!(rt; costs == 3 && count == 5);
+    let told = match calls(&mut store, alloc) {
+        Err(StoreEnd::Memory) => calls(&mut store, alloc)?,
+        told => told?,
+    };
+    assert!(rt; costs == (3, 0, 3) && told == (4, 400));
     Ok(())
 }
