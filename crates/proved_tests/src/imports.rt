@@ -1,0 +1,147 @@
+// Imports of sources that give little, fail or never end, and into a warehouse of small limits.
+use crate::given::{Endless, Given};
+use crate::stores::empty;
+use prof_store::StoreEnd;
+use sqlite::MemStore;
+use std::alloc::Global;
+use std::io::ErrorKind;
+use std::test::Fail;
+use warehouse::{Answer, Command, Kind, Limits, Refusal, Source, Warehouse};
+
+/// A file of 15 bytes.
+const SMALL: &[u8] = b"events: Ir\n1 1\n";
+
+/// An answer in a few words.
+fn word(answer: &Answer) -> &'static str {
+    match answer {
+        Answer::Run(1) => "run 1",
+        Answer::Run(2) => "run 2",
+        Answer::Held(1) => "held 1",
+        Answer::Held(2) => "held 2",
+        Answer::Done => "done",
+        Answer::Refused(Refusal::Store) => "store failed",
+        Answer::Refused(Refusal::ReadFault) => "read failed",
+        Answer::Refused(Refusal::TooLong) => "too long",
+        Answer::Refused(Refusal::Full) => "full",
+        Answer::Refused(Refusal::NumbersSpent) => "run numbers spent",
+        Answer::Refused(Refusal::File(_, 2)) => "fault of line 2",
+        Answer::Refused(Refusal::Overflow(_)) => "overflow",
+        _ => "another answer",
+    }
+}
+
+/// An empty warehouse that takes in files of so many bytes, two runs, one group, and three numbers.
+fn small_house(alloc: Global, bytes: u16) -> Result<Warehouse<MemStore>, StoreEnd> {
+    let limits = Limits {
+        bytes: u64::from(bytes),
+        runs: 2,
+        groups: 1,
+        numbers: 3,
+    };
+    Ok(Warehouse::new(empty(alloc, false)?, limits))
+}
+
+/// What the import of a source is answered.
+fn import<R: Source + Drop>(
+    house: &mut Warehouse<MemStore>,
+    alloc: Global,
+    mut source: R,
+) -> &'static str {
+    word(&house.import(alloc, Kind::Callgrind, b"a", &mut source))
+}
+
+#[test]
+fn a_file_has_at_most_so_many_bytes(rt: HostRuntime) -> Result<(), Fail> {
+    for (bytes, most, sound, wanted) in [
+        (15, 1, u64::MAX, "run 1"),
+        (15, 100, u64::MAX, "run 1"),
+        (14, 1, u64::MAX, "too long"),
+        (14, 100, u64::MAX, "too long"),
+        (15, 1, 15, "read failed"),
+        (14, 1, 15, "too long"),
+        (14, 1, 14, "read failed"),
+    ] {
+        let mut house = small_house(rt.alloc(), bytes)?;
+        let source = Given {
+            left: SMALL,
+            most,
+            sound,
+            failure: ErrorKind::Other,
+        };
+        assert_eq!(rt; import(&mut house, rt.alloc(), source), wanted);
+    }
+    Ok(())
+}
+
+/// Each read fails in turn; nothing is held then, and no number is spent.
+#[test]
+fn a_read_fails(rt: HostRuntime) -> Result<(), Fail> {
+    let mut house = small_house(rt.alloc(), 1000)?;
+    assert_eq!(rt; import(&mut house, rt.alloc(), Endless), "too long");
+    for (sound, wanted) in [
+        (0, "read failed"),
+        (1, "read failed"),
+        (2, "read failed"),
+        (3, "read failed"),
+        (4, "run 1"),
+        (3, "read failed"),
+        (4, "held 1"),
+    ] {
+        let source = Given {
+            left: SMALL,
+            most: 5,
+            sound,
+            failure: ErrorKind::Interrupted,
+        };
+        assert_eq!(rt; import(&mut house, rt.alloc(), source), wanted, "{sound}");
+    }
+    Ok(())
+}
+
+/// A fault and a sum that does not fit are found before the want of room; what is held is no new run.
+#[test]
+fn limits_made_small(rt: HostRuntime) -> Result<(), Fail> {
+    let alloc = rt.alloc();
+    let mut house = small_house(alloc, 1000)?;
+    for (bytes, wanted) in [
+        (SMALL, "run 1"),
+        (b"events: Dr\n", "run 2"),
+        (b"events: Bc\n", "full"),
+        (SMALL, "held 1"),
+        (b"events: Ir\n1 2 3\n", "fault of line 2"),
+        (b"events: Bc\n1 9223372036854775807\n2 1\n", "overflow"),
+    ] {
+        assert_eq!(rt; import(&mut house, alloc, Given::sound(bytes, 100)), wanted);
+    }
+    for (command, wanted) in Vec::from_array(
+        alloc,
+        [
+            (Command::Remove(1), "done"),
+            (Command::MakeGroup(b"g".to_vec(alloc)?), "done"),
+            (Command::MakeGroup(b"h".to_vec(alloc)?), "full"),
+        ],
+    )? {
+        assert_eq!(rt; word(&house.apply::<Given>(alloc, command)), wanted);
+    }
+    assert_eq!(rt;
+        import(&mut house, alloc, Given::sound(b"events: Bc\n", 100)),
+        "run numbers spent"
+    );
+    assert_eq!(rt;
+        import(&mut house, alloc, Given::sound(b"events: Dr\n", 100)),
+        "held 2"
+    );
+    Ok(())
+}
+
+/// An import would end the transaction that another began.
+#[test]
+fn nothing_is_put_within_a_transaction(rt: HostRuntime) -> Result<(), Fail> {
+    let alloc = rt.alloc();
+    let mut house = Warehouse::new(empty(alloc, true)?, Limits::standard());
+    let answer = import(&mut house, alloc, Given::sound(SMALL, 100));
+    assert_eq!(rt; answer, "store failed");
+    let runs = house.into_store().runs(alloc)?;
+    assert!(rt; runs.is_empty());
+    Ok(())
+}

@@ -1,0 +1,19 @@
+//! Tests of what no command line of the program reaches, over the public calls of the other crates.
+#![tactic(auto)]
+
+#[cfg(test)]
+mod callgrind_cuts;
+#[cfg(test)]
+mod folded_cuts;
+#[cfg(test)]
+mod given;
+#[cfg(test)]
+mod imports;
+#[cfg(test)]
+mod lines;
+#[cfg(test)]
+mod stores;
+#[cfg(test)]
+mod totals;
+#[cfg(test)]
+mod walks;

@@ -1,0 +1,53 @@
+// A store in memory whose rows are written by hand.
+use prof_store::{Store, StoreEnd};
+use sqlite::{Connection, MemStore, params};
+use std::alloc::Global;
+
+/// A store in which a text was run, with the run 1, the names `a` (1), `b` (2), `c` (3) and `g` (7), and
+/// cells of the run on the lines 1, 2, .., each of which costs as much as its line says.
+pub(crate) fn filled(alloc: Global, text: &str, cells: u32) -> Result<Store<MemStore>, StoreEnd> {
+    let Ok(conn) = Connection::open_in_memory(alloc) else {
+        return Err(StoreEnd::Memory);
+    };
+    let mut conn = match Store::create(alloc, conn) {
+        Ok(store) => store.into_connection(),
+        Err((end, _)) => return Err(end),
+    };
+    for text in [
+        "INSERT INTO run VALUES (1, 1, x'01', 'a', 0)",
+        "INSERT INTO name VALUES (1, x'61'), (2, x'62'), (3, x'63'), (7, x'67')",
+        text,
+    ] {
+        if conn.execute(text, &[]).is_err() {
+            return Err(StoreEnd::Store);
+        }
+    }
+    for line in 1..=cells {
+        let text = "INSERT INTO cell VALUES (1, 1, 2, 3, ?1, 0, ?1)";
+        if conn.execute(text, params![line]).is_err() {
+            return Err(StoreEnd::Store);
+        }
+    }
+    match Store::open(alloc, conn) {
+        Ok(store) => Ok(store),
+        Err(_) => Err(StoreEnd::Store),
+    }
+}
+
+/// A store without rows, which has an open transaction or not.
+pub(crate) fn empty(alloc: Global, is_within: bool) -> Result<Store<MemStore>, StoreEnd> {
+    let Ok(conn) = Connection::open_in_memory(alloc) else {
+        return Err(StoreEnd::Memory);
+    };
+    let mut conn = match Store::create(alloc, conn) {
+        Ok(store) => store.into_connection(),
+        Err((end, _)) => return Err(end),
+    };
+    if is_within && conn.execute("BEGIN", &[]).is_err() {
+        return Err(StoreEnd::Store);
+    }
+    match Store::open(alloc, conn) {
+        Ok(store) => Ok(store),
+        Err(_) => Err(StoreEnd::Store),
+    }
+}

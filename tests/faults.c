@@ -1,0 +1,239 @@
+/* Faults for a program, by LD_PRELOAD: for tests/faults and tests/refuse_each. The variables:
+
+   STORE, INPUTS   beginnings of paths: of the files of a store, and of files that are read
+   FAULT           what is to fail: `allocation`, `read` (of a file of INPUTS), `change` (of a file of STORE:
+                   a write, a sync, a cut) or `look` (a read of a file of STORE)
+   AT              which of these, counted from 1
+   ERROR           how it fails: a number of errno, or 0 to kill the program in its place
+   TORN            the write before which the program is killed is made by half
+   SHORT           a read of a file of INPUTS gives at most so many bytes
+   COUNTS          a file into which the numbers of allocations, reads, changes and looks are written at the end
+   LOG             a file into which each change of a file of STORE is written, and what is printed */
+#define _GNU_SOURCE
+#include <errno.h>
+#include <dlfcn.h>
+#include <fcntl.h>
+#include <signal.h>
+#include <stdio.h>
+#include <stdlib.h>
+#include <string.h>
+#include <sys/types.h>
+#include <unistd.h>
+
+enum kind { ALLOCATION, READ, CHANGE, LOOK, KINDS };
+
+static const char *const names[KINDS] = {"allocation", "read", "change", "look"};
+static unsigned long counts[KINDS], at, most;
+static enum kind failing = KINDS;
+static int error, is_torn, log_file = -1;
+static const char *store, *inputs;
+
+void *__libc_malloc(size_t);
+void *__libc_calloc(size_t, size_t);
+void *__libc_realloc(void *, size_t);
+void *__libc_memalign(size_t, size_t);
+
+#define NEXT(name) ((__typeof__(&name))dlsym(RTLD_NEXT, #name))
+
+static unsigned long number(const char *name)
+{
+    const char *text = getenv(name);
+    return text ? strtoul(text, NULL, 10) : 0;
+}
+
+__attribute__((constructor)) static void begin(void)
+{
+    const char *fault = getenv("FAULT"), *log = getenv("LOG");
+    for (enum kind kind = 0; fault && kind < KINDS; kind++)
+        if (strcmp(fault, names[kind]) == 0)
+            failing = kind;
+    store = getenv("STORE");
+    inputs = getenv("INPUTS");
+    at = number("AT");
+    most = number("SHORT");
+    error = number("ERROR");
+    is_torn = number("TORN");
+    if (log)
+        log_file = open(log, O_WRONLY | O_CREAT | O_TRUNC, 0600);
+    memset(counts, 0, sizeof counts);
+}
+
+__attribute__((destructor)) static void end(void)
+{
+    const char *path = getenv("COUNTS");
+    char text[200];
+    int file = path ? open(path, O_WRONLY | O_CREAT | O_TRUNC, 0600) : -1;
+    if (file >= 0) {
+        int length = snprintf(text, sizeof text, "%lu %lu %lu %lu\n", counts[ALLOCATION], counts[READ],
+                              counts[CHANGE], counts[LOOK]);
+        NEXT(write)(file, text, length);
+        close(file);
+    }
+}
+
+/* Whether this one is to fail. Where the program is to be killed, it is. */
+static int fails(enum kind kind)
+{
+    counts[kind]++;
+    if (kind != failing || counts[kind] != at)
+        return 0;
+    if (error == 0)
+        kill(getpid(), SIGKILL);
+    errno = error;
+    return 1;
+}
+
+/* Whether the next change is one that is made by half. */
+static int is_half(void)
+{
+    return is_torn && failing == CHANGE && counts[CHANGE] + 1 == at;
+}
+
+static int has_path(int file, const char *beginning)
+{
+    char link[40], path[4096];
+    int before = errno;
+    ssize_t length;
+    snprintf(link, sizeof link, "/proc/self/fd/%d", file);
+    length = readlink(link, path, sizeof path - 1);
+    errno = before;
+    if (!beginning || length < 0)
+        return 0;
+    path[length] = 0;
+    return strncmp(path, beginning, strlen(beginning)) == 0;
+}
+
+/* Writes a change into the log: what it is, of which file, where, how long, and the bytes. */
+static void keep(const char *what, int file, off_t place, const void *bytes, size_t length)
+{
+    char link[40], path[4096], text[4200];
+    ssize_t found;
+    if (log_file < 0)
+        return;
+    snprintf(link, sizeof link, "/proc/self/fd/%d", file);
+    found = readlink(link, path, sizeof path - 1);
+    path[found < 0 ? 0 : found] = 0;
+    NEXT(write)(log_file, text, snprintf(text, sizeof text, "%s %s %ld %zu\n", what, path, (long)place, length));
+    if (bytes)
+        NEXT(write)(log_file, bytes, length);
+}
+
+void *malloc(size_t size)
+{
+    return fails(ALLOCATION) ? NULL : __libc_malloc(size);
+}
+
+void *calloc(size_t count, size_t size)
+{
+    return fails(ALLOCATION) ? NULL : __libc_calloc(count, size);
+}
+
+void *realloc(void *old, size_t size)
+{
+    return fails(ALLOCATION) ? NULL : __libc_realloc(old, size);
+}
+
+void *aligned_alloc(size_t alignment, size_t size)
+{
+    return fails(ALLOCATION) ? NULL : __libc_memalign(alignment, size);
+}
+
+int posix_memalign(void **made, size_t alignment, size_t size)
+{
+    void *found = fails(ALLOCATION) ? NULL : __libc_memalign(alignment, size);
+    if (!found)
+        return ENOMEM;
+    *made = found;
+    return 0;
+}
+
+ssize_t read(int file, void *bytes, size_t length)
+{
+    if (has_path(file, inputs)) {
+        if (fails(READ))
+            return -1;
+        if (most && length > most)
+            length = most;
+    } else if (has_path(file, store) && fails(LOOK)) {
+        return -1;
+    }
+    return NEXT(read)(file, bytes, length);
+}
+
+ssize_t pread64(int file, void *bytes, size_t length, off64_t place)
+{
+    if (has_path(file, store) && fails(LOOK))
+        return -1;
+    return NEXT(pread64)(file, bytes, length, place);
+}
+
+ssize_t pread(int file, void *bytes, size_t length, off_t place)
+{
+    return pread64(file, bytes, length, place);
+}
+
+ssize_t pwrite64(int file, const void *bytes, size_t length, off64_t place)
+{
+    if (has_path(file, store)) {
+        if (is_half())
+            NEXT(pwrite64)(file, bytes, length / 2, place);
+        if (fails(CHANGE))
+            return -1;
+        keep("write", file, place, bytes, length);
+    }
+    return NEXT(pwrite64)(file, bytes, length, place);
+}
+
+ssize_t pwrite(int file, const void *bytes, size_t length, off_t place)
+{
+    return pwrite64(file, bytes, length, place);
+}
+
+ssize_t write(int file, const void *bytes, size_t length)
+{
+    if (has_path(file, store)) {
+        if (is_half())
+            NEXT(write)(file, bytes, length / 2);
+        if (fails(CHANGE))
+            return -1;
+        keep("write", file, lseek(file, 0, SEEK_CUR), bytes, length);
+    } else if (file == STDOUT_FILENO) {
+        keep("print", file, 0, bytes, length);
+    }
+    return NEXT(write)(file, bytes, length);
+}
+
+int fsync(int file)
+{
+    if (has_path(file, store)) {
+        if (fails(CHANGE))
+            return -1;
+        keep("sync", file, 0, NULL, 0);
+    }
+    return NEXT(fsync)(file);
+}
+
+int fdatasync(int file)
+{
+    if (has_path(file, store)) {
+        if (fails(CHANGE))
+            return -1;
+        keep("sync", file, 0, NULL, 0);
+    }
+    return NEXT(fdatasync)(file);
+}
+
+int ftruncate64(int file, off64_t length)
+{
+    if (has_path(file, store)) {
+        if (fails(CHANGE))
+            return -1;
+        keep("cut", file, length, NULL, 0);
+    }
+    return NEXT(ftruncate64)(file, length);
+}
+
+int ftruncate(int file, off_t length)
+{
+    return ftruncate64(file, length);
+}
