@@ -411,8 +411,9 @@ impl<S: Sink> Reader<S> {
         std::process::exit(1)
     }
 
-    /// Reads the file at a path to its end. A fault of the file ends the program.
-    pub fn read_file(&mut self, path: &str) -> io::Result<()> {
+    /// Reads the file at a path to its end, and shows each piece first. A fault of the file ends the
+    /// program.
+    pub fn read_file(&mut self, path: &str, mut show: impl FnMut(&[u8])) -> io::Result<()> {
         let mut file = File::open(path)?;
         let mut buffer = vec![0; PIECE];
         loop {
@@ -420,6 +421,7 @@ impl<S: Sink> Reader<S> {
             if n == 0 {
                 break;
             }
+            show(&buffer[..n]);
             if let Err(fault) = self.feed(&buffer[..n]) {
                 self.refuse(fault);
             }

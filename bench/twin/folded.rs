@@ -1,6 +1,12 @@
-//! The plain counterpart of `folded_bench`: the same work in Rust, without proofs. It reads a folded
-//! file in pieces, line by line, and adds up counts and the lengths of the last functions' names.
+//! The plain counterpart of `profhouse import --folded`, without proofs, and without the tables: it
+//! reads a folded file in pieces of 65,536 bytes, takes their SHA-256, and adds up the counts of equal
+//! stacks and of the functions that were running, in hash maps with the standard library's random
+//! seeds. It prints the digest, and what there is of each, to be compared with a store.
 
+mod digest;
+
+use digest::Digest;
+use std::collections::HashMap;
 use std::fs::File;
 use std::io::Read;
 
@@ -37,6 +43,7 @@ fn count_of(digits: &[u8]) -> Parsed<u64> {
     Ok(count)
 }
 
+/// The function that was running.
 fn leaf(stack: &[u8]) -> &[u8] {
     let start = stack.iter().rposition(|b| *b == b';').map_or(0, |at| at + 1);
     let name = &stack[start..];
@@ -47,16 +54,26 @@ fn leaf(stack: &[u8]) -> &[u8] {
     }
 }
 
+type Counts = HashMap<Vec<u8>, u128>;
+
+fn merge(counts: &mut Counts, key: &[u8], count: u64) {
+    match counts.get_mut(key) {
+        Some(sum) => *sum += u128::from(count),
+        None => {
+            counts.insert(key.to_vec(), u128::from(count));
+        }
+    }
+}
+
 #[derive(Default)]
-struct Sums {
+struct Rows {
     lines: u64,
-    stacks: u64,
-    samples: u64,
-    leaf_bytes: u64,
+    stacks: Counts,
+    functions: Counts,
     fault: Option<(u64, &'static str)>,
 }
 
-impl Sums {
+impl Rows {
     fn read(&mut self, line: &[u8]) -> Parsed<()> {
         if line.len() > LINE_LIMIT {
             return Err("F1 line too long");
@@ -68,9 +85,8 @@ impl Sums {
         let blank = line.iter().rposition(|b| *b == b' ' || *b == b'\t');
         let end = blank.filter(|end| *end > 0).ok_or("F19 folded line")?;
         let count = count_of(&line[end + 1..])?;
-        self.stacks += 1;
-        self.samples = self.samples.wrapping_add(count);
-        self.leaf_bytes += leaf(&line[..end]).len() as u64;
+        merge(&mut self.stacks, &line[..end], count);
+        merge(&mut self.functions, leaf(&line[..end]), count);
         Ok(())
     }
 
@@ -82,43 +98,56 @@ impl Sums {
             }
         }
     }
+
+    /// Takes the lines that a piece ends, and keeps what is left of it.
+    fn feed(&mut self, kept: &mut Vec<u8>, piece: &[u8]) {
+        let mut rest = piece;
+        while let Some(end) = find(b'\n', rest) {
+            if kept.is_empty() {
+                self.take(&rest[..end]);
+            } else {
+                kept.extend_from_slice(&rest[..end]);
+                self.take(kept);
+                kept.clear();
+            }
+            rest = &rest[end + 1..];
+        }
+        if kept.len() <= LINE_LIMIT {
+            kept.extend_from_slice(rest);
+        }
+    }
+}
+
+/// How many keys there are with a count, and the sum of the counts.
+fn told(counts: &Counts) -> (usize, u128) {
+    let some = counts.values().filter(|count| **count > 0);
+    (some.clone().count(), some.sum())
 }
 
 fn main() -> std::io::Result<()> {
     let path = std::env::args().nth(1).expect("usage: folded FILE");
     let mut file = File::open(path)?;
     let mut buffer = vec![0u8; PIECE];
-    let mut partial = Vec::new();
-    let mut sums = Sums::default();
+    let mut kept = Vec::new();
+    let mut digest = Digest::new();
+    let mut rows = Rows::default();
     loop {
         let count = file.read(&mut buffer)?;
         if count == 0 {
             break;
         }
-        let mut rest = &buffer[..count];
-        while let Some(end) = find(b'\n', rest) {
-            if partial.is_empty() {
-                sums.take(&rest[..end]);
-            } else {
-                partial.extend_from_slice(&rest[..end]);
-                sums.take(&partial);
-                partial.clear();
-            }
-            rest = &rest[end + 1..];
-        }
-        if partial.len() <= LINE_LIMIT {
-            partial.extend_from_slice(rest);
-        }
+        digest.add(&buffer[..count]);
+        rows.feed(&mut kept, &buffer[..count]);
     }
-    if !partial.is_empty() {
-        sums.take(&partial);
+    if !kept.is_empty() {
+        rows.take(&kept);
     }
-    match sums.fault {
-        Some((line, fault)) => println!("line {line}: {fault}"),
-        None => println!(
-            "{} stacks, {} samples, {} bytes",
-            sums.stacks, sums.samples, sums.leaf_bytes
-        ),
+    if let Some((line, fault)) = rows.fault {
+        println!("refused: line {line}: {fault}");
+        std::process::exit(1);
     }
+    let ((stacks, samples), (functions, leaves)) = (told(&rows.stacks), told(&rows.functions));
+    println!("{} {stacks} {samples} {functions} {leaves}", digest.end());
+    println!("{:.3}", digest.taken.as_secs_f64());
     Ok(())
 }

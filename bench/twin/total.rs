@@ -40,7 +40,7 @@ impl Sink for Sums {
 fn main() -> io::Result<()> {
     let path = std::env::args().nth(1).expect("a file");
     let mut reader = Reader::<Sums>::default();
-    reader.read_file(&path)?;
+    reader.read_file(&path, |_| {})?;
     let mut text = Vec::new();
     for (k, name) in reader.events.iter().flatten().enumerate() {
         text.extend_from_slice(name);

@@ -1,0 +1,151 @@
+"""What the benchmarks share: the program, its twins, times in turn, peak memory, and stores.
+
+A benchmark times the program that the environment variable PROFHOUSE names, by default
+crates/profhouse/out/profhouse. It proves and builds nothing but its twins. Its files stand under
+out/bench and are made once. Times are those of the processor, in user and system together, since other
+work beside does not count there; each is the least of RUNS runs (5, or the variable RUNS), and the
+commands that are compared run in turn. Peak memory is asked of /usr/bin/time (Debian's package time).
+"""
+import datetime
+import itertools
+import os
+import sqlite3
+import subprocess
+import sys
+import tempfile
+import time
+
+TOP = os.path.dirname(os.path.dirname(os.path.abspath(__file__)))
+OUT = os.path.join(TOP, "out", "bench")
+TWINS = os.path.join(TOP, "bench", "twin")
+RUNS = int(os.environ.get("RUNS", "5"))
+
+
+def program():
+    """The path of the program. Says when and where it is timed."""
+    path = os.environ.get("PROFHOUSE", os.path.join(TOP, "crates", "profhouse", "out", "profhouse"))
+    path = os.path.abspath(path)
+    if not os.path.exists(path):
+        sys.exit(f"{path} is not there: `rt run` in crates/profhouse makes it, or set PROFHOUSE")
+    os.makedirs(OUT, exist_ok=True)
+    print(f"{datetime.date.today()}, {os.cpu_count()} cores, load {os.getloadavg()[0]:.1f},"
+          f" least of {RUNS} runs, seconds of the processor", flush=True)
+    return path
+
+
+def rust_twin(source, *options, name=None):
+    """Builds bench/twin/SOURCE.rs, and returns the path of what it built."""
+    path = os.path.join(OUT, f"{name or source}_twin")
+    text = os.path.join(TWINS, f"{source}.rs")
+    subprocess.run(["rustc", "--edition", "2021", "-O", *options, "-o", path, text], check=True)
+    return path
+
+
+def import_twin():
+    """Builds the C program that imports a Callgrind file by libsqlite3."""
+    path = os.path.join(OUT, "import_twin")
+    sources = [os.path.join(TWINS, name) for name in ("import.c", "import_file.c", "import_rows.c")]
+    subprocess.run(["gcc", "-std=gnu11", "-O2", "-o", path, *sources, "-lsqlite3"], check=True)
+    return path
+
+
+def made(name, write):
+    """The path of a file that `write` writes, if it is not there yet."""
+    path = os.path.join(OUT, name)
+    if not os.path.exists(path):
+        with open(path + ".part", "w") as file:
+            write(file)
+        os.rename(path + ".part", path)
+    return path
+
+
+def megabytes(path):
+    return os.path.getsize(path) / 1e6
+
+
+class Run:
+    """One run of a command: its seconds, of the processor and by the clock, and its output."""
+
+    def __init__(self, command):
+        start = time.perf_counter()
+        process = subprocess.Popen(command, stdout=subprocess.PIPE, text=True)
+        with process.stdout:
+            self.output = process.stdout.read()
+        _, status, usage = os.wait4(process.pid, 0)
+        self.clock = time.perf_counter() - start
+        process.returncode = os.waitstatus_to_exitcode(status)
+        if process.returncode != 0:
+            sys.exit(f"{' '.join(command)}: status {process.returncode}\n{self.output}")
+        self.processor = usage.ru_utime + usage.ru_stime
+
+
+def least(*commands):
+    """The run of each command that took the processor least, where all run in turn. A command is a
+    function that readies it and returns its words."""
+    turns = [[Run(command()) for command in commands] for _ in range(RUNS)]
+    return [min(runs, key=lambda run: run.processor) for runs in zip(*turns)]
+
+
+def peak(command):
+    """The peak memory of one run in kilobytes. What the system itself tells of a child is never less
+    than what its parent had when it was made, and this script has more than the program."""
+    with tempfile.NamedTemporaryFile("r") as told:
+        subprocess.run(["/usr/bin/time", "-f", "%M", "-o", told.name, *command()], check=True,
+                       stdout=subprocess.DEVNULL)
+        return int(told.read())
+
+
+def fresh(name):
+    """The path of a database that is not there."""
+    path = os.path.join(OUT, name)
+    for end in ("", "-wal", "-shm", "-journal"):
+        if os.path.exists(path + end):
+            os.remove(path + end)
+    return path
+
+
+def asked(name, *questions):
+    """What each question finds in a database, by SQLite's own library: the values of one row."""
+    base = sqlite3.connect(os.path.join(OUT, name))
+    answers = [base.execute(question).fetchone() for question in questions]
+    base.close()
+    return [value for answer in answers for value in answer]
+
+
+def rows_of(name):
+    """All rows of a database, table by table, in the order of their rowids; none is kept."""
+    base = sqlite3.connect(os.path.join(OUT, name))
+    texts = base.execute("SELECT name, sql FROM sqlite_master WHERE type = 'table' ORDER BY name")
+    for table, text in texts.fetchall():
+        yield table, text
+        yield from base.execute(f"SELECT * FROM {table} ORDER BY rowid")
+    base.close()
+
+
+def are_same(first, second):
+    """Whether two databases have the same tables, of the same texts."""
+    pairs = itertools.zip_longest(rows_of(first), rows_of(second))
+    return all(row == wanted for row, wanted in pairs)
+
+
+def report_import(program, twin, path):
+    """Imports a Callgrind file into new databases by both, `program.db` and `twin.db`, and prints
+    what that takes."""
+    def ours():
+        return [program, "import", "--db", fresh("program.db"), path]
+
+    def plain():
+        return [twin, fresh("twin.db"), path]
+
+    run, other = least(ours, plain)
+    names, cells, calls = asked("program.db", *(f"SELECT count(*) FROM {t}" for t in ("name", "cell", "arc")))
+    print(f"  {megabytes(path):.1f} MB: {names} names, {cells} cells, {calls} rows of calls;"
+          f" same tables: {are_same('program.db', 'twin.db')}")
+    print(f"    program {run.processor:.3f} s, twin {other.processor:.3f} s:"
+          f" {run.processor / other.processor:.2f} times; by the clock {run.clock:.3f} s, {other.clock:.3f} s")
+    print(f"    peak memory {peak(ours)} KB, twin {peak(plain)} KB;"
+          f" database {megabytes(os.path.join(OUT, 'program.db')):.1f} MB,"
+          f" twin {megabytes(os.path.join(OUT, 'twin.db')):.1f} MB")
+    steps = [line.split() for line in other.output.splitlines()]
+    print("    twin:", ", ".join(f"{step[0]} {step[1]} s" for step in steps if step[-1] == "s"), flush=True)
+    return run
