@@ -66,9 +66,9 @@ def megabytes(path):
 class Run:
     """One run of a command: its seconds, of the processor and by the clock, and its output."""
 
-    def __init__(self, command):
+    def __init__(self, command, **options):
         start = time.perf_counter()
-        process = subprocess.Popen(command, stdout=subprocess.PIPE, text=True)
+        process = subprocess.Popen(command, stdout=subprocess.PIPE, text=True, **options)
         with process.stdout:
             self.output = process.stdout.read()
         _, status, usage = os.wait4(process.pid, 0)
@@ -110,6 +110,42 @@ def asked(name, *questions):
     answers = [base.execute(question).fetchone() for question in questions]
     base.close()
     return [value for answer in answers for value in answer]
+
+
+def one_line():
+    """The path of a file of one line."""
+    return made("one.cg", lambda file: file.write("events: Ir\n"))
+
+
+def comments():
+    """The path of a file of 64 MB of comments."""
+    return made("comments.cg", lambda file: file.write("events: Ir\n" + ("#" + "x" * 998 + "\n") * 64_000))
+
+
+def digest_commands(program):
+    """Commands whose times tell what the program takes for a SHA-256: an import of one line, an import
+    of comments, and `total` of these, which takes no digest."""
+    def taken_in(path):
+        return lambda: [program, "import", "--db", fresh("digest.db"), path]
+
+    return [taken_in(one_line()), taken_in(comments()), lambda: [program, "total", comments()]]
+
+
+def digest_rate(opened, taken, read):
+    """The seconds that the program takes for the SHA-256 of a megabyte, by the runs of those commands."""
+    seconds = taken.processor - opened.processor - read.processor
+    print(f"  one line into a new store: {opened.processor:.3f} s, by the clock {opened.clock:.3f} s;"
+          f" SHA-256 of {megabytes(comments()):.0f} MB: {seconds:.3f} s")
+    return seconds / megabytes(comments())
+
+
+def rows_told(name):
+    """What a store says of its run of a Callgrind file, in the words of bench/twin/rows.rs."""
+    values = asked(name, "SELECT lower(hex(digest)) FROM run",
+                   "SELECT count(*), coalesce(sum(cost), 0) FROM cell",
+                   "SELECT count(*), coalesce(sum(n), 0) FROM arc WHERE part = 0",
+                   "SELECT coalesce(sum(n), 0) FROM arc WHERE part > 0")
+    return " ".join(map(str, values))
 
 
 def rows_of(name):

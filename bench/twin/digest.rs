@@ -1,6 +1,14 @@
 //! SHA-256, as FIPS 180-4 has it, in plain Rust, for the twins of imports.
 
-use std::time::{Duration, Instant};
+extern "C" {
+    /// The microseconds that this program had of the processor.
+    fn clock() -> i64;
+}
+
+fn microseconds() -> i64 {
+    // Sound: clock takes nothing and touches no memory of ours.
+    unsafe { clock() }
+}
 
 const ROUNDS: [u32; 64] = [
     0x428a2f98, 0x71374491, 0xb5c0fbcf, 0xe9b5dba5, 0x3956c25b, 0x59f111f1, 0x923f82a4, 0xab1c5ed5,
@@ -47,21 +55,21 @@ fn add_block(state: &mut [u32; 8], block: &[u8]) {
     }
 }
 
-/// The digest of what was added so far, and the time that it took.
+/// The digest of what was added so far, and the microseconds of the processor that it took.
 pub struct Digest {
     state: [u32; 8],
     length: u64,
     rest: Vec<u8>,
-    pub taken: Duration,
+    taken: i64,
 }
 
 impl Digest {
     pub fn new() -> Digest {
-        Digest { state: START, length: 0, rest: Vec::new(), taken: Duration::ZERO }
+        Digest { state: START, length: 0, rest: Vec::new(), taken: 0 }
     }
 
     pub fn add(&mut self, mut bytes: &[u8]) {
-        let start = Instant::now();
+        let start = microseconds();
         self.length += bytes.len() as u64;
         if !self.rest.is_empty() {
             let (begin, end) = bytes.split_at(bytes.len().min(64 - self.rest.len()));
@@ -77,7 +85,7 @@ impl Digest {
             add_block(&mut self.state, block);
         }
         self.rest.extend_from_slice(blocks.remainder());
-        self.taken += start.elapsed();
+        self.taken += microseconds() - start;
     }
 
     /// The digest in hexadecimal digits.
@@ -89,5 +97,9 @@ impl Digest {
         tail.extend_from_slice(&bits.to_be_bytes());
         self.add(&tail);
         self.state.iter().map(|word| format!("{word:08x}")).collect()
+    }
+
+    pub fn seconds(&self) -> f64 {
+        self.taken as f64 / 1e6
     }
 }

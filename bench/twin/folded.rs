@@ -148,6 +148,6 @@ fn main() -> std::io::Result<()> {
     }
     let ((stacks, samples), (functions, leaves)) = (told(&rows.stacks), told(&rows.functions));
     println!("{} {stacks} {samples} {functions} {leaves}", digest.end());
-    println!("{:.3}", digest.taken.as_secs_f64());
+    println!("{:.3}", digest.seconds());
     Ok(())
 }

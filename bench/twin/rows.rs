@@ -109,6 +109,6 @@ fn main() -> std::io::Result<()> {
     let mut reader = Reader::<Rows>::default();
     reader.read_file(&path, |piece| digest.add(piece))?;
     print_sums(&reader.sink, &digest.end());
-    println!("{:.3}", digest.taken.as_secs_f64());
+    println!("{:.3}", digest.seconds());
     Ok(())
 }

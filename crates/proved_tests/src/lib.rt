@@ -2,8 +2,6 @@
 #![tactic(auto)]
 
 #[cfg(test)]
-mod callgrind_cuts;
-#[cfg(test)]
 mod folded_cuts;
 #[cfg(test)]
 mod given;

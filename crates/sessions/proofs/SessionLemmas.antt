@@ -17,7 +17,8 @@ use Rattle.histories.specs.declared.answers.Refusal.{Refusal}
 use Rattle.histories.specs.declared.limits.Limits.{Limits}
 use Rattle.histories.proofs.Steps.{tell_same}
 use Rattle.histories.proofs.Turns.{history_more, legal_append}
-use Rattle.warehouse.specs.Answered.{HasHistory, IsAnswered, Says, Stops}
+use Rattle.run_imports.specs.Answered.{HasHistory, IsAnswered, Stops}
+use Rattle.warehouse.specs.Answered.{Says}
 use Rattle.warehouse.specs.declared.command.Command as commands
 use Rattle.warehouse.specs.declared.command.Command.TheVariants as command
 use Rattle.sessions.specs.Answers.{is_refused}

@@ -11,7 +11,7 @@ use Rattle.histories.specs.Legal.{AreLegal}
 use Rattle.histories.specs.declared.answers.Answer.{Answer}
 use Rattle.histories.specs.declared.answers.Answer.TheVariants.{Refused}
 use Rattle.histories.specs.declared.answers.Refusal.TheVariants.{Memory}
-use Rattle.warehouse.specs.Answered.{HasHistory, Stops}
+use Rattle.run_imports.specs.Answered.{HasHistory, Stops}
 use Rattle.sessions.specs.Answers.{is_refused, line_text}
 use Rattle.sessions.specs.declared.session.GroupChange.{GroupChange}
 use Rattle.sessions.specs.declared.session.GroupChange.TheVariants as changes

@@ -4,7 +4,8 @@ ghost use Rattle.prof_store.specs.Shown.{IsFaithful, IsUsable};
 ghost use Rattle.histories.specs.History.{History, Outcome, Said, Import, Remove};
 ghost use Rattle.histories.specs.Legal.{IsInForm, IsLegal};
 ghost use Rattle.histories.specs.declared.answers.Answer.TheVariants as answers;
-ghost use Rattle.warehouse.specs.Answered.{HasHistory, Says};
+ghost use Rattle.run_imports.specs.Answered.{HasHistory};
+ghost use Rattle.warehouse.specs.Answered.{Says};
 ghost use Rattle.sessions.specs.Sessions.{AnyReads, AreImports, AreOf, ArePrinted, WasRun, WasTold, change_said, status_after};
 
 use crate::answers::{is_refused, line_of};

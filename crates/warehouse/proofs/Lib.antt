@@ -1,6 +1,4 @@
 mod Dues
-mod Imports
 mod Names
-mod Puts
 mod Runs
 mod Settled

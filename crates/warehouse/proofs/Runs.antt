@@ -9,7 +9,8 @@ use Rattle.histories.specs.History.{History, Outcome, Said, Turn}
 use Rattle.histories.specs.declared.answers.Answer.{Answer}
 use Rattle.histories.specs.declared.limits.Limits.{Limits}
 use Rattle.histories.proofs.Turns.{legal_append}
-use Rattle.warehouse.specs.Answered.{Follows, HasHistory, IsAnswered, Says, AreSaid, Stops, WasRun}
+use Rattle.run_imports.specs.Answered.{Follows, HasHistory, IsAnswered, Stops}
+use Rattle.warehouse.specs.Answered.{Says, AreSaid, WasRun}
 use Rattle.warehouse.specs.declared.command.Command as commands
 
 module _ {R : Type 0} (comes : R → Outcome → R → Type 0) where

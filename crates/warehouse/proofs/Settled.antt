@@ -20,7 +20,8 @@ use Rattle.histories.proofs.Invariants.{groups_named}
 use Rattle.histories.proofs.Steps.{tell_same}
 use Rattle.histories.proofs.Tests.{bytes_apart}
 use Rattle.histories.proofs.Turns.{history_more}
-use Rattle.warehouse.specs.Answered.{with_turn, IsAccepted, Follows, StandsForHistory, HasHistory, WasDue, IsAnswered, answer_for, unread_for}
+use Rattle.run_imports.specs.Answered.{with_turn, IsAccepted, Follows, StandsForHistory, HasHistory, WasDue, IsAnswered}
+use Rattle.warehouse.specs.Answered.{answer_for, unread_for}
 use Rattle.file_intake.specs.Reads.{IsUnreadFor}
 use Rattle.file_intake.specs.declared.reading.Unread.{Unread}
 use Rattle.file_intake.specs.declared.reading.Unread.TheVariants as unreads

@@ -3,18 +3,18 @@ ghost use Rattle.std.specs.Prelude.{◌≡◌, ℕ, List};
 ghost use Rattle.prof_books.specs.Labels.{IsLabel};
 ghost use Rattle.prof_store.specs.Shown.{IsFaithful, IsUsable};
 ghost use Rattle.histories.specs.History.{History, Outcome, Import, Remove, MakeGroup, DropGroup, Ask};
-ghost use Rattle.warehouse.specs.Answered.{HasHistory, IsAnswered};
+ghost use Rattle.run_imports.specs.Answered.{HasHistory, IsAnswered};
 ghost use Rattle.warehouse.specs.Changes.{said_of};
 ghost use Rattle.file_intake.specs.Reads.{Come};
 
 use crate::changes::{Change, change_group, drop_group, group_name, make_group, remove};
-use crate::import::{label_of, take_in};
 use crate::lists::ask;
 use crate::refusals::{answer_of, unread_answer};
 use file_intake::{Source, take_file};
 use histories::{Answer, Limits, Query, Refusal};
 use prof_books::Kind;
 use prof_store::Store;
+use run_imports::{label_of, take_in};
 use sqlite::Alter;
 use std::alloc::Global;
 

@@ -2,7 +2,8 @@
 ghost use Rattle.std.specs.Prelude.{◌≡◌, List, IfOk, OnErr};
 ghost use Rattle.prof_store.specs.Shown.{IsFaithful, IsUsable};
 ghost use Rattle.histories.specs.History.{History, Outcome, Said, Import};
-ghost use Rattle.warehouse.specs.Answered.{HasHistory, IsAnswered, Says, WasRun};
+ghost use Rattle.run_imports.specs.Answered.{HasHistory, IsAnswered};
+ghost use Rattle.warehouse.specs.Answered.{Says, WasRun};
 ghost use Rattle.file_intake.specs.Reads.{Come};
 
 use crate::answering::{ask_in, change_in, drop_in, import_in, make_in, remove_in};

@@ -6,9 +6,9 @@ ghost use Rattle.prof_books.specs.Labels.{IsGroupName};
 ghost use Rattle.prof_store.specs.Shown.{IsFaithful, IsUsable, StandsFor, LeavesOnly};
 ghost use Rattle.histories.specs.History.{History, Remove, MakeGroup, DropGroup};
 ghost use Rattle.histories.specs.declared.limits.Limits.{Limits};
-ghost use Rattle.warehouse.specs.Answered.{StandsForHistory, WasDue, IsAccepted, Follows};
+ghost use Rattle.run_imports.specs.Answered.{StandsForHistory, WasDue, IsAccepted, Follows};
 ghost use Rattle.warehouse.specs.Changes.{changed, said_of};
-ghost use Rattle.warehouse.specs.Refused.{missing_of};
+ghost use Rattle.run_imports.specs.Refused.{missing_of};
 
 use histories::{Answer, Limits, Refusal};
 use prof_store::{Store, StoreEnd, is_group_name};

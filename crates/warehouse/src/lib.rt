@@ -5,7 +5,6 @@ mod answering;
 mod apply;
 mod changes;
 mod command;
-mod import;
 mod laws;
 mod lists;
 mod refusals;

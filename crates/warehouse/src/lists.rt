@@ -5,7 +5,7 @@ ghost use Rattle.prof_store.specs.Shown.{IsFaithful, IsUsable, StandsFor, Leaves
 ghost use Rattle.histories.specs.History.{History, Ask};
 ghost use Rattle.histories.specs.Texts as texts;
 ghost use Rattle.histories.specs.declared.limits.Limits.{Limits};
-ghost use Rattle.warehouse.specs.Answered.{StandsForHistory, WasDue, IsAccepted, Follows};
+ghost use Rattle.run_imports.specs.Answered.{StandsForHistory, WasDue, IsAccepted, Follows};
 ghost use Rattle.warehouse.specs.Lists.{entry_line, group_entry_line};
 
 use cg_text::Items;

@@ -1,6 +1,6 @@
 use Rattle.std.proofs.Common.{sym, subst}
 use Rattle.histories.specs.History.{Ask}
-use Rattle.warehouse.specs.Answered.{IsAnswered}
+use Rattle.run_imports.specs.Answered.{IsAnswered}
 use Rattle.warehouse.proofs.Settled.{settled}
 use Rattle.warehouse.proofs.answering.ask_in.Goals as goal
 

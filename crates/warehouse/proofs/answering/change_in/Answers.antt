@@ -2,7 +2,7 @@ use Rattle.std.proofs.Common.{false, inl, refl, sym, subst}
 use Rattle.histories.specs.Legal.{has_run}
 use Rattle.histories.specs.declared.answers.Answer.TheVariants.{Refused}
 use Rattle.histories.specs.declared.answers.Refusal.TheVariants.{NoSuchGroup}
-use Rattle.warehouse.specs.Answered.{IsAnswered}
+use Rattle.run_imports.specs.Answered.{IsAnswered}
 use Rattle.warehouse.specs.Changes.{said_of}
 use Rattle.warehouse.proofs.Dues.{change_form, change_due}
 use Rattle.warehouse.proofs.Settled.{settled, untouched, no_group_named}

@@ -2,7 +2,7 @@ use Rattle.std.proofs.Common.{false, inl, sym, subst}
 use Rattle.histories.specs.History.{DropGroup}
 use Rattle.histories.specs.declared.answers.Answer.TheVariants.{Refused}
 use Rattle.histories.specs.declared.answers.Refusal.TheVariants.{NoSuchGroup}
-use Rattle.warehouse.specs.Answered.{IsAnswered}
+use Rattle.run_imports.specs.Answered.{IsAnswered}
 use Rattle.warehouse.proofs.Dues.{drop_due}
 use Rattle.warehouse.proofs.Settled.{settled, untouched, no_group_named}
 use Rattle.warehouse.proofs.answering.drop_in.Goals as goal

@@ -1,6 +1,6 @@
 use Rattle.std.proofs.Common.{sym, subst}
 use Rattle.histories.specs.History.{Import}
-use Rattle.warehouse.specs.Answered.{IsAnswered}
+use Rattle.run_imports.specs.Answered.{IsAnswered}
 use Rattle.warehouse.proofs.Settled.{settled, unread_answered}
 use Rattle.warehouse.proofs.answering.import_labelled.Goals as goal
 

@@ -3,7 +3,7 @@ use Rattle.prof_books.specs.Labels.{IsGroupName}
 use Rattle.histories.specs.History.{MakeGroup}
 use Rattle.histories.specs.declared.answers.Answer.TheVariants.{Refused}
 use Rattle.histories.specs.declared.answers.Refusal.TheVariants.{BadName}
-use Rattle.warehouse.specs.Answered.{IsAnswered}
+use Rattle.run_imports.specs.Answered.{IsAnswered}
 use Rattle.warehouse.proofs.Settled.{settled, untouched, bad_name}
 use Rattle.warehouse.proofs.answering.make_in.Goals as goal
 

@@ -1,6 +1,6 @@
 use Rattle.std.proofs.Common.{sym, subst}
 use Rattle.histories.specs.History.{Remove}
-use Rattle.warehouse.specs.Answered.{IsAnswered}
+use Rattle.run_imports.specs.Answered.{IsAnswered}
 use Rattle.warehouse.proofs.Settled.{settled}
 use Rattle.warehouse.proofs.answering.remove_in.Goals as goal
 

@@ -4,10 +4,11 @@ use Rattle.prof_tables.specs.Tables.{Holds}
 use Rattle.histories.specs.declared.answers.Answer.TheVariants.{Done, Refused}
 use Rattle.histories.specs.Legal.{due}
 use Rattle.histories.proofs.Tells.{tells_run, tells_group}
-use Rattle.warehouse.specs.Answered.{Follows}
+use Rattle.run_imports.specs.Answered.{Follows}
 use Rattle.warehouse.specs.Changes.{changed, said_of}
-use Rattle.warehouse.specs.Refused.{refused_or}
-use Rattle.warehouse.proofs.Dues.{was_still, was_done, follows, change_due, change_form, tell_changed, then_crash}
+use Rattle.run_imports.specs.Refused.{refused_or}
+use Rattle.run_imports.proofs.Due.{was_still, was_done, follows, then_crash}
+use Rattle.warehouse.proofs.Dues.{change_due, change_form, tell_changed}
 use Rattle.warehouse.proofs.changes.change_group.Goals as goal
 
 pub returns-in-Some-clause-answered : goal.returns-in-Some-clause-answered

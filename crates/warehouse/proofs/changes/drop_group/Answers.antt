@@ -7,8 +7,9 @@ use Rattle.histories.specs.declared.answers.Answer.TheVariants.{Refused}
 use Rattle.histories.specs.declared.answers.Refusal.TheVariants.{NoSuchGroup}
 use Rattle.histories.proofs.Steps.{tell_dropped}
 use Rattle.histories.proofs.Tells.{tells_group}
-use Rattle.warehouse.specs.Answered.{Follows}
-use Rattle.warehouse.proofs.Dues.{was_still, was_done, follows, drop_due, then_crash}
+use Rattle.run_imports.specs.Answered.{Follows}
+use Rattle.run_imports.proofs.Due.{was_still, was_done, follows, then_crash}
+use Rattle.warehouse.proofs.Dues.{drop_due}
 use Rattle.warehouse.proofs.changes.drop_group.Goals as goal
 
 pub returns-then-not-branch-clause-answered : goal.returns-then-not-branch-clause-answered

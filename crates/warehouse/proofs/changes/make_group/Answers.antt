@@ -7,8 +7,9 @@ use Rattle.histories.specs.declared.answers.Answer.TheVariants.{Refused}
 use Rattle.histories.specs.declared.answers.Refusal.TheVariants.{GroupTaken, Full}
 use Rattle.histories.proofs.Steps.{tell_made}
 use Rattle.histories.proofs.Tells.{tells_group, tells_groups}
-use Rattle.warehouse.specs.Answered.{Follows}
-use Rattle.warehouse.proofs.Dues.{was_still, was_done, follows, make_due, then_crash, has_room, has_none}
+use Rattle.run_imports.specs.Answered.{Follows}
+use Rattle.run_imports.proofs.Due.{was_still, was_done, follows, then_crash, has_room, has_none}
+use Rattle.warehouse.proofs.Dues.{make_due}
 use Rattle.warehouse.proofs.changes.make_group.Goals as goal
 
 pub returns-then-branch-clause-answered : goal.returns-then-branch-clause-answered

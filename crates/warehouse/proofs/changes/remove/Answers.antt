@@ -7,8 +7,9 @@ use Rattle.histories.specs.declared.answers.Answer.TheVariants.{Refused}
 use Rattle.histories.specs.declared.answers.Refusal.TheVariants.{NoSuchRun}
 use Rattle.histories.proofs.Steps.{tell_removed}
 use Rattle.histories.proofs.Tells.{tells_run}
-use Rattle.warehouse.specs.Answered.{Follows}
-use Rattle.warehouse.proofs.Dues.{was_still, was_done, follows, remove_due, then_crash}
+use Rattle.run_imports.specs.Answered.{Follows}
+use Rattle.run_imports.proofs.Due.{was_still, was_done, follows, then_crash}
+use Rattle.warehouse.proofs.Dues.{remove_due}
 use Rattle.warehouse.proofs.changes.remove.Goals as goal
 
 pub returns-then-not-branch-clause-answered : goal.returns-then-not-branch-clause-answered

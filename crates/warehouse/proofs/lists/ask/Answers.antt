@@ -2,7 +2,7 @@ use Rattle.std.proofs.Common.{Some, sym, ap, ◌∙◌}
 use Rattle.histories.specs.History.{Ask}
 use Rattle.histories.specs.Texts.{text_of}
 use Rattle.histories.specs.declared.answers.Answer.TheVariants.{Text}
-use Rattle.warehouse.proofs.Dues.{was_still}
+use Rattle.run_imports.proofs.Due.{was_still}
 use Rattle.warehouse.proofs.lists.ask.Goals as goal
 
 pub returns-in_ok-list_runs-in-Runs-clause-answered : goal.returns-in_ok-list_runs-in-Runs-clause-answered

@@ -1,5 +1,6 @@
 use Rattle.std.proofs.Common.{◌≡◌, ◌+◌, ◌++◌, ◌∷◌, [], refl, sym, ap, subst, ◌∙◌, arith, length, append_assoc, append-nil}
-use Rattle.warehouse.specs.Answered.{IsAnswered, WasRun}
+use Rattle.run_imports.specs.Answered.{IsAnswered}
+use Rattle.warehouse.specs.Answered.{WasRun}
 use Rattle.warehouse.proofs.Runs.{run_nothing, run_on, no_items}
 use Rattle.warehouse.proofs.warehouse.Warehouse.run.Goals as goal
 

@@ -2,7 +2,8 @@ use Rattle.std.proofs.Common.{◌≡◌, ◌+◌, List, ◌++◌, vec_len, vec_c
 use Rattle.std.specs.VecDeque.{deque_len}
 use Rattle.prof_store.specs.Shown.{IsFaithful, IsUsable}
 use Rattle.histories.specs.History.{History}
-use Rattle.warehouse.specs.Answered.{HasHistory, WasRun}
+use Rattle.run_imports.specs.Answered.{HasHistory}
+use Rattle.warehouse.specs.Answered.{WasRun}
 use Rattle.warehouse.specs.declared.command.Command as commands
 use Rattle.warehouse.proofs.warehouse.Warehouse.run.Given as goal
 

@@ -1,0 +1,100 @@
+-- What is due for a file that was read to its end.
+use Rattle.std.proofs.Common.{◌≡◌, ℕ, Bool, true, false, nat_le, if◌then◌else◌, List, [], ◌∷◌, length, Option, Some, None, option_map, refl, sym, ap, ap₂, subst, ◌∙◌}
+use Rattle.std.specs.List.{list_any}
+use Rattle.sqlite_trees.specs.Tree.{Trees}
+use Rattle.sha2.specs.Sha256.{sha256}
+use Rattle.cg_text.specs.declared.faults.Fault as faults
+use Rattle.cg_text.specs.declared.heads.FileHead.{FileHead}
+use Rattle.cost_rows.specs.Admit.{overflow_of}
+use Rattle.cost_rows.specs.Content.{Content}
+use Rattle.cost_rows.specs.Totals.{AreTotals}
+use Rattle.cost_rows.specs.declared.rows.FileTotals.{FileTotals}
+use Rattle.prof_tables.specs.Tables.{Tables, Holds}
+use Rattle.prof_books.specs.Totals.{IsHeldIn}
+use Rattle.prof_books.specs.declared.kinds.Kind.{Kind}
+use Rattle.prof_books.specs.declared.kinds.Kind.TheVariants.{Callgrind, Folded}
+use Rattle.histories.specs.Files.{IsHeadOf, rows_of, events_of, fault_of}
+use Rattle.histories.specs.History.{History, Outcome, Import, bytes_of, held, next}
+use Rattle.histories.specs.Legal.{due, file_due, number_of, faulty, first_or, when, is_failed, is_end}
+use Rattle.histories.specs.Stands.{TablesTell}
+use Rattle.histories.specs.Sums.{excess_of, excess_at}
+use Rattle.histories.specs.declared.answers.Answer.{Answer}
+use Rattle.histories.specs.declared.answers.Answer.TheVariants as answers
+use Rattle.histories.specs.declared.answers.Excess.{Excess}
+use Rattle.histories.specs.declared.answers.Refusal.{Refusal}
+use Rattle.histories.specs.declared.answers.Refusal.TheVariants as reasons
+use Rattle.histories.specs.declared.limits.Limits.{Limits}
+use Rattle.histories.proofs.Excesses.{tells_excess}
+use Rattle.file_intake.specs.Reads.{HasEnded}
+use Rattle.run_imports.specs.Refused.{or_later, if_some, room_refusal, refused_or}
+
+-- ---- sums
+
+pub head_events : (kind : Kind) (head : FileHead) (bytes : List ℕ) → IsHeadOf kind head bytes → head.events ≡ events_of kind bytes
+head_events Callgrind head bytes is = is.events
+head_events Folded head bytes is = is.events
+
+module _ (h : History) (t : Tables) (db : Trees) (kind : Kind) (bytes : List ℕ) (head : FileHead) (c : Content) (was : Holds t db) (tell : TablesTell h t) (is : IsHeadOf kind head bytes) (rows_are : c ≡ rows_of kind bytes) where
+  pub excess_told : (events : List (List ℕ)) (many : ℕ) (totals file : FileTotals) → events ≡ head.events → many ≡ length head.events → IsHeldIn t events totals → AreTotals file c many
+      → excess_of (held h) kind bytes ≡ option_map (excess_at head.events) (overflow_of totals file)
+  excess_told events many totals file same count in_tables in_file =
+      let named = head_events kind head bytes is in
+      tells_excess h t db kind bytes totals file was tell (subst (λ l. IsHeldIn t l totals) (same ∙ named) in_tables)
+      (subst (λ n. AreTotals file (rows_of kind bytes) n) (count ∙ ap length named) (subst (λ x. AreTotals file x many) rows_are in_file))
+      ∙ ap (λ l. option_map (excess_at l) (overflow_of totals file)) (sym named)
+
+-- ---- room
+
+abbrev room : Option Excess → Bool → Bool → Option Refusal
+room excess full spent = or_later (option_map reasons.Overflow excess) (or_later (if_some full reasons.Full) (if_some spent reasons.NumbersSpent))
+
+module _ (limits : Limits) (h : History) (kind : Kind) (bytes : List ℕ) (fits : excess_of (held h) kind bytes ≡ None) where
+  pub room_full : nat_le limits.runs (length (held h)) ≡ true → room_refusal limits h kind bytes ≡ Some reasons.Full
+  room_full full = ap₂ (λ e b. room e b (nat_le limits.numbers (next h))) fits full
+
+  pub room_spent : nat_le limits.runs (length (held h)) ≡ false → nat_le limits.numbers (next h) ≡ true → room_refusal limits h kind bytes ≡ Some reasons.NumbersSpent
+  room_spent few spent = ap (λ e. room e (nat_le limits.runs (length (held h))) (nat_le limits.numbers (next h))) fits ∙ ap₂ (room None) few spent
+
+  pub room_left : nat_le limits.runs (length (held h)) ≡ false → nat_le limits.numbers (next h) ≡ false → room_refusal limits h kind bytes ≡ None
+  room_left few some = ap (λ e. room e (nat_le limits.runs (length (held h))) (nat_le limits.numbers (next h))) fits ∙ ap₂ (room None) few some
+
+-- ---- what is due
+
+module _ (limits : Limits) (h : History) (kind : Kind) (label : List ℕ) (outcomes : List Outcome) (ended : HasEnded limits.bytes outcomes) where
+  abbrev bytes : List ℕ
+  bytes = bytes_of outcomes
+
+  abbrev by_tests : Bool → Bool → Bool → Option Answer
+  by_tests long failed over =
+      if long then Some (answers.Refused reasons.TooLong) else if failed then Some (answers.Refused reasons.ReadFault) else if over then Some (file_due limits h kind bytes) else None
+
+  pub ended_due : due limits h (Import kind label outcomes) ≡ Some (file_due limits h kind bytes)
+  ended_due = ap (λ b. by_tests b (list_any is_failed outcomes) (list_any is_end outcomes)) ended.within ∙ ap₂ (by_tests false) ended.sound ended.ended
+
+  abbrev by_answers : Option ℕ → Option (faults.Fault × ℕ) → Answer
+  by_answers found fault = first_or
+      (option_map answers.Held found
+      ∷ option_map faulty fault
+      ∷ option_map (λ excess. answers.Refused (reasons.Overflow excess)) (excess_of (held h) kind bytes)
+      ∷ when (nat_le limits.runs (length (held h))) (answers.Refused reasons.Full)
+      ∷ when (nat_le limits.numbers (next h)) (answers.Refused reasons.NumbersSpent)
+      ∷ [])
+      (answers.Run (next h))
+
+  pub held_due : (n : ℕ) → number_of (sha256 bytes) (held h) ≡ Some n → due limits h (Import kind label outcomes) ≡ Some (answers.Held n)
+  held_due n is = ended_due ∙ ap (λ found. Some (by_answers found (fault_of kind bytes))) is
+
+  module _ (new : number_of (sha256 bytes) (held h) ≡ None) where
+    pub fault_due : (fault : faults.Fault × ℕ) → fault_of kind bytes ≡ Some fault → due limits h (Import kind label outcomes) ≡ Some (faulty fault)
+    fault_due fault is = ended_due ∙ ap₂ (λ found fault. Some (by_answers found fault)) new is
+
+    pub room_due : fault_of kind bytes ≡ None → due limits h (Import kind label outcomes) ≡ Some (refused_or (room_refusal limits h kind bytes) (answers.Run (next h)))
+    room_due sound = ended_due ∙ ap₂ (λ found fault. Some (by_answers found fault)) new sound ∙ ap (λ a. Some a) (same (excess_of (held h) kind bytes) (nat_le limits.runs (length (held h))) (nat_le limits.numbers (next h)))
+      where
+        same : (e : Option Excess) (full spent : Bool)
+            → first_or (option_map (λ excess. answers.Refused (reasons.Overflow excess)) e ∷ when full (answers.Refused reasons.Full) ∷ when spent (answers.Refused reasons.NumbersSpent) ∷ []) (answers.Run (next h))
+            ≡ refused_or (room e full spent) (answers.Run (next h))
+        same (Some excess) full spent = refl
+        same None true spent = refl
+        same None false true = refl
+        same None false false = refl

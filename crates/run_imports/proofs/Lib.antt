@@ -1,0 +1,3 @@
+pub mod Due
+mod Imports
+mod Puts

@@ -1,0 +1,37 @@
+use Rattle.std.proofs.Common.{rules, ◌≡◌, None, length, sym, ◌∙◌}
+use Rattle.histories.specs.History.{held, next}
+use Rattle.histories.specs.Sums.{excess_of}
+use Rattle.histories.proofs.Tells.{tells_many}
+use Rattle.run_imports.proofs.Due.{has_room, has_none}
+use Rattle.run_imports.proofs.Imports.{room_full, room_spent, room_left}
+use Rattle.run_imports.proofs.taking.refusal_of.Goals as goal
+
+pub returns-then-branch-from-clause-told : goal.returns-then-branch-from-clause-told
+returns-then-branch-from-clause-told g c clean h kind bytes s is rows_are =
+    let first = c.run_count.ensures.honest clean in
+    let once = c.in_ok-excess.ensures.stays first s.t s.stands in
+    let fits : excess_of (held h) kind bytes ≡ None = sym (c.in_ok-excess.ensures.told first h kind bytes s is rows_are) ∙ c.in_default.is in
+    let full = has_none c.args.limits.runs c.in_ok-run_count.field-0 (length (held h)) (c.in_ok-run_count.ensures.told clean s.t once ∙ tells_many h s.t s.tells) (search (rules, c.if-branch-from.true)) in
+    sym (room_full c.args.limits h kind bytes fits full)
+
+pub returns-then-branch-limits-clause-told : goal.returns-then-branch-limits-clause-told
+returns-then-branch-limits-clause-told g c clean h kind bytes s is rows_are =
+    let second = c.next_run.ensures.honest clean in
+    let first = c.run_count.ensures.honest second in
+    let once = c.in_ok-excess.ensures.stays first s.t s.stands in
+    let twice = c.in_ok-run_count.ensures.stays second s.t once in
+    let fits : excess_of (held h) kind bytes ≡ None = sym (c.in_ok-excess.ensures.told first h kind bytes s is rows_are) ∙ c.in_default.is in
+    let few = has_room c.args.limits.runs c.in_ok-run_count.field-0 (length (held h)) (c.in_ok-run_count.ensures.told second s.t once ∙ tells_many h s.t s.tells) (search (rules, c.if-branch-from.false)) in
+    let spent = has_none c.args.limits.numbers c.in_ok-next_run.field-0 (next h) (c.in_ok-next_run.ensures.told clean s.t twice ∙ s.tells.next) (search (rules, c.if-branch-limits.true)) in
+    sym (room_spent c.args.limits h kind bytes fits few spent)
+
+pub returns-clause-told : goal.returns-clause-told
+returns-clause-told g c clean h kind bytes s is rows_are =
+    let second = c.next_run.ensures.honest clean in
+    let first = c.run_count.ensures.honest second in
+    let once = c.in_ok-excess.ensures.stays first s.t s.stands in
+    let twice = c.in_ok-run_count.ensures.stays second s.t once in
+    let fits : excess_of (held h) kind bytes ≡ None = sym (c.in_ok-excess.ensures.told first h kind bytes s is rows_are) ∙ c.in_default.is in
+    let few = has_room c.args.limits.runs c.in_ok-run_count.field-0 (length (held h)) (c.in_ok-run_count.ensures.told second s.t once ∙ tells_many h s.t s.tells) (search (rules, c.if-branch-from.false)) in
+    let some = has_room c.args.limits.numbers c.in_ok-next_run.field-0 (next h) (c.in_ok-next_run.ensures.told clean s.t twice ∙ s.tells.next) (search (rules, c.if-branch-limits.false)) in
+    sym (room_left c.args.limits h kind bytes fits few some)

@@ -1,0 +1,3 @@
+pub mod Answered
+pub mod Imports
+pub mod Refused

@@ -1,0 +1,171 @@
+// A file is taken in.
+ghost use Rattle.std.specs.Prelude.{◌≡◌, ℕ, List, MatchOption, IfOk, OnOk, OnErr};
+ghost use Rattle.std.specs.Str.{IsUtf8};
+ghost use Rattle.cost_rows.specs.Rows.{content_of};
+ghost use Rattle.prof_books.specs.Labels.{IsLabel};
+ghost use Rattle.prof_books.specs.declared.kinds.Kind.{Kind};
+ghost use Rattle.prof_store.specs.Shown.{IsFaithful, IsUsable, StandsFor, LeavesOnly};
+ghost use Rattle.histories.specs.Files.{IsHeadOf, rows_of};
+ghost use Rattle.histories.specs.History.{History, Outcome, Import, bytes_of, held};
+ghost use Rattle.histories.specs.Sums as sums;
+ghost use Rattle.run_imports.specs.Answered.{StandsForHistory, WasDue, IsAccepted, Follows};
+ghost use Rattle.run_imports.specs.Imports.{IsNewFile};
+ghost use Rattle.file_intake.specs.Intakes.{IsTakenOf};
+ghost use Rattle.file_intake.specs.Reads.{HasEnded};
+ghost use Rattle.run_imports.specs.Refused.{room_refusal};
+
+use cg_text::{FileHead, Items};
+use cost_rows::{FileRows, Overflow, Side, admit};
+use file_intake::Taken;
+use histories::{Answer, Excess, Limits, Refusal};
+use prof_books::Kind;
+use prof_store::{Store, StoreEnd, is_label};
+use run_putting::put_run;
+use sqlite::Alter;
+use std::alloc::{AllocError, Global};
+
+/// What would pass its bound, by the name of its event.
+fn excess_of(alloc: Global, events: &[Items<u8>], overflow: Overflow) -> Result<Excess, AllocError>
+    ensures { IfOk result (λ excess. excess ≡ sums.excess_at events.now overflow) }
+{
+    let event = match events.get(overflow.column) {
+        Some(event) => event.as_slice(),
+        None => &[],
+    };
+    match overflow.side {
+        Side::SelfCost => {
+            let name = Vec::from_slice(alloc, event)?;
+            Ok(Excess::SelfCost(Items::from_vec(name)))
+        }
+        Side::CallCost => {
+            let name = Vec::from_slice(alloc, event)?;
+            Ok(Excess::CallCost(Items::from_vec(name)))
+        }
+        Side::CallCount => Ok(Excess::CallCount),
+    }
+}
+
+/// The label that bytes are, if they are in form.
+pub fn label_of(bytes: &[u8]) -> Option<&str>
+    ensures { MatchOption result (IsUtf8 bytes.now × IsLabel bytes.now → ⊥) (λ label. (label.now ≡ bytes.now) × IsUtf8 bytes.now × IsLabel bytes.now) }
+{
+    match str::from_utf8(bytes) {
+        Ok(label) => { if is_label(label) { Some(label) } else { None } }
+        Err(_) => None,
+    }
+}
+
+/// What would pass its bound with a file's sums beside those that are held.
+fn excess_with<S: Alter>(
+    store: &mut Store<S>,
+    alloc: Global,
+    head: &FileHead,
+    rows: &FileRows,
+) -> Result<Option<Excess>, StoreEnd>
+    ensures told { IsFaithful S.Store store.new → (h : History) (kind : Kind) (bytes : List ℕ) → StandsForHistory S.Store h store.old → IsHeadOf kind head.now bytes → content_of rows.now ≡ rows_of kind bytes
+        → IfOk result (λ excess. excess ≡ sums.excess_of (held h) kind bytes) }
+    ensures stays { IsFaithful S.Store store.new → (t : _) → StandsFor S.Store t store.old → OnOk result (StandsFor S.Store t store.new) }
+    ensures kept { IsFaithful S.Store store.new → (t : _) → StandsFor S.Store t store.old → OnErr result (IsUsable S.Store store.new → StandsFor S.Store t store.new) }
+    ensures crash { IsFaithful S.Store store.new → (t : _) → StandsFor S.Store t store.old → LeavesOnly S.Store store.old store.new (λ _. ⊥) }
+    ensures answers { IsFaithful S.Store store.new → OnOk result (IsUsable S.Store store.new) }
+    ensures was_usable { IsFaithful S.Store store.new → IsUsable S.Store store.new → IsUsable S.Store store.old }
+    ensures honest { IsFaithful S.Store store.new → IsFaithful S.Store store.old }
+{
+    let totals = store.totals_of(alloc, head.events.as_slice())?;
+    let file = rows.totals(alloc, head.events.len())?;
+    match admit(&totals, &file) {
+        Ok(()) => Ok(None),
+        Err(overflow) => {
+            let excess = excess_of(alloc, head.events.as_slice(), overflow)?;
+            Ok(Some(excess))
+        }
+    }
+}
+
+/// Why there is no room for a file that has no fault and is not held, if there is none.
+fn refusal_of<S: Alter>(
+    store: &mut Store<S>,
+    alloc: Global,
+    limits: Limits,
+    head: &FileHead,
+    rows: &FileRows,
+) -> Result<Option<Refusal>, StoreEnd>
+    ensures told { IsFaithful S.Store store.new → (h : History) (kind : Kind) (bytes : List ℕ) → StandsForHistory S.Store h store.old → IsHeadOf kind head.now bytes → content_of rows.now ≡ rows_of kind bytes
+        → IfOk result (λ refusal. refusal ≡ room_refusal limits h kind bytes) }
+    ensures stays { IsFaithful S.Store store.new → (t : _) → StandsFor S.Store t store.old → OnOk result (StandsFor S.Store t store.new) }
+    ensures kept { IsFaithful S.Store store.new → (t : _) → StandsFor S.Store t store.old → OnErr result (IsUsable S.Store store.new → StandsFor S.Store t store.new) }
+    ensures crash { IsFaithful S.Store store.new → (t : _) → StandsFor S.Store t store.old → LeavesOnly S.Store store.old store.new (λ _. ⊥) }
+    ensures answers { IsFaithful S.Store store.new → OnOk result (IsUsable S.Store store.new) }
+    ensures was_usable { IsFaithful S.Store store.new → IsUsable S.Store store.new → IsUsable S.Store store.old }
+    ensures honest { IsFaithful S.Store store.new → IsFaithful S.Store store.old }
+{
+    if let Some(excess) = excess_with(store, alloc, head, rows)? {
+        return Ok(Some(Refusal::Overflow(excess)));
+    }
+    if store.run_count()? >= u64::from(limits.runs) {
+        return Ok(Some(Refusal::Full));
+    }
+    if store.next_run()? >= limits.numbers {
+        return Ok(Some(Refusal::NumbersSpent));
+    }
+    Ok(None)
+}
+
+/// Puts a file that has no fault and is not held, if there is room for it.
+fn put_file<S: Alter>(
+    store: &mut Store<S>,
+    alloc: Global,
+    limits: Limits,
+    kind: Kind,
+    digest: &[u8; 32],
+    label: &str,
+    head: &FileHead,
+    rows: &FileRows,
+) -> Result<Answer, StoreEnd>
+    requires { IsLabel label.now }
+    ensures answered { IsFaithful S.Store store.new → (h : History) (outcomes : List Outcome) → StandsForHistory S.Store h store.old → HasEnded limits.bytes outcomes → IsNewFile h kind (bytes_of outcomes) digest.now head.now rows.now
+        → IfOk result (λ answer. WasDue S.Store limits h (Import kind label.now outcomes) answer store.new) }
+    ensures kept { IsFaithful S.Store store.new → (t : _) → StandsFor S.Store t store.old → OnErr result (IsUsable S.Store store.new → StandsFor S.Store t store.new) }
+    ensures same { IsFaithful S.Store store.new → (t : _) → StandsFor S.Store t store.old → IfOk result (λ answer. (IsAccepted answer → ⊥) → StandsFor S.Store t store.new) }
+    ensures crash { IsFaithful S.Store store.new → (h : History) (outcomes : List Outcome) → StandsForHistory S.Store h store.old → HasEnded limits.bytes outcomes → IsNewFile h kind (bytes_of outcomes) digest.now head.now rows.now
+        → LeavesOnly S.Store store.old store.new (Follows limits h (Import kind label.now outcomes)) }
+    ensures answers { IsFaithful S.Store store.new → OnOk result (IsUsable S.Store store.new) }
+    ensures was_usable { IsFaithful S.Store store.new → IsUsable S.Store store.new → IsUsable S.Store store.old }
+    ensures honest { IsFaithful S.Store store.new → IsFaithful S.Store store.old }
+{
+    if let Some(refusal) = refusal_of(store, alloc, limits, head, rows)? {
+        return Ok(Answer::Refused(refusal));
+    }
+    let number = put_run(store, alloc, kind, digest, label, head, rows)?;
+    Ok(Answer::Run(number))
+}
+
+/// Takes in a file that was read to its end.
+pub fn take_in<S: Alter>(
+    store: &mut Store<S>,
+    alloc: Global,
+    limits: Limits,
+    kind: Kind,
+    label: &str,
+    taken: Taken,
+) -> Result<Answer, StoreEnd>
+    requires { IsLabel label.now }
+    ensures answered { IsFaithful S.Store store.new → (h : History) (outcomes : List Outcome) → StandsForHistory S.Store h store.old → HasEnded limits.bytes outcomes → IsTakenOf kind (bytes_of outcomes) taken
+        → IfOk result (λ answer. WasDue S.Store limits h (Import kind label.now outcomes) answer store.new) }
+    ensures kept { IsFaithful S.Store store.new → (t : _) → StandsFor S.Store t store.old → OnErr result (IsUsable S.Store store.new → StandsFor S.Store t store.new) }
+    ensures same { IsFaithful S.Store store.new → (t : _) → StandsFor S.Store t store.old → IfOk result (λ answer. (IsAccepted answer → ⊥) → StandsFor S.Store t store.new) }
+    ensures crash { IsFaithful S.Store store.new → (h : History) (outcomes : List Outcome) → StandsForHistory S.Store h store.old → HasEnded limits.bytes outcomes → IsTakenOf kind (bytes_of outcomes) taken
+        → LeavesOnly S.Store store.old store.new (Follows limits h (Import kind label.now outcomes)) }
+    ensures answers { IsFaithful S.Store store.new → OnOk result (IsUsable S.Store store.new) }
+    ensures was_usable { IsFaithful S.Store store.new → IsUsable S.Store store.new → IsUsable S.Store store.old }
+    ensures honest { IsFaithful S.Store store.new → IsFaithful S.Store store.old }
+{
+    let Taken { digest, file } = taken;
+    if let Some(number) = store.run_of_digest(&digest)? {
+        return Ok(Answer::Held(number));
+    }
+    match file {
+        Ok((head, rows)) => put_file(store, alloc, limits, kind, &digest, label, &head, &rows),
+        Err((fault, line)) => Ok(Answer::Refused(Refusal::File(fault, line))),
+    }
+}
