@@ -184,4 +184,3 @@ def report_import(program, twin, path):
           f" twin {megabytes(os.path.join(OUT, 'twin.db')):.1f} MB")
     steps = [line.split() for line in other.output.splitlines()]
     print("    twin:", ", ".join(f"{step[0]} {step[1]} s" for step in steps if step[-1] == "s"), flush=True)
-    return run
