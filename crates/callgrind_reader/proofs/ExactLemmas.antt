@@ -8,7 +8,7 @@ use Rattle.cg_text.specs.declared.faults.Fault.{Fault}
 use Rattle.cg_text.specs.declared.faults.Fault.TheVariants.{LineTooLong, CallWithoutCost}
 use Rattle.text_pieces.specs.Backwards.{onto}
 use Rattle.callgrind_reader.specs.Faulty.{earlier_or}
-use Rattle.callgrind_reader.specs.Records.{Record}
+use Rattle.profile_records.specs.Records.{Record}
 use Rattle.callgrind_reader.specs.Calls.{number_after, awaiting}
 use Rattle.callgrind_reader.specs.Lines.{fault_at, record_of}
 use Rattle.callgrind_reader.specs.Files.{cost_follows, call_fault, numbered_or, first_fault, unless_fault, sound_records, formulas_fault, fault_in}

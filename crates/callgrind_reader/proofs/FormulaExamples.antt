@@ -1,6 +1,6 @@
 -- `event:` lines, computed on whole files.
 use Rattle.std.proofs.Common.{◌≡◌, [], ◌∷◌, codes, refl, Some, None}
-use Rattle.cg_text.specs.EventLines.{event_of, formula_of, term_of}
+use Rattle.cg_formulas.specs.EventLines.{event_of, formula_of, term_of}
 use Rattle.cg_text.specs.Fields.{line_text}
 use Rattle.cg_text.specs.Kinds.{kind_of}
 use Rattle.cg_text.specs.Names.{name_of}
@@ -8,7 +8,7 @@ use Rattle.cg_text.specs.Numbers.{number_of, amount_of}
 use Rattle.cg_text.specs.Readings.{reading_of}
 use Rattle.cg_text.specs.Subpositions.{subpos_of}
 use Rattle.cg_text.specs.declared.faults.Fault.TheVariants.{CallWithoutCost, EventTwice, FormulaForm, FormulaTooLarge, FormulaUnknown, NoEvents, UnknownLine}
-use Rattle.callgrind_reader.specs.Records.{Own}
+use Rattle.profile_records.specs.Records.{Own}
 use Rattle.callgrind_reader.specs.Files.{records_of_file, fault_of_file, events_of_file, derived_of_file}
 
 -- ---- the worked file: its line stands before `events:`

@@ -7,7 +7,7 @@ use Rattle.cg_text.specs.declared.faults.Fault.{Fault}
 use Rattle.cg_text.specs.declared.faults.Fault.TheVariants.{LineTooLong, CallWithoutCost}
 use Rattle.text_pieces.specs.Backwards as pieces
 use Rattle.callgrind_reader.specs.Faulty.{earlier_or}
-use Rattle.callgrind_reader.specs.Records.{Record}
+use Rattle.profile_records.specs.Records.{Record}
 use Rattle.callgrind_reader.specs.Calls.{number_after, awaiting}
 use Rattle.callgrind_reader.specs.Lines.{record_of, fault_at}
 use Rattle.callgrind_reader.specs.Files.{formulas_fault}

@@ -14,7 +14,7 @@ use Rattle.cg_text.specs.declared.words.Role.TheVariants.{Called}
 use Rattle.callgrind_reader.specs.Faulty.{◌>>=◌, each}
 use Rattle.callgrind_reader.specs.Names.{gives, resolved_name, in_force}
 use Rattle.callgrind_reader.specs.Positions.{layout_of, width}
-use Rattle.callgrind_reader.specs.Records.{Callee}
+use Rattle.profile_records.specs.Records.{Callee}
 
 -- the number of a line that these stand before
 abbrev pub number_after : List Reading → ℕ

@@ -3,7 +3,7 @@ use Rattle.std.specs.Prelude.{ℕ, List, [], map}
 use Rattle.cg_text.specs.Readings.{Reading, reading_of}
 use Rattle.text_pieces.specs.Cut.{cut}
 use Rattle.text_pieces.specs.Backwards as pieces
-use Rattle.callgrind_reader.specs.Records.{Record}
+use Rattle.profile_records.specs.Records.{Record}
 use Rattle.callgrind_reader.specs.Files.{sound_records}
 
 -- the lines that end in a line feed, the nearest first

@@ -2,9 +2,9 @@
 use Rattle.std.specs.Prelude.{ℕ, List, [], ◌∷◌, Result, Ok, Err}
 use Rattle.cg_text.specs.Readings.{Reading}
 use Rattle.cg_text.specs.Kinds.{Header}
-use Rattle.cg_text.specs.EventLines as said
-use Rattle.cg_text.specs.EventLines.{event_of}
-use Rattle.cg_text.specs.Formulas.{Definition, define}
+use Rattle.cg_formulas.specs.EventLines as said
+use Rattle.cg_formulas.specs.EventLines.{event_of}
+use Rattle.cg_formulas.specs.Formulas.{Definition, define}
 use Rattle.cg_text.specs.declared.faults.Fault.{Fault}
 use Rattle.cg_text.specs.declared.words.HeaderKey.TheVariants.{Event}
 use Rattle.callgrind_reader.specs.Calls.{number_after}

@@ -1,9 +1,9 @@
 -- What the lines so far come to if no more come.
 use Rattle.std.specs.Prelude.{◌≡◌, ℕ, List, length, Option, Some, None, Result, Ok, Err}
-use Rattle.cg_text.specs.Flats.{FlatOf}
+use Rattle.cg_formulas.specs.Flats.{FlatOf}
 use Rattle.cg_text.specs.Readings.{Reading}
 use Rattle.cg_text.specs.declared.faults.Fault.{Fault}
-use Rattle.cg_text.specs.declared.heads.FileHead.{FileHead}
+use Rattle.cg_formulas.specs.declared.heads.FileHead.{FileHead}
 use Rattle.cg_text.specs.declared.faults.ReadEnd.{ReadEnd}
 use Rattle.cg_text.specs.declared.faults.ReadEnd.TheVariants as ends
 use Rattle.callgrind_reader.specs.Events.{events_of}

@@ -4,7 +4,7 @@ use Rattle.std.specs.Str.{bytes_eq}
 use Rattle.cg_text.specs.Readings.{Reading}
 use Rattle.cg_text.specs.Kinds.{Header}
 use Rattle.cg_text.specs.Fields.{fields_of}
-use Rattle.cg_text.specs.Formulas.{are_distinct}
+use Rattle.cg_text.specs.Distinct.{are_distinct}
 use Rattle.cg_text.specs.declared.faults.Fault.{Fault}
 use Rattle.cg_text.specs.declared.faults.Fault.TheVariants.{NoEvents, EventTwice, EventsChanged, TooManyEvents}
 use Rattle.cg_text.specs.declared.words.HeaderKey.TheVariants.{Events}

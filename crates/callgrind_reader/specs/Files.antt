@@ -4,13 +4,13 @@ use Rattle.cg_text.specs.Lines.{lines_of}
 use Rattle.cg_text.specs.Readings.{Reading, reading_of}
 use Rattle.cg_text.specs.Kinds as kinds
 use Rattle.cg_text.specs.Kinds.{Nothing, Calls}
-use Rattle.cg_text.specs.Formulas.{Definition, formula_fault, derived_of}
+use Rattle.cg_formulas.specs.Formulas.{Definition, formula_fault, derived_of}
 use Rattle.cg_text.specs.declared.faults.Fault.{Fault}
 use Rattle.cg_text.specs.declared.faults.Fault.TheVariants.{LineTooLong, CallWithoutCost}
 use Rattle.text_pieces.specs.Backwards as pieces
 use Rattle.text_pieces.specs.Backwards.{onto}
 use Rattle.callgrind_reader.specs.Faulty.{earlier_or}
-use Rattle.callgrind_reader.specs.Records.{Record}
+use Rattle.profile_records.specs.Records.{Record}
 use Rattle.callgrind_reader.specs.Events.{events_of}
 use Rattle.callgrind_reader.specs.Totals.{stated_of}
 use Rattle.callgrind_reader.specs.Calls.{number_after}

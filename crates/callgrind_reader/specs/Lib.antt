@@ -1,5 +1,4 @@
 pub mod Faulty
-pub mod Records
 pub mod Names
 pub mod Events
 pub mod Positions
@@ -9,7 +8,6 @@ pub mod Totals
 pub mod Definitions
 pub mod Lines
 pub mod Files
-pub mod Lent
 pub mod Table
 pub mod Space
 pub mod Places

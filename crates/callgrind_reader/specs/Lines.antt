@@ -4,7 +4,7 @@ use Rattle.cg_text.specs.Readings.{Reading}
 use Rattle.cg_text.specs.Kinds as kinds
 use Rattle.cg_text.specs.Kinds.{Nothing, Header, Name, Calls, Jump}
 use Rattle.cg_text.specs.Fields.{fields_of}
-use Rattle.cg_text.specs.EventLines.{event_of}
+use Rattle.cg_formulas.specs.EventLines.{event_of}
 use Rattle.cg_text.specs.Names.{name_of}
 use Rattle.cg_text.specs.Numbers.{number_of, amount_of}
 use Rattle.cg_text.specs.Words.{namespace_of}
@@ -14,7 +14,7 @@ use Rattle.cg_text.specs.declared.words.HeaderKey.{HeaderKey}
 use Rattle.cg_text.specs.declared.words.HeaderKey.TheVariants.{Version, Positions, Events, Event, Summary, Totals, Other}
 use Rattle.cg_text.specs.declared.words.Namespace.TheVariants.{Object, File, Function}
 use Rattle.callgrind_reader.specs.Faulty.{each, err_of}
-use Rattle.callgrind_reader.specs.Records.{Cost, Record, Own, Called}
+use Rattle.profile_records.specs.Records.{Cost, Record, Own, Called}
 use Rattle.callgrind_reader.specs.Names.{meaning, in_force, name_fault}
 use Rattle.callgrind_reader.specs.Events.{events_of, events_fault}
 use Rattle.callgrind_reader.specs.Positions.{form_of, settled, positions_fault}

@@ -1,10 +1,10 @@
 -- When a reader stands for a text, having handed out some records; and what a file comes to.
 use Rattle.std.specs.Prelude.{◌≡◌, ℕ, ◌≤◌, List, Option, Some, None, IfSome, Result, Ok, Err}
-use Rattle.cg_text.specs.declared.heads.FileHead.{FileHead}
+use Rattle.cg_formulas.specs.declared.heads.FileHead.{FileHead}
 use Rattle.cg_text.specs.declared.faults.ReadEnd.{ReadEnd}
 use Rattle.cg_text.specs.declared.faults.ReadEnd.TheVariants as ends
 use Rattle.callgrind_reader.specs.declared.reader.Reader.{Reader}
-use Rattle.callgrind_reader.specs.Records.{Record}
+use Rattle.profile_records.specs.Records.{Record}
 use Rattle.callgrind_reader.specs.Files.{fault_of_file, events_of_file, derived_of_file, stated_of_file}
 use Rattle.callgrind_reader.specs.Accept.{held}
 use Rattle.text_pieces.specs.Kept as pieces

@@ -1,6 +1,6 @@
 -- When what a reader keeps stands for the lines that it has read.
 use Rattle.std.specs.Prelude.{◌≡◌, ℕ, ◌<◌, Bool, List, ◌∷◌, length, nat_lt, slice_index, Option, None, Some}
-use Rattle.cg_text.specs.Held.{Holds}
+use Rattle.cg_formulas.specs.Held.{Holds}
 use Rattle.cg_text.specs.Readings.{Reading}
 use Rattle.cg_text.specs.declared.faults.Fault.{Fault}
 use Rattle.cg_text.specs.declared.words.Namespace.TheVariants.{Object, File, Function}

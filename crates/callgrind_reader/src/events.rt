@@ -2,7 +2,7 @@
 ghost use Rattle.std.specs.Prelude.{◌≡◌, ◌≤◌, IfOk, IfSome, Option, Some, None, length, true};
 ghost use Rattle.std.specs.Option.{ForSome};
 ghost use Rattle.cg_text.specs.Fields.{fields_of};
-ghost use Rattle.cg_text.specs.Formulas.{are_distinct};
+ghost use Rattle.cg_text.specs.Distinct.{are_distinct};
 ghost use Rattle.callgrind_reader.specs.Events.{first_of, same_names, events_fault};
 ghost use Rattle.callgrind_reader.specs.Files.{names_or_none};
 

@@ -3,7 +3,7 @@ ghost use Rattle.std.specs.Prelude.{◌≡◌, ℕ, List, [], ◌++◌};
 ghost use Rattle.cg_text.specs.Readings.{Reading};
 ghost use Rattle.text_pieces.specs.Backwards.{onto, IsPrefix};
 ghost use Rattle.callgrind_reader.specs.declared.reader.Reader.{Reader};
-ghost use Rattle.callgrind_reader.specs.Records.{Record};
+ghost use Rattle.profile_records.specs.Records.{Record};
 ghost use Rattle.callgrind_reader.specs.Files.{first_fault, fault_in, sound_records, records_of_file};
 ghost use Rattle.callgrind_reader.specs.Accept.{line_fault_after, fault_after, held};
 ghost use Rattle.callgrind_reader.specs.Cut.{records_so_far};

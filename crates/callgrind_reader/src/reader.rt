@@ -2,14 +2,15 @@
 ghost use Rattle.std.specs.Prelude.{◌≡◌, ℕ, ◌+◌, ◌≤◌, OnOk, OnErr, IfOk, IsErr, None, Err, List, [], ◌++◌, fold, length};
 ghost use Rattle.text_pieces.specs.Kept.{taken_of};
 ghost use Rattle.text_pieces.specs.Backwards.{IsPrefix};
-ghost use Rattle.callgrind_reader.specs.Records.{Record};
+ghost use Rattle.profile_records.specs.Records.{Record};
 ghost use Rattle.callgrind_reader.specs.Files.{records_of_file};
 ghost use Rattle.callgrind_reader.specs.Cut.{records_so_far};
 ghost use Rattle.cg_text.specs.declared.faults.ReadEnd.TheVariants.{Memory};
 
-use crate::sink::Sink;
 use crate::state::State;
-use cg_text::{FileHead, ReadEnd};
+use cg_formulas::FileHead;
+use cg_text::ReadEnd;
+use profile_records::Sink;
 use std::alloc::{AllocError, Global};
 use text_pieces::Pieces;
 

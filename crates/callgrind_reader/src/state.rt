@@ -6,7 +6,7 @@ ghost use Rattle.cg_text.specs.Kinds as kinds;
 ghost use Rattle.cg_text.specs.Views.{plain_kind, kind_is};
 ghost use Rattle.text_pieces.specs.LineIs.{IsLine};
 ghost use Rattle.callgrind_reader.specs.Calls.{number_after, callee_of};
-ghost use Rattle.callgrind_reader.specs.Records.{Own, Called};
+ghost use Rattle.profile_records.specs.Records.{Own, Called};
 ghost use Rattle.callgrind_reader.specs.Lines.{record_of, record_with, cost_of};
 ghost use Rattle.callgrind_reader.specs.Accept.{adds, breaks, broken};
 
@@ -14,8 +14,9 @@ use crate::header::Header;
 use crate::names::Names;
 use crate::places::Places;
 use crate::rows::{call_count, cost_row};
-use crate::sink::{CallCost, SelfCost, Sink};
-use cg_text::{Fault, FileHead, HeaderKey, LineKind, NameWord, ReadEnd, read_line};
+use cg_formulas::FileHead;
+use cg_text::{Fault, HeaderKey, LineKind, NameWord, ReadEnd, read_line};
+use profile_records::{CallCost, SelfCost, Sink};
 use std::alloc::{AllocError, Global};
 use text_pieces::{Line, TakesLines};
 
@@ -350,7 +351,7 @@ impl State {
 }
 
 impl<S: Sink> TakesLines<S> for State {
-    ghost use Rattle.callgrind_reader.specs.Records.{Record};
+    ghost use Rattle.profile_records.specs.Records.{Record};
     ghost use Rattle.callgrind_reader.specs.Stands.{StandsAfter, count_of};
 
     ghost Reading = { Reading };

@@ -4,12 +4,3 @@ pub mod FieldsLemmas
 pub mod NumbersLemmas
 pub mod JoinedLemmas
 pub mod Examples
-pub mod RepeatLemmas
-pub mod HeldLemmas
-pub mod RowsLemmas
-pub mod FlatLemmas
-pub mod DefineLemmas
-pub mod FlattenLemmas
-pub mod ValueLemmas
-pub mod TermsLemmas
-pub mod FormulaExamples

@@ -7,13 +7,7 @@ pub mod Names
 pub mod Words
 pub mod Kinds
 pub mod Readings
-pub mod EventLines
-pub mod EventViews
-pub mod Formulas
-pub mod Definitions
-pub mod Rows
-pub mod Flats
-pub mod Held
+pub mod Distinct
 pub mod Views
 pub mod Faults
 pub mod Ends

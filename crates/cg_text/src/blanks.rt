@@ -4,7 +4,7 @@ ghost use Rattle.std.specs.Str.Lines as lines;
 ghost use Rattle.cg_text.specs.Fields.{is_blank, trim_start, trim_end, line_text};
 
 /// Whether a byte is a space or a tab.
-pub(crate) fn is_blank(b: u8) -> bool
+pub fn is_blank(b: u8) -> bool
     ensures { result ≡ is_blank b }
 {
     b == b' ' || b == b'\t'
@@ -20,7 +20,7 @@ fn first_other(bytes: &[u8]) -> Option<usize>
 
 /// Without the blanks in front.
 #[inline(always)]
-pub(crate) fn trim_start(bytes: &[u8]) -> &[u8]
+pub fn trim_start(bytes: &[u8]) -> &[u8]
     ensures { result.now ≡ trim_start bytes.now }
 {
     match first_other(bytes) {
@@ -31,7 +31,7 @@ pub(crate) fn trim_start(bytes: &[u8]) -> &[u8]
 
 /// Without the blanks behind.
 #[inline(always)]
-pub(crate) fn trim_end(bytes: &[u8]) -> &[u8]
+pub fn trim_end(bytes: &[u8]) -> &[u8]
     ensures { result.now ≡ trim_end bytes.now }
 {
     let mut end = bytes.len();

@@ -2,7 +2,7 @@
 ghost use Rattle.std.specs.Prelude.{◌≡◌};
 ghost use Rattle.std.specs.List.{list_any};
 ghost use Rattle.std.specs.Str.{bytes_eq};
-ghost use Rattle.cg_text.specs.Formulas.{are_distinct};
+ghost use Rattle.cg_text.specs.Distinct.{are_distinct};
 
 use crate::items::Items;
 

@@ -2,13 +2,8 @@
 #![tactic(auto)]
 
 mod blanks;
-mod definitions;
 mod distinct;
-mod event_lines;
 mod faults;
-mod flats;
-mod formulas;
-mod heads;
 mod items;
 mod kinds;
 mod laws;
@@ -17,27 +12,19 @@ mod names;
 mod numbers;
 mod positions;
 mod readings;
-mod rows;
 mod split;
 mod subpositions;
-mod terms;
 mod words;
 
-pub use blanks::{line_text, strip_carriage_return};
+pub use blanks::{is_blank, line_text, strip_carriage_return, trim_end, trim_start};
 pub use distinct::are_distinct;
-pub use event_lines::{EventLine, Formula, TextEnd, event_line};
 pub use faults::{Fault, ReadEnd};
-pub use flats::{Flat, FlatEnd};
-pub use formulas::Formulas;
-pub use heads::FileHead;
 pub use items::Items;
 pub use kinds::{LineKind, classify};
-pub use laws::{
-    a_repeat_changes_nothing, coefficients_give_the_values, lines_are_the_text, values_add_up,
-};
+pub use laws::lines_are_the_text;
 pub use lines::{Lines, first_line, line_end};
 pub use names::{NameSpec, name_spec};
-pub use numbers::{amount, number};
+pub use numbers::{amount, is_digit, number, value_in};
 pub use positions::SubPos;
 pub use readings::{LINE_LIMIT, read_line};
 pub use split::{SplitFields, fields, next_field};

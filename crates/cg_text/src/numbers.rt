@@ -8,7 +8,7 @@ use crate::faults::Fault;
 
 /// Whether a byte is a decimal digit.
 #[inline(always)]
-pub(crate) fn is_digit(b: u8) -> bool
+pub fn is_digit(b: u8) -> bool
     ensures { result ≡ is_digit b }
 {
     b'0' <= b && b <= b'9'
@@ -35,7 +35,7 @@ fn digit_value(b: u8) -> u64
 }
 
 /// What digits stand for in a base, or nothing where that is 2^64 or more.
-pub(crate) fn value_in(base: u64, digits: &[u8]) -> Option<u64>
+pub fn value_in(base: u64, digits: &[u8]) -> Option<u64>
     requires { 0 < base }
     ensures { MatchOption result (2 ^ 64 ≤ value_in base digits.now) (λ n. n ≡ value_in base digits.now) }
 {

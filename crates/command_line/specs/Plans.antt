@@ -7,8 +7,8 @@ use Rattle.clap.specs.Values.{kind_of}
 use Rattle.clap.specs.Walk.{Row, Text, all_of, first_of, one_of}
 use Rattle.clap.specs.declared.error.Error.{Error}
 use Rattle.clap.specs.declared.error.kind.ErrorKind.TheVariants.{OutOfMemory}
-use Rattle.prof_books.specs.declared.kinds.Kind.{Kind}
-use Rattle.prof_books.specs.declared.kinds.Kind.TheVariants.{Callgrind, Folded}
+use Rattle.profile_records.specs.declared.kinds.Kind.{Kind}
+use Rattle.profile_records.specs.declared.kinds.Kind.TheVariants.{Callgrind, Folded}
 use Rattle.command_line.specs.declared.plans.Plan.{Plan}
 use Rattle.command_line.specs.declared.plans.PlanEnd.{PlanEnd}
 use Rattle.command_line.specs.declared.plans.PlanEnd.TheVariants.{Memory, Clap}

@@ -9,7 +9,7 @@ use crate::plans::{Plan, PlanEnd};
 use crate::words::{files, is_given, run, runs, word};
 use clap::ArgMatches;
 use clap::error::ErrorKind;
-use prof_books::Kind;
+use profile_records::Kind;
 use std::alloc::{AllocError, Global};
 
 /// Files to be taken in.

@@ -1,7 +1,7 @@
 // What the program is told to do.
 use cg_text::Items;
 use clap::error::ErrorKind;
-use prof_books::Kind;
+use profile_records::Kind;
 use std::alloc::AllocError;
 
 /// What the program is told to do.

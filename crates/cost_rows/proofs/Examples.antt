@@ -2,8 +2,8 @@
 use Rattle.std.proofs.Common.{◌≡◌, ℕ, ◌+◌, ◌-◌, ◌^◌, true, nat_lt, ◌==◌, map, fold, List, [], ◌∷◌, codes, Some, None, refl}
 use Rattle.std.specs.Ordering.{nat_cmp}
 use Rattle.cost_rows.specs.Naming.{place_of, with_name, names_among}
-use Rattle.callgrind_reader.specs.Records.{Record, Own, Called}
-use Rattle.folded_reader.specs.Files.{Seen}
+use Rattle.profile_records.specs.Records.{Record, Own, Called}
+use Rattle.profile_records.specs.Stacks.{Seen}
 use Rattle.cost_rows.specs.Content.{Content, empty, with_record, with_stack}
 use Rattle.cost_rows.specs.Walks.{cell_rows, arc_rows, stack_rows}
 use Rattle.cost_rows.specs.Sums.{own_sum}

@@ -7,7 +7,7 @@ use Rattle.cost_rows.specs.Growing.{Grows}
 use Rattle.cost_rows.specs.Content.{number_of, place_in, place_of_cost, with_three, names_with_cost, names_with_callee, call_of}
 use Rattle.cost_rows.specs.declared.places.Place.{Place}
 use Rattle.cost_rows.specs.declared.places.Call.{Call}
-use Rattle.callgrind_reader.specs.Records.{Cost, Callee}
+use Rattle.profile_records.specs.Records.{Cost, Callee}
 use Rattle.cost_rows.proofs.NamingLemmas.{bytes-same, place-here, place-further, with-here, with-further, place-kept}
 
 pub grows-same : (old new : List (List ℕ)) → new ≡ old → Grows old new

@@ -3,7 +3,6 @@ pub mod NumberedLemmas
 pub mod AdmitLemmas
 pub mod MergeLemmas
 pub mod Examples
-pub mod TextExamples
 pub mod ColumnsLemmas
 pub mod PlacesLemmas
 pub mod StacksLemmas
@@ -11,7 +10,6 @@ pub mod GrowingLemmas
 pub mod TotalsLemmas
 pub mod SumsLemmas
 pub mod StackSumsLemmas
-pub mod TextsLemmas
 pub mod WalksLemmas
 pub mod WalkSumsLemmas
 pub mod SeenLemmas

@@ -12,7 +12,7 @@ use Rattle.std.specs.declared.vec.Vec.{Vec}
 use Rattle.std.proofs.lemmas.Bool.{cases_Bool}
 use Rattle.std.proofs.lemmas.Map.Lookups.{exact_bytes}
 use Rattle.std.proofs.lemmas.Map.Text.{is_eq-slice_cmp}
-use Rattle.cg_text.specs.Formulas.{are_distinct}
+use Rattle.cg_text.specs.Distinct.{are_distinct}
 use Rattle.cost_rows.specs.Naming.{place_of}
 use Rattle.cost_rows.specs.Numbered.{IsNumbered}
 use Rattle.cost_rows.proofs.NamingLemmas.{same_bytes, bytes-same, place-new, place-other, with-new, distinct-with, distinct-before, absent-before}

@@ -1,7 +1,7 @@
 -- The rows of stacks come to what the stacks count.
 use Rattle.std.proofs.Common.{◌≡◌, ℕ, ◌+◌, suc, Bool, true, false, List, [], ◌∷◌, fold, slice_index, if◌then◌else◌, refl, ap, ◌∙◌, add_assoc}
 use Rattle.std.specs.List.Sorted.{IsStrictlySortedBy}
-use Rattle.folded_reader.specs.Files.{Seen}
+use Rattle.profile_records.specs.Stacks.{Seen}
 use Rattle.cost_rows.specs.Columns.{added}
 use Rattle.cost_rows.specs.Content.{Content, empty, names_with_cost, place_of_cost, leaf_cost, with_stack}
 use Rattle.cost_rows.specs.Merging.{sum_where, TellsApart}

@@ -6,8 +6,8 @@ use Rattle.std.specs.Ordering.{match_ordering}
 use Rattle.std.specs.List.{AllByRecursion, slice_get}
 use Rattle.std.specs.List.Sorted.{IsStrictlySortedBy}
 use Rattle.std.specs.Map.{keys_of}
-use Rattle.cg_text.specs.Formulas.{are_distinct}
-use Rattle.callgrind_reader.specs.Records.{Cost, Callee, Record, Own, Called}
+use Rattle.cg_text.specs.Distinct.{are_distinct}
+use Rattle.profile_records.specs.Records.{Cost, Callee, Record, Own, Called}
 use Rattle.cost_rows.specs.Naming.{place_of, with_name}
 use Rattle.cost_rows.specs.Columns.{added}
 use Rattle.cost_rows.specs.Calls.{calls_added}

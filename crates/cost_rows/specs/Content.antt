@@ -1,9 +1,9 @@
 -- What the rows of one file hold, as plain lists, and what each record adds to them.
 use Rattle.std.specs.Prelude.{ℕ, List, [], ◌∷◌, unwrap_or}
 use Rattle.cg_text.specs.Names.{unknown}
-use Rattle.callgrind_reader.specs.Records.{Cost, Callee, Record, Own, Called}
-use Rattle.folded_reader.specs.Files.{Seen}
-use Rattle.folded_reader.specs.Frames.{leaf_of}
+use Rattle.profile_records.specs.Records.{Cost, Callee, Record, Own, Called}
+use Rattle.profile_records.specs.Stacks.{Seen}
+use Rattle.profile_records.specs.Frames.{leaf_of}
 use Rattle.cost_rows.specs.Naming.{place_of, with_name}
 use Rattle.cost_rows.specs.Columns.{added}
 use Rattle.cost_rows.specs.Calls.{calls_added}

@@ -1,6 +1,6 @@
 -- The parts of a call record that is lent, as plain data.
-use Rattle.callgrind_reader.specs.Records.{Cost, Callee}
-use Rattle.callgrind_reader.specs.declared.sink.CallCost.{CallCost}
+use Rattle.profile_records.specs.Records.{Cost, Callee}
+use Rattle.profile_records.specs.declared.sink.CallCost.{CallCost}
 
 abbrev pub cost_of : CallCost → Cost
 cost_of r = record { at = r.at; object = r.object.now; file = r.file.now; function = r.function.now; line = r.line; costs = r.costs.now }

@@ -13,7 +13,6 @@ pub mod Rows
 pub mod Lent
 pub mod Sums
 pub mod StackSums
-pub mod Texts
 pub mod Walks
 pub mod WalkSums
 pub mod Plain

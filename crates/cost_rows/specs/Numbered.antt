@@ -4,7 +4,7 @@ use Rattle.std.specs.Ordering.{nat_cmp}
 use Rattle.std.specs.Cmp.Lexicographic.{slice_cmp}
 use Rattle.std.specs.BTreeMap.{BTreeMap, get_by}
 use Rattle.std.specs.declared.vec.Vec.{Vec}
-use Rattle.cg_text.specs.Formulas.{are_distinct}
+use Rattle.cg_text.specs.Distinct.{are_distinct}
 use Rattle.cost_rows.specs.Naming.{place_of}
 
 pub record IsNumbered {Z : Type 0} (names : List (List ℕ)) (numbers : BTreeMap (Vec ℕ Z) ℕ) : Type 0 where

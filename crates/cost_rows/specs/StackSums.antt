@@ -2,8 +2,8 @@
 use Rattle.std.specs.Prelude.{◌≡◌, ℕ, suc, ◌+◌, Bool, true, List, [], ◌∷◌, fold, slice_index, if◌then◌else◌}
 use Rattle.std.specs.List.Sorted.{IsStrictlySortedBy}
 use Rattle.std.specs.Map.{keys_of}
-use Rattle.cg_text.specs.Formulas.{are_distinct}
-use Rattle.folded_reader.specs.Files.{Seen}
+use Rattle.cg_text.specs.Distinct.{are_distinct}
+use Rattle.profile_records.specs.Stacks.{Seen}
 use Rattle.cost_rows.specs.Content.{Content, empty, leaf_cost, with_stack}
 use Rattle.cost_rows.specs.Merging.{sum_where}
 use Rattle.cost_rows.specs.Places.{place_cmp}

@@ -1,6 +1,6 @@
 -- What the records of a file come to, straight from the records.
 use Rattle.std.specs.Prelude.{ℕ, ◌+◌, Bool, List, [], ◌∷◌, slice_index, slice_index_or, if◌then◌else◌}
-use Rattle.callgrind_reader.specs.Records.{Cost, Callee, Record, Own, Called}
+use Rattle.profile_records.specs.Records.{Cost, Callee, Record, Own, Called}
 use Rattle.cost_rows.specs.declared.places.Place.{Place}
 use Rattle.cost_rows.specs.declared.places.Call.{Call}
 

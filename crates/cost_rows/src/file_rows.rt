@@ -13,7 +13,7 @@ use crate::records::{merge_call, merge_own};
 use crate::rows::FileTotals;
 use crate::totals::{total_arcs, total_cells, total_count};
 use crate::walks::{ArcWalk, CellWalk, StackWalk};
-use callgrind_reader::{CallCost, SelfCost, Sink};
+use profile_records::{CallCost, SelfCost, Sink};
 use cg_text::Items;
 use std::alloc::{AllocError, Global};
 use std::collections::BTreeMap;

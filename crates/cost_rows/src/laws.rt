@@ -3,9 +3,9 @@ ghost use Rattle.std.specs.Prelude.{◌≡◌, ◌↔◌, ℕ, ◌+◌, ◌<◌,
 ghost use Rattle.std.specs.List.{list_any, AllByRecursion};
 ghost use Rattle.std.specs.List.Sorted.{IsStrictlySortedBy};
 ghost use Rattle.std.specs.Map.{keys_of, values_of};
-ghost use Rattle.cg_text.specs.Formulas.{are_distinct};
-ghost use Rattle.callgrind_reader.specs.Records.{Record};
-ghost use Rattle.folded_reader.specs.Files.{Seen};
+ghost use Rattle.cg_text.specs.Distinct.{are_distinct};
+ghost use Rattle.profile_records.specs.Records.{Record};
+ghost use Rattle.profile_records.specs.Stacks.{Seen};
 ghost use Rattle.cost_rows.specs.Content.{empty, with_record};
 ghost use Rattle.cost_rows.specs.Held.{AreHeld};
 ghost use Rattle.cost_rows.specs.Keys.{named_cmp};

@@ -18,7 +18,6 @@ mod records;
 mod rows;
 mod stack_rows;
 mod sum_rows;
-mod texts;
 mod totals;
 mod walks;
 
@@ -34,5 +33,4 @@ pub use names::Names;
 pub use numbered::{NumberedArcs, NumberedCells};
 pub use rows::{ArcRow, CellRow, FileTotals, StackRow};
 pub use sum_rows::SumRows;
-pub use texts::{rows_of_folded, rows_of_text};
 pub use walks::{ArcWalk, CellWalk, StackWalk};

@@ -1,6 +1,6 @@
 // Names, each held once, by number.
 ghost use Rattle.std.specs.Prelude.{◌≡◌, ◌<◌, ◌≤◌, ◌^◌, true, Some, None, [], IfOk, OnErr, length, slice_get, take};
-ghost use Rattle.cg_text.specs.Formulas.{are_distinct};
+ghost use Rattle.cg_text.specs.Distinct.{are_distinct};
 ghost use Rattle.cost_rows.specs.Naming.{place_of, with_name};
 ghost use Rattle.cost_rows.specs.Sums.{name_at};
 

@@ -16,7 +16,7 @@ use crate::merges::{merge_arc, merge_cell};
 use crate::names::Names;
 use crate::numbering::number_place;
 use crate::places::{Call, Place};
-use callgrind_reader::{CallCost, SelfCost};
+use profile_records::{CallCost, SelfCost};
 use std::alloc::{AllocError, Global};
 use std::collections::BTreeMap;
 

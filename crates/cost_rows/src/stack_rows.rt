@@ -2,8 +2,7 @@
 use crate::file_rows::FileRows;
 use crate::merges::{count_of, merge_stack, put_back};
 use crate::records::merge_own;
-use callgrind_reader::SelfCost;
-use folded_reader::{StackSink, leaf};
+use profile_records::{SelfCost, StackSink, leaf};
 use std::alloc::AllocError;
 
 impl StackSink for FileRows {

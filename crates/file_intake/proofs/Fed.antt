@@ -5,22 +5,22 @@ use Rattle.std.proofs.lemmas.List.{length-append}
 use Rattle.std.specs.declared.alloc.AllocError.{AllocError}
 use Rattle.cg_text.specs.declared.faults.ReadEnd.{ReadEnd}
 use Rattle.cg_text.specs.declared.faults.ReadEnd.TheVariants as ends
-use Rattle.cg_text.specs.declared.heads.FileHead.{FileHead}
+use Rattle.cg_formulas.specs.declared.heads.FileHead.{FileHead}
 use Rattle.text_pieces.specs.Backwards.{IsPrefix}
 use Rattle.callgrind_reader.specs.Files as callgrind
 use Rattle.callgrind_reader.specs.Reads as records
-use Rattle.callgrind_reader.specs.Records.{Record}
+use Rattle.profile_records.specs.Records.{Record}
 use Rattle.callgrind_reader.specs.declared.reader.Reader.{Reader}
 use Rattle.folded_reader.specs.Files as folded
-use Rattle.folded_reader.specs.Files.{Seen}
+use Rattle.profile_records.specs.Stacks.{Seen}
 use Rattle.folded_reader.specs.Reads as stacks
 use Rattle.folded_reader.specs.declared.reader.FoldedReader.{FoldedReader}
 use Rattle.cost_rows.specs.Content.{Content, empty, with_record, with_stack}
 use Rattle.cost_rows.specs.Rows.{content_of}
-use Rattle.cost_rows.specs.Texts.{content_of_text, content_of_folded}
+use Rattle.text_rows.specs.Texts.{content_of_text, content_of_folded}
 use Rattle.cost_rows.specs.declared.file_rows.FileRows.{FileRows}
-use Rattle.prof_books.specs.declared.kinds.Kind.{Kind}
-use Rattle.prof_books.specs.declared.kinds.Kind.TheVariants as kinds
+use Rattle.profile_records.specs.declared.kinds.Kind.{Kind}
+use Rattle.profile_records.specs.declared.kinds.Kind.TheVariants as kinds
 use Rattle.file_intake.specs.Intakes.{ReadsRecords, ReadsStacks, Stands, HasEndedAs}
 use Rattle.file_intake.specs.declared.intake.FileReader.{FileReader}
 use Rattle.file_intake.specs.declared.intake.FileReader.TheVariants as readers

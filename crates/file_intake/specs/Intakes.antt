@@ -3,11 +3,11 @@ use Rattle.std.specs.Prelude.{◌≡◌, ℕ, ◌+◌, List, length, fold, Resul
 use Rattle.cg_text.specs.declared.faults.Fault as faults
 use Rattle.cg_text.specs.declared.faults.ReadEnd.{ReadEnd}
 use Rattle.cg_text.specs.declared.faults.ReadEnd.TheVariants as ends
-use Rattle.cg_text.specs.declared.heads.FileHead.{FileHead}
+use Rattle.cg_formulas.specs.declared.heads.FileHead.{FileHead}
 use Rattle.callgrind_reader.specs.Reads as records
-use Rattle.callgrind_reader.specs.Records.{Record}
+use Rattle.profile_records.specs.Records.{Record}
 use Rattle.callgrind_reader.specs.declared.reader.Reader.{Reader}
-use Rattle.folded_reader.specs.Files.{Seen}
+use Rattle.profile_records.specs.Stacks.{Seen}
 use Rattle.folded_reader.specs.Reads as stacks
 use Rattle.folded_reader.specs.declared.reader.FoldedReader.{FoldedReader}
 use Rattle.cost_rows.specs.Content.{empty, with_record, with_stack}
@@ -15,10 +15,9 @@ use Rattle.cost_rows.specs.Rows.{content_of}
 use Rattle.cost_rows.specs.declared.file_rows.FileRows.{FileRows}
 use Rattle.sha2.specs.Hashers.{Holds256}
 use Rattle.sha2.specs.Sha256.{sha256}
-use Rattle.prof_books.specs.declared.kinds.Kind.{Kind}
-use Rattle.prof_books.specs.declared.kinds.Kind.TheVariants as kinds
-use Rattle.histories.specs.Files.{fault_of}
-use Rattle.histories.specs.Files.{IsHeadOf, rows_of}
+use Rattle.profile_records.specs.declared.kinds.Kind.{Kind}
+use Rattle.profile_records.specs.declared.kinds.Kind.TheVariants as kinds
+use Rattle.histories.specs.Files.{fault_of, IsHeadOf, rows_of}
 use Rattle.file_intake.specs.declared.intake.FileReader.{FileReader}
 use Rattle.file_intake.specs.declared.intake.FileReader.TheVariants as readers
 use Rattle.file_intake.specs.declared.intake.Intake.{Intake}

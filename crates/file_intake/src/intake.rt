@@ -3,15 +3,16 @@ ghost use Rattle.std.specs.Prelude.{◌≡◌, ℕ, ◌+◌, ◌≤◌, List, []
 ghost use Rattle.cost_rows.specs.Content.{empty};
 ghost use Rattle.cost_rows.specs.Rows.{content_of};
 ghost use Rattle.histories.specs.Files.{rows_of};
-ghost use Rattle.prof_books.specs.declared.kinds.Kind.{Kind};
+ghost use Rattle.profile_records.specs.declared.kinds.Kind.{Kind};
 ghost use Rattle.cost_rows.specs.declared.file_rows.FileRows.{FileRows};
 ghost use Rattle.file_intake.specs.Intakes.{Stands, HasTaken, IsTakenOf, HasEndedAs};
 
 use callgrind_reader::Reader;
-use cg_text::{Fault, FileHead, ReadEnd};
+use cg_formulas::FileHead;
+use cg_text::{Fault, ReadEnd};
 use cost_rows::FileRows;
 use folded_reader::FoldedReader;
-use prof_books::Kind;
+use profile_records::Kind;
 use sha2::{Digest, Sha256};
 use std::alloc::{AllocError, Global};
 

@@ -1,13 +1,13 @@
 // A source is read to its end.
 ghost use Rattle.std.specs.Prelude.{◌≡◌, ◌<◌, ◌≤◌, ◌^◌, ◌++◌, [], ℕ, List, length, MatchResult, nat_lt, true, false};
 ghost use Rattle.histories.specs.History.{Outcome, bytes_of};
-ghost use Rattle.prof_books.specs.declared.kinds.Kind.{Kind};
+ghost use Rattle.profile_records.specs.declared.kinds.Kind.{Kind};
 ghost use Rattle.file_intake.specs.Intakes.{HasTaken, IsTakenOf};
 ghost use Rattle.file_intake.specs.Reads.{Come, HasEnded, IsUnreadFor};
 
 use crate::intake::{Intake, Taken};
 use crate::source::Source;
-use prof_books::Kind;
+use profile_records::Kind;
 use std::alloc::{AllocError, Global};
 
 /// How many bytes are read at a time.

@@ -1,7 +1,7 @@
 -- The definitions, computed on examples.
 use Rattle.std.proofs.Common.{◌≡◌, [], ◌∷◌, codes, refl}
 use Rattle.std.specs.Fmt.{digits}
-use Rattle.cg_text.specs.EventLines.{event_of, formula_of, term_of}
+use Rattle.cg_formulas.specs.EventLines.{event_of, formula_of, term_of}
 use Rattle.cg_text.specs.Fields.{line_text}
 use Rattle.cg_text.specs.Kinds.{kind_of}
 use Rattle.cg_text.specs.Names.{name_of}

@@ -3,7 +3,7 @@ use Rattle.std.proofs.Common.{◌≡◌, ℕ, ◌+◌, ◌*◌, ◌<◌, ◌≤�
 use Rattle.std.proofs.lemmas.List.{ext_get_or, get_or_past}
 use Rattle.std.proofs.lemmas.Bool.{cases_lt}
 use Rattle.std.proofs.lemmas.List.Elements.{All-from_get_or}
-use Rattle.callgrind_reader.specs.Records.{Record, Own, Called}
+use Rattle.profile_records.specs.Records.{Record, Own, Called}
 use Rattle.file_totals.specs.Sums.{self_sum, add_costs, add_record}
 
 pub slice_index-add_costs : (sums costs : List ℕ) (k : ℕ) → slice_index (add_costs sums costs) k ≡ slice_index sums k + slice_index costs k

@@ -1,6 +1,6 @@
 -- A total that is being read.
 use Rattle.std.specs.Prelude.{◌≡◌, ℕ, List, [], fold}
-use Rattle.callgrind_reader.specs.Records.{Record}
+use Rattle.profile_records.specs.Records.{Record}
 use Rattle.callgrind_reader.specs.Reads as reads
 use Rattle.callgrind_reader.specs.Reads.{Reads, Takes}
 use Rattle.file_totals.specs.Sums.{add_record}

@@ -1,6 +1,6 @@
 -- The sums of the self costs, by column.
 use Rattle.std.specs.Prelude.{ℕ, ◌+◌, List, [], ◌∷◌, slice_index}
-use Rattle.callgrind_reader.specs.Records.{Record, Own, Called}
+use Rattle.profile_records.specs.Records.{Record, Own, Called}
 
 -- the sum of column k over the self records; a column that a record lacks counts 0
 abbrev pub self_sum : ℕ → List Record → ℕ

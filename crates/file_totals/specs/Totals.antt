@@ -3,7 +3,7 @@ use Rattle.std.specs.Prelude.{ℕ, List, Option, Some, None}
 use Rattle.cg_text.specs.Ends.{end_text}
 use Rattle.cg_text.specs.declared.faults.Fault as faults
 use Rattle.cg_text.specs.declared.faults.ReadEnd.TheVariants.{Fault}
-use Rattle.callgrind_reader.specs.Records.{Record}
+use Rattle.profile_records.specs.Records.{Record}
 use Rattle.callgrind_reader.specs.Files.{records_of_file, fault_of_file, events_of_file}
 use Rattle.file_totals.specs.Sums.{self_sum}
 use Rattle.file_totals.specs.TotalLines.{total_lines, refused_line}

@@ -2,7 +2,7 @@
 ghost use Rattle.std.specs.Prelude.{◌≡◌, ℕ, ◌+◌, ◌*◌, ◌<◌, ◌≤◌, ◌^◌, OnOk, OnErr, All, Option, Some, None, [], length, vec_len, slice_index};
 ghost use Rattle.file_totals.specs.Sums.{add_costs};
 
-use callgrind_reader::{CallCost, SelfCost, Sink};
+use profile_records::{CallCost, SelfCost, Sink};
 use std::alloc::{AllocError, Global};
 
 /// The sums of the self costs so far, by column.

@@ -1,6 +1,6 @@
 -- What a file comes to.
 use Rattle.std.proofs.Common.{◌≡◌, Result, Ok, Err, IsErrAnd}
-use Rattle.cg_text.specs.declared.heads.FileHead.{FileHead}
+use Rattle.cg_formulas.specs.declared.heads.FileHead.{FileHead}
 use Rattle.cg_text.specs.declared.faults.ReadEnd.{ReadEnd}
 use Rattle.cg_text.specs.declared.faults.ReadEnd.TheVariants as ends
 use Rattle.folded_reader.specs.Reads.{MatchMemory}

@@ -4,7 +4,8 @@ use Rattle.std.proofs.lemmas.List.{append-nil, append_assoc}
 use Rattle.cg_text.specs.declared.faults.Fault.{Fault}
 use Rattle.text_pieces.specs.Backwards.{onto, back_of, end_of, held, IsPrefix}
 use Rattle.folded_reader.specs.Lines.{Reading, reading_of}
-use Rattle.folded_reader.specs.Files.{Seen, stacks_from, fault_from, readings_of, stacks_of_file}
+use Rattle.profile_records.specs.Stacks.{Seen}
+use Rattle.folded_reader.specs.Files.{stacks_from, fault_from, readings_of, stacks_of_file}
 use Rattle.folded_reader.specs.Looking.{number_after, seen, adds}
 
 -- after these lines, the first fault and the stacks of those ahead, numbered from n on

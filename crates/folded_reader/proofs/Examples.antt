@@ -1,7 +1,7 @@
 -- The definitions, computed on examples.
 use Rattle.std.proofs.Common.{◌≡◌, [], ◌∷◌, ◌-◌, ◌^◌, codes, refl, Some, None, Ok, Err}
 use Rattle.folded_reader.specs.Lines.{reading_of}
-use Rattle.folded_reader.specs.Frames.{functions_of, leaf_of}
+use Rattle.profile_records.specs.Frames.{functions_of, leaf_of}
 use Rattle.folded_reader.specs.Files.{fault_from, stacks_of_file, fault_of_file, samples_of_file}
 use Rattle.folded_reader.specs.Looking.{seen, adds}
 use Rattle.folded_reader.specs.Reads.{stacks_so_far}

@@ -6,7 +6,7 @@ use Rattle.std.proofs.lemmas.List.{map-append, length-reverse}
 use Rattle.std.proofs.lemmas.List.Folds.{prefix_len-append}
 use Rattle.std.proofs.lemmas.Grind.{reverse_onto}
 use Rattle.std.proofs.lemmas.List.Sums.{suffix_len-le-length}
-use Rattle.folded_reader.specs.Frames.{is_semicolon, function_of, functions_of, behind_semicolon, leaf_of}
+use Rattle.profile_records.specs.Frames.{is_semicolon, function_of, functions_of, behind_semicolon, leaf_of}
 
 abbrev is_name : ℕ → Bool
 is_name b = not (is_semicolon b)

@@ -1,4 +1,4 @@
--- The last blank and the last semicolon of a line, and counts.
+-- The last blank of a line, and counts.
 use Rattle.std.proofs.Common.{inl, inr, ◌≡◌, ℕ, zero, suc, ◌+◌, ◌-◌, ◌<◌, ◌^◌, ◌⊎◌, Bool, true, false, not, List, [], ◌∷◌, length, take, drop, get_or, MatchOption, Option, Some, None, nat_eq, nat_le, nat_lt, if◌then◌else◌, codes, Result, Ok, Err, refl, sym, ap, ◌∙◌, subst, arith}
 use Rattle.std.specs.List.{list_all, starts_with, suffix_len}
 use Rattle.std.proofs.lemmas.Bool.{cases_Bool, and_parts, leb-true, ne_eqb, not_from_false, not_from_true, false_from_ne_true, lt-ltb}
@@ -8,35 +8,14 @@ use Rattle.cg_text.specs.Fields.{is_blank}
 use Rattle.cg_text.specs.Numbers.{is_digit, number_of, amount_of, below_half, value_in}
 use Rattle.cg_text.specs.declared.faults.Fault.{Fault}
 use Rattle.cg_text.specs.declared.faults.Fault.TheVariants.{NumberTooLarge, FoldedLine}
-use Rattle.folded_reader.specs.Frames.{is_semicolon, behind_semicolon}
-use Rattle.folded_reader.specs.Lines.{Stack, behind_blank, or_folded, count_of, counted, stack_of, some_stack, text_says}
+use Rattle.profile_records.proofs.LastLemmas.{last-byte}
+use Rattle.profile_records.specs.Stacks.{Stack}
+use Rattle.folded_reader.specs.Lines.{behind_blank, or_folded, count_of, counted, stack_of, some_stack, text_says}
 
 -- ---- the last blank
 
--- the last byte that passes a test, and how many bytes stand behind it
-last-byte : (test : ℕ → Bool) (xs : List ℕ) (r : Option ℕ) → IsLastByte test xs r → MatchOption r (suffix_len (λ b. not (test b)) xs ≡ length xs) (λ i. (i < length xs) × (i + 1 + suffix_len (λ b. not (test b)) xs ≡ length xs))
-last-byte test xs None h =
-    let all = suffix_len_is (λ b. not (test b)) xs 0 0 (omega arith) (λ k low high. not_from_false _ (false_from_ne_true _ (h k (omega arith) high))) (λ lt. absurd (omega arith)) in
-    omega (arith, all)
-last-byte test xs (Some i) h =
-    let within = h.0.high in
-    let last : not (test (get_or xs (i + 1 - 1) 0)) ≡ false = not_from_true _ (subst (λ k. test (get_or xs k 0) ≡ true) (omega arith) h.1) in
-    let all = suffix_len_is (λ b. not (test b)) xs (i + 1) 0 (omega (arith, within)) (λ k low high. not_from_false _ (false_from_ne_true _ (h.0.after k low high))) (λ _. last) in
-    (within, omega (arith, within, all))
-
 pub last-blank : (xs : List ℕ) (r : Option ℕ) → IsLastByte is_blank xs r → MatchOption r (behind_blank xs ≡ length xs) (λ i. (i < length xs) × (i + 1 + behind_blank xs ≡ length xs))
 last-blank = last-byte is_blank
-
-pub last-semicolon : (xs : List ℕ) (r : Option ℕ) → IsLastByte is_semicolon xs r → MatchOption r (xs ≡ behind_semicolon xs) (λ i. drop (i + 1) xs ≡ behind_semicolon xs)
-last-semicolon xs None h =
-    let all = last-byte is_semicolon xs None h in
-    let none : 0 ≡ length xs - suffix_len (λ b. not (is_semicolon b)) xs = omega (arith, all) in
-    ap (λ k. drop k xs) none
-last-semicolon xs (Some i) h =
-    let all = last-byte is_semicolon xs (Some i) h in
-    let behind = all.1 in
-    let from : i + 1 ≡ length xs - suffix_len (λ b. not (is_semicolon b)) xs = omega (arith, behind) in
-    ap (λ k. drop k xs) from
 
 -- ---- counts
 

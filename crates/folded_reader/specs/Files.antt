@@ -2,13 +2,9 @@
 use Rattle.std.specs.Prelude.{ℕ, ◌+◌, List, [], ◌∷◌, map, Option, Some, None, Ok, Err}
 use Rattle.cg_text.specs.Lines.{lines_of}
 use Rattle.cg_text.specs.declared.faults.Fault.{Fault}
-use Rattle.folded_reader.specs.Lines.{Reading, Stack, reading_of}
-use Rattle.folded_reader.specs.Frames.{leaf_of}
-
--- a stack, and the line that it stands on
-pub record Seen : Type 0 where
-  pub at : ℕ
-  pub stack : Stack
+use Rattle.folded_reader.specs.Lines.{Reading, reading_of}
+use Rattle.profile_records.specs.Stacks.{Seen}
+use Rattle.profile_records.specs.Frames.{leaf_of}
 
 -- the stacks of the lines before the first with a fault, numbered from n on
 abbrev pub stacks_from : ℕ → List Reading → List Seen

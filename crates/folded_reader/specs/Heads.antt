@@ -1,6 +1,6 @@
 -- What an accepted folded file says of itself.
 use Rattle.std.specs.Prelude.{◌≡◌, ℕ, List, [], ◌∷◌, codes, None}
-use Rattle.cg_text.specs.declared.heads.FileHead.{FileHead}
+use Rattle.cg_formulas.specs.declared.heads.FileHead.{FileHead}
 
 -- the one event of each folded file
 abbrev pub samples_alone : List (List ℕ)

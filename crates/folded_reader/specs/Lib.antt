@@ -1,8 +1,6 @@
 pub mod Lines
 pub mod Views
-pub mod Frames
 pub mod Files
-pub mod Lent
 pub mod Looking
 pub mod Stands
 pub mod Heads

@@ -7,10 +7,7 @@ use Rattle.cg_text.specs.Numbers.{is_digit, digits_in, below_half}
 use Rattle.cg_text.specs.Readings.{line_limit}
 use Rattle.cg_text.specs.declared.faults.Fault.{Fault}
 use Rattle.cg_text.specs.declared.faults.Fault.TheVariants.{LineTooLong, NumberTooLarge, FoldedLine}
-
-pub record Stack : Type 0 where
-  pub frames : List ℕ
-  pub count : ℕ
+use Rattle.profile_records.specs.Stacks.{Stack}
 
 -- how many bytes stand behind the last blank
 abbrev pub behind_blank : List ℕ → ℕ

@@ -2,7 +2,7 @@
 use Rattle.std.specs.Prelude.{ℕ, ◌+◌, List, [], ◌∷◌, length, Option, Some, None, Ok, Err}
 use Rattle.cg_text.specs.declared.faults.Fault.{Fault}
 use Rattle.folded_reader.specs.Lines.{Reading}
-use Rattle.folded_reader.specs.Files.{Seen}
+use Rattle.profile_records.specs.Stacks.{Seen}
 
 -- the number of a line that these stand before
 abbrev pub number_after : List Reading → ℕ

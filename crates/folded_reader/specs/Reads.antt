@@ -1,6 +1,6 @@
 -- When a reader stands for a text, having handed out some stacks; and what a file comes to.
 use Rattle.std.specs.Prelude.{◌≡◌, ℕ, ◌≤◌, List, map, Some, None, Result, Ok, Err}
-use Rattle.cg_text.specs.declared.heads.FileHead.{FileHead}
+use Rattle.cg_formulas.specs.declared.heads.FileHead.{FileHead}
 use Rattle.cg_text.specs.declared.faults.ReadEnd.{ReadEnd}
 use Rattle.cg_text.specs.declared.faults.ReadEnd.TheVariants as ends
 use Rattle.text_pieces.specs.Cut.{cut}
@@ -9,7 +9,8 @@ use Rattle.text_pieces.specs.Kept as pieces
 use Rattle.text_pieces.specs.Kept.{Keeps}
 use Rattle.folded_reader.specs.declared.reader.FoldedReader.{FoldedReader}
 use Rattle.folded_reader.specs.Lines.{reading_of}
-use Rattle.folded_reader.specs.Files.{Seen, stacks_from, fault_of_file}
+use Rattle.profile_records.specs.Stacks.{Seen}
+use Rattle.folded_reader.specs.Files.{stacks_from, fault_of_file}
 use Rattle.folded_reader.specs.Looking.{adds}
 use Rattle.folded_reader.specs.Stands.{StandsAfter}
 use Rattle.folded_reader.specs.Heads.{HeadIs}

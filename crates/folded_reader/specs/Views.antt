@@ -1,7 +1,7 @@
 -- Stacks as the code has them, without where their bytes lie in memory.
 use Rattle.std.specs.Prelude.{Option, Some, None, Result, Ok, Err}
 use Rattle.cg_text.specs.declared.faults.Fault.{Fault}
-use Rattle.folded_reader.specs.Lines as specs
+use Rattle.profile_records.specs.Stacks as specs
 use Rattle.folded_reader.specs.declared.stacks.Stack.{Stack}
 
 abbrev pub plain_stack : Stack → specs.Stack

@@ -2,7 +2,8 @@
 ghost use Rattle.std.specs.Prelude.{◌≡◌, IfOk};
 ghost use Rattle.folded_reader.specs.Heads.{HeadIs};
 
-use cg_text::{FileHead, Formulas, Items};
+use cg_formulas::{FileHead, Formulas};
+use cg_text::Items;
 use std::alloc::{AllocError, Global};
 
 /// The head of each folded file: its one event is `samples`, from which nothing is derived, and it

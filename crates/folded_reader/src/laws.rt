@@ -3,8 +3,9 @@ ghost use Rattle.std.specs.Prelude.{◌≡◌, ℕ, List, [], ◌∷◌, ◌++�
 ghost use Rattle.text_pieces.specs.Backwards.{onto, held, IsPrefix};
 ghost use Rattle.folded_reader.specs.declared.reader.FoldedReader.{FoldedReader};
 ghost use Rattle.folded_reader.specs.Lines.{Reading};
-ghost use Rattle.folded_reader.specs.Frames.{functions_of, leaf_of};
-ghost use Rattle.folded_reader.specs.Files.{Seen, stacks_from, fault_from, stacks_of_file};
+ghost use Rattle.profile_records.specs.Frames.{functions_of, leaf_of};
+ghost use Rattle.profile_records.specs.Stacks.{Seen};
+ghost use Rattle.folded_reader.specs.Files.{stacks_from, fault_from, stacks_of_file};
 ghost use Rattle.folded_reader.specs.Looking.{seen, adds};
 ghost use Rattle.folded_reader.specs.Reads.{Reads, stacks_so_far};
 

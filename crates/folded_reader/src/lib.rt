@@ -2,17 +2,13 @@
 //! piece by piece, and hands them to a sink.
 #![tactic(auto)]
 
-mod frames;
 mod heads;
 mod laws;
 mod reader;
-mod sink;
 mod stacks;
 mod state;
 
-pub use frames::leaf;
 pub use laws::{handed_on_at_each_moment, looking_back_is_exact, the_leaf_is_the_last_function};
 pub use reader::FoldedReader;
-pub use sink::StackSink;
 pub use stacks::{Stack, read_stack};
 pub use text_pieces::FILE_LIMIT;

@@ -3,13 +3,15 @@ ghost use Rattle.std.specs.Prelude.{◌≡◌, ℕ, ◌+◌, ◌≤◌, OnOk, On
 ghost use Rattle.cg_text.specs.declared.faults.ReadEnd.TheVariants.{Memory};
 ghost use Rattle.text_pieces.specs.Kept.{taken_of};
 ghost use Rattle.text_pieces.specs.Backwards.{IsPrefix};
-ghost use Rattle.folded_reader.specs.Files.{Seen, stacks_of_file};
+ghost use Rattle.profile_records.specs.Stacks.{Seen};
+ghost use Rattle.folded_reader.specs.Files.{stacks_of_file};
 ghost use Rattle.folded_reader.specs.Heads.{HeadIs};
 
 use crate::heads::samples_head;
-use crate::sink::StackSink;
 use crate::state::State;
-use cg_text::{FileHead, ReadEnd};
+use cg_formulas::FileHead;
+use cg_text::ReadEnd;
+use profile_records::StackSink;
 use std::alloc::{AllocError, Global};
 use text_pieces::Pieces;
 

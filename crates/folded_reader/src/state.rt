@@ -3,12 +3,12 @@ ghost use Rattle.std.specs.Prelude.{◌≡◌, ◌≢◌, ℕ, ◌+◌, ◌<◌,
 ghost use Rattle.text_pieces.specs.LineIs.{IsLine};
 ghost use Rattle.folded_reader.specs.Lines.{Reading, reading_of};
 ghost use Rattle.folded_reader.specs.Views.{said_is};
-ghost use Rattle.folded_reader.specs.Files.{Seen};
+ghost use Rattle.profile_records.specs.Stacks.{Seen};
 ghost use Rattle.folded_reader.specs.Looking.{adds};
 
-use crate::sink::StackSink;
 use crate::stacks::{Stack, read_stack};
 use cg_text::Fault;
+use profile_records::StackSink;
 use std::alloc::AllocError;
 use text_pieces::{Line, TakesLines};
 

@@ -8,7 +8,7 @@ use Rattle.sql_tables.proofs.Rows.{map-append}
 use Rattle.prof_store.proofs.Listing.{take_sum}
 use Rattle.sqlite_keyed.proofs.ListLemmas.{map-map}
 use Rattle.sqlite_value.specs.Order.{Row}
-use Rattle.cg_text.specs.declared.heads.FileHead.{FileHead}
+use Rattle.cg_formulas.specs.declared.heads.FileHead.{FileHead}
 use Rattle.held_runs.specs.HeadLines.{event_columns, derived_columns, coef_columns}
 use Rattle.held_runs.specs.HeldHeads.{PlacedName, placed, name_columns, EventSaid, events_from, said_columns, CoefSaid, coefs_at, coefs_from, times_columns, IsHeadOf, IsReadFrom, event_place, event_total, event_line_said, derived_place, coef_line_said}
 use Rattle.held_runs.specs.declared.head_lines.HeadEvent.{HeadEvent}

@@ -5,8 +5,8 @@ use Rattle.sqlite_value.specs.declared.value.Value.TheVariants.{Blob}
 use Rattle.sqlite_value.specs.Order.{Row}
 use Rattle.std.specs.List.{list_any}
 use Rattle.sqlite_trees.specs.Tree.{Trees}
-use Rattle.cg_text.specs.Formulas.{are_distinct}
-use Rattle.cg_text.specs.declared.heads.FileHead.{FileHead}
+use Rattle.cg_text.specs.Distinct.{are_distinct}
+use Rattle.cg_formulas.specs.declared.heads.FileHead.{FileHead}
 use Rattle.prof_tables.specs.Changes.{has_run}
 use Rattle.prof_tables.specs.Seen.{is_at, event_seen, derived_seen, coef_seen, event_shown, derived_shown, coef_shown}
 use Rattle.prof_tables.specs.Tables.{Tables, EventLine, DerivedLine, CoefLine, number, text_or_null}

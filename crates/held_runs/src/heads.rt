@@ -6,7 +6,7 @@ ghost use Rattle.prof_store.specs.Shown.{shown, IsFaithful, IsUsable, IsSettled,
 
 use crate::head_lines::{coefs_of, derived_of, events_of};
 use crate::heads_held::head_in;
-use cg_text::FileHead;
+use cg_formulas::FileHead;
 use prof_store::Store;
 use sqlite::Alter;
 use std::alloc::Global;

@@ -4,7 +4,8 @@ ghost use Rattle.std.specs.Fmt.{decimal};
 ghost use Rattle.held_runs.specs.HeldHeads.{placed, event_place, event_total, derived_place, coef_line_said, coefs_at, coefs_from, IsReadFrom};
 
 use crate::head_lines::{HeadCoef, HeadDerived, HeadEvent};
-use cg_text::{FileHead, Flat, Items, are_distinct};
+use cg_formulas::{FileHead, Flat};
+use cg_text::{Items, are_distinct};
 use std::alloc::Global;
 use store_columns::StoreEnd;
 

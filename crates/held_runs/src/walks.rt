@@ -1,5 +1,5 @@
 // Walks over the rows of a run.
-ghost use Rattle.std.specs.Prelude.{◌≡◌, ◌⊎◌, ◌++◌, ◌∷◌, [], ◌≤◌, ◌<◌, true, false, pos, map, drop, IfOk, IfErr, OnOk, OnErr, vec_len};
+ghost use Rattle.std.specs.Prelude.{◌≡◌, ◌⊎◌, ◌++◌, ◌∷◌, [], ◌≤◌, ◌<◌, true, false, pos, map, drop, IfOk, IfErr, OnOk, OnErr, vec_len, filter};
 ghost use Rattle.sqlite.specs.State.{HasCleanDisk, Survives, QueriesRow, CommitsShowing, Shown, FailsToQuery};
 ghost use Rattle.sqlite.specs.Held.{state};
 ghost use Rattle.sqlite_value.specs.declared.value.Value.TheVariants.{Int};
@@ -8,7 +8,6 @@ ghost use Rattle.sqlite_trees.specs.Tree.{IsTable};
 ghost use Rattle.prof_store.specs.Shown.{shown, IsFaithful, IsUsable, IsSettled, IsAsBefore, StandsFor, LeavesOnly};
 ghost use Rattle.sql_tables.specs.Walks.{in_page, in_window, Lie};
 ghost use Rattle.held_runs.specs.Walks.{tree_of, window_text_of, ends_text_of, asked, rows_of, IsSpanIn, IsReady, Walks, HasWalked};
-ghost use Rattle.std.specs.Prelude.{filter};
 
 use prof_store::Store;
 use sqlite::{Alter, Connection, Error, Row, params};

@@ -1,6 +1,6 @@
 -- Imports of the same bytes make the same of a history, however they were cut into reads.
 use Rattle.std.proofs.Common.{◌≡◌, ℕ, List, [], ◌∷◌, ◌++◌, filter, Option, Some, None, refl, sym, ap, subst, ◌∙◌}
-use Rattle.prof_books.specs.declared.kinds.Kind.{Kind}
+use Rattle.profile_records.specs.declared.kinds.Kind.{Kind}
 use Rattle.prof_tables.specs.Tables.{Tables, GroupLine}
 use Rattle.prof_books.specs.Book.{book_of}
 use Rattle.histories.specs.History.{Outcome, Import, Turn, History, File, bytes_of, held, next, groups, is_member, baseline}

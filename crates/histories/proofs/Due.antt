@@ -3,8 +3,8 @@ use Rattle.std.proofs.Common.{◌≡◌, ℕ, Bool, true, false, not, nat_lt, na
 use Rattle.std.specs.List.{list_any}
 use Rattle.sha2.specs.Sha256.{sha256}
 use Rattle.cg_text.specs.declared.faults.Fault as faults
-use Rattle.prof_books.specs.Labels.{IsGroupName}
-use Rattle.prof_books.specs.declared.kinds.Kind.{Kind}
+use Rattle.prof_tables.specs.Labels.{IsGroupName}
+use Rattle.profile_records.specs.declared.kinds.Kind.{Kind}
 use Rattle.histories.specs.Files.{fault_of}
 use Rattle.histories.specs.History.{Outcome, Said, Import, MakeGroup, Join, SetBaseline, History, bytes_of, held, next, groups}
 use Rattle.histories.specs.Legal.{IsLegal, IsInForm, due, file_due, first_or, when, faulty, number_of, has_run, has_group, is_failed, is_end}

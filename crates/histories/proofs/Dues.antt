@@ -4,7 +4,7 @@ use Rattle.std.specs.List.{list_any}
 use Rattle.std.proofs.lemmas.Bool.{lt-ltb, le-ltb, le-leb, lt-leb}
 use Rattle.sha2.specs.Sha256.{sha256}
 use Rattle.cg_text.specs.declared.faults.Fault as faults
-use Rattle.prof_books.specs.declared.kinds.Kind.{Kind}
+use Rattle.profile_records.specs.declared.kinds.Kind.{Kind}
 use Rattle.histories.specs.Files.{fault_of}
 use Rattle.histories.specs.History.{Outcome, Said, Remove, MakeGroup, DropGroup, Join, Leave, SetBaseline, History, bytes_of, held, next, groups}
 use Rattle.histories.specs.Legal.{IsLegal, IsInForm, IsUnread, due, import_due, file_due, first_or, when, faulty, number_of, has_run, has_group, is_failed, is_end}

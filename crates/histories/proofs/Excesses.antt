@@ -9,7 +9,7 @@ use Rattle.cost_rows.specs.declared.limits.Side.TheVariants as sides
 use Rattle.cost_rows.specs.declared.rows.FileTotals.{FileTotals}
 use Rattle.prof_tables.specs.Tables.{Tables, Holds}
 use Rattle.prof_books.specs.Totals.{held_self, held_calls, IsHeldIn}
-use Rattle.prof_books.specs.declared.kinds.Kind.{Kind}
+use Rattle.profile_records.specs.declared.kinds.Kind.{Kind}
 use Rattle.histories.specs.Files.{events_of, rows_of}
 use Rattle.histories.specs.History.{History, File, held}
 use Rattle.histories.specs.Stands.{TablesTell}

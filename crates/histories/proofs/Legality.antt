@@ -12,9 +12,9 @@ use Rattle.cost_rows.specs.declared.limits.Overflow.{Overflow}
 use Rattle.cost_rows.specs.declared.rows.FileTotals.{FileTotals}
 use Rattle.prof_tables.specs.Changes as changes
 use Rattle.prof_tables.specs.Tables.{Tables, Holds, RunLine}
-use Rattle.prof_books.specs.Labels.{IsLabel, IsGroupName}
+use Rattle.prof_tables.specs.Labels.{IsLabel, IsGroupName}
 use Rattle.prof_books.specs.Totals.{IsHeldIn}
-use Rattle.prof_books.specs.declared.kinds.Kind.{Kind}
+use Rattle.profile_records.specs.declared.kinds.Kind.{Kind}
 use Rattle.histories.specs.Files.{fault_of, events_of, rows_of}
 use Rattle.histories.specs.History.{Outcome, Import, Remove, MakeGroup, DropGroup, Join, Leave, SetBaseline, Ask, History, bytes_of, held}
 use Rattle.histories.specs.Legal.{IsLegal, file_due, number_of, has_run, has_group, is_failed, is_end}

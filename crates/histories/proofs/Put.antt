@@ -3,7 +3,7 @@ use Rattle.std.proofs.Common.{◌≡◌, ℕ, suc, true, List, [], ◌∷◌, �
 use Rattle.std.specs.List.{list_any, AllByRecursion}
 use Rattle.sha2.specs.Sha256.{sha256}
 use Rattle.sqlite_trees.specs.Tree.{Trees}
-use Rattle.cg_text.specs.declared.heads.FileHead.{FileHead}
+use Rattle.cg_formulas.specs.declared.heads.FileHead.{FileHead}
 use Rattle.cost_rows.specs.Content.{Content}
 use Rattle.cost_rows.specs.Held.{AreHeld}
 use Rattle.cost_rows.specs.Walks.{arc_rows}
@@ -14,8 +14,8 @@ use Rattle.prof_books.specs.Book.{Book, book_of, with_run_book}
 use Rattle.prof_books.specs.Heads as heads
 use Rattle.prof_books.specs.Heads.{event_lines, derived_lines, coef_lines, derived_lines_from, coef_lines_from, stated_at}
 use Rattle.prof_books.specs.Runs.{run_line_of, with_file, file_book}
-use Rattle.prof_books.specs.declared.kinds.Kind.{Kind}
-use Rattle.prof_books.specs.declared.kinds.Kind.TheVariants.{Callgrind, Folded}
+use Rattle.profile_records.specs.declared.kinds.Kind.{Kind}
+use Rattle.profile_records.specs.declared.kinds.Kind.TheVariants.{Callgrind, Folded}
 use Rattle.prof_books.proofs.Books.{book_put, named_put}
 use Rattle.prof_books.proofs.Filed.{head_of_run}
 use Rattle.prof_books.proofs.Parts.{counts_are, costs_are}

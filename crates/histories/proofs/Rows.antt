@@ -1,8 +1,9 @@
 -- The rows of a file come to what its records and stacks come to.
 use Rattle.std.proofs.Common.{◌≡◌, ℕ, ◌+◌, suc, zero, Bool, true, false, if◌then◌else◌, List, [], ◌∷◌, map, fold, slice_index, refl, sym, ap, ◌∙◌, arith}
 use Rattle.callgrind_reader.specs.Files.{records_of_file}
-use Rattle.callgrind_reader.specs.Records.{Record, Own, Called}
-use Rattle.folded_reader.specs.Files.{Seen, stacks_of_file}
+use Rattle.profile_records.specs.Records.{Record, Own, Called}
+use Rattle.profile_records.specs.Stacks.{Seen}
+use Rattle.folded_reader.specs.Files.{stacks_of_file}
 use Rattle.cost_rows.specs.Content.{Content, empty, with_record, leaf_cost}
 use Rattle.cost_rows.specs.Held.{AreHeld}
 use Rattle.cost_rows.specs.Merging.{sum_where}
@@ -10,8 +11,8 @@ use Rattle.cost_rows.specs.StackSums.{cells_where, content_of_stacks, frames_sum
 use Rattle.cost_rows.specs.Sums.{Spot, spot_of, spot_at, callee_at, own_sum, call_sum, count_sum}
 use Rattle.cost_rows.proofs.StackSumsLemmas.{held-stacks, sums-stacks, stacks-order}
 use Rattle.cost_rows.proofs.SumsLemmas.{held-records, sums-cells, sums-arcs, sums-counts}
-use Rattle.prof_books.specs.declared.kinds.Kind.{Kind}
-use Rattle.prof_books.specs.declared.kinds.Kind.TheVariants.{Callgrind, Folded}
+use Rattle.profile_records.specs.declared.kinds.Kind.{Kind}
+use Rattle.profile_records.specs.declared.kinds.Kind.TheVariants.{Callgrind, Folded}
 use Rattle.histories.specs.Files.{records_of, stacks_of, rows_of, sample}
 
 pub record ComesTo (c : Content) (records : List Record) (stacks : List Seen) : Type 0 where

@@ -11,7 +11,7 @@ use Rattle.prof_tables.specs.Tables.{Tables, RunLine, GroupLine}
 use Rattle.prof_tables.specs.Changes as changes
 use Rattle.prof_books.specs.Book.{run_held}
 use Rattle.prof_books.specs.Entries.{held_run}
-use Rattle.prof_books.specs.Labels.{IsGroupName}
+use Rattle.prof_tables.specs.Labels.{IsGroupName}
 use Rattle.histories.specs.History.{History, File, held, next, groups}
 use Rattle.histories.specs.Legal.{number_of, has_run, has_group}
 use Rattle.histories.specs.Stands.{AreBooksOf, TablesTell, file_run}

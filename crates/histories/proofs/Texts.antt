@@ -13,9 +13,9 @@ use Rattle.sha2.specs.Sha256.{sha256}
 use Rattle.prof_tables.specs.Tables.{Tables, GroupLine, MemberLine}
 use Rattle.prof_tables.specs.Changes as changes
 use Rattle.prof_books.specs.Entries.{HeldRun, held_run}
-use Rattle.prof_books.specs.Kinds.{kind_number}
-use Rattle.prof_books.specs.declared.kinds.Kind.{Kind}
-use Rattle.prof_books.specs.declared.kinds.Kind.TheVariants.{Callgrind, Folded}
+use Rattle.profile_records.specs.Kinds.{kind_number}
+use Rattle.profile_records.specs.declared.kinds.Kind.{Kind}
+use Rattle.profile_records.specs.declared.kinds.Kind.TheVariants.{Callgrind, Folded}
 use Rattle.histories.specs.History.{History, File, held, groups, members, is_member, baseline}
 use Rattle.histories.specs.Legal.{IsHistory, has_run}
 use Rattle.histories.specs.Stands.{TablesTell, file_run}

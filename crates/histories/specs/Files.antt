@@ -1,17 +1,17 @@
 -- What a file says, by its kind, straight from the definitions of its format.
 use Rattle.std.specs.Prelude.{ℕ, List, [], map, Option, None}
 use Rattle.cg_text.specs.declared.faults.Fault.{Fault}
-use Rattle.cg_text.specs.declared.heads.FileHead.{FileHead}
+use Rattle.cg_formulas.specs.declared.heads.FileHead.{FileHead}
 use Rattle.callgrind_reader.specs.Files as callgrind
 use Rattle.callgrind_reader.specs.Reads.{HeadOfFile}
-use Rattle.callgrind_reader.specs.Records.{Record, Own}
+use Rattle.profile_records.specs.Records.{Record, Own}
 use Rattle.folded_reader.specs.Files as folded
-use Rattle.folded_reader.specs.Files.{Seen}
+use Rattle.profile_records.specs.Stacks.{Seen}
 use Rattle.folded_reader.specs.Heads.{HeadIs, samples_alone}
 use Rattle.cost_rows.specs.Content.{Content, leaf_cost}
-use Rattle.cost_rows.specs.Texts.{content_of_text, content_of_folded}
-use Rattle.prof_books.specs.declared.kinds.Kind.{Kind}
-use Rattle.prof_books.specs.declared.kinds.Kind.TheVariants.{Callgrind, Folded}
+use Rattle.text_rows.specs.Texts.{content_of_text, content_of_folded}
+use Rattle.profile_records.specs.declared.kinds.Kind.{Kind}
+use Rattle.profile_records.specs.declared.kinds.Kind.TheVariants.{Callgrind, Folded}
 
 -- its first fault, with the line; a file without one is accepted
 abbrev pub fault_of : Kind → List ℕ → Option (Fault × ℕ)

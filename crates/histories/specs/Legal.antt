@@ -4,8 +4,8 @@ use Rattle.std.specs.List.{list_any}
 use Rattle.std.specs.Str.{IsUtf8}
 use Rattle.sha2.specs.Sha256.{sha256}
 use Rattle.cg_text.specs.declared.faults.Fault as faults
-use Rattle.prof_books.specs.Labels.{IsLabel, IsGroupName}
-use Rattle.prof_books.specs.declared.kinds.Kind.{Kind}
+use Rattle.prof_tables.specs.Labels.{IsLabel, IsGroupName}
+use Rattle.profile_records.specs.declared.kinds.Kind.{Kind}
 use Rattle.histories.specs.Files.{fault_of}
 use Rattle.histories.specs.History.{Outcome, Gave, Failed, Said, Import, Remove, MakeGroup, DropGroup, Join, Leave, SetBaseline, Ask, History, File, bytes_of, held, next, groups}
 use Rattle.histories.specs.Sums.{excess_of}

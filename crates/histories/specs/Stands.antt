@@ -10,7 +10,7 @@ use Rattle.prof_tables.specs.Tables.{Tables, EventLine, GroupLine}
 use Rattle.prof_books.specs.Book.{RunBook, book_of, IsNamed}
 use Rattle.prof_books.specs.Entries.{HeldRun}
 use Rattle.prof_books.specs.Heads.{stated_at, derived_lines_from, coef_lines_from}
-use Rattle.prof_books.specs.Kinds.{kind_number}
+use Rattle.profile_records.specs.Kinds.{kind_number}
 use Rattle.prof_books.specs.Parts.{parts_sum}
 use Rattle.histories.specs.Files.{events_of, derived_of, stated_of, records_of, stacks_of}
 use Rattle.histories.specs.History.{History, File, held, next, groups, is_member, baseline}

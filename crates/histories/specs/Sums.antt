@@ -5,7 +5,7 @@ use Rattle.cost_rows.specs.Sums.{own_sum, call_sum, count_sum}
 use Rattle.cost_rows.specs.declared.limits.Overflow.{Overflow}
 use Rattle.cost_rows.specs.declared.limits.Side.{Side}
 use Rattle.cost_rows.specs.declared.limits.Side.TheVariants as sides
-use Rattle.prof_books.specs.declared.kinds.Kind.{Kind}
+use Rattle.profile_records.specs.declared.kinds.Kind.{Kind}
 use Rattle.histories.specs.Files.{events_of, records_of}
 use Rattle.histories.specs.History.{File}
 use Rattle.histories.specs.declared.answers.Excess.{Excess}

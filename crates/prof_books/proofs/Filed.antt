@@ -2,7 +2,7 @@
 use Rattle.std.proofs.Common.{◌≡◌, ℕ, suc, List, [], ◌∷◌, nat_lt, if◌then◌else◌, Bool, true, false, refl}
 use Rattle.std.specs.List.{AllByRecursion}
 use Rattle.sqlite_keyed.proofs.ListLemmas.{all-append}
-use Rattle.cg_text.specs.declared.heads.FileHead.{FileHead}
+use Rattle.cg_formulas.specs.declared.heads.FileHead.{FileHead}
 use Rattle.cost_rows.specs.Content.{Content}
 use Rattle.prof_tables.specs.Tables.{EventLine, DerivedLine, CoefLine}
 use Rattle.prof_books.specs.Book.{AreOf}

@@ -1,7 +1,7 @@
 -- The lines that the head of a file becomes.
 use Rattle.std.specs.Prelude.{ℕ, suc, ◌≡◌, ◌<◌, ◌^◌, nat_lt, if◌then◌else◌, List, [], ◌∷◌, ◌++◌, length, option_map, Option, Some, None, slice_get, ⊤}
 use Rattle.std.specs.Fmt.{decimal}
-use Rattle.cg_text.specs.declared.heads.FileHead.{FileHead}
+use Rattle.cg_formulas.specs.declared.heads.FileHead.{FileHead}
 use Rattle.cost_rows.specs.Content.{Content}
 use Rattle.cost_rows.specs.Totals.{cell_total, arc_total}
 use Rattle.prof_tables.specs.Tables.{EventLine, DerivedLine, CoefLine}

@@ -2,8 +2,6 @@ pub mod Book
 pub mod Entries
 pub mod Files
 pub mod Heads
-pub mod Kinds
-pub mod Labels
 pub mod Parts
 pub mod Runs
 pub mod Totals

@@ -1,14 +1,14 @@
 -- What a file that is put makes of the tables.
 use Rattle.std.specs.Prelude.{ℕ, List}
-use Rattle.cg_text.specs.declared.heads.FileHead.{FileHead}
+use Rattle.cg_formulas.specs.declared.heads.FileHead.{FileHead}
 use Rattle.cost_rows.specs.Content.{Content}
 use Rattle.cost_rows.specs.Totals.{count_total}
 use Rattle.prof_tables.specs.Tables.{Tables, RunLine}
 use Rattle.prof_books.specs.Book.{RunBook, run_book}
 use Rattle.prof_books.specs.Files.{with_rows, with_head}
 use Rattle.prof_books.specs.Heads.{event_lines, derived_lines, coef_lines}
-use Rattle.prof_books.specs.Kinds.{kind_number}
-use Rattle.prof_books.specs.declared.kinds.Kind.{Kind}
+use Rattle.profile_records.specs.Kinds.{kind_number}
+use Rattle.profile_records.specs.declared.kinds.Kind.{Kind}
 
 -- its run, with the number of its calls
 abbrev pub run_line_of : ℕ → Kind → List ℕ → List ℕ → Content → RunLine

@@ -2,7 +2,7 @@
 // function that does nothing.
 ghost use Rattle.std.specs.Prelude.{◌≡◌, ℕ, suc, Bool, List, flat_map};
 ghost use Rattle.sqlite_trees.specs.Tree.{Trees};
-ghost use Rattle.cg_text.specs.declared.heads.FileHead.{FileHead};
+ghost use Rattle.cg_formulas.specs.declared.heads.FileHead.{FileHead};
 ghost use Rattle.cost_rows.specs.Content.{Content};
 ghost use Rattle.cost_rows.specs.Held.{AreHeld};
 ghost use Rattle.cost_rows.specs.Sums.{Spot};
@@ -14,7 +14,7 @@ ghost use Rattle.prof_books.specs.Book.{AreOf, IsNamed, book_of, new_book, parts
 ghost use Rattle.prof_books.specs.Files.{with_head, with_rows};
 ghost use Rattle.prof_books.specs.Parts.{parts_sum};
 ghost use Rattle.prof_books.specs.Runs.{file_book, with_file};
-ghost use Rattle.prof_books.specs.declared.kinds.Kind.{Kind};
+ghost use Rattle.profile_records.specs.declared.kinds.Kind.{Kind};
 
 /// A file that is written under the next number is in the book as what it says of itself and as its
 /// rows, names in place; the runs before it are as they were.

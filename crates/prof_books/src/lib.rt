@@ -2,10 +2,8 @@
 //! and laws that say what each change of the tables makes of it.
 #![tactic(auto)]
 
-mod kinds;
 mod laws;
 
-pub use kinds::Kind;
 pub use laws::{
     a_dropped_run_leaves_the_book, a_file_is_in_the_book, a_file_that_is_put_is_in_the_book,
     groups_leave_the_runs, parts_come_to_the_calls,

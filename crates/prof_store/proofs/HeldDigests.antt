@@ -18,7 +18,7 @@ use Rattle.sqlite_rules.specs.Lists.{Has}
 use Rattle.sqlite_rules.proofs.ListLemmas.{all_has, some_from, has_left, has_right}
 use Rattle.sqlite_rules.proofs.ProbeLemmas.{mapped_has}
 use Rattle.sqlite_tied.proofs.RuleLemmas.{and_true}
-use Rattle.cg_text.specs.declared.heads.FileHead.{FileHead}
+use Rattle.cg_formulas.specs.declared.heads.FileHead.{FileHead}
 use Rattle.cost_rows.specs.Content.{Content}
 use Rattle.prof_tables.specs.Schema.{schema_one, run_at}
 use Rattle.prof_tables.specs.Tables.{Tables, Holds, RunLine, run_columns, number}
@@ -26,7 +26,7 @@ use Rattle.prof_tables.specs.Changes.{named, has_name, with_new_name}
 use Rattle.prof_tables.specs.Files.{all_named}
 use Rattle.prof_tables.proofs.Values.{blobs_equal}
 use Rattle.prof_books.specs.Runs.{with_file, run_line_of}
-use Rattle.prof_books.specs.declared.kinds.Kind.{Kind}
+use Rattle.profile_records.specs.declared.kinds.Kind.{Kind}
 
 -- SQL's <> on two numbers
 numbers_differ : (a b : ℕ) → differ (number a) (number b) ≡ not (eqb a b)

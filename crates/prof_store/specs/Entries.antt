@@ -4,7 +4,7 @@ use Rattle.sqlite_value.specs.declared.value.Value.TheVariants.{Text, Blob}
 use Rattle.sqlite_value.specs.Order.{Row, column}
 use Rattle.prof_tables.specs.Tables.{number}
 use Rattle.prof_books.specs.Entries.{HeldRun}
-use Rattle.prof_books.specs.Kinds.{kind_number}
+use Rattle.profile_records.specs.Kinds.{kind_number}
 use Rattle.prof_store.specs.declared.entries.RunEntry.{RunEntry}
 
 abbrev pub first_four : Row → Row

@@ -1,10 +1,10 @@
 // The entries of reports.
 ghost use Rattle.std.specs.Prelude.{string_bytes, length, ◌<◌};
 ghost use Rattle.std.specs.List.{AllAdjacentBelow};
-ghost use Rattle.prof_books.specs.Labels.{IsLabel, IsGroupName};
+ghost use Rattle.prof_tables.specs.Labels.{IsLabel, IsGroupName};
 
 use cg_text::Items;
-use prof_books::Kind;
+use profile_records::Kind;
 
 /// A run that is held.
 #[derive(Drop)]

@@ -6,7 +6,7 @@ ghost use Rattle.sqlite_value.specs.declared.value.Value.TheVariants.{Int, Text}
 ghost use Rattle.prof_tables.specs.Texts.{put_group_text, drop_group_text, leave_text, set_baseline_text};
 ghost use Rattle.prof_tables.specs.Tables.{Holds};
 ghost use Rattle.prof_tables.specs.Changes.{has_group, with_group, without_group, without_member, with_baseline};
-ghost use Rattle.prof_books.specs.Labels.{IsGroupName};
+ghost use Rattle.prof_tables.specs.Labels.{IsGroupName};
 ghost use Rattle.prof_store.specs.Shown.{IsFaithful, IsUsable, StandsFor, IsSettled, IsAsBefore, LeavesOnly};
 
 use crate::store::Store;

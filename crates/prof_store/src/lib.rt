@@ -20,7 +20,7 @@ mod totals;
 
 pub use entries::{GroupEntry, RunEntry};
 pub use laws::what_stands_survives;
-pub use prof_books::Kind;
+pub use profile_records::Kind;
 pub use sqlite::Alter;
 pub use store::Store;
 pub use store_columns::{OpenEnd, StoreEnd, is_group_name, is_label};

@@ -1,7 +1,8 @@
 // A folded file that is cut anywhere has the same stacks and the same end.
 ghost use Rattle.folded_reader.specs.Reads.{Takes};
 
-use folded_reader::{FoldedReader, StackSink};
+use folded_reader::FoldedReader;
+use profile_records::StackSink;
 use std::alloc::{AllocError, Global};
 use std::test::Fail;
 

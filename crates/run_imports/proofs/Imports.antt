@@ -4,15 +4,15 @@ use Rattle.std.specs.List.{list_any}
 use Rattle.sqlite_trees.specs.Tree.{Trees}
 use Rattle.sha2.specs.Sha256.{sha256}
 use Rattle.cg_text.specs.declared.faults.Fault as faults
-use Rattle.cg_text.specs.declared.heads.FileHead.{FileHead}
+use Rattle.cg_formulas.specs.declared.heads.FileHead.{FileHead}
 use Rattle.cost_rows.specs.Admit.{overflow_of}
 use Rattle.cost_rows.specs.Content.{Content}
 use Rattle.cost_rows.specs.Totals.{AreTotals}
 use Rattle.cost_rows.specs.declared.rows.FileTotals.{FileTotals}
 use Rattle.prof_tables.specs.Tables.{Tables, Holds}
 use Rattle.prof_books.specs.Totals.{IsHeldIn}
-use Rattle.prof_books.specs.declared.kinds.Kind.{Kind}
-use Rattle.prof_books.specs.declared.kinds.Kind.TheVariants.{Callgrind, Folded}
+use Rattle.profile_records.specs.declared.kinds.Kind.{Kind}
+use Rattle.profile_records.specs.declared.kinds.Kind.TheVariants.{Callgrind, Folded}
 use Rattle.histories.specs.Files.{IsHeadOf, rows_of, events_of, fault_of}
 use Rattle.histories.specs.History.{History, Outcome, Import, bytes_of, held, next}
 use Rattle.histories.specs.Legal.{due, file_due, number_of, faulty, first_or, when, is_failed, is_end}
@@ -26,7 +26,8 @@ use Rattle.histories.specs.declared.answers.Refusal.TheVariants as reasons
 use Rattle.histories.specs.declared.limits.Limits.{Limits}
 use Rattle.histories.proofs.Excesses.{tells_excess}
 use Rattle.file_intake.specs.Reads.{HasEnded}
-use Rattle.run_imports.specs.Refused.{or_later, if_some, room_refusal, refused_or}
+use Rattle.run_imports.specs.Refused.{or_later, if_some, room_refusal}
+use Rattle.store_histories.specs.Refusals.{refused_or}
 
 -- ---- sums
 

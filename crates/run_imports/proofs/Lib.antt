@@ -1,3 +1,2 @@
-pub mod Due
 mod Imports
 mod Puts

@@ -2,12 +2,12 @@
 use Rattle.std.proofs.Common.{◌≡◌, ℕ, List, Some, inl, sym, subst}
 use Rattle.sqlite_trees.specs.declared.store.Store.{Ghosts}
 use Rattle.sqlite_trees.specs.Tree.{Trees}
-use Rattle.cg_text.specs.declared.heads.FileHead.{FileHead}
+use Rattle.cg_formulas.specs.declared.heads.FileHead.{FileHead}
 use Rattle.cost_rows.specs.Rows.{content_of}
 use Rattle.cost_rows.specs.declared.file_rows.FileRows.{FileRows}
 use Rattle.prof_tables.specs.Tables.{Tables, Holds}
 use Rattle.prof_books.specs.Runs.{with_file}
-use Rattle.prof_books.specs.declared.kinds.Kind.{Kind}
+use Rattle.profile_records.specs.declared.kinds.Kind.{Kind}
 use Rattle.prof_store.specs.Shown.{StandsFor}
 use Rattle.prof_store.specs.declared.store.Store.{Store}
 use Rattle.histories.specs.History.{History, Outcome, Import, bytes_of}
@@ -16,7 +16,7 @@ use Rattle.histories.specs.Stands.{TablesTell}
 use Rattle.histories.specs.declared.answers.Answer.TheVariants.{Run}
 use Rattle.histories.specs.declared.limits.Limits.{Limits}
 use Rattle.histories.proofs.Put.{tell_put}
-use Rattle.run_imports.specs.Answered.{with_turn, Follows, WasDue}
+use Rattle.store_histories.specs.Answered.{with_turn, Follows, WasDue}
 use Rattle.run_imports.specs.Imports.{IsNewFile}
 
 module _ (limits : Limits) (h : History) (kind : Kind) (label : List ℕ) (outcomes : List Outcome) (digest : List ℕ) (head : FileHead) (rows : FileRows) (t : Tables) (db : Trees)

@@ -1,10 +1,10 @@
 -- A file that was read and is not held.
 use Rattle.std.specs.Prelude.{◌≡◌, ℕ, List, None}
 use Rattle.sha2.specs.Sha256.{sha256}
-use Rattle.cg_text.specs.declared.heads.FileHead.{FileHead}
+use Rattle.cg_formulas.specs.declared.heads.FileHead.{FileHead}
 use Rattle.cost_rows.specs.Rows.{content_of}
 use Rattle.cost_rows.specs.declared.file_rows.FileRows.{FileRows}
-use Rattle.prof_books.specs.declared.kinds.Kind.{Kind}
+use Rattle.profile_records.specs.declared.kinds.Kind.{Kind}
 use Rattle.histories.specs.Files.{IsHeadOf, rows_of, fault_of}
 use Rattle.histories.specs.History.{History, held}
 use Rattle.histories.specs.Legal.{number_of}

@@ -1,19 +1,11 @@
 -- Refusals in the order in which they are looked for.
 use Rattle.std.specs.Prelude.{Bool, true, false, ℕ, nat_le, List, length, Option, Some, None, option_map}
-use Rattle.prof_books.specs.declared.kinds.Kind.{Kind}
+use Rattle.profile_records.specs.declared.kinds.Kind.{Kind}
 use Rattle.histories.specs.History.{History, held, next}
 use Rattle.histories.specs.Sums.{excess_of}
-use Rattle.histories.specs.declared.answers.Answer.{Answer}
-use Rattle.histories.specs.declared.answers.Answer.TheVariants as answers
 use Rattle.histories.specs.declared.answers.Refusal.{Refusal}
 use Rattle.histories.specs.declared.answers.Refusal.TheVariants as reasons
 use Rattle.histories.specs.declared.limits.Limits.{Limits}
-
--- of a group and a run that have to be held
-abbrev pub missing_of : Bool → Bool → Option Refusal
-missing_of false run = Some reasons.NoSuchGroup
-missing_of true false = Some reasons.NoSuchRun
-missing_of true true = None
 
 abbrev pub if_some : Bool → Refusal → Option Refusal
 if_some true refusal = Some refusal
@@ -29,8 +21,3 @@ room_refusal limits h kind bytes =
     or_later (option_map reasons.Overflow (excess_of (held h) kind bytes))
     (or_later (if_some (nat_le limits.runs (length (held h))) reasons.Full)
     (if_some (nat_le limits.numbers (next h)) reasons.NumbersSpent))
-
--- a refusal, or else another answer
-abbrev pub refused_or : Option Refusal → Answer → Answer
-refused_or (Some refusal) answer = answers.Refused refusal
-refused_or None answer = answer

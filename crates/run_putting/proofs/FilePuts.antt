@@ -1,16 +1,16 @@
 -- A file that is put, as it is written and in the words of the public call.
 use Rattle.std.proofs.Common.{◌≡◌, ℕ, List, map, ap, ◌∙◌}
-use Rattle.cg_text.specs.declared.heads.FileHead.{FileHead}
+use Rattle.cg_formulas.specs.declared.heads.FileHead.{FileHead}
 use Rattle.cost_rows.specs.Rows.{content_of}
 use Rattle.cost_rows.specs.Totals.{count_total}
 use Rattle.cost_rows.specs.declared.file_rows.FileRows.{FileRows}
 use Rattle.prof_tables.specs.Tables.{Tables, EventLine, DerivedLine, CoefLine}
 use Rattle.prof_books.specs.Files.{with_rows, with_head}
 use Rattle.prof_books.specs.Heads.{event_lines, derived_lines, coef_lines}
-use Rattle.prof_books.specs.Kinds.{kind_number}
+use Rattle.profile_records.specs.Kinds.{kind_number}
 use Rattle.store_columns.specs.Lines.{event_line, derived_line, coef_line}
 use Rattle.prof_books.specs.Runs.{with_file, run_line_of}
-use Rattle.prof_books.specs.declared.kinds.Kind.{Kind}
+use Rattle.profile_records.specs.declared.kinds.Kind.{Kind}
 use Rattle.store_columns.specs.declared.lines.HeadLines.{HeadLines}
 
 -- its run and its lines are those of the head and the rows

@@ -5,14 +5,14 @@ ghost use Rattle.cost_rows.specs.Rows.{content_of};
 ghost use Rattle.sqlite_rules.specs.Lists.{Has};
 ghost use Rattle.prof_tables.specs.Tables.{Holds};
 ghost use Rattle.prof_books.specs.Heads.{IsWhole, ColumnFits};
-ghost use Rattle.prof_books.specs.Labels.{IsLabel};
+ghost use Rattle.prof_tables.specs.Labels.{IsLabel};
 ghost use Rattle.prof_books.specs.Runs.{with_file};
 ghost use Rattle.prof_store.specs.Shown.{IsFaithful, IsUsable, StandsFor, IsSettled, IsAsBefore, LeavesOnly};
 
 use crate::putting::put_in;
-use cg_text::FileHead;
+use cg_formulas::FileHead;
 use cost_rows::FileRows;
-use prof_books::Kind;
+use profile_records::Kind;
 use prof_store::Store;
 use run_rows::{head_lines, whole_of};
 use sqlite::Alter;

@@ -7,7 +7,8 @@ ghost use Rattle.prof_books.specs.Heads.{stated_at, event_line_of, coef_lines_at
 ghost use Rattle.store_columns.specs.Lines.{event_line, derived_line, coef_line};
 
 use crate::file_lines::{small_of, whole_of};
-use cg_text::{FileHead, Items};
+use cg_formulas::FileHead;
+use cg_text::Items;
 use cost_rows::FileTotals;
 use std::alloc::{AllocError, Global};
 use store_columns::{CoefLine, DerivedLine, EventLine, HeadLines, StoreEnd, Whole};

@@ -6,7 +6,7 @@ use Rattle.std.proofs.lemmas.List.{map-append, drop_more}
 use Rattle.std.proofs.lemmas.List.Folds.{list_any-append}
 use Rattle.sqlite_trees.specs.declared.store.Store.{Ghosts}
 use Rattle.sqlite_trees.specs.Tree.{Trees}
-use Rattle.prof_books.specs.declared.kinds.Kind.{Kind}
+use Rattle.profile_records.specs.declared.kinds.Kind.{Kind}
 use Rattle.prof_store.specs.Shown.{IsUsable}
 use Rattle.prof_store.specs.declared.store.Store.{Store}
 use Rattle.histories.specs.History.{History, Outcome, Said, Turn, Import}
@@ -17,11 +17,11 @@ use Rattle.histories.specs.declared.answers.Refusal.{Refusal}
 use Rattle.histories.specs.declared.limits.Limits.{Limits}
 use Rattle.histories.proofs.Steps.{tell_same}
 use Rattle.histories.proofs.Turns.{history_more, legal_append}
-use Rattle.run_imports.specs.Answered.{HasHistory, IsAnswered, Stops}
+use Rattle.store_histories.specs.Answered.{HasHistory, IsAnswered, Stops}
 use Rattle.warehouse.specs.Answered.{Says}
 use Rattle.warehouse.specs.declared.command.Command as commands
 use Rattle.warehouse.specs.declared.command.Command.TheVariants as command
-use Rattle.sessions.specs.Answers.{is_refused}
+use Rattle.answer_lines.specs.Answers.{is_refused}
 use Rattle.sessions.specs.Sessions.{AnyReads, AreImports, AreLinesOf, ArePrinted, Took, WasDone, WasCut, WasRun, WasTold, answers_of, change_said, commands_of, status_after}
 use Rattle.sessions.specs.declared.session.GroupChange.{GroupChange}
 use Rattle.sessions.specs.declared.session.GroupChange.TheVariants as changes

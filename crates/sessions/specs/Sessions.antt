@@ -3,7 +3,7 @@ use Rattle.std.specs.Prelude.{◌≡◌, ◌⊎◌, ℕ, if◌then◌else◌, Li
 use Rattle.std.specs.Io.KnownBytes.{Appends}
 use Rattle.std.specs.List.{list_any}
 use Rattle.sqlite_trees.specs.declared.store.Store.{Ghosts}
-use Rattle.prof_books.specs.declared.kinds.Kind.{Kind}
+use Rattle.profile_records.specs.declared.kinds.Kind.{Kind}
 use Rattle.prof_store.specs.Shown.{IsUsable, LeavesOnly}
 use Rattle.histories.specs.History as history
 use Rattle.histories.specs.History.{History, Outcome, Said, Turn}
@@ -11,8 +11,8 @@ use Rattle.histories.specs.Legal.{AreLegal}
 use Rattle.histories.specs.declared.answers.Answer.{Answer}
 use Rattle.histories.specs.declared.answers.Answer.TheVariants.{Refused}
 use Rattle.histories.specs.declared.answers.Refusal.TheVariants.{Memory}
-use Rattle.run_imports.specs.Answered.{HasHistory, Stops}
-use Rattle.sessions.specs.Answers.{is_refused, line_text}
+use Rattle.store_histories.specs.Answered.{HasHistory, Stops}
+use Rattle.answer_lines.specs.Answers.{is_refused, line_text}
 use Rattle.sessions.specs.declared.session.GroupChange.{GroupChange}
 use Rattle.sessions.specs.declared.session.GroupChange.TheVariants as changes
 use Rattle.sessions.specs.declared.session.Session.{Session}

@@ -1,9 +1,9 @@
 // What is done for a plan.
 use crate::session::{GroupChange, Session, Work};
-use crate::stores::{end_line, store_at};
 use command_line::Plan;
 use file_totals::{TotalText, total_file};
 use histories::{Limits, Query};
+use program_files::{end_line, store_at};
 use std::alloc::AllocError;
 use std::io;
 use std::io::Write;

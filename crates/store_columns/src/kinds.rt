@@ -2,11 +2,11 @@
 ghost use Rattle.std.specs.Prelude.{◌≡◌, pos, IfOk};
 ghost use Rattle.sqlite_value.specs.declared.value.Value.TheVariants.{Int};
 ghost use Rattle.sqlite_value.specs.Order.{column};
-ghost use Rattle.prof_books.specs.Kinds.{kind_number};
+ghost use Rattle.profile_records.specs.Kinds.{kind_number};
 
 use crate::columns::number_at;
 use crate::errors::StoreEnd;
-use prof_books::Kind;
+use profile_records::Kind;
 use sqlite::Row;
 
 /// The number of a kind in the tables.

@@ -2,8 +2,8 @@
 ghost use Rattle.std.specs.Prelude.{◌≡◌, string_bytes, IfOk, IsTrue, ◌↔◌};
 ghost use Rattle.sqlite_value.specs.declared.value.Value.TheVariants.{Text, Blob};
 ghost use Rattle.sqlite_value.specs.Order.{column};
-ghost use Rattle.prof_books.specs.Labels as specs;
-ghost use Rattle.prof_books.specs.Labels.{IsLabel, IsGroupName};
+ghost use Rattle.prof_tables.specs.Labels as specs;
+ghost use Rattle.prof_tables.specs.Labels.{IsLabel, IsGroupName};
 
 use crate::columns::{bytes_at, text_at};
 use crate::errors::StoreEnd;

@@ -1,4 +1,2 @@
-mod Dues
-mod Names
 mod Runs
-mod Settled
+mod Unread

@@ -9,7 +9,7 @@ use Rattle.histories.specs.History.{History, Outcome, Said, Turn}
 use Rattle.histories.specs.declared.answers.Answer.{Answer}
 use Rattle.histories.specs.declared.limits.Limits.{Limits}
 use Rattle.histories.proofs.Turns.{legal_append}
-use Rattle.run_imports.specs.Answered.{Follows, HasHistory, IsAnswered, Stops}
+use Rattle.store_histories.specs.Answered.{Follows, HasHistory, IsAnswered, Stops}
 use Rattle.warehouse.specs.Answered.{Says, AreSaid, WasRun}
 use Rattle.warehouse.specs.declared.command.Command as commands
 

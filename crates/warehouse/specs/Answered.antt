@@ -1,9 +1,7 @@
 -- What commands say, and what a list of them is answered and leaves.
-use Rattle.std.specs.Prelude.{◌≡◌, map, Result, Ok, Err, List, [], ◌∷◌, ◌++◌}
+use Rattle.std.specs.Prelude.{◌≡◌, map, List, [], ◌∷◌, ◌++◌}
 use Rattle.sqlite_trees.specs.declared.store.Store.{Ghosts}
 use Rattle.prof_store.specs.Shown.{IsUsable, LeavesOnly}
-use Rattle.store_columns.specs.declared.errors.StoreEnd.{StoreEnd}
-use Rattle.store_columns.specs.declared.errors.StoreEnd.TheVariants as ends
 use Rattle.prof_store.specs.declared.store.Store.{Store}
 use Rattle.histories.specs.History.{History, Said, Turn, Outcome, Import, Remove, MakeGroup, DropGroup, Join, Leave, SetBaseline, Ask}
 use Rattle.histories.specs.Legal.{AreLegal}
@@ -14,7 +12,7 @@ use Rattle.histories.specs.declared.limits.Limits.{Limits}
 use Rattle.file_intake.specs.Reads.{Come}
 use Rattle.file_intake.specs.declared.reading.Unread.{Unread}
 use Rattle.file_intake.specs.declared.reading.Unread.TheVariants as unread
-use Rattle.run_imports.specs.Answered.{HasHistory, Stops}
+use Rattle.store_histories.specs.Answered.{HasHistory, Stops}
 use Rattle.warehouse.specs.declared.command.Command as commands
 use Rattle.warehouse.specs.declared.command.Command.TheVariants as command
 
@@ -47,15 +45,7 @@ module _ {S R : Type 0} (g : Ghosts S) (comes : R → Outcome → R → Type 0) 
     pub after : HasHistory g (h ++ turns) new
     pub crash : IsUsable g new → LeavesOnly g old new (Stops limits h turns)
 
--- ---- answers from what lies below
-
--- want of memory or of the store is refused as such
-abbrev pub answer_for : Result Answer StoreEnd → Answer
-answer_for (Ok answer) = answer
-answer_for (Err ends.Memory) = answers.Refused reasons.Memory
-answer_for (Err ends.Store) = answers.Refused reasons.Store
-
--- so is a source that was not read to its end
+-- a source that was not read to its end is refused as such
 abbrev pub unread_for : Unread → Answer
 unread_for unread.Memory = answers.Refused reasons.Memory
 unread_for unread.Failed = answers.Refused reasons.ReadFault

@@ -2,20 +2,20 @@
 ghost use Rattle.std.specs.Prelude.{◌≡◌, List, IfOk, OnErr};
 ghost use Rattle.prof_store.specs.Shown.{IsFaithful, IsUsable};
 ghost use Rattle.histories.specs.History.{History, Outcome, Said, Import};
-ghost use Rattle.run_imports.specs.Answered.{HasHistory, IsAnswered};
+ghost use Rattle.store_histories.specs.Answered.{HasHistory, IsAnswered};
 ghost use Rattle.warehouse.specs.Answered.{Says, WasRun};
 ghost use Rattle.file_intake.specs.Reads.{Come};
 
-use crate::answering::{ask_in, change_in, drop_in, import_in, make_in, remove_in};
-use crate::changes::Change;
+use crate::answering::import_in;
 use crate::command::Command;
 use crate::warehouse::Warehouse;
 use file_intake::Source;
 use histories::Answer;
-use prof_books::Kind;
+use profile_records::Kind;
 use sqlite::Alter;
 use std::alloc::{AllocError, Global};
 use std::collections::VecDeque;
+use store_commands::{Change, ask_in, change_in, drop_in, make_in, remove_in};
 
 impl<S: Alter> Warehouse<S> {
     /// Takes in the file that a source gives, a piece at a time. The source is read to its end even

@@ -1,6 +1,6 @@
 // What a warehouse is told to do.
 use histories::Query;
-use prof_books::Kind;
+use profile_records::Kind;
 
 /// A command; R is what the bytes of a file come from.
 #[derive(Drop)]

@@ -6,7 +6,7 @@ ghost use Rattle.prof_store.specs.Shown.{IsUsable, StandsFor, LeavesJust};
 ghost use Rattle.prof_store.specs.declared.store.Store.{Store};
 ghost use Rattle.histories.specs.History.{History};
 ghost use Rattle.histories.specs.Stands.{TablesTell};
-ghost use Rattle.run_imports.specs.Answered.{HasHistory};
+ghost use Rattle.store_histories.specs.Answered.{HasHistory};
 
 use prof_store::what_stands_survives;
 use sqlite::Alter;

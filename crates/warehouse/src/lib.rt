@@ -3,10 +3,8 @@
 
 mod answering;
 mod apply;
-mod changes;
 mod command;
 mod laws;
-mod lists;
 mod refusals;
 mod warehouse;
 
@@ -14,5 +12,5 @@ pub use command::Command;
 pub use file_intake::{ReadFault, Source};
 pub use histories::{Answer, Excess, Limits, Query, Refusal};
 pub use laws::histories_survive;
-pub use prof_books::Kind;
+pub use profile_records::Kind;
 pub use warehouse::Warehouse;

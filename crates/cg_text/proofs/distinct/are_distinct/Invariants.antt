@@ -1,5 +1,5 @@
 use Rattle.std.proofs.Common.{◌≡◌, length}
-use Rattle.cg_text.specs.Formulas.{are_distinct}
+use Rattle.cg_text.specs.Distinct.{are_distinct}
 use Rattle.cg_text.proofs.distinct.are_distinct.Given as goal
 
 -- the names so far stand once

@@ -2,7 +2,7 @@ use Rattle.std.proofs.Common.{◌≡◌, ◌+◌, ◌<◌, ◌≤◌, ◌^◌, f
 use Rattle.std.specs.List.{list_any}
 use Rattle.histories.specs.History.{Outcome, bytes_of}
 use Rattle.histories.specs.Legal.{is_failed}
-use Rattle.prof_books.specs.declared.kinds.Kind.{Kind}
+use Rattle.profile_records.specs.declared.kinds.Kind.{Kind}
 use Rattle.file_intake.specs.Intakes.{HasTaken}
 use Rattle.file_intake.specs.Reads.{Come}
 use Rattle.file_intake.proofs.reading.read_all.Given as goal

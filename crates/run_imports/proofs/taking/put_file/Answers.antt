@@ -5,9 +5,9 @@ use Rattle.prof_books.specs.Runs.{with_file}
 use Rattle.histories.specs.History.{Import, bytes_of, next}
 use Rattle.histories.specs.Legal.{due}
 use Rattle.histories.specs.declared.answers.Answer.TheVariants.{Run, Refused}
-use Rattle.run_imports.specs.Answered.{Follows}
-use Rattle.run_imports.specs.Refused.{refused_or}
-use Rattle.run_imports.proofs.Due.{was_still, then_crash}
+use Rattle.store_histories.specs.Answered.{Follows}
+use Rattle.store_histories.specs.Refusals.{refused_or}
+use Rattle.store_histories.proofs.Due.{was_still, then_crash}
 use Rattle.run_imports.proofs.Imports.{room_due}
 use Rattle.run_imports.proofs.Puts.{was_run, follows_run}
 use Rattle.run_imports.proofs.taking.put_file.Goals as goal

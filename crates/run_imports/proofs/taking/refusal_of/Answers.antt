@@ -2,7 +2,7 @@ use Rattle.std.proofs.Common.{rules, ◌≡◌, None, length, sym, ◌∙◌}
 use Rattle.histories.specs.History.{held, next}
 use Rattle.histories.specs.Sums.{excess_of}
 use Rattle.histories.proofs.Tells.{tells_many}
-use Rattle.run_imports.proofs.Due.{has_room, has_none}
+use Rattle.store_histories.proofs.Due.{has_room, has_none}
 use Rattle.run_imports.proofs.Imports.{room_full, room_spent, room_left}
 use Rattle.run_imports.proofs.taking.refusal_of.Goals as goal
 

@@ -6,10 +6,10 @@ use Rattle.histories.specs.Legal.{number_of}
 use Rattle.histories.specs.declared.answers.Answer.TheVariants.{Held, Refused}
 use Rattle.histories.specs.declared.answers.Refusal.TheVariants.{File}
 use Rattle.histories.proofs.Tells.{tells_digest}
-use Rattle.run_imports.specs.Answered.{StandsForHistory, Follows}
+use Rattle.store_histories.specs.Answered.{StandsForHistory, Follows}
 use Rattle.run_imports.specs.Imports.{IsNewFile}
 use Rattle.file_intake.specs.Intakes.{IsFileOf}
-use Rattle.run_imports.proofs.Due.{was_still, then_crash}
+use Rattle.store_histories.proofs.Due.{was_still, then_crash}
 use Rattle.run_imports.proofs.Imports.{held_due, fault_due}
 use Rattle.run_imports.proofs.taking.take_in.Goals as goal
 

@@ -1,6 +1,6 @@
 use Rattle.std.proofs.Common.{[], ◌++◌, sym, refl, inr, append-nil}
 use Rattle.std.proofs.lemmas.Result.{on_ok_weaker}
-use Rattle.sessions.specs.Answers.{line_text}
+use Rattle.answer_lines.specs.Answers.{line_text}
 use Rattle.histories.specs.declared.answers.Answer.TheVariants.{Refused}
 use Rattle.histories.specs.declared.answers.Refusal.TheVariants.{Memory}
 use Rattle.sessions.proofs.session.print_answer.Goals as goal

@@ -2,7 +2,7 @@ use Rattle.std.proofs.Common.{[], refl}
 use Rattle.histories.specs.History.{Import}
 use Rattle.histories.specs.declared.answers.Answer.TheVariants.{Refused}
 use Rattle.histories.specs.declared.answers.Refusal.TheVariants.{BadName}
-use Rattle.warehouse.proofs.Settled.{untouched, bad_name}
+use Rattle.store_histories.proofs.Settled.{untouched, bad_name}
 use Rattle.warehouse.proofs.answering.import_in.Goals as goal
 
 pub returns-in-None-clause-answered : goal.returns-in-None-clause-answered

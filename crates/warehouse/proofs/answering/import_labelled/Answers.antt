@@ -1,7 +1,8 @@
 use Rattle.std.proofs.Common.{sym, subst}
 use Rattle.histories.specs.History.{Import}
-use Rattle.run_imports.specs.Answered.{IsAnswered}
-use Rattle.warehouse.proofs.Settled.{settled, unread_answered}
+use Rattle.store_histories.specs.Answered.{IsAnswered}
+use Rattle.store_histories.proofs.Settled.{settled}
+use Rattle.warehouse.proofs.Unread.{unread_answered}
 use Rattle.warehouse.proofs.answering.import_labelled.Goals as goal
 
 pub returns-in-Ok-clause-answered : goal.returns-in-Ok-clause-answered

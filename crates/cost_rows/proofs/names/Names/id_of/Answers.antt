@@ -1,5 +1,5 @@
 use Rattle.std.proofs.Common.{◌≡◌, true, Some, sym, ◌∙◌, ap}
-use Rattle.cg_text.specs.Formulas.{are_distinct}
+use Rattle.cg_text.specs.Distinct.{are_distinct}
 use Rattle.cost_rows.specs.Naming.{place_of}
 use Rattle.cost_rows.proofs.NamingLemmas.{with-held, distinct-after}
 use Rattle.cost_rows.proofs.names.Names.id_of.Goals as goal

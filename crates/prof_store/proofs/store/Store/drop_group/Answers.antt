@@ -7,8 +7,7 @@ use Rattle.prof_tables.specs.Texts.{drop_group_text}
 use Rattle.prof_tables.specs.Changes.{without_group, has_group}
 use Rattle.prof_tables.proofs.Means.{drop_group_means, drop_group_plain}
 use Rattle.prof_tables.proofs.Drops.{drops_group}
-use Rattle.store_columns.proofs.Effects.{rests}
-use Rattle.store_columns.proofs.Effects.{leaves as survives}
+use Rattle.store_columns.proofs.Effects.{rests, leaves as survives}
 use Rattle.prof_store.proofs.Writing.{as_before}
 use Rattle.sql_tables.proofs.Opens.{ran_open, was_open_if_kept}
 use Rattle.prof_tables.proofs.Writes.{drop_group_writes}

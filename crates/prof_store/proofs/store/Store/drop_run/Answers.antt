@@ -7,8 +7,7 @@ use Rattle.prof_tables.specs.Texts.{drop_run_text}
 use Rattle.prof_tables.specs.Changes.{without_run, has_run}
 use Rattle.prof_tables.proofs.Means.{drop_run_means, drop_run_plain}
 use Rattle.prof_tables.proofs.Drops.{drops_run}
-use Rattle.store_columns.proofs.Effects.{rests}
-use Rattle.store_columns.proofs.Effects.{leaves as survives}
+use Rattle.store_columns.proofs.Effects.{rests, leaves as survives}
 use Rattle.prof_store.proofs.Writing.{as_before}
 use Rattle.sql_tables.proofs.Opens.{ran_open, was_open_if_kept}
 use Rattle.prof_tables.proofs.Writes.{drop_run_writes}

@@ -8,8 +8,7 @@ use Rattle.prof_tables.specs.Texts.{leave_text}
 use Rattle.prof_tables.specs.Changes.{without_member}
 use Rattle.prof_tables.proofs.Means.{leave_means, leave_plain}
 use Rattle.prof_tables.proofs.Groups.{leaves}
-use Rattle.store_columns.proofs.Effects.{rests}
-use Rattle.store_columns.proofs.Effects.{leaves as survives}
+use Rattle.store_columns.proofs.Effects.{rests, leaves as survives}
 use Rattle.prof_store.proofs.Writing.{as_before}
 use Rattle.sql_tables.proofs.Opens.{ran_open, was_open_if_kept}
 use Rattle.prof_tables.proofs.Writes.{leave_writes}

@@ -8,8 +8,7 @@ use Rattle.prof_tables.specs.Texts.{put_group_text}
 use Rattle.prof_tables.specs.Changes.{with_group}
 use Rattle.prof_tables.proofs.Means.{put_group_means, put_group_plain}
 use Rattle.prof_tables.proofs.Rows.{puts_group}
-use Rattle.store_columns.proofs.Effects.{rests}
-use Rattle.store_columns.proofs.Effects.{leaves as survives}
+use Rattle.store_columns.proofs.Effects.{rests, leaves as survives}
 use Rattle.prof_store.proofs.Writing.{as_before}
 use Rattle.sql_tables.proofs.Opens.{ran_open, was_open_if_kept}
 use Rattle.prof_tables.proofs.Writes.{put_group_writes}

@@ -8,8 +8,7 @@ use Rattle.prof_tables.specs.Texts.{put_member_text}
 use Rattle.prof_tables.specs.Changes.{with_member}
 use Rattle.prof_tables.proofs.Means.{put_member_means, put_member_plain}
 use Rattle.prof_tables.proofs.Rows.{puts_member}
-use Rattle.store_columns.proofs.Effects.{rests}
-use Rattle.store_columns.proofs.Effects.{leaves as survives}
+use Rattle.store_columns.proofs.Effects.{rests, leaves as survives}
 use Rattle.prof_store.proofs.Writing.{as_before}
 use Rattle.sql_tables.proofs.Opens.{ran_open, was_open_if_kept}
 use Rattle.prof_tables.proofs.Writes.{put_member_writes}

@@ -8,8 +8,7 @@ use Rattle.prof_tables.specs.Texts.{set_baseline_text}
 use Rattle.prof_tables.specs.Changes.{with_baseline}
 use Rattle.prof_tables.proofs.Means.{set_baseline_means, set_baseline_plain}
 use Rattle.prof_tables.proofs.Groups.{sets_baseline}
-use Rattle.store_columns.proofs.Effects.{rests}
-use Rattle.store_columns.proofs.Effects.{leaves as survives}
+use Rattle.store_columns.proofs.Effects.{rests, leaves as survives}
 use Rattle.prof_store.proofs.Writing.{as_before}
 use Rattle.sql_tables.proofs.Opens.{ran_open, was_open_if_kept}
 use Rattle.prof_tables.proofs.Writes.{set_baseline_writes}

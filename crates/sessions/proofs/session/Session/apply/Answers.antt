@@ -1,6 +1,6 @@
 use Rattle.std.proofs.Common.{sym, subst}
 use Rattle.prof_store.specs.Shown.{IsFaithful, IsUsable}
-use Rattle.run_imports.specs.Answered.{IsAnswered}
+use Rattle.store_histories.specs.Answered.{IsAnswered}
 use Rattle.sessions.proofs.SessionLemmas.{told}
 use Rattle.sessions.proofs.session.Session.apply.Goals as goal
 

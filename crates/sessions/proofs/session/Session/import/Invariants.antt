@@ -1,7 +1,7 @@
 use Rattle.std.proofs.Common.{◌≡◌, List, ◌++◌, drop, map}
 use Rattle.prof_store.specs.Shown.{IsFaithful, IsUsable}
 use Rattle.histories.specs.History.{History, Said}
-use Rattle.run_imports.specs.Answered.{HasHistory}
+use Rattle.store_histories.specs.Answered.{HasHistory}
 use Rattle.sessions.specs.Sessions.{AreImports}
 use Rattle.sessions.proofs.SessionLemmas.{SoFar}
 use Rattle.sessions.proofs.session.Session.import.Given as goal

@@ -1,7 +1,7 @@
 use Rattle.std.proofs.Common.{sym, subst}
 use Rattle.histories.specs.History.{Import}
 use Rattle.prof_store.specs.Shown.{IsFaithful, IsUsable}
-use Rattle.run_imports.specs.Answered.{IsAnswered}
+use Rattle.store_histories.specs.Answered.{IsAnswered}
 use Rattle.sessions.specs.Sessions.{WasTold}
 use Rattle.sessions.proofs.SessionLemmas.{told}
 use Rattle.sessions.proofs.session.Session.import_file.Goals as goal

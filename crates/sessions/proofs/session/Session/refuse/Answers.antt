@@ -1,6 +1,6 @@
 use Rattle.std.proofs.Common.{sym, subst}
 use Rattle.histories.specs.declared.answers.Answer.TheVariants.{Refused}
-use Rattle.run_imports.specs.Answered.{IsAnswered}
+use Rattle.store_histories.specs.Answered.{IsAnswered}
 use Rattle.prof_store.specs.Shown.{IsUsable}
 use Rattle.sessions.proofs.SessionLemmas.{refused, told}
 use Rattle.sessions.proofs.session.Session.refuse.Goals as goal

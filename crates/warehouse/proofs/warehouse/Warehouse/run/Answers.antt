@@ -1,5 +1,5 @@
 use Rattle.std.proofs.Common.{◌≡◌, ◌+◌, ◌++◌, ◌∷◌, [], refl, sym, ap, subst, ◌∙◌, arith, length, append_assoc, append-nil}
-use Rattle.run_imports.specs.Answered.{IsAnswered}
+use Rattle.store_histories.specs.Answered.{IsAnswered}
 use Rattle.warehouse.specs.Answered.{WasRun}
 use Rattle.warehouse.proofs.Runs.{run_nothing, run_on, no_items}
 use Rattle.warehouse.proofs.warehouse.Warehouse.run.Goals as goal

@@ -2,7 +2,7 @@ use Rattle.std.proofs.Common.{◌≡◌, ◌+◌, List, ◌++◌, vec_len, vec_c
 use Rattle.std.specs.VecDeque.{deque_len}
 use Rattle.prof_store.specs.Shown.{IsFaithful, IsUsable}
 use Rattle.histories.specs.History.{History}
-use Rattle.run_imports.specs.Answered.{HasHistory}
+use Rattle.store_histories.specs.Answered.{HasHistory}
 use Rattle.warehouse.specs.Answered.{WasRun}
 use Rattle.warehouse.specs.declared.command.Command as commands
 use Rattle.warehouse.proofs.warehouse.Warehouse.run.Given as goal

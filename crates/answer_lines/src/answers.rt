@@ -1,0 +1,91 @@
+// Answers as they are printed.
+ghost use Rattle.std.specs.Prelude.{◌≡◌, ◌++◌, OnOk, IfOk, codes};
+ghost use Rattle.cg_text.specs.Ends.{end_text};
+ghost use Rattle.cg_text.specs.declared.faults.ReadEnd.TheVariants as ends;
+ghost use Rattle.answer_lines.specs.Answers as told;
+
+use cg_text::{Fault, Items, ReadEnd};
+use histories::{Answer, Excess, Refusal};
+use printed_names::push_escaped;
+use std::alloc::{AllocError, Global};
+
+/// Adds a fault and its line.
+fn push_fault(text: &mut Vec<u8>, alloc: Global, fault: Fault, line: u64) -> Result<(), AllocError>
+    ensures { OnOk result (text.new.items ≡ text.old.items ++ end_text (ends.Fault fault line)) }
+{
+    let reason = ReadEnd::Fault(fault, line).to_string(alloc)?;
+    text.extend_from_slice(reason.as_bytes())?;
+    Ok(())
+}
+
+/// Adds which sum would pass its bound.
+fn push_excess(text: &mut Vec<u8>, excess: &Excess) -> Result<(), AllocError>
+    ensures { OnOk result (text.new.items ≡ text.old.items ++ told.excess_text excess.now) }
+{
+    match excess {
+        Excess::SelfCost(event) => {
+            text.extend_from_slice(b"overflow of self cost ")?;
+            push_escaped(text, event.as_slice())?;
+        }
+        Excess::CallCost(event) => {
+            text.extend_from_slice(b"overflow of call cost ")?;
+            push_escaped(text, event.as_slice())?;
+        }
+        Excess::CallCount => text.extend_from_slice(b"overflow of call count")?,
+    }
+    Ok(())
+}
+
+/// Adds why a command is refused.
+fn push_reason(text: &mut Vec<u8>, alloc: Global, refusal: &Refusal) -> Result<(), AllocError>
+    ensures { OnOk result (text.new.items ≡ text.old.items ++ told.reason_text refusal.now) }
+{
+    let reason = match refusal {
+        Refusal::File(fault, line) => return push_fault(text, alloc, *fault, *line),
+        Refusal::Overflow(excess) => return push_excess(text, excess),
+        Refusal::Memory => "out of memory",
+        Refusal::Store => "store failed",
+        Refusal::ReadFault => "read failed",
+        Refusal::TooLong => "too long",
+        Refusal::Full => "full",
+        Refusal::NumbersSpent => "run numbers spent",
+        Refusal::NoSuchRun => "no such run",
+        Refusal::NoSuchGroup => "no such group",
+        Refusal::GroupTaken => "group exists",
+        Refusal::BadName => "bad name",
+    };
+    text.extend_from_slice(reason.as_bytes())?;
+    Ok(())
+}
+
+/// The line of a refusal.
+fn refusal_line(alloc: Global, refusal: &Refusal) -> Result<Vec<u8>, AllocError>
+    ensures { IfOk result (λ line. line.items ≡ told.line_text (Answer.Refused refusal.now)) }
+{
+    let mut line = Vec::new(alloc);
+    line.extend_from_slice(b"refused: ")?;
+    push_reason(&mut line, alloc, refusal)?;
+    line.push(b'\n')?;
+    Ok(line)
+}
+
+/// What is printed of an answer: one line, or the lines of a text as they are.
+pub fn line_of(alloc: Global, answer: &Answer) -> Result<Items<u8>, AllocError>
+    ensures { IfOk result (λ line. line ≡ told.line_text answer.now) }
+{
+    let line = match answer {
+        Answer::Run(number) => format!(in alloc; "run {number}\n")?.into_bytes(),
+        Answer::Held(number) => format!(in alloc; "held {number}\n")?.into_bytes(),
+        Answer::Done => b"done\n".to_vec(alloc)?,
+        Answer::Text(text) => text.as_slice().to_vec(alloc)?,
+        Answer::Refused(refusal) => refusal_line(alloc, refusal)?,
+    };
+    Ok(Items::from_vec(line))
+}
+
+/// Whether an answer is a refusal.
+pub fn is_refused(answer: &Answer) -> bool
+    ensures { result ≡ told.is_refused answer.now }
+{
+    matches!(answer, Answer::Refused(_))
+}

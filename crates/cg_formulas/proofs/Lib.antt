@@ -1,0 +1,9 @@
+pub mod RepeatLemmas
+pub mod HeldLemmas
+pub mod RowsLemmas
+pub mod FlatLemmas
+pub mod DefineLemmas
+pub mod FlattenLemmas
+pub mod ValueLemmas
+pub mod TermsLemmas
+pub mod FormulaExamples

@@ -1,0 +1,56 @@
+-- Coefficients as the code keeps them, and the values that they give.
+use Rattle.std.specs.Prelude.{◌≡◌, ◌≤◌, ℕ, true, All, length, sum, List, [], ◌∷◌, Option, Some, None, Result, Ok, Err, ⊤, if◌then◌else◌}
+use Rattle.std.specs.List.{list_any}
+use Rattle.std.specs.Map.{lookup}
+use Rattle.std.specs.Str.{bytes_eq}
+use Rattle.cg_formulas.specs.Formulas.{Definition, coefficients, weighed, formula_fault, derived_of}
+use Rattle.cg_text.specs.Distinct.{are_distinct}
+use Rattle.cg_formulas.specs.Definitions.{plain_definition}
+use Rattle.cg_formulas.specs.declared.definitions.Definition as kept
+use Rattle.cg_formulas.specs.declared.flats.Flat.{Flat}
+use Rattle.cg_formulas.specs.declared.flats.FlatEnd.{FlatEnd}
+use Rattle.cg_formulas.specs.declared.flats.FlatEnd.TheVariants.{Fault, Memory}
+
+-- the coefficients of a name, one for each event
+abbrev pub row_of : Flat → List ℕ → Option (List ℕ)
+row_of flat name =
+    if list_any (bytes_eq name) flat.events then Some (coefficients flat.events name [])
+    else lookup (bytes_eq name) flat.derived
+
+-- no event stands twice, and each derived event has a coefficient for each event, which come to 1,000,000 at most
+abbrev pub IsFlat : List (List ℕ) → List (List ℕ × List ℕ) → Type 0
+IsFlat events derived = (are_distinct events ≡ true) × All (λ d. (length d.1 ≡ length events) × (sum d.1 ≤ 1000000)) derived
+
+abbrev pub value_by : Option (List ℕ) → List ℕ → Option ℕ
+value_by None costs = None
+value_by (Some row) costs = Some (weighed row costs)
+
+-- the value of a name: each cost as often as it counts
+abbrev pub flat_value : Flat → List ℕ → List ℕ → Option ℕ
+flat_value flat name costs = value_by (row_of flat name) costs
+
+-- the coefficients of the derived names that some definitions give
+pub record FlatOf (flat : Flat) (names : List (List ℕ)) (back : List Definition) : Type 0 where
+  pub events : flat.events ≡ names
+  pub derived : flat.derived ≡ derived_of names back
+
+-- ---- while definitions are taken one by one
+
+-- the coefficients of definitions without a fault
+pub record Flattens (flat : Flat) (back : List Definition) : Type 0 where
+  pub free : formula_fault flat.events back ≡ None
+  pub derived : flat.derived ≡ derived_of flat.events back
+
+-- one more definition: its coefficients as well, or the first fault
+abbrev pub Defines : Result (Unit {0}) FlatEnd → Flat → kept.Definition → List Definition → Type 0
+Defines (Ok done) flat d back = Flattens flat (plain_definition d ∷ back)
+Defines (Err (Fault fault line)) flat d back = formula_fault flat.events (plain_definition d ∷ back) ≡ Some (fault, line)
+Defines (Err Memory) flat d back = ⊤
+
+-- ---- at the end
+
+-- what definitions come to: coefficients exactly where they have no fault, else the first one, unless memory was refused
+abbrev pub FlatIs : Result Flat FlatEnd → List (List ℕ) → List Definition → Type 0
+FlatIs (Ok flat) events back = (formula_fault events back ≡ None) × FlatOf flat events back
+FlatIs (Err (Fault fault line)) events back = formula_fault events back ≡ Some (fault, line)
+FlatIs (Err Memory) events back = ⊤

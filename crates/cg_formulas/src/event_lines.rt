@@ -1,0 +1,155 @@
+// The values of `event:` lines.
+ghost use Rattle.std.specs.Prelude.{◌≡◌, not, position, take_while, drop};
+ghost use Rattle.std.specs.List.{prefix_len};
+ghost use Rattle.cg_formulas.specs.EventLines.{ends_name, is_plus, term_of, formula_of, is_colon, before_colon, named, event_of};
+ghost use Rattle.cg_formulas.specs.EventViews.{EventIs, ReadIs};
+
+use crate::terms::{ends_name, term};
+use cg_text::{Fault, Items, trim_start};
+use memchr::memchr;
+use std::alloc::{AllocError, Global};
+use std::error::Error;
+use std::fmt;
+
+/// A sum of terms, each a number of times the event of a name.
+#[derive(Drop)]
+pub struct Formula {
+    pub terms: Items<(u64, Items<u8>)>,
+}
+
+/// What an `event:` line says: a name, and the formula that it stands for, if there is one.
+#[derive(Drop)]
+pub struct EventLine {
+    pub name: Items<u8>,
+    pub formula: Option<Formula>,
+}
+
+/// Why an `event:` line is not read: it is out of form, or memory was refused. Printed as
+/// `F16 formula form` or `out of memory`.
+#[derive(Clone, Copy, Debug, PartialEq, Eq)]
+pub enum TextEnd {
+    Fault(Fault),
+    Memory,
+}
+
+impl fmt::Display for TextEnd {
+    ghost use Rattle.std.specs.Prelude.{Some};
+    ghost use Rattle.cg_formulas.specs.Ends.{text_end_text};
+
+    ghost output = { λ end. Some (text_end_text end) };
+
+    fn fmt<W: fmt::Write>(&self, f: &mut fmt::Formatter<W>) -> fmt::Result {
+        match self {
+            TextEnd::Fault(fault) => write!(f, "{fault}"),
+            TextEnd::Memory => write!(f, "out of memory"),
+        }
+    }
+}
+
+impl Error for TextEnd {}
+
+impl From<AllocError> for TextEnd {
+    ghost use Rattle.std.specs.Prelude.{◌≡◌};
+    ghost use Rattle.cg_formulas.specs.declared.event_lines.TextEnd.TheVariants as ends;
+
+    ghost from_gives = { λ _ end. end ≡ ends.Memory };
+
+    fn from(_error: AllocError) -> TextEnd {
+        TextEnd::Memory
+    }
+}
+
+/// Where the first `+` is.
+#[tactic(auto, using(cg_text::proofs::SearchLemmas::search_rules))]
+fn first_plus(text: &[u8]) -> Option<usize>
+    ensures { result ≡ position is_plus text.now }
+{
+    memchr(b'+', text)
+}
+
+/// The term that a text is, with a copy of its name. `FormulaForm` where it is none.
+fn copied_term(alloc: Global, text: &[u8]) -> Result<(u64, Items<u8>), TextEnd>
+    ensures { ReadIs result (term_of text.now) }
+{
+    let (number, name) = term(text).ok_or(TextEnd::Fault(Fault::FormulaForm))?;
+    Ok((number, Items::from_vec(name.to_vec(alloc)?)))
+}
+
+/// The terms that a text joins by `+`. `FormulaForm` where one of them is none.
+fn terms(alloc: Global, text: &[u8]) -> Result<Items<(u64, Items<u8>)>, TextEnd>
+    ensures { ReadIs result (formula_of text.now) }
+{
+    let mut terms = Items::new(alloc);
+    let mut rest = text;
+    while let Some(end) = first_plus(rest) {
+        terms.push(copied_term(alloc, &rest[..end])?)?;
+        rest = &rest[end + 1..];
+    }
+    terms.push(copied_term(alloc, rest)?)?;
+    Ok(terms)
+}
+
+/// Where the first `:` is.
+#[tactic(auto, using(cg_text::proofs::SearchLemmas::search_rules))]
+fn first_colon(text: &[u8]) -> Option<usize>
+    ensures { result ≡ position is_colon text.now }
+{
+    memchr(b':', text)
+}
+
+/// What stands before the first `:`.
+fn before_colon(text: &[u8]) -> &[u8]
+    ensures { result.now ≡ before_colon text.now }
+{
+    match first_colon(text) {
+        Some(end) => &text[..end],
+        None => text,
+    }
+}
+
+/// What a line says by a name and what follows it: nothing, `:` or `=` and a formula. Else
+/// `FormulaForm`.
+fn named(alloc: Global, name: &[u8], rest: &[u8]) -> Result<EventLine, TextEnd>
+    ensures { EventIs result (named name.now rest.now) }
+{
+    let formula = match rest.split_first() {
+        None | Some((b':', _)) => None,
+        Some((b'=', text)) => Some(Formula {
+            terms: terms(alloc, before_colon(text))?,
+        }),
+        Some(_) => return Err(TextEnd::Fault(Fault::FormulaForm)),
+    };
+    let name = Items::from_vec(name.to_vec(alloc)?);
+    Ok(EventLine { name, formula })
+}
+
+/// Where the first byte is that ends a name.
+fn name_end(text: &[u8]) -> Option<usize>
+    ensures { result ≡ position ends_name text.now }
+{
+    text.iter().position(|b| ends_name(*b))
+}
+
+/// The name that a text begins with, and what follows it.
+fn split_name(text: &[u8]) -> (&[u8], &[u8])
+    ensures name { result.0.now ≡ take_while (λ b. not (ends_name b)) text.now }
+    ensures rest { result.1.now ≡ drop (prefix_len (λ b. not (ends_name b)) text.now) text.now }
+{
+    match name_end(text) {
+        Some(end) => (&text[..end], &text[end..]),
+        None => (text, &[]),
+    }
+}
+
+/// What the value of an `event:` line says: a name, then, if there are any, `=` and a formula, and
+/// then, if there is one, `:` and a long name, which is not kept. Else `FormulaForm`.
+#[tactic(auto, unfolding(crate::specs::EventLines::event_of))]
+pub fn event_line(alloc: Global, value: &[u8]) -> Result<EventLine, TextEnd>
+    ensures { EventIs result (event_of value.now) }
+{
+    let (name, rest) = split_name(trim_start(value));
+    if name.is_empty() {
+        return Err(TextEnd::Fault(Fault::FormulaForm));
+    }
+    named(alloc, name, trim_start(rest))
+}

@@ -1,0 +1,241 @@
+// The coefficients of derived events over the events of a file, and their values.
+ghost use Rattle.std.specs.Prelude.{◌≡◌, ◌↔◌, ◌+◌, ◌*◌, ◌<◌, ◌≤◌, ◌^◌, ℕ, All, List, [], true, false, length, sum, position, is_some, IsTrue, IfOk, IfSome};
+ghost use Rattle.std.specs.List.{list_all};
+ghost use Rattle.std.specs.Map.{lookup};
+ghost use Rattle.std.specs.Option.{option_copied};
+ghost use Rattle.std.specs.Str.{bytes_eq};
+ghost use Rattle.cg_formulas.specs.Formulas as specs;
+ghost use Rattle.cg_text.specs.Distinct.{are_distinct};
+ghost use Rattle.cg_formulas.specs.Formulas.{is_known, is_defined, coefficient};
+ghost use Rattle.cg_formulas.specs.Rows.{IsRow, counted};
+
+use crate::definitions::Definition;
+use crate::rows::{add_times, total, weighed};
+use cg_text::{Fault, Items, are_distinct};
+use std::alloc::{AllocError, Global};
+use std::error::Error;
+use std::fmt;
+
+/// How many derived names a file may have.
+pub(crate) const MOST_NAMES: usize = 64;
+
+/// How often all events together may count in a derived event.
+const MOST_COUNTS: u64 = 1_000_000;
+
+/// The derived events of a file, each with one coefficient for each of its events.
+#[derive(Drop)]
+pub struct Flat {
+    /// The names of the events.
+    pub events: Items<Items<u8>>,
+    /// The derived names, each with its coefficients.
+    pub derived: Items<(Items<u8>, Items<u64>)>,
+    ghost distinct: { are_distinct events ≡ true },
+    ghost shape: { All (λ d. length d.1 ≡ length events) derived },
+    ghost small: { All (λ d. sum d.1 ≤ 1000000) derived },
+}
+
+/// Why formulas come to no coefficients: their first fault with its line, or want of memory. Printed
+/// as `line 4: F18 formula too large` or `out of memory`.
+#[derive(Clone, Copy, Debug, PartialEq, Eq)]
+pub enum FlatEnd {
+    Fault(Fault, u64),
+    Memory,
+}
+
+impl fmt::Display for FlatEnd {
+    ghost use Rattle.std.specs.Prelude.{Some};
+    ghost use Rattle.cg_formulas.specs.Ends.{flat_end_text};
+
+    ghost output = { λ end. Some (flat_end_text end) };
+
+    fn fmt<W: fmt::Write>(&self, f: &mut fmt::Formatter<W>) -> fmt::Result {
+        match self {
+            FlatEnd::Fault(fault, line) => write!(f, "line {line}: {fault}"),
+            FlatEnd::Memory => write!(f, "out of memory"),
+        }
+    }
+}
+
+impl Error for FlatEnd {}
+
+impl From<AllocError> for FlatEnd {
+    ghost use Rattle.std.specs.Prelude.{◌≡◌};
+    ghost use Rattle.cg_formulas.specs.declared.flats.FlatEnd.TheVariants as ends;
+
+    ghost from_gives = { λ _ end. end ≡ ends.Memory };
+
+    fn from(_error: AllocError) -> FlatEnd {
+        FlatEnd::Memory
+    }
+}
+
+/// The names, each with its bytes in memory of its own.
+fn copied(alloc: Global, names: &[Items<u8>]) -> Result<Items<Items<u8>>, AllocError>
+    ensures { IfOk result (λ copies. copies ≡ names.now) }
+{
+    let mut copies = Items::new(alloc);
+    for name in names {
+        copies.push(Items::from_vec(name.as_slice().to_vec(alloc)?))?;
+    }
+    Ok(copies)
+}
+
+/// Whether a derived event has one coefficient for each event, and they come to no more than the
+/// most.
+fn is_row(row: &[u64], events: usize) -> bool
+    ensures { IsTrue result ↔ ((length row.now ≡ events) × (sum row.now ≤ 1000000)) }
+{
+    row.len() == events && total(row) <= MOST_COUNTS
+}
+
+/// Whether each derived event has a coefficient for each event, and none comes to more than the most.
+fn are_rows(derived: &[(Items<u8>, Items<u64>)], events: usize) -> bool
+    ensures { IsTrue result ↔ All (λ d. (length d.1 ≡ events) × (sum d.1 ≤ 1000000)) derived.now }
+{
+    derived
+        .iter()
+        .all(|(_, row)| is_row(row.as_slice(), events))
+}
+
+impl Flat {
+    ghost use Rattle.cg_formulas.specs.Flats.{flat_value, Flattens, Defines, IsFlat};
+
+    /// The coefficients that are given, if no event stands twice and each derived event has one for
+    /// each event, which come to 1,000,000 at most. Takes no memory.
+    pub fn of(events: Items<Items<u8>>, derived: Items<(Items<u8>, Items<u64>)>) -> Option<Flat>
+        ensures given { IfSome result (λ flat. (flat.events ≡ events) × (flat.derived ≡ derived)) }
+        ensures which { IsTrue (is_some result) ↔ IsFlat events derived }
+    {
+        if are_distinct(events.as_slice()) && are_rows(derived.as_slice(), events.len()) {
+            Some(Flat { events, derived })
+        } else {
+            None
+        }
+    }
+
+    /// No event is derived yet.
+    pub(crate) fn new(alloc: Global, events: &[Items<u8>]) -> Result<Flat, AllocError>
+        requires { are_distinct events.now ≡ true }
+        ensures events { IfOk result (λ flat. flat.events ≡ events.now) }
+        ensures derived { IfOk result (λ flat. flat.derived ≡ []) }
+    {
+        Ok(Flat {
+            events: copied(alloc, events)?,
+            derived: Items::new(alloc),
+        })
+    }
+
+    /// Where the event of a name is.
+    fn event_at(&self, name: &[u8]) -> Option<usize>
+        ensures { result ≡ position (bytes_eq name.now) self.now.events }
+    {
+        self.events
+            .as_slice()
+            .iter()
+            .position(|event| name == event.as_slice())
+    }
+
+    /// The coefficients of a derived event.
+    fn coefficients(&self, name: &[u8]) -> Option<&[u64]>
+        ensures { option_copied result ≡ lookup (bytes_eq name.now) self.now.derived }
+    {
+        let mut rest = self.derived.as_slice();
+        while let Some(((derived, coefficients), more)) = rest.split_first() {
+            if name == derived.as_slice() {
+                return Some(coefficients.as_slice());
+            }
+            rest = more;
+        }
+        None
+    }
+
+    /// The value of an event or a derived event, where each event has a cost; `None` where the name
+    /// is neither.
+    pub fn value(&self, name: &[u8], costs: &[u64]) -> Option<u128>
+        requires one_each { length costs.now ≡ length self.now.events }
+        requires small { All (λ c. c < 2 ^ 63) costs.now }
+        ensures { result ≡ flat_value self.now name.now costs.now }
+    {
+        if let Some(at) = self.event_at(name) {
+            return Some(u128::from(costs[at]));
+        }
+        let coefficients = self.coefficients(name)?;
+        Some(weighed(coefficients, costs))
+    }
+
+    /// Adds a number of times what a name counts, and answers whether the name is known.
+    fn add_term(&self, row: &mut [u64], number: u64, name: &[u8]) -> bool
+        requires { length row.old ≡ length self.now.events }
+        ensures wide { length row.new ≡ length row.old }
+        ensures known { (back : List specs.Definition) → Flattens self.now back → result ≡ is_known self.now.events back name.now }
+        ensures counts { IsTrue result → (back : List specs.Definition) (count : List ℕ → ℕ) → Flattens self.now back → IsRow row.old self.now.events count
+            → IsRow row.new self.now.events (λ event. count event + number * coefficient event name.now back) }
+    {
+        if let Some(at) = self.event_at(name) {
+            row[at] = row[at].saturating_add(number);
+            return true;
+        }
+        let Some(coefficients) = self.coefficients(name) else {
+            return false;
+        };
+        add_times(row, number, coefficients);
+        true
+    }
+
+    /// Adds what the terms of a formula count, and answers whether their names are known.
+    fn add_terms(&self, row: &mut [u64], terms: &[(u64, Items<u8>)]) -> bool
+        requires { length row.old ≡ length self.now.events }
+        ensures wide { length row.new ≡ length row.old }
+        ensures known { (back : List specs.Definition) → Flattens self.now back → result ≡ list_all (λ t. is_known self.now.events back t.1) terms.now }
+        ensures counts { IsTrue result → (back : List specs.Definition) → Flattens self.now back → IsRow row.old self.now.events (λ _. 0)
+            → IsRow row.new self.now.events (λ event. counted event terms.now back) }
+    {
+        for (number, name) in terms {
+            if !self.add_term(row, *number, name.as_slice()) {
+                return false;
+            }
+        }
+        true
+    }
+
+    /// What the terms of a formula count, or nothing where a name is not known.
+    fn counted(
+        &self,
+        alloc: Global,
+        terms: &[(u64, Items<u8>)],
+    ) -> Result<Option<Vec<u64>>, AllocError>
+        ensures wide { IfOk result (λ r. IfSome r (λ row. length row.items ≡ length self.now.events)) }
+        ensures known { IfOk result (λ r. (back : List specs.Definition) → Flattens self.now back → is_some r ≡ list_all (λ t. is_known self.now.events back t.1) terms.now) }
+        ensures counts { IfOk result (λ r. IfSome r (λ row. (back : List specs.Definition) → Flattens self.now back → IsRow row.items self.now.events (λ event. counted event terms.now back))) }
+    {
+        let mut row = vec![in alloc; 0; self.events.len()]?;
+        if self.add_terms(&mut row, terms) {
+            Ok(Some(row))
+        } else {
+            Ok(None)
+        }
+    }
+
+    /// Adds the derived event of a definition whose name is new, or answers its fault.
+    pub(crate) fn define(&mut self, alloc: Global, definition: &Definition) -> Result<(), FlatEnd>
+        ensures events { self.new.events ≡ self.old.events }
+        ensures defines { (back : List specs.Definition) → Flattens self.old back → is_defined definition.now.name back ≡ false → Defines result self.new definition.now back }
+    {
+        let name = definition.name.as_slice();
+        if self.event_at(name).is_some() {
+            return Err(FlatEnd::Fault(Fault::EventTwice, definition.line));
+        }
+        if self.derived.len() >= MOST_NAMES {
+            return Err(FlatEnd::Fault(Fault::TooManyEvents, definition.line));
+        }
+        let Some(row) = self.counted(alloc, definition.formula.terms.as_slice())? else {
+            return Err(FlatEnd::Fault(Fault::FormulaUnknown, definition.line));
+        };
+        if total(&row) > MOST_COUNTS {
+            return Err(FlatEnd::Fault(Fault::FormulaTooLarge, definition.line));
+        }
+        let name = Items::from_vec(name.to_vec(alloc)?);
+        self.derived.push((name, Items::from_vec(row)))?;
+        Ok(())
+    }
+}

@@ -1,0 +1,114 @@
+// The formulas of `event:` lines, until the events are known.
+ghost use Rattle.std.specs.Prelude.{◌≡◌, List, [], true, false, not, OnOk, OnErr, IfSome, IfNone};
+ghost use Rattle.cg_formulas.specs.Formulas as specs;
+ghost use Rattle.cg_formulas.specs.Formulas.{define, is_defined, is_changed, same_terms};
+ghost use Rattle.cg_text.specs.Distinct.{are_distinct};
+ghost use Rattle.cg_formulas.specs.EventViews.{plain_event};
+ghost use Rattle.cg_formulas.specs.Flats.{FlatIs};
+
+use crate::definitions::Definition;
+use crate::event_lines::EventLine;
+use crate::flats::{Flat, FlatEnd, MOST_NAMES};
+use cg_text::{Fault, Items};
+use std::alloc::{AllocError, Global};
+
+/// The formulas of `event:` lines. What is kept does not grow with lines that say again what was said.
+#[derive(Drop)]
+pub struct Formulas {
+    alloc: Global,
+    /// The first definition of each name, up to the first name too many.
+    definitions: Items<Definition>,
+    /// The first line that gives a name other terms than before.
+    changed: Option<u64>,
+}
+
+/// Whether two formulas have the same terms in the same order.
+fn same_terms(terms: &[(u64, Items<u8>)], others: &[(u64, Items<u8>)]) -> bool
+    ensures { result ≡ same_terms terms.now others.now }
+{
+    let mut left = terms;
+    let mut right = others;
+    while let Some(((number, name), terms)) = left.split_first() {
+        let Some(((other_number, other_name), others)) = right.split_first() else {
+            return false;
+        };
+        if number != other_number || name.as_slice() != other_name.as_slice() {
+            return false;
+        }
+        left = terms;
+        right = others;
+    }
+    right.is_empty()
+}
+
+impl Formulas {
+    ghost use Rattle.cg_formulas.specs.Held.{Holds, kept_of};
+
+    /// No line was read.
+    pub fn new(alloc: Global) -> Formulas
+        ensures { Holds result [] }
+    {
+        Formulas {
+            alloc,
+            definitions: Items::new(alloc),
+            changed: None,
+        }
+    }
+
+    /// The nearest definition of a name.
+    fn find(&self, name: &[u8]) -> Option<&Definition>
+        ensures none { IfNone result (is_defined name.now (kept_of self.now) ≡ false) }
+        ensures some { IfSome result (λ _. is_defined name.now (kept_of self.now) ≡ true) }
+        ensures terms { IfSome result (λ e. (d : specs.Definition) → d.name ≡ name.now → is_changed d (kept_of self.now) ≡ not (same_terms e.now.formula.terms d.terms)) }
+    {
+        let mut rest = self.definitions.as_slice();
+        while let Some((last, front)) = rest.split_last() {
+            if name == last.name.as_slice() {
+                return Some(last);
+            }
+            rest = front;
+        }
+        None
+    }
+
+    /// Takes an `event:` line; where memory is refused, nothing changes.
+    pub fn add(&mut self, line: u64, event: EventLine) -> Result<(), AllocError>
+        ensures ok { OnOk result ((back : List specs.Definition) → Holds self.old back → Holds self.new (define line (plain_event event) back)) }
+        ensures err { OnErr result (self.new ≡ self.old) }
+    {
+        let EventLine { name, formula } = event;
+        let Some(formula) = formula else {
+            return Ok(());
+        };
+        if self.changed.is_some() || self.definitions.len() > MOST_NAMES {
+            return Ok(());
+        }
+        let Some(earlier) = self.find(name.as_slice()) else {
+            return self.definitions.push(Definition {
+                line,
+                name,
+                formula,
+            });
+        };
+        if !same_terms(earlier.formula.terms.as_slice(), formula.terms.as_slice()) {
+            self.changed = Some(line);
+        }
+        Ok(())
+    }
+
+    /// The coefficients of the derived events over the events of a file, or the first fault of the
+    /// formulas with its line.
+    pub fn flatten(&self, events: &[Items<u8>]) -> Result<Flat, FlatEnd>
+        requires { are_distinct events.now ≡ true }
+        ensures { (back : List specs.Definition) → Holds self.now back → FlatIs result events.now back }
+    {
+        let mut flat = Flat::new(self.alloc, events)?;
+        for definition in self.definitions.as_slice() {
+            flat.define(self.alloc, definition)?;
+        }
+        match self.changed {
+            Some(line) => Err(FlatEnd::Fault(Fault::EventTwice, line)),
+            None => Ok(flat),
+        }
+    }
+}

@@ -1,5 +1,0 @@
-use Rattle.cg_text.proofs.ValueLemmas.{values-both}
-use Rattle.cg_text.proofs.laws.values_add_up.Goals as goal
-
-pub returns : goal.returns
-returns c = values-both

@@ -1,7 +1,0 @@
-use Rattle.std.proofs.Common.{◌≡◌, take, sum}
-use Rattle.cg_text.specs.Rows.{capped}
-use Rattle.cg_text.proofs.rows.total.Given as goal
-
--- the sum of the numbers so far
-abbrev pub invariant-loop-n : goal.invariant-loop-n
-invariant-loop-n l = l.total ≡ capped (sum (take l.n-index l.row))

@@ -1,8 +1,0 @@
--- The kinds of runs by number.
-use Rattle.std.specs.Prelude.{ℕ}
-use Rattle.prof_books.specs.declared.kinds.Kind.{Kind}
-use Rattle.prof_books.specs.declared.kinds.Kind.TheVariants.{Callgrind, Folded}
-
-abbrev pub kind_number : Kind → ℕ
-kind_number Callgrind = 1
-kind_number Folded = 2

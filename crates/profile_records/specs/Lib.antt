@@ -1,0 +1,5 @@
+pub mod Records
+pub mod Lent
+pub mod Stacks
+pub mod Frames
+pub mod Kinds

@@ -1,0 +1,77 @@
+// What takes the records of a file.
+ghost use Rattle.std.specs.Prelude.{◌≡◌, ℕ, ◌<◌, ◌^◌, OnOk, OnErr, IfSome, Option, Some, length, All};
+
+use std::alloc::AllocError;
+
+/// A cost line's own costs, one for each event, and where they belong. Names are bytes.
+#[derive(Clone, Copy)]
+pub struct SelfCost<'a> {
+    /// The number of the line in its file, from 1.
+    pub at: u64,
+    pub object: &'a [u8],
+    pub file: &'a [u8],
+    pub function: &'a [u8],
+    /// The source line, 0 where none is known.
+    pub line: u64,
+    pub costs: &'a [u64],
+}
+
+/// The inclusive costs of some calls, one for each event, where they were made, and whom they called.
+#[derive(Clone, Copy)]
+pub struct CallCost<'a> {
+    /// The number of the cost line in its file, from 1.
+    pub at: u64,
+    pub object: &'a [u8],
+    pub file: &'a [u8],
+    pub function: &'a [u8],
+    /// The source line of the call, 0 where none is known.
+    pub line: u64,
+    pub called_object: &'a [u8],
+    pub called_file: &'a [u8],
+    pub called_function: &'a [u8],
+    /// How many calls there were.
+    pub count: u64,
+    pub costs: &'a [u64],
+}
+
+/// Takes the records of a file, in the order of its lines. A refusal leaves its meaning as it was.
+pub trait Sink {
+    ghost use Rattle.profile_records.specs.Records.{Record};
+    ghost use Rattle.profile_records.specs.Lent.{own, called};
+
+    /// What a sink can mean.
+    ghost Meaning: { Type 0 };
+
+    /// What the sink means.
+    ghost meaning: { Self → Meaning };
+
+    /// What a record makes of a meaning.
+    ghost step: { Meaning → Record → Meaning };
+
+    /// The number of the last record's line, 0 before the first.
+    ghost last: { Self → ℕ };
+
+    /// How many costs each record has, unknown before the first.
+    ghost width: { Self → Option ℕ };
+
+    /// Takes a self record.
+    fn self_cost(&mut self, r: SelfCost<'_>) -> Result<(), AllocError>
+        requires rises { last self.old < r.at }
+        requires wide { IfSome (width self.old) (λ n. length r.costs.now ≡ n) }
+        requires small { All (λ c. c < 2 ^ 63) r.costs.now }
+        ensures ok { OnOk result (meaning self.new ≡ step (meaning self.old) (own r.entry)) }
+        ensures last { OnOk result (last self.new ≡ r.entry.at) }
+        ensures width { OnOk result (width self.new ≡ Some (length r.entry.costs.now)) }
+        ensures err { OnErr result (meaning self.new ≡ meaning self.old) };
+
+    /// Takes a call record.
+    fn call(&mut self, r: CallCost<'_>) -> Result<(), AllocError>
+        requires rises { last self.old < r.at }
+        requires wide { IfSome (width self.old) (λ n. length r.costs.now ≡ n) }
+        requires small { All (λ c. c < 2 ^ 63) r.costs.now }
+        requires count { r.count < 2 ^ 63 }
+        ensures ok { OnOk result (meaning self.new ≡ step (meaning self.old) (called r.entry)) }
+        ensures last { OnOk result (last self.new ≡ r.entry.at) }
+        ensures width { OnOk result (width self.new ≡ Some (length r.entry.costs.now)) }
+        ensures err { OnErr result (meaning self.new ≡ meaning self.old) };
+}

@@ -1,0 +1,8 @@
+//! The files that the program is told of: the store at a path, and the files that are imported.
+#![tactic(auto)]
+
+mod sources;
+mod stores;
+
+pub use sources::FileSource;
+pub use stores::{StoreFile, end_line, store_at};

@@ -1,0 +1,53 @@
+-- What is due to removals and changes of groups.
+use Rattle.std.proofs.Common.{◌≡◌, ℕ, Bool, true, false, not, nat_le, List, [], ◌∷◌, length, Some, refl, ap, ap₂, ◌∙◌}
+use Rattle.prof_tables.specs.Tables.{Tables}
+use Rattle.histories.specs.History.{History, Remove, MakeGroup, DropGroup, groups}
+use Rattle.histories.specs.Legal.{IsInForm, IsLegal, due, when, first_or, has_run, has_group}
+use Rattle.histories.specs.Stands.{TablesTell}
+use Rattle.histories.specs.declared.answers.Answer.{Answer}
+use Rattle.histories.specs.declared.answers.Answer.TheVariants as answers
+use Rattle.histories.specs.declared.answers.Refusal.TheVariants as reasons
+use Rattle.histories.specs.declared.limits.Limits.{Limits}
+use Rattle.histories.proofs.Steps.{tell_joined, tell_left, tell_based}
+use Rattle.store_histories.specs.Answered.{with_turn}
+use Rattle.store_histories.specs.Refusals.{missing_of, refused_or}
+use Rattle.store_commands.specs.Changes.{changed, said_of}
+use Rattle.store_commands.specs.declared.changes.Change.{Change}
+use Rattle.store_commands.specs.declared.changes.Change.TheVariants as change
+
+module _ (limits : Limits) (h : History) where
+  pub remove_due : (n : ℕ) (b : Bool) → has_run h n ≡ b → due limits h (Remove n) ≡ Some (first_or (when (not b) (answers.Refused reasons.NoSuchRun) ∷ []) answers.Done)
+  remove_due n b is = ap (λ x. Some (first_or (when (not x) (answers.Refused reasons.NoSuchRun) ∷ []) answers.Done)) is
+
+  pub drop_due : (name : List ℕ) (b : Bool) → has_group h name ≡ b → due limits h (DropGroup name) ≡ Some (first_or (when (not b) (answers.Refused reasons.NoSuchGroup) ∷ []) answers.Done)
+  drop_due name b is = ap (λ x. Some (first_or (when (not x) (answers.Refused reasons.NoSuchGroup) ∷ []) answers.Done)) is
+
+  pub make_due : (name : List ℕ) (b full : Bool) → has_group h name ≡ b → nat_le limits.groups (length (groups h)) ≡ full
+      → due limits h (MakeGroup name) ≡ Some (first_or (when b (answers.Refused reasons.GroupTaken) ∷ when full (answers.Refused reasons.Full) ∷ []) answers.Done)
+  make_due name b full is many = ap₂ (λ x y. Some (first_or (when x (answers.Refused reasons.GroupTaken) ∷ when y (answers.Refused reasons.Full) ∷ []) answers.Done)) is many
+
+  abbrev missing : Bool → Bool → Answer
+  missing b c = first_or (when (not b) (answers.Refused reasons.NoSuchGroup) ∷ when (not c) (answers.Refused reasons.NoSuchRun) ∷ []) answers.Done
+
+  pub change_due : (c : Change) (name : List ℕ) (n : ℕ) (group run : Bool) → has_group h name ≡ group → has_run h n ≡ run → due limits h (said_of c name n) ≡ Some (refused_or (missing_of group run) answers.Done)
+  change_due c name n group run is there = go c ∙ ap₂ (λ x y. Some (missing x y)) is there ∙ same group run
+    where
+      go : (c : Change) → due limits h (said_of c name n) ≡ Some (missing (has_group h name) (has_run h n))
+      go change.Join = refl
+      go change.Leave = refl
+      go change.SetBaseline = refl
+
+      same : (group run : Bool) → Some (missing group run) ≡ Some (refused_or (missing_of group run) answers.Done)
+      same false run = refl
+      same true false = refl
+      same true true = refl
+
+pub change_form : (c : Change) (name : List ℕ) (n : ℕ) → IsInForm (said_of c name n)
+change_form change.Join name n = tt
+change_form change.Leave name n = tt
+change_form change.SetBaseline name n = tt
+
+pub tell_changed : (limits : Limits) (h : History) (c : Change) (name : List ℕ) (n : ℕ) (t : Tables) → TablesTell h t → IsLegal limits h (said_of c name n) answers.Done → TablesTell (with_turn h (said_of c name n) answers.Done) (changed c name n t)
+tell_changed limits h change.Join name n t tells legal = tell_joined limits h name n t tells legal
+tell_changed limits h change.Leave name n t tells legal = tell_left limits h name n t tells legal
+tell_changed limits h change.SetBaseline name n t tells legal = tell_based limits h name n t tells legal

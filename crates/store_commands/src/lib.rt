@@ -1,0 +1,10 @@
+//! Commands over a store that read no file: runs are removed, groups are made, changed and dropped, and
+//! what is held is listed.
+#![tactic(auto)]
+
+mod answering;
+mod changes;
+mod lists;
+
+pub use answering::{ask_in, change_in, drop_in, make_in, remove_in};
+pub use changes::Change;

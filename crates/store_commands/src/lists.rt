@@ -1,0 +1,167 @@
+// The texts of lists.
+ghost use Rattle.std.specs.Prelude.{◌≡◌, ◌++◌, flat_map, codes, string_bytes, IfOk, OnOk, OnErr};
+ghost use Rattle.std.specs.Fmt.{decimal};
+ghost use Rattle.prof_store.specs.Shown.{IsFaithful, IsUsable, StandsFor, LeavesOnly};
+ghost use Rattle.histories.specs.History.{History, Ask};
+ghost use Rattle.histories.specs.Texts as texts;
+ghost use Rattle.histories.specs.declared.limits.Limits.{Limits};
+ghost use Rattle.store_histories.specs.Answered.{StandsForHistory, WasDue, IsAccepted, Follows};
+ghost use Rattle.store_commands.specs.Lists.{entry_line, group_entry_line};
+
+use cg_text::Items;
+use histories::{Answer, Query};
+use prof_store::{GroupEntry, RunEntry, Store, StoreEnd};
+use profile_records::Kind;
+use sqlite::Alter;
+use std::alloc::{AllocError, Global};
+
+fn kind_text(kind: Kind) -> &'static str
+    ensures { result.now ≡ texts.kind_text kind }
+{
+    match kind {
+        Kind::Callgrind => "callgrind",
+        Kind::Folded => "folded",
+    }
+}
+
+/// Adds the line of a run.
+fn push_run(text: &mut Vec<u8>, alloc: Global, run: &RunEntry) -> Result<(), AllocError>
+    ensures { OnOk result (text.new.items ≡ text.old.items ++ entry_line run.now) }
+{
+    let number = run.number;
+    let kind = kind_text(run.kind);
+    let digest = hex::encode(alloc, run.digest.as_slice())?;
+    let label = run.label.as_str();
+    let line = format!(in alloc; "{number} {kind} {digest} {label}\n")?;
+    text.extend_from_slice(line.as_bytes())?;
+    Ok(())
+}
+
+/// The runs, a line for each.
+fn runs_text(alloc: Global, runs: &[RunEntry]) -> Result<Items<u8>, AllocError>
+    ensures { IfOk result (λ text. text ≡ flat_map entry_line runs.now) }
+{
+    let mut text = Vec::new(alloc);
+    for run in runs {
+        push_run(&mut text, alloc, run)?;
+    }
+    Ok(Items::from_vec(text))
+}
+
+/// Adds a number behind a comma.
+fn push_next(text: &mut Vec<u8>, alloc: Global, member: u32) -> Result<(), AllocError>
+    ensures { OnOk result (text.new.items ≡ text.old.items ++ (codes "," ++ decimal member)) }
+{
+    let number = format!(in alloc; ",{member}")?;
+    text.extend_from_slice(number.as_bytes())?;
+    Ok(())
+}
+
+/// Adds numbers, a comma before each.
+fn push_more(text: &mut Vec<u8>, alloc: Global, members: &[u32]) -> Result<(), AllocError>
+    ensures { OnOk result (text.new.items ≡ text.old.items ++ texts.more_text members.now) }
+{
+    for member in members {
+        push_next(text, alloc, *member)?;
+    }
+    Ok(())
+}
+
+/// Adds the members of a group.
+fn push_members(text: &mut Vec<u8>, alloc: Global, members: &[u32]) -> Result<(), AllocError>
+    ensures { OnOk result (text.new.items ≡ text.old.items ++ texts.members_text members.now) }
+{
+    match members.split_first() {
+        None => {
+            text.extend_from_slice(b"-")?;
+            Ok(())
+        }
+        Some((first, more)) => {
+            let number = format!(in alloc; "{first}")?;
+            text.extend_from_slice(number.as_bytes())?;
+            push_more(text, alloc, more)
+        }
+    }
+}
+
+/// The baseline of a group.
+fn baseline_text(alloc: Global, baseline: Option<u32>) -> Result<String, AllocError>
+    ensures { IfOk result (λ text. string_bytes text ≡ texts.baseline_text baseline) }
+{
+    match baseline {
+        Some(number) => format!(in alloc; "{number}"),
+        None => format!(in alloc; "-"),
+    }
+}
+
+/// Adds the line of a group.
+fn push_group(text: &mut Vec<u8>, alloc: Global, group: &GroupEntry) -> Result<(), AllocError>
+    ensures { OnOk result (text.new.items ≡ text.old.items ++ group_entry_line group.now) }
+{
+    text.extend_from_slice(group.name.as_bytes())?;
+    let baseline = baseline_text(alloc, group.baseline)?;
+    let between = format!(in alloc; " {baseline} ")?;
+    text.extend_from_slice(between.as_bytes())?;
+    push_members(text, alloc, group.members.as_slice())?;
+    text.extend_from_slice(b"\n")?;
+    Ok(())
+}
+
+/// The groups, a line for each.
+fn groups_text(alloc: Global, groups: &[GroupEntry]) -> Result<Items<u8>, AllocError>
+    ensures { IfOk result (λ text. text ≡ flat_map group_entry_line groups.now) }
+{
+    let mut text = Vec::new(alloc);
+    for group in groups {
+        push_group(&mut text, alloc, group)?;
+    }
+    Ok(Items::from_vec(text))
+}
+
+/// The list of the runs that are held.
+fn list_runs<S: Alter>(store: &mut Store<S>, alloc: Global) -> Result<Items<u8>, StoreEnd>
+    ensures told { IsFaithful S.Store store.new → (h : History) → StandsForHistory S.Store h store.old → IfOk result (λ text. text ≡ texts.runs_text h) }
+    ensures stays { IsFaithful S.Store store.new → (t : _) → StandsFor S.Store t store.old → OnOk result (StandsFor S.Store t store.new) }
+    ensures kept { IsFaithful S.Store store.new → (t : _) → StandsFor S.Store t store.old → OnErr result (IsUsable S.Store store.new → StandsFor S.Store t store.new) }
+    ensures crash { IsFaithful S.Store store.new → (t : _) → StandsFor S.Store t store.old → LeavesOnly S.Store store.old store.new (λ _. ⊥) }
+    ensures answers { IsFaithful S.Store store.new → OnOk result (IsUsable S.Store store.new) }
+    ensures was_usable { IsFaithful S.Store store.new → IsUsable S.Store store.new → IsUsable S.Store store.old }
+    ensures honest { IsFaithful S.Store store.new → IsFaithful S.Store store.old }
+{
+    let runs = store.runs(alloc)?;
+    Ok(runs_text(alloc, &runs)?)
+}
+
+/// The list of the groups.
+fn list_groups<S: Alter>(store: &mut Store<S>, alloc: Global) -> Result<Items<u8>, StoreEnd>
+    ensures told { IsFaithful S.Store store.new → (h : History) → StandsForHistory S.Store h store.old → IfOk result (λ text. text ≡ texts.groups_text h) }
+    ensures stays { IsFaithful S.Store store.new → (t : _) → StandsFor S.Store t store.old → OnOk result (StandsFor S.Store t store.new) }
+    ensures kept { IsFaithful S.Store store.new → (t : _) → StandsFor S.Store t store.old → OnErr result (IsUsable S.Store store.new → StandsFor S.Store t store.new) }
+    ensures crash { IsFaithful S.Store store.new → (t : _) → StandsFor S.Store t store.old → LeavesOnly S.Store store.old store.new (λ _. ⊥) }
+    ensures answers { IsFaithful S.Store store.new → OnOk result (IsUsable S.Store store.new) }
+    ensures was_usable { IsFaithful S.Store store.new → IsUsable S.Store store.new → IsUsable S.Store store.old }
+    ensures honest { IsFaithful S.Store store.new → IsFaithful S.Store store.old }
+{
+    let groups = store.groups(alloc)?;
+    Ok(groups_text(alloc, &groups)?)
+}
+
+/// Answers a question.
+pub(crate) fn ask<S: Alter>(
+    store: &mut Store<S>,
+    alloc: Global,
+    query: Query,
+) -> Result<Answer, StoreEnd>
+    ensures answered { IsFaithful S.Store store.new → (limits : Limits) (h : History) → StandsForHistory S.Store h store.old → IfOk result (λ answer. WasDue S.Store limits h (Ask query) answer store.new) }
+    ensures kept { IsFaithful S.Store store.new → (t : _) → StandsFor S.Store t store.old → OnErr result (IsUsable S.Store store.new → StandsFor S.Store t store.new) }
+    ensures same { IsFaithful S.Store store.new → (t : _) → StandsFor S.Store t store.old → IfOk result (λ answer. (IsAccepted answer → ⊥) → StandsFor S.Store t store.new) }
+    ensures crash { IsFaithful S.Store store.new → (limits : Limits) (h : History) → StandsForHistory S.Store h store.old → LeavesOnly S.Store store.old store.new (Follows limits h (Ask query)) }
+    ensures answers { IsFaithful S.Store store.new → OnOk result (IsUsable S.Store store.new) }
+    ensures was_usable { IsFaithful S.Store store.new → IsUsable S.Store store.new → IsUsable S.Store store.old }
+    ensures honest { IsFaithful S.Store store.new → IsFaithful S.Store store.old }
+{
+    match query {
+        Query::Runs => Ok(Answer::Text(list_runs(store, alloc)?)),
+        Query::Groups => Ok(Answer::Text(list_groups(store, alloc)?)),
+    }
+}

@@ -1,0 +1,2 @@
+pub mod Due
+pub mod Settled

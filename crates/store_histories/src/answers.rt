@@ -1,0 +1,17 @@
+// Answers of want.
+ghost use Rattle.std.specs.Prelude.{◌≡◌};
+ghost use Rattle.store_histories.specs.Answered.{answer_for};
+
+use histories::{Answer, Refusal};
+use prof_store::StoreEnd;
+
+/// The answer that is due, or the refusal for want of memory or of the store.
+pub fn answer_of(outcome: Result<Answer, StoreEnd>) -> Answer
+    ensures { result ≡ answer_for outcome }
+{
+    match outcome {
+        Ok(answer) => answer,
+        Err(StoreEnd::Memory) => Answer::Refused(Refusal::Memory),
+        Err(StoreEnd::Store) => Answer::Refused(Refusal::Store),
+    }
+}

@@ -1,0 +1,2 @@
+pub mod TextsLemmas
+pub mod TextExamples

@@ -1,5 +1,0 @@
-use Rattle.warehouse.proofs.Names.{group_utf8}
-use Rattle.warehouse.proofs.changes.group_name.Goals as goal
-
-pub returns-in-Err : goal.returns-in-Err
-returns-in-Err c named = c.in-Err.ensures.cases.0 (group_utf8 c.args.bytes.now named)

@@ -1,6 +1,0 @@
-use Rattle.std.proofs.Common.{◌≡◌, ◌++◌, drop, flat_map}
-use Rattle.warehouse.specs.Lists.{entry_line}
-use Rattle.warehouse.proofs.lists.runs_text.Given as goal
-
-abbrev pub invariant-loop-run : goal.invariant-loop-run
-invariant-loop-run l = l.text.items ++ flat_map entry_line (drop l.run-index l.runs) ≡ flat_map entry_line l.runs
