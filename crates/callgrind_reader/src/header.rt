@@ -14,8 +14,8 @@ use crate::headers::{form_of, positions_fault, version_fault};
 use crate::layouts::Layout;
 use crate::rows::push_amounts;
 use crate::totals::Sums;
-use cg_text::{Fault, HeaderKey, Items, ReadEnd};
 use cg_formulas::{FileHead, FlatEnd, Formulas, TextEnd, event_line};
+use cg_text::{Fault, HeaderKey, Items, ReadEnd};
 use std::alloc::{AllocError, Global};
 
 /// What is known of a file's header.

@@ -13,8 +13,8 @@ use crate::records::{merge_call, merge_own};
 use crate::rows::FileTotals;
 use crate::totals::{total_arcs, total_cells, total_count};
 use crate::walks::{ArcWalk, CellWalk, StackWalk};
-use profile_records::{CallCost, SelfCost, Sink};
 use cg_text::Items;
+use profile_records::{CallCost, SelfCost, Sink};
 use std::alloc::{AllocError, Global};
 use std::collections::BTreeMap;
 

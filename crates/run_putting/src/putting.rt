@@ -12,10 +12,8 @@ ghost use Rattle.store_columns.specs.Lines.{event_line, derived_line, coef_line,
 ghost use Rattle.store_columns.specs.Steps.{Passes, Makes, IsAbove, IsUndone};
 
 use cost_rows::FileRows;
-use run_rows::{
-    number_names, put_all_derived, put_arcs, put_cells, put_coefs, put_events, put_line_of_run,
-    put_stacks, raise_next,
-};
+use run_heads::{put_all_derived, put_coefs, put_events, put_line_of_run, raise_next};
+use run_rows::{number_names, put_arcs, put_cells, put_stacks};
 use sqlite::{Alter, Connection, Transaction};
 use std::alloc::Global;
 use store_columns::{HeadLines, RunLine, StoreEnd, end_of};

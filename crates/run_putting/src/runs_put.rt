@@ -12,12 +12,12 @@ ghost use Rattle.prof_store.specs.Shown.{IsFaithful, IsUsable, StandsFor, IsSett
 use crate::putting::put_in;
 use cg_formulas::FileHead;
 use cost_rows::FileRows;
-use profile_records::Kind;
 use prof_store::Store;
-use run_rows::{head_lines, whole_of};
+use profile_records::Kind;
+use run_heads::head_lines;
 use sqlite::Alter;
 use std::alloc::Global;
-use store_columns::{RunLine, StoreEnd, number_of_kind};
+use store_columns::{RunLine, StoreEnd, number_of_kind, whole_of};
 
 /// Puts a file under a number, which is the next run's.
 fn put_numbered<S: Alter>(

@@ -5,7 +5,7 @@ ghost use Rattle.run_rows.specs.FromRows.{place_of_cell, call_of_arc, line_of_st
 ghost use Rattle.store_columns.specs.Lines.{cell_line, arc_line, stack_line};
 
 use cost_rows::{ArcRow, CellRow, StackRow};
-use store_columns::{ArcLine, CellLine, StackLine, Whole};
+use store_columns::{ArcLine, CellLine, StackLine, Whole, small_of, whole_of};
 
 /// The table's number of a name that the file has under a number of its own.
 fn number_of(numbers: &[u32], name: u32) -> Option<u32>
@@ -14,26 +14,6 @@ fn number_of(numbers: &[u32], name: u32) -> Option<u32>
     match numbers.get(name as usize) {
         Some(number) => Some(*number),
         None => None,
-    }
-}
-
-/// A sum that a column can hold.
-pub fn whole_of(sum: u128) -> Option<Whole>
-    ensures { IfSome result (λ w. w ≡ sum) }
-{
-    match u64::try_from(sum) {
-        Ok(number) => Whole::of(number),
-        Err(_) => None,
-    }
-}
-
-/// A number of 32 bits.
-pub fn small_of(number: usize) -> Option<u32>
-    ensures { IfSome result (λ n. n ≡ number) }
-{
-    match u32::try_from(number) {
-        Ok(small) => Some(small),
-        Err(_) => None,
     }
 }
 

@@ -18,4 +18,4 @@ pub use labels::{digest_at, is_group_name, is_label, label_at};
 pub use lines::{
     ArcLine, CellLine, CoefLine, DerivedLine, EventLine, HeadLines, HeldStack, RunLine, StackLine,
 };
-pub use whole::Whole;
+pub use whole::{Whole, small_of, whole_of};

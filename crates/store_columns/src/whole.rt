@@ -40,6 +40,26 @@ impl Whole {
     }
 }
 
+/// A sum that a column can hold.
+pub fn whole_of(sum: u128) -> Option<Whole>
+    ensures { IfSome result (λ w. w ≡ sum) }
+{
+    match u64::try_from(sum) {
+        Ok(number) => Whole::of(number),
+        Err(_) => None,
+    }
+}
+
+/// A number of 32 bits.
+pub fn small_of(number: usize) -> Option<u32>
+    ensures { IfSome result (λ n. n ≡ number) }
+{
+    match u32::try_from(number) {
+        Ok(small) => Some(small),
+        Err(_) => None,
+    }
+}
+
 impl<'a> ToSql<'a> for &'a Whole {
     ghost use Rattle.std.specs.Prelude.{pos};
     ghost use Rattle.sqlite_value.specs.declared.value.Value.TheVariants.{Int};

@@ -7,7 +7,7 @@ use Rattle.prof_tables.specs.Tables.{RunLine}
 use Rattle.prof_books.specs.Files.{with_rows, with_head}
 use Rattle.store_columns.specs.Lines.{run_line, event_line, derived_line, coef_line}
 use Rattle.store_columns.specs.Steps.{IsAbove}
-use Rattle.run_rows.proofs.Parts.{makes_then}
+use Rattle.store_columns.proofs.Parts.{makes_then}
 use Rattle.run_putting.proofs.putting.fill_run.Goals as goal
 
 pub returns-clause-done : goal.returns-clause-done

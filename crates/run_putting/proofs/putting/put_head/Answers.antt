@@ -7,7 +7,7 @@ use Rattle.prof_tables.specs.Changes.{with_next, with_run, with_events, with_der
 use Rattle.prof_books.specs.Files.{with_head}
 use Rattle.store_columns.specs.Lines.{run_line, event_line, derived_line, coef_line}
 use Rattle.store_columns.specs.Steps.{IsAbove, IsNext}
-use Rattle.run_rows.proofs.Parts.{makes_then, makes_same, makes_asking}
+use Rattle.store_columns.proofs.Parts.{makes_then, makes_same, makes_asking}
 use Rattle.run_putting.proofs.putting.put_head.Goals as goal
 
 pub returns-clause-made : goal.returns-clause-made

@@ -5,7 +5,7 @@ use Rattle.cost_rows.specs.Rows.{content_of}
 use Rattle.prof_tables.specs.Changes.{with_cells, with_arcs, with_stacks}
 use Rattle.prof_tables.specs.Files.{all_named, numbers_in}
 use Rattle.prof_books.specs.Files.{cell_lines, arc_lines, stack_lines, with_rows}
-use Rattle.run_rows.proofs.Parts.{clean_before, makes_then, makes_same}
+use Rattle.store_columns.proofs.Parts.{clean_before, makes_then, makes_same}
 use Rattle.run_putting.proofs.putting.put_rows.Goals as goal
 
 pub returns-clause-made : goal.returns-clause-made

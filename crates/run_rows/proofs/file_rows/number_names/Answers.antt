@@ -6,7 +6,7 @@ use Rattle.sqlite.specs.Held.{state}
 use Rattle.prof_tables.specs.Changes.{named}
 use Rattle.prof_tables.specs.Files.{all_named, numbers_in}
 use Rattle.prof_tables.proofs.Numbering.{one_named, numbers_more}
-use Rattle.run_rows.proofs.Parts.{passes_then, makes_then, makes_same, clean_before}
+use Rattle.store_columns.proofs.Parts.{passes_then, makes_then, makes_same, clean_before}
 use Rattle.run_rows.proofs.file_rows.number_names.Goals as goal
 
 pub names-preserved : goal.names-preserved

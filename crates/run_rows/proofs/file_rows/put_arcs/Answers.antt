@@ -11,7 +11,7 @@ use Rattle.prof_tables.specs.Changes.{with_arcs}
 use Rattle.store_columns.specs.Lines.{arc_line}
 use Rattle.run_rows.specs.Queues.{Queues}
 use Rattle.store_columns.specs.Steps.{Makes}
-use Rattle.run_rows.proofs.Parts.{passes_none, passes_then, no_arcs, arcs_then}
+use Rattle.store_columns.proofs.Parts.{passes_none, passes_then, no_arcs, arcs_then}
 use Rattle.run_rows.proofs.ManyLines.{queues_then, queues_end}
 use Rattle.run_rows.proofs.RowLines.{lines_of_arc, lines_of_arcs, arcs_more, arcs_are}
 use Rattle.run_rows.proofs.file_rows.put_arcs.Goals as goal

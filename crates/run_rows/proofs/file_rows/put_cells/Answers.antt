@@ -10,7 +10,7 @@ use Rattle.prof_tables.specs.Changes.{with_cells}
 use Rattle.store_columns.specs.Lines.{cell_line}
 use Rattle.run_rows.specs.Queues.{Queues}
 use Rattle.store_columns.specs.Steps.{Makes}
-use Rattle.run_rows.proofs.Parts.{passes_none, passes_then, no_cells, cells_then}
+use Rattle.store_columns.proofs.Parts.{passes_none, passes_then, no_cells, cells_then}
 use Rattle.run_rows.proofs.ManyLines.{queues_then, queues_end}
 use Rattle.run_rows.proofs.RowLines.{line_of_cell, cells_are}
 use Rattle.run_rows.proofs.file_rows.put_cells.Goals as goal

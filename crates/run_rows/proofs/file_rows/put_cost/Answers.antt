@@ -6,7 +6,7 @@ use Rattle.prof_books.specs.Files.{arc_line_of}
 use Rattle.run_rows.specs.FromRows.{call_of_arc}
 use Rattle.run_rows.specs.Queues.{Queues}
 use Rattle.store_columns.specs.Lines.{arc_line}
-use Rattle.run_rows.proofs.Parts.{no_arcs}
+use Rattle.store_columns.proofs.Parts.{no_arcs}
 use Rattle.run_rows.proofs.ManyLines.{queues_none}
 use Rattle.run_rows.proofs.file_rows.put_cost.Goals as goal
 

@@ -6,7 +6,7 @@ use Rattle.prof_books.specs.Files.{arc_line_of, arc_lines_from}
 use Rattle.run_rows.specs.FromRows.{call_of_arc}
 use Rattle.store_columns.specs.Lines.{arc_line}
 use Rattle.run_rows.specs.Queues.{Queues}
-use Rattle.run_rows.proofs.Parts.{passes_then, arcs_then}
+use Rattle.store_columns.proofs.Parts.{passes_then, arcs_then}
 use Rattle.run_rows.proofs.ManyLines.{queues_then}
 use Rattle.run_rows.proofs.RowLines.{parts_more}
 use Rattle.run_rows.proofs.file_rows.put_parts.Goals as goal

@@ -11,7 +11,7 @@ use Rattle.prof_tables.specs.Changes.{with_stacks}
 use Rattle.store_columns.specs.Lines.{stack_line}
 use Rattle.run_rows.specs.Queues.{Queues}
 use Rattle.store_columns.specs.Steps.{Makes}
-use Rattle.run_rows.proofs.Parts.{passes_none, passes_then, no_stacks, stacks_then}
+use Rattle.store_columns.proofs.Parts.{passes_none, passes_then, no_stacks, stacks_then}
 use Rattle.run_rows.proofs.ManyLines.{queues_then, queues_end}
 use Rattle.run_rows.proofs.RowLines.{plain_line_of_stack, stacks_are}
 use Rattle.run_rows.proofs.file_rows.put_stacks.Goals as goal

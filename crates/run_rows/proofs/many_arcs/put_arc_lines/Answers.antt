@@ -6,7 +6,7 @@ use Rattle.sql_tables.proofs.Rows.{map-append}
 use Rattle.prof_tables.specs.Changes.{with_arcs}
 use Rattle.store_columns.specs.Lines.{arc_line}
 use Rattle.store_columns.specs.Steps.{Makes}
-use Rattle.run_rows.proofs.Parts.{passes_then, arcs_then}
+use Rattle.store_columns.proofs.Parts.{passes_then, arcs_then}
 use Rattle.run_rows.proofs.many_arcs.put_arc_lines.Goals as goal
 
 pub arcs-preserved : goal.arcs-preserved

@@ -6,7 +6,7 @@ use Rattle.sql_tables.proofs.Rows.{map-append}
 use Rattle.prof_tables.specs.Changes.{with_cells}
 use Rattle.store_columns.specs.Lines.{cell_line}
 use Rattle.store_columns.specs.Steps.{Makes}
-use Rattle.run_rows.proofs.Parts.{passes_then, cells_then}
+use Rattle.store_columns.proofs.Parts.{passes_then, cells_then}
 use Rattle.run_rows.proofs.many_cells.put_cell_lines.Goals as goal
 
 pub cells-preserved : goal.cells-preserved

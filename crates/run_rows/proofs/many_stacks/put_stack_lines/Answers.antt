@@ -6,7 +6,7 @@ use Rattle.sql_tables.proofs.Rows.{map-append}
 use Rattle.prof_tables.specs.Changes.{with_stacks}
 use Rattle.store_columns.specs.Lines.{stack_line}
 use Rattle.store_columns.specs.Steps.{Makes}
-use Rattle.run_rows.proofs.Parts.{passes_then, stacks_then}
+use Rattle.store_columns.proofs.Parts.{passes_then, stacks_then}
 use Rattle.run_rows.proofs.many_stacks.put_stack_lines.Goals as goal
 
 pub stacks-preserved : goal.stacks-preserved

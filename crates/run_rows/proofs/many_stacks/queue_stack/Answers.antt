@@ -2,7 +2,7 @@ use Rattle.std.proofs.Common.{[], ◌∷◌, ◌++◌, not, if◌then◌else◌,
 use Rattle.sqlite.specs.Held.{state}
 use Rattle.prof_tables.specs.Changes.{with_stacks}
 use Rattle.store_columns.specs.Lines.{stack_line}
-use Rattle.run_rows.proofs.Parts.{no_stacks}
+use Rattle.store_columns.proofs.Parts.{no_stacks}
 use Rattle.run_rows.proofs.ManyLines.{queues_waiting}
 use Rattle.run_rows.proofs.many_stacks.queue_stack.Goals as goal
 

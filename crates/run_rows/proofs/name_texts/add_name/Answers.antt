@@ -1,7 +1,7 @@
 use Rattle.std.proofs.Common.{◌∙◌, sym}
 use Rattle.std.specs.Bool.{⊤}
 use Rattle.prof_tables.specs.Changes.{with_new_name}
-use Rattle.run_rows.proofs.Parts.{makes_then, clean_before}
+use Rattle.store_columns.proofs.Parts.{makes_then, clean_before}
 use Rattle.run_rows.proofs.Finding.{is_held}
 use Rattle.run_rows.proofs.name_texts.add_name.Goals as goal
 

@@ -5,7 +5,7 @@ use Rattle.sqlite_exec.proofs.MarkLemmas.{if_ok_then}
 use Rattle.prof_tables.specs.Texts.{id_of_name_text}
 use Rattle.prof_tables.proofs.Means.{id_of_name_plain}
 use Rattle.store_columns.specs.Names.{ShowsFirst}
-use Rattle.run_rows.proofs.Parts.{shown_kept, fails_kept, shown_makes}
+use Rattle.store_columns.proofs.Parts.{shown_kept, fails_kept, shown_makes}
 use Rattle.run_rows.proofs.Finding.{finds}
 use Rattle.run_rows.proofs.name_texts.find_name.Goals as goal
 

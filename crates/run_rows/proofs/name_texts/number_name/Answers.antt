@@ -5,7 +5,7 @@ use Rattle.prof_tables.specs.Tables.{Tables}
 use Rattle.prof_tables.specs.Changes.{named, with_new_name}
 use Rattle.prof_tables.specs.Files.{number_in}
 use Rattle.prof_tables.proofs.Numbering.{named_held, named_new}
-use Rattle.run_rows.proofs.Parts.{makes_then, makes_same, clean_before}
+use Rattle.store_columns.proofs.Parts.{makes_then, makes_same, clean_before}
 use Rattle.run_rows.proofs.Finding.{is_held, not_held}
 use Rattle.run_rows.proofs.name_texts.number_name.Goals as goal
 
