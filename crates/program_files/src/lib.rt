@@ -5,4 +5,4 @@ mod sources;
 mod stores;
 
 pub use sources::FileSource;
-pub use stores::{StoreFile, end_line, store_at};
+pub use stores::{StoreFile, close_store, end_line, store_at};

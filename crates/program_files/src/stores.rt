@@ -5,6 +5,8 @@ ghost use Rattle.program_files.specs.Stores.{store_text};
 
 use prof_store::{OpenEnd, Store, StoreEnd};
 use sqlite::{Connection, Error, ErrorCode, File, FileStore};
+use sqlite_disk::Disk;
+use std::alloc::Global;
 use std::fs;
 use std::io::ErrorKind;
 use std::rt::HostRuntime;
@@ -33,8 +35,11 @@ fn length_at(rt: &HostRuntime, path: &str) -> Result<u64, OpenEnd> {
 }
 
 /// A new store over a database. One that is refused is closed.
-fn new_store(rt: &HostRuntime, conn: Connection<StoreFile>) -> Result<Store<StoreFile>, OpenEnd> {
-    match Store::create(rt.alloc(), conn) {
+fn new_store<D: Disk + Drop>(
+    alloc: Global,
+    conn: Connection<FileStore<D>>,
+) -> Result<Store<FileStore<D>>, OpenEnd> {
+    match Store::create(alloc, conn) {
         Ok(store) => Ok(store),
         Err((end, conn)) => {
             let _closed = conn.close();
@@ -44,8 +49,11 @@ fn new_store(rt: &HostRuntime, conn: Connection<StoreFile>) -> Result<Store<Stor
 }
 
 /// The store that a database holds. One that is refused is closed.
-fn old_store(rt: &HostRuntime, conn: Connection<StoreFile>) -> Result<Store<StoreFile>, OpenEnd> {
-    match Store::open(rt.alloc(), conn) {
+fn old_store<D: Disk + Drop>(
+    alloc: Global,
+    conn: Connection<FileStore<D>>,
+) -> Result<Store<FileStore<D>>, OpenEnd> {
+    match Store::open(alloc, conn) {
         Ok(store) => Ok(store),
         Err((end, conn)) => {
             let _closed = conn.close();
@@ -65,10 +73,16 @@ pub fn store_at(rt: &HostRuntime, path: &str) -> Result<Store<StoreFile>, OpenEn
     }
     let conn = Connection::open(rt, path).map_err(end_of_open)?;
     if length == 0 {
-        new_store(rt, conn)
+        new_store(rt.alloc(), conn)
     } else {
-        old_store(rt, conn)
+        old_store(rt.alloc(), conn)
     }
+}
+
+/// Closes a store. What was committed is copied from the log into the file; where that fails, it stands
+/// in the log, and the next opening finds it there. No clause: it hands nothing back.
+pub fn close_store<D: Disk + Drop>(store: Store<FileStore<D>>) {
+    let _closed = store.into_connection().close();
 }
 
 /// The line of a store that is not opened.

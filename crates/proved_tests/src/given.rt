@@ -1,18 +1,14 @@
 // A file whose reads are given by hand.
 ghost use Rattle.std.specs.Prelude.{◌≤◌, length, IfSome};
 
-use std::io;
-use std::io::{ErrorKind, Read};
 use warehouse::{ReadFault, Source};
 
-/// Gives the bytes that are left, at most `most` at a time; each read after `sound` of them fails in
-/// this way.
+/// Gives the bytes that are left, at most `most` at a time; each read after `sound` of them fails.
 #[derive(Drop)]
 pub(crate) struct Given {
     pub(crate) left: &'static [u8],
     pub(crate) most: usize,
     pub(crate) sound: u64,
-    pub(crate) failure: ErrorKind,
 }
 
 impl Given {
@@ -22,7 +18,6 @@ impl Given {
             left,
             most,
             sound: u64::MAX,
-            failure: ErrorKind::Other,
         }
     }
 
@@ -43,29 +38,5 @@ impl Source for Given {
 
     fn read(&mut self, buf: &mut [u8]) -> Result<usize, ReadFault> {
         self.give(buf).ok_or(ReadFault)
-    }
-}
-
-impl Read for Given {
-    fn read(&mut self, buf: &mut [u8]) -> io::Result<usize> {
-        match self.give(buf) {
-            Some(count) => Ok(count),
-            None => Err(io::Error::from(self.failure)),
-        }
-    }
-}
-
-/// Gives an empty line at each read, and never ends.
-#[derive(Drop)]
-pub(crate) struct Endless;
-
-impl Source for Endless {
-    ghost comes = { λ from outcome to. Unit {0} };
-
-    fn read(&mut self, buf: &mut [u8]) -> Result<usize, ReadFault> {
-        if let Some(first) = buf.first_mut() {
-            *first = b'\n';
-        }
-        Ok(1)
     }
 }

@@ -1,10 +1,9 @@
-// Imports of sources that give little, fail or never end, and into a warehouse of small limits.
-use crate::given::{Endless, Given};
+// Imports into a warehouse of small limits.
+use crate::given::Given;
 use crate::stores::empty;
 use prof_store::StoreEnd;
 use sqlite::MemStore;
 use std::alloc::Global;
-use std::io::ErrorKind;
 use std::test::Fail;
 use warehouse::{Answer, Command, Kind, Limits, Refusal, Source, Warehouse};
 
@@ -66,34 +65,8 @@ fn a_file_has_at_most_so_many_bytes(rt: HostRuntime) -> Result<(), Fail> {
             left: SMALL,
             most,
             sound,
-            failure: ErrorKind::Other,
         };
         assert_eq!(rt; import(&mut house, rt.alloc(), source), wanted);
-    }
-    Ok(())
-}
-
-/// Each read fails in turn; nothing is held then, and no number is spent.
-#[test]
-fn a_read_fails(rt: HostRuntime) -> Result<(), Fail> {
-    let mut house = small_house(rt.alloc(), 1000)?;
-    assert_eq!(rt; import(&mut house, rt.alloc(), Endless), "too long");
-    for (sound, wanted) in [
-        (0, "read failed"),
-        (1, "read failed"),
-        (2, "read failed"),
-        (3, "read failed"),
-        (4, "run 1"),
-        (3, "read failed"),
-        (4, "held 1"),
-    ] {
-        let source = Given {
-            left: SMALL,
-            most: 5,
-            sound,
-            failure: ErrorKind::Interrupted,
-        };
-        assert_eq!(rt; import(&mut house, rt.alloc(), source), wanted, "{sound}");
     }
     Ok(())
 }

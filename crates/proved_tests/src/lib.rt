@@ -2,8 +2,6 @@
 #![tactic(auto)]
 
 #[cfg(test)]
-mod folded_cuts;
-#[cfg(test)]
 mod given;
 #[cfg(test)]
 mod imports;
@@ -11,7 +9,5 @@ mod imports;
 mod lines;
 #[cfg(test)]
 mod stores;
-#[cfg(test)]
-mod totals;
 #[cfg(test)]
 mod walks;

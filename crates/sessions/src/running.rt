@@ -3,12 +3,14 @@ use crate::session::{GroupChange, Session, Work};
 use command_line::Plan;
 use file_totals::{TotalText, total_file};
 use histories::{Limits, Query};
-use program_files::{end_line, store_at};
+use prof_store::{OpenEnd, Store};
+use program_files::{close_store, end_line, store_at};
+use sqlite::Alter;
 use std::alloc::AllocError;
 use std::io;
 use std::io::Write;
 use std::process::ExitCode;
-use std::rt::HostRuntime;
+use std::rt::{Files, HostRuntime};
 use warehouse::Warehouse;
 
 /// Prints the line of a refusal. No clause: of what is printed the checker knows nothing.
@@ -30,25 +32,40 @@ fn print_total<R: Print>(rt: &R, total: Result<TotalText, AllocError>) -> io::Re
     })
 }
 
-/// Does a work over the store at a path. At the end what was committed is copied from the log into the
-/// file; where that fails, it stands in the log. No clause: which history the store at a path has, the
-/// checker does not know; `Session::run` says what is done over a store of any history, and which status
-/// comes of it.
-fn run_over<'a>(rt: &'a HostRuntime, db: &str, work: Work<'a>) -> io::Result<ExitCode> {
-    let store = match store_at(rt, db) {
-        Ok(store) => store,
-        Err(end) => {
-            println!(rt; "{}", end_line(end))?;
-            return Ok(ExitCode::FAILURE);
-        }
-    };
+/// Does a work over an opened store. It hands back whether its answers were printed, the status that
+/// they come to, and the store. No clause yet: `Session::run`, of which it is one call, has them.
+fn work_over<'a, R: Files + AllocGlobal, W: Write + Drop, S: Alter>(
+    rt: &'a R,
+    out: W,
+    store: Store<S>,
+    work: Work<'a>,
+) -> (io::Result<()>, u8, Store<S>) {
     let warehouse = Warehouse::new(store, Limits::standard());
-    let mut session = Session::new(rt, io::writer(rt), warehouse);
+    let mut session = Session::new(rt, out, warehouse);
     let ended = session.run(work);
     let (status, warehouse) = session.finish();
-    let _closed = warehouse.into_store().into_connection().close();
-    ended?;
-    Ok(ExitCode::from(status))
+    (ended, status, warehouse.into_store())
+}
+
+/// Prints why a store was not opened.
+fn print_unopened<R: Print>(rt: &R, end: OpenEnd) -> io::Result<ExitCode> {
+    println!(rt; "{}", end_line(end))?;
+    Ok(ExitCode::FAILURE)
+}
+
+/// Does a work over the store at a path. No clause: which history the store at a path has, the checker
+/// does not know; `Session::run` says what is done over a store of any history, and which status comes
+/// of it.
+fn run_over<'a>(rt: &'a HostRuntime, db: &str, work: Work<'a>) -> io::Result<ExitCode> {
+    match store_at(rt, db) {
+        Ok(store) => {
+            let (ended, status, store) = work_over(rt, io::writer(rt), store, work);
+            close_store(store);
+            ended?;
+            Ok(ExitCode::from(status))
+        }
+        Err(end) => print_unopened(rt, end),
+    }
 }
 
 /// Does a change of a group.
