@@ -47,7 +47,7 @@ fn work_over<'a, R: Files + AllocGlobal, W: Write + Drop, S: Alter>(
     (ended, status, warehouse.into_store())
 }
 
-/// Prints why a store was not opened.
+/// Prints why a store was not opened. No clause: of what is printed the checker knows nothing.
 fn print_unopened<R: Print>(rt: &R, end: OpenEnd) -> io::Result<ExitCode> {
     println!(rt; "{}", end_line(end))?;
     Ok(ExitCode::FAILURE)
