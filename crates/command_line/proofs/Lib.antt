@@ -1,2 +1,3 @@
 pub mod PlansLemmas
 pub mod CommandLemmas
+mod GrammarLemmas

@@ -49,6 +49,9 @@ group = with_rule (with_rule (over_database (codes "group")) (flag (codes "drop"
 abbrev pub wants_subcommand : App → App
 wants_subcommand = on_top (λ s. record s { subcommand_required = true })
 
+abbrev pub program : App
+program = wants_subcommand (new_app (codes "profhouse"))
+
 abbrev pub with_files : App → App
 with_files a = with_subcommand (with_subcommand (with_subcommand a total.top) import.top) remove.top
 
@@ -61,4 +64,4 @@ with_members a =
     (over_group_and_run (codes "baseline")).top
 
 abbrev pub command_line : App
-command_line = with_members (with_lists (with_files (wants_subcommand (new_app (codes "profhouse")))))
+command_line = with_members (with_lists (with_files program))

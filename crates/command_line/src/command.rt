@@ -1,14 +1,15 @@
 // From the words of a command line to a plan.
-ghost use Rattle.std.specs.Prelude.{◌≡◌, [], codes, map, string_bytes, IfOk, IfErr, IfSome};
-ghost use Rattle.clap.specs.Words.{fault_of, found_of, rows_of, subcommand_of};
+ghost use Rattle.std.specs.Prelude.{◌≡◌, false, [], codes, map, string_bytes, IfOk, IfErr, IfSome};
+ghost use Rattle.clap.specs.Words.{app_of, fault_of, found_of, rows_of, subcommand_of, subcommand_rows_of};
+ghost use Rattle.clap.specs.declared.builder.command.Command.TheViews.{out-Command as fields_of};
 ghost use Rattle.command_line.specs.Grammar.{command_line};
 ghost use Rattle.command_line.specs.Plans.{HasWord, HasRun, IsRunNumber, IsSound, IsPlanOf, IsPlanFor, IsEndOf};
 
 use crate::grammar::grammar;
 use crate::plans::{Plan, PlanEnd};
 use crate::words::{files, is_given, run, runs, word};
-use clap::ArgMatches;
 use clap::error::ErrorKind;
+use clap::{ArgMatches, Command};
 use profile_records::Kind;
 use std::alloc::{AllocError, Global};
 
@@ -126,6 +127,41 @@ fn plan_of<'a>(
     over_database(alloc, name, words)
 }
 
+/// The plan for what was found of the words, where that is of a subcommand.
+fn plan_found<'a>(
+    alloc: Global,
+    matches: &ArgMatches<'a>,
+) -> Result<Option<Plan<'a>>, AllocError>
+    ensures sound { IfOk result (λ found. IfSome found IsSound) }
+    ensures plan { IfOk result (λ found. IfSome found (IsPlanFor (subcommand_rows_of matches.now))) }
+{
+    match matches.subcommand() {
+        Some((name, words)) => plan_of(alloc, name, words),
+        None => Ok(None),
+    }
+}
+
+/// The plan for the words of a command line, by the grammar that the program reads.
+fn plan_by<'a>(
+    alloc: Global,
+    grammar: &mut Command<'a>,
+    words: &'a [String],
+) -> Result<Plan<'a>, PlanEnd>
+    requires grammar { app_of grammar.old ≡ command_line }
+    requires local { (fields_of grammar.old).has_globals ≡ false }
+    ensures sound { IfOk result IsSound }
+    ensures plan { IfOk result (IsPlanFor (subcommand_of command_line (map string_bytes words.now))) }
+    ensures faultless { IfOk result (λ _. fault_of command_line (map string_bytes words.now) ≡ []) }
+    ensures fault { IfErr result (IsEndOf (fault_of command_line (map string_bytes words.now))) }
+{
+    let matches = grammar.try_get_matches_from_mut(words)?;
+    if let Some(plan) = plan_found(alloc, &matches)? {
+        return Ok(plan);
+    }
+    let error = grammar.error(ErrorKind::MissingSubcommand, "a subcommand is required")?;
+    Err(PlanEnd::Clap(error))
+}
+
 /// The plan for the words of a command line, of which the first is the program's name.
 pub fn plan<'a>(alloc: Global, words: &'a [String]) -> Result<Plan<'a>, PlanEnd>
     ensures sound { IfOk result IsSound }
@@ -134,12 +170,5 @@ pub fn plan<'a>(alloc: Global, words: &'a [String]) -> Result<Plan<'a>, PlanEnd>
     ensures fault { IfErr result (IsEndOf (fault_of command_line (map string_bytes words.now))) }
 {
     let mut grammar = grammar(alloc)?;
-    let matches = grammar.try_get_matches_from_mut(words)?;
-    if let Some((name, words)) = matches.subcommand() {
-        if let Some(plan) = plan_of(alloc, name, words)? {
-            return Ok(plan);
-        }
-    }
-    let error = grammar.error(ErrorKind::MissingSubcommand, "a subcommand is required")?;
-    Err(PlanEnd::Clap(error))
+    plan_by(alloc, &mut grammar, words)
 }

@@ -1,6 +1,6 @@
 // The grammar of the command line.
-ghost use Rattle.std.specs.Prelude.{◌≡◌, false, codes, IfOk};
-ghost use Rattle.clap.specs.Words.{app_of, rule_of};
+ghost use Rattle.std.specs.Prelude.{◌≡◌, false, codes, IfOk, IsOkAnd};
+ghost use Rattle.clap.specs.Words.{app_of, rule_of, with_subcommand};
 ghost use Rattle.clap.specs.declared.builder.command.Command.TheViews.{out-Command as fields_of};
 ghost use Rattle.command_line.specs.Grammar as line;
 
@@ -97,10 +97,9 @@ fn import<'a>(alloc: Global) -> Result<Command<'a>, AllocError>
     ensures app { IfOk result (λ command. app_of command ≡ line.import) }
     ensures local { IfOk result (λ command. (fields_of command).has_globals ≡ false) }
 {
-    let files = operand(alloc, "FILE", "The files, each a run of its own");
     over_database(alloc, "import", "Take in files")?
         .arg(flag(alloc, "folded", "The files hold folded stacks"))?
-        .arg(several(files))
+        .arg(several(operand(alloc, "FILE", "The files, each a run of its own")))
 }
 
 fn remove<'a>(alloc: Global) -> Result<Command<'a>, AllocError>
@@ -119,16 +118,31 @@ fn group<'a>(alloc: Global) -> Result<Command<'a>, AllocError>
         .arg(operand(alloc, "NAME", "The name of the group"))
 }
 
+/// A command with one more subcommand, where there was memory to make that. What was made of it is
+/// handed on, so that no caller holds a command while another is made: each `?` where one has to be
+/// let go costs a proof of its own.
+fn with<'a>(
+    command: Command<'a>,
+    made: Result<Command<'a>, AllocError>,
+) -> Result<Command<'a>, AllocError>
+    requires local { (fields_of command).has_globals ≡ false }
+    requires more_local { IfOk made (λ more. (fields_of more).has_globals ≡ false) }
+    ensures app { IfOk result (λ all. IsOkAnd made.entry (λ more. app_of all ≡ with_subcommand (app_of command.entry) (app_of more).top)) }
+    ensures local { IfOk result (λ all. (fields_of all).has_globals ≡ false) }
+{
+    let more = made?;
+    command.subcommand(more)
+}
+
 /// With the subcommands on files and runs.
 fn with_files<'a>(alloc: Global, command: Command<'a>) -> Result<Command<'a>, AllocError>
     requires { (fields_of command).has_globals ≡ false }
     ensures app { IfOk result (λ more. app_of more ≡ line.with_files (app_of command.entry)) }
     ensures local { IfOk result (λ more. (fields_of more).has_globals ≡ false) }
 {
-    command
-        .subcommand(total(alloc)?)?
-        .subcommand(import(alloc)?)?
-        .subcommand(remove(alloc)?)
+    let command = with(command, total(alloc))?;
+    let command = with(command, import(alloc))?;
+    with(command, remove(alloc))
 }
 
 /// With the lists, and the subcommand on a group.
@@ -137,10 +151,9 @@ fn with_lists<'a>(alloc: Global, command: Command<'a>) -> Result<Command<'a>, Al
     ensures app { IfOk result (λ more. app_of more ≡ line.with_lists (app_of command.entry)) }
     ensures local { IfOk result (λ more. (fields_of more).has_globals ≡ false) }
 {
-    command
-        .subcommand(over_database(alloc, "runs", "List the runs")?)?
-        .subcommand(over_database(alloc, "groups", "List the groups")?)?
-        .subcommand(group(alloc)?)
+    let command = with(command, over_database(alloc, "runs", "List the runs"))?;
+    let command = with(command, over_database(alloc, "groups", "List the groups"))?;
+    with(command, group(alloc))
 }
 
 /// With the subcommands on a run and a group.
@@ -149,13 +162,22 @@ fn with_members<'a>(alloc: Global, command: Command<'a>) -> Result<Command<'a>, 
     ensures app { IfOk result (λ more. app_of more ≡ line.with_members (app_of command.entry)) }
     ensures local { IfOk result (λ more. (fields_of more).has_globals ≡ false) }
 {
-    let join = over_group_and_run(alloc, "join", "Let a run join a group")?;
-    let leave = over_group_and_run(alloc, "leave", "Let a run leave a group")?;
-    let baseline = over_group_and_run(alloc, "baseline", "Make a run the baseline of a group")?;
-    command
-        .subcommand(join)?
-        .subcommand(leave)?
-        .subcommand(baseline)
+    let join = over_group_and_run(alloc, "join", "Let a run join a group");
+    let command = with(command, join)?;
+    let leave = over_group_and_run(alloc, "leave", "Let a run leave a group");
+    let command = with(command, leave)?;
+    let baseline = over_group_and_run(alloc, "baseline", "Make a run the baseline of a group");
+    with(command, baseline)
+}
+
+/// The program's own command, with no subcommand yet.
+fn program<'a>(alloc: Global) -> Command<'a>
+    ensures app { app_of result ≡ line.program }
+    ensures local { (fields_of result).has_globals ≡ false }
+{
+    Command::new(alloc, "profhouse")
+        .about("A warehouse of run profiles whose every figure is exact")
+        .subcommand_required(true)
 }
 
 /// The command line that the program reads.
@@ -163,10 +185,7 @@ pub fn grammar<'a>(alloc: Global) -> Result<Command<'a>, AllocError>
     ensures app { IfOk result (λ command. app_of command ≡ line.command_line) }
     ensures local { IfOk result (λ command. (fields_of command).has_globals ≡ false) }
 {
-    let command = Command::new(alloc, "profhouse")
-        .about("A warehouse of run profiles whose every figure is exact")
-        .subcommand_required(true);
-    let command = with_files(alloc, command)?;
+    let command = with_files(alloc, program(alloc))?;
     let command = with_lists(alloc, command)?;
     with_members(alloc, command)
 }
