@@ -5,4 +5,4 @@ mod sources;
 mod stores;
 
 pub use sources::FileSource;
-pub use stores::{StoreFile, close_store, end_line, store_at};
+pub use stores::{StoreFile, database_at, end_line, is_new_at, store_in};

@@ -1,17 +1,21 @@
 // The store at a path.
-ghost use Rattle.std.specs.Prelude.{◌≡◌};
+ghost use Rattle.std.specs.Prelude.{◌≡◌, true, false, IfOk};
+ghost use Rattle.sqlite.specs.Held.{state};
+ghost use Rattle.sql_tables.specs.States.{IsBlank, Rests};
+ghost use Rattle.prof_tables.specs.Schema.{empty_schema, schema_one};
+ghost use Rattle.prof_tables.specs.Tables.{Holds, new_tables};
+ghost use Rattle.prof_store.specs.Shown.{IsFaithful, StandsFor};
 ghost use Rattle.store_columns.specs.Ends.{end_for, opening};
 ghost use Rattle.program_files.specs.Stores.{store_text};
 
-use prof_store::{OpenEnd, Store, StoreEnd};
-use sqlite::{Connection, Error, ErrorCode, File, FileStore};
-use sqlite_disk::Disk;
+use prof_store::{OpenEnd, Store};
+use sqlite::{Alter, Connection, Error, ErrorCode, File, FileStore};
 use std::alloc::Global;
 use std::fs;
 use std::io::ErrorKind;
 use std::rt::HostRuntime;
 
-/// A store in a file.
+/// What a database in a file is kept in.
 pub type StoreFile = FileStore<File>;
 
 /// Why the database is not opened.
@@ -34,55 +38,39 @@ fn length_at(rt: &HostRuntime, path: &str) -> Result<u64, OpenEnd> {
     }
 }
 
-/// A new store over a database. One that is refused is closed.
-fn new_store<D: Disk + Drop>(
+/// Whether a path is to become a new store: where there is no file, or an empty one. A file of one byte is
+/// no store, and is not opened: the database would take it for a new one that a stop left half made, and
+/// write over it. No clause: of the files at a path the checker knows nothing.
+pub fn is_new_at(rt: &HostRuntime, path: &str) -> Result<bool, OpenEnd> {
+    match length_at(rt, path)? {
+        0 => Ok(true),
+        1 => Err(OpenEnd::WrongSchema),
+        _ => Ok(false),
+    }
+}
+
+/// The database at a path, opened. No clause: of the files at a path the checker knows nothing.
+pub fn database_at(rt: &HostRuntime, path: &str) -> Result<Connection<StoreFile>, OpenEnd> {
+    Connection::open(rt, path).map_err(end_of_open)
+}
+
+/// The store of a database: a new one where it is to become one, else the one that it holds. A refusal
+/// hands the connection back.
+pub fn store_in<S: Alter>(
     alloc: Global,
-    conn: Connection<FileStore<D>>,
-) -> Result<Store<FileStore<D>>, OpenEnd> {
+    conn: Connection<S>,
+    is_new: bool,
+) -> Result<Store<S>, (OpenEnd, Connection<S>)>
+    ensures made { is_new ≡ true → IfOk result (λ store. IsFaithful S.Store store → IsBlank empty_schema (state S.Store conn) → StandsFor S.Store new_tables store) }
+    ensures taken_up { is_new ≡ false → IfOk result (λ store. IsFaithful S.Store store → (t : _) → Rests schema_one (Holds t) (state S.Store conn) → StandsFor S.Store t store) }
+{
+    if !is_new {
+        return Store::open(alloc, conn);
+    }
     match Store::create(alloc, conn) {
         Ok(store) => Ok(store),
-        Err((end, conn)) => {
-            let _closed = conn.close();
-            Err(OpenEnd::from(end))
-        }
+        Err((end, conn)) => Err((OpenEnd::from(end), conn)),
     }
-}
-
-/// The store that a database holds. One that is refused is closed.
-fn old_store<D: Disk + Drop>(
-    alloc: Global,
-    conn: Connection<FileStore<D>>,
-) -> Result<Store<FileStore<D>>, OpenEnd> {
-    match Store::open(alloc, conn) {
-        Ok(store) => Ok(store),
-        Err((end, conn)) => {
-            let _closed = conn.close();
-            Err(end)
-        }
-    }
-}
-
-/// The store at a path: a new one where there is no file or an empty one, else the one that is there.
-/// A file of one byte is none, and is not opened: the database would take it for a new one that a stop
-/// left half made, and write over it. No clause: of the files at a path the checker knows nothing;
-/// `Store::create` and `Store::open` say what is made of a database.
-pub fn store_at(rt: &HostRuntime, path: &str) -> Result<Store<StoreFile>, OpenEnd> {
-    let length = length_at(rt, path)?;
-    if length == 1 {
-        return Err(OpenEnd::WrongSchema);
-    }
-    let conn = Connection::open(rt, path).map_err(end_of_open)?;
-    if length == 0 {
-        new_store(rt.alloc(), conn)
-    } else {
-        old_store(rt.alloc(), conn)
-    }
-}
-
-/// Closes a store. What was committed is copied from the log into the file; where that fails, it stands
-/// in the log, and the next opening finds it there. No clause: it hands nothing back.
-pub fn close_store<D: Disk + Drop>(store: Store<FileStore<D>>) {
-    let _closed = store.into_connection().close();
 }
 
 /// The line of a store that is not opened.

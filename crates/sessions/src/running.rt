@@ -4,8 +4,8 @@ use command_line::Plan;
 use file_totals::{TotalText, total_file};
 use histories::{Limits, Query};
 use prof_store::{OpenEnd, Store};
-use program_files::{close_store, end_line, store_at};
-use sqlite::Alter;
+use program_files::{StoreFile, database_at, end_line, is_new_at, store_in};
+use sqlite::{Alter, Connection};
 use std::alloc::AllocError;
 use std::io;
 use std::io::Write;
@@ -32,19 +32,41 @@ fn print_total<R: Print>(rt: &R, total: Result<TotalText, AllocError>) -> io::Re
     })
 }
 
-/// Does a work over an opened store. It hands back whether its answers were printed, the status that
-/// they come to, and the store. No clause yet: `Session::run`, of which it is one call, has them.
+/// Does a work over an opened store. It hands back the status that the answers come to, where they were
+/// printed, and the store. No clause yet: `Session::run`, of which it is one call, has them.
 fn work_over<'a, R: Files + AllocGlobal, W: Write + Drop, S: Alter>(
     rt: &'a R,
     out: W,
     store: Store<S>,
     work: Work<'a>,
-) -> (io::Result<()>, u8, Store<S>) {
+) -> (io::Result<u8>, Store<S>) {
     let warehouse = Warehouse::new(store, Limits::standard());
     let mut session = Session::new(rt, out, warehouse);
     let ended = session.run(work);
     let (status, warehouse) = session.finish();
-    (ended, status, warehouse.into_store())
+    let printed = match ended {
+        Ok(()) => Ok(status),
+        Err(error) => Err(error),
+    };
+    (printed, warehouse.into_store())
+}
+
+/// Does a work over the store of a database, and hands back the database. No clause yet: `store_in` and
+/// `Session::run` have them.
+fn work_in<'a, R: Files + AllocGlobal, W: Write + Drop, S: Alter>(
+    rt: &'a R,
+    out: W,
+    conn: Connection<S>,
+    is_new: bool,
+    work: Work<'a>,
+) -> (Result<io::Result<u8>, OpenEnd>, Connection<S>) {
+    match store_in(rt.alloc(), conn, is_new) {
+        Ok(store) => {
+            let (printed, store) = work_over(rt, out, store, work);
+            (Ok(printed), store.into_connection())
+        }
+        Err((end, conn)) => (Err(end), conn),
+    }
 }
 
 /// Prints why a store was not opened. No clause: of what is printed the checker knows nothing.
@@ -53,17 +75,38 @@ fn print_unopened<R: Print>(rt: &R, end: OpenEnd) -> io::Result<ExitCode> {
     Ok(ExitCode::FAILURE)
 }
 
-/// Does a work over the store at a path. No clause: which history the store at a path has, the checker
-/// does not know; `Session::run` says what is done over a store of any history, and which status comes
-/// of it.
+/// Does a work over a database in a file, and closes it: what was committed is copied from the log into
+/// the file; where that fails, it stands in the log, and the next opening finds it there. It stands by
+/// itself since it alone uses what is generic in the store over a file. No clause: nothing of the
+/// database comes back.
+fn work_in_file<'a>(
+    rt: &'a HostRuntime,
+    conn: Connection<StoreFile>,
+    is_new: bool,
+    work: Work<'a>,
+) -> Result<io::Result<u8>, OpenEnd> {
+    let (came_to, conn) = work_in(rt, io::writer(rt), conn, is_new, work);
+    let _closed = conn.close();
+    came_to
+}
+
+/// Does a work over the store at a path.
+fn work_at<'a>(
+    rt: &'a HostRuntime,
+    db: &str,
+    work: Work<'a>,
+) -> Result<io::Result<u8>, OpenEnd> {
+    let is_new = is_new_at(rt, db)?;
+    let conn = database_at(rt, db)?;
+    work_in_file(rt, conn, is_new, work)
+}
+
+/// Does a work over the store at a path, and prints why that was not opened. No clause: which history the
+/// store at a path has, the checker does not know; `Session::run` says what is done over a store of any
+/// history, and which status comes of it.
 fn run_over<'a>(rt: &'a HostRuntime, db: &str, work: Work<'a>) -> io::Result<ExitCode> {
-    match store_at(rt, db) {
-        Ok(store) => {
-            let (ended, status, store) = work_over(rt, io::writer(rt), store, work);
-            close_store(store);
-            ended?;
-            Ok(ExitCode::from(status))
-        }
+    match work_at(rt, db, work) {
+        Ok(status) => Ok(ExitCode::from(status?)),
         Err(end) => print_unopened(rt, end),
     }
 }
