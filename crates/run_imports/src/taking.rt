@@ -148,25 +148,24 @@ pub fn take_in<S: Alter>(
     limits: Limits,
     kind: Kind,
     label: &str,
-    taken: Taken,
+    taken: &Taken,
 ) -> Result<Answer, StoreEnd>
     requires { IsLabel label.now }
-    ensures answered { IsFaithful S.Store store.new → (h : History) (outcomes : List Outcome) → StandsForHistory S.Store h store.old → HasEnded limits.bytes outcomes → IsTakenOf kind (bytes_of outcomes) taken
+    ensures answered { IsFaithful S.Store store.new → (h : History) (outcomes : List Outcome) → StandsForHistory S.Store h store.old → HasEnded limits.bytes outcomes → IsTakenOf kind (bytes_of outcomes) taken.now
         → IfOk result (λ answer. WasDue S.Store limits h (Import kind label.now outcomes) answer store.new) }
     ensures kept { IsFaithful S.Store store.new → (t : _) → StandsFor S.Store t store.old → OnErr result (IsUsable S.Store store.new → StandsFor S.Store t store.new) }
     ensures same { IsFaithful S.Store store.new → (t : _) → StandsFor S.Store t store.old → IfOk result (λ answer. (IsAccepted answer → ⊥) → StandsFor S.Store t store.new) }
-    ensures crash { IsFaithful S.Store store.new → (h : History) (outcomes : List Outcome) → StandsForHistory S.Store h store.old → HasEnded limits.bytes outcomes → IsTakenOf kind (bytes_of outcomes) taken
+    ensures crash { IsFaithful S.Store store.new → (h : History) (outcomes : List Outcome) → StandsForHistory S.Store h store.old → HasEnded limits.bytes outcomes → IsTakenOf kind (bytes_of outcomes) taken.now
         → LeavesOnly S.Store store.old store.new (Follows limits h (Import kind label.now outcomes)) }
     ensures answers { IsFaithful S.Store store.new → OnOk result (IsUsable S.Store store.new) }
     ensures was_usable { IsFaithful S.Store store.new → IsUsable S.Store store.new → IsUsable S.Store store.old }
     ensures honest { IsFaithful S.Store store.new → IsFaithful S.Store store.old }
 {
-    let Taken { digest, file } = taken;
-    if let Some(number) = store.run_of_digest(&digest)? {
+    if let Some(number) = store.run_of_digest(&taken.digest)? {
         return Ok(Answer::Held(number));
     }
-    match file {
-        Ok((head, rows)) => put_file(store, alloc, limits, kind, &digest, label, &head, &rows),
-        Err((fault, line)) => Ok(Answer::Refused(Refusal::File(fault, line))),
+    match &taken.file {
+        Ok((head, rows)) => put_file(store, alloc, limits, kind, &taken.digest, label, head, rows),
+        Err((fault, line)) => Ok(Answer::Refused(Refusal::File(*fault, *line))),
     }
 }

@@ -31,7 +31,7 @@ fn import_labelled<S: Alter, R: Source>(
     ensures honest { IsFaithful S.Store store.new → IsFaithful S.Store store.old }
 {
     match take_file(alloc, kind, limits.bytes, source) {
-        Ok(taken) => answer_of(take_in(store, alloc, limits, kind, label, taken)),
+        Ok(taken) => answer_of(take_in(store, alloc, limits, kind, label, &taken)),
         Err(unread) => unread_answer(unread),
     }
 }
