@@ -128,10 +128,7 @@ fn plan_of<'a>(
 }
 
 /// The plan for what was found of the words, where that is of a subcommand.
-fn plan_found<'a>(
-    alloc: Global,
-    matches: &ArgMatches<'a>,
-) -> Result<Option<Plan<'a>>, AllocError>
+fn plan_found<'a>(alloc: Global, matches: &ArgMatches<'a>) -> Result<Option<Plan<'a>>, AllocError>
     ensures sound { IfOk result (λ found. IfSome found IsSound) }
     ensures plan { IfOk result (λ found. IfSome found (IsPlanFor (subcommand_rows_of matches.now))) }
 {

@@ -91,11 +91,7 @@ fn work_in_file<'a>(
 }
 
 /// Does a work over the store at a path.
-fn work_at<'a>(
-    rt: &'a HostRuntime,
-    db: &str,
-    work: Work<'a>,
-) -> Result<io::Result<u8>, OpenEnd> {
+fn work_at<'a>(rt: &'a HostRuntime, db: &str, work: Work<'a>) -> Result<io::Result<u8>, OpenEnd> {
     let is_new = is_new_at(rt, db)?;
     let conn = database_at(rt, db)?;
     work_in_file(rt, conn, is_new, work)

@@ -11,5 +11,5 @@ returns-clause-app c =
     let second : App = with_subcommand first (line.import).top in
     let one : app_of c.in_ok-command.command ≡ first = has_got c.total.result _ before (line.total) c.in_ok-command.ensures.app c.total.ensures.app in
     let two : app_of c.in_ok-command-2.command ≡ second =
-        has_got c.import.result _ (app_of c.in_ok-command.command) (line.import) c.in_ok-command-2.ensures.app c.import.ensures.app ∙ ap (λ (a : App). with_subcommand a (line.import).top) one in
+    has_got c.import.result _ (app_of c.in_ok-command.command) (line.import) c.in_ok-command-2.ensures.app c.import.ensures.app ∙ ap (λ (a : App). with_subcommand a (line.import).top) one in
     got_last c.with-3.result c.remove.result _ second (line.remove) c.with-3.ensures.app two c.remove.ensures.app

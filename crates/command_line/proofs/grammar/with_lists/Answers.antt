@@ -11,5 +11,5 @@ returns-clause-app c =
     let second : App = with_subcommand first (line.over_database (codes "groups")).top in
     let one : app_of c.in_ok-command.command ≡ first = has_got c.over_database.result _ before (line.over_database (codes "runs")) c.in_ok-command.ensures.app c.over_database.ensures.app in
     let two : app_of c.in_ok-command-2.command ≡ second =
-        has_got c.over_database-2.result _ (app_of c.in_ok-command.command) (line.over_database (codes "groups")) c.in_ok-command-2.ensures.app c.over_database-2.ensures.app ∙ ap (λ (a : App). with_subcommand a (line.over_database (codes "groups")).top) one in
+    has_got c.over_database-2.result _ (app_of c.in_ok-command.command) (line.over_database (codes "groups")) c.in_ok-command-2.ensures.app c.over_database-2.ensures.app ∙ ap (λ (a : App). with_subcommand a (line.over_database (codes "groups")).top) one in
     got_last c.with-3.result c.group.result _ second (line.group) c.with-3.ensures.app two c.group.ensures.app

@@ -1,4 +1,4 @@
-use Rattle.std.proofs.Common.{◌≡◌, Some, sym, ap, ◌∙◌}
+use Rattle.std.proofs.Common.{◌≡◌, Some, inl, inr, sym, ap, ◌∙◌}
 use Rattle.cost_rows.specs.Rows.{content_of}
 use Rattle.prof_tables.specs.Tables.{Holds}
 use Rattle.prof_books.specs.Runs.{with_file}
@@ -51,3 +51,12 @@ returns-clause-crash g c clean h outcomes s ended new db leaves =
     (Holds (with_file s.t.next c.args.kind c.args.digest.now c.args.label.now c.args.head.now (content_of c.args.rows.now) s.t)) (Follows c.args.limits h (Import c.args.kind c.args.label.now outcomes))
     (c.refusal_of.ensures.crash early s.t s.stands) (c.put_run.ensures.crash clean s.t once)
     (follows_run c.args.limits h c.args.kind c.args.label.now outcomes c.args.digest.now c.args.head.now c.args.rows.now s.t _ (c.utf8.label, c.requires) is new s.stands.holds s.tells) db leaves
+
+pub returns-in-Some-clause-same : goal.returns-in-Some-clause-same
+returns-in-Some-clause-same g c clean t stands = λ refused. c.in_ok-refusal.ensures.stays clean t stands
+
+pub returns-in-Some-clause-answers : goal.returns-in-Some-clause-answers
+returns-in-Some-clause-answers g c clean = c.in_ok-refusal.ensures.answers clean
+
+pub returns-in-Some-clause-crash : goal.returns-in-Some-clause-crash
+returns-in-Some-clause-crash g c clean h outcomes s ended new db leaves = elim (c.refusal_of.ensures.crash clean s.t s.stands db leaves) [ inl before ↦ inl before | inr none ↦ absurd none ]
