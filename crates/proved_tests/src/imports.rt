@@ -3,7 +3,7 @@ use crate::given::Given;
 use crate::stores::empty;
 use prof_store::StoreEnd;
 use sqlite::MemStore;
-use std::alloc::Global;
+use std::alloc::{AllocError, Global};
 use std::test::Fail;
 use warehouse::{Answer, Command, Kind, Limits, Refusal, Source, Warehouse};
 
@@ -49,6 +49,27 @@ fn import<R: Source + Drop>(
     word(&house.import(alloc, Kind::Callgrind, b"a", &mut source))
 }
 
+/// What the making of a group is answered.
+fn make_group(
+    house: &mut Warehouse<MemStore>,
+    alloc: Global,
+    name: &[u8],
+) -> Result<&'static str, AllocError> {
+    let command = Command::MakeGroup(name.to_vec(alloc)?);
+    Ok(word(&house.apply::<Given>(alloc, command)))
+}
+
+/// What the removal of run 1 and the making of two groups are answered.
+fn remove_and_make_groups(
+    house: &mut Warehouse<MemStore>,
+    alloc: Global,
+) -> Result<[&'static str; 3], AllocError> {
+    let removed = word(&house.apply::<Given>(alloc, Command::Remove(1)));
+    let first = make_group(house, alloc, b"g")?;
+    let second = make_group(house, alloc, b"h")?;
+    Ok([removed, first, second])
+}
+
 #[test]
 fn a_file_has_at_most_so_many_bytes(rt: HostRuntime) -> Result<(), Fail> {
     for (bytes, most, sound, wanted) in [
@@ -86,24 +107,11 @@ fn limits_made_small(rt: HostRuntime) -> Result<(), Fail> {
     ] {
         assert_eq!(rt; import(&mut house, alloc, Given::sound(bytes, 100)), wanted);
     }
-    for (command, wanted) in Vec::from_array(
-        alloc,
-        [
-            (Command::Remove(1), "done"),
-            (Command::MakeGroup(b"g".to_vec(alloc)?), "done"),
-            (Command::MakeGroup(b"h".to_vec(alloc)?), "full"),
-        ],
-    )? {
-        assert_eq!(rt; word(&house.apply::<Given>(alloc, command)), wanted);
+    let [removed, first, second] = remove_and_make_groups(&mut house, alloc)?;
+    assert!(rt; removed == "done" && first == "done" && second == "full");
+    for (bytes, wanted) in [(b"events: Bc\n", "run numbers spent"), (b"events: Dr\n", "held 2")] {
+        assert_eq!(rt; import(&mut house, alloc, Given::sound(bytes, 100)), wanted);
     }
-    assert_eq!(rt;
-        import(&mut house, alloc, Given::sound(b"events: Bc\n", 100)),
-        "run numbers spent"
-    );
-    assert_eq!(rt;
-        import(&mut house, alloc, Given::sound(b"events: Dr\n", 100)),
-        "held 2"
-    );
     Ok(())
 }
 

@@ -1,5 +1,6 @@
 // Names, heads and walks over the rows of a run, over rows that are written by hand.
 use crate::stores::filled;
+use cg_formulas::FileHead;
 use held_runs::{arcs_of, cells_of, head_of, names_of, stacks_of};
 use prof_store::{Store, StoreEnd};
 use sqlite::MemStore;
@@ -86,21 +87,24 @@ fn stacks_are_walked(rt: HostRuntime) -> Result<(), Fail> {
     Ok(())
 }
 
+/// Whether a head has the events `Ir` and `Dr` with the totals 0 and 2^64, and no derived event.
+fn has_two_events(head: &FileHead) -> bool {
+    let ([first, second], Some(stated)) = (head.events.as_slice(), &head.stated) else {
+        return false;
+    };
+    first.as_slice() == b"Ir".as_slice()
+        && second.as_slice() == b"Dr".as_slice()
+        && head.derived.derived.is_empty()
+        && stated.as_slice() == [0, 18446744073709551616].as_slice()
+}
+
 #[test]
 fn a_head_is_told(rt: HostRuntime) -> Result<(), Fail> {
     let text =
         "INSERT INTO run_event VALUES (1, 1, x'4472', 5, 0, '18446744073709551616'), (1, 0, x'4972', 10, 3, '0')";
     let mut store = filled(rt.alloc(), text, 0)?;
     let head = head_of(&mut store, rt.alloc(), 1)?;
-    let [first, second] = head.events.as_slice() else {
-        return Err(Fail::from("not two events"));
-    };
-    assert!(rt; first.as_slice() == b"Ir".as_slice() && second.as_slice() == b"Dr".as_slice());
-    assert!(rt; head.derived.derived.is_empty());
-    let Some(stated) = &head.stated else {
-        return Err(Fail::from("no totals"));
-    };
-    assert!(rt; stated.as_slice() == [0, 18446744073709551616].as_slice());
+    assert!(rt; has_two_events(&head));
     Ok(())
 }
 

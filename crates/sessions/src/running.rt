@@ -90,7 +90,7 @@ fn work_in_file<'a>(
     came_to
 }
 
-/// Does a work over the store at a path.
+/// Does a work over the store at a path. No clause: as `run_over`.
 fn work_at<'a>(rt: &'a HostRuntime, db: &str, work: Work<'a>) -> Result<io::Result<u8>, OpenEnd> {
     let is_new = is_new_at(rt, db)?;
     let conn = database_at(rt, db)?;
