@@ -1,4 +1,5 @@
-// A store in memory whose rows are written by hand.
+// A store in memory whose rows are written by hand. No clauses: what the tests over it want fails where it is
+// another.
 use prof_store::{Store, StoreEnd};
 use sqlite::{Connection, MemStore, params};
 use std::alloc::Global;
