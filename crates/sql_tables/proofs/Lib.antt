@@ -1,3 +1,4 @@
+pub mod Calls
 pub mod Cascades
 pub mod Contents
 pub mod Counts
