@@ -1,10 +1,12 @@
 -- What a store shows, in the words of the layers above.
-use Rattle.std.specs.Prelude.{◌≡◌, false, IsTrue}
+use Rattle.std.specs.Prelude.{◌≡◌, Bool, IsTrue}
 use Rattle.sqlite_trees.specs.declared.store.Store.{Ghosts}
 use Rattle.sqlite_trees.specs.Tree.{Trees}
 use Rattle.sqlite.specs.Held.{state}
 use Rattle.sqlite.specs.State.{HasCleanDisk, State}
 use Rattle.sql_tables.specs.States.{Rests, LeavesOnly as Leaves, LeavesJust as Just}
+use Rattle.sql_tables.specs.Calls as calls
+use Rattle.sql_tables.specs.Calls.{Asked, Changed}
 use Rattle.prof_tables.specs.Schema.{schema_one}
 use Rattle.prof_tables.specs.Tables.{Tables, Holds}
 use Rattle.prof_store.specs.declared.store.Store.{Store}
@@ -22,16 +24,12 @@ module _ {S : Type 0} (g : Ghosts S) where
   IsUsable store = IsTrue (shown store).is_open
 
   -- between calls, in tables of schema 1, whatever stands in them
-  pub record IsSettled (store : Store S) : Type 0 where
-    pub schema_is : (shown store).now.schema ≡ schema_one
-    pub committed : (shown store).committed ≡ (shown store).now
-    pub autocommit : (shown store).in_transaction ≡ false
+  abbrev pub IsSettled : Store S → Type 0
+  IsSettled store = calls.IsSettled schema_one (shown store)
 
   -- the tables, the last commit and the mode are as they were
-  pub record IsAsBefore (old new : Store S) : Type 0 where
-    pub now_is : (shown new).now ≡ (shown old).now
-    pub committed_is : (shown new).committed ≡ (shown old).committed
-    pub autocommit : (shown new).in_transaction ≡ false
+  abbrev pub IsAsBefore : Store S → Store S → Type 0
+  IsAsBefore old new = calls.IsAsBefore (shown old) (shown new)
 
   -- between calls the tables hold these lines, and so does the last commit
   abbrev pub StandsFor : Tables → Store S → Type 0
@@ -44,3 +42,15 @@ module _ {S : Type 0} (g : Ghosts S) where
   -- a crash now leaves tables that P holds of
   abbrev pub LeavesJust : Store S → (Trees → Type 0) → Type 0
   LeavesJust store P = Just (shown store) P
+
+  -- a call that asks: it changes nothing, and what it answers an open store answers
+  abbrev pub Asks : Bool → Store S → Store S → Type 0
+  Asks answered old new = IsFaithful new → Asked schema_one answered (shown old) (shown new)
+
+  -- a call that changes the tables, by one commit at its end, or leaves all as it was
+  abbrev pub Changes : Bool → (Tables → Tables) → Store S → Store S → Type 0
+  Changes done change old new = IsFaithful new → Changed schema_one Holds (λ t. Holds (change t)) done done (shown old) (shown new)
+
+  -- the same of tables that are in a state for it
+  abbrev pub ChangesIf : Bool → (Tables → Type 0) → (Tables → Tables) → Store S → Store S → Type 0
+  ChangesIf done given change old new = IsFaithful new → Changed schema_one (λ t db. given t × Holds t db) (λ t. Holds (change t)) done done (shown old) (shown new)

@@ -1,44 +1,27 @@
 // The groups with their members.
-ghost use Rattle.std.specs.Prelude.{◌≡◌, ◌<◌, ◌≤◌, ◌++◌, [], map, flat_map, length, take, string_bytes, IfOk, IfErr, OnOk, IsTrue, IsPermutation};
+ghost use Rattle.std.specs.Prelude.{◌≡◌, ◌<◌, ◌≤◌, [], map, flat_map, length, take, string_bytes, IfOk, IsTrue, IsPermutation};
 ghost use Rattle.std.specs.List.{AllAdjacentBelow, AllByRecursion};
-ghost use Rattle.sqlite.specs.Held.{state};
-ghost use Rattle.sqlite.specs.State.{HasCleanDisk, Survives, Shown, FailsToQuery, CommitsShowing};
+ghost use Rattle.std.specs.Result.{is_ok};
 ghost use Rattle.prof_tables.specs.Schema.{schema_one};
 ghost use Rattle.prof_tables.specs.Seen.{group_seen, member_seen};
 ghost use Rattle.prof_tables.specs.Tables.{group_columns, member_columns};
-ghost use Rattle.prof_tables.specs.Texts.{groups_text, members_text};
 ghost use Rattle.prof_store.specs.Groups.{first_two, IsBefore, entry_group, entry_members, member_of, member_line, members_in};
-ghost use Rattle.prof_store.specs.Shown.{shown, IsFaithful, IsUsable, StandsFor, LeavesOnly, IsSettled, IsAsBefore};
+ghost use Rattle.prof_store.specs.Shown.{Asks, IsFaithful, StandsFor, shown};
 
 use crate::entries::GroupEntry;
+use crate::statements::select;
 use crate::store::Store;
 use cg_text::Items;
-use sqlite::{Alter, Connection, Error, Row};
+use sqlite::{Alter, Row};
 use std::alloc::Global;
 use std::cmp::Ordering;
-use store_columns::{StoreEnd, end_of, is_group_name, number_at, number_or_null_at, text_at};
+use store_columns::{StoreEnd, is_group_name, number_at, number_or_null_at, text_at};
 
 /// A run that is in a group.
 #[derive(Drop)]
 pub(crate) struct Member {
     pub group: String,
     pub run: u32,
-}
-
-fn select_groups<S: Alter>(conn: &mut Connection<S>) -> Result<Vec<Row>, Error>
-    ensures ok { HasCleanDisk (state S.Store conn.new) → IfOk result (λ rows. Shown groups_text [] (state S.Store conn.old) (state S.Store conn.new) rows.items) }
-    ensures err { HasCleanDisk (state S.Store conn.new) → IfErr result (FailsToQuery groups_text [] (state S.Store conn.old) (state S.Store conn.new)) }
-    ensures survives { Survives (state S.Store conn.old) (state S.Store conn.new) (CommitsShowing groups_text [] (state S.Store conn.old)) }
-{
-    conn.query_all("SELECT name, baseline FROM grp ORDER BY name", &[])
-}
-
-fn select_members<S: Alter>(conn: &mut Connection<S>) -> Result<Vec<Row>, Error>
-    ensures ok { HasCleanDisk (state S.Store conn.new) → IfOk result (λ rows. Shown members_text [] (state S.Store conn.old) (state S.Store conn.new) rows.items) }
-    ensures err { HasCleanDisk (state S.Store conn.new) → IfErr result (FailsToQuery members_text [] (state S.Store conn.old) (state S.Store conn.new)) }
-    ensures survives { Survives (state S.Store conn.old) (state S.Store conn.new) (CommitsShowing members_text [] (state S.Store conn.old)) }
-{
-    conn.query_all("SELECT grp, run FROM member ORDER BY grp, run", &[])
 }
 
 fn members_in(alloc: Global, rows: &[Row]) -> Result<Vec<Member>, StoreEnd>
@@ -158,19 +141,14 @@ impl<S: Alter> Store<S> {
     fn members(&mut self, alloc: Global) -> Result<Vec<Member>, StoreEnd>
         ensures told { IsFaithful S.Store self.new → (t : _) → StandsFor S.Store t self.old → IfOk result (λ members. IsPermutation t.members (map member_line members.items)) }
         ensures found { IsFaithful S.Store self.new → (shown S.Store self.old).now.schema ≡ schema_one → IfOk result (λ members. IsPermutation (map member_seen ((shown S.Store self.old).now.trees 21)) (map (λ m. member_columns (member_line m)) members.items)) }
-        ensures same { IsFaithful S.Store self.new → (shown S.Store self.old).now.schema ≡ schema_one → OnOk result ((shown S.Store self.new).now ≡ (shown S.Store self.old).now) }
-        ensures kept { IsFaithful S.Store self.new → (t : _) → StandsFor S.Store t self.old → IsUsable S.Store self.new → StandsFor S.Store t self.new }
-        ensures stays { IsFaithful S.Store self.new → (t : _) → StandsFor S.Store t self.old → OnOk result (StandsFor S.Store t self.new) }
-        ensures unchanged { IsFaithful S.Store self.new → IsSettled S.Store self.old → IsUsable S.Store self.new → IsAsBefore S.Store self.old self.new }
-        ensures answers { IsFaithful S.Store self.new → OnOk result (IsUsable S.Store self.new) }
-        ensures was_usable { IsFaithful S.Store self.new → IsUsable S.Store self.new → IsUsable S.Store self.old }
-        ensures crash { IsFaithful S.Store self.new → (t : _) → StandsFor S.Store t self.old → LeavesOnly S.Store self.old self.new (λ _. ⊥) }
-        ensures honest { IsFaithful S.Store self.new → IsFaithful S.Store self.old }
+        ensures asks { Asks S.Store (is_ok result) self.old self.new }
     {
-        match select_members(&mut self.conn) {
-            Ok(rows) => members_in(alloc, &rows),
-            Err(error) => Err(end_of(error)),
-        }
+        let rows = select(
+            &mut self.conn,
+            "SELECT grp, run FROM member ORDER BY grp, run",
+            &[],
+        )?;
+        members_in(alloc, &rows)
     }
 
     /// The groups with these members, by name.
@@ -179,18 +157,14 @@ impl<S: Alter> Store<S> {
         ensures found { IsFaithful S.Store self.new → (shown S.Store self.old).now.schema ≡ schema_one → IfOk result (λ entries. IsPermutation (map group_seen ((shown S.Store self.old).now.trees 19)) (map (λ e. group_columns (entry_group e)) entries.items)) }
         ensures members { IfOk result (λ entries. flat_map entry_members entries.items ≡ map member_line members.now) }
         ensures rising { IfOk result (λ entries. AllAdjacentBelow IsBefore entries.items (length entries.items)) }
-        ensures kept { IsFaithful S.Store self.new → (t : _) → StandsFor S.Store t self.old → IsUsable S.Store self.new → StandsFor S.Store t self.new }
-        ensures stays { IsFaithful S.Store self.new → (t : _) → StandsFor S.Store t self.old → OnOk result (StandsFor S.Store t self.new) }
-        ensures unchanged { IsFaithful S.Store self.new → IsSettled S.Store self.old → IsUsable S.Store self.new → IsAsBefore S.Store self.old self.new }
-        ensures answers { IsFaithful S.Store self.new → OnOk result (IsUsable S.Store self.new) }
-        ensures was_usable { IsFaithful S.Store self.new → IsUsable S.Store self.new → IsUsable S.Store self.old }
-        ensures crash { IsFaithful S.Store self.new → (t : _) → StandsFor S.Store t self.old → LeavesOnly S.Store self.old self.new (λ _. ⊥) }
-        ensures honest { IsFaithful S.Store self.new → IsFaithful S.Store self.old }
+        ensures asks { Asks S.Store (is_ok result) self.old self.new }
     {
-        match select_groups(&mut self.conn) {
-            Ok(rows) => groups_in(alloc, &rows, members),
-            Err(error) => Err(end_of(error)),
-        }
+        let rows = select(
+            &mut self.conn,
+            "SELECT name, baseline FROM grp ORDER BY name",
+            &[],
+        )?;
+        groups_in(alloc, &rows, members)
     }
 
     /// The groups with their members, by name.
@@ -199,13 +173,7 @@ impl<S: Alter> Store<S> {
         ensures found { IsFaithful S.Store self.new → (shown S.Store self.old).now.schema ≡ schema_one → IfOk result (λ entries. IsPermutation (map group_seen ((shown S.Store self.old).now.trees 19)) (map (λ e. group_columns (entry_group e)) entries.items) × IsPermutation (map member_seen ((shown S.Store self.old).now.trees 21)) (map member_columns (flat_map entry_members entries.items))) }
         ensures members { IsFaithful S.Store self.new → (t : _) → StandsFor S.Store t self.old → IfOk result (λ entries. AllByRecursion (λ e. IsPermutation (members_in (string_bytes e.name) t.members) (entry_members e)) entries.items) }
         ensures rising { IfOk result (λ entries. AllAdjacentBelow IsBefore entries.items (length entries.items)) }
-        ensures kept { IsFaithful S.Store self.new → (t : _) → StandsFor S.Store t self.old → IsUsable S.Store self.new → StandsFor S.Store t self.new }
-        ensures stays { IsFaithful S.Store self.new → (t : _) → StandsFor S.Store t self.old → OnOk result (StandsFor S.Store t self.new) }
-        ensures unchanged { IsFaithful S.Store self.new → IsSettled S.Store self.old → IsUsable S.Store self.new → IsAsBefore S.Store self.old self.new }
-        ensures answers { IsFaithful S.Store self.new → OnOk result (IsUsable S.Store self.new) }
-        ensures was_usable { IsFaithful S.Store self.new → IsUsable S.Store self.new → IsUsable S.Store self.old }
-        ensures crash { IsFaithful S.Store self.new → (t : _) → StandsFor S.Store t self.old → LeavesOnly S.Store self.old self.new (λ _. ⊥) }
-        ensures honest { IsFaithful S.Store self.new → IsFaithful S.Store self.old }
+        ensures asks { Asks S.Store (is_ok result) self.old self.new }
     {
         let members = self.members(alloc)?;
         self.groups_of(alloc, &members)

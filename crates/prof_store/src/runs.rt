@@ -1,28 +1,19 @@
 // The runs that are held.
-ghost use Rattle.std.specs.Prelude.{◌≡◌, ◌<◌, [], map, length, IfOk, IfErr, OnOk, IsTrue, IsPermutation};
+ghost use Rattle.std.specs.Prelude.{◌≡◌, ◌<◌, [], map, length, IfOk, IsTrue, IsPermutation};
 ghost use Rattle.std.specs.List.{AllAdjacentBelow};
-ghost use Rattle.sqlite.specs.Held.{state};
-ghost use Rattle.sqlite.specs.State.{HasCleanDisk, Survives, Shown, FailsToQuery, CommitsShowing};
+ghost use Rattle.std.specs.Result.{is_ok};
 ghost use Rattle.prof_tables.specs.Schema.{schema_one};
 ghost use Rattle.prof_tables.specs.Seen.{run_seen};
-ghost use Rattle.prof_tables.specs.Texts.{runs_text};
 ghost use Rattle.prof_store.specs.Entries.{first_four, entry_columns, entry_run};
 ghost use Rattle.prof_books.specs.Entries.{held_run};
-ghost use Rattle.prof_store.specs.Shown.{shown, IsFaithful, IsUsable, StandsFor, LeavesOnly, IsSettled, IsAsBefore};
+ghost use Rattle.prof_store.specs.Shown.{Asks, IsFaithful, StandsFor, shown};
 
 use crate::entries::RunEntry;
+use crate::statements::select;
 use crate::store::Store;
-use sqlite::{Alter, Connection, Error, Row};
+use sqlite::{Alter, Row};
 use std::alloc::Global;
-use store_columns::{StoreEnd, digest_at, end_of, kind_at, label_at, number_at};
-
-fn select_runs<S: Alter>(conn: &mut Connection<S>) -> Result<Vec<Row>, Error>
-    ensures ok { HasCleanDisk (state S.Store conn.new) → IfOk result (λ rows. Shown runs_text [] (state S.Store conn.old) (state S.Store conn.new) rows.items) }
-    ensures err { HasCleanDisk (state S.Store conn.new) → IfErr result (FailsToQuery runs_text [] (state S.Store conn.old) (state S.Store conn.new)) }
-    ensures survives { Survives (state S.Store conn.old) (state S.Store conn.new) (CommitsShowing runs_text [] (state S.Store conn.old)) }
-{
-    conn.query_all("SELECT run, kind, digest, label FROM run ORDER BY run", &[])
-}
+use store_columns::{StoreEnd, digest_at, kind_at, label_at, number_at};
 
 fn run_entry(row: &Row) -> Result<RunEntry, StoreEnd>
     ensures read { IfOk result (λ entry. entry_columns entry ≡ first_four row.now) }
@@ -83,17 +74,13 @@ impl<S: Alter> Store<S> {
         ensures told { IsFaithful S.Store self.new → (t : _) → StandsFor S.Store t self.old → IfOk result (λ entries. map entry_run entries.items ≡ map held_run t.runs) }
         ensures found { IsFaithful S.Store self.new → (shown S.Store self.old).now.schema ≡ schema_one → IfOk result (λ entries. IsPermutation (map run_seen ((shown S.Store self.old).now.trees 1)) (map entry_columns entries.items)) }
         ensures rising { IfOk result (λ entries. AllAdjacentBelow (λ a b. a.number < b.number) entries.items (length entries.items)) }
-        ensures kept { IsFaithful S.Store self.new → (t : _) → StandsFor S.Store t self.old → IsUsable S.Store self.new → StandsFor S.Store t self.new }
-        ensures stays { IsFaithful S.Store self.new → (t : _) → StandsFor S.Store t self.old → OnOk result (StandsFor S.Store t self.new) }
-        ensures unchanged { IsFaithful S.Store self.new → IsSettled S.Store self.old → IsUsable S.Store self.new → IsAsBefore S.Store self.old self.new }
-        ensures answers { IsFaithful S.Store self.new → OnOk result (IsUsable S.Store self.new) }
-        ensures was_usable { IsFaithful S.Store self.new → IsUsable S.Store self.new → IsUsable S.Store self.old }
-        ensures crash { IsFaithful S.Store self.new → (t : _) → StandsFor S.Store t self.old → LeavesOnly S.Store self.old self.new (λ _. ⊥) }
-        ensures honest { IsFaithful S.Store self.new → IsFaithful S.Store self.old }
+        ensures asks { Asks S.Store (is_ok result) self.old self.new }
     {
-        match select_runs(&mut self.conn) {
-            Ok(rows) => runs_in(alloc, &rows),
-            Err(error) => Err(end_of(error)),
-        }
+        let rows = select(
+            &mut self.conn,
+            "SELECT run, kind, digest, label FROM run ORDER BY run",
+            &[],
+        )?;
+        runs_in(alloc, &rows)
     }
 }

@@ -1,46 +1,25 @@
 // The sums over all runs that are held.
-ghost use Rattle.std.specs.Prelude.{◌≡◌, ◌<◌, ◌^◌, ◌∷◌, [], map, length, All, IfOk, IfErr, OnOk};
-ghost use Rattle.sqlite.specs.Held.{state};
-ghost use Rattle.sqlite.specs.State.{HasCleanDisk, Survives, Shown, FailsToQuery, CommitsShowing};
-ghost use Rattle.sqlite_value.specs.declared.value.Value.TheVariants.{Blob};
+ghost use Rattle.std.specs.Prelude.{◌&&◌, ◌≡◌, ◌<◌, ◌^◌, [], map, length, All, IfOk};
+ghost use Rattle.std.specs.Result.{is_ok};
 ghost use Rattle.prof_tables.specs.Schema.{schema_one};
-ghost use Rattle.prof_tables.specs.Texts.{sums_of_text, call_counts_text};
-ghost use Rattle.prof_store.specs.Shown.{shown, IsFaithful, IsUsable, IsSettled, IsAsBefore, StandsFor, LeavesOnly};
-ghost use Rattle.prof_store.specs.Totals.{AreSums, column_sum, rows_named, HasNumbers, IsSum, IsHeldAt, IsBounded};
+ghost use Rattle.prof_store.specs.Shown.{Asks, IsFaithful, StandsFor, shown};
+ghost use Rattle.prof_store.specs.Totals.{AreSums, column_sum, rows_named, IsSum, IsHeldAt, IsBounded};
 ghost use Rattle.prof_books.specs.Totals.{held_self, held_calls, held_count, IsHeldIn};
 
+use crate::statements::select;
 use crate::store::Store;
 use crate::sums::column_sum;
 use cg_text::Items;
 use cost_rows::FileTotals;
-use sqlite::{Alter, Connection, Error, Row, params};
+use sqlite::{Alter, Row, params};
 use std::alloc::Global;
-use store_columns::{StoreEnd, end_of};
+use store_columns::StoreEnd;
 
 /// The sums of an event over all runs: of own costs, and of the costs of calls.
 #[derive(Drop)]
 struct EventSums {
     own: u128,
     calls: u128,
-}
-
-fn select_sums<S: Alter>(conn: &mut Connection<S>, name: &[u8]) -> Result<Vec<Row>, Error>
-    ensures ok { HasCleanDisk (state S.Store conn.new) → IfOk result (λ rows. Shown sums_of_text (Blob name.now ∷ []) (state S.Store conn.old) (state S.Store conn.new) rows.items) }
-    ensures err { HasCleanDisk (state S.Store conn.new) → IfErr result (FailsToQuery sums_of_text (Blob name.now ∷ []) (state S.Store conn.old) (state S.Store conn.new)) }
-    ensures survives { Survives (state S.Store conn.old) (state S.Store conn.new) (CommitsShowing sums_of_text (Blob name.now ∷ []) (state S.Store conn.old)) }
-{
-    conn.query_all(
-        "SELECT self_cost, call_cost FROM run_event WHERE name = ?1",
-        params![name],
-    )
-}
-
-fn select_call_counts<S: Alter>(conn: &mut Connection<S>) -> Result<Vec<Row>, Error>
-    ensures ok { HasCleanDisk (state S.Store conn.new) → IfOk result (λ rows. Shown call_counts_text [] (state S.Store conn.old) (state S.Store conn.new) rows.items) }
-    ensures err { HasCleanDisk (state S.Store conn.new) → IfErr result (FailsToQuery call_counts_text [] (state S.Store conn.old) (state S.Store conn.new)) }
-    ensures survives { Survives (state S.Store conn.old) (state S.Store conn.new) (CommitsShowing call_counts_text [] (state S.Store conn.old)) }
-{
-    conn.query_all("SELECT call_count FROM run", &[])
 }
 
 /// The sums of two columns.
@@ -60,19 +39,14 @@ impl<S: Alter> Store<S> {
         ensures told { IsFaithful S.Store self.new → (t : _) → StandsFor S.Store t self.old → IfOk result (λ sums. (sums.own ≡ held_self t name.now) × (sums.calls ≡ held_calls t name.now)) }
         ensures found { IsFaithful S.Store self.new → (shown S.Store self.old).now.schema ≡ schema_one → IfOk result (λ sums. IsSum 4 (rows_named name.now (shown S.Store self.old).now.trees) sums.own × IsSum 5 (rows_named name.now (shown S.Store self.old).now.trees) sums.calls) }
         ensures bounded { IfOk result (λ sums. (sums.own < 2 ^ 112) × (sums.calls < 2 ^ 112)) }
-        ensures same { IsFaithful S.Store self.new → (shown S.Store self.old).now.schema ≡ schema_one → OnOk result ((shown S.Store self.new).now ≡ (shown S.Store self.old).now) }
-        ensures stays { IsFaithful S.Store self.new → (t : _) → StandsFor S.Store t self.old → OnOk result (StandsFor S.Store t self.new) }
-        ensures kept { IsFaithful S.Store self.new → (t : _) → StandsFor S.Store t self.old → IsUsable S.Store self.new → StandsFor S.Store t self.new }
-        ensures unchanged { IsFaithful S.Store self.new → IsSettled S.Store self.old → IsUsable S.Store self.new → IsAsBefore S.Store self.old self.new }
-        ensures answers { IsFaithful S.Store self.new → OnOk result (IsUsable S.Store self.new) }
-        ensures was_usable { IsFaithful S.Store self.new → IsUsable S.Store self.new → IsUsable S.Store self.old }
-        ensures crash { IsFaithful S.Store self.new → (t : _) → StandsFor S.Store t self.old → LeavesOnly S.Store self.old self.new (λ _. ⊥) }
-        ensures honest { IsFaithful S.Store self.new → IsFaithful S.Store self.old }
+        ensures asks { Asks S.Store (is_ok result) self.old self.new }
     {
-        match select_sums(&mut self.conn, name) {
-            Ok(rows) => sums_in(&rows),
-            Err(error) => Err(end_of(error)),
-        }
+        let rows = select(
+            &mut self.conn,
+            "SELECT self_cost, call_cost FROM run_event WHERE name = ?1",
+            params![name],
+        )?;
+        sums_in(&rows)
     }
 
     /// The sum of the call counts of all runs.
@@ -80,19 +54,10 @@ impl<S: Alter> Store<S> {
         ensures told { IsFaithful S.Store self.new → (t : _) → StandsFor S.Store t self.old → IfOk result (λ count. count ≡ held_count t) }
         ensures found { IsFaithful S.Store self.new → (shown S.Store self.old).now.schema ≡ schema_one → IfOk result (IsSum 5 ((shown S.Store self.old).now.trees 1)) }
         ensures bounded { IfOk result (λ count. count < 2 ^ 112) }
-        ensures same { IsFaithful S.Store self.new → (shown S.Store self.old).now.schema ≡ schema_one → OnOk result ((shown S.Store self.new).now ≡ (shown S.Store self.old).now) }
-        ensures stays { IsFaithful S.Store self.new → (t : _) → StandsFor S.Store t self.old → OnOk result (StandsFor S.Store t self.new) }
-        ensures kept { IsFaithful S.Store self.new → (t : _) → StandsFor S.Store t self.old → IsUsable S.Store self.new → StandsFor S.Store t self.new }
-        ensures unchanged { IsFaithful S.Store self.new → IsSettled S.Store self.old → IsUsable S.Store self.new → IsAsBefore S.Store self.old self.new }
-        ensures answers { IsFaithful S.Store self.new → OnOk result (IsUsable S.Store self.new) }
-        ensures was_usable { IsFaithful S.Store self.new → IsUsable S.Store self.new → IsUsable S.Store self.old }
-        ensures crash { IsFaithful S.Store self.new → (t : _) → StandsFor S.Store t self.old → LeavesOnly S.Store self.old self.new (λ _. ⊥) }
-        ensures honest { IsFaithful S.Store self.new → IsFaithful S.Store self.old }
+        ensures asks { Asks S.Store (is_ok result) self.old self.new }
     {
-        match select_call_counts(&mut self.conn) {
-            Ok(rows) => column_sum(&rows, 0),
-            Err(error) => Err(end_of(error)),
-        }
+        let rows = select(&mut self.conn, "SELECT call_count FROM run", &[])?;
+        column_sum(&rows, 0)
     }
 
     /// The sums of events, own costs and costs of calls, in their order.
@@ -105,14 +70,7 @@ impl<S: Alter> Store<S> {
         ensures found { IsFaithful S.Store self.new → (shown S.Store self.old).now.schema ≡ schema_one → IfOk result (AreSums (shown S.Store self.old).now.trees events.now) }
         ensures bounded { IfOk result (λ sums. All (λ n. n < 2 ^ 112) sums.0 × All (λ n. n < 2 ^ 112) sums.1) }
         ensures columns { IfOk result (λ sums. (length sums.0 ≡ length events.now) × (length sums.1 ≡ length events.now)) }
-        ensures same { IsFaithful S.Store self.new → (shown S.Store self.old).now.schema ≡ schema_one → OnOk result ((shown S.Store self.new).now ≡ (shown S.Store self.old).now) }
-        ensures stays { IsFaithful S.Store self.new → (t : _) → StandsFor S.Store t self.old → OnOk result (StandsFor S.Store t self.new) }
-        ensures kept { IsFaithful S.Store self.new → (t : _) → StandsFor S.Store t self.old → IsUsable S.Store self.new → StandsFor S.Store t self.new }
-        ensures unchanged { IsFaithful S.Store self.new → IsSettled S.Store self.old → IsUsable S.Store self.new → IsAsBefore S.Store self.old self.new }
-        ensures usable { IsFaithful S.Store self.new → IsUsable S.Store self.old → OnOk result (IsUsable S.Store self.new) }
-        ensures was_usable { IsFaithful S.Store self.new → IsUsable S.Store self.new → IsUsable S.Store self.old }
-        ensures crash { IsFaithful S.Store self.new → (t : _) → StandsFor S.Store t self.old → LeavesOnly S.Store self.old self.new (λ _. ⊥) }
-        ensures honest { IsFaithful S.Store self.new → IsFaithful S.Store self.old }
+        ensures asks { Asks S.Store (is_ok result && (shown S.Store self.old).is_open) self.old self.new }
     {
         let mut own = Items::new(alloc);
         let mut calls = Items::new(alloc);
@@ -133,13 +91,7 @@ impl<S: Alter> Store<S> {
         ensures found { IsFaithful S.Store self.new → (shown S.Store self.old).now.schema ≡ schema_one → IfOk result (IsHeldAt (shown S.Store self.old).now.trees events.now) }
         ensures bounded { IfOk result IsBounded }
         ensures columns { IfOk result (λ totals. (length totals.self_cost ≡ length events.now) × (length totals.call_cost ≡ length events.now)) }
-        ensures stays { IsFaithful S.Store self.new → (t : _) → StandsFor S.Store t self.old → OnOk result (StandsFor S.Store t self.new) }
-        ensures kept { IsFaithful S.Store self.new → (t : _) → StandsFor S.Store t self.old → IsUsable S.Store self.new → StandsFor S.Store t self.new }
-        ensures unchanged { IsFaithful S.Store self.new → IsSettled S.Store self.old → IsUsable S.Store self.new → IsAsBefore S.Store self.old self.new }
-        ensures answers { IsFaithful S.Store self.new → OnOk result (IsUsable S.Store self.new) }
-        ensures was_usable { IsFaithful S.Store self.new → IsUsable S.Store self.new → IsUsable S.Store self.old }
-        ensures crash { IsFaithful S.Store self.new → (t : _) → StandsFor S.Store t self.old → LeavesOnly S.Store self.old self.new (λ _. ⊥) }
-        ensures honest { IsFaithful S.Store self.new → IsFaithful S.Store self.old }
+        ensures asks { Asks S.Store (is_ok result) self.old self.new }
     {
         let call_count = self.calls_of_all()?;
         let (self_cost, call_cost) = self.sums_of_all(alloc, events)?;

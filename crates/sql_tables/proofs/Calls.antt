@@ -1,11 +1,12 @@
 -- Calls one after another, and what each kind of statement is.
 use Rattle.std.proofs.Common.{refl, Option, None, ◌≡◌, ◌≤◌, ◌+◌, ◌⊎◌, inl, inr, ℕ, List, Bool, true, false, Ok, Err, Result, IsTrue, sym, ap, subst, ◌∙◌, arith}
-use Rattle.std.specs.Result.{is_ok, IfOk, IfErr}
+use Rattle.std.specs.Result.{is_ok, IsErr}
 use Rattle.sqlite_disk.specs.Disk.{MoreFaults}
 use Rattle.sqlite_value.specs.Order.{Row}
 use Rattle.sqlite_trees.specs.Tree.{Trees}
 use Rattle.sqlite_schema.specs.declared.schema.Schema.{Schema}
 use Rattle.sqlite.specs.declared.error.Error.{Error}
+use Rattle.sqlite.specs.declared.error.Error.TheVariants.{QueryReturnedNoRows}
 use Rattle.sqlite_schema.specs.declared.command.Command.{Command}
 use Rattle.sqlite.specs.Effect.{Database, IsDatabase}
 use Rattle.sqlite.specs.Does.{Tally, Does}
@@ -15,7 +16,7 @@ use Rattle.sqlite.specs.State.{State, HasCleanDisk, IsUnchanged, IsRolledBack, S
 use Rattle.sqlite.proofs.Callers.{IsPlain, command_of}
 use Rattle.sql_tables.specs.States.{Rests, LeavesOnly}
 use Rattle.sql_tables.specs.Calls.{IsSettled, IsAsBefore, Stays, Asked, Changed}
-use Rattle.sql_tables.proofs.Opens.{WasOpen, WritesText, was_open_if_kept, shown_open, fails_was_open, row_open, row_was_open, ran_open}
+use Rattle.sql_tables.proofs.Opens.{WasOpen, WritesText, was_open_if_kept, shown_open, fails_was_open, row_open, no_row_open, no_row_unchanged, row_was_open, ran_open}
 use Rattle.sql_tables.proofs.Statements.{plain_mode, refused, done as write_done, crash as write_crash}
 use Rattle.sql_tables.proofs.Queries.{shown_keeps, failed_keeps, row_keeps, row_unchanged, commits_nothing}
 
@@ -68,6 +69,10 @@ settled_still schema old new was same = record {
 pub before_then : (old mid new : State) → IsAsBefore old mid → IsAsBefore mid new → IsAsBefore old new
 before_then old mid new one two = record { now_is = two.now_is ∙ one.now_is; committed_is = two.committed_is ∙ one.committed_is; autocommit = two.autocommit }
 
+-- of the same tables something else is told
+pub rests_as : (schema : Schema) (P Q : Trees → Type 0) (s : State) → Rests schema P s → Q s.now.trees → Rests schema Q s
+rests_as schema P Q s was holds = record { schema_is = was.schema_is; holds = holds; settled = was.settled; autocommit = was.autocommit; usable = was.usable }
+
 -- what stood before stands after
 pub rests_before : (schema : Schema) (P : Trees → Type 0) (old new : State) → Rests schema P old → IsTrue new.is_open → IsAsBefore old new → Rests schema P new
 rests_before schema P old new was is_open same = record {
@@ -85,7 +90,7 @@ asked_none schema s clean = record {
   stays = stays_none s clean;
   same = λ (none : false ≡ true). absurd cc;
   kept = λ was _. record { now_is = refl_now; committed_is = refl_committed; autocommit = was.autocommit };
-  crash = λ _ db may. inl may;
+  crash = λ _ _ db may. inl may;
 }
   where
     refl_now : s.now ≡ s.now
@@ -105,12 +110,41 @@ asked_then schema ok old mid new one two = record {
   stays = stays_then ok old mid new one.stays two.stays;
   same = λ is has. two.same is (ap (λ (d : Database). d.schema) (one.same refl has) ∙ has) ∙ one.same refl has;
   kept = λ was is_open. let first = one.kept was (one.stays.is_open refl) in before_then old mid new first (two.kept (settled_still schema old mid was first) is_open);
-  crash = λ has db may. elim (two.crash (ap (λ (d : Database). d.schema) (one.same refl has) ∙ has) db may) [ inl before ↦ one.crash has db before | inr none ↦ absurd none ];
+  crash = λ is has db may. elim (two.crash (one.stays.is_open refl) (ap (λ (d : Database). d.schema) (one.same refl has) ∙ has) db may) [ inl before ↦ one.crash is has db before | inr none ↦ absurd none ];
 }
+
+-- in a loop: as long as it was open at first it is open
+pub asked_yet : (schema : Schema) (s : State) → HasCleanDisk s → Asked schema s.is_open s s
+asked_yet schema s clean = record {
+  stays = record { was_clean = clean; counts = omega arith; closes = λ is. inl is; was_open = λ is. is; is_open = λ is. is };
+  same = λ _ _. cc;
+  kept = (asked_none schema s clean).kept;
+  crash = λ _ _ db may. inl may;
+}
+
+pub asked_on : (schema : Schema) (ok : Bool) (old mid new : State) → Asked schema old.is_open old mid → Asked schema ok mid new → Asked schema ok old new
+asked_on schema ok old mid new one two = record {
+  stays = record {
+    was_clean = one.stays.was_clean;
+    counts = omega (arith, one.stays.counts, two.stays.counts);
+    closes = λ is. elim (two.stays.closes (one.stays.is_open is)) [ inl still ↦ inl still | inr more ↦ inr (more_before old.faults mid.faults new.faults one.stays.counts more) ];
+    was_open = λ is. one.stays.was_open (two.stays.was_open is);
+    is_open = two.stays.is_open;
+  };
+  same = λ is has. let first = one.same (one.stays.was_open (two.stays.was_open (two.stays.is_open is))) has in two.same is (ap (λ (d : Database). d.schema) first ∙ has) ∙ first;
+  kept = λ was is_open. let first = one.kept was (two.stays.was_open is_open) in before_then old mid new first (two.kept (settled_still schema old mid was first) is_open);
+  crash = λ is has db may. elim (two.crash (one.stays.is_open is) (ap (λ (d : Database). d.schema) (one.same is has) ∙ has) db may) [ inl before ↦ one.crash is has db before | inr none ↦ absurd none ];
+}
+
+pub asked_more : (schema : Schema) (old mid new : State) → Asked schema old.is_open old mid → Asked schema true mid new → Asked schema old.is_open old new
+asked_more schema old mid new one two = asked_if schema old.is_open old new (asked_on schema true old mid new one two)
 
 -- what stood stands after a call that asked
 pub asked_rests : (schema : Schema) (P : Trees → Type 0) (old new : State) → Asked schema true old new → Rests schema P old → Rests schema P new
 asked_rests schema P old new h was = rests_before schema P old new was (h.stays.is_open refl) (h.kept (settled_of schema P old was) (h.stays.is_open refl))
+
+pub asked_rests_yet : (schema : Schema) (P : Trees → Type 0) (old new : State) → Asked schema old.is_open old new → Rests schema P old → Rests schema P new
+asked_rests_yet schema P old new h was = rests_before schema P old new was (h.stays.is_open was.usable) (h.kept (settled_of schema P old was) (h.stays.is_open was.usable))
 
 -- ---- calls that change
 
@@ -124,7 +158,7 @@ module _ (schema : Schema) {M : Type 0} (Before After : M → Trees → Type 0) 
     stays = h.stays;
     done = λ (none : false ≡ true). absurd cc;
     kept = λ _. h.kept;
-    crash = λ m was db may. elim (h.crash was.schema_is db may) [ inl before ↦ inl before | inr none ↦ absurd none ];
+    crash = λ m was db may. elim (h.crash was.usable was.schema_is db may) [ inl before ↦ inl before | inr none ↦ absurd none ];
   }
 
   -- a change after questions
@@ -134,24 +168,29 @@ module _ (schema : Schema) {M : Type 0} (Before After : M → Trees → Type 0) 
     done = λ is m was. two.done is m (asked_rests schema (Before m) old mid one was);
     kept = λ not was is_open. let first = one.kept was (one.stays.is_open refl) in before_then old mid new first (two.kept not (settled_still schema old mid was first) is_open);
     crash = λ m was db may. elim (two.crash m (asked_rests schema (Before m) old mid one was) db may) [
-      | inl before ↦ elim (one.crash was.schema_is db before) [ inl first ↦ inl first | inr none ↦ absurd none ]
+      | inl before ↦ elim (one.crash was.usable was.schema_is db before) [ inl first ↦ inl first | inr none ↦ absurd none ]
       | inr after ↦ inr after
     ];
   }
 
-  -- the same change, told of other meanings
-  pub changed_as : {N : Type 0} (Earlier Later : N → Trees → Type 0) → ((n : N) (db : Trees) → Earlier n db → (m : M) × Before m db × ((next : Trees) → After m next → Later n next))
-      → (ok done : Bool) (old new : State) → Changed schema Before After ok done old new → Changed schema Earlier Later ok done old new
-  changed_as Earlier Later means ok done old new h = record {
+  -- what was only asked, where nothing had to be changed
+  pub changed_idle : (old new : State) → Asked schema true old new → ((m : M) → Rests schema (Before m) old → After m old.now.trees) → Changed schema Before After true true old new
+  changed_idle old new h idle = record {
     stays = h.stays;
-    done = λ is n was.
-      let it = means n old.now.trees was.holds in
-      let after = h.done is it.0 (record { schema_is = was.schema_is; holds = it.1; settled = was.settled; autocommit = was.autocommit; usable = was.usable }) in
-      record { schema_is = after.schema_is; holds = it.2 new.now.trees after.holds; settled = after.settled; autocommit = after.autocommit; usable = after.usable };
+    done = λ _ m was. let after = asked_rests schema (Before m) old new h was in rests_as schema (Before m) (After m) new after (subst (λ (d : Database). After m d.trees) (sym (h.same refl was.schema_is)) (idle m was));
+    kept = λ (none : true ≡ false). absurd cc;
+    crash = λ m was db may. elim (h.crash was.usable was.schema_is db may) [ inl before ↦ inl before | inr none ↦ absurd none ];
+  }
+
+  -- the same change, told of other meanings
+  pub changed_as : {N : Type 0} (Earlier Later : N → Trees → Type 0) (ok done : Bool) (old new : State)
+      → ((n : N) → Rests schema (Earlier n) old → (m : M) × Rests schema (Before m) old × ((next : Trees) → After m next → Later n next))
+      → Changed schema Before After ok done old new → Changed schema Earlier Later ok done old new
+  changed_as Earlier Later ok done old new means h = record {
+    stays = h.stays;
+    done = λ is n was. let it = means n was in let after = h.done is it.0 it.1 in rests_as schema (After it.0) (Later n) new after (it.2 new.now.trees after.holds);
     kept = h.kept;
-    crash = λ n was db may.
-      let it = means n old.now.trees was.holds in
-      elim (h.crash it.0 (record { schema_is = was.schema_is; holds = it.1; settled = was.settled; autocommit = was.autocommit; usable = was.usable }) db may) [ inl before ↦ inl before | inr after ↦ inr (it.2 db after) ];
+    crash = λ n was db may. let it = means n was in elim (h.crash it.0 it.1 db may) [ inl before ↦ inl before | inr after ↦ inr (it.2 db after) ];
   }
 
 -- ---- statements
@@ -165,7 +204,7 @@ module _ (schema : Schema) (sql : List ℕ) (params : Row) (plain : IsPlain (und
     stays = stays_by ok old new survives clean was_open is_open;
     same = λ is has. (same has is).0.now_is;
     kept = λ was is_open. before_kept schema old new was is_open (kept was.schema_is);
-    crash = λ has. (commits_nothing schema sql params old new has plain survives).crash clean;
+    crash = λ _ has. (commits_nothing schema sql params old new has plain survives).crash clean;
   }
 
   -- a query for all rows
@@ -183,6 +222,13 @@ module _ (schema : Schema) (sql : List ℕ) (params : Row) (plain : IsPlain (und
   row_asks row h =
       let is = row_open sql params old new row h in
       let same = λ (has : old.now.schema ≡ schema). row_unchanged schema sql params old new has plain row h in
+      asks_by true (λ _. is.was_open) (λ _. is.is_open) (λ has _. same has) (λ has. inl (same has))
+
+  -- that there is no row is an answer too
+  pub no_row_asks : QueriesRow sql params old new (Err QueryReturnedNoRows) → Asked schema true old new
+  no_row_asks h =
+      let is = no_row_open sql params old new h in
+      let same = λ (has : old.now.schema ≡ schema). no_row_unchanged schema sql params old new has plain h in
       asks_by true (λ _. is.was_open) (λ _. is.is_open) (λ has _. same has) (λ has. inl (same has))
 
   pub row_refused : (e : Error) → QueriesRow sql params old new (Err e) → Asked schema false old new
@@ -214,3 +260,13 @@ module _ (schema : Schema) (sql : List ℕ) (params : Row) (command : Command) (
         kept = λ _ was is_open. before_kept schema old new was is_open same;
         crash = λ m was. (write_crash schema sql params command means plain writes (Before m) (After m) (makes m) old new was survives).crash clean;
       }
+
+-- ---- by what is returned
+
+pub asked_err : {T E : Type 0} (schema : Schema) (r : Result T E) (old new : State) → IsErr r → Asked schema false old new → Asked schema (is_ok r) old new
+asked_err schema (Ok x) old new is h = absurd (cc is)
+asked_err schema (Err e) old new is h = h
+
+pub changed_err : {T E M : Type 0} (schema : Schema) (Before After : M → Trees → Type 0) (r : Result T E) (old new : State) → IsErr r → Changed schema Before After false false old new → Changed schema Before After (is_ok r) (is_ok r) old new
+changed_err schema Before After (Ok x) old new is h = absurd (cc is)
+changed_err schema Before After (Err e) old new is h = h

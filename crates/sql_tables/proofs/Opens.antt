@@ -34,6 +34,8 @@ use Rattle.sqlite.specs.Calls.{IsWrite}
 use Rattle.sqlite.specs.Clock.{timed}
 use Rattle.sqlite.specs.Listing.{understood, reads_listing, if_select, is_select, listing_schema}
 use Rattle.sqlite.specs.State.{State, Runs, IsUnchanged, IsRolledBack, Executes, ExecutesIn, IsNotRun, QueriesRow, Shown, ShowsRows, FailsToQuery, FailsToShow, shows_rows, text_of, store_error}
+use Rattle.sqlite.proofs.Callers.{IsPlain}
+use Rattle.sql_tables.proofs.Queries.{shown_keeps}
 use Rattle.sql_tables.proofs.Failures.{IsFailure, failure_of}
 
 -- the connection was open and is
@@ -90,6 +92,12 @@ no_row_open sql params old new (inl h) = elim (failed_so sql params old new Quer
   | inr back ↦ absurd (subst IsFailure (sym back.1) (failure_of back.0))
 ]
 no_row_open sql params old new (inr h) = shown_open sql params old new _ h.1
+
+-- and it changes nothing
+pub no_row_unchanged : (schema : Schema) (sql : List ℕ) (params : Row) (old new : State) → old.now.schema ≡ schema → IsPlain (understood schema sql) → QueriesRow sql params old new (Err QueryReturnedNoRows) → IsUnchanged old new
+unfolding QueriesRow
+no_row_unchanged schema sql params old new has plain (inl h) = elim (failed_so sql params old new QueryReturnedNoRows h) [ inl same ↦ same | inr back ↦ absurd (subst IsFailure (sym back.1) (failure_of back.0)) ]
+no_row_unchanged schema sql params old new has plain (inr h) = shown_keeps schema sql params old new has plain [] h.1
 
 pub row_was_open : (sql : List ℕ) (params : Row) (old new : State) (r : Result Row Error) → QueriesRow sql params old new r → WasOpen old new
 unfolding QueriesRow

@@ -31,7 +31,7 @@ pub record Asked (schema : Schema) (answered : Bool) (old new : State) : Type 0 
   pub stays : Stays answered old new
   pub same : IsTrue answered → old.now.schema ≡ schema → new.now ≡ old.now
   pub kept : IsSettled schema old → IsTrue new.is_open → IsAsBefore old new
-  pub crash : old.now.schema ≡ schema → LeavesOnly old new (λ _. ⊥)
+  pub crash : IsTrue old.is_open → old.now.schema ≡ schema → LeavesOnly old new (λ _. ⊥)
 
 -- a call that changes tables, by one commit at its end: each meaning that they had becomes what is said of it afterwards; where it is not done, all is as before; a crash leaves what it could leave before, or tables with the change
 pub record Changed (schema : Schema) {M : Type 0} (Before After : M → Trees → Type 0) (answered is_done : Bool) (old new : State) : Type 0 where

@@ -1,9 +1,11 @@
-use Rattle.std.proofs.Common.{◌∙◌, map, ap, sym, subst, IsPermutation}
+use Rattle.std.proofs.Common.{refl, ◌∙◌, map, ap, sym, subst, IsPermutation}
 use Rattle.sqlite_exec.proofs.MarkLemmas.{if_ok_then}
 use Rattle.sqlite_keyed.proofs.ListLemmas.{map-map}
 use Rattle.sqlite.specs.Effect.{Database}
 use Rattle.prof_tables.specs.Seen.{group_seen}
-use Rattle.prof_tables.specs.Tables.{group_columns, member_columns}
+use Rattle.sql_tables.proofs.Calls.{asked_rests, asked_then, asked_err}
+use Rattle.prof_tables.specs.Schema.{schema_one}
+use Rattle.prof_tables.specs.Tables.{Holds, group_columns, member_columns}
 use Rattle.prof_store.specs.Groups.{entry_group, member_line}
 use Rattle.prof_store.specs.declared.entries.GroupEntry.{GroupEntry}
 use Rattle.prof_store.proofs.GroupMembers.{members_told}
@@ -12,15 +14,17 @@ use Rattle.prof_store.proofs.store.Store.groups.Goals as goal
 
 pub returns-clause-told : goal.returns-clause-told
 returns-clause-told g c clean t was =
-    let mid = c.in_ok-members.ensures.stays (c.groups_of.ensures.honest clean) t was in
-    let first = c.in_ok-members.ensures.told (c.groups_of.ensures.honest clean) t was in
+    let early = (c.groups_of.ensures.asks clean).stays.was_clean in
+    let mid = asked_rests schema_one (Holds t) _ _ (c.in_ok-members.ensures.asks early) was in
+    let first = c.in_ok-members.ensures.told early t was in
     if_ok_then c.groups_of.result (both_ok _ _ c.groups_of.result (c.groups_of.ensures.told clean t mid) c.groups_of.ensures.members) (λ entries is.
     (is.0, subst (IsPermutation t.members) (sym (is.1 ∙ ap (map member_line) c.deref.ensures.value)) first))
 
 pub returns-clause-found : goal.returns-clause-found
 returns-clause-found g c clean has =
-    let same = c.in_ok-members.ensures.same (c.groups_of.ensures.honest clean) has in
-    let first = c.in_ok-members.ensures.found (c.groups_of.ensures.honest clean) has in
+    let early = (c.groups_of.ensures.asks clean).stays.was_clean in
+    let same = (c.in_ok-members.ensures.asks early).same refl has in
+    let first = c.in_ok-members.ensures.found early has in
     let has_too = ap (λ (d : Database). d.schema) same ∙ has in
     if_ok_then c.groups_of.result (both_ok _ _ c.groups_of.result (c.groups_of.ensures.found clean has_too) c.groups_of.ensures.members) (λ entries is. (
       subst (λ (d : Database). IsPermutation (map group_seen (d.trees 19)) (map (λ (e : GroupEntry). group_columns (entry_group e)) entries.items)) same is.0,
@@ -29,7 +33,14 @@ returns-clause-found g c clean has =
 
 pub returns-clause-members : goal.returns-clause-members
 returns-clause-members g c clean t was =
-    let mid = c.in_ok-members.ensures.stays (c.groups_of.ensures.honest clean) t was in
-    let first = c.in_ok-members.ensures.told (c.groups_of.ensures.honest clean) t was in
+    let early = (c.groups_of.ensures.asks clean).stays.was_clean in
+    let mid = asked_rests schema_one (Holds t) _ _ (c.in_ok-members.ensures.asks early) was in
+    let first = c.in_ok-members.ensures.told early t was in
     if_ok_then c.groups_of.result (both_ok _ _ c.groups_of.result c.groups_of.ensures.rising c.groups_of.ensures.members) (λ entries is.
     members_told t.members entries.items is.0 (subst (IsPermutation t.members) (sym (is.1 ∙ ap (map member_line) c.deref.ensures.value)) first))
+
+pub returns-clause-asks : goal.returns-clause-asks
+returns-clause-asks g c clean = let second = c.groups_of.ensures.asks clean in asked_then schema_one _ _ _ _ (c.in_ok-members.ensures.asks second.stays.was_clean) second
+
+pub returns-in_err-members-clause-asks : goal.returns-in_err-members-clause-asks
+returns-in_err-members-clause-asks g c clean = asked_err schema_one c.from_residual.result _ _ c.from_residual.ensures.0 (c.in_err-members.ensures.asks clean)

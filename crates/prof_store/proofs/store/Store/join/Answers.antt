@@ -1,9 +1,29 @@
-use Rattle.std.proofs.lemmas.Result.{on_err_weaker}
-use Rattle.prof_store.proofs.Writing.{settled_still, before_then}
+use Rattle.std.specs.Result.{is_ok}
+use Rattle.std.proofs.Common.{◌≡◌, ◌∙◌, true, false, if◌then◌else◌, sym, subst}
+use Rattle.sql_tables.proofs.Calls.{asked_err, changed_asked, changed_then, changed_idle, changed_as, changed_err}
+use Rattle.prof_tables.specs.Changes.{has_member, joined, with_member}
+use Rattle.prof_tables.specs.Schema.{schema_one}
+use Rattle.prof_tables.specs.Tables.{Holds}
+use Rattle.prof_store.specs.Shown.{shown}
 use Rattle.prof_store.proofs.store.Store.join.Goals as goal
 
-pub returns-clause-unchanged : goal.returns-clause-unchanged
-returns-clause-unchanged g c clean was =
-    let early = c.put_member.ensures.honest clean in
-    let mid = c.in_ok-is_member.ensures.unchanged early was (c.in_ok-is_member.ensures.answers early) in
-    on_err_weaker c.put_member.result (λ k is_open. before_then g.S.Store _ _ _ mid (k is_open)) (c.put_member.ensures.unchanged clean (settled_still g.S.Store _ _ was mid))
+pub returns : goal.returns
+returns g c = record { changes = λ clean.
+    let name = c.args.name.now in
+    let run = c.args.run in
+    let two = c.put_member.ensures.changes clean in
+    let early = two.stays.was_clean in
+    changed_as schema_one Holds (λ t. Holds (with_member name run t)) Holds (λ t. Holds (joined name run t)) (is_ok c.put_member.result) (is_ok c.put_member.result) _ _
+    (λ t was. (t, was, λ next h. subst (λ b. Holds (if b then t else with_member name run t) next) (let e : has_member t name run ≡ false = sym (c.in_ok-is_member.ensures.told early t was) ∙ c.if-branch.false in sym e) h))
+    (changed_then schema_one Holds (λ t. Holds (with_member name run t)) (is_ok c.put_member.result) (is_ok c.put_member.result) _ _ _ (c.in_ok-is_member.ensures.asks early) two) }
+
+pub returns-then-branch : goal.returns-then-branch
+returns-then-branch g c = record { changes = λ clean.
+    let name = c.args.name.now in
+    let run = c.args.run in
+    changed_idle schema_one Holds (λ t. Holds (joined name run t)) _ _ (c.in_ok-is_member.ensures.asks clean)
+    (λ t was. subst (λ b. Holds (if b then t else with_member name run t) (shown g.S.Store c.args.self.now).now.trees) (let e : has_member t name run ≡ true = sym (c.in_ok-is_member.ensures.told clean t was) ∙ c.if-branch.true in sym e) was.holds) }
+
+pub returns-in_err-is_member : goal.returns-in_err-is_member
+returns-in_err-is_member g c = record { changes = λ clean.
+    changed_err schema_one Holds (λ t. Holds (joined c.args.name.now c.args.run t)) c.from_residual.result _ _ c.from_residual.ensures.0 (changed_asked schema_one Holds (λ t. Holds (joined c.args.name.now c.args.run t)) _ _ _ (c.in_err-is_member.ensures.asks clean)) }

@@ -1,45 +1,22 @@
 use Rattle.std.proofs.Common.{[], ◌∷◌}
-use Rattle.std.specs.Bool.{⊤}
 use Rattle.sqlite_value.specs.declared.value.Value.TheVariants.{Text}
-use Rattle.sql_tables.proofs.Statements.{refused, rests_if_kept}
-use Rattle.prof_tables.specs.Schema.{schema_one}
 use Rattle.prof_tables.specs.Tables.{Holds}
 use Rattle.prof_tables.specs.Texts.{put_group_text}
 use Rattle.prof_tables.specs.Changes.{with_group}
 use Rattle.prof_tables.proofs.Means.{put_group_means, put_group_plain}
 use Rattle.prof_tables.proofs.Rows.{puts_group}
-use Rattle.store_columns.proofs.Effects.{rests, leaves as survives}
-use Rattle.prof_store.proofs.Writing.{as_before}
-use Rattle.sql_tables.proofs.Opens.{ran_open, was_open_if_kept}
 use Rattle.prof_tables.proofs.Writes.{put_group_writes}
+use Rattle.sql_tables.proofs.Calls.{changed_err, write_changes, write_refused}
+use Rattle.prof_tables.specs.Schema.{schema_one}
 use Rattle.prof_store.proofs.store.Store.put_group.Goals as goal
 
-pub returns-in-Ok-clause-done : goal.returns-in-Ok-clause-done
-returns-in-Ok-clause-done g c clean t was =
+pub returns : goal.returns
+returns g c = record { changes = λ clean.
     let name = c.args.name.now in
-    rests put_group_text (Text name ∷ []) _ put_group_means put_group_plain tt (λ _. ⊤) (with_group name) (λ t is limit trees text tally after was sound. puts_group t limit trees text tally after was sound name) _ _ _ t tt was (c.in-Ok.ensures.runs clean)
+    write_changes schema_one put_group_text (Text name ∷ []) _ put_group_means put_group_plain tt Holds (λ t. Holds (with_group name t)) (λ t limit trees text tally after was sound. puts_group t limit trees text tally after was sound name) _ _ clean (rw c.params-to_sql.ensures at c.write.ensures.survives) _ put_group_writes ((rw c.params-to_sql.ensures at c.in_ok-write.ensures.ran) clean) }
 
-pub returns-in-Ok-clause-crash : goal.returns-in-Ok-clause-crash
-returns-in-Ok-clause-crash g c clean t was =
+pub returns-in_err-write : goal.returns-in_err-write
+returns-in_err-write g c = record { changes = λ clean.
     let name = c.args.name.now in
-    (survives put_group_text (Text name ∷ []) _ put_group_means put_group_plain tt (λ _. ⊤) (with_group name) (λ t is limit trees text tally after was sound. puts_group t limit trees text tally after was sound name) _ _ 0 t tt was c.insert_group.ensures.survives).crash clean
-
-pub returns-in-Err-clause-kept : goal.returns-in-Err-clause-kept
-returns-in-Err-clause-kept g c clean t was is_open = rests_if_kept schema_one (Holds t) _ _ was is_open (refused put_group_text _ _ _ c.in-Err.error (c.in-Err.ensures.runs clean))
-
-pub returns-in-Err-clause-unchanged : goal.returns-in-Err-clause-unchanged
-returns-in-Err-clause-unchanged g c clean was is_open = as_before g.S.Store _ _ was is_open (refused put_group_text _ _ _ c.in-Err.error (c.in-Err.ensures.runs clean))
-
-pub returns-in-Err-clause-crash : goal.returns-in-Err-clause-crash
-returns-in-Err-clause-crash g c clean t was =
-    let name = c.args.name.now in
-    (survives put_group_text (Text name ∷ []) _ put_group_means put_group_plain tt (λ _. ⊤) (with_group name) (λ t is limit trees text tally after was sound. puts_group t limit trees text tally after was sound name) _ _ 0 t tt was c.insert_group.ensures.survives).crash clean
-
-pub returns-in-Ok-clause-answers : goal.returns-in-Ok-clause-answers
-returns-in-Ok-clause-answers g c clean = (ran_open _ _ _ _ _ put_group_writes (c.in-Ok.ensures.runs clean)).is_open
-
-pub returns-in-Ok-clause-was_usable : goal.returns-in-Ok-clause-was_usable
-returns-in-Ok-clause-was_usable g c clean is_open = (ran_open _ _ _ _ _ put_group_writes (c.in-Ok.ensures.runs clean)).was_open
-
-pub returns-in-Err-clause-was_usable : goal.returns-in-Err-clause-was_usable
-returns-in-Err-clause-was_usable g c clean is_open = was_open_if_kept _ _ (refused _ _ _ _ _ (c.in-Err.ensures.runs clean)) is_open
+    let it = (rw c.params-to_sql.ensures at c.in_err-write.ensures.ran) clean in
+    changed_err schema_one Holds (λ t. Holds (with_group name t)) c.from_residual.result _ _ c.from_residual.ensures.0 (write_refused schema_one put_group_text (Text name ∷ []) _ put_group_means put_group_plain tt Holds (λ t. Holds (with_group name t)) (λ t limit trees text tally after was sound. puts_group t limit trees text tally after was sound name) _ _ clean (rw c.params-to_sql.ensures at c.write.ensures.survives) it.0 it.1) }

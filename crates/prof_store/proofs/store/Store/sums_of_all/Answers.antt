@@ -1,14 +1,16 @@
-use Rattle.std.proofs.Common.{◌≡◌, ◌<◌, ◌^◌, ◌+◌, ◌∙◌, ◌++◌, ◌∷◌, [], inl, inr, take, length, All, ap, sym, subst, arith}
+use Rattle.std.proofs.Common.{◌≡◌, ◌<◌, ◌^◌, ◌+◌, ◌∙◌, ◌++◌, ◌∷◌, [], refl, take, length, All, ap, sym, subst, arith}
 use Rattle.std.proofs.lemmas.List.{take_all, length-append}
 use Rattle.std.proofs.lemmas.List.Elements.{All-push}
 use Rattle.sqlite.specs.Effect.{Database}
+use Rattle.sql_tables.proofs.Calls.{asked_on, asked_more, asked_rests_yet}
+use Rattle.prof_tables.specs.Schema.{schema_one}
+use Rattle.prof_tables.specs.Tables.{Holds}
 use Rattle.prof_store.specs.Shown.{shown}
 use Rattle.prof_store.specs.Totals.{AreSums, IsSum, rows_named}
 use Rattle.prof_books.specs.Totals.{held_self, held_calls}
 use Rattle.prof_store.proofs.Listing.{read_on}
 use Rattle.prof_store.proofs.HeldSums.{sums_more}
 use Rattle.prof_store.proofs.Reading.{is_ok_then}
-use Rattle.prof_store.proofs.Writing.{settled_still, before_then}
 use Rattle.prof_store.proofs.store.Store.sums_of_all.Goals as goal
 
 pub events-preserved : goal.events-preserved
@@ -22,43 +24,40 @@ events-preserved g c =
     let calls = c.events.calls in
     let a = c.in_ok-sums.sums.own in
     let b = c.in_ok-sums.sums.calls in
-    let db = (shown g.S.Store c.args.self.now).now.trees in
+    let old = shown g.S.Store c.args.self.now in
+    let mid = shown g.S.Store c.events.self in
+    let db = old.now.trees in
     let low = c.events-test.true in
     let is = c.event-item.is in
     let pushed_own : c.push.new.self ≡ own ++ a ∷ [] = is_ok_then c.push.result c.if-is_err.ensures.negation c.push.ensures.ok in
     let pushed_calls : c.push-else-is_err.new.self ≡ calls ++ b ∷ [] = is_ok_then c.push-else-is_err.result c.if-is_err-2.ensures.negation c.push-else-is_err.ensures.ok in
-    let named : c.as_slice.result.now ≡ name = c.as_slice.ensures in (
-      λ clean has. let same = i.0 (s.honest clean) has in s.same clean (ap (λ (d : Database). d.schema) same ∙ has) ∙ same,
-      λ clean t was. s.stays clean t (i.1 (s.honest clean) t was),
-      λ clean was.
-          let mid = i.2 (s.honest clean) was in
-          let settled = settled_still g.S.Store _ _ was mid in
-          before_then g.S.Store _ _ _ mid (s.unchanged clean settled (s.answers clean)),
-      λ clean t was left may. elim (s.crash clean t (i.1 (s.honest clean) t was) left may) [ inl before ↦ i.3 (s.honest clean) t was left before | inr never ↦ absurd never ],
-      λ clean. i.4 (s.honest clean),
-      λ clean t was.
-          let told = s.told clean t (i.1 (s.honest clean) t was) in
-          let far = i.5 (s.honest clean) t was in (
+    let named : c.as_slice.result.now ≡ name = c.as_slice.ensures in record {
+      asked = λ clean. let one = s.asks clean in asked_more schema_one old mid _ (i.asked one.stays.was_clean) one;
+      told = λ clean t was.
+          let one = s.asks clean in
+          let early = one.stays.was_clean in
+          let told = s.told clean t (asked_rests_yet schema_one (Holds t) old mid (i.asked early) was) in
+          let far = i.told early t was in (
             pushed_own ∙ ap (λ n. own ++ n ∷ []) (told.0 ∙ ap (held_self t) named) ∙ sym (read_on (held_self t) events k name own low is (sym far.0)),
             pushed_calls ∙ ap (λ n. calls ++ n ∷ []) (told.1 ∙ ap (held_calls t) named) ∙ sym (read_on (held_calls t) events k name calls low is (sym far.1)),
-          ),
-      λ clean has.
-          let same = i.0 (s.honest clean) has in
+          );
+      found = λ clean has.
+          let one = s.asks clean in
+          let early = one.stays.was_clean in
+          let before = i.asked early in
+          let same = before.same (before.stays.was_open (one.stays.was_open (one.stays.is_open refl))) has in
           let found = s.found clean (ap (λ (d : Database). d.schema) same ∙ has) in
           let x = subst (λ n. IsSum 4 (rows_named n db) a) named (subst (λ (d : Database). IsSum 4 (rows_named c.as_slice.result.now d.trees) a) same found.0) in
           let y = subst (λ n. IsSum 5 (rows_named n db) b) named (subst (λ (d : Database). IsSum 5 (rows_named c.as_slice.result.now d.trees) b) same found.1) in
           subst (λ l. AreSums db (take (k + 1) events) (l, c.push-else-is_err.new.self)) (sym pushed_own)
-          (subst (λ l. AreSums db (take (k + 1) events) (own ++ a ∷ [], l)) (sym pushed_calls) (sums_more db events k name own calls a b low is (i.6 (s.honest clean) has) x y)),
-      (
-        subst (All (λ n. n < 2 ^ 112)) (sym pushed_own) (All-push (λ n. n < 2 ^ 112) own a i.7.0 s.bounded.0),
-        subst (All (λ n. n < 2 ^ 112)) (sym pushed_calls) (All-push (λ n. n < 2 ^ 112) calls b i.7.1 s.bounded.1),
-      ),
-      λ clean was. s.answers clean,
-      λ clean is_open. i.9 (s.honest clean) (s.was_usable clean is_open),
-      (let e = ap length pushed_own ∙ length-append own (a ∷ []) in omega (arith, e, i.10)),
-      (let e = ap length pushed_calls ∙ length-append calls (b ∷ []) in omega (arith, e, i.11)),
-    )
+          (subst (λ l. AreSums db (take (k + 1) events) (own ++ a ∷ [], l)) (sym pushed_calls) (sums_more db events k name own calls a b low is (i.found early has) x y));
+      own_bounded = subst (All (λ n. n < 2 ^ 112)) (sym pushed_own) (All-push (λ n. n < 2 ^ 112) own a i.own_bounded s.bounded.0);
+      calls_bounded = subst (All (λ n. n < 2 ^ 112)) (sym pushed_calls) (All-push (λ n. n < 2 ^ 112) calls b i.calls_bounded s.bounded.1);
+      own_length = (let e = ap length pushed_own ∙ length-append own (a ∷ []) in omega (arith, e, i.own_length));
+      calls_length = (let e = ap length pushed_calls ∙ length-append calls (b ∷ []) in omega (arith, e, i.calls_length));
+    }
 
 pub returns-clause-found : goal.returns-clause-found
 returns-clause-found g c clean has =
-    let events = c.args.events.now in subst (λ l. AreSums (shown g.S.Store c.args.self.now).now.trees l (c.events.own, c.events.calls)) (take_all c.events.event-index events (omega (arith, c.events-test.false))) (c.events.invariant.6 clean has)
+    let events = c.args.events.now in subst (λ l. AreSums (shown g.S.Store c.args.self.now).now.trees l (c.events.own, c.events.calls)) (take_all c.events.event-index events (omega (arith, c.events-test.false))) (c.events.invariant.found clean has)
+
