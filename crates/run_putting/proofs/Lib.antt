@@ -1,1 +1,2 @@
 pub mod FilePuts
+mod Puts

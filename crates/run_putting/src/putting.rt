@@ -2,6 +2,8 @@
 ghost use Rattle.std.specs.Prelude.{◌≡◌, ◌∷◌, [], false, suc, map, OnOk, OnErr, IsTrue, ⊤};
 ghost use Rattle.sqlite.specs.Held.{state};
 ghost use Rattle.sqlite.specs.State.{HasCleanDisk, Survives};
+ghost use Rattle.std.specs.Result.{is_ok};
+ghost use Rattle.sql_tables.specs.Calls.{Stays};
 ghost use Rattle.sql_tables.specs.States.{Rests, Works, KeepsCommit};
 ghost use Rattle.prof_tables.specs.Schema.{schema_one};
 ghost use Rattle.prof_tables.specs.Tables.{Holds};
@@ -91,10 +93,8 @@ pub(crate) fn put_in<S: Alter>(
     requires { conn.old.in_transaction ≡ false }
     ensures done { HasCleanDisk (state S.Store conn.new) → (t : _) → t.next ≡ run.now.number → Rests schema_one (Holds t) (state S.Store conn.old) → OnOk result (Rests schema_one (Holds (with_run_of run.now head.now rows.now t)) (state S.Store conn.new)) }
     ensures undone { HasCleanDisk (state S.Store conn.new) → OnErr result (IsUndone (state S.Store conn.old) (state S.Store conn.new)) }
-    ensures answers { HasCleanDisk (state S.Store conn.new) → OnOk result (IsTrue (state S.Store conn.new).is_open) }
-    ensures was_open { HasCleanDisk (state S.Store conn.new) → IsTrue (state S.Store conn.new).is_open → IsTrue (state S.Store conn.old).is_open }
+    ensures stays { HasCleanDisk (state S.Store conn.new) → Stays (is_ok result) (state S.Store conn.old) (state S.Store conn.new) }
     ensures crash { (t : _) → t.next ≡ run.now.number → Rests schema_one (Holds t) (state S.Store conn.old) → Survives (state S.Store conn.old) (state S.Store conn.new) (Holds (with_run_of run.now head.now rows.now t)) }
-    ensures honest { HasCleanDisk (state S.Store conn.new) → HasCleanDisk (state S.Store conn.old) }
 {
     let mut tx = conn.transaction();
     fill_run(&mut tx, alloc, run, head, rows)?;

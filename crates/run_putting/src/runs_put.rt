@@ -1,13 +1,13 @@
 // A file is put as a run.
-ghost use Rattle.std.specs.Prelude.{ℕ, ◌≡◌, ◌<◌, ◌^◌, length, IfOk, OnOk, OnErr};
+ghost use Rattle.std.specs.Prelude.{ℕ, ◌≡◌, ◌<◌, ◌^◌, length, IfOk, OnOk};
+ghost use Rattle.std.specs.Result.{is_ok};
 ghost use Rattle.cost_rows.specs.Totals.{count_total};
 ghost use Rattle.cost_rows.specs.Rows.{content_of};
 ghost use Rattle.sqlite_rules.specs.Lists.{Has};
-ghost use Rattle.prof_tables.specs.Tables.{Holds};
 ghost use Rattle.prof_books.specs.Heads.{IsWhole, ColumnFits};
 ghost use Rattle.prof_tables.specs.Labels.{IsLabel};
 ghost use Rattle.prof_books.specs.Runs.{with_file};
-ghost use Rattle.prof_store.specs.Shown.{IsFaithful, IsUsable, StandsFor, IsSettled, IsAsBefore, LeavesOnly};
+ghost use Rattle.prof_store.specs.Shown.{IsFaithful, StandsFor, Changes, ChangesIf};
 
 use crate::putting::put_in;
 use cg_formulas::FileHead;
@@ -33,13 +33,7 @@ fn put_numbered<S: Alter>(
     ensures whole { OnOk result (IsWhole head.now) }
     ensures fits { OnOk result ((k : ℕ) → k < length head.now.events → ColumnFits (content_of rows.now) k) }
     ensures counted { OnOk result (count_total (content_of rows.now).arcs < 2 ^ 63) }
-    ensures done { IsFaithful S.Store store.new → (t : _) → StandsFor S.Store t store.old → t.next ≡ number → OnOk result (StandsFor S.Store (with_file number kind digest.now label.now head.now (content_of rows.now) t) store.new) }
-    ensures kept { IsFaithful S.Store store.new → (t : _) → StandsFor S.Store t store.old → OnErr result (IsUsable S.Store store.new → StandsFor S.Store t store.new) }
-    ensures unchanged { IsFaithful S.Store store.new → IsSettled S.Store store.old → OnErr result (IsUsable S.Store store.new → IsAsBefore S.Store store.old store.new) }
-    ensures answers { IsFaithful S.Store store.new → OnOk result (IsUsable S.Store store.new) }
-    ensures was_usable { IsFaithful S.Store store.new → IsUsable S.Store store.new → IsUsable S.Store store.old }
-    ensures crash { IsFaithful S.Store store.new → (t : _) → StandsFor S.Store t store.old → t.next ≡ number → LeavesOnly S.Store store.old store.new (Holds (with_file number kind digest.now label.now head.now (content_of rows.now) t)) }
-    ensures honest { IsFaithful S.Store store.new → IsFaithful S.Store store.old }
+    ensures changes { ChangesIf S.Store (is_ok result) (λ t. t.next ≡ number) (with_file number kind digest.now label.now head.now (content_of rows.now)) store.old store.new }
 {
     if !store.conn.is_autocommit() {
         return Err(StoreEnd::Store);
@@ -79,13 +73,7 @@ pub fn put_run<S: Alter>(
     ensures whole { OnOk result (IsWhole head.now) }
     ensures fits { OnOk result ((k : ℕ) → k < length head.now.events → ColumnFits (content_of rows.now) k) }
     ensures counted { OnOk result (count_total (content_of rows.now).arcs < 2 ^ 63) }
-    ensures done { IsFaithful S.Store store.new → (t : _) → StandsFor S.Store t store.old → OnOk result (StandsFor S.Store (with_file t.next kind digest.now label.now head.now (content_of rows.now) t) store.new) }
-    ensures kept { IsFaithful S.Store store.new → (t : _) → StandsFor S.Store t store.old → OnErr result (IsUsable S.Store store.new → StandsFor S.Store t store.new) }
-    ensures unchanged { IsFaithful S.Store store.new → IsSettled S.Store store.old → OnErr result (IsUsable S.Store store.new → IsAsBefore S.Store store.old store.new) }
-    ensures answers { IsFaithful S.Store store.new → OnOk result (IsUsable S.Store store.new) }
-    ensures was_usable { IsFaithful S.Store store.new → IsUsable S.Store store.new → IsUsable S.Store store.old }
-    ensures crash { IsFaithful S.Store store.new → (t : _) → StandsFor S.Store t store.old → LeavesOnly S.Store store.old store.new (Holds (with_file t.next kind digest.now label.now head.now (content_of rows.now) t)) }
-    ensures honest { IsFaithful S.Store store.new → IsFaithful S.Store store.old }
+    ensures changes { Changes S.Store (is_ok result) (λ t. with_file t.next kind digest.now label.now head.now (content_of rows.now) t) store.old store.new }
 {
     let number = store.next_run()?;
     put_numbered(store, alloc, number, kind, digest, label, head, rows)?;

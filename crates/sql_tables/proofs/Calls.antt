@@ -270,3 +270,18 @@ asked_err schema (Err e) old new is h = h
 pub changed_err : {T E M : Type 0} (schema : Schema) (Before After : M → Trees → Type 0) (r : Result T E) (old new : State) → IsErr r → Changed schema Before After false false old new → Changed schema Before After (is_ok r) (is_ok r) old new
 changed_err schema Before After (Ok x) old new is h = absurd (cc is)
 changed_err schema Before After (Err e) old new is h = h
+
+-- a transaction: what was written in it, and its end
+pub stays_through : {C D : Trees → Type 0} (ok : Bool) (old mid new : State) → Survives old mid C → Survives mid new D → HasCleanDisk new → WasOpen old new → (IsTrue ok → IsTrue new.is_open) → Stays ok old new
+stays_through ok old mid new one two clean was_open is_open =
+    let early : HasCleanDisk mid = omega (arith, two.clean, clean) in
+    record {
+      was_clean = omega (arith, one.clean, early);
+      counts = omega (arith, one.counts, two.counts);
+      closes = λ is. elim (one.closes early is) [
+        | inl there ↦ elim (two.closes clean there) [ inl still ↦ inl still | inr more ↦ inr (more_before old.faults mid.faults new.faults one.counts more) ]
+        | inr more ↦ inr (more_later old.faults mid.faults new.faults more two.counts)
+      ];
+      was_open = was_open;
+      is_open = is_open;
+    }
