@@ -1,10 +1,14 @@
 -- An answer that was due, and what it leaves.
-use Rattle.std.proofs.Common.{◌≡◌, ℕ, ◌<◌, ◌≤◌, true, false, nat_le, Some, inl, inr, arith}
+use Rattle.std.proofs.Common.{◌≡◌, refl, ℕ, ◌<◌, ◌≤◌, Bool, true, false, nat_le, Some, inl, inr, arith}
 use Rattle.std.proofs.lemmas.Bool.Decides.{nat_tests}
 use Rattle.sqlite_trees.specs.declared.store.Store.{Ghosts}
 use Rattle.sqlite_trees.specs.Tree.{Trees}
+use Rattle.sql_tables.specs.States.{Rests}
+use Rattle.sql_tables.specs.Calls.{Changed}
+use Rattle.sql_tables.proofs.Calls.{rests_as, changed_as}
+use Rattle.prof_tables.specs.Schema.{schema_one}
 use Rattle.prof_tables.specs.Tables.{Tables, Holds}
-use Rattle.prof_store.specs.Shown.{StandsFor, LeavesOnly}
+use Rattle.prof_store.specs.Shown.{shown, StandsFor}
 use Rattle.prof_store.specs.declared.store.Store.{Store}
 use Rattle.histories.specs.History.{History, Said}
 use Rattle.histories.specs.Legal.{IsInForm, IsLegal, due}
@@ -14,7 +18,7 @@ use Rattle.histories.specs.declared.answers.Answer.TheVariants as answers
 use Rattle.histories.specs.declared.limits.Limits.{Limits}
 use Rattle.histories.proofs.Held.{IsStill}
 use Rattle.histories.proofs.Steps.{tell_same}
-use Rattle.store_histories.specs.Answered.{with_turn, Follows, StandsForHistory, WasDue}
+use Rattle.store_histories.specs.Answered.{with_turn, Tells, Follows, StandsForHistory, WasDue}
 
 module _ (limits : Limits) (h : History) (said : Said) (form : IsInForm said) where
   legal : (answer : Answer) → due limits h said ≡ Some answer → IsLegal limits h said answer
@@ -28,14 +32,19 @@ module _ (limits : Limits) (h : History) (said : Said) (form : IsInForm said) wh
     pub was_done : {S : Type 0} (g : Ghosts S) (new : Store S) → StandsFor g t new → WasDue g limits h said answers.Done new
     was_done g new stands = record { is_due = is; after = record { t = t; stands = stands; tells = tells (legal answers.Done is) } }
 
-    pub follows : (db : Trees) → Holds t db → Follows limits h said db
-    follows db holds = record { answer = answers.Done; accepted = tt; legal = legal answers.Done is; t = t; holds = holds; tells = tells (legal answers.Done is) }
+    pub follows : (db : Trees) → Holds t db → Follows limits said h db
+    follows db holds = record { answer = answers.Done; accepted = refl; legal = legal answers.Done is; after = record { t = t; holds = holds; tells = tells (legal answers.Done is) } }
 
--- ---- what a crash may leave, a query and then a change
+-- ---- what a call makes of the tables, as a turn of a history
 
-module _ {S : Type 0} (g : Ghosts S) (old mid new : Store S) (P Q : Trees → Type 0) where
-  pub then_crash : LeavesOnly g old mid (λ _. ⊥) → LeavesOnly g mid new P → ((db : Trees) → P db → Q db) → LeavesOnly g old new Q
-  then_crash first second comes db leaves = elim (second db leaves) [ inl was ↦ elim (first db was) [ inl before ↦ inl before | inr none ↦ absurd none ] | inr made ↦ inr (comes db made) ]
+module _ {S : Type 0} (g : Ghosts S) where
+  pub told_stands : (h : History) (store : Store S) → Rests schema_one (Tells h) (shown g store) → StandsForHistory g h store
+  told_stands h store was = record { t = was.holds.t; stands = rests_as schema_one (Tells h) (Holds was.holds.t) (shown g store) was was.holds.holds; tells = was.holds.tells }
+
+  pub turns_by : (limits : Limits) (said : Said) (answered done : Bool) (old new : Store S) (Before After : Tables → Trees → Type 0)
+      → ((h : History) → StandsForHistory g h old → (t : Tables) × Rests schema_one (Before t) (shown g old) × ((db : Trees) → After t db → Follows limits said h db))
+      → Changed schema_one Before After answered done (shown g old) (shown g new) → Changed schema_one Tells (Follows limits said) answered done (shown g old) (shown g new)
+  turns_by limits said answered done old new Before After means h = changed_as schema_one Before After Tells (Follows limits said) answered done (shown g old) (shown g new) (λ n was. means n (told_stands n old was)) h
 
 -- ---- a limit and how many are held
 

@@ -1,10 +1,15 @@
 -- An answer and what it leaves, whatever came of the calls below.
-use Rattle.std.proofs.Common.{◌≡◌, ℕ, false, List, [], ◌∷◌, bytes_eq, ◌||◌, Result, Ok, Err, IfOk, OnOk, OnErr, inl, inr, refl, ap₂, subst}
+use Rattle.std.specs.Result.{is_ok, IsErr}
+use Rattle.std.proofs.Common.{◌≡◌, ℕ, Bool, false, List, [], ◌∷◌, bytes_eq, ◌||◌, Result, Ok, Err, IfOk, inl, inr, refl, ap₂, subst}
 use Rattle.std.specs.List.{AllByRecursion, list_any}
 use Rattle.sqlite_trees.specs.declared.store.Store.{Ghosts}
-use Rattle.prof_tables.specs.Tables.{Tables}
+use Rattle.sqlite.specs.State.{State}
+use Rattle.sql_tables.specs.Calls.{Changed}
+use Rattle.sql_tables.proofs.Calls.{settled_of, rests_before, stays_if, changed_none}
+use Rattle.prof_tables.specs.Schema.{schema_one}
+use Rattle.prof_tables.specs.Tables.{Holds}
 use Rattle.prof_tables.specs.Labels.{IsGroupName}
-use Rattle.prof_store.specs.Shown.{StandsFor, IsUsable, LeavesOnly}
+use Rattle.prof_store.specs.Shown.{shown, IsFaithful}
 use Rattle.store_columns.specs.declared.errors.StoreEnd.{StoreEnd}
 use Rattle.store_columns.specs.declared.errors.StoreEnd.TheVariants as ends
 use Rattle.prof_store.specs.declared.store.Store.{Store}
@@ -19,41 +24,49 @@ use Rattle.histories.proofs.Invariants.{groups_named}
 use Rattle.histories.proofs.Steps.{tell_same}
 use Rattle.histories.proofs.Tests.{bytes_apart}
 use Rattle.histories.proofs.Turns.{history_more}
-use Rattle.store_histories.specs.Answered.{with_turn, IsAccepted, Follows, StandsForHistory, HasHistory, WasDue, IsAnswered, answer_for}
+use Rattle.store_histories.specs.Answered.{with_turn, is_accepted, has_changed, Tells, Follows, StandsForHistory, HasHistory, WasDue, IsAnswered, answer_for}
 
-module _ {S : Type 0} (g : Ghosts S) (limits : Limits) (h : History) (said : Said) (old new : Store S) (has : HasHistory g h old) (was_usable : IsUsable g new → IsUsable g old) where
+module _ {S : Type 0} (g : Ghosts S) (limits : Limits) (h : History) (said : Said) (old new : Store S) (has : HasHistory g h old) where
   -- what was there stays, if a legal answer says that nothing changed
-  after_still : (answer : Answer) → IsStill answer → IsLegal limits h said answer → ((t : Tables) → StandsFor g t old → IsUsable g new → StandsFor g t new) → HasHistory g (with_turn h said answer) new
-  after_still answer still legal kept = record {
-    legal = history_more limits h said answer has.legal legal;
-    stands = λ usable.
-        let s = has.stands (was_usable usable) in
-        record { t = s.t; stands = kept s.t s.stands usable; tells = tell_same limits h said answer s.t still s.tells legal };
+  pub still_answered : (answered : Bool) (answer : Answer) → IsStill answer → IsLegal limits h said answer → Changed schema_one Tells (Follows limits said) answered false (shown g old) (shown g new) → IsAnswered g limits h said answer new
+  still_answered answered answer still legal turned = record {
+    legal = legal;
+    after = record {
+      legal = history_more limits h said answer has.legal legal;
+      stands = λ usable.
+          let s = has.stands (turned.stays.was_open usable) in
+          let kept = turned.kept refl (settled_of schema_one (Holds s.t) (shown g old) s.stands) usable in
+          record { t = s.t; stands = rests_before schema_one (Holds s.t) (shown g old) (shown g new) s.stands usable kept; tells = tell_same limits h said answer s.t still s.tells legal };
+    };
   }
 
-  pub still_answered : (answer : Answer) → IsStill answer → IsLegal limits h said answer → ((t : Tables) → StandsFor g t old → IsUsable g new → StandsFor g t new)
-      → (IsUsable g old → LeavesOnly g old new (Follows limits h said)) → IsAnswered g limits h said answer old new
-  still_answered answer still legal kept crash = record { legal = legal; after = after_still answer still legal kept; kept = λ t stands other usable. kept t stands usable; crash = crash }
-
   pub settled : (result : Result Answer StoreEnd) → IsInForm said → (StandsForHistory g h old → IfOk result (λ answer. WasDue g limits h said answer new))
-      → ((t : Tables) → StandsFor g t old → OnErr result (IsUsable g new → StandsFor g t new)) → ((t : Tables) → StandsFor g t old → IfOk result (λ answer. (IsAccepted answer → ⊥) → StandsFor g t new))
-      → (StandsForHistory g h old → LeavesOnly g old new (Follows limits h said)) → OnOk result (IsUsable g new) → IsAnswered g limits h said (answer_for result) old new
-  settled (Ok answer) form answered kept same crash usable =
-      let it = answered (has.stands (was_usable usable)) in
-      let legal : IsLegal limits h said answer = inl (form, inl it.is_due) in record {
-        legal = legal;
-        after = record { legal = history_more limits h said answer has.legal legal; stands = λ u. it.after };
-        kept = λ t stands other u. same t stands other;
-        crash = λ u. crash (has.stands u);
-      }
-  settled (Err ends.Memory) form answered kept same crash usable = still_answered (answers.Refused reasons.Memory) tt (inl (form, inr (inl refl))) kept (λ u. crash (has.stands u))
-  settled (Err ends.Store) form answered kept same crash usable = still_answered (answers.Refused reasons.Store) tt (inl (form, inr (inr refl))) kept (λ u. crash (has.stands u))
+      → Changed schema_one Tells (Follows limits said) (is_ok result) (has_changed result) (shown g old) (shown g new) → IsAnswered g limits h said (answer_for result) new
+  settled (Ok answer) form answered turned =
+      let it = answered (has.stands (turned.stays.was_open (turned.stays.is_open refl))) in
+      let legal : IsLegal limits h said answer = inl (form, inl it.is_due) in
+      record { legal = legal; after = record { legal = history_more limits h said answer has.legal legal; stands = λ u. it.after } }
+  settled (Err ends.Memory) form answered turned = still_answered false (answers.Refused reasons.Memory) tt (inl (form, inr (inl refl))) turned
+  settled (Err ends.Store) form answered turned = still_answered false (answers.Refused reasons.Store) tt (inl (form, inr (inr refl))) turned
+
+-- of a call that is refused
+pub turns_err : (limits : Limits) (said : Said) (result : Result Answer StoreEnd) (old new : State) → IsErr result → Changed schema_one Tells (Follows limits said) false false old new
+    → Changed schema_one Tells (Follows limits said) (is_ok result) (has_changed result) old new
+turns_err limits said (Ok answer) old new is h = absurd (cc is)
+turns_err limits said (Err end) old new is h = h
+
+-- what a call leaves is what its answer leaves
+pub turns_answer : (limits : Limits) (said : Said) (result : Result Answer StoreEnd) (old new : State) → Changed schema_one Tells (Follows limits said) (is_ok result) (has_changed result) old new
+    → Changed schema_one Tells (Follows limits said) (is_accepted (answer_for result)) (is_accepted (answer_for result)) old new
+turns_answer limits said (Ok answer) old new h = record { stays = stays_if (is_accepted answer) old new h.stays; done = h.done; kept = h.kept; crash = h.crash }
+turns_answer limits said (Err ends.Memory) old new h = h
+turns_answer limits said (Err ends.Store) old new h = h
 
 -- ---- the store is not asked
 
 module _ {S : Type 0} (g : Ghosts S) (limits : Limits) (h : History) (said : Said) (store : Store S) (has : HasHistory g h store) where
-  pub untouched : (answer : Answer) → IsStill answer → IsLegal limits h said answer → IsAnswered g limits h said answer store store
-  untouched answer still legal = still_answered g limits h said store store has (λ u. u) answer still legal (λ t stands u. stands) (λ u db leaves. inl leaves)
+  pub untouched : IsFaithful g store → (answer : Answer) → IsStill answer → IsLegal limits h said answer → IsAnswered g limits h said answer store
+  untouched clean answer still legal = still_answered g limits h said store store has false answer still legal (changed_none schema_one Tells (Follows limits said) (shown g store) clean)
 
 -- ---- names out of form
 

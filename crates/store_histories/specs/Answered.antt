@@ -1,9 +1,11 @@
 -- What is answered to a command, and what it leaves.
-use Rattle.std.specs.Prelude.{◌≡◌, ◌⊎◌, Some, Result, Ok, Err, List, [], ◌∷◌, ◌++◌}
+use Rattle.std.specs.Prelude.{◌≡◌, Bool, true, false, IsTrue, Some, Result, Ok, Err, List, [], ◌∷◌, ◌++◌}
 use Rattle.sqlite_trees.specs.declared.store.Store.{Ghosts}
 use Rattle.sqlite_trees.specs.Tree.{Trees}
+use Rattle.sql_tables.specs.Calls.{Changed}
+use Rattle.prof_tables.specs.Schema.{schema_one}
 use Rattle.prof_tables.specs.Tables.{Tables, Holds}
-use Rattle.prof_store.specs.Shown.{StandsFor, IsUsable, LeavesOnly}
+use Rattle.prof_store.specs.Shown.{shown, StandsFor, IsFaithful, IsUsable}
 use Rattle.prof_store.specs.declared.store.Store.{Store}
 use Rattle.store_columns.specs.declared.errors.StoreEnd.{StoreEnd}
 use Rattle.store_columns.specs.declared.errors.StoreEnd.TheVariants as ends
@@ -19,20 +21,29 @@ use Rattle.histories.specs.declared.limits.Limits.{Limits}
 abbrev pub with_turn : History → Said → Answer → History
 with_turn h said answer = h ++ record { said = said; answer = answer } ∷ []
 
--- an answer that says that the tables changed
-abbrev pub IsAccepted : Answer → Type 0
-IsAccepted (answers.Run n) = Unit {0}
-IsAccepted answers.Done = Unit {0}
-IsAccepted answer = ⊥
+-- whether an answer says that the tables changed
+abbrev pub is_accepted : Answer → Bool
+is_accepted (answers.Run n) = true
+is_accepted answers.Done = true
+is_accepted answer = false
 
--- tables after the command, answered with a change that is legal
-pub record Follows (limits : Limits) (h : History) (said : Said) (db : Trees) : Type 0 where
-  pub answer : Answer
-  pub accepted : IsAccepted answer
-  pub legal : IsLegal limits h said answer
+-- whether a call answered that the tables changed
+abbrev pub has_changed : Result Answer StoreEnd → Bool
+has_changed (Ok answer) = is_accepted answer
+has_changed (Err end) = false
+
+-- tables that stand for a history
+pub record Tells (h : History) (db : Trees) : Type 0 where
   pub t : Tables
   pub holds : Holds t db
-  pub tells : TablesTell (with_turn h said answer) t
+  pub tells : TablesTell h t
+
+-- tables after the command, answered with a change that is legal
+pub record Follows (limits : Limits) (said : Said) (h : History) (db : Trees) : Type 0 where
+  pub answer : Answer
+  pub accepted : IsTrue (is_accepted answer)
+  pub legal : IsLegal limits h said answer
+  pub after : Tells (with_turn h said answer) db
 
 module _ {S : Type 0} (g : Ghosts S) where
   -- between commands the store's tables stand for a history
@@ -51,17 +62,18 @@ module _ {S : Type 0} (g : Ghosts S) where
     pub is_due : due limits h said ≡ Some answer
     pub after : StandsForHistory (with_turn h said answer) new
 
-  -- a command was answered: the answer is legal, the store has the history with it, and the tables are as they were unless the answer says that they changed; a crash leaves what it could leave before, or tables with the command done
-  pub record IsAnswered (limits : Limits) (h : History) (said : Said) (answer : Answer) (old new : Store S) : Type 0 where
+  -- what a call for a command leaves, whatever the history: where the command is not done, all is as before; a crash leaves what it could leave before, or tables with the command done
+  abbrev pub TurnsIf : Limits → Said → Bool → Bool → Store S → Store S → Type 0
+  TurnsIf limits said answered done old new = IsFaithful g new → Changed schema_one Tells (Follows limits said) answered done (shown g old) (shown g new)
+
+  -- what a command leaves, by its answer
+  abbrev pub Turns : Limits → Said → Answer → Store S → Store S → Type 0
+  Turns limits said answer old new = TurnsIf limits said (is_accepted answer) (is_accepted answer) old new
+
+  -- a command was answered: the answer is legal, and the store has the history with it
+  pub record IsAnswered (limits : Limits) (h : History) (said : Said) (answer : Answer) (new : Store S) : Type 0 where
     pub legal : IsLegal limits h said answer
     pub after : HasHistory (with_turn h said answer) new
-    pub kept : (t : Tables) → StandsFor g t old → (IsAccepted answer → ⊥) → IsUsable g new → StandsFor g t new
-    pub crash : IsUsable g old → LeavesOnly g old new (Follows limits h said)
-
--- tables after some of the turns, with the command of the next one done
-abbrev pub Stops : Limits → History → History → Trees → Type 0
-Stops limits h [] db = ⊥
-Stops limits h (turn ∷ later) db = Follows limits h turn.said db ⊎ Stops limits (h ++ turn ∷ []) later db
 
 -- want of memory or of the store is refused as such
 abbrev pub answer_for : Result Answer StoreEnd → Answer
