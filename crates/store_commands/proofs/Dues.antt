@@ -1,5 +1,6 @@
 -- What is due to removals and changes of groups.
-use Rattle.std.proofs.Common.{◌≡◌, ℕ, Bool, true, false, not, nat_le, List, [], ◌∷◌, length, Some, refl, ap, ap₂, ◌∙◌}
+use Rattle.std.proofs.Common.{◌≡◌, ◌<◌, sym, None, ℕ, Bool, true, false, not, nat_le, List, [], ◌∷◌, length, Some, refl, ap, ap₂, ◌∙◌}
+use Rattle.prof_tables.specs.Changes as tables
 use Rattle.prof_tables.specs.Tables.{Tables}
 use Rattle.histories.specs.History.{History, Remove, MakeGroup, DropGroup, groups}
 use Rattle.histories.specs.Legal.{IsInForm, IsLegal, due, when, first_or, has_run, has_group}
@@ -8,6 +9,8 @@ use Rattle.histories.specs.declared.answers.Answer.{Answer}
 use Rattle.histories.specs.declared.answers.Answer.TheVariants as answers
 use Rattle.histories.specs.declared.answers.Refusal.TheVariants as reasons
 use Rattle.histories.specs.declared.limits.Limits.{Limits}
+use Rattle.histories.proofs.Tells.{tells_run, tells_group, tells_groups}
+use Rattle.store_histories.proofs.Due.{has_room}
 use Rattle.histories.proofs.Steps.{tell_joined, tell_left, tell_based}
 use Rattle.store_histories.specs.Answered.{with_turn}
 use Rattle.store_histories.specs.Refusals.{missing_of, refused_or}
@@ -51,3 +54,26 @@ pub tell_changed : (limits : Limits) (h : History) (c : Change) (name : List ℕ
 tell_changed limits h change.Join name n t tells legal = tell_joined limits h name n t tells legal
 tell_changed limits h change.Leave name n t tells legal = tell_left limits h name n t tells legal
 tell_changed limits h change.SetBaseline name n t tells legal = tell_based limits h name n t tells legal
+
+-- ---- what is due, by what the tables hold
+
+module _ (limits : Limits) where
+  pub due_if_run : (n : ℕ) (h : History) (t : Tables) → TablesTell h t → tables.has_run t n ≡ true → due limits h (Remove n) ≡ Some answers.Done
+  due_if_run n h t tells is = remove_due limits h n true (sym (tells_run h t tells n) ∙ is)
+
+  pub due_if_group : (name : List ℕ) (h : History) (t : Tables) → TablesTell h t → tables.has_group t name ≡ true → due limits h (DropGroup name) ≡ Some answers.Done
+  due_if_group name h t tells is = drop_due limits h name true (sym (tells_group h t tells name) ∙ is)
+
+  -- a name that is free, and room for one more
+  pub record HasRoomFor (name : List ℕ) (t : Tables) : Type 0 where
+    pub is_free : tables.has_group t name ≡ false
+    pub has_room : length t.groups < limits.groups
+
+  pub due_if_room : (name : List ℕ) (h : History) (t : Tables) → TablesTell h t → HasRoomFor name t → due limits h (MakeGroup name) ≡ Some answers.Done
+  due_if_room name h t tells is = make_due limits h name false false (sym (tells_group h t tells name) ∙ is.is_free) (has_room limits.groups (length t.groups) (length (groups h)) (tells_groups h t tells) is.has_room)
+
+  pub due_by_tables : (c : Change) (name : List ℕ) (n : ℕ) (h : History) (t : Tables) → TablesTell h t → due limits h (said_of c name n) ≡ Some (refused_or (missing_of (tables.has_group t name) (tables.has_run t n)) answers.Done)
+  due_by_tables c name n h t tells = change_due limits h c name n (tables.has_group t name) (tables.has_run t n) (sym (tells_group h t tells name)) (sym (tells_run h t tells n))
+
+  pub due_if_held : (c : Change) (name : List ℕ) (n : ℕ) (h : History) (t : Tables) → TablesTell h t → missing_of (tables.has_group t name) (tables.has_run t n) ≡ None → due limits h (said_of c name n) ≡ Some answers.Done
+  due_if_held c name n h t tells is = due_by_tables c name n h t tells ∙ ap (λ r. Some (refused_or r answers.Done)) is

@@ -1,12 +1,12 @@
 // Runs are removed; groups are made, changed and dropped.
-ghost use Rattle.std.specs.Prelude.{◌≡◌, MatchOption, IfOk, OnOk, OnErr};
+ghost use Rattle.std.specs.Prelude.{◌≡◌, MatchOption, IfOk};
+ghost use Rattle.std.specs.Result.{is_ok};
 ghost use Rattle.prof_tables.specs.Changes.{has_run, has_group};
-ghost use Rattle.prof_tables.specs.Tables.{Holds};
 ghost use Rattle.prof_tables.specs.Labels.{IsGroupName};
-ghost use Rattle.prof_store.specs.Shown.{IsFaithful, IsUsable, StandsFor, LeavesOnly};
+ghost use Rattle.prof_store.specs.Shown.{IsFaithful, StandsFor, Asks, Changes};
 ghost use Rattle.histories.specs.History.{History, Remove, MakeGroup, DropGroup};
 ghost use Rattle.histories.specs.declared.limits.Limits.{Limits};
-ghost use Rattle.store_histories.specs.Answered.{StandsForHistory, WasDue, IsAccepted, Follows};
+ghost use Rattle.store_histories.specs.Answered.{StandsForHistory, WasDue, TurnsIf, has_changed};
 ghost use Rattle.store_commands.specs.Changes.{changed, said_of};
 ghost use Rattle.store_histories.specs.Refusals.{missing_of};
 
@@ -41,12 +41,7 @@ pub enum Change {
 /// Drops a run.
 pub(crate) fn remove<S: Alter>(store: &mut Store<S>, number: u32) -> Result<Answer, StoreEnd>
     ensures answered { IsFaithful S.Store store.new → (limits : Limits) (h : History) → StandsForHistory S.Store h store.old → IfOk result (λ answer. WasDue S.Store limits h (Remove number) answer store.new) }
-    ensures kept { IsFaithful S.Store store.new → (t : _) → StandsFor S.Store t store.old → OnErr result (IsUsable S.Store store.new → StandsFor S.Store t store.new) }
-    ensures same { IsFaithful S.Store store.new → (t : _) → StandsFor S.Store t store.old → IfOk result (λ answer. (IsAccepted answer → ⊥) → StandsFor S.Store t store.new) }
-    ensures crash { IsFaithful S.Store store.new → (limits : Limits) (h : History) → StandsForHistory S.Store h store.old → LeavesOnly S.Store store.old store.new (Follows limits h (Remove number)) }
-    ensures answers { IsFaithful S.Store store.new → OnOk result (IsUsable S.Store store.new) }
-    ensures was_usable { IsFaithful S.Store store.new → IsUsable S.Store store.new → IsUsable S.Store store.old }
-    ensures honest { IsFaithful S.Store store.new → IsFaithful S.Store store.old }
+    ensures turns { (limits : Limits) → TurnsIf S.Store limits (Remove number) (is_ok result) (has_changed result) store.old store.new }
 {
     if !store.has_run(number)? {
         return Ok(Answer::Refused(Refusal::NoSuchRun));
@@ -63,12 +58,7 @@ pub(crate) fn make_group<S: Alter>(
 ) -> Result<Answer, StoreEnd>
     requires { IsGroupName name.now }
     ensures answered { IsFaithful S.Store store.new → (h : History) → StandsForHistory S.Store h store.old → IfOk result (λ answer. WasDue S.Store limits h (MakeGroup name.now) answer store.new) }
-    ensures kept { IsFaithful S.Store store.new → (t : _) → StandsFor S.Store t store.old → OnErr result (IsUsable S.Store store.new → StandsFor S.Store t store.new) }
-    ensures same { IsFaithful S.Store store.new → (t : _) → StandsFor S.Store t store.old → IfOk result (λ answer. (IsAccepted answer → ⊥) → StandsFor S.Store t store.new) }
-    ensures crash { IsFaithful S.Store store.new → (h : History) → StandsForHistory S.Store h store.old → LeavesOnly S.Store store.old store.new (Follows limits h (MakeGroup name.now)) }
-    ensures answers { IsFaithful S.Store store.new → OnOk result (IsUsable S.Store store.new) }
-    ensures was_usable { IsFaithful S.Store store.new → IsUsable S.Store store.new → IsUsable S.Store store.old }
-    ensures honest { IsFaithful S.Store store.new → IsFaithful S.Store store.old }
+    ensures turns { TurnsIf S.Store limits (MakeGroup name.now) (is_ok result) (has_changed result) store.old store.new }
 {
     if store.has_group(name)? {
         return Ok(Answer::Refused(Refusal::GroupTaken));
@@ -83,12 +73,7 @@ pub(crate) fn make_group<S: Alter>(
 /// Drops a group.
 pub(crate) fn drop_group<S: Alter>(store: &mut Store<S>, name: &str) -> Result<Answer, StoreEnd>
     ensures answered { IsFaithful S.Store store.new → (limits : Limits) (h : History) → StandsForHistory S.Store h store.old → IfOk result (λ answer. WasDue S.Store limits h (DropGroup name.now) answer store.new) }
-    ensures kept { IsFaithful S.Store store.new → (t : _) → StandsFor S.Store t store.old → OnErr result (IsUsable S.Store store.new → StandsFor S.Store t store.new) }
-    ensures same { IsFaithful S.Store store.new → (t : _) → StandsFor S.Store t store.old → IfOk result (λ answer. (IsAccepted answer → ⊥) → StandsFor S.Store t store.new) }
-    ensures crash { IsFaithful S.Store store.new → (limits : Limits) (h : History) → StandsForHistory S.Store h store.old → LeavesOnly S.Store store.old store.new (Follows limits h (DropGroup name.now)) }
-    ensures answers { IsFaithful S.Store store.new → OnOk result (IsUsable S.Store store.new) }
-    ensures was_usable { IsFaithful S.Store store.new → IsUsable S.Store store.new → IsUsable S.Store store.old }
-    ensures honest { IsFaithful S.Store store.new → IsFaithful S.Store store.old }
+    ensures turns { (limits : Limits) → TurnsIf S.Store limits (DropGroup name.now) (is_ok result) (has_changed result) store.old store.new }
 {
     if !store.has_group(name)? {
         return Ok(Answer::Refused(Refusal::NoSuchGroup));
@@ -104,12 +89,7 @@ fn missing<S: Alter>(
     number: u32,
 ) -> Result<Option<Refusal>, StoreEnd>
     ensures told { IsFaithful S.Store store.new → (t : _) → StandsFor S.Store t store.old → IfOk result (λ refusal. refusal ≡ missing_of (has_group t name.now) (has_run t number)) }
-    ensures stays { IsFaithful S.Store store.new → (t : _) → StandsFor S.Store t store.old → OnOk result (StandsFor S.Store t store.new) }
-    ensures kept { IsFaithful S.Store store.new → (t : _) → StandsFor S.Store t store.old → OnErr result (IsUsable S.Store store.new → StandsFor S.Store t store.new) }
-    ensures crash { IsFaithful S.Store store.new → (t : _) → StandsFor S.Store t store.old → LeavesOnly S.Store store.old store.new (λ _. ⊥) }
-    ensures answers { IsFaithful S.Store store.new → OnOk result (IsUsable S.Store store.new) }
-    ensures was_usable { IsFaithful S.Store store.new → IsUsable S.Store store.new → IsUsable S.Store store.old }
-    ensures honest { IsFaithful S.Store store.new → IsFaithful S.Store store.old }
+    ensures asks { Asks S.Store (is_ok result) store.old store.new }
 {
     if !store.has_group(name)? {
         return Ok(Some(Refusal::NoSuchGroup));
@@ -127,12 +107,7 @@ fn change_held<S: Alter>(
     name: &str,
     number: u32,
 ) -> Result<(), StoreEnd>
-    ensures done { IsFaithful S.Store store.new → (t : _) → StandsFor S.Store t store.old → OnOk result (StandsFor S.Store (changed change name.now number t) store.new) }
-    ensures kept { IsFaithful S.Store store.new → (t : _) → StandsFor S.Store t store.old → OnErr result (IsUsable S.Store store.new → StandsFor S.Store t store.new) }
-    ensures crash { IsFaithful S.Store store.new → (t : _) → StandsFor S.Store t store.old → LeavesOnly S.Store store.old store.new (Holds (changed change name.now number t)) }
-    ensures answers { IsFaithful S.Store store.new → OnOk result (IsUsable S.Store store.new) }
-    ensures was_usable { IsFaithful S.Store store.new → IsUsable S.Store store.new → IsUsable S.Store store.old }
-    ensures honest { IsFaithful S.Store store.new → IsFaithful S.Store store.old }
+    ensures changes { Changes S.Store (is_ok result) (changed change name.now number) store.old store.new }
 {
     match change {
         Change::Join => store.join(name, number),
@@ -149,12 +124,7 @@ pub(crate) fn change_group<S: Alter>(
     number: u32,
 ) -> Result<Answer, StoreEnd>
     ensures answered { IsFaithful S.Store store.new → (limits : Limits) (h : History) → StandsForHistory S.Store h store.old → IfOk result (λ answer. WasDue S.Store limits h (said_of change name.now number) answer store.new) }
-    ensures kept { IsFaithful S.Store store.new → (t : _) → StandsFor S.Store t store.old → OnErr result (IsUsable S.Store store.new → StandsFor S.Store t store.new) }
-    ensures same { IsFaithful S.Store store.new → (t : _) → StandsFor S.Store t store.old → IfOk result (λ answer. (IsAccepted answer → ⊥) → StandsFor S.Store t store.new) }
-    ensures crash { IsFaithful S.Store store.new → (limits : Limits) (h : History) → StandsForHistory S.Store h store.old → LeavesOnly S.Store store.old store.new (Follows limits h (said_of change name.now number)) }
-    ensures answers { IsFaithful S.Store store.new → OnOk result (IsUsable S.Store store.new) }
-    ensures was_usable { IsFaithful S.Store store.new → IsUsable S.Store store.new → IsUsable S.Store store.old }
-    ensures honest { IsFaithful S.Store store.new → IsFaithful S.Store store.old }
+    ensures turns { (limits : Limits) → TurnsIf S.Store limits (said_of change name.now number) (is_ok result) (has_changed result) store.old store.new }
 {
     if let Some(refusal) = missing(store, name, number)? {
         return Ok(Answer::Refused(refusal));

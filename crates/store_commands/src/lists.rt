@@ -1,11 +1,12 @@
 // The texts of lists.
-ghost use Rattle.std.specs.Prelude.{◌≡◌, ◌++◌, flat_map, codes, string_bytes, IfOk, OnOk, OnErr};
+ghost use Rattle.std.specs.Prelude.{◌≡◌, ◌++◌, flat_map, codes, string_bytes, IfOk, OnOk};
+ghost use Rattle.std.specs.Result.{is_ok};
 ghost use Rattle.std.specs.Fmt.{decimal};
-ghost use Rattle.prof_store.specs.Shown.{IsFaithful, IsUsable, StandsFor, LeavesOnly};
+ghost use Rattle.prof_store.specs.Shown.{IsFaithful, Asks};
 ghost use Rattle.histories.specs.History.{History, Ask};
 ghost use Rattle.histories.specs.Texts as texts;
 ghost use Rattle.histories.specs.declared.limits.Limits.{Limits};
-ghost use Rattle.store_histories.specs.Answered.{StandsForHistory, WasDue, IsAccepted, Follows};
+ghost use Rattle.store_histories.specs.Answered.{StandsForHistory, WasDue, TurnsIf, has_changed};
 ghost use Rattle.store_commands.specs.Lists.{entry_line, group_entry_line};
 
 use cg_text::Items;
@@ -121,12 +122,7 @@ fn groups_text(alloc: Global, groups: &[GroupEntry]) -> Result<Items<u8>, AllocE
 /// The list of the runs that are held.
 fn list_runs<S: Alter>(store: &mut Store<S>, alloc: Global) -> Result<Items<u8>, StoreEnd>
     ensures told { IsFaithful S.Store store.new → (h : History) → StandsForHistory S.Store h store.old → IfOk result (λ text. text ≡ texts.runs_text h) }
-    ensures stays { IsFaithful S.Store store.new → (t : _) → StandsFor S.Store t store.old → OnOk result (StandsFor S.Store t store.new) }
-    ensures kept { IsFaithful S.Store store.new → (t : _) → StandsFor S.Store t store.old → OnErr result (IsUsable S.Store store.new → StandsFor S.Store t store.new) }
-    ensures crash { IsFaithful S.Store store.new → (t : _) → StandsFor S.Store t store.old → LeavesOnly S.Store store.old store.new (λ _. ⊥) }
-    ensures answers { IsFaithful S.Store store.new → OnOk result (IsUsable S.Store store.new) }
-    ensures was_usable { IsFaithful S.Store store.new → IsUsable S.Store store.new → IsUsable S.Store store.old }
-    ensures honest { IsFaithful S.Store store.new → IsFaithful S.Store store.old }
+    ensures asks { Asks S.Store (is_ok result) store.old store.new }
 {
     let runs = store.runs(alloc)?;
     Ok(runs_text(alloc, &runs)?)
@@ -135,12 +131,7 @@ fn list_runs<S: Alter>(store: &mut Store<S>, alloc: Global) -> Result<Items<u8>,
 /// The list of the groups.
 fn list_groups<S: Alter>(store: &mut Store<S>, alloc: Global) -> Result<Items<u8>, StoreEnd>
     ensures told { IsFaithful S.Store store.new → (h : History) → StandsForHistory S.Store h store.old → IfOk result (λ text. text ≡ texts.groups_text h) }
-    ensures stays { IsFaithful S.Store store.new → (t : _) → StandsFor S.Store t store.old → OnOk result (StandsFor S.Store t store.new) }
-    ensures kept { IsFaithful S.Store store.new → (t : _) → StandsFor S.Store t store.old → OnErr result (IsUsable S.Store store.new → StandsFor S.Store t store.new) }
-    ensures crash { IsFaithful S.Store store.new → (t : _) → StandsFor S.Store t store.old → LeavesOnly S.Store store.old store.new (λ _. ⊥) }
-    ensures answers { IsFaithful S.Store store.new → OnOk result (IsUsable S.Store store.new) }
-    ensures was_usable { IsFaithful S.Store store.new → IsUsable S.Store store.new → IsUsable S.Store store.old }
-    ensures honest { IsFaithful S.Store store.new → IsFaithful S.Store store.old }
+    ensures asks { Asks S.Store (is_ok result) store.old store.new }
 {
     let groups = store.groups(alloc)?;
     Ok(groups_text(alloc, &groups)?)
@@ -153,12 +144,7 @@ pub(crate) fn ask<S: Alter>(
     query: Query,
 ) -> Result<Answer, StoreEnd>
     ensures answered { IsFaithful S.Store store.new → (limits : Limits) (h : History) → StandsForHistory S.Store h store.old → IfOk result (λ answer. WasDue S.Store limits h (Ask query) answer store.new) }
-    ensures kept { IsFaithful S.Store store.new → (t : _) → StandsFor S.Store t store.old → OnErr result (IsUsable S.Store store.new → StandsFor S.Store t store.new) }
-    ensures same { IsFaithful S.Store store.new → (t : _) → StandsFor S.Store t store.old → IfOk result (λ answer. (IsAccepted answer → ⊥) → StandsFor S.Store t store.new) }
-    ensures crash { IsFaithful S.Store store.new → (limits : Limits) (h : History) → StandsForHistory S.Store h store.old → LeavesOnly S.Store store.old store.new (Follows limits h (Ask query)) }
-    ensures answers { IsFaithful S.Store store.new → OnOk result (IsUsable S.Store store.new) }
-    ensures was_usable { IsFaithful S.Store store.new → IsUsable S.Store store.new → IsUsable S.Store store.old }
-    ensures honest { IsFaithful S.Store store.new → IsFaithful S.Store store.old }
+    ensures turns { (limits : Limits) → TurnsIf S.Store limits (Ask query) (is_ok result) (has_changed result) store.old store.new }
 {
     match query {
         Query::Runs => Ok(Answer::Text(list_runs(store, alloc)?)),

@@ -2,6 +2,7 @@
 use Rattle.std.proofs.Common.{◌≡◌, Bool, true, refl, Some}
 use Rattle.sqlite_trees.specs.declared.store.Store.{Ghosts}
 use Rattle.sqlite_trees.specs.Tree.{Trees}
+use Rattle.sqlite.specs.State.{State}
 use Rattle.sql_tables.specs.States.{Rests}
 use Rattle.sql_tables.specs.Calls.{Asked, Changed}
 use Rattle.sql_tables.proofs.Calls.{rests_as, asked_rests, changed_then, changed_as}
@@ -18,10 +19,9 @@ use Rattle.store_histories.specs.Answered.{with_turn, Tells, Follows, StandsForH
 use Rattle.store_histories.proofs.Due.{turns_by, was_done, follows}
 
 -- a change of any tables is one of those in some state
-pub given : (P : Tables → Type 0) (After : Tables → Trees → Type 0) {S : Type 0} (g : Ghosts S) (answered done : Bool) (old new : Store S) → Changed schema_one Holds After answered done (shown g old) (shown g new)
-    → Changed schema_one (λ t db. P t × Holds t db) After answered done (shown g old) (shown g new)
-given P After g answered done old new h =
-    changed_as schema_one Holds After (λ t db. P t × Holds t db) After answered done (shown g old) (shown g new) (λ t was. (t, rests_as schema_one (λ db. P t × Holds t db) (Holds t) (shown g old) was was.holds.1, λ next k. k)) h
+pub given : (P : Tables → Type 0) (After : Tables → Trees → Type 0) (answered done : Bool) (old new : State) → Changed schema_one Holds After answered done old new → Changed schema_one (λ t db. P t × Holds t db) After answered done old new
+given P After answered done old new h =
+    changed_as schema_one Holds After (λ t db. P t × Holds t db) After answered done old new (λ t was. (t, rests_as schema_one (λ db. P t × Holds t db) (Holds t) old was was.holds.1, λ next k. k)) h
 
 -- what the questions told of the tables is P, and then Done is due
 module _ (limits : Limits) (said : Said) (form : IsInForm said) (P : Tables → Type 0) (change : Tables → Tables) (is_due : (h : History) (t : Tables) → TablesTell h t → P t → due limits h said ≡ Some Done)

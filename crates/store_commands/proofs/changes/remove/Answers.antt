@@ -1,5 +1,8 @@
 use Rattle.std.proofs.Common.{◌≡◌, true, false, sym, ◌∙◌}
+use Rattle.sql_tables.proofs.Calls.{asked_rests, changed_asked}
+use Rattle.prof_tables.specs.Changes as tables
 use Rattle.prof_tables.specs.Changes.{without_run}
+use Rattle.prof_tables.specs.Schema.{schema_one}
 use Rattle.prof_tables.specs.Tables.{Holds}
 use Rattle.histories.specs.History.{Remove}
 use Rattle.histories.specs.Legal.{has_run}
@@ -7,41 +10,46 @@ use Rattle.histories.specs.declared.answers.Answer.TheVariants.{Refused}
 use Rattle.histories.specs.declared.answers.Refusal.TheVariants.{NoSuchRun}
 use Rattle.histories.proofs.Steps.{tell_removed}
 use Rattle.histories.proofs.Tells.{tells_run}
-use Rattle.store_histories.specs.Answered.{Follows}
-use Rattle.store_histories.proofs.Due.{was_still, was_done, follows, then_crash}
-use Rattle.store_commands.proofs.Dues.{remove_due}
+use Rattle.store_histories.specs.Answered.{Tells, Follows}
+use Rattle.store_histories.proofs.After.{turns_after, done_after}
+use Rattle.store_histories.proofs.Due.{was_still}
+use Rattle.store_histories.proofs.Settled.{turns_err}
+use Rattle.store_commands.proofs.Dues.{remove_due, due_if_run}
 use Rattle.store_commands.proofs.changes.remove.Goals as goal
+
+pub returns-in_err-has_run-clause-turns : goal.returns-in_err-has_run-clause-turns
+returns-in_err-has_run-clause-turns g c limits clean =
+    turns_err limits (Remove c.args.number) c.from_residual.result _ _ c.from_residual.ensures.0 (changed_asked schema_one Tells (Follows limits (Remove c.args.number)) false _ _ (c.in_err-has_run.ensures.asks clean))
 
 pub returns-then-not-branch-clause-answered : goal.returns-then-not-branch-clause-answered
 returns-then-not-branch-clause-answered g c clean limits h s =
     let is : has_run h c.args.number ≡ false = sym (tells_run h s.t s.tells c.args.number) ∙ sym (c.in_ok-has_run.ensures.told clean s.t s.stands) ∙ c.if-not-branch.true in
-    was_still limits h (Remove c.args.number) tt g.S.Store c.args.store.now c.has_run.new.self (Refused NoSuchRun) tt (remove_due limits h c.args.number false is) s (c.in_ok-has_run.ensures.stays clean s.t s.stands)
+    was_still limits h (Remove c.args.number) tt g.S.Store c.args.store.now c.has_run.new.self (Refused NoSuchRun) tt (remove_due limits h c.args.number false is) s (asked_rests schema_one (Holds s.t) _ _ (c.in_ok-has_run.ensures.asks clean) s.stands)
 
-pub returns-in_err-drop_run-clause-crash : goal.returns-in_err-drop_run-clause-crash
-returns-in_err-drop_run-clause-crash g c clean limits h s db leaves =
+pub returns-then-not-branch-clause-turns : goal.returns-then-not-branch-clause-turns
+returns-then-not-branch-clause-turns g c limits clean = changed_asked schema_one Tells (Follows limits (Remove c.args.number)) true _ _ (c.in_ok-has_run.ensures.asks clean)
+
+pub returns-in_err-drop_run-clause-turns : goal.returns-in_err-drop_run-clause-turns
+returns-in_err-drop_run-clause-turns g c limits clean =
     let n = c.args.number in
-    let early = c.drop_run.ensures.honest clean in
-    let told = sym (c.in_ok-has_run.ensures.told early s.t s.stands) ∙ c.if-not-branch.false in
-    let is : has_run h n ≡ true = sym (tells_run h s.t s.tells n) ∙ told in
-    then_crash g.S.Store c.args.store.now c.has_run.new.self c.drop_run.new.self (Holds (without_run n s.t)) (Follows limits h (Remove n))
-    (c.has_run.ensures.crash early s.t s.stands) (c.drop_run.ensures.crash clean s.t (c.in_ok-has_run.ensures.stays early s.t s.stands) told)
-    (follows limits h (Remove n) tt (without_run n s.t) (remove_due limits h n true is) (tell_removed limits h n s.t s.tells)) db leaves
+    let two = c.in_err-drop_run.ensures.changes clean in
+    let early = two.stays.was_clean in
+    turns_err limits (Remove n) c.from_residual-in_err-drop_run.result _ _ c.from_residual-in_err-drop_run.ensures.0
+    (turns_after limits (Remove n) tt (λ t. tables.has_run t n ≡ true) (without_run n) (due_if_run limits n) (λ h t. tell_removed limits h n t) g.S.Store c.args.store.now c.has_run.new.self c.drop_run.new.self
+    (c.in_ok-has_run.ensures.asks early) (λ t was. sym (c.in_ok-has_run.ensures.told early t was) ∙ c.if-not-branch.false) false false two)
 
 pub returns-clause-answered : goal.returns-clause-answered
 returns-clause-answered g c clean limits h s =
     let n = c.args.number in
-    let early = c.drop_run.ensures.honest clean in
-    let told = sym (c.in_ok-has_run.ensures.told early s.t s.stands) ∙ c.if-not-branch.false in
-    let is : has_run h n ≡ true = sym (tells_run h s.t s.tells n) ∙ told in
-    was_done limits h (Remove n) tt (without_run n s.t) (remove_due limits h n true is) (tell_removed limits h n s.t s.tells) g.S.Store c.drop_run.new.self
-    (c.in_ok-drop_run.ensures.done clean s.t (c.in_ok-has_run.ensures.stays early s.t s.stands) told)
+    let two = c.in_ok-drop_run.ensures.changes clean in
+    let early = two.stays.was_clean in
+    done_after limits (Remove n) tt (λ t. tables.has_run t n ≡ true) (without_run n) (due_if_run limits n) (λ h t. tell_removed limits h n t) g.S.Store c.args.store.now c.has_run.new.self c.drop_run.new.self
+    (c.in_ok-has_run.ensures.asks early) (λ t was. sym (c.in_ok-has_run.ensures.told early t was) ∙ c.if-not-branch.false) h s true two
 
-pub returns-clause-crash : goal.returns-clause-crash
-returns-clause-crash g c clean limits h s db leaves =
+pub returns-clause-turns : goal.returns-clause-turns
+returns-clause-turns g c limits clean =
     let n = c.args.number in
-    let early = c.drop_run.ensures.honest clean in
-    let told = sym (c.in_ok-has_run.ensures.told early s.t s.stands) ∙ c.if-not-branch.false in
-    let is : has_run h n ≡ true = sym (tells_run h s.t s.tells n) ∙ told in
-    then_crash g.S.Store c.args.store.now c.has_run.new.self c.drop_run.new.self (Holds (without_run n s.t)) (Follows limits h (Remove n))
-    (c.has_run.ensures.crash early s.t s.stands) (c.drop_run.ensures.crash clean s.t (c.in_ok-has_run.ensures.stays early s.t s.stands) told)
-    (follows limits h (Remove n) tt (without_run n s.t) (remove_due limits h n true is) (tell_removed limits h n s.t s.tells)) db leaves
+    let two = c.in_ok-drop_run.ensures.changes clean in
+    let early = two.stays.was_clean in
+    turns_after limits (Remove n) tt (λ t. tables.has_run t n ≡ true) (without_run n) (due_if_run limits n) (λ h t. tell_removed limits h n t) g.S.Store c.args.store.now c.has_run.new.self c.drop_run.new.self
+    (c.in_ok-has_run.ensures.asks early) (λ t was. sym (c.in_ok-has_run.ensures.told early t was) ∙ c.if-not-branch.false) true true two
