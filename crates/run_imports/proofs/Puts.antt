@@ -1,22 +1,33 @@
 -- A file that was put.
-use Rattle.std.proofs.Common.{◌≡◌, ℕ, List, Some, inl, sym, subst}
+use Rattle.std.proofs.Common.{◌≡◌, ◌∙◌, ℕ, Bool, true, List, Some, None, Result, refl, inl, sym, ap, subst}
+use Rattle.std.specs.Result.{is_ok}
+use Rattle.store_columns.specs.declared.errors.StoreEnd.{StoreEnd}
+use Rattle.histories.specs.declared.answers.Answer.{Answer}
 use Rattle.sqlite_trees.specs.declared.store.Store.{Ghosts}
 use Rattle.sqlite_trees.specs.Tree.{Trees}
 use Rattle.cg_formulas.specs.declared.heads.FileHead.{FileHead}
 use Rattle.cost_rows.specs.Rows.{content_of}
 use Rattle.cost_rows.specs.declared.file_rows.FileRows.{FileRows}
+use Rattle.sql_tables.specs.Calls.{Asked, Changed}
+use Rattle.sql_tables.proofs.Calls.{rests_as, asked_rests, changed_then, changed_as}
+use Rattle.prof_tables.specs.Schema.{schema_one}
 use Rattle.prof_tables.specs.Tables.{Tables, Holds}
 use Rattle.prof_books.specs.Runs.{with_file}
 use Rattle.profile_records.specs.declared.kinds.Kind.{Kind}
-use Rattle.prof_store.specs.Shown.{StandsFor}
+use Rattle.prof_store.specs.Shown.{shown, StandsFor}
 use Rattle.prof_store.specs.declared.store.Store.{Store}
-use Rattle.histories.specs.History.{History, Outcome, Import, bytes_of}
+use Rattle.histories.specs.History.{History, Outcome, Import, bytes_of, next}
 use Rattle.histories.specs.Legal.{due, IsInForm, IsLegal}
 use Rattle.histories.specs.Stands.{TablesTell}
 use Rattle.histories.specs.declared.answers.Answer.TheVariants.{Run}
 use Rattle.histories.specs.declared.limits.Limits.{Limits}
 use Rattle.histories.proofs.Put.{tell_put}
-use Rattle.store_histories.specs.Answered.{with_turn, Follows, WasDue}
+use Rattle.store_histories.specs.Answered.{with_turn, has_changed, Tells, Follows, StandsForHistory, WasDue}
+use Rattle.store_histories.specs.Refusals.{refused_or}
+use Rattle.store_histories.proofs.Due.{told_stands}
+use Rattle.file_intake.specs.Reads.{HasEnded}
+use Rattle.run_imports.specs.Refused.{room_refusal}
+use Rattle.run_imports.proofs.Imports.{room_due}
 use Rattle.run_imports.specs.Imports.{IsNewFile}
 
 module _ (limits : Limits) (h : History) (kind : Kind) (label : List ℕ) (outcomes : List Outcome) (digest : List ℕ) (head : FileHead) (rows : FileRows) (t : Tables) (db : Trees)
@@ -34,8 +45,49 @@ module _ (limits : Limits) (h : History) (kind : Kind) (label : List ℕ) (outco
       subst (λ d. put (by d)) (sym new.digest_is)
       (tell_put limits h kind label outcomes head (content_of rows) t db next was (subst (λ d. Holds (by d) next) new.digest_is holds) tell legal new.head_is new.rows_are)
 
-  pub follows_run : (next : Trees) → Holds (with_file t.next kind digest label head (content_of rows) t) next → Follows limits h (Import kind label outcomes) next
-  follows_run next holds = record { answer = Run t.next; accepted = tt; legal = legal; t = after; holds = holds; tells = told next holds }
+  pub follows_run : (next : Trees) → Holds (with_file t.next kind digest label head (content_of rows) t) next → Follows limits (Import kind label outcomes) h next
+  follows_run next holds = record { answer = Run t.next; accepted = refl; legal = legal; after = record { t = after; holds = holds; tells = told next holds } }
 
   pub was_run : {S : Type 0} (g : Ghosts S) (store : Store S) (number : ℕ) → number ≡ t.next → StandsFor g (with_file t.next kind digest label head (content_of rows) t) store → WasDue g limits h (Import kind label outcomes) (Run number) store
   was_run g store number same stands = subst (λ n. WasDue g limits h (Import kind label outcomes) (Run n) store) (sym same) (record { is_due = is; after = record { t = after; stands = stands; tells = told _ stands.holds } })
+
+-- what becomes of a store that was asked whether there is room, and said so
+module _ (limits : Limits) (kind : Kind) (label : List ℕ) (outcomes : List Outcome) (digest : List ℕ) (head : FileHead) (rows : FileRows) (form : IsInForm (Import kind label outcomes)) (ended : HasEnded limits.bytes outcomes)
+    {S : Type 0} (g : Ghosts S) (old mid new : Store S) (asked : Asked schema_one true (shown g old) (shown g mid))
+    (told : (h : History) → StandsForHistory g h old → IsNewFile h kind (bytes_of outcomes) digest head rows → room_refusal limits h kind (bytes_of outcomes) ≡ None) where
+  pub run_due : (h : History) (s : StandsForHistory g h old) → IsNewFile h kind (bytes_of outcomes) digest head rows → due limits h (Import kind label outcomes) ≡ Some (Run s.t.next)
+  run_due h s it = room_due limits h kind label outcomes ended it.is_new it.sound ∙ ap (λ r. Some (refused_or r (Run (next h)))) (told h s it) ∙ ap (λ n. Some (Run n)) (sym s.tells.next)
+
+  abbrev put : Tables → Tables
+  put t = with_file t.next kind digest label head (content_of rows) t
+
+  abbrev Before : History → Trees → Type 0
+  Before h db = IsNewFile h kind (bytes_of outcomes) digest head rows × Tells h db
+
+  pub run_turns : (answered done : Bool) → Changed schema_one Holds (λ t. Holds (put t)) answered done (shown g mid) (shown g new) → Changed schema_one Before (Follows limits (Import kind label outcomes)) answered done (shown g old) (shown g new)
+  run_turns answered done made =
+      changed_as schema_one Holds (λ t. Holds (put t)) Before (Follows limits (Import kind label outcomes)) answered done (shown g old) (shown g new)
+      (λ h was.
+        let s = told_stands g h old (rests_as schema_one (Before h) (Tells h) (shown g old) was was.holds.1) in (
+          s.t,
+          s.stands,
+          follows_run limits h kind label outcomes digest head rows s.t (shown g old).now.trees form (run_due h s was.holds.0) was.holds.0 s.stands.holds s.tells,
+        ))
+      (changed_then schema_one Holds (λ t. Holds (put t)) answered done (shown g old) (shown g mid) (shown g new) asked made)
+
+  pub run_done : (h : History) → StandsForHistory g h old → IsNewFile h kind (bytes_of outcomes) digest head rows → (answered : Bool) → Changed schema_one Holds (λ t. Holds (put t)) answered true (shown g mid) (shown g new)
+      → (number : ℕ) → ((t : Tables) → StandsFor g t mid → number ≡ t.next) → WasDue g limits h (Import kind label outcomes) (Run number) new
+  run_done h s it answered made number is =
+      let there = asked_rests schema_one (Holds s.t) (shown g old) (shown g mid) asked s.stands in
+      was_run limits h kind label outcomes digest head rows s.t (shown g old).now.trees form (run_due h s it) it s.stands.holds s.tells g new number (is s.t there) (made.done refl s.t there)
+
+-- a file that is put after it was asked whether it is held
+pub new_turns : (limits : Limits) (kind : Kind) (label : List ℕ) (outcomes : List Outcome) (digest : List ℕ) (head : FileHead) (rows : FileRows) {S : Type 0} (g : Ghosts S) (old mid new : Store S) (result : Result Answer StoreEnd)
+    → Asked schema_one true (shown g old) (shown g mid) → ((h : History) → StandsForHistory g h old → IsNewFile h kind (bytes_of outcomes) digest head rows)
+    → Changed schema_one (λ h db. IsNewFile h kind (bytes_of outcomes) digest head rows × Tells h db) (Follows limits (Import kind label outcomes)) (is_ok result) (has_changed result) (shown g mid) (shown g new)
+    → Changed schema_one Tells (Follows limits (Import kind label outcomes)) (is_ok result) (has_changed result) (shown g old) (shown g new)
+new_turns limits kind label outcomes digest head rows g old mid new result asked is_new made =
+    let put : History → Trees → Type 0 = λ h db. IsNewFile h kind (bytes_of outcomes) digest head rows × Tells h db in
+    changed_as schema_one put (Follows limits (Import kind label outcomes)) Tells (Follows limits (Import kind label outcomes)) (is_ok result) (has_changed result) (shown g old) (shown g new)
+    (λ h was. (h, rests_as schema_one (Tells h) (put h) (shown g old) was (is_new h (told_stands g h old was), was.holds), λ next k. k))
+    (changed_then schema_one put (Follows limits (Import kind label outcomes)) (is_ok result) (has_changed result) (shown g old) (shown g mid) (shown g new) asked made)

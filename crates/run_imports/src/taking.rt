@@ -1,15 +1,16 @@
 // A file is taken in.
-ghost use Rattle.std.specs.Prelude.{◌≡◌, ℕ, List, MatchOption, IfOk, OnOk, OnErr};
+ghost use Rattle.std.specs.Prelude.{◌≡◌, ℕ, List, MatchOption, IfOk};
+ghost use Rattle.std.specs.Result.{is_ok};
 ghost use Rattle.std.specs.Str.{IsUtf8};
 ghost use Rattle.cost_rows.specs.Rows.{content_of};
 ghost use Rattle.prof_tables.specs.Labels.{IsLabel};
 ghost use Rattle.profile_records.specs.declared.kinds.Kind.{Kind};
-ghost use Rattle.prof_store.specs.Shown.{IsFaithful, IsUsable, StandsFor, LeavesOnly};
+ghost use Rattle.prof_store.specs.Shown.{IsFaithful, Asks};
 ghost use Rattle.histories.specs.Files.{IsHeadOf, rows_of};
 ghost use Rattle.histories.specs.History.{History, Outcome, Import, bytes_of, held};
 ghost use Rattle.histories.specs.Sums as sums;
-ghost use Rattle.store_histories.specs.Answered.{StandsForHistory, WasDue, IsAccepted, Follows};
-ghost use Rattle.run_imports.specs.Imports.{IsNewFile};
+ghost use Rattle.store_histories.specs.Answered.{StandsForHistory, WasDue, TurnsIf, has_changed};
+ghost use Rattle.run_imports.specs.Imports.{IsNewFile, PutsNew};
 ghost use Rattle.file_intake.specs.Intakes.{IsTakenOf};
 ghost use Rattle.file_intake.specs.Reads.{HasEnded};
 ghost use Rattle.run_imports.specs.Refused.{room_refusal};
@@ -65,12 +66,7 @@ fn excess_with<S: Alter>(
 ) -> Result<Option<Excess>, StoreEnd>
     ensures told { IsFaithful S.Store store.new → (h : History) (kind : Kind) (bytes : List ℕ) → StandsForHistory S.Store h store.old → IsHeadOf kind head.now bytes → content_of rows.now ≡ rows_of kind bytes
         → IfOk result (λ excess. excess ≡ sums.excess_of (held h) kind bytes) }
-    ensures stays { IsFaithful S.Store store.new → (t : _) → StandsFor S.Store t store.old → OnOk result (StandsFor S.Store t store.new) }
-    ensures kept { IsFaithful S.Store store.new → (t : _) → StandsFor S.Store t store.old → OnErr result (IsUsable S.Store store.new → StandsFor S.Store t store.new) }
-    ensures crash { IsFaithful S.Store store.new → (t : _) → StandsFor S.Store t store.old → LeavesOnly S.Store store.old store.new (λ _. ⊥) }
-    ensures answers { IsFaithful S.Store store.new → OnOk result (IsUsable S.Store store.new) }
-    ensures was_usable { IsFaithful S.Store store.new → IsUsable S.Store store.new → IsUsable S.Store store.old }
-    ensures honest { IsFaithful S.Store store.new → IsFaithful S.Store store.old }
+    ensures asks { Asks S.Store (is_ok result) store.old store.new }
 {
     let totals = store.totals_of(alloc, head.events.as_slice())?;
     let file = rows.totals(alloc, head.events.len())?;
@@ -93,12 +89,7 @@ fn refusal_of<S: Alter>(
 ) -> Result<Option<Refusal>, StoreEnd>
     ensures told { IsFaithful S.Store store.new → (h : History) (kind : Kind) (bytes : List ℕ) → StandsForHistory S.Store h store.old → IsHeadOf kind head.now bytes → content_of rows.now ≡ rows_of kind bytes
         → IfOk result (λ refusal. refusal ≡ room_refusal limits h kind bytes) }
-    ensures stays { IsFaithful S.Store store.new → (t : _) → StandsFor S.Store t store.old → OnOk result (StandsFor S.Store t store.new) }
-    ensures kept { IsFaithful S.Store store.new → (t : _) → StandsFor S.Store t store.old → OnErr result (IsUsable S.Store store.new → StandsFor S.Store t store.new) }
-    ensures crash { IsFaithful S.Store store.new → (t : _) → StandsFor S.Store t store.old → LeavesOnly S.Store store.old store.new (λ _. ⊥) }
-    ensures answers { IsFaithful S.Store store.new → OnOk result (IsUsable S.Store store.new) }
-    ensures was_usable { IsFaithful S.Store store.new → IsUsable S.Store store.new → IsUsable S.Store store.old }
-    ensures honest { IsFaithful S.Store store.new → IsFaithful S.Store store.old }
+    ensures asks { Asks S.Store (is_ok result) store.old store.new }
 {
     if let Some(excess) = excess_with(store, alloc, head, rows)? {
         return Ok(Some(Refusal::Overflow(excess)));
@@ -126,13 +117,7 @@ fn put_file<S: Alter>(
     requires { IsLabel label.now }
     ensures answered { IsFaithful S.Store store.new → (h : History) (outcomes : List Outcome) → StandsForHistory S.Store h store.old → HasEnded limits.bytes outcomes → IsNewFile h kind (bytes_of outcomes) digest.now head.now rows.now
         → IfOk result (λ answer. WasDue S.Store limits h (Import kind label.now outcomes) answer store.new) }
-    ensures kept { IsFaithful S.Store store.new → (t : _) → StandsFor S.Store t store.old → OnErr result (IsUsable S.Store store.new → StandsFor S.Store t store.new) }
-    ensures same { IsFaithful S.Store store.new → (t : _) → StandsFor S.Store t store.old → IfOk result (λ answer. (IsAccepted answer → ⊥) → StandsFor S.Store t store.new) }
-    ensures crash { IsFaithful S.Store store.new → (h : History) (outcomes : List Outcome) → StandsForHistory S.Store h store.old → HasEnded limits.bytes outcomes → IsNewFile h kind (bytes_of outcomes) digest.now head.now rows.now
-        → LeavesOnly S.Store store.old store.new (Follows limits h (Import kind label.now outcomes)) }
-    ensures answers { IsFaithful S.Store store.new → OnOk result (IsUsable S.Store store.new) }
-    ensures was_usable { IsFaithful S.Store store.new → IsUsable S.Store store.new → IsUsable S.Store store.old }
-    ensures honest { IsFaithful S.Store store.new → IsFaithful S.Store store.old }
+    ensures turns { (outcomes : List Outcome) → HasEnded limits.bytes outcomes → PutsNew S.Store limits kind label.now outcomes digest.now head.now rows.now result store.old store.new }
 {
     if let Some(refusal) = refusal_of(store, alloc, limits, head, rows)? {
         return Ok(Answer::Refused(refusal));
@@ -153,13 +138,8 @@ pub fn take_in<S: Alter>(
     requires { IsLabel label.now }
     ensures answered { IsFaithful S.Store store.new → (h : History) (outcomes : List Outcome) → StandsForHistory S.Store h store.old → HasEnded limits.bytes outcomes → IsTakenOf kind (bytes_of outcomes) taken.now
         → IfOk result (λ answer. WasDue S.Store limits h (Import kind label.now outcomes) answer store.new) }
-    ensures kept { IsFaithful S.Store store.new → (t : _) → StandsFor S.Store t store.old → OnErr result (IsUsable S.Store store.new → StandsFor S.Store t store.new) }
-    ensures same { IsFaithful S.Store store.new → (t : _) → StandsFor S.Store t store.old → IfOk result (λ answer. (IsAccepted answer → ⊥) → StandsFor S.Store t store.new) }
-    ensures crash { IsFaithful S.Store store.new → (h : History) (outcomes : List Outcome) → StandsForHistory S.Store h store.old → HasEnded limits.bytes outcomes → IsTakenOf kind (bytes_of outcomes) taken.now
-        → LeavesOnly S.Store store.old store.new (Follows limits h (Import kind label.now outcomes)) }
-    ensures answers { IsFaithful S.Store store.new → OnOk result (IsUsable S.Store store.new) }
-    ensures was_usable { IsFaithful S.Store store.new → IsUsable S.Store store.new → IsUsable S.Store store.old }
-    ensures honest { IsFaithful S.Store store.new → IsFaithful S.Store store.old }
+    ensures turns { (outcomes : List Outcome) → HasEnded limits.bytes outcomes → IsTakenOf kind (bytes_of outcomes) taken.now
+        → TurnsIf S.Store limits (Import kind label.now outcomes) (is_ok result) (has_changed result) store.old store.new }
 {
     if let Some(number) = store.run_of_digest(&taken.digest)? {
         return Ok(Answer::Held(number));

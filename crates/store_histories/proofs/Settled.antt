@@ -4,6 +4,7 @@ use Rattle.std.proofs.Common.{◌≡◌, ℕ, Bool, false, List, [], ◌∷◌, 
 use Rattle.std.specs.List.{AllByRecursion, list_any}
 use Rattle.sqlite_trees.specs.declared.store.Store.{Ghosts}
 use Rattle.sqlite.specs.State.{State}
+use Rattle.sqlite_trees.specs.Tree.{Trees}
 use Rattle.sql_tables.specs.Calls.{Changed}
 use Rattle.sql_tables.proofs.Calls.{settled_of, rests_before, stays_if, changed_none}
 use Rattle.prof_tables.specs.Schema.{schema_one}
@@ -50,10 +51,14 @@ module _ {S : Type 0} (g : Ghosts S) (limits : Limits) (h : History) (said : Sai
   settled (Err ends.Store) form answered turned = still_answered false (answers.Refused reasons.Store) tt (inl (form, inr (inr refl))) turned
 
 -- of a call that is refused
+pub turns_err_from : (limits : Limits) (said : Said) (Before : History → Trees → Type 0) (result : Result Answer StoreEnd) (old new : State) → IsErr result → Changed schema_one Before (Follows limits said) false false old new
+    → Changed schema_one Before (Follows limits said) (is_ok result) (has_changed result) old new
+turns_err_from limits said Before (Ok answer) old new is h = absurd (cc is)
+turns_err_from limits said Before (Err end) old new is h = h
+
 pub turns_err : (limits : Limits) (said : Said) (result : Result Answer StoreEnd) (old new : State) → IsErr result → Changed schema_one Tells (Follows limits said) false false old new
     → Changed schema_one Tells (Follows limits said) (is_ok result) (has_changed result) old new
-turns_err limits said (Ok answer) old new is h = absurd (cc is)
-turns_err limits said (Err end) old new is h = h
+turns_err limits said result old new is h = turns_err_from limits said Tells result old new is h
 
 -- what a call leaves is what its answer leaves
 pub turns_answer : (limits : Limits) (said : Said) (result : Result Answer StoreEnd) (old new : State) → Changed schema_one Tells (Follows limits said) (is_ok result) (has_changed result) old new

@@ -1,4 +1,7 @@
 use Rattle.std.proofs.Common.{rules, ◌≡◌, None, length, sym, ◌∙◌}
+use Rattle.sql_tables.proofs.Calls.{asked_rests}
+use Rattle.prof_tables.specs.Schema.{schema_one}
+use Rattle.prof_tables.specs.Tables.{Holds}
 use Rattle.histories.specs.History.{held, next}
 use Rattle.histories.specs.Sums.{excess_of}
 use Rattle.histories.proofs.Tells.{tells_many}
@@ -8,18 +11,18 @@ use Rattle.run_imports.proofs.taking.refusal_of.Goals as goal
 
 pub returns-then-branch-from-clause-told : goal.returns-then-branch-from-clause-told
 returns-then-branch-from-clause-told g c clean h kind bytes s is rows_are =
-    let first = c.run_count.ensures.honest clean in
-    let once = c.in_ok-excess.ensures.stays first s.t s.stands in
+    let first = (c.run_count.ensures.asks clean).stays.was_clean in
+    let once = asked_rests schema_one (Holds s.t) _ _ (c.in_ok-excess.ensures.asks first) s.stands in
     let fits : excess_of (held h) kind bytes ≡ None = sym (c.in_ok-excess.ensures.told first h kind bytes s is rows_are) ∙ c.in_default.is in
     let full = has_none c.args.limits.runs c.in_ok-run_count.field-0 (length (held h)) (c.in_ok-run_count.ensures.told clean s.t once ∙ tells_many h s.t s.tells) (search (rules, c.if-branch-from.true)) in
     sym (room_full c.args.limits h kind bytes fits full)
 
 pub returns-then-branch-limits-clause-told : goal.returns-then-branch-limits-clause-told
 returns-then-branch-limits-clause-told g c clean h kind bytes s is rows_are =
-    let second = c.next_run.ensures.honest clean in
-    let first = c.run_count.ensures.honest second in
-    let once = c.in_ok-excess.ensures.stays first s.t s.stands in
-    let twice = c.in_ok-run_count.ensures.stays second s.t once in
+    let second = (c.next_run.ensures.asks clean).stays.was_clean in
+    let first = (c.run_count.ensures.asks second).stays.was_clean in
+    let once = asked_rests schema_one (Holds s.t) _ _ (c.in_ok-excess.ensures.asks first) s.stands in
+    let twice = asked_rests schema_one (Holds s.t) _ _ (c.in_ok-run_count.ensures.asks second) once in
     let fits : excess_of (held h) kind bytes ≡ None = sym (c.in_ok-excess.ensures.told first h kind bytes s is rows_are) ∙ c.in_default.is in
     let few = has_room c.args.limits.runs c.in_ok-run_count.field-0 (length (held h)) (c.in_ok-run_count.ensures.told second s.t once ∙ tells_many h s.t s.tells) (search (rules, c.if-branch-from.false)) in
     let spent = has_none c.args.limits.numbers c.in_ok-next_run.field-0 (next h) (c.in_ok-next_run.ensures.told clean s.t twice ∙ s.tells.next) (search (rules, c.if-branch-limits.true)) in
@@ -27,10 +30,10 @@ returns-then-branch-limits-clause-told g c clean h kind bytes s is rows_are =
 
 pub returns-clause-told : goal.returns-clause-told
 returns-clause-told g c clean h kind bytes s is rows_are =
-    let second = c.next_run.ensures.honest clean in
-    let first = c.run_count.ensures.honest second in
-    let once = c.in_ok-excess.ensures.stays first s.t s.stands in
-    let twice = c.in_ok-run_count.ensures.stays second s.t once in
+    let second = (c.next_run.ensures.asks clean).stays.was_clean in
+    let first = (c.run_count.ensures.asks second).stays.was_clean in
+    let once = asked_rests schema_one (Holds s.t) _ _ (c.in_ok-excess.ensures.asks first) s.stands in
+    let twice = asked_rests schema_one (Holds s.t) _ _ (c.in_ok-run_count.ensures.asks second) once in
     let fits : excess_of (held h) kind bytes ≡ None = sym (c.in_ok-excess.ensures.told first h kind bytes s is rows_are) ∙ c.in_default.is in
     let few = has_room c.args.limits.runs c.in_ok-run_count.field-0 (length (held h)) (c.in_ok-run_count.ensures.told second s.t once ∙ tells_many h s.t s.tells) (search (rules, c.if-branch-from.false)) in
     let some = has_room c.args.limits.numbers c.in_ok-next_run.field-0 (next h) (c.in_ok-next_run.ensures.told clean s.t twice ∙ s.tells.next) (search (rules, c.if-branch-limits.false)) in
