@@ -1,3 +1,4 @@
 pub mod After
 pub mod Due
+pub mod Links
 pub mod Settled

@@ -9,7 +9,7 @@ use Rattle.prof_store.specs.Shown.{shown, StandsFor, IsFaithful, IsUsable}
 use Rattle.prof_store.specs.declared.store.Store.{Store}
 use Rattle.store_columns.specs.declared.errors.StoreEnd.{StoreEnd}
 use Rattle.store_columns.specs.declared.errors.StoreEnd.TheVariants as ends
-use Rattle.histories.specs.History.{History, Said}
+use Rattle.histories.specs.History.{History, Said, Turn}
 use Rattle.histories.specs.Legal.{IsLegal, IsHistory, due}
 use Rattle.histories.specs.Stands.{TablesTell}
 use Rattle.histories.specs.declared.answers.Answer.{Answer}
@@ -74,6 +74,16 @@ module _ {S : Type 0} (g : Ghosts S) where
   pub record IsAnswered (limits : Limits) (h : History) (said : Said) (answer : Answer) (new : Store S) : Type 0 where
     pub legal : IsLegal limits h said answer
     pub after : HasHistory (with_turn h said answer) new
+
+  -- a command was answered over a store: what it leaves, whatever the history; and that the answer is legal after each history that the store has
+  pub record Answers (limits : Limits) (said : Said) (answer : Answer) (old new : Store S) : Type 0 where
+    pub turned : Changed schema_one Tells (Follows limits said) (is_accepted answer) (is_accepted answer) (shown g old) (shown g new)
+    pub answered : (h : History) → HasHistory h old → IsAnswered limits h said answer new
+
+  -- turns one after another, each from the store that the one before left
+  abbrev pub Links : Limits → History → Store S → Store S → Type 0
+  Links limits [] old new = old ≡ new
+  Links limits (turn ∷ later) old new = (mid : Store S) × Answers limits turn.said turn.answer old mid × Links limits later mid new
 
 -- want of memory or of the store is refused as such
 abbrev pub answer_for : Result Answer StoreEnd → Answer
