@@ -1,16 +1,14 @@
 -- One command more is run.
-use Rattle.std.proofs.Common.{◌≡◌, List, [], ◌∷◌, ◌++◌, length, arith, inl, inr, refl, sym, ap, subst, ◌∙◌, append_assoc, append-nil}
+use Rattle.std.proofs.Common.{◌≡◌, List, [], ◌∷◌, ◌++◌, length, arith, refl, sym, ap, subst, ◌∙◌, append-nil}
 use Rattle.sqlite_trees.specs.declared.store.Store.{Ghosts}
-use Rattle.sqlite_trees.specs.Tree.{Trees}
 use Rattle.sql_tables.proofs.Rows.{map-append}
-use Rattle.prof_store.specs.Shown.{IsUsable}
 use Rattle.prof_store.specs.declared.store.Store.{Store}
-use Rattle.histories.specs.History.{History, Outcome, Said, Turn}
+use Rattle.histories.specs.History.{History, Outcome, Turn}
 use Rattle.histories.specs.declared.answers.Answer.{Answer}
 use Rattle.histories.specs.declared.limits.Limits.{Limits}
-use Rattle.histories.proofs.Turns.{legal_append}
-use Rattle.store_histories.specs.Answered.{Follows, HasHistory, IsAnswered, Stops}
-use Rattle.warehouse.specs.Answered.{Says, AreSaid, WasRun}
+use Rattle.store_histories.specs.Answered.{HasHistory}
+use Rattle.store_histories.proofs.Links.{links_on, links_legal, links_after}
+use Rattle.warehouse.specs.Answered.{Says, AreSaid, WasAnswered, WasRun}
 use Rattle.warehouse.specs.declared.command.Command as commands
 
 module _ {R : Type 0} (comes : R → Outcome → R → Type 0) where
@@ -20,41 +18,21 @@ module _ {R : Type 0} (comes : R → Outcome → R → Type 0) where
   said_on (c ∷ list) [] one turn all is = absurd all
   said_on (c ∷ list) (t ∷ turns) one turn all is = (all.0, said_on list turns one turn all.1 is)
 
--- what stops among the turns stops among more of them
-stops_on : (limits : Limits) (h turns : History) (turn : Turn) (db : Trees) → Stops limits h turns db → Stops limits h (turns ++ turn ∷ []) db
-stops_on limits h [] turn db stops = absurd stops
-stops_on limits h (t ∷ turns) turn db (inl here) = inl here
-stops_on limits h (t ∷ turns) turn db (inr later) = inr (stops_on limits (h ++ t ∷ []) turns turn db later)
+module _ {S R : Type 0} (g : Ghosts S) (comes : R → Outcome → R → Type 0) (limits : Limits) where
+  pub run_nothing : (store : Store S) → WasRun g comes limits [] [] store store
+  run_nothing store = record { turns = []; said = tt; answered = refl; links = refl; legal = λ h has. tt; after = λ h has. subst (λ l. HasHistory g l store) (sym (append-nil h)) has }
 
-stops_last : (limits : Limits) (h turns : History) (turn : Turn) (db : Trees) → Follows limits (h ++ turns) turn.said db → Stops limits h (turns ++ turn ∷ []) db
-stops_last limits h [] turn db follows = inl (subst (λ l. Follows limits l turn.said db) (append-nil h) follows)
-stops_last limits h (t ∷ turns) turn db follows =
-    inr (stops_last limits (h ++ t ∷ []) turns turn db (subst (λ l. Follows limits l turn.said db) (sym (append_assoc h (t ∷ []) turns)) follows))
-
-module _ {S R : Type 0} (g : Ghosts S) (comes : R → Outcome → R → Type 0) (limits : Limits) (h : History) where
-  pub run_nothing : (store : Store S) → HasHistory g h store → WasRun g comes limits h [] [] store store
-  run_nothing store has = record {
-    turns = [];
-    said = tt;
-    answered = refl;
-    legal = tt;
-    after = subst (λ l. HasHistory g l store) (sym (append-nil h)) has;
-    crash = λ usable db leaves. inl leaves;
-  }
-
-  pub run_on : (list : List (commands.Command R)) (given : List Answer) (old mid new : Store S) (w : WasRun g comes limits h list given old mid) (one : commands.Command R) (said : Said) (answer : Answer)
-      → (IsUsable g new → IsUsable g mid) → Says comes one said → IsAnswered g limits (h ++ w.turns) said answer mid new → WasRun g comes limits h (list ++ one ∷ []) (given ++ answer ∷ []) old new
-  run_on list given old mid new w one said answer was_usable says is =
-      let turn : Turn = record { said = said; answer = answer } in record {
+  pub run_on : (list : List (commands.Command R)) (given : List Answer) (old mid new : Store S) → WasRun g comes limits list given old mid → (one : commands.Command R) (answer : Answer) → WasAnswered g comes limits one answer mid new
+      → WasRun g comes limits (list ++ one ∷ []) (given ++ answer ∷ []) old new
+  run_on list given old mid new w one answer is =
+      let turn : Turn = record { said = is.said; answer = answer } in
+      let links = links_on g limits w.turns turn old mid new w.links is.answers in record {
         turns = w.turns ++ turn ∷ [];
-        said = said_on comes list w.turns one turn w.said says;
+        said = said_on comes list w.turns one turn w.said is.says;
         answered = map-append (λ (t : Turn). t.answer) w.turns (turn ∷ []) ∙ ap (λ l. l ++ answer ∷ []) w.answered;
-        legal = legal_append limits h w.turns (turn ∷ []) w.legal (is.legal, tt);
-        after = subst (λ l. HasHistory g l new) (append_assoc h w.turns (turn ∷ [])) is.after;
-        crash = λ usable db leaves. elim (is.crash (was_usable usable) db leaves) [
-          | inl before ↦ elim (w.crash (was_usable usable) db before) [ inl first ↦ inl first | inr stops ↦ inr (stops_on limits h w.turns turn db stops) ]
-          | inr follows ↦ inr (stops_last limits h w.turns turn db follows)
-        ];
+        links = links;
+        legal = λ h has. links_legal g limits h (w.turns ++ turn ∷ []) old new links has;
+        after = λ h has. links_after g limits h (w.turns ++ turn ∷ []) old new links has;
       }
 
 pub no_items : {X : Type 0} (xs : List X) → length xs ≡ 0 → xs ≡ []

@@ -1,6 +1,10 @@
 -- Sources that were not read to their end.
-use Rattle.std.proofs.Common.{◌≡◌, ℕ, Bool, List, Option, Some, None, if◌then◌else◌, inl, inr, refl, ap, ap₂}
+use Rattle.std.proofs.Common.{◌≡◌, ℕ, Bool, false, List, Option, Some, None, if◌then◌else◌, inl, inr, refl, ap, ap₂}
 use Rattle.std.specs.List.{list_any}
+use Rattle.sql_tables.specs.Calls.{Changed}
+use Rattle.sql_tables.proofs.Calls.{changed_none}
+use Rattle.prof_tables.specs.Schema.{schema_one}
+use Rattle.prof_store.specs.Shown.{shown, IsFaithful}
 use Rattle.sqlite_trees.specs.declared.store.Store.{Ghosts}
 use Rattle.profile_records.specs.declared.kinds.Kind.{Kind}
 use Rattle.prof_store.specs.declared.store.Store.{Store}
@@ -11,7 +15,7 @@ use Rattle.histories.specs.declared.answers.Answer.TheVariants as answers
 use Rattle.histories.specs.declared.answers.Refusal.TheVariants as reasons
 use Rattle.histories.specs.declared.limits.Limits.{Limits}
 use Rattle.histories.proofs.Held.{IsStill}
-use Rattle.store_histories.specs.Answered.{HasHistory, IsAnswered}
+use Rattle.store_histories.specs.Answered.{Answers, Tells, Follows, is_accepted}
 use Rattle.store_histories.proofs.Settled.{untouched}
 use Rattle.warehouse.specs.Answered.{unread_for}
 use Rattle.file_intake.specs.Reads.{IsUnreadFor}
@@ -33,6 +37,17 @@ unread_still unreads.Memory = tt
 unread_still unreads.Failed = tt
 unread_still unreads.TooLong = tt
 
-pub unread_answered : {S : Type 0} (g : Ghosts S) (limits : Limits) (h : History) (kind : Kind) (label : List ℕ) (outcomes : List Outcome) (store : Store S) → HasHistory g h store → IsInForm (Import kind label outcomes)
-    → (unread : Unread) → IsUnreadFor limits.bytes outcomes unread → IsAnswered g limits h (Import kind label outcomes) (unread_for unread) store store
-unread_answered g limits h kind label outcomes store has form unread is = untouched g limits h (Import kind label outcomes) store has (unread_for unread) (unread_still unread) (unread_legal limits h kind label outcomes form unread is)
+pub unread_answered : {S : Type 0} (g : Ghosts S) (limits : Limits) (kind : Kind) (label : List ℕ) (outcomes : List Outcome) (store : Store S) → IsFaithful g store → IsInForm (Import kind label outcomes)
+    → (unread : Unread) → IsUnreadFor limits.bytes outcomes unread → Answers g limits (Import kind label outcomes) (unread_for unread) store store
+unread_answered g limits kind label outcomes store clean form unread is = record {
+  turned = turned unread;
+  answered = λ h has. untouched g limits h (Import kind label outcomes) store has clean (unread_for unread) (unread_still unread) (unread_legal limits h kind label outcomes form unread is);
+}
+  where
+    none : Changed schema_one Tells (Follows limits (Import kind label outcomes)) false false (shown g store) (shown g store)
+    none = changed_none schema_one Tells (Follows limits (Import kind label outcomes)) (shown g store) clean
+
+    turned : (unread : Unread) → Changed schema_one Tells (Follows limits (Import kind label outcomes)) (is_accepted (unread_for unread)) (is_accepted (unread_for unread)) (shown g store) (shown g store)
+    turned unreads.Memory = none
+    turned unreads.Failed = none
+    turned unreads.TooLong = none

@@ -1,7 +1,6 @@
 -- What commands say, and what a list of them is answered and leaves.
 use Rattle.std.specs.Prelude.{◌≡◌, map, List, [], ◌∷◌, ◌++◌}
 use Rattle.sqlite_trees.specs.declared.store.Store.{Ghosts}
-use Rattle.prof_store.specs.Shown.{IsUsable, LeavesOnly}
 use Rattle.prof_store.specs.declared.store.Store.{Store}
 use Rattle.histories.specs.History.{History, Said, Turn, Outcome, Import, Remove, MakeGroup, DropGroup, Join, Leave, SetBaseline, Ask}
 use Rattle.histories.specs.Legal.{AreLegal}
@@ -12,7 +11,7 @@ use Rattle.histories.specs.declared.limits.Limits.{Limits}
 use Rattle.file_intake.specs.Reads.{Come}
 use Rattle.file_intake.specs.declared.reading.Unread.{Unread}
 use Rattle.file_intake.specs.declared.reading.Unread.TheVariants as unread
-use Rattle.store_histories.specs.Answered.{HasHistory, Stops}
+use Rattle.store_histories.specs.Answered.{HasHistory, Answers, Links}
 use Rattle.warehouse.specs.declared.command.Command as commands
 use Rattle.warehouse.specs.declared.command.Command.TheVariants as command
 
@@ -36,14 +35,20 @@ module _ {R : Type 0} (comes : R → Outcome → R → Type 0) where
   AreSaid more later = ⊥
 
 module _ {S R : Type 0} (g : Ghosts S) (comes : R → Outcome → R → Type 0) where
-  -- commands were run: each answer is legal after the history and the turns before it, and the store has the history with all of them; where it can be used at the end, a crash on the way left what could be left before, or tables after some of the turns with the next command done
-  pub record WasRun (limits : Limits) (h : History) (list : List (commands.Command R)) (given : List Answer) (old new : Store S) : Type 0 where
+  -- a command was answered, whatever its source came to
+  pub record WasAnswered (limits : Limits) (one : commands.Command R) (answer : Answer) (old new : Store S) : Type 0 where
+    pub said : Said
+    pub says : Says comes one said
+    pub answers : Answers g limits said answer old new
+
+  -- commands were run: each is a turn from the store that the one before left, and is given its answer; after a history that the store has, each answer is legal, and the store has the history with all turns
+  pub record WasRun (limits : Limits) (list : List (commands.Command R)) (given : List Answer) (old new : Store S) : Type 0 where
     pub turns : History
     pub said : AreSaid comes list turns
     pub answered : map (λ (turn : Turn). turn.answer) turns ≡ given
-    pub legal : AreLegal limits h turns
-    pub after : HasHistory g (h ++ turns) new
-    pub crash : IsUsable g new → LeavesOnly g old new (Stops limits h turns)
+    pub links : Links g limits turns old new
+    pub legal : (h : History) → HasHistory g h old → AreLegal limits h turns
+    pub after : (h : History) → HasHistory g h old → HasHistory g (h ++ turns) new
 
 -- a source that was not read to its end is refused as such
 abbrev pub unread_for : Unread → Answer

@@ -1,9 +1,9 @@
 // Files are taken in, each with its answer.
-ghost use Rattle.std.specs.Prelude.{◌≡◌, ℕ, List};
+ghost use Rattle.std.specs.Prelude.{List};
 ghost use Rattle.prof_tables.specs.Labels.{IsLabel};
-ghost use Rattle.prof_store.specs.Shown.{IsFaithful, IsUsable};
-ghost use Rattle.histories.specs.History.{History, Outcome, Import};
-ghost use Rattle.store_histories.specs.Answered.{HasHistory, IsAnswered};
+ghost use Rattle.prof_store.specs.Shown.{IsFaithful};
+ghost use Rattle.histories.specs.History.{Outcome, Import};
+ghost use Rattle.store_histories.specs.Answered.{Answers};
 ghost use Rattle.file_intake.specs.Reads.{Come};
 
 use crate::refusals::unread_answer;
@@ -26,9 +26,7 @@ fn import_labelled<S: Alter, R: Source>(
     source: &mut R,
 ) -> Answer
     requires { IsLabel label.now }
-    ensures answered { IsFaithful S.Store store.new → (h : History) → HasHistory S.Store h store.old → (outcomes : List Outcome) × Come R.comes source.old outcomes source.new × IsAnswered S.Store limits h (Import kind label.now outcomes) result store.old store.new }
-    ensures was_usable { IsFaithful S.Store store.new → IsUsable S.Store store.new → IsUsable S.Store store.old }
-    ensures honest { IsFaithful S.Store store.new → IsFaithful S.Store store.old }
+    ensures answered { IsFaithful S.Store store.new → (outcomes : List Outcome) × Come R.comes source.old outcomes source.new × Answers S.Store limits (Import kind label.now outcomes) result store.old store.new }
 {
     match take_file(alloc, kind, limits.bytes, source) {
         Ok(taken) => answer_of(take_in(store, alloc, limits, kind, label, &taken)),
@@ -45,9 +43,7 @@ pub(crate) fn import_in<S: Alter, R: Source>(
     label: &[u8],
     source: &mut R,
 ) -> Answer
-    ensures answered { IsFaithful S.Store store.new → (h : History) → HasHistory S.Store h store.old → (outcomes : List Outcome) × Come R.comes source.old outcomes source.new × IsAnswered S.Store limits h (Import kind label.now outcomes) result store.old store.new }
-    ensures was_usable { IsFaithful S.Store store.new → IsUsable S.Store store.new → IsUsable S.Store store.old }
-    ensures honest { IsFaithful S.Store store.new → IsFaithful S.Store store.old }
+    ensures answered { IsFaithful S.Store store.new → (outcomes : List Outcome) × Come R.comes source.old outcomes source.new × Answers S.Store limits (Import kind label.now outcomes) result store.old store.new }
 {
     match label_of(label) {
         Some(label) => import_labelled(store, alloc, limits, kind, label, source),

@@ -1,9 +1,9 @@
 // Commands, one by one and in lists.
 ghost use Rattle.std.specs.Prelude.{◌≡◌, List, IfOk, OnErr};
-ghost use Rattle.prof_store.specs.Shown.{IsFaithful, IsUsable};
-ghost use Rattle.histories.specs.History.{History, Outcome, Said, Import};
-ghost use Rattle.store_histories.specs.Answered.{HasHistory, IsAnswered};
-ghost use Rattle.warehouse.specs.Answered.{Says, WasRun};
+ghost use Rattle.prof_store.specs.Shown.{IsFaithful};
+ghost use Rattle.histories.specs.History.{Outcome, Import};
+ghost use Rattle.store_histories.specs.Answered.{Answers};
+ghost use Rattle.warehouse.specs.Answered.{WasAnswered, WasRun};
 ghost use Rattle.file_intake.specs.Reads.{Come};
 
 use crate::answering::import_in;
@@ -29,9 +29,7 @@ impl<S: Alter> Warehouse<S> {
         source: &mut R,
     ) -> Answer
         ensures limits { self.new.limits ≡ self.old.limits }
-        ensures answered { IsFaithful S.Store self.new.store → (h : History) → HasHistory S.Store h self.old.store → (outcomes : List Outcome) × Come R.comes source.old outcomes source.new × IsAnswered S.Store self.old.limits h (Import kind label.now outcomes) result self.old.store self.new.store }
-        ensures was_usable { IsFaithful S.Store self.new.store → IsUsable S.Store self.new.store → IsUsable S.Store self.old.store }
-        ensures honest { IsFaithful S.Store self.new.store → IsFaithful S.Store self.old.store }
+        ensures answered { IsFaithful S.Store self.new.store → (outcomes : List Outcome) × Come R.comes source.old outcomes source.new × Answers S.Store self.old.limits (Import kind label.now outcomes) result self.old.store self.new.store }
     {
         import_in(&mut self.store, alloc, self.limits, kind, label, source)
     }
@@ -39,9 +37,7 @@ impl<S: Alter> Warehouse<S> {
     /// Does what a command says, and answers it. A refused command changes nothing.
     pub fn apply<R: Source + Drop>(&mut self, alloc: Global, command: Command<R>) -> Answer
         ensures limits { self.new.limits ≡ self.old.limits }
-        ensures answered { IsFaithful S.Store self.new.store → (h : History) → HasHistory S.Store h self.old.store → (said : Said) × Says R.comes command said × IsAnswered S.Store self.old.limits h said result self.old.store self.new.store }
-        ensures was_usable { IsFaithful S.Store self.new.store → IsUsable S.Store self.new.store → IsUsable S.Store self.old.store }
-        ensures honest { IsFaithful S.Store self.new.store → IsFaithful S.Store self.old.store }
+        ensures answered { IsFaithful S.Store self.new.store → WasAnswered S.Store R.comes self.old.limits command result self.old.store self.new.store }
     {
         let store = &mut self.store;
         match command {
@@ -81,10 +77,8 @@ impl<S: Alter> Warehouse<S> {
         commands: Vec<Command<R>>,
     ) -> Result<Vec<Answer>, AllocError>
         ensures limits { self.new.limits ≡ self.old.limits }
-        ensures answered { IsFaithful S.Store self.new.store → (h : History) → HasHistory S.Store h self.old.store → IfOk result (λ answers. WasRun S.Store R.comes self.old.limits h commands.items answers.items self.old.store self.new.store) }
+        ensures answered { IsFaithful S.Store self.new.store → IfOk result (λ answers. WasRun S.Store R.comes self.old.limits commands.items answers.items self.old.store self.new.store) }
         ensures err { OnErr result (self.new ≡ self.old) }
-        ensures was_usable { IsFaithful S.Store self.new.store → IsUsable S.Store self.new.store → IsUsable S.Store self.old.store }
-        ensures honest { IsFaithful S.Store self.new.store → IsFaithful S.Store self.old.store }
     {
         let count = commands.len();
         let mut answers = Vec::with_capacity(alloc, count)?;

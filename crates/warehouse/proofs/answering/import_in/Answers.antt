@@ -2,9 +2,21 @@ use Rattle.std.proofs.Common.{[], refl}
 use Rattle.histories.specs.History.{Import}
 use Rattle.histories.specs.declared.answers.Answer.TheVariants.{Refused}
 use Rattle.histories.specs.declared.answers.Refusal.TheVariants.{BadName}
+use Rattle.sql_tables.proofs.Calls.{changed_none}
+use Rattle.prof_tables.specs.Schema.{schema_one}
+use Rattle.prof_store.specs.Shown.{shown}
+use Rattle.store_histories.specs.Answered.{Tells, Follows}
 use Rattle.store_histories.proofs.Settled.{untouched, bad_name}
 use Rattle.warehouse.proofs.answering.import_in.Goals as goal
 
-pub returns-in-None-clause-answered : goal.returns-in-None-clause-answered
-returns-in-None-clause-answered g c clean h has =
-    ([], refl, untouched g.S.Store c.args.limits h (Import c.args.kind c.args.label.now []) c.args.store.now has (Refused BadName) tt (bad_name c.args.limits h (Import c.args.kind c.args.label.now []) c.in-None.ensures refl))
+pub returns-in-None : goal.returns-in-None
+returns-in-None g c = record { answered = λ clean.
+    let limits = c.args.limits in
+    let said = Import c.args.kind c.args.label.now [] in (
+      [],
+      refl,
+      record {
+        turned = changed_none schema_one Tells (Follows limits said) (shown g.S.Store c.args.store.now) clean;
+        answered = λ h has. untouched g.S.Store limits h said c.args.store.now has clean (Refused BadName) tt (bad_name limits h said c.in-None.ensures refl);
+      },
+    ) }

@@ -1,38 +1,64 @@
 use Rattle.std.proofs.Common.{refl, sym, ap, subst}
-use Rattle.histories.specs.History.{Import, Remove, DropGroup, Join, Leave, SetBaseline, Ask}
+use Rattle.histories.specs.History.{Import, Remove, MakeGroup, DropGroup, Join, Leave, SetBaseline, Ask}
 use Rattle.warehouse.specs.Answered.{Says}
 use Rattle.warehouse.proofs.warehouse.Warehouse.apply.Goals as goal
 
 pub returns-in-Import-clause-answered : goal.returns-in-Import-clause-answered
-returns-in-Import-clause-answered g c clean h has =
-    let it = c.import_in.ensures.answered clean h has in
+returns-in-Import-clause-answered g c clean =
+    let it = c.import_in.ensures.answered clean in
     let said = Import c.in-Import.kind c.as_slice.result.now it.0 in
-    (said, subst (λ k. Says g.R.Source.comes k said) (sym c.in-Import.is) (it.0, c.import_in.new.source, it.1, ap (λ l. Import c.in-Import.kind l it.0) c.as_slice.ensures.value), it.2)
+    record { said = said; says = subst (λ k. Says g.R.Source.comes k said) (sym c.in-Import.is) (it.0, c.import_in.new.source, it.1, ap (λ l. Import c.in-Import.kind l it.0) c.as_slice.ensures.value); answers = it.2 }
 
 pub returns-in-Remove-clause-answered : goal.returns-in-Remove-clause-answered
-returns-in-Remove-clause-answered g c clean h has =
-    (Remove c.in-Remove.number, subst (λ k. Says g.R.Source.comes k (Remove c.in-Remove.number)) (sym c.in-Remove.is) refl, c.remove_in.ensures.answered clean c.args.self.now.limits h has)
+returns-in-Remove-clause-answered g c clean = record {
+  said = Remove c.in-Remove.number;
+  says = subst (λ k. Says g.R.Source.comes k (Remove c.in-Remove.number)) (sym c.in-Remove.is) refl;
+  answers = record { turned = c.remove_in.ensures.turns c.args.self.now.limits clean; answered = c.remove_in.ensures.answered clean c.args.self.now.limits };
+}
+
+pub returns-in-MakeGroup-clause-answered : goal.returns-in-MakeGroup-clause-answered
+returns-in-MakeGroup-clause-answered g c clean =
+    let said = MakeGroup c.as_slice-in-MakeGroup.result.now in record {
+      said = said;
+      says = subst (λ k. Says g.R.Source.comes k said) (sym c.in-MakeGroup.is) (ap MakeGroup c.as_slice-in-MakeGroup.ensures.value);
+      answers = record { turned = c.make_in.ensures.turns clean; answered = c.make_in.ensures.answered clean };
+    }
 
 pub returns-in-DropGroup-clause-answered : goal.returns-in-DropGroup-clause-answered
-returns-in-DropGroup-clause-answered g c clean h has =
-    let said = DropGroup c.as_slice-in-DropGroup.result.now in
-    (said, subst (λ k. Says g.R.Source.comes k said) (sym c.in-DropGroup.is) (ap DropGroup c.as_slice-in-DropGroup.ensures.value), c.drop_in.ensures.answered clean c.args.self.now.limits h has)
+returns-in-DropGroup-clause-answered g c clean =
+    let said = DropGroup c.as_slice-in-DropGroup.result.now in record {
+      said = said;
+      says = subst (λ k. Says g.R.Source.comes k said) (sym c.in-DropGroup.is) (ap DropGroup c.as_slice-in-DropGroup.ensures.value);
+      answers = record { turned = c.drop_in.ensures.turns c.args.self.now.limits clean; answered = c.drop_in.ensures.answered clean c.args.self.now.limits };
+    }
 
 pub returns-in-Ask-clause-answered : goal.returns-in-Ask-clause-answered
-returns-in-Ask-clause-answered g c clean h has =
-    (Ask c.in-Ask.query, subst (λ k. Says g.R.Source.comes k (Ask c.in-Ask.query)) (sym c.in-Ask.is) refl, c.ask_in.ensures.answered clean c.args.self.now.limits h has)
+returns-in-Ask-clause-answered g c clean = record {
+  said = Ask c.in-Ask.query;
+  says = subst (λ k. Says g.R.Source.comes k (Ask c.in-Ask.query)) (sym c.in-Ask.is) refl;
+  answers = record { turned = c.ask_in.ensures.turns c.args.self.now.limits clean; answered = c.ask_in.ensures.answered clean c.args.self.now.limits };
+}
 
 pub returns-in-Join-clause-answered : goal.returns-in-Join-clause-answered
-returns-in-Join-clause-answered g c clean h has =
-    let said = Join c.as_slice-in-Join.result.now c.in-Join.number in
-    (said, subst (λ k. Says g.R.Source.comes k said) (sym c.in-Join.is) (ap (λ l. Join l c.in-Join.number) c.as_slice-in-Join.ensures.value), c.change_in.ensures.answered clean c.args.self.now.limits h has)
+returns-in-Join-clause-answered g c clean =
+    let said = Join c.as_slice-in-Join.result.now c.in-Join.number in record {
+      said = said;
+      says = subst (λ k. Says g.R.Source.comes k said) (sym c.in-Join.is) (ap (λ l. Join l c.in-Join.number) c.as_slice-in-Join.ensures.value);
+      answers = record { turned = c.change_in.ensures.turns c.args.self.now.limits clean; answered = c.change_in.ensures.answered clean c.args.self.now.limits };
+    }
 
 pub returns-in-Leave-clause-answered : goal.returns-in-Leave-clause-answered
-returns-in-Leave-clause-answered g c clean h has =
-    let said = Leave c.as_slice-in-Leave.result.now c.in-Leave.number in
-    (said, subst (λ k. Says g.R.Source.comes k said) (sym c.in-Leave.is) (ap (λ l. Leave l c.in-Leave.number) c.as_slice-in-Leave.ensures.value), c.change_in-in-Leave.ensures.answered clean c.args.self.now.limits h has)
+returns-in-Leave-clause-answered g c clean =
+    let said = Leave c.as_slice-in-Leave.result.now c.in-Leave.number in record {
+      said = said;
+      says = subst (λ k. Says g.R.Source.comes k said) (sym c.in-Leave.is) (ap (λ l. Leave l c.in-Leave.number) c.as_slice-in-Leave.ensures.value);
+      answers = record { turned = c.change_in-in-Leave.ensures.turns c.args.self.now.limits clean; answered = c.change_in-in-Leave.ensures.answered clean c.args.self.now.limits };
+    }
 
 pub returns-in-SetBaseline-clause-answered : goal.returns-in-SetBaseline-clause-answered
-returns-in-SetBaseline-clause-answered g c clean h has =
-    let said = SetBaseline c.as_slice-in-SetBaseline.result.now c.in-SetBaseline.number in
-    (said, subst (λ k. Says g.R.Source.comes k said) (sym c.in-SetBaseline.is) (ap (λ l. SetBaseline l c.in-SetBaseline.number) c.as_slice-in-SetBaseline.ensures.value), c.change_in-in-SetBaseline.ensures.answered clean c.args.self.now.limits h has)
+returns-in-SetBaseline-clause-answered g c clean =
+    let said = SetBaseline c.as_slice-in-SetBaseline.result.now c.in-SetBaseline.number in record {
+      said = said;
+      says = subst (λ k. Says g.R.Source.comes k said) (sym c.in-SetBaseline.is) (ap (λ l. SetBaseline l c.in-SetBaseline.number) c.as_slice-in-SetBaseline.ensures.value);
+      answers = record { turned = c.change_in-in-SetBaseline.ensures.turns c.args.self.now.limits clean; answered = c.change_in-in-SetBaseline.ensures.answered clean c.args.self.now.limits };
+    }

@@ -1,6 +1,5 @@
 use Rattle.std.proofs.Common.{◌≡◌, ◌+◌, ◌++◌, ◌∷◌, [], refl, sym, ap, subst, ◌∙◌, arith, length, append_assoc, append-nil}
-use Rattle.store_histories.specs.Answered.{IsAnswered}
-use Rattle.warehouse.specs.Answered.{WasRun}
+use Rattle.warehouse.specs.Answered.{WasAnswered, WasRun}
 use Rattle.warehouse.proofs.Runs.{run_nothing, run_on, no_items}
 use Rattle.warehouse.proofs.warehouse.Warehouse.run.Goals as goal
 
@@ -10,42 +9,36 @@ commands-init g c = (
   c.in_ok-answers.ensures.len,
   c.in_ok-answers.ensures.exact,
   omega (arith, c.from-rest.ensures.1, c.len-count.ensures),
-  λ clean. clean,
-  λ clean usable. usable,
-  ([], sym c.from-rest.ensures.0, λ clean h has. subst (λ l. WasRun g.S.Store g.R.Source.comes c.args.self.now.limits h [] l c.args.self.now.store c.args.self.now.store) (sym c.in_ok-answers.ensures.items) (run_nothing g.S.Store g.R.Source.comes c.args.self.now.limits h c.args.self.now.store has)),
+  ([], sym c.from-rest.ensures.0, λ clean. subst (λ l. WasRun g.S.Store g.R.Source.comes c.args.self.now.limits [] l c.args.self.now.store c.args.self.now.store) (sym c.in_ok-answers.ensures.items) (run_nothing g.S.Store g.R.Source.comes c.args.self.now.limits c.args.self.now.store)),
 )
 
 pub commands-preserved : goal.commands-preserved
 commands-preserved g c =
     let i = c.commands.invariant in
-    let front = i.6.0 in
+    let front = i.4.0 in
     let rest = c.pop_front.new.self.items in
     let one = c.in-Some.command in (
       c.apply-answer.ensures.limits ∙ i.0,
       c.push_reserved.ensures.len ∙ ap (λ n. n + 1) i.1,
       c.push_reserved.ensures.capacity ∙ i.2,
       omega (arith, c.in-Some.ensures.cases, i.3),
-      λ clean. i.4 (c.apply-answer.ensures.honest clean),
-      λ clean usable. i.5 (c.apply-answer.ensures.honest clean) (c.apply-answer.ensures.was_usable clean usable),
       (
         front ++ one ∷ [],
-        i.6.1 ∙ ap (λ l. front ++ l) c.in-Some.ensures.items ∙ sym (append_assoc front (one ∷ []) rest),
-        λ clean h has.
-            let early = c.apply-answer.ensures.honest clean in
-            let w = i.6.2 early h has in
+        i.4.1 ∙ ap (λ l. front ++ l) c.in-Some.ensures.items ∙ sym (append_assoc front (one ∷ []) rest),
+        λ clean.
+            let it = c.apply-answer.ensures.answered clean in
+            let w = i.4.2 it.answers.turned.stays.was_clean in
             let limits = c.args.self.now.limits in
-            let it = c.apply-answer.ensures.answered clean (h ++ w.turns) w.after in
-            let answered = subst (λ x. IsAnswered g.S.Store x (h ++ w.turns) it.0 c.apply-answer.result c.commands.self.store c.apply-answer.new.self.store) i.0 it.2 in
-            subst (λ l. WasRun g.S.Store g.R.Source.comes limits h (front ++ one ∷ []) l c.args.self.now.store c.apply-answer.new.self.store) (sym c.push_reserved.ensures.items)
-            (run_on g.S.Store g.R.Source.comes limits h front c.commands.answers.items c.args.self.now.store c.commands.self.store c.apply-answer.new.self.store w one it.0 c.apply-answer.result
-            (c.apply-answer.ensures.was_usable clean) it.1 answered),
+            let answered = subst (λ x. WasAnswered g.S.Store g.R.Source.comes x one c.apply-answer.result c.commands.self.store c.apply-answer.new.self.store) i.0 it in
+            subst (λ l. WasRun g.S.Store g.R.Source.comes limits (front ++ one ∷ []) l c.args.self.now.store c.apply-answer.new.self.store) (sym c.push_reserved.ensures.items)
+            (run_on g.S.Store g.R.Source.comes limits front c.commands.answers.items c.args.self.now.store c.commands.self.store c.apply-answer.new.self.store w one c.apply-answer.result answered),
       ),
     )
 
 pub returns-clause-answered : goal.returns-clause-answered
-returns-clause-answered g c clean h has =
+returns-clause-answered g c clean =
     let i = c.commands.invariant in
     let ok = c.commands.rest.ok in
     let none : length c.commands.rest.items ≡ 0 = omega (arith, ok, i.3, c.commands-test.false) in
-    subst (λ l. WasRun g.S.Store g.R.Source.comes c.args.self.now.limits h l c.commands.answers.items c.args.self.now.store c.commands.self.store)
-    (sym (i.6.1 ∙ ap (λ l. i.6.0 ++ l) (no_items c.commands.rest.items none) ∙ append-nil i.6.0)) (i.6.2 clean h has)
+    subst (λ l. WasRun g.S.Store g.R.Source.comes c.args.self.now.limits l c.commands.answers.items c.args.self.now.store c.commands.self.store)
+    (sym (i.4.1 ∙ ap (λ l. i.4.0 ++ l) (no_items c.commands.rest.items none) ∙ append-nil i.4.0)) (i.4.2 clean)
