@@ -4,14 +4,13 @@ use Rattle.std.specs.Io.KnownBytes.{Appends}
 use Rattle.std.specs.List.{list_any}
 use Rattle.sqlite_trees.specs.declared.store.Store.{Ghosts}
 use Rattle.profile_records.specs.declared.kinds.Kind.{Kind}
-use Rattle.prof_store.specs.Shown.{IsUsable, LeavesOnly}
 use Rattle.histories.specs.History as history
 use Rattle.histories.specs.History.{History, Outcome, Said, Turn}
 use Rattle.histories.specs.Legal.{AreLegal}
 use Rattle.histories.specs.declared.answers.Answer.{Answer}
 use Rattle.histories.specs.declared.answers.Answer.TheVariants.{Refused}
 use Rattle.histories.specs.declared.answers.Refusal.TheVariants.{Memory}
-use Rattle.store_histories.specs.Answered.{HasHistory, Stops}
+use Rattle.store_histories.specs.Answered.{HasHistory, Links}
 use Rattle.answer_lines.specs.Answers.{is_refused, line_text}
 use Rattle.sessions.specs.declared.session.GroupChange.{GroupChange}
 use Rattle.sessions.specs.declared.session.GroupChange.TheVariants as changes
@@ -72,32 +71,32 @@ ArePrinted answers old new = (text : List ℕ) × AreLinesOf answers text × App
 -- ---- what is done
 
 module _ {R W S : Type 0} (g : Ghosts S) where
-  -- these turns were taken after a history: each answer is legal after those before it, the store has the history with all of them, and the status is 1 where one is a refusal, else what it was; where the store can be used at the end, a crash on the way left what could be left before, or tables after some of the turns with the next command done
-  pub record Took (h turns : History) (old new : Session R W S) : Type 0 where
-    pub legal : AreLegal old.warehouse.limits h turns
-    pub after : HasHistory g (h ++ turns) new.warehouse.store
+  -- these turns were taken, each from the store that the one before left: after a history that the store has each answer is legal, and the store has the history with all of them; the status is 1 where one is a refusal, else what it was
+  pub record Took (turns : History) (old new : Session R W S) : Type 0 where
+    pub links : Links g old.warehouse.limits turns old.warehouse.store new.warehouse.store
+    pub legal : (h : History) → HasHistory g h old.warehouse.store → AreLegal old.warehouse.limits h turns
+    pub after : (h : History) → HasHistory g h old.warehouse.store → HasHistory g (h ++ turns) new.warehouse.store
     pub status : new.status ≡ status_after old.status (answers_of turns)
-    pub crash : IsUsable g new.warehouse.store → LeavesOnly g old.warehouse.store new.warehouse.store (Stops old.warehouse.limits h turns)
 
   -- what was wanted is done: its commands are those of turns that were taken, and their answers were printed
-  pub record WasDone (contents : W → Option (List ℕ)) (h : History) (wanted : List Said → Type 0) (old new : Session R W S) : Type 0 where
+  pub record WasDone (contents : W → Option (List ℕ)) (wanted : List Said → Type 0) (old new : Session R W S) : Type 0 where
     pub turns : History
     pub commands : wanted (commands_of turns)
-    pub took : Took h turns old new
+    pub took : Took turns old new
     pub printed : ArePrinted (answers_of turns) (contents old.out) (contents new.out)
 
   -- what was wanted is done as far as answers could be printed: the commands of the turns that were taken are the first of its commands
-  pub record WasCut (h : History) (wanted : List Said → Type 0) (old new : Session R W S) : Type 0 where
+  pub record WasCut (wanted : List Said → Type 0) (old new : Session R W S) : Type 0 where
     pub turns : History
     pub rest : List Said
     pub commands : wanted (commands_of turns ++ rest)
-    pub took : Took h turns old new
+    pub took : Took turns old new
 
-  abbrev pub WasRun : (W → Option (List ℕ)) → History → (List Said → Type 0) → {E : Type 0} → Result Unit E → Session R W S → Session R W S → Type 0
-  WasRun contents h wanted result old new = MatchResult result (λ done. WasDone contents h wanted old new) (λ e. WasCut h wanted old new)
+  abbrev pub WasRun : (W → Option (List ℕ)) → (List Said → Type 0) → {E : Type 0} → Result Unit E → Session R W S → Session R W S → Type 0
+  WasRun contents wanted result old new = MatchResult result (λ done. WasDone contents wanted old new) (λ e. WasCut wanted old new)
 
   -- a command was answered, and the answer printed unless that failed
-  pub record WasTold (contents : W → Option (List ℕ)) (h : History) (said : Said) {E : Type 0} (result : Result Unit E) (old new : Session R W S) : Type 0 where
+  pub record WasTold (contents : W → Option (List ℕ)) (said : Said) {E : Type 0} (result : Result Unit E) (old new : Session R W S) : Type 0 where
     pub answer : Answer
-    pub took : Took h (record { said = said; answer = answer } ∷ []) old new
+    pub took : Took (record { said = said; answer = answer } ∷ []) old new
     pub printed : OnOk result (ArePrinted (answer ∷ []) (contents old.out) (contents new.out))

@@ -135,7 +135,7 @@ impl<'a, R: Files + AllocGlobal, W: Write + Drop, S: Alter> Session<'a, R, W, S>
     /// Refuses a command that the warehouse is not asked.
     fn refuse(&mut self, refusal: Refusal) -> io::Result<()>
         ensures limits { self.new.warehouse.limits ≡ self.old.warehouse.limits }
-        ensures answered { (h : History) → HasHistory S.Store h self.old.warehouse.store → (said : Said) → IsLegal self.old.warehouse.limits h said (answers.Refused refusal) → WasTold S.Store W.contents h said result self.old self.new }
+        ensures answered { IsFaithful S.Store self.new.warehouse.store → (said : Said) → ((h : History) → IsLegal self.old.warehouse.limits h said (answers.Refused refusal)) → WasTold S.Store W.contents said result self.old self.new }
         ensures store { self.new.warehouse.store ≡ self.old.warehouse.store }
     {
         self.tell(Answer::Refused(refusal))
@@ -144,9 +144,7 @@ impl<'a, R: Files + AllocGlobal, W: Write + Drop, S: Alter> Session<'a, R, W, S>
     /// Runs a command that reads no file.
     fn apply(&mut self, command: Command<FileSource<'a, R>>) -> io::Result<()>
         ensures limits { self.new.warehouse.limits ≡ self.old.warehouse.limits }
-        ensures answered { IsFaithful S.Store self.new.warehouse.store → (h : History) → HasHistory S.Store h self.old.warehouse.store → (said : Said) × Says AnyReads command.entry said × WasTold S.Store W.contents h said result self.old self.new }
-        ensures was_usable { IsFaithful S.Store self.new.warehouse.store → IsUsable S.Store self.new.warehouse.store → IsUsable S.Store self.old.warehouse.store }
-        ensures honest { IsFaithful S.Store self.new.warehouse.store → IsFaithful S.Store self.old.warehouse.store }
+        ensures answered { IsFaithful S.Store self.new.warehouse.store → (said : Said) × Says AnyReads command.entry said × WasTold S.Store W.contents said result self.old self.new }
     {
         let answer = self.warehouse.apply(self.rt.alloc(), command);
         self.tell(answer)
@@ -155,9 +153,7 @@ impl<'a, R: Files + AllocGlobal, W: Write + Drop, S: Alter> Session<'a, R, W, S>
     /// Takes in a file, under its path as its label.
     fn import_file(&mut self, kind: Kind, path: &'a str) -> io::Result<()>
         ensures limits { self.new.warehouse.limits ≡ self.old.warehouse.limits }
-        ensures answered { IsFaithful S.Store self.new.warehouse.store → (h : History) → HasHistory S.Store h self.old.warehouse.store → (outcomes : List Outcome) × WasTold S.Store W.contents h (Import kind path.now outcomes) result self.old self.new }
-        ensures was_usable { IsFaithful S.Store self.new.warehouse.store → IsUsable S.Store self.new.warehouse.store → IsUsable S.Store self.old.warehouse.store }
-        ensures honest { IsFaithful S.Store self.new.warehouse.store → IsFaithful S.Store self.old.warehouse.store }
+        ensures answered { IsFaithful S.Store self.new.warehouse.store → (outcomes : List Outcome) × WasTold S.Store W.contents (Import kind path.now outcomes) result self.old self.new }
     {
         let mut source = FileSource::new(self.rt, path);
         let label = path.as_bytes();
@@ -170,9 +166,7 @@ impl<'a, R: Files + AllocGlobal, W: Write + Drop, S: Alter> Session<'a, R, W, S>
     /// Takes in files, each under its path as its label.
     fn import(&mut self, kind: Kind, paths: &[&'a str]) -> io::Result<()>
         ensures limits { self.new.warehouse.limits ≡ self.old.warehouse.limits }
-        ensures done { IsFaithful S.Store self.new.warehouse.store → (h : History) → HasHistory S.Store h self.old.warehouse.store → WasRun S.Store W.contents h (AreImports kind (map (λ path. path.now) paths.now)) result self.old self.new }
-        ensures was_usable { IsFaithful S.Store self.new.warehouse.store → IsUsable S.Store self.new.warehouse.store → IsUsable S.Store self.old.warehouse.store }
-        ensures honest { IsFaithful S.Store self.new.warehouse.store → IsFaithful S.Store self.old.warehouse.store }
+        ensures done { IsFaithful S.Store self.new.warehouse.store → WasRun S.Store W.contents (AreImports kind (map (λ path. path.now) paths.now)) result self.old self.new }
     {
         for path in paths {
             self.import_file(kind, path)?;
@@ -183,9 +177,7 @@ impl<'a, R: Files + AllocGlobal, W: Write + Drop, S: Alter> Session<'a, R, W, S>
     /// Removes runs.
     fn remove(&mut self, numbers: &[u32]) -> io::Result<()>
         ensures limits { self.new.warehouse.limits ≡ self.old.warehouse.limits }
-        ensures done { IsFaithful S.Store self.new.warehouse.store → (h : History) → HasHistory S.Store h self.old.warehouse.store → WasRun S.Store W.contents h (λ list. list ≡ map Remove numbers.now) result self.old self.new }
-        ensures was_usable { IsFaithful S.Store self.new.warehouse.store → IsUsable S.Store self.new.warehouse.store → IsUsable S.Store self.old.warehouse.store }
-        ensures honest { IsFaithful S.Store self.new.warehouse.store → IsFaithful S.Store self.old.warehouse.store }
+        ensures done { IsFaithful S.Store self.new.warehouse.store → WasRun S.Store W.contents (λ list. list ≡ map Remove numbers.now) result self.old self.new }
     {
         for number in numbers {
             self.apply(Command::Remove(*number))?;
@@ -196,9 +188,7 @@ impl<'a, R: Files + AllocGlobal, W: Write + Drop, S: Alter> Session<'a, R, W, S>
     /// Changes a group. A new group's name is looked at before memory is asked for it.
     fn change_group(&mut self, name: &str, change: GroupChange) -> io::Result<()>
         ensures limits { self.new.warehouse.limits ≡ self.old.warehouse.limits }
-        ensures answered { IsFaithful S.Store self.new.warehouse.store → (h : History) → HasHistory S.Store h self.old.warehouse.store → WasTold S.Store W.contents h (change_said change name.now) result self.old self.new }
-        ensures was_usable { IsFaithful S.Store self.new.warehouse.store → IsUsable S.Store self.new.warehouse.store → IsUsable S.Store self.old.warehouse.store }
-        ensures honest { IsFaithful S.Store self.new.warehouse.store → IsFaithful S.Store self.old.warehouse.store }
+        ensures answered { IsFaithful S.Store self.new.warehouse.store → WasTold S.Store W.contents (change_said change name.now) result self.old self.new }
     {
         if !is_in_form(name, change) {
             return self.refuse(Refusal::BadName);
@@ -212,9 +202,7 @@ impl<'a, R: Files + AllocGlobal, W: Write + Drop, S: Alter> Session<'a, R, W, S>
     /// Runs the commands that a work comes to, and prints their answers. It stops where printing fails.
     pub fn run(&mut self, work: Work<'a>) -> io::Result<()>
         ensures limits { self.new.warehouse.limits ≡ self.old.warehouse.limits }
-        ensures done { IsFaithful S.Store self.new.warehouse.store → (h : History) → HasHistory S.Store h self.old.warehouse.store → WasRun S.Store W.contents h (AreOf work.entry) result self.old self.new }
-        ensures was_usable { IsFaithful S.Store self.new.warehouse.store → IsUsable S.Store self.new.warehouse.store → IsUsable S.Store self.old.warehouse.store }
-        ensures honest { IsFaithful S.Store self.new.warehouse.store → IsFaithful S.Store self.old.warehouse.store }
+        ensures done { IsFaithful S.Store self.new.warehouse.store → WasRun S.Store W.contents (AreOf work.entry) result self.old self.new }
     {
         match work {
             Work::Import(kind, paths) => self.import(kind, paths.as_slice()),

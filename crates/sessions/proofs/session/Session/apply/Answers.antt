@@ -1,19 +1,18 @@
 use Rattle.std.proofs.Common.{sym, subst}
-use Rattle.prof_store.specs.Shown.{IsFaithful, IsUsable}
-use Rattle.store_histories.specs.Answered.{IsAnswered}
+use Rattle.prof_store.specs.Shown.{IsFaithful}
 use Rattle.sessions.proofs.SessionLemmas.{told}
+use Rattle.store_histories.specs.Answered.{Answers}
 use Rattle.sessions.proofs.session.Session.apply.Goals as goal
 
 pub returns-clause-answered : goal.returns-clause-answered
-returns-clause-answered g c clean h has =
+returns-clause-answered g c clean =
     let old = c.args.self.now in
     let new = c.tell.new.self in
     let same = c.tell.ensures.warehouse in
     let early = subst (λ w. IsFaithful g.S.Store w.store) same clean in
-    let it = c.apply-answer.ensures.answered early h has in
-    let said = it.0 in (
-      said,
-      it.1,
-      told g.S.Store g.W.Write.contents h said c.apply-answer.result c.tell.result old new (λ usable. c.apply-answer.ensures.was_usable early (subst (λ w. IsUsable g.S.Store w.store) same usable))
-          (subst (λ w. IsAnswered g.S.Store old.warehouse.limits h said c.apply-answer.result old.warehouse.store w.store) (sym same) it.2) c.tell.ensures.status c.tell.ensures.printed,
+    let it = c.apply-answer.ensures.answered early in (
+      it.said,
+      it.says,
+      told g.S.Store g.W.Write.contents it.said c.apply-answer.result c.tell.result old new
+          (subst (λ w. Answers g.S.Store old.warehouse.limits it.said c.apply-answer.result old.warehouse.store w.store) (sym same) it.answers) c.tell.ensures.status c.tell.ensures.printed,
     )

@@ -2,15 +2,13 @@ use Rattle.std.proofs.Common.{◌<◌, [], ◌++◌, map, drop, length, refl, sy
 use Rattle.std.proofs.lemmas.List.{at_drop_all}
 use Rattle.std.proofs.lemmas.Result.{err_from_is_err_and}
 use Rattle.sessions.specs.Sessions.{AreImports, WasRun}
-use Rattle.sessions.proofs.SessionLemmas.{so_far_none, so_far_done, import_on, import_cut}
+use Rattle.sessions.proofs.SessionLemmas.{took_clean, so_far_none, so_far_done, import_on, import_cut}
 use Rattle.sessions.proofs.session.Session.import.Goals as goal
 
 pub loop-path-init : goal.loop-path-init
 loop-path-init g c = record {
   limits = refl;
-  honest = λ clean. clean;
-  was_usable = λ clean usable. usable;
-  so_far = λ clean h has. ([], λ rest all. all, so_far_none g.S.Store g.W.Write.contents h c.args.self.now has);
+  so_far = λ clean. ([], λ rest all. all, so_far_none g.S.Store g.W.Write.contents c.args.self.now);
 }
 
 pub loop-path-preserved : goal.loop-path-preserved
@@ -21,31 +19,30 @@ loop-path-preserved g c =
     let low : at < length paths = omega arith in
     record {
       limits = c.import_file.ensures.limits ∙ i.limits;
-      honest = λ clean. i.honest (c.import_file.ensures.honest clean);
-      was_usable = λ clean usable. i.was_usable (c.import_file.ensures.honest clean) (c.import_file.ensures.was_usable clean usable);
-      so_far = λ clean h has.
-          let it = i.so_far (c.import_file.ensures.honest clean) h has in
-          import_on g.S.Store g.W.Write.contents (λ path. path.now) h c.args.kind paths at _ it.0 c.args.self.now c.loop-path.self c.import_file.new.self c.in_ok-import_file.field-0 low i.limits
-          (c.import_file.ensures.was_usable clean) it.1 it.2 (c.in_ok-import_file.ensures.answered clean (h ++ it.2.turns) it.2.took.after);
+      so_far = λ clean.
+          let t = c.in_ok-import_file.ensures.answered clean in
+          let it = i.so_far (took_clean g.S.Store _ c.loop-path.self c.import_file.new.self t.1.took clean) in
+          import_on g.S.Store g.W.Write.contents (λ path. path.now) c.args.kind paths at _ it.0 c.args.self.now c.loop-path.self c.import_file.new.self c.in_ok-import_file.field-0 low i.limits
+          it.1 it.2 t;
     }
 
 pub returns-in_err-import_file-clause-done : goal.returns-in_err-import_file-clause-done
-returns-in_err-import_file-clause-done g c clean h has =
+returns-in_err-import_file-clause-done g c clean =
     let i = c.loop-path.invariant in
     let paths = c.args.paths.now in
     let at = c.loop-path.path-index in
     let low : at < length paths = omega arith in
     let p = err_from_is_err_and c.from_residual.result c.from_residual.ensures.1 in
-    let it = i.so_far (c.import_file.ensures.honest clean) h has in
-    subst (λ r. WasRun g.S.Store g.W.Write.contents h (AreImports c.args.kind (map (λ path. path.now) paths)) r c.args.self.now c.import_file.new.self) (sym p.1)
-    (import_cut g.S.Store g.W.Write.contents (λ path. path.now) h c.args.kind paths at _ it.0 c.args.self.now c.loop-path.self c.import_file.new.self c.import_file.result low i.limits (c.import_file.ensures.was_usable clean) it.1 it.2
-    (c.import_file.ensures.answered clean (h ++ it.2.turns) it.2.took.after))
+    let t = c.import_file.ensures.answered clean in
+    let it = i.so_far (took_clean g.S.Store _ c.loop-path.self c.import_file.new.self t.1.took clean) in
+    subst (λ r. WasRun g.S.Store g.W.Write.contents (AreImports c.args.kind (map (λ path. path.now) paths)) r c.args.self.now c.import_file.new.self) (sym p.1)
+    (import_cut g.S.Store g.W.Write.contents (λ path. path.now) c.args.kind paths at _ it.0 c.args.self.now c.loop-path.self c.import_file.new.self c.import_file.result low i.limits it.1 it.2 t)
 
 pub returns-clause-done : goal.returns-clause-done
-returns-clause-done g c clean h has =
+returns-clause-done g c clean =
     let i = c.loop-path.invariant in
     let paths = c.args.paths.now in
     let at = c.loop-path.path-index in
-    let it = i.so_far clean h has in
+    let it = i.so_far clean in
     let none : AreImports c.args.kind (map (λ path. path.now) (drop at paths)) [] = subst (λ l. AreImports c.args.kind l []) (sym (at_drop_all (map (λ path. path.now)) paths at (omega arith))) tt in
-    so_far_done g.S.Store g.W.Write.contents h it.0 (AreImports c.args.kind (map (λ path. path.now) paths)) c.args.self.now c.loop-path.self it.2 (subst (AreImports c.args.kind (map (λ path. path.now) paths)) (append-nil it.0) (it.1 [] none))
+    so_far_done g.S.Store g.W.Write.contents it.0 (AreImports c.args.kind (map (λ path. path.now) paths)) c.args.self.now c.loop-path.self it.2 (subst (AreImports c.args.kind (map (λ path. path.now) paths)) (append-nil it.0) (it.1 [] none))

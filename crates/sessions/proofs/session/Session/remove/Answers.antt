@@ -3,15 +3,13 @@ use Rattle.std.proofs.lemmas.List.{drop_more, at_drop_all}
 use Rattle.std.proofs.lemmas.Result.{err_from_is_err_and}
 use Rattle.histories.specs.History.{Remove}
 use Rattle.sessions.specs.Sessions.{WasRun}
-use Rattle.sessions.proofs.SessionLemmas.{so_far_none, so_far_on, so_far_cut, so_far_done}
+use Rattle.sessions.proofs.SessionLemmas.{took_clean, so_far_none, so_far_on, so_far_cut, so_far_done}
 use Rattle.sessions.proofs.session.Session.remove.Goals as goal
 
 pub loop-number-init : goal.loop-number-init
 loop-number-init g c = record {
   limits = refl;
-  honest = λ clean. clean;
-  was_usable = λ clean usable. usable;
-  so_far = λ clean h has. ([], refl, so_far_none g.S.Store g.W.Write.contents h c.args.self.now has);
+  so_far = λ clean. ([], refl, so_far_none g.S.Store g.W.Write.contents c.args.self.now);
 }
 
 pub loop-number-preserved : goal.loop-number-preserved
@@ -22,38 +20,36 @@ loop-number-preserved g c =
     let low : at < length numbers = omega arith in
     record {
       limits = c.apply.ensures.limits ∙ i.limits;
-      honest = λ clean. i.honest (c.apply.ensures.honest clean);
-      was_usable = λ clean usable. i.was_usable (c.apply.ensures.honest clean) (c.apply.ensures.was_usable clean usable);
-      so_far = λ clean h has.
-          let it = i.so_far (c.apply.ensures.honest clean) h has in
-          let t = c.in_ok-apply.ensures.answered clean (h ++ it.2.turns) it.2.took.after in
+      so_far = λ clean.
+          let t = c.in_ok-apply.ensures.answered clean in
+          let it = i.so_far (took_clean g.S.Store _ c.loop-number.self c.apply.new.self t.2.took clean) in
           let rest = map Remove (drop (at + 1) numbers) in
           let said : t.0 ≡ Remove (get_or numbers at 0) = t.1 in (
             it.0 ++ t.0 ∷ [],
             append_assoc it.0 (t.0 ∷ []) rest ∙ ap (λ s. it.0 ++ s ∷ rest) said ∙ ap (λ l. it.0 ++ map Remove l) (sym (drop_more numbers at 0 low)) ∙ it.1,
-            so_far_on g.S.Store g.W.Write.contents h it.0 t.0 c.in_ok-apply.field-0 c.args.self.now c.loop-number.self c.apply.new.self i.limits (c.apply.ensures.was_usable clean) it.2 t.2,
+            so_far_on g.S.Store g.W.Write.contents it.0 t.0 c.in_ok-apply.field-0 c.args.self.now c.loop-number.self c.apply.new.self i.limits it.2 t.2,
           );
     }
 
 pub returns-in_err-apply-clause-done : goal.returns-in_err-apply-clause-done
-returns-in_err-apply-clause-done g c clean h has =
+returns-in_err-apply-clause-done g c clean =
     let i = c.loop-number.invariant in
     let numbers = c.args.numbers.now in
     let at = c.loop-number.number-index in
     let low : at < length numbers = omega arith in
     let p = err_from_is_err_and c.from_residual.result c.from_residual.ensures.1 in
-    let it = i.so_far (c.apply.ensures.honest clean) h has in
-    let t = c.apply.ensures.answered clean (h ++ it.2.turns) it.2.took.after in
+    let t = c.apply.ensures.answered clean in
+    let it = i.so_far (took_clean g.S.Store _ c.loop-number.self c.apply.new.self t.2.took clean) in
     let rest = map Remove (drop (at + 1) numbers) in
     let said : t.0 ≡ Remove (get_or numbers at 0) = t.1 in
     let fits : it.0 ++ t.0 ∷ rest ≡ map Remove numbers = ap (λ s. it.0 ++ s ∷ rest) said ∙ ap (λ l. it.0 ++ map Remove l) (sym (drop_more numbers at 0 low)) ∙ it.1 in
-    subst (λ r. WasRun g.S.Store g.W.Write.contents h (λ list. list ≡ map Remove numbers) r c.args.self.now c.apply.new.self) (sym p.1)
-    (so_far_cut g.S.Store g.W.Write.contents h it.0 rest t.0 (λ list. list ≡ map Remove numbers) c.apply.result c.args.self.now c.loop-number.self c.apply.new.self i.limits (c.apply.ensures.was_usable clean) it.2 t.2 fits)
+    subst (λ r. WasRun g.S.Store g.W.Write.contents (λ list. list ≡ map Remove numbers) r c.args.self.now c.apply.new.self) (sym p.1)
+    (so_far_cut g.S.Store g.W.Write.contents it.0 rest t.0 (λ list. list ≡ map Remove numbers) c.apply.result c.args.self.now c.loop-number.self c.apply.new.self i.limits it.2 t.2 fits)
 
 pub returns-clause-done : goal.returns-clause-done
-returns-clause-done g c clean h has =
+returns-clause-done g c clean =
     let i = c.loop-number.invariant in
     let numbers = c.args.numbers.now in
     let at = c.loop-number.number-index in
-    let it = i.so_far clean h has in
-    so_far_done g.S.Store g.W.Write.contents h it.0 (λ list. list ≡ map Remove numbers) c.args.self.now c.loop-number.self it.2 (sym (append-nil it.0) ∙ ap (λ l. it.0 ++ l) (sym (at_drop_all (map Remove) numbers at (omega arith))) ∙ it.1)
+    let it = i.so_far clean in
+    so_far_done g.S.Store g.W.Write.contents it.0 (λ list. list ≡ map Remove numbers) c.args.self.now c.loop-number.self it.2 (sym (append-nil it.0) ∙ ap (λ l. it.0 ++ l) (sym (at_drop_all (map Remove) numbers at (omega arith))) ∙ it.1)

@@ -1,7 +1,6 @@
 use Rattle.std.proofs.Common.{◌≡◌, List, ◌++◌, drop, map}
-use Rattle.prof_store.specs.Shown.{IsFaithful, IsUsable}
-use Rattle.histories.specs.History.{History, Said, Remove}
-use Rattle.store_histories.specs.Answered.{HasHistory}
+use Rattle.prof_store.specs.Shown.{IsFaithful}
+use Rattle.histories.specs.History.{Said, Remove}
 use Rattle.sessions.proofs.SessionLemmas.{SoFar}
 use Rattle.sessions.proofs.session.Session.remove.Given as goal
 
@@ -9,8 +8,6 @@ use Rattle.sessions.proofs.session.Session.remove.Given as goal
 abbrev pub invariant-loop-number : goal.invariant-loop-number
 invariant-loop-number g l = record {
   limits : l.self.warehouse.limits ≡ l.fn.self.warehouse.limits;
-  honest : IsFaithful g.S.Store l.self.warehouse.store → IsFaithful g.S.Store l.fn.self.warehouse.store;
-  was_usable : IsFaithful g.S.Store l.self.warehouse.store → IsUsable g.S.Store l.self.warehouse.store → IsUsable g.S.Store l.fn.self.warehouse.store;
-  so_far : IsFaithful g.S.Store l.self.warehouse.store → (h : History) → HasHistory g.S.Store h l.fn.self.warehouse.store
-      → (list : List Said) × (list ++ map Remove (drop l.number-index l.numbers) ≡ map Remove l.numbers) × SoFar g.S.Store g.W.Write.contents h list l.fn.self l.self;
+  so_far : IsFaithful g.S.Store l.self.warehouse.store
+      → (list : List Said) × (list ++ map Remove (drop l.number-index l.numbers) ≡ map Remove l.numbers) × SoFar g.S.Store g.W.Write.contents list l.fn.self l.self;
 }
