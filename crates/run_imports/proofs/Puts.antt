@@ -68,11 +68,11 @@ module _ (limits : Limits) (kind : Kind) (label : List ℕ) (outcomes : List Out
   run_turns answered done made =
       changed_as schema_one Holds (λ t. Holds (put t)) Before (Follows limits (Import kind label outcomes)) answered done (shown g old) (shown g new)
       (λ h was.
-        let s = told_stands g h old (rests_as schema_one (Before h) (Tells h) (shown g old) was was.holds.1) in (
-          s.t,
-          s.stands,
-          follows_run limits h kind label outcomes digest head rows s.t (shown g old).now.trees form (run_due h s was.holds.0) was.holds.0 s.stands.holds s.tells,
-        ))
+      let s = told_stands g h old (rests_as schema_one (Before h) (Tells h) (shown g old) was was.holds.1) in (
+        s.t,
+        s.stands,
+        follows_run limits h kind label outcomes digest head rows s.t (shown g old).now.trees form (run_due h s was.holds.0) was.holds.0 s.stands.holds s.tells,
+      ))
       (changed_then schema_one Holds (λ t. Holds (put t)) answered done (shown g old) (shown g mid) (shown g new) asked made)
 
   pub run_done : (h : History) → StandsForHistory g h old → IsNewFile h kind (bytes_of outcomes) digest head rows → (answered : Bool) → Changed schema_one Holds (λ t. Holds (put t)) answered true (shown g mid) (shown g new)

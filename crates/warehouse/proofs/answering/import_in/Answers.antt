@@ -10,13 +10,15 @@ use Rattle.store_histories.proofs.Settled.{untouched, bad_name}
 use Rattle.warehouse.proofs.answering.import_in.Goals as goal
 
 pub returns-in-None : goal.returns-in-None
-returns-in-None g c = record { answered = λ clean.
-    let limits = c.args.limits in
-    let said = Import c.args.kind c.args.label.now [] in (
-      [],
-      refl,
-      record {
-        turned = changed_none schema_one Tells (Follows limits said) (shown g.S.Store c.args.store.now) clean;
-        answered = λ h has. untouched g.S.Store limits h said c.args.store.now has clean (Refused BadName) tt (bad_name limits h said c.in-None.ensures refl);
-      },
-    ) }
+returns-in-None g c = record {
+  answered = λ clean.
+      let limits = c.args.limits in
+      let said = Import c.args.kind c.args.label.now [] in (
+        [],
+        refl,
+        record {
+          turned = changed_none schema_one Tells (Follows limits said) (shown g.S.Store c.args.store.now) clean;
+          answered = λ h has. untouched g.S.Store limits h said c.args.store.now has clean (Refused BadName) tt (bad_name limits h said c.in-None.ensures refl);
+        },
+      );
+}

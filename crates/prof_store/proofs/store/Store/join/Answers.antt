@@ -8,22 +8,28 @@ use Rattle.prof_store.specs.Shown.{shown}
 use Rattle.prof_store.proofs.store.Store.join.Goals as goal
 
 pub returns : goal.returns
-returns g c = record { changes = λ clean.
-    let name = c.args.name.now in
-    let run = c.args.run in
-    let two = c.put_member.ensures.changes clean in
-    let early = two.stays.was_clean in
-    changed_as schema_one Holds (λ t. Holds (with_member name run t)) Holds (λ t. Holds (joined name run t)) (is_ok c.put_member.result) (is_ok c.put_member.result) _ _
-    (λ t was. (t, was, λ next h. subst (λ b. Holds (if b then t else with_member name run t) next) (let e : has_member t name run ≡ false = sym (c.in_ok-is_member.ensures.told early t was) ∙ c.if-branch.false in sym e) h))
-    (changed_then schema_one Holds (λ t. Holds (with_member name run t)) (is_ok c.put_member.result) (is_ok c.put_member.result) _ _ _ (c.in_ok-is_member.ensures.asks early) two) }
+returns g c = record {
+  changes = λ clean.
+      let name = c.args.name.now in
+      let run = c.args.run in
+      let two = c.put_member.ensures.changes clean in
+      let early = two.stays.was_clean in
+      changed_as schema_one Holds (λ t. Holds (with_member name run t)) Holds (λ t. Holds (joined name run t)) (is_ok c.put_member.result) (is_ok c.put_member.result) _ _
+      (λ t was. (t, was, λ next h. subst (λ b. Holds (if b then t else with_member name run t) next) (let e : has_member t name run ≡ false = sym (c.in_ok-is_member.ensures.told early t was) ∙ c.if-branch.false in sym e) h))
+      (changed_then schema_one Holds (λ t. Holds (with_member name run t)) (is_ok c.put_member.result) (is_ok c.put_member.result) _ _ _ (c.in_ok-is_member.ensures.asks early) two);
+}
 
 pub returns-then-branch : goal.returns-then-branch
-returns-then-branch g c = record { changes = λ clean.
-    let name = c.args.name.now in
-    let run = c.args.run in
-    changed_idle schema_one Holds (λ t. Holds (joined name run t)) _ _ (c.in_ok-is_member.ensures.asks clean)
-    (λ t was. subst (λ b. Holds (if b then t else with_member name run t) (shown g.S.Store c.args.self.now).now.trees) (let e : has_member t name run ≡ true = sym (c.in_ok-is_member.ensures.told clean t was) ∙ c.if-branch.true in sym e) was.holds) }
+returns-then-branch g c = record {
+  changes = λ clean.
+      let name = c.args.name.now in
+      let run = c.args.run in
+      changed_idle schema_one Holds (λ t. Holds (joined name run t)) _ _ (c.in_ok-is_member.ensures.asks clean)
+      (λ t was. subst (λ b. Holds (if b then t else with_member name run t) (shown g.S.Store c.args.self.now).now.trees) (let e : has_member t name run ≡ true = sym (c.in_ok-is_member.ensures.told clean t was) ∙ c.if-branch.true in sym e) was.holds);
+}
 
 pub returns-in_err-is_member : goal.returns-in_err-is_member
-returns-in_err-is_member g c = record { changes = λ clean.
-    changed_err schema_one Holds (λ t. Holds (joined c.args.name.now c.args.run t)) c.from_residual.result _ _ c.from_residual.ensures.0 (changed_asked schema_one Holds (λ t. Holds (joined c.args.name.now c.args.run t)) _ _ _ (c.in_err-is_member.ensures.asks clean)) }
+returns-in_err-is_member g c = record {
+  changes = λ clean.
+      changed_err schema_one Holds (λ t. Holds (joined c.args.name.now c.args.run t)) c.from_residual.result _ _ c.from_residual.ensures.0 (changed_asked schema_one Holds (λ t. Holds (joined c.args.name.now c.args.run t)) _ _ _ (c.in_err-is_member.ensures.asks clean));
+}

@@ -11,14 +11,18 @@ use Rattle.prof_tables.specs.Schema.{schema_one}
 use Rattle.prof_store.proofs.store.Store.leave.Goals as goal
 
 pub returns : goal.returns
-returns g c = record { changes = λ clean.
-    let name = c.args.name.now in
-    let run = c.args.run in
-    write_changes schema_one leave_text (Text name ∷ Int (pos run) ∷ []) _ leave_means leave_plain tt Holds (λ t. Holds (without_member name run t)) (λ t limit trees text tally after was sound. leaves t limit trees text tally after was sound name run) _ _ clean (rw (c.params-to_sql.ensures, c.params-to_sql-2.ensures) at c.write.ensures.survives) _ leave_writes ((rw (c.params-to_sql.ensures, c.params-to_sql-2.ensures) at c.in_ok-write.ensures.ran) clean) }
+returns g c = record {
+  changes = λ clean.
+      let name = c.args.name.now in
+      let run = c.args.run in
+      write_changes schema_one leave_text (Text name ∷ Int (pos run) ∷ []) _ leave_means leave_plain tt Holds (λ t. Holds (without_member name run t)) (λ t limit trees text tally after was sound. leaves t limit trees text tally after was sound name run) _ _ clean (rw (c.params-to_sql.ensures, c.params-to_sql-2.ensures) at c.write.ensures.survives) _ leave_writes ((rw (c.params-to_sql.ensures, c.params-to_sql-2.ensures) at c.in_ok-write.ensures.ran) clean);
+}
 
 pub returns-in_err-write : goal.returns-in_err-write
-returns-in_err-write g c = record { changes = λ clean.
-    let name = c.args.name.now in
-    let run = c.args.run in
-    let it = (rw (c.params-to_sql.ensures, c.params-to_sql-2.ensures) at c.in_err-write.ensures.ran) clean in
-    changed_err schema_one Holds (λ t. Holds (without_member name run t)) c.from_residual.result _ _ c.from_residual.ensures.0 (write_refused schema_one leave_text (Text name ∷ Int (pos run) ∷ []) _ leave_means leave_plain tt Holds (λ t. Holds (without_member name run t)) (λ t limit trees text tally after was sound. leaves t limit trees text tally after was sound name run) _ _ clean (rw (c.params-to_sql.ensures, c.params-to_sql-2.ensures) at c.write.ensures.survives) it.0 it.1) }
+returns-in_err-write g c = record {
+  changes = λ clean.
+      let name = c.args.name.now in
+      let run = c.args.run in
+      let it = (rw (c.params-to_sql.ensures, c.params-to_sql-2.ensures) at c.in_err-write.ensures.ran) clean in
+      changed_err schema_one Holds (λ t. Holds (without_member name run t)) c.from_residual.result _ _ c.from_residual.ensures.0 (write_refused schema_one leave_text (Text name ∷ Int (pos run) ∷ []) _ leave_means leave_plain tt Holds (λ t. Holds (without_member name run t)) (λ t limit trees text tally after was sound. leaves t limit trees text tally after was sound name run) _ _ clean (rw (c.params-to_sql.ensures, c.params-to_sql-2.ensures) at c.write.ensures.survives) it.0 it.1);
+}

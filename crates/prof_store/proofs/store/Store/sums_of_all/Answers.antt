@@ -60,4 +60,3 @@ events-preserved g c =
 pub returns-clause-found : goal.returns-clause-found
 returns-clause-found g c clean has =
     let events = c.args.events.now in subst (λ l. AreSums (shown g.S.Store c.args.self.now).now.trees l (c.events.own, c.events.calls)) (take_all c.events.event-index events (omega (arith, c.events-test.false))) (c.events.invariant.found clean has)
-

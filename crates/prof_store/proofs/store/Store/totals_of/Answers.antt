@@ -13,4 +13,3 @@ returns-clause-found g c clean has =
     let sums : List ℕ × List ℕ = (c.in_ok-self_cost.self_cost, c.in_ok-self_cost.call_cost) in
     let here = c.in_ok-self_cost.ensures.found clean (ap (λ (d : Database). d.schema) same ∙ has) in
     (subst (λ (d : Database). AreSums d.trees c.args.events.now sums) same here, first.found before has)
-
