@@ -1,5 +1,5 @@
 -- A walk over the calls of a run, with names in place.
-use Rattle.std.proofs.Common.{◌≡◌, ℕ, suc, ◌+◌, ◌<◌, nat_lt, if◌then◌else◌, Bool, true, false, List, [], ◌∷◌, ◌++◌, map, length, Option, Some, None, Result, Ok, Err, OnOk, IfOk, refl, sym, ap, ap₂, subst, ◌∙◌, append-nil, append_assoc, add-zero, arith}
+use Rattle.std.proofs.Common.{◌≡◌, ℕ, suc, ◌+◌, ◌<◌, nat_lt, if◌then◌else◌, Bool, true, false, List, [], ◌∷◌, ◌++◌, map, length, Option, Some, None, refl, sym, ap, ap₂, subst, ◌∙◌, append-nil, append_assoc, add-zero, arith}
 use Rattle.std.specs.Borrow.{Bor}
 use Rattle.std.specs.List.{AllByRecursion}
 use Rattle.std.proofs.lemmas.Bool.Decides.{nat_tests}
@@ -10,7 +10,6 @@ use Rattle.cost_rows.specs.declared.rows.ArcRow.{ArcRow}
 use Rattle.prof_tables.specs.Tables.{Tables, NameLine, ArcLine as Arc}
 use Rattle.prof_tables.specs.RunLines.{arcs_in}
 use Rattle.held_runs.specs.declared.arcs.Arcs.{Arcs}
-use Rattle.store_columns.specs.declared.errors.StoreEnd.{StoreEnd}
 use Rattle.held_runs.specs.ArcWalks.{GivesArcs}
 use Rattle.prof_books.specs.Book.{part_held, part_of, parts_from, parts_of, ArcIsNamed}
 use Rattle.held_runs.specs.HeldArcs.{HasUsedArcs, HasTakenArc, HasGivenArcs, HasGivenAllArcs, HasGivenArcsOn, TellsArcRows, lines_from, part_line, plain_given, row_of, waiting_line}
@@ -112,13 +111,11 @@ module _ {S : Type 0} (g : Ghosts S) where
   }
 
   -- in the words of the book
-  pub tells_arc_rows : (t : Tables) (c : Arcs S) (given : List (ArcRow (List ℕ) (List ℕ))) (result : Result (Option (ArcRow (Bor (List ℕ)) (List ℕ))) StoreEnd) → c.names.now ≡ t.names → OnOk result (StandsFor g t c.store.now) → IfOk result (HasGivenArcsOn g given c)
-      → IfOk result (TellsArcRows c.walk.run t given)
-  tells_arc_rows t c given (Err e) names was has = tt
-  tells_arc_rows t c given (Ok None) names was has =
+  pub tells_arc_rows : (t : Tables) (c : Arcs S) (given : List (ArcRow (List ℕ) (List ℕ))) (row : Option (ArcRow (Bor (List ℕ)) (List ℕ))) → c.names.now ≡ t.names → StandsFor g t c.store.now → HasGivenArcsOn g given c row → TellsArcRows c.walk.run t given row
+  tells_arc_rows t c given None names was has =
       let all = arcs_end g t c.store.now c.walk has.has.lines was (gives_none has.has.lines c has.none_waits has.has.used) has.all in
       ap₂ (λ (n : List NameLine) l. map (part_held n) l) (sym names) all ∙ has.has.parts_are
-  tells_arc_rows t c given (Ok (Some row)) names was has =
+  tells_arc_rows t c given (Some row) names was has =
       let begun = arcs_begin g t c.store.now c.walk (has.lines ++ waiting_line c.waiting) was has.used.gives in
       let more = waiting_line c.waiting ++ begun.0 in (
         map (part_held c.names.now) more,

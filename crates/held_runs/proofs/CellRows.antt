@@ -1,5 +1,5 @@
 -- A walk over the cells of a run, with names in place.
-use Rattle.std.proofs.Common.{◌≡◌, ℕ, List, [], ◌∷◌, ◌++◌, map, Option, Some, None, Result, Ok, Err, OnOk, IfOk, sym, ap, ap₂, subst, ◌∙◌, append_assoc}
+use Rattle.std.proofs.Common.{◌≡◌, ℕ, List, [], ◌∷◌, ◌++◌, map, Option, Some, None, sym, ap, ap₂, subst, ◌∙◌, append_assoc}
 use Rattle.std.specs.Borrow.{Bor}
 use Rattle.std.specs.List.{AllByRecursion}
 use Rattle.std.proofs.lemmas.List.{map-append}
@@ -9,7 +9,6 @@ use Rattle.cost_rows.specs.declared.rows.CellRow.{CellRow}
 use Rattle.prof_tables.specs.Tables.{Tables, NameLine}
 use Rattle.prof_tables.specs.RunLines.{cells_in}
 use Rattle.held_runs.specs.declared.cells.Cells.{Cells}
-use Rattle.store_columns.specs.declared.errors.StoreEnd.{StoreEnd}
 use Rattle.prof_books.specs.Book.{cell_held, CellIsNamed}
 use Rattle.held_runs.specs.CellWalks.{GivesCellsOn}
 use Rattle.held_runs.specs.HeldCells.{HasGivenCells, HasGivenAllCells, HasGivenCellsOn, IsOfAnEvent, TellsCellRows}
@@ -31,13 +30,11 @@ module _ {S : Type 0} (g : Ghosts S) where
   }
 
   -- in the words of the book
-  pub tells_cell_rows : (t : Tables) (c : Cells S) (given : List (CellRow (List ℕ))) (result : Result (Option (CellRow (Bor (List ℕ)))) StoreEnd) → c.names.now ≡ t.names → OnOk result (StandsFor g t c.store.now) → IfOk result (HasGivenCellsOn g given c)
-      → IfOk result (TellsCellRows c.walk.run t given)
-  tells_cell_rows t c given (Err e) names was has = tt
-  tells_cell_rows t c given (Ok None) names was has =
+  pub tells_cell_rows : (t : Tables) (c : Cells S) (given : List (CellRow (List ℕ))) (row : Option (CellRow (Bor (List ℕ)))) → c.names.now ≡ t.names → StandsFor g t c.store.now → HasGivenCellsOn g given c row → TellsCellRows c.walk.run t given row
+  tells_cell_rows t c given None names was has =
       let all = cells_end g t c.store.now c.walk has.has.lines was has.has.gives has.all in
       ap₂ (λ (n : List NameLine) l. map (cell_held n) l) (sym names) all ∙ has.has.rows_are
-  tells_cell_rows t c given (Ok (Some row)) names was has =
+  tells_cell_rows t c given (Some row) names was has =
       let begun = cells_begin g t c.store.now c.walk has.lines was has.gives in
       let rest = map (cell_held t.names) begun.0 in (
         rest,

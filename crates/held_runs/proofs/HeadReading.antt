@@ -1,9 +1,9 @@
 -- From the lines of a head to the head that they say.
-use Rattle.std.proofs.Common.{◌≡◌, ℕ, suc, ◌+◌, ◌-◌, ◌<◌, ◌≤◌, arith, nat_lt, if◌then◌else◌, Bool, true, false, List, [], ◌∷◌, ◌++◌, map, take, drop, get_or, length, Option, Some, None, unwrap_or, option_map, string_bytes, refl, sym, ap, ap₂, ◌∙◌, append-nil, append_assoc, All, IsPermutation, subst}
+use Rattle.std.proofs.Common.{◌≡◌, ℕ, suc, ◌+◌, ◌-◌, ◌≤◌, arith, nat_lt, if◌then◌else◌, Bool, true, false, List, [], ◌∷◌, ◌++◌, map, take, drop, length, Option, Some, None, unwrap_or, option_map, string_bytes, refl, sym, ap, ap₂, ◌∙◌, append-nil, append_assoc, All, IsPermutation, subst}
 use Rattle.std.specs.Fmt.{decimal}
 use Rattle.std.specs.Option.{MatchOption, IfSome}
 use Rattle.std.proofs.lemmas.List.Elements.{All-head, All-tail}
-use Rattle.std.proofs.lemmas.List.{take_more, take_all, length-drop, length-map}
+use Rattle.std.proofs.lemmas.List.{take_all, length-drop, length-map}
 use Rattle.sql_tables.proofs.Rows.{map-append}
 use Rattle.prof_store.proofs.Listing.{take_sum}
 use Rattle.sqlite_keyed.proofs.ListLemmas.{map-map}

@@ -1,5 +1,6 @@
 pub mod ArcRows
 pub mod ArcWalks
+mod Asking
 pub mod CellRows
 pub mod CellWalks
 mod HeadReading

@@ -1,11 +1,10 @@
 -- A walk over the stacks of a run, in the words of the book.
-use Rattle.std.proofs.Common.{ℕ, List, [], ◌∷◌, ◌++◌, map, Option, Some, None, Result, Ok, Err, OnOk, IfOk, ap, ◌∙◌, append_assoc}
+use Rattle.std.proofs.Common.{ℕ, List, [], ◌∷◌, ◌++◌, map, Option, Some, None, ap, ◌∙◌, append_assoc}
 use Rattle.std.specs.declared.vec.Vec.{Vec}
 use Rattle.std.proofs.lemmas.List.{map-append}
 use Rattle.sqlite_trees.specs.declared.store.Store.{Ghosts}
 use Rattle.cost_rows.specs.declared.rows.StackRow.{StackRow}
 use Rattle.prof_tables.specs.Tables.{Tables}
-use Rattle.store_columns.specs.declared.errors.StoreEnd.{StoreEnd}
 use Rattle.held_runs.specs.declared.stacks.Stacks.{Stacks}
 use Rattle.prof_books.specs.Book.{stack_held}
 use Rattle.held_runs.specs.HeldStacks.{HasGivenStacks, HasGivenAllStacks, HasGivenStacksOn, TellsStackRows, plain_held}
@@ -20,11 +19,9 @@ module _ {S : Type 0} (g : Ghosts S) where
 
 module _ {S Z : Type 0} (g : Ghosts S) where
   -- in the words of the book
-  pub tells_stack_rows : (t : Tables) (c : Stacks S) (given : List (StackRow (List ℕ))) (result : Result (Option (StackRow (Vec ℕ Z))) StoreEnd) → OnOk result (StandsFor g t c.store.now) → IfOk result (HasGivenStacksOn g given c)
-      → IfOk result (TellsStackRows c.walk.run t given)
-  tells_stack_rows t c given (Err e) was has = tt
-  tells_stack_rows t c given (Ok None) was has = ap (map stack_held) (stacks_end g t c.store.now c.walk has.has.lines was has.has.gives has.all) ∙ has.has.rows_are
-  tells_stack_rows t c given (Ok (Some row)) was has =
+  pub tells_stack_rows : (t : Tables) (c : Stacks S) (given : List (StackRow (List ℕ))) (row : Option (StackRow (Vec ℕ Z))) → StandsFor g t c.store.now → HasGivenStacksOn g given c row → TellsStackRows c.walk.run t given row
+  tells_stack_rows t c given None was has = ap (map stack_held) (stacks_end g t c.store.now c.walk has.has.lines was has.has.gives has.all) ∙ has.has.rows_are
+  tells_stack_rows t c given (Some row) was has =
       let begun = stacks_begin g t c.store.now c.walk has.lines was has.gives in
       let rest = map stack_held begun.0 in
       (rest, ap (map stack_held) begun.1 ∙ map-append stack_held has.lines begun.0 ∙ ap (λ a. a ++ rest) has.rows_are ∙ append_assoc given (plain_held row ∷ []) rest)

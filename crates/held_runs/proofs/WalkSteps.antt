@@ -1,5 +1,5 @@
 -- The steps of a walk over the store.
-use Rattle.std.proofs.Common.{◌≡◌, ℕ, ◌≤◌, suc, ◌+◌, List, [], ◌∷◌, ◌++◌, map, filter, drop, length, get_or, ◌<◌, true, false, Result, Ok, Err, OnOk, sym, ap, subst, ◌∙◌, add-one}
+use Rattle.std.proofs.Common.{◌≡◌, ℕ, ◌≤◌, suc, ◌+◌, List, [], ◌∷◌, ◌++◌, map, drop, length, get_or, ◌<◌, true, false, Result, Ok, Err, OnOk, sym, ap, subst, ◌∙◌, add-one}
 use Rattle.std.proofs.Math.Seq.{drop-cons}
 use Rattle.sqlite_value.specs.Order.{Row}
 use Rattle.sqlite_trees.specs.View.{IsShaped}
@@ -8,7 +8,7 @@ use Rattle.sqlite_trees.specs.declared.store.Shape.TheVariants as shape
 use Rattle.sqlite.specs.Effect.{Database}
 use Rattle.sqlite.specs.State.{State}
 use Rattle.sql_tables.specs.States.{Rests}
-use Rattle.sql_tables.specs.Walks.{in_page, in_window, read_from, Reads, Lie}
+use Rattle.sql_tables.specs.Walks.{read_from, Reads, Lie}
 use Rattle.sql_tables.proofs.Walks.{reads_begin, reads_placed, reads_turned, reads_took, reads_ended}
 use Rattle.sql_tables.proofs.Rows.{map-append}
 use Rattle.prof_tables.specs.Schema.{schema_one}
@@ -19,15 +19,11 @@ use Rattle.held_runs.specs.declared.walks.Listed.{Listed}
 use Rattle.held_runs.specs.declared.walks.Listed.TheVariants.{Cells, Arcs, Stacks}
 use Rattle.held_runs.specs.declared.walks.Walk.{Walk}
 use Rattle.prof_store.specs.Shown.{shown}
-use Rattle.held_runs.specs.Walks.{tree_of, asked, rows_of, IsReady, Walks, HasWalked}
+use Rattle.held_runs.specs.Walks.{tree_of, asked, page_of, rows_of, IsReady, Walks, HasWalked}
 
 pub on_ok_then : {T E : Type 0} (r : Result T E) (P Q : Type 0) → OnOk r P → (P → Q) → OnOk r Q
 on_ok_then (Ok x) P Q h f = f h
 on_ok_then (Err e) P Q h f = h
-
-pub on_ok_any : {T E : Type 0} (r : Result T E) (P : Type 0) → P → OnOk r P
-on_ok_any (Ok x) P h = h
-on_ok_any (Err e) P h = tt
 
 -- tables that a store stands for can be walked
 pub ready_for : (t : Tables) (s : State) → Rests schema_one (Holds t) s → IsReady s
@@ -82,7 +78,7 @@ module _ {S : Type 0} (g : Ghosts S) where
 
   -- the page is turned
   pub turned_step : (given : List Row) (old new : Store S) (walk : Walk) (high : ℕ) → Walks g given old walk → walk.placed ≡ true → drop walk.at old.page.items ≡ [] → walk.low ≤ high → (shown g new).now ≡ (shown g old).now
-      → new.page.items ≡ map (in_page (asked walk.table walk.run)) (filter (in_window (asked walk.table walk.run) walk.low high) (rows_of g walk.table old)) → Walks g given new (record walk { low = high; at = 0 })
+      → new.page.items ≡ page_of walk.table walk.run walk.low high (rows_of g walk.table old) → Walks g given new (record walk { low = high; at = 0 })
   turned_step given old new walk high was placed none order now page =
       let a = asked walk.table walk.run in
       let rows = rows_of g walk.table old in

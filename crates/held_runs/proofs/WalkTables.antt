@@ -1,5 +1,5 @@
 -- What the queries of a walk show, in each table.
-use Rattle.std.proofs.Common.{◌≡◌, ◌≢◌, ◌⊎◌, inl, inr, ℕ, ◌+◌, pos, List, [], ◌∷◌, map, filter, false, Ok, refl}
+use Rattle.std.proofs.Common.{◌≡◌, ◌≢◌, ◌⊎◌, inl, inr, ℕ, ◌+◌, pos, List, [], ◌∷◌, false, Ok, refl, sym, subst}
 use Rattle.sqlite_value.specs.declared.value.Value.{Value}
 use Rattle.sqlite_value.specs.declared.value.Value.TheVariants.{Null, Int, Real, Text, Blob}
 use Rattle.sqlite_value.specs.Order.{Row, column}
@@ -8,7 +8,7 @@ use Rattle.sqlite_rules.specs.Lists.{Has}
 use Rattle.sqlite.specs.Listing.{understood}
 use Rattle.sqlite.specs.State.{State, Shown, QueriesRow}
 use Rattle.sqlite.proofs.Callers.{IsPlain}
-use Rattle.sql_tables.specs.Walks.{in_page, in_window, is_asked, Lie}
+use Rattle.sql_tables.specs.Walks.{is_asked, Lie}
 use Rattle.sql_tables.specs.Queries.{window_terms, columns_at, by_rowid}
 use Rattle.sql_tables.proofs.Selects.{selected}
 use Rattle.sql_tables.proofs.Windows.{window_params, window_found}
@@ -20,21 +20,28 @@ use Rattle.prof_tables.proofs.WalkTexts.{cell_window_means, cell_window_plain, c
 use Rattle.held_runs.specs.declared.walks.Listed.{Listed}
 use Rattle.held_runs.specs.declared.walks.Listed.TheVariants.{Cells, Arcs, Stacks}
 use Rattle.held_runs.specs.declared.walks.Span.{Span}
-use Rattle.held_runs.specs.Walks.{tree_of, window_text_of, ends_text_of, asked, IsSpanIn, IsReady}
+use Rattle.held_runs.specs.Walks.{tree_of, window_text_of, ends_text_of, asked, page_of, IsSpanIn, IsReady}
 
-pub window_plain : (table : Listed) → IsPlain (understood schema_one (window_text_of table))
+window_plain : (table : Listed) → IsPlain (understood schema_one (window_text_of table))
 window_plain Cells = cell_window_plain
 window_plain Arcs = arc_window_plain
 window_plain Stacks = stack_window_plain
 
-pub ends_plain : (table : Listed) → IsPlain (understood schema_one (ends_text_of table))
+ends_plain : (table : Listed) → IsPlain (understood schema_one (ends_text_of table))
 ends_plain Cells = cell_ends_plain
 ends_plain Arcs = arc_ends_plain
 ends_plain Stacks = stack_ends_plain
 
+-- so is a text that is known to be it
+pub window_plain_as : (table : Listed) (text : List ℕ) → text ≡ window_text_of table → IsPlain (understood schema_one text)
+window_plain_as table text is = subst (λ t. IsPlain (understood schema_one t)) (sym is) (window_plain table)
+
+pub ends_plain_as : (table : Listed) (text : List ℕ) → text ≡ ends_text_of table → IsPlain (understood schema_one text)
+ends_plain_as table text is = subst (λ t. IsPlain (understood schema_one t)) (sym is) (ends_plain table)
+
 -- a page that rises is the rows of the window
 pub window_is : (table : Listed) (run low high : ℕ) (old new : State) (rows : List Row) → IsReady old → Shown (window_text_of table) (Int (pos run) ∷ Int (pos low) ∷ Int (pos high) ∷ []) old new rows → IsTable rows
-    → rows ≡ map (in_page (asked table run)) (filter (in_window (asked table run) low high) (old.now.trees (tree_of table)))
+    → rows ≡ page_of table run low high (old.now.trees (tree_of table))
 window_is Cells run low high old new rows was h up =
     let a = cells_of run in
     let s = selected schema_one cell_window_text cell_at.tree (window_terms 1) (columns_at (0 ∷ a.places)) by_rowid _ cell_window_means cell_window_plain cell_window_unlisted old new was.schema_is refl (window_params a low high) rows h in

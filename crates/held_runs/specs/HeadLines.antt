@@ -1,8 +1,10 @@
 -- The rows of one run that its head was read from.
-use Rattle.std.specs.Prelude.{[], ◌∷◌, option_map, string_bytes}
+use Rattle.std.specs.Prelude.{ℕ, ◌==◌, List, [], ◌∷◌, map, filter, option_map, string_bytes}
 use Rattle.sqlite_value.specs.declared.value.Value.TheVariants.{Blob}
 use Rattle.sqlite_value.specs.Order.{Row, column}
-use Rattle.prof_tables.specs.Tables.{number, text_or_null}
+use Rattle.sqlite_trees.specs.Tree.{Trees}
+use Rattle.prof_tables.specs.Seen.{is_at, event_seen, derived_seen, coef_seen, event_shown, derived_shown, coef_shown}
+use Rattle.prof_tables.specs.Tables.{Tables, EventLine, DerivedLine, CoefLine, number, text_or_null}
 use Rattle.held_runs.specs.declared.head_lines.HeadEvent.{HeadEvent}
 use Rattle.held_runs.specs.declared.head_lines.HeadDerived.{HeadDerived}
 use Rattle.held_runs.specs.declared.head_lines.HeadCoef.{HeadCoef}
@@ -21,3 +23,25 @@ derived_columns d = number d.place ∷ Blob d.name.items ∷ []
 
 abbrev pub coef_columns : HeadCoef → Row
 coef_columns c = number c.place ∷ number c.event ∷ number c.times ∷ []
+
+-- ---- what is read of a run
+
+-- of the lines of the tables
+abbrev pub events_in_tables : ℕ → Tables → List Row
+events_in_tables run t = map event_shown (filter (λ (e : EventLine). e.run == run) t.events)
+
+abbrev pub derived_in_tables : ℕ → Tables → List Row
+derived_in_tables run t = map derived_shown (filter (λ (d : DerivedLine). d.run == run) t.derived)
+
+abbrev pub coefs_in_tables : ℕ → Tables → List Row
+coefs_in_tables run t = map coef_shown (filter (λ (c : CoefLine). c.run == run) t.coefs)
+
+-- of the rows of any tables of schema 1
+abbrev pub events_in_rows : ℕ → Trees → List Row
+events_in_rows run db = map event_seen (filter (is_at 1 (number run)) (db 3))
+
+abbrev pub derived_in_rows : ℕ → Trees → List Row
+derived_in_rows run db = map derived_seen (filter (is_at 1 (number run)) (db 6))
+
+abbrev pub coefs_in_rows : ℕ → Trees → List Row
+coefs_in_rows run db = map coef_seen (filter (is_at 1 (number run)) (db 9))

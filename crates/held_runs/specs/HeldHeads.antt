@@ -1,5 +1,5 @@
 -- The head of a run, as the rows of its lines say it.
-use Rattle.std.specs.Prelude.{◌≡◌, ℕ, suc, nat_lt, ◌==◌, if◌then◌else◌, IsTrue, List, [], ◌∷◌, ◌++◌, map, filter, length, Option, Some, None, unwrap_or, option_map, string_bytes, IfSome, IsPermutation, true}
+use Rattle.std.specs.Prelude.{◌≡◌, ℕ, suc, nat_lt, if◌then◌else◌, IsTrue, List, [], ◌∷◌, ◌++◌, map, length, Option, Some, None, unwrap_or, option_map, string_bytes, IfSome, IsPermutation, true}
 use Rattle.std.specs.Fmt.{decimal}
 use Rattle.sqlite_value.specs.declared.value.Value.TheVariants.{Blob}
 use Rattle.sqlite_value.specs.Order.{Row}
@@ -8,8 +8,9 @@ use Rattle.sqlite_trees.specs.Tree.{Trees}
 use Rattle.cg_text.specs.Distinct.{are_distinct}
 use Rattle.cg_formulas.specs.declared.heads.FileHead.{FileHead}
 use Rattle.prof_tables.specs.Changes.{has_run}
-use Rattle.prof_tables.specs.Seen.{is_at, event_seen, derived_seen, coef_seen, event_shown, derived_shown, coef_shown}
-use Rattle.prof_tables.specs.Tables.{Tables, EventLine, DerivedLine, CoefLine, number, text_or_null}
+use Rattle.prof_tables.specs.Seen.{is_at}
+use Rattle.prof_tables.specs.Tables.{Tables, number, text_or_null}
+use Rattle.held_runs.specs.HeadLines.{events_in_tables, derived_in_tables, coefs_in_tables, events_in_rows, derived_in_rows, coefs_in_rows}
 use Rattle.held_runs.specs.declared.head_lines.HeadEvent.{HeadEvent}
 use Rattle.held_runs.specs.declared.head_lines.HeadDerived.{HeadDerived}
 use Rattle.held_runs.specs.declared.head_lines.HeadCoef.{HeadCoef}
@@ -126,9 +127,7 @@ pub record IsReadFrom (head : FileHead) (events : List HeadEvent) (derived : Lis
 
 -- the head is what the lines of a run say
 abbrev pub IsReadIn : ℕ → Tables → FileHead → Type 0
-IsReadIn run t head =
-    IsHeadOf head (map event_shown (filter (λ (e : EventLine). e.run == run) t.events)) (map derived_shown (filter (λ (d : DerivedLine). d.run == run) t.derived))
-    (map coef_shown (filter (λ (c : CoefLine). c.run == run) t.coefs))
+IsReadIn run t head = IsHeadOf head (events_in_tables run t) (derived_in_tables run t) (coefs_in_tables run t)
 
 -- and the run is held
 abbrev pub IsHeadIn : ℕ → Tables → FileHead → Type 0
@@ -136,8 +135,7 @@ IsHeadIn run t head = IsTrue (has_run t run) × IsReadIn run t head
 
 -- the same in any tables of schema 1, of their rows
 abbrev pub IsReadAt : ℕ → Trees → FileHead → Type 0
-IsReadAt run db head =
-    IsHeadOf head (map event_seen (filter (is_at 1 (number run)) (db 3))) (map derived_seen (filter (is_at 1 (number run)) (db 6))) (map coef_seen (filter (is_at 1 (number run)) (db 9)))
+IsReadAt run db head = IsHeadOf head (events_in_rows run db) (derived_in_rows run db) (coefs_in_rows run db)
 
 abbrev pub IsHeadAt : ℕ → Trees → FileHead → Type 0
 IsHeadAt run db head = IsTrue (list_any (is_at 0 (number run)) (db 1)) × IsReadAt run db head

@@ -7,4 +7,5 @@ pub mod HeldHeads
 pub mod HeldStacks
 pub mod NameLines
 pub mod StackWalks
+pub mod Told
 pub mod Walks

@@ -1,12 +1,12 @@
 -- A walk over the rows of a run, in one of the tables whose rows are lines of runs.
-use Rattle.std.specs.Prelude.{◌≡◌, ◌≢◌, ℕ, ◌+◌, pos, List, drop}
+use Rattle.std.specs.Prelude.{◌≡◌, ◌≢◌, ◌&&◌, ℕ, ◌+◌, pos, Bool, false, List, drop, filter, map}
 use Rattle.sqlite_value.specs.declared.value.Value.TheVariants.{Null, Int}
 use Rattle.sqlite_value.specs.Order.{Row, column}
 use Rattle.sqlite_trees.specs.View.{IsShaped}
 use Rattle.sqlite_trees.specs.declared.store.Store.{Ghosts}
 use Rattle.sqlite_trees.specs.declared.store.Shape.TheVariants as shape
 use Rattle.sqlite.specs.State.{State}
-use Rattle.sql_tables.specs.Walks.{Asked, Reads, HasReadAll}
+use Rattle.sql_tables.specs.Walks.{Asked, Reads, HasReadAll, in_page, in_window}
 use Rattle.prof_tables.specs.Schema.{schema_one, cell_at, arc_at, stack_at}
 use Rattle.prof_tables.specs.WalkTexts.{cell_window_text, cell_ends_text, cells_of, arc_window_text, arc_ends_text, arcs_of, stack_window_text, stack_ends_text, stacks_of}
 use Rattle.prof_store.specs.declared.store.Store.{Store}
@@ -14,7 +14,7 @@ use Rattle.held_runs.specs.declared.walks.Listed.{Listed}
 use Rattle.held_runs.specs.declared.walks.Listed.TheVariants.{Cells, Arcs, Stacks}
 use Rattle.held_runs.specs.declared.walks.Span.{Span}
 use Rattle.held_runs.specs.declared.walks.Walk.{Walk}
-use Rattle.prof_store.specs.Shown.{shown}
+use Rattle.prof_store.specs.Shown.{Asks, shown}
 
 abbrev pub tree_of : Listed → ℕ
 tree_of Cells = cell_at.tree
@@ -36,6 +36,10 @@ abbrev pub asked : Listed → ℕ → Asked
 asked Cells = cells_of
 asked Arcs = arcs_of
 asked Stacks = stacks_of
+
+-- what a window shows of the rows of a table
+abbrev pub page_of : Listed → ℕ → ℕ → ℕ → List Row → List Row
+page_of table run low high rows = map (in_page (asked table run)) (filter (in_window (asked table run) low high) rows)
 
 -- where the rows lie, by the row of the least and the greatest rowid, which has NULL where there are none
 abbrev pub IsSpanIn : Row → Span → Type 0
@@ -59,3 +63,11 @@ module _ {S : Type 0} (g : Ghosts S) where
   -- the rows given are all of the run
   abbrev pub HasWalked : List Row → Store S → Walk → Type 0
   HasWalked given store walk = HasReadAll (asked walk.table walk.run) (rows_of walk.table store) given
+
+  -- there is one more, or the rows given are all of the run
+  abbrev pub WalksOn : List Row → Store S → Walk → Bool → Type 0
+  WalksOn given store walk more = Walks given store walk × (more ≡ false → HasWalked given store walk)
+
+  -- a call that asks where it has to: a page at hand is given without, so an answer tells nothing of a store that was not open
+  abbrev pub AsksIfOpen : Bool → Store S → Store S → Type 0
+  AsksIfOpen answered old new = Asks g (answered && (shown g old).is_open) old new

@@ -1,12 +1,14 @@
 // The calls of a run, row by row, with names in place.
 ghost use Rattle.std.specs.Prelude.{◌≡◌, ◌≤◌, ◌++◌, ◌∷◌, [], Some, None, IfOk, OnOk, IfSome, IsTrue, MatchResult, length};
 ghost use Rattle.std.specs.List.{AllByRecursion};
+ghost use Rattle.std.specs.Result.{is_ok};
 ghost use Rattle.prof_tables.specs.RunLines.{arcs_in};
 ghost use Rattle.prof_books.specs.Book.{ArcIsNamed};
 ghost use Rattle.held_runs.specs.HeldArcs.{HasUsedArcs, HasTakenArc, HasGivenArcs, HasGivenArcsOn, TellsArcRows, lines_from, part_line, plain_given, row_of};
 ghost use Rattle.store_columns.specs.Lines.{arc_line};
-ghost use Rattle.prof_store.specs.Shown.{shown, IsFaithful, IsUsable, IsSettled, IsAsBefore, StandsFor, LeavesOnly};
-ghost use Rattle.held_runs.specs.Walks.{IsReady};
+ghost use Rattle.prof_store.specs.Shown.{shown, IsFaithful, StandsFor};
+ghost use Rattle.held_runs.specs.Told.{Tells};
+ghost use Rattle.held_runs.specs.Walks.{IsReady, AsksIfOpen};
 
 use crate::arc_lines::next_arc;
 use crate::held_names::HeldNames;
@@ -126,12 +128,7 @@ pub fn arcs_of<'a, S: Alter>(
     ensures ready { IsReady (shown S.Store store.old) → HasGivenArcs S.Store [] result }
     ensures begun { (t : _) → StandsFor S.Store t store.old → HasGivenArcs S.Store [] result }
     ensures failed { result.failed ≡ None }
-    ensures stays { (t : _) → StandsFor S.Store t store.old → StandsFor S.Store t result.store.now }
-    ensures unchanged { IsSettled S.Store store.old → IsAsBefore S.Store store.old result.store.now }
-    ensures usable { IsUsable S.Store store.old → IsUsable S.Store result.store.now }
-    ensures was_usable { IsUsable S.Store result.store.now → IsUsable S.Store store.old }
-    ensures crash { LeavesOnly S.Store store.old result.store.now (λ _. ⊥) }
-    ensures honest { IsFaithful S.Store result.store.now → IsFaithful S.Store store.old }
+    ensures untouched { result.store.now.conn ≡ store.old.conn }
 {
     store.page.clear();
     Arcs {
@@ -154,13 +151,7 @@ impl<'a, S: Alter> Arcs<'a, S> {
         ensures events { self.new.events ≡ self.old.events }
         ensures failed { self.new.failed ≡ self.old.failed }
         ensures taken { IsFaithful S.Store self.new.store.now → (used : _) → HasUsedArcs S.Store used self.old → IfOk result (HasTakenArc S.Store used self.new) }
-        ensures stays { IsFaithful S.Store self.new.store.now → (t : _) → StandsFor S.Store t self.old.store.now → OnOk result (StandsFor S.Store t self.new.store.now) }
-        ensures kept { IsFaithful S.Store self.new.store.now → (t : _) → StandsFor S.Store t self.old.store.now → IsUsable S.Store self.new.store.now → StandsFor S.Store t self.new.store.now }
-        ensures unchanged { IsFaithful S.Store self.new.store.now → IsSettled S.Store self.old.store.now → IsUsable S.Store self.new.store.now → IsAsBefore S.Store self.old.store.now self.new.store.now }
-        ensures usable { IsFaithful S.Store self.new.store.now → IsUsable S.Store self.old.store.now → OnOk result (IsUsable S.Store self.new.store.now) }
-        ensures was_usable { IsFaithful S.Store self.new.store.now → IsUsable S.Store self.new.store.now → IsUsable S.Store self.old.store.now }
-        ensures crash { IsFaithful S.Store self.new.store.now → (t : _) → StandsFor S.Store t self.old.store.now → LeavesOnly S.Store self.old.store.now self.new.store.now (λ _. ⊥) }
-        ensures honest { IsFaithful S.Store self.new.store.now → IsFaithful S.Store self.old.store.now }
+        ensures asks { AsksIfOpen S.Store (is_ok result) self.old.store.now self.new.store.now }
     {
         match self.waiting.take() {
             Some(line) => Ok(Some(line)),
@@ -177,13 +168,7 @@ impl<'a, S: Alter> Arcs<'a, S> {
         ensures failed { self.new.failed ≡ self.old.failed }
         ensures used { IsFaithful S.Store self.new.store.now → (used : _) → HasUsedArcs S.Store used self.old → IfOk result (λ costs. HasUsedArcs S.Store (used ++ lines_from (arc_line first.now) 1 costs) self.new) }
         ensures long { IfOk result (λ costs. length costs ≡ self.old.events) }
-        ensures stays { IsFaithful S.Store self.new.store.now → (t : _) → StandsFor S.Store t self.old.store.now → OnOk result (StandsFor S.Store t self.new.store.now) }
-        ensures kept { IsFaithful S.Store self.new.store.now → (t : _) → StandsFor S.Store t self.old.store.now → IsUsable S.Store self.new.store.now → StandsFor S.Store t self.new.store.now }
-        ensures unchanged { IsFaithful S.Store self.new.store.now → IsSettled S.Store self.old.store.now → IsUsable S.Store self.new.store.now → IsAsBefore S.Store self.old.store.now self.new.store.now }
-        ensures usable { IsFaithful S.Store self.new.store.now → IsUsable S.Store self.old.store.now → OnOk result (IsUsable S.Store self.new.store.now) }
-        ensures was_usable { IsFaithful S.Store self.new.store.now → IsUsable S.Store self.new.store.now → IsUsable S.Store self.old.store.now }
-        ensures crash { IsFaithful S.Store self.new.store.now → (t : _) → StandsFor S.Store t self.old.store.now → LeavesOnly S.Store self.old.store.now self.new.store.now (λ _. ⊥) }
-        ensures honest { IsFaithful S.Store self.new.store.now → IsFaithful S.Store self.old.store.now }
+        ensures asks { AsksIfOpen S.Store (is_ok result) self.old.store.now self.new.store.now }
     {
         let mut costs = Items::new(self.alloc);
         'parts: for _ in 0..u64::MAX {
@@ -207,13 +192,7 @@ impl<'a, S: Alter> Arcs<'a, S> {
         ensures failed { self.new.failed ≡ self.old.failed }
         ensures long { IfOk result (λ row. IfSome row (λ r. length r.costs ≡ self.old.events)) }
         ensures given { IsFaithful S.Store self.new.store.now → (given : _) → HasGivenArcs S.Store given self.old → IfOk result (HasGivenArcsOn S.Store given self.new) }
-        ensures stays { IsFaithful S.Store self.new.store.now → (t : _) → StandsFor S.Store t self.old.store.now → OnOk result (StandsFor S.Store t self.new.store.now) }
-        ensures kept { IsFaithful S.Store self.new.store.now → (t : _) → StandsFor S.Store t self.old.store.now → IsUsable S.Store self.new.store.now → StandsFor S.Store t self.new.store.now }
-        ensures unchanged { IsFaithful S.Store self.new.store.now → IsSettled S.Store self.old.store.now → IsUsable S.Store self.new.store.now → IsAsBefore S.Store self.old.store.now self.new.store.now }
-        ensures usable { IsFaithful S.Store self.new.store.now → IsUsable S.Store self.old.store.now → OnOk result (IsUsable S.Store self.new.store.now) }
-        ensures was_usable { IsFaithful S.Store self.new.store.now → IsUsable S.Store self.new.store.now → IsUsable S.Store self.old.store.now }
-        ensures crash { IsFaithful S.Store self.new.store.now → (t : _) → StandsFor S.Store t self.old.store.now → LeavesOnly S.Store self.old.store.now self.new.store.now (λ _. ⊥) }
-        ensures honest { IsFaithful S.Store self.new.store.now → IsFaithful S.Store self.old.store.now }
+        ensures asks { AsksIfOpen S.Store (is_ok result) self.old.store.now self.new.store.now }
     {
         let Some(first) = self.line()? else {
             return Ok(None);
@@ -238,15 +217,9 @@ impl<'a, S: Alter> Arcs<'a, S> {
         ensures again { (e : _) → self.old.failed ≡ Some e → (result ≡ Err e) × (self.new.store.now ≡ self.old.store.now) }
         ensures long { IfOk result (λ row. IfSome row (λ r. length r.costs ≡ self.old.events)) }
         ensures given { IsFaithful S.Store self.new.store.now → (given : _) → HasGivenArcs S.Store given self.old → IfOk result (HasGivenArcsOn S.Store given self.new) }
-        ensures told { IsFaithful S.Store self.new.store.now → (t : _) → StandsFor S.Store t self.old.store.now → self.old.names.now ≡ t.names → (given : _) → HasGivenArcs S.Store given self.old → IfOk result (TellsArcRows self.old.walk.run t given) }
-        ensures named { IsFaithful S.Store self.new.store.now → (t : _) → StandsFor S.Store t self.old.store.now → (given : _) → HasGivenArcs S.Store given self.old → IfOk result (λ row. row ≡ None → AllByRecursion (ArcIsNamed self.old.names.now) (arcs_in self.old.walk.run t)) }
-        ensures stays { IsFaithful S.Store self.new.store.now → (t : _) → StandsFor S.Store t self.old.store.now → OnOk result (StandsFor S.Store t self.new.store.now) }
-        ensures kept { IsFaithful S.Store self.new.store.now → (t : _) → StandsFor S.Store t self.old.store.now → IsUsable S.Store self.new.store.now → StandsFor S.Store t self.new.store.now }
-        ensures unchanged { IsFaithful S.Store self.new.store.now → IsSettled S.Store self.old.store.now → IsUsable S.Store self.new.store.now → IsAsBefore S.Store self.old.store.now self.new.store.now }
-        ensures usable { IsFaithful S.Store self.new.store.now → IsUsable S.Store self.old.store.now → OnOk result (IsUsable S.Store self.new.store.now) }
-        ensures was_usable { IsFaithful S.Store self.new.store.now → IsUsable S.Store self.new.store.now → IsUsable S.Store self.old.store.now }
-        ensures crash { IsFaithful S.Store self.new.store.now → (t : _) → StandsFor S.Store t self.old.store.now → LeavesOnly S.Store self.old.store.now self.new.store.now (λ _. ⊥) }
-        ensures honest { IsFaithful S.Store self.new.store.now → IsFaithful S.Store self.old.store.now }
+        ensures told { Tells S.Store self.old.store.now self.new.store.now (λ t. self.old.names.now ≡ t.names → (given : _) → HasGivenArcs S.Store given self.old → IfOk result (TellsArcRows self.old.walk.run t given)) }
+        ensures named { Tells S.Store self.old.store.now self.new.store.now (λ t. (given : _) → HasGivenArcs S.Store given self.old → IfOk result (λ row. row ≡ None → AllByRecursion (ArcIsNamed self.old.names.now) (arcs_in self.old.walk.run t))) }
+        ensures asks { AsksIfOpen S.Store (is_ok result) self.old.store.now self.new.store.now }
     {
         if let Some(end) = self.failed {
             return Err(end);

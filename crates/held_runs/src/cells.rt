@@ -1,13 +1,15 @@
 // The cells of a run, one at a time, with names in place.
 ghost use Rattle.std.specs.Prelude.{◌≡◌, ◌<◌, [], Some, None, IfOk, OnOk, IfSome, MatchResult};
 ghost use Rattle.std.specs.List.{AllByRecursion};
+ghost use Rattle.std.specs.Result.{is_ok};
 ghost use Rattle.cost_rows.specs.Plain.{plain_cell};
 ghost use Rattle.prof_tables.specs.RunLines.{cells_in};
 ghost use Rattle.prof_books.specs.Book.{cell_held, CellIsNamed};
 ghost use Rattle.held_runs.specs.HeldCells.{HasGivenCells, HasGivenCellsOn, IsOfAnEvent, TellsCellRows};
 ghost use Rattle.store_columns.specs.Lines.{cell_line};
-ghost use Rattle.prof_store.specs.Shown.{shown, IsFaithful, IsUsable, IsSettled, IsAsBefore, StandsFor, LeavesOnly};
-ghost use Rattle.held_runs.specs.Walks.{IsReady};
+ghost use Rattle.prof_store.specs.Shown.{shown, IsFaithful, StandsFor};
+ghost use Rattle.held_runs.specs.Told.{Tells};
+ghost use Rattle.held_runs.specs.Walks.{IsReady, AsksIfOpen};
 
 use crate::cell_lines::next_cell;
 use crate::held_names::HeldNames;
@@ -68,12 +70,7 @@ pub fn cells_of<'a, S: Alter>(
     ensures ready { IsReady (shown S.Store store.old) → HasGivenCells S.Store [] result }
     ensures begun { (t : _) → StandsFor S.Store t store.old → HasGivenCells S.Store [] result }
     ensures failed { result.failed ≡ None }
-    ensures stays { (t : _) → StandsFor S.Store t store.old → StandsFor S.Store t result.store.now }
-    ensures unchanged { IsSettled S.Store store.old → IsAsBefore S.Store store.old result.store.now }
-    ensures usable { IsUsable S.Store store.old → IsUsable S.Store result.store.now }
-    ensures was_usable { IsUsable S.Store result.store.now → IsUsable S.Store store.old }
-    ensures crash { LeavesOnly S.Store store.old result.store.now (λ _. ⊥) }
-    ensures honest { IsFaithful S.Store result.store.now → IsFaithful S.Store store.old }
+    ensures untouched { result.store.now.conn ≡ store.old.conn }
 {
     store.page.clear();
     Cells {
@@ -94,13 +91,7 @@ impl<'a, S: Alter> Cells<'a, S> {
         ensures failed { self.new.failed ≡ self.old.failed }
         ensures counted { IfOk result (λ row. IfSome row (λ r. r.event < self.old.events)) }
         ensures given { IsFaithful S.Store self.new.store.now → (given : _) → HasGivenCells S.Store given self.old → IfOk result (HasGivenCellsOn S.Store given self.new) }
-        ensures stays { IsFaithful S.Store self.new.store.now → (t : _) → StandsFor S.Store t self.old.store.now → OnOk result (StandsFor S.Store t self.new.store.now) }
-        ensures kept { IsFaithful S.Store self.new.store.now → (t : _) → StandsFor S.Store t self.old.store.now → IsUsable S.Store self.new.store.now → StandsFor S.Store t self.new.store.now }
-        ensures unchanged { IsFaithful S.Store self.new.store.now → IsSettled S.Store self.old.store.now → IsUsable S.Store self.new.store.now → IsAsBefore S.Store self.old.store.now self.new.store.now }
-        ensures usable { IsFaithful S.Store self.new.store.now → IsUsable S.Store self.old.store.now → OnOk result (IsUsable S.Store self.new.store.now) }
-        ensures was_usable { IsFaithful S.Store self.new.store.now → IsUsable S.Store self.new.store.now → IsUsable S.Store self.old.store.now }
-        ensures crash { IsFaithful S.Store self.new.store.now → (t : _) → StandsFor S.Store t self.old.store.now → LeavesOnly S.Store self.old.store.now self.new.store.now (λ _. ⊥) }
-        ensures honest { IsFaithful S.Store self.new.store.now → IsFaithful S.Store self.old.store.now }
+        ensures asks { AsksIfOpen S.Store (is_ok result) self.old.store.now self.new.store.now }
     {
         let Some(line) = next_cell(self.store, &mut self.walk)? else {
             return Ok(None);
@@ -120,16 +111,10 @@ impl<'a, S: Alter> Cells<'a, S> {
         ensures again { (e : _) → self.old.failed ≡ Some e → (result ≡ Err e) × (self.new.store.now ≡ self.old.store.now) }
         ensures counted { IfOk result (λ row. IfSome row (λ r. r.event < self.old.events)) }
         ensures given { IsFaithful S.Store self.new.store.now → (given : _) → HasGivenCells S.Store given self.old → IfOk result (HasGivenCellsOn S.Store given self.new) }
-        ensures told { IsFaithful S.Store self.new.store.now → (t : _) → StandsFor S.Store t self.old.store.now → self.old.names.now ≡ t.names → (given : _) → HasGivenCells S.Store given self.old → IfOk result (TellsCellRows self.old.walk.run t given) }
-        ensures named { IsFaithful S.Store self.new.store.now → (t : _) → StandsFor S.Store t self.old.store.now → (given : _) → HasGivenCells S.Store given self.old → IfOk result (λ row. row ≡ None → AllByRecursion (CellIsNamed self.old.names.now) (cells_in self.old.walk.run t)) }
-        ensures of_events { IsFaithful S.Store self.new.store.now → (t : _) → StandsFor S.Store t self.old.store.now → (given : _) → HasGivenCells S.Store given self.old → IfOk result (λ row. row ≡ None → AllByRecursion (IsOfAnEvent self.old.events) (cells_in self.old.walk.run t)) }
-        ensures stays { IsFaithful S.Store self.new.store.now → (t : _) → StandsFor S.Store t self.old.store.now → OnOk result (StandsFor S.Store t self.new.store.now) }
-        ensures kept { IsFaithful S.Store self.new.store.now → (t : _) → StandsFor S.Store t self.old.store.now → IsUsable S.Store self.new.store.now → StandsFor S.Store t self.new.store.now }
-        ensures unchanged { IsFaithful S.Store self.new.store.now → IsSettled S.Store self.old.store.now → IsUsable S.Store self.new.store.now → IsAsBefore S.Store self.old.store.now self.new.store.now }
-        ensures usable { IsFaithful S.Store self.new.store.now → IsUsable S.Store self.old.store.now → OnOk result (IsUsable S.Store self.new.store.now) }
-        ensures was_usable { IsFaithful S.Store self.new.store.now → IsUsable S.Store self.new.store.now → IsUsable S.Store self.old.store.now }
-        ensures crash { IsFaithful S.Store self.new.store.now → (t : _) → StandsFor S.Store t self.old.store.now → LeavesOnly S.Store self.old.store.now self.new.store.now (λ _. ⊥) }
-        ensures honest { IsFaithful S.Store self.new.store.now → IsFaithful S.Store self.old.store.now }
+        ensures told { Tells S.Store self.old.store.now self.new.store.now (λ t. self.old.names.now ≡ t.names → (given : _) → HasGivenCells S.Store given self.old → IfOk result (TellsCellRows self.old.walk.run t given)) }
+        ensures named { Tells S.Store self.old.store.now self.new.store.now (λ t. (given : _) → HasGivenCells S.Store given self.old → IfOk result (λ row. row ≡ None → AllByRecursion (CellIsNamed self.old.names.now) (cells_in self.old.walk.run t))) }
+        ensures of_events { Tells S.Store self.old.store.now self.new.store.now (λ t. (given : _) → HasGivenCells S.Store given self.old → IfOk result (λ row. row ≡ None → AllByRecursion (IsOfAnEvent self.old.events) (cells_in self.old.walk.run t))) }
+        ensures asks { AsksIfOpen S.Store (is_ok result) self.old.store.now self.new.store.now }
     {
         if let Some(end) = self.failed {
             return Err(end);

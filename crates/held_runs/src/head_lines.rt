@@ -1,18 +1,14 @@
 // The lines of a run that its head is made of.
-ghost use Rattle.std.specs.Prelude.{◌≡◌, ◌==◌, [], ◌∷◌, map, filter, IfOk, IfErr, OnOk, IsPermutation};
-ghost use Rattle.sqlite.specs.Held.{state};
-ghost use Rattle.sqlite.specs.State.{HasCleanDisk, Survives, Shown, FailsToQuery, CommitsShowing};
-ghost use Rattle.prof_tables.specs.Schema.{schema_one};
-ghost use Rattle.prof_tables.specs.Seen.{is_at, event_seen, derived_seen, coef_seen, event_shown, derived_shown, coef_shown};
-ghost use Rattle.prof_tables.specs.Tables.{number};
-ghost use Rattle.prof_tables.specs.Texts.{events_of_text, derived_of_text, coefs_of_text};
-ghost use Rattle.held_runs.specs.HeadLines.{first_two, first_three, event_columns, derived_columns, coef_columns};
-ghost use Rattle.prof_store.specs.Shown.{shown, IsFaithful, IsUsable, IsSettled, IsAsBefore, StandsFor, LeavesOnly};
+ghost use Rattle.std.specs.Prelude.{◌≡◌, map, IfOk, IsPermutation};
+ghost use Rattle.std.specs.Result.{is_ok};
+ghost use Rattle.held_runs.specs.HeadLines.{first_two, first_three, event_columns, derived_columns, coef_columns, events_in_tables, derived_in_tables, coefs_in_tables, events_in_rows, derived_in_rows, coefs_in_rows};
+ghost use Rattle.held_runs.specs.Told.{Tells, Finds};
+ghost use Rattle.prof_store.specs.Shown.{Asks};
 
-use prof_store::Store;
-use sqlite::{Alter, Connection, Error, Row, params};
+use prof_store::{Store, select};
+use sqlite::{Alter, Row, params};
 use std::alloc::Global;
-use store_columns::{StoreEnd, bytes_at, end_of, number_at, sum_at, text_or_null_at};
+use store_columns::{StoreEnd, bytes_at, number_at, sum_at, text_or_null_at};
 
 /// An event of a run: its place, its name, and the total that the file states, in decimal.
 #[derive(Drop)]
@@ -35,39 +31,6 @@ pub(crate) struct HeadCoef {
     pub place: u32,
     pub event: u32,
     pub times: u64,
-}
-
-fn select_events<S: Alter>(conn: &mut Connection<S>, run: u32) -> Result<Vec<Row>, Error>
-    ensures ok { HasCleanDisk (state S.Store conn.new) → IfOk result (λ rows. Shown events_of_text (number run ∷ []) (state S.Store conn.old) (state S.Store conn.new) rows.items) }
-    ensures err { HasCleanDisk (state S.Store conn.new) → IfErr result (FailsToQuery events_of_text (number run ∷ []) (state S.Store conn.old) (state S.Store conn.new)) }
-    ensures survives { Survives (state S.Store conn.old) (state S.Store conn.new) (CommitsShowing events_of_text (number run ∷ []) (state S.Store conn.old)) }
-{
-    conn.query_all(
-        "SELECT pos, name, stated FROM run_event WHERE run = ?1 ORDER BY pos",
-        params![run],
-    )
-}
-
-fn select_derived<S: Alter>(conn: &mut Connection<S>, run: u32) -> Result<Vec<Row>, Error>
-    ensures ok { HasCleanDisk (state S.Store conn.new) → IfOk result (λ rows. Shown derived_of_text (number run ∷ []) (state S.Store conn.old) (state S.Store conn.new) rows.items) }
-    ensures err { HasCleanDisk (state S.Store conn.new) → IfErr result (FailsToQuery derived_of_text (number run ∷ []) (state S.Store conn.old) (state S.Store conn.new)) }
-    ensures survives { Survives (state S.Store conn.old) (state S.Store conn.new) (CommitsShowing derived_of_text (number run ∷ []) (state S.Store conn.old)) }
-{
-    conn.query_all(
-        "SELECT pos, name FROM derived WHERE run = ?1 ORDER BY pos",
-        params![run],
-    )
-}
-
-fn select_coefs<S: Alter>(conn: &mut Connection<S>, run: u32) -> Result<Vec<Row>, Error>
-    ensures ok { HasCleanDisk (state S.Store conn.new) → IfOk result (λ rows. Shown coefs_of_text (number run ∷ []) (state S.Store conn.old) (state S.Store conn.new) rows.items) }
-    ensures err { HasCleanDisk (state S.Store conn.new) → IfErr result (FailsToQuery coefs_of_text (number run ∷ []) (state S.Store conn.old) (state S.Store conn.new)) }
-    ensures survives { Survives (state S.Store conn.old) (state S.Store conn.new) (CommitsShowing coefs_of_text (number run ∷ []) (state S.Store conn.old)) }
-{
-    conn.query_all(
-        "SELECT pos, event, n FROM coef WHERE run = ?1 ORDER BY pos, event",
-        params![run],
-    )
 }
 
 fn events_in(alloc: Global, rows: &[Row]) -> Result<Vec<HeadEvent>, StoreEnd>
@@ -131,21 +94,16 @@ pub(crate) fn events_of<S: Alter>(
     alloc: Global,
     run: u32,
 ) -> Result<Vec<HeadEvent>, StoreEnd>
-    ensures told { IsFaithful S.Store store.new → (t : _) → StandsFor S.Store t store.old → IfOk result (λ lines. IsPermutation (map event_shown (filter (λ x. x.run == run) t.events)) (map event_columns lines.items)) }
-    ensures found { IsFaithful S.Store store.new → (shown S.Store store.old).now.schema ≡ schema_one → IfOk result (λ lines. IsPermutation (map event_seen (filter (is_at 1 (number run)) ((shown S.Store store.old).now.trees 3))) (map event_columns lines.items)) }
-    ensures same { IsFaithful S.Store store.new → (shown S.Store store.old).now.schema ≡ schema_one → OnOk result ((shown S.Store store.new).now ≡ (shown S.Store store.old).now) }
-    ensures kept { IsFaithful S.Store store.new → (t : _) → StandsFor S.Store t store.old → IsUsable S.Store store.new → StandsFor S.Store t store.new }
-    ensures stays { IsFaithful S.Store store.new → (t : _) → StandsFor S.Store t store.old → OnOk result (StandsFor S.Store t store.new) }
-    ensures unchanged { IsFaithful S.Store store.new → IsSettled S.Store store.old → IsUsable S.Store store.new → IsAsBefore S.Store store.old store.new }
-    ensures answers { IsFaithful S.Store store.new → OnOk result (IsUsable S.Store store.new) }
-    ensures was_usable { IsFaithful S.Store store.new → IsUsable S.Store store.new → IsUsable S.Store store.old }
-    ensures crash { IsFaithful S.Store store.new → (t : _) → StandsFor S.Store t store.old → LeavesOnly S.Store store.old store.new (λ _. ⊥) }
-    ensures honest { IsFaithful S.Store store.new → IsFaithful S.Store store.old }
+    ensures told { Tells S.Store store.old store.new (λ t. IfOk result (λ lines. IsPermutation (events_in_tables run t) (map event_columns lines.items))) }
+    ensures found { Finds S.Store store.old store.new (λ db. IfOk result (λ lines. IsPermutation (events_in_rows run db) (map event_columns lines.items))) }
+    ensures asks { Asks S.Store (is_ok result) store.old store.new }
 {
-    match select_events(&mut store.conn, run) {
-        Ok(rows) => events_in(alloc, &rows),
-        Err(error) => Err(end_of(error)),
-    }
+    let rows = select(
+        &mut store.conn,
+        "SELECT pos, name, stated FROM run_event WHERE run = ?1 ORDER BY pos",
+        params![run],
+    )?;
+    events_in(alloc, &rows)
 }
 
 /// The derived events of a run.
@@ -154,21 +112,16 @@ pub(crate) fn derived_of<S: Alter>(
     alloc: Global,
     run: u32,
 ) -> Result<Vec<HeadDerived>, StoreEnd>
-    ensures told { IsFaithful S.Store store.new → (t : _) → StandsFor S.Store t store.old → IfOk result (λ lines. IsPermutation (map derived_shown (filter (λ x. x.run == run) t.derived)) (map derived_columns lines.items)) }
-    ensures found { IsFaithful S.Store store.new → (shown S.Store store.old).now.schema ≡ schema_one → IfOk result (λ lines. IsPermutation (map derived_seen (filter (is_at 1 (number run)) ((shown S.Store store.old).now.trees 6))) (map derived_columns lines.items)) }
-    ensures same { IsFaithful S.Store store.new → (shown S.Store store.old).now.schema ≡ schema_one → OnOk result ((shown S.Store store.new).now ≡ (shown S.Store store.old).now) }
-    ensures kept { IsFaithful S.Store store.new → (t : _) → StandsFor S.Store t store.old → IsUsable S.Store store.new → StandsFor S.Store t store.new }
-    ensures stays { IsFaithful S.Store store.new → (t : _) → StandsFor S.Store t store.old → OnOk result (StandsFor S.Store t store.new) }
-    ensures unchanged { IsFaithful S.Store store.new → IsSettled S.Store store.old → IsUsable S.Store store.new → IsAsBefore S.Store store.old store.new }
-    ensures answers { IsFaithful S.Store store.new → OnOk result (IsUsable S.Store store.new) }
-    ensures was_usable { IsFaithful S.Store store.new → IsUsable S.Store store.new → IsUsable S.Store store.old }
-    ensures crash { IsFaithful S.Store store.new → (t : _) → StandsFor S.Store t store.old → LeavesOnly S.Store store.old store.new (λ _. ⊥) }
-    ensures honest { IsFaithful S.Store store.new → IsFaithful S.Store store.old }
+    ensures told { Tells S.Store store.old store.new (λ t. IfOk result (λ lines. IsPermutation (derived_in_tables run t) (map derived_columns lines.items))) }
+    ensures found { Finds S.Store store.old store.new (λ db. IfOk result (λ lines. IsPermutation (derived_in_rows run db) (map derived_columns lines.items))) }
+    ensures asks { Asks S.Store (is_ok result) store.old store.new }
 {
-    match select_derived(&mut store.conn, run) {
-        Ok(rows) => derived_in(alloc, &rows),
-        Err(error) => Err(end_of(error)),
-    }
+    let rows = select(
+        &mut store.conn,
+        "SELECT pos, name FROM derived WHERE run = ?1 ORDER BY pos",
+        params![run],
+    )?;
+    derived_in(alloc, &rows)
 }
 
 /// The coefficients of the derived events of a run.
@@ -177,19 +130,14 @@ pub(crate) fn coefs_of<S: Alter>(
     alloc: Global,
     run: u32,
 ) -> Result<Vec<HeadCoef>, StoreEnd>
-    ensures told { IsFaithful S.Store store.new → (t : _) → StandsFor S.Store t store.old → IfOk result (λ lines. IsPermutation (map coef_shown (filter (λ x. x.run == run) t.coefs)) (map coef_columns lines.items)) }
-    ensures found { IsFaithful S.Store store.new → (shown S.Store store.old).now.schema ≡ schema_one → IfOk result (λ lines. IsPermutation (map coef_seen (filter (is_at 1 (number run)) ((shown S.Store store.old).now.trees 9))) (map coef_columns lines.items)) }
-    ensures same { IsFaithful S.Store store.new → (shown S.Store store.old).now.schema ≡ schema_one → OnOk result ((shown S.Store store.new).now ≡ (shown S.Store store.old).now) }
-    ensures kept { IsFaithful S.Store store.new → (t : _) → StandsFor S.Store t store.old → IsUsable S.Store store.new → StandsFor S.Store t store.new }
-    ensures stays { IsFaithful S.Store store.new → (t : _) → StandsFor S.Store t store.old → OnOk result (StandsFor S.Store t store.new) }
-    ensures unchanged { IsFaithful S.Store store.new → IsSettled S.Store store.old → IsUsable S.Store store.new → IsAsBefore S.Store store.old store.new }
-    ensures answers { IsFaithful S.Store store.new → OnOk result (IsUsable S.Store store.new) }
-    ensures was_usable { IsFaithful S.Store store.new → IsUsable S.Store store.new → IsUsable S.Store store.old }
-    ensures crash { IsFaithful S.Store store.new → (t : _) → StandsFor S.Store t store.old → LeavesOnly S.Store store.old store.new (λ _. ⊥) }
-    ensures honest { IsFaithful S.Store store.new → IsFaithful S.Store store.old }
+    ensures told { Tells S.Store store.old store.new (λ t. IfOk result (λ lines. IsPermutation (coefs_in_tables run t) (map coef_columns lines.items))) }
+    ensures found { Finds S.Store store.old store.new (λ db. IfOk result (λ lines. IsPermutation (coefs_in_rows run db) (map coef_columns lines.items))) }
+    ensures asks { Asks S.Store (is_ok result) store.old store.new }
 {
-    match select_coefs(&mut store.conn, run) {
-        Ok(rows) => coefs_in(alloc, &rows),
-        Err(error) => Err(end_of(error)),
-    }
+    let rows = select(
+        &mut store.conn,
+        "SELECT pos, event, n FROM coef WHERE run = ?1 ORDER BY pos, event",
+        params![run],
+    )?;
+    coefs_in(alloc, &rows)
 }

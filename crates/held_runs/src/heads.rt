@@ -1,8 +1,9 @@
 // The head of a run that is held.
-ghost use Rattle.std.specs.Prelude.{◌≡◌, IfOk, OnOk};
-ghost use Rattle.prof_tables.specs.Schema.{schema_one};
+ghost use Rattle.std.specs.Prelude.{IfOk};
+ghost use Rattle.std.specs.Result.{is_ok};
 ghost use Rattle.held_runs.specs.HeldHeads.{IsHeadIn, IsHeadAt, IsReadIn, IsReadAt};
-ghost use Rattle.prof_store.specs.Shown.{shown, IsFaithful, IsUsable, IsSettled, IsAsBefore, StandsFor, LeavesOnly};
+ghost use Rattle.held_runs.specs.Told.{Tells, Finds};
+ghost use Rattle.prof_store.specs.Shown.{Asks};
 
 use crate::head_lines::{coefs_of, derived_of, events_of};
 use crate::heads_held::head_in;
@@ -14,16 +15,9 @@ use store_columns::StoreEnd;
 
 /// The head of a run whose number is held, as its lines say it.
 fn said_head<S: Alter>(store: &mut Store<S>, alloc: Global, run: u32) -> Result<FileHead, StoreEnd>
-    ensures told { IsFaithful S.Store store.new → (t : _) → StandsFor S.Store t store.old → IfOk result (IsReadIn run t) }
-    ensures found { IsFaithful S.Store store.new → (shown S.Store store.old).now.schema ≡ schema_one → IfOk result (IsReadAt run (shown S.Store store.old).now.trees) }
-    ensures same { IsFaithful S.Store store.new → (shown S.Store store.old).now.schema ≡ schema_one → OnOk result ((shown S.Store store.new).now ≡ (shown S.Store store.old).now) }
-    ensures stays { IsFaithful S.Store store.new → (t : _) → StandsFor S.Store t store.old → OnOk result (StandsFor S.Store t store.new) }
-    ensures kept { IsFaithful S.Store store.new → (t : _) → StandsFor S.Store t store.old → IsUsable S.Store store.new → StandsFor S.Store t store.new }
-    ensures unchanged { IsFaithful S.Store store.new → IsSettled S.Store store.old → IsUsable S.Store store.new → IsAsBefore S.Store store.old store.new }
-    ensures answers { IsFaithful S.Store store.new → OnOk result (IsUsable S.Store store.new) }
-    ensures was_usable { IsFaithful S.Store store.new → IsUsable S.Store store.new → IsUsable S.Store store.old }
-    ensures crash { IsFaithful S.Store store.new → (t : _) → StandsFor S.Store t store.old → LeavesOnly S.Store store.old store.new (λ _. ⊥) }
-    ensures honest { IsFaithful S.Store store.new → IsFaithful S.Store store.old }
+    ensures told { Tells S.Store store.old store.new (λ t. IfOk result (IsReadIn run t)) }
+    ensures found { Finds S.Store store.old store.new (λ db. IfOk result (IsReadAt run db)) }
+    ensures asks { Asks S.Store (is_ok result) store.old store.new }
 {
     let events = events_of(store, alloc, run)?;
     let derived = derived_of(store, alloc, run)?;
@@ -41,15 +35,9 @@ pub fn head_of<S: Alter>(
     alloc: Global,
     run: u32,
 ) -> Result<FileHead, StoreEnd>
-    ensures told { IsFaithful S.Store store.new → (t : _) → StandsFor S.Store t store.old → IfOk result (IsHeadIn run t) }
-    ensures found { IsFaithful S.Store store.new → (shown S.Store store.old).now.schema ≡ schema_one → IfOk result (IsHeadAt run (shown S.Store store.old).now.trees) }
-    ensures stays { IsFaithful S.Store store.new → (t : _) → StandsFor S.Store t store.old → OnOk result (StandsFor S.Store t store.new) }
-    ensures kept { IsFaithful S.Store store.new → (t : _) → StandsFor S.Store t store.old → IsUsable S.Store store.new → StandsFor S.Store t store.new }
-    ensures unchanged { IsFaithful S.Store store.new → IsSettled S.Store store.old → IsUsable S.Store store.new → IsAsBefore S.Store store.old store.new }
-    ensures answers { IsFaithful S.Store store.new → OnOk result (IsUsable S.Store store.new) }
-    ensures was_usable { IsFaithful S.Store store.new → IsUsable S.Store store.new → IsUsable S.Store store.old }
-    ensures crash { IsFaithful S.Store store.new → (t : _) → StandsFor S.Store t store.old → LeavesOnly S.Store store.old store.new (λ _. ⊥) }
-    ensures honest { IsFaithful S.Store store.new → IsFaithful S.Store store.old }
+    ensures told { Tells S.Store store.old store.new (λ t. IfOk result (IsHeadIn run t)) }
+    ensures found { Finds S.Store store.old store.new (λ db. IfOk result (IsHeadAt run db)) }
+    ensures asks { Asks S.Store (is_ok result) store.old store.new }
 {
     if !store.has_run(run)? {
         return Err(StoreEnd::Store);

@@ -1,21 +1,19 @@
 // The names that are held, with their numbers.
-ghost use Rattle.std.specs.Prelude.{◌≡◌, ◌≢◌, ◌<◌, false, None, [], map, length, get_or, vec_len, IfOk, IfErr, OnOk, IsTrue, IsPermutation, IfSome};
+ghost use Rattle.std.specs.Prelude.{◌≡◌, ◌≢◌, ◌<◌, false, None, [], map, length, get_or, IfOk, IsTrue, IsPermutation, IfSome};
 ghost use Rattle.std.specs.List.{AllAdjacentBelow};
+ghost use Rattle.std.specs.Result.{is_ok};
 ghost use Rattle.sqlite_trees.specs.Tree.{IsAscending};
-ghost use Rattle.sqlite.specs.Held.{state};
-ghost use Rattle.sqlite.specs.State.{HasCleanDisk, Survives, Shown, FailsToQuery, CommitsShowing};
-ghost use Rattle.prof_tables.specs.Schema.{schema_one};
-ghost use Rattle.prof_tables.specs.Texts.{names_text};
 ghost use Rattle.prof_books.specs.Book.{name_of, IsHeld};
 ghost use Rattle.held_runs.specs.HeadLines.{first_two};
 ghost use Rattle.held_runs.specs.NameLines.{name_line, name_seen, name_shown, has_number};
-ghost use Rattle.prof_store.specs.Shown.{shown, IsFaithful, IsUsable, StandsFor, LeavesOnly, IsSettled, IsAsBefore};
+ghost use Rattle.held_runs.specs.Told.{Tells, Finds};
+ghost use Rattle.prof_store.specs.Shown.{Asks};
 
-use prof_store::Store;
-use sqlite::{Alter, Connection, Error, Row};
+use prof_store::{Store, select};
+use sqlite::{Alter, Row};
 use std::alloc::Global;
 use std::marker::Model;
-use store_columns::{StoreEnd, bytes_at, end_of, number_at};
+use store_columns::{StoreEnd, bytes_at, number_at};
 
 /// A name and its number.
 #[derive(Drop)]
@@ -42,14 +40,6 @@ impl Model for HeldNames {
     ghost view = { λ h. map name_line h.names.items };
 
     ghost invariant = { λ h. IsAscending (λ a b. a.number < b.number) h.names.items };
-}
-
-fn select_names<S: Alter>(conn: &mut Connection<S>) -> Result<Vec<Row>, Error>
-    ensures ok { HasCleanDisk (state S.Store conn.new) → IfOk result (λ rows. Shown names_text [] (state S.Store conn.old) (state S.Store conn.new) rows.items) }
-    ensures err { HasCleanDisk (state S.Store conn.new) → IfErr result (FailsToQuery names_text [] (state S.Store conn.old) (state S.Store conn.new)) }
-    ensures survives { Survives (state S.Store conn.old) (state S.Store conn.new) (CommitsShowing names_text [] (state S.Store conn.old)) }
-{
-    conn.query_all("SELECT id, bytes FROM name ORDER BY id", &[])
 }
 
 fn read_name(row: &Row) -> Result<HeldName, StoreEnd>
@@ -144,19 +134,15 @@ impl HeldNames {
 
 /// The names that are held, in the order of their numbers: read once, for any number of walks.
 pub fn names_of<S: Alter>(store: &mut Store<S>, alloc: Global) -> Result<HeldNames, StoreEnd>
-    ensures told { IsFaithful S.Store store.new → (t : _) → StandsFor S.Store t store.old → IfOk result (λ names. names ≡ t.names) }
-    ensures found { IsFaithful S.Store store.new → (shown S.Store store.old).now.schema ≡ schema_one → IfOk result (λ names. IsPermutation (map name_seen ((shown S.Store store.old).now.trees 11)) (map name_shown names)) }
+    ensures told { Tells S.Store store.old store.new (λ t. IfOk result (λ names. names ≡ t.names)) }
+    ensures found { Finds S.Store store.old store.new (λ db. IfOk result (λ names. IsPermutation (map name_seen (db 11)) (map name_shown names))) }
     ensures rising { IfOk result (IsAscending (λ a b. a.number < b.number)) }
-    ensures kept { IsFaithful S.Store store.new → (t : _) → StandsFor S.Store t store.old → IsUsable S.Store store.new → StandsFor S.Store t store.new }
-    ensures stays { IsFaithful S.Store store.new → (t : _) → StandsFor S.Store t store.old → OnOk result (StandsFor S.Store t store.new) }
-    ensures unchanged { IsFaithful S.Store store.new → IsSettled S.Store store.old → IsUsable S.Store store.new → IsAsBefore S.Store store.old store.new }
-    ensures answers { IsFaithful S.Store store.new → OnOk result (IsUsable S.Store store.new) }
-    ensures was_usable { IsFaithful S.Store store.new → IsUsable S.Store store.new → IsUsable S.Store store.old }
-    ensures crash { IsFaithful S.Store store.new → (t : _) → StandsFor S.Store t store.old → LeavesOnly S.Store store.old store.new (λ _. ⊥) }
-    ensures honest { IsFaithful S.Store store.new → IsFaithful S.Store store.old }
+    ensures asks { Asks S.Store (is_ok result) store.old store.new }
 {
-    match select_names(&mut store.conn) {
-        Ok(rows) => names_in(alloc, &rows),
-        Err(error) => Err(end_of(error)),
-    }
+    let rows = select(
+        &mut store.conn,
+        "SELECT id, bytes FROM name ORDER BY id",
+        &[],
+    )?;
+    names_in(alloc, &rows)
 }

@@ -1,10 +1,12 @@
 // The stacks of a run, one at a time, as they lie in the table.
-ghost use Rattle.std.specs.Prelude.{◌≡◌, IfOk, OnOk};
+ghost use Rattle.std.specs.Prelude.{◌≡◌, IfOk};
+ghost use Rattle.std.specs.Result.{is_ok};
 ghost use Rattle.sql_tables.specs.Walks.{read_from};
 ghost use Rattle.prof_tables.specs.Tables.{stack_columns};
 ghost use Rattle.prof_tables.specs.WalkTexts.{stacks_of};
 ghost use Rattle.store_columns.specs.Lines.{held_stack};
-ghost use Rattle.prof_store.specs.Shown.{IsFaithful, IsUsable, IsSettled, IsAsBefore, StandsFor, LeavesOnly};
+ghost use Rattle.prof_store.specs.Shown.{IsFaithful};
+ghost use Rattle.held_runs.specs.Walks.{AsksIfOpen};
 ghost use Rattle.held_runs.specs.StackWalks.{GivesStacks, GivesStacksOn};
 
 use crate::walks::{Walk, has_row};
@@ -27,13 +29,7 @@ pub(crate) fn next_stack<S: Alter>(
 ) -> Result<Option<HeldStack>, StoreEnd>
     ensures run { walk.new.run ≡ walk.old.run }
     ensures given { IsFaithful S.Store store.new → (given : _) → GivesStacks S.Store given store.old walk.old → IfOk result (GivesStacksOn S.Store given store.new walk.new) }
-    ensures stays { IsFaithful S.Store store.new → (t : _) → StandsFor S.Store t store.old → OnOk result (StandsFor S.Store t store.new) }
-    ensures kept { IsFaithful S.Store store.new → (t : _) → StandsFor S.Store t store.old → IsUsable S.Store store.new → StandsFor S.Store t store.new }
-    ensures unchanged { IsFaithful S.Store store.new → IsSettled S.Store store.old → IsUsable S.Store store.new → IsAsBefore S.Store store.old store.new }
-    ensures usable { IsFaithful S.Store store.new → IsUsable S.Store store.old → OnOk result (IsUsable S.Store store.new) }
-    ensures was_usable { IsFaithful S.Store store.new → IsUsable S.Store store.new → IsUsable S.Store store.old }
-    ensures crash { IsFaithful S.Store store.new → (t : _) → StandsFor S.Store t store.old → LeavesOnly S.Store store.old store.new (λ _. ⊥) }
-    ensures honest { IsFaithful S.Store store.new → IsFaithful S.Store store.old }
+    ensures asks { AsksIfOpen S.Store (is_ok result) store.old store.new }
 {
     if !has_row(store, walk)? {
         return Ok(None);

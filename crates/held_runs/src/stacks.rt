@@ -1,10 +1,12 @@
 // The stacks of a run, one at a time.
 ghost use Rattle.std.specs.Prelude.{◌≡◌, [], Some, None, IfOk, OnOk, MatchResult};
+ghost use Rattle.std.specs.Result.{is_ok};
 ghost use Rattle.prof_books.specs.Book.{stack_held};
 ghost use Rattle.held_runs.specs.HeldStacks.{HasGivenStacks, HasGivenStacksOn, TellsStackRows, plain_held};
 ghost use Rattle.store_columns.specs.Lines.{held_stack};
-ghost use Rattle.prof_store.specs.Shown.{shown, IsFaithful, IsUsable, IsSettled, IsAsBefore, StandsFor, LeavesOnly};
-ghost use Rattle.held_runs.specs.Walks.{IsReady};
+ghost use Rattle.prof_store.specs.Shown.{shown, IsFaithful, StandsFor};
+ghost use Rattle.held_runs.specs.Told.{Tells};
+ghost use Rattle.held_runs.specs.Walks.{IsReady, AsksIfOpen};
 
 use crate::stack_lines::next_stack;
 use crate::walks::{Listed, Walk};
@@ -37,12 +39,7 @@ pub fn stacks_of<S: Alter>(store: &mut Store<S>, run: u32) -> Stacks<'_, S>
     ensures ready { IsReady (shown S.Store store.old) → HasGivenStacks S.Store [] result }
     ensures begun { (t : _) → StandsFor S.Store t store.old → HasGivenStacks S.Store [] result }
     ensures failed { result.failed ≡ None }
-    ensures stays { (t : _) → StandsFor S.Store t store.old → StandsFor S.Store t result.store.now }
-    ensures unchanged { IsSettled S.Store store.old → IsAsBefore S.Store store.old result.store.now }
-    ensures usable { IsUsable S.Store store.old → IsUsable S.Store result.store.now }
-    ensures was_usable { IsUsable S.Store result.store.now → IsUsable S.Store store.old }
-    ensures crash { LeavesOnly S.Store store.old result.store.now (λ _. ⊥) }
-    ensures honest { IsFaithful S.Store result.store.now → IsFaithful S.Store store.old }
+    ensures untouched { result.store.now.conn ≡ store.old.conn }
 {
     store.page.clear();
     Stacks {
@@ -58,13 +55,7 @@ impl<S: Alter> Stacks<'_, S> {
         ensures run { self.new.walk.run ≡ self.old.walk.run }
         ensures failed { self.new.failed ≡ self.old.failed }
         ensures given { IsFaithful S.Store self.new.store.now → (given : _) → HasGivenStacks S.Store given self.old → IfOk result (HasGivenStacksOn S.Store given self.new) }
-        ensures stays { IsFaithful S.Store self.new.store.now → (t : _) → StandsFor S.Store t self.old.store.now → OnOk result (StandsFor S.Store t self.new.store.now) }
-        ensures kept { IsFaithful S.Store self.new.store.now → (t : _) → StandsFor S.Store t self.old.store.now → IsUsable S.Store self.new.store.now → StandsFor S.Store t self.new.store.now }
-        ensures unchanged { IsFaithful S.Store self.new.store.now → IsSettled S.Store self.old.store.now → IsUsable S.Store self.new.store.now → IsAsBefore S.Store self.old.store.now self.new.store.now }
-        ensures usable { IsFaithful S.Store self.new.store.now → IsUsable S.Store self.old.store.now → OnOk result (IsUsable S.Store self.new.store.now) }
-        ensures was_usable { IsFaithful S.Store self.new.store.now → IsUsable S.Store self.new.store.now → IsUsable S.Store self.old.store.now }
-        ensures crash { IsFaithful S.Store self.new.store.now → (t : _) → StandsFor S.Store t self.old.store.now → LeavesOnly S.Store self.old.store.now self.new.store.now (λ _. ⊥) }
-        ensures honest { IsFaithful S.Store self.new.store.now → IsFaithful S.Store self.old.store.now }
+        ensures asks { AsksIfOpen S.Store (is_ok result) self.old.store.now self.new.store.now }
     {
         match next_stack(self.store, &mut self.walk)? {
             Some(line) => Ok(Some(stack_row(line))),
@@ -80,14 +71,8 @@ impl<S: Alter> Stacks<'_, S> {
         ensures failed { MatchResult result (λ _. self.new.failed ≡ self.old.failed) (λ e. self.new.failed ≡ Some e) }
         ensures again { (e : _) → self.old.failed ≡ Some e → (result ≡ Err e) × (self.new.store.now ≡ self.old.store.now) }
         ensures given { IsFaithful S.Store self.new.store.now → (given : _) → HasGivenStacks S.Store given self.old → IfOk result (HasGivenStacksOn S.Store given self.new) }
-        ensures told { IsFaithful S.Store self.new.store.now → (t : _) → StandsFor S.Store t self.old.store.now → (given : _) → HasGivenStacks S.Store given self.old → IfOk result (TellsStackRows self.old.walk.run t given) }
-        ensures stays { IsFaithful S.Store self.new.store.now → (t : _) → StandsFor S.Store t self.old.store.now → OnOk result (StandsFor S.Store t self.new.store.now) }
-        ensures kept { IsFaithful S.Store self.new.store.now → (t : _) → StandsFor S.Store t self.old.store.now → IsUsable S.Store self.new.store.now → StandsFor S.Store t self.new.store.now }
-        ensures unchanged { IsFaithful S.Store self.new.store.now → IsSettled S.Store self.old.store.now → IsUsable S.Store self.new.store.now → IsAsBefore S.Store self.old.store.now self.new.store.now }
-        ensures usable { IsFaithful S.Store self.new.store.now → IsUsable S.Store self.old.store.now → OnOk result (IsUsable S.Store self.new.store.now) }
-        ensures was_usable { IsFaithful S.Store self.new.store.now → IsUsable S.Store self.new.store.now → IsUsable S.Store self.old.store.now }
-        ensures crash { IsFaithful S.Store self.new.store.now → (t : _) → StandsFor S.Store t self.old.store.now → LeavesOnly S.Store self.old.store.now self.new.store.now (λ _. ⊥) }
-        ensures honest { IsFaithful S.Store self.new.store.now → IsFaithful S.Store self.old.store.now }
+        ensures told { Tells S.Store self.old.store.now self.new.store.now (λ t. (given : _) → HasGivenStacks S.Store given self.old → IfOk result (TellsStackRows self.old.walk.run t given)) }
+        ensures asks { AsksIfOpen S.Store (is_ok result) self.old.store.now self.new.store.now }
     {
         if let Some(end) = self.failed {
             return Err(end);

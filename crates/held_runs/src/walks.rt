@@ -1,17 +1,14 @@
 // Walks over the rows of a run.
-ghost use Rattle.std.specs.Prelude.{◌≡◌, ◌⊎◌, ◌++◌, ◌∷◌, [], ◌≤◌, ◌<◌, true, false, pos, map, drop, IfOk, IfErr, OnOk, OnErr, vec_len, filter};
-ghost use Rattle.sqlite.specs.State.{HasCleanDisk, Survives, QueriesRow, CommitsShowing, Shown, FailsToQuery};
-ghost use Rattle.sqlite.specs.Held.{state};
-ghost use Rattle.sqlite_value.specs.declared.value.Value.TheVariants.{Int};
-ghost use Rattle.sqlite_value.specs.Order.{column};
+ghost use Rattle.std.specs.Prelude.{◌≡◌, [], true, false, map, drop, IfOk, OnOk, filter};
+ghost use Rattle.std.specs.Result.{is_ok};
 ghost use Rattle.sqlite_trees.specs.Tree.{IsTable};
-ghost use Rattle.prof_store.specs.Shown.{shown, IsFaithful, IsUsable, IsSettled, IsAsBefore, StandsFor, LeavesOnly};
+ghost use Rattle.prof_store.specs.Shown.{shown, Asks, IsFaithful};
 ghost use Rattle.sql_tables.specs.Walks.{in_page, in_window, Lie};
-ghost use Rattle.held_runs.specs.Walks.{tree_of, window_text_of, ends_text_of, asked, rows_of, IsSpanIn, IsReady, Walks, HasWalked};
+ghost use Rattle.held_runs.specs.Walks.{window_text_of, ends_text_of, asked, page_of, rows_of, IsSpanIn, IsReady, AsksIfOpen, WalksOn, Walks};
 
-use prof_store::Store;
-use sqlite::{Alter, Connection, Error, Row, params};
-use store_columns::{StoreEnd, end_of, number_at, number_or_null_at};
+use prof_store::{Store, select, select_row};
+use sqlite::{Alter, Row, params};
+use store_columns::{StoreEnd, number_at, number_or_null_at};
 
 /// A table whose rows are lines of runs.
 #[derive(Clone, Copy, Debug, PartialEq, Eq)]
@@ -87,27 +84,6 @@ fn ends_text(table: Listed) -> &'static str
     }
 }
 
-fn select_window<S: Alter>(
-    conn: &mut Connection<S>,
-    table: Listed,
-    run: u32,
-    low: u32,
-    high: u32,
-) -> Result<Vec<Row>, Error>
-    ensures ok { HasCleanDisk (state S.Store conn.new) → IfOk result (λ rows. Shown (window_text_of table) (Int (pos run) ∷ Int (pos low) ∷ Int (pos high) ∷ []) (state S.Store conn.old) (state S.Store conn.new) rows.items) }
-    ensures err { HasCleanDisk (state S.Store conn.new) → IfErr result (FailsToQuery (window_text_of table) (Int (pos run) ∷ Int (pos low) ∷ Int (pos high) ∷ []) (state S.Store conn.old) (state S.Store conn.new)) }
-    ensures survives { Survives (state S.Store conn.old) (state S.Store conn.new) (CommitsShowing (window_text_of table) (Int (pos run) ∷ Int (pos low) ∷ Int (pos high) ∷ []) (state S.Store conn.old)) }
-{
-    conn.query_all(window_text(table), params![run, low, high])
-}
-
-fn select_ends<S: Alter>(conn: &mut Connection<S>, table: Listed, run: u32) -> Result<Row, Error>
-    ensures row { HasCleanDisk (state S.Store conn.new) → QueriesRow (ends_text_of table) (Int (pos run) ∷ []) (state S.Store conn.old) (state S.Store conn.new) result }
-    ensures survives { Survives (state S.Store conn.old) (state S.Store conn.new) (CommitsShowing (ends_text_of table) (Int (pos run) ∷ []) (state S.Store conn.old)) }
-{
-    conn.query_row(ends_text(table), params![run])
-}
-
 /// Refuses rows whose rowids do not rise from above `low`.
 fn rise(rows: &[Row], low: u32) -> Result<(), StoreEnd>
     ensures { OnOk result (IsTable rows.now) }
@@ -143,20 +119,11 @@ fn span_in(row: &Row) -> Result<Span, StoreEnd>
 /// Where the rows of a run lie.
 fn span_of<S: Alter>(store: &mut Store<S>, table: Listed, run: u32) -> Result<Span, StoreEnd>
     ensures lie { IsFaithful S.Store store.new → IsReady (shown S.Store store.old) → IfOk result (λ span. Lie (asked table run) (rows_of S.Store table store.new) span.low span.top) }
-    ensures same { IsFaithful S.Store store.new → IsReady (shown S.Store store.old) → OnOk result ((shown S.Store store.new).now ≡ (shown S.Store store.old).now) }
     ensures page { store.new.page ≡ store.old.page }
-    ensures stays { IsFaithful S.Store store.new → (t : _) → StandsFor S.Store t store.old → OnOk result (StandsFor S.Store t store.new) }
-    ensures kept { IsFaithful S.Store store.new → (t : _) → StandsFor S.Store t store.old → IsUsable S.Store store.new → StandsFor S.Store t store.new }
-    ensures unchanged { IsFaithful S.Store store.new → IsSettled S.Store store.old → IsUsable S.Store store.new → IsAsBefore S.Store store.old store.new }
-    ensures usable { IsFaithful S.Store store.new → IsUsable S.Store store.old → OnOk result (IsUsable S.Store store.new) }
-    ensures was_usable { IsFaithful S.Store store.new → IsUsable S.Store store.new → IsUsable S.Store store.old }
-    ensures crash { IsFaithful S.Store store.new → (t : _) → StandsFor S.Store t store.old → LeavesOnly S.Store store.old store.new (λ _. ⊥) }
-    ensures honest { IsFaithful S.Store store.new → IsFaithful S.Store store.old }
+    ensures asks { Asks S.Store (is_ok result) store.old store.new }
 {
-    match select_ends(&mut store.conn, table, run) {
-        Ok(row) => span_in(&row),
-        Err(error) => Err(end_of(error)),
-    }
+    let row = select_row(&mut store.conn, ends_text(table), params![run])?;
+    span_in(&row)
 }
 
 /// Reads the rows of a window into the page.
@@ -167,23 +134,12 @@ fn load<S: Alter>(
     low: u32,
     high: u32,
 ) -> Result<(), StoreEnd>
-    ensures loaded { IsFaithful S.Store store.new → IsReady (shown S.Store store.old) → OnOk result (store.new.page.items ≡ map (in_page (asked table run)) (filter (in_window (asked table run) low high) (rows_of S.Store table store.old))) }
-    ensures same { IsFaithful S.Store store.new → IsReady (shown S.Store store.old) → OnOk result ((shown S.Store store.new).now ≡ (shown S.Store store.old).now) }
-    ensures stays { IsFaithful S.Store store.new → (t : _) → StandsFor S.Store t store.old → OnOk result (StandsFor S.Store t store.new) }
-    ensures kept { IsFaithful S.Store store.new → (t : _) → StandsFor S.Store t store.old → IsUsable S.Store store.new → StandsFor S.Store t store.new }
-    ensures unchanged { IsFaithful S.Store store.new → IsSettled S.Store store.old → IsUsable S.Store store.new → IsAsBefore S.Store store.old store.new }
-    ensures usable { IsFaithful S.Store store.new → IsUsable S.Store store.old → OnOk result (IsUsable S.Store store.new) }
-    ensures was_usable { IsFaithful S.Store store.new → IsUsable S.Store store.new → IsUsable S.Store store.old }
-    ensures crash { IsFaithful S.Store store.new → (t : _) → StandsFor S.Store t store.old → LeavesOnly S.Store store.old store.new (λ _. ⊥) }
-    ensures honest { IsFaithful S.Store store.new → IsFaithful S.Store store.old }
+    ensures loaded { IsFaithful S.Store store.new → IsReady (shown S.Store store.old) → OnOk result (store.new.page.items ≡ page_of table run low high (rows_of S.Store table store.old)) }
+    ensures asks { Asks S.Store (is_ok result) store.old store.new }
 {
-    match select_window(&mut store.conn, table, run, low, high) {
-        Ok(rows) => {
-            store.page = rows;
-            rise(&store.page, low)
-        }
-        Err(error) => Err(end_of(error)),
-    }
+    let rows = select(&mut store.conn, window_text(table), params![run, low, high])?;
+    store.page = rows;
+    rise(&store.page, low)
 }
 
 /// Finds out where the rows of the walk lie.
@@ -194,13 +150,7 @@ fn place<S: Alter>(store: &mut Store<S>, walk: &mut Walk) -> Result<(), StoreEnd
     ensures at { walk.new.at ≡ walk.old.at }
     ensures placed { OnOk result (walk.new.placed ≡ true) }
     ensures moved { IsFaithful S.Store store.new → (given : _) → Walks S.Store given store.old walk.old → OnOk result (Walks S.Store given store.new walk.new) }
-    ensures stays { IsFaithful S.Store store.new → (t : _) → StandsFor S.Store t store.old → OnOk result (StandsFor S.Store t store.new) }
-    ensures kept { IsFaithful S.Store store.new → (t : _) → StandsFor S.Store t store.old → IsUsable S.Store store.new → StandsFor S.Store t store.new }
-    ensures unchanged { IsFaithful S.Store store.new → IsSettled S.Store store.old → IsUsable S.Store store.new → IsAsBefore S.Store store.old store.new }
-    ensures usable { IsFaithful S.Store store.new → IsUsable S.Store store.old → OnOk result (IsUsable S.Store store.new) }
-    ensures was_usable { IsFaithful S.Store store.new → IsUsable S.Store store.new → IsUsable S.Store store.old }
-    ensures crash { IsFaithful S.Store store.new → (t : _) → StandsFor S.Store t store.old → LeavesOnly S.Store store.old store.new (λ _. ⊥) }
-    ensures honest { IsFaithful S.Store store.new → IsFaithful S.Store store.old }
+    ensures asks { AsksIfOpen S.Store (is_ok result) store.old store.new }
 {
     if !walk.placed {
         let span = span_of(store, walk.table, walk.run)?;
@@ -215,14 +165,8 @@ fn place<S: Alter>(store: &mut Store<S>, walk: &mut Walk) -> Result<(), StoreEnd
 fn turn<S: Alter>(store: &mut Store<S>, walk: &mut Walk) -> Result<bool, StoreEnd>
     ensures table { walk.new.table ≡ walk.old.table }
     ensures run { walk.new.run ≡ walk.old.run }
-    ensures moved { IsFaithful S.Store store.new → (given : _) → Walks S.Store given store.old walk.old → drop walk.old.at store.old.page.items ≡ [] → IfOk result (λ more. Walks S.Store given store.new walk.new × (more ≡ false → HasWalked S.Store given store.new walk.new)) }
-    ensures stays { IsFaithful S.Store store.new → (t : _) → StandsFor S.Store t store.old → OnOk result (StandsFor S.Store t store.new) }
-    ensures kept { IsFaithful S.Store store.new → (t : _) → StandsFor S.Store t store.old → IsUsable S.Store store.new → StandsFor S.Store t store.new }
-    ensures unchanged { IsFaithful S.Store store.new → IsSettled S.Store store.old → IsUsable S.Store store.new → IsAsBefore S.Store store.old store.new }
-    ensures usable { IsFaithful S.Store store.new → IsUsable S.Store store.old → OnOk result (IsUsable S.Store store.new) }
-    ensures was_usable { IsFaithful S.Store store.new → IsUsable S.Store store.new → IsUsable S.Store store.old }
-    ensures crash { IsFaithful S.Store store.new → (t : _) → StandsFor S.Store t store.old → LeavesOnly S.Store store.old store.new (λ _. ⊥) }
-    ensures honest { IsFaithful S.Store store.new → IsFaithful S.Store store.old }
+    ensures moved { IsFaithful S.Store store.new → (given : _) → Walks S.Store given store.old walk.old → drop walk.old.at store.old.page.items ≡ [] → IfOk result (WalksOn S.Store given store.new walk.new) }
+    ensures asks { AsksIfOpen S.Store (is_ok result) store.old store.new }
 {
     place(store, walk)?;
     if walk.low >= walk.top {
@@ -243,14 +187,8 @@ fn turn<S: Alter>(store: &mut Store<S>, walk: &mut Walk) -> Result<bool, StoreEn
 pub(crate) fn has_row<S: Alter>(store: &mut Store<S>, walk: &mut Walk) -> Result<bool, StoreEnd>
     ensures table { walk.new.table ≡ walk.old.table }
     ensures run { walk.new.run ≡ walk.old.run }
-    ensures moved { IsFaithful S.Store store.new → (given : _) → Walks S.Store given store.old walk.old → IfOk result (λ more. Walks S.Store given store.new walk.new × (more ≡ false → HasWalked S.Store given store.new walk.new)) }
-    ensures stays { IsFaithful S.Store store.new → (t : _) → StandsFor S.Store t store.old → OnOk result (StandsFor S.Store t store.new) }
-    ensures kept { IsFaithful S.Store store.new → (t : _) → StandsFor S.Store t store.old → IsUsable S.Store store.new → StandsFor S.Store t store.new }
-    ensures unchanged { IsFaithful S.Store store.new → IsSettled S.Store store.old → IsUsable S.Store store.new → IsAsBefore S.Store store.old store.new }
-    ensures usable { IsFaithful S.Store store.new → IsUsable S.Store store.old → OnOk result (IsUsable S.Store store.new) }
-    ensures was_usable { IsFaithful S.Store store.new → IsUsable S.Store store.new → IsUsable S.Store store.old }
-    ensures crash { IsFaithful S.Store store.new → (t : _) → StandsFor S.Store t store.old → LeavesOnly S.Store store.old store.new (λ _. ⊥) }
-    ensures honest { IsFaithful S.Store store.new → IsFaithful S.Store store.old }
+    ensures moved { IsFaithful S.Store store.new → (given : _) → Walks S.Store given store.old walk.old → IfOk result (WalksOn S.Store given store.new walk.new) }
+    ensures asks { AsksIfOpen S.Store (is_ok result) store.old store.new }
 {
     'pages: for _ in 0..u64::MAX {
         if walk.at < store.page.len() {

@@ -1,56 +1,28 @@
-use Rattle.std.proofs.Common.{◌∙◌, [], ◌∷◌, map, ap, refl, subst, IsPermutation}
+use Rattle.std.specs.Result.{is_ok}
+use Rattle.std.proofs.Common.{◌∙◌, map, ap, refl, subst, IsPermutation}
 use Rattle.sqlite_exec.proofs.MarkLemmas.{if_ok_then}
+use Rattle.sql_tables.proofs.Calls.{asked_err, asked_if}
+use Rattle.prof_tables.specs.Schema.{schema_one}
 use Rattle.prof_tables.specs.Seen.{derived_seen}
-use Rattle.prof_tables.specs.Texts.{derived_of_text}
-use Rattle.prof_tables.specs.Tables.{Holds, number}
 use Rattle.prof_tables.proofs.Means.{derived_of_plain}
 use Rattle.prof_tables.proofs.RunLists.{derived_listed, derived_are}
 use Rattle.held_runs.specs.HeadLines.{derived_columns, first_two}
 use Rattle.prof_store.proofs.Listing.{read_permutes}
-use Rattle.prof_store.proofs.Reading.{on_ok, same_after, rows_stay, fails_kept, leaves_nothing, rows_as_before, fails_as_before}
-use Rattle.sql_tables.proofs.Opens.{shown_open, fails_was_open}
 use Rattle.held_runs.proofs.head_lines.derived_of.Goals as goal
 
-pub returns-in-Ok-clause-told : goal.returns-in-Ok-clause-told
-returns-in-Ok-clause-told g c clean t was =
-    let p = derived_listed c.args.run _ _ c.in-Ok.rows.items was.schema_is (c.in-Ok.ensures.ok clean) in
+pub returns-clause-told : goal.returns-clause-told
+returns-clause-told g c clean t was =
+    let p = derived_listed c.args.run _ _ c.in_ok-rows.rows.items was.schema_is (rw c.params-to_sql.ensures at (c.in_ok-rows.ensures.rows clean)) in
     if_ok_then c.derived_in.result c.derived_in.ensures.read (λ lines is.
-    subst (λ l. IsPermutation l (map derived_columns lines.items)) (derived_are t _ was.holds c.args.run) (read_permutes derived_seen first_two derived_columns (λ r. refl) _ c.in-Ok.rows.items lines.items p (is ∙ ap (map first_two) c.deref.ensures.value)))
+    subst (λ l. IsPermutation l (map derived_columns lines.items)) (derived_are t _ was.holds c.args.run) (read_permutes derived_seen first_two derived_columns (λ r. refl) _ c.in_ok-rows.rows.items lines.items p (is ∙ ap (map first_two) c.deref.ensures.value)))
 
-pub returns-in-Ok-clause-found : goal.returns-in-Ok-clause-found
-returns-in-Ok-clause-found g c clean has =
-    let p = derived_listed c.args.run _ _ c.in-Ok.rows.items has (c.in-Ok.ensures.ok clean) in
-    if_ok_then c.derived_in.result c.derived_in.ensures.read (λ lines is. read_permutes derived_seen first_two derived_columns (λ r. refl) _ c.in-Ok.rows.items lines.items p (is ∙ ap (map first_two) c.deref.ensures.value))
+pub returns-clause-found : goal.returns-clause-found
+returns-clause-found g c clean has =
+    let p = derived_listed c.args.run _ _ c.in_ok-rows.rows.items has (rw c.params-to_sql.ensures at (c.in_ok-rows.ensures.rows clean)) in
+    if_ok_then c.derived_in.result c.derived_in.ensures.read (λ lines is. read_permutes derived_seen first_two derived_columns (λ r. refl) _ c.in_ok-rows.rows.items lines.items p (is ∙ ap (map first_two) c.deref.ensures.value))
 
-pub returns-in-Ok-clause-same : goal.returns-in-Ok-clause-same
-returns-in-Ok-clause-same g c clean has = on_ok _ c.derived_in.result (same_after derived_of_text (number c.args.run ∷ []) derived_of_plain _ _ has c.in-Ok.rows.items (c.in-Ok.ensures.ok clean))
+pub returns-clause-asks : goal.returns-clause-asks
+returns-clause-asks g c clean = asked_if schema_one (is_ok c.derived_in.result) _ _ (c.in_ok-rows.ensures.asked clean derived_of_plain)
 
-pub returns-in-Ok-clause-kept : goal.returns-in-Ok-clause-kept
-returns-in-Ok-clause-kept g c clean t was is_open = rows_stay derived_of_text (number c.args.run ∷ []) derived_of_plain (Holds t) _ _ was c.in-Ok.rows.items (c.in-Ok.ensures.ok clean)
-
-pub returns-in-Ok-clause-stays : goal.returns-in-Ok-clause-stays
-returns-in-Ok-clause-stays g c clean t was = on_ok _ c.derived_in.result (rows_stay derived_of_text (number c.args.run ∷ []) derived_of_plain (Holds t) _ _ was c.in-Ok.rows.items (c.in-Ok.ensures.ok clean))
-
-pub returns-in-Ok-clause-crash : goal.returns-in-Ok-clause-crash
-returns-in-Ok-clause-crash g c clean t was = leaves_nothing derived_of_text (number c.args.run ∷ []) derived_of_plain (Holds t) _ _ was c.select_derived.ensures.survives clean
-
-pub returns-in-Err-clause-kept : goal.returns-in-Err-clause-kept
-returns-in-Err-clause-kept g c clean t was is_open = fails_kept derived_of_text (number c.args.run ∷ []) derived_of_plain (Holds t) _ _ was _ (c.in-Err.ensures.err clean) is_open
-
-pub returns-in-Err-clause-crash : goal.returns-in-Err-clause-crash
-returns-in-Err-clause-crash g c clean t was = leaves_nothing derived_of_text (number c.args.run ∷ []) derived_of_plain (Holds t) _ _ was c.select_derived.ensures.survives clean
-
-pub returns-in-Ok-clause-unchanged : goal.returns-in-Ok-clause-unchanged
-returns-in-Ok-clause-unchanged g c clean was is_open = rows_as_before derived_of_text (number c.args.run ∷ []) derived_of_plain g.S.Store _ _ was c.in-Ok.rows.items (c.in-Ok.ensures.ok clean) is_open
-
-pub returns-in-Err-clause-unchanged : goal.returns-in-Err-clause-unchanged
-returns-in-Err-clause-unchanged g c clean was is_open = fails_as_before derived_of_text (number c.args.run ∷ []) derived_of_plain g.S.Store _ _ was _ (c.in-Err.ensures.err clean) is_open
-
-pub returns-in-Ok-clause-answers : goal.returns-in-Ok-clause-answers
-returns-in-Ok-clause-answers g c clean = on_ok _ c.derived_in.result (shown_open _ _ _ _ _ (c.in-Ok.ensures.ok clean)).is_open
-
-pub returns-in-Ok-clause-was_usable : goal.returns-in-Ok-clause-was_usable
-returns-in-Ok-clause-was_usable g c clean is_open = (shown_open _ _ _ _ _ (c.in-Ok.ensures.ok clean)).was_open
-
-pub returns-in-Err-clause-was_usable : goal.returns-in-Err-clause-was_usable
-returns-in-Err-clause-was_usable g c clean is_open = fails_was_open _ _ _ _ _ (c.in-Err.ensures.err clean) is_open
+pub returns-in_err-rows-clause-asks : goal.returns-in_err-rows-clause-asks
+returns-in_err-rows-clause-asks g c clean = asked_err schema_one c.from_residual.result _ _ c.from_residual.ensures.0 (c.in_err-rows.ensures.asked clean derived_of_plain)

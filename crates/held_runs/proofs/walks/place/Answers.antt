@@ -1,7 +1,9 @@
+use Rattle.std.proofs.Common.{refl}
 use Rattle.held_runs.proofs.WalkSteps.{placed_step}
 use Rattle.held_runs.proofs.walks.place.Goals as goal
 
 pub returns-in_ok-span-clause-moved : goal.returns-in_ok-span-clause-moved
 returns-in_ok-span-clause-moved g c clean given was =
     let e = c.in_ok-span.ensures in
-    placed_step g.S.Store given c.args.store.now c.span_of.new.store c.args.walk.now c.in_ok-span.span.low c.in_ok-span.span.top c.if-not-walk.true (e.same clean was.ready) e.page (e.lie clean was.ready) was
+    let same = (e.asks clean).same refl was.ready.schema_is in
+    placed_step g.S.Store given c.args.store.now c.span_of.new.store c.args.walk.now c.in_ok-span.span.low c.in_ok-span.span.top c.if-not-walk.true same e.page (e.lie clean was.ready) was

@@ -1,8 +1,10 @@
-use Rattle.std.proofs.Common.{List, Ok, subst, subst₂, ◌∙◌}
+use Rattle.std.proofs.Common.{List, subst, subst₂, ◌∙◌}
 use Rattle.std.specs.List.{AllByRecursion}
 use Rattle.prof_tables.specs.RunLines.{arcs_in}
-use Rattle.prof_tables.specs.Tables.{NameLine}
 use Rattle.prof_books.specs.Book.{ArcIsNamed}
+use Rattle.sql_tables.proofs.Calls.{asked_rests_yet}
+use Rattle.prof_tables.specs.Schema.{schema_one}
+use Rattle.prof_tables.specs.Tables.{Holds, NameLine}
 use Rattle.held_runs.specs.HeldArcs.{HasGivenArcsOn, TellsArcRows}
 use Rattle.held_runs.proofs.ArcRows.{tells_arc_rows, arcs_are_named}
 use Rattle.held_runs.proofs.arcs.Arcs.next.Goals as goal
@@ -10,10 +12,10 @@ use Rattle.held_runs.proofs.arcs.Arcs.next.Goals as goal
 pub returns-in-Ok-clause-told : goal.returns-in-Ok-clause-told
 returns-in-Ok-clause-told g c clean t was names given has =
     let e = c.in-Ok.ensures in
-    subst (λ run. TellsArcRows run t given c.in-Ok.row) e.run (tells_arc_rows g.S.Store t c.row.new.self given (Ok c.in-Ok.row) (e.names ∙ names) (e.stays clean t was) (e.given clean given has))
+    subst (λ run. TellsArcRows run t given c.in-Ok.row) e.run (tells_arc_rows g.S.Store t c.row.new.self given c.in-Ok.row (e.names ∙ names) (asked_rests_yet schema_one (Holds t) _ _ (e.asks clean) was) (e.given clean given has))
 
 pub returns-in-Ok-clause-named : goal.returns-in-Ok-clause-named
 returns-in-Ok-clause-named g c clean t was given has none =
     let e = c.in-Ok.ensures in
     let all = subst (HasGivenArcsOn g.S.Store given c.row.new.self) none (e.given clean given has) in
-    subst₂ (λ (n : List NameLine) run. AllByRecursion (ArcIsNamed n) (arcs_in run t)) e.names e.run (arcs_are_named g.S.Store t c.row.new.self given (e.stays clean t was) all)
+    subst₂ (λ (n : List NameLine) run. AllByRecursion (ArcIsNamed n) (arcs_in run t)) e.names e.run (arcs_are_named g.S.Store t c.row.new.self given (asked_rests_yet schema_one (Holds t) _ _ (e.asks clean) was) all)

@@ -18,7 +18,7 @@ returns-clause-given g c clean given was =
     let k = c.in_ok-costs.ensures in
     let first = arc_line c.in-Some.first in
     let names = k.names ∙ l.names in
-    let taken = subst (HasTakenArc g.S.Store was.lines mid) c.in-Some.is (l.taken (k.honest clean) was.lines was.used) in
+    let taken = subst (HasTakenArc g.S.Store was.lines mid) c.in-Some.is (l.taken (k.asks clean).stays.was_clean was.lines was.used) in
     let used = k.used clean (was.lines ++ first ∷ []) (used_none g.S.Store (was.lines ++ first ∷ []) mid taken.0 taken.1) in
     one_row g.S.Store given c.args.self.now c.costs.new.self first c.in_ok-costs.costs c.in_ok-row.row names c.if-first-ne0.false was used
     (subst (λ (n : List NameLine). plain_given c.in_ok-row.row ≡ row_of n first c.in_ok-costs.costs) names c.in_ok-row.ensures.row) (subst (λ (n : List NameLine). ArcIsNamed n first) names c.in_ok-row.ensures.named)
