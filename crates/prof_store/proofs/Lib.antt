@@ -4,3 +4,4 @@ mod HeldSums
 pub mod Listing
 pub mod Reading
 pub mod Writing
+mod Opening

@@ -1,5 +1,6 @@
 pub mod Entries
 pub mod Groups
+pub mod Schemas
 pub mod Shown
 pub mod Statements
 pub mod Totals

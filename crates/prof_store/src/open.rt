@@ -1,15 +1,18 @@
 // A store is taken up and handed back.
-ghost use Rattle.std.specs.Prelude.{◌≡◌, ◌≢◌, pos, [], Ok, Err, IfOk, IfErr, OnOk, IsTrue};
+ghost use Rattle.std.specs.Prelude.{◌≡◌, ◌≢◌, pos, [], true, false, Ok, Err, IfOk, IfErr};
+ghost use Rattle.std.specs.Result.{is_ok};
 ghost use Rattle.sqlite.specs.Held.{state};
 ghost use Rattle.sqlite.specs.State.{HasCleanDisk, Survives, QueriesRow, CommitsShowing};
 ghost use Rattle.sqlite_value.specs.declared.value.Value.TheVariants.{Int};
 ghost use Rattle.sqlite_value.specs.Order.{column};
 ghost use Rattle.sqlite_rules.specs.Lists.{Has};
-ghost use Rattle.sql_tables.specs.States.{Rests, LeavesOnly as Leaves};
+ghost use Rattle.sql_tables.specs.Calls.{Asked};
+ghost use Rattle.sql_tables.specs.States.{Rests};
 ghost use Rattle.prof_tables.specs.Schema.{schema_one};
 ghost use Rattle.prof_tables.specs.Tables.{Holds};
 ghost use Rattle.prof_tables.specs.Texts.{schema_text};
-ghost use Rattle.prof_store.specs.Shown.{shown, IsFaithful, StandsFor};
+ghost use Rattle.prof_store.specs.Schemas.{Reads};
+ghost use Rattle.prof_store.specs.Shown.{shown, IsFaithful};
 ghost use Rattle.sqlite.specs.declared.error.Error.TheVariants as errors;
 ghost use Rattle.store_columns.specs.declared.errors.OpenEnd.TheVariants as ends;
 
@@ -42,29 +45,26 @@ fn schema_of<S: Alter>(conn: &mut Connection<S>) -> Result<u32, OpenEnd>
     ensures found { HasCleanDisk (state S.Store conn.new) → (state S.Store conn.old).now.schema ≡ schema_one → IfOk result (λ n. (r : _) × Has ((state S.Store conn.old).now.trees 0) r × (column r 2 ≡ Int (pos n))) }
     ensures told { HasCleanDisk (state S.Store conn.new) → (t : _) → Rests schema_one (Holds t) (state S.Store conn.old) → IfOk result (λ n. n ≡ 1) }
     ensures right { HasCleanDisk (state S.Store conn.new) → (state S.Store conn.old).now.schema ≡ schema_one → IfErr result (λ e. e ≢ ends.WrongSchema) }
-    ensures stays { HasCleanDisk (state S.Store conn.new) → (t : _) → Rests schema_one (Holds t) (state S.Store conn.old) → OnOk result (Rests schema_one (Holds t) (state S.Store conn.new)) }
-    ensures kept { HasCleanDisk (state S.Store conn.new) → (t : _) → Rests schema_one (Holds t) (state S.Store conn.old) → IsTrue (state S.Store conn.new).is_open → Rests schema_one (Holds t) (state S.Store conn.new) }
-    ensures crash { HasCleanDisk (state S.Store conn.new) → (t : _) → Rests schema_one (Holds t) (state S.Store conn.old) → Leaves (state S.Store conn.old) (state S.Store conn.new) (λ _. ⊥) }
-    ensures honest { HasCleanDisk (state S.Store conn.new) → HasCleanDisk (state S.Store conn.old) }
+    ensures shows { HasCleanDisk (state S.Store conn.new) → IfOk result (Reads (state S.Store conn.old) (state S.Store conn.new)) }
+    ensures asked { HasCleanDisk (state S.Store conn.new) → Asked (state S.Store conn.old).now.schema (is_ok result) (state S.Store conn.old) (state S.Store conn.new) }
 {
     let answer = select_schema(conn);
     schema_in(answer)
 }
 
 impl<S: Alter> Store<S> {
-    /// Takes up a store. A refusal hands the connection back.
+    /// Takes up the store of a database, whatever its tables are. It reads the number of the schema and
+    /// changes nothing: what stands, the last commit and what a crash may leave are as before, taken up or
+    /// refused. A refusal hands the connection back.
     pub fn open(
         alloc: Global,
         mut conn: Connection<S>,
     ) -> Result<Store<S>, (OpenEnd, Connection<S>)>
-        ensures done { IfOk result (λ store. IsFaithful S.Store store → (t : _) → Rests schema_one (Holds t) (state S.Store conn) → StandsFor S.Store t store) }
+        ensures shows { IfOk result (λ store. IsFaithful S.Store store → Reads (state S.Store conn) (shown S.Store store) 1) }
         ensures found { IfOk result (λ store. IsFaithful S.Store store → (state S.Store conn).now.schema ≡ schema_one → (r : _) × Has ((state S.Store conn).now.trees 0) r × (column r 2 ≡ Int (pos 1))) }
         ensures right { IfErr result (λ e. HasCleanDisk (state S.Store e.1) → (t : _) → Rests schema_one (Holds t) (state S.Store conn) → e.0 ≢ ends.WrongSchema) }
-        ensures kept { IfErr result (λ e. HasCleanDisk (state S.Store e.1) → (t : _) → Rests schema_one (Holds t) (state S.Store conn) → IsTrue (state S.Store e.1).is_open → Rests schema_one (Holds t) (state S.Store e.1)) }
-        ensures crash { IfOk result (λ store. IsFaithful S.Store store → (t : _) → Rests schema_one (Holds t) (state S.Store conn) → Leaves (state S.Store conn) (shown S.Store store) (λ _. ⊥)) }
-        ensures crash_refused { IfErr result (λ e. HasCleanDisk (state S.Store e.1) → (t : _) → Rests schema_one (Holds t) (state S.Store conn) → Leaves (state S.Store conn) (state S.Store e.1) (λ _. ⊥)) }
-        ensures honest { IfOk result (λ store. IsFaithful S.Store store → HasCleanDisk (state S.Store conn)) }
-        ensures honest_refused { IfErr result (λ e. HasCleanDisk (state S.Store e.1) → HasCleanDisk (state S.Store conn)) }
+        ensures asked { IfOk result (λ store. IsFaithful S.Store store → Asked (state S.Store conn).now.schema true (state S.Store conn) (shown S.Store store)) }
+        ensures refused { IfErr result (λ e. HasCleanDisk (state S.Store e.1) → Asked (state S.Store conn).now.schema false (state S.Store conn) (state S.Store e.1)) }
     {
         match schema_of(&mut conn) {
             Ok(1) => Ok(Store {

@@ -195,7 +195,7 @@ module _ (schema : Schema) {M : Type 0} (Before After : M → Trees → Type 0) 
 
 -- ---- statements
 
-stays_by : {C : Trees → Type 0} (ok : Bool) (old new : State) → Survives old new C → HasCleanDisk new → WasOpen old new → (IsTrue ok → IsTrue new.is_open) → Stays ok old new
+pub stays_by : {C : Trees → Type 0} (ok : Bool) (old new : State) → Survives old new C → HasCleanDisk new → WasOpen old new → (IsTrue ok → IsTrue new.is_open) → Stays ok old new
 stays_by ok old new h clean was_open is_open = record { was_clean = omega (arith, h.clean, clean); counts = h.counts; closes = h.closes clean; was_open = was_open; is_open = is_open }
 
 module _ (schema : Schema) (sql : List ℕ) (params : Row) (plain : IsPlain (understood schema sql)) (old new : State) (clean : HasCleanDisk new) (survives : Survives old new (CommitsShowing sql params old)) where

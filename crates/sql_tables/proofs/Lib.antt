@@ -7,6 +7,7 @@ pub mod Deletes
 pub mod Effects
 pub mod Ends
 pub mod Failures
+pub mod Foreign
 pub mod InPlace
 pub mod Inserts
 pub mod Many

@@ -1,13 +1,18 @@
-use Rattle.std.proofs.Common.{◌∙◌, [], sym, subst}
+use Rattle.std.proofs.Common.{◌≡◌, ◌∙◌, [], pos, sym, subst}
+use Rattle.sqlite_value.specs.declared.value.Value.TheVariants.{Int}
+use Rattle.sqlite_value.specs.Order.{column}
 use Rattle.sqlite.specs.State.{QueriesRow}
 use Rattle.sqlite_exec.proofs.MarkLemmas.{if_ok_then}
 use Rattle.sql_tables.proofs.Failures.{never_blames}
 use Rattle.prof_tables.specs.Texts.{schema_text}
-use Rattle.prof_tables.specs.Tables.{Holds}
 use Rattle.prof_tables.proofs.Means.{schema_means, schema_plain}
 use Rattle.prof_tables.proofs.Finds.{schema_found, schema_is}
 use Rattle.prof_tables.specs.Schema.{schema_one}
-use Rattle.prof_store.proofs.Reading.{if_err_then, row_kept, row_stays, leaves_nothing}
+use Rattle.prof_store.proofs.Reading.{if_err_then}
+use Rattle.sqlite_resolve.specs.Compile.{first}
+use Rattle.sqlite_tied.specs.Compute.{everything}
+use Rattle.sql_tables.proofs.Foreign.{QueriesText}
+use Rattle.prof_store.proofs.Opening.{row_read}
 use Rattle.prof_store.proofs.open.schema_of.Goals as goal
 
 pub returns-clause-found : goal.returns-clause-found
@@ -25,12 +30,13 @@ returns-clause-right g c clean has = if_err_then c.schema_in.result c.schema_in.
     let it = wrong is in
     never_blames schema_one schema_text _ _ schema_means schema_plain [] _ _ has it.0 (subst (QueriesRow schema_text [] _ _) it.1 (c.select_schema-answer.ensures.row clean)))
 
-pub returns-clause-stays : goal.returns-clause-stays
-returns-clause-stays g c clean t was = if_ok_then c.schema_in.result c.schema_in.ensures.read (λ n is.
-    row_stays schema_text [] schema_plain (Holds t) _ _ was is.0 (subst (QueriesRow schema_text [] _ _) is.1 (c.select_schema-answer.ensures.row clean)))
+schema_query : QueriesText schema_text
+unfolding first everything
+schema_query = tt
 
-pub returns-clause-kept : goal.returns-clause-kept
-returns-clause-kept g c clean t was is_open = row_kept schema_text [] schema_plain (Holds t) _ _ was _ (c.select_schema-answer.ensures.row clean) is_open
+pub returns-clause-shows : goal.returns-clause-shows
+returns-clause-shows g c clean = if_ok_then c.schema_in.result c.schema_in.ensures.read (λ n is. record { row = is.0; shown = subst (QueriesRow schema_text [] _ _) is.1 (c.select_schema-answer.ensures.row clean); is = is.2 })
 
-pub returns-clause-crash : goal.returns-clause-crash
-returns-clause-crash g c clean t was = leaves_nothing schema_text [] schema_plain (Holds t) _ _ was c.select_schema-answer.ensures.survives clean
+pub returns-clause-asked : goal.returns-clause-asked
+returns-clause-asked g c clean =
+    row_read schema_text schema_query [] _ _ clean c.select_schema-answer.ensures.survives c.select_schema-answer.result (c.select_schema-answer.ensures.row clean) (λ n row. column row 0 ≡ Int (pos n)) c.schema_in.result c.schema_in.ensures.read
