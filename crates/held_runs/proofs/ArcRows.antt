@@ -7,14 +7,18 @@ use Rattle.std.proofs.lemmas.Grind.{flat_map-append}
 use Rattle.std.proofs.lemmas.List.{map-append}
 use Rattle.sqlite_trees.specs.declared.store.Store.{Ghosts}
 use Rattle.cost_rows.specs.declared.rows.ArcRow.{ArcRow}
-use Rattle.prof_tables.specs.Tables.{Tables, NameLine, ArcLine as Arc}
+use Rattle.prof_tables.specs.Tables.{Tables, NameLine, ArcLine as Arc, arc_columns}
 use Rattle.prof_tables.specs.RunLines.{arcs_in}
 use Rattle.held_runs.specs.declared.arcs.Arcs.{Arcs}
-use Rattle.held_runs.specs.ArcWalks.{GivesArcs}
 use Rattle.prof_books.specs.Book.{part_held, part_of, parts_from, parts_of, ArcIsNamed}
-use Rattle.held_runs.specs.HeldArcs.{HasUsedArcs, HasTakenArc, HasGivenArcs, HasGivenAllArcs, HasGivenArcsOn, TellsArcRows, lines_from, part_line, plain_given, row_of, waiting_line}
+use Rattle.held_runs.specs.HeldArcs.{GivesArcs, HasUsedArcs, HasTakenArc, HasGivenArcs, HasGivenAllArcs, HasGivenArcsOn, IsSameArcs, TellsArcRows, lines_from, part_line, plain_given, row_of, waiting_line}
 use Rattle.prof_store.specs.Shown.{StandsFor}
-use Rattle.held_runs.proofs.ArcWalks.{arcs_begin, arcs_end}
+use Rattle.held_runs.specs.declared.walks.Listed.TheVariants as table
+use Rattle.held_runs.specs.Walks.{GivesOn}
+use Rattle.store_columns.specs.declared.lines.ArcLine.{ArcLine}
+use Rattle.store_columns.specs.Lines.{arc_line}
+use Rattle.held_runs.proofs.LineLists.{all_append}
+use Rattle.held_runs.proofs.LineWalks.{arcs_begin, arcs_end, given_more}
 
 -- ---- costs and the lines of their parts
 
@@ -69,19 +73,28 @@ module _ (names : List NameLine) (first : Arc) where
       go true more = (named, more)
       go false more = more
 
-all_append : {X : Type 0} (P : X → Type 0) (xs ys : List X) → AllByRecursion P xs → AllByRecursion P ys → AllByRecursion P (xs ++ ys)
-all_append P [] ys h k = k
-all_append P (x ∷ xs) ys h k = (h.0, all_append P xs ys h.1 k)
-
 -- ---- the walk
+
+-- two calls over the same walk
+pub same_then : {S : Type 0} (old mid new : Arcs S) → IsSameArcs old mid → IsSameArcs mid new → IsSameArcs old new
+same_then old mid new one two = record {
+  walk = record { same_reference = two.walk.same_reference ∙ one.walk.same_reference; run = two.walk.run ∙ one.walk.run };
+  names = two.names ∙ one.names;
+  events = two.events ∙ one.events;
+}
 
 module _ {S : Type 0} (g : Ghosts S) where
   -- no line waits
-  pub used_none : (used : List Arc) (c : Arcs S) → c.waiting ≡ None → GivesArcs g used c.store.now c.walk → HasUsedArcs g used c
-  used_none used c none gives = record { gives = subst (λ w. GivesArcs g (used ++ waiting_line w) c.store.now c.walk) (sym none) (subst (λ l. GivesArcs g l c.store.now c.walk) (sym (append-nil used)) gives) }
+  pub used_none : (used : List Arc) (c : Arcs S) → c.waiting ≡ None → GivesArcs g used c → HasUsedArcs g used c
+  used_none used c none gives = record { gives = subst (λ w. GivesArcs g (used ++ waiting_line w) c) (sym none) (subst (λ l. GivesArcs g l c) (sym (append-nil used)) gives) }
 
-  pub gives_none : (used : List Arc) (c : Arcs S) → c.waiting ≡ None → HasUsedArcs g used c → GivesArcs g used c.store.now c.walk
-  gives_none used c none was = subst (λ l. GivesArcs g l c.store.now c.walk) (append-nil used) (subst (λ w. GivesArcs g (used ++ waiting_line w) c.store.now c.walk) none was.gives)
+  pub gives_none : (used : List Arc) (c : Arcs S) → c.waiting ≡ None → HasUsedArcs g used c → GivesArcs g used c
+  gives_none used c none was = subst (λ l. GivesArcs g l c) (append-nil used) (subst (λ w. GivesArcs g (used ++ waiting_line w) c) none was.gives)
+
+  -- the next line is taken
+  pub next_taken : (used : List Arc) (c : Arcs S) (line : Option ArcLine) → c.waiting ≡ None → GivesOn g table.Arcs (λ (a : ArcLine). arc_columns (arc_line a)) (map arc_columns used) c.lines.store.now c.lines.walk line → HasTakenArc g used c line
+  next_taken used c None none gives = (none, gives.0, gives.1)
+  next_taken used c (Some line) none gives = (none, given_more g table.Arcs arc_columns used (arc_line line) c.lines.store.now c.lines.walk gives)
 
   -- a row shows its lines
   pub one_row : (given : List (ArcRow (List ℕ) (List ℕ))) (old new : Arcs S) (first : Arc) (costs : List ℕ) (row : ArcRow (Bor (List ℕ)) (List ℕ)) → new.names.now ≡ old.names.now → first.part ≡ 0 → (was : HasGivenArcs g given old)
@@ -111,12 +124,12 @@ module _ {S : Type 0} (g : Ghosts S) where
   }
 
   -- in the words of the book
-  pub tells_arc_rows : (t : Tables) (c : Arcs S) (given : List (ArcRow (List ℕ) (List ℕ))) (row : Option (ArcRow (Bor (List ℕ)) (List ℕ))) → c.names.now ≡ t.names → StandsFor g t c.store.now → HasGivenArcsOn g given c row → TellsArcRows c.walk.run t given row
+  pub tells_arc_rows : (t : Tables) (c : Arcs S) (given : List (ArcRow (List ℕ) (List ℕ))) (row : Option (ArcRow (Bor (List ℕ)) (List ℕ))) → c.names.now ≡ t.names → StandsFor g t c.lines.store.now → HasGivenArcsOn g given c row → TellsArcRows c.lines.walk.run t given row
   tells_arc_rows t c given None names was has =
-      let all = arcs_end g t c.store.now c.walk has.has.lines was (gives_none has.has.lines c has.none_waits has.has.used) has.all in
+      let all = arcs_end g t c.lines.store.now c.lines.walk was has.has.lines (gives_none has.has.lines c has.none_waits has.has.used) has.all in
       ap₂ (λ (n : List NameLine) l. map (part_held n) l) (sym names) all ∙ has.has.parts_are
   tells_arc_rows t c given (Some row) names was has =
-      let begun = arcs_begin g t c.store.now c.walk (has.lines ++ waiting_line c.waiting) was has.used.gives in
+      let begun = arcs_begin g t c.lines.store.now c.lines.walk was (has.lines ++ waiting_line c.waiting) has.used.gives in
       let more = waiting_line c.waiting ++ begun.0 in (
         map (part_held c.names.now) more,
         ap₂ (λ (n : List NameLine) l. map (part_held n) l) (sym names) (begun.1 ∙ append_assoc has.lines (waiting_line c.waiting) begun.0) ∙ map-append (part_held c.names.now) has.lines more
@@ -124,6 +137,6 @@ module _ {S : Type 0} (g : Ghosts S) where
       )
 
   -- and all names are held
-  pub arcs_are_named : (t : Tables) (c : Arcs S) (given : List (ArcRow (List ℕ) (List ℕ))) → StandsFor g t c.store.now → HasGivenAllArcs g given c → AllByRecursion (ArcIsNamed c.names.now) (arcs_in c.walk.run t)
+  pub arcs_are_named : (t : Tables) (c : Arcs S) (given : List (ArcRow (List ℕ) (List ℕ))) → StandsFor g t c.lines.store.now → HasGivenAllArcs g given c → AllByRecursion (ArcIsNamed c.names.now) (arcs_in c.lines.walk.run t)
   arcs_are_named t c given was has =
-      subst (AllByRecursion (ArcIsNamed c.names.now)) (sym (arcs_end g t c.store.now c.walk has.has.lines was (gives_none has.has.lines c has.none_waits has.has.used) has.all)) has.has.named
+      subst (AllByRecursion (ArcIsNamed c.names.now)) (sym (arcs_end g t c.lines.store.now c.lines.walk was has.has.lines (gives_none has.has.lines c has.none_waits has.has.used) has.all)) has.has.named

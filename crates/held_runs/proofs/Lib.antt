@@ -1,11 +1,10 @@
 pub mod ArcRows
-pub mod ArcWalks
 mod Asking
 pub mod CellRows
-pub mod CellWalks
 mod HeadReading
+mod LineLists
+pub mod LineWalks
 mod NameLists
 pub mod StackRows
-pub mod StackWalks
 pub mod WalkSteps
 pub mod WalkTables

@@ -1,5 +1,5 @@
 -- The steps of a walk over the store.
-use Rattle.std.proofs.Common.{◌≡◌, ℕ, ◌≤◌, suc, ◌+◌, List, [], ◌∷◌, ◌++◌, map, drop, length, get_or, ◌<◌, true, false, Result, Ok, Err, OnOk, sym, ap, subst, ◌∙◌, add-one}
+use Rattle.std.proofs.Common.{◌≡◌, ℕ, ◌≤◌, suc, ◌+◌, List, [], ◌∷◌, ◌++◌, drop, length, get_or, ◌<◌, true, false, Result, Ok, Err, OnOk, sym, ap, subst, ◌∙◌, add-one}
 use Rattle.std.proofs.Math.Seq.{drop-cons}
 use Rattle.sqlite_value.specs.Order.{Row}
 use Rattle.sqlite_trees.specs.View.{IsShaped}
@@ -10,7 +10,6 @@ use Rattle.sqlite.specs.State.{State}
 use Rattle.sql_tables.specs.States.{Rests}
 use Rattle.sql_tables.specs.Walks.{read_from, Reads, Lie}
 use Rattle.sql_tables.proofs.Walks.{reads_begin, reads_placed, reads_turned, reads_took, reads_ended}
-use Rattle.sql_tables.proofs.Rows.{map-append}
 use Rattle.prof_tables.specs.Schema.{schema_one}
 use Rattle.prof_tables.specs.Tables.{Tables, Holds}
 use Rattle.prof_tables.proofs.RunLines.{cells_there, arcs_there, stacks_there}
@@ -95,13 +94,13 @@ module _ {S : Type 0} (g : Ghosts S) where
 drop_at : {X : Type 0} (xs : List X) (i : ℕ) (x : X) → i < length xs → x ≡ get_or xs i x → drop i xs ≡ x ∷ drop (i + 1) xs
 drop_at xs i x within is = rw (add-one, drop-cons xs i x within) (ap (λ y. y ∷ drop (suc i) xs) (sym is))
 
-module _ {S : Type 0} (g : Ghosts S) {X : Type 0} (columns : X → Row) where
-  -- the row at hand is read as a line
-  pub took_step : (given : List X) (store : Store S) (walk : Walk) (x : Row) (line : X) → walk.at < length store.page.items → x ≡ get_or store.page.items walk.at x → columns line ≡ read_from (asked walk.table walk.run) x → Walks g (map columns given) store walk
-      → Walks g (map columns (given ++ line ∷ [])) store (record walk { at = walk.at + 1 })
+module _ {S : Type 0} (g : Ghosts S) where
+  -- the row at hand is read
+  pub took_step : (given : List Row) (store : Store S) (walk : Walk) (x line : Row) → walk.at < length store.page.items → x ≡ get_or store.page.items walk.at x → line ≡ read_from (asked walk.table walk.run) x → Walks g given store walk
+      → Walks g (given ++ line ∷ []) store (record walk { at = walk.at + 1 })
   took_step given store walk x line within is says was =
       let a = asked walk.table walk.run in
       let rows = rows_of g walk.table store in
       let rest = drop (walk.at + 1) store.page.items in
-      let took = reads_took a rows walk.placed walk.low walk.top (map columns given) (drop walk.at store.page.items) rest x (drop_at store.page.items walk.at x within is) was.reads in
-      record { ready = was.ready; reads = subst (λ l. Reads a rows walk.placed walk.low walk.top l rest) (sym (map-append columns given (line ∷ []) ∙ ap (λ r. map columns given ++ r ∷ []) says)) took }
+      let took = reads_took a rows walk.placed walk.low walk.top given (drop walk.at store.page.items) rest x (drop_at store.page.items walk.at x within is) was.reads in
+      record { ready = was.ready; reads = subst (λ r. Reads a rows walk.placed walk.low walk.top (given ++ r ∷ []) rest) (sym says) took }

@@ -1,11 +1,9 @@
-pub mod ArcWalks
-pub mod CellWalks
 pub mod HeadLines
 pub mod HeldArcs
 pub mod HeldCells
 pub mod HeldHeads
 pub mod HeldStacks
+pub mod LineWalks
 pub mod NameLines
-pub mod StackWalks
 pub mod Told
 pub mod Walks

@@ -1,5 +1,5 @@
 -- A walk over the rows of a run, in one of the tables whose rows are lines of runs.
-use Rattle.std.specs.Prelude.{◌≡◌, ◌≢◌, ◌&&◌, ℕ, ◌+◌, pos, Bool, false, List, drop, filter, map}
+use Rattle.std.specs.Prelude.{◌≡◌, ◌≢◌, ◌&&◌, ℕ, ◌+◌, pos, Bool, false, List, [], ◌∷◌, ◌++◌, drop, filter, map, Option, Some, None}
 use Rattle.sqlite_value.specs.declared.value.Value.TheVariants.{Null, Int}
 use Rattle.sqlite_value.specs.Order.{Row, column}
 use Rattle.sqlite_trees.specs.View.{IsShaped}
@@ -67,6 +67,16 @@ module _ {S : Type 0} (g : Ghosts S) where
   -- there is one more, or the rows given are all of the run
   abbrev pub WalksOn : List Row → Store S → Walk → Bool → Type 0
   WalksOn given store walk more = Walks given store walk × (more ≡ false → HasWalked given store walk)
+
+  -- a walk over this table has given these rows
+  pub record Gives (table : Listed) (given : List Row) (store : Store S) (walk : Walk) : Type 0 where
+    pub table_is : walk.table ≡ table
+    pub walks : Walks given store walk
+
+  -- one more is given, which this line says, or those so far are all
+  abbrev pub GivesOn : {L : Type 0} → Listed → (L → Row) → List Row → Store S → Walk → Option L → Type 0
+  GivesOn table columns given store walk (Some line) = Gives table (given ++ columns line ∷ []) store walk
+  GivesOn table columns given store walk None = Gives table given store walk × HasWalked given store walk
 
   -- a call that asks where it has to: a page at hand is given without, so an answer tells nothing of a store that was not open
   abbrev pub AsksIfOpen : Bool → Store S → Store S → Type 0

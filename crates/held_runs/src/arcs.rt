@@ -1,18 +1,15 @@
 // The calls of a run, row by row, with names in place.
-ghost use Rattle.std.specs.Prelude.{◌≡◌, ◌≤◌, ◌++◌, ◌∷◌, [], Some, None, IfOk, OnOk, IfSome, IsTrue, MatchResult, length};
-ghost use Rattle.std.specs.List.{AllByRecursion};
+ghost use Rattle.std.specs.Prelude.{◌≡◌, ◌≤◌, ◌++◌, ◌∷◌, [], None, IfOk, OnOk, IfSome, IsTrue, length};
 ghost use Rattle.std.specs.Result.{is_ok};
-ghost use Rattle.prof_tables.specs.RunLines.{arcs_in};
 ghost use Rattle.prof_books.specs.Book.{ArcIsNamed};
-ghost use Rattle.held_runs.specs.HeldArcs.{HasUsedArcs, HasTakenArc, HasGivenArcs, HasGivenArcsOn, TellsArcRows, lines_from, part_line, plain_given, row_of};
+ghost use Rattle.held_runs.specs.HeldArcs.{HasGivenArcs, IsSameArcs, TakesArc, UsesArcs, GivesArc, TellsArc, NamesArcs, lines_from, part_line, plain_given, row_of};
 ghost use Rattle.store_columns.specs.Lines.{arc_line};
-ghost use Rattle.prof_store.specs.Shown.{shown, IsFaithful, StandsFor};
-ghost use Rattle.held_runs.specs.Told.{Tells};
+ghost use Rattle.prof_store.specs.Shown.{shown, StandsFor};
+ghost use Rattle.held_runs.specs.LineWalks.{KeepsError, AnswersAgain};
 ghost use Rattle.held_runs.specs.Walks.{IsReady, AsksIfOpen};
 
-use crate::arc_lines::next_arc;
 use crate::held_names::HeldNames;
-use crate::walks::{Listed, Walk};
+use crate::lines::Lines;
 use cg_text::Items;
 use cost_rows::ArcRow;
 use prof_store::Store;
@@ -22,13 +19,11 @@ use store_columns::{ArcLine, StoreEnd};
 
 /// The sums of a run's calls, read one row at a time.
 pub struct Arcs<'a, S: Alter> {
-    store: &'a mut Store<S>,
+    lines: Lines<'a, S, ArcLine>,
     names: &'a HeldNames,
     alloc: Global,
     events: usize,
-    walk: Walk,
     waiting: Option<ArcLine>,
-    failed: Option<StoreEnd>,
 }
 
 /// Adds zeros, up to a length.
@@ -121,54 +116,45 @@ pub fn arcs_of<'a, S: Alter>(
     names: &'a HeldNames,
     events: usize,
 ) -> Arcs<'a, S>
-    ensures same_reference { result.store.ghost_name ≡ store.entry.ghost_name }
-    ensures run { result.walk.run ≡ run }
+    ensures same_reference { result.lines.store.ghost_name ≡ store.entry.ghost_name }
+    ensures run { result.lines.walk.run ≡ run }
     ensures names { result.names.now ≡ names.now }
     ensures events { result.events ≡ events }
     ensures ready { IsReady (shown S.Store store.old) → HasGivenArcs S.Store [] result }
     ensures begun { (t : _) → StandsFor S.Store t store.old → HasGivenArcs S.Store [] result }
-    ensures failed { result.failed ≡ None }
-    ensures untouched { result.store.now.conn ≡ store.old.conn }
+    ensures failed { result.lines.failed ≡ None }
+    ensures untouched { result.lines.store.now.conn ≡ store.old.conn }
 {
-    store.page.clear();
     Arcs {
-        store,
+        lines: Lines::of_run(store, run),
         names,
         alloc,
         events,
-        walk: Walk::over(Listed::Arcs, run),
         waiting: None,
-        failed: None,
     }
 }
 
 impl<'a, S: Alter> Arcs<'a, S> {
     /// The line that waits, or the next one.
     fn line(&mut self) -> Result<Option<ArcLine>, StoreEnd>
-        ensures same_reference { self.new.store.ghost_name ≡ self.old.store.ghost_name }
-        ensures run { self.new.walk.run ≡ self.old.walk.run }
-        ensures names { self.new.names.now ≡ self.old.names.now }
-        ensures events { self.new.events ≡ self.old.events }
-        ensures failed { self.new.failed ≡ self.old.failed }
-        ensures taken { IsFaithful S.Store self.new.store.now → (used : _) → HasUsedArcs S.Store used self.old → IfOk result (HasTakenArc S.Store used self.new) }
-        ensures asks { AsksIfOpen S.Store (is_ok result) self.old.store.now self.new.store.now }
+        ensures same { IsSameArcs self.old self.new }
+        ensures failed { OnOk result (self.new.lines.failed ≡ self.old.lines.failed) }
+        ensures taken { TakesArc S.Store self.old self.new result }
+        ensures asks { AsksIfOpen S.Store (is_ok result) self.old.lines.store.now self.new.lines.store.now }
     {
         match self.waiting.take() {
             Some(line) => Ok(Some(line)),
-            None => next_arc(self.store, &mut self.walk),
+            None => self.lines.next(),
         }
     }
 
     /// The costs of the row whose count stands in `first`. The line behind them waits.
     fn costs(&mut self, first: &ArcLine) -> Result<Items<u128>, StoreEnd>
-        ensures same_reference { self.new.store.ghost_name ≡ self.old.store.ghost_name }
-        ensures run { self.new.walk.run ≡ self.old.walk.run }
-        ensures names { self.new.names.now ≡ self.old.names.now }
-        ensures events { self.new.events ≡ self.old.events }
-        ensures failed { self.new.failed ≡ self.old.failed }
-        ensures used { IsFaithful S.Store self.new.store.now → (used : _) → HasUsedArcs S.Store used self.old → IfOk result (λ costs. HasUsedArcs S.Store (used ++ lines_from (arc_line first.now) 1 costs) self.new) }
+        ensures same { IsSameArcs self.old self.new }
+        ensures failed { OnOk result (self.new.lines.failed ≡ self.old.lines.failed) }
+        ensures used { UsesArcs S.Store (arc_line first.now) self.old self.new result }
         ensures long { IfOk result (λ costs. length costs ≡ self.old.events) }
-        ensures asks { AsksIfOpen S.Store (is_ok result) self.old.store.now self.new.store.now }
+        ensures asks { AsksIfOpen S.Store (is_ok result) self.old.lines.store.now self.new.lines.store.now }
     {
         let mut costs = Items::new(self.alloc);
         'parts: for _ in 0..u64::MAX {
@@ -185,14 +171,11 @@ impl<'a, S: Alter> Arcs<'a, S> {
     }
 
     fn row(&mut self) -> Result<Option<ArcRow<&'a [u8], Items<u128>>>, StoreEnd>
-        ensures same_reference { self.new.store.ghost_name ≡ self.old.store.ghost_name }
-        ensures run { self.new.walk.run ≡ self.old.walk.run }
-        ensures names { self.new.names.now ≡ self.old.names.now }
-        ensures events { self.new.events ≡ self.old.events }
-        ensures failed { self.new.failed ≡ self.old.failed }
+        ensures same { IsSameArcs self.old self.new }
+        ensures failed { OnOk result (self.new.lines.failed ≡ self.old.lines.failed) }
         ensures long { IfOk result (λ row. IfSome row (λ r. length r.costs ≡ self.old.events)) }
-        ensures given { IsFaithful S.Store self.new.store.now → (given : _) → HasGivenArcs S.Store given self.old → IfOk result (HasGivenArcsOn S.Store given self.new) }
-        ensures asks { AsksIfOpen S.Store (is_ok result) self.old.store.now self.new.store.now }
+        ensures given { GivesArc S.Store self.old self.new result }
+        ensures asks { AsksIfOpen S.Store (is_ok result) self.old.lines.store.now self.new.lines.store.now }
     {
         let Some(first) = self.line()? else {
             return Ok(None);
@@ -209,43 +192,40 @@ impl<'a, S: Alter> Arcs<'a, S> {
     /// at each later call; a name that is not held is one, and so are parts out of form: without
     /// the count, not rising, of cost 0, or of a column that is none of the events.
     pub fn next(&mut self) -> Result<Option<ArcRow<&'a [u8], Items<u128>>>, StoreEnd>
-        ensures same_reference { self.new.store.ghost_name ≡ self.old.store.ghost_name }
-        ensures run { self.new.walk.run ≡ self.old.walk.run }
-        ensures names { self.new.names.now ≡ self.old.names.now }
-        ensures events { self.new.events ≡ self.old.events }
-        ensures failed { MatchResult result (λ _. self.new.failed ≡ self.old.failed) (λ e. self.new.failed ≡ Some e) }
-        ensures again { (e : _) → self.old.failed ≡ Some e → (result ≡ Err e) × (self.new.store.now ≡ self.old.store.now) }
+        ensures same { IsSameArcs self.old self.new }
+        ensures failed { KeepsError self.old.lines self.new.lines result }
+        ensures again { AnswersAgain self.old.lines self.new.lines result }
         ensures long { IfOk result (λ row. IfSome row (λ r. length r.costs ≡ self.old.events)) }
-        ensures given { IsFaithful S.Store self.new.store.now → (given : _) → HasGivenArcs S.Store given self.old → IfOk result (HasGivenArcsOn S.Store given self.new) }
-        ensures told { Tells S.Store self.old.store.now self.new.store.now (λ t. self.old.names.now ≡ t.names → (given : _) → HasGivenArcs S.Store given self.old → IfOk result (TellsArcRows self.old.walk.run t given)) }
-        ensures named { Tells S.Store self.old.store.now self.new.store.now (λ t. (given : _) → HasGivenArcs S.Store given self.old → IfOk result (λ row. row ≡ None → AllByRecursion (ArcIsNamed self.old.names.now) (arcs_in self.old.walk.run t))) }
-        ensures asks { AsksIfOpen S.Store (is_ok result) self.old.store.now self.new.store.now }
+        ensures given { GivesArc S.Store self.old self.new result }
+        ensures told { TellsArc S.Store self.old self.new result }
+        ensures named { NamesArcs S.Store self.old self.new result }
+        ensures asks { AsksIfOpen S.Store (is_ok result) self.old.lines.store.now self.new.lines.store.now }
     {
-        if let Some(end) = self.failed {
+        if let Some(end) = self.lines.failed {
             return Err(end);
         }
         match self.row() {
             Ok(row) => Ok(row),
-            Err(end) => {
-                self.failed = Some(end);
-                Err(end)
-            }
+            Err(end) => Err(self.lines.end(end)),
         }
     }
 }
 
 impl<S: Alter> Drop for Arcs<'_, S> {
     fn drop(self)
-        ensures { self.exit.0.now ≡ self.entry.store.now }
+        ensures { self.exit.0.0.now ≡ self.entry.lines.store.now }
     {
         let Arcs {
-            store: _,
+            lines: Lines {
+                store: _,
+                walk: _,
+                failed: _,
+                of: _,
+            },
             names: _,
             alloc: _,
             events: _,
-            walk: _,
             waiting: _,
-            failed: _,
         } = self;
     }
 }

@@ -9,6 +9,7 @@ mod head_lines;
 mod heads;
 mod heads_held;
 mod held_names;
+mod lines;
 mod stack_lines;
 mod stacks;
 mod walks;

@@ -1,15 +1,14 @@
 // The stacks of a run, one at a time.
-ghost use Rattle.std.specs.Prelude.{◌≡◌, [], Some, None, IfOk, OnOk, MatchResult};
+ghost use Rattle.std.specs.Prelude.{◌≡◌, [], None};
 ghost use Rattle.std.specs.Result.{is_ok};
 ghost use Rattle.prof_books.specs.Book.{stack_held};
-ghost use Rattle.held_runs.specs.HeldStacks.{HasGivenStacks, HasGivenStacksOn, TellsStackRows, plain_held};
+ghost use Rattle.held_runs.specs.HeldStacks.{HasGivenStacks, GivesStack, TellsStack, plain_held};
 ghost use Rattle.store_columns.specs.Lines.{held_stack};
-ghost use Rattle.prof_store.specs.Shown.{shown, IsFaithful, StandsFor};
-ghost use Rattle.held_runs.specs.Told.{Tells};
+ghost use Rattle.prof_store.specs.Shown.{shown, StandsFor};
+ghost use Rattle.held_runs.specs.LineWalks.{IsSameWalk, KeepsError, AnswersAgain};
 ghost use Rattle.held_runs.specs.Walks.{IsReady, AsksIfOpen};
 
-use crate::stack_lines::next_stack;
-use crate::walks::{Listed, Walk};
+use crate::lines::Lines;
 use cost_rows::StackRow;
 use prof_store::Store;
 use sqlite::Alter;
@@ -17,9 +16,7 @@ use store_columns::{HeldStack, StoreEnd};
 
 /// How often a run's stacks were seen, read one at a time.
 pub struct Stacks<'a, S: Alter> {
-    store: &'a mut Store<S>,
-    walk: Walk,
-    failed: Option<StoreEnd>,
+    lines: Lines<'a, S, HeldStack>,
 }
 
 fn stack_row(line: HeldStack) -> StackRow<Vec<u8>>
@@ -34,67 +31,48 @@ fn stack_row(line: HeldStack) -> StackRow<Vec<u8>>
 /// How often a run's stacks were seen. The value borrows the store until it is dropped, which
 /// it may be at any row.
 pub fn stacks_of<S: Alter>(store: &mut Store<S>, run: u32) -> Stacks<'_, S>
-    ensures same_reference { result.store.ghost_name ≡ store.entry.ghost_name }
-    ensures run { result.walk.run ≡ run }
+    ensures same_reference { result.lines.store.ghost_name ≡ store.entry.ghost_name }
+    ensures run { result.lines.walk.run ≡ run }
     ensures ready { IsReady (shown S.Store store.old) → HasGivenStacks S.Store [] result }
     ensures begun { (t : _) → StandsFor S.Store t store.old → HasGivenStacks S.Store [] result }
-    ensures failed { result.failed ≡ None }
-    ensures untouched { result.store.now.conn ≡ store.old.conn }
+    ensures failed { result.lines.failed ≡ None }
+    ensures untouched { result.lines.store.now.conn ≡ store.old.conn }
 {
-    store.page.clear();
     Stacks {
-        store,
-        walk: Walk::over(Listed::Stacks, run),
-        failed: None,
+        lines: Lines::of_run(store, run),
     }
 }
 
 impl<S: Alter> Stacks<'_, S> {
-    fn row(&mut self) -> Result<Option<StackRow<Vec<u8>>>, StoreEnd>
-        ensures same_reference { self.new.store.ghost_name ≡ self.old.store.ghost_name }
-        ensures run { self.new.walk.run ≡ self.old.walk.run }
-        ensures failed { self.new.failed ≡ self.old.failed }
-        ensures given { IsFaithful S.Store self.new.store.now → (given : _) → HasGivenStacks S.Store given self.old → IfOk result (HasGivenStacksOn S.Store given self.new) }
-        ensures asks { AsksIfOpen S.Store (is_ok result) self.old.store.now self.new.store.now }
-    {
-        match next_stack(self.store, &mut self.walk)? {
-            Some(line) => Ok(Some(stack_row(line))),
-            None => Ok(None),
-        }
-    }
-
     /// The next row, or `None` behind the last one. An error ends the walk, and is answered again
     /// at each later call.
     pub fn next(&mut self) -> Result<Option<StackRow<Vec<u8>>>, StoreEnd>
-        ensures same_reference { self.new.store.ghost_name ≡ self.old.store.ghost_name }
-        ensures run { self.new.walk.run ≡ self.old.walk.run }
-        ensures failed { MatchResult result (λ _. self.new.failed ≡ self.old.failed) (λ e. self.new.failed ≡ Some e) }
-        ensures again { (e : _) → self.old.failed ≡ Some e → (result ≡ Err e) × (self.new.store.now ≡ self.old.store.now) }
-        ensures given { IsFaithful S.Store self.new.store.now → (given : _) → HasGivenStacks S.Store given self.old → IfOk result (HasGivenStacksOn S.Store given self.new) }
-        ensures told { Tells S.Store self.old.store.now self.new.store.now (λ t. (given : _) → HasGivenStacks S.Store given self.old → IfOk result (TellsStackRows self.old.walk.run t given)) }
-        ensures asks { AsksIfOpen S.Store (is_ok result) self.old.store.now self.new.store.now }
+        ensures same { IsSameWalk self.old.lines self.new.lines }
+        ensures failed { KeepsError self.old.lines self.new.lines result }
+        ensures again { AnswersAgain self.old.lines self.new.lines result }
+        ensures given { GivesStack S.Store self.old self.new result }
+        ensures told { TellsStack S.Store self.old self.new result }
+        ensures asks { AsksIfOpen S.Store (is_ok result) self.old.lines.store.now self.new.lines.store.now }
     {
-        if let Some(end) = self.failed {
-            return Err(end);
-        }
-        match self.row() {
-            Ok(row) => Ok(row),
-            Err(end) => {
-                self.failed = Some(end);
-                Err(end)
-            }
+        match self.lines.next() {
+            Ok(Some(line)) => Ok(Some(stack_row(line))),
+            Ok(None) => Ok(None),
+            Err(end) => Err(end),
         }
     }
 }
 
 impl<S: Alter> Drop for Stacks<'_, S> {
     fn drop(self)
-        ensures { self.exit.0.now ≡ self.entry.store.now }
+        ensures { self.exit.0.0.now ≡ self.entry.lines.store.now }
     {
         let Stacks {
-            store: _,
-            walk: _,
-            failed: _,
+            lines: Lines {
+                store: _,
+                walk: _,
+                failed: _,
+                of: _,
+            },
         } = self;
     }
 }

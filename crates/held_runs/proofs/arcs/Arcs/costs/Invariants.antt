@@ -2,7 +2,7 @@ use Rattle.std.proofs.Common.{◌≡◌, ◌≤◌, ◌++◌, List, length}
 use Rattle.sql_tables.specs.Calls.{Asked}
 use Rattle.prof_tables.specs.Schema.{schema_one}
 use Rattle.prof_tables.specs.Tables.{ArcLine as Arc}
-use Rattle.held_runs.specs.HeldArcs.{HasUsedArcs, lines_from}
+use Rattle.held_runs.specs.HeldArcs.{HasUsedArcs, IsSameArcs, lines_from}
 use Rattle.store_columns.specs.Lines.{arc_line}
 use Rattle.prof_store.specs.Shown.{shown, IsFaithful}
 use Rattle.held_runs.proofs.arcs.Arcs.costs.Given as goal
@@ -10,12 +10,9 @@ use Rattle.held_runs.proofs.arcs.Arcs.costs.Given as goal
 -- nothing was changed, and the lines used are those of the costs so far
 abbrev pub invariant-parts : goal.invariant-parts
 invariant-parts g l = record {
-  same_reference : l.self.store.ghost_name ≡ l.fn.self.store.ghost_name;
-  run : l.self.walk.run ≡ l.fn.self.walk.run;
-  names : l.self.names.now ≡ l.fn.self.names.now;
-  events : l.self.events ≡ l.fn.self.events;
-  failed : l.self.failed ≡ l.fn.self.failed;
+  same : IsSameArcs l.fn.self l.self;
+  failed : l.self.lines.failed ≡ l.fn.self.lines.failed;
   within : length l.costs ≤ l.fn.self.events;
-  asked : IsFaithful g.S.Store l.self.store.now → Asked schema_one (shown g.S.Store l.fn.self.store.now).is_open (shown g.S.Store l.fn.self.store.now) (shown g.S.Store l.self.store.now);
-  used : IsFaithful g.S.Store l.self.store.now → (used : List Arc) → HasUsedArcs g.S.Store used l.fn.self → HasUsedArcs g.S.Store (used ++ lines_from (arc_line l.first) 1 l.costs) l.self;
+  asked : IsFaithful g.S.Store l.self.lines.store.now → Asked schema_one (shown g.S.Store l.fn.self.lines.store.now).is_open (shown g.S.Store l.fn.self.lines.store.now) (shown g.S.Store l.self.lines.store.now);
+  used : IsFaithful g.S.Store l.self.lines.store.now → (used : List Arc) → HasUsedArcs g.S.Store used l.fn.self → HasUsedArcs g.S.Store (used ++ lines_from (arc_line l.first) 1 l.costs) l.self;
 }

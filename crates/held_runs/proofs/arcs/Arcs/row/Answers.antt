@@ -9,7 +9,7 @@ use Rattle.held_runs.proofs.arcs.Arcs.row.Goals as goal
 pub returns-in_default-clause-given : goal.returns-in_default-clause-given
 returns-in_default-clause-given g c clean given was =
     let e = c.in_ok-first.ensures in
-    no_row g.S.Store given c.args.self.now c.line.new.self e.names was (subst (HasTakenArc g.S.Store was.lines c.line.new.self) c.in_default.is (e.taken clean was.lines was.used))
+    no_row g.S.Store given c.args.self.now c.line.new.self e.same.names was (subst (HasTakenArc g.S.Store was.lines c.line.new.self) c.in_default.is (e.taken clean was.lines was.used))
 
 pub returns-clause-given : goal.returns-clause-given
 returns-clause-given g c clean given was =
@@ -17,7 +17,7 @@ returns-clause-given g c clean given was =
     let l = c.in_ok-first.ensures in
     let k = c.in_ok-costs.ensures in
     let first = arc_line c.in-Some.first in
-    let names = k.names ∙ l.names in
+    let names = k.same.names ∙ l.same.names in
     let taken = subst (HasTakenArc g.S.Store was.lines mid) c.in-Some.is (l.taken (k.asks clean).stays.was_clean was.lines was.used) in
     let used = k.used clean (was.lines ++ first ∷ []) (used_none g.S.Store (was.lines ++ first ∷ []) mid taken.0 taken.1) in
     one_row g.S.Store given c.args.self.now c.costs.new.self first c.in_ok-costs.costs c.in_ok-row.row names c.if-first-ne0.false was used
