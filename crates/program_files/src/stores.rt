@@ -1,6 +1,8 @@
 // The store at a path.
-ghost use Rattle.std.specs.Prelude.{◌≡◌, true, false, IfOk};
+ghost use Rattle.std.specs.Prelude.{◌≡◌, true, false, IfOk, IfErr};
 ghost use Rattle.sqlite.specs.Held.{state};
+ghost use Rattle.sqlite.specs.State.{HasCleanDisk};
+ghost use Rattle.sql_tables.specs.Calls.{Asked};
 ghost use Rattle.sql_tables.specs.States.{IsBlank, Rests};
 ghost use Rattle.prof_tables.specs.Schema.{empty_schema, schema_one};
 ghost use Rattle.prof_tables.specs.Tables.{Holds, new_tables};
@@ -63,6 +65,7 @@ pub fn store_in<S: Alter>(
 ) -> Result<Store<S>, (OpenEnd, Connection<S>)>
     ensures made { is_new ≡ true → IfOk result (λ store. IsFaithful S.Store store → IsBlank empty_schema (state S.Store conn) → StandsFor S.Store new_tables store) }
     ensures taken_up { is_new ≡ false → IfOk result (λ store. IsFaithful S.Store store → (t : _) → Rests schema_one (Holds t) (state S.Store conn) → StandsFor S.Store t store) }
+    ensures refused { is_new ≡ false → IfErr result (λ e. HasCleanDisk (state S.Store e.1) → Asked (state S.Store conn).now.schema false (state S.Store conn) (state S.Store e.1)) }
 {
     if !is_new {
         return Store::open(alloc, conn);

@@ -146,6 +146,10 @@ asked_rests schema P old new h was = rests_before schema P old new was (h.stays.
 pub asked_rests_yet : (schema : Schema) (P : Trees → Type 0) (old new : State) → Asked schema old.is_open old new → Rests schema P old → Rests schema P new
 asked_rests_yet schema P old new h was = rests_before schema P old new was (h.stays.is_open was.usable) (h.kept (settled_of schema P old was) (h.stays.is_open was.usable))
 
+-- the same where tables of any schema were asked
+pub asked_any_rests : (schema : Schema) (P : Trees → Type 0) (old new : State) → Asked old.now.schema true old new → Rests schema P old → Rests schema P new
+asked_any_rests schema P old new h was = rests_before schema P old new was (h.stays.is_open refl) (h.kept (record { schema_is = refl; settled = was.settled; autocommit = was.autocommit }) (h.stays.is_open refl))
+
 -- ---- calls that change
 
 module _ (schema : Schema) {M : Type 0} (Before After : M → Trees → Type 0) where
