@@ -1,4 +1,10 @@
 // Laws of the definitions, each the contract of a function that does nothing.
+ghost use Rattle.sqlite.specs.Effect.{IsDatabase};
+ghost use Rattle.sqlite.specs.Held.{state};
+ghost use Rattle.sqlite.specs.State.{Opens};
+ghost use Rattle.sqlite.specs.declared.connection.Connection.{Connection};
+ghost use Rattle.sql_tables.specs.States.{Rests};
+ghost use Rattle.prof_tables.specs.Schema.{schema_one};
 ghost use Rattle.prof_tables.specs.Tables.{Tables, Holds};
 ghost use Rattle.prof_store.specs.Shown.{StandsFor, LeavesJust};
 ghost use Rattle.prof_store.specs.declared.store.Store.{Store};
@@ -8,4 +14,10 @@ use sqlite::Alter;
 /// What a store stands for survives: between calls a crash leaves tables that hold it.
 pub fn what_stands_survives<S: Alter>()
     ensures { (t : Tables) (store : Store S) → StandsFor S.Store t store → LeavesJust S.Store store (Holds t) }
+{}
+
+/// What a crash left is found again: a connection that was just opened, over tables that hold these lines,
+/// whatever schema it took them for, stands as `Store::open` wants it to take them up.
+pub fn what_is_left_is_taken_up<S: Alter>()
+    ensures { (t : Tables) (conn : Connection S) → Opens (state S.Store conn) → IsDatabase (state S.Store conn).now → Holds t (state S.Store conn).now.trees → Rests schema_one (Holds t) (state S.Store conn) }
 {}

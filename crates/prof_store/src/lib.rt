@@ -20,7 +20,7 @@ mod sums;
 mod totals;
 
 pub use entries::{GroupEntry, RunEntry};
-pub use laws::what_stands_survives;
+pub use laws::{what_is_left_is_taken_up, what_stands_survives};
 pub use profile_records::Kind;
 pub use sqlite::Alter;
 pub use statements::{select, select_first, select_row, write};

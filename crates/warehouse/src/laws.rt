@@ -1,23 +1,28 @@
 // Which histories a store has: laws of the definitions, each the contract of a function that does
 // nothing.
-ghost use Rattle.std.specs.Prelude.{[]};
+ghost use Rattle.std.specs.Prelude.{[], IsTrue};
 ghost use Rattle.prof_tables.specs.Tables.{Tables, Holds, new_tables};
 ghost use Rattle.prof_store.specs.Shown.{IsUsable, StandsFor, LeavesJust};
 ghost use Rattle.prof_store.specs.declared.store.Store.{Store};
-ghost use Rattle.histories.specs.History.{History};
+ghost use Rattle.histories.specs.History.{History, Said};
 ghost use Rattle.histories.specs.Stands.{TablesTell};
-ghost use Rattle.store_histories.specs.Answered.{HasHistory};
+ghost use Rattle.histories.specs.declared.answers.Answer.{Answer};
+ghost use Rattle.histories.specs.declared.limits.Limits.{Limits};
+ghost use Rattle.store_histories.specs.Answered.{HasHistory, Answers, Tells, is_accepted, with_turn};
 
 use prof_store::what_stands_survives;
 use sqlite::Alter;
 
 /// A new store has the empty history, and one that is opened has each history that its tables stand
 /// for. What was said and answered survives: as long as the store can be used, a crash between commands
-/// leaves tables that stand for all of it.
+/// leaves tables that stand for all of it. A command that was answered with a change is durable: a crash
+/// from then on leaves tables with it.
 pub fn histories_survive<S: Alter>()
     ensures new { (store : Store S) → StandsFor S.Store new_tables store → HasHistory S.Store [] store }
     ensures opened { (h : History) (t : Tables) (store : Store S) → TablesTell h t → StandsFor S.Store t store → HasHistory S.Store h store }
     ensures survives { (h : History) (store : Store S) → HasHistory S.Store h store → IsUsable S.Store store → LeavesJust S.Store store (λ db. (t : Tables) × Holds t db × TablesTell h t) }
+    ensures durable { (limits : Limits) (said : Said) (answer : Answer) (h : History) (old new : Store S) → Answers S.Store limits said answer old new → IsTrue (is_accepted answer) → HasHistory S.Store h old
+        → LeavesJust S.Store new (Tells (with_turn h said answer)) }
 {
     what_stands_survives::<S>();
 }
