@@ -1,7 +1,7 @@
 -- From the lines of a head to the head that they say.
 use Rattle.std.proofs.Common.{◌≡◌, ℕ, suc, ◌+◌, ◌-◌, ◌≤◌, arith, nat_lt, if◌then◌else◌, Bool, true, false, List, [], ◌∷◌, ◌++◌, map, take, drop, length, Option, Some, None, unwrap_or, option_map, string_bytes, refl, sym, ap, ap₂, ◌∙◌, append-nil, append_assoc, All, IsPermutation, subst}
 use Rattle.std.specs.Fmt.{decimal}
-use Rattle.std.specs.Option.{MatchOption, IfSome}
+use Rattle.std.specs.Option.{IfSome}
 use Rattle.std.proofs.lemmas.List.Elements.{All-head, All-tail}
 use Rattle.std.proofs.lemmas.List.{take_all, length-drop, length-map}
 use Rattle.sql_tables.proofs.Rows.{map-append}
@@ -10,7 +10,7 @@ use Rattle.sqlite_keyed.proofs.ListLemmas.{map-map}
 use Rattle.sqlite_value.specs.Order.{Row}
 use Rattle.cg_formulas.specs.declared.heads.FileHead.{FileHead}
 use Rattle.held_runs.specs.HeadLines.{event_columns, derived_columns, coef_columns}
-use Rattle.held_runs.specs.HeldHeads.{PlacedName, placed, name_columns, EventSaid, events_from, said_columns, CoefSaid, coefs_at, coefs_from, times_columns, IsHeadOf, IsReadFrom, event_place, event_total, event_line_said, derived_place, coef_line_said}
+use Rattle.held_runs.specs.HeldHeads.{States, PlacedName, placed, name_columns, EventSaid, events_from, said_columns, CoefSaid, coefs_at, coefs_from, times_columns, IsHeadOf, IsReadFrom, event_place, event_total, event_line_said, derived_place, coef_line_said}
 use Rattle.held_runs.specs.declared.head_lines.HeadEvent.{HeadEvent}
 use Rattle.held_runs.specs.declared.head_lines.HeadDerived.{HeadDerived}
 use Rattle.held_runs.specs.declared.head_lines.HeadCoef.{HeadCoef}
@@ -65,10 +65,6 @@ said_with at (line ∷ lines) (name ∷ names) (n ∷ sums) places totals =
     let one : event_line_said line ≡ record { place = at; name = name; stated = Some (decimal n) } =
     ap₂ (λ p m. record { place = p; name = m; stated = event_total line }) place named ∙ ap (λ s. record { place = at; name = name; stated = s }) total in
     ap₂ ◌∷◌ one (said_with (suc at) lines names sums more_places more_totals)
-
--- what is stated of the lines
-abbrev pub States : List HeadEvent → Option (List ℕ) → Type 0
-States lines stated = MatchOption stated (All (λ (line : HeadEvent). line.stated ≡ None) lines) (λ sums. map event_total lines ≡ map (λ n. Some (decimal n)) sums)
 
 pub said_events : (lines : List HeadEvent) (names : List (List ℕ)) (stated : Option (List ℕ)) → map event_place lines ≡ placed 0 names → States lines stated → map event_line_said lines ≡ events_from 0 names (unwrap_or stated [])
 said_events lines names None places none = said_without 0 lines names places none

@@ -1,5 +1,5 @@
 -- The head of a run, as the rows of its lines say it.
-use Rattle.std.specs.Prelude.{◌≡◌, ℕ, suc, nat_lt, if◌then◌else◌, IsTrue, List, [], ◌∷◌, ◌++◌, map, length, Option, Some, None, unwrap_or, option_map, string_bytes, IfSome, IsPermutation, true}
+use Rattle.std.specs.Prelude.{◌≡◌, ℕ, suc, nat_lt, if◌then◌else◌, IsTrue, List, [], ◌∷◌, ◌++◌, map, length, Option, Some, None, unwrap_or, option_map, string_bytes, IfSome, IsPermutation, MatchOption, All, true}
 use Rattle.std.specs.Fmt.{decimal}
 use Rattle.sqlite_value.specs.declared.value.Value.TheVariants.{Blob}
 use Rattle.sqlite_value.specs.Order.{Row}
@@ -106,6 +106,10 @@ event_place e = record { place = e.place; name = e.name.items }
 
 abbrev pub event_total : HeadEvent → Option (List ℕ)
 event_total e = option_map string_bytes e.stated
+
+-- the totals that lines state: each of them one, or none
+abbrev pub States : List HeadEvent → Option (List ℕ) → Type 0
+States lines stated = MatchOption stated (All (λ (line : HeadEvent). line.stated ≡ None) lines) (λ sums. map event_total lines ≡ map (λ n. Some (decimal n)) sums)
 
 abbrev pub event_line_said : HeadEvent → EventSaid
 event_line_said e = record { place = e.place; name = e.name.items; stated = option_map string_bytes e.stated }

@@ -1,5 +1,5 @@
 -- The names that are held, beside the rows and the lines that they show.
-use Rattle.std.specs.Prelude.{ℕ, Bool, ◌==◌, List, [], ◌∷◌}
+use Rattle.std.specs.Prelude.{◌≡◌, ◌<◌, ℕ, Bool, ◌==◌, List, [], ◌∷◌, get_or, length}
 use Rattle.std.specs.List.{list_any}
 use Rattle.sqlite_value.specs.declared.value.Value.TheVariants.{Blob}
 use Rattle.sqlite_value.specs.Order.{Row, column}
@@ -19,3 +19,7 @@ name_shown line = number line.number ∷ Blob line.name ∷ []
 -- whether a name has this number
 abbrev pub has_number : List NameLine → ℕ → Bool
 has_number names n = list_any (λ (line : NameLine). line.number == n) names
+
+-- the name at a place is this one, of this number
+abbrev pub IsNameAt : List HeldName → ℕ → ℕ → List ℕ → Type 0
+IsNameAt names at number name = (at < length names) × ((d : HeldName) → ((get_or names at d).number ≡ number) × (name ≡ (get_or names at d).bytes.items))

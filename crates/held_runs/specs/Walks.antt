@@ -1,5 +1,5 @@
 -- A walk over the rows of a run, in one of the tables whose rows are lines of runs.
-use Rattle.std.specs.Prelude.{◌≡◌, ◌≢◌, ◌&&◌, ℕ, ◌+◌, pos, Bool, false, List, [], ◌∷◌, ◌++◌, drop, filter, map, Option, Some, None}
+use Rattle.std.specs.Prelude.{◌≡◌, ◌≢◌, ◌&&◌, ℕ, ◌+◌, pos, Bool, false, List, [], ◌∷◌, ◌++◌, drop, filter, map, Option, Some, None, Result, IfOk}
 use Rattle.sqlite_value.specs.declared.value.Value.TheVariants.{Null, Int}
 use Rattle.sqlite_value.specs.Order.{Row, column}
 use Rattle.sqlite_trees.specs.View.{IsShaped}
@@ -10,11 +10,12 @@ use Rattle.sql_tables.specs.Walks.{Asked, Reads, HasReadAll, in_page, in_window}
 use Rattle.prof_tables.specs.Schema.{schema_one, cell_at, arc_at, stack_at}
 use Rattle.prof_tables.specs.WalkTexts.{cell_window_text, cell_ends_text, cells_of, arc_window_text, arc_ends_text, arcs_of, stack_window_text, stack_ends_text, stacks_of}
 use Rattle.prof_store.specs.declared.store.Store.{Store}
+use Rattle.store_columns.specs.declared.errors.StoreEnd.{StoreEnd}
 use Rattle.held_runs.specs.declared.walks.Listed.{Listed}
 use Rattle.held_runs.specs.declared.walks.Listed.TheVariants.{Cells, Arcs, Stacks}
 use Rattle.held_runs.specs.declared.walks.Span.{Span}
 use Rattle.held_runs.specs.declared.walks.Walk.{Walk}
-use Rattle.prof_store.specs.Shown.{Asks, shown}
+use Rattle.prof_store.specs.Shown.{Asks, IsFaithful, shown}
 
 abbrev pub tree_of : Listed → ℕ
 tree_of Cells = cell_at.tree
@@ -44,6 +45,10 @@ page_of table run low high rows = map (in_page (asked table run)) (filter (in_wi
 -- where the rows lie, by the row of the least and the greatest rowid, which has NULL where there are none
 abbrev pub IsSpanIn : Row → Span → Type 0
 IsSpanIn row span = column row 0 ≢ Null → (column row 0 ≡ Int (pos (span.low + 1))) × (column row 1 ≡ Int (pos span.top))
+
+-- no row of the page is left
+abbrev pub IsRead : {S : Type 0} → Store S → Walk → Type 0
+IsRead store walk = drop walk.at store.page.items ≡ []
 
 -- the schema is schema 1, and the rows of these tables have rowids that rise
 pub record IsReady (s : State) : Type 0 where
@@ -77,6 +82,20 @@ module _ {S : Type 0} (g : Ghosts S) where
   abbrev pub GivesOn : {L : Type 0} → Listed → (L → Row) → List Row → Store S → Walk → Option L → Type 0
   GivesOn table columns given store walk (Some line) = Gives table (given ++ columns line ∷ []) store walk
   GivesOn table columns given store walk None = Gives table given store walk × HasWalked given store walk
+
+  -- ---- a call
+
+  -- what is told of a store whose tables can be walked
+  abbrev pub OfReady : Store S → Store S → Type 0 → Type 0
+  OfReady old new P = IsFaithful g new → IsReady (shown g old) → P
+
+  -- what is told of a walk that has given these rows
+  abbrev pub Moves : Store S → Walk → Store S → (List Row → Type 0) → Type 0
+  Moves old walk new P = IsFaithful g new → (given : List Row) → Walks given old walk → P given
+
+  -- what was given grows by the line that is answered
+  abbrev pub GivesLine : {L : Type 0} → Listed → (L → Row) → Store S → Walk → Store S → Walk → Result (Option L) StoreEnd → Type 0
+  GivesLine table columns old walk new next result = IsFaithful g new → (given : List Row) → Gives table given old walk → IfOk result (GivesOn table columns given new next)
 
   -- a call that asks where it has to: a page at hand is given without, so an answer tells nothing of a store that was not open
   abbrev pub AsksIfOpen : Bool → Store S → Store S → Type 0

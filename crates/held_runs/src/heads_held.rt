@@ -1,7 +1,7 @@
 // The head of a run, from its lines.
-ghost use Rattle.std.specs.Prelude.{◌≡◌, ◌≤◌, ◌++◌, [], ◌∷◌, map, take, length, true, All, Some, None, IfOk, MatchOption};
+ghost use Rattle.std.specs.Prelude.{◌≡◌, ◌≤◌, ◌++◌, [], ◌∷◌, map, take, length, Some, None, IfOk};
 ghost use Rattle.std.specs.Fmt.{decimal};
-ghost use Rattle.held_runs.specs.HeldHeads.{placed, event_place, event_total, derived_place, coef_line_said, coefs_at, coefs_from, IsReadFrom};
+ghost use Rattle.held_runs.specs.HeldHeads.{placed, event_place, event_total, States, derived_place, coef_line_said, coefs_at, coefs_from, IsReadFrom};
 
 use crate::head_lines::{HeadCoef, HeadDerived, HeadEvent};
 use cg_formulas::{FileHead, Flat};
@@ -72,7 +72,7 @@ fn all_stated(alloc: Global, lines: &[HeadEvent]) -> Result<Items<u128>, StoreEn
 
 /// The totals that are stated, if each event has one, or none has.
 fn stated_in(alloc: Global, lines: &[HeadEvent]) -> Result<Option<Items<u128>>, StoreEnd>
-    ensures read { IfOk result (λ stated. MatchOption stated (All (λ line. line.stated ≡ None) lines.now) (λ sums. map event_total lines.now ≡ map (λ n. Some (decimal n)) sums)) }
+    ensures read { IfOk result (States lines.now) }
 {
     if lines.iter().all(|line| line.stated.is_none()) {
         return Ok(None);

@@ -5,7 +5,7 @@ ghost use Rattle.std.specs.Result.{is_ok};
 ghost use Rattle.sqlite_trees.specs.Tree.{IsAscending};
 ghost use Rattle.prof_books.specs.Book.{name_of, IsHeld};
 ghost use Rattle.held_runs.specs.HeadLines.{first_two};
-ghost use Rattle.held_runs.specs.NameLines.{name_line, name_seen, name_shown, has_number};
+ghost use Rattle.held_runs.specs.NameLines.{name_line, name_seen, name_shown, has_number, IsNameAt};
 ghost use Rattle.held_runs.specs.Told.{Tells, Finds};
 ghost use Rattle.prof_store.specs.Shown.{Asks};
 
@@ -91,7 +91,7 @@ fn names_in(alloc: Global, rows: &[Row]) -> Result<HeldNames, StoreEnd>
 /// The name at a place, if it has the number.
 fn name_at(names: &[HeldName], at: usize, number: u32) -> Option<&[u8]>
     ensures none { result ≡ None → (d : _) → at < length names.now → (get_or names.now at d).number ≢ number }
-    ensures some { IfSome result (λ name. (at < length names.now) × ((d : _) → ((get_or names.now at d).number ≡ number) × (name.now ≡ (get_or names.now at d).bytes.items))) }
+    ensures some { IfSome result (λ name. IsNameAt names.now at number name.now) }
 {
     match names.get(at) {
         Some(name) if name.number == number => Some(&name.bytes),

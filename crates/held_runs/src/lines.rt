@@ -2,9 +2,9 @@
 ghost use Rattle.std.specs.Prelude.{◌≡◌, [], Some, None, IfOk};
 ghost use Rattle.std.specs.Result.{is_ok};
 ghost use Rattle.sql_tables.specs.Walks.{read_from};
-ghost use Rattle.prof_store.specs.Shown.{shown, IsFaithful};
-ghost use Rattle.held_runs.specs.LineWalks.{IsSameWalk, KeepsError, AnswersAgain, GivesLine};
-ghost use Rattle.held_runs.specs.Walks.{asked, IsReady, AsksIfOpen, Gives, GivesOn};
+ghost use Rattle.prof_store.specs.Shown.{shown};
+ghost use Rattle.held_runs.specs.LineWalks.{IsSameWalk, KeepsError, AnswersAgain};
+ghost use Rattle.held_runs.specs.Walks.{asked, IsReady, AsksIfOpen, Gives, GivesLine};
 
 use crate::walks::{Listed, Walk, has_row};
 use prof_store::Store;
@@ -12,7 +12,7 @@ use sqlite::{Alter, Row};
 use std::marker::PhantomData;
 use store_columns::StoreEnd;
 
-/// What a row of a run's table is read as.
+/// What a row is read as, in one of the tables whose rows are lines of runs.
 pub(crate) trait Line: Sized {
     ghost use Rattle.sqlite_value.specs.Order.{Row};
     ghost use Rattle.held_runs.specs.declared.walks.Listed.{Listed};
@@ -38,7 +38,7 @@ fn next_line<S: Alter, L: Line>(
     walk: &mut Walk,
 ) -> Result<Option<L>, StoreEnd>
     ensures run { walk.new.run ≡ walk.old.run }
-    ensures given { IsFaithful S.Store store.new → (given : _) → Gives S.Store L.listed given store.old walk.old → IfOk result (GivesOn S.Store L.listed L.columns given store.new walk.new) }
+    ensures given { GivesLine S.Store L.listed L.columns store.old walk.old store.new walk.new result }
     ensures asks { AsksIfOpen S.Store (is_ok result) store.old store.new }
 {
     if !has_row(store, walk)? {
@@ -59,7 +59,9 @@ fn next_line<S: Alter, L: Line>(
 pub(crate) struct Lines<'a, S: Alter, L: Line> {
     pub store: &'a mut Store<S>,
     pub walk: Walk,
+    /// The error that ended the walk.
     pub failed: Option<StoreEnd>,
+    /// What a row is read as.
     pub of: PhantomData<L>,
 }
 
@@ -86,7 +88,7 @@ impl<'a, S: Alter, L: Line> Lines<'a, S, L> {
         ensures same { IsSameWalk self.old self.new }
         ensures failed { KeepsError self.old self.new result }
         ensures again { AnswersAgain self.old self.new result }
-        ensures given { GivesLine S.Store L.listed L.columns self.old self.new result }
+        ensures given { GivesLine S.Store L.listed L.columns self.old.store.now self.old.walk self.new.store.now self.new.walk result }
         ensures asks { AsksIfOpen S.Store (is_ok result) self.old.store.now self.new.store.now }
     {
         if let Some(end) = self.failed {

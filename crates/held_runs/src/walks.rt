@@ -1,10 +1,10 @@
 // Walks over the rows of a run.
-ghost use Rattle.std.specs.Prelude.{◌≡◌, [], true, false, map, drop, IfOk, OnOk, filter};
+ghost use Rattle.std.specs.Prelude.{◌≡◌, true, false, IfOk, OnOk};
 ghost use Rattle.std.specs.Result.{is_ok};
 ghost use Rattle.sqlite_trees.specs.Tree.{IsTable};
-ghost use Rattle.prof_store.specs.Shown.{shown, Asks, IsFaithful};
-ghost use Rattle.sql_tables.specs.Walks.{in_page, in_window, Lie};
-ghost use Rattle.held_runs.specs.Walks.{window_text_of, ends_text_of, asked, page_of, rows_of, IsSpanIn, IsReady, AsksIfOpen, WalksOn, Walks};
+ghost use Rattle.prof_store.specs.Shown.{Asks};
+ghost use Rattle.sql_tables.specs.Walks.{Lie};
+ghost use Rattle.held_runs.specs.Walks.{window_text_of, ends_text_of, asked, page_of, rows_of, IsSpanIn, IsRead, OfReady, AsksIfOpen, Moves, WalksOn, Walks};
 
 use prof_store::{Store, select, select_row};
 use sqlite::{Alter, Row, params};
@@ -118,7 +118,7 @@ fn span_in(row: &Row) -> Result<Span, StoreEnd>
 
 /// Where the rows of a run lie.
 fn span_of<S: Alter>(store: &mut Store<S>, table: Listed, run: u32) -> Result<Span, StoreEnd>
-    ensures lie { IsFaithful S.Store store.new → IsReady (shown S.Store store.old) → IfOk result (λ span. Lie (asked table run) (rows_of S.Store table store.new) span.low span.top) }
+    ensures lie { OfReady S.Store store.old store.new (IfOk result (λ span. Lie (asked table run) (rows_of S.Store table store.new) span.low span.top)) }
     ensures page { store.new.page ≡ store.old.page }
     ensures asks { Asks S.Store (is_ok result) store.old store.new }
 {
@@ -134,7 +134,7 @@ fn load<S: Alter>(
     low: u32,
     high: u32,
 ) -> Result<(), StoreEnd>
-    ensures loaded { IsFaithful S.Store store.new → IsReady (shown S.Store store.old) → OnOk result (store.new.page.items ≡ page_of table run low high (rows_of S.Store table store.old)) }
+    ensures loaded { OfReady S.Store store.old store.new (OnOk result (store.new.page.items ≡ page_of table run low high (rows_of S.Store table store.old))) }
     ensures asks { Asks S.Store (is_ok result) store.old store.new }
 {
     let rows = select(&mut store.conn, window_text(table), params![run, low, high])?;
@@ -149,7 +149,7 @@ fn place<S: Alter>(store: &mut Store<S>, walk: &mut Walk) -> Result<(), StoreEnd
     ensures page { store.new.page ≡ store.old.page }
     ensures at { walk.new.at ≡ walk.old.at }
     ensures placed { OnOk result (walk.new.placed ≡ true) }
-    ensures moved { IsFaithful S.Store store.new → (given : _) → Walks S.Store given store.old walk.old → OnOk result (Walks S.Store given store.new walk.new) }
+    ensures moved { Moves S.Store store.old walk.old store.new (λ given. OnOk result (Walks S.Store given store.new walk.new)) }
     ensures asks { AsksIfOpen S.Store (is_ok result) store.old store.new }
 {
     if !walk.placed {
@@ -165,7 +165,7 @@ fn place<S: Alter>(store: &mut Store<S>, walk: &mut Walk) -> Result<(), StoreEnd
 fn turn<S: Alter>(store: &mut Store<S>, walk: &mut Walk) -> Result<bool, StoreEnd>
     ensures table { walk.new.table ≡ walk.old.table }
     ensures run { walk.new.run ≡ walk.old.run }
-    ensures moved { IsFaithful S.Store store.new → (given : _) → Walks S.Store given store.old walk.old → drop walk.old.at store.old.page.items ≡ [] → IfOk result (WalksOn S.Store given store.new walk.new) }
+    ensures moved { Moves S.Store store.old walk.old store.new (λ given. IsRead store.old walk.old → IfOk result (WalksOn S.Store given store.new walk.new)) }
     ensures asks { AsksIfOpen S.Store (is_ok result) store.old store.new }
 {
     place(store, walk)?;
@@ -187,7 +187,7 @@ fn turn<S: Alter>(store: &mut Store<S>, walk: &mut Walk) -> Result<bool, StoreEn
 pub(crate) fn has_row<S: Alter>(store: &mut Store<S>, walk: &mut Walk) -> Result<bool, StoreEnd>
     ensures table { walk.new.table ≡ walk.old.table }
     ensures run { walk.new.run ≡ walk.old.run }
-    ensures moved { IsFaithful S.Store store.new → (given : _) → Walks S.Store given store.old walk.old → IfOk result (WalksOn S.Store given store.new walk.new) }
+    ensures moved { Moves S.Store store.old walk.old store.new (λ given. IfOk result (WalksOn S.Store given store.new walk.new)) }
     ensures asks { AsksIfOpen S.Store (is_ok result) store.old store.new }
 {
     'pages: for _ in 0..u64::MAX {
