@@ -6,16 +6,12 @@ use Rattle.sqlite_value.specs.Order.{Row}
 use Rattle.sqlite_trees.specs.Tree.{Trees}
 use Rattle.sqlite.specs.declared.error.Error.{Error}
 use Rattle.sqlite.specs.Listing.{understood}
-use Rattle.sqlite.specs.State.{State, HasCleanDisk, Survives, CommitsShowing, QueriesRow, Shown, FailsToQuery}
+use Rattle.sqlite.specs.State.{State, HasCleanDisk, Survives, CommitsShowing, QueriesRow}
 use Rattle.sqlite.proofs.Callers.{IsPlain}
-use Rattle.sqlite_trees.specs.declared.store.Store.{Ghosts}
 use Rattle.sql_tables.specs.States.{Rests, LeavesOnly}
-use Rattle.sql_tables.proofs.Queries.{row_keeps, shown_keeps, fails_keeps, commits_nothing}
+use Rattle.sql_tables.proofs.Queries.{row_keeps, shown_keeps, commits_nothing}
 use Rattle.sql_tables.proofs.Statements.{rests_if_kept, rests_if_same}
 use Rattle.prof_tables.specs.Schema.{schema_one}
-use Rattle.prof_store.specs.declared.store.Store.{Store}
-use Rattle.prof_store.specs.Shown.{shown, IsUsable, IsSettled, IsAsBefore}
-use Rattle.prof_store.proofs.Writing.{as_before}
 
 -- what holds however it goes
 pub on_ok : {T E : Type 0} (P : Type 0) (r : Result T E) → P → OnOk r P
@@ -38,10 +34,6 @@ pub either_found : {X : Type 0} {P R : Type 0} {Q S : X → Type 0} (found : Opt
 either_found None h f k = f h
 either_found (Some x) h f k = k x h
 
-pub either_case : {X : Type 0} {P R : Type 0} {Q : X → Type 0} (found : Option X) → MatchOption found P Q → (P → R) → ((x : X) → Q x → R) → R
-either_case None h f k = f h
-either_case (Some x) h f k = k x h
-
 module _ (sql : List ℕ) (params : Row) (plain : IsPlain (understood schema_one sql)) (P : Trees → Type 0) (old new : State) (was : Rests schema_one P old) where
   -- after a query for one row
   pub row_kept : (r : Result Row Error) → QueriesRow sql params old new r → IsTrue new.is_open → Rests schema_one P new
@@ -52,26 +44,5 @@ module _ (sql : List ℕ) (params : Row) (plain : IsPlain (understood schema_one
   row_stays row (inl h) = rests_if_same schema_one P old new was h.1
   row_stays row (inr h) = rests_if_same schema_one P old new was (shown_keeps schema_one sql params old new was.schema_is plain h.0 h.1)
 
-  -- after a query for all rows
-  pub rows_stay : (rows : List Row) → Shown sql params old new rows → Rests schema_one P new
-  rows_stay rows h = rests_if_same schema_one P old new was (shown_keeps schema_one sql params old new was.schema_is plain rows h)
-
-  pub fails_kept : (e : Error) → FailsToQuery sql params old new e → IsTrue new.is_open → Rests schema_one P new
-  fails_kept e h is_open = rests_if_kept schema_one P old new was is_open (fails_keeps schema_one sql params old new was.schema_is plain e h)
-
   pub leaves_nothing : Survives old new (CommitsShowing sql params old) → HasCleanDisk new → LeavesOnly old new (λ _. ⊥)
   leaves_nothing h clean = (commits_nothing schema_one sql params old new was.schema_is plain h).crash clean
-
-pub same_after : (sql : List ℕ) (params : Row) → IsPlain (understood schema_one sql) → (old new : State) → old.now.schema ≡ schema_one → (rows : List Row) → Shown sql params old new rows → new.now ≡ old.now
-same_after sql params plain old new has rows h = (shown_keeps schema_one sql params old new has plain rows h).0.now_is
-
--- in tables of schema 1, whatever stands in them
-module _ (sql : List ℕ) (params : Row) (plain : IsPlain (understood schema_one sql)) {S : Type 0} (g : Ghosts S) (old new : Store S) (was : IsSettled g old) where
-  pub rows_as_before : (rows : List Row) → Shown sql params (shown g old) (shown g new) rows → IsUsable g new → IsAsBefore g old new
-  rows_as_before rows h is_open = as_before g old new was is_open (inl (shown_keeps schema_one sql params (shown g old) (shown g new) was.schema_is plain rows h))
-
-  pub fails_as_before : (e : Error) → FailsToQuery sql params (shown g old) (shown g new) e → IsUsable g new → IsAsBefore g old new
-  fails_as_before e h is_open = as_before g old new was is_open (fails_keeps schema_one sql params (shown g old) (shown g new) was.schema_is plain e h)
-
-  pub row_as_before : (r : Result Row Error) → QueriesRow sql params (shown g old) (shown g new) r → IsUsable g new → IsAsBefore g old new
-  row_as_before r h is_open = as_before g old new was is_open (row_keeps schema_one sql params (shown g old) (shown g new) was.schema_is plain r h)
