@@ -14,7 +14,7 @@ use Rattle.store_columns.specs.declared.lines.ArcLine.{ArcLine}
 use Rattle.held_runs.specs.declared.arcs.Arcs.{Arcs}
 use Rattle.held_runs.specs.declared.walks.Listed.TheVariants as table
 use Rattle.held_runs.specs.LineWalks.{IsSameWalk}
-use Rattle.held_runs.specs.Told.{Tells}
+use Rattle.prof_store.specs.Shown.{Tells}
 use Rattle.held_runs.specs.Walks.{Gives, HasWalked}
 
 -- a row as it is lent

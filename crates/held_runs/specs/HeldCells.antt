@@ -13,7 +13,7 @@ use Rattle.store_columns.specs.declared.errors.StoreEnd.{StoreEnd}
 use Rattle.held_runs.specs.declared.cells.Cells.{Cells}
 use Rattle.held_runs.specs.declared.walks.Listed.TheVariants as table
 use Rattle.held_runs.specs.LineWalks.{IsSameWalk}
-use Rattle.held_runs.specs.Told.{Tells}
+use Rattle.prof_store.specs.Shown.{Tells}
 use Rattle.held_runs.specs.Walks.{Gives, HasWalked}
 
 -- a cell is of one of so many events

@@ -9,7 +9,7 @@ use Rattle.prof_store.specs.Shown.{IsFaithful}
 use Rattle.store_columns.specs.declared.errors.StoreEnd.{StoreEnd}
 use Rattle.held_runs.specs.declared.stacks.Stacks.{Stacks}
 use Rattle.held_runs.specs.declared.walks.Listed.TheVariants as table
-use Rattle.held_runs.specs.Told.{Tells}
+use Rattle.prof_store.specs.Shown.{Tells}
 use Rattle.held_runs.specs.Walks.{Gives, HasWalked}
 
 abbrev pub plain_held : {Z : Type 0} → StackRow (Vec ℕ Z) → StackRow (List ℕ)

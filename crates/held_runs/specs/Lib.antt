@@ -5,5 +5,4 @@ pub mod HeldHeads
 pub mod HeldStacks
 pub mod LineWalks
 pub mod NameLines
-pub mod Told
 pub mod Walks

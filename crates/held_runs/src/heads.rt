@@ -2,7 +2,7 @@
 ghost use Rattle.std.specs.Prelude.{IfOk};
 ghost use Rattle.std.specs.Result.{is_ok};
 ghost use Rattle.held_runs.specs.HeldHeads.{IsHeadIn, IsHeadAt, IsReadIn, IsReadAt};
-ghost use Rattle.held_runs.specs.Told.{Tells, Finds};
+ghost use Rattle.prof_store.specs.Shown.{Tells, Finds};
 ghost use Rattle.prof_store.specs.Shown.{Asks};
 
 use crate::head_lines::{coefs_of, derived_of, events_of};

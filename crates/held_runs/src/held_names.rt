@@ -6,7 +6,7 @@ ghost use Rattle.sqlite_trees.specs.Tree.{IsAscending};
 ghost use Rattle.prof_books.specs.Book.{name_of, IsHeld};
 ghost use Rattle.held_runs.specs.HeadLines.{first_two};
 ghost use Rattle.held_runs.specs.NameLines.{name_line, name_seen, name_shown, has_number, IsNameAt};
-ghost use Rattle.held_runs.specs.Told.{Tells, Finds};
+ghost use Rattle.prof_store.specs.Shown.{Tells, Finds};
 ghost use Rattle.prof_store.specs.Shown.{Asks};
 
 use prof_store::{Store, select};

@@ -54,3 +54,11 @@ module _ {S : Type 0} (g : Ghosts S) where
   -- the same of tables that are in a state for it
   abbrev pub ChangesIf : Bool → (Tables → Type 0) → (Tables → Tables) → Store S → Store S → Type 0
   ChangesIf done given change old new = IsFaithful new → Changed schema_one (λ t db. given t × Holds t db) (λ t. Holds (change t)) done done (shown old) (shown new)
+
+  -- what an answer tells of the lines that the tables held before the call
+  abbrev pub Tells : Store S → Store S → (Tables → Type 0) → Type 0
+  Tells old new P = IsFaithful new → (t : Tables) → StandsFor t old → P t
+
+  -- what it tells of the rows of any tables of schema 1
+  abbrev pub Finds : Store S → Store S → (Trees → Type 0) → Type 0
+  Finds old new P = IsFaithful new → (shown old).now.schema ≡ schema_one → P (shown old).now.trees

@@ -1,9 +1,15 @@
 -- What came of a statement.
-use Rattle.std.specs.Prelude.{ℕ, List, Option, Some, None, Result, Ok, Err}
+use Rattle.std.specs.Prelude.{ℕ, Bool, List, Vec, Option, Some, None, Result, Ok, Err, IfOk}
+use Rattle.std.specs.Global.{Global}
 use Rattle.sqlite_value.specs.Order.{Row}
 use Rattle.sqlite.specs.declared.error.Error.{Error}
 use Rattle.sqlite.specs.declared.error.Error.TheVariants.{QueryReturnedNoRows}
-use Rattle.sqlite.specs.State.{State, Executes}
+use Rattle.sqlite.specs.declared.rows.Row as rows
+use Rattle.sqlite.specs.Given.{IsPlain}
+use Rattle.sqlite.specs.Listing.{understood}
+use Rattle.sqlite.specs.State.{State, HasCleanDisk, Executes, QueriesRow, Shown}
+use Rattle.sql_tables.specs.Calls.{Asked}
+use Rattle.prof_tables.specs.Schema.{schema_one}
 use Rattle.store_columns.specs.declared.errors.StoreEnd.{StoreEnd}
 
 -- it was run, or failed with some error
@@ -15,3 +21,19 @@ Ran sql params old new (Err end) = (error : Error) × Executes sql params old ne
 abbrev pub row_or_none : Option Row → Result Row Error
 row_or_none (Some row) = Ok row
 row_or_none None = Err QueryReturnedNoRows
+
+-- a text that only reads the tables asks
+abbrev pub AsksBy : List ℕ → Bool → State → State → Type 0
+AsksBy sql answered old new = HasCleanDisk new → IsPlain (understood schema_one sql) → Asked schema_one answered old new
+
+-- its rows are those that the query shows
+abbrev pub ShowsAll : List ℕ → Row → State → State → Result (Vec rows.Row Global) StoreEnd → Type 0
+ShowsAll sql params old new result = HasCleanDisk new → IfOk result (λ found. Shown sql params old new found.items)
+
+-- it is the first that the query shows
+abbrev pub ShowsRow : List ℕ → Row → State → State → Result rows.Row StoreEnd → Type 0
+ShowsRow sql params old new result = HasCleanDisk new → IfOk result (λ row. QueriesRow sql params old new (Ok row))
+
+-- it is the first that the query shows, or the query shows none
+abbrev pub ShowsFirst : List ℕ → Row → State → State → Result (Option rows.Row) StoreEnd → Type 0
+ShowsFirst sql params old new result = HasCleanDisk new → IfOk result (λ row. QueriesRow sql params old new (row_or_none row))

@@ -4,8 +4,7 @@ ghost use Rattle.std.specs.Result.{is_ok};
 ghost use Rattle.sqlite_value.specs.declared.value.Value.TheVariants.{Int, Blob};
 ghost use Rattle.sqlite_value.specs.Order.{column};
 ghost use Rattle.sqlite_rules.specs.Lists.{Has};
-ghost use Rattle.prof_tables.specs.Schema.{schema_one};
-ghost use Rattle.prof_store.specs.Shown.{Asks, IsFaithful, StandsFor, shown};
+ghost use Rattle.prof_store.specs.Shown.{Asks, Finds, Tells, shown};
 
 use crate::statements::select_first;
 use crate::store::Store;
@@ -25,8 +24,8 @@ fn number_in(row: Option<Row>) -> Result<Option<u32>, StoreEnd>
 impl<S: Alter> Store<S> {
     /// The run that has a digest, if one is held.
     pub fn run_of_digest(&mut self, digest: &[u8]) -> Result<Option<u32>, StoreEnd>
-        ensures told { IsFaithful S.Store self.new → (t : _) → StandsFor S.Store t self.old → IfOk result (λ found. MatchOption found ((r : _) → Has t.runs r → r.digest ≢ digest.now) (λ n. (r : _) × Has t.runs r × (r.digest ≡ digest.now) × (r.number ≡ n))) }
-        ensures found { IsFaithful S.Store self.new → (shown S.Store self.old).now.schema ≡ schema_one → IfOk result (λ found. MatchOption found ((r : _) → Has ((shown S.Store self.old).now.trees 1) r → column r 3 ≢ Blob digest.now) (λ n. (r : _) × Has ((shown S.Store self.old).now.trees 1) r × (column r 3 ≡ Blob digest.now) × (column r 0 ≡ Int (pos n)))) }
+        ensures told { Tells S.Store self.old self.new (λ t. IfOk result (λ found. MatchOption found ((r : _) → Has t.runs r → r.digest ≢ digest.now) (λ n. (r : _) × Has t.runs r × (r.digest ≡ digest.now) × (r.number ≡ n)))) }
+        ensures found { Finds S.Store self.old self.new (λ db. IfOk result (λ found. MatchOption found ((r : _) → Has (db 1) r → column r 3 ≢ Blob digest.now) (λ n. (r : _) × Has (db 1) r × (column r 3 ≡ Blob digest.now) × (column r 0 ≡ Int (pos n))))) }
         ensures asks { Asks S.Store (is_ok result) self.old self.new }
     {
         let row = select_first(

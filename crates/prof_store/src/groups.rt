@@ -2,11 +2,10 @@
 ghost use Rattle.std.specs.Prelude.{◌≡◌, ◌<◌, ◌≤◌, [], map, flat_map, length, take, string_bytes, IfOk, IsTrue, IsPermutation};
 ghost use Rattle.std.specs.List.{AllAdjacentBelow, AllByRecursion};
 ghost use Rattle.std.specs.Result.{is_ok};
-ghost use Rattle.prof_tables.specs.Schema.{schema_one};
 ghost use Rattle.prof_tables.specs.Seen.{group_seen, member_seen};
 ghost use Rattle.prof_tables.specs.Tables.{group_columns, member_columns};
 ghost use Rattle.prof_store.specs.Groups.{first_two, IsBefore, entry_group, entry_members, member_of, member_line, members_in};
-ghost use Rattle.prof_store.specs.Shown.{Asks, IsFaithful, StandsFor, shown};
+ghost use Rattle.prof_store.specs.Shown.{Asks, Finds, Tells};
 
 use crate::entries::GroupEntry;
 use crate::statements::select;
@@ -139,8 +138,8 @@ fn groups_in(alloc: Global, rows: &[Row], members: &[Member]) -> Result<Vec<Grou
 impl<S: Alter> Store<S> {
     /// The members of all groups, by group and run.
     fn members(&mut self, alloc: Global) -> Result<Vec<Member>, StoreEnd>
-        ensures told { IsFaithful S.Store self.new → (t : _) → StandsFor S.Store t self.old → IfOk result (λ members. IsPermutation t.members (map member_line members.items)) }
-        ensures found { IsFaithful S.Store self.new → (shown S.Store self.old).now.schema ≡ schema_one → IfOk result (λ members. IsPermutation (map member_seen ((shown S.Store self.old).now.trees 21)) (map (λ m. member_columns (member_line m)) members.items)) }
+        ensures told { Tells S.Store self.old self.new (λ t. IfOk result (λ members. IsPermutation t.members (map member_line members.items))) }
+        ensures found { Finds S.Store self.old self.new (λ db. IfOk result (λ members. IsPermutation (map member_seen (db 21)) (map (λ m. member_columns (member_line m)) members.items))) }
         ensures asks { Asks S.Store (is_ok result) self.old self.new }
     {
         let rows = select(
@@ -153,8 +152,8 @@ impl<S: Alter> Store<S> {
 
     /// The groups with these members, by name.
     fn groups_of(&mut self, alloc: Global, members: &[Member]) -> Result<Vec<GroupEntry>, StoreEnd>
-        ensures told { IsFaithful S.Store self.new → (t : _) → StandsFor S.Store t self.old → IfOk result (λ entries. IsPermutation t.groups (map entry_group entries.items)) }
-        ensures found { IsFaithful S.Store self.new → (shown S.Store self.old).now.schema ≡ schema_one → IfOk result (λ entries. IsPermutation (map group_seen ((shown S.Store self.old).now.trees 19)) (map (λ e. group_columns (entry_group e)) entries.items)) }
+        ensures told { Tells S.Store self.old self.new (λ t. IfOk result (λ entries. IsPermutation t.groups (map entry_group entries.items))) }
+        ensures found { Finds S.Store self.old self.new (λ db. IfOk result (λ entries. IsPermutation (map group_seen (db 19)) (map (λ e. group_columns (entry_group e)) entries.items))) }
         ensures members { IfOk result (λ entries. flat_map entry_members entries.items ≡ map member_line members.now) }
         ensures rising { IfOk result (λ entries. AllAdjacentBelow IsBefore entries.items (length entries.items)) }
         ensures asks { Asks S.Store (is_ok result) self.old self.new }
@@ -169,9 +168,9 @@ impl<S: Alter> Store<S> {
 
     /// The groups with their members, by name.
     pub fn groups(&mut self, alloc: Global) -> Result<Vec<GroupEntry>, StoreEnd>
-        ensures told { IsFaithful S.Store self.new → (t : _) → StandsFor S.Store t self.old → IfOk result (λ entries. IsPermutation t.groups (map entry_group entries.items) × IsPermutation t.members (flat_map entry_members entries.items)) }
-        ensures found { IsFaithful S.Store self.new → (shown S.Store self.old).now.schema ≡ schema_one → IfOk result (λ entries. IsPermutation (map group_seen ((shown S.Store self.old).now.trees 19)) (map (λ e. group_columns (entry_group e)) entries.items) × IsPermutation (map member_seen ((shown S.Store self.old).now.trees 21)) (map member_columns (flat_map entry_members entries.items))) }
-        ensures members { IsFaithful S.Store self.new → (t : _) → StandsFor S.Store t self.old → IfOk result (λ entries. AllByRecursion (λ e. IsPermutation (members_in (string_bytes e.name) t.members) (entry_members e)) entries.items) }
+        ensures told { Tells S.Store self.old self.new (λ t. IfOk result (λ entries. IsPermutation t.groups (map entry_group entries.items) × IsPermutation t.members (flat_map entry_members entries.items))) }
+        ensures found { Finds S.Store self.old self.new (λ db. IfOk result (λ entries. IsPermutation (map group_seen (db 19)) (map (λ e. group_columns (entry_group e)) entries.items) × IsPermutation (map member_seen (db 21)) (map member_columns (flat_map entry_members entries.items)))) }
+        ensures members { Tells S.Store self.old self.new (λ t. IfOk result (λ entries. AllByRecursion (λ e. IsPermutation (members_in (string_bytes e.name) t.members) (entry_members e)) entries.items)) }
         ensures rising { IfOk result (λ entries. AllAdjacentBelow IsBefore entries.items (length entries.items)) }
         ensures asks { Asks S.Store (is_ok result) self.old self.new }
     {

@@ -3,9 +3,8 @@ ghost use Rattle.std.specs.Prelude.{◌≡◌, IfOk};
 ghost use Rattle.std.specs.List.{list_any};
 ghost use Rattle.std.specs.Result.{is_ok};
 ghost use Rattle.prof_tables.specs.Changes.{has_member, joined, with_member};
-ghost use Rattle.prof_tables.specs.Schema.{schema_one};
 ghost use Rattle.prof_tables.specs.Seen.{is_member_row};
-ghost use Rattle.prof_store.specs.Shown.{Asks, Changes, IsFaithful, StandsFor, shown};
+ghost use Rattle.prof_store.specs.Shown.{Asks, Changes, Finds, Tells};
 
 use crate::statements::{select, write};
 use crate::store::Store;
@@ -15,8 +14,8 @@ use store_columns::StoreEnd;
 impl<S: Alter> Store<S> {
     /// Whether a run is in a group.
     pub fn is_member(&mut self, name: &str, run: u32) -> Result<bool, StoreEnd>
-        ensures told { IsFaithful S.Store self.new → (t : _) → StandsFor S.Store t self.old → IfOk result (λ is. is ≡ has_member t name.now run) }
-        ensures found { IsFaithful S.Store self.new → (shown S.Store self.old).now.schema ≡ schema_one → IfOk result (λ is. is ≡ list_any (is_member_row name.now run) ((shown S.Store self.old).now.trees 21)) }
+        ensures told { Tells S.Store self.old self.new (λ t. IfOk result (λ is. is ≡ has_member t name.now run)) }
+        ensures found { Finds S.Store self.old self.new (λ db. IfOk result (λ is. is ≡ list_any (is_member_row name.now run) (db 21))) }
         ensures asks { Asks S.Store (is_ok result) self.old self.new }
     {
         let rows = select(

@@ -19,5 +19,6 @@ pub fn what_stands_survives<S: Alter>()
 /// What a crash left is found again: a connection that was just opened, over tables that hold these lines,
 /// whatever schema it took them for, stands as `Store::open` wants it to take them up.
 pub fn what_is_left_is_taken_up<S: Alter>()
-    ensures { (t : Tables) (conn : Connection S) → Opens (state S.Store conn) → IsDatabase (state S.Store conn).now → Holds t (state S.Store conn).now.trees → Rests schema_one (Holds t) (state S.Store conn) }
+    ensures { (t : Tables) (conn : Connection S) → Opens (state S.Store conn) → IsDatabase (state S.Store conn).now
+        → Holds t (state S.Store conn).now.trees → Rests schema_one (Holds t) (state S.Store conn) }
 {}

@@ -4,10 +4,9 @@ ghost use Rattle.std.specs.List.{list_any};
 ghost use Rattle.std.specs.Result.{is_ok};
 ghost use Rattle.sqlite_value.specs.declared.value.Value.TheVariants.{Text};
 ghost use Rattle.prof_tables.specs.Changes.{has_run, has_group};
-ghost use Rattle.prof_tables.specs.Schema.{schema_one};
 ghost use Rattle.prof_tables.specs.Seen.{is_at};
 ghost use Rattle.prof_tables.specs.Tables.{number};
-ghost use Rattle.prof_store.specs.Shown.{Asks, IsFaithful, StandsFor, shown};
+ghost use Rattle.prof_store.specs.Shown.{Asks, Finds, Tells};
 
 use crate::statements::select;
 use crate::store::Store;
@@ -17,8 +16,8 @@ use store_columns::StoreEnd;
 impl<S: Alter> Store<S> {
     /// Whether a run is held.
     pub fn has_run(&mut self, run: u32) -> Result<bool, StoreEnd>
-        ensures told { IsFaithful S.Store self.new → (t : _) → StandsFor S.Store t self.old → IfOk result (λ is. is ≡ has_run t run) }
-        ensures found { IsFaithful S.Store self.new → (shown S.Store self.old).now.schema ≡ schema_one → IfOk result (λ is. is ≡ list_any (is_at 0 (number run)) ((shown S.Store self.old).now.trees 1)) }
+        ensures told { Tells S.Store self.old self.new (λ t. IfOk result (λ is. is ≡ has_run t run)) }
+        ensures found { Finds S.Store self.old self.new (λ db. IfOk result (λ is. is ≡ list_any (is_at 0 (number run)) (db 1))) }
         ensures asks { Asks S.Store (is_ok result) self.old self.new }
     {
         let rows = select(
@@ -31,8 +30,8 @@ impl<S: Alter> Store<S> {
 
     /// Whether a group is held.
     pub fn has_group(&mut self, name: &str) -> Result<bool, StoreEnd>
-        ensures told { IsFaithful S.Store self.new → (t : _) → StandsFor S.Store t self.old → IfOk result (λ is. is ≡ has_group t name.now) }
-        ensures found { IsFaithful S.Store self.new → (shown S.Store self.old).now.schema ≡ schema_one → IfOk result (λ is. is ≡ list_any (is_at 1 (Text name.now)) ((shown S.Store self.old).now.trees 19)) }
+        ensures told { Tells S.Store self.old self.new (λ t. IfOk result (λ is. is ≡ has_group t name.now)) }
+        ensures found { Finds S.Store self.old self.new (λ db. IfOk result (λ is. is ≡ list_any (is_at 1 (Text name.now)) (db 19))) }
         ensures asks { Asks S.Store (is_ok result) self.old self.new }
     {
         let rows = select(

@@ -42,11 +42,13 @@ fn schema_in(answer: Result<Row, Error>) -> Result<u32, OpenEnd>
 
 /// The number of the schema that the tables are of.
 fn schema_of<S: Alter>(conn: &mut Connection<S>) -> Result<u32, OpenEnd>
-    ensures found { HasCleanDisk (state S.Store conn.new) → (state S.Store conn.old).now.schema ≡ schema_one → IfOk result (λ n. (r : _) × Has ((state S.Store conn.old).now.trees 0) r × (column r 2 ≡ Int (pos n))) }
+    ensures found { HasCleanDisk (state S.Store conn.new) → (state S.Store conn.old).now.schema ≡ schema_one
+        → IfOk result (λ n. (r : _) × Has ((state S.Store conn.old).now.trees 0) r × (column r 2 ≡ Int (pos n))) }
     ensures told { HasCleanDisk (state S.Store conn.new) → (t : _) → Rests schema_one (Holds t) (state S.Store conn.old) → IfOk result (λ n. n ≡ 1) }
     ensures right { HasCleanDisk (state S.Store conn.new) → (state S.Store conn.old).now.schema ≡ schema_one → IfErr result (λ e. e ≢ ends.WrongSchema) }
     ensures shows { HasCleanDisk (state S.Store conn.new) → IfOk result (Reads (state S.Store conn.old) (state S.Store conn.new)) }
-    ensures asked { HasCleanDisk (state S.Store conn.new) → Asked (state S.Store conn.old).now.schema (is_ok result) (state S.Store conn.old) (state S.Store conn.new) }
+    ensures asked { HasCleanDisk (state S.Store conn.new)
+        → Asked (state S.Store conn.old).now.schema (is_ok result) (state S.Store conn.old) (state S.Store conn.new) }
 {
     let answer = select_schema(conn);
     schema_in(answer)

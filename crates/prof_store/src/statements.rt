@@ -1,14 +1,9 @@
 // Every statement that a store runs outside a transaction goes through one of these calls.
-ghost use Rattle.std.specs.Prelude.{Ok, IfOk};
 ghost use Rattle.std.specs.Result.{is_ok};
-ghost use Rattle.sqlite.specs.Given.{IsPlain};
 ghost use Rattle.sqlite.specs.Held.{state};
-ghost use Rattle.sqlite.specs.Listing.{understood};
-ghost use Rattle.sqlite.specs.State.{HasCleanDisk, Survives, QueriesRow, Shown, CommitsBy};
+ghost use Rattle.sqlite.specs.State.{HasCleanDisk, Survives, CommitsBy};
 ghost use Rattle.sqlite.specs.Values.{bound};
-ghost use Rattle.sql_tables.specs.Calls.{Asked};
-ghost use Rattle.prof_tables.specs.Schema.{schema_one};
-ghost use Rattle.prof_store.specs.Statements.{Ran, row_or_none};
+ghost use Rattle.prof_store.specs.Statements.{AsksBy, Ran, ShowsAll, ShowsFirst, ShowsRow};
 
 use sqlite::types::ValueRef;
 use sqlite::{Alter, Connection, Error, Row};
@@ -20,8 +15,8 @@ pub fn select<S: Alter>(
     sql: &str,
     params: &[ValueRef<'_>],
 ) -> Result<Vec<Row>, StoreEnd>
-    ensures asked { HasCleanDisk (state S.Store conn.new) → IsPlain (understood schema_one sql.now) → Asked schema_one (is_ok result) (state S.Store conn.old) (state S.Store conn.new) }
-    ensures rows { HasCleanDisk (state S.Store conn.new) → IfOk result (λ rows. Shown sql.now (bound params.now) (state S.Store conn.old) (state S.Store conn.new) rows.items) }
+    ensures asked { AsksBy sql.now (is_ok result) (state S.Store conn.old) (state S.Store conn.new) }
+    ensures rows { ShowsAll sql.now (bound params.now) (state S.Store conn.old) (state S.Store conn.new) result }
 {
     match conn.query_all(sql, params) {
         Ok(rows) => Ok(rows),
@@ -35,8 +30,8 @@ pub fn select_row<S: Alter>(
     sql: &str,
     params: &[ValueRef<'_>],
 ) -> Result<Row, StoreEnd>
-    ensures asked { HasCleanDisk (state S.Store conn.new) → IsPlain (understood schema_one sql.now) → Asked schema_one (is_ok result) (state S.Store conn.old) (state S.Store conn.new) }
-    ensures row { HasCleanDisk (state S.Store conn.new) → IfOk result (λ row. QueriesRow sql.now (bound params.now) (state S.Store conn.old) (state S.Store conn.new) (Ok row)) }
+    ensures asked { AsksBy sql.now (is_ok result) (state S.Store conn.old) (state S.Store conn.new) }
+    ensures row { ShowsRow sql.now (bound params.now) (state S.Store conn.old) (state S.Store conn.new) result }
 {
     match conn.query_row(sql, params) {
         Ok(row) => Ok(row),
@@ -50,8 +45,8 @@ pub fn select_first<S: Alter>(
     sql: &str,
     params: &[ValueRef<'_>],
 ) -> Result<Option<Row>, StoreEnd>
-    ensures asked { HasCleanDisk (state S.Store conn.new) → IsPlain (understood schema_one sql.now) → Asked schema_one (is_ok result) (state S.Store conn.old) (state S.Store conn.new) }
-    ensures row { HasCleanDisk (state S.Store conn.new) → IfOk result (λ row. QueriesRow sql.now (bound params.now) (state S.Store conn.old) (state S.Store conn.new) (row_or_none row)) }
+    ensures asked { AsksBy sql.now (is_ok result) (state S.Store conn.old) (state S.Store conn.new) }
+    ensures row { ShowsFirst sql.now (bound params.now) (state S.Store conn.old) (state S.Store conn.new) result }
 {
     match conn.query_row(sql, params) {
         Ok(row) => Ok(Some(row)),
@@ -66,8 +61,10 @@ pub fn write<S: Alter>(
     sql: &str,
     params: &[ValueRef<'_>],
 ) -> Result<usize, StoreEnd>
-    ensures ran { HasCleanDisk (state S.Store conn.new) → Ran sql.now (bound params.now) (state S.Store conn.old) (state S.Store conn.new) result }
-    ensures survives { Survives (state S.Store conn.old) (state S.Store conn.new) (CommitsBy sql.now (bound params.now) (state S.Store conn.old)) }
+    ensures ran { HasCleanDisk (state S.Store conn.new)
+        → Ran sql.now (bound params.now) (state S.Store conn.old) (state S.Store conn.new) result }
+    ensures survives { Survives (state S.Store conn.old) (state S.Store conn.new)
+        (CommitsBy sql.now (bound params.now) (state S.Store conn.old)) }
 {
     match conn.execute(sql, params) {
         Ok(count) => Ok(count),

@@ -22,7 +22,7 @@ use Rattle.histories.specs.Stands.{TablesTell}
 use Rattle.histories.specs.declared.answers.Answer.TheVariants.{Run}
 use Rattle.histories.specs.declared.limits.Limits.{Limits}
 use Rattle.histories.proofs.Put.{tell_put}
-use Rattle.store_histories.specs.Answered.{with_turn, has_changed, Tells, Follows, StandsForHistory, WasDue}
+use Rattle.store_histories.specs.Answered.{with_turn, has_changed, TellsHistory, Follows, StandsForHistory, WasDue}
 use Rattle.store_histories.specs.Refusals.{refused_or}
 use Rattle.store_histories.proofs.Due.{told_stands}
 use Rattle.file_intake.specs.Reads.{HasEnded}
@@ -62,13 +62,13 @@ module _ (limits : Limits) (kind : Kind) (label : List ℕ) (outcomes : List Out
   put t = with_file t.next kind digest label head (content_of rows) t
 
   abbrev Before : History → Trees → Type 0
-  Before h db = IsNewFile h kind (bytes_of outcomes) digest head rows × Tells h db
+  Before h db = IsNewFile h kind (bytes_of outcomes) digest head rows × TellsHistory h db
 
   pub run_turns : (answered done : Bool) → Changed schema_one Holds (λ t. Holds (put t)) answered done (shown g mid) (shown g new) → Changed schema_one Before (Follows limits (Import kind label outcomes)) answered done (shown g old) (shown g new)
   run_turns answered done made =
       changed_as schema_one Holds (λ t. Holds (put t)) Before (Follows limits (Import kind label outcomes)) answered done (shown g old) (shown g new)
       (λ h was.
-      let s = told_stands g h old (rests_as schema_one (Before h) (Tells h) (shown g old) was was.holds.1) in (
+      let s = told_stands g h old (rests_as schema_one (Before h) (TellsHistory h) (shown g old) was was.holds.1) in (
         s.t,
         s.stands,
         follows_run limits h kind label outcomes digest head rows s.t (shown g old).now.trees form (run_due h s was.holds.0) was.holds.0 s.stands.holds s.tells,
@@ -84,10 +84,10 @@ module _ (limits : Limits) (kind : Kind) (label : List ℕ) (outcomes : List Out
 -- a file that is put after it was asked whether it is held
 pub new_turns : (limits : Limits) (kind : Kind) (label : List ℕ) (outcomes : List Outcome) (digest : List ℕ) (head : FileHead) (rows : FileRows) {S : Type 0} (g : Ghosts S) (old mid new : Store S) (result : Result Answer StoreEnd)
     → Asked schema_one true (shown g old) (shown g mid) → ((h : History) → StandsForHistory g h old → IsNewFile h kind (bytes_of outcomes) digest head rows)
-    → Changed schema_one (λ h db. IsNewFile h kind (bytes_of outcomes) digest head rows × Tells h db) (Follows limits (Import kind label outcomes)) (is_ok result) (has_changed result) (shown g mid) (shown g new)
-    → Changed schema_one Tells (Follows limits (Import kind label outcomes)) (is_ok result) (has_changed result) (shown g old) (shown g new)
+    → Changed schema_one (λ h db. IsNewFile h kind (bytes_of outcomes) digest head rows × TellsHistory h db) (Follows limits (Import kind label outcomes)) (is_ok result) (has_changed result) (shown g mid) (shown g new)
+    → Changed schema_one TellsHistory (Follows limits (Import kind label outcomes)) (is_ok result) (has_changed result) (shown g old) (shown g new)
 new_turns limits kind label outcomes digest head rows g old mid new result asked is_new made =
-    let put : History → Trees → Type 0 = λ h db. IsNewFile h kind (bytes_of outcomes) digest head rows × Tells h db in
-    changed_as schema_one put (Follows limits (Import kind label outcomes)) Tells (Follows limits (Import kind label outcomes)) (is_ok result) (has_changed result) (shown g old) (shown g new)
-    (λ h was. (h, rests_as schema_one (Tells h) (put h) (shown g old) was (is_new h (told_stands g h old was), was.holds), λ next k. k))
+    let put : History → Trees → Type 0 = λ h db. IsNewFile h kind (bytes_of outcomes) digest head rows × TellsHistory h db in
+    changed_as schema_one put (Follows limits (Import kind label outcomes)) TellsHistory (Follows limits (Import kind label outcomes)) (is_ok result) (has_changed result) (shown g old) (shown g new)
+    (λ h was. (h, rests_as schema_one (TellsHistory h) (put h) (shown g old) was (is_new h (told_stands g h old was), was.holds), λ next k. k))
     (changed_then schema_one put (Follows limits (Import kind label outcomes)) (is_ok result) (has_changed result) (shown g old) (shown g mid) (shown g new) asked made)

@@ -16,7 +16,7 @@ use Rattle.histories.specs.Files.{IsHeadOf, rows_of, fault_of}
 use Rattle.histories.specs.History.{History, Outcome, Import, bytes_of, held}
 use Rattle.histories.specs.declared.answers.Answer.{Answer}
 use Rattle.histories.specs.declared.limits.Limits.{Limits}
-use Rattle.store_histories.specs.Answered.{Tells, Follows, has_changed}
+use Rattle.store_histories.specs.Answered.{TellsHistory, Follows, has_changed}
 use Rattle.histories.specs.Legal.{number_of}
 
 -- its digest, its head and its rows, where it has no fault and no file that is held has its digest
@@ -30,4 +30,4 @@ pub record IsNewFile (h : History) (kind : Kind) (bytes digest : List ℕ) (head
 -- what a call leaves that puts such a file as a run, whatever the history
 abbrev pub PutsNew : {S : Type 0} → Ghosts S → Limits → Kind → List ℕ → List Outcome → List ℕ → FileHead → FileRows → Result Answer StoreEnd → Store S → Store S → Type 0
 PutsNew g limits kind label outcomes digest head rows result old new =
-    IsFaithful g new → Changed schema_one (λ h db. IsNewFile h kind (bytes_of outcomes) digest head rows × Tells h db) (Follows limits (Import kind label outcomes)) (is_ok result) (has_changed result) (shown g old) (shown g new)
+    IsFaithful g new → Changed schema_one (λ h db. IsNewFile h kind (bytes_of outcomes) digest head rows × TellsHistory h db) (Follows limits (Import kind label outcomes)) (is_ok result) (has_changed result) (shown g old) (shown g new)

@@ -64,7 +64,8 @@ fn excess_with<S: Alter>(
     head: &FileHead,
     rows: &FileRows,
 ) -> Result<Option<Excess>, StoreEnd>
-    ensures told { IsFaithful S.Store store.new → (h : History) (kind : Kind) (bytes : List ℕ) → StandsForHistory S.Store h store.old → IsHeadOf kind head.now bytes → content_of rows.now ≡ rows_of kind bytes
+    ensures told { IsFaithful S.Store store.new → (h : History) (kind : Kind) (bytes : List ℕ) → StandsForHistory S.Store h store.old
+        → IsHeadOf kind head.now bytes → content_of rows.now ≡ rows_of kind bytes
         → IfOk result (λ excess. excess ≡ sums.excess_of (held h) kind bytes) }
     ensures asks { Asks S.Store (is_ok result) store.old store.new }
 {
@@ -87,7 +88,8 @@ fn refusal_of<S: Alter>(
     head: &FileHead,
     rows: &FileRows,
 ) -> Result<Option<Refusal>, StoreEnd>
-    ensures told { IsFaithful S.Store store.new → (h : History) (kind : Kind) (bytes : List ℕ) → StandsForHistory S.Store h store.old → IsHeadOf kind head.now bytes → content_of rows.now ≡ rows_of kind bytes
+    ensures told { IsFaithful S.Store store.new → (h : History) (kind : Kind) (bytes : List ℕ) → StandsForHistory S.Store h store.old
+        → IsHeadOf kind head.now bytes → content_of rows.now ≡ rows_of kind bytes
         → IfOk result (λ refusal. refusal ≡ room_refusal limits h kind bytes) }
     ensures asks { Asks S.Store (is_ok result) store.old store.new }
 {
@@ -115,9 +117,11 @@ fn put_file<S: Alter>(
     rows: &FileRows,
 ) -> Result<Answer, StoreEnd>
     requires { IsLabel label.now }
-    ensures answered { IsFaithful S.Store store.new → (h : History) (outcomes : List Outcome) → StandsForHistory S.Store h store.old → HasEnded limits.bytes outcomes → IsNewFile h kind (bytes_of outcomes) digest.now head.now rows.now
+    ensures answered { IsFaithful S.Store store.new → (h : History) (outcomes : List Outcome) → StandsForHistory S.Store h store.old
+        → HasEnded limits.bytes outcomes → IsNewFile h kind (bytes_of outcomes) digest.now head.now rows.now
         → IfOk result (λ answer. WasDue S.Store limits h (Import kind label.now outcomes) answer store.new) }
-    ensures turns { (outcomes : List Outcome) → HasEnded limits.bytes outcomes → PutsNew S.Store limits kind label.now outcomes digest.now head.now rows.now result store.old store.new }
+    ensures turns { (outcomes : List Outcome) → HasEnded limits.bytes outcomes
+        → PutsNew S.Store limits kind label.now outcomes digest.now head.now rows.now result store.old store.new }
 {
     if let Some(refusal) = refusal_of(store, alloc, limits, head, rows)? {
         return Ok(Answer::Refused(refusal));
@@ -136,7 +140,8 @@ pub fn take_in<S: Alter>(
     taken: &Taken,
 ) -> Result<Answer, StoreEnd>
     requires { IsLabel label.now }
-    ensures answered { IsFaithful S.Store store.new → (h : History) (outcomes : List Outcome) → StandsForHistory S.Store h store.old → HasEnded limits.bytes outcomes → IsTakenOf kind (bytes_of outcomes) taken.now
+    ensures answered { IsFaithful S.Store store.new → (h : History) (outcomes : List Outcome) → StandsForHistory S.Store h store.old
+        → HasEnded limits.bytes outcomes → IsTakenOf kind (bytes_of outcomes) taken.now
         → IfOk result (λ answer. WasDue S.Store limits h (Import kind label.now outcomes) answer store.new) }
     ensures turns { (outcomes : List Outcome) → HasEnded limits.bytes outcomes → IsTakenOf kind (bytes_of outcomes) taken.now
         → TurnsIf S.Store limits (Import kind label.now outcomes) (is_ok result) (has_changed result) store.old store.new }

@@ -73,9 +73,13 @@ fn fill_run<S: Alter>(
     rows: &FileRows,
 ) -> Result<(), StoreEnd>
     ensures same_reference { tx.new.conn.ghost_name ≡ tx.old.conn.ghost_name }
-    ensures done { HasCleanDisk (state S.Store tx.new.conn.now) → (t : _) → t.next ≡ run.now.number → Works schema_one (Holds t) (state S.Store tx.old.conn.now) → OnOk result (Works schema_one (Holds (with_run_of run.now head.now rows.now t)) (state S.Store tx.new.conn.now)) }
-    ensures kept { HasCleanDisk (state S.Store tx.new.conn.now) → IsTrue (state S.Store tx.old.conn.now).in_transaction → KeepsCommit (state S.Store tx.old.conn.now) (state S.Store tx.new.conn.now) }
-    ensures running { HasCleanDisk (state S.Store tx.new.conn.now) → IsTrue (state S.Store tx.old.conn.now).in_transaction → OnOk result (IsTrue (state S.Store tx.new.conn.now).in_transaction) }
+    ensures done { HasCleanDisk (state S.Store tx.new.conn.now) → (t : _) → t.next ≡ run.now.number
+        → Works schema_one (Holds t) (state S.Store tx.old.conn.now)
+        → OnOk result (Works schema_one (Holds (with_run_of run.now head.now rows.now t)) (state S.Store tx.new.conn.now)) }
+    ensures kept { HasCleanDisk (state S.Store tx.new.conn.now) → IsTrue (state S.Store tx.old.conn.now).in_transaction
+        → KeepsCommit (state S.Store tx.old.conn.now) (state S.Store tx.new.conn.now) }
+    ensures running { HasCleanDisk (state S.Store tx.new.conn.now) → IsTrue (state S.Store tx.old.conn.now).in_transaction
+        → OnOk result (IsTrue (state S.Store tx.new.conn.now).in_transaction) }
     ensures survives { Survives (state S.Store tx.old.conn.now) (state S.Store tx.new.conn.now) (λ _. ⊥) }
 {
     put_head(tx, run, head)?;
@@ -91,10 +95,12 @@ pub(crate) fn put_in<S: Alter>(
     rows: &FileRows,
 ) -> Result<(), StoreEnd>
     requires { conn.old.in_transaction ≡ false }
-    ensures done { HasCleanDisk (state S.Store conn.new) → (t : _) → t.next ≡ run.now.number → Rests schema_one (Holds t) (state S.Store conn.old) → OnOk result (Rests schema_one (Holds (with_run_of run.now head.now rows.now t)) (state S.Store conn.new)) }
+    ensures done { HasCleanDisk (state S.Store conn.new) → (t : _) → t.next ≡ run.now.number → Rests schema_one (Holds t) (state S.Store conn.old)
+        → OnOk result (Rests schema_one (Holds (with_run_of run.now head.now rows.now t)) (state S.Store conn.new)) }
     ensures undone { HasCleanDisk (state S.Store conn.new) → OnErr result (IsUndone (state S.Store conn.old) (state S.Store conn.new)) }
     ensures stays { HasCleanDisk (state S.Store conn.new) → Stays (is_ok result) (state S.Store conn.old) (state S.Store conn.new) }
-    ensures crash { (t : _) → t.next ≡ run.now.number → Rests schema_one (Holds t) (state S.Store conn.old) → Survives (state S.Store conn.old) (state S.Store conn.new) (Holds (with_run_of run.now head.now rows.now t)) }
+    ensures crash { (t : _) → t.next ≡ run.now.number → Rests schema_one (Holds t) (state S.Store conn.old)
+        → Survives (state S.Store conn.old) (state S.Store conn.new) (Holds (with_run_of run.now head.now rows.now t)) }
 {
     let mut tx = conn.transaction();
     fill_run(&mut tx, alloc, run, head, rows)?;

@@ -7,7 +7,7 @@ ghost use Rattle.sqlite_rules.specs.Lists.{Has};
 ghost use Rattle.prof_books.specs.Heads.{IsWhole, ColumnFits};
 ghost use Rattle.prof_tables.specs.Labels.{IsLabel};
 ghost use Rattle.prof_books.specs.Runs.{with_file};
-ghost use Rattle.prof_store.specs.Shown.{IsFaithful, StandsFor, Changes, ChangesIf};
+ghost use Rattle.prof_store.specs.Shown.{Changes, ChangesIf, Tells};
 
 use crate::putting::put_in;
 use cg_formulas::FileHead;
@@ -68,8 +68,8 @@ pub fn put_run<S: Alter>(
     rows: &FileRows,
 ) -> Result<u32, StoreEnd>
     requires { IsLabel label.now }
-    ensures told { IsFaithful S.Store store.new → (t : _) → StandsFor S.Store t store.old → IfOk result (λ number. number ≡ t.next) }
-    ensures taken { IsFaithful S.Store store.new → (t : _) → StandsFor S.Store t store.old → (r : _) → Has t.runs r → r.digest ≡ digest.now → OnOk result ⊥ }
+    ensures told { Tells S.Store store.old store.new (λ t. IfOk result (λ number. number ≡ t.next)) }
+    ensures taken { Tells S.Store store.old store.new (λ t. (r : _) → Has t.runs r → r.digest ≡ digest.now → OnOk result ⊥) }
     ensures whole { OnOk result (IsWhole head.now) }
     ensures fits { OnOk result ((k : ℕ) → k < length head.now.events → ColumnFits (content_of rows.now) k) }
     ensures counted { OnOk result (count_total (content_of rows.now).arcs < 2 ^ 63) }

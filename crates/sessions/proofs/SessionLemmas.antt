@@ -16,7 +16,7 @@ use Rattle.histories.specs.declared.answers.Answer.{Answer}
 use Rattle.histories.specs.declared.answers.Answer.TheVariants.{Refused}
 use Rattle.histories.specs.declared.answers.Refusal.{Refusal}
 use Rattle.histories.specs.declared.limits.Limits.{Limits}
-use Rattle.store_histories.specs.Answered.{Answers, Links, Tells, Follows}
+use Rattle.store_histories.specs.Answered.{Answers, Links, TellsHistory, Follows}
 use Rattle.store_histories.proofs.Links.{links_append, links_clean, links_legal, links_after}
 use Rattle.store_histories.proofs.Settled.{untouched}
 use Rattle.warehouse.specs.Answered.{Says}
@@ -66,7 +66,7 @@ printed_on xs ys a b c first second = (first.0 ++ second.0, lines_on xs ys first
 
 pub refused : {S : Type 0} (g : Ghosts S) (limits : Limits) (said : Said) (refusal : Refusal) (store : Store S) → IsFaithful g store → ((h : History) → IsLegal limits h said (Refused refusal)) → Answers g limits said (Refused refusal) store store
 refused g limits said refusal store clean legal = record {
-  turned = changed_none schema_one Tells (Follows limits said) (shown g store) clean;
+  turned = changed_none schema_one TellsHistory (Follows limits said) (shown g store) clean;
   answered = λ h has. untouched g limits h said store has clean (Refused refusal) tt (legal h);
 }
 

@@ -135,7 +135,8 @@ impl<'a, R: Files + AllocGlobal, W: Write + Drop, S: Alter> Session<'a, R, W, S>
     /// Refuses a command that the warehouse is not asked.
     fn refuse(&mut self, refusal: Refusal) -> io::Result<()>
         ensures limits { self.new.warehouse.limits ≡ self.old.warehouse.limits }
-        ensures answered { IsFaithful S.Store self.new.warehouse.store → (said : Said) → ((h : History) → IsLegal self.old.warehouse.limits h said (answers.Refused refusal)) → WasTold S.Store W.contents said result self.old self.new }
+        ensures answered { IsFaithful S.Store self.new.warehouse.store → (said : Said)
+            → ((h : History) → IsLegal self.old.warehouse.limits h said (answers.Refused refusal)) → WasTold S.Store W.contents said result self.old self.new }
         ensures store { self.new.warehouse.store ≡ self.old.warehouse.store }
     {
         self.tell(Answer::Refused(refusal))
@@ -144,7 +145,8 @@ impl<'a, R: Files + AllocGlobal, W: Write + Drop, S: Alter> Session<'a, R, W, S>
     /// Runs a command that reads no file.
     fn apply(&mut self, command: Command<FileSource<'a, R>>) -> io::Result<()>
         ensures limits { self.new.warehouse.limits ≡ self.old.warehouse.limits }
-        ensures answered { IsFaithful S.Store self.new.warehouse.store → (said : Said) × Says AnyReads command.entry said × WasTold S.Store W.contents said result self.old self.new }
+        ensures answered { IsFaithful S.Store self.new.warehouse.store → (said : Said) × Says AnyReads command.entry said
+            × WasTold S.Store W.contents said result self.old self.new }
     {
         let answer = self.warehouse.apply(self.rt.alloc(), command);
         self.tell(answer)
@@ -153,7 +155,8 @@ impl<'a, R: Files + AllocGlobal, W: Write + Drop, S: Alter> Session<'a, R, W, S>
     /// Takes in a file, under its path as its label.
     fn import_file(&mut self, kind: Kind, path: &'a str) -> io::Result<()>
         ensures limits { self.new.warehouse.limits ≡ self.old.warehouse.limits }
-        ensures answered { IsFaithful S.Store self.new.warehouse.store → (outcomes : List Outcome) × WasTold S.Store W.contents (Import kind path.now outcomes) result self.old self.new }
+        ensures answered { IsFaithful S.Store self.new.warehouse.store → (outcomes : List Outcome)
+            × WasTold S.Store W.contents (Import kind path.now outcomes) result self.old self.new }
     {
         let mut source = FileSource::new(self.rt, path);
         let label = path.as_bytes();
@@ -166,7 +169,8 @@ impl<'a, R: Files + AllocGlobal, W: Write + Drop, S: Alter> Session<'a, R, W, S>
     /// Takes in files, each under its path as its label.
     fn import(&mut self, kind: Kind, paths: &[&'a str]) -> io::Result<()>
         ensures limits { self.new.warehouse.limits ≡ self.old.warehouse.limits }
-        ensures done { IsFaithful S.Store self.new.warehouse.store → WasRun S.Store W.contents (AreImports kind (map (λ path. path.now) paths.now)) result self.old self.new }
+        ensures done { IsFaithful S.Store self.new.warehouse.store
+            → WasRun S.Store W.contents (AreImports kind (map (λ path. path.now) paths.now)) result self.old self.new }
     {
         for path in paths {
             self.import_file(kind, path)?;
@@ -177,7 +181,8 @@ impl<'a, R: Files + AllocGlobal, W: Write + Drop, S: Alter> Session<'a, R, W, S>
     /// Removes runs.
     fn remove(&mut self, numbers: &[u32]) -> io::Result<()>
         ensures limits { self.new.warehouse.limits ≡ self.old.warehouse.limits }
-        ensures done { IsFaithful S.Store self.new.warehouse.store → WasRun S.Store W.contents (λ list. list ≡ map Remove numbers.now) result self.old self.new }
+        ensures done { IsFaithful S.Store self.new.warehouse.store
+            → WasRun S.Store W.contents (λ list. list ≡ map Remove numbers.now) result self.old self.new }
     {
         for number in numbers {
             self.apply(Command::Remove(*number))?;

@@ -1,7 +1,7 @@
 // Commands over a store, each with its answer.
 ghost use Rattle.prof_store.specs.Shown.{IsFaithful};
-ghost use Rattle.histories.specs.History.{History, Remove, MakeGroup, DropGroup, Ask};
-ghost use Rattle.store_histories.specs.Answered.{HasHistory, IsAnswered, Turns};
+ghost use Rattle.histories.specs.History.{Remove, MakeGroup, DropGroup, Ask};
+ghost use Rattle.store_histories.specs.Answered.{Answers};
 ghost use Rattle.store_commands.specs.Changes.{said_of};
 
 use crate::changes::{Change, change_group, drop_group, group_name, make_group, remove};
@@ -14,16 +14,14 @@ use store_histories::answer_of;
 
 /// Drops a run.
 pub fn remove_in<S: Alter>(store: &mut Store<S>, number: u32) -> Answer
-    ensures answered { IsFaithful S.Store store.new → (limits : _) (h : History) → HasHistory S.Store h store.old → IsAnswered S.Store limits h (Remove number) result store.new }
-    ensures turns { (limits : _) → Turns S.Store limits (Remove number) result store.old store.new }
+    ensures answered { (limits : _) → IsFaithful S.Store store.new → Answers S.Store limits (Remove number) result store.old store.new }
 {
     answer_of(remove(store, number))
 }
 
 /// Makes a group, if its name is in form.
 pub fn make_in<S: Alter>(store: &mut Store<S>, limits: Limits, name: &[u8]) -> Answer
-    ensures answered { IsFaithful S.Store store.new → (h : History) → HasHistory S.Store h store.old → IsAnswered S.Store limits h (MakeGroup name.now) result store.new }
-    ensures turns { Turns S.Store limits (MakeGroup name.now) result store.old store.new }
+    ensures answered { IsFaithful S.Store store.new → Answers S.Store limits (MakeGroup name.now) result store.old store.new }
 {
     match group_name(name) {
         Some(name) => answer_of(make_group(store, limits, name)),
@@ -33,8 +31,7 @@ pub fn make_in<S: Alter>(store: &mut Store<S>, limits: Limits, name: &[u8]) -> A
 
 /// Drops a group; a name out of form is no group's.
 pub fn drop_in<S: Alter>(store: &mut Store<S>, name: &[u8]) -> Answer
-    ensures answered { IsFaithful S.Store store.new → (limits : _) (h : History) → HasHistory S.Store h store.old → IsAnswered S.Store limits h (DropGroup name.now) result store.new }
-    ensures turns { (limits : _) → Turns S.Store limits (DropGroup name.now) result store.old store.new }
+    ensures answered { (limits : _) → IsFaithful S.Store store.new → Answers S.Store limits (DropGroup name.now) result store.old store.new }
 {
     match group_name(name) {
         Some(name) => answer_of(drop_group(store, name)),
@@ -44,8 +41,7 @@ pub fn drop_in<S: Alter>(store: &mut Store<S>, name: &[u8]) -> Answer
 
 /// Changes a group by a run; a name out of form is no group's.
 pub fn change_in<S: Alter>(store: &mut Store<S>, change: Change, name: &[u8], number: u32) -> Answer
-    ensures answered { IsFaithful S.Store store.new → (limits : _) (h : History) → HasHistory S.Store h store.old → IsAnswered S.Store limits h (said_of change name.now number) result store.new }
-    ensures turns { (limits : _) → Turns S.Store limits (said_of change name.now number) result store.old store.new }
+    ensures answered { (limits : _) → IsFaithful S.Store store.new → Answers S.Store limits (said_of change name.now number) result store.old store.new }
 {
     match group_name(name) {
         Some(name) => answer_of(change_group(store, change, name, number)),
@@ -55,8 +51,7 @@ pub fn change_in<S: Alter>(store: &mut Store<S>, change: Change, name: &[u8], nu
 
 /// Answers a question.
 pub fn ask_in<S: Alter>(store: &mut Store<S>, alloc: Global, query: Query) -> Answer
-    ensures answered { IsFaithful S.Store store.new → (limits : _) (h : History) → HasHistory S.Store h store.old → IsAnswered S.Store limits h (Ask query) result store.new }
-    ensures turns { (limits : _) → Turns S.Store limits (Ask query) result store.old store.new }
+    ensures answered { (limits : _) → IsFaithful S.Store store.new → Answers S.Store limits (Ask query) result store.old store.new }
 {
     answer_of(ask(store, alloc, query))
 }

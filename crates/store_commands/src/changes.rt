@@ -3,7 +3,7 @@ ghost use Rattle.std.specs.Prelude.{◌≡◌, MatchOption, IfOk};
 ghost use Rattle.std.specs.Result.{is_ok};
 ghost use Rattle.prof_tables.specs.Changes.{has_run, has_group};
 ghost use Rattle.prof_tables.specs.Labels.{IsGroupName};
-ghost use Rattle.prof_store.specs.Shown.{IsFaithful, StandsFor, Asks, Changes};
+ghost use Rattle.prof_store.specs.Shown.{Asks, Changes, IsFaithful, Tells};
 ghost use Rattle.histories.specs.History.{History, Remove, MakeGroup, DropGroup};
 ghost use Rattle.histories.specs.declared.limits.Limits.{Limits};
 ghost use Rattle.store_histories.specs.Answered.{StandsForHistory, WasDue, TurnsIf, has_changed};
@@ -40,7 +40,8 @@ pub enum Change {
 
 /// Drops a run.
 pub(crate) fn remove<S: Alter>(store: &mut Store<S>, number: u32) -> Result<Answer, StoreEnd>
-    ensures answered { IsFaithful S.Store store.new → (limits : Limits) (h : History) → StandsForHistory S.Store h store.old → IfOk result (λ answer. WasDue S.Store limits h (Remove number) answer store.new) }
+    ensures answered { IsFaithful S.Store store.new → (limits : Limits) (h : History) → StandsForHistory S.Store h store.old
+        → IfOk result (λ answer. WasDue S.Store limits h (Remove number) answer store.new) }
     ensures turns { (limits : Limits) → TurnsIf S.Store limits (Remove number) (is_ok result) (has_changed result) store.old store.new }
 {
     if !store.has_run(number)? {
@@ -57,7 +58,8 @@ pub(crate) fn make_group<S: Alter>(
     name: &str,
 ) -> Result<Answer, StoreEnd>
     requires { IsGroupName name.now }
-    ensures answered { IsFaithful S.Store store.new → (h : History) → StandsForHistory S.Store h store.old → IfOk result (λ answer. WasDue S.Store limits h (MakeGroup name.now) answer store.new) }
+    ensures answered { IsFaithful S.Store store.new → (h : History) → StandsForHistory S.Store h store.old
+        → IfOk result (λ answer. WasDue S.Store limits h (MakeGroup name.now) answer store.new) }
     ensures turns { TurnsIf S.Store limits (MakeGroup name.now) (is_ok result) (has_changed result) store.old store.new }
 {
     if store.has_group(name)? {
@@ -72,7 +74,8 @@ pub(crate) fn make_group<S: Alter>(
 
 /// Drops a group.
 pub(crate) fn drop_group<S: Alter>(store: &mut Store<S>, name: &str) -> Result<Answer, StoreEnd>
-    ensures answered { IsFaithful S.Store store.new → (limits : Limits) (h : History) → StandsForHistory S.Store h store.old → IfOk result (λ answer. WasDue S.Store limits h (DropGroup name.now) answer store.new) }
+    ensures answered { IsFaithful S.Store store.new → (limits : Limits) (h : History) → StandsForHistory S.Store h store.old
+        → IfOk result (λ answer. WasDue S.Store limits h (DropGroup name.now) answer store.new) }
     ensures turns { (limits : Limits) → TurnsIf S.Store limits (DropGroup name.now) (is_ok result) (has_changed result) store.old store.new }
 {
     if !store.has_group(name)? {
@@ -88,7 +91,7 @@ fn missing<S: Alter>(
     name: &str,
     number: u32,
 ) -> Result<Option<Refusal>, StoreEnd>
-    ensures told { IsFaithful S.Store store.new → (t : _) → StandsFor S.Store t store.old → IfOk result (λ refusal. refusal ≡ missing_of (has_group t name.now) (has_run t number)) }
+    ensures told { Tells S.Store store.old store.new (λ t. IfOk result (λ refusal. refusal ≡ missing_of (has_group t name.now) (has_run t number))) }
     ensures asks { Asks S.Store (is_ok result) store.old store.new }
 {
     if !store.has_group(name)? {
@@ -123,7 +126,8 @@ pub(crate) fn change_group<S: Alter>(
     name: &str,
     number: u32,
 ) -> Result<Answer, StoreEnd>
-    ensures answered { IsFaithful S.Store store.new → (limits : Limits) (h : History) → StandsForHistory S.Store h store.old → IfOk result (λ answer. WasDue S.Store limits h (said_of change name.now number) answer store.new) }
+    ensures answered { IsFaithful S.Store store.new → (limits : Limits) (h : History) → StandsForHistory S.Store h store.old
+        → IfOk result (λ answer. WasDue S.Store limits h (said_of change name.now number) answer store.new) }
     ensures turns { (limits : Limits) → TurnsIf S.Store limits (said_of change name.now number) (is_ok result) (has_changed result) store.old store.new }
 {
     if let Some(refusal) = missing(store, name, number)? {

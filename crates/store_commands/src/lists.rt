@@ -143,7 +143,8 @@ pub(crate) fn ask<S: Alter>(
     alloc: Global,
     query: Query,
 ) -> Result<Answer, StoreEnd>
-    ensures answered { IsFaithful S.Store store.new → (limits : Limits) (h : History) → StandsForHistory S.Store h store.old → IfOk result (λ answer. WasDue S.Store limits h (Ask query) answer store.new) }
+    ensures answered { IsFaithful S.Store store.new → (limits : Limits) (h : History) → StandsForHistory S.Store h store.old
+        → IfOk result (λ answer. WasDue S.Store limits h (Ask query) answer store.new) }
     ensures turns { (limits : Limits) → TurnsIf S.Store limits (Ask query) (is_ok result) (has_changed result) store.old store.new }
 {
     match query {

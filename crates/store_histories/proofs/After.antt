@@ -15,7 +15,7 @@ use Rattle.histories.specs.Legal.{IsInForm, IsLegal, due}
 use Rattle.histories.specs.Stands.{TablesTell}
 use Rattle.histories.specs.declared.answers.Answer.TheVariants.{Done}
 use Rattle.histories.specs.declared.limits.Limits.{Limits}
-use Rattle.store_histories.specs.Answered.{with_turn, Tells, Follows, StandsForHistory, WasDue}
+use Rattle.store_histories.specs.Answered.{with_turn, TellsHistory, Follows, StandsForHistory, WasDue}
 use Rattle.store_histories.proofs.Due.{turns_by, was_done, follows}
 
 -- a change of any tables is one of those in some state
@@ -27,7 +27,7 @@ given P After answered done old new h =
 module _ (limits : Limits) (said : Said) (form : IsInForm said) (P : Tables → Type 0) (change : Tables → Tables) (is_due : (h : History) (t : Tables) → TablesTell h t → P t → due limits h said ≡ Some Done)
     (tells : (h : History) (t : Tables) → TablesTell h t → IsLegal limits h said Done → TablesTell (with_turn h said Done) (change t)) {S : Type 0} (g : Ghosts S) (old mid new : Store S)
     (asked : Asked schema_one true (shown g old) (shown g mid)) (told : (t : Tables) → StandsFor g t old → P t) where
-  pub turns_after : (answered done : Bool) → Changed schema_one (λ t db. P t × Holds t db) (λ t. Holds (change t)) answered done (shown g mid) (shown g new) → Changed schema_one Tells (Follows limits said) answered done (shown g old) (shown g new)
+  pub turns_after : (answered done : Bool) → Changed schema_one (λ t db. P t × Holds t db) (λ t. Holds (change t)) answered done (shown g mid) (shown g new) → Changed schema_one TellsHistory (Follows limits said) answered done (shown g old) (shown g new)
   turns_after answered done h = turns_by g limits said answered done old new (λ t db. P t × Holds t db) (λ t. Holds (change t))
       (λ n s. (
         s.t,

@@ -18,7 +18,7 @@ use Rattle.histories.specs.declared.answers.Answer.TheVariants as answers
 use Rattle.histories.specs.declared.limits.Limits.{Limits}
 use Rattle.histories.proofs.Held.{IsStill}
 use Rattle.histories.proofs.Steps.{tell_same}
-use Rattle.store_histories.specs.Answered.{with_turn, Tells, Follows, StandsForHistory, WasDue}
+use Rattle.store_histories.specs.Answered.{with_turn, TellsHistory, Follows, StandsForHistory, WasDue}
 
 module _ (limits : Limits) (h : History) (said : Said) (form : IsInForm said) where
   legal : (answer : Answer) → due limits h said ≡ Some answer → IsLegal limits h said answer
@@ -38,13 +38,13 @@ module _ (limits : Limits) (h : History) (said : Said) (form : IsInForm said) wh
 -- ---- what a call makes of the tables, as a turn of a history
 
 module _ {S : Type 0} (g : Ghosts S) where
-  pub told_stands : (h : History) (store : Store S) → Rests schema_one (Tells h) (shown g store) → StandsForHistory g h store
-  told_stands h store was = record { t = was.holds.t; stands = rests_as schema_one (Tells h) (Holds was.holds.t) (shown g store) was was.holds.holds; tells = was.holds.tells }
+  pub told_stands : (h : History) (store : Store S) → Rests schema_one (TellsHistory h) (shown g store) → StandsForHistory g h store
+  told_stands h store was = record { t = was.holds.t; stands = rests_as schema_one (TellsHistory h) (Holds was.holds.t) (shown g store) was was.holds.holds; tells = was.holds.tells }
 
   pub turns_by : (limits : Limits) (said : Said) (answered done : Bool) (old new : Store S) (Before After : Tables → Trees → Type 0)
       → ((h : History) → StandsForHistory g h old → (t : Tables) × Rests schema_one (Before t) (shown g old) × ((db : Trees) → After t db → Follows limits said h db))
-      → Changed schema_one Before After answered done (shown g old) (shown g new) → Changed schema_one Tells (Follows limits said) answered done (shown g old) (shown g new)
-  turns_by limits said answered done old new Before After means h = changed_as schema_one Before After Tells (Follows limits said) answered done (shown g old) (shown g new) (λ n was. means n (told_stands n old was)) h
+      → Changed schema_one Before After answered done (shown g old) (shown g new) → Changed schema_one TellsHistory (Follows limits said) answered done (shown g old) (shown g new)
+  turns_by limits said answered done old new Before After means h = changed_as schema_one Before After TellsHistory (Follows limits said) answered done (shown g old) (shown g new) (λ n was. means n (told_stands n old was)) h
 
 -- ---- a limit and how many are held
 

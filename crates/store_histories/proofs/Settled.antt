@@ -25,11 +25,11 @@ use Rattle.histories.proofs.Invariants.{groups_named}
 use Rattle.histories.proofs.Steps.{tell_same}
 use Rattle.histories.proofs.Tests.{bytes_apart}
 use Rattle.histories.proofs.Turns.{history_more}
-use Rattle.store_histories.specs.Answered.{with_turn, is_accepted, has_changed, Tells, Follows, StandsForHistory, HasHistory, WasDue, IsAnswered, answer_for}
+use Rattle.store_histories.specs.Answered.{with_turn, is_accepted, has_changed, TellsHistory, Follows, StandsForHistory, HasHistory, WasDue, IsAnswered, answer_for}
 
 module _ {S : Type 0} (g : Ghosts S) (limits : Limits) (h : History) (said : Said) (old new : Store S) (has : HasHistory g h old) where
   -- what was there stays, if a legal answer says that nothing changed
-  pub still_answered : (answered : Bool) (answer : Answer) → IsStill answer → IsLegal limits h said answer → Changed schema_one Tells (Follows limits said) answered false (shown g old) (shown g new) → IsAnswered g limits h said answer new
+  pub still_answered : (answered : Bool) (answer : Answer) → IsStill answer → IsLegal limits h said answer → Changed schema_one TellsHistory (Follows limits said) answered false (shown g old) (shown g new) → IsAnswered g limits h said answer new
   still_answered answered answer still legal turned = record {
     legal = legal;
     after = record {
@@ -42,7 +42,7 @@ module _ {S : Type 0} (g : Ghosts S) (limits : Limits) (h : History) (said : Sai
   }
 
   pub settled : (result : Result Answer StoreEnd) → IsInForm said → (StandsForHistory g h old → IfOk result (λ answer. WasDue g limits h said answer new))
-      → Changed schema_one Tells (Follows limits said) (is_ok result) (has_changed result) (shown g old) (shown g new) → IsAnswered g limits h said (answer_for result) new
+      → Changed schema_one TellsHistory (Follows limits said) (is_ok result) (has_changed result) (shown g old) (shown g new) → IsAnswered g limits h said (answer_for result) new
   settled (Ok answer) form answered turned =
       let it = answered (has.stands (turned.stays.was_open (turned.stays.is_open refl))) in
       let legal : IsLegal limits h said answer = inl (form, inl it.is_due) in
@@ -56,13 +56,13 @@ pub turns_err_from : (limits : Limits) (said : Said) (Before : History → Trees
 turns_err_from limits said Before (Ok answer) old new is h = absurd (cc is)
 turns_err_from limits said Before (Err end) old new is h = h
 
-pub turns_err : (limits : Limits) (said : Said) (result : Result Answer StoreEnd) (old new : State) → IsErr result → Changed schema_one Tells (Follows limits said) false false old new
-    → Changed schema_one Tells (Follows limits said) (is_ok result) (has_changed result) old new
-turns_err limits said result old new is h = turns_err_from limits said Tells result old new is h
+pub turns_err : (limits : Limits) (said : Said) (result : Result Answer StoreEnd) (old new : State) → IsErr result → Changed schema_one TellsHistory (Follows limits said) false false old new
+    → Changed schema_one TellsHistory (Follows limits said) (is_ok result) (has_changed result) old new
+turns_err limits said result old new is h = turns_err_from limits said TellsHistory result old new is h
 
 -- what a call leaves is what its answer leaves
-pub turns_answer : (limits : Limits) (said : Said) (result : Result Answer StoreEnd) (old new : State) → Changed schema_one Tells (Follows limits said) (is_ok result) (has_changed result) old new
-    → Changed schema_one Tells (Follows limits said) (is_accepted (answer_for result)) (is_accepted (answer_for result)) old new
+pub turns_answer : (limits : Limits) (said : Said) (result : Result Answer StoreEnd) (old new : State) → Changed schema_one TellsHistory (Follows limits said) (is_ok result) (has_changed result) old new
+    → Changed schema_one TellsHistory (Follows limits said) (is_accepted (answer_for result)) (is_accepted (answer_for result)) old new
 turns_answer limits said (Ok answer) old new h = record { stays = stays_if (is_accepted answer) old new h.stays; done = h.done; kept = h.kept; crash = h.crash }
 turns_answer limits said (Err ends.Memory) old new h = h
 turns_answer limits said (Err ends.Store) old new h = h
@@ -71,7 +71,7 @@ turns_answer limits said (Err ends.Store) old new h = h
 
 module _ {S : Type 0} (g : Ghosts S) (limits : Limits) (h : History) (said : Said) (store : Store S) (has : HasHistory g h store) where
   pub untouched : IsFaithful g store → (answer : Answer) → IsStill answer → IsLegal limits h said answer → IsAnswered g limits h said answer store
-  untouched clean answer still legal = still_answered g limits h said store store has false answer still legal (changed_none schema_one Tells (Follows limits said) (shown g store) clean)
+  untouched clean answer still legal = still_answered g limits h said store store has false answer still legal (changed_none schema_one TellsHistory (Follows limits said) (shown g store) clean)
 
 -- ---- names out of form
 

@@ -33,7 +33,7 @@ has_changed (Ok answer) = is_accepted answer
 has_changed (Err end) = false
 
 -- tables that stand for a history
-pub record Tells (h : History) (db : Trees) : Type 0 where
+pub record TellsHistory (h : History) (db : Trees) : Type 0 where
   pub t : Tables
   pub holds : Holds t db
   pub tells : TablesTell h t
@@ -43,7 +43,7 @@ pub record Follows (limits : Limits) (said : Said) (h : History) (db : Trees) : 
   pub answer : Answer
   pub accepted : IsTrue (is_accepted answer)
   pub legal : IsLegal limits h said answer
-  pub after : Tells (with_turn h said answer) db
+  pub after : TellsHistory (with_turn h said answer) db
 
 module _ {S : Type 0} (g : Ghosts S) where
   -- between commands the store's tables stand for a history
@@ -64,7 +64,7 @@ module _ {S : Type 0} (g : Ghosts S) where
 
   -- what a call for a command leaves, whatever the history: where the command is not done, all is as before; a crash leaves what it could leave before, or tables with the command done
   abbrev pub TurnsIf : Limits → Said → Bool → Bool → Store S → Store S → Type 0
-  TurnsIf limits said answered done old new = IsFaithful g new → Changed schema_one Tells (Follows limits said) answered done (shown g old) (shown g new)
+  TurnsIf limits said answered done old new = IsFaithful g new → Changed schema_one TellsHistory (Follows limits said) answered done (shown g old) (shown g new)
 
   -- what a command leaves, by its answer
   abbrev pub Turns : Limits → Said → Answer → Store S → Store S → Type 0
@@ -77,7 +77,7 @@ module _ {S : Type 0} (g : Ghosts S) where
 
   -- a command was answered over a store: what it leaves, whatever the history; and that the answer is legal after each history that the store has
   pub record Answers (limits : Limits) (said : Said) (answer : Answer) (old new : Store S) : Type 0 where
-    pub turned : Changed schema_one Tells (Follows limits said) (is_accepted answer) (is_accepted answer) (shown g old) (shown g new)
+    pub turned : Changed schema_one TellsHistory (Follows limits said) (is_accepted answer) (is_accepted answer) (shown g old) (shown g new)
     pub answered : (h : History) → HasHistory h old → IsAnswered limits h said answer new
 
   -- turns one after another, each from the store that the one before left

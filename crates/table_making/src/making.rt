@@ -14,8 +14,10 @@ use sqlite::{Alter, Connection, Error, Transaction};
 fn make_first_tables<S: Alter>(tx: &mut Transaction<'_, S>) -> Result<(), Error>
     ensures same_reference { tx.new.conn.ghost_name ≡ tx.old.conn.ghost_name }
     ensures passes { Passes (state S.Store tx.old.conn.now) (state S.Store tx.new.conn.now) }
-    ensures made { HasCleanDisk (state S.Store tx.new.conn.now) → Begins empty_schema (state S.Store tx.old.conn.now) → OnOk result (Works schema_to_derived (Contain schema_to_derived (no_rows schema_to_derived.tables)) (state S.Store tx.new.conn.now)) }
-    ensures running { HasCleanDisk (state S.Store tx.new.conn.now) → IsTrue (state S.Store tx.old.conn.now).in_transaction → OnOk result (IsTrue (state S.Store tx.new.conn.now).in_transaction) }
+    ensures made { HasCleanDisk (state S.Store tx.new.conn.now) → Begins empty_schema (state S.Store tx.old.conn.now)
+        → OnOk result (Works schema_to_derived (Contain schema_to_derived (no_rows schema_to_derived.tables)) (state S.Store tx.new.conn.now)) }
+    ensures running { HasCleanDisk (state S.Store tx.new.conn.now) → IsTrue (state S.Store tx.old.conn.now).in_transaction
+        → OnOk result (IsTrue (state S.Store tx.new.conn.now).in_transaction) }
 {
     tx.execute(
         "CREATE TABLE meta (id INTEGER PRIMARY KEY CHECK (id = 1), schema INTEGER NOT NULL, next_run INTEGER NOT NULL) STRICT",
@@ -40,8 +42,10 @@ fn make_first_tables<S: Alter>(tx: &mut Transaction<'_, S>) -> Result<(), Error>
 fn make_row_tables<S: Alter>(tx: &mut Transaction<'_, S>) -> Result<(), Error>
     ensures same_reference { tx.new.conn.ghost_name ≡ tx.old.conn.ghost_name }
     ensures passes { Passes (state S.Store tx.old.conn.now) (state S.Store tx.new.conn.now) }
-    ensures made { HasCleanDisk (state S.Store tx.new.conn.now) → Begins schema_to_derived (state S.Store tx.old.conn.now) → OnOk result (Works schema_to_arc (Contain schema_to_arc (no_rows schema_to_arc.tables)) (state S.Store tx.new.conn.now)) }
-    ensures running { HasCleanDisk (state S.Store tx.new.conn.now) → IsTrue (state S.Store tx.old.conn.now).in_transaction → OnOk result (IsTrue (state S.Store tx.new.conn.now).in_transaction) }
+    ensures made { HasCleanDisk (state S.Store tx.new.conn.now) → Begins schema_to_derived (state S.Store tx.old.conn.now)
+        → OnOk result (Works schema_to_arc (Contain schema_to_arc (no_rows schema_to_arc.tables)) (state S.Store tx.new.conn.now)) }
+    ensures running { HasCleanDisk (state S.Store tx.new.conn.now) → IsTrue (state S.Store tx.old.conn.now).in_transaction
+        → OnOk result (IsTrue (state S.Store tx.new.conn.now).in_transaction) }
 {
     tx.execute(
         "CREATE TABLE coef (run INTEGER NOT NULL REFERENCES run ON DELETE CASCADE, pos INTEGER NOT NULL, event INTEGER NOT NULL, n INTEGER NOT NULL, PRIMARY KEY (run, pos, event)) STRICT",
@@ -66,8 +70,10 @@ fn make_row_tables<S: Alter>(tx: &mut Transaction<'_, S>) -> Result<(), Error>
 fn make_last_tables<S: Alter>(tx: &mut Transaction<'_, S>) -> Result<(), Error>
     ensures same_reference { tx.new.conn.ghost_name ≡ tx.old.conn.ghost_name }
     ensures passes { Passes (state S.Store tx.old.conn.now) (state S.Store tx.new.conn.now) }
-    ensures made { HasCleanDisk (state S.Store tx.new.conn.now) → Begins schema_to_arc (state S.Store tx.old.conn.now) → OnOk result (Works schema_one (Contain schema_one (no_rows schema_one.tables)) (state S.Store tx.new.conn.now)) }
-    ensures running { HasCleanDisk (state S.Store tx.new.conn.now) → IsTrue (state S.Store tx.old.conn.now).in_transaction → OnOk result (IsTrue (state S.Store tx.new.conn.now).in_transaction) }
+    ensures made { HasCleanDisk (state S.Store tx.new.conn.now) → Begins schema_to_arc (state S.Store tx.old.conn.now)
+        → OnOk result (Works schema_one (Contain schema_one (no_rows schema_one.tables)) (state S.Store tx.new.conn.now)) }
+    ensures running { HasCleanDisk (state S.Store tx.new.conn.now) → IsTrue (state S.Store tx.old.conn.now).in_transaction
+        → OnOk result (IsTrue (state S.Store tx.new.conn.now).in_transaction) }
 {
     tx.execute(
         "CREATE TABLE stack (run INTEGER NOT NULL REFERENCES run ON DELETE CASCADE, frames BLOB NOT NULL, n INTEGER NOT NULL, PRIMARY KEY (run, frames)) STRICT",
@@ -88,7 +94,9 @@ fn make_last_tables<S: Alter>(tx: &mut Transaction<'_, S>) -> Result<(), Error>
 fn begin_meta<S: Alter>(tx: &mut Transaction<'_, S>) -> Result<usize, Error>
     ensures same_reference { tx.new.conn.ghost_name ≡ tx.old.conn.ghost_name }
     ensures passes { Passes (state S.Store tx.old.conn.now) (state S.Store tx.new.conn.now) }
-    ensures begun { HasCleanDisk (state S.Store tx.new.conn.now) → Works schema_one (Contain schema_one (no_rows schema_one.tables)) (state S.Store tx.old.conn.now) → OnOk result (Works schema_one (Holds new_tables) (state S.Store tx.new.conn.now)) }
+    ensures begun { HasCleanDisk (state S.Store tx.new.conn.now)
+        → Works schema_one (Contain schema_one (no_rows schema_one.tables)) (state S.Store tx.old.conn.now)
+        → OnOk result (Works schema_one (Holds new_tables) (state S.Store tx.new.conn.now)) }
 {
     tx.execute(
         "INSERT INTO meta (id, schema, next_run) VALUES (1, 1, 1)",
@@ -100,7 +108,8 @@ fn begin_meta<S: Alter>(tx: &mut Transaction<'_, S>) -> Result<usize, Error>
 fn fill_new<S: Alter>(tx: &mut Transaction<'_, S>) -> Result<(), Error>
     ensures same_reference { tx.new.conn.ghost_name ≡ tx.old.conn.ghost_name }
     ensures passes { Passes (state S.Store tx.old.conn.now) (state S.Store tx.new.conn.now) }
-    ensures done { HasCleanDisk (state S.Store tx.new.conn.now) → Begins empty_schema (state S.Store tx.old.conn.now) → OnOk result (Works schema_one (Holds new_tables) (state S.Store tx.new.conn.now)) }
+    ensures done { HasCleanDisk (state S.Store tx.new.conn.now) → Begins empty_schema (state S.Store tx.old.conn.now)
+        → OnOk result (Works schema_one (Holds new_tables) (state S.Store tx.new.conn.now)) }
 {
     make_first_tables(tx)?;
     make_row_tables(tx)?;
@@ -112,8 +121,10 @@ fn fill_new<S: Alter>(tx: &mut Transaction<'_, S>) -> Result<(), Error>
 /// Makes the tables of a new store in a database that has none, in one transaction.
 pub fn create_in<S: Alter>(conn: &mut Connection<S>) -> Result<(), Error>
     requires { conn.old.in_transaction ≡ false }
-    ensures done { HasCleanDisk (state S.Store conn.new) → IsBlank empty_schema (state S.Store conn.old) → OnOk result (Rests schema_one (Holds new_tables) (state S.Store conn.new)) }
-    ensures kept { HasCleanDisk (state S.Store conn.new) → IsBlank empty_schema (state S.Store conn.old) → OnErr result (IsTrue (state S.Store conn.new).is_open → IsBlank empty_schema (state S.Store conn.new)) }
+    ensures done { HasCleanDisk (state S.Store conn.new) → IsBlank empty_schema (state S.Store conn.old)
+        → OnOk result (Rests schema_one (Holds new_tables) (state S.Store conn.new)) }
+    ensures kept { HasCleanDisk (state S.Store conn.new) → IsBlank empty_schema (state S.Store conn.old)
+        → OnErr result (IsTrue (state S.Store conn.new).is_open → IsBlank empty_schema (state S.Store conn.new)) }
     ensures crash { IsBlank empty_schema (state S.Store conn.old) → Survives (state S.Store conn.old) (state S.Store conn.new) (Holds new_tables) }
     ensures honest { HasCleanDisk (state S.Store conn.new) → HasCleanDisk (state S.Store conn.old) }
 {

@@ -15,7 +15,7 @@ use Rattle.histories.specs.declared.answers.Answer.TheVariants as answers
 use Rattle.histories.specs.declared.answers.Refusal.TheVariants as reasons
 use Rattle.histories.specs.declared.limits.Limits.{Limits}
 use Rattle.histories.proofs.Held.{IsStill}
-use Rattle.store_histories.specs.Answered.{Answers, Tells, Follows, is_accepted}
+use Rattle.store_histories.specs.Answered.{Answers, TellsHistory, Follows, is_accepted}
 use Rattle.store_histories.proofs.Settled.{untouched}
 use Rattle.warehouse.specs.Answered.{unread_for}
 use Rattle.file_intake.specs.Reads.{IsUnreadFor}
@@ -44,10 +44,10 @@ unread_answered g limits kind label outcomes store clean form unread is = record
   answered = λ h has. untouched g limits h (Import kind label outcomes) store has clean (unread_for unread) (unread_still unread) (unread_legal limits h kind label outcomes form unread is);
 }
   where
-    none : Changed schema_one Tells (Follows limits (Import kind label outcomes)) false false (shown g store) (shown g store)
-    none = changed_none schema_one Tells (Follows limits (Import kind label outcomes)) (shown g store) clean
+    none : Changed schema_one TellsHistory (Follows limits (Import kind label outcomes)) false false (shown g store) (shown g store)
+    none = changed_none schema_one TellsHistory (Follows limits (Import kind label outcomes)) (shown g store) clean
 
-    turned : (unread : Unread) → Changed schema_one Tells (Follows limits (Import kind label outcomes)) (is_accepted (unread_for unread)) (is_accepted (unread_for unread)) (shown g store) (shown g store)
+    turned : (unread : Unread) → Changed schema_one TellsHistory (Follows limits (Import kind label outcomes)) (is_accepted (unread_for unread)) (is_accepted (unread_for unread)) (shown g store) (shown g store)
     turned unreads.Memory = none
     turned unreads.Failed = none
     turned unreads.TooLong = none

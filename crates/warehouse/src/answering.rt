@@ -26,7 +26,8 @@ fn import_labelled<S: Alter, R: Source>(
     source: &mut R,
 ) -> Answer
     requires { IsLabel label.now }
-    ensures answered { IsFaithful S.Store store.new → (outcomes : List Outcome) × Come R.comes source.old outcomes source.new × Answers S.Store limits (Import kind label.now outcomes) result store.old store.new }
+    ensures answered { IsFaithful S.Store store.new → (outcomes : List Outcome) × Come R.comes source.old outcomes source.new
+        × Answers S.Store limits (Import kind label.now outcomes) result store.old store.new }
 {
     match take_file(alloc, kind, limits.bytes, source) {
         Ok(taken) => answer_of(take_in(store, alloc, limits, kind, label, &taken)),
@@ -43,7 +44,8 @@ pub(crate) fn import_in<S: Alter, R: Source>(
     label: &[u8],
     source: &mut R,
 ) -> Answer
-    ensures answered { IsFaithful S.Store store.new → (outcomes : List Outcome) × Come R.comes source.old outcomes source.new × Answers S.Store limits (Import kind label.now outcomes) result store.old store.new }
+    ensures answered { IsFaithful S.Store store.new → (outcomes : List Outcome) × Come R.comes source.old outcomes source.new
+        × Answers S.Store limits (Import kind label.now outcomes) result store.old store.new }
 {
     match label_of(label) {
         Some(label) => import_labelled(store, alloc, limits, kind, label, source),

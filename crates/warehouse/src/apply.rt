@@ -29,7 +29,8 @@ impl<S: Alter> Warehouse<S> {
         source: &mut R,
     ) -> Answer
         ensures limits { self.new.limits ≡ self.old.limits }
-        ensures answered { IsFaithful S.Store self.new.store → (outcomes : List Outcome) × Come R.comes source.old outcomes source.new × Answers S.Store self.old.limits (Import kind label.now outcomes) result self.old.store self.new.store }
+        ensures answered { IsFaithful S.Store self.new.store → (outcomes : List Outcome) × Come R.comes source.old outcomes source.new
+            × Answers S.Store self.old.limits (Import kind label.now outcomes) result self.old.store self.new.store }
     {
         import_in(&mut self.store, alloc, self.limits, kind, label, source)
     }
@@ -77,7 +78,8 @@ impl<S: Alter> Warehouse<S> {
         commands: Vec<Command<R>>,
     ) -> Result<Vec<Answer>, AllocError>
         ensures limits { self.new.limits ≡ self.old.limits }
-        ensures answered { IsFaithful S.Store self.new.store → IfOk result (λ answers. WasRun S.Store R.comes self.old.limits commands.items answers.items self.old.store self.new.store) }
+        ensures answered { IsFaithful S.Store self.new.store
+            → IfOk result (λ answers. WasRun S.Store R.comes self.old.limits commands.items answers.items self.old.store self.new.store) }
         ensures err { OnErr result (self.new ≡ self.old) }
     {
         let count = commands.len();

@@ -8,7 +8,7 @@ ghost use Rattle.histories.specs.History.{History, Said};
 ghost use Rattle.histories.specs.Stands.{TablesTell};
 ghost use Rattle.histories.specs.declared.answers.Answer.{Answer};
 ghost use Rattle.histories.specs.declared.limits.Limits.{Limits};
-ghost use Rattle.store_histories.specs.Answered.{HasHistory, Answers, Tells, is_accepted, with_turn};
+ghost use Rattle.store_histories.specs.Answered.{HasHistory, Answers, TellsHistory, is_accepted, with_turn};
 
 use prof_store::what_stands_survives;
 use sqlite::Alter;
@@ -20,9 +20,11 @@ use sqlite::Alter;
 pub fn histories_survive<S: Alter>()
     ensures new { (store : Store S) → StandsFor S.Store new_tables store → HasHistory S.Store [] store }
     ensures opened { (h : History) (t : Tables) (store : Store S) → TablesTell h t → StandsFor S.Store t store → HasHistory S.Store h store }
-    ensures survives { (h : History) (store : Store S) → HasHistory S.Store h store → IsUsable S.Store store → LeavesJust S.Store store (λ db. (t : Tables) × Holds t db × TablesTell h t) }
-    ensures durable { (limits : Limits) (said : Said) (answer : Answer) (h : History) (old new : Store S) → Answers S.Store limits said answer old new → IsTrue (is_accepted answer) → HasHistory S.Store h old
-        → LeavesJust S.Store new (Tells (with_turn h said answer)) }
+    ensures survives { (h : History) (store : Store S) → HasHistory S.Store h store → IsUsable S.Store store
+        → LeavesJust S.Store store (λ db. (t : Tables) × Holds t db × TablesTell h t) }
+    ensures durable { (limits : Limits) (said : Said) (answer : Answer) (h : History) (old new : Store S) → Answers S.Store limits said answer old new
+        → IsTrue (is_accepted answer) → HasHistory S.Store h old
+        → LeavesJust S.Store new (TellsHistory (with_turn h said answer)) }
 {
     what_stands_survives::<S>();
 }

@@ -9,7 +9,7 @@ use Rattle.histories.specs.Legal.{number_of}
 use Rattle.histories.specs.declared.answers.Answer.TheVariants.{Held, Refused}
 use Rattle.histories.specs.declared.answers.Refusal.TheVariants.{File}
 use Rattle.histories.proofs.Tells.{tells_digest}
-use Rattle.store_histories.specs.Answered.{StandsForHistory, Tells, Follows}
+use Rattle.store_histories.specs.Answered.{StandsForHistory, TellsHistory, Follows}
 use Rattle.store_histories.proofs.Due.{was_still}
 use Rattle.store_histories.proofs.Settled.{turns_err}
 use Rattle.run_imports.specs.Imports.{IsNewFile}
@@ -20,7 +20,7 @@ use Rattle.run_imports.proofs.taking.take_in.Goals as goal
 
 pub returns-in_err-number-clause-turns : goal.returns-in_err-number-clause-turns
 returns-in_err-number-clause-turns g c outcomes ended is clean =
-    let said = Import c.args.kind c.args.label.now outcomes in turns_err c.args.limits said c.from_residual.result _ _ c.from_residual.ensures.0 (changed_asked schema_one Tells (Follows c.args.limits said) false _ _ (c.in_err-number.ensures.asks clean))
+    let said = Import c.args.kind c.args.label.now outcomes in turns_err c.args.limits said c.from_residual.result _ _ c.from_residual.ensures.0 (changed_asked schema_one TellsHistory (Follows c.args.limits said) false _ _ (c.in_err-number.ensures.asks clean))
 
 pub returns-in-Some-clause-answered : goal.returns-in-Some-clause-answered
 returns-in-Some-clause-answered g c clean h outcomes s ended is =
@@ -30,7 +30,7 @@ returns-in-Some-clause-answered g c clean h outcomes s ended is =
     (held_due c.args.limits h c.args.kind c.args.label.now outcomes ended c.in-Some.number found) s (asked_rests schema_one (Holds s.t) _ _ (c.in_ok-number.ensures.asks clean) s.stands)
 
 pub returns-in-Some-clause-turns : goal.returns-in-Some-clause-turns
-returns-in-Some-clause-turns g c outcomes ended is clean = changed_asked schema_one Tells (Follows c.args.limits (Import c.args.kind c.args.label.now outcomes)) true _ _ (c.in_ok-number.ensures.asks clean)
+returns-in-Some-clause-turns g c outcomes ended is clean = changed_asked schema_one TellsHistory (Follows c.args.limits (Import c.args.kind c.args.label.now outcomes)) true _ _ (c.in_ok-number.ensures.asks clean)
 
 pub returns-in-Ok-clause-answered : goal.returns-in-Ok-clause-answered
 returns-in-Ok-clause-answered g c clean h outcomes s ended is =
@@ -67,4 +67,4 @@ returns-in-Err-clause-answered g c clean h outcomes s ended is =
     (fault_due c.args.limits h c.args.kind c.args.label.now outcomes ended none (c.in-Err.fault, c.in-Err.line) fault) s (asked_rests schema_one (Holds s.t) _ _ (c.in_ok-number.ensures.asks clean) s.stands)
 
 pub returns-in-Err-clause-turns : goal.returns-in-Err-clause-turns
-returns-in-Err-clause-turns g c outcomes ended is clean = changed_asked schema_one Tells (Follows c.args.limits (Import c.args.kind c.args.label.now outcomes)) true _ _ (c.in_ok-number.ensures.asks clean)
+returns-in-Err-clause-turns g c outcomes ended is clean = changed_asked schema_one TellsHistory (Follows c.args.limits (Import c.args.kind c.args.label.now outcomes)) true _ _ (c.in_ok-number.ensures.asks clean)

@@ -4,7 +4,7 @@ use Rattle.prof_tables.specs.Changes as tables
 use Rattle.prof_tables.specs.Schema.{schema_one}
 use Rattle.prof_tables.specs.Tables.{Holds}
 use Rattle.histories.specs.declared.answers.Answer.TheVariants.{Done, Refused}
-use Rattle.store_histories.specs.Answered.{Tells, Follows}
+use Rattle.store_histories.specs.Answered.{TellsHistory, Follows}
 use Rattle.store_histories.specs.Refusals.{missing_of, refused_or}
 use Rattle.store_histories.proofs.After.{given, turns_after, done_after}
 use Rattle.store_histories.proofs.Due.{was_still}
@@ -15,7 +15,7 @@ use Rattle.store_commands.proofs.changes.change_group.Goals as goal
 
 pub returns-in_err-refusal-clause-turns : goal.returns-in_err-refusal-clause-turns
 returns-in_err-refusal-clause-turns g c limits clean =
-    let said = said_of c.args.change c.args.name.now c.args.number in turns_err limits said c.from_residual.result _ _ c.from_residual.ensures.0 (changed_asked schema_one Tells (Follows limits said) false _ _ (c.in_err-refusal.ensures.asks clean))
+    let said = said_of c.args.change c.args.name.now c.args.number in turns_err limits said c.from_residual.result _ _ c.from_residual.ensures.0 (changed_asked schema_one TellsHistory (Follows limits said) false _ _ (c.in_err-refusal.ensures.asks clean))
 
 pub returns-in-Some-clause-answered : goal.returns-in-Some-clause-answered
 returns-in-Some-clause-answered g c clean limits h s =
@@ -25,7 +25,7 @@ returns-in-Some-clause-answered g c clean limits h s =
     (due_by_tables limits c.args.change name n h s.t s.tells ∙ ap (λ r. Some (refused_or r Done)) (sym (c.in_ok-refusal.ensures.told clean s.t s.stands) ∙ c.in-Some.is)) s (asked_rests schema_one (Holds s.t) _ _ (c.in_ok-refusal.ensures.asks clean) s.stands)
 
 pub returns-in-Some-clause-turns : goal.returns-in-Some-clause-turns
-returns-in-Some-clause-turns g c limits clean = changed_asked schema_one Tells (Follows limits (said_of c.args.change c.args.name.now c.args.number)) true _ _ (c.in_ok-refusal.ensures.asks clean)
+returns-in-Some-clause-turns g c limits clean = changed_asked schema_one TellsHistory (Follows limits (said_of c.args.change c.args.name.now c.args.number)) true _ _ (c.in_ok-refusal.ensures.asks clean)
 
 pub returns-in_err-change_held-clause-turns : goal.returns-in_err-change_held-clause-turns
 returns-in_err-change_held-clause-turns g c limits clean =

@@ -9,7 +9,7 @@ use Rattle.histories.specs.declared.answers.Answer.TheVariants.{Refused}
 use Rattle.histories.specs.declared.answers.Refusal.TheVariants.{GroupTaken, Full}
 use Rattle.histories.proofs.Steps.{tell_made}
 use Rattle.histories.proofs.Tells.{tells_group, tells_groups}
-use Rattle.store_histories.specs.Answered.{Tells, Follows}
+use Rattle.store_histories.specs.Answered.{TellsHistory, Follows}
 use Rattle.store_histories.proofs.After.{given, turns_after, done_after}
 use Rattle.store_histories.proofs.Due.{was_still, has_none}
 use Rattle.store_histories.proofs.Settled.{turns_err}
@@ -18,7 +18,7 @@ use Rattle.store_commands.proofs.changes.make_group.Goals as goal
 
 pub returns-in_err-has_group-clause-turns : goal.returns-in_err-has_group-clause-turns
 returns-in_err-has_group-clause-turns g c clean =
-    let said = MakeGroup c.args.name.now in turns_err c.args.limits said c.from_residual.result _ _ c.from_residual.ensures.0 (changed_asked schema_one Tells (Follows c.args.limits said) false _ _ (c.in_err-has_group.ensures.asks clean))
+    let said = MakeGroup c.args.name.now in turns_err c.args.limits said c.from_residual.result _ _ c.from_residual.ensures.0 (changed_asked schema_one TellsHistory (Follows c.args.limits said) false _ _ (c.in_err-has_group.ensures.asks clean))
 
 pub returns-then-branch-clause-answered : goal.returns-then-branch-clause-answered
 returns-then-branch-clause-answered g c clean h s =
@@ -29,14 +29,14 @@ returns-then-branch-clause-answered g c clean h s =
     (asked_rests schema_one (Holds s.t) _ _ (c.in_ok-has_group.ensures.asks clean) s.stands)
 
 pub returns-then-branch-clause-turns : goal.returns-then-branch-clause-turns
-returns-then-branch-clause-turns g c clean = changed_asked schema_one Tells (Follows c.args.limits (MakeGroup c.args.name.now)) true _ _ (c.in_ok-has_group.ensures.asks clean)
+returns-then-branch-clause-turns g c clean = changed_asked schema_one TellsHistory (Follows c.args.limits (MakeGroup c.args.name.now)) true _ _ (c.in_ok-has_group.ensures.asks clean)
 
 pub returns-in_err-group_count-clause-turns : goal.returns-in_err-group_count-clause-turns
 returns-in_err-group_count-clause-turns g c clean =
     let said = MakeGroup c.args.name.now in
     let two = c.in_err-group_count.ensures.asks clean in
     turns_err c.args.limits said c.from_residual-in_err-group_count.result _ _ c.from_residual-in_err-group_count.ensures.0
-    (changed_asked schema_one Tells (Follows c.args.limits said) false _ _ (asked_then schema_one false _ _ _ (c.in_ok-has_group.ensures.asks two.stays.was_clean) two))
+    (changed_asked schema_one TellsHistory (Follows c.args.limits said) false _ _ (asked_then schema_one false _ _ _ (c.in_ok-has_group.ensures.asks two.stays.was_clean) two))
 
 pub returns-then-branch-from-clause-answered : goal.returns-then-branch-from-clause-answered
 returns-then-branch-from-clause-answered g c clean h s =
@@ -53,7 +53,7 @@ returns-then-branch-from-clause-answered g c clean h s =
 pub returns-then-branch-from-clause-turns : goal.returns-then-branch-from-clause-turns
 returns-then-branch-from-clause-turns g c clean =
     let two = c.in_ok-group_count.ensures.asks clean in
-    changed_asked schema_one Tells (Follows c.args.limits (MakeGroup c.args.name.now)) true _ _ (asked_then schema_one true _ _ _ (c.in_ok-has_group.ensures.asks two.stays.was_clean) two)
+    changed_asked schema_one TellsHistory (Follows c.args.limits (MakeGroup c.args.name.now)) true _ _ (asked_then schema_one true _ _ _ (c.in_ok-has_group.ensures.asks two.stays.was_clean) two)
 
 pub returns-in_err-put_group-clause-turns : goal.returns-in_err-put_group-clause-turns
 returns-in_err-put_group-clause-turns g c clean =

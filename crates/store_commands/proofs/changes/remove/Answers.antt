@@ -10,7 +10,7 @@ use Rattle.histories.specs.declared.answers.Answer.TheVariants.{Refused}
 use Rattle.histories.specs.declared.answers.Refusal.TheVariants.{NoSuchRun}
 use Rattle.histories.proofs.Steps.{tell_removed}
 use Rattle.histories.proofs.Tells.{tells_run}
-use Rattle.store_histories.specs.Answered.{Tells, Follows}
+use Rattle.store_histories.specs.Answered.{TellsHistory, Follows}
 use Rattle.store_histories.proofs.After.{turns_after, done_after}
 use Rattle.store_histories.proofs.Due.{was_still}
 use Rattle.store_histories.proofs.Settled.{turns_err}
@@ -19,7 +19,7 @@ use Rattle.store_commands.proofs.changes.remove.Goals as goal
 
 pub returns-in_err-has_run-clause-turns : goal.returns-in_err-has_run-clause-turns
 returns-in_err-has_run-clause-turns g c limits clean =
-    turns_err limits (Remove c.args.number) c.from_residual.result _ _ c.from_residual.ensures.0 (changed_asked schema_one Tells (Follows limits (Remove c.args.number)) false _ _ (c.in_err-has_run.ensures.asks clean))
+    turns_err limits (Remove c.args.number) c.from_residual.result _ _ c.from_residual.ensures.0 (changed_asked schema_one TellsHistory (Follows limits (Remove c.args.number)) false _ _ (c.in_err-has_run.ensures.asks clean))
 
 pub returns-then-not-branch-clause-answered : goal.returns-then-not-branch-clause-answered
 returns-then-not-branch-clause-answered g c clean limits h s =
@@ -27,7 +27,7 @@ returns-then-not-branch-clause-answered g c clean limits h s =
     was_still limits h (Remove c.args.number) tt g.S.Store c.args.store.now c.has_run.new.self (Refused NoSuchRun) tt (remove_due limits h c.args.number false is) s (asked_rests schema_one (Holds s.t) _ _ (c.in_ok-has_run.ensures.asks clean) s.stands)
 
 pub returns-then-not-branch-clause-turns : goal.returns-then-not-branch-clause-turns
-returns-then-not-branch-clause-turns g c limits clean = changed_asked schema_one Tells (Follows limits (Remove c.args.number)) true _ _ (c.in_ok-has_run.ensures.asks clean)
+returns-then-not-branch-clause-turns g c limits clean = changed_asked schema_one TellsHistory (Follows limits (Remove c.args.number)) true _ _ (c.in_ok-has_run.ensures.asks clean)
 
 pub returns-in_err-drop_run-clause-turns : goal.returns-in_err-drop_run-clause-turns
 returns-in_err-drop_run-clause-turns g c limits clean =

@@ -5,7 +5,7 @@ use Rattle.histories.specs.declared.answers.Refusal.TheVariants.{BadName}
 use Rattle.sql_tables.proofs.Calls.{changed_none}
 use Rattle.prof_tables.specs.Schema.{schema_one}
 use Rattle.prof_store.specs.Shown.{shown}
-use Rattle.store_histories.specs.Answered.{Tells, Follows}
+use Rattle.store_histories.specs.Answered.{TellsHistory, Follows}
 use Rattle.store_histories.proofs.Settled.{untouched, bad_name}
 use Rattle.warehouse.proofs.answering.import_in.Goals as goal
 
@@ -17,7 +17,7 @@ returns-in-None g c = record {
         [],
         refl,
         record {
-          turned = changed_none schema_one Tells (Follows limits said) (shown g.S.Store c.args.store.now) clean;
+          turned = changed_none schema_one TellsHistory (Follows limits said) (shown g.S.Store c.args.store.now) clean;
           answered = λ h has. untouched g.S.Store limits h said c.args.store.now has clean (Refused BadName) tt (bad_name limits h said c.in-None.ensures refl);
         },
       );

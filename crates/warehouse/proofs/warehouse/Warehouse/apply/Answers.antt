@@ -13,7 +13,7 @@ pub returns-in-Remove-clause-answered : goal.returns-in-Remove-clause-answered
 returns-in-Remove-clause-answered g c clean = record {
   said = Remove c.in-Remove.number;
   says = subst (λ k. Says g.R.Source.comes k (Remove c.in-Remove.number)) (sym c.in-Remove.is) refl;
-  answers = record { turned = c.remove_in.ensures.turns c.args.self.now.limits clean; answered = c.remove_in.ensures.answered clean c.args.self.now.limits };
+  answers = c.remove_in.ensures.answered c.args.self.now.limits clean;
 }
 
 pub returns-in-MakeGroup-clause-answered : goal.returns-in-MakeGroup-clause-answered
@@ -21,7 +21,7 @@ returns-in-MakeGroup-clause-answered g c clean =
     let said = MakeGroup c.as_slice-in-MakeGroup.result.now in record {
       said = said;
       says = subst (λ k. Says g.R.Source.comes k said) (sym c.in-MakeGroup.is) (ap MakeGroup c.as_slice-in-MakeGroup.ensures.value);
-      answers = record { turned = c.make_in.ensures.turns clean; answered = c.make_in.ensures.answered clean };
+      answers = c.make_in.ensures.answered clean;
     }
 
 pub returns-in-DropGroup-clause-answered : goal.returns-in-DropGroup-clause-answered
@@ -29,14 +29,14 @@ returns-in-DropGroup-clause-answered g c clean =
     let said = DropGroup c.as_slice-in-DropGroup.result.now in record {
       said = said;
       says = subst (λ k. Says g.R.Source.comes k said) (sym c.in-DropGroup.is) (ap DropGroup c.as_slice-in-DropGroup.ensures.value);
-      answers = record { turned = c.drop_in.ensures.turns c.args.self.now.limits clean; answered = c.drop_in.ensures.answered clean c.args.self.now.limits };
+      answers = c.drop_in.ensures.answered c.args.self.now.limits clean;
     }
 
 pub returns-in-Ask-clause-answered : goal.returns-in-Ask-clause-answered
 returns-in-Ask-clause-answered g c clean = record {
   said = Ask c.in-Ask.query;
   says = subst (λ k. Says g.R.Source.comes k (Ask c.in-Ask.query)) (sym c.in-Ask.is) refl;
-  answers = record { turned = c.ask_in.ensures.turns c.args.self.now.limits clean; answered = c.ask_in.ensures.answered clean c.args.self.now.limits };
+  answers = c.ask_in.ensures.answered c.args.self.now.limits clean;
 }
 
 pub returns-in-Join-clause-answered : goal.returns-in-Join-clause-answered
@@ -44,7 +44,7 @@ returns-in-Join-clause-answered g c clean =
     let said = Join c.as_slice-in-Join.result.now c.in-Join.number in record {
       said = said;
       says = subst (λ k. Says g.R.Source.comes k said) (sym c.in-Join.is) (ap (λ l. Join l c.in-Join.number) c.as_slice-in-Join.ensures.value);
-      answers = record { turned = c.change_in.ensures.turns c.args.self.now.limits clean; answered = c.change_in.ensures.answered clean c.args.self.now.limits };
+      answers = c.change_in.ensures.answered c.args.self.now.limits clean;
     }
 
 pub returns-in-Leave-clause-answered : goal.returns-in-Leave-clause-answered
@@ -52,7 +52,7 @@ returns-in-Leave-clause-answered g c clean =
     let said = Leave c.as_slice-in-Leave.result.now c.in-Leave.number in record {
       said = said;
       says = subst (λ k. Says g.R.Source.comes k said) (sym c.in-Leave.is) (ap (λ l. Leave l c.in-Leave.number) c.as_slice-in-Leave.ensures.value);
-      answers = record { turned = c.change_in-in-Leave.ensures.turns c.args.self.now.limits clean; answered = c.change_in-in-Leave.ensures.answered clean c.args.self.now.limits };
+      answers = c.change_in-in-Leave.ensures.answered c.args.self.now.limits clean;
     }
 
 pub returns-in-SetBaseline-clause-answered : goal.returns-in-SetBaseline-clause-answered
@@ -60,5 +60,5 @@ returns-in-SetBaseline-clause-answered g c clean =
     let said = SetBaseline c.as_slice-in-SetBaseline.result.now c.in-SetBaseline.number in record {
       said = said;
       says = subst (λ k. Says g.R.Source.comes k said) (sym c.in-SetBaseline.is) (ap (λ l. SetBaseline l c.in-SetBaseline.number) c.as_slice-in-SetBaseline.ensures.value);
-      answers = record { turned = c.change_in-in-SetBaseline.ensures.turns c.args.self.now.limits clean; answered = c.change_in-in-SetBaseline.ensures.answered clean c.args.self.now.limits };
+      answers = c.change_in-in-SetBaseline.ensures.answered c.args.self.now.limits clean;
     }
