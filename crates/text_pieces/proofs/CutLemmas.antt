@@ -147,9 +147,12 @@ no-lf bs h =
     let p = position-None (λ b. eqb b 10) bs h in
     subst (λ xs. AllByRecursion (λ b. b ≡ 10 → ⊥) xs) (take_all (length bs) bs (omega arith)) (run-before bs (length bs) (omega arith))
 
--- a line feed behind a run ends the line that it makes longer
-pub back-line : {A : Type 0} (says : List ℕ → A) (run text : List ℕ) → AllByRecursion (λ b. b ≡ 10 → ⊥) run → (back_of says ((text ++ run) ++ 10 ∷ []) ≡ says ((cut text).rest ++ run) ∷ back_of says text) × ((cut ((text ++ run) ++ 10 ∷ [])).rest ≡ [])
+-- a run and a line feed behind it end the line that the run makes longer
+pub back-line : {A : Type 0} (says : List ℕ → A) (run text : List ℕ) → AllByRecursion (λ b. b ≡ 10 → ⊥) run → (back_of says (text ++ (run ++ 10 ∷ [])) ≡ says ((cut text).rest ++ run) ∷ back_of says text) × ((cut (text ++ (run ++ 10 ∷ []))).rest ≡ [])
 back-line says run text none =
     let more = back-run says run text none in
     let end = back-lf says (text ++ run) in
-    (end.0 ∙ ap (λ line. says line ∷ back_of says (text ++ run)) more.1 ∙ ap (λ lines. says ((cut text).rest ++ run) ∷ lines) more.0, end.1)
+    let same = sym (append_assoc text run (10 ∷ [])) in (
+      ap (back_of says) same ∙ end.0 ∙ ap (λ line. says line ∷ back_of says (text ++ run)) more.1 ∙ ap (λ lines. says ((cut text).rest ++ run) ∷ lines) more.0,
+      ap (λ xs. (cut xs).rest) same ∙ end.1,
+    )

@@ -1,3 +1,4 @@
 pub mod CutLemmas
 pub mod PrefixLemmas
 pub mod ResultLemmas
+pub mod MovesLemmas

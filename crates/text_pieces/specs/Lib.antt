@@ -2,3 +2,4 @@ pub mod Cut
 pub mod Backwards
 pub mod Kept
 pub mod LineIs
+pub mod Moves

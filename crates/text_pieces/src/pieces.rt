@@ -1,8 +1,7 @@
 // A text that comes in pieces.
-ghost use Rattle.std.specs.Prelude.{◌≡◌, ℕ, ◌+◌, ◌-◌, ◌<◌, ◌≤◌, OnOk, OnErr, IfSome, IfNone, IsErr, List, [], ◌∷◌, ◌++◌, fold, length, vec_len, MatchBool, ◌≢◌, false, true};
+ghost use Rattle.std.specs.Prelude.{◌≡◌, ℕ, ◌+◌, ◌≤◌, OnOk, OnErr, IfSome, IfNone, IsErr, List, [], ◌∷◌, ◌++◌, length, vec_len, MatchBool, ◌≢◌, false, true};
 ghost use Rattle.std.specs.List.{AllByRecursion};
 ghost use Rattle.text_pieces.specs.Cut.{cut};
-ghost use Rattle.text_pieces.specs.Backwards.{back_of, end_of, held, IsPrefix};
 
 use crate::takes::{Line, TakesLines};
 use cg_text::{LINE_LIMIT, line_end};
@@ -39,6 +38,7 @@ pub struct Pieces {
 impl Pieces {
     ghost use Rattle.text_pieces.specs.LineIs.{IsLine};
     ghost use Rattle.text_pieces.specs.Kept.{Keeps, taken_of, room_of, IsSpent};
+    ghost use Rattle.text_pieces.specs.Moves.{at, Ready, TakesLine, TakesBytes, Ends};
 
     /// No piece was taken.
     pub fn new(alloc: Global) -> Pieces
@@ -106,18 +106,10 @@ impl Pieces {
         state: &mut T,
         sink: &mut S,
     ) -> Result<(), AllocError>
-        requires few { T.lines state.old < self.old.taken }
-        requires fits { T.fits state.old sink.old }
-        ensures keeps { OnOk result ((text : List ℕ) → Keeps self.old text → Keeps self.new (text ++ 10 ∷ [])) }
-        ensures stands { OnOk result ((text : List ℕ) → Keeps self.old text → T.stands state.old (back_of T.reading_of text) → T.stands state.new (back_of T.reading_of (text ++ 10 ∷ []))) }
-        ensures told { OnOk result ((text : List ℕ) → Keeps self.old text → T.stands state.old (back_of T.reading_of text)
-            → T.meaning sink.new ≡ fold T.step (T.meaning sink.old) (T.adds (T.reading_of (cut text).rest) (back_of T.reading_of text))) }
-        ensures fits { OnOk result (T.fits state.new sink.new) }
-        ensures lines { T.lines state.new ≡ T.lines state.old + 1 }
-        ensures err { OnErr result (T.meaning sink.new ≡ T.meaning sink.old) }
-        ensures taken { self.new.taken ≡ self.old.taken }
-        ensures spent { self.new.spent ≡ self.old.spent }
+        requires ready { Ready T.TakesLines (at self.old state.old sink.old) 1 }
+        ensures { TakesLine T.TakesLines result (at self.old state.old sink.old) (10 ∷ []) (at self.new state.new sink.new) }
     {
+        self.taken += 1;
         state.take_line(self.kept(), sink)?;
         self.too_long = false;
         self.partial.clear();
@@ -132,21 +124,10 @@ impl Pieces {
         sink: &mut S,
     ) -> Result<(), AllocError>
         requires none { AllByRecursion (λ b. b ≢ 10) bytes.now }
-        requires room { self.old.taken + length bytes.now < 1073741824 }
-        requires few { T.lines state.old ≤ self.old.taken }
-        requires fits { T.fits state.old sink.old }
-        ensures keeps { OnOk result ((text : List ℕ) → Keeps self.old text → Keeps self.new ((text ++ bytes.now) ++ 10 ∷ [])) }
-        ensures stands { OnOk result ((text : List ℕ) → Keeps self.old text → T.stands state.old (back_of T.reading_of text) → T.stands state.new (back_of T.reading_of ((text ++ bytes.now) ++ 10 ∷ []))) }
-        ensures told { OnOk result ((text : List ℕ) → Keeps self.old text → T.stands state.old (back_of T.reading_of text)
-            → (more : List T.Record) × (held T.adds (back_of T.reading_of ((text ++ bytes.now) ++ 10 ∷ [])) ≡ held T.adds (back_of T.reading_of text) ++ more) × (T.meaning sink.new ≡ fold T.step (T.meaning sink.old) more)) }
-        ensures fits { OnOk result (T.fits state.new sink.new) }
-        ensures lines { T.lines state.new ≤ self.new.taken }
-        ensures err { OnErr result (T.meaning sink.new ≡ T.meaning sink.old) }
-        ensures taken { OnOk result (self.new.taken ≡ self.old.taken + length bytes.now + 1) }
-        ensures spent { self.new.spent ≡ self.old.spent }
+        requires ready { Ready T.TakesLines (at self.old state.old sink.old) (length bytes.now + 1) }
+        ensures { TakesLine T.TakesLines result (at self.old state.old sink.old) (bytes.now ++ 10 ∷ []) (at self.new state.new sink.new) }
     {
         self.keep(bytes)?;
-        self.taken += 1;
         self.end_line(state, sink)
     }
 
@@ -160,18 +141,8 @@ impl Pieces {
         requires nothing { self.old.partial.items ≡ [] }
         requires short_line { self.old.too_long ≡ false }
         requires none { AllByRecursion (λ b. b ≢ 10) bytes.now }
-        requires room { self.old.taken + length bytes.now < 1073741824 }
-        requires few { T.lines state.old ≤ self.old.taken }
-        requires fits { T.fits state.old sink.old }
-        ensures keeps { OnOk result ((text : List ℕ) → Keeps self.old text → Keeps self.new ((text ++ bytes.now) ++ 10 ∷ [])) }
-        ensures stands { OnOk result ((text : List ℕ) → Keeps self.old text → T.stands state.old (back_of T.reading_of text) → T.stands state.new (back_of T.reading_of ((text ++ bytes.now) ++ 10 ∷ []))) }
-        ensures told { OnOk result ((text : List ℕ) → Keeps self.old text → T.stands state.old (back_of T.reading_of text)
-            → (more : List T.Record) × (held T.adds (back_of T.reading_of ((text ++ bytes.now) ++ 10 ∷ [])) ≡ held T.adds (back_of T.reading_of text) ++ more) × (T.meaning sink.new ≡ fold T.step (T.meaning sink.old) more)) }
-        ensures fits { OnOk result (T.fits state.new sink.new) }
-        ensures lines { T.lines state.new ≤ self.new.taken }
-        ensures err { OnErr result (T.meaning sink.new ≡ T.meaning sink.old) }
-        ensures taken { OnOk result (self.new.taken ≡ self.old.taken + length bytes.now + 1) }
-        ensures spent { self.new.spent ≡ self.old.spent }
+        requires ready { Ready T.TakesLines (at self.old state.old sink.old) (length bytes.now + 1) }
+        ensures { TakesLine T.TakesLines result (at self.old state.old sink.old) (bytes.now ++ 10 ∷ []) (at self.new state.new sink.new) }
     {
         self.taken += bytes.len() as u64 + 1;
         state.take_line(Line::Whole(bytes), sink)
@@ -185,18 +156,8 @@ impl Pieces {
         sink: &mut S,
     ) -> Result<(), AllocError>
         requires none { AllByRecursion (λ b. b ≢ 10) bytes.now }
-        requires room { self.old.taken + length bytes.now < 1073741824 }
-        requires few { T.lines state.old ≤ self.old.taken }
-        requires fits { T.fits state.old sink.old }
-        ensures keeps { OnOk result ((text : List ℕ) → Keeps self.old text → Keeps self.new ((text ++ bytes.now) ++ 10 ∷ [])) }
-        ensures stands { OnOk result ((text : List ℕ) → Keeps self.old text → T.stands state.old (back_of T.reading_of text) → T.stands state.new (back_of T.reading_of ((text ++ bytes.now) ++ 10 ∷ []))) }
-        ensures told { OnOk result ((text : List ℕ) → Keeps self.old text → T.stands state.old (back_of T.reading_of text)
-            → (more : List T.Record) × (held T.adds (back_of T.reading_of ((text ++ bytes.now) ++ 10 ∷ [])) ≡ held T.adds (back_of T.reading_of text) ++ more) × (T.meaning sink.new ≡ fold T.step (T.meaning sink.old) more)) }
-        ensures fits { OnOk result (T.fits state.new sink.new) }
-        ensures lines { T.lines state.new ≤ self.new.taken }
-        ensures err { OnErr result (T.meaning sink.new ≡ T.meaning sink.old) }
-        ensures taken { OnOk result (self.new.taken ≡ self.old.taken + length bytes.now + 1) }
-        ensures spent { self.new.spent ≡ self.old.spent }
+        requires ready { Ready T.TakesLines (at self.old state.old sink.old) (length bytes.now + 1) }
+        ensures { TakesLine T.TakesLines result (at self.old state.old sink.old) (bytes.now ++ 10 ∷ []) (at self.new state.new sink.new) }
     {
         if self.is_empty() {
             self.whole_line(bytes, state, sink)
@@ -212,19 +173,8 @@ impl Pieces {
         state: &mut T,
         sink: &mut S,
     ) -> Result<(), AllocError>
-        requires room { self.old.taken + length piece.now ≤ 1073741824 }
-        requires few { T.lines state.old ≤ self.old.taken }
-        requires fits { T.fits state.old sink.old }
-        ensures keeps { OnOk result ((text : List ℕ) → Keeps self.old text → Keeps self.new (text ++ piece.now)) }
-        ensures stands { OnOk result ((text : List ℕ) → Keeps self.old text → T.stands state.old (back_of T.reading_of text) → T.stands state.new (back_of T.reading_of (text ++ piece.now))) }
-        ensures told { OnOk result ((text : List ℕ) → Keeps self.old text → T.stands state.old (back_of T.reading_of text)
-            → (more : List T.Record) × (held T.adds (back_of T.reading_of (text ++ piece.now)) ≡ held T.adds (back_of T.reading_of text) ++ more) × (T.meaning sink.new ≡ fold T.step (T.meaning sink.old) more)) }
-        ensures prefix { OnErr result ((text : List ℕ) → Keeps self.old text → T.stands state.old (back_of T.reading_of text)
-            → (more : List T.Record) × IsPrefix (held T.adds (back_of T.reading_of text) ++ more) (held T.adds (end_of T.reading_of (text ++ piece.now))) × (T.meaning sink.new ≡ fold T.step (T.meaning sink.old) more)) }
-        ensures fits { OnOk result (T.fits state.new sink.new) }
-        ensures lines { T.lines state.new ≤ self.new.taken }
-        ensures taken { OnOk result (self.new.taken ≡ self.old.taken + length piece.now) }
-        ensures spent { self.new.spent ≡ self.old.spent }
+        requires ready { Ready T.TakesLines (at self.old state.old sink.old) (length piece.now) }
+        ensures { TakesBytes T.TakesLines result (at self.old state.old sink.old) piece.now (at self.new state.new sink.new) }
     {
         let mut rest = piece;
         while let Some((run, more)) = split_line(rest) {
@@ -235,7 +185,7 @@ impl Pieces {
     }
 
     /// Takes the next piece, and hands on the lines that are whole now. Once memory was refused, it
-    /// is refused again.
+    /// is refused again, and nothing is handed on.
     pub fn feed<S, T: TakesLines<S>>(
         &mut self,
         piece: &[u8],
@@ -245,38 +195,34 @@ impl Pieces {
         requires room { length piece.now ≤ room_of self.old }
         requires few { T.lines state.old ≤ taken_of self.old }
         requires fits { (IsSpent self.old → ⊥) → T.fits state.old sink.old }
-        ensures keeps { OnOk result ((text : List ℕ) → Keeps self.old text → Keeps self.new (text ++ piece.now)) }
-        ensures stands { OnOk result ((text : List ℕ) → Keeps self.old text → T.stands state.old (back_of T.reading_of text) → T.stands state.new (back_of T.reading_of (text ++ piece.now))) }
-        ensures told { OnOk result ((text : List ℕ) → Keeps self.old text → T.stands state.old (back_of T.reading_of text)
-            → (more : List T.Record) × (held T.adds (back_of T.reading_of (text ++ piece.now)) ≡ held T.adds (back_of T.reading_of text) ++ more) × (T.meaning sink.new ≡ fold T.step (T.meaning sink.old) more)) }
-        ensures prefix { OnErr result ((text : List ℕ) → Keeps self.old text → T.stands state.old (back_of T.reading_of text)
-            → (more : List T.Record) × IsPrefix (held T.adds (back_of T.reading_of text) ++ more) (held T.adds (end_of T.reading_of (text ++ piece.now))) × (T.meaning sink.new ≡ fold T.step (T.meaning sink.old) more)) }
-        ensures fits { OnOk result (T.fits state.new sink.new) }
+        ensures takes { TakesBytes T.TakesLines result (at self.old state.old sink.old) piece.now (at self.new state.new sink.new) }
         ensures lines { T.lines state.new ≤ taken_of self.new }
-        ensures taken { OnOk result (taken_of self.new ≡ taken_of self.old + length piece.now) }
         ensures room { OnOk result (room_of self.new + length piece.now ≡ room_of self.old) }
-        ensures fresh { OnOk result (IsSpent self.new → ⊥) }
         ensures spent { IsSpent self.old → IsErr result }
         ensures err { OnErr result (IsSpent self.new) }
+        ensures untouched { IsSpent self.old → sink.new ≡ sink.old }
     {
         if self.spent {
+            // Nothing is handed on.
             return Err(AllocError);
         }
-        self.spent = true;
-        self.take_lines(piece, state, sink)?;
-        self.spent = false;
-        Ok(())
+        match self.take_lines(piece, state, sink) {
+            Ok(()) => Ok(()),
+            Err(error) => {
+                self.spent = true;
+                Err(error)
+            }
+        }
     }
 
     /// Ends the text: hands on what is left of it, which is a line if it is not empty.
     pub fn finish<S, T: TakesLines<S>>(self, state: &mut T, sink: &mut S) -> Result<(), AllocError>
         requires few { T.lines state.old ≤ taken_of self }
         requires fits { (IsSpent self → ⊥) → T.fits state.old sink.old }
-        ensures stands { OnOk result ((text : List ℕ) → Keeps self text → T.stands state.old (back_of T.reading_of text) → T.stands state.new (end_of T.reading_of text)) }
-        ensures told { OnOk result ((text : List ℕ) → Keeps self text → T.stands state.old (back_of T.reading_of text)
-            → (more : List T.Record) × (held T.adds (end_of T.reading_of text) ≡ held T.adds (back_of T.reading_of text) ++ more) × (T.meaning sink.new ≡ fold T.step (T.meaning sink.old) more)) }
+        ensures ends { OnOk result (Ends T.TakesLines (at self state.old sink.old) state.new sink.new) }
         ensures err { OnErr result (T.meaning sink.new ≡ T.meaning sink.old) }
         ensures spent { IsSpent self → IsErr result }
+        ensures untouched { IsSpent self → sink.new ≡ sink.old }
     {
         if self.spent {
             return Err(AllocError);

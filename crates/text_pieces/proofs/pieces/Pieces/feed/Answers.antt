@@ -1,6 +1,6 @@
-use Rattle.std.proofs.Common.{[], refl}
-use Rattle.text_pieces.proofs.PrefixLemmas.{nothing_more}
+use Rattle.std.proofs.Common.{refl}
+use Rattle.text_pieces.proofs.MovesLemmas.{stops_first}
 use Rattle.text_pieces.proofs.pieces.Pieces.feed.Goals as goal
 
-pub returns-then-self-clause-prefix : goal.returns-then-self-clause-prefix
-returns-then-self-clause-prefix g c = λ text keeps stands. ([], nothing_more g.T.TakesLines.reading_of g.T.TakesLines.adds text c.args.piece.now, refl)
+pub returns-then-self-clause-takes : goal.returns-then-self-clause-takes
+returns-then-self-clause-takes g c = record { done = tt; stopped = stops_first g.T.TakesLines _ _ c.args.piece.now (record { untouched = refl; lines = c.requires.few }) }
