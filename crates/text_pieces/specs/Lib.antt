@@ -3,3 +3,4 @@ pub mod Backwards
 pub mod Kept
 pub mod LineIs
 pub mod Moves
+pub mod Readers

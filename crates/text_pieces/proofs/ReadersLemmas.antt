@@ -1,0 +1,99 @@
+-- What is told from the first line on, and calls of a reader one after another.
+use Rattle.std.proofs.Common.{◌≡◌, ℕ, List, [], ◌++◌, fold, map, Result, Ok, Err, OnOk, OnErr, refl, sym, ◌∙◌, ap, subst}
+use Rattle.std.proofs.lemmas.List.{append-nil, append_assoc}
+use Rattle.std.proofs.lemmas.Grind.{fold-append}
+use Rattle.cg_text.specs.Lines.{lines_of}
+use Rattle.text_pieces.specs.Cut.{cut}
+use Rattle.text_pieces.specs.Backwards.{back_of, end_of, held, so_far, in_all, Agrees, IsPrefix}
+use Rattle.text_pieces.specs.Moves.{at, Took, TakesBytes, Ends}
+use Rattle.text_pieces.specs.Readers.{StandsFor, GoesOn, HandsAll, HandsPart}
+use Rattle.text_pieces.specs.declared.pieces.Pieces.{Pieces}
+use Rattle.text_pieces.specs.declared.takes.TakesLines.{Ghosts}
+use Rattle.text_pieces.proofs.PrefixLemmas.{text_prefix, file_prefix}
+
+-- ---- calls one after another
+
+module _ {R B M : Type 0} (Reads : R → List ℕ → List B → Type 0) (step : M → B → M) where
+  pub goes_none : (r : R) (m : M) → GoesOn Reads step r m [] r m
+  goes_none r m text told reads = ([], rw (append-nil text, append-nil told) reads, refl)
+
+  pub goes_then : (a b c : R) (k l m : M) (xs ys : List ℕ) → GoesOn Reads step a k xs b l → GoesOn Reads step b l ys c m → GoesOn Reads step a k (xs ++ ys) c m
+  goes_then a b c k l m xs ys one two text told reads =
+      let first = one text told reads in
+      let last = two (text ++ xs) (told ++ first.0) first.1 in
+      (first.0 ++ last.0, rw (← append_assoc text xs ys, ← append_assoc told first.0 last.0) last.1, last.2 ∙ ap (λ x. fold step x last.0) first.2 ∙ sym (fold-append step k first.0 last.0))
+
+-- ---- a format that is told from the first line on as looking back
+
+module _ {A B : Type 0} (says : List ℕ → A) (tells : List A → List B) (adds : A → List A → List B) (agrees : Agrees tells adds) where
+  pub so_far_is : (text : List ℕ) → so_far says tells text ≡ held adds (back_of says text)
+  so_far_is text = agrees (map says (cut text).lines)
+
+  pub in_all_is : (text : List ℕ) → in_all says tells text ≡ held adds (end_of says text)
+  in_all_is text = agrees (map says (lines_of text))
+
+  -- what was handed on comes first among what a text hands on that goes on
+  pub handed_first : (text bytes : List ℕ) (told : List B) → told ≡ so_far says tells text → IsPrefix told (in_all says tells (text ++ bytes))
+  handed_first text bytes told handed =
+      let first = file_prefix says adds text bytes in
+      (first.0, in_all_is (text ++ bytes) ∙ first.1 ∙ ap (λ xs. xs ++ first.0) (sym (handed ∙ so_far_is text)))
+
+  pub handed_now : (text : List ℕ) (told : List B) → told ≡ so_far says tells text → IsPrefix told (in_all says tells text)
+  handed_now text told handed =
+      let first = text_prefix says adds text in
+      (first.0, in_all_is text ∙ first.1 ∙ ap (λ xs. xs ++ first.0) (sym (handed ∙ so_far_is text)))
+
+  -- with what comes it is all
+  pub all_on : (text : List ℕ) (told more : List B) → told ≡ so_far says tells text → held adds (end_of says text) ≡ held adds (back_of says text) ++ more → in_all says tells text ≡ told ++ more
+  all_on text told more handed is = in_all_is text ∙ is ∙ ap (λ xs. xs ++ more) (sym (handed ∙ so_far_is text))
+
+-- ---- calls of the pieces, as those of a reader
+
+module _ {T S : Type 0} (t : Ghosts T S) (tells : List t.Reading → List t.Record) (agrees : Agrees tells t.adds) where
+  abbrev Stands : Pieces → T → List ℕ → List t.Record → Type 0
+  Stands = StandsFor t.reading_of tells t.stands
+
+  took : (p : Pieces) (s : T) (k : S) (text : List ℕ) (told : List t.Record) → Stands p s text told → Took t (at p s k) text
+  took p s k text told reads = record { keeps = reads.rest; stands = reads.lines }
+
+  module _ (p : Pieces) (s : T) (k : S) where
+    pub goes_on : {X E : Type 0} (r : Result X E) (q : Pieces) (s' : T) (k' : S) (bytes : List ℕ) → TakesBytes t r (at p s k) bytes (at q s' k')
+        → OnOk r ((text : List ℕ) (told : List t.Record) → Stands p s text told → (more : List t.Record) × Stands q s' (text ++ bytes) (told ++ more) × (t.meaning k' ≡ fold t.step (t.meaning k) more))
+    goes_on (Ok x) q s' k' bytes h = λ text told reads.
+        let before = took p s k text told reads in
+        let more = h.done.told text before in
+        let all = so_far_is t.reading_of tells t.adds agrees in (
+          more.more,
+          record {
+            lines = h.done.stands text before;
+            rest = h.done.keeps text reads.rest;
+            handed = ap (λ xs. xs ++ more.more) (reads.handed ∙ all text) ∙ sym (all (text ++ bytes) ∙ more.adds);
+          },
+          more.means,
+        )
+    goes_on (Err e) q s' k' bytes h = tt
+
+    pub breaks_off : {X E : Type 0} (r : Result X E) (q : Pieces) (s' : T) (k' : S) (bytes : List ℕ) → TakesBytes t r (at p s k) bytes (at q s' k')
+        → OnErr r ((text : List ℕ) (told : List t.Record) → Stands p s text told → HandsPart (in_all t.reading_of tells) t.step (text ++ bytes) told (t.meaning k) (t.meaning k'))
+    breaks_off (Ok x) q s' k' bytes h = tt
+    breaks_off (Err e) q s' k' bytes h = λ text told reads.
+        let part = h.stopped.told text (took p s k text told reads) in
+        let all = in_all_is t.reading_of tells t.adds agrees (text ++ bytes) in
+        let same = reads.handed ∙ so_far_is t.reading_of tells t.adds agrees text in
+        (part.more, (part.first.0, all ∙ part.first.1 ∙ ap (λ xs. (xs ++ part.more) ++ part.first.0) (sym same)), part.means)
+
+    pub hands_all : (s' : T) (k' : S) (text : List ℕ) (told : List t.Record) → Ends t (at p s k) s' k' → Stands p s text told → HandsAll (in_all t.reading_of tells) t.step text told (t.meaning k) (t.meaning k')
+    hands_all s' k' text told h reads =
+        let more = h.told text (took p s k text told reads) in
+        (more.more, all_on t.reading_of tells t.adds agrees text told more.more reads.handed more.adds, more.means)
+
+    pub hands_none : (k' : S) (text : List ℕ) (told : List t.Record) → t.meaning k' ≡ t.meaning k → Stands p s text told → HandsPart (in_all t.reading_of tells) t.step text told (t.meaning k) (t.meaning k')
+    hands_none k' text told same reads =
+        ([], subst (λ xs. IsPrefix xs (in_all t.reading_of tells text)) (sym (append-nil told)) (handed_now t.reading_of tells t.adds agrees text told reads.handed), same)
+
+    pub stands_at_end : (s' : T) (k' : S) (text : List ℕ) (told : List t.Record) → Ends t (at p s k) s' k' → Stands p s text told → t.stands s' (end_of t.reading_of text)
+    stands_at_end s' k' text told h reads = h.stands text (took p s k text told reads)
+
+-- what was handed on is a part of the rest too
+pub part_of : {B M : Type 0} (all : List ℕ → List B) (step : M → B → M) (text : List ℕ) (told : List B) (before after : M) → HandsAll all step text told before after → HandsPart all step text told before after
+part_of all step text told before after h = (h.0, ([], h.1 ∙ sym (append-nil (told ++ h.0))), h.2)
