@@ -43,6 +43,10 @@ module _ {A B : Type 0} (says : List ℕ → A) (tells : List A → List B) (add
       let first = text_prefix says adds text in
       (first.0, in_all_is text ∙ first.1 ∙ ap (λ xs. xs ++ first.0) (sym (handed ∙ so_far_is text)))
 
+  -- a sink that means what it meant was told a part of the rest, which is empty
+  pub part_none : {M : Type 0} (step : M → B → M) (text : List ℕ) (told : List B) (before after : M) → told ≡ so_far says tells text → after ≡ before → HandsPart (in_all says tells) step text told before after
+  part_none step text told before after handed same = ([], subst (λ xs. IsPrefix xs (in_all says tells text)) (sym (append-nil told)) (handed_now text told handed), same)
+
   -- with what comes it is all
   pub all_on : (text : List ℕ) (told more : List B) → told ≡ so_far says tells text → held adds (end_of says text) ≡ held adds (back_of says text) ++ more → in_all says tells text ≡ told ++ more
   all_on text told more handed is = in_all_is text ∙ is ∙ ap (λ xs. xs ++ more) (sym (handed ∙ so_far_is text))
@@ -86,10 +90,6 @@ module _ {T S : Type 0} (t : Ghosts T S) (tells : List t.Reading → List t.Reco
     hands_all s' k' text told h reads =
         let more = h.told text (took p s k text told reads) in
         (more.more, all_on t.reading_of tells t.adds agrees text told more.more reads.handed more.adds, more.means)
-
-    pub hands_none : (k' : S) (text : List ℕ) (told : List t.Record) → t.meaning k' ≡ t.meaning k → Stands p s text told → HandsPart (in_all t.reading_of tells) t.step text told (t.meaning k) (t.meaning k')
-    hands_none k' text told same reads =
-        ([], subst (λ xs. IsPrefix xs (in_all t.reading_of tells text)) (sym (append-nil told)) (handed_now t.reading_of tells t.adds agrees text told reads.handed), same)
 
     pub stands_at_end : (s' : T) (k' : S) (text : List ℕ) (told : List t.Record) → Ends t (at p s k) s' k' → Stands p s text told → t.stands s' (end_of t.reading_of text)
     stands_at_end s' k' text told h reads = h.stands text (took p s k text told reads)
