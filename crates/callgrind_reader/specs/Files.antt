@@ -8,7 +8,7 @@ use Rattle.cg_formulas.specs.Formulas.{Definition, formula_fault, derived_of}
 use Rattle.cg_text.specs.declared.faults.Fault.{Fault}
 use Rattle.cg_text.specs.declared.faults.Fault.TheVariants.{LineTooLong, CallWithoutCost}
 use Rattle.text_pieces.specs.Backwards as pieces
-use Rattle.text_pieces.specs.Backwards.{onto}
+use Rattle.text_pieces.specs.Backwards.{onto, in_all}
 use Rattle.callgrind_reader.specs.Faulty.{earlier_or}
 use Rattle.profile_records.specs.Records.{Record}
 use Rattle.callgrind_reader.specs.Events.{events_of}
@@ -90,7 +90,7 @@ fault_of_file text = fault_in (readings_of text)
 
 -- the records of the lines before the first with a fault; where the fault is a formula's, all records
 abbrev pub records_of_file : List ℕ → List Record
-records_of_file text = sound_records [] (readings_of text)
+records_of_file = in_all reading_of (sound_records [])
 
 -- the events of a file
 abbrev pub events_of_file : List ℕ → List (List ℕ)

@@ -1,22 +1,19 @@
 -- When a reader stands for a text, having handed out some records; and what a file comes to.
-use Rattle.std.specs.Prelude.{◌≡◌, ℕ, ◌≤◌, List, Option, Some, None, IfSome, Result, Ok, Err}
+use Rattle.std.specs.Prelude.{◌≡◌, ℕ, ◌+◌, ◌≤◌, List, [], Option, Some, None, IfSome, Result, Ok, Err}
 use Rattle.cg_formulas.specs.declared.heads.FileHead.{FileHead}
+use Rattle.cg_text.specs.Readings.{reading_of}
 use Rattle.cg_text.specs.declared.faults.ReadEnd.{ReadEnd}
 use Rattle.cg_text.specs.declared.faults.ReadEnd.TheVariants as ends
 use Rattle.callgrind_reader.specs.declared.reader.Reader.{Reader}
 use Rattle.profile_records.specs.Records.{Record}
-use Rattle.callgrind_reader.specs.Files.{fault_of_file, events_of_file, derived_of_file, stated_of_file}
-use Rattle.callgrind_reader.specs.Accept.{held}
+use Rattle.callgrind_reader.specs.Files.{sound_records, fault_of_file, events_of_file, derived_of_file, stated_of_file}
 use Rattle.text_pieces.specs.Kept as pieces
-use Rattle.text_pieces.specs.Kept.{Keeps}
-use Rattle.callgrind_reader.specs.Cut.{back_of}
+use Rattle.text_pieces.specs.Readers.{StandsFor}
 use Rattle.callgrind_reader.specs.Stands.{StandsAfter, count_of}
 
 -- the reader stands for the text so far, and has handed out these records
-pub record Reads (r : Reader) (text : List ℕ) (told : List Record) : Type 0 where
-  pub lines : StandsAfter r.state (back_of text)
-  pub rest : Keeps r.pieces text
-  pub handed : told ≡ held (back_of text)
+abbrev pub Reads : Reader → List ℕ → List Record → Type 0
+Reads r = StandsFor reading_of (sound_records []) StandsAfter r.pieces r.state
 
 -- a sink with this last line and this width of records would take the next record
 abbrev pub Takes : Reader → ℕ → Option ℕ → Type 0
@@ -29,6 +26,12 @@ room_of r = pieces.room_of r.pieces
 -- memory ran out
 abbrev pub IsSpent : Reader → Type 0
 IsSpent r = pieces.IsSpent r.pieces
+
+-- the reader takes so many bytes less, a sink with this last line and this width would take the next record, and memory did not run out
+pub record StaysOpen (old : Reader) (count : ℕ) (new : Reader) (last : ℕ) (width : Option ℕ) : Type 0 where
+  pub takes : Takes new last width
+  pub room : room_of new + count ≡ room_of old
+  pub fresh : IsSpent new → ⊥
 
 -- the events, the derived events, which have the names of the events beside them, and the stated totals of a file
 pub record HeadOfFile (head : FileHead) (text : List ℕ) : Type 0 where

@@ -1,10 +1,9 @@
 // Reads a file in pieces.
-ghost use Rattle.std.specs.Prelude.{◌≡◌, ℕ, ◌+◌, ◌≤◌, OnOk, OnErr, IfOk, IsErr, None, Err, List, [], ◌++◌, fold, length};
+ghost use Rattle.std.specs.Prelude.{◌≡◌, ℕ, ◌≤◌, OnOk, OnErr, IfOk, IsErr, None, Err, List, [], ◌++◌, length};
 ghost use Rattle.text_pieces.specs.Kept.{taken_of};
-ghost use Rattle.text_pieces.specs.Backwards.{IsPrefix};
+ghost use Rattle.text_pieces.specs.Readers.{GoesOn, HandsAll, HandsPart};
 ghost use Rattle.profile_records.specs.Records.{Record};
 ghost use Rattle.callgrind_reader.specs.Files.{records_of_file};
-ghost use Rattle.callgrind_reader.specs.Cut.{records_so_far};
 ghost use Rattle.cg_text.specs.declared.faults.ReadEnd.TheVariants.{Memory};
 
 use crate::state::State;
@@ -24,7 +23,7 @@ pub struct Reader {
 }
 
 impl Reader {
-    ghost use Rattle.callgrind_reader.specs.Reads.{Reads, Takes, room_of, IsSpent, Ended, MatchMemory};
+    ghost use Rattle.callgrind_reader.specs.Reads.{Reads, Takes, room_of, IsSpent, StaysOpen, Ended, MatchMemory};
 
     /// Nothing was read.
     pub fn new(alloc: Global) -> Result<Reader, AllocError>
@@ -48,21 +47,17 @@ impl Reader {
 
     /// Takes the next piece, and hands on the records of the lines that are whole now. After a fault
     /// of the file pieces are taken and nothing is handed on. Once memory was refused, it is refused
-    /// again.
+    /// again, and nothing is handed on.
     pub fn feed<S: Sink>(&mut self, piece: &[u8], sink: &mut S) -> Result<(), AllocError>
         requires room { length piece.now ≤ room_of self.old }
         requires takes { (IsSpent self.old → ⊥) → Takes self.old (S.last sink.old) (S.width sink.old) }
-        ensures reads { OnOk result ((text : List ℕ) (told : List Record) → Reads self.old text told
-            → (more : List Record) × Reads self.new (text ++ piece.now) (told ++ more) × (S.meaning sink.new ≡ fold S.step (S.meaning sink.old) more)) }
-        ensures so_far { OnOk result ((text : List ℕ) (told : List Record) → Reads self.old text told
-            → (more : List Record) × (records_so_far (text ++ piece.now) ≡ told ++ more) × (S.meaning sink.new ≡ fold S.step (S.meaning sink.old) more)) }
-        ensures takes { OnOk result (Takes self.new (S.last sink.new) (S.width sink.new)) }
-        ensures room { OnOk result (room_of self.new + length piece.now ≡ room_of self.old) }
-        ensures fresh { OnOk result (IsSpent self.new → ⊥) }
+        ensures reads { OnOk result (GoesOn Reads S.step self.old (S.meaning sink.old) piece.now self.new (S.meaning sink.new)) }
+        ensures stays { OnOk result (StaysOpen self.old (length piece.now) self.new (S.last sink.new) (S.width sink.new)) }
+        ensures prefix { OnErr result ((text : List ℕ) (told : List Record) → Reads self.old text told
+            → HandsPart records_of_file S.step (text ++ piece.now) told (S.meaning sink.old) (S.meaning sink.new)) }
         ensures spent { IsSpent self.old → IsErr result }
         ensures err { OnErr result (IsSpent self.new) }
-        ensures prefix { OnErr result ((text : List ℕ) (told : List Record) → Reads self.old text told
-            → (more : List Record) × IsPrefix (told ++ more) (records_of_file (text ++ piece.now)) × (S.meaning sink.new ≡ fold S.step (S.meaning sink.old) more)) }
+        ensures untouched { IsSpent self.old → sink.new ≡ sink.old }
     {
         self.pieces.feed(piece, &mut self.state, sink)
     }
@@ -73,10 +68,11 @@ impl Reader {
         requires { (IsSpent self → ⊥) → Takes self (S.last sink.old) (S.width sink.old) }
         ensures ended { (text : List ℕ) (told : List Record) → Reads self text told → Ended result text }
         ensures told { (text : List ℕ) (told : List Record) → Reads self text told → MatchMemory result
-            ((more : List Record) × (records_of_file text ≡ told ++ more) × (S.meaning sink.new ≡ fold S.step (S.meaning sink.old) more))
-            ((more : List Record) × IsPrefix (told ++ more) (records_of_file text) × (S.meaning sink.new ≡ fold S.step (S.meaning sink.old) more)) }
+            (HandsAll records_of_file S.step text told (S.meaning sink.old) (S.meaning sink.new))
+            (HandsPart records_of_file S.step text told (S.meaning sink.old) (S.meaning sink.new)) }
         ensures few { IfOk result (λ head. length head.events ≤ 64) }
         ensures spent { IsSpent self → result ≡ Err Memory }
+        ensures untouched { IsSpent self → sink.new ≡ sink.old }
     {
         let Reader { mut state, pieces } = self;
         pieces.finish(&mut state, sink)?;
