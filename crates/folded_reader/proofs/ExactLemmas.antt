@@ -2,10 +2,10 @@
 use Rattle.std.proofs.Common.{◌≡◌, ℕ, ◌+◌, List, [], ◌∷◌, ◌++◌, Ok, Err, Option, Some, None, refl, sym, ◌∙◌, ap, arith}
 use Rattle.std.proofs.lemmas.List.{append-nil, append_assoc}
 use Rattle.cg_text.specs.declared.faults.Fault.{Fault}
-use Rattle.text_pieces.specs.Backwards.{onto, back_of, end_of, held, IsPrefix}
-use Rattle.folded_reader.specs.Lines.{Reading, reading_of}
+use Rattle.text_pieces.specs.Backwards.{onto, held}
+use Rattle.folded_reader.specs.Lines.{Reading}
 use Rattle.profile_records.specs.Stacks.{Seen}
-use Rattle.folded_reader.specs.Files.{stacks_from, fault_from, readings_of, stacks_of_file}
+use Rattle.folded_reader.specs.Files.{stacks_from, fault_from}
 use Rattle.folded_reader.specs.Looking.{number_after, seen, adds}
 
 -- after these lines, the first fault and the stacks of those ahead, numbered from n on
@@ -42,13 +42,3 @@ exact-fault rs = sym (exact rs [] 1 refl refl).fault_is
 
 pub exact-stacks : (rs : List Reading) → stacks_from 1 rs ≡ held adds (onto rs [])
 exact-stacks rs = sym (exact rs [] 1 refl refl).held_is
-
--- of a file, in parts that were handed on and parts that come
-pub told_all : (told more : List Seen) (text : List ℕ) → told ≡ held adds (back_of reading_of text) → held adds (end_of reading_of text) ≡ held adds (back_of reading_of text) ++ more → stacks_of_file text ≡ told ++ more
-told_all told more text handed all = exact-stacks (readings_of text) ∙ all ∙ ap (λ xs. xs ++ more) (sym handed)
-
-pub told_prefix : (told more : List Seen) (text file : List ℕ) → told ≡ held adds (back_of reading_of text) → IsPrefix (held adds (back_of reading_of text) ++ more) (held adds (end_of reading_of file)) → IsPrefix (told ++ more) (stacks_of_file file)
-told_prefix told more text file handed first = (first.0, exact-stacks (readings_of file) ∙ first.1 ∙ ap (λ xs. (xs ++ more) ++ first.0) (sym handed))
-
-pub told_first : (told : List Seen) (text file : List ℕ) → told ≡ held adds (back_of reading_of text) → IsPrefix (held adds (back_of reading_of text)) (held adds (end_of reading_of file)) → IsPrefix told (stacks_of_file file)
-told_first told text file handed first = (first.0, exact-stacks (readings_of file) ∙ first.1 ∙ ap (λ xs. xs ++ first.0) (sym handed))

@@ -1,8 +1,7 @@
 -- The last blank of a line, and counts.
-use Rattle.std.proofs.Common.{inl, inr, ◌≡◌, ℕ, zero, suc, ◌+◌, ◌-◌, ◌<◌, ◌^◌, ◌⊎◌, Bool, true, false, not, List, [], ◌∷◌, length, take, drop, get_or, MatchOption, Option, Some, None, nat_eq, nat_le, nat_lt, if◌then◌else◌, codes, Result, Ok, Err, refl, sym, ap, ◌∙◌, subst, arith}
-use Rattle.std.specs.List.{list_all, starts_with, suffix_len}
-use Rattle.std.proofs.lemmas.Bool.{cases_Bool, and_parts, leb-true, ne_eqb, not_from_false, not_from_true, false_from_ne_true, lt-ltb}
-use Rattle.std.proofs.lemmas.List.Sums.{suffix_len_is}
+use Rattle.std.proofs.Common.{inl, inr, ◌≡◌, ℕ, zero, suc, ◌+◌, ◌-◌, ◌<◌, ◌^◌, ◌⊎◌, Bool, true, false, List, [], ◌∷◌, length, take, drop, MatchOption, Option, nat_eq, nat_le, nat_lt, if◌then◌else◌, codes, Result, Ok, Err, refl, sym, ap, ◌∙◌, arith}
+use Rattle.std.specs.List.{list_all, starts_with}
+use Rattle.std.proofs.lemmas.Bool.{cases_Bool, and_parts, leb-true, ne_eqb, lt-ltb}
 use Rattle.memchr.specs.Find.{IsLastByte}
 use Rattle.cg_text.specs.Fields.{is_blank}
 use Rattle.cg_text.specs.Numbers.{is_digit, number_of, amount_of, below_half, value_in}

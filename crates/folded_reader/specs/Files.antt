@@ -2,6 +2,7 @@
 use Rattle.std.specs.Prelude.{ℕ, ◌+◌, List, [], ◌∷◌, map, Option, Some, None, Ok, Err}
 use Rattle.cg_text.specs.Lines.{lines_of}
 use Rattle.cg_text.specs.declared.faults.Fault.{Fault}
+use Rattle.text_pieces.specs.Backwards.{in_all}
 use Rattle.folded_reader.specs.Lines.{Reading, reading_of}
 use Rattle.profile_records.specs.Stacks.{Seen}
 use Rattle.profile_records.specs.Frames.{leaf_of}
@@ -23,7 +24,7 @@ abbrev pub readings_of : List ℕ → List Reading
 readings_of text = map reading_of (lines_of text)
 
 abbrev pub stacks_of_file : List ℕ → List Seen
-stacks_of_file text = stacks_from 1 (readings_of text)
+stacks_of_file = in_all reading_of (stacks_from 1)
 
 abbrev pub fault_of_file : List ℕ → Option (Fault × ℕ)
 fault_of_file text = fault_from 1 (readings_of text)

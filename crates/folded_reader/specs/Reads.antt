@@ -1,29 +1,25 @@
 -- When a reader stands for a text, having handed out some stacks; and what a file comes to.
-use Rattle.std.specs.Prelude.{◌≡◌, ℕ, ◌≤◌, List, map, Some, None, Result, Ok, Err}
+use Rattle.std.specs.Prelude.{◌≡◌, ℕ, ◌+◌, ◌≤◌, List, Some, None, Result, Ok, Err}
 use Rattle.cg_formulas.specs.declared.heads.FileHead.{FileHead}
 use Rattle.cg_text.specs.declared.faults.ReadEnd.{ReadEnd}
 use Rattle.cg_text.specs.declared.faults.ReadEnd.TheVariants as ends
-use Rattle.text_pieces.specs.Cut.{cut}
-use Rattle.text_pieces.specs.Backwards.{back_of, held}
+use Rattle.text_pieces.specs.Backwards.{so_far}
 use Rattle.text_pieces.specs.Kept as pieces
-use Rattle.text_pieces.specs.Kept.{Keeps}
+use Rattle.text_pieces.specs.Readers.{StandsFor}
 use Rattle.folded_reader.specs.declared.reader.FoldedReader.{FoldedReader}
 use Rattle.folded_reader.specs.Lines.{reading_of}
 use Rattle.profile_records.specs.Stacks.{Seen}
 use Rattle.folded_reader.specs.Files.{stacks_from, fault_of_file}
-use Rattle.folded_reader.specs.Looking.{adds}
 use Rattle.folded_reader.specs.Stands.{StandsAfter}
 use Rattle.folded_reader.specs.Heads.{HeadIs}
 
 -- the reader stands for the text so far, and has handed out these stacks
-pub record Reads (r : FoldedReader) (text : List ℕ) (told : List Seen) : Type 0 where
-  pub lines : StandsAfter r.state (back_of reading_of text)
-  pub rest : Keeps r.pieces text
-  pub handed : told ≡ held adds (back_of reading_of text)
+abbrev pub Reads : FoldedReader → List ℕ → List Seen → Type 0
+Reads r = StandsFor reading_of (stacks_from 1) StandsAfter r.pieces r.state
 
 -- the stacks of the lines that end in a line feed, before the first with a fault
 abbrev pub stacks_so_far : List ℕ → List Seen
-stacks_so_far text = stacks_from 1 (map reading_of (cut text).lines)
+stacks_so_far = so_far reading_of (stacks_from 1)
 
 -- a sink with this last line would take the next stack
 abbrev pub Takes : FoldedReader → ℕ → Type 0
@@ -36,6 +32,12 @@ room_of r = pieces.room_of r.pieces
 -- memory ran out
 abbrev pub IsSpent : FoldedReader → Type 0
 IsSpent r = pieces.IsSpent r.pieces
+
+-- the reader takes so many bytes less, a sink with this last line would take the next stack, and memory did not run out
+pub record StaysOpen (old : FoldedReader) (count : ℕ) (new : FoldedReader) (last : ℕ) : Type 0 where
+  pub takes : Takes new last
+  pub room : room_of new + count ≡ room_of old
+  pub fresh : IsSpent new → ⊥
 
 -- a head exactly where the file is accepted, else its first fault
 abbrev pub Ended : Result FileHead ReadEnd → List ℕ → Type 0

@@ -1,8 +1,8 @@
 // Reads a file in pieces.
-ghost use Rattle.std.specs.Prelude.{◌≡◌, ℕ, ◌+◌, ◌≤◌, OnOk, OnErr, IfOk, IsErr, Err, List, [], ◌++◌, fold, length};
+ghost use Rattle.std.specs.Prelude.{◌≡◌, ℕ, ◌≤◌, OnOk, OnErr, IfOk, IsErr, Err, List, [], ◌++◌, length};
 ghost use Rattle.cg_text.specs.declared.faults.ReadEnd.TheVariants.{Memory};
 ghost use Rattle.text_pieces.specs.Kept.{taken_of};
-ghost use Rattle.text_pieces.specs.Backwards.{IsPrefix};
+ghost use Rattle.text_pieces.specs.Readers.{GoesOn, HandsAll, HandsPart};
 ghost use Rattle.profile_records.specs.Stacks.{Seen};
 ghost use Rattle.folded_reader.specs.Files.{stacks_of_file};
 ghost use Rattle.folded_reader.specs.Heads.{HeadIs};
@@ -26,7 +26,7 @@ pub struct FoldedReader {
 }
 
 impl FoldedReader {
-    ghost use Rattle.folded_reader.specs.Reads.{Reads, stacks_so_far, Takes, room_of, IsSpent, Ended, MatchMemory};
+    ghost use Rattle.folded_reader.specs.Reads.{Reads, Takes, room_of, IsSpent, StaysOpen, Ended, MatchMemory};
 
     /// Nothing was read. What a head takes is taken now.
     pub fn new(alloc: Global) -> Result<FoldedReader, AllocError>
@@ -51,21 +51,17 @@ impl FoldedReader {
 
     /// Takes the next piece, and hands on the stacks of the lines that are whole now. After a fault
     /// of the file pieces are taken and nothing is handed on. Once memory was refused, it is refused
-    /// again.
+    /// again, and nothing is handed on.
     pub fn feed<S: StackSink>(&mut self, piece: &[u8], sink: &mut S) -> Result<(), AllocError>
         requires room { length piece.now ≤ room_of self.old }
         requires takes { (IsSpent self.old → ⊥) → Takes self.old (S.last sink.old) }
-        ensures reads { OnOk result ((text : List ℕ) (told : List Seen) → Reads self.old text told
-            → (more : List Seen) × Reads self.new (text ++ piece.now) (told ++ more) × (S.meaning sink.new ≡ fold S.step (S.meaning sink.old) more)) }
-        ensures so_far { OnOk result ((text : List ℕ) (told : List Seen) → Reads self.old text told
-            → (more : List Seen) × (stacks_so_far (text ++ piece.now) ≡ told ++ more) × (S.meaning sink.new ≡ fold S.step (S.meaning sink.old) more)) }
-        ensures takes { OnOk result (Takes self.new (S.last sink.new)) }
-        ensures room { OnOk result (room_of self.new + length piece.now ≡ room_of self.old) }
-        ensures fresh { OnOk result (IsSpent self.new → ⊥) }
+        ensures reads { OnOk result (GoesOn Reads S.step self.old (S.meaning sink.old) piece.now self.new (S.meaning sink.new)) }
+        ensures stays { OnOk result (StaysOpen self.old (length piece.now) self.new (S.last sink.new)) }
+        ensures prefix { OnErr result ((text : List ℕ) (told : List Seen) → Reads self.old text told
+            → HandsPart stacks_of_file S.step (text ++ piece.now) told (S.meaning sink.old) (S.meaning sink.new)) }
         ensures spent { IsSpent self.old → IsErr result }
         ensures err { OnErr result (IsSpent self.new) }
-        ensures prefix { OnErr result ((text : List ℕ) (told : List Seen) → Reads self.old text told
-            → (more : List Seen) × IsPrefix (told ++ more) (stacks_of_file (text ++ piece.now)) × (S.meaning sink.new ≡ fold S.step (S.meaning sink.old) more)) }
+        ensures untouched { IsSpent self.old → sink.new ≡ sink.old }
     {
         self.pieces.feed(piece, &mut self.state, sink)
     }
@@ -76,10 +72,11 @@ impl FoldedReader {
         requires { (IsSpent self → ⊥) → Takes self (S.last sink.old) }
         ensures ended { (text : List ℕ) (told : List Seen) → Reads self text told → Ended result text }
         ensures told { (text : List ℕ) (told : List Seen) → Reads self text told → MatchMemory result
-            ((more : List Seen) × (stacks_of_file text ≡ told ++ more) × (S.meaning sink.new ≡ fold S.step (S.meaning sink.old) more))
-            ((more : List Seen) × IsPrefix (told ++ more) (stacks_of_file text) × (S.meaning sink.new ≡ fold S.step (S.meaning sink.old) more)) }
+            (HandsAll stacks_of_file S.step text told (S.meaning sink.old) (S.meaning sink.new))
+            (HandsPart stacks_of_file S.step text told (S.meaning sink.old) (S.meaning sink.new)) }
         ensures few { IfOk result (λ head. length head.events ≤ 64) }
         ensures spent { IsSpent self → result ≡ Err Memory }
+        ensures untouched { IsSpent self → sink.new ≡ sink.old }
     {
         let FoldedReader {
             mut state,
