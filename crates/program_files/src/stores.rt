@@ -3,10 +3,11 @@ ghost use Rattle.std.specs.Prelude.{◌≡◌, true, false, IfOk, IfErr};
 ghost use Rattle.sqlite.specs.Held.{state};
 ghost use Rattle.sqlite.specs.State.{HasCleanDisk};
 ghost use Rattle.sql_tables.specs.Calls.{Asked};
-ghost use Rattle.sql_tables.specs.States.{IsBlank, Rests};
-ghost use Rattle.prof_tables.specs.Schema.{empty_schema, schema_one};
-ghost use Rattle.prof_tables.specs.Tables.{Holds, new_tables};
-ghost use Rattle.prof_store.specs.Shown.{IsFaithful, StandsFor};
+ghost use Rattle.sql_tables.specs.States.{Rests};
+ghost use Rattle.prof_tables.specs.Schema.{schema_one};
+ghost use Rattle.prof_tables.specs.Tables.{Holds};
+ghost use Rattle.table_making.specs.Created.{Creates};
+ghost use Rattle.prof_store.specs.Shown.{shown, IsFaithful, StandsFor};
 ghost use Rattle.store_columns.specs.Ends.{end_for, opening};
 ghost use Rattle.program_files.specs.Stores.{store_text};
 
@@ -63,16 +64,15 @@ pub fn store_in<S: Alter>(
     conn: Connection<S>,
     is_new: bool,
 ) -> Result<Store<S>, (OpenEnd, Connection<S>)>
-    ensures made { is_new ≡ true → IfOk result (λ store. IsFaithful S.Store store → IsBlank empty_schema (state S.Store conn) → StandsFor S.Store new_tables store) }
+    ensures made { is_new ≡ true → IfOk result (λ store. IsFaithful S.Store store → Creates true (state S.Store conn) (shown S.Store store)) }
+    ensures unmade { is_new ≡ true → IfErr result (λ e. HasCleanDisk (state S.Store e.1) → Creates false (state S.Store conn) (state S.Store e.1)) }
     ensures taken_up { is_new ≡ false → IfOk result (λ store. IsFaithful S.Store store → (t : _) → Rests schema_one (Holds t) (state S.Store conn) → StandsFor S.Store t store) }
     ensures refused { is_new ≡ false → IfErr result (λ e. HasCleanDisk (state S.Store e.1) → Asked (state S.Store conn).now.schema false (state S.Store conn) (state S.Store e.1)) }
 {
-    if !is_new {
-        return Store::open(alloc, conn);
-    }
-    match Store::create(alloc, conn) {
-        Ok(store) => Ok(store),
-        Err((end, conn)) => Err((OpenEnd::from(end), conn)),
+    if is_new {
+        Store::create(alloc, conn)
+    } else {
+        Store::open(alloc, conn)
     }
 }
 

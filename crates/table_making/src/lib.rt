@@ -3,4 +3,4 @@
 
 mod making;
 
-pub use making::create_in;
+pub use making::create_tables;

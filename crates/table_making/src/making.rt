@@ -1,14 +1,20 @@
 // The tables of a new store.
-ghost use Rattle.std.specs.Prelude.{◌≡◌, false, [], IsTrue, OnOk, OnErr};
+ghost use Rattle.std.specs.Prelude.{◌≡◌, ◌↔◌, false, [], IsTrue, IfErr, OnOk, OnErr};
+ghost use Rattle.std.specs.Result.{is_ok};
 ghost use Rattle.sqlite.specs.Held.{state};
 ghost use Rattle.sqlite.specs.State.{HasCleanDisk, Survives};
 ghost use Rattle.sql_tables.specs.Contents.{Contain, no_rows};
 ghost use Rattle.sql_tables.specs.States.{Begins, Works, Rests, IsBlank};
 ghost use Rattle.prof_tables.specs.Schema.{empty_schema, schema_to_derived, schema_to_arc, schema_one};
 ghost use Rattle.prof_tables.specs.Tables.{Holds, new_tables};
-ghost use Rattle.store_columns.specs.Steps.{Passes};
+ghost use Rattle.sql_tables.specs.Calls.{Stays};
+ghost use Rattle.store_columns.specs.Steps.{Passes, IsUndone};
+ghost use Rattle.store_columns.specs.declared.errors.OpenEnd.TheVariants as ends;
+ghost use Rattle.table_making.specs.Created.{Creates};
 
 use sqlite::{Alter, Connection, Error, Transaction};
+use sqlite_schema::schema::Schema;
+use store_columns::{OpenEnd, StoreEnd, end_of};
 
 /// Makes the tables of runs and their events.
 fn make_first_tables<S: Alter>(tx: &mut Transaction<'_, S>) -> Result<(), Error>
@@ -97,6 +103,8 @@ fn begin_meta<S: Alter>(tx: &mut Transaction<'_, S>) -> Result<usize, Error>
     ensures begun { HasCleanDisk (state S.Store tx.new.conn.now)
         → Works schema_one (Contain schema_one (no_rows schema_one.tables)) (state S.Store tx.old.conn.now)
         → OnOk result (Works schema_one (Holds new_tables) (state S.Store tx.new.conn.now)) }
+    ensures running { HasCleanDisk (state S.Store tx.new.conn.now) → IsTrue (state S.Store tx.old.conn.now).in_transaction
+        → OnOk result (IsTrue (state S.Store tx.new.conn.now).in_transaction) }
 {
     tx.execute(
         "INSERT INTO meta (id, schema, next_run) VALUES (1, 1, 1)",
@@ -110,6 +118,8 @@ fn fill_new<S: Alter>(tx: &mut Transaction<'_, S>) -> Result<(), Error>
     ensures passes { Passes (state S.Store tx.old.conn.now) (state S.Store tx.new.conn.now) }
     ensures done { HasCleanDisk (state S.Store tx.new.conn.now) → Begins empty_schema (state S.Store tx.old.conn.now)
         → OnOk result (Works schema_one (Holds new_tables) (state S.Store tx.new.conn.now)) }
+    ensures running { HasCleanDisk (state S.Store tx.new.conn.now) → IsTrue (state S.Store tx.old.conn.now).in_transaction
+        → OnOk result (IsTrue (state S.Store tx.new.conn.now).in_transaction) }
 {
     make_first_tables(tx)?;
     make_row_tables(tx)?;
@@ -119,16 +129,47 @@ fn fill_new<S: Alter>(tx: &mut Transaction<'_, S>) -> Result<(), Error>
 }
 
 /// Makes the tables of a new store in a database that has none, in one transaction.
-pub fn create_in<S: Alter>(conn: &mut Connection<S>) -> Result<(), Error>
+fn create_in<S: Alter>(conn: &mut Connection<S>) -> Result<(), StoreEnd>
     requires { conn.old.in_transaction ≡ false }
     ensures done { HasCleanDisk (state S.Store conn.new) → IsBlank empty_schema (state S.Store conn.old)
         → OnOk result (Rests schema_one (Holds new_tables) (state S.Store conn.new)) }
-    ensures kept { HasCleanDisk (state S.Store conn.new) → IsBlank empty_schema (state S.Store conn.old)
-        → OnErr result (IsTrue (state S.Store conn.new).is_open → IsBlank empty_schema (state S.Store conn.new)) }
+    ensures undone { HasCleanDisk (state S.Store conn.new) → OnErr result (IsUndone (state S.Store conn.old) (state S.Store conn.new)) }
+    ensures stays { HasCleanDisk (state S.Store conn.new) → Stays (is_ok result) (state S.Store conn.old) (state S.Store conn.new) }
     ensures crash { IsBlank empty_schema (state S.Store conn.old) → Survives (state S.Store conn.old) (state S.Store conn.new) (Holds new_tables) }
-    ensures honest { HasCleanDisk (state S.Store conn.new) → HasCleanDisk (state S.Store conn.old) }
 {
     let mut tx = conn.transaction();
-    fill_new(&mut tx)?;
-    tx.commit()
+    if let Err(error) = fill_new(&mut tx) {
+        return Err(end_of(error));
+    }
+    match tx.commit() {
+        Ok(()) => Ok(()),
+        Err(error) => Err(end_of(error)),
+    }
+}
+
+/// Whether a database has no table, index, view or trigger.
+fn is_blank(schema: &Schema) -> bool
+    ensures { IsTrue result ↔ (schema.now ≡ empty_schema) }
+{
+    schema.tables.as_slice().is_empty()
+        && schema.indexes.as_slice().is_empty()
+        && schema.views.as_slice().is_empty()
+}
+
+/// Makes the tables of a new store, in one transaction, in a database that has no table. `WrongSchema`
+/// says that it has some; `Store` answers a connection within a transaction too.
+pub fn create_tables<S: Alter>(conn: &mut Connection<S>) -> Result<(), OpenEnd>
+    ensures wrong { IfErr result (λ end. (end ≡ ends.WrongSchema) ↔ (¬ ((state S.Store conn.old).now.schema ≡ empty_schema))) }
+    ensures creates { HasCleanDisk (state S.Store conn.new) → Creates (is_ok result) (state S.Store conn.old) (state S.Store conn.new) }
+{
+    if !is_blank(conn.schema()) {
+        return Err(OpenEnd::WrongSchema);
+    }
+    if !conn.is_autocommit() {
+        return Err(OpenEnd::Store);
+    }
+    match create_in(conn) {
+        Ok(()) => Ok(()),
+        Err(end) => Err(OpenEnd::from(end)),
+    }
 }

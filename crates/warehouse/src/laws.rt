@@ -2,13 +2,15 @@
 // nothing.
 ghost use Rattle.std.specs.Prelude.{[], IsTrue};
 ghost use Rattle.prof_tables.specs.Tables.{Tables, Holds, new_tables};
-ghost use Rattle.prof_store.specs.Shown.{IsUsable, StandsFor, LeavesJust};
+ghost use Rattle.sqlite.specs.Steps.{over_memory};
+ghost use Rattle.sqlite_trees.specs.declared.memory.MemStore.{MemStore};
+ghost use Rattle.prof_store.specs.Shown.{IsFaithful, IsUsable, StandsFor, LeavesJust};
 ghost use Rattle.prof_store.specs.declared.store.Store.{Store};
 ghost use Rattle.histories.specs.History.{History, Said};
 ghost use Rattle.histories.specs.Stands.{TablesTell};
 ghost use Rattle.histories.specs.declared.answers.Answer.{Answer};
 ghost use Rattle.histories.specs.declared.limits.Limits.{Limits};
-ghost use Rattle.store_histories.specs.Answered.{HasHistory, Answers, TellsHistory, is_accepted, with_turn};
+ghost use Rattle.store_histories.specs.Answered.{HasHistory, StandsForHistory, Answers, TellsHistory, is_accepted, with_turn};
 
 use prof_store::what_stands_survives;
 use sqlite::Alter;
@@ -28,3 +30,11 @@ pub fn histories_survive<S: Alter>()
 {
     what_stands_survives::<S>();
 }
+
+/// Over tables in memory there is no disk that fails: whatever a call answers, the store has returned what
+/// was written and can be used, and a store with a history stands for it.
+pub fn memory_never_fails()
+    ensures faithful { (store : Store MemStore) → IsFaithful over_memory store }
+    ensures usable { (store : Store MemStore) → IsUsable over_memory store }
+    ensures stands { (h : History) (store : Store MemStore) → HasHistory over_memory h store → StandsForHistory over_memory h store }
+{}

@@ -11,6 +11,6 @@ mod warehouse;
 pub use command::Command;
 pub use file_intake::{ReadFault, Source};
 pub use histories::{Answer, Excess, Limits, Query, Refusal};
-pub use laws::histories_survive;
+pub use laws::{histories_survive, memory_never_fails};
 pub use profile_records::Kind;
 pub use warehouse::Warehouse;
