@@ -2,7 +2,7 @@
 ghost use Rattle.std.specs.Prelude.{◌≡◌, map, IfOk, IsPermutation};
 ghost use Rattle.std.specs.Result.{is_ok};
 ghost use Rattle.held_runs.specs.HeadLines.{first_two, first_three, event_columns, derived_columns, coef_columns, events_in_tables, derived_in_tables, coefs_in_tables, events_in_rows, derived_in_rows, coefs_in_rows};
-ghost use Rattle.prof_store.specs.Shown.{Tells, Finds};
+ghost use Rattle.prof_store.specs.Shown.{Told, Found};
 ghost use Rattle.prof_store.specs.Shown.{Asks};
 
 use prof_store::{Store, select};
@@ -94,8 +94,8 @@ pub(crate) fn events_of<S: Alter>(
     alloc: Global,
     run: u32,
 ) -> Result<Vec<HeadEvent>, StoreEnd>
-    ensures told { Tells S.Store store.old store.new (λ t. IfOk result (λ lines. IsPermutation (events_in_tables run t) (map event_columns lines.items))) }
-    ensures found { Finds S.Store store.old store.new (λ db. IfOk result (λ lines. IsPermutation (events_in_rows run db) (map event_columns lines.items))) }
+    ensures told { Told S.Store result store.old store.new (λ t lines. IsPermutation (events_in_tables run t) (map event_columns lines.items)) }
+    ensures found { Found S.Store result store.old store.new (λ db lines. IsPermutation (events_in_rows run db) (map event_columns lines.items)) }
     ensures asks { Asks S.Store (is_ok result) store.old store.new }
 {
     let rows = select(
@@ -112,8 +112,8 @@ pub(crate) fn derived_of<S: Alter>(
     alloc: Global,
     run: u32,
 ) -> Result<Vec<HeadDerived>, StoreEnd>
-    ensures told { Tells S.Store store.old store.new (λ t. IfOk result (λ lines. IsPermutation (derived_in_tables run t) (map derived_columns lines.items))) }
-    ensures found { Finds S.Store store.old store.new (λ db. IfOk result (λ lines. IsPermutation (derived_in_rows run db) (map derived_columns lines.items))) }
+    ensures told { Told S.Store result store.old store.new (λ t lines. IsPermutation (derived_in_tables run t) (map derived_columns lines.items)) }
+    ensures found { Found S.Store result store.old store.new (λ db lines. IsPermutation (derived_in_rows run db) (map derived_columns lines.items)) }
     ensures asks { Asks S.Store (is_ok result) store.old store.new }
 {
     let rows = select(
@@ -130,8 +130,8 @@ pub(crate) fn coefs_of<S: Alter>(
     alloc: Global,
     run: u32,
 ) -> Result<Vec<HeadCoef>, StoreEnd>
-    ensures told { Tells S.Store store.old store.new (λ t. IfOk result (λ lines. IsPermutation (coefs_in_tables run t) (map coef_columns lines.items))) }
-    ensures found { Finds S.Store store.old store.new (λ db. IfOk result (λ lines. IsPermutation (coefs_in_rows run db) (map coef_columns lines.items))) }
+    ensures told { Told S.Store result store.old store.new (λ t lines. IsPermutation (coefs_in_tables run t) (map coef_columns lines.items)) }
+    ensures found { Found S.Store result store.old store.new (λ db lines. IsPermutation (coefs_in_rows run db) (map coef_columns lines.items)) }
     ensures asks { Asks S.Store (is_ok result) store.old store.new }
 {
     let rows = select(

@@ -2,7 +2,7 @@
 ghost use Rattle.std.specs.Prelude.{IfOk};
 ghost use Rattle.std.specs.Result.{is_ok};
 ghost use Rattle.held_runs.specs.HeldHeads.{IsHeadIn, IsHeadAt, IsReadIn, IsReadAt};
-ghost use Rattle.prof_store.specs.Shown.{Tells, Finds};
+ghost use Rattle.prof_store.specs.Shown.{Told, Found};
 ghost use Rattle.prof_store.specs.Shown.{Asks};
 
 use crate::head_lines::{coefs_of, derived_of, events_of};
@@ -15,8 +15,8 @@ use store_columns::StoreEnd;
 
 /// The head of a run whose number is held, as its lines say it.
 fn said_head<S: Alter>(store: &mut Store<S>, alloc: Global, run: u32) -> Result<FileHead, StoreEnd>
-    ensures told { Tells S.Store store.old store.new (λ t. IfOk result (IsReadIn run t)) }
-    ensures found { Finds S.Store store.old store.new (λ db. IfOk result (IsReadAt run db)) }
+    ensures told { Told S.Store result store.old store.new (λ t. IsReadIn run t) }
+    ensures found { Found S.Store result store.old store.new (λ db. IsReadAt run db) }
     ensures asks { Asks S.Store (is_ok result) store.old store.new }
 {
     let events = events_of(store, alloc, run)?;
@@ -35,8 +35,8 @@ pub fn head_of<S: Alter>(
     alloc: Global,
     run: u32,
 ) -> Result<FileHead, StoreEnd>
-    ensures told { Tells S.Store store.old store.new (λ t. IfOk result (IsHeadIn run t)) }
-    ensures found { Finds S.Store store.old store.new (λ db. IfOk result (IsHeadAt run db)) }
+    ensures told { Told S.Store result store.old store.new (λ t. IsHeadIn run t) }
+    ensures found { Found S.Store result store.old store.new (λ db. IsHeadAt run db) }
     ensures asks { Asks S.Store (is_ok result) store.old store.new }
 {
     if !store.has_run(run)? {

@@ -6,7 +6,7 @@ ghost use Rattle.sqlite_trees.specs.Tree.{IsAscending};
 ghost use Rattle.prof_books.specs.Book.{name_of, IsHeld};
 ghost use Rattle.held_runs.specs.HeadLines.{first_two};
 ghost use Rattle.held_runs.specs.NameLines.{name_line, name_seen, name_shown, has_number, IsNameAt};
-ghost use Rattle.prof_store.specs.Shown.{Tells, Finds};
+ghost use Rattle.prof_store.specs.Shown.{Told, Found};
 ghost use Rattle.prof_store.specs.Shown.{Asks};
 
 use prof_store::{Store, select};
@@ -134,8 +134,8 @@ impl HeldNames {
 
 /// The names that are held, in the order of their numbers: read once, for any number of walks.
 pub fn names_of<S: Alter>(store: &mut Store<S>, alloc: Global) -> Result<HeldNames, StoreEnd>
-    ensures told { Tells S.Store store.old store.new (λ t. IfOk result (λ names. names ≡ t.names)) }
-    ensures found { Finds S.Store store.old store.new (λ db. IfOk result (λ names. IsPermutation (map name_seen (db 11)) (map name_shown names))) }
+    ensures told { Told S.Store result store.old store.new (λ t names. names ≡ t.names) }
+    ensures found { Found S.Store result store.old store.new (λ db names. IsPermutation (map name_seen (db 11)) (map name_shown names)) }
     ensures rising { IfOk result (IsAscending (λ a b. a.number < b.number)) }
     ensures asks { Asks S.Store (is_ok result) store.old store.new }
 {

@@ -1,3 +1,4 @@
+pub mod Digests
 pub mod Entries
 pub mod Groups
 pub mod Schemas

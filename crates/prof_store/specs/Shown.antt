@@ -1,5 +1,5 @@
 -- What a store shows, in the words of the layers above.
-use Rattle.std.specs.Prelude.{◌≡◌, Bool, IsTrue}
+use Rattle.std.specs.Prelude.{◌≡◌, Bool, IsTrue, Result, IfOk}
 use Rattle.sqlite_trees.specs.declared.store.Store.{Ghosts}
 use Rattle.sqlite_trees.specs.Tree.{Trees}
 use Rattle.sqlite.specs.Held.{state}
@@ -62,3 +62,11 @@ module _ {S : Type 0} (g : Ghosts S) where
   -- what it tells of the rows of any tables of schema 1
   abbrev pub Finds : Store S → Store S → (Trees → Type 0) → Type 0
   Finds old new P = IsFaithful new → (shown old).now.schema ≡ schema_one → P (shown old).now.trees
+
+  -- what is answered tells of those lines
+  abbrev pub Told : {T E : Type 0} → Result T E → Store S → Store S → (Tables → T → Type 0) → Type 0
+  Told result old new P = Tells old new (λ t. IfOk result (P t))
+
+  -- what is answered tells of those rows
+  abbrev pub Found : {T E : Type 0} → Result T E → Store S → Store S → (Trees → T → Type 0) → Type 0
+  Found result old new P = Finds old new (λ db. IfOk result (P db))

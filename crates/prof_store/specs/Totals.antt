@@ -6,7 +6,9 @@ use Rattle.sqlite_value.specs.Order.{Row, column}
 use Rattle.sqlite_trees.specs.Tree.{Trees}
 use Rattle.cost_rows.specs.declared.rows.FileTotals.{FileTotals}
 use Rattle.prof_tables.specs.Seen.{is_at}
-use Rattle.prof_tables.specs.Tables.{number}
+use Rattle.prof_tables.specs.Tables.{Tables, number}
+use Rattle.prof_books.specs.Totals.{held_self, held_calls}
+use Rattle.prof_store.specs.declared.totals.EventSums.{EventSums}
 
 -- the number that a value is, and 0 where it is none
 abbrev pub number_in : Value → ℕ
@@ -29,6 +31,17 @@ IsSum at rows sum = HasNumbers at rows × (sum ≡ column_sum at rows)
 
 abbrev pub rows_named : List ℕ → Trees → List Row
 rows_named name db = filter (is_at 3 (Blob name)) (db 3)
+
+-- the sums of an event's own costs and costs of calls, in the rows and in the lines
+abbrev pub IsSumAt : Trees → List ℕ → EventSums → Type 0
+IsSumAt db name sums = IsSum 4 (rows_named name db) sums.own × IsSum 5 (rows_named name db) sums.calls
+
+abbrev pub IsSumIn : Tables → List ℕ → EventSums → Type 0
+IsSumIn t name sums = (sums.own ≡ held_self t name) × (sums.calls ≡ held_calls t name)
+
+-- the same of some events, in the lines
+abbrev pub AreSumsIn : Tables → List (List ℕ) → List ℕ × List ℕ → Type 0
+AreSumsIn t events sums = (sums.0 ≡ map (held_self t) events) × (sums.1 ≡ map (held_calls t) events)
 
 -- own costs and costs of calls, by event
 abbrev pub AreSums : Trees → List (List ℕ) → List ℕ × List ℕ → Type 0

@@ -3,7 +3,7 @@ ghost use Rattle.std.specs.Prelude.{◌≡◌, ◌+◌, ◌<◌, ◌^◌, pos, l
 ghost use Rattle.std.specs.Result.{is_ok};
 ghost use Rattle.sqlite_value.specs.declared.value.Value.TheVariants.{Int};
 ghost use Rattle.sqlite_value.specs.Order.{column};
-ghost use Rattle.prof_store.specs.Shown.{Asks, Finds, Tells};
+ghost use Rattle.prof_store.specs.Shown.{Asks, Found, Told};
 
 use crate::statements::select_row;
 use crate::store::Store;
@@ -29,8 +29,8 @@ fn count_in(row: &Row) -> Result<u64, StoreEnd>
 impl<S: Alter> Store<S> {
     /// How many runs are held.
     pub fn run_count(&mut self) -> Result<u64, StoreEnd>
-        ensures told { Tells S.Store self.old self.new (λ t. IfOk result (λ n. n ≡ length t.runs)) }
-        ensures found { Finds S.Store self.old self.new (λ db. IfOk result (λ n. n ≡ length (db 1))) }
+        ensures told { Told S.Store result self.old self.new (λ t n. n ≡ length t.runs) }
+        ensures found { Found S.Store result self.old self.new (λ db n. n ≡ length (db 1)) }
         ensures asks { Asks S.Store (is_ok result) self.old self.new }
     {
         let row = select_row(&mut self.conn, "SELECT count(*) FROM run", &[])?;
@@ -39,8 +39,8 @@ impl<S: Alter> Store<S> {
 
     /// How many groups are held.
     pub fn group_count(&mut self) -> Result<u64, StoreEnd>
-        ensures told { Tells S.Store self.old self.new (λ t. IfOk result (λ n. n ≡ length t.groups)) }
-        ensures found { Finds S.Store self.old self.new (λ db. IfOk result (λ n. n ≡ length (db 19))) }
+        ensures told { Told S.Store result self.old self.new (λ t n. n ≡ length t.groups) }
+        ensures found { Found S.Store result self.old self.new (λ db n. n ≡ length (db 19)) }
         ensures asks { Asks S.Store (is_ok result) self.old self.new }
     {
         let row = select_row(&mut self.conn, "SELECT count(*) FROM grp", &[])?;

@@ -1,11 +1,10 @@
 // The groups with their members.
-ghost use Rattle.std.specs.Prelude.{◌≡◌, ◌<◌, ◌≤◌, [], map, flat_map, length, take, string_bytes, IfOk, IsTrue, IsPermutation};
-ghost use Rattle.std.specs.List.{AllAdjacentBelow, AllByRecursion};
+ghost use Rattle.std.specs.Prelude.{◌≡◌, ◌<◌, ◌≤◌, [], map, flat_map, length, take, IfOk, IsTrue, IsPermutation};
+ghost use Rattle.std.specs.List.{AllAdjacentBelow};
 ghost use Rattle.std.specs.Result.{is_ok};
-ghost use Rattle.prof_tables.specs.Seen.{group_seen, member_seen};
 ghost use Rattle.prof_tables.specs.Tables.{group_columns, member_columns};
-ghost use Rattle.prof_store.specs.Groups.{first_two, IsBefore, entry_group, entry_members, member_of, member_line, members_in};
-ghost use Rattle.prof_store.specs.Shown.{Asks, Finds, Tells};
+ghost use Rattle.prof_store.specs.Groups.{first_two, AreGroups, AreGroupsIn, AreMembersIn, IsBefore, entry_group, entry_members, member_of, member_line};
+ghost use Rattle.prof_store.specs.Shown.{Asks, Found, Told};
 
 use crate::entries::GroupEntry;
 use crate::statements::select;
@@ -138,8 +137,8 @@ fn groups_in(alloc: Global, rows: &[Row], members: &[Member]) -> Result<Vec<Grou
 impl<S: Alter> Store<S> {
     /// The members of all groups, by group and run.
     fn members(&mut self, alloc: Global) -> Result<Vec<Member>, StoreEnd>
-        ensures told { Tells S.Store self.old self.new (λ t. IfOk result (λ members. IsPermutation t.members (map member_line members.items))) }
-        ensures found { Finds S.Store self.old self.new (λ db. IfOk result (λ members. IsPermutation (map member_seen (db 21)) (map (λ m. member_columns (member_line m)) members.items))) }
+        ensures told { Told S.Store result self.old self.new (λ t members. IsPermutation t.members (map member_line members.items)) }
+        ensures found { Found S.Store result self.old self.new (λ db members. AreMembersIn db (map member_line members.items)) }
         ensures asks { Asks S.Store (is_ok result) self.old self.new }
     {
         let rows = select(
@@ -152,8 +151,8 @@ impl<S: Alter> Store<S> {
 
     /// The groups with these members, by name.
     fn groups_of(&mut self, alloc: Global, members: &[Member]) -> Result<Vec<GroupEntry>, StoreEnd>
-        ensures told { Tells S.Store self.old self.new (λ t. IfOk result (λ entries. IsPermutation t.groups (map entry_group entries.items))) }
-        ensures found { Finds S.Store self.old self.new (λ db. IfOk result (λ entries. IsPermutation (map group_seen (db 19)) (map (λ e. group_columns (entry_group e)) entries.items))) }
+        ensures told { Told S.Store result self.old self.new (λ t entries. IsPermutation t.groups (map entry_group entries.items)) }
+        ensures found { Found S.Store result self.old self.new (λ db entries. AreGroupsIn db (map entry_group entries.items)) }
         ensures members { IfOk result (λ entries. flat_map entry_members entries.items ≡ map member_line members.now) }
         ensures rising { IfOk result (λ entries. AllAdjacentBelow IsBefore entries.items (length entries.items)) }
         ensures asks { Asks S.Store (is_ok result) self.old self.new }
@@ -168,9 +167,9 @@ impl<S: Alter> Store<S> {
 
     /// The groups with their members, by name.
     pub fn groups(&mut self, alloc: Global) -> Result<Vec<GroupEntry>, StoreEnd>
-        ensures told { Tells S.Store self.old self.new (λ t. IfOk result (λ entries. IsPermutation t.groups (map entry_group entries.items) × IsPermutation t.members (flat_map entry_members entries.items))) }
-        ensures found { Finds S.Store self.old self.new (λ db. IfOk result (λ entries. IsPermutation (map group_seen (db 19)) (map (λ e. group_columns (entry_group e)) entries.items) × IsPermutation (map member_seen (db 21)) (map member_columns (flat_map entry_members entries.items)))) }
-        ensures members { Tells S.Store self.old self.new (λ t. IfOk result (λ entries. AllByRecursion (λ e. IsPermutation (members_in (string_bytes e.name) t.members) (entry_members e)) entries.items)) }
+        ensures told { Told S.Store result self.old self.new (λ t entries. AreGroups t entries.items) }
+        ensures groups { Found S.Store result self.old self.new (λ db entries. AreGroupsIn db (map entry_group entries.items)) }
+        ensures members { Found S.Store result self.old self.new (λ db entries. AreMembersIn db (flat_map entry_members entries.items)) }
         ensures rising { IfOk result (λ entries. AllAdjacentBelow IsBefore entries.items (length entries.items)) }
         ensures asks { Asks S.Store (is_ok result) self.old self.new }
     {

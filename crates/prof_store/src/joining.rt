@@ -4,7 +4,7 @@ ghost use Rattle.std.specs.List.{list_any};
 ghost use Rattle.std.specs.Result.{is_ok};
 ghost use Rattle.prof_tables.specs.Changes.{has_member, joined, with_member};
 ghost use Rattle.prof_tables.specs.Seen.{is_member_row};
-ghost use Rattle.prof_store.specs.Shown.{Asks, Changes, Finds, Tells};
+ghost use Rattle.prof_store.specs.Shown.{Asks, Changes, Found, Told};
 
 use crate::statements::{select, write};
 use crate::store::Store;
@@ -14,8 +14,8 @@ use store_columns::StoreEnd;
 impl<S: Alter> Store<S> {
     /// Whether a run is in a group.
     pub fn is_member(&mut self, name: &str, run: u32) -> Result<bool, StoreEnd>
-        ensures told { Tells S.Store self.old self.new (λ t. IfOk result (λ is. is ≡ has_member t name.now run)) }
-        ensures found { Finds S.Store self.old self.new (λ db. IfOk result (λ is. is ≡ list_any (is_member_row name.now run) (db 21))) }
+        ensures told { Told S.Store result self.old self.new (λ t is. is ≡ has_member t name.now run) }
+        ensures found { Found S.Store result self.old self.new (λ db is. is ≡ list_any (is_member_row name.now run) (db 21)) }
         ensures asks { Asks S.Store (is_ok result) self.old self.new }
     {
         let rows = select(

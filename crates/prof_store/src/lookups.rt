@@ -6,7 +6,7 @@ ghost use Rattle.sqlite_value.specs.declared.value.Value.TheVariants.{Text};
 ghost use Rattle.prof_tables.specs.Changes.{has_run, has_group};
 ghost use Rattle.prof_tables.specs.Seen.{is_at};
 ghost use Rattle.prof_tables.specs.Tables.{number};
-ghost use Rattle.prof_store.specs.Shown.{Asks, Finds, Tells};
+ghost use Rattle.prof_store.specs.Shown.{Asks, Found, Told};
 
 use crate::statements::select;
 use crate::store::Store;
@@ -16,8 +16,8 @@ use store_columns::StoreEnd;
 impl<S: Alter> Store<S> {
     /// Whether a run is held.
     pub fn has_run(&mut self, run: u32) -> Result<bool, StoreEnd>
-        ensures told { Tells S.Store self.old self.new (λ t. IfOk result (λ is. is ≡ has_run t run)) }
-        ensures found { Finds S.Store self.old self.new (λ db. IfOk result (λ is. is ≡ list_any (is_at 0 (number run)) (db 1))) }
+        ensures told { Told S.Store result self.old self.new (λ t is. is ≡ has_run t run) }
+        ensures found { Found S.Store result self.old self.new (λ db is. is ≡ list_any (is_at 0 (number run)) (db 1)) }
         ensures asks { Asks S.Store (is_ok result) self.old self.new }
     {
         let rows = select(
@@ -30,8 +30,8 @@ impl<S: Alter> Store<S> {
 
     /// Whether a group is held.
     pub fn has_group(&mut self, name: &str) -> Result<bool, StoreEnd>
-        ensures told { Tells S.Store self.old self.new (λ t. IfOk result (λ is. is ≡ has_group t name.now)) }
-        ensures found { Finds S.Store self.old self.new (λ db. IfOk result (λ is. is ≡ list_any (is_at 1 (Text name.now)) (db 19))) }
+        ensures told { Told S.Store result self.old self.new (λ t is. is ≡ has_group t name.now) }
+        ensures found { Found S.Store result self.old self.new (λ db is. is ≡ list_any (is_at 1 (Text name.now)) (db 19)) }
         ensures asks { Asks S.Store (is_ok result) self.old self.new }
     {
         let rows = select(

@@ -4,7 +4,7 @@ ghost use Rattle.std.specs.Result.{is_ok};
 ghost use Rattle.sqlite_value.specs.declared.value.Value.TheVariants.{Int};
 ghost use Rattle.sqlite_value.specs.Order.{column};
 ghost use Rattle.sqlite_rules.specs.Lists.{Has};
-ghost use Rattle.prof_store.specs.Shown.{Asks, Finds, Tells};
+ghost use Rattle.prof_store.specs.Shown.{Asks, Found, Told};
 
 use crate::statements::select_row;
 use crate::store::Store;
@@ -14,8 +14,8 @@ use store_columns::{StoreEnd, number_at};
 impl<S: Alter> Store<S> {
     /// The number that the next run gets.
     pub fn next_run(&mut self) -> Result<u32, StoreEnd>
-        ensures told { Tells S.Store self.old self.new (λ t. IfOk result (λ n. n ≡ t.next)) }
-        ensures found { Finds S.Store self.old self.new (λ db. IfOk result (λ n. (r : _) × Has (db 0) r × (column r 3 ≡ Int (pos n)))) }
+        ensures told { Told S.Store result self.old self.new (λ t n. n ≡ t.next) }
+        ensures found { Found S.Store result self.old self.new (λ db n. (r : _) × Has (db 0) r × (column r 3 ≡ Int (pos n))) }
         ensures asks { Asks S.Store (is_ok result) self.old self.new }
     {
         let row = select_row(&mut self.conn, "SELECT next_run FROM meta", &[])?;

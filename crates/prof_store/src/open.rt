@@ -5,13 +5,9 @@ ghost use Rattle.sqlite.specs.Held.{state};
 ghost use Rattle.sqlite.specs.State.{HasCleanDisk, Survives, QueriesRow, CommitsShowing};
 ghost use Rattle.sqlite_value.specs.declared.value.Value.TheVariants.{Int};
 ghost use Rattle.sqlite_value.specs.Order.{column};
-ghost use Rattle.sqlite_rules.specs.Lists.{Has};
-ghost use Rattle.sql_tables.specs.Calls.{Asked};
-ghost use Rattle.sql_tables.specs.States.{Rests};
 ghost use Rattle.prof_tables.specs.Schema.{schema_one};
-ghost use Rattle.prof_tables.specs.Tables.{Holds};
 ghost use Rattle.prof_tables.specs.Texts.{schema_text};
-ghost use Rattle.prof_store.specs.Schemas.{Reads};
+ghost use Rattle.prof_store.specs.Schemas.{AsksAny, IsStore, Reads, SaysSchema};
 ghost use Rattle.prof_store.specs.Shown.{shown, IsFaithful};
 ghost use Rattle.sqlite.specs.declared.error.Error.TheVariants as errors;
 ghost use Rattle.store_columns.specs.declared.errors.OpenEnd.TheVariants as ends;
@@ -42,13 +38,11 @@ fn schema_in(answer: Result<Row, Error>) -> Result<u32, OpenEnd>
 
 /// The number of the schema that the tables are of.
 fn schema_of<S: Alter>(conn: &mut Connection<S>) -> Result<u32, OpenEnd>
-    ensures found { HasCleanDisk (state S.Store conn.new) → (state S.Store conn.old).now.schema ≡ schema_one
-        → IfOk result (λ n. (r : _) × Has ((state S.Store conn.old).now.trees 0) r × (column r 2 ≡ Int (pos n))) }
-    ensures told { HasCleanDisk (state S.Store conn.new) → (t : _) → Rests schema_one (Holds t) (state S.Store conn.old) → IfOk result (λ n. n ≡ 1) }
-    ensures right { HasCleanDisk (state S.Store conn.new) → (state S.Store conn.old).now.schema ≡ schema_one → IfErr result (λ e. e ≢ ends.WrongSchema) }
     ensures shows { HasCleanDisk (state S.Store conn.new) → IfOk result (Reads (state S.Store conn.old) (state S.Store conn.new)) }
-    ensures asked { HasCleanDisk (state S.Store conn.new)
-        → Asked (state S.Store conn.old).now.schema (is_ok result) (state S.Store conn.old) (state S.Store conn.new) }
+    ensures found { HasCleanDisk (state S.Store conn.new) → IfOk result (SaysSchema (state S.Store conn.old).now) }
+    ensures told { HasCleanDisk (state S.Store conn.new) → IsStore (state S.Store conn.old) → IfOk result (λ n. n ≡ 1) }
+    ensures right { HasCleanDisk (state S.Store conn.new) → (state S.Store conn.old).now.schema ≡ schema_one → IfErr result (λ e. e ≢ ends.WrongSchema) }
+    ensures asked { AsksAny (is_ok result) (state S.Store conn.old) (state S.Store conn.new) }
 {
     let answer = select_schema(conn);
     schema_in(answer)
@@ -63,10 +57,10 @@ impl<S: Alter> Store<S> {
         mut conn: Connection<S>,
     ) -> Result<Store<S>, (OpenEnd, Connection<S>)>
         ensures shows { IfOk result (λ store. IsFaithful S.Store store → Reads (state S.Store conn) (shown S.Store store) 1) }
-        ensures found { IfOk result (λ store. IsFaithful S.Store store → (state S.Store conn).now.schema ≡ schema_one → (r : _) × Has ((state S.Store conn).now.trees 0) r × (column r 2 ≡ Int (pos 1))) }
-        ensures right { IfErr result (λ e. HasCleanDisk (state S.Store e.1) → (t : _) → Rests schema_one (Holds t) (state S.Store conn) → e.0 ≢ ends.WrongSchema) }
-        ensures asked { IfOk result (λ store. IsFaithful S.Store store → Asked (state S.Store conn).now.schema true (state S.Store conn) (shown S.Store store)) }
-        ensures refused { IfErr result (λ e. HasCleanDisk (state S.Store e.1) → Asked (state S.Store conn).now.schema false (state S.Store conn) (state S.Store e.1)) }
+        ensures found { IfOk result (λ store. IsFaithful S.Store store → SaysSchema (state S.Store conn).now 1) }
+        ensures right { IfErr result (λ e. HasCleanDisk (state S.Store e.1) → IsStore (state S.Store conn) → e.0 ≢ ends.WrongSchema) }
+        ensures asked { IfOk result (λ store. AsksAny true (state S.Store conn) (shown S.Store store)) }
+        ensures refused { IfErr result (λ e. AsksAny false (state S.Store conn) (state S.Store e.1)) }
     {
         match schema_of(&mut conn) {
             Ok(1) => Ok(Store {

@@ -5,7 +5,7 @@ ghost use Rattle.std.specs.Result.{is_ok};
 ghost use Rattle.prof_tables.specs.Seen.{run_seen};
 ghost use Rattle.prof_store.specs.Entries.{first_four, entry_columns, entry_run};
 ghost use Rattle.prof_books.specs.Entries.{held_run};
-ghost use Rattle.prof_store.specs.Shown.{Asks, Finds, Tells};
+ghost use Rattle.prof_store.specs.Shown.{Asks, Found, Told};
 
 use crate::entries::RunEntry;
 use crate::statements::select;
@@ -70,8 +70,8 @@ fn runs_in(alloc: Global, rows: &[Row]) -> Result<Vec<RunEntry>, StoreEnd>
 impl<S: Alter> Store<S> {
     /// The runs that are held, in the order of their numbers.
     pub fn runs(&mut self, alloc: Global) -> Result<Vec<RunEntry>, StoreEnd>
-        ensures told { Tells S.Store self.old self.new (λ t. IfOk result (λ entries. map entry_run entries.items ≡ map held_run t.runs)) }
-        ensures found { Finds S.Store self.old self.new (λ db. IfOk result (λ entries. IsPermutation (map run_seen (db 1)) (map entry_columns entries.items))) }
+        ensures told { Told S.Store result self.old self.new (λ t entries. map entry_run entries.items ≡ map held_run t.runs) }
+        ensures found { Found S.Store result self.old self.new (λ db entries. IsPermutation (map run_seen (db 1)) (map entry_columns entries.items)) }
         ensures rising { IfOk result (λ entries. AllAdjacentBelow (λ a b. a.number < b.number) entries.items (length entries.items)) }
         ensures asks { Asks S.Store (is_ok result) self.old self.new }
     {

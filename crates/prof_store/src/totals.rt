@@ -1,9 +1,9 @@
 // The sums over all runs that are held.
 ghost use Rattle.std.specs.Prelude.{◌&&◌, ◌≡◌, ◌<◌, ◌^◌, [], map, length, All, IfOk};
 ghost use Rattle.std.specs.Result.{is_ok};
-ghost use Rattle.prof_store.specs.Shown.{Asks, Finds, Tells, shown};
-ghost use Rattle.prof_store.specs.Totals.{AreSums, column_sum, rows_named, IsSum, IsHeldAt, IsBounded};
-ghost use Rattle.prof_books.specs.Totals.{held_self, held_calls, held_count, IsHeldIn};
+ghost use Rattle.prof_store.specs.Shown.{Asks, Found, Told, shown};
+ghost use Rattle.prof_store.specs.Totals.{AreSums, AreSumsIn, IsSum, IsSumAt, IsSumIn, IsHeldAt, IsBounded};
+ghost use Rattle.prof_books.specs.Totals.{held_count, IsHeldIn};
 
 use crate::statements::select;
 use crate::store::Store;
@@ -35,8 +35,8 @@ fn sums_in(rows: &[Row]) -> Result<EventSums, StoreEnd>
 impl<S: Alter> Store<S> {
     /// The sums of the lines of an event, in all runs that have it.
     fn sums_of(&mut self, name: &[u8]) -> Result<EventSums, StoreEnd>
-        ensures told { Tells S.Store self.old self.new (λ t. IfOk result (λ sums. (sums.own ≡ held_self t name.now) × (sums.calls ≡ held_calls t name.now))) }
-        ensures found { Finds S.Store self.old self.new (λ db. IfOk result (λ sums. IsSum 4 (rows_named name.now db) sums.own × IsSum 5 (rows_named name.now db) sums.calls)) }
+        ensures told { Told S.Store result self.old self.new (λ t sums. IsSumIn t name.now sums) }
+        ensures found { Found S.Store result self.old self.new (λ db sums. IsSumAt db name.now sums) }
         ensures bounded { IfOk result (λ sums. (sums.own < 2 ^ 112) × (sums.calls < 2 ^ 112)) }
         ensures asks { Asks S.Store (is_ok result) self.old self.new }
     {
@@ -50,8 +50,8 @@ impl<S: Alter> Store<S> {
 
     /// The sum of the call counts of all runs.
     fn calls_of_all(&mut self) -> Result<u128, StoreEnd>
-        ensures told { Tells S.Store self.old self.new (λ t. IfOk result (λ count. count ≡ held_count t)) }
-        ensures found { Finds S.Store self.old self.new (λ db. IfOk result (IsSum 5 (db 1))) }
+        ensures told { Told S.Store result self.old self.new (λ t count. count ≡ held_count t) }
+        ensures found { Found S.Store result self.old self.new (λ db. IsSum 5 (db 1)) }
         ensures bounded { IfOk result (λ count. count < 2 ^ 112) }
         ensures asks { Asks S.Store (is_ok result) self.old self.new }
     {
@@ -65,8 +65,8 @@ impl<S: Alter> Store<S> {
         alloc: Global,
         events: &[Items<u8>],
     ) -> Result<(Items<u128>, Items<u128>), StoreEnd>
-        ensures told { Tells S.Store self.old self.new (λ t. IfOk result (λ sums. (sums.0 ≡ map (held_self t) events.now) × (sums.1 ≡ map (held_calls t) events.now))) }
-        ensures found { Finds S.Store self.old self.new (λ db. IfOk result (AreSums db events.now)) }
+        ensures told { Told S.Store result self.old self.new (λ t. AreSumsIn t events.now) }
+        ensures found { Found S.Store result self.old self.new (λ db. AreSums db events.now) }
         ensures bounded { IfOk result (λ sums. All (λ n. n < 2 ^ 112) sums.0 × All (λ n. n < 2 ^ 112) sums.1) }
         ensures columns { IfOk result (λ sums. (length sums.0 ≡ length events.now) × (length sums.1 ≡ length events.now)) }
         ensures asks { Asks S.Store (is_ok result && (shown S.Store self.old).is_open) self.old self.new }
@@ -86,8 +86,8 @@ impl<S: Alter> Store<S> {
     /// runs that are held and have it, and the number of calls of all runs. `Store` where a sum is
     /// 2^112 or more, or a row holds no number from 0 on.
     pub fn totals_of(&mut self, alloc: Global, events: &[Items<u8>]) -> Result<FileTotals, StoreEnd>
-        ensures told { Tells S.Store self.old self.new (λ t. IfOk result (IsHeldIn t events.now)) }
-        ensures found { Finds S.Store self.old self.new (λ db. IfOk result (IsHeldAt db events.now)) }
+        ensures told { Told S.Store result self.old self.new (λ t. IsHeldIn t events.now) }
+        ensures found { Found S.Store result self.old self.new (λ db. IsHeldAt db events.now) }
         ensures bounded { IfOk result IsBounded }
         ensures columns { IfOk result (λ totals. (length totals.self_cost ≡ length events.now) × (length totals.call_cost ≡ length events.now)) }
         ensures asks { Asks S.Store (is_ok result) self.old self.new }

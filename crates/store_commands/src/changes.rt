@@ -3,7 +3,7 @@ ghost use Rattle.std.specs.Prelude.{◌≡◌, MatchOption, IfOk};
 ghost use Rattle.std.specs.Result.{is_ok};
 ghost use Rattle.prof_tables.specs.Changes.{has_run, has_group};
 ghost use Rattle.prof_tables.specs.Labels.{IsGroupName};
-ghost use Rattle.prof_store.specs.Shown.{Asks, Changes, IsFaithful, Tells};
+ghost use Rattle.prof_store.specs.Shown.{Asks, Changes, IsFaithful, Told};
 ghost use Rattle.histories.specs.History.{History, Remove, MakeGroup, DropGroup};
 ghost use Rattle.histories.specs.declared.limits.Limits.{Limits};
 ghost use Rattle.store_histories.specs.Answered.{StandsForHistory, WasDue, TurnsIf, has_changed};
@@ -91,7 +91,7 @@ fn missing<S: Alter>(
     name: &str,
     number: u32,
 ) -> Result<Option<Refusal>, StoreEnd>
-    ensures told { Tells S.Store store.old store.new (λ t. IfOk result (λ refusal. refusal ≡ missing_of (has_group t name.now) (has_run t number))) }
+    ensures told { Told S.Store result store.old store.new (λ t refusal. refusal ≡ missing_of (has_group t name.now) (has_run t number)) }
     ensures asks { Asks S.Store (is_ok result) store.old store.new }
 {
     if !store.has_group(name)? {

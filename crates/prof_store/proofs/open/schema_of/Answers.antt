@@ -16,14 +16,14 @@ use Rattle.prof_store.proofs.Opening.{row_read}
 use Rattle.prof_store.proofs.open.schema_of.Goals as goal
 
 pub returns-clause-found : goal.returns-clause-found
-returns-clause-found g c clean has = if_ok_then c.schema_in.result c.schema_in.ensures.read (λ n is.
+returns-clause-found g c clean = if_ok_then c.schema_in.result c.schema_in.ensures.read (λ n is has.
     let it = schema_found _ _ is.0 has (subst (QueriesRow schema_text [] _ _) is.1 (c.select_schema-answer.ensures.row clean)) in
     (it.0, it.1, sym it.2 ∙ is.2))
 
 pub returns-clause-told : goal.returns-clause-told
-returns-clause-told g c clean t was = if_ok_then c.schema_in.result c.schema_in.ensures.read (λ n is.
-    let it = schema_found _ _ is.0 was.schema_is (subst (QueriesRow schema_text [] _ _) is.1 (c.select_schema-answer.ensures.row clean)) in
-    schema_is t _ it.0 n was.holds it.1 (sym it.2 ∙ is.2))
+returns-clause-told g c clean store = if_ok_then c.schema_in.result c.schema_in.ensures.read (λ n is.
+    let it = schema_found _ _ is.0 store.1.schema_is (subst (QueriesRow schema_text [] _ _) is.1 (c.select_schema-answer.ensures.row clean)) in
+    schema_is store.0 _ it.0 n store.1.holds it.1 (sym it.2 ∙ is.2))
 
 pub returns-clause-right : goal.returns-clause-right
 returns-clause-right g c clean has = if_err_then c.schema_in.result c.schema_in.ensures.wrong (λ e wrong is.

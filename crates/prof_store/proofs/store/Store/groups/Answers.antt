@@ -1,15 +1,13 @@
 use Rattle.std.proofs.Common.{refl, ◌∙◌, map, ap, sym, subst, IsPermutation}
 use Rattle.sqlite_exec.proofs.MarkLemmas.{if_ok_then}
-use Rattle.sqlite_keyed.proofs.ListLemmas.{map-map}
 use Rattle.sqlite.specs.Effect.{Database}
-use Rattle.prof_tables.specs.Seen.{group_seen}
 use Rattle.sql_tables.proofs.Calls.{asked_rests, asked_then, asked_err}
 use Rattle.prof_tables.specs.Schema.{schema_one}
-use Rattle.prof_tables.specs.Tables.{Holds, group_columns, member_columns}
-use Rattle.prof_store.specs.Groups.{entry_group, member_line}
-use Rattle.prof_store.specs.declared.entries.GroupEntry.{GroupEntry}
+use Rattle.prof_tables.specs.Tables.{Holds}
+use Rattle.prof_store.specs.Groups.{AreGroupsIn, AreMembersIn, entry_group, member_line}
 use Rattle.prof_store.proofs.GroupMembers.{members_told}
 use Rattle.prof_store.proofs.Reading.{both_ok}
+use Rattle.prof_store.specs.Shown.{shown}
 use Rattle.prof_store.proofs.store.Store.groups.Goals as goal
 
 pub returns-clause-told : goal.returns-clause-told
@@ -17,27 +15,22 @@ returns-clause-told g c clean t was =
     let early = (c.groups_of.ensures.asks clean).stays.was_clean in
     let mid = asked_rests schema_one (Holds t) _ _ (c.in_ok-members.ensures.asks early) was in
     let first = c.in_ok-members.ensures.told early t was in
-    if_ok_then c.groups_of.result (both_ok _ _ c.groups_of.result (c.groups_of.ensures.told clean t mid) c.groups_of.ensures.members) (λ entries is.
-    (is.0, subst (IsPermutation t.members) (sym (is.1 ∙ ap (map member_line) c.deref.ensures.value)) first))
+    let each = both_ok _ _ c.groups_of.result c.groups_of.ensures.rising c.groups_of.ensures.members in
+    if_ok_then c.groups_of.result (both_ok _ _ c.groups_of.result (c.groups_of.ensures.told clean t mid) each) (λ entries is.
+    let of = subst (IsPermutation t.members) (sym (is.1.1 ∙ ap (map member_line) c.deref.ensures.value)) first in
+    record { groups = is.0; members = of; each = members_told t.members entries.items is.1.0 of })
 
-pub returns-clause-found : goal.returns-clause-found
-returns-clause-found g c clean has =
-    let early = (c.groups_of.ensures.asks clean).stays.was_clean in
-    let same = (c.in_ok-members.ensures.asks early).same refl has in
-    let first = c.in_ok-members.ensures.found early has in
-    let has_too = ap (λ (d : Database). d.schema) same ∙ has in
-    if_ok_then c.groups_of.result (both_ok _ _ c.groups_of.result (c.groups_of.ensures.found clean has_too) c.groups_of.ensures.members) (λ entries is. (
-      subst (λ (d : Database). IsPermutation (map group_seen (d.trees 19)) (map (λ (e : GroupEntry). group_columns (entry_group e)) entries.items)) same is.0,
-      subst (IsPermutation _) (sym (map-map member_columns member_line c.in_ok-members.members.items) ∙ ap (map member_columns) (sym (is.1 ∙ ap (map member_line) c.deref.ensures.value))) first,
-    ))
+pub returns-clause-groups : goal.returns-clause-groups
+returns-clause-groups g c clean has =
+    let same = (c.in_ok-members.ensures.asks (c.groups_of.ensures.asks clean).stays.was_clean).same refl has in
+    if_ok_then c.groups_of.result (c.groups_of.ensures.found clean (ap (λ (d : Database). d.schema) same ∙ has)) (λ entries is.
+    subst (λ (d : Database). AreGroupsIn d.trees (map entry_group entries.items)) same is)
 
 pub returns-clause-members : goal.returns-clause-members
-returns-clause-members g c clean t was =
-    let early = (c.groups_of.ensures.asks clean).stays.was_clean in
-    let mid = asked_rests schema_one (Holds t) _ _ (c.in_ok-members.ensures.asks early) was in
-    let first = c.in_ok-members.ensures.told early t was in
-    if_ok_then c.groups_of.result (both_ok _ _ c.groups_of.result c.groups_of.ensures.rising c.groups_of.ensures.members) (λ entries is.
-    members_told t.members entries.items is.0 (subst (IsPermutation t.members) (sym (is.1 ∙ ap (map member_line) c.deref.ensures.value)) first))
+returns-clause-members g c clean has =
+    let first = c.in_ok-members.ensures.found (c.groups_of.ensures.asks clean).stays.was_clean has in
+    if_ok_then c.groups_of.result c.groups_of.ensures.members (λ entries is.
+    subst (λ lines. AreMembersIn (shown g.S.Store c.args.self.now).now.trees lines) (sym (is ∙ ap (map member_line) c.deref.ensures.value)) first)
 
 pub returns-clause-asks : goal.returns-clause-asks
 returns-clause-asks g c clean = let second = c.groups_of.ensures.asks clean in asked_then schema_one _ _ _ _ (c.in_ok-members.ensures.asks second.stays.was_clean) second

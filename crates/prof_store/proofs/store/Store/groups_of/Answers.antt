@@ -1,5 +1,5 @@
 use Rattle.std.specs.Result.{is_ok}
-use Rattle.std.proofs.Common.{◌∙◌, map, ap, refl, sym, subst₂, IsPermutation}
+use Rattle.std.proofs.Common.{◌∙◌, map, ap, refl, sym, subst, subst₂, IsPermutation}
 use Rattle.sqlite_exec.proofs.MarkLemmas.{if_ok_then}
 use Rattle.sqlite_keyed.proofs.ListLemmas.{map-map}
 use Rattle.prof_tables.specs.Seen.{group_seen}
@@ -23,7 +23,9 @@ returns-clause-told g c clean t was =
 pub returns-clause-found : goal.returns-clause-found
 returns-clause-found g c clean has =
     let p = groups_listed _ _ c.in_ok-rows.rows.items has (c.in_ok-rows.ensures.rows clean) in
-    if_ok_then c.groups_in.result c.groups_in.ensures.groups (λ entries is. read_permutes group_seen first_two (λ (e : GroupEntry). group_columns (entry_group e)) (λ r. refl) _ c.in_ok-rows.rows.items entries.items p (is ∙ ap (map first_two) c.deref.ensures.value))
+    if_ok_then c.groups_in.result c.groups_in.ensures.groups (λ entries is.
+    let q = read_permutes group_seen first_two (λ (e : GroupEntry). group_columns (entry_group e)) (λ r. refl) _ c.in_ok-rows.rows.items entries.items p (is ∙ ap (map first_two) c.deref.ensures.value) in
+    subst (IsPermutation _) (sym (map-map group_columns entry_group entries.items)) q)
 
 pub returns-clause-asks : goal.returns-clause-asks
 returns-clause-asks g c clean = asked_if schema_one (is_ok c.groups_in.result) _ _ (c.in_ok-rows.ensures.asked clean groups_plain)

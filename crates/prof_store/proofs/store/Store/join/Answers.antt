@@ -1,6 +1,6 @@
 use Rattle.std.specs.Result.{is_ok}
 use Rattle.std.proofs.Common.{◌≡◌, ◌∙◌, true, false, if◌then◌else◌, sym, subst}
-use Rattle.sql_tables.proofs.Calls.{asked_err, changed_asked, changed_then, changed_idle, changed_as, changed_err}
+use Rattle.sql_tables.proofs.Calls.{changed_asked, changed_then, changed_idle, changed_as, changed_err}
 use Rattle.prof_tables.specs.Changes.{has_member, joined, with_member}
 use Rattle.prof_tables.specs.Schema.{schema_one}
 use Rattle.prof_tables.specs.Tables.{Holds}

@@ -2,7 +2,7 @@ use Rattle.std.proofs.Common.{◌≡◌, ◌<◌, ◌^◌, ◌+◌, ◌∙◌, �
 use Rattle.std.proofs.lemmas.List.{take_all, length-append}
 use Rattle.std.proofs.lemmas.List.Elements.{All-push}
 use Rattle.sqlite.specs.Effect.{Database}
-use Rattle.sql_tables.proofs.Calls.{asked_on, asked_more, asked_rests_yet}
+use Rattle.sql_tables.proofs.Calls.{asked_more, asked_rests_yet}
 use Rattle.prof_tables.specs.Schema.{schema_one}
 use Rattle.prof_tables.specs.Tables.{Holds}
 use Rattle.prof_store.specs.Shown.{shown}

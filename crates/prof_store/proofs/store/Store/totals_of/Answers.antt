@@ -1,7 +1,5 @@
-use Rattle.std.proofs.Common.{◌≡◌, ◌∙◌, ℕ, List, ap, refl, subst}
+use Rattle.std.proofs.Common.{◌∙◌, ℕ, List, ap, refl, subst}
 use Rattle.sqlite.specs.Effect.{Database}
-use Rattle.sql_tables.proofs.Calls.{asked_then, asked_err}
-use Rattle.prof_tables.specs.Schema.{schema_one}
 use Rattle.prof_store.specs.Totals.{AreSums}
 use Rattle.prof_store.proofs.store.Store.totals_of.Goals as goal
 
