@@ -1,2 +1,1 @@
 pub mod Fed
-pub mod Outcomes

@@ -1,2 +1,1 @@
 pub mod Intakes
-pub mod Reads

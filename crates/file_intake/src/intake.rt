@@ -14,6 +14,7 @@ use cost_rows::FileRows;
 use folded_reader::FoldedReader;
 use profile_records::Kind;
 use sha2::{Digest, Sha256};
+use sources::TakesBytes;
 use std::alloc::{AllocError, Global};
 
 /// The reader of a kind of file.
@@ -85,15 +86,6 @@ impl Intake {
         })
     }
 
-    /// Takes the next piece.
-    pub fn feed(&mut self, piece: &[u8]) -> Result<(), AllocError>
-        requires { (kind : Kind) × (bytes : List ℕ) × HasTaken self.old kind bytes × (length bytes + length piece.now ≤ 1073741824) }
-        ensures { OnOk result ((kind : Kind) (bytes : List ℕ) → HasTaken self.old kind bytes → HasTaken self.new kind (bytes ++ piece.now)) }
-    {
-        self.digest.update(piece);
-        self.reader.feed(piece, &mut self.rows)
-    }
-
     /// Ends the file.
     pub fn finish(self) -> Result<Taken, AllocError>
         requires { (kind : Kind) × (bytes : List ℕ) × HasTaken self kind bytes }
@@ -116,5 +108,19 @@ impl Intake {
             }),
             Err(ReadEnd::Memory) => Err(AllocError),
         }
+    }
+}
+
+impl TakesBytes for Intake {
+    ghost use Rattle.profile_records.specs.declared.kinds.Kind.{Kind};
+    ghost use Rattle.file_intake.specs.Intakes.{HasTaken};
+
+    ghost Form = { Kind };
+
+    ghost has_taken = { HasTaken };
+
+    fn feed(&mut self, piece: &[u8]) -> Result<(), AllocError> {
+        self.digest.update(piece);
+        self.reader.feed(piece, &mut self.rows)
     }
 }

@@ -3,8 +3,6 @@
 
 mod intake;
 mod reading;
-mod source;
 
 pub use intake::Taken;
-pub use reading::{Unread, take_file};
-pub use source::{ReadFault, Source};
+pub use reading::take_file;

@@ -1,8 +1,7 @@
 -- A total that is being read.
-use Rattle.std.specs.Prelude.{◌≡◌, ℕ, List, [], fold}
+use Rattle.std.specs.Prelude.{◌≡◌, ℕ, ◌+◌, List, [], fold, length}
 use Rattle.profile_records.specs.Records.{Record}
-use Rattle.callgrind_reader.specs.Reads as reads
-use Rattle.callgrind_reader.specs.Reads.{Reads, Takes}
+use Rattle.callgrind_reader.specs.Reads.{Reads, Takes, room_of}
 use Rattle.file_totals.specs.Sums.{add_record}
 use Rattle.file_totals.specs.declared.total.Total.{Total}
 
@@ -14,6 +13,8 @@ IsReady t = Takes t.reader t.sums.last t.sums.width
 abbrev pub SumsUp : Total → List ℕ → Type 0
 SumsUp t text = (told : List Record) × Reads t.reader text told × (t.sums.sums.items ≡ fold add_record [] told)
 
--- how many bytes it still takes
-abbrev pub room_left : Total → ℕ
-room_left t = reads.room_of t.reader
+-- and it takes as many bytes more as a file may have
+pub record HasTaken (t : Total) (text : List ℕ) : Type 0 where
+  pub ready : IsReady t
+  pub sums : SumsUp t text
+  pub room : room_of t.reader + length text ≡ 1073741824

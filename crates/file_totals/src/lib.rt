@@ -6,5 +6,5 @@ mod lines;
 mod sums;
 mod total;
 
-pub use files::{total_file, total_read};
+pub use files::{total_file, total_opened, total_read};
 pub use total::{Total, TotalText, total_text};

@@ -1,15 +1,14 @@
 // The total of a file: the sums of its self costs, by event.
-ghost use Rattle.std.specs.Prelude.{◌≡◌, ℕ, ◌+◌, ◌≤◌, ◌↔◌, IsTrue, OnOk, IfOk, List, [], ◌++◌, None, false, length};
+ghost use Rattle.std.specs.Prelude.{◌≤◌, ℕ, IfOk, List, [], length};
 ghost use Rattle.cg_text.specs.Ends.{end_text};
 ghost use Rattle.cg_text.specs.declared.faults.ReadEnd.TheVariants as ends;
-ghost use Rattle.file_totals.specs.TotalLines.{refused_line};
-ghost use Rattle.file_totals.specs.Totals.{total_of_file};
-ghost use Rattle.callgrind_reader.specs.Files.{fault_of_file};
+ghost use Rattle.file_totals.specs.Readers.{IsTotalOf, IsRefusal};
 
 use crate::lines::{refused_line, total_lines};
 use crate::sums::CostSums;
 use callgrind_reader::Reader;
 use cg_text::{Fault, Items, ReadEnd};
+use sources::TakesBytes;
 use std::alloc::{AllocError, Global};
 
 /// The total of a file as it is printed.
@@ -22,8 +21,7 @@ pub struct TotalText {
 
 /// The one line of a file that is not accepted.
 pub fn refused(alloc: Global, reason: &str) -> Result<TotalText, AllocError>
-    ensures text { IfOk result (λ t. t.text ≡ refused_line reason.now) }
-    ensures accepted { IfOk result (λ t. t.accepted ≡ false) }
+    ensures { IfOk result (IsRefusal reason.now) }
 {
     let text = refused_line(alloc, reason)?;
     Ok(TotalText {
@@ -34,8 +32,7 @@ pub fn refused(alloc: Global, reason: &str) -> Result<TotalText, AllocError>
 
 /// The one line of a file with this fault at this line.
 fn refused_fault(alloc: Global, fault: Fault, line: u64) -> Result<TotalText, AllocError>
-    ensures text { IfOk result (λ t. t.text ≡ refused_line (end_text (ends.Fault fault line))) }
-    ensures accepted { IfOk result (λ t. t.accepted ≡ false) }
+    ensures { IfOk result (IsRefusal (end_text (ends.Fault fault line))) }
 {
     let reason = ReadEnd::Fault(fault, line).to_string(alloc)?;
     refused(alloc, reason.as_str())
@@ -50,13 +47,11 @@ pub struct Total {
 }
 
 impl Total {
-    ghost use Rattle.file_totals.specs.Running.{IsReady, SumsUp, room_left};
+    ghost use Rattle.file_totals.specs.Running.{IsReady, SumsUp, HasTaken};
 
     /// Nothing was read.
     pub fn new(alloc: Global) -> Result<Total, AllocError>
-        ensures ready { IfOk result (λ t. IsReady t) }
-        ensures sums { IfOk result (λ t. SumsUp t []) }
-        ensures room { IfOk result (λ t. room_left t ≡ 1073741824) }
+        ensures { IfOk result (λ t. HasTaken t []) }
     {
         Ok(Total {
             reader: Reader::new(alloc)?,
@@ -64,30 +59,10 @@ impl Total {
         })
     }
 
-    /// How many bytes it still takes.
-    pub fn room(&self) -> u64
-        ensures { result ≡ room_left self.now }
-    {
-        self.reader.room()
-    }
-
-    /// Takes the next piece. Once memory was refused, it is refused again.
-    pub fn feed(&mut self, piece: &[u8]) -> Result<(), AllocError>
-        requires ready { IsReady self.old }
-        requires room { length piece.now ≤ room_left self.old }
-        ensures ready { OnOk result (IsReady self.new) }
-        ensures sums { OnOk result ((text : List ℕ) → SumsUp self.old text → SumsUp self.new (text ++ piece.now)) }
-        ensures room { OnOk result (room_left self.new + length piece.now ≡ room_left self.old) }
-    {
-        self.reader.feed(piece, &mut self.sums)?;
-        Ok(())
-    }
-
     /// Ends the file.
     pub fn finish(self, alloc: Global) -> Result<TotalText, AllocError>
         requires { IsReady self }
-        ensures text { (text : List ℕ) → SumsUp self text → IfOk result (λ t. t.text ≡ total_of_file text) }
-        ensures accepted { (text : List ℕ) → SumsUp self text → IfOk result (λ t. IsTrue t.accepted ↔ (fault_of_file text ≡ None)) }
+        ensures { (text : List ℕ) → SumsUp self text → IfOk result (IsTotalOf text) }
     {
         let Total { reader, mut sums } = self;
         let head = match reader.finish(&mut sums) {
@@ -103,11 +78,24 @@ impl Total {
     }
 }
 
+impl TakesBytes for Total {
+    ghost use Rattle.file_totals.specs.Running.{HasTaken};
+
+    ghost Form = { Unit {0} };
+
+    ghost has_taken = { λ t _ text. HasTaken t text };
+
+    /// Takes the next piece. Once memory was refused, it is refused again.
+    fn feed(&mut self, piece: &[u8]) -> Result<(), AllocError> {
+        self.reader.feed(piece, &mut self.sums)?;
+        Ok(())
+    }
+}
+
 /// The total of a file with these bytes.
 pub fn total_text(alloc: Global, bytes: &[u8]) -> Result<TotalText, AllocError>
     requires { length bytes.now ≤ 1073741824 }
-    ensures text { IfOk result (λ t. t.text ≡ total_of_file bytes.now) }
-    ensures accepted { IfOk result (λ t. IsTrue t.accepted ↔ (fault_of_file bytes.now ≡ None)) }
+    ensures { IfOk result (IsTotalOf bytes.now) }
 {
     let mut total = Total::new(alloc)?;
     total.feed(bytes)?;

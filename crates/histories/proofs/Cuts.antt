@@ -3,7 +3,8 @@ use Rattle.std.proofs.Common.{◌≡◌, ℕ, List, [], ◌∷◌, ◌++◌, fil
 use Rattle.profile_records.specs.declared.kinds.Kind.{Kind}
 use Rattle.prof_tables.specs.Tables.{Tables, GroupLine}
 use Rattle.prof_books.specs.Book.{book_of}
-use Rattle.histories.specs.History.{Outcome, Import, Turn, History, File, bytes_of, held, next, groups, is_member, baseline}
+use Rattle.sources.specs.Outcomes.{Outcome, bytes_of}
+use Rattle.histories.specs.History.{Import, Turn, History, File, held, next, groups, is_member, baseline}
 use Rattle.histories.specs.Legal.{IsLegal, IsHistory}
 use Rattle.histories.specs.Stands.{AreBooksOf, TablesTell}
 use Rattle.histories.specs.declared.answers.Answer.{Answer}

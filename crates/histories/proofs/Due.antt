@@ -6,8 +6,9 @@ use Rattle.cg_text.specs.declared.faults.Fault as faults
 use Rattle.prof_tables.specs.Labels.{IsGroupName}
 use Rattle.profile_records.specs.declared.kinds.Kind.{Kind}
 use Rattle.histories.specs.Files.{fault_of}
-use Rattle.histories.specs.History.{Outcome, Said, Import, MakeGroup, Join, SetBaseline, History, bytes_of, held, next, groups}
-use Rattle.histories.specs.Legal.{IsLegal, IsInForm, due, file_due, first_or, when, faulty, number_of, has_run, has_group, is_failed, is_end}
+use Rattle.sources.specs.Outcomes.{Outcome, bytes_of, is_failed, is_end}
+use Rattle.histories.specs.History.{Said, Import, MakeGroup, Join, SetBaseline, History, held, next, groups}
+use Rattle.histories.specs.Legal.{IsLegal, IsInForm, due, file_due, first_or, when, faulty, number_of, has_run, has_group}
 use Rattle.histories.specs.Sums.{excess_of}
 use Rattle.histories.specs.declared.limits.Limits.{Limits}
 use Rattle.histories.specs.declared.answers.Answer.{Answer}

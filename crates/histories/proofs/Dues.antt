@@ -6,8 +6,9 @@ use Rattle.sha2.specs.Sha256.{sha256}
 use Rattle.cg_text.specs.declared.faults.Fault as faults
 use Rattle.profile_records.specs.declared.kinds.Kind.{Kind}
 use Rattle.histories.specs.Files.{fault_of}
-use Rattle.histories.specs.History.{Outcome, Said, Remove, MakeGroup, DropGroup, Join, Leave, SetBaseline, History, bytes_of, held, next, groups}
-use Rattle.histories.specs.Legal.{IsLegal, IsInForm, IsUnread, due, import_due, file_due, first_or, when, faulty, number_of, has_run, has_group, is_failed, is_end}
+use Rattle.sources.specs.Outcomes.{Outcome, bytes_of, is_failed, is_end}
+use Rattle.histories.specs.History.{Said, Remove, MakeGroup, DropGroup, Join, Leave, SetBaseline, History, held, next, groups}
+use Rattle.histories.specs.Legal.{IsLegal, IsInForm, IsUnread, due, import_due, file_due, first_or, when, faulty, number_of, has_run, has_group}
 use Rattle.histories.specs.Sums.{excess_of}
 use Rattle.histories.specs.declared.limits.Limits.{Limits}
 use Rattle.histories.specs.declared.answers.Answer.{Answer}

@@ -16,7 +16,8 @@ use Rattle.cg_text.specs.Subpositions.{subpos_of}
 use Rattle.cg_text.specs.declared.faults.Fault.TheVariants.{NumberTooLarge}
 use Rattle.profile_records.specs.declared.kinds.Kind.{Kind}
 use Rattle.profile_records.specs.declared.kinds.Kind.TheVariants.{Callgrind, Folded}
-use Rattle.histories.specs.History.{Outcome, Gave, Failed, Said, Import, Remove, MakeGroup, DropGroup, Join, Leave, SetBaseline, Ask, Turn, History, File, held, next, groups, members, is_member, baseline}
+use Rattle.sources.specs.Outcomes.{Outcome, Gave, Failed}
+use Rattle.histories.specs.History.{Said, Import, Remove, MakeGroup, DropGroup, Join, Leave, SetBaseline, Ask, Turn, History, File, held, next, groups, members, is_member, baseline}
 use Rattle.histories.specs.Legal.{due, AreLegal}
 use Rattle.histories.specs.Texts.{groups_text, runs_text}
 use Rattle.histories.specs.declared.answers.Answer.{Answer}

@@ -16,8 +16,9 @@ use Rattle.prof_tables.specs.Labels.{IsLabel, IsGroupName}
 use Rattle.prof_books.specs.Totals.{IsHeldIn}
 use Rattle.profile_records.specs.declared.kinds.Kind.{Kind}
 use Rattle.histories.specs.Files.{fault_of, events_of, rows_of}
-use Rattle.histories.specs.History.{Outcome, Import, Remove, MakeGroup, DropGroup, Join, Leave, SetBaseline, Ask, History, bytes_of, held}
-use Rattle.histories.specs.Legal.{IsLegal, file_due, number_of, has_run, has_group, is_failed, is_end}
+use Rattle.sources.specs.Outcomes.{Outcome, bytes_of, is_failed, is_end}
+use Rattle.histories.specs.History.{Import, Remove, MakeGroup, DropGroup, Join, Leave, SetBaseline, Ask, History, held}
+use Rattle.histories.specs.Legal.{IsLegal, file_due, number_of, has_run, has_group}
 use Rattle.histories.specs.Stands.{TablesTell}
 use Rattle.histories.specs.Sums.{excess_of, excess_at}
 use Rattle.histories.specs.Texts.{text_of}

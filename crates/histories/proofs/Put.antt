@@ -20,7 +20,8 @@ use Rattle.prof_books.proofs.Books.{book_put, named_put}
 use Rattle.prof_books.proofs.Filed.{head_of_run}
 use Rattle.prof_books.proofs.Parts.{counts_are, costs_are}
 use Rattle.histories.specs.Files.{events_of, derived_of, stated_of, IsHeadOf, rows_of}
-use Rattle.histories.specs.History.{Outcome, Import, History, File, bytes_of, held, baseline}
+use Rattle.sources.specs.Outcomes.{Outcome, bytes_of}
+use Rattle.histories.specs.History.{Import, History, File, held, baseline}
 use Rattle.histories.specs.Legal.{IsLegal}
 use Rattle.histories.specs.Stands.{IsBookOf, AreBooksOf, TablesTell, event_lines_from}
 use Rattle.histories.specs.declared.answers.Answer.TheVariants.{Run}

@@ -2,14 +2,10 @@
 use Rattle.std.specs.Prelude.{ℕ, suc, Bool, true, false, not, ◌&&◌, ◌||◌, ◌==◌, bytes_eq, if◌then◌else◌, List, [], ◌∷◌, ◌++◌, map, filter, length, Option, Some, None}
 use Rattle.std.specs.List.{list_any}
 use Rattle.profile_records.specs.declared.kinds.Kind.{Kind}
+use Rattle.sources.specs.Outcomes.{Outcome, bytes_of}
 use Rattle.histories.specs.declared.answers.Answer.{Answer}
 use Rattle.histories.specs.declared.answers.Answer.TheVariants.{Run, Done}
 use Rattle.histories.specs.declared.answers.Query.{Query}
-
--- what a read of a source came to: bytes, none where it has ended, or a failure
-pub data Outcome : Type 0 where
-  Gave : List ℕ → Outcome
-  Failed : Outcome
 
 -- a command; an import with what the reads of its source came to
 pub data Said : Type 0 where
@@ -30,12 +26,6 @@ pub record Turn : Type 0 where
 -- the oldest first
 abbrev pub History : Type 0
 History = List Turn
-
--- the bytes that reads gave
-abbrev pub bytes_of : List Outcome → List ℕ
-bytes_of [] = []
-bytes_of (Gave bytes ∷ outcomes) = bytes ++ bytes_of outcomes
-bytes_of (Failed ∷ outcomes) = bytes_of outcomes
 
 -- ---- the files that are held
 

@@ -7,7 +7,8 @@ use Rattle.cg_text.specs.declared.faults.Fault as faults
 use Rattle.prof_tables.specs.Labels.{IsLabel, IsGroupName}
 use Rattle.profile_records.specs.declared.kinds.Kind.{Kind}
 use Rattle.histories.specs.Files.{fault_of}
-use Rattle.histories.specs.History.{Outcome, Gave, Failed, Said, Import, Remove, MakeGroup, DropGroup, Join, Leave, SetBaseline, Ask, History, File, bytes_of, held, next, groups}
+use Rattle.sources.specs.Outcomes.{Outcome, bytes_of, is_failed, is_end}
+use Rattle.histories.specs.History.{Said, Import, Remove, MakeGroup, DropGroup, Join, Leave, SetBaseline, Ask, History, File, held, next, groups}
 use Rattle.histories.specs.Sums.{excess_of}
 use Rattle.histories.specs.Texts.{text_of}
 use Rattle.histories.specs.declared.limits.Limits.{Limits}
@@ -15,7 +16,7 @@ use Rattle.histories.specs.declared.answers.Answer.{Answer}
 use Rattle.histories.specs.declared.answers.Answer.TheVariants.{Run, Held, Done, Text, Refused}
 use Rattle.histories.specs.declared.answers.Refusal.TheVariants as reasons
 
--- ---- the forms of names, and how much was read of a source
+-- ---- the forms of names
 
 -- a label is UTF-8; the name of a group that is made has its own form
 abbrev pub IsInForm : Said → Type 0
@@ -27,16 +28,6 @@ IsInForm said = Unit {0}
 abbrev pub IsUnread : Said → Type 0
 IsUnread (Import kind label outcomes) = outcomes ≡ []
 IsUnread said = Unit {0}
-
-abbrev pub is_failed : Outcome → Bool
-is_failed Failed = true
-is_failed (Gave bytes) = false
-
--- a read that gives no byte says that the source has ended
-abbrev pub is_end : Outcome → Bool
-is_end Failed = false
-is_end (Gave []) = true
-is_end (Gave (b ∷ bytes)) = false
 
 -- ---- answers by the first condition that holds
 

@@ -1,6 +1,5 @@
 -- What is due for a file that was read to its end.
 use Rattle.std.proofs.Common.{◌≡◌, ℕ, Bool, true, false, nat_le, if◌then◌else◌, List, [], ◌∷◌, length, Option, Some, None, option_map, refl, sym, ap, ap₂, subst, ◌∙◌}
-use Rattle.std.specs.List.{list_any}
 use Rattle.sqlite_trees.specs.Tree.{Trees}
 use Rattle.sha2.specs.Sha256.{sha256}
 use Rattle.cg_text.specs.declared.faults.Fault as faults
@@ -14,8 +13,9 @@ use Rattle.prof_books.specs.Totals.{IsHeldIn}
 use Rattle.profile_records.specs.declared.kinds.Kind.{Kind}
 use Rattle.profile_records.specs.declared.kinds.Kind.TheVariants.{Callgrind, Folded}
 use Rattle.histories.specs.Files.{IsHeadOf, rows_of, events_of, fault_of}
-use Rattle.histories.specs.History.{History, Outcome, Import, bytes_of, held, next}
-use Rattle.histories.specs.Legal.{due, file_due, number_of, faulty, first_or, when, is_failed, is_end}
+use Rattle.sources.specs.Outcomes.{Outcome, bytes_of}
+use Rattle.histories.specs.History.{History, Import, held, next}
+use Rattle.histories.specs.Legal.{due, file_due, number_of, faulty, first_or, when}
 use Rattle.histories.specs.Stands.{TablesTell}
 use Rattle.histories.specs.Sums.{excess_of, excess_at}
 use Rattle.histories.specs.declared.answers.Answer.{Answer}
@@ -25,8 +25,9 @@ use Rattle.histories.specs.declared.answers.Refusal.{Refusal}
 use Rattle.histories.specs.declared.answers.Refusal.TheVariants as reasons
 use Rattle.histories.specs.declared.limits.Limits.{Limits}
 use Rattle.histories.proofs.Excesses.{tells_excess}
-use Rattle.file_intake.specs.Reads.{HasEnded}
+use Rattle.sources.specs.Reads.{HasEnded}
 use Rattle.run_imports.specs.Refused.{or_later, if_some, room_refusal}
+use Rattle.histories.proofs.Dues as dues
 use Rattle.store_histories.specs.Refusals.{refused_or}
 
 -- ---- sums
@@ -65,12 +66,8 @@ module _ (limits : Limits) (h : History) (kind : Kind) (label : List ℕ) (outco
   abbrev bytes : List ℕ
   bytes = bytes_of outcomes
 
-  abbrev by_tests : Bool → Bool → Bool → Option Answer
-  by_tests long failed over =
-      if long then Some (answers.Refused reasons.TooLong) else if failed then Some (answers.Refused reasons.ReadFault) else if over then Some (file_due limits h kind bytes) else None
-
   pub ended_due : due limits h (Import kind label outcomes) ≡ Some (file_due limits h kind bytes)
-  ended_due = ap (λ b. by_tests b (list_any is_failed outcomes) (list_any is_end outcomes)) ended.within ∙ ap₂ (by_tests false) ended.sound ended.ended
+  ended_due = dues.ended_due limits h kind outcomes ended.reads.within ended.reads.unfailed ended.ended
 
   abbrev by_answers : Option ℕ → Option (faults.Fault × ℕ) → Answer
   by_answers found fault = first_or

@@ -16,7 +16,8 @@ use Rattle.prof_books.specs.Runs.{with_file}
 use Rattle.profile_records.specs.declared.kinds.Kind.{Kind}
 use Rattle.prof_store.specs.Shown.{shown, StandsFor}
 use Rattle.prof_store.specs.declared.store.Store.{Store}
-use Rattle.histories.specs.History.{History, Outcome, Import, bytes_of, next}
+use Rattle.sources.specs.Outcomes.{Outcome, bytes_of}
+use Rattle.histories.specs.History.{History, Import, next}
 use Rattle.histories.specs.Legal.{due, IsInForm, IsLegal}
 use Rattle.histories.specs.Stands.{TablesTell}
 use Rattle.histories.specs.declared.answers.Answer.TheVariants.{Run}
@@ -25,7 +26,7 @@ use Rattle.histories.proofs.Put.{tell_put}
 use Rattle.store_histories.specs.Answered.{with_turn, has_changed, TellsHistory, Follows, StandsForHistory, WasDue}
 use Rattle.store_histories.specs.Refusals.{refused_or}
 use Rattle.store_histories.proofs.Due.{told_stands}
-use Rattle.file_intake.specs.Reads.{HasEnded}
+use Rattle.sources.specs.Reads.{HasEnded}
 use Rattle.run_imports.specs.Refused.{room_refusal}
 use Rattle.run_imports.proofs.Imports.{room_due}
 use Rattle.run_imports.specs.Imports.{IsNewFile}

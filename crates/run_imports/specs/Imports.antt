@@ -13,7 +13,8 @@ use Rattle.cost_rows.specs.Rows.{content_of}
 use Rattle.cost_rows.specs.declared.file_rows.FileRows.{FileRows}
 use Rattle.profile_records.specs.declared.kinds.Kind.{Kind}
 use Rattle.histories.specs.Files.{IsHeadOf, rows_of, fault_of}
-use Rattle.histories.specs.History.{History, Outcome, Import, bytes_of, held}
+use Rattle.sources.specs.Outcomes.{Outcome, bytes_of}
+use Rattle.histories.specs.History.{History, Import, held}
 use Rattle.histories.specs.declared.answers.Answer.{Answer}
 use Rattle.histories.specs.declared.limits.Limits.{Limits}
 use Rattle.store_histories.specs.Answered.{TellsHistory, Follows, has_changed}

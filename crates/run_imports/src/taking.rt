@@ -7,12 +7,13 @@ ghost use Rattle.prof_tables.specs.Labels.{IsLabel};
 ghost use Rattle.profile_records.specs.declared.kinds.Kind.{Kind};
 ghost use Rattle.prof_store.specs.Shown.{IsFaithful, Asks};
 ghost use Rattle.histories.specs.Files.{IsHeadOf, rows_of};
-ghost use Rattle.histories.specs.History.{History, Outcome, Import, bytes_of, held};
+ghost use Rattle.sources.specs.Outcomes.{Outcome, bytes_of};
+ghost use Rattle.histories.specs.History.{History, Import, held};
 ghost use Rattle.histories.specs.Sums as sums;
 ghost use Rattle.store_histories.specs.Answered.{StandsForHistory, WasDue, TurnsIf, has_changed};
 ghost use Rattle.run_imports.specs.Imports.{IsNewFile, PutsNew};
 ghost use Rattle.file_intake.specs.Intakes.{IsTakenOf};
-ghost use Rattle.file_intake.specs.Reads.{HasEnded};
+ghost use Rattle.sources.specs.Reads.{HasEnded};
 ghost use Rattle.run_imports.specs.Refused.{room_refusal};
 
 use cg_formulas::FileHead;

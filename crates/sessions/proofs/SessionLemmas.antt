@@ -10,7 +10,8 @@ use Rattle.sql_tables.proofs.Calls.{changed_none}
 use Rattle.prof_tables.specs.Schema.{schema_one}
 use Rattle.prof_store.specs.Shown.{shown, IsFaithful}
 use Rattle.prof_store.specs.declared.store.Store.{Store}
-use Rattle.histories.specs.History.{History, Outcome, Said, Turn, Import}
+use Rattle.sources.specs.Outcomes.{Outcome}
+use Rattle.histories.specs.History.{History, Said, Turn, Import}
 use Rattle.histories.specs.Legal.{IsLegal}
 use Rattle.histories.specs.declared.answers.Answer.{Answer}
 use Rattle.histories.specs.declared.answers.Answer.TheVariants.{Refused}

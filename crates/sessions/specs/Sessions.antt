@@ -5,7 +5,8 @@ use Rattle.std.specs.List.{list_any}
 use Rattle.sqlite_trees.specs.declared.store.Store.{Ghosts}
 use Rattle.profile_records.specs.declared.kinds.Kind.{Kind}
 use Rattle.histories.specs.History as history
-use Rattle.histories.specs.History.{History, Outcome, Said, Turn}
+use Rattle.sources.specs.Outcomes.{Outcome}
+use Rattle.histories.specs.History.{History, Said, Turn}
 use Rattle.histories.specs.Legal.{AreLegal}
 use Rattle.histories.specs.declared.answers.Answer.{Answer}
 use Rattle.histories.specs.declared.answers.Answer.TheVariants.{Refused}

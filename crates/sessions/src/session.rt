@@ -1,7 +1,8 @@
 // Commands over an opened store, each with its answer printed as it is there.
 ghost use Rattle.std.specs.Prelude.{◌≡◌, ◌↔◌, IsTrue, List, [], ◌∷◌, map, OnOk};
 ghost use Rattle.prof_store.specs.Shown.{IsFaithful, IsUsable};
-ghost use Rattle.histories.specs.History.{History, Outcome, Said, Import, Remove};
+ghost use Rattle.sources.specs.Outcomes.{Outcome};
+ghost use Rattle.histories.specs.History.{History, Said, Import, Remove};
 ghost use Rattle.histories.specs.Legal.{IsInForm, IsLegal};
 ghost use Rattle.histories.specs.declared.answers.Answer.TheVariants as answers;
 ghost use Rattle.store_histories.specs.Answered.{HasHistory};

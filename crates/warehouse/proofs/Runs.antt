@@ -3,7 +3,8 @@ use Rattle.std.proofs.Common.{◌≡◌, List, [], ◌∷◌, ◌++◌, length, 
 use Rattle.sqlite_trees.specs.declared.store.Store.{Ghosts}
 use Rattle.sql_tables.proofs.Rows.{map-append}
 use Rattle.prof_store.specs.declared.store.Store.{Store}
-use Rattle.histories.specs.History.{History, Outcome, Turn}
+use Rattle.sources.specs.Outcomes.{Outcome}
+use Rattle.histories.specs.History.{History, Turn}
 use Rattle.histories.specs.declared.answers.Answer.{Answer}
 use Rattle.histories.specs.declared.limits.Limits.{Limits}
 use Rattle.store_histories.specs.Answered.{HasHistory}

@@ -2,15 +2,16 @@
 use Rattle.std.specs.Prelude.{◌≡◌, map, List, [], ◌∷◌, ◌++◌}
 use Rattle.sqlite_trees.specs.declared.store.Store.{Ghosts}
 use Rattle.prof_store.specs.declared.store.Store.{Store}
-use Rattle.histories.specs.History.{History, Said, Turn, Outcome, Import, Remove, MakeGroup, DropGroup, Join, Leave, SetBaseline, Ask}
+use Rattle.sources.specs.Outcomes.{Outcome}
+use Rattle.histories.specs.History.{History, Said, Turn, Import, Remove, MakeGroup, DropGroup, Join, Leave, SetBaseline, Ask}
 use Rattle.histories.specs.Legal.{AreLegal}
 use Rattle.histories.specs.declared.answers.Answer.{Answer}
 use Rattle.histories.specs.declared.answers.Answer.TheVariants as answers
 use Rattle.histories.specs.declared.answers.Refusal.TheVariants as reasons
 use Rattle.histories.specs.declared.limits.Limits.{Limits}
-use Rattle.file_intake.specs.Reads.{Come}
-use Rattle.file_intake.specs.declared.reading.Unread.{Unread}
-use Rattle.file_intake.specs.declared.reading.Unread.TheVariants as unread
+use Rattle.sources.specs.Reads.{Come}
+use Rattle.sources.specs.declared.reading.Unread.{Unread}
+use Rattle.sources.specs.declared.reading.Unread.TheVariants as unread
 use Rattle.store_histories.specs.Answered.{HasHistory, Answers, Links}
 use Rattle.warehouse.specs.declared.command.Command as commands
 use Rattle.warehouse.specs.declared.command.Command.TheVariants as command

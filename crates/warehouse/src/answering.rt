@@ -2,16 +2,18 @@
 ghost use Rattle.std.specs.Prelude.{List};
 ghost use Rattle.prof_tables.specs.Labels.{IsLabel};
 ghost use Rattle.prof_store.specs.Shown.{IsFaithful};
-ghost use Rattle.histories.specs.History.{Outcome, Import};
+ghost use Rattle.sources.specs.Outcomes.{Outcome};
+ghost use Rattle.histories.specs.History.{Import};
 ghost use Rattle.store_histories.specs.Answered.{Answers};
-ghost use Rattle.file_intake.specs.Reads.{Come};
+ghost use Rattle.sources.specs.Reads.{Come};
 
 use crate::refusals::unread_answer;
-use file_intake::{Source, take_file};
+use file_intake::take_file;
 use histories::{Answer, Limits, Refusal};
 use prof_store::Store;
 use profile_records::Kind;
 use run_imports::{label_of, take_in};
+use sources::Source;
 use sqlite::Alter;
 use std::alloc::Global;
 use store_histories::answer_of;

@@ -1,15 +1,16 @@
 // Commands, one by one and in lists.
 ghost use Rattle.std.specs.Prelude.{◌≡◌, List, IfOk, OnErr};
 ghost use Rattle.prof_store.specs.Shown.{IsFaithful};
-ghost use Rattle.histories.specs.History.{Outcome, Import};
+ghost use Rattle.sources.specs.Outcomes.{Outcome};
+ghost use Rattle.histories.specs.History.{Import};
 ghost use Rattle.store_histories.specs.Answered.{Answers};
 ghost use Rattle.warehouse.specs.Answered.{WasAnswered, WasRun};
-ghost use Rattle.file_intake.specs.Reads.{Come};
+ghost use Rattle.sources.specs.Reads.{Come};
 
 use crate::answering::import_in;
 use crate::command::Command;
 use crate::warehouse::Warehouse;
-use file_intake::Source;
+use sources::Source;
 use histories::Answer;
 use profile_records::Kind;
 use sqlite::Alter;

@@ -9,8 +9,8 @@ mod refusals;
 mod warehouse;
 
 pub use command::Command;
-pub use file_intake::{ReadFault, Source};
 pub use histories::{Answer, Excess, Limits, Query, Refusal};
 pub use laws::{histories_survive, memory_never_fails};
 pub use profile_records::Kind;
+pub use sources::{ReadFault, Source};
 pub use warehouse::Warehouse;

@@ -2,7 +2,7 @@
 ghost use Rattle.std.specs.Prelude.{◌≡◌};
 ghost use Rattle.warehouse.specs.Answered.{unread_for};
 
-use file_intake::Unread;
+use sources::Unread;
 use histories::{Answer, Refusal};
 
 /// The refusal of a source that was not read to its end.

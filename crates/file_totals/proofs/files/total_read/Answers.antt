@@ -1,19 +1,17 @@
-use Rattle.std.proofs.Common.{rules, [], arith}
-use Rattle.file_totals.proofs.ReadersLemmas.{IsAnswer-total, IsAnswer-failed, IsAnswer-too_long}
+use Rattle.std.proofs.Common.{inl, subst}
+use Rattle.sources.specs.Reads.{IsUnreadFor}
+use Rattle.file_totals.proofs.ReadersLemmas.{answer_too_long, answer_failed}
 use Rattle.file_totals.proofs.files.total_read.Goals as goal
 
 pub returns-in-Ok : goal.returns-in-Ok
-returns-in-Ok g c = λ text known.
-    let sums = c.in-Ok.ensures.sums [] text known c.in_ok-total.ensures.sums in
-    let few = c.in-Ok.ensures.few [] text known c.in_ok-total.ensures.sums in
-    let room = c.in_ok-total.ensures.room in
-    IsAnswer-total c.finish.result text (omega (arith, few, room)) (c.finish.ensures.text text sums) (c.finish.ensures.accepted text sums)
+returns-in-Ok g c = let was = c.in-Ok.ensures in (was.outcomes, was.came, inl was.read)
 
 pub returns-in-Err-Failed : goal.returns-in-Err-Failed
-returns-in-Err-Failed g c = λ text known. IsAnswer-failed c.refused.result text c.refused.ensures.text c.refused.ensures.accepted
+returns-in-Err-Failed g c =
+    let was = c.in-Err-Failed.ensures in
+    (was.outcomes, was.came, answer_failed was.outcomes c.refused.result (subst (IsUnreadFor 1073741824 was.outcomes) c.in-Err-Failed.field-0-is was.read) c.refused.ensures)
 
 pub returns-in-Err-TooLong : goal.returns-in-Err-TooLong
-returns-in-Err-TooLong g c = λ text known.
-    let many = c.in-Err-TooLong.ensures.many (search rules) [] text known c.in_ok-total.ensures.sums in
-    let room = c.in_ok-total.ensures.room in
-    IsAnswer-too_long c.refused-in-Err-TooLong.result text (omega (arith, many, room)) c.refused-in-Err-TooLong.ensures.text c.refused-in-Err-TooLong.ensures.accepted
+returns-in-Err-TooLong g c =
+    let was = c.in-Err-TooLong.ensures in
+    (was.outcomes, was.came, answer_too_long was.outcomes c.refused-in-Err-TooLong.result (subst (IsUnreadFor 1073741824 was.outcomes) c.in-Err-TooLong.field-0-is was.read) c.refused-in-Err-TooLong.ensures)

@@ -1,8 +1,9 @@
 use Rattle.std.proofs.Common.{[]}
+use Rattle.file_totals.specs.Running.{HasTaken}
 use Rattle.file_totals.proofs.total.total_text.Goals as goal
 
-pub returns-clause-text : goal.returns-clause-text
-returns-clause-text c = c.finish.ensures.text c.args.bytes.now (c.in_ok-feed.ensures.sums [] c.in_ok-total.ensures.sums)
+pub finish-requires : goal.finish-requires
+finish-requires c = let took : HasTaken c.feed.new.self c.args.bytes.now = c.in_ok-feed.ensures tt [] c.in_ok-total.ensures in took.ready
 
-pub returns-clause-accepted : goal.returns-clause-accepted
-returns-clause-accepted c = c.finish.ensures.accepted c.args.bytes.now (c.in_ok-feed.ensures.sums [] c.in_ok-total.ensures.sums)
+pub returns : goal.returns
+returns c = let took : HasTaken c.feed.new.self c.args.bytes.now = c.in_ok-feed.ensures tt [] c.in_ok-total.ensures in c.finish.ensures c.args.bytes.now took.sums

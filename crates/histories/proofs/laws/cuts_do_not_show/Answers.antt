@@ -1,8 +1,9 @@
 use Rattle.std.proofs.Common.{ℕ, Bool, nat_lt, length, if◌then◌else◌, List, Option, Some, None, ap, ap₂, ◌∙◌}
 use Rattle.std.specs.List.{list_any}
 use Rattle.profile_records.specs.declared.kinds.Kind.{Kind}
-use Rattle.histories.specs.History.{History, bytes_of}
-use Rattle.histories.specs.Legal.{file_due, is_failed, is_end}
+use Rattle.sources.specs.Outcomes.{bytes_of, is_failed, is_end}
+use Rattle.histories.specs.History.{History}
+use Rattle.histories.specs.Legal.{file_due}
 use Rattle.histories.specs.declared.answers.Answer.{Answer}
 use Rattle.histories.specs.declared.answers.Answer.TheVariants.{Refused}
 use Rattle.histories.specs.declared.answers.Refusal.TheVariants.{TooLong, ReadFault}

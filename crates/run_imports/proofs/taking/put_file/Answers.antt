@@ -3,7 +3,8 @@ use Rattle.cost_rows.specs.Rows.{content_of}
 use Rattle.sql_tables.proofs.Calls.{asked_rests, changed_asked}
 use Rattle.prof_tables.specs.Schema.{schema_one}
 use Rattle.prof_tables.specs.Tables.{Holds}
-use Rattle.histories.specs.History.{Import, bytes_of, next}
+use Rattle.sources.specs.Outcomes.{bytes_of}
+use Rattle.histories.specs.History.{Import, next}
 use Rattle.histories.specs.declared.answers.Answer.TheVariants.{Run, Refused}
 use Rattle.store_histories.specs.Answered.{TellsHistory, Follows}
 use Rattle.store_histories.specs.Refusals.{refused_or}

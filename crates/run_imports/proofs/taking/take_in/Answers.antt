@@ -4,7 +4,8 @@ use Rattle.sql_tables.proofs.Calls.{asked_rests, changed_asked, rests_as}
 use Rattle.prof_tables.specs.Schema.{schema_one}
 use Rattle.prof_tables.specs.Tables.{Holds}
 use Rattle.histories.specs.Files.{fault_of}
-use Rattle.histories.specs.History.{Import, bytes_of, held}
+use Rattle.sources.specs.Outcomes.{bytes_of}
+use Rattle.histories.specs.History.{Import, held}
 use Rattle.histories.specs.Legal.{number_of}
 use Rattle.histories.specs.declared.answers.Answer.TheVariants.{Held, Refused}
 use Rattle.histories.specs.declared.answers.Refusal.TheVariants.{File}

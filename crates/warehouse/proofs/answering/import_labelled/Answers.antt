@@ -10,13 +10,13 @@ returns-in-Ok g c = record {
   answered = λ clean.
       let limits = c.args.limits in
       let read = c.in-Ok.ensures in
-      let said = Import c.args.kind c.args.label.now read.0 in
-      let turned = c.take_in.ensures.turns read.0 read.2.0 read.2.1 clean in (
-        read.0,
-        read.1,
+      let said = Import c.args.kind c.args.label.now read.outcomes in
+      let turned = c.take_in.ensures.turns read.outcomes read.read.0 read.read.1 clean in (
+        read.outcomes,
+        read.came,
         subst (λ a. Answers g.S.Store limits said a c.args.store.now c.take_in.new.store) (sym c.answer_of.ensures) (record {
           turned = turns_answer limits said c.take_in.result _ _ turned;
-          answered = λ h has. settled g.S.Store limits h said c.args.store.now c.take_in.new.store has c.take_in.result (c.utf8.label, c.requires) (λ s. c.take_in.ensures.answered clean h read.0 s read.2.0 read.2.1) turned;
+          answered = λ h has. settled g.S.Store limits h said c.args.store.now c.take_in.new.store has c.take_in.result (c.utf8.label, c.requires) (λ s. c.take_in.ensures.answered clean h read.outcomes s read.read.0 read.read.1) turned;
         }),
       );
 }
@@ -26,9 +26,9 @@ returns-in-Err g c = record {
   answered = λ clean.
       let limits = c.args.limits in
       let read = c.in-Err.ensures in
-      let said = Import c.args.kind c.args.label.now read.0 in (
-        read.0,
-        read.1,
-        subst (λ a. Answers g.S.Store limits said a c.args.store.now c.args.store.now) (sym c.unread_answer.ensures) (unread_answered g.S.Store limits c.args.kind c.args.label.now read.0 c.args.store.now clean (c.utf8.label, c.requires) c.in-Err.unread read.2),
+      let said = Import c.args.kind c.args.label.now read.outcomes in (
+        read.outcomes,
+        read.came,
+        subst (λ a. Answers g.S.Store limits said a c.args.store.now c.args.store.now) (sym c.unread_answer.ensures) (unread_answered g.S.Store limits c.args.kind c.args.label.now read.outcomes c.args.store.now clean (c.utf8.label, c.requires) c.in-Err.unread read.read),
       );
 }

@@ -1,6 +1,6 @@
 // Where the bytes of a file come from.
 ghost use Rattle.std.specs.Prelude.{◌<◌, ◌≤◌, length, take, IfOk, MatchResult};
-ghost use Rattle.histories.specs.History.{Gave, Failed};
+ghost use Rattle.sources.specs.Outcomes.{Gave, Failed};
 
 /// A read failed.
 #[derive(Clone, Copy, Debug, PartialEq, Eq)]
@@ -8,7 +8,7 @@ pub struct ReadFault;
 
 /// Gives the bytes of a file, a piece at a time.
 pub trait Source {
-    ghost use Rattle.histories.specs.History.{Outcome};
+    ghost use Rattle.sources.specs.Outcomes.{Outcome};
 
     /// What a read in one state may come to, and the state that it then leaves.
     ghost comes: { Self → Outcome → Self → Type 0 };

@@ -1,17 +1,15 @@
 // The bytes of files that are imported.
-use file_intake::{ReadFault, Source};
+use sources::{Opened, ReadFault, Source};
 use std::fs;
-use std::io::Read;
 use std::rt::Files;
 
-/// The file at a path, opened by the first read; where it cannot be opened, that read fails. Every
-/// error of a read is a failed read, an interrupted one too. No clause: of the file at a path the checker
-/// knows nothing.
+/// The file at a path, opened by the first read; where it cannot be opened, that read fails. No
+/// clause: of the file at a path the checker knows nothing.
 #[derive(Drop)]
 pub struct FileSource<'a, R: Files> {
     rt: &'a R,
     path: &'a str,
-    file: Option<R::File>,
+    file: Option<Opened<R::File>>,
 }
 
 impl<'a, R: Files> FileSource<'a, R> {
@@ -25,17 +23,14 @@ impl<'a, R: Files> FileSource<'a, R> {
     }
 
     /// The file, opened.
-    fn file(&mut self) -> Result<&mut R::File, ReadFault> {
+    fn file(&mut self) -> Result<&mut Opened<R::File>, ReadFault> {
         if self.file.is_none() {
             match fs::open(self.rt, self.path) {
-                Ok(file) => self.file = Some(file),
+                Ok(file) => self.file = Some(Opened::new(file)),
                 Err(_) => return Err(ReadFault),
             }
         }
-        match &mut self.file {
-            Some(file) => Ok(file),
-            None => Err(ReadFault),
-        }
+        self.file.as_mut().ok_or(ReadFault)
     }
 }
 
@@ -44,9 +39,6 @@ impl<R: Files> Source for FileSource<'_, R> {
     ghost comes = { λ _ _ _. Unit {0} };
 
     fn read(&mut self, buf: &mut [u8]) -> Result<usize, ReadFault> {
-        match self.file()?.read(buf) {
-            Ok(count) => Ok(count),
-            Err(_) => Err(ReadFault),
-        }
+        self.file()?.read(buf)
     }
 }

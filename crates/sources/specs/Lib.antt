@@ -1,0 +1,4 @@
+pub mod Outcomes
+pub mod Takes
+pub mod Reads
+pub mod Known
