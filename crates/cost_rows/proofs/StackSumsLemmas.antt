@@ -3,7 +3,7 @@ use Rattle.std.proofs.Common.{◌≡◌, ℕ, ◌+◌, suc, Bool, true, false, L
 use Rattle.std.specs.List.Sorted.{IsStrictlySortedBy}
 use Rattle.profile_records.specs.Stacks.{Seen}
 use Rattle.cost_rows.specs.Columns.{added}
-use Rattle.cost_rows.specs.Content.{Content, empty, names_with_cost, place_of_cost, leaf_cost, with_stack}
+use Rattle.cost_rows.specs.Content.{Content, empty, names_with_cost, cell_of, leaf_cost, with_stack}
 use Rattle.cost_rows.specs.Merging.{sum_where, TellsApart}
 use Rattle.cost_rows.specs.Stacks.{bytes_cmp, counts_added}
 use Rattle.cost_rows.specs.Sums.{Spot, spot_of}
@@ -11,7 +11,7 @@ use Rattle.cost_rows.specs.StackSums.{leaf_sum, frames_sum, cells_where, content
 use Rattle.std.specs.Ordering.{is_eq}
 use Rattle.cost_rows.proofs.MergeLemmas.{sum-merge, sorted-merge}
 use Rattle.cost_rows.proofs.NumberedLemmas.{equal-bytes}
-use Rattle.cost_rows.proofs.PlacesLemmas.{place_cmp-total}
+use Rattle.cost_rows.proofs.PlacesLemmas.{cell_cmp-total}
 use Rattle.cost_rows.proofs.StacksLemmas.{bytes_cmp-total}
 use Rattle.cost_rows.specs.Held.{AreHeld}
 use Rattle.cost_rows.proofs.SumsLemmas.{held-cost, cells-cost, none_held, plus_none, none_plus, distinct-three}
@@ -80,7 +80,7 @@ fold-order (s ∷ seen) c is =
     let cost = leaf_cost s in
     let new = names_with_cost cost c.names in
     fold-order seen (with_stack c s) (record {
-      cells = sorted-merge place_cmp-total added c.cells (place_of_cost new cost) cost.costs is.cells;
+      cells = sorted-merge cell_cmp-total added c.cells (cell_of new cost) cost.costs is.cells;
       stacks = sorted-merge bytes_cmp-total counts_added c.stacks s.stack.frames s.stack.count is.stacks;
       names = distinct-three c.names cost.object cost.file cost.function is.names;
       arcs = is.arcs;

@@ -8,16 +8,17 @@ use Rattle.cost_rows.specs.Naming.{place_of, with_name}
 use Rattle.cost_rows.specs.Columns.{added}
 use Rattle.cost_rows.specs.Calls.{calls_added}
 use Rattle.cost_rows.specs.Merging.{merge}
-use Rattle.cost_rows.specs.Places.{place_cmp, call_cmp}
+use Rattle.cost_rows.specs.Places.{cell_cmp, call_cmp}
 use Rattle.cost_rows.specs.Stacks.{bytes_cmp, counts_added}
 use Rattle.cost_rows.specs.declared.places.Place.{Place}
+use Rattle.cost_rows.specs.declared.places.CellPlace.{CellPlace}
 use Rattle.cost_rows.specs.declared.places.Call.{Call}
 use Rattle.cost_rows.specs.declared.calls.Calls.{Calls}
 
 -- names in the order in which they first came; own costs by place, calls, and counts of stacks, each key once, in order
 pub record Content : Type 0 where
   pub names : List (List ℕ)
-  pub cells : List (Place × List ℕ)
+  pub cells : List (CellPlace × List ℕ)
   pub arcs : List (Call × Calls)
   pub stacks : List (List ℕ × ℕ)
 
@@ -47,6 +48,10 @@ names_with_callee callee names = with_three callee.object callee.file callee.fun
 abbrev pub place_of_cost : List (List ℕ) → Cost → Place
 place_of_cost names cost = place_in names cost.object cost.file cost.function cost.line
 
+-- where a self record's costs belong
+abbrev pub cell_of : List (List ℕ) → Cost → CellPlace
+cell_of names cost = record { place = place_of_cost names cost }
+
 abbrev pub call_of : List (List ℕ) → Callee → Cost → Call
 call_of names callee cost =
     record { place = place_of_cost names cost; object = number_of callee.object names; file = number_of callee.file names; function = number_of callee.function names }
@@ -55,7 +60,7 @@ call_of names callee cost =
 abbrev pub with_cost : Content → Cost → Content
 with_cost c cost =
     let names = names_with_cost cost c.names in
-    record c { names = names; cells = merge place_cmp added c.cells (place_of_cost names cost) cost.costs }
+    record c { names = names; cells = merge cell_cmp added c.cells (cell_of names cost) cost.costs }
 
 -- the costs of calls and their number are added at their calls
 abbrev pub with_call : Content → Callee → Cost → Content

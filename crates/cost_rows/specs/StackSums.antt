@@ -6,9 +6,9 @@ use Rattle.cg_text.specs.Distinct.{are_distinct}
 use Rattle.profile_records.specs.Stacks.{Seen}
 use Rattle.cost_rows.specs.Content.{Content, empty, leaf_cost, with_stack}
 use Rattle.cost_rows.specs.Merging.{sum_where}
-use Rattle.cost_rows.specs.Places.{place_cmp}
+use Rattle.cost_rows.specs.Places.{cell_cmp}
 use Rattle.cost_rows.specs.Stacks.{bytes_cmp}
-use Rattle.cost_rows.specs.Sums.{Spot, spot_of, spot_at}
+use Rattle.cost_rows.specs.Sums.{Spot, spot_of, passing_cell}
 
 -- the sum of the counts of the stacks whose running functions stand at places that pass
 abbrev pub leaf_sum : (Spot → Bool) → List Seen → ℕ
@@ -22,7 +22,7 @@ frames_sum passes (s ∷ seen) = (if passes s.stack.frames then s.stack.count el
 
 -- column k of the cells at places that pass by their names
 abbrev pub cells_where : (Spot → Bool) → ℕ → Content → ℕ
-cells_where passes k c = sum_where (λ p. passes (spot_at c.names p)) (λ costs. slice_index costs k) c.cells
+cells_where passes k c = sum_where (passing_cell passes c.names) (λ costs. slice_index costs k) c.cells
 
 -- the rows that stacks make
 abbrev pub content_of_stacks : List Seen → Content
@@ -39,7 +39,7 @@ pub record ComesToStacks (c : Content) (seen : List Seen) : Type 0 where
 
 -- each place and each stack stands once, in order; no name stands twice, and there are no calls
 pub record IsInStackOrder (c : Content) : Type 0 where
-  pub cells : IsStrictlySortedBy place_cmp (keys_of c.cells)
+  pub cells : IsStrictlySortedBy cell_cmp (keys_of c.cells)
   pub stacks : IsStrictlySortedBy bytes_cmp (keys_of c.stacks)
   pub names : are_distinct c.names ≡ true
   pub arcs : c.arcs ≡ []

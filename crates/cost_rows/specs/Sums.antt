@@ -2,6 +2,7 @@
 use Rattle.std.specs.Prelude.{ℕ, ◌+◌, Bool, List, [], ◌∷◌, slice_index, slice_index_or, if◌then◌else◌}
 use Rattle.profile_records.specs.Records.{Cost, Callee, Record, Own, Called}
 use Rattle.cost_rows.specs.declared.places.Place.{Place}
+use Rattle.cost_rows.specs.declared.places.CellPlace.{CellPlace}
 use Rattle.cost_rows.specs.declared.places.Call.{Call}
 
 -- a place by its names
@@ -28,6 +29,13 @@ spot_at names p = record { object = name_at names p.object; file = name_at names
 
 abbrev pub callee_at : List (List ℕ) → Call → Spot
 callee_at names c = record { object = name_at names c.object; file = name_at names c.file; function = name_at names c.function; line = 0 }
+
+-- a test of places, and one of calls, asked of what is held by number
+abbrev pub passing_cell : (Spot → Bool) → List (List ℕ) → CellPlace → Bool
+passing_cell passes names p = passes (spot_at names p.place)
+
+abbrev pub passing_call : (Spot → Spot → Bool) → List (List ℕ) → Call → Bool
+passing_call passes names a = passes (spot_at names a.place) (callee_at names a)
 
 -- the sum of column k over the self records at places that pass
 abbrev pub own_sum : (Spot → Bool) → ℕ → List Record → ℕ

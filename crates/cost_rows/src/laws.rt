@@ -14,14 +14,14 @@ ghost use Rattle.cost_rows.specs.declared.keys.Key.{Key};
 ghost use Rattle.cost_rows.specs.declared.rows.CellRow.{CellRow};
 ghost use Rattle.cost_rows.specs.Merging.{merge_all, sum_where, TellsApart};
 ghost use Rattle.cost_rows.specs.Naming.{place_of, with_name};
-ghost use Rattle.cost_rows.specs.Places.{place_cmp, call_cmp};
+ghost use Rattle.cost_rows.specs.Places.{cell_cmp, call_cmp};
 ghost use Rattle.cost_rows.specs.StackSums.{content_of_stacks, ComesToStacks, IsInStackOrder};
 ghost use Rattle.cost_rows.specs.Walks.{cell_rows, arc_rows, stack_rows};
 ghost use Rattle.cost_rows.specs.WalkSums.{rows_cost, calls_cost, calls_count, stacks_count};
-ghost use Rattle.cost_rows.specs.declared.places.Place.{Place};
+ghost use Rattle.cost_rows.specs.declared.places.CellPlace.{CellPlace};
 ghost use Rattle.cost_rows.specs.declared.places.Call.{Call};
 ghost use Rattle.cost_rows.specs.declared.calls.Calls.{Calls};
-ghost use Rattle.cost_rows.specs.Sums.{Spot, spot_at, callee_at, own_sum, call_sum, count_sum};
+ghost use Rattle.cost_rows.specs.Sums.{Spot, passing_cell, passing_call, own_sum, call_sum, count_sum};
 
 /// Equal numbers are given exactly to equal names: a number's name has that number and no other, and
 /// of two names that are held, the numbers are equal exactly where the names are. A further name
@@ -49,13 +49,13 @@ pub fn merging_keeps_each_sum<K: Ord, X>()
 /// counts. Each key stands once, in order, and no name stands twice.
 pub fn rows_come_to_the_records()
     ensures cells { (passes : Spot → Bool) (k : ℕ) (records : List Record) → let c = fold with_record empty records in
-        sum_where (λ p. passes (spot_at c.names p)) (λ costs. slice_index costs k) c.cells ≡ own_sum passes k records }
+        sum_where (passing_cell passes c.names) (λ costs. slice_index costs k) c.cells ≡ own_sum passes k records }
     ensures arcs { (passes : Spot → Spot → Bool) (k : ℕ) (records : List Record) → let c = fold with_record empty records in
-        sum_where (λ a. passes (spot_at c.names a.place) (callee_at c.names a)) (λ calls. slice_index calls.costs k) c.arcs ≡ call_sum passes k records }
+        sum_where (passing_call passes c.names) (λ calls. slice_index calls.costs k) c.arcs ≡ call_sum passes k records }
     ensures counts { (passes : Spot → Spot → Bool) (records : List Record) → let c = fold with_record empty records in
-        sum_where (λ a. passes (spot_at c.names a.place) (callee_at c.names a)) (λ calls. calls.count) c.arcs ≡ count_sum passes records }
+        sum_where (passing_call passes c.names) (λ calls. calls.count) c.arcs ≡ count_sum passes records }
     ensures order { (records : List Record) → let c = fold with_record empty records in
-        IsStrictlySortedBy place_cmp (keys_of c.cells) × IsStrictlySortedBy call_cmp (keys_of c.arcs) × (are_distinct c.names ≡ true) }
+        IsStrictlySortedBy cell_cmp (keys_of c.cells) × IsStrictlySortedBy call_cmp (keys_of c.arcs) × (are_distinct c.names ≡ true) }
 {}
 
 /// The rows of merged stacks come to what the stacks count: for every test of places by their names,
@@ -76,12 +76,12 @@ pub fn rows_have_their_names()
 /// rows of cells; for every test of calls, their rows and how many there were; for every test of
 /// frames, the rows of stacks.
 pub fn walked_rows_come_to_the_sums()
-    ensures cells { (passes : Spot → Bool) (k : ℕ) (names : List (List ℕ)) (cells : List (Place × List ℕ))
-        → rows_cost passes k (cell_rows names cells) ≡ sum_where (λ p. passes (spot_at names p)) (λ costs. slice_index costs k) cells }
+    ensures cells { (passes : Spot → Bool) (k : ℕ) (names : List (List ℕ)) (cells : List (CellPlace × List ℕ))
+        → rows_cost passes k (cell_rows names cells) ≡ sum_where (passing_cell passes names) (λ costs. slice_index costs k) cells }
     ensures arcs { (passes : Spot → Spot → Bool) (k : ℕ) (names : List (List ℕ)) (arcs : List (Call × Calls))
-        → calls_cost passes k (arc_rows names arcs) ≡ sum_where (λ a. passes (spot_at names a.place) (callee_at names a)) (λ calls. slice_index calls.costs k) arcs }
+        → calls_cost passes k (arc_rows names arcs) ≡ sum_where (passing_call passes names) (λ calls. slice_index calls.costs k) arcs }
     ensures counts { (passes : Spot → Spot → Bool) (names : List (List ℕ)) (arcs : List (Call × Calls))
-        → calls_count passes (arc_rows names arcs) ≡ sum_where (λ a. passes (spot_at names a.place) (callee_at names a)) (λ calls. calls.count) arcs }
+        → calls_count passes (arc_rows names arcs) ≡ sum_where (passing_call passes names) (λ calls. calls.count) arcs }
     ensures stacks { (passes : List ℕ → Bool) (stacks : List (List ℕ × ℕ)) → stacks_count passes (stack_rows stacks) ≡ sum_where passes (λ count. count) stacks }
 {}
 

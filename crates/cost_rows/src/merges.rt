@@ -6,25 +6,25 @@ ghost use Rattle.std.specs.BTreeMap.{is_at, values};
 ghost use Rattle.cost_rows.specs.Calls.{calls_added, AreSmall};
 ghost use Rattle.cost_rows.specs.Columns.{added};
 ghost use Rattle.cost_rows.specs.Merging.{merge};
-ghost use Rattle.cost_rows.specs.Places.{place_cmp, call_cmp};
+ghost use Rattle.cost_rows.specs.Places.{cell_cmp, call_cmp};
 ghost use Rattle.cost_rows.specs.Stacks.{bytes_cmp, by_bytes, counts_added};
 
 use crate::calls::Calls;
 use crate::costs::Costs;
-use crate::places::{Call, Place};
+use crate::places::{Call, CellPlace};
 use std::alloc::{AllocError, Global};
 use std::collections::BTreeMap;
 
 /// Merges a row of costs into the sums of its place. A refusal leaves the sums as they were.
 pub(crate) fn merge_cell(
     alloc: Global,
-    cells: &mut BTreeMap<Place, Costs>,
-    place: Place,
+    cells: &mut BTreeMap<CellPlace, Costs>,
+    place: CellPlace,
     costs: &[u64],
 ) -> Result<(), AllocError>
     requires small { All (All (λ s. s < 2 ^ 127)) (values cells.old) }
     requires low { All (λ c. c < 2 ^ 63) costs.now }
-    ensures ok { OnOk result (cells.new.entries ≡ merge place_cmp added cells.old.entries place costs.now) }
+    ensures ok { OnOk result (cells.new.entries ≡ merge cell_cmp added cells.old.entries place costs.now) }
     ensures err { OnErr result (cells.new.entries ≡ cells.old.entries) }
 {
     match cells.get_mut(&place) {

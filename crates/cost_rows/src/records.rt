@@ -3,11 +3,11 @@ ghost use Rattle.std.specs.Prelude.{◌≡◌, ◌<◌, ◌^◌, OnOk, OnErr, Al
 ghost use Rattle.std.specs.BTreeMap.{values};
 ghost use Rattle.cost_rows.specs.Calls.{calls_added, AreSmall};
 ghost use Rattle.cost_rows.specs.Columns.{added};
-ghost use Rattle.cost_rows.specs.Content.{with_three, place_in, call_of};
+ghost use Rattle.cost_rows.specs.Content.{with_three, cell_of, call_of};
 ghost use Rattle.cost_rows.specs.Growing.{Grows};
-ghost use Rattle.cost_rows.specs.Lent.{callee_of, cost_of};
+ghost use Rattle.cost_rows.specs.Lent.{callee_of, cost_of, own_cost};
 ghost use Rattle.cost_rows.specs.Merging.{merge};
-ghost use Rattle.cost_rows.specs.Places.{place_cmp, call_cmp};
+ghost use Rattle.cost_rows.specs.Places.{cell_cmp, call_cmp};
 
 use crate::calls::Calls;
 use crate::costs::Costs;
@@ -15,7 +15,7 @@ use crate::guesses::Guesses;
 use crate::merges::{merge_arc, merge_cell};
 use crate::names::Names;
 use crate::numbering::number_place;
-use crate::places::{Call, Place};
+use crate::places::{Call, CellPlace};
 use profile_records::{CallCost, SelfCost};
 use std::alloc::{AllocError, Global};
 use std::collections::BTreeMap;
@@ -25,20 +25,20 @@ pub(crate) fn merge_own(
     alloc: Global,
     names: &mut Names,
     guesses: &mut Guesses,
-    cells: &mut BTreeMap<Place, Costs>,
+    cells: &mut BTreeMap<CellPlace, Costs>,
     r: SelfCost<'_>,
 ) -> Result<(), AllocError>
     requires small { All (All (λ s. s < 2 ^ 127)) (values cells.old) }
     requires low { All (λ c. c < 2 ^ 63) r.costs.now }
     ensures names { OnOk result (names.new ≡ with_three r.entry.object.now r.entry.file.now r.entry.function.now names.old) }
-    ensures cells { OnOk result (cells.new.entries ≡ merge place_cmp added cells.old.entries (place_in names.new r.entry.object.now r.entry.file.now r.entry.function.now r.entry.line) r.entry.costs.now) }
+    ensures cells { OnOk result (cells.new.entries ≡ merge cell_cmp added cells.old.entries (cell_of names.new (own_cost r.entry)) r.entry.costs.now) }
     ensures grows { Grows names.old names.new }
     ensures err { OnErr result (cells.new.entries ≡ cells.old.entries) }
 {
     let guess = guesses.guess(names, r.function);
     let place = number_place(names, guess, r.object, r.file, r.function, r.line)?;
     guesses.keep(place)?;
-    merge_cell(alloc, cells, place, r.costs)
+    merge_cell(alloc, cells, CellPlace { place }, r.costs)
 }
 
 /// Merges a call record. A refusal leaves the calls as they were, and may leave names of the record.
