@@ -62,14 +62,11 @@ stacks_come : (seen : List Seen) → ComesTo (content_of_stacks seen) (map sampl
 stacks_come seen = record {
   held = held-stacks seen;
   cells = columns;
-  arcs = λ passes k. ap (sum_where (passing_call passes names) (λ calls. slice_index calls.costs k)) (sums-stacks seen).arcs ∙ sym (no_calls passes k seen);
-  counts = λ passes. ap (sum_where (passing_call passes names) (λ calls. calls.count)) (sums-stacks seen).arcs ∙ sym (no_counts passes seen);
+  arcs = λ passes k. ap (sum_where (passing_call passes (content_of_stacks seen).names) (λ calls. slice_index calls.costs k)) (sums-stacks seen).arcs ∙ sym (no_calls passes k seen);
+  counts = λ passes. ap (sum_where (passing_call passes (content_of_stacks seen).names) (λ calls. calls.count)) (sums-stacks seen).arcs ∙ sym (no_counts passes seen);
   stacks_are = (sums-stacks seen).stacks;
 }
   where
-    abbrev names : List (List ℕ)
-    names = (content_of_stacks seen).names
-
     columns : (passes : Spot → Bool) (k : ℕ) → cells_where passes k (content_of_stacks seen) ≡ own_sum passes k (map sample seen)
     columns passes zero = (sums-stacks seen).cells passes ∙ own_first passes seen
     columns passes (suc k) = (sums-stacks seen).further passes k ∙ sym (own_further passes k seen)

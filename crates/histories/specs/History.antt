@@ -31,6 +31,10 @@ pub record Turn : Type 0 where
 abbrev pub History : Type 0
 History = List Turn
 
+-- a history with a turn more
+abbrev pub with_turn : History → Said → Answer → History
+with_turn h said answer = h ++ record { said = said; answer = answer } ∷ []
+
 -- the bytes that reads gave
 abbrev pub bytes_of : List Outcome → List ℕ
 bytes_of [] = []
