@@ -97,7 +97,7 @@ content-names = refl
 abbrev place : ℕ → Place
 place line = record { object = 0; file = 1; function = 2; line = line }
 
-content-cells : content.cells ≡ (place 2, 0 ∷ 5 ∷ []) ∷ (place 3, 5 ∷ 2 ∷ 7 ∷ []) ∷ []
+content-cells : content.cells ≡ (record { place = place 2 }, 0 ∷ 5 ∷ []) ∷ (record { place = place 3 }, 5 ∷ 2 ∷ 7 ∷ []) ∷ []
 content-cells = refl
 
 content-arcs : content.arcs ≡ (record { place = place 3; object = 0; file = 3; function = 4 }, record { count = 3; costs = 30 ∷ 3 ∷ [] }) ∷ []

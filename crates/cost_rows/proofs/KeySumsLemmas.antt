@@ -4,14 +4,13 @@ use Rattle.std.specs.declared.cmp.Ordering.{Ordering}
 use Rattle.std.specs.declared.cmp.Ordering.TheVariants.{Less, Equal, Greater}
 use Rattle.std.specs.Ordering.{match_ordering}
 use Rattle.std.specs.List.{AllByRecursion}
-use Rattle.std.specs.List.Sorted.{IsStrictlySortedBy}
-use Rattle.std.specs.Map.{keys_of, values_of}
+use Rattle.std.specs.Map.{values_of}
 use Rattle.std.proofs.lemmas.Bool.{cases_Bool, eqb-true}
 use Rattle.cost_rows.specs.Sums.{Spot}
 use Rattle.cost_rows.specs.Keys.{named_cmp, part_of, place_of_row}
 use Rattle.cost_rows.specs.Merging.{merge, sum_where}
 use Rattle.cost_rows.specs.Stacks.{counts_added}
-use Rattle.cost_rows.specs.KeySums.{Sums, with_row, total_of, cost_where}
+use Rattle.cost_rows.specs.KeySums.{AreSums, Sums, with_row, total_of, cost_where}
 use Rattle.cost_rows.specs.declared.keys.Key.{Key}
 use Rattle.cost_rows.specs.declared.rows.CellRow.{CellRow}
 use Rattle.cost_rows.proofs.KeysLemmas.{named_cmp-total, named_cmp-apart}
@@ -36,11 +35,6 @@ sums-rows passes (row ∷ rows) s =
     ∙ ap (λ n. n + cost_where (with_row s row).key passes rows) one.0
     ∙ ap (λ k. (sum_where passes (λ n. n) s.sums + (if passes (part_of s.key (place_of_row row)) then row.cost else 0)) + cost_where k passes rows) one.1
     ∙ add_assoc (sum_where passes (λ n. n) s.sums) (if passes (part_of s.key (place_of_row row)) then row.cost else 0) (cost_where s.key passes rows)
-
--- in order, and above 0
-pub record AreSums (sums : List (Spot × ℕ)) : Type 0 where
-  pub order : IsStrictlySortedBy named_cmp (keys_of sums)
-  pub above : AllByRecursion (λ n. 0 < n) (values_of sums)
 
 above-step : (key : Spot) (cost : ℕ) (e : Spot × ℕ) (es : List (Spot × ℕ)) (r : Ordering) → 0 < cost → AllByRecursion (λ n. 0 < n) (values_of (e ∷ es)) → AllByRecursion (λ n. 0 < n) (values_of (merge named_cmp counts_added es key cost))
     → AllByRecursion (λ n. 0 < n) (values_of (match_ordering r ((key, cost) ∷ e ∷ es) ((e.0, counts_added e.1 cost) ∷ es) (e ∷ merge named_cmp counts_added es key cost)))

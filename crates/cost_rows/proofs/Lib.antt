@@ -10,6 +10,7 @@ pub mod GrowingLemmas
 pub mod TotalsLemmas
 pub mod SumsLemmas
 pub mod StackSumsLemmas
+pub mod OrderLemmas
 pub mod WalksLemmas
 pub mod WalkSumsLemmas
 pub mod SeenLemmas

@@ -1,4 +1,4 @@
--- The order of places and calls tells them apart, and is total.
+-- The order of places, of cells and of calls tells them apart, and is total.
 use Rattle.std.proofs.Common.{◌≡◌, ℕ, refl, ap, ◌∙◌}
 use Rattle.std.specs.declared.cmp.Ordering.{Ordering}
 use Rattle.std.specs.declared.cmp.Ordering.TheVariants.{Less, Equal, Greater}
@@ -7,8 +7,9 @@ use Rattle.std.specs.Ordering.{nat_cmp, ordering_then}
 use Rattle.std.proofs.lemmas.Cmp.{then_total, on_total}
 use Rattle.std.proofs.lemmas.Map.Lookups.{exact_unsigned}
 use Rattle.cost_rows.specs.Merging.{TellsApart}
-use Rattle.cost_rows.specs.Places.{place_cmp, call_cmp}
+use Rattle.cost_rows.specs.Places.{place_cmp, cell_cmp, call_cmp}
 use Rattle.cost_rows.specs.declared.places.Place.{Place}
+use Rattle.cost_rows.specs.declared.places.CellPlace.{CellPlace}
 use Rattle.cost_rows.specs.declared.places.Call.{Call}
 
 pub both_equal : (a b : Ordering) → ordering_then a b ≡ Equal → (a ≡ Equal) × (b ≡ Equal)
@@ -22,7 +23,7 @@ same_place a b object file function line =
     ap (λ n. P n a.file a.function a.line) object ∙ ap (λ n. P b.object n a.function a.line) file
     ∙ ap (λ n. P b.object b.file n a.line) function ∙ ap (λ n. P b.object b.file b.function n) line
 
-pub place_cmp-apart : TellsApart place_cmp
+place_cmp-apart : TellsApart place_cmp
 place_cmp-apart a b h =
     let first = both_equal (nat_cmp a.object b.object) _ h in
     let second = both_equal (nat_cmp a.file b.file) _ first.1 in
@@ -30,11 +31,20 @@ place_cmp-apart a b h =
     same_place a b (exact_unsigned a.object b.object first.0) (exact_unsigned a.file b.file second.0)
     (exact_unsigned a.function b.function third.0) (exact_unsigned a.line b.line third.1)
 
-pub place_cmp-total : IsTotalOrder place_cmp
+place_cmp-total : IsTotalOrder place_cmp
 place_cmp-total =
     then_total (on_total (λ (p : Place). p.object) nat_cmp_total)
     (then_total (on_total (λ (p : Place). p.file) nat_cmp_total)
     (then_total (on_total (λ (p : Place). p.function) nat_cmp_total) (on_total (λ (p : Place). p.line) nat_cmp_total)))
+
+pub cell_cmp-apart : TellsApart cell_cmp
+cell_cmp-apart a b h =
+    let P : Place → CellPlace = λ p. record { place = p } in
+    let e : P a.place ≡ P b.place = ap P (place_cmp-apart a.place b.place h) in
+    e
+
+pub cell_cmp-total : IsTotalOrder cell_cmp
+cell_cmp-total = on_total (λ (p : CellPlace). p.place) place_cmp-total
 
 same_call : (a b : Call) → a.place ≡ b.place → a.object ≡ b.object → a.file ≡ b.file → a.function ≡ b.function → a ≡ b
 same_call a b place object file function =

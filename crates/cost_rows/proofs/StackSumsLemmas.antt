@@ -1,20 +1,16 @@
 -- The rows of stacks come to what the stacks count.
 use Rattle.std.proofs.Common.{◌≡◌, ℕ, ◌+◌, suc, Bool, true, false, List, [], ◌∷◌, fold, slice_index, if◌then◌else◌, refl, ap, ◌∙◌, add_assoc}
-use Rattle.std.specs.List.Sorted.{IsStrictlySortedBy}
 use Rattle.profile_records.specs.Stacks.{Seen}
-use Rattle.cost_rows.specs.Columns.{added}
-use Rattle.cost_rows.specs.Content.{Content, empty, names_with_cost, place_of_cost, leaf_cost, with_stack}
-use Rattle.cost_rows.specs.Merging.{sum_where, TellsApart}
+use Rattle.cost_rows.specs.Content.{Content, empty, leaf_cost, with_stack}
+use Rattle.cost_rows.specs.Merging.{TellsApart}
 use Rattle.cost_rows.specs.Stacks.{bytes_cmp, counts_added}
-use Rattle.cost_rows.specs.Sums.{Spot, spot_of}
-use Rattle.cost_rows.specs.StackSums.{leaf_sum, frames_sum, cells_where, content_of_stacks, ComesToStacks, IsInStackOrder}
+use Rattle.cost_rows.specs.Sums.{Spot, spot_of, cells_where, stacks_where}
+use Rattle.cost_rows.specs.StackSums.{leaf_sum, frames_sum, content_of_stacks, ComesToStacks}
 use Rattle.std.specs.Ordering.{is_eq}
-use Rattle.cost_rows.proofs.MergeLemmas.{sum-merge, sorted-merge}
+use Rattle.cost_rows.proofs.MergeLemmas.{sum-merge}
 use Rattle.cost_rows.proofs.NumberedLemmas.{equal-bytes}
-use Rattle.cost_rows.proofs.PlacesLemmas.{place_cmp-total}
-use Rattle.cost_rows.proofs.StacksLemmas.{bytes_cmp-total}
 use Rattle.cost_rows.specs.Held.{AreHeld}
-use Rattle.cost_rows.proofs.SumsLemmas.{held-cost, cells-cost, none_held, plus_none, none_plus, distinct-three}
+use Rattle.cost_rows.proofs.SumsLemmas.{held-cost, cells-cost, none_held, plus_none, none_plus}
 
 bytes_cmp-apart : TellsApart bytes_cmp
 bytes_cmp-apart x y h = equal-bytes x y (ap is_eq h)
@@ -58,37 +54,21 @@ column-further passes k [] = refl
 column-further passes k (s ∷ seen) =
     ap (λ n. n + column_sum passes (suc k) seen) (nothing_either_way (passes (spot_of (leaf_cost s)))) ∙ none_plus (column_sum passes (suc k) seen) ∙ column-further passes k seen
 
-law-frames : (passes : List ℕ → Bool) (seen : List Seen) (c : Content) → sum_where passes (λ count. count) (fold with_stack c seen).stacks ≡ sum_where passes (λ count. count) c.stacks + frames_sum passes seen
+law-frames : (passes : List ℕ → Bool) (seen : List Seen) (c : Content) → stacks_where passes (fold with_stack c seen) ≡ stacks_where passes c + frames_sum passes seen
 law-frames passes [] c = plus_none _
 law-frames passes (s ∷ seen) c =
     law-frames passes seen (with_stack c s)
     ∙ ap (λ n. n + frames_sum passes seen) (sum-merge bytes_cmp-apart counts_added passes (λ count. count) (λ x y. refl) c.stacks s.stack.frames s.stack.count)
-    ∙ add_assoc (sum_where passes (λ count. count) c.stacks) (if passes s.stack.frames then s.stack.count else 0) (frames_sum passes seen)
+    ∙ add_assoc (stacks_where passes c) (if passes s.stack.frames then s.stack.count else 0) (frames_sum passes seen)
+
+no_calls : (seen : List Seen) (c : Content) → (fold with_stack c seen).arcs ≡ c.arcs
+no_calls [] c = refl
+no_calls (s ∷ seen) c = no_calls seen (with_stack c s)
 
 pub sums-stacks : (seen : List Seen) → ComesToStacks (content_of_stacks seen) seen
 sums-stacks seen = record {
   cells = λ passes. law-leaves passes 0 seen empty none_held ∙ none_plus (column_sum passes 0 seen) ∙ column-first passes seen;
   further = λ passes k. law-leaves passes (suc k) seen empty none_held ∙ none_plus (column_sum passes (suc k) seen) ∙ column-further passes k seen;
   stacks = λ passes. law-frames passes seen empty ∙ none_plus (frames_sum passes seen);
+  arcs = no_calls seen empty;
 }
-
--- ---- order
-
-fold-order : (seen : List Seen) (c : Content) → IsInStackOrder c → IsInStackOrder (fold with_stack c seen)
-fold-order [] c is = is
-fold-order (s ∷ seen) c is =
-    let cost = leaf_cost s in
-    let new = names_with_cost cost c.names in
-    fold-order seen (with_stack c s) (record {
-      cells = sorted-merge place_cmp-total added c.cells (place_of_cost new cost) cost.costs is.cells;
-      stacks = sorted-merge bytes_cmp-total counts_added c.stacks s.stack.frames s.stack.count is.stacks;
-      names = distinct-three c.names cost.object cost.file cost.function is.names;
-      arcs = is.arcs;
-    })
-
-none_in_order : IsInStackOrder empty
-unfolding IsStrictlySortedBy
-none_in_order = record { cells = tt; stacks = tt; names = refl; arcs = refl }
-
-pub stacks-order : (seen : List Seen) → IsInStackOrder (content_of_stacks seen)
-stacks-order seen = fold-order seen empty none_in_order

@@ -8,13 +8,12 @@ use Rattle.std.specs.Cmp.Lexicographic.{slice_cmp, nat_list_cmp_total}
 use Rattle.std.specs.List.{AllByRecursion}
 use Rattle.std.specs.List.Sorted.{IsStrictlySortedBy}
 use Rattle.std.specs.Map.{lookup, keys_of, values_of, set_value, remove_entry}
-use Rattle.std.specs.Option.{MatchOption}
 use Rattle.std.proofs.lemmas.Cmp.{tied_itself}
 use Rattle.std.proofs.lemmas.Map.Steps.{set_value_same}
 use Rattle.std.specs.BTreeMap.{BTreeMap, is_at, insert_entry, WritesThrough}
 use Rattle.std.specs.declared.vec.Vec.{Vec}
 use Rattle.cost_rows.specs.Merging.{merge}
-use Rattle.cost_rows.specs.Stacks.{bytes_cmp, by_bytes, counts_added}
+use Rattle.cost_rows.specs.Stacks.{bytes_cmp, by_bytes, counted, counted_again, counts_added}
 use Rattle.cost_rows.proofs.MergeLemmas.{merge-new, merge-held}
 
 -- vectors by their bytes
@@ -102,8 +101,8 @@ remove-new [] k v none = rw (tied_itself bytes_cmp-total k) refl
 remove-new (e ∷ es) k v none = remove-step k v e es (bytes_cmp k e.0) refl none (remove-new es k v)
 
 -- what a stack had before, put back after a merge, leaves the counts as they were
-pub back-as_before : (es merged now : List (List ℕ × ℕ)) (frames : List ℕ) (count : ℕ) (before : Option ℕ) → IsStrictlySortedBy bytes_cmp (keys_of es) → before ≡ lookup (is_at (bytes_cmp frames)) es → merged ≡ merge bytes_cmp counts_added es frames count
-    → MatchOption before (now ≡ remove_entry (is_at (bytes_cmp frames)) merged) (λ n. now ≡ set_value (is_at (bytes_cmp frames)) merged n) → now ≡ es
+pub back-as_before : (es merged now : List (List ℕ × ℕ)) (frames : List ℕ) (count : ℕ) (before : Option ℕ) → IsStrictlySortedBy bytes_cmp (keys_of es) → before ≡ counted frames es → merged ≡ merge bytes_cmp counts_added es frames count
+    → now ≡ counted_again frames before merged → now ≡ es
 back-as_before es merged now frames count None sorted was is back =
     back ∙ ap (remove_entry (is_at (bytes_cmp frames))) (is ∙ sym (merge-new bytes_cmp-total counts_added es frames count (sym was)))
     ∙ remove-new es frames count (sym was)

@@ -4,27 +4,25 @@ use Rattle.std.specs.declared.cmp.Ordering.{Ordering}
 use Rattle.std.specs.declared.cmp.Ordering.TheVariants.{Less, Equal, Greater}
 use Rattle.std.specs.Ordering.{match_ordering}
 use Rattle.std.specs.List.{AllByRecursion, slice_get}
-use Rattle.std.specs.List.Sorted.{IsStrictlySortedBy}
 use Rattle.std.specs.Map.{keys_of}
-use Rattle.cg_text.specs.Distinct.{are_distinct}
 use Rattle.profile_records.specs.Records.{Cost, Callee, Record, Own, Called}
 use Rattle.cost_rows.specs.Naming.{place_of, with_name}
 use Rattle.cost_rows.specs.Columns.{added}
 use Rattle.cost_rows.specs.Calls.{calls_added}
 use Rattle.cost_rows.specs.Growing.{Grows}
-use Rattle.cost_rows.specs.Held.{IsHeld, PlaceHeld, CallHeld, AreHeld}
+use Rattle.cost_rows.specs.Held.{IsHeld, CellHeld, CallHeld, AreHeld}
 use Rattle.cost_rows.specs.Merging.{merge, sum_where}
-use Rattle.cost_rows.specs.Places.{place_cmp, call_cmp}
-use Rattle.cost_rows.specs.Content.{Content, empty, number_of, with_three, names_with_cost, names_with_callee, place_of_cost, call_of, with_cost, with_call, with_record}
-use Rattle.cost_rows.specs.Sums.{Spot, spot_of, callee_spot, name_at, spot_at, callee_at, own_sum, call_sum, count_sum}
-use Rattle.cost_rows.specs.declared.places.Place.{Place}
+use Rattle.cost_rows.specs.Places.{cell_cmp, call_cmp}
+use Rattle.cost_rows.specs.Content.{Content, empty, number_of, with_three, names_with_cost, names_with_callee, place_of_cost, cell_of, call_of, calls_of, with_cost, with_call, with_record}
+use Rattle.cost_rows.specs.Sums.{Spot, spot_of, callee_spot, name_at, spot_at, callee_at, passing_cell, passing_call, cells_where, calls_where, counts_where, content_of_records, own_sum, call_sum, count_sum}
+use Rattle.cost_rows.specs.declared.places.CellPlace.{CellPlace}
 use Rattle.cost_rows.specs.declared.places.Call.{Call}
 use Rattle.cost_rows.specs.declared.calls.Calls.{Calls}
-use Rattle.cost_rows.proofs.NamingLemmas.{at_place, distinct-with}
+use Rattle.cost_rows.proofs.NamingLemmas.{at_place}
 use Rattle.cost_rows.proofs.ColumnsLemmas.{slice_index-added}
 use Rattle.cost_rows.proofs.GrowingLemmas.{grows-more, grows-with, kept-by_three, held-three}
-use Rattle.cost_rows.proofs.MergeLemmas.{sum-merge, sorted-merge}
-use Rattle.cost_rows.proofs.PlacesLemmas.{place_cmp-apart, place_cmp-total, call_cmp-apart, call_cmp-total}
+use Rattle.cost_rows.proofs.MergeLemmas.{sum-merge}
+use Rattle.cost_rows.proofs.PlacesLemmas.{cell_cmp-apart, call_cmp-apart}
 
 -- ---- names by their numbers
 
@@ -85,29 +83,23 @@ sum-same p q f (e ∷ es) same =
     ap (λ b. (if b then f e.1 else 0) + sum_where p f es) same.0
     ∙ ap (λ n. (if q e.0 then f e.1 else 0) + n) (sum-same p q f es same.1)
 
-abbrev pub cell_test : (Spot → Bool) → List (List ℕ) → Place → Bool
-cell_test passes names p = passes (spot_at names p)
-
-abbrev pub arc_test : (Spot → Spot → Bool) → List (List ℕ) → Call → Bool
-arc_test passes names a = passes (spot_at names a.place) (callee_at names a)
-
-cells-kept : (passes : Spot → Bool) (f : List ℕ → ℕ) (names new : List (List ℕ)) (cells : List (Place × List ℕ)) → Grows names new → AllByRecursion (PlaceHeld names) (keys_of cells)
-    → sum_where (cell_test passes new) f cells ≡ sum_where (cell_test passes names) f cells
+cells-kept : (passes : Spot → Bool) (f : List ℕ → ℕ) (names new : List (List ℕ)) (cells : List (CellPlace × List ℕ)) → Grows names new → AllByRecursion (CellHeld names) (keys_of cells)
+    → sum_where (passing_cell passes new) f cells ≡ sum_where (passing_cell passes names) f cells
 cells-kept passes f names new cells grows held =
-    sum-same (cell_test passes new) (cell_test passes names) f cells
-    (all-weaker (PlaceHeld names) (λ p. cell_test passes new p ≡ cell_test passes names p) (keys_of cells)
-    (λ p h. ap passes (spot-kept names new p.object p.file p.function p.line grows h)) held)
+    sum-same (passing_cell passes new) (passing_cell passes names) f cells
+    (all-weaker (CellHeld names) (λ p. passing_cell passes new p ≡ passing_cell passes names p) (keys_of cells)
+    (λ p h. ap passes (spot-kept names new p.place.object p.place.file p.place.function p.place.line grows h)) held)
 
 arcs-kept : (passes : Spot → Spot → Bool) (f : Calls → ℕ) (names new : List (List ℕ)) (arcs : List (Call × Calls)) → Grows names new → AllByRecursion (CallHeld names) (keys_of arcs)
-    → sum_where (arc_test passes new) f arcs ≡ sum_where (arc_test passes names) f arcs
+    → sum_where (passing_call passes new) f arcs ≡ sum_where (passing_call passes names) f arcs
 arcs-kept passes f names new arcs grows held =
-    sum-same (arc_test passes new) (arc_test passes names) f arcs
-    (all-weaker (CallHeld names) (λ a. arc_test passes new a ≡ arc_test passes names a) (keys_of arcs)
+    sum-same (passing_call passes new) (passing_call passes names) f arcs
+    (all-weaker (CallHeld names) (λ a. passing_call passes new a ≡ passing_call passes names a) (keys_of arcs)
     (λ a h. ap (λ s. passes s (callee_at new a)) (spot-kept names new a.place.object a.place.file a.place.function a.place.line grows h.0)
     ∙ ap (passes (spot_at names a.place)) (spot-kept names new a.object a.file a.function 0 grows h.1)) held)
 
-held-grows : (names new : List (List ℕ)) (cells : List (Place × List ℕ)) → Grows names new → AllByRecursion (PlaceHeld names) (keys_of cells) → AllByRecursion (PlaceHeld new) (keys_of cells)
-held-grows names new cells grows held = all-weaker (PlaceHeld names) (PlaceHeld new) (keys_of cells) (λ p h. held-kept names new p.object p.file p.function grows h) held
+held-grows : (names new : List (List ℕ)) (cells : List (CellPlace × List ℕ)) → Grows names new → AllByRecursion (CellHeld names) (keys_of cells) → AllByRecursion (CellHeld new) (keys_of cells)
+held-grows names new cells grows held = all-weaker (CellHeld names) (CellHeld new) (keys_of cells) (λ p h. held-kept names new p.place.object p.place.file p.place.function grows h) held
 
 arcs-grow : (names new : List (List ℕ)) (arcs : List (Call × Calls)) → Grows names new → AllByRecursion (CallHeld names) (keys_of arcs) → AllByRecursion (CallHeld new) (keys_of arcs)
 arcs-grow names new arcs grows held =
@@ -154,7 +146,7 @@ held-cost c cost held =
     let grows = grows-three c.names cost.object cost.file cost.function in
     let is = named-three c.names cost.object cost.file cost.function in
     record {
-      cells = all-merge place_cmp added (PlaceHeld new) c.cells (place_of_cost new cost) cost.costs (held-grows c.names new c.cells grows held.cells) is.3;
+      cells = all-merge cell_cmp added (CellHeld new) c.cells (cell_of new cost) cost.costs (held-grows c.names new c.cells grows held.cells) is.3;
       arcs = arcs-grow c.names new c.arcs grows held.arcs;
     }
 
@@ -167,22 +159,22 @@ held-call c callee cost held =
     let called = named-three mid callee.object callee.file callee.function in
     record {
       cells = held-grows c.names new c.cells grows held.cells;
-      arcs = all-merge call_cmp calls_added (CallHeld new) c.arcs (call_of new callee cost) (record { count = callee.count; costs = cost.costs }) (arcs-grow c.names new c.arcs grows held.arcs) (caller.3, called.3);
+      arcs = all-merge call_cmp calls_added (CallHeld new) c.arcs (call_of new callee cost) (calls_of callee cost) (arcs-grow c.names new c.arcs grows held.arcs) (caller.3, called.3);
     }
 
 pub cells-cost : (passes : Spot → Bool) (k : ℕ) (c : Content) (cost : Cost) → AreHeld c
-    → sum_where (cell_test passes (with_cost c cost).names) (λ v. slice_index v k) (with_cost c cost).cells ≡ sum_where (cell_test passes c.names) (λ v. slice_index v k) c.cells + (if passes (spot_of cost) then slice_index cost.costs k else 0)
+    → cells_where passes k (with_cost c cost) ≡ cells_where passes k c + (if passes (spot_of cost) then slice_index cost.costs k else 0)
 cells-cost passes k c cost held =
     let new = names_with_cost cost c.names in
     let is = named-three c.names cost.object cost.file cost.function in
     let spot : spot_at new (place_of_cost new cost) ≡ spot_of cost = same_spot _ _ _ _ _ _ cost.line is.0 is.1 is.2 in
-    sum-merge place_cmp-apart added (cell_test passes new) (λ v. slice_index v k) (λ x y. slice_index-added x y k) c.cells (place_of_cost new cost) cost.costs
-    ∙ ap (λ n. n + (if cell_test passes new (place_of_cost new cost) then slice_index cost.costs k else 0))
+    sum-merge cell_cmp-apart added (passing_cell passes new) (λ v. slice_index v k) (λ x y. slice_index-added x y k) c.cells (cell_of new cost) cost.costs
+    ∙ ap (λ n. n + (if passing_cell passes new (cell_of new cost) then slice_index cost.costs k else 0))
     (cells-kept passes (λ v. slice_index v k) c.names new c.cells (grows-three c.names cost.object cost.file cost.function) held.cells)
-    ∙ ap (λ s. sum_where (cell_test passes c.names) (λ v. slice_index v k) c.cells + (if passes s then slice_index cost.costs k else 0)) spot
+    ∙ ap (λ s. cells_where passes k c + (if passes s then slice_index cost.costs k else 0)) spot
 
 arcs-call : (passes : Spot → Spot → Bool) (f : Calls → ℕ) (adds : (x y : Calls) → f (calls_added x y) ≡ f x + f y) (c : Content) (callee : Callee) (cost : Cost) → AreHeld c
-    → sum_where (arc_test passes (with_call c callee cost).names) f (with_call c callee cost).arcs ≡ sum_where (arc_test passes c.names) f c.arcs + (if passes (spot_of cost) (callee_spot callee) then f (record { count = callee.count; costs = cost.costs }) else 0)
+    → sum_where (passing_call passes (with_call c callee cost).names) f (with_call c callee cost).arcs ≡ sum_where (passing_call passes c.names) f c.arcs + (if passes (spot_of cost) (callee_spot callee) then f (calls_of callee cost) else 0)
 arcs-call passes f adds c callee cost held =
     let mid = names_with_cost cost c.names in
     let new = names_with_callee callee mid in
@@ -191,11 +183,11 @@ arcs-call passes f adds c callee cost held =
     let called = named-three mid callee.object callee.file callee.function in
     let place : spot_at new (place_of_cost new cost) ≡ spot_of cost = same_spot _ _ _ _ _ _ cost.line caller.0 caller.1 caller.2 in
     let whom : callee_at new (call_of new callee cost) ≡ callee_spot callee = same_spot _ _ _ _ _ _ 0 called.0 called.1 called.2 in
-    let more : Calls = record { count = callee.count; costs = cost.costs } in
-    sum-merge call_cmp-apart calls_added (arc_test passes new) f adds c.arcs (call_of new callee cost) more
-    ∙ ap (λ n. n + (if arc_test passes new (call_of new callee cost) then f more else 0)) (arcs-kept passes f c.names new c.arcs grows held.arcs)
-    ∙ ap (λ s. sum_where (arc_test passes c.names) f c.arcs + (if passes s (callee_at new (call_of new callee cost)) then f more else 0)) place
-    ∙ ap (λ s. sum_where (arc_test passes c.names) f c.arcs + (if passes (spot_of cost) s then f more else 0)) whom
+    let more : Calls = calls_of callee cost in
+    sum-merge call_cmp-apart calls_added (passing_call passes new) f adds c.arcs (call_of new callee cost) more
+    ∙ ap (λ n. n + (if passing_call passes new (call_of new callee cost) then f more else 0)) (arcs-kept passes f c.names new c.arcs grows held.arcs)
+    ∙ ap (λ s. sum_where (passing_call passes c.names) f c.arcs + (if passes s (callee_at new (call_of new callee cost)) then f more else 0)) place
+    ∙ ap (λ s. sum_where (passing_call passes c.names) f c.arcs + (if passes (spot_of cost) s then f more else 0)) whom
 
 -- ---- all records
 
@@ -203,12 +195,12 @@ pub plus_none : (n : ℕ) → n ≡ n + 0
 plus_none n = omega arith
 
 law-cells : (passes : Spot → Bool) (k : ℕ) (records : List Record) (c : Content) → AreHeld c
-    → sum_where (cell_test passes (fold with_record c records).names) (λ v. slice_index v k) (fold with_record c records).cells ≡ sum_where (cell_test passes c.names) (λ v. slice_index v k) c.cells + own_sum passes k records
+    → cells_where passes k (fold with_record c records) ≡ cells_where passes k c + own_sum passes k records
 law-cells passes k [] c held = plus_none _
 law-cells passes k (Own cost ∷ records) c held =
     law-cells passes k records (with_cost c cost) (held-cost c cost held)
     ∙ ap (λ n. n + own_sum passes k records) (cells-cost passes k c cost held)
-    ∙ add_assoc (sum_where (cell_test passes c.names) (λ v. slice_index v k) c.cells) (if passes (spot_of cost) then slice_index cost.costs k else 0) (own_sum passes k records)
+    ∙ add_assoc (cells_where passes k c) (if passes (spot_of cost) then slice_index cost.costs k else 0) (own_sum passes k records)
 law-cells passes k (Called callee cost ∷ records) c held =
     let mid = names_with_cost cost c.names in
     let new = names_with_callee callee mid in
@@ -220,10 +212,10 @@ law-cells passes k (Called callee cost ∷ records) c held =
 abbrev arc_sum : (Calls → ℕ) → (Spot → Spot → Bool) → List Record → ℕ
 arc_sum f passes [] = 0
 arc_sum f passes (Own cost ∷ records) = arc_sum f passes records
-arc_sum f passes (Called callee cost ∷ records) = (if passes (spot_of cost) (callee_spot callee) then f (record { count = callee.count; costs = cost.costs }) else 0) + arc_sum f passes records
+arc_sum f passes (Called callee cost ∷ records) = (if passes (spot_of cost) (callee_spot callee) then f (calls_of callee cost) else 0) + arc_sum f passes records
 
 law-arcs : (passes : Spot → Spot → Bool) (f : Calls → ℕ) (adds : (x y : Calls) → f (calls_added x y) ≡ f x + f y) (records : List Record) (c : Content) → AreHeld c
-    → sum_where (arc_test passes (fold with_record c records).names) f (fold with_record c records).arcs ≡ sum_where (arc_test passes c.names) f c.arcs + arc_sum f passes records
+    → sum_where (passing_call passes (fold with_record c records).names) f (fold with_record c records).arcs ≡ sum_where (passing_call passes c.names) f c.arcs + arc_sum f passes records
 law-arcs passes f adds [] c held = plus_none _
 law-arcs passes f adds (Own cost ∷ records) c held =
     law-arcs passes f adds records (with_cost c cost) (held-cost c cost held)
@@ -231,7 +223,7 @@ law-arcs passes f adds (Own cost ∷ records) c held =
 law-arcs passes f adds (Called callee cost ∷ records) c held =
     law-arcs passes f adds records (with_call c callee cost) (held-call c callee cost held)
     ∙ ap (λ n. n + arc_sum f passes records) (arcs-call passes f adds c callee cost held)
-    ∙ add_assoc (sum_where (arc_test passes c.names) f c.arcs) (if passes (spot_of cost) (callee_spot callee) then f (record { count = callee.count; costs = cost.costs }) else 0) (arc_sum f passes records)
+    ∙ add_assoc (sum_where (passing_call passes c.names) f c.arcs) (if passes (spot_of cost) (callee_spot callee) then f (calls_of callee cost) else 0) (arc_sum f passes records)
 
 call_sum-is : (passes : Spot → Spot → Bool) (k : ℕ) (records : List Record) → arc_sum (λ calls. slice_index calls.costs k) passes records ≡ call_sum passes k records
 call_sum-is passes k [] = refl
@@ -252,59 +244,24 @@ held-all (Own cost ∷ records) c held = held-all records (with_cost c cost) (he
 held-all (Called callee cost ∷ records) c held = held-all records (with_call c callee cost) (held-call c callee cost held)
 
 -- each number of the rows of a file stands for a name
-pub held-records : (records : List Record) → AreHeld (fold with_record empty records)
+pub held-records : (records : List Record) → AreHeld (content_of_records records)
 held-records records = held-all records empty none_held
 
 pub none_plus : (n : ℕ) → 0 + n ≡ n
 none_plus n = omega arith
 
 pub sums-cells : (passes : Spot → Bool) (k : ℕ) (records : List Record)
-    → sum_where (cell_test passes (fold with_record empty records).names) (λ v. slice_index v k) (fold with_record empty records).cells ≡ own_sum passes k records
+    → cells_where passes k (content_of_records records) ≡ own_sum passes k records
 sums-cells passes k records = law-cells passes k records empty none_held ∙ none_plus (own_sum passes k records)
 
 pub sums-arcs : (passes : Spot → Spot → Bool) (k : ℕ) (records : List Record)
-    → sum_where (arc_test passes (fold with_record empty records).names) (λ calls. slice_index calls.costs k) (fold with_record empty records).arcs ≡ call_sum passes k records
+    → calls_where passes k (content_of_records records) ≡ call_sum passes k records
 sums-arcs passes k records =
     law-arcs passes (λ calls. slice_index calls.costs k) (λ x y. slice_index-added x.costs y.costs k) records empty none_held
     ∙ none_plus (arc_sum (λ calls. slice_index calls.costs k) passes records) ∙ call_sum-is passes k records
 
 pub sums-counts : (passes : Spot → Spot → Bool) (records : List Record)
-    → sum_where (arc_test passes (fold with_record empty records).names) (λ calls. calls.count) (fold with_record empty records).arcs ≡ count_sum passes records
+    → counts_where passes (content_of_records records) ≡ count_sum passes records
 sums-counts passes records =
     law-arcs passes (λ calls. calls.count) (λ x y. refl) records empty none_held
     ∙ none_plus (arc_sum (λ calls. calls.count) passes records) ∙ count_sum-is passes records
-
--- ---- order
-
-record InOrder (c : Content) : Type 0 where
-  cells : IsStrictlySortedBy place_cmp (keys_of c.cells)
-  arcs : IsStrictlySortedBy call_cmp (keys_of c.arcs)
-  names : are_distinct c.names ≡ true
-
-pub distinct-three : (names : List (List ℕ)) (a b d : List ℕ) → are_distinct names ≡ true → are_distinct (with_three a b d names) ≡ true
-distinct-three names a b d h = distinct-with (with_name b (with_name a names)) d (distinct-with (with_name a names) b (distinct-with names a h))
-
-fold-order : (records : List Record) (c : Content) → InOrder c → InOrder (fold with_record c records)
-fold-order [] c is = is
-fold-order (Own cost ∷ records) c is =
-    let new = names_with_cost cost c.names in
-    fold-order records (with_cost c cost) (record {
-      cells = sorted-merge place_cmp-total added c.cells (place_of_cost new cost) cost.costs is.cells;
-      arcs = is.arcs;
-      names = distinct-three c.names cost.object cost.file cost.function is.names;
-    })
-fold-order (Called callee cost ∷ records) c is =
-    let mid = names_with_cost cost c.names in
-    let new = names_with_callee callee mid in
-    fold-order records (with_call c callee cost) (record {
-      cells = is.cells;
-      arcs = sorted-merge call_cmp-total calls_added c.arcs (call_of new callee cost) (record { count = callee.count; costs = cost.costs }) is.arcs;
-      names = distinct-three mid callee.object callee.file callee.function (distinct-three c.names cost.object cost.file cost.function is.names);
-    })
-
-none_in_order : InOrder empty
-unfolding IsStrictlySortedBy
-none_in_order = record { cells = tt; arcs = tt; names = refl }
-
-pub rows-order : (records : List Record) → IsStrictlySortedBy place_cmp (keys_of (fold with_record empty records).cells) × IsStrictlySortedBy call_cmp (keys_of (fold with_record empty records).arcs) × (are_distinct (fold with_record empty records).names ≡ true)
-rows-order records = let is = fold-order records empty none_in_order in (is.cells, is.arcs, is.names)

@@ -5,22 +5,22 @@ use Rattle.std.proofs.lemmas.List.Elements.{All-cons, All-weaker, All-from_get_o
 use Rattle.cost_rows.specs.Calls.{calls_added, AreSmall}
 use Rattle.cost_rows.specs.Columns.{added}
 use Rattle.cost_rows.specs.Merging.{merge}
-use Rattle.cost_rows.specs.Places.{place_cmp, call_cmp}
+use Rattle.cost_rows.specs.Places.{cell_cmp, call_cmp}
 use Rattle.cost_rows.specs.Stacks.{bytes_cmp, counts_added}
 use Rattle.cost_rows.specs.Content.{Content}
 use Rattle.cost_rows.specs.Totals.{cell_total, arc_total, count_total, stack_total, AreWithin}
-use Rattle.cost_rows.specs.declared.places.Place.{Place}
+use Rattle.cost_rows.specs.declared.places.CellPlace.{CellPlace}
 use Rattle.cost_rows.specs.declared.places.Call.{Call}
 use Rattle.cost_rows.specs.declared.calls.Calls.{Calls}
 use Rattle.std.proofs.lemmas.Map.Lookups.{exact_bytes}
 use Rattle.cost_rows.proofs.ColumnsLemmas.{slice_index-added}
 use Rattle.cost_rows.proofs.MergeLemmas.{sum-merge}
-use Rattle.cost_rows.proofs.PlacesLemmas.{place_cmp-apart, call_cmp-apart}
+use Rattle.cost_rows.proofs.PlacesLemmas.{cell_cmp-apart, call_cmp-apart}
 
 -- ---- what a merge adds to a total
 
-pub cell_total-merge : (k : ℕ) (cells : List (Place × List ℕ)) (place : Place) (costs : List ℕ) → cell_total k (merge place_cmp added cells place costs) ≡ cell_total k cells + slice_index costs k
-cell_total-merge k cells place costs = sum-merge place_cmp-apart added (λ _. true) (λ v. slice_index v k) (λ x y. slice_index-added x y k) cells place costs
+pub cell_total-merge : (k : ℕ) (cells : List (CellPlace × List ℕ)) (place : CellPlace) (costs : List ℕ) → cell_total k (merge cell_cmp added cells place costs) ≡ cell_total k cells + slice_index costs k
+cell_total-merge k cells place costs = sum-merge cell_cmp-apart added (λ _. true) (λ v. slice_index v k) (λ x y. slice_index-added x y k) cells place costs
 
 pub arc_total-merge : (k : ℕ) (arcs : List (Call × Calls)) (call : Call) (more : Calls) → arc_total k (merge call_cmp calls_added arcs call more) ≡ arc_total k arcs + slice_index more.costs k
 arc_total-merge k arcs call more = sum-merge call_cmp-apart calls_added (λ _. true) (λ v. slice_index v.costs k) (λ x y. slice_index-added x.costs y.costs k) arcs call more
@@ -33,7 +33,7 @@ stack_total-merge stacks frames count = sum-merge exact_bytes counts_added (λ _
 
 -- ---- no sum is above its total
 
-pub values-within : (cells : List (Place × List ℕ)) (n : ℕ) → ((k : ℕ) → cell_total k cells ≤ n) → All (All (λ s. s ≤ n)) (values_of cells)
+pub values-within : (cells : List (CellPlace × List ℕ)) (n : ℕ) → ((k : ℕ) → cell_total k cells ≤ n) → All (All (λ s. s ≤ n)) (values_of cells)
 values-within [] n fits = λ k d below. absurd (omega arith)
 values-within (e ∷ es) n fits =
     All-cons (All (λ s. s ≤ n)) e.1 (values_of es)
@@ -58,7 +58,7 @@ bounded : (lines s : ℕ) → lines < 2 ^ 64 → s ≤ lines * 2 ^ 63 → s < 2 
 bounded lines s few small = omega arith
 
 -- no sum can wrap by one more record
-pub cells-small : (cells : List (Place × List ℕ)) (lines : ℕ) → lines < 2 ^ 64 → ((k : ℕ) → cell_total k cells ≤ lines * 2 ^ 63) → All (All (λ s. s < 2 ^ 127)) (values_of cells)
+pub cells-small : (cells : List (CellPlace × List ℕ)) (lines : ℕ) → lines < 2 ^ 64 → ((k : ℕ) → cell_total k cells ≤ lines * 2 ^ 63) → All (All (λ s. s < 2 ^ 127)) (values_of cells)
 cells-small cells lines few fits =
     All-weaker (All (λ s. s ≤ lines * 2 ^ 63)) (All (λ s. s < 2 ^ 127))
     (λ v all. All-weaker (λ s. s ≤ lines * 2 ^ 63) (λ s. s < 2 ^ 127) (λ s small. bounded lines s few small) v all)
@@ -87,8 +87,8 @@ low-at [] k all = lit< tt
 low-at (c ∷ costs) zero all = all 0 0 (omega arith)
 low-at (c ∷ costs) (suc k) all = low-at costs k (λ j d below. all (suc j) d (omega arith))
 
-pub within-own : (cells : List (Place × List ℕ)) (arcs : List (Call × Calls)) (stacks : List (List ℕ × ℕ)) (lines at : ℕ) (place : Place) (costs : List ℕ) → AreWithin cells arcs stacks lines → lines < at → All (λ c. c < 2 ^ 63) costs
-    → AreWithin (merge place_cmp added cells place costs) arcs stacks at
+pub within-own : (cells : List (CellPlace × List ℕ)) (arcs : List (Call × Calls)) (stacks : List (List ℕ × ℕ)) (lines at : ℕ) (place : CellPlace) (costs : List ℕ) → AreWithin cells arcs stacks lines → lines < at → All (λ c. c < 2 ^ 63) costs
+    → AreWithin (merge cell_cmp added cells place costs) arcs stacks at
 within-own cells arcs stacks lines at place costs is more low = record {
   cells_fit = λ k. rw (cell_total-merge k cells place costs) (rises lines at (cell_total k cells) (slice_index costs k) more (is.cells_fit k) (low-at costs k low));
   arcs_fit = λ k. stays lines at (arc_total k arcs) more (is.arcs_fit k);
@@ -96,7 +96,7 @@ within-own cells arcs stacks lines at place costs is more low = record {
   stacks_fit = stays lines at (stack_total stacks) more is.stacks_fit;
 }
 
-pub within-call : (cells : List (Place × List ℕ)) (arcs : List (Call × Calls)) (stacks : List (List ℕ × ℕ)) (lines at : ℕ) (call : Call) (calls : Calls) → AreWithin cells arcs stacks lines → lines < at → calls.count < 2 ^ 63 → All (λ c. c < 2 ^ 63) calls.costs
+pub within-call : (cells : List (CellPlace × List ℕ)) (arcs : List (Call × Calls)) (stacks : List (List ℕ × ℕ)) (lines at : ℕ) (call : Call) (calls : Calls) → AreWithin cells arcs stacks lines → lines < at → calls.count < 2 ^ 63 → All (λ c. c < 2 ^ 63) calls.costs
     → AreWithin cells (merge call_cmp calls_added arcs call calls) stacks at
 within-call cells arcs stacks lines at call calls is more few low = record {
   cells_fit = λ k. stays lines at (cell_total k cells) more (is.cells_fit k);
@@ -105,8 +105,8 @@ within-call cells arcs stacks lines at call calls is more few low = record {
   stacks_fit = stays lines at (stack_total stacks) more is.stacks_fit;
 }
 
-pub within-stack : (cells : List (Place × List ℕ)) (arcs : List (Call × Calls)) (stacks : List (List ℕ × ℕ)) (lines at : ℕ) (place : Place) (frames : List ℕ) (count : ℕ) → AreWithin cells arcs stacks lines → lines < at → count < 2 ^ 63
-    → AreWithin (merge place_cmp added cells place (count ∷ [])) arcs (merge bytes_cmp counts_added stacks frames count) at
+pub within-stack : (cells : List (CellPlace × List ℕ)) (arcs : List (Call × Calls)) (stacks : List (List ℕ × ℕ)) (lines at : ℕ) (place : CellPlace) (frames : List ℕ) (count : ℕ) → AreWithin cells arcs stacks lines → lines < at → count < 2 ^ 63
+    → AreWithin (merge cell_cmp added cells place (count ∷ [])) arcs (merge bytes_cmp counts_added stacks frames count) at
 within-stack cells arcs stacks lines at place frames count is more low =
     let own = within-own cells arcs stacks lines at place (count ∷ []) is more (All-cons (λ c. c < 2 ^ 63) count [] low (λ k d below. absurd (omega arith))) in
     record {
@@ -117,10 +117,10 @@ within-stack cells arcs stacks lines at place frames count is more low =
     }
 
 -- contents of equal parts
-pub content-same : (names names' : List (List ℕ)) (cells cells' : List (Place × List ℕ)) (arcs : List (Call × Calls)) (stacks stacks' : List (List ℕ × ℕ)) → names ≡ names' → cells ≡ cells' → stacks ≡ stacks'
+pub content-same : (names names' : List (List ℕ)) (cells cells' : List (CellPlace × List ℕ)) (arcs : List (Call × Calls)) (stacks stacks' : List (List ℕ × ℕ)) → names ≡ names' → cells ≡ cells' → stacks ≡ stacks'
     → ◌≡◌ {A = Content} (record { names = names; cells = cells; arcs = arcs; stacks = stacks }) (record { names = names'; cells = cells'; arcs = arcs; stacks = stacks' })
 content-same names names' cells cells' arcs stacks stacks' a b d =
-    let P : List (List ℕ) → List (Place × List ℕ) → List (List ℕ × ℕ) → Content = λ n c s. record { names = n; cells = c; arcs = arcs; stacks = s } in
+    let P : List (List ℕ) → List (CellPlace × List ℕ) → List (List ℕ × ℕ) → Content = λ n c s. record { names = n; cells = c; arcs = arcs; stacks = s } in
     let e : P names cells stacks ≡ P names' cells' stacks' = ap (λ n. P n cells stacks) a ∙ ap (λ c. P names' c stacks) b ∙ ap (P names' cells') d in
     e
 
@@ -130,7 +130,7 @@ abbrev pub values_total : ℕ → List (List ℕ) → ℕ
 values_total k [] = 0
 values_total k (v ∷ vs) = slice_index v k + values_total k vs
 
-pub values_total-all : (k : ℕ) (cells : List (Place × List ℕ)) → values_total k (values_of cells) ≡ cell_total k cells
+pub values_total-all : (k : ℕ) (cells : List (CellPlace × List ℕ)) → values_total k (values_of cells) ≡ cell_total k cells
 values_total-all k [] = refl
 values_total-all k (e ∷ cells) = ap (λ n. slice_index e.1 k + n) (values_total-all k cells)
 

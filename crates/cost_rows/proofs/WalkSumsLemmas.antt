@@ -2,11 +2,11 @@
 use Rattle.std.proofs.Common.{◌≡◌, ℕ, ◌+◌, ◌<◌, zero, suc, Bool, true, false, ◌&&◌, ◌==◌, nat_lt, List, [], ◌∷◌, ◌++◌, slice_index, if◌then◌else◌, refl, ap, ◌∙◌, arith}
 use Rattle.std.proofs.lemmas.Bool.Decides.{nat_tests}
 use Rattle.cost_rows.specs.Merging.{sum_where}
-use Rattle.cost_rows.specs.Sums.{Spot, spot_at, callee_at}
+use Rattle.cost_rows.specs.Sums.{Spot, spot_at, callee_at, passing_cell, passing_call}
 use Rattle.cost_rows.specs.Walks.{cell_row, rows_at, cell_rows, arc_rows, stack_rows}
 use Rattle.cost_rows.specs.WalkSums.{rows_cost, calls_cost, calls_count, stacks_count}
 use Rattle.cost_rows.specs.declared.rows.CellRow.{CellRow}
-use Rattle.cost_rows.specs.declared.places.Place.{Place}
+use Rattle.cost_rows.specs.declared.places.CellPlace.{CellPlace}
 use Rattle.cost_rows.specs.declared.places.Call.{Call}
 use Rattle.cost_rows.specs.declared.calls.Calls.{Calls}
 
@@ -58,14 +58,14 @@ pub nothing_each_way : (b : Bool) → 0 ≡ neither b
 nothing_each_way true = refl
 nothing_each_way false = refl
 
-rows-at : (passes : Spot → Bool) (k : ℕ) (names : List (List ℕ)) (p : Place) (e : ℕ) (costs : List ℕ) → rows_cost passes k (rows_at names p e costs) ≡ (if passes (spot_at names p) then column_from e k costs else 0)
-rows-at passes k names p e [] = nothing_each_way (passes (spot_at names p))
+rows-at : (passes : Spot → Bool) (k : ℕ) (names : List (List ℕ)) (p : CellPlace) (e : ℕ) (costs : List ℕ) → rows_cost passes k (rows_at names p e costs) ≡ (if passes (spot_at names p.place) then column_from e k costs else 0)
+rows-at passes k names p e [] = nothing_each_way (passes (spot_at names p.place))
 rows-at passes k names p e (zero ∷ costs) =
-    rows-at passes k names p (suc e) costs ∙ none_more (passes (spot_at names p)) (e == k) (column_from (suc e) k costs)
+    rows-at passes k names p (suc e) costs ∙ none_more (passes (spot_at names p.place)) (e == k) (column_from (suc e) k costs)
 rows-at passes k names p e (suc n ∷ costs) =
     ap (λ b. rows_cost passes k (if b then cell_row names p e (suc n) ∷ rows_at names p (suc e) costs else rows_at names p (suc e) costs)) (is_above n)
-    ∙ ap (λ m. (if passes (spot_at names p) && (e == k) then suc n else 0) + m) (rows-at passes k names p (suc e) costs)
-    ∙ one_more (passes (spot_at names p)) (e == k) (suc n) (column_from (suc e) k costs)
+    ∙ ap (λ m. (if passes (spot_at names p.place) && (e == k) then suc n else 0) + m) (rows-at passes k names p (suc e) costs)
+    ∙ one_more (passes (spot_at names p.place)) (e == k) (suc n) (column_from (suc e) k costs)
 
 rows-append : (passes : Spot → Bool) (k : ℕ) (xs ys : List (CellRow (List ℕ))) → rows_cost passes k (xs ++ ys) ≡ rows_cost passes k xs + rows_cost passes k ys
 rows-append passes k [] ys = let n : ℕ = rows_cost passes k ys in let e : n ≡ 0 + n = omega arith in e
@@ -76,18 +76,18 @@ rows-append passes k (x ∷ xs) ys =
     let rest : rows_cost passes k (xs ++ ys) ≡ a + b = rows-append passes k xs ys in
     omega (arith, rest)
 
-pub walked-cells : (passes : Spot → Bool) (k : ℕ) (names : List (List ℕ)) (cells : List (Place × List ℕ)) → rows_cost passes k (cell_rows names cells) ≡ sum_where (λ p. passes (spot_at names p)) (λ costs. slice_index costs k) cells
+pub walked-cells : (passes : Spot → Bool) (k : ℕ) (names : List (List ℕ)) (cells : List (CellPlace × List ℕ)) → rows_cost passes k (cell_rows names cells) ≡ sum_where (passing_cell passes names) (λ costs. slice_index costs k) cells
 walked-cells passes k names [] = refl
 walked-cells passes k names (e ∷ cells) =
     rows-append passes k (rows_at names e.0 0 e.1) (cell_rows names cells)
-    ∙ ap (λ n. n + rows_cost passes k (cell_rows names cells)) (rows-at passes k names e.0 0 e.1 ∙ ap (λ n. if passes (spot_at names e.0) then n else 0) (column-at 0 k k e.1 (omega arith)))
-    ∙ ap (λ n. (if passes (spot_at names e.0) then slice_index e.1 k else 0) + n) (walked-cells passes k names cells)
+    ∙ ap (λ n. n + rows_cost passes k (cell_rows names cells)) (rows-at passes k names e.0 0 e.1 ∙ ap (λ n. if passes (spot_at names e.0.place) then n else 0) (column-at 0 k k e.1 (omega arith)))
+    ∙ ap (λ n. (if passes (spot_at names e.0.place) then slice_index e.1 k else 0) + n) (walked-cells passes k names cells)
 
-pub walked-costs : (passes : Spot → Spot → Bool) (k : ℕ) (names : List (List ℕ)) (arcs : List (Call × Calls)) → calls_cost passes k (arc_rows names arcs) ≡ sum_where (λ a. passes (spot_at names a.place) (callee_at names a)) (λ calls. slice_index calls.costs k) arcs
+pub walked-costs : (passes : Spot → Spot → Bool) (k : ℕ) (names : List (List ℕ)) (arcs : List (Call × Calls)) → calls_cost passes k (arc_rows names arcs) ≡ sum_where (passing_call passes names) (λ calls. slice_index calls.costs k) arcs
 walked-costs passes k names [] = refl
 walked-costs passes k names (e ∷ arcs) = ap (λ n. (if passes (spot_at names e.0.place) (callee_at names e.0) then slice_index e.1.costs k else 0) + n) (walked-costs passes k names arcs)
 
-pub walked-counts : (passes : Spot → Spot → Bool) (names : List (List ℕ)) (arcs : List (Call × Calls)) → calls_count passes (arc_rows names arcs) ≡ sum_where (λ a. passes (spot_at names a.place) (callee_at names a)) (λ calls. calls.count) arcs
+pub walked-counts : (passes : Spot → Spot → Bool) (names : List (List ℕ)) (arcs : List (Call × Calls)) → calls_count passes (arc_rows names arcs) ≡ sum_where (passing_call passes names) (λ calls. calls.count) arcs
 walked-counts passes names [] = refl
 walked-counts passes names (e ∷ arcs) = ap (λ n. (if passes (spot_at names e.0.place) (callee_at names e.0) then e.1.count else 0) + n) (walked-counts passes names arcs)
 

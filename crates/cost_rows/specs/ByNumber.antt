@@ -1,24 +1,25 @@
 -- The rows that are walked with names by their numbers, and no cell whose sum is 0.
 use Rattle.std.specs.Prelude.{ℕ, suc, List, [], ◌∷◌, ◌++◌, nat_lt, if◌then◌else◌}
 use Rattle.std.specs.Borrow.{Bor}
-use Rattle.cost_rows.specs.declared.places.Place.{Place}
+use Rattle.cost_rows.specs.declared.places.CellPlace.{CellPlace}
 use Rattle.cost_rows.specs.declared.places.Call.{Call}
 use Rattle.cost_rows.specs.declared.calls.Calls.{Calls}
 use Rattle.cost_rows.specs.declared.rows.CellRow.{CellRow}
 use Rattle.cost_rows.specs.declared.rows.ArcRow.{ArcRow}
 
 -- the row of an event's sum at a place
-abbrev pub numbered_cell : Place → ℕ → ℕ → CellRow ℕ
-numbered_cell p event cost = record { object = p.object; file = p.file; function = p.function; line = p.line; event = event; cost = cost }
+abbrev pub numbered_cell : CellPlace → ℕ → ℕ → CellRow ℕ
+numbered_cell p event cost =
+    record { object = p.place.object; file = p.place.file; function = p.place.function; line = p.place.line; event = event; cost = cost }
 
 -- the rows of a place, from an event on
-abbrev pub numbered_at : Place → ℕ → List ℕ → List (CellRow ℕ)
+abbrev pub numbered_at : CellPlace → ℕ → List ℕ → List (CellRow ℕ)
 numbered_at p event [] = []
 numbered_at p event (cost ∷ costs) =
     if nat_lt 0 cost then numbered_cell p event cost ∷ numbered_at p (suc event) costs
     else numbered_at p (suc event) costs
 
-abbrev pub numbered_cells : List (Place × List ℕ) → List (CellRow ℕ)
+abbrev pub numbered_cells : List (CellPlace × List ℕ) → List (CellRow ℕ)
 numbered_cells [] = []
 numbered_cells (e ∷ cells) = numbered_at e.0 0 e.1 ++ numbered_cells cells
 

@@ -1,6 +1,6 @@
 -- Calls: how many there were, and what they cost by column.
-use Rattle.std.specs.Prelude.{◌+◌, ◌<◌, ◌^◌, All}
-use Rattle.cost_rows.specs.Columns.{added}
+use Rattle.std.specs.Prelude.{◌+◌, ◌<◌, ◌^◌}
+use Rattle.cost_rows.specs.Columns.{added, HaveRoom}
 use Rattle.cost_rows.specs.declared.calls.Calls.{Calls}
 
 -- calls and more calls
@@ -9,4 +9,4 @@ calls_added held more = record { count = held.count + more.count; costs = added 
 
 -- neither their number nor a sum is so great that one more record could make it wrap
 abbrev pub AreSmall : Calls → Type 0
-AreSmall held = (held.count < 2 ^ 127) × All (λ s. s < 2 ^ 127) held.costs
+AreSmall held = (held.count < 2 ^ 127) × HaveRoom held.costs

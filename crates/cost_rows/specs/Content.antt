@@ -8,16 +8,17 @@ use Rattle.cost_rows.specs.Naming.{place_of, with_name}
 use Rattle.cost_rows.specs.Columns.{added}
 use Rattle.cost_rows.specs.Calls.{calls_added}
 use Rattle.cost_rows.specs.Merging.{merge}
-use Rattle.cost_rows.specs.Places.{place_cmp, call_cmp}
+use Rattle.cost_rows.specs.Places.{cell_cmp, call_cmp}
 use Rattle.cost_rows.specs.Stacks.{bytes_cmp, counts_added}
 use Rattle.cost_rows.specs.declared.places.Place.{Place}
+use Rattle.cost_rows.specs.declared.places.CellPlace.{CellPlace}
 use Rattle.cost_rows.specs.declared.places.Call.{Call}
 use Rattle.cost_rows.specs.declared.calls.Calls.{Calls}
 
 -- names in the order in which they first came; own costs by place, calls, and counts of stacks, each key once, in order
 pub record Content : Type 0 where
   pub names : List (List ℕ)
-  pub cells : List (Place × List ℕ)
+  pub cells : List (CellPlace × List ℕ)
   pub arcs : List (Call × Calls)
   pub stacks : List (List ℕ × ℕ)
 
@@ -47,21 +48,43 @@ names_with_callee callee names = with_three callee.object callee.file callee.fun
 abbrev pub place_of_cost : List (List ℕ) → Cost → Place
 place_of_cost names cost = place_in names cost.object cost.file cost.function cost.line
 
+-- where own costs belong
+abbrev pub cell_of : List (List ℕ) → Cost → CellPlace
+cell_of names cost = record { place = place_of_cost names cost }
+
 abbrev pub call_of : List (List ℕ) → Callee → Cost → Call
-call_of names callee cost =
-    record { place = place_of_cost names cost; object = number_of callee.object names; file = number_of callee.file names; function = number_of callee.function names }
+call_of names callee cost = record {
+  place = place_of_cost names cost;
+  object = number_of callee.object names;
+  file = number_of callee.file names;
+  function = number_of callee.function names;
+}
+
+-- the costs of calls, and how many calls there were
+abbrev pub calls_of : Callee → Cost → Calls
+calls_of callee cost = record { count = callee.count; costs = cost.costs }
 
 -- own costs are added at their place
+abbrev pub cells_with : List (List ℕ) → Cost → List (CellPlace × List ℕ) → List (CellPlace × List ℕ)
+cells_with names cost cells = merge cell_cmp added cells (cell_of names cost) cost.costs
+
+-- the costs of calls and their number are added at their calls
+abbrev pub arcs_with : List (List ℕ) → Callee → Cost → List (Call × Calls) → List (Call × Calls)
+arcs_with names callee cost arcs = merge call_cmp calls_added arcs (call_of names callee cost) (calls_of callee cost)
+
+-- a count is added to its stack
+abbrev pub stacks_with : List ℕ → ℕ → List (List ℕ × ℕ) → List (List ℕ × ℕ)
+stacks_with frames count stacks = merge bytes_cmp counts_added stacks frames count
+
 abbrev pub with_cost : Content → Cost → Content
 with_cost c cost =
     let names = names_with_cost cost c.names in
-    record c { names = names; cells = merge place_cmp added c.cells (place_of_cost names cost) cost.costs }
+    record c { names = names; cells = cells_with names cost c.cells }
 
--- the costs of calls and their number are added at their calls
 abbrev pub with_call : Content → Callee → Cost → Content
 with_call c callee cost =
     let names = names_with_callee callee (names_with_cost cost c.names) in
-    record c { names = names; arcs = merge call_cmp calls_added c.arcs (call_of names callee cost) (record { count = callee.count; costs = cost.costs }) }
+    record c { names = names; arcs = arcs_with names callee cost c.arcs }
 
 abbrev pub with_record : Content → Record → Content
 with_record c (Own cost) = with_cost c cost
@@ -71,6 +94,6 @@ with_record c (Called callee cost) = with_call c callee cost
 abbrev pub leaf_cost : Seen → Cost
 leaf_cost s = record { at = s.at; object = unknown; file = unknown; function = leaf_of s.stack.frames; line = 0; costs = s.stack.count ∷ [] }
 
--- a count is added to its stack and to the function that was running
+-- it is added to its stack, and to the function that was running
 abbrev pub with_stack : Content → Seen → Content
-with_stack c s = record (with_cost c (leaf_cost s)) { stacks = merge bytes_cmp counts_added c.stacks s.stack.frames s.stack.count }
+with_stack c s = record (with_cost c (leaf_cost s)) { stacks = stacks_with s.stack.frames s.stack.count c.stacks }

@@ -1,5 +1,8 @@
 -- Sums by key, and what a row adds to them.
-use Rattle.std.specs.Prelude.{ℕ, ◌+◌, Bool, true, List, [], ◌∷◌, fold, nat_eq, if◌then◌else◌}
+use Rattle.std.specs.Prelude.{◌≡◌, ℕ, ◌+◌, ◌<◌, Bool, true, List, [], ◌∷◌, fold, nat_eq, if◌then◌else◌}
+use Rattle.std.specs.List.{AllByRecursion}
+use Rattle.std.specs.List.Sorted.{IsStrictlySortedBy}
+use Rattle.std.specs.Map.{keys_of, values_of}
 use Rattle.cost_rows.specs.Sums.{Spot}
 use Rattle.cost_rows.specs.Keys.{named_cmp, part_of, place_of_row}
 use Rattle.cost_rows.specs.Merging.{merge, sum_where}
@@ -35,3 +38,13 @@ cost_where key passes (row ∷ rows) = (if passes (part_of key (place_of_row row
 -- the sums of rows that are added one after another
 abbrev pub sums_by : Key → List (CellRow (List ℕ)) → List (Spot × ℕ)
 sums_by key rows = (fold with_row (record { key = key; sums = [] }) rows).sums
+
+-- each part stands once, in order, with a sum above 0
+pub record AreSums (sums : List (Spot × ℕ)) : Type 0 where
+  pub order : IsStrictlySortedBy named_cmp (keys_of sums)
+  pub above : AllByRecursion (λ n. 0 < n) (values_of sums)
+
+-- for every test of the parts of places that a key tells, the sums that pass are what the rows cost there
+pub record AddUpBy (key : Key) (rows : List (CellRow (List ℕ))) : Type 0 where
+  pub sums : (passes : Spot → Bool) → sum_where passes (λ n. n) (sums_by key rows) ≡ cost_where key passes rows
+  pub are : AreSums (sums_by key rows)

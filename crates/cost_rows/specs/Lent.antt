@@ -1,6 +1,10 @@
--- The parts of a call record that is lent, as plain data.
+-- The parts of a record that is lent, as plain data.
 use Rattle.profile_records.specs.Records.{Cost, Callee}
 use Rattle.profile_records.specs.declared.sink.CallCost.{CallCost}
+use Rattle.profile_records.specs.declared.sink.SelfCost.{SelfCost}
+
+abbrev pub own_cost : SelfCost → Cost
+own_cost r = record { at = r.at; object = r.object.now; file = r.file.now; function = r.function.now; line = r.line; costs = r.costs.now }
 
 abbrev pub cost_of : CallCost → Cost
 cost_of r = record { at = r.at; object = r.object.now; file = r.file.now; function = r.function.now; line = r.line; costs = r.costs.now }

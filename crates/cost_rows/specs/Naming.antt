@@ -1,6 +1,7 @@
 -- Names and their numbers: a name's number is its place among the names, in the order in which they first came.
-use Rattle.std.specs.Prelude.{ℕ, suc, List, [], ◌∷◌, fold, if◌then◌else◌, Option, Some, None}
+use Rattle.std.specs.Prelude.{◌≡◌, ◌↔◌, ℕ, suc, true, List, [], ◌∷◌, fold, if◌then◌else◌, Option, Some, None, slice_get}
 use Rattle.std.specs.Str.{bytes_eq}
+use Rattle.cg_text.specs.Distinct.{are_distinct}
 
 -- one place further on
 abbrev pub further : Option ℕ → Option ℕ
@@ -20,3 +21,15 @@ with_name name (first ∷ names) = if bytes_eq name first then first ∷ names e
 -- the names of a list, each once, in the order in which they first came
 abbrev pub names_among : List (List ℕ) → List (List ℕ)
 names_among came = fold (λ names name. with_name name names) [] came
+
+-- equal numbers are given exactly to equal names
+pub record NumbersTell (names : List (List ℕ)) : Type 0 where
+  -- a number's name has that number and no other
+  pub place : (name : List ℕ) (n : ℕ) → are_distinct names ≡ true → (place_of name names ≡ Some n) ↔ (slice_get names n ≡ Some name)
+  -- of two names that are held, the numbers are equal exactly where the names are
+  pub apart : (name other : List ℕ) (n m : ℕ) → place_of name names ≡ Some n → place_of other names ≡ Some m → (n ≡ m) ↔ (name ≡ other)
+
+-- among more names each has the number that it had, and none stands twice
+pub record KeepsNumbers (names more : List (List ℕ)) : Type 0 where
+  pub kept : (name : List ℕ) (n : ℕ) → place_of name names ≡ Some n → place_of name more ≡ Some n
+  pub distinct : are_distinct names ≡ true → are_distinct more ≡ true

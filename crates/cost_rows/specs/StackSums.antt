@@ -1,14 +1,8 @@
 -- What the stacks of a folded file come to, straight from the stacks.
-use Rattle.std.specs.Prelude.{◌≡◌, ℕ, suc, ◌+◌, Bool, true, List, [], ◌∷◌, fold, slice_index, if◌then◌else◌}
-use Rattle.std.specs.List.Sorted.{IsStrictlySortedBy}
-use Rattle.std.specs.Map.{keys_of}
-use Rattle.cg_text.specs.Distinct.{are_distinct}
+use Rattle.std.specs.Prelude.{◌≡◌, ℕ, suc, ◌+◌, Bool, List, [], ◌∷◌, fold, if◌then◌else◌}
 use Rattle.profile_records.specs.Stacks.{Seen}
 use Rattle.cost_rows.specs.Content.{Content, empty, leaf_cost, with_stack}
-use Rattle.cost_rows.specs.Merging.{sum_where}
-use Rattle.cost_rows.specs.Places.{place_cmp}
-use Rattle.cost_rows.specs.Stacks.{bytes_cmp}
-use Rattle.cost_rows.specs.Sums.{Spot, spot_of, spot_at}
+use Rattle.cost_rows.specs.Sums.{Spot, spot_of, cells_where, stacks_where}
 
 -- the sum of the counts of the stacks whose running functions stand at places that pass
 abbrev pub leaf_sum : (Spot → Bool) → List Seen → ℕ
@@ -19,10 +13,6 @@ leaf_sum passes (s ∷ seen) = (if passes (spot_of (leaf_cost s)) then s.stack.c
 abbrev pub frames_sum : (List ℕ → Bool) → List Seen → ℕ
 frames_sum passes [] = 0
 frames_sum passes (s ∷ seen) = (if passes s.stack.frames then s.stack.count else 0) + frames_sum passes seen
-
--- column k of the cells at places that pass by their names
-abbrev pub cells_where : (Spot → Bool) → ℕ → Content → ℕ
-cells_where passes k c = sum_where (λ p. passes (spot_at c.names p)) (λ costs. slice_index costs k) c.cells
 
 -- the rows that stacks make
 abbrev pub content_of_stacks : List Seen → Content
@@ -35,11 +25,6 @@ pub record ComesToStacks (c : Content) (seen : List Seen) : Type 0 where
   -- they have no other column
   pub further : (passes : Spot → Bool) (k : ℕ) → cells_where passes (suc k) c ≡ 0
   -- the stacks are what they count themselves, for every test of their frames
-  pub stacks : (passes : List ℕ → Bool) → sum_where passes (λ count. count) c.stacks ≡ frames_sum passes seen
-
--- each place and each stack stands once, in order; no name stands twice, and there are no calls
-pub record IsInStackOrder (c : Content) : Type 0 where
-  pub cells : IsStrictlySortedBy place_cmp (keys_of c.cells)
-  pub stacks : IsStrictlySortedBy bytes_cmp (keys_of c.stacks)
-  pub names : are_distinct c.names ≡ true
+  pub stacks : (passes : List ℕ → Bool) → stacks_where passes c ≡ frames_sum passes seen
+  -- and there are no calls
   pub arcs : c.arcs ≡ []

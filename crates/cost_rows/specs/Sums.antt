@@ -1,7 +1,15 @@
 -- What the records of a file come to, straight from the records.
-use Rattle.std.specs.Prelude.{ℕ, ◌+◌, Bool, List, [], ◌∷◌, slice_index, slice_index_or, if◌then◌else◌}
+use Rattle.std.specs.Prelude.{◌≡◌, ℕ, ◌+◌, Bool, true, List, [], ◌∷◌, fold, slice_index, slice_index_or, if◌then◌else◌}
+use Rattle.std.specs.List.Sorted.{IsStrictlySortedBy}
+use Rattle.std.specs.Map.{keys_of}
+use Rattle.cg_text.specs.Distinct.{are_distinct}
 use Rattle.profile_records.specs.Records.{Cost, Callee, Record, Own, Called}
+use Rattle.cost_rows.specs.Content.{Content, empty, with_record}
+use Rattle.cost_rows.specs.Merging.{sum_where}
+use Rattle.cost_rows.specs.Places.{cell_cmp, call_cmp}
+use Rattle.cost_rows.specs.Stacks.{bytes_cmp}
 use Rattle.cost_rows.specs.declared.places.Place.{Place}
+use Rattle.cost_rows.specs.declared.places.CellPlace.{CellPlace}
 use Rattle.cost_rows.specs.declared.places.Call.{Call}
 
 -- a place by its names
@@ -29,6 +37,29 @@ spot_at names p = record { object = name_at names p.object; file = name_at names
 abbrev pub callee_at : List (List ℕ) → Call → Spot
 callee_at names c = record { object = name_at names c.object; file = name_at names c.file; function = name_at names c.function; line = 0 }
 
+-- a test of places, and one of calls, asked of what is held by number
+abbrev pub passing_cell : (Spot → Bool) → List (List ℕ) → CellPlace → Bool
+passing_cell passes names p = passes (spot_at names p.place)
+
+abbrev pub passing_call : (Spot → Spot → Bool) → List (List ℕ) → Call → Bool
+passing_call passes names a = passes (spot_at names a.place) (callee_at names a)
+
+-- column k of the cells at places that pass by their names
+abbrev pub cells_where : (Spot → Bool) → ℕ → Content → ℕ
+cells_where passes k c = sum_where (passing_cell passes c.names) (λ costs. slice_index costs k) c.cells
+
+-- column k of the calls that pass by their names
+abbrev pub calls_where : (Spot → Spot → Bool) → ℕ → Content → ℕ
+calls_where passes k c = sum_where (passing_call passes c.names) (λ calls. slice_index calls.costs k) c.arcs
+
+-- how many these are
+abbrev pub counts_where : (Spot → Spot → Bool) → Content → ℕ
+counts_where passes c = sum_where (passing_call passes c.names) (λ calls. calls.count) c.arcs
+
+-- what the stacks that pass count
+abbrev pub stacks_where : (List ℕ → Bool) → Content → ℕ
+stacks_where passes c = sum_where passes (λ count. count) c.stacks
+
 -- the sum of column k over the self records at places that pass
 abbrev pub own_sum : (Spot → Bool) → ℕ → List Record → ℕ
 own_sum passes k [] = 0
@@ -39,10 +70,28 @@ own_sum passes k (Called callee cost ∷ records) = own_sum passes k records
 abbrev pub call_sum : (Spot → Spot → Bool) → ℕ → List Record → ℕ
 call_sum passes k [] = 0
 call_sum passes k (Own cost ∷ records) = call_sum passes k records
-call_sum passes k (Called callee cost ∷ records) = (if passes (spot_of cost) (callee_spot callee) then slice_index cost.costs k else 0) + call_sum passes k records
+call_sum passes k (Called callee cost ∷ records) =
+    (if passes (spot_of cost) (callee_spot callee) then slice_index cost.costs k else 0) + call_sum passes k records
 
 -- how many calls these records count
 abbrev pub count_sum : (Spot → Spot → Bool) → List Record → ℕ
 count_sum passes [] = 0
 count_sum passes (Own cost ∷ records) = count_sum passes records
 count_sum passes (Called callee cost ∷ records) = (if passes (spot_of cost) (callee_spot callee) then callee.count else 0) + count_sum passes records
+
+-- the rows that records make
+abbrev pub content_of_records : List Record → Content
+content_of_records records = fold with_record empty records
+
+-- rows that come to what the records come to: for every test of places and each column, and for every test of calls
+pub record ComesToRecords (c : Content) (records : List Record) : Type 0 where
+  pub cells : (passes : Spot → Bool) (k : ℕ) → cells_where passes k c ≡ own_sum passes k records
+  pub arcs : (passes : Spot → Spot → Bool) (k : ℕ) → calls_where passes k c ≡ call_sum passes k records
+  pub counts : (passes : Spot → Spot → Bool) → counts_where passes c ≡ count_sum passes records
+
+-- each key stands once, in order, and no name stands twice
+pub record IsInOrder (c : Content) : Type 0 where
+  pub cells : IsStrictlySortedBy cell_cmp (keys_of c.cells)
+  pub arcs : IsStrictlySortedBy call_cmp (keys_of c.arcs)
+  pub stacks : IsStrictlySortedBy bytes_cmp (keys_of c.stacks)
+  pub names : are_distinct c.names ≡ true

@@ -2,13 +2,13 @@
 use Rattle.std.specs.Prelude.{◌≡◌, ℕ, ◌*◌, ◌<◌, ◌≤◌, ◌^◌, true, List, length, slice_index}
 use Rattle.cost_rows.specs.Merging.{sum_where}
 use Rattle.cost_rows.specs.Content.{Content}
-use Rattle.cost_rows.specs.declared.places.Place.{Place}
+use Rattle.cost_rows.specs.declared.places.CellPlace.{CellPlace}
 use Rattle.cost_rows.specs.declared.places.Call.{Call}
 use Rattle.cost_rows.specs.declared.calls.Calls.{Calls}
 use Rattle.cost_rows.specs.declared.rows.FileTotals.{FileTotals}
 
 -- the sum of column k over all cells
-abbrev pub cell_total : ℕ → List (Place × List ℕ) → ℕ
+abbrev pub cell_total : ℕ → List (CellPlace × List ℕ) → ℕ
 cell_total k cells = sum_where (λ _. true) (λ costs. slice_index costs k) cells
 
 -- the sum of column k over all calls
@@ -32,7 +32,7 @@ pub record AreTotals (t : FileTotals) (c : Content) (events : ℕ) : Type 0 wher
   pub call_count : t.call_count ≡ count_total c.arcs
 
 -- each line so far added less than 2^63 to each sum
-pub record AreWithin (cells : List (Place × List ℕ)) (arcs : List (Call × Calls)) (stacks : List (List ℕ × ℕ)) (lines : ℕ) : Type 0 where
+pub record AreWithin (cells : List (CellPlace × List ℕ)) (arcs : List (Call × Calls)) (stacks : List (List ℕ × ℕ)) (lines : ℕ) : Type 0 where
   pub cells_fit : (k : ℕ) → cell_total k cells ≤ lines * 2 ^ 63
   pub arcs_fit : (k : ℕ) → arc_total k arcs ≤ lines * 2 ^ 63
   pub counts_fit : count_total arcs ≤ lines * 2 ^ 63

@@ -1,7 +1,9 @@
 -- What the rows that are walked come to.
-use Rattle.std.specs.Prelude.{ℕ, ◌+◌, Bool, ◌&&◌, ◌==◌, List, [], ◌∷◌, slice_index, if◌then◌else◌}
+use Rattle.std.specs.Prelude.{◌≡◌, ℕ, ◌+◌, Bool, ◌&&◌, ◌==◌, List, [], ◌∷◌, slice_index, if◌then◌else◌}
 use Rattle.cost_rows.specs.Keys.{place_of_row}
-use Rattle.cost_rows.specs.Sums.{Spot}
+use Rattle.cost_rows.specs.Content.{Content}
+use Rattle.cost_rows.specs.Sums.{Spot, cells_where, calls_where, counts_where, stacks_where}
+use Rattle.cost_rows.specs.Walks.{cell_rows, arc_rows, stack_rows}
 use Rattle.cost_rows.specs.declared.rows.CellRow.{CellRow}
 use Rattle.cost_rows.specs.declared.rows.ArcRow.{ArcRow}
 use Rattle.cost_rows.specs.declared.rows.StackRow.{StackRow}
@@ -32,3 +34,10 @@ calls_count passes (r ∷ rows) = (if passes (caller_of_row r) (callee_of_row r)
 abbrev pub stacks_count : (List ℕ → Bool) → List (StackRow (List ℕ)) → ℕ
 stacks_count passes [] = 0
 stacks_count passes (r ∷ rows) = (if passes r.stack then r.count else 0) + stacks_count passes rows
+
+-- what is walked comes to what is held
+pub record WalksCome (c : Content) : Type 0 where
+  pub cells : (passes : Spot → Bool) (k : ℕ) → rows_cost passes k (cell_rows c.names c.cells) ≡ cells_where passes k c
+  pub arcs : (passes : Spot → Spot → Bool) (k : ℕ) → calls_cost passes k (arc_rows c.names c.arcs) ≡ calls_where passes k c
+  pub counts : (passes : Spot → Spot → Bool) → calls_count passes (arc_rows c.names c.arcs) ≡ counts_where passes c
+  pub stacks : (passes : List ℕ → Bool) → stacks_count passes (stack_rows c.stacks) ≡ stacks_where passes c

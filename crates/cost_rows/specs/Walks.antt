@@ -1,7 +1,7 @@
 -- The rows that are walked: names in place of their numbers, and no cell or stack whose sum is 0.
 use Rattle.std.specs.Prelude.{ℕ, suc, List, [], ◌∷◌, ◌++◌, nat_lt, if◌then◌else◌}
-use Rattle.cost_rows.specs.Sums.{name_at}
-use Rattle.cost_rows.specs.declared.places.Place.{Place}
+use Rattle.cost_rows.specs.Sums.{name_at, spot_at}
+use Rattle.cost_rows.specs.declared.places.CellPlace.{CellPlace}
 use Rattle.cost_rows.specs.declared.places.Call.{Call}
 use Rattle.cost_rows.specs.declared.calls.Calls.{Calls}
 use Rattle.cost_rows.specs.declared.rows.CellRow.{CellRow}
@@ -9,18 +9,19 @@ use Rattle.cost_rows.specs.declared.rows.ArcRow.{ArcRow}
 use Rattle.cost_rows.specs.declared.rows.StackRow.{StackRow}
 
 -- the row of an event's sum at a place
-abbrev pub cell_row : List (List ℕ) → Place → ℕ → ℕ → CellRow (List ℕ)
+abbrev pub cell_row : List (List ℕ) → CellPlace → ℕ → ℕ → CellRow (List ℕ)
 cell_row names p event cost =
-    record { object = name_at names p.object; file = name_at names p.file; function = name_at names p.function; line = p.line; event = event; cost = cost }
+    let at = spot_at names p.place in
+    record { object = at.object; file = at.file; function = at.function; line = at.line; event = event; cost = cost }
 
 -- the rows of a place, from an event on
-abbrev pub rows_at : List (List ℕ) → Place → ℕ → List ℕ → List (CellRow (List ℕ))
+abbrev pub rows_at : List (List ℕ) → CellPlace → ℕ → List ℕ → List (CellRow (List ℕ))
 rows_at names p event [] = []
 rows_at names p event (cost ∷ costs) =
     if nat_lt 0 cost then cell_row names p event cost ∷ rows_at names p (suc event) costs
     else rows_at names p (suc event) costs
 
-abbrev pub cell_rows : List (List ℕ) → List (Place × List ℕ) → List (CellRow (List ℕ))
+abbrev pub cell_rows : List (List ℕ) → List (CellPlace × List ℕ) → List (CellRow (List ℕ))
 cell_rows names [] = []
 cell_rows names (e ∷ cells) = rows_at names e.0 0 e.1 ++ cell_rows names cells
 

@@ -1,6 +1,6 @@
 // Sums of calls.
-ghost use Rattle.std.specs.Prelude.{◌≡◌, ◌+◌, ◌<◌, ◌^◌, OnOk, OnErr, IfOk, All};
-ghost use Rattle.cost_rows.specs.Columns.{added};
+ghost use Rattle.std.specs.Prelude.{◌≡◌, ◌+◌, OnOk, OnErr, IfOk};
+ghost use Rattle.cost_rows.specs.Columns.{added, AreLow};
 
 use crate::costs::Costs;
 use std::alloc::{AllocError, Global};
@@ -28,7 +28,7 @@ impl Calls {
     /// Adds a record. A refusal leaves the sums as they were.
     pub fn add(&mut self, count: u64, costs: &[u64]) -> Result<(), AllocError>
         requires small { AreSmall self.old }
-        requires low { All (λ c. c < 2 ^ 63) costs.now }
+        requires low { AreLow costs.now }
         ensures ok { OnOk result (self.new ≡ calls_added self.old (record { count = count; costs = costs.now })) }
         ensures err { OnErr result (self.new ≡ self.old) }
     {

@@ -1,6 +1,6 @@
 // Sums of costs by column.
-ghost use Rattle.std.specs.Prelude.{◌≡◌, ◌++◌, ◌<◌, ◌≤◌, ◌^◌, OnOk, OnErr, IfOk, All, length, vec_len};
-ghost use Rattle.cost_rows.specs.Columns.{added};
+ghost use Rattle.std.specs.Prelude.{◌≡◌, ◌++◌, ◌≤◌, OnOk, OnErr, IfOk, length, vec_len};
+ghost use Rattle.cost_rows.specs.Columns.{added, AreLow, HaveRoom};
 
 use std::alloc::{AllocError, Global};
 use std::marker::Model;
@@ -23,7 +23,7 @@ impl Model for Costs {
 fn widen(sums: &mut Vec<u128>, costs: &[u64]) -> Result<(), AllocError>
     ensures wide { OnOk result (length costs.now ≤ vec_len sums.new) }
     ensures sums { OnOk result (added sums.new.items costs.now ≡ added sums.old.items costs.now) }
-    ensures small { All (λ s. s < 2 ^ 127) sums.old.items → All (λ s. s < 2 ^ 127) sums.new.items }
+    ensures small { HaveRoom sums.old.items → HaveRoom sums.new.items }
     ensures err { OnErr result (sums.new.items ≡ sums.old.items) }
 {
     if sums.len() < costs.len() {
@@ -35,8 +35,8 @@ fn widen(sums: &mut Vec<u128>, costs: &[u64]) -> Result<(), AllocError>
 /// Adds a row of costs to the sums of its columns.
 fn add_costs(sums: &mut [u128], costs: &[u64])
     requires wide { length costs.now ≤ length sums.old }
-    requires small { All (λ s. s < 2 ^ 127) sums.old }
-    requires low { All (λ c. c < 2 ^ 63) costs.now }
+    requires small { HaveRoom sums.old }
+    requires low { AreLow costs.now }
     ensures { sums.new ≡ added sums.old costs.now }
 {
     for (k, cost) in costs.iter().enumerate() {
@@ -66,8 +66,8 @@ impl Costs {
 
     /// Adds a row. A refusal leaves the sums as they were.
     pub fn add(&mut self, costs: &[u64]) -> Result<(), AllocError>
-        requires small { All (λ s. s < 2 ^ 127) self.old }
-        requires low { All (λ c. c < 2 ^ 63) costs.now }
+        requires small { HaveRoom self.old }
+        requires low { AreLow costs.now }
         ensures ok { OnOk result (self.new ≡ added self.old costs.now) }
         ensures err { OnErr result (self.new ≡ self.old) }
     {

@@ -5,10 +5,10 @@ ghost use Rattle.cost_rows.specs.Totals.{AreWithin, AreTotals};
 
 use crate::calls::Calls;
 use crate::costs::Costs;
-use crate::guesses::{Guesses, NOWHERE};
+use crate::guesses::{Guesses, NO_CELL};
 use crate::names::Names;
 use crate::numbered::{NumberedArcs, NumberedCells};
-use crate::places::{Call, Place};
+use crate::places::{Call, CellPlace};
 use crate::records::{merge_call, merge_own};
 use crate::rows::FileTotals;
 use crate::totals::{total_arcs, total_cells, total_count};
@@ -25,7 +25,7 @@ use std::collections::BTreeMap;
 pub struct FileRows {
     pub(crate) alloc: Global,
     pub(crate) names: Names,
-    pub(crate) cells: BTreeMap<Place, Costs>,
+    pub(crate) cells: BTreeMap<CellPlace, Costs>,
     pub(crate) arcs: BTreeMap<Call, Calls>,
     pub(crate) stacks: BTreeMap<Vec<u8>, u128>,
     pub(crate) guesses: Guesses,
@@ -88,7 +88,7 @@ impl FileRows {
         CellWalk {
             names: &self.names,
             rest: self.cells.iter(),
-            place: NOWHERE,
+            place: NO_CELL,
             costs: &[],
             event: 0,
         }
@@ -109,7 +109,7 @@ impl FileRows {
         let rest = self.cells.iter();
         NumberedCells {
             rest,
-            place: NOWHERE,
+            place: NO_CELL,
             costs: &[],
             event: 0,
         }

@@ -1,16 +1,19 @@
 // The numbers that a record's names are thought to have.
 
 use crate::names::Names;
-use crate::places::Place;
+use crate::places::{CellPlace, Place};
 use std::alloc::{AllocError, Global};
 
 /// The place of no record.
-pub(crate) const NOWHERE: Place = Place {
+const NOWHERE: Place = Place {
     object: 0,
     file: 0,
     function: 0,
     line: 0,
 };
+
+/// The cell of no record.
+pub(crate) const NO_CELL: CellPlace = CellPlace { place: NOWHERE };
 
 /// The place of the last record, and that of the last record of each function, by the number of its
 /// name. No clause speaks of them: whoever takes a guess compares it with the record's names first.

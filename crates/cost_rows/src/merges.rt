@@ -1,30 +1,30 @@
 // One more amount in a map of sums.
-ghost use Rattle.std.specs.Prelude.{◌≡◌, ◌<◌, ◌≤◌, ◌^◌, OnOk, OnErr, MatchOption, All};
-ghost use Rattle.std.specs.Map.{keys_of, lookup, remove_entry, set_value};
+ghost use Rattle.std.specs.Prelude.{◌≡◌, OnOk, OnErr, All};
+ghost use Rattle.std.specs.Map.{keys_of};
 ghost use Rattle.std.specs.List.Sorted.{IsStrictlySortedBy};
-ghost use Rattle.std.specs.BTreeMap.{is_at, values};
+ghost use Rattle.std.specs.BTreeMap.{values};
 ghost use Rattle.cost_rows.specs.Calls.{calls_added, AreSmall};
-ghost use Rattle.cost_rows.specs.Columns.{added};
+ghost use Rattle.cost_rows.specs.Columns.{added, AreLow, HaveRoom};
 ghost use Rattle.cost_rows.specs.Merging.{merge};
-ghost use Rattle.cost_rows.specs.Places.{place_cmp, call_cmp};
-ghost use Rattle.cost_rows.specs.Stacks.{bytes_cmp, by_bytes, counts_added};
+ghost use Rattle.cost_rows.specs.Places.{cell_cmp, call_cmp};
+ghost use Rattle.cost_rows.specs.Stacks.{bytes_cmp, by_bytes, counted, counted_again, counts_added};
 
 use crate::calls::Calls;
 use crate::costs::Costs;
-use crate::places::{Call, Place};
+use crate::places::{Call, CellPlace};
 use std::alloc::{AllocError, Global};
 use std::collections::BTreeMap;
 
 /// Merges a row of costs into the sums of its place. A refusal leaves the sums as they were.
 pub(crate) fn merge_cell(
     alloc: Global,
-    cells: &mut BTreeMap<Place, Costs>,
-    place: Place,
+    cells: &mut BTreeMap<CellPlace, Costs>,
+    place: CellPlace,
     costs: &[u64],
 ) -> Result<(), AllocError>
-    requires small { All (All (λ s. s < 2 ^ 127)) (values cells.old) }
-    requires low { All (λ c. c < 2 ^ 63) costs.now }
-    ensures ok { OnOk result (cells.new.entries ≡ merge place_cmp added cells.old.entries place costs.now) }
+    requires small { All HaveRoom (values cells.old) }
+    requires low { AreLow costs.now }
+    ensures ok { OnOk result (cells.new.entries ≡ merge cell_cmp added cells.old.entries place costs.now) }
     ensures err { OnErr result (cells.new.entries ≡ cells.old.entries) }
 {
     match cells.get_mut(&place) {
@@ -46,7 +46,7 @@ pub(crate) fn merge_arc(
     costs: &[u64],
 ) -> Result<(), AllocError>
     requires small { All AreSmall (values arcs.old) }
-    requires low { All (λ c. c < 2 ^ 63) costs.now }
+    requires low { AreLow costs.now }
     ensures ok { OnOk result (arcs.new.entries ≡ merge call_cmp calls_added arcs.old.entries call (record { count = count; costs = costs.now })) }
     ensures err { OnErr result (arcs.new.entries ≡ arcs.old.entries) }
 {
@@ -67,7 +67,7 @@ pub(crate) fn merge_stack(
     frames: &[u8],
     count: u64,
 ) -> Result<(), AllocError>
-    requires small { All (λ s. s < 2 ^ 127) (values stacks.old) }
+    requires small { HaveRoom (values stacks.old) }
     ensures ok { OnOk result (by_bytes stacks.new.entries ≡ merge bytes_cmp counts_added (by_bytes stacks.old.entries) frames.now count) }
     ensures err { OnErr result (stacks.new.entries ≡ stacks.old.entries) }
 {
@@ -83,7 +83,7 @@ pub(crate) fn merge_stack(
 
 /// How often a stack was seen so far.
 pub(crate) fn count_of(stacks: &BTreeMap<Vec<u8>, u128>, frames: &[u8]) -> Option<u128>
-    ensures count { result ≡ lookup (is_at (bytes_cmp frames.now)) (by_bytes stacks.now.entries) }
+    ensures count { result ≡ counted frames.now (by_bytes stacks.now.entries) }
     ensures ordered { IsStrictlySortedBy bytes_cmp (keys_of (by_bytes stacks.now.entries)) }
 {
     let _ordered = stacks.len();
@@ -92,7 +92,7 @@ pub(crate) fn count_of(stacks: &BTreeMap<Vec<u8>, u128>, frames: &[u8]) -> Optio
 
 /// Puts back what a stack had before a count was merged into it.
 pub(crate) fn put_back(stacks: &mut BTreeMap<Vec<u8>, u128>, frames: &[u8], before: Option<u128>)
-    ensures { MatchOption before (by_bytes stacks.new.entries ≡ remove_entry (is_at (bytes_cmp frames.now)) (by_bytes stacks.old.entries)) (λ n. by_bytes stacks.new.entries ≡ set_value (is_at (bytes_cmp frames.now)) (by_bytes stacks.old.entries) n) }
+    ensures { by_bytes stacks.new.entries ≡ counted_again frames.now before (by_bytes stacks.old.entries) }
 {
     match before {
         Some(count) => {

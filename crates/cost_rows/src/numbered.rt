@@ -2,7 +2,7 @@
 
 use crate::calls::Calls;
 use crate::costs::Costs;
-use crate::places::{Call, Place};
+use crate::places::{Call, CellPlace};
 use crate::rows::{ArcRow, CellRow};
 use std::collections::btree_map::Iter;
 use std::marker::Model;
@@ -54,8 +54,8 @@ impl<'a> Iterator for NumberedArcs<'a> {
 /// then by event. Takes no memory.
 #[derive(Drop)]
 pub struct NumberedCells<'a> {
-    pub(crate) rest: Iter<'a, Place, Costs>,
-    pub(crate) place: Place,
+    pub(crate) rest: Iter<'a, CellPlace, Costs>,
+    pub(crate) place: CellPlace,
     pub(crate) costs: &'a [u128],
     pub(crate) event: usize,
 }
@@ -89,11 +89,12 @@ impl<'a> Iterator for NumberedCells<'a> {
                     self.costs = more;
                     self.event += 1;
                     if *cost > 0 {
+                        let place = self.place.place;
                         return Some(CellRow {
-                            object: self.place.object,
-                            file: self.place.file,
-                            function: self.place.function,
-                            line: self.place.line,
+                            object: place.object,
+                            file: place.file,
+                            function: place.function,
+                            line: place.line,
                             event,
                             cost: *cost,
                         });

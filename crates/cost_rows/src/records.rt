@@ -1,13 +1,11 @@
 // One more record among names and sums.
-ghost use Rattle.std.specs.Prelude.{◌≡◌, ◌<◌, ◌^◌, OnOk, OnErr, All};
+ghost use Rattle.std.specs.Prelude.{◌≡◌, OnOk, OnErr, All};
 ghost use Rattle.std.specs.BTreeMap.{values};
-ghost use Rattle.cost_rows.specs.Calls.{calls_added, AreSmall};
-ghost use Rattle.cost_rows.specs.Columns.{added};
-ghost use Rattle.cost_rows.specs.Content.{with_three, place_in, call_of};
+ghost use Rattle.cost_rows.specs.Calls.{AreSmall};
+ghost use Rattle.cost_rows.specs.Columns.{AreLow, HaveRoom};
+ghost use Rattle.cost_rows.specs.Content.{arcs_with, cells_with, names_with_callee, names_with_cost};
 ghost use Rattle.cost_rows.specs.Growing.{Grows};
-ghost use Rattle.cost_rows.specs.Lent.{callee_of, cost_of};
-ghost use Rattle.cost_rows.specs.Merging.{merge};
-ghost use Rattle.cost_rows.specs.Places.{place_cmp, call_cmp};
+ghost use Rattle.cost_rows.specs.Lent.{callee_of, cost_of, own_cost};
 
 use crate::calls::Calls;
 use crate::costs::Costs;
@@ -15,7 +13,7 @@ use crate::guesses::Guesses;
 use crate::merges::{merge_arc, merge_cell};
 use crate::names::Names;
 use crate::numbering::number_place;
-use crate::places::{Call, Place};
+use crate::places::{Call, CellPlace};
 use profile_records::{CallCost, SelfCost};
 use std::alloc::{AllocError, Global};
 use std::collections::BTreeMap;
@@ -25,20 +23,20 @@ pub(crate) fn merge_own(
     alloc: Global,
     names: &mut Names,
     guesses: &mut Guesses,
-    cells: &mut BTreeMap<Place, Costs>,
+    cells: &mut BTreeMap<CellPlace, Costs>,
     r: SelfCost<'_>,
 ) -> Result<(), AllocError>
-    requires small { All (All (λ s. s < 2 ^ 127)) (values cells.old) }
-    requires low { All (λ c. c < 2 ^ 63) r.costs.now }
-    ensures names { OnOk result (names.new ≡ with_three r.entry.object.now r.entry.file.now r.entry.function.now names.old) }
-    ensures cells { OnOk result (cells.new.entries ≡ merge place_cmp added cells.old.entries (place_in names.new r.entry.object.now r.entry.file.now r.entry.function.now r.entry.line) r.entry.costs.now) }
+    requires small { All HaveRoom (values cells.old) }
+    requires low { AreLow r.costs.now }
+    ensures names { OnOk result (names.new ≡ names_with_cost (own_cost r.entry) names.old) }
+    ensures cells { OnOk result (cells.new.entries ≡ cells_with names.new (own_cost r.entry) cells.old.entries) }
     ensures grows { Grows names.old names.new }
     ensures err { OnErr result (cells.new.entries ≡ cells.old.entries) }
 {
     let guess = guesses.guess(names, r.function);
     let place = number_place(names, guess, r.object, r.file, r.function, r.line)?;
     guesses.keep(place)?;
-    merge_cell(alloc, cells, place, r.costs)
+    merge_cell(alloc, cells, CellPlace { place }, r.costs)
 }
 
 /// Merges a call record. A refusal leaves the calls as they were, and may leave names of the record.
@@ -51,9 +49,9 @@ pub(crate) fn merge_call(
     r: CallCost<'_>,
 ) -> Result<(), AllocError>
     requires small { All AreSmall (values arcs.old) }
-    requires low { All (λ c. c < 2 ^ 63) r.costs.now }
-    ensures names { OnOk result (names.new ≡ with_three r.entry.called_object.now r.entry.called_file.now r.entry.called_function.now (with_three r.entry.object.now r.entry.file.now r.entry.function.now names.old)) }
-    ensures arcs { OnOk result (arcs.new.entries ≡ merge call_cmp calls_added arcs.old.entries (call_of names.new (callee_of r.entry) (cost_of r.entry)) (record { count = r.entry.count; costs = r.entry.costs.now })) }
+    requires low { AreLow r.costs.now }
+    ensures names { OnOk result (names.new ≡ names_with_callee (callee_of r.entry) (names_with_cost (cost_of r.entry) names.old)) }
+    ensures arcs { OnOk result (arcs.new.entries ≡ arcs_with names.new (callee_of r.entry) (cost_of r.entry) arcs.old.entries) }
     ensures grows { Grows names.old names.new }
     ensures err { OnErr result (arcs.new.entries ≡ arcs.old.entries) }
 {

@@ -4,7 +4,7 @@ ghost use Rattle.cost_rows.specs.Totals.{cell_total, arc_total, count_total};
 
 use crate::calls::Calls;
 use crate::costs::Costs;
-use crate::places::{Call, Place};
+use crate::places::{Call, CellPlace};
 use std::alloc::{AllocError, Global};
 use std::collections::BTreeMap;
 
@@ -23,7 +23,7 @@ fn add_sums(totals: &mut [u128], sums: &[u128])
 /// The totals of so many columns over all cells.
 pub(crate) fn total_cells(
     alloc: Global,
-    cells: &BTreeMap<Place, Costs>,
+    cells: &BTreeMap<CellPlace, Costs>,
     events: usize,
 ) -> Result<Vec<u128>, AllocError>
     requires { (k : ℕ) → cell_total k cells.now.entries < 2 ^ 128 }

@@ -5,7 +5,7 @@ ghost use Rattle.cost_rows.specs.Sums.{name_at};
 use crate::calls::Calls;
 use crate::costs::Costs;
 use crate::names::Names;
-use crate::places::{Call, Place};
+use crate::places::{Call, CellPlace};
 use crate::rows::{ArcRow, CellRow, StackRow};
 use std::collections::btree_map::Iter;
 use std::marker::Model;
@@ -100,8 +100,8 @@ impl<'a> Iterator for StackWalk<'a> {
 #[derive(Drop)]
 pub struct CellWalk<'a> {
     pub(crate) names: &'a Names,
-    pub(crate) rest: Iter<'a, Place, Costs>,
-    pub(crate) place: Place,
+    pub(crate) rest: Iter<'a, CellPlace, Costs>,
+    pub(crate) place: CellPlace,
     pub(crate) costs: &'a [u128],
     pub(crate) event: usize,
 }
@@ -137,11 +137,12 @@ impl<'a> Iterator for CellWalk<'a> {
                     self.costs = more;
                     self.event += 1;
                     if *cost > 0 {
+                        let place = self.place.place;
                         return Some(CellRow {
-                            object: names.name_or_empty(self.place.object),
-                            file: names.name_or_empty(self.place.file),
-                            function: names.name_or_empty(self.place.function),
-                            line: self.place.line,
+                            object: names.name_or_empty(place.object),
+                            file: names.name_or_empty(place.file),
+                            function: names.name_or_empty(place.function),
+                            line: place.line,
                             event,
                             cost: *cost,
                         });

@@ -8,7 +8,7 @@ use Rattle.cost_rows.proofs.NamingLemmas.{same_bytes}
 use Rattle.prof_tables.specs.Labels.{IsGroupName}
 use Rattle.sources.specs.Outcomes.{bytes_of}
 use Rattle.histories.specs.History.{Said, Import, Remove, MakeGroup, DropGroup, Join, SetBaseline, Turn, History, File, held, next, groups, removes, drops, joins, parts, is_member, based_by, unbases, baseline}
-use Rattle.histories.specs.Legal.{IsLegal, IsHistory, number_of, has_run, has_group}
+use Rattle.histories.specs.Legal.{AreThere, IsLegal, IsHistory, number_of, has_run, has_group}
 use Rattle.histories.specs.declared.answers.Answer.{Answer}
 use Rattle.histories.specs.declared.answers.Answer.TheVariants.{Run, Done}
 use Rattle.histories.specs.declared.limits.Limits.{Limits}
@@ -176,15 +176,12 @@ group_more h turn name =
 
 -- ---- members and baselines are of groups and runs that are held
 
-abbrev pub AreHeld : History → List ℕ → ℕ → Type 0
-AreHeld h name n = (has_group h name ≡ true) × (has_run h n ≡ true)
-
 stay : (a b c : Bool) → a ≡ true → b ≡ false → (a && not b) || c ≡ true
 stay true false c is left = refl
 stay true true c is left = absurd cc
 stay false b c is left = absurd cc
 
-held_stays : (h : History) (turn : Turn) (name : List ℕ) (n : ℕ) → AreHeld h name n → drops name turn.said turn.answer ≡ false → removes n turn.said turn.answer ≡ false → AreHeld (h ++ turn ∷ []) name n
+held_stays : (h : History) (turn : Turn) (name : List ℕ) (n : ℕ) → AreThere h name n → drops name turn.said turn.answer ≡ false → removes n turn.said turn.answer ≡ false → AreThere (h ++ turn ∷ []) name n
 held_stays h turn name n was group run = (
   group_more h turn name ∙ stay (has_group h name) (drops name turn.said turn.answer) (list_any (λ other. bytes_eq other name) (made turn.said turn.answer)) was.0 group,
   run_more h turn n ∙ stay (has_run h n) (removes n turn.said turn.answer) (list_any (λ (f : File). f.number == n) (taken turn.said turn.answer)) was.1 run,
@@ -198,16 +195,16 @@ parts_both name n (DropGroup other) answer is = (refl, refl)
 parts_both name n said answer is = (refl, refl)
 
 joins_both : (limits : Limits) (h : History) (name : List ℕ) (n : ℕ) (said : Said) (answer : Answer) → IsLegal limits h said answer → joins name n said answer ≡ true
-    → AreHeld h name n × (drops name said answer ≡ false) × (removes n said answer ≡ false)
+    → AreThere h name n × (drops name said answer ≡ false) × (removes n said answer ≡ false)
 joins_both limits h name n (Join other m) Done legal is =
     let same = and_parts (bytes_eq other name) (m == n) is in
     let held = joined_legal limits h other m legal in
     ((ap (has_group h) (sym (same_bytes other name same.0)) ∙ held.0, ap (has_run h) (sym (eqb-true m n same.1)) ∙ held.1), refl, refl)
 joins_both limits h name n said answer legal is = absurd cc
 
-pub members_held : (h : History) → IsHistory h → (name : List ℕ) (n : ℕ) → is_member h name n ≡ true → AreHeld h name n
+pub members_held : (h : History) → IsHistory h → (name : List ℕ) (n : ℕ) → is_member h name n ≡ true → AreThere h name n
 members_held h is name n =
-    by_turns (λ h. is_member h name n ≡ true → AreHeld h name n) (λ none. absurd cc)
+    by_turns (λ h. is_member h name n ≡ true → AreThere h name n) (λ none. absurd cc)
     (λ limits h turn is was legal member.
     elim (or_cases (is_member h name n && not (parts name n turn.said turn.answer)) (joins name n turn.said turn.answer) (sym (member_more h turn name n) ∙ member)) [
       | inl stays ↦
@@ -226,10 +223,10 @@ unbases_both name n (DropGroup other) answer is = (refl, refl)
 unbases_both name n said answer is = (refl, refl)
 
 based_both : (limits : Limits) (h : History) (name : List ℕ) (n : ℕ) (said : Said) (answer : Answer) → IsLegal limits h said answer → based_by name said answer ≡ Some n
-    → AreHeld h name n × (drops name said answer ≡ false) × (removes n said answer ≡ false)
+    → AreThere h name n × (drops name said answer ≡ false) × (removes n said answer ≡ false)
 based_both limits h name n (SetBaseline other m) Done legal is = go (bytes_eq other name) refl is
   where
-    go : (b : Bool) → bytes_eq other name ≡ b → (if b then Some m else None) ≡ Some n → AreHeld h name n × (false ≡ false) × (false ≡ false)
+    go : (b : Bool) → bytes_eq other name ≡ b → (if b then Some m else None) ≡ Some n → AreThere h name n × (false ≡ false) × (false ≡ false)
     go true same e =
         let held = based_legal limits h other m legal in
         let number : n ≡ m = cc in
@@ -245,14 +242,14 @@ left_is name n said answer (Some m) is = go (unbases name m said answer) refl is
     go true same e = absurd cc
     go false same e = let number : n ≡ m = cc in (e, ap (λ k. unbases name k said answer) number ∙ same)
 
-pub baseline_held : (h : History) → IsHistory h → (name : List ℕ) (n : ℕ) → baseline h name ≡ Some n → AreHeld h name n
+pub baseline_held : (h : History) → IsHistory h → (name : List ℕ) (n : ℕ) → baseline h name ≡ Some n → AreThere h name n
 baseline_held h is name n =
-    by_turns (λ h. baseline h name ≡ Some n → AreHeld h name n) (λ none. absurd cc) one h is
+    by_turns (λ h. baseline h name ≡ Some n → AreThere h name n) (λ none. absurd cc) one h is
   where
-    one : (limits : Limits) (h : History) (turn : Turn) → IsHistory h → (baseline h name ≡ Some n → AreHeld h name n) → IsLegal limits h turn.said turn.answer → baseline (h ++ turn ∷ []) name ≡ Some n → AreHeld (h ++ turn ∷ []) name n
+    one : (limits : Limits) (h : History) (turn : Turn) → IsHistory h → (baseline h name ≡ Some n → AreThere h name n) → IsLegal limits h turn.said turn.answer → baseline (h ++ turn ∷ []) name ≡ Some n → AreThere (h ++ turn ∷ []) name n
     one limits h turn is was legal now = go (based_by name turn.said turn.answer) refl (sym (baseline_more h turn name) ∙ now)
       where
-        go : (o : Option ℕ) → based_by name turn.said turn.answer ≡ o → set_or o (left_by name turn.said turn.answer (baseline h name)) ≡ Some n → AreHeld (h ++ turn ∷ []) name n
+        go : (o : Option ℕ) → based_by name turn.said turn.answer ≡ o → set_or o (left_by name turn.said turn.answer (baseline h name)) ≡ Some n → AreThere (h ++ turn ∷ []) name n
         go None set e =
             let old = left_is name n turn.said turn.answer (baseline h name) e in
             let left = unbases_both name n turn.said turn.answer old.1 in

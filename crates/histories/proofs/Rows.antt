@@ -7,9 +7,9 @@ use Rattle.folded_reader.specs.Files.{stacks_of_file}
 use Rattle.cost_rows.specs.Content.{Content, empty, with_record, leaf_cost}
 use Rattle.cost_rows.specs.Held.{AreHeld}
 use Rattle.cost_rows.specs.Merging.{sum_where}
-use Rattle.cost_rows.specs.StackSums.{cells_where, content_of_stacks, frames_sum, leaf_sum}
-use Rattle.cost_rows.specs.Sums.{Spot, spot_of, spot_at, callee_at, own_sum, call_sum, count_sum}
-use Rattle.cost_rows.proofs.StackSumsLemmas.{held-stacks, sums-stacks, stacks-order}
+use Rattle.cost_rows.specs.StackSums.{content_of_stacks, frames_sum, leaf_sum}
+use Rattle.cost_rows.specs.Sums.{Spot, spot_of, passing_call, cells_where, calls_where, counts_where, stacks_where, content_of_records, own_sum, call_sum, count_sum}
+use Rattle.cost_rows.proofs.StackSumsLemmas.{held-stacks, sums-stacks}
 use Rattle.cost_rows.proofs.SumsLemmas.{held-records, sums-cells, sums-arcs, sums-counts}
 use Rattle.profile_records.specs.declared.kinds.Kind.{Kind}
 use Rattle.profile_records.specs.declared.kinds.Kind.TheVariants.{Callgrind, Folded}
@@ -18,9 +18,9 @@ use Rattle.histories.specs.Files.{records_of, stacks_of, rows_of, sample}
 pub record ComesTo (c : Content) (records : List Record) (stacks : List Seen) : Type 0 where
   pub held : AreHeld c
   pub cells : (passes : Spot → Bool) (k : ℕ) → cells_where passes k c ≡ own_sum passes k records
-  pub arcs : (passes : Spot → Spot → Bool) (k : ℕ) → sum_where (λ a. passes (spot_at c.names a.place) (callee_at c.names a)) (λ calls. slice_index calls.costs k) c.arcs ≡ call_sum passes k records
-  pub counts : (passes : Spot → Spot → Bool) → sum_where (λ a. passes (spot_at c.names a.place) (callee_at c.names a)) (λ calls. calls.count) c.arcs ≡ count_sum passes records
-  pub stacks_are : (passes : List ℕ → Bool) → sum_where passes (λ count. count) c.stacks ≡ frames_sum passes stacks
+  pub arcs : (passes : Spot → Spot → Bool) (k : ℕ) → calls_where passes k c ≡ call_sum passes k records
+  pub counts : (passes : Spot → Spot → Bool) → counts_where passes c ≡ count_sum passes records
+  pub stacks_are : (passes : List ℕ → Bool) → stacks_where passes c ≡ frames_sum passes stacks
 
 -- records make no stacks
 no_stacks : (records : List Record) (c : Content) → (fold with_record c records).stacks ≡ c.stacks
@@ -28,7 +28,7 @@ no_stacks [] c = refl
 no_stacks (Own cost ∷ records) c = no_stacks records (with_record c (Own cost))
 no_stacks (Called callee cost ∷ records) c = no_stacks records (with_record c (Called callee cost))
 
-records_come : (records : List Record) → ComesTo (fold with_record empty records) records []
+records_come : (records : List Record) → ComesTo (content_of_records records) records []
 records_come records = record {
   held = held-records records;
   cells = λ passes k. sums-cells passes k records;
@@ -62,10 +62,8 @@ stacks_come : (seen : List Seen) → ComesTo (content_of_stacks seen) (map sampl
 stacks_come seen = record {
   held = held-stacks seen;
   cells = columns;
-  arcs = λ passes k.
-      ap (sum_where (λ a. passes (spot_at (content_of_stacks seen).names a.place) (callee_at (content_of_stacks seen).names a)) (λ calls. slice_index calls.costs k)) (stacks-order seen).arcs ∙ sym (no_calls passes k seen);
-  counts = λ passes.
-      ap (sum_where (λ a. passes (spot_at (content_of_stacks seen).names a.place) (callee_at (content_of_stacks seen).names a)) (λ calls. calls.count)) (stacks-order seen).arcs ∙ sym (no_counts passes seen);
+  arcs = λ passes k. ap (sum_where (passing_call passes (content_of_stacks seen).names) (λ calls. slice_index calls.costs k)) (sums-stacks seen).arcs ∙ sym (no_calls passes k seen);
+  counts = λ passes. ap (sum_where (passing_call passes (content_of_stacks seen).names) (λ calls. calls.count)) (sums-stacks seen).arcs ∙ sym (no_counts passes seen);
   stacks_are = (sums-stacks seen).stacks;
 }
   where

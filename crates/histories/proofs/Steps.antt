@@ -9,7 +9,7 @@ use Rattle.prof_tables.specs.Changes as changes
 use Rattle.prof_tables.specs.Changes.{without_run, has_baseline, is_baseline, unbased, is_named, with_group, without_group, joined, with_member, without_member, rebased, with_baseline, has_member}
 use Rattle.prof_books.specs.Book.{book_of, Book}
 use Rattle.prof_books.proofs.Books.{book_dropped, named_dropped, named_grouped, named_new}
-use Rattle.histories.specs.History.{Said, Remove, MakeGroup, DropGroup, Join, Leave, SetBaseline, History, held, is_member, baseline}
+use Rattle.histories.specs.History.{Said, Remove, MakeGroup, DropGroup, Join, Leave, SetBaseline, History, with_turn, held, is_member, baseline}
 use Rattle.histories.specs.Legal.{IsLegal}
 use Rattle.histories.specs.Stands.{AreBooksOf, TablesTell}
 use Rattle.histories.specs.declared.answers.Answer.{Answer}
@@ -25,15 +25,12 @@ use Rattle.histories.proofs.Members.{member_other, member_made, member_based, me
 use Rattle.histories.proofs.Tests.{all_on, all_map, all_push, any-append, any-filter, or-false, number-flip, bytes-flip}
 use Rattle.histories.proofs.Turns.{history_more}
 
-abbrev pub grown : History → Said → Answer → History
-grown h said answer = h ++ record { said = said; answer = answer } ∷ []
-
 -- ---- nothing, and what changes nothing
 
 pub tell_nothing : TablesTell [] new_tables
 tell_nothing = record { legal = tt; named = named_new; next = refl; runs = tt; groups = refl; baselines = tt; members = λ name n. refl }
 
-pub tell_same : (limits : Limits) (h : History) (said : Said) (answer : Answer) (t : Tables) → IsStill answer → TablesTell h t → IsLegal limits h said answer → TablesTell (h ++ record { said = said; answer = answer } ∷ []) t
+pub tell_same : (limits : Limits) (h : History) (said : Said) (answer : Answer) (t : Tables) → IsStill answer → TablesTell h t → IsLegal limits h said answer → TablesTell (with_turn h said answer) t
 tell_same limits h said answer t still tell legal =
     let other = still_not_done answer still in
     record {
@@ -43,7 +40,7 @@ tell_same limits h said answer t still tell legal =
       runs = subst (λ files. AreBooksOf files (book_of t).runs) (sym (held_still h said answer still)) tell.runs;
       groups = tell.groups ∙ sym (groups_other h said answer other);
       baselines =
-          all_on (λ (g : GroupLine). g.baseline ≡ baseline h g.name) (λ (g : GroupLine). g.baseline ≡ baseline (grown h said answer) g.name) t.groups
+          all_on (λ (g : GroupLine). g.baseline ≡ baseline h g.name) (λ (g : GroupLine). g.baseline ≡ baseline (with_turn h said answer) g.name) t.groups
           (λ g is. is ∙ sym (baseline_other h said answer g.name other)) tell.baselines;
       members = λ name n. tell.members name n ∙ sym (member_other h said answer name n other);
     }
@@ -76,7 +73,7 @@ module _ (n : ℕ) where
       go None is = ap (λ o. (if is_baseline n o then unbased g else g).baseline) is ∙ is
       go (Some m) is = ap (λ o. (if is_baseline n o then unbased g else g).baseline) is ∙ two (m == n) m is ∙ ap (λ b. if b then None else Some m) (number-flip m n)
 
-pub tell_removed : (limits : Limits) (h : History) (n : ℕ) (t : Tables) → TablesTell h t → IsLegal limits h (Remove n) Done → TablesTell (h ++ record { said = Remove n; answer = Done } ∷ []) (without_run n t)
+pub tell_removed : (limits : Limits) (h : History) (n : ℕ) (t : Tables) → TablesTell h t → IsLegal limits h (Remove n) Done → TablesTell (with_turn h (Remove n) Done) (without_run n t)
 tell_removed limits h n t tell legal = record {
   legal = history_more limits h (Remove n) Done tell.legal legal;
   named = named_dropped n t tell.named;
@@ -86,7 +83,7 @@ tell_removed limits h n t tell legal = record {
       (subst (λ (b : Book). AreBooksOf (filter (λ f. not (f.number == n)) (held h)) b.runs) (sym (book_dropped n t)) (books_left n (held h) (book_of t).runs tell.runs));
   groups = map_same (cleared n) (λ (g : GroupLine). g.name) t.groups (cleared_name n) ∙ tell.groups ∙ sym (groups_same h (Remove n) tt);
   baselines =
-      all_map (λ (g : GroupLine). g.baseline ≡ baseline h g.name) (λ (g : GroupLine). g.baseline ≡ baseline (grown h (Remove n) Done) g.name) (cleared n) t.groups
+      all_map (λ (g : GroupLine). g.baseline ≡ baseline h g.name) (λ (g : GroupLine). g.baseline ≡ baseline (with_turn h (Remove n) Done) g.name) (cleared n) t.groups
       (λ g is. cleared_baseline n g ∙ ap (but n) is ∙ ap (λ name. but n (baseline h name)) (sym (cleared_name n g)) ∙ sym (baseline_removed h n (cleared n g).name)) tell.baselines;
   members = λ name k.
       any-filter (changes.is_member name k) (λ (m : MemberLine). not (m.run == n)) (not (n == k)) t.members
@@ -96,7 +93,7 @@ tell_removed limits h n t tell legal = record {
 
 -- ---- groups
 
-pub tell_made : (limits : Limits) (h : History) (name : List ℕ) (t : Tables) → TablesTell h t → IsLegal limits h (MakeGroup name) Done → TablesTell (h ++ record { said = MakeGroup name; answer = Done } ∷ []) (with_group name t)
+pub tell_made : (limits : Limits) (h : History) (name : List ℕ) (t : Tables) → TablesTell h t → IsLegal limits h (MakeGroup name) Done → TablesTell (with_turn h (MakeGroup name) Done) (with_group name t)
 tell_made limits h name t tell legal = record {
   legal = history_more limits h (MakeGroup name) Done tell.legal legal;
   named = named_grouped t (with_group name t).groups t.members tell.named;
@@ -104,8 +101,8 @@ tell_made limits h name t tell legal = record {
   runs = subst (λ files. AreBooksOf files (book_of t).runs) (sym (held_done h (MakeGroup name) tt)) tell.runs;
   groups = names t.groups ∙ ap (λ l. l ++ name ∷ []) tell.groups ∙ sym (groups_made h name);
   baselines =
-      all_push (λ (g : GroupLine). g.baseline ≡ baseline (grown h (MakeGroup name) Done) g.name) t.groups (record { name = name; baseline = None } ∷ [])
-      (all_on (λ (g : GroupLine). g.baseline ≡ baseline h g.name) (λ (g : GroupLine). g.baseline ≡ baseline (grown h (MakeGroup name) Done) g.name) t.groups
+      all_push (λ (g : GroupLine). g.baseline ≡ baseline (with_turn h (MakeGroup name) Done) g.name) t.groups (record { name = name; baseline = None } ∷ [])
+      (all_on (λ (g : GroupLine). g.baseline ≡ baseline h g.name) (λ (g : GroupLine). g.baseline ≡ baseline (with_turn h (MakeGroup name) Done) g.name) t.groups
       (λ g is. is ∙ sym (baseline_made h name g.name)) tell.baselines)
       (sym (baseline_made h name name ∙ no_baseline h tell.legal name (made_legal limits h name legal).1), tt);
   members = λ other n. tell.members other n ∙ sym (member_made h name other n);
@@ -115,7 +112,7 @@ tell_made limits h name t tell legal = record {
     names [] = refl
     names (g ∷ lines) = ap (λ l. g.name ∷ l) (names lines)
 
-pub tell_dropped : (limits : Limits) (h : History) (name : List ℕ) (t : Tables) → TablesTell h t → IsLegal limits h (DropGroup name) Done → TablesTell (h ++ record { said = DropGroup name; answer = Done } ∷ []) (without_group name t)
+pub tell_dropped : (limits : Limits) (h : History) (name : List ℕ) (t : Tables) → TablesTell h t → IsLegal limits h (DropGroup name) Done → TablesTell (with_turn h (DropGroup name) Done) (without_group name t)
 tell_dropped limits h name t tell legal = record {
   legal = history_more limits h (DropGroup name) Done tell.legal legal;
   named = named_grouped t (without_group name t).groups (without_group name t).members tell.named;
@@ -140,12 +137,12 @@ tell_dropped limits h name t tell legal = record {
         go false rest = ap (λ l. g.name ∷ l) rest
 
     kept : (lines : List GroupLine) → AllByRecursion (λ (g : GroupLine). g.baseline ≡ baseline h g.name) lines
-        → AllByRecursion (λ (g : GroupLine). g.baseline ≡ baseline (grown h (DropGroup name) Done) g.name) (filter (λ g. not (is_named name g)) lines)
+        → AllByRecursion (λ (g : GroupLine). g.baseline ≡ baseline (with_turn h (DropGroup name) Done) g.name) (filter (λ g. not (is_named name g)) lines)
     kept [] all = tt
     kept (g ∷ lines) all = go (is_named name g) refl (kept lines all.1)
       where
-        go : (b : Bool) → is_named name g ≡ b → AllByRecursion (λ (g : GroupLine). g.baseline ≡ baseline (grown h (DropGroup name) Done) g.name) (filter (λ g. not (is_named name g)) lines)
-            → AllByRecursion (λ (g : GroupLine). g.baseline ≡ baseline (grown h (DropGroup name) Done) g.name) (cond (not b) (g ∷ filter (λ g. not (is_named name g)) lines) (filter (λ g. not (is_named name g)) lines))
+        go : (b : Bool) → is_named name g ≡ b → AllByRecursion (λ (g : GroupLine). g.baseline ≡ baseline (with_turn h (DropGroup name) Done) g.name) (filter (λ g. not (is_named name g)) lines)
+            → AllByRecursion (λ (g : GroupLine). g.baseline ≡ baseline (with_turn h (DropGroup name) Done) g.name) (cond (not b) (g ∷ filter (λ g. not (is_named name g)) lines) (filter (λ g. not (is_named name g)) lines))
         go true same rest = rest
         go false same rest = (all.0 ∙ ap (λ b. none_if b (baseline h g.name)) (sym (bytes-flip name g.name ∙ same)) ∙ sym (baseline_dropped h name g.name), rest)
 
@@ -156,7 +153,7 @@ grouped_baselines : (h later : History) (lines : List GroupLine) → ((name : Li
 grouped_baselines h later lines same all =
     all_on (λ (g : GroupLine). g.baseline ≡ baseline h g.name) (λ (g : GroupLine). g.baseline ≡ baseline later g.name) lines (λ g is. is ∙ sym (same g.name)) all
 
-pub tell_joined : (limits : Limits) (h : History) (name : List ℕ) (n : ℕ) (t : Tables) → TablesTell h t → IsLegal limits h (Join name n) Done → TablesTell (h ++ record { said = Join name n; answer = Done } ∷ []) (joined name n t)
+pub tell_joined : (limits : Limits) (h : History) (name : List ℕ) (n : ℕ) (t : Tables) → TablesTell h t → IsLegal limits h (Join name n) Done → TablesTell (with_turn h (Join name n) Done) (joined name n t)
 tell_joined limits h name n t tell legal = go (has_member t name n) refl
   where
     in_group : (other : List ℕ) (k : ℕ) → has_member t name n ≡ true → is_member h other k ≡ is_member h other k || (bytes_eq name other && (n == k))
@@ -176,14 +173,14 @@ tell_joined limits h name n t tell legal = go (has_member t name n) refl
             or_true (is_member h other k) (ap₂ (is_member h) (sym (same_bytes name other two.0)) (sym (eqb-true n k two.1)) ∙ sym (tell.members name n) ∙ there)
         one false same = or_none (is_member h other k)
 
-    go : (b : Bool) → has_member t name n ≡ b → TablesTell (grown h (Join name n) Done) (if b then t else with_member name n t)
+    go : (b : Bool) → has_member t name n ≡ b → TablesTell (with_turn h (Join name n) Done) (if b then t else with_member name n t)
     go true there = record {
       legal = history_more limits h (Join name n) Done tell.legal legal;
       named = tell.named;
       next = tell.next ∙ sym (next_done h (Join name n));
       runs = subst (λ files. AreBooksOf files (book_of t).runs) (sym (held_done h (Join name n) tt)) tell.runs;
       groups = tell.groups ∙ sym (groups_same h (Join name n) tt);
-      baselines = grouped_baselines h (grown h (Join name n) Done) t.groups (baseline_joined h name n) tell.baselines;
+      baselines = grouped_baselines h (with_turn h (Join name n) Done) t.groups (baseline_joined h name n) tell.baselines;
       members = λ other k. tell.members other k ∙ in_group other k there ∙ sym (member_joined h name n other k);
     }
     go false there = record {
@@ -192,20 +189,20 @@ tell_joined limits h name n t tell legal = go (has_member t name n) refl
       next = tell.next ∙ sym (next_done h (Join name n));
       runs = subst (λ files. AreBooksOf files (book_of t).runs) (sym (held_done h (Join name n) tt)) tell.runs;
       groups = tell.groups ∙ sym (groups_same h (Join name n) tt);
-      baselines = grouped_baselines h (grown h (Join name n) Done) t.groups (baseline_joined h name n) tell.baselines;
+      baselines = grouped_baselines h (with_turn h (Join name n) Done) t.groups (baseline_joined h name n) tell.baselines;
       members = λ other k.
           any-append (changes.is_member other k) t.members (record { group = name; run = n } ∷ [])
           ∙ ap₂ ◌||◌ (tell.members other k) (or-false (bytes_eq name other && (n == k))) ∙ sym (member_joined h name n other k);
     }
 
-pub tell_left : (limits : Limits) (h : History) (name : List ℕ) (n : ℕ) (t : Tables) → TablesTell h t → IsLegal limits h (Leave name n) Done → TablesTell (h ++ record { said = Leave name n; answer = Done } ∷ []) (without_member name n t)
+pub tell_left : (limits : Limits) (h : History) (name : List ℕ) (n : ℕ) (t : Tables) → TablesTell h t → IsLegal limits h (Leave name n) Done → TablesTell (with_turn h (Leave name n) Done) (without_member name n t)
 tell_left limits h name n t tell legal = record {
   legal = history_more limits h (Leave name n) Done tell.legal legal;
   named = named_grouped t t.groups (without_member name n t).members tell.named;
   next = tell.next ∙ sym (next_done h (Leave name n));
   runs = subst (λ files. AreBooksOf files (book_of t).runs) (sym (held_done h (Leave name n) tt)) tell.runs;
   groups = tell.groups ∙ sym (groups_same h (Leave name n) tt);
-  baselines = grouped_baselines h (grown h (Leave name n) Done) t.groups (baseline_left h name n) tell.baselines;
+  baselines = grouped_baselines h (with_turn h (Leave name n) Done) t.groups (baseline_left h name n) tell.baselines;
   members = λ other k.
       any-filter (changes.is_member other k) (λ m. not (changes.is_member name n m)) (not (bytes_eq name other && (n == k))) t.members
       (λ m same.
@@ -219,7 +216,7 @@ tell_left limits h name n t tell legal = record {
 abbrev based : List ℕ → ℕ → GroupLine → GroupLine
 based name n g = if is_named name g then rebased n g else g
 
-pub tell_based : (limits : Limits) (h : History) (name : List ℕ) (n : ℕ) (t : Tables) → TablesTell h t → IsLegal limits h (SetBaseline name n) Done → TablesTell (h ++ record { said = SetBaseline name n; answer = Done } ∷ []) (with_baseline name n t)
+pub tell_based : (limits : Limits) (h : History) (name : List ℕ) (n : ℕ) (t : Tables) → TablesTell h t → IsLegal limits h (SetBaseline name n) Done → TablesTell (with_turn h (SetBaseline name n) Done) (with_baseline name n t)
 tell_based limits h name n t tell legal = record {
   legal = history_more limits h (SetBaseline name n) Done tell.legal legal;
   named = named_grouped t (with_baseline name n t).groups t.members tell.named;
@@ -227,7 +224,7 @@ tell_based limits h name n t tell legal = record {
   runs = subst (λ files. AreBooksOf files (book_of t).runs) (sym (held_done h (SetBaseline name n) tt)) tell.runs;
   groups = map_same (based name n) (λ (g : GroupLine). g.name) t.groups set_name ∙ tell.groups ∙ sym (groups_same h (SetBaseline name n) tt);
   baselines =
-      all_map (λ (g : GroupLine). g.baseline ≡ baseline h g.name) (λ (g : GroupLine). g.baseline ≡ baseline (grown h (SetBaseline name n) Done) g.name) (based name n) t.groups
+      all_map (λ (g : GroupLine). g.baseline ≡ baseline h g.name) (λ (g : GroupLine). g.baseline ≡ baseline (with_turn h (SetBaseline name n) Done) g.name) (based name n) t.groups
       (λ g is. set_baseline g is ∙ sym (baseline_based h name n (based name n g).name)) tell.baselines;
   members = λ other k. tell.members other k ∙ sym (member_based h name n other k);
 }

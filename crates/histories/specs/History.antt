@@ -27,6 +27,10 @@ pub record Turn : Type 0 where
 abbrev pub History : Type 0
 History = List Turn
 
+-- a history with a turn more
+abbrev pub with_turn : History → Said → Answer → History
+with_turn h said answer = h ++ record { said = said; answer = answer } ∷ []
+
 -- ---- the files that are held
 
 pub record File : Type 0 where

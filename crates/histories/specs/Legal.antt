@@ -1,6 +1,6 @@
 -- The legal answers to a command, after a history.
 use Rattle.std.specs.Prelude.{◌≡◌, ◌⊎◌, ℕ, ◌==◌, Bool, true, false, not, nat_lt, nat_le, bytes_eq, if◌then◌else◌, List, [], ◌∷◌, ◌++◌, length, Option, Some, None, option_map}
-use Rattle.std.specs.List.{list_any}
+use Rattle.std.specs.List.{list_any, AllByRecursion}
 use Rattle.std.specs.Str.{IsUtf8}
 use Rattle.sha2.specs.Sha256.{sha256}
 use Rattle.cg_text.specs.declared.faults.Fault as faults
@@ -8,7 +8,7 @@ use Rattle.prof_tables.specs.Labels.{IsLabel, IsGroupName}
 use Rattle.profile_records.specs.declared.kinds.Kind.{Kind}
 use Rattle.histories.specs.Files.{fault_of}
 use Rattle.sources.specs.Outcomes.{Outcome, bytes_of, is_failed, is_end}
-use Rattle.histories.specs.History.{Said, Import, Remove, MakeGroup, DropGroup, Join, Leave, SetBaseline, Ask, History, File, held, next, groups}
+use Rattle.histories.specs.History.{Said, Import, Remove, MakeGroup, DropGroup, Join, Leave, SetBaseline, Ask, History, File, held, next, groups, is_member, baseline}
 use Rattle.histories.specs.Sums.{excess_of}
 use Rattle.histories.specs.Texts.{text_of}
 use Rattle.histories.specs.declared.limits.Limits.{Limits}
@@ -118,3 +118,27 @@ IsHistoryAfter before (turn ∷ later) = ((limits : Limits) × IsLegal limits be
 
 abbrev pub IsHistory : History → Type 0
 IsHistory h = IsHistoryAfter [] h
+
+-- ---- what holds of each history
+
+-- a group of this name is there, and this run is held
+abbrev pub AreThere : History → List ℕ → ℕ → Type 0
+AreThere h name n = (has_group h name ≡ true) × (has_run h n ≡ true)
+
+-- whoever is in a group or its baseline is held, and so is the group; groups' names are in form
+pub record IsTidy (h : History) : Type 0 where
+  pub members : (name : List ℕ) (n : ℕ) → is_member h name n ≡ true → AreThere h name n
+  pub baselines : (name : List ℕ) (n : ℕ) → baseline h name ≡ Some n → AreThere h name n
+  pub names : AllByRecursion IsGroupName (groups h)
+
+-- ---- cuts of one source
+
+-- reads that gave the same bytes, of which one failed in both or in none, and that both ended or did not
+pub record AreAlike (xs ys : List Outcome) : Type 0 where
+  pub bytes : bytes_of xs ≡ bytes_of ys
+  pub failed : list_any is_failed xs ≡ list_any is_failed ys
+  pub ended : list_any is_end xs ≡ list_any is_end ys
+
+-- after each history two commands are due the same answer
+abbrev pub AreDueAlike : Said → Said → Type 0
+AreDueAlike one other = (limits : Limits) (h : History) → due limits h one ≡ due limits h other

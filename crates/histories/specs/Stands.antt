@@ -2,6 +2,7 @@
 use Rattle.std.specs.Prelude.{◌≡◌, ℕ, suc, Bool, List, [], ◌∷◌, map}
 use Rattle.std.specs.List.{AllByRecursion}
 use Rattle.sha2.specs.Sha256.{sha256}
+use Rattle.cg_formulas.specs.declared.heads.FileHead.{FileHead}
 use Rattle.cost_rows.specs.Sums.{Spot, own_sum, call_sum, count_sum}
 use Rattle.cost_rows.specs.StackSums.{frames_sum}
 use Rattle.cost_rows.specs.WalkSums.{rows_cost, stacks_count}
@@ -10,12 +11,18 @@ use Rattle.prof_tables.specs.Tables.{Tables, EventLine, GroupLine}
 use Rattle.prof_books.specs.Book.{RunBook, book_of, IsNamed}
 use Rattle.prof_books.specs.Entries.{HeldRun}
 use Rattle.prof_books.specs.Heads.{stated_at, derived_lines_from, coef_lines_from}
+use Rattle.prof_books.specs.Runs.{CanBeHeld, with_file}
 use Rattle.profile_records.specs.Kinds.{kind_number}
+use Rattle.profile_records.specs.declared.kinds.Kind.{Kind}
 use Rattle.prof_books.specs.Parts.{parts_sum}
-use Rattle.histories.specs.Files.{events_of, derived_of, stated_of, records_of, stacks_of}
-use Rattle.histories.specs.History.{History, File, held, next, groups, is_member, baseline}
-use Rattle.histories.specs.Legal.{IsHistory}
+use Rattle.histories.specs.Files.{events_of, derived_of, stated_of, records_of, stacks_of, rows_of, IsHeadOf}
+use Rattle.sources.specs.Outcomes.{Outcome, bytes_of}
+use Rattle.histories.specs.History.{Said, Import, History, File, with_turn, held, next, groups, is_member, baseline}
+use Rattle.histories.specs.Legal.{IsHistory, IsLegal}
 use Rattle.histories.specs.Sums.{own_column, call_column, calls_of}
+use Rattle.histories.specs.declared.answers.Answer.{Answer}
+use Rattle.histories.specs.declared.answers.Answer.TheVariants.{Run}
+use Rattle.histories.specs.declared.limits.Limits.{Limits}
 
 -- ---- a run of the book and a file
 
@@ -69,3 +76,32 @@ pub record TablesTell (h : History) (t : Tables) : Type 0 where
   pub groups : map (λ (g : GroupLine). g.name) t.groups ≡ groups h
   pub baselines : AllByRecursion (λ (g : GroupLine). g.baseline ≡ baseline h g.name) t.groups
   pub members : (name : List ℕ) (n : ℕ) → has_member t name n ≡ is_member h name n
+
+-- ---- one turn more
+
+-- tables that stand for a history turn into these, which stand for it with the turn, where the answer is legal
+abbrev pub TurnsInto : Said → Answer → Tables → Tables → Type 0
+TurnsInto said answer t after = (limits : Limits) (h : History) → TablesTell h t → IsLegal limits h said answer → TablesTell (with_turn h said answer) after
+
+-- the tables with a file more, under the next number
+abbrev pub with_import : Kind → List ℕ → List Outcome → FileHead → Tables → Tables
+with_import kind label outcomes head t =
+    let bytes = bytes_of outcomes in
+    with_file t.next kind (sha256 bytes) label head (rows_of kind bytes) t
+
+-- a database can hold them, as it did before, and the head is that of the file
+pub record IsPut (kind : Kind) (label : List ℕ) (outcomes : List Outcome) (head : FileHead) (t : Tables) : Type 0 where
+  pub was : CanBeHeld t
+  pub is : CanBeHeld (with_import kind label outcomes head t)
+  pub head_is : IsHeadOf kind head (bytes_of outcomes)
+
+-- a file that is put is the import of it
+abbrev pub IsImport : Kind → List ℕ → List Outcome → FileHead → Type 0
+IsImport kind label outcomes head =
+    (t : Tables) → IsPut kind label outcomes head t → TurnsInto (Import kind label outcomes) (Run t.next) t (with_import kind label outcomes head t)
+
+-- tables that stand for a history with the one command stand for it with the other, where the answer is legal to this
+abbrev pub AreToldAlike : Said → Said → Type 0
+AreToldAlike one other =
+    (limits : Limits) (h : History) (answer : Answer) (t : Tables)
+    → IsHistory h → IsLegal limits h other answer → TablesTell (with_turn h one answer) t → TablesTell (with_turn h other answer) t

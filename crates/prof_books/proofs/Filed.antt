@@ -6,6 +6,8 @@ use Rattle.cg_formulas.specs.declared.heads.FileHead.{FileHead}
 use Rattle.cost_rows.specs.Content.{Content}
 use Rattle.prof_tables.specs.Tables.{EventLine, DerivedLine, CoefLine}
 use Rattle.prof_books.specs.Book.{AreOf}
+use Rattle.prof_books.specs.Runs.{Filed, GoesInBook, IsOfItsRun}
+use Rattle.prof_books.proofs.Books.{book_put, named_put}
 use Rattle.prof_books.specs.Heads.{event_lines, event_lines_from, derived_lines, derived_lines_from, coef_lines, coef_lines_at, coef_lines_from}
 
 events_of_run : (run : ℕ) (head : FileHead) (c : Content) (place : ℕ) (names : List (List ℕ)) → AllByRecursion (λ (e : EventLine). e.run ≡ run) (event_lines_from run head c place names)
@@ -32,3 +34,10 @@ coefs_of_run run place (d ∷ derived) = all-append (λ (k : CoefLine). k.run �
 -- each line of a head says its run
 pub head_of_run : (run : ℕ) (head : FileHead) (c : Content) → AreOf run (event_lines run head c) (derived_lines run head) (coef_lines run head)
 head_of_run run head c = record { events_of = events_of_run run head c 0 head.events; derived_of = derived_of_run run 0 head.derived.derived; coefs_of = coefs_of_run run 0 head.derived.derived }
+
+-- what is written under the next number is in the book
+pub goes_in_book : (f : Filed) → IsOfItsRun f → GoesInBook f
+goes_in_book f of t next = record {
+  book = book_put f.line f.events f.derived f.coefs f.rows t next.was.0 next.is.0 next.was.1 next.is.1 next.named next.held next.number of;
+  named = named_put f.line f.events f.derived f.coefs f.rows t next.was.0 next.is.0 next.was.1 next.is.1 next.named next.held next.number of;
+}

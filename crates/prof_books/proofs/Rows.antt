@@ -4,10 +4,10 @@ use Rattle.std.specs.List.{AllByRecursion, list_any}
 use Rattle.std.specs.Map.{keys_of}
 use Rattle.sqlite_keyed.proofs.ListLemmas.{all-append}
 use Rattle.sql_tables.proofs.Rows.{map-append}
-use Rattle.cost_rows.specs.Held.{PlaceHeld, CallHeld}
+use Rattle.cost_rows.specs.Held.{CellHeld, CallHeld}
 use Rattle.cost_rows.specs.Sums.{name_at}
 use Rattle.cost_rows.specs.Walks.{cell_row, rows_at, cell_rows, arc_row, arc_rows, stack_rows}
-use Rattle.cost_rows.specs.declared.places.Place.{Place}
+use Rattle.cost_rows.specs.declared.places.CellPlace.{CellPlace}
 use Rattle.cost_rows.specs.declared.places.Call.{Call}
 use Rattle.cost_rows.specs.declared.calls.Calls.{Calls}
 use Rattle.cost_rows.specs.declared.rows.CellRow.{CellRow}
@@ -42,15 +42,15 @@ module _ (known : List NameLine) (up : Rising known) where
 
     -- ---- cells
 
-    one_cell : (p : Place) (event cost : ℕ) → PlaceHeld names p → cell_held known (cell_line_of run numbers p event cost) ≡ cell_row names p event cost
+    one_cell : (p : CellPlace) (event cost : ℕ) → CellHeld names p → cell_held known (cell_line_of run numbers p event cost) ≡ cell_row names p event cost
     one_cell p event cost h =
-        let P : List ℕ → List ℕ → List ℕ → CellRow (List ℕ) = λ a b d. record { object = a; file = b; function = d; line = p.line; event = event; cost = cost } in
-        let e : P (name_of known (numbered numbers p.object)) (name_of known (numbered numbers p.file)) (name_of known (numbered numbers p.function)) ≡ P (name_at names p.object) (name_at names p.file) (name_at names p.function) =
-        ap (λ a. P a (name_of known (numbered numbers p.file)) (name_of known (numbered numbers p.function))) (through names all p.object h.0)
-        ∙ ap (λ b. P (name_at names p.object) b (name_of known (numbered numbers p.function))) (through names all p.file h.1) ∙ ap (P (name_at names p.object) (name_at names p.file)) (through names all p.function h.2) in
+        let P : List ℕ → List ℕ → List ℕ → CellRow (List ℕ) = λ a b d. record { object = a; file = b; function = d; line = p.place.line; event = event; cost = cost } in
+        let e : P (name_of known (numbered numbers p.place.object)) (name_of known (numbered numbers p.place.file)) (name_of known (numbered numbers p.place.function)) ≡ P (name_at names p.place.object) (name_at names p.place.file) (name_at names p.place.function) =
+        ap (λ a. P a (name_of known (numbered numbers p.place.file)) (name_of known (numbered numbers p.place.function))) (through names all p.place.object h.0)
+        ∙ ap (λ b. P (name_at names p.place.object) b (name_of known (numbered numbers p.place.function))) (through names all p.place.file h.1) ∙ ap (P (name_at names p.place.object) (name_at names p.place.file)) (through names all p.place.function h.2) in
         e
 
-    cells_at : (p : Place) (event : ℕ) (costs : List ℕ) → PlaceHeld names p → map (cell_held known) (cell_lines_at run numbers p event costs) ≡ rows_at names p event costs
+    cells_at : (p : CellPlace) (event : ℕ) (costs : List ℕ) → CellHeld names p → map (cell_held known) (cell_lines_at run numbers p event costs) ≡ rows_at names p event costs
     cells_at p event [] h = refl
     cells_at p event (cost ∷ costs) h = go (nat_lt 0 cost) (cells_at p (suc event) costs h)
       where
@@ -60,7 +60,7 @@ module _ (known : List NameLine) (up : Rising known) where
         go true rest = ap₂ ◌∷◌ (one_cell p event cost h) rest
         go false rest = rest
 
-    pub cells_are : (cells : List (Place × List ℕ)) → AllByRecursion (PlaceHeld names) (keys_of cells) → map (cell_held known) (cell_lines run numbers cells) ≡ cell_rows names cells
+    pub cells_are : (cells : List (CellPlace × List ℕ)) → AllByRecursion (CellHeld names) (keys_of cells) → map (cell_held known) (cell_lines run numbers cells) ≡ cell_rows names cells
     cells_are [] h = refl
     cells_are (e ∷ cells) h =
         map-append (cell_held known) (cell_lines_at run numbers e.0 0 e.1) (cell_lines run numbers cells) ∙ ap₂ ◌++◌ (cells_at e.0 0 e.1 h.0) (cells_are cells h.1)
@@ -101,16 +101,16 @@ module _ (known : List NameLine) (up : Rising known) where
 
     -- ---- their names are held
 
-    named_at : (p : Place) (event : ℕ) (costs : List ℕ) → PlaceHeld names p → AllByRecursion (CellIsNamed known) (cell_lines_at run numbers p event costs)
+    named_at : (p : CellPlace) (event : ℕ) (costs : List ℕ) → CellHeld names p → AllByRecursion (CellIsNamed known) (cell_lines_at run numbers p event costs)
     named_at p event [] h = tt
     named_at p event (cost ∷ costs) h = go (nat_lt 0 cost) (named_at p (suc event) costs h)
       where
         go : (b : Bool) → AllByRecursion (CellIsNamed known) (cell_lines_at run numbers p (suc event) costs)
             → AllByRecursion (CellIsNamed known) (if b then cell_line_of run numbers p event cost ∷ cell_lines_at run numbers p (suc event) costs else cell_lines_at run numbers p (suc event) costs)
-        go true rest = ((held names all p.object h.0, held names all p.file h.1, held names all p.function h.2), rest)
+        go true rest = ((held names all p.place.object h.0, held names all p.place.file h.1, held names all p.place.function h.2), rest)
         go false rest = rest
 
-    pub cells_named : (cells : List (Place × List ℕ)) → AllByRecursion (PlaceHeld names) (keys_of cells) → AllByRecursion (CellIsNamed known) (cell_lines run numbers cells)
+    pub cells_named : (cells : List (CellPlace × List ℕ)) → AllByRecursion (CellHeld names) (keys_of cells) → AllByRecursion (CellIsNamed known) (cell_lines run numbers cells)
     cells_named [] h = tt
     cells_named (e ∷ cells) h = all-append (CellIsNamed known) (cell_lines_at run numbers e.0 0 e.1) (cell_lines run numbers cells) (named_at e.0 0 e.1 h.0) (cells_named cells h.1)
 
@@ -146,7 +146,7 @@ stacks_are run (e ∷ stacks) = go (nat_lt 0 e.1) (stacks_are run stacks)
 
 -- ---- each of these lines is of the run
 
-cells_of_run_at : (run : ℕ) (known_as : List ℕ) (p : Place) (event : ℕ) (costs : List ℕ) → AllByRecursion (λ (c : CellLine). c.run ≡ run) (cell_lines_at run known_as p event costs)
+cells_of_run_at : (run : ℕ) (known_as : List ℕ) (p : CellPlace) (event : ℕ) (costs : List ℕ) → AllByRecursion (λ (c : CellLine). c.run ≡ run) (cell_lines_at run known_as p event costs)
 cells_of_run_at run known_as p event [] = tt
 cells_of_run_at run known_as p event (cost ∷ costs) = go (nat_lt 0 cost) (cells_of_run_at run known_as p (suc event) costs)
   where
@@ -155,7 +155,7 @@ cells_of_run_at run known_as p event (cost ∷ costs) = go (nat_lt 0 cost) (cell
     go true rest = (refl, rest)
     go false rest = rest
 
-pub cells_of_run : (run : ℕ) (known_as : List ℕ) (cells : List (Place × List ℕ)) → AllByRecursion (λ (c : CellLine). c.run ≡ run) (cell_lines run known_as cells)
+pub cells_of_run : (run : ℕ) (known_as : List ℕ) (cells : List (CellPlace × List ℕ)) → AllByRecursion (λ (c : CellLine). c.run ≡ run) (cell_lines run known_as cells)
 cells_of_run run known_as [] = tt
 cells_of_run run known_as (e ∷ cells) = all-append (λ (c : CellLine). c.run ≡ run) (cell_lines_at run known_as e.0 0 e.1) (cell_lines run known_as cells) (cells_of_run_at run known_as e.0 0 e.1) (cells_of_run run known_as cells)
 

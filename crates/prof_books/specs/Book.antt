@@ -157,6 +157,13 @@ without_run_book n b = record b {
   members = filter (λ (m : MemberLine). not (m.run == n)) b.members;
 }
 
+-- other groups and members
+abbrev pub regrouped : List GroupLine → List MemberLine → Tables → Tables
+regrouped groups members t = record t { groups = groups; members = members }
+
+abbrev pub regrouped_book : List GroupLine → List MemberLine → Book → Book
+regrouped_book groups members b = record b { groups = groups; members = members }
+
 -- what a file is told as: what it says of itself, and its rows
 abbrev pub run_book : RunLine → List EventLine → List DerivedLine → List CoefLine → Content → RunBook
 run_book r events derived coefs c = record {

@@ -1,6 +1,6 @@
 -- The lines that the rows of a file become, names by their numbers in the tables.
 use Rattle.std.specs.Prelude.{ℕ, suc, nat_lt, if◌then◌else◌, List, [], ◌∷◌, ◌++◌, slice_index_or}
-use Rattle.cost_rows.specs.declared.places.Place.{Place}
+use Rattle.cost_rows.specs.declared.places.CellPlace.{CellPlace}
 use Rattle.cost_rows.specs.declared.places.Call.{Call}
 use Rattle.cost_rows.specs.declared.calls.Calls.{Calls}
 use Rattle.cost_rows.specs.Content.{Content}
@@ -12,25 +12,25 @@ use Rattle.prof_tables.specs.Files.{all_named, numbers_in}
 abbrev pub numbered : List ℕ → ℕ → ℕ
 numbered numbers name = slice_index_or numbers name 0
 
-abbrev pub cell_line_of : ℕ → List ℕ → Place → ℕ → ℕ → CellLine
+abbrev pub cell_line_of : ℕ → List ℕ → CellPlace → ℕ → ℕ → CellLine
 cell_line_of run numbers p event cost = record {
   run = run;
-  object = numbered numbers p.object;
-  file = numbered numbers p.file;
-  function = numbered numbers p.function;
-  line = p.line;
+  object = numbered numbers p.place.object;
+  file = numbered numbers p.place.file;
+  function = numbered numbers p.place.function;
+  line = p.place.line;
   event = event;
   cost = cost;
 }
 
 -- the sums above 0 at a place, from an event on
-abbrev pub cell_lines_at : ℕ → List ℕ → Place → ℕ → List ℕ → List CellLine
+abbrev pub cell_lines_at : ℕ → List ℕ → CellPlace → ℕ → List ℕ → List CellLine
 cell_lines_at run numbers p event [] = []
 cell_lines_at run numbers p event (cost ∷ costs) =
     if nat_lt 0 cost then cell_line_of run numbers p event cost ∷ cell_lines_at run numbers p (suc event) costs
     else cell_lines_at run numbers p (suc event) costs
 
-abbrev pub cell_lines : ℕ → List ℕ → List (Place × List ℕ) → List CellLine
+abbrev pub cell_lines : ℕ → List ℕ → List (CellPlace × List ℕ) → List CellLine
 cell_lines run numbers [] = []
 cell_lines run numbers (e ∷ cells) = cell_lines_at run numbers e.0 0 e.1 ++ cell_lines run numbers cells
 

@@ -1,7 +1,9 @@
 -- What the parts of calls come to.
-use Rattle.std.specs.Prelude.{ℕ, ◌+◌, Bool, ◌&&◌, ◌==◌, List, [], ◌∷◌, if◌then◌else◌}
+use Rattle.std.specs.Prelude.{◌≡◌, ℕ, suc, ◌+◌, Bool, ◌&&◌, ◌==◌, List, [], ◌∷◌, if◌then◌else◌, flat_map}
 use Rattle.cost_rows.specs.Sums.{Spot}
-use Rattle.prof_books.specs.Book.{CallPart}
+use Rattle.cost_rows.specs.WalkSums.{calls_cost, calls_count}
+use Rattle.cost_rows.specs.declared.rows.ArcRow.{ArcRow}
+use Rattle.prof_books.specs.Book.{CallPart, parts_of}
 
 -- the place of calls, and whom they called
 abbrev pub caller_of_part : CallPart → Spot
@@ -14,3 +16,8 @@ callee_of_part p = record { object = p.called_object; file = p.called_file; func
 abbrev pub parts_sum : (Spot → Spot → Bool) → ℕ → List CallPart → ℕ
 parts_sum passes part [] = 0
 parts_sum passes part (p ∷ parts) = (if passes (caller_of_part p) (callee_of_part p) && (p.part == part) then p.sum else 0) + parts_sum passes part parts
+
+-- the parts of rows of calls come to what the rows come to, for every test of calls
+pub record PartsCome (rows : List (ArcRow (List ℕ) (List ℕ))) : Type 0 where
+  pub counts : (passes : Spot → Spot → Bool) → calls_count passes rows ≡ parts_sum passes 0 (flat_map parts_of rows)
+  pub costs : (passes : Spot → Spot → Bool) (k : ℕ) → calls_cost passes k rows ≡ parts_sum passes (suc k) (flat_map parts_of rows)

@@ -1,7 +1,7 @@
 -- The lines that a file's rows become, row by row.
 use Rattle.std.proofs.Common.{◌≡◌, ℕ, suc, ◌+◌, List, [], ◌∷◌, ◌++◌, map, length, nat_lt, if◌then◌else◌, Bool, true, false, refl, sym, ap, ap₂, ◌∙◌, add-zero, arith, append-nil}
 use Rattle.std.proofs.lemmas.List.{append_assoc}
-use Rattle.cost_rows.specs.declared.places.Place.{Place}
+use Rattle.cost_rows.specs.declared.places.CellPlace.{CellPlace}
 use Rattle.cost_rows.specs.declared.places.Call.{Call}
 use Rattle.cost_rows.specs.declared.calls.Calls.{Calls}
 use Rattle.cost_rows.specs.declared.rows.CellRow.{CellRow}
@@ -17,7 +17,7 @@ use Rattle.run_rows.specs.FromRows.{place_of_cell}
 abbrev pub line_of_cell : ℕ → List ℕ → CellRow ℕ → CellLine
 line_of_cell run numbers r = cell_line_of run numbers (place_of_cell r) r.event r.cost
 
-cells_at : (run : ℕ) (numbers : List ℕ) (p : Place) (event : ℕ) (costs : List ℕ) → map (line_of_cell run numbers) (numbered_at p event costs) ≡ cell_lines_at run numbers p event costs
+cells_at : (run : ℕ) (numbers : List ℕ) (p : CellPlace) (event : ℕ) (costs : List ℕ) → map (line_of_cell run numbers) (numbered_at p event costs) ≡ cell_lines_at run numbers p event costs
 cells_at run numbers p event [] = refl
 cells_at run numbers p event (cost ∷ costs) = go (nat_lt 0 cost) (cells_at run numbers p (suc event) costs)
   where
@@ -25,12 +25,12 @@ cells_at run numbers p event (cost ∷ costs) = go (nat_lt 0 cost) (cells_at run
     rest = numbered_at p (suc event) costs
 
     go : (b : Bool) → map (line_of_cell run numbers) rest ≡ cell_lines_at run numbers p (suc event) costs
-        → map (line_of_cell run numbers) (if b then record { object = p.object; file = p.file; function = p.function; line = p.line; event = event; cost = cost } ∷ rest else rest)
+        → map (line_of_cell run numbers) (if b then record { object = p.place.object; file = p.place.file; function = p.place.function; line = p.place.line; event = event; cost = cost } ∷ rest else rest)
         ≡ (if b then cell_line_of run numbers p event cost ∷ cell_lines_at run numbers p (suc event) costs else cell_lines_at run numbers p (suc event) costs)
     go true more = ap (λ l. cell_line_of run numbers p event cost ∷ l) more
     go false more = more
 
-pub cells_are : (run : ℕ) (numbers : List ℕ) (cells : List (Place × List ℕ)) → map (line_of_cell run numbers) (numbered_cells cells) ≡ cell_lines run numbers cells
+pub cells_are : (run : ℕ) (numbers : List ℕ) (cells : List (CellPlace × List ℕ)) → map (line_of_cell run numbers) (numbered_cells cells) ≡ cell_lines run numbers cells
 cells_are run numbers [] = refl
 cells_are run numbers (e ∷ cells) = map-append (line_of_cell run numbers) (numbered_at e.0 0 e.1) (numbered_cells cells) ∙ ap₂ ◌++◌ (cells_at run numbers e.0 0 e.1) (cells_are run numbers cells)
 

@@ -1,7 +1,7 @@
 -- The parts of a file's rows, names by the file's own numbers.
 use Rattle.std.specs.Prelude.{ℕ, List}
 use Rattle.std.specs.Borrow.{Bor}
-use Rattle.cost_rows.specs.declared.places.Place.{Place}
+use Rattle.cost_rows.specs.declared.places.CellPlace.{CellPlace}
 use Rattle.cost_rows.specs.declared.places.Call.{Call}
 use Rattle.cost_rows.specs.declared.calls.Calls.{Calls}
 use Rattle.cost_rows.specs.declared.rows.CellRow.{CellRow}
@@ -9,8 +9,8 @@ use Rattle.cost_rows.specs.declared.rows.ArcRow.{ArcRow}
 use Rattle.cost_rows.specs.declared.rows.StackRow.{StackRow}
 use Rattle.prof_tables.specs.Tables.{StackLine}
 
-abbrev pub place_of_cell : CellRow ℕ → Place
-place_of_cell r = record { object = r.object; file = r.file; function = r.function; line = r.line }
+abbrev pub place_of_cell : CellRow ℕ → CellPlace
+place_of_cell r = record { place = record { object = r.object; file = r.file; function = r.function; line = r.line } }
 
 abbrev pub call_of_arc : ArcRow ℕ (Bor (List ℕ)) → Call
 call_of_arc r = record {

@@ -7,7 +7,8 @@ use Rattle.folded_reader.specs.Files as folded
 use Rattle.profile_records.specs.Stacks.{Seen}
 use Rattle.cost_rows.specs.Content.{Content}
 use Rattle.cost_rows.specs.StackSums.{leaf_sum, frames_sum}
-use Rattle.text_rows.specs.Texts.{content_of_records, content_of_text, ComesToRecords, content_of_folded, all_counts, ComesToCounts}
+use Rattle.cost_rows.specs.Sums.{content_of_records}
+use Rattle.text_rows.specs.Texts.{content_of_text, ComesToRecords, content_of_folded, all_counts, ComesToCounts}
 use Rattle.cost_rows.proofs.StackSumsLemmas.{sums-stacks}
 use Rattle.cost_rows.proofs.SumsLemmas.{sums-cells, sums-arcs, sums-counts}
 

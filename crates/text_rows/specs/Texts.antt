@@ -1,17 +1,13 @@
 -- What the rows of a whole text come to.
-use Rattle.std.specs.Prelude.{◌≡◌, ℕ, ◌+◌, true, List, [], ◌∷◌, fold}
+use Rattle.std.specs.Prelude.{◌≡◌, ℕ, ◌+◌, true, List, [], ◌∷◌}
 use Rattle.profile_records.specs.Records.{Record}
 use Rattle.callgrind_reader.specs.Files as callgrind
 use Rattle.folded_reader.specs.Files as folded
 use Rattle.profile_records.specs.Stacks.{Seen}
-use Rattle.cost_rows.specs.Content.{Content, empty, with_record}
+use Rattle.cost_rows.specs.Content.{Content}
 use Rattle.cost_rows.specs.StackSums.{content_of_stacks}
-use Rattle.cost_rows.specs.Sums.{own_sum, call_sum, count_sum}
+use Rattle.cost_rows.specs.Sums.{content_of_records, own_sum, call_sum, count_sum}
 use Rattle.cost_rows.specs.Totals.{cell_total, arc_total, count_total, stack_total}
-
--- the rows that records make
-abbrev pub content_of_records : List Record → Content
-content_of_records records = fold with_record empty records
 
 -- the rows of a Callgrind text
 abbrev pub content_of_text : List ℕ → Content

@@ -7,13 +7,9 @@ use Rattle.cost_rows.proofs.laws.rows_add_up_by_key.Goals as goal
 none_first : (n : ℕ) → 0 + n ≡ n
 none_first n = omega arith
 
-pub returns-clause-sums : goal.returns-clause-sums
-returns-clause-sums c = λ key passes rows. sums-rows passes rows (record { key = key; sums = [] }) ∙ none_first (cost_where key passes rows)
-
-pub returns-clause-order : goal.returns-clause-order
+pub returns : goal.returns
 unfolding IsStrictlySortedBy
-returns-clause-order c = λ key rows. (sums-are rows (record { key = key; sums = [] }) (record { order = tt; above = tt })).order
-
-pub returns-clause-above : goal.returns-clause-above
-unfolding IsStrictlySortedBy
-returns-clause-above c = λ key rows. (sums-are rows (record { key = key; sums = [] }) (record { order = tt; above = tt })).above
+returns c = λ key rows. record {
+  sums = λ passes. sums-rows passes rows (record { key = key; sums = [] }) ∙ none_first (cost_where key passes rows);
+  are = sums-are rows (record { key = key; sums = [] }) (record { order = tt; above = tt });
+}

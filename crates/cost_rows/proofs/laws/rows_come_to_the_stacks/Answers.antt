@@ -1,4 +1,5 @@
-use Rattle.cost_rows.proofs.StackSumsLemmas.{sums-stacks, stacks-order}
+use Rattle.cost_rows.proofs.OrderLemmas.{stacks-order}
+use Rattle.cost_rows.proofs.StackSumsLemmas.{sums-stacks}
 use Rattle.cost_rows.proofs.laws.rows_come_to_the_stacks.Goals as goal
 
 pub returns-clause-sums : goal.returns-clause-sums

@@ -1,14 +1,10 @@
 use Rattle.cost_rows.proofs.WalkSumsLemmas.{walked-cells, walked-costs, walked-counts, walked-stacks}
 use Rattle.cost_rows.proofs.laws.walked_rows_come_to_the_sums.Goals as goal
 
-pub returns-clause-cells : goal.returns-clause-cells
-returns-clause-cells c = walked-cells
-
-pub returns-clause-arcs : goal.returns-clause-arcs
-returns-clause-arcs c = walked-costs
-
-pub returns-clause-counts : goal.returns-clause-counts
-returns-clause-counts c = walked-counts
-
-pub returns-clause-stacks : goal.returns-clause-stacks
-returns-clause-stacks c = walked-stacks
+pub returns : goal.returns
+returns c = λ rows. record {
+  cells = λ passes k. walked-cells passes k rows.names rows.cells;
+  arcs = λ passes k. walked-costs passes k rows.names rows.arcs;
+  counts = λ passes. walked-counts passes rows.names rows.arcs;
+  stacks = λ passes. walked-stacks passes rows.stacks;
+}

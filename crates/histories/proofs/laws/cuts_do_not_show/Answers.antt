@@ -16,8 +16,9 @@ by_bytes limits h kind bytes failed over =
     if nat_lt limits.bytes (length bytes) then Some (Refused TooLong) else if failed then Some (Refused ReadFault) else if over then Some (file_due limits h kind bytes) else None
 
 pub returns-clause-due : goal.returns-clause-due
-returns-clause-due c limits h kind label xs ys same failed over =
-    ap (λ bytes. by_bytes limits h kind bytes (list_any is_failed xs) (list_any is_end xs)) same ∙ ap₂ (by_bytes limits h kind (bytes_of ys)) failed over
+returns-clause-due c kind label xs ys alike limits h =
+    ap (λ bytes. by_bytes limits h kind bytes (list_any is_failed xs) (list_any is_end xs)) alike.bytes
+    ∙ ap₂ (by_bytes limits h kind (bytes_of ys)) alike.failed alike.ended
 
 pub returns-clause-tables : goal.returns-clause-tables
-returns-clause-tables c limits h kind label xs ys answer t is same legal tell = tell_same h kind label xs ys answer same limits t is legal tell
+returns-clause-tables c kind label xs ys same limits h answer t is legal tell = tell_same h kind label xs ys answer same limits t is legal tell

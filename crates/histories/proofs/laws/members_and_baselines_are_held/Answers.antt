@@ -1,11 +1,5 @@
 use Rattle.histories.proofs.Invariants.{members_held, baseline_held, groups_named}
 use Rattle.histories.proofs.laws.members_and_baselines_are_held.Goals as goal
 
-pub returns-clause-members : goal.returns-clause-members
-returns-clause-members c = members_held
-
-pub returns-clause-baselines : goal.returns-clause-baselines
-returns-clause-baselines c = baseline_held
-
-pub returns-clause-names : goal.returns-clause-names
-returns-clause-names c = λ h is. (groups_named h is).form
+pub returns : goal.returns
+returns c = λ h is. record { members = members_held h is; baselines = baseline_held h is; names = (groups_named h is).form }

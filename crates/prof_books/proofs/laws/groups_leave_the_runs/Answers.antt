@@ -2,10 +2,10 @@ use Rattle.prof_books.proofs.Books.{book_grouped, named_grouped, book_new, named
 use Rattle.prof_books.proofs.laws.groups_leave_the_runs.Goals as goal
 
 pub returns-clause-book : goal.returns-clause-book
-returns-clause-book c = book_grouped
+returns-clause-book c = λ groups members t. book_grouped t groups members
 
 pub returns-clause-named : goal.returns-clause-named
-returns-clause-named c = named_grouped
+returns-clause-named c = λ groups members t. named_grouped t groups members
 
 pub returns-clause-new : goal.returns-clause-new
 returns-clause-new c = book_new

@@ -2,10 +2,10 @@ use Rattle.std.proofs.Common.{◌≡◌, ◌<◌, ◌^◌, All, List, [], ◌∷
 use Rattle.cost_rows.specs.Columns.{added}
 use Rattle.cost_rows.specs.Content.{place_in}
 use Rattle.cost_rows.specs.Merging.{merge}
-use Rattle.cost_rows.specs.Places.{place_cmp}
+use Rattle.cost_rows.specs.Places.{cell_cmp}
 use Rattle.cost_rows.specs.Stacks.{by_bytes}
 use Rattle.cost_rows.specs.Totals.{AreWithin}
-use Rattle.cost_rows.specs.declared.places.Place.{Place}
+use Rattle.cost_rows.specs.declared.places.CellPlace.{CellPlace}
 use Rattle.cost_rows.proofs.GrowingLemmas.{take-grows}
 use Rattle.cost_rows.proofs.StacksLemmas.{back-as_before, by_bytes-values}
 use Rattle.cost_rows.proofs.TotalsLemmas.{cells-small, counts-small, within-stack, content-same}
@@ -30,7 +30,7 @@ invariant_of-self-in-Err c =
     let back : by_bytes c.put_back.new.stacks.entries ≡ by_bytes c.args.self.now.stacks.entries =
     back-as_before (by_bytes c.args.self.now.stacks.entries) (by_bytes c.merge_stack.new.stacks.entries) (by_bytes c.put_back.new.stacks.entries) c.args.stack.now c.args.count c.count_of-before.result
     c.count_of-before.ensures.ordered c.count_of-before.ensures.count c.in_ok-merge_stack.ensures.ok c.put_back.ensures in
-    let P : List (Place × List ℕ) → Type 0 = λ cells. AreWithin cells c.args.self.now.arcs.entries (by_bytes c.put_back.new.stacks.entries) c.args.self.now.last in
+    let P : List (CellPlace × List ℕ) → Type 0 = λ cells. AreWithin cells c.args.self.now.arcs.entries (by_bytes c.put_back.new.stacks.entries) c.args.self.now.last in
     let Q : List (List ℕ × ℕ) → Type 0 = λ stacks. AreWithin c.args.self.now.cells.entries c.args.self.now.arcs.entries stacks c.args.self.now.last in
     record { within = subst P (sym c.in-Err.ensures.err) (subst Q (sym back) c.args.self.now.within) }
 
@@ -45,12 +45,13 @@ returns-in-Err-clause-err c =
 
 pub invariant_of-self-2 : goal.invariant_of-self-2
 invariant_of-self-2 c =
-    let cells = merge place_cmp added c.args.self.now.cells.entries (place_in c.merge_own.new.names (63 ∷ 63 ∷ 63 ∷ []) (63 ∷ 63 ∷ 63 ∷ []) c.leaf.result.now 0) (c.args.count ∷ []) in
+    let place : CellPlace = record { place = place_in c.merge_own.new.names (63 ∷ 63 ∷ 63 ∷ []) (63 ∷ 63 ∷ 63 ∷ []) c.leaf.result.now 0 } in
+    let cells = merge cell_cmp added c.args.self.now.cells.entries place (c.args.count ∷ []) in
     let own : c.merge_own.new.cells.entries ≡ cells = c.in_default.ensures.cells in
-    let P : List (Place × List ℕ) → Type 0 = λ cs. AreWithin cs c.args.self.now.arcs.entries (by_bytes c.merge_stack.new.stacks.entries) c.args.at in
+    let P : List (CellPlace × List ℕ) → Type 0 = λ cs. AreWithin cs c.args.self.now.arcs.entries (by_bytes c.merge_stack.new.stacks.entries) c.args.at in
     let Q : List (List ℕ × ℕ) → Type 0 = λ stacks. AreWithin cells c.args.self.now.arcs.entries stacks c.args.at in
     record {
       within = subst P (sym own) (subst Q (sym c.in_ok-merge_stack.ensures.ok)
           (within-stack c.args.self.now.cells.entries c.args.self.now.arcs.entries (by_bytes c.args.self.now.stacks.entries) c.args.self.now.last c.args.at
-          (place_in c.merge_own.new.names (63 ∷ 63 ∷ 63 ∷ []) (63 ∷ 63 ∷ 63 ∷ []) c.leaf.result.now 0) c.args.stack.now c.args.count c.args.self.now.within c.requires.rises c.requires.small));
+          place c.args.stack.now c.args.count c.args.self.now.within c.requires.rises c.requires.small));
     }
