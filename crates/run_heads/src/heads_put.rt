@@ -1,9 +1,8 @@
 // The lines that the head of a file becomes.
-ghost use Rattle.std.specs.Prelude.{ℕ, ◌≡◌, ◌<◌, ◌^◌, ◌++◌, ◌∷◌, [], ◌↔◌, map, option_map, string_bytes, slice_index, length, IfOk, OnOk, IsTrue};
-ghost use Rattle.cost_rows.specs.Content.{Content};
-ghost use Rattle.cost_rows.specs.Totals.{AreTotals};
+ghost use Rattle.std.specs.Prelude.{◌≡◌, ◌<◌, ◌^◌, ◌++◌, ◌∷◌, [], ◌↔◌, map, option_map, string_bytes, slice_index, length, IfOk, OnOk, IsTrue};
 ghost use Rattle.prof_books.specs.Heads as specs;
 ghost use Rattle.prof_books.specs.Heads.{stated_at, event_line_of, coef_lines_at, derived_lines_from, coef_lines_from, AreStated, IsWhole, ColumnFits};
+ghost use Rattle.run_heads.specs.Sums.{OfContent, AllFit};
 ghost use Rattle.store_columns.specs.Lines.{event_line, derived_line, coef_line};
 
 use cg_formulas::FileHead;
@@ -64,21 +63,21 @@ fn total_text(
 }
 
 /// The line of an event, unless a sum is too great for its column.
-fn event_of(
+fn event_of<'a>(
     alloc: Global,
     run: u32,
     head: &FileHead,
     totals: &FileTotals,
     place: usize,
-    name: &[u8],
-) -> Result<EventLine, StoreEnd>
-    ensures value { (c : Content) → AreTotals totals.now c (length head.now.events) → place < length head.now.events → IfOk result (λ e. event_line e ≡ event_line_of run head.now c place name.now) }
-    ensures fits { (c : Content) → AreTotals totals.now c (length head.now.events) → place < length head.now.events → OnOk result (ColumnFits c place) }
+    name: &'a [u8],
+) -> Result<EventLine<'a>, StoreEnd>
+    ensures value { OfContent head.now totals.now (λ c. place < length head.now.events → IfOk result (λ e. event_line e ≡ event_line_of run head.now c place name.now)) }
+    ensures fits { OfContent head.now totals.now (λ c. place < length head.now.events → OnOk result (ColumnFits c place)) }
 {
     Ok(EventLine {
         run,
         place: place_of(place)?,
-        name: name.to_vec(alloc)?,
+        name,
         self_cost: sum_at(totals.self_cost.as_slice(), place)?,
         call_cost: sum_at(totals.call_cost.as_slice(), place)?,
         stated: total_text(alloc, &head.stated, place)?,
@@ -86,14 +85,14 @@ fn event_of(
 }
 
 /// The lines of the events of a file, with the sums of its rows.
-fn event_lines(
+fn event_lines<'a>(
     alloc: Global,
     run: u32,
-    head: &FileHead,
+    head: &'a FileHead,
     totals: &FileTotals,
-) -> Result<Vec<EventLine>, StoreEnd>
-    ensures value { (c : Content) → AreTotals totals.now c (length head.now.events) → IfOk result (λ lines. map event_line lines.items ≡ specs.event_lines run head.now c) }
-    ensures fits { (c : Content) → AreTotals totals.now c (length head.now.events) → OnOk result ((k : ℕ) → k < length head.now.events → ColumnFits c k) }
+) -> Result<Vec<EventLine<'a>>, StoreEnd>
+    ensures value { OfContent head.now totals.now (λ c. IfOk result (λ lines. map event_line lines.items ≡ specs.event_lines run head.now c)) }
+    ensures fits { OfContent head.now totals.now (λ c. OnOk result (AllFit head.now c)) }
 {
     let events = head.events.as_slice();
     let mut lines = Vec::new(alloc);
@@ -109,7 +108,7 @@ fn derived_lines(
     alloc: Global,
     run: u32,
     derived: &[(Items<u8>, Items<u64>)],
-) -> Result<Vec<DerivedLine>, StoreEnd>
+) -> Result<Vec<DerivedLine<'_>>, StoreEnd>
     ensures { IfOk result (λ lines. map derived_line lines.items ≡ derived_lines_from run 0 derived.now) }
 {
     let mut lines = Vec::new(alloc);
@@ -117,7 +116,7 @@ fn derived_lines(
         let line = DerivedLine {
             run,
             place: place_of(at)?,
-            name: derived[at].0.as_slice().to_vec(alloc)?,
+            name: derived[at].0.as_slice(),
         };
         add(&mut lines, line)?;
     }
@@ -177,15 +176,15 @@ fn are_stated(stated: &Option<Items<u128>>, events: usize) -> bool
 
 /// The lines of the head of a file, with the sums of its rows. Refused are a head that is not whole,
 /// and a sum above 2^63-1.
-pub fn head_lines(
+pub fn head_lines<'a>(
     alloc: Global,
     run: u32,
-    head: &FileHead,
+    head: &'a FileHead,
     totals: &FileTotals,
-) -> Result<HeadLines, StoreEnd>
+) -> Result<HeadLines<'a>, StoreEnd>
     ensures whole { IfOk result (λ _. IsWhole head.now) }
-    ensures events { (c : Content) → AreTotals totals.now c (length head.now.events) → IfOk result (λ lines. map event_line lines.events.items ≡ specs.event_lines run head.now c) }
-    ensures fits { (c : Content) → AreTotals totals.now c (length head.now.events) → OnOk result ((k : ℕ) → k < length head.now.events → ColumnFits c k) }
+    ensures events { OfContent head.now totals.now (λ c. IfOk result (λ lines. map event_line lines.events.items ≡ specs.event_lines run head.now c)) }
+    ensures fits { OfContent head.now totals.now (λ c. OnOk result (AllFit head.now c)) }
     ensures derived { IfOk result (λ lines. map derived_line lines.derived.items ≡ specs.derived_lines run head.now) }
     ensures coefs { IfOk result (λ lines. map coef_line lines.coefs.items ≡ specs.coef_lines run head.now) }
 {

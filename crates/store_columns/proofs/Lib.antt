@@ -1,2 +1,3 @@
 pub mod Effects
 pub mod Parts
+pub mod Within

@@ -2,3 +2,4 @@ pub mod Ends
 pub mod Lines
 pub mod Names
 pub mod Steps
+pub mod Within

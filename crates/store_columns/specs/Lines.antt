@@ -14,10 +14,10 @@ abbrev pub cell_line : CellLine → Cell
 cell_line c = record { run = c.run; object = c.object; file = c.file; function = c.function; line = c.line; event = c.event; cost = c.cost }
 
 abbrev pub event_line : EventLine → Event
-event_line e = record { run = e.run; place = e.place; name = e.name.items; self_cost = e.self_cost; call_cost = e.call_cost; stated = option_map string_bytes e.stated }
+event_line e = record { run = e.run; place = e.place; name = e.name.now; self_cost = e.self_cost; call_cost = e.call_cost; stated = option_map string_bytes e.stated }
 
 abbrev pub derived_line : DerivedLine → Derived
-derived_line d = record { run = d.run; place = d.place; name = d.name.items }
+derived_line d = record { run = d.run; place = d.place; name = d.name.now }
 
 abbrev pub coef_line : CoefLine → Coef
 coef_line c = record { run = c.run; place = c.place; event = c.event; times = c.times }

@@ -7,6 +7,7 @@ mod kinds;
 mod labels;
 mod lines;
 mod whole;
+mod writing;
 
 pub use columns::{
     bytes_at, first_number, number_at, number_or_null_at, sum_at, text_at, text_or_null_at,
@@ -19,3 +20,4 @@ pub use lines::{
     ArcLine, CellLine, CoefLine, DerivedLine, EventLine, HeadLines, HeldStack, RunLine, StackLine,
 };
 pub use whole::{Whole, small_of, whole_of};
+pub use writing::write_inside;

@@ -16,10 +16,10 @@ pub struct CellLine {
 
 /// An event of a run: its column, its name, its sums, and the total that the file states.
 #[derive(Drop)]
-pub struct EventLine {
+pub struct EventLine<'a> {
     pub run: u32,
     pub place: u32,
-    pub name: Vec<u8>,
+    pub name: &'a [u8],
     pub self_cost: Whole,
     pub call_cost: Whole,
     pub stated: Option<String>,
@@ -27,10 +27,10 @@ pub struct EventLine {
 
 /// A derived event of a run.
 #[derive(Drop)]
-pub struct DerivedLine {
+pub struct DerivedLine<'a> {
     pub run: u32,
     pub place: u32,
-    pub name: Vec<u8>,
+    pub name: &'a [u8],
 }
 
 /// How often an event counts in a derived one.
@@ -87,8 +87,8 @@ pub struct RunLine<'a> {
 
 /// What a run says of itself: its events, its derived events, and their coefficients.
 #[derive(Drop)]
-pub struct HeadLines {
-    pub events: Vec<EventLine>,
-    pub derived: Vec<DerivedLine>,
+pub struct HeadLines<'a> {
+    pub events: Vec<EventLine<'a>>,
+    pub derived: Vec<DerivedLine<'a>>,
     pub coefs: Vec<CoefLine>,
 }

@@ -1,15 +1,9 @@
-use Rattle.std.proofs.Common.{[], ◌∷◌, pos}
-use Rattle.sqlite_value.specs.declared.value.Value.TheVariants.{Int, Text, Blob}
-use Rattle.prof_tables.specs.Texts.{put_run_text}
-use Rattle.prof_tables.specs.Changes.{with_run}
-use Rattle.prof_tables.specs.Tables.{RunLine}
-use Rattle.prof_tables.proofs.Rows.{puts_run}
-use Rattle.store_columns.specs.Steps.{IsNext}
-use Rattle.prof_tables.proofs.Means.{put_run_means, put_run_plain}
-use Rattle.store_columns.proofs.Effects.{makes}
+use Rattle.store_columns.proofs.Within.{text_writes}
+use Rattle.store_columns.specs.Lines.{run_line}
+use Rattle.run_heads.proofs.RunPuts.{run_puts}
 use Rattle.run_heads.proofs.head_texts.put_line_of_run.Goals as goal
 
-pub returns-in-Ok-clause-made : goal.returns-in-Ok-clause-made
-returns-in-Ok-clause-made g c =
-    let r : RunLine = record { number = c.args.number; kind = c.args.kind; digest = c.args.digest.now; label = c.args.label.now; call_count = c.args.call_count.now } in
-    makes put_run_text (Int (pos r.number) ∷ Int (pos r.kind) ∷ Blob r.digest ∷ Text r.label ∷ Int (pos r.call_count) ∷ []) _ put_run_means put_run_plain tt (IsNext r.number) (with_run r) (λ t is limit trees text tally after was sound. puts_run t limit trees text tally after was sound r is.0 is.1) _ _ _ c.in-Ok.ensures.runs
+pub returns : goal.returns
+returns g c =
+    text_writes _ _ _ _ (run_puts (run_line c.args.run.now)) g.S.Store _ _ _
+    (rw (c.params-to_sql.ensures, c.params-to_sql-2.ensures, c.params-to_sql-3.ensures, c.params-to_sql-4.ensures, c.params-to_sql-5.ensures) at c.write_inside.ensures)
