@@ -1,7 +1,21 @@
--- What is printed where a store is not opened.
-use Rattle.std.specs.Prelude.{ℕ, List, codes}
+-- What comes of a database in which a store is wanted, and what is printed where none is opened.
+use Rattle.std.specs.Prelude.{ℕ, Bool, true, false, List, codes}
+use Rattle.sqlite.specs.State.{State}
+use Rattle.sql_tables.specs.Calls.{Asked}
+use Rattle.table_making.specs.Created.{Creates}
+use Rattle.prof_store.specs.Schemas.{Reads}
 use Rattle.store_columns.specs.declared.errors.OpenEnd.{OpenEnd}
 use Rattle.store_columns.specs.declared.errors.OpenEnd.TheVariants as ends
+
+-- a new store is made, or the one of the database is found and left as it was
+abbrev pub TakesUp : Bool → State → State → Type 0
+TakesUp true old new = Creates true old new
+TakesUp false old new = Reads old new 1 × Asked old.now.schema true old new
+
+-- nothing is made, or the database is left as it was
+abbrev pub Refuses : Bool → State → State → Type 0
+Refuses true old new = Creates false old new
+Refuses false old new = Asked old.now.schema false old new
 
 abbrev pub store_text : OpenEnd → List ℕ
 store_text ends.Memory = codes "store: out of memory"

@@ -1,10 +1,11 @@
 // The bytes of files that are imported.
+ghost use Rattle.std.specs.Prelude.{◌≡◌, None};
+
 use sources::{Opened, ReadFault, Source};
 use std::fs;
 use std::rt::Files;
 
-/// The file at a path, opened by the first read; where it cannot be opened, that read fails. No
-/// clause: of the file at a path the checker knows nothing.
+/// The file at a path, opened by the first read; where it cannot be opened, that read fails.
 #[derive(Drop)]
 pub struct FileSource<'a, R: Files> {
     rt: &'a R,
@@ -13,32 +14,38 @@ pub struct FileSource<'a, R: Files> {
 }
 
 impl<'a, R: Files> FileSource<'a, R> {
-    /// The file at a path, not opened yet. No clause: what its reads give, the checker does not know.
-    pub fn new(rt: &'a R, path: &'a str) -> FileSource<'a, R> {
+    /// The file at a path, not opened yet.
+    pub fn new(rt: &'a R, path: &'a str) -> FileSource<'a, R>
+        ensures { result.file ≡ None }
+    {
         FileSource {
             rt,
             path,
             file: None,
         }
     }
+}
 
-    /// The file, opened.
-    fn file(&mut self) -> Result<&mut Opened<R::File>, ReadFault> {
-        if self.file.is_none() {
-            match fs::open(self.rt, self.path) {
-                Ok(file) => self.file = Some(Opened::new(file)),
-                Err(_) => return Err(ReadFault),
-            }
-        }
-        self.file.as_mut().ok_or(ReadFault)
+/// The file at a path, opened. No clause: which file that is, the checker does not know.
+fn open_at<R: Files>(rt: &R, path: &str) -> Result<Opened<R::File>, ReadFault> {
+    match fs::open(rt, path) {
+        Ok(file) => Ok(Opened::new(file)),
+        Err(_) => Err(ReadFault),
     }
 }
 
 impl<R: Files> Source for FileSource<'_, R> {
-    // Of the bytes of a file at a path nothing is known: a read may come to anything.
-    ghost comes = { λ _ _ _. Unit {0} };
+    ghost use Rattle.program_files.specs.Imported.{FileReads};
+
+    ghost comes = { FileReads R.File.remaining };
 
     fn read(&mut self, buf: &mut [u8]) -> Result<usize, ReadFault> {
-        self.file()?.read(buf)
+        if self.file.is_none() {
+            self.file = Some(open_at(self.rt, self.path)?);
+        }
+        match &mut self.file {
+            Some(file) => file.read(buf),
+            None => Err(ReadFault),
+        }
     }
 }

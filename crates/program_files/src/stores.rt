@@ -1,15 +1,10 @@
 // The store at a path.
-ghost use Rattle.std.specs.Prelude.{◌≡◌, true, false, IfOk, IfErr};
+ghost use Rattle.std.specs.Prelude.{◌≡◌, IfOk, IfErr};
 ghost use Rattle.sqlite.specs.Held.{state};
 ghost use Rattle.sqlite.specs.State.{HasCleanDisk};
-ghost use Rattle.sql_tables.specs.Calls.{Asked};
-ghost use Rattle.sql_tables.specs.States.{Rests};
-ghost use Rattle.prof_tables.specs.Schema.{schema_one};
-ghost use Rattle.prof_tables.specs.Tables.{Holds};
-ghost use Rattle.table_making.specs.Created.{Creates};
-ghost use Rattle.prof_store.specs.Shown.{shown, IsFaithful, StandsFor};
+ghost use Rattle.prof_store.specs.Shown.{shown, IsFaithful};
 ghost use Rattle.store_columns.specs.Ends.{end_for, opening};
-ghost use Rattle.program_files.specs.Stores.{store_text};
+ghost use Rattle.program_files.specs.Stores.{Refuses, TakesUp, store_text};
 
 use prof_store::{OpenEnd, Store};
 use sqlite::{Alter, Connection, Error, ErrorCode, File, FileStore};
@@ -64,10 +59,8 @@ pub fn store_in<S: Alter>(
     conn: Connection<S>,
     is_new: bool,
 ) -> Result<Store<S>, (OpenEnd, Connection<S>)>
-    ensures made { is_new ≡ true → IfOk result (λ store. IsFaithful S.Store store → Creates true (state S.Store conn) (shown S.Store store)) }
-    ensures unmade { is_new ≡ true → IfErr result (λ e. HasCleanDisk (state S.Store e.1) → Creates false (state S.Store conn) (state S.Store e.1)) }
-    ensures taken_up { is_new ≡ false → IfOk result (λ store. IsFaithful S.Store store → (t : _) → Rests schema_one (Holds t) (state S.Store conn) → StandsFor S.Store t store) }
-    ensures refused { is_new ≡ false → IfErr result (λ e. HasCleanDisk (state S.Store e.1) → Asked (state S.Store conn).now.schema false (state S.Store conn) (state S.Store e.1)) }
+    ensures taken_up { IfOk result (λ store. IsFaithful S.Store store → TakesUp is_new (state S.Store conn) (shown S.Store store)) }
+    ensures refused { IfErr result (λ e. HasCleanDisk (state S.Store e.1) → Refuses is_new (state S.Store conn) (state S.Store e.1)) }
 {
     if is_new {
         Store::create(alloc, conn)

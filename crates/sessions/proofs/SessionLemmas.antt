@@ -1,6 +1,8 @@
 -- Turns of a session, one after another.
-use Rattle.std.proofs.Common.{◌≡◌, ℕ, ◌+◌, ◌<◌, Bool, true, false, ◌||◌, if◌then◌else◌, List, [], ◌∷◌, ◌++◌, map, length, drop, get_or, Option, Some, None, Result, Ok, Err, OnOk, refl, sym, ap, subst, ◌∙◌, append_assoc, append-nil}
+use Rattle.std.proofs.Common.{◌≡◌, ℕ, ◌+◌, ◌<◌, Bool, true, false, ◌||◌, if◌then◌else◌, List, [], ◌∷◌, ◌++◌, map, length, drop, get_or, Option, Some, None, Result, Ok, Err, refl, sym, ap, ap₂, take, subst, ◌∙◌, append_assoc, append-nil}
 use Rattle.std.specs.Io.KnownBytes.{Appends}
+use Rattle.std.proofs.KnownBytes.{Appends-nil, Appends-trans}
+use Rattle.std.proofs.Math.Seq.{take-add, take-length, take-append_seam, drop-append_seam}
 use Rattle.std.specs.List.{list_any}
 use Rattle.std.proofs.lemmas.List.{map-append, drop_more}
 use Rattle.std.proofs.lemmas.List.Folds.{list_any-append}
@@ -23,8 +25,11 @@ use Rattle.store_histories.proofs.Settled.{untouched}
 use Rattle.warehouse.specs.Answered.{Says}
 use Rattle.warehouse.specs.declared.command.Command as commands
 use Rattle.warehouse.specs.declared.command.Command.TheVariants as command
+use Rattle.sources.specs.Reads.{Come}
+use Rattle.program_files.specs.Imported.{FileReads, IsReadOf, WereRead}
+use Rattle.program_files.specs.declared.imported.FileSource.{FileSource}
 use Rattle.answer_lines.specs.Answers.{is_refused}
-use Rattle.sessions.specs.Sessions.{AnyReads, AreImports, AreLinesOf, ArePrinted, Took, WasDone, WasCut, WasRun, WasTold, answers_of, change_said, commands_of, status_after}
+use Rattle.sessions.specs.Sessions.{AreImports, AreLinesOf, ArePrinted, ArePrintedInPart, Prints, Took, WasDone, WasCut, WasRun, WasTold, answers_of, change_said, commands_of, status_after}
 use Rattle.sessions.specs.declared.session.GroupChange.{GroupChange}
 use Rattle.sessions.specs.declared.session.GroupChange.TheVariants as changes
 use Rattle.sessions.specs.declared.session.Session.{Session}
@@ -42,26 +47,29 @@ status_on status xs ys = choose (list_any is_refused xs) (list_any is_refused ys
 
 -- ---- what was printed
 
-appends_none : (known : Option (List ℕ)) → Appends known known []
-appends_none None = tt
-appends_none (Some bytes) = sym (append-nil bytes)
-
-appends_on : (a b c : Option (List ℕ)) (xs ys : List ℕ) → Appends a b xs → Appends b c ys → Appends a c (xs ++ ys)
-appends_on None b c xs ys first second = tt
-appends_on (Some held) None c xs ys first second = absurd first
-appends_on (Some held) (Some bs) None xs ys first second = absurd second
-appends_on (Some held) (Some bs) (Some cs) xs ys first second = second ∙ ap (λ l. l ++ ys) first ∙ append_assoc held xs ys
-
 lines_on : (xs ys : List Answer) (text more : List ℕ) → AreLinesOf xs text → AreLinesOf ys more → AreLinesOf (xs ++ ys) (text ++ more)
 lines_on [] ys text more none second = subst (λ l. AreLinesOf ys (l ++ more)) (sym none) second
 lines_on (x ∷ xs) ys text more first second =
     (first.0, first.1 ++ more, first.2, lines_on xs ys first.1 more first.3 second, ap (λ l. l ++ more) first.4 ∙ append_assoc first.0 first.1 more)
 
 printed_none : (known : Option (List ℕ)) → ArePrinted [] known known
-printed_none known = ([], refl, appends_none known)
+printed_none known = ([], refl, Appends-nil known)
 
 printed_on : (xs ys : List Answer) (a b c : Option (List ℕ)) → ArePrinted xs a b → ArePrinted ys b c → ArePrinted (xs ++ ys) a c
-printed_on xs ys a b c first second = (first.0 ++ second.0, lines_on xs ys first.0 second.0 first.1 second.1, appends_on a b c first.0 second.0 first.2 second.2)
+printed_on xs ys a b c first second = (first.0 ++ second.0, lines_on xs ys first.0 second.0 first.1 second.1, Appends-trans a b c first.0 second.0 first.2 second.2)
+
+-- what is printed whole is printed as far as it goes
+in_part : {E : Type 0} (result : Result Unit E) (xs : List Answer) (a b : Option (List ℕ)) → Prints result xs a b → ArePrintedInPart xs a b
+in_part (Ok done) xs a b it = (it.0, length it.0, it.1, subst (Appends a b) (sym (take-length it.0)) it.2)
+in_part (Err e) xs a b it = it
+
+part_on : (xs ys : List Answer) (a b c : Option (List ℕ)) → ArePrinted xs a b → ArePrintedInPart ys b c → ArePrintedInPart (xs ++ ys) a c
+part_on xs ys a b c first second =
+    let text = first.0 in
+    let more = second.0 in
+    let n = second.1 in
+    let same : take (length text + n) (text ++ more) ≡ text ++ take n more = take-add (length text) n (text ++ more) ∙ ap₂ ◌++◌ (take-append_seam text more) (ap (take n) (drop-append_seam text more)) in
+    (text ++ more, length text + n, lines_on xs ys text more first.1 second.2, subst (Appends a c) (sym same) (Appends-trans a b c text (take n more) first.2 second.3))
 
 -- ---- the store is not asked
 
@@ -103,13 +111,13 @@ module _ {R W S : Type 0} (g : Ghosts S) where
 
   pub told : (contents : W → Option (List ℕ)) (said : Said) (answer : Answer) {E : Type 0} (result : Result Unit E) (old new : Session R W S)
       → Answers g old.warehouse.limits said answer old.warehouse.store new.warehouse.store → new.status ≡ status_after old.status (answer ∷ [])
-      → OnOk result (ArePrinted (answer ∷ []) (contents old.out) (contents new.out)) → WasTold g contents said result old new
+      → Prints result (answer ∷ []) (contents old.out) (contents new.out) → WasTold g contents said result old new
   told contents said answer result old new is status printed = record { answer = answer; took = took_one said answer old new is status; printed = printed }
 
   -- a work of one command
   pub run_one : (contents : W → Option (List ℕ)) (said : Said) (wanted : List Said → Type 0) {E : Type 0} (result : Result Unit E) (old new : Session R W S) → wanted (said ∷ []) → WasTold g contents said result old new → WasRun g contents wanted result old new
   run_one contents said wanted (Ok done) old new is w = record { turns = record { said = said; answer = w.answer } ∷ []; commands = is; took = w.took; printed = w.printed }
-  run_one contents said wanted (Err e) old new is w = record { turns = record { said = said; answer = w.answer } ∷ []; rest = []; commands = is; took = w.took }
+  run_one contents said wanted (Err e) old new is w = record { turns = record { said = said; answer = w.answer } ∷ []; rest = []; commands = is; took = w.took; printed = w.printed }
 
   -- ---- commands so far
 
@@ -134,13 +142,15 @@ module _ {R W S : Type 0} (g : Ghosts S) where
       }
 
   pub so_far_cut : (contents : W → Option (List ℕ)) (list rest : List Said) (said : Said) (wanted : List Said → Type 0) {E : Type 0} (result : Result Unit E) (old mid new : Session R W S) → mid.warehouse.limits ≡ old.warehouse.limits
-      → (w : SoFar contents list old mid) → WasTold g contents said result mid new → wanted (list ++ said ∷ rest) → WasCut g wanted old new
+      → (w : SoFar contents list old mid) → WasTold g contents said result mid new → wanted (list ++ said ∷ rest) → WasCut g contents wanted old new
   so_far_cut contents list rest said wanted result old mid new same w t is =
       let turn : Turn = record { said = said; answer = t.answer } in record {
         turns = w.turns ++ turn ∷ [];
         rest = rest;
         commands = subst wanted (sym (ap (λ l. l ++ rest) (map-append (λ (x : Turn). x.said) w.turns (turn ∷ []) ∙ ap (λ l. l ++ said ∷ []) w.commands) ∙ append_assoc list (said ∷ []) rest)) is;
         took = took_on w.turns turn old mid new same w.took t.took;
+        printed = subst (λ l. ArePrintedInPart l (contents old.out) (contents new.out)) (sym (map-append (λ (x : Turn). x.answer) w.turns (turn ∷ [])))
+            (part_on (answers_of w.turns) (t.answer ∷ []) (contents old.out) (contents mid.out) (contents new.out) w.printed (in_part result (t.answer ∷ []) (contents mid.out) (contents new.out) t.printed));
       }
 
   pub so_far_done : (contents : W → Option (List ℕ)) (list : List Said) (wanted : List Said → Type 0) (old new : Session R W S) → SoFar contents list old new → wanted list → WasDone g contents wanted old new
@@ -152,34 +162,48 @@ module _ {R W S : Type 0} (g : Ghosts S) where
 abbrev unread : Kind → List (List ℕ) → List Said
 unread kind paths = map (λ path. Import kind path []) paths
 
-imports_unread : (kind : Kind) (paths : List (List ℕ)) → AreImports kind paths (unread kind paths)
-imports_unread kind [] = tt
-imports_unread kind (path ∷ paths) = ([], refl, imports_unread kind paths)
+imports_unread : (reads : List Outcome → Type 0) → reads [] → (kind : Kind) (paths : List (List ℕ)) → AreImports reads kind paths (unread kind paths)
+imports_unread reads none kind [] = tt
+imports_unread reads none kind (path ∷ paths) = ([], none, refl, imports_unread reads none kind paths)
 
-imports_next : {X : Type 0} (now : X → List ℕ) (kind : Kind) (paths : List X) (i : ℕ) (d : X) (outcomes : List Outcome) (rest : List Said) → i < length paths → AreImports kind (map now (drop (i + 1) paths)) rest
-    → AreImports kind (map now (drop i paths)) (Import kind (now (get_or paths i d)) outcomes ∷ rest)
-imports_next now kind paths i d outcomes rest low all = subst (λ l. AreImports kind (map now l) (Import kind (now (get_or paths i d)) outcomes ∷ rest)) (sym (drop_more paths i d low)) (outcomes, refl, all)
+imports_next : {X : Type 0} (reads : List Outcome → Type 0) (now : X → List ℕ) (kind : Kind) (paths : List X) (i : ℕ) (d : X) (outcomes : List Outcome) (rest : List Said) → i < length paths → reads outcomes
+    → AreImports reads kind (map now (drop (i + 1) paths)) rest → AreImports reads kind (map now (drop i paths)) (Import kind (now (get_or paths i d)) outcomes ∷ rest)
+imports_next reads now kind paths i d outcomes rest low read all =
+    subst (λ l. AreImports reads kind (map now l) (Import kind (now (get_or paths i d)) outcomes ∷ rest)) (sym (drop_more paths i d low)) (outcomes, read, refl, all)
 
-module _ {R W S X : Type 0} (g : Ghosts S) (contents : W → Option (List ℕ)) (now : X → List ℕ) (kind : Kind) (paths : List X) (i : ℕ) (d : X) (list : List Said) (old mid new : Session R W S) where
+module _ {R W S X : Type 0} (g : Ghosts S) (contents : W → Option (List ℕ)) (reads : List Outcome → Type 0) (now : X → List ℕ) (kind : Kind) (paths : List X) (i : ℕ) (d : X) (list : List Said) (old mid new : Session R W S) where
   -- the imports so far fit those of all paths, with the others behind them
   abbrev pub Fits : List Said → ℕ → Type 0
-  Fits done n = (rest : List Said) → AreImports kind (map now (drop n paths)) rest → AreImports kind (map now paths) (done ++ rest)
+  Fits done n = (rest : List Said) → AreImports reads kind (map now (drop n paths)) rest → AreImports reads kind (map now paths) (done ++ rest)
 
   pub import_on : {E : Type 0} (done : Unit {0}) → i < length paths → mid.warehouse.limits ≡ old.warehouse.limits → Fits list i → (w : SoFar g contents list old mid)
-      → ((outcomes : List Outcome) × WasTold g contents (Import kind (now (get_or paths i d)) outcomes) {E = E} (Ok done) mid new) → (more : List Said) × Fits more (i + 1) × SoFar g contents more old new
+      → ((outcomes : List Outcome) × reads outcomes × WasTold g contents (Import kind (now (get_or paths i d)) outcomes) {E = E} (Ok done) mid new) → (more : List Said) × Fits more (i + 1) × SoFar g contents more old new
   import_on done low same fits w t =
       let said = Import kind (now (get_or paths i d)) t.0 in (
         list ++ said ∷ [],
-        λ rest all. subst (AreImports kind (map now paths)) (sym (append_assoc list (said ∷ []) rest)) (fits (said ∷ rest) (imports_next now kind paths i d t.0 rest low all)),
-        so_far_on g contents list said done old mid new same w t.1,
+        λ rest all. subst (AreImports reads kind (map now paths)) (sym (append_assoc list (said ∷ []) rest)) (fits (said ∷ rest) (imports_next reads now kind paths i d t.0 rest low t.1 all)),
+        so_far_on g contents list said done old mid new same w t.2,
       )
 
-  pub import_cut : {E : Type 0} (result : Result Unit E) → i < length paths → mid.warehouse.limits ≡ old.warehouse.limits → Fits list i → (w : SoFar g contents list old mid)
-      → ((outcomes : List Outcome) × WasTold g contents (Import kind (now (get_or paths i d)) outcomes) result mid new) → WasCut g (AreImports kind (map now paths)) old new
-  import_cut result low same fits w t =
+  pub import_cut : {E : Type 0} (result : Result Unit E) → reads [] → i < length paths → mid.warehouse.limits ≡ old.warehouse.limits → Fits list i → (w : SoFar g contents list old mid)
+      → ((outcomes : List Outcome) × reads outcomes × WasTold g contents (Import kind (now (get_or paths i d)) outcomes) result mid new) → WasCut g contents (AreImports reads kind (map now paths)) old new
+  import_cut result none low same fits w t =
       let said = Import kind (now (get_or paths i d)) t.0 in
       let rest = unread kind (map now (drop (i + 1) paths)) in
-      so_far_cut g contents list rest said (AreImports kind (map now paths)) result old mid new same w t.1 (fits (said ∷ rest) (imports_next now kind paths i d t.0 rest low (imports_unread kind (map now (drop (i + 1) paths)))))
+      so_far_cut g contents list rest said (AreImports reads kind (map now paths)) result old mid new same w t.2
+      (fits (said ∷ rest) (imports_next reads now kind paths i d t.0 rest low t.1 (imports_unread reads none kind (map now (drop (i + 1) paths)))))
+
+-- a file that is not read yet
+pub none_read : {F : Type 0} (remaining : F → Option (List ℕ)) → WereRead remaining []
+none_read remaining = (None, refl)
+
+-- what came of a source that was made anew
+come_of : {R F D : Type 0} (remaining : F → Option (List ℕ)) (from to : FileSource R F D) (outcomes : List Outcome) → Come (FileReads remaining) from outcomes to → Come (IsReadOf remaining) from.file outcomes to.file
+come_of remaining from to [] same = ap (λ (s : FileSource _ _ _). s.file) same
+come_of remaining from to (o ∷ outcomes) it = (it.0.file, it.1, come_of remaining it.0 to outcomes it.2)
+
+pub were_read : {R F D : Type 0} (remaining : F → Option (List ℕ)) (from to : FileSource R F D) (outcomes : List Outcome) → from.file ≡ None → Come (FileReads remaining) from outcomes to → WereRead remaining outcomes
+were_read remaining from to outcomes new it = (to.file, subst (λ file. Come (IsReadOf remaining) file outcomes to.file) new (come_of remaining from to outcomes it))
 
 -- ---- what a change says
 
@@ -190,12 +214,12 @@ no_import (changes.Join n) name label kind outcomes is = cc
 no_import (changes.Leave n) name label kind outcomes is = cc
 no_import (changes.SetBaseline n) name label kind outcomes is = cc
 
-pub same_said : {R : Type 0} (command : commands.Command R) (change : GroupChange) (name : List ℕ) (said : Said) → Says AnyReads command said → Says AnyReads command (change_said change name) → said ≡ change_said change name
-same_said (command.Import kind label source) change name said is one = absurd (no_import change name label.items kind one.0 one.3)
-same_said (command.Remove n) change name said is one = is ∙ sym one
-same_said (command.MakeGroup group) change name said is one = is ∙ sym one
-same_said (command.DropGroup group) change name said is one = is ∙ sym one
-same_said (command.Join group n) change name said is one = is ∙ sym one
-same_said (command.Leave group n) change name said is one = is ∙ sym one
-same_said (command.SetBaseline group n) change name said is one = is ∙ sym one
-same_said (command.Ask query) change name said is one = is ∙ sym one
+pub same_said : {R : Type 0} (comes : R → Outcome → R → Type 0) (command : commands.Command R) (change : GroupChange) (name : List ℕ) (said : Said) → Says comes command said → Says comes command (change_said change name) → said ≡ change_said change name
+same_said comes (command.Import kind label source) change name said is one = absurd (no_import change name label.items kind one.0 one.3)
+same_said comes (command.Remove n) change name said is one = is ∙ sym one
+same_said comes (command.MakeGroup group) change name said is one = is ∙ sym one
+same_said comes (command.DropGroup group) change name said is one = is ∙ sym one
+same_said comes (command.Join group n) change name said is one = is ∙ sym one
+same_said comes (command.Leave group n) change name said is one = is ∙ sym one
+same_said comes (command.SetBaseline group n) change name said is one = is ∙ sym one
+same_said comes (command.Ask query) change name said is one = is ∙ sym one

@@ -1,1 +1,3 @@
 pub mod Sessions
+pub mod Tasks
+pub mod Works

@@ -1,5 +1,5 @@
 -- What is done over an opened store, in the words of a history.
-use Rattle.std.specs.Prelude.{◌≡◌, ◌⊎◌, ℕ, if◌then◌else◌, List, [], ◌∷◌, ◌++◌, map, Option, Result, MatchResult, OnOk}
+use Rattle.std.specs.Prelude.{◌≡◌, ◌⊎◌, ℕ, if◌then◌else◌, List, [], ◌∷◌, ◌++◌, map, Option, take, Result, MatchResult}
 use Rattle.std.specs.Io.KnownBytes.{Appends}
 use Rattle.std.specs.List.{list_any}
 use Rattle.sqlite_trees.specs.declared.store.Store.{Ghosts}
@@ -21,11 +21,11 @@ use Rattle.sessions.specs.declared.session.Work.TheVariants as works
 
 -- ---- the commands that a work comes to
 
--- an import of each path in turn, under the path as its label; what its reads came to is free, since nothing is known of the files of a disk
-abbrev pub AreImports : Kind → List (List ℕ) → List Said → Type 0
-AreImports kind [] [] = Unit {0}
-AreImports kind (path ∷ paths) (said ∷ later) = (outcomes : List Outcome) × (said ≡ history.Import kind path outcomes) × AreImports kind paths later
-AreImports kind paths list = ⊥
+-- an import of each path in turn, under the path as its label, with reads of a file
+abbrev pub AreImports : (List Outcome → Type 0) → Kind → List (List ℕ) → List Said → Type 0
+AreImports reads kind [] [] = Unit {0}
+AreImports reads kind (path ∷ paths) (said ∷ later) = (outcomes : List Outcome) × reads outcomes × (said ≡ history.Import kind path outcomes) × AreImports reads kind paths later
+AreImports reads kind paths list = ⊥
 
 abbrev pub change_said : GroupChange → List ℕ → Said
 change_said changes.Make name = history.MakeGroup name
@@ -34,15 +34,11 @@ change_said (changes.Join n) name = history.Join name n
 change_said (changes.Leave n) name = history.Leave name n
 change_said (changes.SetBaseline n) name = history.SetBaseline name n
 
-abbrev pub AreOf : Work → List Said → Type 0
-AreOf (works.Import kind paths) list = AreImports kind (map (λ path. path.now) paths) list
-AreOf (works.Remove numbers) list = list ≡ map history.Remove numbers
-AreOf (works.Group name change) list = list ≡ change_said change name.now ∷ []
-AreOf (works.Ask query) list = list ≡ history.Ask query ∷ []
-
--- of the files of a disk nothing is known: a read may come to anything
-abbrev pub AnyReads : {X : Type 0} → X → Outcome → X → Type 0
-AnyReads from outcome to = Unit {0}
+abbrev pub AreOf : (List Outcome → Type 0) → Work → List Said → Type 0
+AreOf reads (works.Import kind paths) list = AreImports reads kind (map (λ path. path.now) paths) list
+AreOf reads (works.Remove numbers) list = list ≡ map history.Remove numbers
+AreOf reads (works.Group name change) list = list ≡ change_said change name.now ∷ []
+AreOf reads (works.Ask query) list = list ≡ history.Ask query ∷ []
 
 -- ---- turns
 
@@ -69,6 +65,14 @@ AreLinesOf (answer ∷ answers) text = (line later : List ℕ) × IsLineOf answe
 abbrev pub ArePrinted : List Answer → Option (List ℕ) → Option (List ℕ) → Type 0
 ArePrinted answers old new = (text : List ℕ) × AreLinesOf answers text × Appends old new text
 
+-- they grow by the first bytes of those lines
+abbrev pub ArePrintedInPart : List Answer → Option (List ℕ) → Option (List ℕ) → Type 0
+ArePrintedInPart answers old new = (text : List ℕ) × (n : ℕ) × AreLinesOf answers text × Appends old new (take n text)
+
+-- printed whole, or in part where that failed
+abbrev pub Prints : {E : Type 0} → Result Unit E → List Answer → Option (List ℕ) → Option (List ℕ) → Type 0
+Prints result answers old new = MatchResult result (λ done. ArePrinted answers old new) (λ e. ArePrintedInPart answers old new)
+
 -- ---- what is done
 
 module _ {R W S : Type 0} (g : Ghosts S) where
@@ -87,17 +91,18 @@ module _ {R W S : Type 0} (g : Ghosts S) where
     pub printed : ArePrinted (answers_of turns) (contents old.out) (contents new.out)
 
   -- what was wanted is done as far as answers could be printed: the commands of the turns that were taken are the first of its commands
-  pub record WasCut (wanted : List Said → Type 0) (old new : Session R W S) : Type 0 where
+  pub record WasCut (contents : W → Option (List ℕ)) (wanted : List Said → Type 0) (old new : Session R W S) : Type 0 where
     pub turns : History
     pub rest : List Said
     pub commands : wanted (commands_of turns ++ rest)
     pub took : Took turns old new
+    pub printed : ArePrintedInPart (answers_of turns) (contents old.out) (contents new.out)
 
   abbrev pub WasRun : (W → Option (List ℕ)) → (List Said → Type 0) → {E : Type 0} → Result Unit E → Session R W S → Session R W S → Type 0
-  WasRun contents wanted result old new = MatchResult result (λ done. WasDone contents wanted old new) (λ e. WasCut wanted old new)
+  WasRun contents wanted result old new = MatchResult result (λ done. WasDone contents wanted old new) (λ e. WasCut contents wanted old new)
 
-  -- a command was answered, and the answer printed unless that failed
+  -- a command was answered, and the answer printed, whole or in part
   pub record WasTold (contents : W → Option (List ℕ)) (said : Said) {E : Type 0} (result : Result Unit E) (old new : Session R W S) : Type 0 where
     pub answer : Answer
     pub took : Took (record { said = said; answer = answer } ∷ []) old new
-    pub printed : OnOk result (ArePrinted (answer ∷ []) (contents old.out) (contents new.out))
+    pub printed : Prints result (answer ∷ []) (contents old.out) (contents new.out)

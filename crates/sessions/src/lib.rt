@@ -4,6 +4,7 @@
 
 mod running;
 mod session;
+mod tasks;
 
 pub use running::{print_refused, run_plan};
 pub use session::{GroupChange, Session, Work};

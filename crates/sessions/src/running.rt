@@ -1,8 +1,16 @@
 // What is done for a plan.
-use crate::session::{GroupChange, Session, Work};
+ghost use Rattle.sqlite.specs.Held.{state};
+ghost use Rattle.sqlite.specs.State.{HasCleanDisk};
+ghost use Rattle.prof_store.specs.Shown.{IsFaithful};
+ghost use Rattle.program_files.specs.Imported.{WereRead};
+ghost use Rattle.sessions.specs.Sessions.{AreOf};
+ghost use Rattle.sessions.specs.Works.{CameTo, TotalPrinted, WasWorked};
+
+use crate::session::{Session, Work};
+use crate::tasks::{Task, task_of};
 use command_line::Plan;
 use file_totals::{TotalText, total_file};
-use histories::{Limits, Query};
+use histories::Limits;
 use prof_store::{OpenEnd, Store};
 use program_files::{StoreFile, database_at, end_line, is_new_at, store_in};
 use sqlite::{Alter, Connection};
@@ -12,6 +20,7 @@ use std::io::Write;
 use std::process::ExitCode;
 use std::rt::{Files, HostRuntime};
 use warehouse::Warehouse;
+use written_texts::write_text;
 
 /// Prints the line of a refusal. No clause: of what is printed the checker knows nothing.
 pub fn print_refused<R: Print>(rt: &R, reason: &str) -> io::Result<ExitCode> {
@@ -19,50 +28,52 @@ pub fn print_refused<R: Print>(rt: &R, reason: &str) -> io::Result<ExitCode> {
     Ok(ExitCode::FAILURE)
 }
 
-/// Prints what a total came to.
-fn print_total<R: Print>(rt: &R, total: Result<TotalText, AllocError>) -> io::Result<ExitCode> {
-    let Ok(total) = total else {
-        return print_refused(rt, "out of memory");
-    };
-    io::writer(rt).write_all(total.text.as_slice())?;
-    Ok(if total.accepted {
-        ExitCode::SUCCESS
-    } else {
-        ExitCode::FAILURE
-    })
+/// Prints what a total came to, and answers the status.
+fn print_total<W: Write>(out: &mut W, total: Result<TotalText, AllocError>) -> io::Result<u8>
+    ensures { TotalPrinted total.entry result (W.contents out.old) (W.contents out.new) }
+{
+    match total {
+        Ok(total) => {
+            write_text(out, total.text.as_slice())?;
+            Ok(u8::from(!total.accepted))
+        }
+        Err(AllocError) => {
+            write_text(out, b"refused: out of memory\n")?;
+            Ok(1)
+        }
+    }
 }
 
-/// Does a work over an opened store. It hands back the status that the answers come to, where they were
-/// printed, and the store. No clause yet: `Session::run`, of which it is one call, has them.
+/// Does a work over an opened store: its commands, each with its answer printed. It hands back the status
+/// that the answers come to, where they were printed, what they were printed to, and the store.
 fn work_over<'a, R: Files + AllocGlobal, W: Write + Drop, S: Alter>(
     rt: &'a R,
     out: W,
     store: Store<S>,
     work: Work<'a>,
-) -> (io::Result<u8>, Store<S>) {
+) -> (io::Result<u8>, W, Store<S>)
+    ensures { IsFaithful S.Store result.2 → CameTo S.Store W.contents (AreOf (WereRead R.File.remaining) work.entry) result.0 out.entry result.1 store result.2 }
+{
     let warehouse = Warehouse::new(store, Limits::standard());
     let mut session = Session::new(rt, out, warehouse);
     let ended = session.run(work);
-    let (status, warehouse) = session.finish();
-    let printed = match ended {
-        Ok(()) => Ok(status),
-        Err(error) => Err(error),
-    };
-    (printed, warehouse.into_store())
+    let (status, out, warehouse) = session.finish();
+    (ended.and(Ok(status)), out, warehouse.into_store())
 }
 
-/// Does a work over the store of a database, and hands back the database. No clause yet: `store_in` and
-/// `Session::run` have them.
+/// Does a work over the store of a database, and hands back the database.
 fn work_in<'a, R: Files + AllocGlobal, W: Write + Drop, S: Alter>(
     rt: &'a R,
     out: W,
     conn: Connection<S>,
     is_new: bool,
     work: Work<'a>,
-) -> (Result<io::Result<u8>, OpenEnd>, Connection<S>) {
+) -> (Result<io::Result<u8>, OpenEnd>, Connection<S>)
+    ensures { HasCleanDisk (state S.Store result.1) → WasWorked S.Store W.contents (AreOf (WereRead R.File.remaining) work.entry) is_new result.0 out.entry conn result.1 }
+{
     match store_in(rt.alloc(), conn, is_new) {
         Ok(store) => {
-            let (printed, store) = work_over(rt, out, store, work);
+            let (printed, _out, store) = work_over(rt, out, store, work);
             (Ok(printed), store.into_connection())
         }
         Err((end, conn)) => (Err(end), conn),
@@ -107,39 +118,14 @@ fn run_over<'a>(rt: &'a HostRuntime, db: &str, work: Work<'a>) -> io::Result<Exi
     }
 }
 
-/// Does a change of a group.
-fn run_group<'a>(
-    rt: &'a HostRuntime,
-    db: &str,
-    name: &'a str,
-    change: GroupChange,
-) -> io::Result<ExitCode> {
-    run_over(rt, db, Work::Group(name, change))
-}
-
-/// Does what a plan says, and prints what it came to. No clause: of the files that a plan names the
-/// checker knows nothing; `total_read` and `Session::run` say what is made of them.
+/// Does what a plan says, and prints what it came to. No clause: which files stand at the paths of a plan
+/// the checker does not know; `task_of`, `total_read` and `work_in` say what is made of them.
 pub fn run_plan<'a>(rt: &'a HostRuntime, plan: Plan<'a>) -> io::Result<ExitCode> {
-    match plan {
-        Plan::Total { path } => print_total(rt, total_file(rt, path)),
-        Plan::Import { db, kind, files } => run_over(rt, db, Work::Import(kind, files)),
-        Plan::Remove { db, numbers } => run_over(rt, db, Work::Remove(numbers)),
-        Plan::Runs { db } => run_over(rt, db, Work::Ask(Query::Runs)),
-        Plan::Group {
-            db,
-            drop: false,
-            name,
-        } => run_group(rt, db, name, GroupChange::Make),
-        Plan::Group {
-            db,
-            drop: true,
-            name,
-        } => run_group(rt, db, name, GroupChange::Drop),
-        Plan::Join { db, name, number } => run_group(rt, db, name, GroupChange::Join(number)),
-        Plan::Leave { db, name, number } => run_group(rt, db, name, GroupChange::Leave(number)),
-        Plan::Baseline { db, name, number } => {
-            run_group(rt, db, name, GroupChange::SetBaseline(number))
+    match task_of(plan) {
+        Task::Total(path) => {
+            let status = print_total(&mut io::writer(rt), total_file(rt, path))?;
+            Ok(ExitCode::from(status))
         }
-        Plan::Groups { db } => run_over(rt, db, Work::Ask(Query::Groups)),
+        Task::Over(db, work) => run_over(rt, db, work),
     }
 }

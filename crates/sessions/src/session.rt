@@ -1,5 +1,5 @@
 // Commands over an opened store, each with its answer printed as it is there.
-ghost use Rattle.std.specs.Prelude.{◌≡◌, ◌↔◌, IsTrue, List, [], ◌∷◌, map, OnOk};
+ghost use Rattle.std.specs.Prelude.{◌≡◌, ◌↔◌, IsTrue, List, [], ◌∷◌, map};
 ghost use Rattle.prof_store.specs.Shown.{IsFaithful, IsUsable};
 ghost use Rattle.sources.specs.Outcomes.{Outcome};
 ghost use Rattle.histories.specs.History.{History, Said, Import, Remove};
@@ -7,7 +7,8 @@ ghost use Rattle.histories.specs.Legal.{IsInForm, IsLegal};
 ghost use Rattle.histories.specs.declared.answers.Answer.TheVariants as answers;
 ghost use Rattle.store_histories.specs.Answered.{HasHistory};
 ghost use Rattle.warehouse.specs.Answered.{Says};
-ghost use Rattle.sessions.specs.Sessions.{AnyReads, AreImports, AreOf, ArePrinted, WasRun, WasTold, change_said, status_after};
+ghost use Rattle.program_files.specs.Imported.{FileReads, WereRead};
+ghost use Rattle.sessions.specs.Sessions.{AreImports, AreOf, Prints, WasRun, WasTold, change_said, status_after};
 
 use answer_lines::{is_refused, line_of};
 use cg_text::Items;
@@ -21,6 +22,7 @@ use std::io;
 use std::io::Write;
 use std::rt::Files;
 use warehouse::{Command, Warehouse};
+use written_texts::write_text;
 
 /// What is done to a group by its name.
 #[derive(Clone, Copy, Debug, PartialEq, Eq)]
@@ -49,11 +51,11 @@ pub enum Work<'a> {
 
 /// Prints an answer. Where there is no memory for its line, it says so, and the command stands.
 fn print_answer<W: Write>(out: &mut W, alloc: Global, answer: &Answer) -> io::Result<()>
-    ensures { OnOk result (ArePrinted (answer.now ∷ []) (W.contents out.old) (W.contents out.new)) }
+    ensures { Prints result (answer.now ∷ []) (W.contents out.old) (W.contents out.new) }
 {
     match line_of(alloc, answer) {
-        Ok(line) => out.write_all(line.as_slice()),
-        Err(AllocError) => out.write_all(b"refused: out of memory\n"),
+        Ok(line) => write_text(out, line.as_slice()),
+        Err(AllocError) => write_text(out, b"refused: out of memory\n"),
     }
 }
 
@@ -70,9 +72,9 @@ fn is_in_form(name: &str, change: GroupChange) -> bool
     }
 }
 
-/// The command of a change.
+/// The command of a change, whatever the sources of imports are.
 fn change_command<R>(name: Vec<u8>, change: GroupChange) -> Command<R>
-    ensures { Says AnyReads result (change_said change name.items) }
+    ensures { (comes : R → Outcome → R → Type 0) → Says comes result (change_said change name.items) }
 {
     match change {
         GroupChange::Make => Command::MakeGroup(name),
@@ -107,25 +109,26 @@ impl<'a, R: Files + AllocGlobal, W: Write + Drop, S: Alter> Session<'a, R, W, S>
         }
     }
 
-    /// The status of what was answered, and the warehouse.
-    pub fn finish(self) -> (u8, Warehouse<S>)
+    /// The status of what was answered, where it was printed, and the warehouse.
+    pub fn finish(self) -> (u8, W, Warehouse<S>)
         ensures status { result.0 ≡ self.entry.status }
-        ensures warehouse { result.1 ≡ self.entry.warehouse }
+        ensures out { result.1 ≡ self.entry.out }
+        ensures warehouse { result.2 ≡ self.entry.warehouse }
     {
         let Session {
             rt: _,
-            out: _,
+            out,
             warehouse,
             status,
         } = self;
-        (status, warehouse)
+        (status, out, warehouse)
     }
 
     /// Keeps what an answer says of the status, and prints it.
     fn tell(&mut self, answer: Answer) -> io::Result<()>
         ensures status { self.new.status ≡ status_after self.old.status (answer ∷ []) }
         ensures warehouse { self.new.warehouse ≡ self.old.warehouse }
-        ensures printed { OnOk result (ArePrinted (answer ∷ []) (W.contents self.old.out) (W.contents self.new.out)) }
+        ensures printed { Prints result (answer ∷ []) (W.contents self.old.out) (W.contents self.new.out) }
     {
         if is_refused(&answer) {
             self.status = 1;
@@ -146,7 +149,7 @@ impl<'a, R: Files + AllocGlobal, W: Write + Drop, S: Alter> Session<'a, R, W, S>
     /// Runs a command that reads no file.
     fn apply(&mut self, command: Command<FileSource<'a, R>>) -> io::Result<()>
         ensures limits { self.new.warehouse.limits ≡ self.old.warehouse.limits }
-        ensures answered { IsFaithful S.Store self.new.warehouse.store → (said : Said) × Says AnyReads command.entry said
+        ensures answered { IsFaithful S.Store self.new.warehouse.store → (said : Said) × Says (FileReads R.File.remaining) command.entry said
             × WasTold S.Store W.contents said result self.old self.new }
     {
         let answer = self.warehouse.apply(self.rt.alloc(), command);
@@ -156,7 +159,7 @@ impl<'a, R: Files + AllocGlobal, W: Write + Drop, S: Alter> Session<'a, R, W, S>
     /// Takes in a file, under its path as its label.
     fn import_file(&mut self, kind: Kind, path: &'a str) -> io::Result<()>
         ensures limits { self.new.warehouse.limits ≡ self.old.warehouse.limits }
-        ensures answered { IsFaithful S.Store self.new.warehouse.store → (outcomes : List Outcome)
+        ensures answered { IsFaithful S.Store self.new.warehouse.store → (outcomes : List Outcome) × WereRead R.File.remaining outcomes
             × WasTold S.Store W.contents (Import kind path.now outcomes) result self.old self.new }
     {
         let mut source = FileSource::new(self.rt, path);
@@ -171,7 +174,7 @@ impl<'a, R: Files + AllocGlobal, W: Write + Drop, S: Alter> Session<'a, R, W, S>
     fn import(&mut self, kind: Kind, paths: &[&'a str]) -> io::Result<()>
         ensures limits { self.new.warehouse.limits ≡ self.old.warehouse.limits }
         ensures done { IsFaithful S.Store self.new.warehouse.store
-            → WasRun S.Store W.contents (AreImports kind (map (λ path. path.now) paths.now)) result self.old self.new }
+            → WasRun S.Store W.contents (AreImports (WereRead R.File.remaining) kind (map (λ path. path.now) paths.now)) result self.old self.new }
     {
         for path in paths {
             self.import_file(kind, path)?;
@@ -208,7 +211,7 @@ impl<'a, R: Files + AllocGlobal, W: Write + Drop, S: Alter> Session<'a, R, W, S>
     /// Runs the commands that a work comes to, and prints their answers. It stops where printing fails.
     pub fn run(&mut self, work: Work<'a>) -> io::Result<()>
         ensures limits { self.new.warehouse.limits ≡ self.old.warehouse.limits }
-        ensures done { IsFaithful S.Store self.new.warehouse.store → WasRun S.Store W.contents (AreOf work.entry) result self.old self.new }
+        ensures done { IsFaithful S.Store self.new.warehouse.store → WasRun S.Store W.contents (AreOf (WereRead R.File.remaining) work.entry) result self.old self.new }
     {
         match work {
             Work::Import(kind, paths) => self.import(kind, paths.as_slice()),

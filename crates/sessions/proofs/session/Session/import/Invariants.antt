@@ -1,6 +1,7 @@
 use Rattle.std.proofs.Common.{◌≡◌, List, ◌++◌, drop, map}
 use Rattle.prof_store.specs.Shown.{IsFaithful}
 use Rattle.histories.specs.History.{Said}
+use Rattle.program_files.specs.Imported.{WereRead}
 use Rattle.sessions.specs.Sessions.{AreImports}
 use Rattle.sessions.proofs.SessionLemmas.{SoFar}
 use Rattle.sessions.proofs.session.Session.import.Given as goal
@@ -10,5 +11,5 @@ abbrev pub invariant-loop-path : goal.invariant-loop-path
 invariant-loop-path g l = record {
   limits : l.self.warehouse.limits ≡ l.fn.self.warehouse.limits;
   so_far : IsFaithful g.S.Store l.self.warehouse.store
-      → (list : List Said) × ((rest : List Said) → AreImports l.kind (map (λ path. path.now) (drop l.path-index l.paths)) rest → AreImports l.kind (map (λ path. path.now) l.paths) (list ++ rest)) × SoFar g.S.Store g.W.Write.contents list l.fn.self l.self;
+      → (list : List Said) × ((rest : List Said) → AreImports (WereRead g.R.File.remaining) l.kind (map (λ path. path.now) (drop l.path-index l.paths)) rest → AreImports (WereRead g.R.File.remaining) l.kind (map (λ path. path.now) l.paths) (list ++ rest)) × SoFar g.S.Store g.W.Write.contents list l.fn.self l.self;
 }

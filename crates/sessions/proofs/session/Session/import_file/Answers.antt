@@ -2,7 +2,7 @@ use Rattle.std.proofs.Common.{sym, subst}
 use Rattle.histories.specs.History.{Import}
 use Rattle.prof_store.specs.Shown.{IsFaithful}
 use Rattle.sessions.specs.Sessions.{WasTold}
-use Rattle.sessions.proofs.SessionLemmas.{told}
+use Rattle.sessions.proofs.SessionLemmas.{told, were_read}
 use Rattle.store_histories.specs.Answered.{Answers}
 use Rattle.sessions.proofs.session.Session.import_file.Goals as goal
 
@@ -16,6 +16,7 @@ returns-clause-answered g c clean =
     let outcomes = it.0 in
     let said = Import c.args.kind c.as_bytes-label.result.now outcomes in (
       outcomes,
+      were_read g.R.File.remaining _ _ outcomes c.new-source.ensures it.1,
       subst (λ l. WasTold g.S.Store g.W.Write.contents (Import c.args.kind l outcomes) c.tell.result old new) c.as_bytes-label.ensures.value
           (told g.S.Store g.W.Write.contents said c.import-answer.result c.tell.result old new
           (subst (λ w. Answers g.S.Store old.warehouse.limits said c.import-answer.result old.warehouse.store w.store) (sym same) it.2) c.tell.ensures.status c.tell.ensures.printed),

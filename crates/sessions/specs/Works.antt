@@ -1,0 +1,64 @@
+-- What a work over a store comes to.
+use Rattle.std.specs.Prelude.{◌≡◌, ℕ, ◌^◌, Bool, not, if◌then◌else◌, List, [], ◌++◌, codes, Option, take, Result, Ok, Err, MatchResult}
+use Rattle.std.specs.Io.KnownBytes.{Appends}
+use Rattle.std.specs.declared.alloc.AllocError.{AllocError}
+use Rattle.sqlite_trees.specs.declared.store.Store.{Ghosts}
+use Rattle.sqlite.specs.Held.{state}
+use Rattle.sqlite.specs.State.{HasCleanDisk}
+use Rattle.sqlite.specs.declared.connection.Connection.{Connection}
+use Rattle.prof_store.specs.Shown.{shown, IsFaithful}
+use Rattle.prof_store.specs.declared.store.Store.{Store}
+use Rattle.file_totals.specs.declared.total.TotalText.{TotalText}
+use Rattle.histories.specs.History.{History, Said}
+use Rattle.histories.specs.Legal.{AreLegal}
+use Rattle.histories.specs.declared.limits.Limits.{Limits}
+use Rattle.store_histories.specs.Answered.{HasHistory, Links}
+use Rattle.program_files.specs.Stores.{TakesUp, Refuses}
+use Rattle.sessions.specs.Sessions.{ArePrinted, ArePrintedInPart, answers_of, commands_of, status_after}
+
+-- ---- a total
+
+-- the text of a total, or that of want of memory
+abbrev pub total_printed : Result TotalText AllocError → List ℕ
+total_printed (Ok total) = total.text
+total_printed (Err e) = codes "refused: out of memory\n"
+
+-- 0 where the file was accepted
+abbrev pub total_status : Result TotalText AllocError → ℕ
+total_status (Ok total) = if total.accepted then 0 else 1
+total_status (Err e) = 1
+
+-- the text is printed, and the status is that of the total; or its first bytes are
+abbrev pub TotalPrinted : {E : Type 0} → Result TotalText AllocError → Result ℕ E → Option (List ℕ) → Option (List ℕ) → Type 0
+TotalPrinted total result old new =
+    MatchResult result (λ status. (status ≡ total_status total) × Appends old new (total_printed total)) (λ e. (n : ℕ) × Appends old new (take n (total_printed total)))
+
+-- ---- a work
+
+-- the limits that the program has
+pub record IsStandard (limits : Limits) : Type 0 where
+  pub bytes : limits.bytes ≡ 2 ^ 30
+  pub runs : limits.runs ≡ 1000000
+  pub groups : limits.groups ≡ 100000
+  pub numbers : limits.numbers ≡ 2 ^ 31
+
+module _ {W S : Type 0} (g : Ghosts S) (contents : W → Option (List ℕ)) (wanted : List Said → Type 0) where
+  -- under the standard limits turns were taken, each from the store that the one before left: their commands are the first of those wanted, and all where a status came of it, which is 1 where an answer is a refusal and else 0; their answers are printed, as far as they could be
+  pub record CameTo {E : Type 0} (result : Result ℕ E) (from to : W) (old new : Store S) : Type 0 where
+    pub limits : Limits
+    pub standard : IsStandard limits
+    pub turns : History
+    pub rest : List Said
+    pub commands : wanted (commands_of turns ++ rest)
+    pub links : Links g limits turns old new
+    pub legal : (h : History) → HasHistory g h old → AreLegal limits h turns
+    pub after : (h : History) → HasHistory g h old → HasHistory g (h ++ turns) new
+    pub told : MatchResult result
+        (λ status. (rest ≡ []) × (status ≡ status_after 0 (answers_of turns)) × ArePrinted (answers_of turns) (contents from) (contents to))
+        (λ e. ArePrintedInPart (answers_of turns) (contents from) (contents to))
+
+  -- a store was made or found in a database, and the work done over it; or there was none to be had, and all is as it was
+  abbrev pub WasWorked : {E F : Type 0} → Bool → Result (Result ℕ E) F → W → Connection S → Connection S → Type 0
+  WasWorked is_new result from old new = MatchResult result
+      (λ printed. (to : W) (opened closed : Store S) × (closed.conn ≡ new) × TakesUp is_new (state g old) (shown g opened) × CameTo printed from to opened closed)
+      (λ end. Refuses is_new (state g old) (state g new))
