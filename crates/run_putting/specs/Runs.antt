@@ -8,7 +8,10 @@ use Rattle.store_columns.specs.Lines.{run_line, event_line, derived_line, coef_l
 use Rattle.store_columns.specs.declared.lines.RunLine.{RunLine}
 use Rattle.store_columns.specs.declared.lines.HeadLines.{HeadLines}
 
--- its own lines, and those of its rows
+-- its own line and those of its head
+abbrev pub with_head_of : RunLine → HeadLines → Tables → Tables
+with_head_of run head = with_head (run_line run) (map event_line head.events.items) (map derived_line head.derived.items) (map coef_line head.coefs.items)
+
+-- and those of its rows
 abbrev pub with_run_of : RunLine → HeadLines → FileRows → Tables → Tables
-with_run_of run head rows t =
-    with_rows run.number (content_of rows) (with_head (run_line run) (map event_line head.events.items) (map derived_line head.derived.items) (map coef_line head.coefs.items) t)
+with_run_of run head rows t = with_rows run.number (content_of rows) (with_head_of run head t)

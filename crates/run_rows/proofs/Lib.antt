@@ -1,3 +1,3 @@
 pub mod Finding
-pub mod ManyLines
+pub mod Queueing
 pub mod RowLines

@@ -1,2 +1,3 @@
 pub mod FromRows
+pub mod LinePuts
 pub mod Queues

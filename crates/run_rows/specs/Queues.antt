@@ -1,12 +1,12 @@
 -- Lines that wait to be written.
-use Rattle.std.specs.Prelude.{◌≡◌, ◌++◌, List}
-use Rattle.std.specs.Bool.{⊤}
-use Rattle.sqlite.specs.State.{State}
+use Rattle.std.specs.Prelude.{◌≡◌, ◌++◌, Bool, List, map, IsTrue}
+use Rattle.sqlite_trees.specs.declared.store.Store.{Ghosts}
+use Rattle.sqlite.specs.declared.transaction.Transaction.{Transaction}
 use Rattle.prof_tables.specs.Tables.{Tables}
-use Rattle.store_columns.specs.Steps.{Makes}
+use Rattle.store_columns.specs.Within.{Writes}
 
 -- further lines are taken up after those that waited: the first of them all are written now, and the others wait
-pub record Queues {Y : Type 0} (writes : List Y → Tables → Tables) (waited more waits : List Y) (old new : State) : Type 0 where
+pub record Queues {S X Y : Type 0} (g : Ghosts S) (plain : X → Y) (with_lines : List Y → Tables → Tables) (is_done : Bool) (waited : List X) (more : List Y) (waits : List X) (old new : Transaction S) : Type 0 where
   pub written : List Y
-  pub made : Makes (λ _. ⊤) (writes written) old new
-  pub lines : written ++ waits ≡ waited ++ more
+  pub writes : Writes g is_done (with_lines written) old new
+  pub lines : IsTrue is_done → written ++ map plain waits ≡ map plain waited ++ more

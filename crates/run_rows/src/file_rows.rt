@@ -1,23 +1,17 @@
 // The rows of a file are written, within a transaction.
-ghost use Rattle.std.specs.Prelude.{◌≡◌, ◌∷◌, [], map, OnOk, IfOk, nat_lt, if◌then◌else◌, ⊤};
-ghost use Rattle.sqlite.specs.Held.{state};
-ghost use Rattle.sqlite.specs.State.{HasCleanDisk};
-ghost use Rattle.sql_tables.specs.States.{Works};
+ghost use Rattle.std.specs.Prelude.{◌≡◌, ◌∷◌, [], IfOk};
+ghost use Rattle.std.specs.Result.{is_ok};
 ghost use Rattle.cost_rows.specs.Rows.{content_of};
 ghost use Rattle.prof_tables.specs.Changes.{with_cells, with_arcs, with_stacks};
 ghost use Rattle.prof_tables.specs.Files.{all_named, numbers_in};
-ghost use Rattle.prof_tables.specs.Schema.{schema_one};
-ghost use Rattle.prof_tables.specs.Tables.{Tables, Holds};
-ghost use Rattle.prof_books.specs.Files.{cell_lines, arc_line_of, arc_lines_at, arc_lines, stack_lines};
-ghost use Rattle.run_rows.specs.FromRows.{call_of_arc, calls_of_arc};
+ghost use Rattle.prof_books.specs.Files.{cell_lines, arc_lines, stack_lines};
+ghost use Rattle.run_rows.specs.FromRows.{part_line, cost_lines, row_lines};
 ghost use Rattle.store_columns.specs.Lines.{arc_line};
+ghost use Rattle.store_columns.specs.Within.{Writes, Tells};
 ghost use Rattle.run_rows.specs.Queues.{Queues};
-ghost use Rattle.store_columns.specs.Steps.{Passes, Makes};
 
 use crate::file_lines::{arc_of, cell_of, stack_of};
-use crate::many_arcs::{put_arc_lines, queue_arc};
-use crate::many_cells::{put_cell_lines, queue_cell};
-use crate::many_stacks::{put_stack_lines, queue_stack};
+use crate::line_writing::{put_lines, queue};
 use crate::name_texts::number_name;
 use cost_rows::{ArcRow, FileRows, Names};
 use sqlite::{Alter, Transaction};
@@ -30,10 +24,8 @@ pub fn number_names<S: Alter>(
     alloc: Global,
     names: &Names,
 ) -> Result<Vec<u32>, StoreEnd>
-    ensures same_reference { tx.new.conn.ghost_name ≡ tx.old.conn.ghost_name }
-    ensures passes { Passes (state S.Store tx.old.conn.now) (state S.Store tx.new.conn.now) }
-    ensures made { OnOk result (Makes (λ _. ⊤) (all_named names.now) (state S.Store tx.old.conn.now) (state S.Store tx.new.conn.now)) }
-    ensures numbers { HasCleanDisk (state S.Store tx.new.conn.now) → (t : Tables) → Works schema_one (Holds t) (state S.Store tx.old.conn.now) → IfOk result (λ numbers. numbers.items ≡ numbers_in (all_named names.now t) names.now) }
+    ensures writes { Writes S.Store (is_ok result) (all_named names.now) tx.old tx.new }
+    ensures told { Tells S.Store tx.old tx.new (λ t. IfOk result (λ numbers. numbers.items ≡ numbers_in (all_named names.now t) names.now)) }
 {
     let mut numbers = Vec::new(alloc);
     'names: for at in 0..names.len() {
@@ -53,18 +45,16 @@ pub fn put_cells<S: Alter>(
     numbers: &[u32],
     rows: &FileRows,
 ) -> Result<(), StoreEnd>
-    ensures same_reference { tx.new.conn.ghost_name ≡ tx.old.conn.ghost_name }
-    ensures passes { Passes (state S.Store tx.old.conn.now) (state S.Store tx.new.conn.now) }
-    ensures made { OnOk result (Makes (λ _. ⊤) (with_cells (cell_lines run numbers.now (content_of rows.now).cells)) (state S.Store tx.old.conn.now) (state S.Store tx.new.conn.now)) }
+    ensures { Writes S.Store (is_ok result) (with_cells (cell_lines run numbers.now (content_of rows.now).cells)) tx.old tx.new }
 {
     let mut waiting = Vec::new(alloc);
     'rows: for row in rows.numbered_cells() {
         match cell_of(run, numbers, &row) {
-            Some(line) => queue_cell(tx, alloc, &mut waiting, line)?,
+            Some(line) => queue(tx, alloc, &mut waiting, line)?,
             None => return Err(StoreEnd::Store),
         }
     }
-    put_cell_lines(tx, alloc, &waiting)
+    put_lines(tx, alloc, &waiting)
 }
 
 /// Takes up a part of the calls of a row.
@@ -78,12 +68,10 @@ fn put_part<S: Alter>(
     part: usize,
     sum: u128,
 ) -> Result<(), StoreEnd>
-    ensures same_reference { tx.new.conn.ghost_name ≡ tx.old.conn.ghost_name }
-    ensures passes { Passes (state S.Store tx.old.conn.now) (state S.Store tx.new.conn.now) }
-    ensures made { OnOk result (Queues with_arcs (map arc_line waiting.old.items) (arc_line_of run numbers.now (call_of_arc row.now) part sum ∷ []) (map arc_line waiting.new.items) (state S.Store tx.old.conn.now) (state S.Store tx.new.conn.now)) }
+    ensures { Queues S.Store arc_line with_arcs (is_ok result) waiting.old.items (part_line run numbers.now row.now part sum ∷ []) waiting.new.items tx.old tx.new }
 {
     match arc_of(run, numbers, row, part, sum) {
-        Some(line) => queue_arc(tx, alloc, waiting, line),
+        Some(line) => queue(tx, alloc, waiting, line),
         None => Err(StoreEnd::Store),
     }
 }
@@ -99,9 +87,7 @@ fn put_cost<S: Alter>(
     part: usize,
     cost: u128,
 ) -> Result<(), StoreEnd>
-    ensures same_reference { tx.new.conn.ghost_name ≡ tx.old.conn.ghost_name }
-    ensures passes { Passes (state S.Store tx.old.conn.now) (state S.Store tx.new.conn.now) }
-    ensures made { OnOk result (Queues with_arcs (map arc_line waiting.old.items) (if nat_lt 0 cost then arc_line_of run numbers.now (call_of_arc row.now) part cost ∷ [] else []) (map arc_line waiting.new.items) (state S.Store tx.old.conn.now) (state S.Store tx.new.conn.now)) }
+    ensures { Queues S.Store arc_line with_arcs (is_ok result) waiting.old.items (cost_lines run numbers.now row.now part cost) waiting.new.items tx.old tx.new }
 {
     if cost > 0 {
         put_part(tx, alloc, waiting, run, numbers, row, part, cost)
@@ -119,9 +105,7 @@ fn put_parts<S: Alter>(
     numbers: &[u32],
     row: &ArcRow<u32, &[u128]>,
 ) -> Result<(), StoreEnd>
-    ensures same_reference { tx.new.conn.ghost_name ≡ tx.old.conn.ghost_name }
-    ensures passes { Passes (state S.Store tx.old.conn.now) (state S.Store tx.new.conn.now) }
-    ensures made { OnOk result (Queues with_arcs (map arc_line waiting.old.items) (arc_lines_at run numbers.now (call_of_arc row.now) (calls_of_arc row.now)) (map arc_line waiting.new.items) (state S.Store tx.old.conn.now) (state S.Store tx.new.conn.now)) }
+    ensures { Queues S.Store arc_line with_arcs (is_ok result) waiting.old.items (row_lines run numbers.now row.now) waiting.new.items tx.old tx.new }
 {
     put_part(tx, alloc, waiting, run, numbers, row, 0, row.count)?;
     let costs = row.costs;
@@ -139,15 +123,13 @@ pub fn put_arcs<S: Alter>(
     numbers: &[u32],
     rows: &FileRows,
 ) -> Result<(), StoreEnd>
-    ensures same_reference { tx.new.conn.ghost_name ≡ tx.old.conn.ghost_name }
-    ensures passes { Passes (state S.Store tx.old.conn.now) (state S.Store tx.new.conn.now) }
-    ensures made { OnOk result (Makes (λ _. ⊤) (with_arcs (arc_lines run numbers.now (content_of rows.now).arcs)) (state S.Store tx.old.conn.now) (state S.Store tx.new.conn.now)) }
+    ensures { Writes S.Store (is_ok result) (with_arcs (arc_lines run numbers.now (content_of rows.now).arcs)) tx.old tx.new }
 {
     let mut waiting = Vec::new(alloc);
     'rows: for row in rows.numbered_arcs() {
         put_parts(tx, alloc, &mut waiting, run, numbers, &row)?;
     }
-    put_arc_lines(tx, alloc, &waiting)
+    put_lines(tx, alloc, &waiting)
 }
 
 /// Writes the counts of a run's stacks.
@@ -157,16 +139,14 @@ pub fn put_stacks<S: Alter>(
     run: u32,
     rows: &FileRows,
 ) -> Result<(), StoreEnd>
-    ensures same_reference { tx.new.conn.ghost_name ≡ tx.old.conn.ghost_name }
-    ensures passes { Passes (state S.Store tx.old.conn.now) (state S.Store tx.new.conn.now) }
-    ensures made { OnOk result (Makes (λ _. ⊤) (with_stacks (stack_lines run (content_of rows.now).stacks)) (state S.Store tx.old.conn.now) (state S.Store tx.new.conn.now)) }
+    ensures { Writes S.Store (is_ok result) (with_stacks (stack_lines run (content_of rows.now).stacks)) tx.old tx.new }
 {
     let mut waiting = Vec::new(alloc);
     'rows: for row in rows.stacks() {
         match stack_of(run, &row) {
-            Some(line) => queue_stack(tx, alloc, &mut waiting, line)?,
+            Some(line) => queue(tx, alloc, &mut waiting, line)?,
             None => return Err(StoreEnd::Store),
         }
     }
-    put_stack_lines(tx, alloc, &waiting)
+    put_lines(tx, alloc, &waiting)
 }

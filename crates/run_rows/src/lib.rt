@@ -1,15 +1,18 @@
-//! The rows of a run: what they are of a file, and how they are written within a transaction.
+//! The lines of a run in the tables: what they are of a file's rows, and how they are written within
+//! a transaction.
 #![tactic(auto)]
 
-mod arc_texts;
-mod cell_texts;
+mod arc_lines;
+mod cell_lines;
 mod file_lines;
 mod file_rows;
-mod many_arcs;
-mod many_cells;
-mod many_stacks;
+mod head_lines;
+mod line_writing;
+mod lines;
 mod name_texts;
-mod stack_texts;
+mod stack_lines;
 mod values;
 
 pub use file_rows::{number_names, put_arcs, put_cells, put_stacks};
+pub use line_writing::put_lines;
+pub use lines::Line;

@@ -1,5 +1,6 @@
 // Values of many columns.
 ghost use Rattle.std.specs.Prelude.{◌≡◌, ◌++◌, OnOk};
+ghost use Rattle.sqlite.specs.Values.{bound};
 
 use sqlite::types::ValueRef;
 use std::alloc::AllocError;
@@ -9,7 +10,7 @@ pub fn push_values<'a>(
     values: &mut Vec<ValueRef<'a>>,
     more: &[ValueRef<'a>],
 ) -> Result<(), AllocError>
-    ensures { OnOk result (values.new.items ≡ values.old.items ++ more.now) }
+    ensures { OnOk result (bound values.new.items ≡ bound values.old.items ++ bound more.now) }
 {
     'more: for value in more {
         values.push(*value)?;

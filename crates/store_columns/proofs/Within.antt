@@ -31,8 +31,11 @@ survives_none s = record {
 
 module _ {S : Type 0} (g : Ghosts S) where
   -- a disk that is faithful was so before
-  pub faithful_before : (old new : Transaction S) → Survives (inside g old) (inside g new) (λ _. ⊥) → IsFaithful g new → IsFaithful g old
+  faithful_before : (old new : Transaction S) → Survives (inside g old) (inside g new) (λ _. ⊥) → IsFaithful g new → IsFaithful g old
   faithful_before old new h clean = omega (arith, h.clean, clean)
+
+  pub was_faithful : {ok : Bool} {given : Tables → Type 0} {change : Tables → Tables} {old new : Transaction S} → WritesIf g ok given change old new → IsFaithful g new → IsFaithful g old
+  was_faithful h clean = omega (arith, h.survives.clean, clean)
 
   -- nothing was called
   pub writes_none : (ok : Bool) (given : Tables → Type 0) (tx : Transaction S) → WritesIf g ok given (λ t. t) tx tx
@@ -64,16 +67,31 @@ module _ {S : Type 0} (g : Ghosts S) where
   both ok first second old mid new one two = writes_then ok (λ _. ⊤) (λ _. ⊤) first second old mid new one two (λ _ _. tt)
 
   -- a call that was refused made no change
-  pub writes_err : {T E : Type 0} (result : Result T E) (ok : Bool) (given other : Tables → Type 0) (change another : Tables → Tables) (old new : Transaction S)
-      → IsErr result → WritesIf g ok given change old new → WritesIf g (is_ok result) other another old new
-  writes_err (Ok x) ok given other change another old new is h = absurd (cc is)
-  writes_err (Err e) ok given other change another old new is h = record {
+  pub writes_refused : (ok : Bool) (given other : Tables → Type 0) (change another : Tables → Tables) (old new : Transaction S) → WritesIf g ok given change old new → WritesIf g false other another old new
+  writes_refused ok given other change another old new h = record {
     same_reference = h.same_reference;
     survives = h.survives;
     kept = h.kept;
     running = λ (none : false ≡ true). absurd cc;
     done = λ (none : false ≡ true). absurd cc;
   }
+
+  -- the same by what is returned
+  pub writes_err : {T E : Type 0} (result : Result T E) (ok : Bool) (given other : Tables → Type 0) (change another : Tables → Tables) (old new : Transaction S)
+      → IsErr result → WritesIf g ok given change old new → WritesIf g (is_ok result) other another old new
+  writes_err (Ok x) ok given other change another old new is h = absurd (cc is)
+  writes_err (Err e) ok given other change another old new is h = writes_refused ok given other change another old new h
+
+  -- a call, and one that was refused
+  pub then_refused : {given next other : Tables → Type 0} {first second another : Tables → Tables} {old mid new : Transaction S}
+      → WritesIf g true given first old mid → WritesIf g false next second mid new → WritesIf g false other another old new
+  then_refused {given} {next} {other} {first} {second} {another} {old} {mid} {new} one two =
+      writes_refused false given other (λ t. first t) another old new (writes_then false given (λ _. ⊤) first (λ t. t) old mid new one (writes_refused false next (λ _. ⊤) second (λ t. t) mid new two) (λ _ _. tt))
+
+  pub then_err : {T E : Type 0} {given next other : Tables → Type 0} {first second another : Tables → Tables} {old mid new : Transaction S} (result : Result T E)
+      → IsErr result → WritesIf g true given first old mid → WritesIf g false next second mid new → WritesIf g (is_ok result) other another old new
+  then_err (Ok x) is one two = absurd (cc is)
+  then_err (Err e) is one two = then_refused one two
 
   -- the same change in other words, where the tables are known
   pub writes_same : (ok : Bool) (given : Tables → Type 0) (change another : Tables → Tables) (old new : Transaction S)

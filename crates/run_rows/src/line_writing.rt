@@ -1,0 +1,84 @@
+// Lines are written, each by a statement or fifty by one.
+ghost use Rattle.std.specs.Prelude.{◌≡◌, ◌∷◌, [], length, map, IfOk};
+ghost use Rattle.std.specs.Result.{is_ok};
+ghost use Rattle.sqlite.specs.Values.{bound};
+ghost use Rattle.sql_tables.proofs.Many.{all_values};
+ghost use Rattle.store_columns.specs.Within.{Writes};
+ghost use Rattle.run_rows.specs.Queues.{Queues};
+
+use crate::lines::{Line, LineOfMany};
+use sqlite::types::ValueRef;
+use sqlite::{Alter, Transaction};
+use std::alloc::{AllocError, Global};
+use store_columns::{StoreEnd, write_inside};
+
+/// Writes a line. What `values` held is dropped: it serves the next line again.
+fn put_line<'a, S: Alter, L: Line>(
+    tx: &mut Transaction<'_, S>,
+    values: &mut Vec<ValueRef<'a>>,
+    line: &'a L,
+) -> Result<(), StoreEnd>
+    ensures { Writes S.Store (is_ok result) (L.with_lines (L.plain line.now ∷ [])) tx.old tx.new }
+{
+    values.clear();
+    line.add_values(values)?;
+    write_inside(tx, L::text(), values)
+}
+
+/// Writes lines, each by a statement, within a transaction.
+pub fn put_lines<S: Alter, L: Line>(
+    tx: &mut Transaction<'_, S>,
+    alloc: Global,
+    lines: &[L],
+) -> Result<(), StoreEnd>
+    ensures { Writes S.Store (is_ok result) (L.with_lines (map L.plain lines.now)) tx.old tx.new }
+{
+    let mut values = Vec::new(alloc);
+    'lines: for line in lines {
+        put_line(tx, &mut values, line)?;
+    }
+    Ok(())
+}
+
+/// The values of lines, one line after another.
+fn values_of<L: Line>(alloc: Global, lines: &[L]) -> Result<Vec<ValueRef<'_>>, AllocError>
+    ensures { IfOk result (λ values. bound values.items ≡ all_values (map L.columns (map L.plain lines.now))) }
+{
+    let mut values = Vec::new(alloc);
+    'lines: for line in lines {
+        line.add_values(&mut values)?;
+    }
+    Ok(values)
+}
+
+/// Writes fifty lines by one statement.
+fn put_fifty<S: Alter, L: LineOfMany>(
+    tx: &mut Transaction<'_, S>,
+    alloc: Global,
+    lines: &[L],
+) -> Result<(), StoreEnd>
+    requires { length lines.now ≡ 50 }
+    ensures { Writes S.Store (is_ok result) (L.with_lines (map L.plain lines.now)) tx.old tx.new }
+{
+    let values = values_of(alloc, lines)?;
+    write_inside(tx, L::fifty_text(), &values)
+}
+
+/// Takes up a line, and writes those that wait once they are fifty.
+pub(crate) fn queue<S: Alter, L: LineOfMany + Drop>(
+    tx: &mut Transaction<'_, S>,
+    alloc: Global,
+    waiting: &mut Vec<L>,
+    line: L,
+) -> Result<(), StoreEnd>
+    ensures { Queues S.Store L.plain L.with_lines (is_ok result) waiting.old.items (L.plain line ∷ []) waiting.new.items tx.old tx.new }
+{
+    if waiting.push(line).is_err() {
+        return Err(StoreEnd::Memory);
+    }
+    if waiting.len() == 50 {
+        put_fifty(tx, alloc, waiting)?;
+        waiting.clear();
+    }
+    Ok(())
+}
