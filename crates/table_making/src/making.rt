@@ -1,12 +1,12 @@
 // The tables of a new store.
-ghost use Rattle.std.specs.Prelude.{◌≡◌, false, [], IsTrue, OnOk, OnErr};
+ghost use Rattle.std.specs.Prelude.{◌≡◌, false, OnOk, OnErr};
 ghost use Rattle.sqlite.specs.Held.{state};
 ghost use Rattle.sqlite.specs.State.{HasCleanDisk, Survives};
-ghost use Rattle.sql_tables.specs.Contents.{Contain, no_rows};
-ghost use Rattle.sql_tables.specs.States.{Begins, Works, Rests, IsBlank};
+ghost use Rattle.sql_tables.specs.States.{Rests, IsBlank};
 ghost use Rattle.prof_tables.specs.Schema.{empty_schema, schema_to_derived, schema_to_arc, schema_one};
 ghost use Rattle.prof_tables.specs.Tables.{Holds, new_tables};
 ghost use Rattle.store_columns.specs.Steps.{Passes};
+ghost use Rattle.table_making.specs.Making.{BeginsStore, FillsStore, MakesTables, OfBlank, StaysBlank};
 
 use sqlite::{Alter, Connection, Error, Transaction};
 
@@ -14,10 +14,7 @@ use sqlite::{Alter, Connection, Error, Transaction};
 fn make_first_tables<S: Alter>(tx: &mut Transaction<'_, S>) -> Result<(), Error>
     ensures same_reference { tx.new.conn.ghost_name ≡ tx.old.conn.ghost_name }
     ensures passes { Passes (state S.Store tx.old.conn.now) (state S.Store tx.new.conn.now) }
-    ensures made { HasCleanDisk (state S.Store tx.new.conn.now) → Begins empty_schema (state S.Store tx.old.conn.now)
-        → OnOk result (Works schema_to_derived (Contain schema_to_derived (no_rows schema_to_derived.tables)) (state S.Store tx.new.conn.now)) }
-    ensures running { HasCleanDisk (state S.Store tx.new.conn.now) → IsTrue (state S.Store tx.old.conn.now).in_transaction
-        → OnOk result (IsTrue (state S.Store tx.new.conn.now).in_transaction) }
+    ensures made { OnOk result (MakesTables empty_schema schema_to_derived (state S.Store tx.old.conn.now) (state S.Store tx.new.conn.now)) }
 {
     tx.execute(
         "CREATE TABLE meta (id INTEGER PRIMARY KEY CHECK (id = 1), schema INTEGER NOT NULL, next_run INTEGER NOT NULL) STRICT",
@@ -42,10 +39,7 @@ fn make_first_tables<S: Alter>(tx: &mut Transaction<'_, S>) -> Result<(), Error>
 fn make_row_tables<S: Alter>(tx: &mut Transaction<'_, S>) -> Result<(), Error>
     ensures same_reference { tx.new.conn.ghost_name ≡ tx.old.conn.ghost_name }
     ensures passes { Passes (state S.Store tx.old.conn.now) (state S.Store tx.new.conn.now) }
-    ensures made { HasCleanDisk (state S.Store tx.new.conn.now) → Begins schema_to_derived (state S.Store tx.old.conn.now)
-        → OnOk result (Works schema_to_arc (Contain schema_to_arc (no_rows schema_to_arc.tables)) (state S.Store tx.new.conn.now)) }
-    ensures running { HasCleanDisk (state S.Store tx.new.conn.now) → IsTrue (state S.Store tx.old.conn.now).in_transaction
-        → OnOk result (IsTrue (state S.Store tx.new.conn.now).in_transaction) }
+    ensures made { OnOk result (MakesTables schema_to_derived schema_to_arc (state S.Store tx.old.conn.now) (state S.Store tx.new.conn.now)) }
 {
     tx.execute(
         "CREATE TABLE coef (run INTEGER NOT NULL REFERENCES run ON DELETE CASCADE, pos INTEGER NOT NULL, event INTEGER NOT NULL, n INTEGER NOT NULL, PRIMARY KEY (run, pos, event)) STRICT",
@@ -70,10 +64,7 @@ fn make_row_tables<S: Alter>(tx: &mut Transaction<'_, S>) -> Result<(), Error>
 fn make_last_tables<S: Alter>(tx: &mut Transaction<'_, S>) -> Result<(), Error>
     ensures same_reference { tx.new.conn.ghost_name ≡ tx.old.conn.ghost_name }
     ensures passes { Passes (state S.Store tx.old.conn.now) (state S.Store tx.new.conn.now) }
-    ensures made { HasCleanDisk (state S.Store tx.new.conn.now) → Begins schema_to_arc (state S.Store tx.old.conn.now)
-        → OnOk result (Works schema_one (Contain schema_one (no_rows schema_one.tables)) (state S.Store tx.new.conn.now)) }
-    ensures running { HasCleanDisk (state S.Store tx.new.conn.now) → IsTrue (state S.Store tx.old.conn.now).in_transaction
-        → OnOk result (IsTrue (state S.Store tx.new.conn.now).in_transaction) }
+    ensures made { OnOk result (MakesTables schema_to_arc schema_one (state S.Store tx.old.conn.now) (state S.Store tx.new.conn.now)) }
 {
     tx.execute(
         "CREATE TABLE stack (run INTEGER NOT NULL REFERENCES run ON DELETE CASCADE, frames BLOB NOT NULL, n INTEGER NOT NULL, PRIMARY KEY (run, frames)) STRICT",
@@ -94,9 +85,7 @@ fn make_last_tables<S: Alter>(tx: &mut Transaction<'_, S>) -> Result<(), Error>
 fn begin_meta<S: Alter>(tx: &mut Transaction<'_, S>) -> Result<usize, Error>
     ensures same_reference { tx.new.conn.ghost_name ≡ tx.old.conn.ghost_name }
     ensures passes { Passes (state S.Store tx.old.conn.now) (state S.Store tx.new.conn.now) }
-    ensures begun { HasCleanDisk (state S.Store tx.new.conn.now)
-        → Works schema_one (Contain schema_one (no_rows schema_one.tables)) (state S.Store tx.old.conn.now)
-        → OnOk result (Works schema_one (Holds new_tables) (state S.Store tx.new.conn.now)) }
+    ensures begun { OnOk result (BeginsStore (state S.Store tx.old.conn.now) (state S.Store tx.new.conn.now)) }
 {
     tx.execute(
         "INSERT INTO meta (id, schema, next_run) VALUES (1, 1, 1)",
@@ -108,8 +97,7 @@ fn begin_meta<S: Alter>(tx: &mut Transaction<'_, S>) -> Result<usize, Error>
 fn fill_new<S: Alter>(tx: &mut Transaction<'_, S>) -> Result<(), Error>
     ensures same_reference { tx.new.conn.ghost_name ≡ tx.old.conn.ghost_name }
     ensures passes { Passes (state S.Store tx.old.conn.now) (state S.Store tx.new.conn.now) }
-    ensures done { HasCleanDisk (state S.Store tx.new.conn.now) → Begins empty_schema (state S.Store tx.old.conn.now)
-        → OnOk result (Works schema_one (Holds new_tables) (state S.Store tx.new.conn.now)) }
+    ensures done { OnOk result (FillsStore (state S.Store tx.old.conn.now) (state S.Store tx.new.conn.now)) }
 {
     make_first_tables(tx)?;
     make_row_tables(tx)?;
@@ -121,10 +109,8 @@ fn fill_new<S: Alter>(tx: &mut Transaction<'_, S>) -> Result<(), Error>
 /// Makes the tables of a new store in a database that has none, in one transaction.
 pub fn create_in<S: Alter>(conn: &mut Connection<S>) -> Result<(), Error>
     requires { conn.old.in_transaction ≡ false }
-    ensures done { HasCleanDisk (state S.Store conn.new) → IsBlank empty_schema (state S.Store conn.old)
-        → OnOk result (Rests schema_one (Holds new_tables) (state S.Store conn.new)) }
-    ensures kept { HasCleanDisk (state S.Store conn.new) → IsBlank empty_schema (state S.Store conn.old)
-        → OnErr result (IsTrue (state S.Store conn.new).is_open → IsBlank empty_schema (state S.Store conn.new)) }
+    ensures done { OfBlank (state S.Store conn.old) (state S.Store conn.new) (OnOk result (Rests schema_one (Holds new_tables) (state S.Store conn.new))) }
+    ensures kept { OfBlank (state S.Store conn.old) (state S.Store conn.new) (OnErr result (StaysBlank (state S.Store conn.new))) }
     ensures crash { IsBlank empty_schema (state S.Store conn.old) → Survives (state S.Store conn.old) (state S.Store conn.new) (Holds new_tables) }
     ensures honest { HasCleanDisk (state S.Store conn.new) → HasCleanDisk (state S.Store conn.old) }
 {

@@ -6,11 +6,21 @@ use Rattle.prof_tables.proofs.Creates.{makes_coef, makes_name, makes_cell, makes
 use Rattle.table_making.proofs.making.make_row_tables.Goals as goal
 
 pub returns-clause-made : goal.returns-clause-made
-returns-clause-made g c clean was =
-    let clean-3 : HasCleanDisk (state g.S.Store c.execute-3.new.self.conn.now) = omega (arith, c.execute-4.ensures.survives.clean) in
-    let clean-2 : HasCleanDisk (state g.S.Store c.execute-2.new.self.conn.now) = omega (arith, c.execute-3.ensures.survives.clean) in
-    let clean-1 : HasCleanDisk (state g.S.Store c.execute.new.self.conn.now) = omega (arith, c.execute-2.ensures.survives.clean) in
-    let made-1 = makes_coef _ _ _ was (c.in_ok-execute.ensures.runs clean-1 was.running) in
-    let made-2 = makes_name _ _ _ (empties_of _ _ made-1) (c.in_ok-execute-2.ensures.runs clean-2 made-1.running) in
-    let made-3 = makes_cell _ _ _ (empties_of _ _ made-2) (c.in_ok-execute-3.ensures.runs clean-3 made-2.running) in
-    makes_arc _ _ _ (empties_of _ _ made-3) (c.in_ok-execute-4.ensures.runs clean made-3.running)
+returns-clause-made g c = record {
+  made = λ clean was.
+      let clean-3 : HasCleanDisk (state g.S.Store c.execute-3.new.self.conn.now) = omega (arith, c.execute-4.ensures.survives.clean) in
+      let clean-2 : HasCleanDisk (state g.S.Store c.execute-2.new.self.conn.now) = omega (arith, c.execute-3.ensures.survives.clean) in
+      let clean-1 : HasCleanDisk (state g.S.Store c.execute.new.self.conn.now) = omega (arith, c.execute-2.ensures.survives.clean) in
+      let made-1 = makes_coef _ _ _ was (c.in_ok-execute.ensures.runs clean-1 was.running) in
+      let made-2 = makes_name _ _ _ (empties_of _ _ made-1) (c.in_ok-execute-2.ensures.runs clean-2 made-1.running) in
+      let made-3 = makes_cell _ _ _ (empties_of _ _ made-2) (c.in_ok-execute-3.ensures.runs clean-3 made-2.running) in
+      makes_arc _ _ _ (empties_of _ _ made-3) (c.in_ok-execute-4.ensures.runs clean made-3.running);
+  running = λ clean on.
+      let clean-3 : HasCleanDisk (state g.S.Store c.execute-3.new.self.conn.now) = omega (arith, c.execute-4.ensures.survives.clean) in
+      let clean-2 : HasCleanDisk (state g.S.Store c.execute-2.new.self.conn.now) = omega (arith, c.execute-3.ensures.survives.clean) in
+      let clean-1 : HasCleanDisk (state g.S.Store c.execute.new.self.conn.now) = omega (arith, c.execute-2.ensures.survives.clean) in
+      let ran-1 = c.in_ok-execute.ensures.runs clean-1 on in
+      let ran-2 = c.in_ok-execute-2.ensures.runs clean-2 ran-1.1.mode in
+      let ran-3 = c.in_ok-execute-3.ensures.runs clean-3 ran-2.1.mode in
+      (c.in_ok-execute-4.ensures.runs clean ran-3.1.mode).1.mode;
+}
