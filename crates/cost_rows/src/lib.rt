@@ -18,6 +18,7 @@ mod records;
 mod rows;
 mod stack_rows;
 mod sum_rows;
+mod sums;
 mod totals;
 mod walks;
 
