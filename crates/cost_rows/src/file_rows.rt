@@ -67,7 +67,7 @@ impl FileRows {
     {
         ArcWalk {
             names: &self.names,
-            rest: self.arcs.iter(),
+            rest: self.numbered_arcs(),
         }
     }
 
@@ -87,10 +87,7 @@ impl FileRows {
     {
         CellWalk {
             names: &self.names,
-            rest: self.cells.iter(),
-            place: NO_CELL,
-            costs: &[],
-            event: 0,
+            rest: self.numbered_cells(),
         }
     }
 
