@@ -4,8 +4,8 @@ ghost use Rattle.std.specs.Map.{keys_of};
 ghost use Rattle.std.specs.List.Sorted.{IsStrictlySortedBy};
 ghost use Rattle.std.specs.BTreeMap.{values};
 ghost use Rattle.cost_rows.specs.Columns.{HaveRoom};
-ghost use Rattle.cost_rows.specs.Merging.{merge};
-ghost use Rattle.cost_rows.specs.Stacks.{bytes_cmp, by_bytes, counted, counted_again, counts_added};
+ghost use Rattle.cost_rows.specs.Content.{stacks_with};
+ghost use Rattle.cost_rows.specs.Stacks.{bytes_cmp, by_bytes, counted, counted_again};
 
 use std::alloc::{AllocError, Global};
 use std::collections::BTreeMap;
@@ -18,7 +18,7 @@ pub(crate) fn merge_stack(
     count: u64,
 ) -> Result<(), AllocError>
     requires small { HaveRoom (values stacks.old) }
-    ensures ok { OnOk result (by_bytes stacks.new.entries ≡ merge bytes_cmp counts_added (by_bytes stacks.old.entries) frames.now count) }
+    ensures ok { OnOk result (by_bytes stacks.new.entries ≡ stacks_with frames.now count (by_bytes stacks.old.entries)) }
     ensures err { OnErr result (stacks.new.entries ≡ stacks.old.entries) }
 {
     match stacks.get_mut(frames) {
