@@ -116,10 +116,6 @@ module _ {K X : Type 0} {cmp : K → K → Ordering} (order : IsTotalOrder cmp) 
   sorted-step key amount e es Equal is sorted rest = sorted
   sorted-step key amount e es Greater is sorted rest = (below-merge e.0 es key amount sorted.0 (flipped key e.0 is), rest)
 
-  empty_sorted : IsStrictlySortedBy cmp []
-  unfolding IsStrictlySortedBy
-  empty_sorted = tt
-
   one_sorted : (key : K) → IsStrictlySortedBy cmp (key ∷ [])
   unfolding IsStrictlySortedBy
   one_sorted key = (tt, tt)

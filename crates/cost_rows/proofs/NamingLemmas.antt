@@ -1,5 +1,5 @@
 -- Names and their numbers: a name's place is the one where it stands, and one more name changes no other's.
-use Rattle.std.proofs.Common.{◌≡◌, ◌↔◌, inl, inr, ℕ, zero, suc, Bool, true, false, not, List, [], ◌∷◌, ◌++◌, length, Option, Some, None, Result, Ok, Err, IfOk, OnErr, refl, sym, ap, ◌∙◌, arith}
+use Rattle.std.proofs.Common.{◌≡◌, ◌↔◌, inl, inr, ℕ, zero, suc, Bool, true, false, not, List, [], ◌∷◌, ◌++◌, length, Option, Some, None, Result, Ok, Err, IfOk, OnErr, refl, sym, ap, ◌∙◌}
 use Rattle.std.specs.List.{list_any, slice_get}
 use Rattle.std.specs.Str.{bytes_eq}
 use Rattle.std.proofs.lemmas.Bool.{cases_Bool, and_parts, and_from, not-true, not_from_false, or_parts, or_from, true≢false}
@@ -35,10 +35,6 @@ from-further (Some m) n h = (m, refl, cc)
 further-none : (o : Option ℕ) → further o ≡ None → o ≡ None
 further-none None h = refl
 further-none (Some m) h = absurd (cc)
-
-no_zero : (o : Option ℕ) → further o ≡ Some 0 → ⊥
-no_zero None h = cc
-no_zero (Some m) h = let e : suc m ≡ 0 = cc in omega arith
 
 -- ---- the place of a name
 

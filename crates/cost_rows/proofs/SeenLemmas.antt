@@ -6,7 +6,7 @@ use Rattle.std.specs.Ordering.{match_ordering, is_eq}
 use Rattle.std.specs.Cmp.{IsTotalOrder}
 use Rattle.std.specs.List.{AllByRecursion}
 use Rattle.std.specs.List.Sorted.{IsStrictlySortedBy}
-use Rattle.std.specs.Map.{lookup, keys_of, set_value}
+use Rattle.std.specs.Map.{lookup, keys_of, set_value, remove_entry}
 use Rattle.std.specs.BTreeMap.{BTreeMap, is_at, insert_entry, WritesThrough}
 use Rattle.std.proofs.lemmas.Bool.{cases_Bool}
 use Rattle.cost_rows.specs.Merging.{merge, sum_where, seen}
@@ -36,13 +36,22 @@ module _ {K L X : Type 0} (see : K → L) (cmp : L → L → Ordering) where
   set-step q w e es true rest = refl
   set-step q w e es false rest = ap (λ more. (see e.0, e.1) ∷ more) rest
 
-  seen-set : (es : List (K × X)) (q : L) (w : X) → seen see (set_value (is_at (asking see cmp q)) es w) ≡ set_value (is_at (cmp q)) (seen see es) w
+  pub seen-set : (es : List (K × X)) (q : L) (w : X) → seen see (set_value (is_at (asking see cmp q)) es w) ≡ set_value (is_at (cmp q)) (seen see es) w
   seen-set [] q w = refl
   seen-set (e ∷ es) q w = set-step q w e es (is_eq (asking see cmp q e.0)) (seen-set es q w)
 
   pub seen-lookup : (es : List (K × X)) (q : L) → lookup (is_at (asking see cmp q)) es ≡ lookup (is_at (cmp q)) (seen see es)
   seen-lookup [] q = refl
   seen-lookup (e ∷ es) q = ap (cond (is_eq (asking see cmp q e.0)) (Some e.1)) (seen-lookup es q)
+
+  remove-step : (q : L) (e : K × X) (es : List (K × X)) (b : Bool) → seen see (remove_entry (is_at (asking see cmp q)) es) ≡ remove_entry (is_at (cmp q)) (seen see es)
+      → seen see (cond b es (e ∷ remove_entry (is_at (asking see cmp q)) es)) ≡ cond b (seen see es) ((see e.0, e.1) ∷ remove_entry (is_at (cmp q)) (seen see es))
+  remove-step q e es true rest = refl
+  remove-step q e es false rest = ap (λ more. (see e.0, e.1) ∷ more) rest
+
+  pub seen-remove : (es : List (K × X)) (q : L) → seen see (remove_entry (is_at (asking see cmp q)) es) ≡ remove_entry (is_at (cmp q)) (seen see es)
+  seen-remove [] q = refl
+  seen-remove (e ∷ es) q = remove-step q e es (is_eq (asking see cmp q e.0)) (seen-remove es q)
 
   all-seen : (q : L) (es : List (K × X)) → AllByRecursion (λ y. asking see cmp q y ≡ Less) (keys_of es) → AllByRecursion (λ y. cmp q y ≡ Less) (keys_of (seen see es))
   all-seen q [] all = tt

@@ -5,7 +5,6 @@ use Rattle.std.specs.declared.cmp.Ordering.TheVariants.{Less, Equal, Greater}
 use Rattle.std.specs.Ordering.{nat_cmp, match_ordering, is_eq}
 use Rattle.std.specs.Cmp.{IsTotalOrder}
 use Rattle.std.specs.Cmp.Lexicographic.{slice_cmp, nat_list_cmp_total}
-use Rattle.std.specs.List.{AllByRecursion}
 use Rattle.std.specs.List.Sorted.{IsStrictlySortedBy}
 use Rattle.std.specs.Map.{lookup, keys_of, values_of, set_value, remove_entry}
 use Rattle.std.proofs.lemmas.Cmp.{tied_itself}
@@ -15,6 +14,7 @@ use Rattle.std.specs.declared.vec.Vec.{Vec}
 use Rattle.cost_rows.specs.Merging.{merge}
 use Rattle.cost_rows.specs.Stacks.{bytes_cmp, by_bytes, counted, counted_again, counts_added}
 use Rattle.cost_rows.proofs.MergeLemmas.{merge-new, merge-held}
+use Rattle.cost_rows.proofs.SeenLemmas.{seen-lookup, seen-new, seen-remove, seen-set, seen-sorted, seen-written}
 
 -- vectors by their bytes
 abbrev pub vec_cmp : {Z : Type 0} → Vec ℕ Z → Vec ℕ Z → Ordering
@@ -23,53 +23,19 @@ vec_cmp x y = slice_cmp nat_cmp x.items y.items
 abbrev pub asks : {Z : Type 0} → List ℕ → Vec ℕ Z → Ordering
 asks q k = slice_cmp nat_cmp q k.items
 
-insert-step : {Z X : Type 0} (k : Vec ℕ Z) (v : X) (e : Vec ℕ Z × X) (es : List (Vec ℕ Z × X)) (r : Ordering) → by_bytes (insert_entry vec_cmp es k v) ≡ insert_entry bytes_cmp (by_bytes es) k.items v
-    → by_bytes (match_ordering r ((k, v) ∷ e ∷ es) ((e.0, v) ∷ es) (e ∷ insert_entry vec_cmp es k v)) ≡ match_ordering r ((k.items, v) ∷ (e.0.items, e.1) ∷ by_bytes es) ((e.0.items, v) ∷ by_bytes es) ((e.0.items, e.1) ∷ insert_entry bytes_cmp (by_bytes es) k.items v)
-insert-step k v e es Less rest = refl
-insert-step k v e es Equal rest = refl
-insert-step k v e es Greater rest = ap (λ more. (e.0.items, e.1) ∷ more) rest
-
-by_bytes-insert : {Z X : Type 0} (es : List (Vec ℕ Z × X)) (k : Vec ℕ Z) (v : X) → by_bytes (insert_entry vec_cmp es k v) ≡ insert_entry bytes_cmp (by_bytes es) k.items v
-by_bytes-insert [] k v = refl
-by_bytes-insert (e ∷ es) k v = insert-step k v e es (vec_cmp k e.0) (by_bytes-insert es k v)
-
-set-step : {Z X : Type 0} (q : List ℕ) (w : X) (e : Vec ℕ Z × X) (es : List (Vec ℕ Z × X)) (b : Bool) → by_bytes (set_value (is_at (asks q)) es w) ≡ set_value (is_at (bytes_cmp q)) (by_bytes es) w
-    → by_bytes (cond b ((e.0, w) ∷ es) (e ∷ set_value (is_at (asks q)) es w)) ≡ cond b ((e.0.items, w) ∷ by_bytes es) ((e.0.items, e.1) ∷ set_value (is_at (bytes_cmp q)) (by_bytes es) w)
-set-step q w e es true rest = refl
-set-step q w e es false rest = ap (λ more. (e.0.items, e.1) ∷ more) rest
-
-by_bytes-set : {Z X : Type 0} (es : List (Vec ℕ Z × X)) (q : List ℕ) (w : X) → by_bytes (set_value (is_at (asks q)) es w) ≡ set_value (is_at (bytes_cmp q)) (by_bytes es) w
-by_bytes-set [] q w = refl
-by_bytes-set (e ∷ es) q w = set-step q w e es (is_eq (asks q e.0)) (by_bytes-set es q w)
-
-by_bytes-lookup : {Z X : Type 0} (es : List (Vec ℕ Z × X)) (q : List ℕ) → lookup (is_at (asks q)) es ≡ lookup (is_at (bytes_cmp q)) (by_bytes es)
-by_bytes-lookup [] q = refl
-by_bytes-lookup (e ∷ es) q = ap (cond (is_eq (asks q e.0)) (Some e.1)) (by_bytes-lookup es q)
-
-all-by_bytes : {Z X : Type 0} (q : List ℕ) (es : List (Vec ℕ Z × X)) → AllByRecursion (λ y. slice_cmp nat_cmp q y.items ≡ Less) (keys_of es) → AllByRecursion (λ y. bytes_cmp q y ≡ Less) (keys_of (by_bytes es))
-all-by_bytes q [] all = tt
-all-by_bytes q (e ∷ es) all = (all.0, all-by_bytes q es all.1)
-
-pub by_bytes-sorted : {Z X : Type 0} (es : List (Vec ℕ Z × X)) → IsStrictlySortedBy vec_cmp (keys_of es) → IsStrictlySortedBy bytes_cmp (keys_of (by_bytes es))
-unfolding IsStrictlySortedBy
-by_bytes-sorted [] sorted = tt
-by_bytes-sorted (e ∷ es) sorted = (all-by_bytes e.0.items es sorted.0, by_bytes-sorted es sorted.1)
-
 pub bytes_cmp-total : IsTotalOrder bytes_cmp
 bytes_cmp-total = nat_list_cmp_total
 
+pub by_bytes-sorted : {Z X : Type 0} (es : List (Vec ℕ Z × X)) → IsStrictlySortedBy vec_cmp (keys_of es) → IsStrictlySortedBy bytes_cmp (keys_of (by_bytes es))
+by_bytes-sorted = seen-sorted (λ key. key.items) bytes_cmp
+
 pub stack-written : {Z : Type 0} (m n : BTreeMap (Vec ℕ Z) ℕ) (frames : List ℕ) (held new count : ℕ) → WritesThrough vec_cmp (asks frames) m new n → IsStrictlySortedBy vec_cmp (keys_of m.entries) → Some held ≡ lookup (is_at (asks frames)) m.entries → new ≡ held + count
     → by_bytes n.entries ≡ merge bytes_cmp counts_added (by_bytes m.entries) frames count
-stack-written m n frames held new count written sorted found sum =
-    ap by_bytes written.0 ∙ by_bytes-set m.entries frames new ∙ ap (set_value (is_at (bytes_cmp frames)) (by_bytes m.entries)) sum
-    ∙ merge-held bytes_cmp-total counts_added (by_bytes m.entries) frames count held (by_bytes-sorted m.entries sorted) (sym (by_bytes-lookup m.entries frames) ∙ sym found)
+stack-written = seen-written (λ key. key.items) bytes_cmp bytes_cmp-total counts_added
 
 pub stack-new : {Z : Type 0} (m n : BTreeMap (Vec ℕ Z) ℕ) (frames : List ℕ) (key : Vec ℕ Z) (new count : ℕ) → n.entries ≡ insert_entry vec_cmp m.entries key new → None ≡ lookup (is_at (asks frames)) m.entries → key.items ≡ frames → new ≡ count
     → by_bytes n.entries ≡ merge bytes_cmp counts_added (by_bytes m.entries) frames count
-stack-new m n frames key new count entries absent bytes sum =
-    ap by_bytes entries ∙ by_bytes-insert m.entries key new
-    ∙ ap (λ k. insert_entry bytes_cmp (by_bytes m.entries) k new) bytes ∙ ap (insert_entry bytes_cmp (by_bytes m.entries) frames) sum
-    ∙ merge-new bytes_cmp-total counts_added (by_bytes m.entries) frames count (sym (by_bytes-lookup m.entries frames) ∙ sym absent)
+stack-new = seen-new (λ key. key.items) bytes_cmp bytes_cmp-total counts_added
 
 -- ---- what is put back
 
@@ -110,26 +76,18 @@ back-as_before es merged now frames count (Some n) sorted was is back =
     back ∙ ap (λ m. set_value (is_at (bytes_cmp frames)) m n) (is ∙ sym (merge-held bytes_cmp-total counts_added es frames count n sorted (sym was)))
     ∙ set-twice (is_at (bytes_cmp frames)) es (n + count) n ∙ set_value_same (is_at (bytes_cmp frames)) es n (sym was)
 
-by_bytes-remove : {Z X : Type 0} (es : List (Vec ℕ Z × X)) (q : List ℕ) → by_bytes (remove_entry (is_at (asks q)) es) ≡ remove_entry (is_at (bytes_cmp q)) (by_bytes es)
-by_bytes-remove [] q = refl
-by_bytes-remove (e ∷ es) q = by (is_eq (asks q e.0)) (by_bytes-remove es q)
-  where
-    by : (b : Bool) → by_bytes (remove_entry (is_at (asks q)) es) ≡ remove_entry (is_at (bytes_cmp q)) (by_bytes es) → by_bytes (cond b es (e ∷ remove_entry (is_at (asks q)) es)) ≡ cond b (by_bytes es) ((e.0.items, e.1) ∷ remove_entry (is_at (bytes_cmp q)) (by_bytes es))
-    by true rest = refl
-    by false rest = ap (λ more. (e.0.items, e.1) ∷ more) rest
-
 pub stack-removed : {Z : Type 0} (m n : BTreeMap (Vec ℕ Z) ℕ) (frames : List ℕ) → n.entries ≡ remove_entry (is_at (asks frames)) m.entries → by_bytes n.entries ≡ remove_entry (is_at (bytes_cmp frames)) (by_bytes m.entries)
-stack-removed m n frames e = ap by_bytes e ∙ by_bytes-remove m.entries frames
+stack-removed m n frames e = ap by_bytes e ∙ seen-remove (λ key. key.items) bytes_cmp m.entries frames
 
 pub stack-set : {Z : Type 0} (m n : BTreeMap (Vec ℕ Z) ℕ) (frames : List ℕ) (new : ℕ) → WritesThrough vec_cmp (asks frames) m new n → by_bytes n.entries ≡ set_value (is_at (bytes_cmp frames)) (by_bytes m.entries) new
-stack-set m n frames new written = ap by_bytes written.0 ∙ by_bytes-set m.entries frames new
+stack-set m n frames new written = ap by_bytes written.0 ∙ seen-set (λ key. key.items) bytes_cmp m.entries frames new
 
 pub stack-absent : {Z : Type 0} (m n : BTreeMap (Vec ℕ Z) ℕ) (frames : List ℕ) (new : ℕ) → n ≡ m → None ≡ lookup (is_at (asks frames)) m.entries → by_bytes n.entries ≡ set_value (is_at (bytes_cmp frames)) (by_bytes m.entries) new
 stack-absent m n frames new same none =
-    ap (λ x. by_bytes x.entries) same ∙ sym (set-absent (is_at (bytes_cmp frames)) (by_bytes m.entries) new (sym (by_bytes-lookup m.entries frames) ∙ sym none))
+    ap (λ x. by_bytes x.entries) same ∙ sym (set-absent (is_at (bytes_cmp frames)) (by_bytes m.entries) new (sym (seen-lookup (λ key. key.items) bytes_cmp m.entries frames) ∙ sym none))
 
 pub stack-found : {Z : Type 0} (m : BTreeMap (Vec ℕ Z) ℕ) (frames : List ℕ) → lookup (is_at (asks frames)) m.entries ≡ lookup (is_at (bytes_cmp frames)) (by_bytes m.entries)
-stack-found m frames = by_bytes-lookup m.entries frames
+stack-found m frames = seen-lookup (λ key. key.items) bytes_cmp m.entries frames
 
 pub by_bytes-values : {Z X : Type 0} (es : List (Vec ℕ Z × X)) → values_of (by_bytes es) ≡ values_of es
 by_bytes-values [] = refl

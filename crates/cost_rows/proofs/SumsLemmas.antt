@@ -1,5 +1,5 @@
 -- The rows of merged records come to what the records come to.
-use Rattle.std.proofs.Common.{◌≡◌, ℕ, ◌+◌, ◌<◌, ◌≤◌, zero, suc, Bool, true, List, [], ◌∷◌, ◌++◌, length, fold, slice_index, Some, unwrap_or, if◌then◌else◌, refl, sym, ap, ◌∙◌, subst, arith, add_assoc, length-append}
+use Rattle.std.proofs.Common.{◌≡◌, ℕ, ◌+◌, ◌<◌, ◌≤◌, zero, suc, Bool, List, [], ◌∷◌, ◌++◌, length, fold, slice_index, Some, unwrap_or, if◌then◌else◌, refl, sym, ap, ◌∙◌, subst, arith, add_assoc, length-append}
 use Rattle.std.specs.declared.cmp.Ordering.{Ordering}
 use Rattle.std.specs.declared.cmp.Ordering.TheVariants.{Less, Equal, Greater}
 use Rattle.std.specs.Ordering.{match_ordering}

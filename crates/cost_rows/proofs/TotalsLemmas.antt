@@ -4,7 +4,7 @@ use Rattle.std.specs.Map.{values_of}
 use Rattle.std.proofs.lemmas.List.Elements.{All-cons, All-weaker, All-from_get_or}
 use Rattle.cost_rows.specs.Calls.{calls_added, AreSmall}
 use Rattle.cost_rows.specs.Columns.{added}
-use Rattle.cost_rows.specs.Merging.{merge}
+use Rattle.cost_rows.specs.Merging.{merge, sum_where}
 use Rattle.cost_rows.specs.Places.{cell_cmp, call_cmp}
 use Rattle.cost_rows.specs.Stacks.{bytes_cmp, counts_added}
 use Rattle.cost_rows.specs.Content.{Content}
@@ -126,29 +126,13 @@ content-same names names' cells cells' arcs stacks stacks' a b d =
 
 -- ---- totals, value by value
 
-abbrev pub values_total : ℕ → List (List ℕ) → ℕ
-values_total k [] = 0
-values_total k (v ∷ vs) = slice_index v k + values_total k vs
+abbrev pub sum_over : {X : Type 0} → (X → ℕ) → List X → ℕ
+sum_over measure [] = 0
+sum_over measure (v ∷ vs) = measure v + sum_over measure vs
 
-pub values_total-all : (k : ℕ) (cells : List (CellPlace × List ℕ)) → values_total k (values_of cells) ≡ cell_total k cells
-values_total-all k [] = refl
-values_total-all k (e ∷ cells) = ap (λ n. slice_index e.1 k + n) (values_total-all k cells)
-
-abbrev pub costs_total : ℕ → List Calls → ℕ
-costs_total k [] = 0
-costs_total k (v ∷ vs) = slice_index v.costs k + costs_total k vs
-
-pub costs_total-all : (k : ℕ) (arcs : List (Call × Calls)) → costs_total k (values_of arcs) ≡ arc_total k arcs
-costs_total-all k [] = refl
-costs_total-all k (e ∷ arcs) = ap (λ n. slice_index e.1.costs k + n) (costs_total-all k arcs)
-
-abbrev pub number_total : List Calls → ℕ
-number_total [] = 0
-number_total (v ∷ vs) = v.count + number_total vs
-
-pub number_total-all : (arcs : List (Call × Calls)) → number_total (values_of arcs) ≡ count_total arcs
-number_total-all [] = refl
-number_total-all (e ∷ arcs) = ap (λ n. e.1.count + n) (number_total-all arcs)
+pub sum_over-all : {K X : Type 0} (measure : X → ℕ) (entries : List (K × X)) → sum_over measure (values_of entries) ≡ sum_where (λ _. true) measure entries
+sum_over-all measure [] = refl
+sum_over-all measure (e ∷ entries) = ap (λ n. measure e.1 + n) (sum_over-all measure entries)
 
 zero-at : (n k : ℕ) → slice_index (replicate n 0) k ≡ 0
 zero-at zero k = refl

@@ -1,9 +1,10 @@
 -- The rows that are walked come to the sums that are held.
-use Rattle.std.proofs.Common.{◌≡◌, ℕ, ◌+◌, ◌<◌, zero, suc, Bool, true, false, ◌&&◌, ◌==◌, nat_lt, List, [], ◌∷◌, ◌++◌, slice_index, if◌then◌else◌, refl, ap, ◌∙◌, arith}
+use Rattle.std.proofs.Common.{◌≡◌, ℕ, ◌+◌, ◌<◌, zero, suc, Bool, true, false, ◌&&◌, ◌==◌, nat_lt, List, [], ◌∷◌, ◌++◌, map, slice_index, if◌then◌else◌, refl, ap, ◌∙◌, arith}
 use Rattle.std.proofs.lemmas.Bool.Decides.{nat_tests}
 use Rattle.cost_rows.specs.Merging.{sum_where}
 use Rattle.cost_rows.specs.Sums.{Spot, spot_at, callee_at, passing_cell, passing_call}
-use Rattle.cost_rows.specs.Walks.{cell_row, rows_at, cell_rows, arc_rows, stack_rows}
+use Rattle.cost_rows.specs.ByNumber.{numbered_cell, numbered_at, numbered_cells}
+use Rattle.cost_rows.specs.Walks.{cell_named, cell_rows, arc_rows, stack_rows}
 use Rattle.cost_rows.specs.WalkSums.{rows_cost, calls_cost, calls_count, stacks_count}
 use Rattle.cost_rows.specs.declared.rows.CellRow.{CellRow}
 use Rattle.cost_rows.specs.declared.places.CellPlace.{CellPlace}
@@ -58,12 +59,12 @@ pub nothing_each_way : (b : Bool) → 0 ≡ neither b
 nothing_each_way true = refl
 nothing_each_way false = refl
 
-rows-at : (passes : Spot → Bool) (k : ℕ) (names : List (List ℕ)) (p : CellPlace) (e : ℕ) (costs : List ℕ) → rows_cost passes k (rows_at names p e costs) ≡ (if passes (spot_at names p.place) then column_from e k costs else 0)
+rows-at : (passes : Spot → Bool) (k : ℕ) (names : List (List ℕ)) (p : CellPlace) (e : ℕ) (costs : List ℕ) → rows_cost passes k (map (cell_named names) (numbered_at p e costs)) ≡ (if passes (spot_at names p.place) then column_from e k costs else 0)
 rows-at passes k names p e [] = nothing_each_way (passes (spot_at names p.place))
 rows-at passes k names p e (zero ∷ costs) =
     rows-at passes k names p (suc e) costs ∙ none_more (passes (spot_at names p.place)) (e == k) (column_from (suc e) k costs)
 rows-at passes k names p e (suc n ∷ costs) =
-    ap (λ b. rows_cost passes k (if b then cell_row names p e (suc n) ∷ rows_at names p (suc e) costs else rows_at names p (suc e) costs)) (is_above n)
+    ap (λ b. rows_cost passes k (map (cell_named names) (if b then numbered_cell p e (suc n) ∷ numbered_at p (suc e) costs else numbered_at p (suc e) costs))) (is_above n)
     ∙ ap (λ m. (if passes (spot_at names p.place) && (e == k) then suc n else 0) + m) (rows-at passes k names p (suc e) costs)
     ∙ one_more (passes (spot_at names p.place)) (e == k) (suc n) (column_from (suc e) k costs)
 
@@ -76,10 +77,15 @@ rows-append passes k (x ∷ xs) ys =
     let rest : rows_cost passes k (xs ++ ys) ≡ a + b = rows-append passes k xs ys in
     omega (arith, rest)
 
+map-append : {X Y : Type 0} (f : X → Y) (xs ys : List X) → map f (xs ++ ys) ≡ map f xs ++ map f ys
+map-append f [] ys = refl
+map-append f (x ∷ xs) ys = ap (λ zs. f x ∷ zs) (map-append f xs ys)
+
 pub walked-cells : (passes : Spot → Bool) (k : ℕ) (names : List (List ℕ)) (cells : List (CellPlace × List ℕ)) → rows_cost passes k (cell_rows names cells) ≡ sum_where (passing_cell passes names) (λ costs. slice_index costs k) cells
 walked-cells passes k names [] = refl
 walked-cells passes k names (e ∷ cells) =
-    rows-append passes k (rows_at names e.0 0 e.1) (cell_rows names cells)
+    ap (rows_cost passes k) (map-append (cell_named names) (numbered_at e.0 0 e.1) (numbered_cells cells))
+    ∙ rows-append passes k (map (cell_named names) (numbered_at e.0 0 e.1)) (cell_rows names cells)
     ∙ ap (λ n. n + rows_cost passes k (cell_rows names cells)) (rows-at passes k names e.0 0 e.1 ∙ ap (λ n. if passes (spot_at names e.0.place) then n else 0) (column-at 0 k k e.1 (omega arith)))
     ∙ ap (λ n. (if passes (spot_at names e.0.place) then slice_index e.1 k else 0) + n) (walked-cells passes k names cells)
 

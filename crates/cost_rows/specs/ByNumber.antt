@@ -1,5 +1,5 @@
 -- The rows that are walked with names by their numbers, and no cell whose sum is 0.
-use Rattle.std.specs.Prelude.{ℕ, suc, List, [], ◌∷◌, ◌++◌, nat_lt, if◌then◌else◌}
+use Rattle.std.specs.Prelude.{ℕ, suc, List, [], ◌∷◌, ◌++◌, map, nat_lt, if◌then◌else◌}
 use Rattle.std.specs.Borrow.{Bor}
 use Rattle.cost_rows.specs.declared.places.CellPlace.{CellPlace}
 use Rattle.cost_rows.specs.declared.places.Call.{Call}
@@ -37,8 +37,7 @@ numbered_arc e = record {
 }
 
 abbrev pub numbered_arcs : List (Call × Calls) → List (ArcRow ℕ (List ℕ))
-numbered_arcs [] = []
-numbered_arcs (e ∷ arcs) = numbered_arc e ∷ numbered_arcs arcs
+numbered_arcs arcs = map numbered_arc arcs
 
 -- a row as the code lends it, without where its costs lie in memory
 abbrev pub plain_numbered : ArcRow ℕ (Bor (List ℕ)) → ArcRow ℕ (List ℕ)

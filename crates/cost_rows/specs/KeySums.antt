@@ -15,11 +15,15 @@ pub record Sums : Type 0 where
   pub key : Key
   pub sums : List (Spot × ℕ)
 
+-- a cost is added at its part
+abbrev pub sums_with : Spot → ℕ → List (Spot × ℕ) → List (Spot × ℕ)
+sums_with part cost sums = merge named_cmp counts_added sums part cost
+
 -- a row's cost is added at its part; a cost of 0 adds nothing
 abbrev pub with_row : Sums → CellRow (List ℕ) → Sums
 with_row s row =
     if nat_eq row.cost 0 then s
-    else record { key = s.key; sums = merge named_cmp counts_added s.sums (part_of s.key (place_of_row row)) row.cost }
+    else record { key = s.key; sums = sums_with (part_of s.key (place_of_row row)) row.cost s.sums }
 
 -- the sum of all
 abbrev pub total_of : List (Spot × ℕ) → ℕ

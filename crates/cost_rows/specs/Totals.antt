@@ -7,13 +7,22 @@ use Rattle.cost_rows.specs.declared.places.Call.{Call}
 use Rattle.cost_rows.specs.declared.calls.Calls.{Calls}
 use Rattle.cost_rows.specs.declared.rows.FileTotals.{FileTotals}
 
+-- the sum of column k over all entries
+abbrev pub column_total : {K X : Type 0} → (X → List ℕ) → ℕ → List (K × X) → ℕ
+column_total columns k entries = sum_where (λ _. true) (λ sums. slice_index (columns sums) k) entries
+
+-- so many columns, and of each its sum
+pub record AreColumns (events : ℕ) (sum : ℕ → ℕ) (totals : List ℕ) : Type 0 where
+  pub many : length totals ≡ events
+  pub sums : (k : ℕ) → k < events → slice_index totals k ≡ sum k
+
 -- the sum of column k over all cells
 abbrev pub cell_total : ℕ → List (CellPlace × List ℕ) → ℕ
-cell_total k cells = sum_where (λ _. true) (λ costs. slice_index costs k) cells
+cell_total k cells = column_total (λ costs. costs) k cells
 
 -- the sum of column k over all calls
 abbrev pub arc_total : ℕ → List (Call × Calls) → ℕ
-arc_total k arcs = sum_where (λ _. true) (λ calls. slice_index calls.costs k) arcs
+arc_total k arcs = column_total (λ calls. calls.costs) k arcs
 
 -- how many calls there were
 abbrev pub count_total : List (Call × Calls) → ℕ

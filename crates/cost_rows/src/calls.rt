@@ -1,8 +1,10 @@
 // Sums of calls.
-ghost use Rattle.std.specs.Prelude.{◌≡◌, ◌+◌, OnOk, OnErr, IfOk};
-ghost use Rattle.cost_rows.specs.Columns.{added, AreLow};
+ghost use Rattle.std.specs.Prelude.{◌≡◌, ◌+◌};
+ghost use Rattle.cost_rows.specs.Columns.{added};
 
 use crate::costs::Costs;
+use crate::sums::Sums;
+use crate::totals::ByColumn;
 use std::alloc::{AllocError, Global};
 
 /// How many calls there were, and what they cost by column.
@@ -12,28 +14,43 @@ pub struct Calls {
     pub costs: Costs,
 }
 
-impl Calls {
-    ghost use Rattle.cost_rows.specs.Calls.{calls_added, AreSmall};
+/// The same of one record.
+#[derive(Clone, Copy)]
+pub(crate) struct CallsOfRecord<'a> {
+    pub count: u64,
+    pub costs: &'a [u64],
+}
 
-    /// The sums of one record.
-    pub fn of(alloc: Global, count: u64, costs: &[u64]) -> Result<Calls, AllocError>
-        ensures { IfOk result (λ calls. calls ≡ record { count = count; costs = costs.now }) }
-    {
+impl<'a> Sums<CallsOfRecord<'a>> for Calls {
+    ghost use Rattle.cost_rows.specs.Calls.{calls_added, AreSmall};
+    ghost use Rattle.cost_rows.specs.Columns.{AreLow};
+
+    ghost of_one = { λ calls. record { count = calls.count; costs = calls.costs.now } };
+
+    ghost added = { calls_added };
+
+    ghost is_low = { λ calls. AreLow calls.costs.now };
+
+    ghost has_room = { AreSmall };
+
+    fn of(alloc: Global, amount: CallsOfRecord<'a>) -> Result<Calls, AllocError> {
         Ok(Calls {
-            count: u128::from(count),
-            costs: Costs::of(alloc, costs)?,
+            count: u128::from(amount.count),
+            costs: Costs::of(alloc, amount.costs)?,
         })
     }
 
-    /// Adds a record. A refusal leaves the sums as they were.
-    pub fn add(&mut self, count: u64, costs: &[u64]) -> Result<(), AllocError>
-        requires small { AreSmall self.old }
-        requires low { AreLow costs.now }
-        ensures ok { OnOk result (self.new ≡ calls_added self.old (record { count = count; costs = costs.now })) }
-        ensures err { OnErr result (self.new ≡ self.old) }
-    {
-        self.costs.add(costs)?;
-        self.count += u128::from(count);
+    fn add(&mut self, amount: CallsOfRecord<'a>) -> Result<(), AllocError> {
+        self.costs.add(amount.costs)?;
+        self.count += u128::from(amount.count);
         Ok(())
+    }
+}
+
+impl ByColumn for Calls {
+    ghost columns = { λ calls. calls.costs };
+
+    fn sums(&self) -> &[u128] {
+        self.costs.as_slice()
     }
 }

@@ -1,7 +1,9 @@
 // Sums of costs by column.
-ghost use Rattle.std.specs.Prelude.{◌≡◌, ◌++◌, ◌≤◌, OnOk, OnErr, IfOk, length, vec_len};
+ghost use Rattle.std.specs.Prelude.{◌≡◌, ◌++◌, ◌≤◌, OnOk, OnErr, length, vec_len};
 ghost use Rattle.cost_rows.specs.Columns.{added, AreLow, HaveRoom};
 
+use crate::sums::Sums;
+use crate::totals::ByColumn;
 use std::alloc::{AllocError, Global};
 use std::marker::Model;
 
@@ -54,32 +56,43 @@ fn push_costs(sums: &mut Vec<u128>, costs: &[u64]) -> Result<(), AllocError>
     Ok(())
 }
 
-impl Costs {
-    /// The sums of one row.
-    pub fn of(alloc: Global, costs: &[u64]) -> Result<Costs, AllocError>
-        ensures { IfOk result (λ sums. sums ≡ costs.now) }
-    {
-        let mut sums = Vec::with_capacity(alloc, costs.len())?;
-        push_costs(&mut sums, costs)?;
+impl<'a> Sums<&'a [u64]> for Costs {
+    ghost use Rattle.cost_rows.specs.Columns.{added, AreLow, HaveRoom};
+
+    ghost of_one = { λ costs. costs.now };
+
+    ghost added = { added };
+
+    ghost is_low = { λ costs. AreLow costs.now };
+
+    ghost has_room = { HaveRoom };
+
+    fn of(alloc: Global, amount: &'a [u64]) -> Result<Costs, AllocError> {
+        let mut sums = Vec::with_capacity(alloc, amount.len())?;
+        push_costs(&mut sums, amount)?;
         Ok(Costs { sums })
     }
 
-    /// Adds a row. A refusal leaves the sums as they were.
-    pub fn add(&mut self, costs: &[u64]) -> Result<(), AllocError>
-        requires small { HaveRoom self.old }
-        requires low { AreLow costs.now }
-        ensures ok { OnOk result (self.new ≡ added self.old costs.now) }
-        ensures err { OnErr result (self.new ≡ self.old) }
-    {
-        widen(&mut self.sums, costs)?;
-        add_costs(&mut self.sums, costs);
+    fn add(&mut self, amount: &'a [u64]) -> Result<(), AllocError> {
+        widen(&mut self.sums, amount)?;
+        add_costs(&mut self.sums, amount);
         Ok(())
     }
+}
 
+impl Costs {
     /// The sums.
     pub fn as_slice(&self) -> &[u128]
         ensures { result.now ≡ self.now }
     {
         self.sums.as_slice()
+    }
+}
+
+impl ByColumn for Costs {
+    ghost columns = { λ sums. sums };
+
+    fn sums(&self) -> &[u128] {
+        self.as_slice()
     }
 }

@@ -11,7 +11,7 @@ use crate::numbered::{NumberedArcs, NumberedCells};
 use crate::places::{Call, CellPlace};
 use crate::records::{merge_call, merge_own};
 use crate::rows::FileTotals;
-use crate::totals::{total_arcs, total_cells, total_count};
+use crate::totals::{total_columns, total_count};
 use crate::walks::{ArcWalk, CellWalk, StackWalk};
 use cg_text::Items;
 use profile_records::{CallCost, SelfCost, Sink};
@@ -67,7 +67,7 @@ impl FileRows {
     {
         ArcWalk {
             names: &self.names,
-            rest: self.arcs.iter(),
+            rest: self.numbered_arcs(),
         }
     }
 
@@ -87,10 +87,7 @@ impl FileRows {
     {
         CellWalk {
             names: &self.names,
-            rest: self.cells.iter(),
-            place: NO_CELL,
-            costs: &[],
-            event: 0,
+            rest: self.numbered_cells(),
         }
     }
 
@@ -129,8 +126,8 @@ impl FileRows {
         ensures { IfOk result (λ t. AreTotals t (content_of self.now) events) }
     {
         let _last = self.last;
-        let self_cost = total_cells(alloc, &self.cells, events)?;
-        let call_cost = total_arcs(alloc, &self.arcs, events)?;
+        let self_cost = total_columns(alloc, &self.cells, events)?;
+        let call_cost = total_columns(alloc, &self.arcs, events)?;
         Ok(FileTotals {
             self_cost: Items::from_vec(self_cost),
             call_cost: Items::from_vec(call_cost),

@@ -18,6 +18,7 @@ mod records;
 mod rows;
 mod stack_rows;
 mod sum_rows;
+mod sums;
 mod totals;
 mod walks;
 
@@ -25,9 +26,9 @@ pub use file_rows::FileRows;
 pub use keys::Key;
 pub use laws::{
     merging_keeps_each_sum, numbers_tell_names_apart, rows_add_up_by_key, rows_come_to_the_records,
-    rows_come_to_the_stacks, walked_rows_come_to_the_sums,
+    rows_come_to_the_stacks, rows_have_their_names, walked_rows_come_to_the_sums,
 };
-pub use limits::{Overflow, SUM_LIMIT, Side, admit};
+pub use limits::{Overflow, Side, admit};
 pub use merged::Merged;
 pub use names::Names;
 pub use numbered::{NumberedArcs, NumberedCells};

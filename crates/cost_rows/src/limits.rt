@@ -5,7 +5,7 @@ ghost use Rattle.cost_rows.specs.Admit.{bound, column_sums, first_above, overflo
 use crate::rows::FileTotals;
 
 /// No sum of costs or counts that is kept may be greater.
-pub const SUM_LIMIT: u128 = (1 << 63) - 1;
+const SUM_LIMIT: u128 = (1 << 63) - 1;
 
 /// What a sum is of: own costs, costs of calls, or the number of calls.
 #[derive(Clone, Copy, Debug, PartialEq, Eq)]

@@ -1,10 +1,8 @@
 // Rows of many files, added up by key.
 ghost use Rattle.std.specs.Prelude.{◌≡◌, ◌+◌, ◌<◌, ◌^◌, OnOk, OnErr, []};
 ghost use Rattle.std.specs.BTreeMap.{IsUnchanged};
-ghost use Rattle.cost_rows.specs.Keys.{named_cmp, plain_place, plain_sums};
-ghost use Rattle.cost_rows.specs.Merging.{merge};
-ghost use Rattle.cost_rows.specs.Stacks.{counts_added};
-ghost use Rattle.cost_rows.specs.KeySums.{with_row, total_of, rows_of};
+ghost use Rattle.cost_rows.specs.Keys.{plain_place, plain_sums};
+ghost use Rattle.cost_rows.specs.KeySums.{sums_with, with_row, total_of, rows_of};
 
 use crate::keys::{Key, Part};
 use crate::rows::CellRow;
@@ -22,7 +20,7 @@ fn merge_sum(
     cost: u128,
 ) -> Result<(), AllocError>
     requires small { total_of (plain_sums sums.old.entries) + cost < 2 ^ 128 }
-    ensures ok { OnOk result (plain_sums sums.new.entries ≡ merge named_cmp counts_added (plain_sums sums.old.entries) (plain_place part.now) cost) }
+    ensures ok { OnOk result (plain_sums sums.new.entries ≡ sums_with (plain_place part.now) cost (plain_sums sums.old.entries)) }
     ensures total { OnOk result (total_of (plain_sums sums.new.entries) ≡ total_of (plain_sums sums.old.entries) + cost) }
     ensures err { OnErr result (IsUnchanged sums.old sums.new) }
 {

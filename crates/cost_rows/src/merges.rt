@@ -1,64 +1,14 @@
-// One more amount in a map of sums.
-ghost use Rattle.std.specs.Prelude.{◌≡◌, OnOk, OnErr, All};
+// One more count in a map of stacks.
+ghost use Rattle.std.specs.Prelude.{◌≡◌, OnOk, OnErr};
 ghost use Rattle.std.specs.Map.{keys_of};
 ghost use Rattle.std.specs.List.Sorted.{IsStrictlySortedBy};
 ghost use Rattle.std.specs.BTreeMap.{values};
-ghost use Rattle.cost_rows.specs.Calls.{calls_added, AreSmall};
-ghost use Rattle.cost_rows.specs.Columns.{added, AreLow, HaveRoom};
-ghost use Rattle.cost_rows.specs.Merging.{merge};
-ghost use Rattle.cost_rows.specs.Places.{cell_cmp, call_cmp};
-ghost use Rattle.cost_rows.specs.Stacks.{bytes_cmp, by_bytes, counted, counted_again, counts_added};
+ghost use Rattle.cost_rows.specs.Columns.{HaveRoom};
+ghost use Rattle.cost_rows.specs.Content.{stacks_with};
+ghost use Rattle.cost_rows.specs.Stacks.{bytes_cmp, by_bytes, counted, counted_again};
 
-use crate::calls::Calls;
-use crate::costs::Costs;
-use crate::places::{Call, CellPlace};
 use std::alloc::{AllocError, Global};
 use std::collections::BTreeMap;
-
-/// Merges a row of costs into the sums of its place. A refusal leaves the sums as they were.
-pub(crate) fn merge_cell(
-    alloc: Global,
-    cells: &mut BTreeMap<CellPlace, Costs>,
-    place: CellPlace,
-    costs: &[u64],
-) -> Result<(), AllocError>
-    requires small { All HaveRoom (values cells.old) }
-    requires low { AreLow costs.now }
-    ensures ok { OnOk result (cells.new.entries ≡ merge cell_cmp added cells.old.entries place costs.now) }
-    ensures err { OnErr result (cells.new.entries ≡ cells.old.entries) }
-{
-    match cells.get_mut(&place) {
-        Some(held) => held.add(costs),
-        None => {
-            let costs = Costs::of(alloc, costs)?;
-            cells.insert(place, costs)?;
-            Ok(())
-        }
-    }
-}
-
-/// Merges a call record into the sums of its calls. A refusal leaves the sums as they were.
-pub(crate) fn merge_arc(
-    alloc: Global,
-    arcs: &mut BTreeMap<Call, Calls>,
-    call: Call,
-    count: u64,
-    costs: &[u64],
-) -> Result<(), AllocError>
-    requires small { All AreSmall (values arcs.old) }
-    requires low { AreLow costs.now }
-    ensures ok { OnOk result (arcs.new.entries ≡ merge call_cmp calls_added arcs.old.entries call (record { count = count; costs = costs.now })) }
-    ensures err { OnErr result (arcs.new.entries ≡ arcs.old.entries) }
-{
-    match arcs.get_mut(&call) {
-        Some(held) => held.add(count, costs),
-        None => {
-            let calls = Calls::of(alloc, count, costs)?;
-            arcs.insert(call, calls)?;
-            Ok(())
-        }
-    }
-}
 
 /// Merges a count into that of its stack. A refusal leaves the counts as they were.
 pub(crate) fn merge_stack(
@@ -68,7 +18,7 @@ pub(crate) fn merge_stack(
     count: u64,
 ) -> Result<(), AllocError>
     requires small { HaveRoom (values stacks.old) }
-    ensures ok { OnOk result (by_bytes stacks.new.entries ≡ merge bytes_cmp counts_added (by_bytes stacks.old.entries) frames.now count) }
+    ensures ok { OnOk result (by_bytes stacks.new.entries ≡ stacks_with frames.now count (by_bytes stacks.old.entries)) }
     ensures err { OnErr result (stacks.new.entries ≡ stacks.old.entries) }
 {
     match stacks.get_mut(frames) {

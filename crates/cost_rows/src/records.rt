@@ -7,13 +7,13 @@ ghost use Rattle.cost_rows.specs.Content.{arcs_with, cells_with, names_with_call
 ghost use Rattle.cost_rows.specs.Growing.{Grows};
 ghost use Rattle.cost_rows.specs.Lent.{callee_of, cost_of, own_cost};
 
-use crate::calls::Calls;
+use crate::calls::{Calls, CallsOfRecord};
 use crate::costs::Costs;
 use crate::guesses::Guesses;
-use crate::merges::{merge_arc, merge_cell};
 use crate::names::Names;
 use crate::numbering::number_place;
 use crate::places::{Call, CellPlace};
+use crate::sums::merge_sums;
 use profile_records::{CallCost, SelfCost};
 use std::alloc::{AllocError, Global};
 use std::collections::BTreeMap;
@@ -36,7 +36,7 @@ pub(crate) fn merge_own(
     let guess = guesses.guess(names, r.function);
     let place = number_place(names, guess, r.object, r.file, r.function, r.line)?;
     guesses.keep(place)?;
-    merge_cell(alloc, cells, CellPlace { place }, r.costs)
+    merge_sums(alloc, cells, CellPlace { place }, r.costs)
 }
 
 /// Merges a call record. A refusal leaves the calls as they were, and may leave names of the record.
@@ -74,5 +74,9 @@ pub(crate) fn merge_call(
         file: called.file,
         function: called.function,
     };
-    merge_arc(alloc, arcs, call, r.count, r.costs)
+    let calls = CallsOfRecord {
+        count: r.count,
+        costs: r.costs,
+    };
+    merge_sums(alloc, arcs, call, calls)
 }

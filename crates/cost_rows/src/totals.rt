@@ -1,12 +1,23 @@
 // The sums over all rows of a file, by column.
-ghost use Rattle.std.specs.Prelude.{◌≡◌, ℕ, ◌+◌, ◌<◌, ◌^◌, IfOk, length, slice_index, vec_len};
-ghost use Rattle.cost_rows.specs.Totals.{cell_total, arc_total, count_total};
+ghost use Rattle.std.specs.Prelude.{◌≡◌, ℕ, ◌+◌, ◌<◌, ◌^◌, IfOk, length, slice_index};
+ghost use Rattle.cost_rows.specs.Totals.{column_total, count_total, AreColumns};
 
 use crate::calls::Calls;
-use crate::costs::Costs;
-use crate::places::{Call, CellPlace};
+use crate::places::Call;
 use std::alloc::{AllocError, Global};
 use std::collections::BTreeMap;
+
+/// What has sums by column.
+pub(crate) trait ByColumn {
+    ghost use Rattle.std.specs.Prelude.{List};
+
+    /// The sums.
+    ghost columns: { Self → List ℕ };
+
+    /// The sums.
+    fn sums(&self) -> &[u128]
+        ensures { result.now ≡ columns self.now };
+}
 
 /// Adds sums to the totals of their columns; a column that has no sum stays.
 fn add_sums(totals: &mut [u128], sums: &[u128])
@@ -20,36 +31,18 @@ fn add_sums(totals: &mut [u128], sums: &[u128])
     }
 }
 
-/// The totals of so many columns over all cells.
-pub(crate) fn total_cells(
+/// The totals of so many columns over all entries.
+pub(crate) fn total_columns<K: Ord, S: ByColumn>(
     alloc: Global,
-    cells: &BTreeMap<CellPlace, Costs>,
+    entries: &BTreeMap<K, S>,
     events: usize,
 ) -> Result<Vec<u128>, AllocError>
-    requires { (k : ℕ) → cell_total k cells.now.entries < 2 ^ 128 }
-    ensures columns { IfOk result (λ totals. vec_len totals ≡ events) }
-    ensures totals { IfOk result (λ totals. (k : ℕ) → k < events → slice_index totals.items k ≡ cell_total k cells.now.entries) }
+    requires { (k : ℕ) → column_total S.columns k entries.now.entries < 2 ^ 128 }
+    ensures { IfOk result (λ totals. AreColumns events (λ k. column_total S.columns k entries.now.entries) totals.items) }
 {
     let mut totals = vec![in alloc; 0u128; events]?;
-    for costs in cells.values() {
-        add_sums(&mut totals, costs.as_slice());
-    }
-    Ok(totals)
-}
-
-/// The totals of so many columns over all calls.
-pub(crate) fn total_arcs(
-    alloc: Global,
-    arcs: &BTreeMap<Call, Calls>,
-    events: usize,
-) -> Result<Vec<u128>, AllocError>
-    requires { (k : ℕ) → arc_total k arcs.now.entries < 2 ^ 128 }
-    ensures columns { IfOk result (λ totals. vec_len totals ≡ events) }
-    ensures totals { IfOk result (λ totals. (k : ℕ) → k < events → slice_index totals.items k ≡ arc_total k arcs.now.entries) }
-{
-    let mut totals = vec![in alloc; 0u128; events]?;
-    for calls in arcs.values() {
-        add_sums(&mut totals, calls.costs.as_slice());
+    for held in entries.values() {
+        add_sums(&mut totals, held.sums());
     }
     Ok(totals)
 }

@@ -1,11 +1,8 @@
 // The rows of a file, one after another.
-ghost use Rattle.std.specs.Prelude.{◌≡◌, ◌∷◌};
-ghost use Rattle.cost_rows.specs.Sums.{name_at};
+ghost use Rattle.std.specs.Prelude.{◌≡◌};
 
-use crate::calls::Calls;
-use crate::costs::Costs;
 use crate::names::Names;
-use crate::places::{Call, CellPlace};
+use crate::numbered::{NumberedArcs, NumberedCells};
 use crate::rows::{ArcRow, CellRow, StackRow};
 use std::collections::btree_map::Iter;
 use std::marker::Model;
@@ -15,17 +12,17 @@ use std::marker::Model;
 #[derive(Drop)]
 pub struct ArcWalk<'a> {
     pub(crate) names: &'a Names,
-    pub(crate) rest: Iter<'a, Call, Calls>,
+    pub(crate) rest: NumberedArcs<'a>,
 }
 
 impl<'a> Model for ArcWalk<'a> {
-    ghost use Rattle.std.specs.Prelude.{ℕ, List};
+    ghost use Rattle.std.specs.Prelude.{ℕ, List, map};
     ghost use Rattle.cost_rows.specs.declared.rows.ArcRow.{ArcRow};
-    ghost use Rattle.cost_rows.specs.Walks.{arc_rows};
+    ghost use Rattle.cost_rows.specs.Walks.{arc_named};
 
     ghost Value = { List (ArcRow (List ℕ) (List ℕ)) };
 
-    ghost view = { λ a. arc_rows a.names.now a.rest };
+    ghost view = { λ a. map (arc_named a.names.now) a.rest };
 }
 
 impl<'a> Iterator for ArcWalk<'a> {
@@ -40,17 +37,17 @@ impl<'a> Iterator for ArcWalk<'a> {
 
     fn next(&mut self) -> Option<ArcRow<&'a [u8], &'a [u128]>> {
         let names = self.names;
-        let (call, calls) = self.rest.next()?;
+        let row = self.rest.next()?;
         Some(ArcRow {
-            object: names.name_or_empty(call.place.object),
-            file: names.name_or_empty(call.place.file),
-            function: names.name_or_empty(call.place.function),
-            line: call.place.line,
-            called_object: names.name_or_empty(call.object),
-            called_file: names.name_or_empty(call.file),
-            called_function: names.name_or_empty(call.function),
-            count: calls.count,
-            costs: calls.costs.as_slice(),
+            object: names.name_or_empty(row.object),
+            file: names.name_or_empty(row.file),
+            function: names.name_or_empty(row.function),
+            line: row.line,
+            called_object: names.name_or_empty(row.called_object),
+            called_file: names.name_or_empty(row.called_file),
+            called_function: names.name_or_empty(row.called_function),
+            count: row.count,
+            costs: row.costs,
         })
     }
 }
@@ -100,22 +97,17 @@ impl<'a> Iterator for StackWalk<'a> {
 #[derive(Drop)]
 pub struct CellWalk<'a> {
     pub(crate) names: &'a Names,
-    pub(crate) rest: Iter<'a, CellPlace, Costs>,
-    pub(crate) place: CellPlace,
-    pub(crate) costs: &'a [u128],
-    pub(crate) event: usize,
+    pub(crate) rest: NumberedCells<'a>,
 }
 
 impl<'a> Model for CellWalk<'a> {
-    ghost use Rattle.std.specs.Prelude.{ℕ, List, ◌+◌, ◌<◌, ◌^◌, ◌++◌, length};
+    ghost use Rattle.std.specs.Prelude.{ℕ, List, map};
     ghost use Rattle.cost_rows.specs.declared.rows.CellRow.{CellRow};
-    ghost use Rattle.cost_rows.specs.Walks.{rows_at, cell_rows};
+    ghost use Rattle.cost_rows.specs.Walks.{cell_named};
 
     ghost Value = { List (CellRow (List ℕ)) };
 
-    ghost view = { λ a. rows_at a.names.now a.place a.event a.costs.now ++ cell_rows a.names.now a.rest };
-
-    ghost invariant = { λ a. a.event + length a.costs.now < 2 ^ 64 };
+    ghost view = { λ a. map (cell_named a.names.now) a.rest };
 }
 
 impl<'a> Iterator for CellWalk<'a> {
@@ -130,31 +122,14 @@ impl<'a> Iterator for CellWalk<'a> {
 
     fn next(&mut self) -> Option<CellRow<&'a [u8]>> {
         let names = self.names;
-        loop {
-            match self.costs.split_first() {
-                Some((cost, more)) => {
-                    let event = self.event;
-                    self.costs = more;
-                    self.event += 1;
-                    if *cost > 0 {
-                        let place = self.place.place;
-                        return Some(CellRow {
-                            object: names.name_or_empty(place.object),
-                            file: names.name_or_empty(place.file),
-                            function: names.name_or_empty(place.function),
-                            line: place.line,
-                            event,
-                            cost: *cost,
-                        });
-                    }
-                }
-                None => {
-                    let (place, costs) = self.rest.next()?;
-                    self.place = *place;
-                    self.costs = costs.as_slice();
-                    self.event = 0;
-                }
-            }
-        }
+        let row = self.rest.next()?;
+        Some(CellRow {
+            object: names.name_or_empty(row.object),
+            file: names.name_or_empty(row.file),
+            function: names.name_or_empty(row.function),
+            line: row.line,
+            event: row.event,
+            cost: row.cost,
+        })
     }
 }

@@ -124,13 +124,3 @@ tells_excess h t db kind bytes held_totals file_totals was tell in_tables in_fil
     (same_append events (column_sums sides.SelfCost 0 held_totals.self_cost file_totals.self_cost) (column_sums sides.CallCost 0 held_totals.call_cost file_totals.call_cost) (own_sums (held h) (own_column kind bytes) 0 events)
     (call_sums (held h) (call_column kind bytes) 0 events) own calls)
     (record { of = refl; sum = count }, tt))
-
-pub tells_fits : (h : History) (t : Tables) (db : Trees) (kind : Kind) (bytes : List ℕ) (held_totals file_totals : FileTotals) → Holds t db → TablesTell h t → IsHeldIn t (events_of kind bytes) held_totals
-    → AreTotals file_totals (rows_of kind bytes) (length (events_of kind bytes)) → overflow_of held_totals file_totals ≡ None → excess_of (held h) kind bytes ≡ None
-tells_fits h t db kind bytes held_totals file_totals was tell in_tables in_file fits =
-    tells_excess h t db kind bytes held_totals file_totals was tell in_tables in_file ∙ ap (option_map (excess_at (events_of kind bytes))) fits
-
-pub tells_overflow : (h : History) (t : Tables) (db : Trees) (kind : Kind) (bytes : List ℕ) (held_totals file_totals : FileTotals) (o : Overflow) → Holds t db → TablesTell h t → IsHeldIn t (events_of kind bytes) held_totals
-    → AreTotals file_totals (rows_of kind bytes) (length (events_of kind bytes)) → overflow_of held_totals file_totals ≡ Some o → excess_of (held h) kind bytes ≡ Some (excess_at (events_of kind bytes) o)
-tells_overflow h t db kind bytes held_totals file_totals o was tell in_tables in_file above =
-    tells_excess h t db kind bytes held_totals file_totals was tell in_tables in_file ∙ ap (option_map (excess_at (events_of kind bytes))) above

@@ -2,13 +2,11 @@ pub mod Baselines
 pub mod Books
 pub mod Cuts
 pub mod Due
-pub mod Dues
 pub mod Examples
 pub mod Excesses
 pub mod Groups
 pub mod Held
 pub mod Invariants
-pub mod Legality
 pub mod Lists
 pub mod Members
 pub mod Parents

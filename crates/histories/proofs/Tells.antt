@@ -101,6 +101,3 @@ module _ (h : History) (t : Tables) (tell : TablesTell h t) where
 
   pub tells_groups : length t.groups ≡ length (groups h)
   tells_groups = sym (length-map t.groups (λ (g : GroupLine). g.name)) ∙ ap length tell.groups
-
-  pub tells_names : AllByRecursion IsGroupName (groups h)
-  tells_names = (groups_named h tell.legal).form

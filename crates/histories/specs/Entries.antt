@@ -8,7 +8,8 @@ use Rattle.prof_tables.specs.Tables.{Tables, GroupLine, MemberLine}
 use Rattle.prof_books.specs.Entries.{HeldRun, held_run}
 use Rattle.profile_records.specs.Kinds.{kind_number}
 use Rattle.profile_records.specs.declared.kinds.Kind.{Kind}
-use Rattle.histories.specs.Texts.{run_text, group_line}
+use Rattle.histories.specs.History.{History}
+use Rattle.histories.specs.Texts.{run_text, runs_text, group_line, groups_text}
 
 -- what an entry shows of a run
 pub record RunShown : Type 0 where
@@ -32,6 +33,10 @@ group_shown g = record { name = g.name; baseline = g.base }
 abbrev pub member_shown : GroupShown → ℕ → MemberLine
 member_shown g n = record { group = g.name; run = n }
 
+-- those among these lines that are of this group, and no others
+abbrev pub AreItsMembers : List MemberLine → GroupShown → Type 0
+AreItsMembers lines g = IsPermutation (filter (λ (m : MemberLine). bytes_eq m.group g.name) lines) (map (member_shown g) g.numbers)
+
 -- ---- entries of any type
 
 module _ {E : Type 0} where
@@ -39,15 +44,21 @@ module _ {E : Type 0} where
   abbrev pub ShowRuns : (E → RunShown) → Tables → List E → Type 0
   ShowRuns shows t entries = map (λ e. run_shown (shows e)) entries ≡ map held_run t.runs
 
-  abbrev pub text_of_runs : (E → RunShown) → List E → List ℕ
-  text_of_runs shows entries = flat_map (λ e. run_text (shows e).number (shows e).kind (shows e).digest (shows e).label) entries
+  -- such entries have the text of the list of runs
+  abbrev pub ListsRuns : (E → RunShown) → History → Tables → Type 0
+  ListsRuns shows h t =
+      (entries : List E) → ShowRuns shows t entries
+      → runs_text h ≡ flat_map (λ e. run_text (shows e).number (shows e).kind (shows e).digest (shows e).label) entries
 
   -- each group, by name, with its members by number
   pub record ShowGroups (shows : E → GroupShown) (t : Tables) (entries : List E) : Type 0 where
     pub lines : IsPermutation t.groups (map (λ e. group_shown (shows e)) entries)
     pub rising : AllAdjacentBelow (λ a b. slice_cmp nat_cmp (shows a).name (shows b).name ≡ Less) entries (length entries)
-    pub members : AllByRecursion (λ e. IsPermutation (filter (λ (m : MemberLine). bytes_eq m.group (shows e).name) t.members) (map (member_shown (shows e)) (shows e).numbers)) entries
+    pub members : AllByRecursion (λ e. AreItsMembers t.members (shows e)) entries
     pub numbered : (e : E) → AllAdjacentBelow (λ a b. a < b) (shows e).numbers (length (shows e).numbers)
 
-  abbrev pub text_of_groups : (E → GroupShown) → List E → List ℕ
-  text_of_groups shows entries = flat_map (λ e. group_line (shows e).name (shows e).base (shows e).numbers) entries
+  -- such entries have the text of the list of groups
+  abbrev pub ListsGroups : (E → GroupShown) → History → Tables → Type 0
+  ListsGroups shows h t =
+      (entries : List E) → ShowGroups shows t entries
+      → groups_text h ≡ flat_map (λ e. group_line (shows e).name (shows e).base (shows e).numbers) entries

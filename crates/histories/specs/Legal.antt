@@ -87,7 +87,8 @@ no_run h n = when (not (has_run h n)) (Refused reasons.NoSuchRun)
 abbrev pub due : Limits → History → Said → Option Answer
 due limits h (Import kind label outcomes) = import_due limits h kind outcomes
 due limits h (Remove n) = Some (first_or (no_run h n ∷ []) Done)
-due limits h (MakeGroup name) = Some (first_or (when (has_group h name) (Refused reasons.GroupTaken) ∷ when (nat_le limits.groups (length (groups h))) (Refused reasons.Full) ∷ []) Done)
+due limits h (MakeGroup name) =
+    Some (first_or (when (has_group h name) (Refused reasons.GroupTaken) ∷ when (nat_le limits.groups (length (groups h))) (Refused reasons.Full) ∷ []) Done)
 due limits h (DropGroup name) = Some (first_or (no_group h name ∷ []) Done)
 due limits h (Join name n) = Some (first_or (no_group h name ∷ no_run h n ∷ []) Done)
 due limits h (Leave name n) = Some (first_or (no_group h name ∷ no_run h n ∷ []) Done)
@@ -133,9 +134,13 @@ pub record IsTidy (h : History) : Type 0 where
 
 -- ---- cuts of one source
 
--- reads that gave the same bytes, of which one failed in both or in none, and that both ended or did not
+-- reads that gave the same bytes
+abbrev pub GaveSame : List Outcome → List Outcome → Type 0
+GaveSame xs ys = bytes_of xs ≡ bytes_of ys
+
+-- and of which one failed in both or in none, and that both ended or did not
 pub record AreAlike (xs ys : List Outcome) : Type 0 where
-  pub bytes : bytes_of xs ≡ bytes_of ys
+  pub bytes : GaveSame xs ys
   pub failed : list_any is_failed xs ≡ list_any is_failed ys
   pub ended : list_any is_end xs ≡ list_any is_end ys
 

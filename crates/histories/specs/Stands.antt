@@ -81,7 +81,8 @@ pub record TablesTell (h : History) (t : Tables) : Type 0 where
 
 -- tables that stand for a history turn into these, which stand for it with the turn, where the answer is legal
 abbrev pub TurnsInto : Said → Answer → Tables → Tables → Type 0
-TurnsInto said answer t after = (limits : Limits) (h : History) → TablesTell h t → IsLegal limits h said answer → TablesTell (with_turn h said answer) after
+TurnsInto said answer t after =
+    (limits : Limits) (h : History) → TablesTell h t → IsLegal limits h said answer → TablesTell (with_turn h said answer) after
 
 -- the tables with a file more, under the next number
 abbrev pub with_import : Kind → List ℕ → List Outcome → FileHead → Tables → Tables

@@ -51,7 +51,8 @@ own_sums files column k (event ∷ events) = record { of = SelfCost event; sum =
 
 abbrev pub call_sums : List File → (ℕ → ℕ) → ℕ → List (List ℕ) → List Sum
 call_sums files column k [] = []
-call_sums files column k (event ∷ events) = record { of = CallCost event; sum = calls_cost_held files event + column k } ∷ call_sums files column (suc k) events
+call_sums files column k (event ∷ events) =
+    record { of = CallCost event; sum = calls_cost_held files event + column k } ∷ call_sums files column (suc k) events
 
 -- own costs by event, then costs of calls by event, then the number of calls
 abbrev pub sums_with : List File → Kind → List ℕ → List Sum

@@ -21,7 +21,8 @@ kind_text Folded = codes "folded"
 
 -- number, kind, digest and label of a run
 abbrev pub run_text : ℕ → Kind → List ℕ → List ℕ → List ℕ
-run_text number kind digest label = decimal number ++ (codes " " ++ (kind_text kind ++ (codes " " ++ (encode_lower digest ++ (codes " " ++ (label ++ codes "\n"))))))
+run_text number kind digest label =
+    decimal number ++ (codes " " ++ (kind_text kind ++ (codes " " ++ (encode_lower digest ++ (codes " " ++ (label ++ codes "\n"))))))
 
 abbrev pub run_line : File → List ℕ
 run_line f = run_text f.number f.kind (sha256 f.bytes) f.label

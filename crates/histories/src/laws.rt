@@ -1,21 +1,19 @@
 // What legal turns make of histories, and of tables that stand for them: laws of the definitions, each
 // the contract of a function that does nothing.
-ghost use Rattle.std.specs.Prelude.{◌≡◌, ℕ, ◌++◌, [], List};
+ghost use Rattle.std.specs.Prelude.{◌≡◌, ℕ, ◌++◌, [], ◌∷◌, List};
 ghost use Rattle.sqlite_trees.specs.Tree.{Trees};
 ghost use Rattle.cg_formulas.specs.declared.heads.FileHead.{FileHead};
 ghost use Rattle.prof_tables.specs.Changes.{joined, with_baseline, with_group, without_group, without_member, without_run};
 ghost use Rattle.prof_tables.specs.Tables.{Tables, Holds, new_tables};
 ghost use Rattle.prof_books.specs.Totals.{held_count};
 ghost use Rattle.profile_records.specs.declared.kinds.Kind.{Kind};
-ghost use Rattle.sources.specs.Outcomes.{Outcome, bytes_of};
-ghost use Rattle.histories.specs.Entries.{GroupShown, RunShown, ShowGroups, ShowRuns, text_of_groups, text_of_runs};
-ghost use Rattle.histories.specs.History.{Said, Import, Remove, MakeGroup, DropGroup, Join, Leave, SetBaseline, History, held, with_turn};
-ghost use Rattle.histories.specs.Legal.{AreAlike, AreDueAlike, AreLegal, IsHistory, IsLegal, IsTidy};
+ghost use Rattle.sources.specs.Outcomes.{Outcome};
+ghost use Rattle.histories.specs.Entries.{GroupShown, ListsGroups, ListsRuns, RunShown};
+ghost use Rattle.histories.specs.History.{Said, Import, Remove, MakeGroup, DropGroup, Join, Leave, SetBaseline, Turn, History, held};
+ghost use Rattle.histories.specs.Legal.{AreAlike, AreDueAlike, GaveSame, AreLegal, IsHistory, IsLegal, IsTidy};
 ghost use Rattle.histories.specs.Stands.{AreToldAlike, IsImport, TablesTell, TurnsInto};
 ghost use Rattle.histories.specs.Sums.{calls_held};
-ghost use Rattle.histories.specs.Texts.{groups_text, runs_text};
 ghost use Rattle.histories.specs.Told.{TellsHeld, TellsSums};
-ghost use Rattle.histories.specs.declared.answers.Answer.{Answer};
 ghost use Rattle.histories.specs.declared.answers.Answer.TheVariants.{Held, Done, Text, Refused};
 ghost use Rattle.histories.specs.declared.answers.Refusal.{Refusal};
 ghost use Rattle.histories.specs.declared.limits.Limits.{Limits};
@@ -23,7 +21,7 @@ ghost use Rattle.histories.specs.declared.limits.Limits.{Limits};
 /// A history with a legal turn more is a history, and so with a list of them; two legal lists one after
 /// the other are a legal list.
 pub fn histories_grow()
-    ensures one { (limits : Limits) (h : History) (said : Said) (answer : Answer) → IsHistory h → IsLegal limits h said answer → IsHistory (with_turn h said answer) }
+    ensures one { (limits : Limits) (h : History) (turn : Turn) → IsHistory h → IsLegal limits h turn.said turn.answer → IsHistory (h ++ turn ∷ []) }
     ensures all { (limits : Limits) (h turns : History) → IsHistory h → AreLegal limits h turns → IsHistory (h ++ turns) }
     ensures append { (limits : Limits) (h xs ys : History) → AreLegal limits h xs → AreLegal limits (h ++ xs) ys → AreLegal limits h (xs ++ ys) }
 {}
@@ -74,8 +72,8 @@ pub fn tables_tell_the_sums()
 /// The texts of lists are those of entries that show the lines of the tables: each run in order, and
 /// each group, by name, with its members by number.
 pub fn tables_tell_the_lists<E>()
-    ensures runs { (shows : E → RunShown) (h : History) (t : Tables) (es : List E) → TablesTell h t → ShowRuns shows t es → runs_text h ≡ text_of_runs shows es }
-    ensures groups { (shows : E → GroupShown) (h : History) (t : Tables) (es : List E) → TablesTell h t → ShowGroups shows t es → groups_text h ≡ text_of_groups shows es }
+    ensures runs { (shows : E → RunShown) (h : History) (t : Tables) → TablesTell h t → ListsRuns shows h t }
+    ensures groups { (shows : E → GroupShown) (h : History) (t : Tables) → TablesTell h t → ListsGroups shows h t }
 {}
 
 /// How the bytes of a source are cut into reads does not show: imports of the same bytes, of which a
@@ -83,5 +81,5 @@ pub fn tables_tell_the_lists<E>()
 /// stand for a history with the one where they stand for it with the other.
 pub fn cuts_do_not_show()
     ensures due { (kind : Kind) (label : List ℕ) (xs ys : List Outcome) → AreAlike xs ys → AreDueAlike (Import kind label xs) (Import kind label ys) }
-    ensures tables { (kind : Kind) (label : List ℕ) (xs ys : List Outcome) → bytes_of xs ≡ bytes_of ys → AreToldAlike (Import kind label xs) (Import kind label ys) }
+    ensures tables { (kind : Kind) (label : List ℕ) (xs ys : List Outcome) → GaveSame xs ys → AreToldAlike (Import kind label xs) (Import kind label ys) }
 {}

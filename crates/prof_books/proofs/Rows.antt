@@ -1,12 +1,13 @@
 -- The lines that a file's rows become, with names in place, are its rows.
-use Rattle.std.proofs.Common.{◌≡◌, ℕ, ◌<◌, zero, suc, List, [], ◌∷◌, ◌++◌, map, length, flat_map, Bool, true, false, nat_lt, ◌==◌, bytes_eq, if◌then◌else◌, refl, ap, ap₂, ◌∙◌, arith}
+use Rattle.std.proofs.Common.{◌≡◌, ℕ, ◌<◌, zero, suc, List, [], ◌∷◌, ◌++◌, map, length, flat_map, Bool, true, false, nat_lt, ◌==◌, bytes_eq, if◌then◌else◌, refl, sym, ap, ap₂, ◌∙◌, arith}
 use Rattle.std.specs.List.{AllByRecursion, list_any}
 use Rattle.std.specs.Map.{keys_of}
 use Rattle.sqlite_keyed.proofs.ListLemmas.{all-append}
 use Rattle.sql_tables.proofs.Rows.{map-append}
 use Rattle.cost_rows.specs.Held.{CellHeld, CallHeld}
 use Rattle.cost_rows.specs.Sums.{name_at}
-use Rattle.cost_rows.specs.Walks.{cell_row, rows_at, cell_rows, arc_row, arc_rows, stack_rows}
+use Rattle.cost_rows.specs.ByNumber.{numbered_cell, numbered_at, numbered_cells, numbered_arc}
+use Rattle.cost_rows.specs.Walks.{cell_named, cell_rows, arc_named, arc_rows, stack_rows}
 use Rattle.cost_rows.specs.declared.places.CellPlace.{CellPlace}
 use Rattle.cost_rows.specs.declared.places.Call.{Call}
 use Rattle.cost_rows.specs.declared.calls.Calls.{Calls}
@@ -42,7 +43,7 @@ module _ (known : List NameLine) (up : Rising known) where
 
     -- ---- cells
 
-    one_cell : (p : CellPlace) (event cost : ℕ) → CellHeld names p → cell_held known (cell_line_of run numbers p event cost) ≡ cell_row names p event cost
+    one_cell : (p : CellPlace) (event cost : ℕ) → CellHeld names p → cell_held known (cell_line_of run numbers p event cost) ≡ cell_named names (numbered_cell p event cost)
     one_cell p event cost h =
         let P : List ℕ → List ℕ → List ℕ → CellRow (List ℕ) = λ a b d. record { object = a; file = b; function = d; line = p.place.line; event = event; cost = cost } in
         let e : P (name_of known (numbered numbers p.place.object)) (name_of known (numbered numbers p.place.file)) (name_of known (numbered numbers p.place.function)) ≡ P (name_at names p.place.object) (name_at names p.place.file) (name_at names p.place.function) =
@@ -50,13 +51,13 @@ module _ (known : List NameLine) (up : Rising known) where
         ∙ ap (λ b. P (name_at names p.place.object) b (name_of known (numbered numbers p.place.function))) (through names all p.place.file h.1) ∙ ap (P (name_at names p.place.object) (name_at names p.place.file)) (through names all p.place.function h.2) in
         e
 
-    cells_at : (p : CellPlace) (event : ℕ) (costs : List ℕ) → CellHeld names p → map (cell_held known) (cell_lines_at run numbers p event costs) ≡ rows_at names p event costs
+    cells_at : (p : CellPlace) (event : ℕ) (costs : List ℕ) → CellHeld names p → map (cell_held known) (cell_lines_at run numbers p event costs) ≡ map (cell_named names) (numbered_at p event costs)
     cells_at p event [] h = refl
     cells_at p event (cost ∷ costs) h = go (nat_lt 0 cost) (cells_at p (suc event) costs h)
       where
-        go : (b : Bool) → map (cell_held known) (cell_lines_at run numbers p (suc event) costs) ≡ rows_at names p (suc event) costs
+        go : (b : Bool) → map (cell_held known) (cell_lines_at run numbers p (suc event) costs) ≡ map (cell_named names) (numbered_at p (suc event) costs)
             → map (cell_held known) (if b then cell_line_of run numbers p event cost ∷ cell_lines_at run numbers p (suc event) costs else cell_lines_at run numbers p (suc event) costs)
-            ≡ (if b then cell_row names p event cost ∷ rows_at names p (suc event) costs else rows_at names p (suc event) costs)
+            ≡ map (cell_named names) (if b then numbered_cell p event cost ∷ numbered_at p (suc event) costs else numbered_at p (suc event) costs)
         go true rest = ap₂ ◌∷◌ (one_cell p event cost h) rest
         go false rest = rest
 
@@ -64,10 +65,11 @@ module _ (known : List NameLine) (up : Rising known) where
     cells_are [] h = refl
     cells_are (e ∷ cells) h =
         map-append (cell_held known) (cell_lines_at run numbers e.0 0 e.1) (cell_lines run numbers cells) ∙ ap₂ ◌++◌ (cells_at e.0 0 e.1 h.0) (cells_are cells h.1)
+        ∙ sym (map-append (cell_named names) (numbered_at e.0 0 e.1) (numbered_cells cells))
 
     -- ---- calls
 
-    one_part : (e : Call × Calls) (part sum : ℕ) → CallHeld names e.0 → part_held known (arc_line_of run numbers e.0 part sum) ≡ part_of (arc_row names e) part sum
+    one_part : (e : Call × Calls) (part sum : ℕ) → CallHeld names e.0 → part_held known (arc_line_of run numbers e.0 part sum) ≡ part_of (arc_named names (numbered_arc e)) part sum
     one_part e part sum h =
         let P : List ℕ → List ℕ → List ℕ → List ℕ → List ℕ → List ℕ → CallPart =
         λ a b d x y z. record { object = a; file = b; function = d; line = e.0.place.line; called_object = x; called_file = y; called_function = z; part = part; sum = sum } in
@@ -83,13 +85,13 @@ module _ (known : List NameLine) (up : Rising known) where
         ∙ ap (P (m at.object) (m at.file) (m at.function) (m e.0.object) (m e.0.file)) (through names all e.0.function h.1.2) in
         same
 
-    parts_at : (e : Call × Calls) (part : ℕ) (costs : List ℕ) → CallHeld names e.0 → map (part_held known) (arc_lines_from run numbers e.0 part costs) ≡ parts_from (arc_row names e) part costs
+    parts_at : (e : Call × Calls) (part : ℕ) (costs : List ℕ) → CallHeld names e.0 → map (part_held known) (arc_lines_from run numbers e.0 part costs) ≡ parts_from (arc_named names (numbered_arc e)) part costs
     parts_at e part [] h = refl
     parts_at e part (cost ∷ costs) h = go (nat_lt 0 cost) (parts_at e (suc part) costs h)
       where
-        go : (b : Bool) → map (part_held known) (arc_lines_from run numbers e.0 (suc part) costs) ≡ parts_from (arc_row names e) (suc part) costs
+        go : (b : Bool) → map (part_held known) (arc_lines_from run numbers e.0 (suc part) costs) ≡ parts_from (arc_named names (numbered_arc e)) (suc part) costs
             → map (part_held known) (if b then arc_line_of run numbers e.0 part cost ∷ arc_lines_from run numbers e.0 (suc part) costs else arc_lines_from run numbers e.0 (suc part) costs)
-            ≡ (if b then part_of (arc_row names e) part cost ∷ parts_from (arc_row names e) (suc part) costs else parts_from (arc_row names e) (suc part) costs)
+            ≡ (if b then part_of (arc_named names (numbered_arc e)) part cost ∷ parts_from (arc_named names (numbered_arc e)) (suc part) costs else parts_from (arc_named names (numbered_arc e)) (suc part) costs)
         go true rest = ap₂ ◌∷◌ (one_part e part cost h) rest
         go false rest = rest
 

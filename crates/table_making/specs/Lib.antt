@@ -1,1 +1,2 @@
 pub mod Created
+pub mod Making

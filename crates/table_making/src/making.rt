@@ -1,131 +1,113 @@
 // The tables of a new store.
-ghost use Rattle.std.specs.Prelude.{◌≡◌, ◌↔◌, false, [], IsTrue, IfErr, OnOk, OnErr};
+ghost use Rattle.std.specs.Prelude.{◌≡◌, ◌↔◌, false, IsTrue, IfErr, OnOk, OnErr};
 ghost use Rattle.std.specs.Result.{is_ok};
 ghost use Rattle.sqlite.specs.Held.{state};
 ghost use Rattle.sqlite.specs.State.{HasCleanDisk, Survives};
-ghost use Rattle.sql_tables.specs.Contents.{Contain, no_rows};
-ghost use Rattle.sql_tables.specs.States.{Begins, Works, Rests, IsBlank};
+ghost use Rattle.sql_tables.specs.Calls.{Stays};
+ghost use Rattle.sql_tables.specs.States.{Rests, IsBlank};
 ghost use Rattle.prof_tables.specs.Schema.{empty_schema, schema_to_derived, schema_to_arc, schema_one};
 ghost use Rattle.prof_tables.specs.Tables.{Holds, new_tables};
-ghost use Rattle.sql_tables.specs.Calls.{Stays};
-ghost use Rattle.store_columns.specs.Steps.{Passes, IsUndone};
+ghost use Rattle.store_columns.specs.Steps.{IsUndone};
 ghost use Rattle.store_columns.specs.declared.errors.OpenEnd.TheVariants as ends;
 ghost use Rattle.table_making.specs.Created.{Creates};
+ghost use Rattle.table_making.specs.Making.{BeginsStore, FillsStore, MakesTables};
 
-use sqlite::{Alter, Connection, Error, Transaction};
+use sqlite::{Alter, Connection, Transaction};
 use sqlite_schema::schema::Schema;
-use store_columns::{OpenEnd, StoreEnd, end_of};
+use store_columns::{OpenEnd, StoreEnd, end_of, write_inside};
 
 /// Makes the tables of runs and their events.
-fn make_first_tables<S: Alter>(tx: &mut Transaction<'_, S>) -> Result<(), Error>
-    ensures same_reference { tx.new.conn.ghost_name ≡ tx.old.conn.ghost_name }
-    ensures passes { Passes (state S.Store tx.old.conn.now) (state S.Store tx.new.conn.now) }
-    ensures made { HasCleanDisk (state S.Store tx.new.conn.now) → Begins empty_schema (state S.Store tx.old.conn.now)
-        → OnOk result (Works schema_to_derived (Contain schema_to_derived (no_rows schema_to_derived.tables)) (state S.Store tx.new.conn.now)) }
-    ensures running { HasCleanDisk (state S.Store tx.new.conn.now) → IsTrue (state S.Store tx.old.conn.now).in_transaction
-        → OnOk result (IsTrue (state S.Store tx.new.conn.now).in_transaction) }
+fn make_first_tables<S: Alter>(tx: &mut Transaction<'_, S>) -> Result<(), StoreEnd>
+    ensures { MakesTables S.Store (is_ok result) empty_schema schema_to_derived tx.old tx.new }
 {
-    tx.execute(
+    write_inside(
+        tx,
         "CREATE TABLE meta (id INTEGER PRIMARY KEY CHECK (id = 1), schema INTEGER NOT NULL, next_run INTEGER NOT NULL) STRICT",
         &[],
     )?;
-    tx.execute(
+    write_inside(
+        tx,
         "CREATE TABLE run (run INTEGER PRIMARY KEY, kind INTEGER NOT NULL, digest BLOB NOT NULL UNIQUE, label TEXT NOT NULL, call_count INTEGER NOT NULL) STRICT",
         &[],
     )?;
-    tx.execute(
+    write_inside(
+        tx,
         "CREATE TABLE run_event (run INTEGER NOT NULL REFERENCES run ON DELETE CASCADE, pos INTEGER NOT NULL, name BLOB NOT NULL, self_cost INTEGER NOT NULL, call_cost INTEGER NOT NULL, stated TEXT, PRIMARY KEY (run, pos), UNIQUE (run, name)) STRICT",
         &[],
     )?;
-    tx.execute(
+    write_inside(
+        tx,
         "CREATE TABLE derived (run INTEGER NOT NULL REFERENCES run ON DELETE CASCADE, pos INTEGER NOT NULL, name BLOB NOT NULL, PRIMARY KEY (run, pos), UNIQUE (run, name)) STRICT",
         &[],
-    )?;
-    Ok(())
+    )
 }
 
 /// Makes the tables of names, cells and calls.
-fn make_row_tables<S: Alter>(tx: &mut Transaction<'_, S>) -> Result<(), Error>
-    ensures same_reference { tx.new.conn.ghost_name ≡ tx.old.conn.ghost_name }
-    ensures passes { Passes (state S.Store tx.old.conn.now) (state S.Store tx.new.conn.now) }
-    ensures made { HasCleanDisk (state S.Store tx.new.conn.now) → Begins schema_to_derived (state S.Store tx.old.conn.now)
-        → OnOk result (Works schema_to_arc (Contain schema_to_arc (no_rows schema_to_arc.tables)) (state S.Store tx.new.conn.now)) }
-    ensures running { HasCleanDisk (state S.Store tx.new.conn.now) → IsTrue (state S.Store tx.old.conn.now).in_transaction
-        → OnOk result (IsTrue (state S.Store tx.new.conn.now).in_transaction) }
+fn make_row_tables<S: Alter>(tx: &mut Transaction<'_, S>) -> Result<(), StoreEnd>
+    ensures { MakesTables S.Store (is_ok result) schema_to_derived schema_to_arc tx.old tx.new }
 {
-    tx.execute(
+    write_inside(
+        tx,
         "CREATE TABLE coef (run INTEGER NOT NULL REFERENCES run ON DELETE CASCADE, pos INTEGER NOT NULL, event INTEGER NOT NULL, n INTEGER NOT NULL, PRIMARY KEY (run, pos, event)) STRICT",
         &[],
     )?;
-    tx.execute(
+    write_inside(
+        tx,
         "CREATE TABLE name (id INTEGER PRIMARY KEY, bytes BLOB NOT NULL UNIQUE) STRICT",
         &[],
     )?;
-    tx.execute(
+    write_inside(
+        tx,
         "CREATE TABLE cell (run INTEGER NOT NULL REFERENCES run ON DELETE CASCADE, ob INTEGER NOT NULL, fl INTEGER NOT NULL, fn INTEGER NOT NULL, line INTEGER NOT NULL, event INTEGER NOT NULL, cost INTEGER NOT NULL, PRIMARY KEY (run, ob, fl, fn, line, event)) STRICT",
         &[],
     )?;
-    tx.execute(
+    write_inside(
+        tx,
         "CREATE TABLE arc (run INTEGER NOT NULL REFERENCES run ON DELETE CASCADE, ob INTEGER NOT NULL, fl INTEGER NOT NULL, fn INTEGER NOT NULL, line INTEGER NOT NULL, cob INTEGER NOT NULL, cfl INTEGER NOT NULL, cfn INTEGER NOT NULL, part INTEGER NOT NULL, n INTEGER NOT NULL, PRIMARY KEY (run, ob, fl, fn, line, cob, cfl, cfn, part)) STRICT",
         &[],
-    )?;
-    Ok(())
+    )
 }
 
 /// Makes the tables of stacks and groups.
-fn make_last_tables<S: Alter>(tx: &mut Transaction<'_, S>) -> Result<(), Error>
-    ensures same_reference { tx.new.conn.ghost_name ≡ tx.old.conn.ghost_name }
-    ensures passes { Passes (state S.Store tx.old.conn.now) (state S.Store tx.new.conn.now) }
-    ensures made { HasCleanDisk (state S.Store tx.new.conn.now) → Begins schema_to_arc (state S.Store tx.old.conn.now)
-        → OnOk result (Works schema_one (Contain schema_one (no_rows schema_one.tables)) (state S.Store tx.new.conn.now)) }
-    ensures running { HasCleanDisk (state S.Store tx.new.conn.now) → IsTrue (state S.Store tx.old.conn.now).in_transaction
-        → OnOk result (IsTrue (state S.Store tx.new.conn.now).in_transaction) }
+fn make_last_tables<S: Alter>(tx: &mut Transaction<'_, S>) -> Result<(), StoreEnd>
+    ensures { MakesTables S.Store (is_ok result) schema_to_arc schema_one tx.old tx.new }
 {
-    tx.execute(
+    write_inside(
+        tx,
         "CREATE TABLE stack (run INTEGER NOT NULL REFERENCES run ON DELETE CASCADE, frames BLOB NOT NULL, n INTEGER NOT NULL, PRIMARY KEY (run, frames)) STRICT",
         &[],
     )?;
-    tx.execute(
+    write_inside(
+        tx,
         "CREATE TABLE grp (name TEXT NOT NULL PRIMARY KEY, baseline INTEGER REFERENCES run ON DELETE SET NULL) STRICT",
         &[],
     )?;
-    tx.execute(
+    write_inside(
+        tx,
         "CREATE TABLE member (grp TEXT NOT NULL REFERENCES grp ON DELETE CASCADE, run INTEGER NOT NULL REFERENCES run ON DELETE CASCADE, PRIMARY KEY (grp, run)) STRICT",
         &[],
-    )?;
-    Ok(())
+    )
 }
 
 /// Writes the row of a new store.
-fn begin_meta<S: Alter>(tx: &mut Transaction<'_, S>) -> Result<usize, Error>
-    ensures same_reference { tx.new.conn.ghost_name ≡ tx.old.conn.ghost_name }
-    ensures passes { Passes (state S.Store tx.old.conn.now) (state S.Store tx.new.conn.now) }
-    ensures begun { HasCleanDisk (state S.Store tx.new.conn.now)
-        → Works schema_one (Contain schema_one (no_rows schema_one.tables)) (state S.Store tx.old.conn.now)
-        → OnOk result (Works schema_one (Holds new_tables) (state S.Store tx.new.conn.now)) }
-    ensures running { HasCleanDisk (state S.Store tx.new.conn.now) → IsTrue (state S.Store tx.old.conn.now).in_transaction
-        → OnOk result (IsTrue (state S.Store tx.new.conn.now).in_transaction) }
+fn begin_meta<S: Alter>(tx: &mut Transaction<'_, S>) -> Result<(), StoreEnd>
+    ensures { BeginsStore S.Store (is_ok result) tx.old tx.new }
 {
-    tx.execute(
+    write_inside(
+        tx,
         "INSERT INTO meta (id, schema, next_run) VALUES (1, 1, 1)",
         &[],
     )
 }
 
 /// Makes the tables of a new store, within a transaction.
-fn fill_new<S: Alter>(tx: &mut Transaction<'_, S>) -> Result<(), Error>
-    ensures same_reference { tx.new.conn.ghost_name ≡ tx.old.conn.ghost_name }
-    ensures passes { Passes (state S.Store tx.old.conn.now) (state S.Store tx.new.conn.now) }
-    ensures done { HasCleanDisk (state S.Store tx.new.conn.now) → Begins empty_schema (state S.Store tx.old.conn.now)
-        → OnOk result (Works schema_one (Holds new_tables) (state S.Store tx.new.conn.now)) }
-    ensures running { HasCleanDisk (state S.Store tx.new.conn.now) → IsTrue (state S.Store tx.old.conn.now).in_transaction
-        → OnOk result (IsTrue (state S.Store tx.new.conn.now).in_transaction) }
+fn fill_new<S: Alter>(tx: &mut Transaction<'_, S>) -> Result<(), StoreEnd>
+    ensures { FillsStore S.Store (is_ok result) tx.old tx.new }
 {
     make_first_tables(tx)?;
     make_row_tables(tx)?;
     make_last_tables(tx)?;
-    begin_meta(tx)?;
-    Ok(())
+    begin_meta(tx)
 }
 
 /// Makes the tables of a new store in a database that has none, in one transaction.
@@ -138,9 +120,7 @@ fn create_in<S: Alter>(conn: &mut Connection<S>) -> Result<(), StoreEnd>
     ensures crash { IsBlank empty_schema (state S.Store conn.old) → Survives (state S.Store conn.old) (state S.Store conn.new) (Holds new_tables) }
 {
     let mut tx = conn.transaction();
-    if let Err(error) = fill_new(&mut tx) {
-        return Err(end_of(error));
-    }
+    fill_new(&mut tx)?;
     match tx.commit() {
         Ok(()) => Ok(()),
         Err(error) => Err(end_of(error)),

@@ -9,9 +9,9 @@ use Rattle.cost_rows.proofs.records.merge_call.Goals as goal
 
 pub returns-clause-arcs : goal.returns-clause-arcs
 returns-clause-arcs c =
-    on_ok_weaker c.merge_arc.result
+    on_ok_weaker c.merge_sums.result
     (λ merged. merged
     ∙ ap (λ call. merge call_cmp calls_added c.args.arcs.now.entries call (record { count = c.args.r.count; costs = c.args.r.costs.now }))
     (call-numbered c.args.names.now c.number_place.new.names c.number_place-2.new.names (callee_of c.args.r) (cost_of c.args.r) c.in_ok-place.place c.in_ok-called.called
     c.in_ok-place.ensures.names c.in_ok-place.ensures.place c.in_ok-called.ensures.names c.in_ok-called.ensures.place))
-    c.merge_arc.ensures.ok
+    c.merge_sums.ensures.ok

@@ -2,7 +2,7 @@ use Rattle.histories.proofs.Turns.{history_more, history_all, legal_append}
 use Rattle.histories.proofs.laws.histories_grow.Goals as goal
 
 pub returns-clause-one : goal.returns-clause-one
-returns-clause-one c = history_more
+returns-clause-one c = λ limits h turn. history_more limits h turn.said turn.answer
 
 pub returns-clause-all : goal.returns-clause-all
 returns-clause-all c = history_all

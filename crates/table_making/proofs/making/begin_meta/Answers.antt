@@ -1,7 +1,5 @@
-use Rattle.std.proofs.Common.{Ok, Err, Result, ℕ, [], OnOk}
-use Rattle.sqlite.specs.declared.error.Error.{Error}
+use Rattle.std.proofs.Common.{[], Ok}
 use Rattle.sqlite.specs.State.{State, ExecutesInside}
-use Rattle.sql_tables.specs.Contents.{Contain, no_rows}
 use Rattle.sql_tables.specs.States.{Works}
 use Rattle.sql_tables.proofs.Statements.{inside_done}
 use Rattle.prof_tables.specs.Schema.{schema_one}
@@ -9,11 +7,10 @@ use Rattle.prof_tables.specs.Tables.{Holds, new_tables}
 use Rattle.prof_tables.specs.Texts.{begin_text}
 use Rattle.prof_tables.proofs.Means.{begin_means, begin_plain}
 use Rattle.prof_tables.proofs.Rows.{begins}
+use Rattle.table_making.specs.Making.{AreEmpty}
+use Rattle.table_making.proofs.Parts.{statement_makes}
 use Rattle.table_making.proofs.making.begin_meta.Goals as goal
 
-begun : (old new : State) (r : Result ℕ Error) → Works schema_one (Contain schema_one (no_rows schema_one.tables)) old → ExecutesInside 0 begin_text [] old new r → OnOk r (Works schema_one (Holds new_tables) new)
-begun old new (Ok count) was h = inside_done schema_one begin_text [] _ begin_means begin_plain tt (Contain schema_one (no_rows schema_one.tables)) (Holds new_tables) begins old new count was h
-begun old new (Err e) was h = tt
-
-pub returns-clause-begun : goal.returns-clause-begun
-returns-clause-begun g c clean was = begun _ _ c.execute.result was (c.execute.ensures.runs clean was.running)
+pub returns : goal.returns
+returns g c = statement_makes g.S.Store begin_text (Works schema_one (AreEmpty schema_one)) (Works schema_one (Holds new_tables)) (λ s was. was.running)
+    (λ old new count was h. inside_done schema_one begin_text [] _ begin_means begin_plain tt (AreEmpty schema_one) (Holds new_tables) begins old new count was h) _ _ _ c.write_inside.ensures

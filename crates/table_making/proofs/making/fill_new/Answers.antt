@@ -1,15 +1,15 @@
-use Rattle.std.proofs.Common.{arith}
-use Rattle.sqlite.specs.State.{HasCleanDisk}
-use Rattle.sqlite.specs.Held.{state}
-use Rattle.sql_tables.proofs.Creates.{empties_of}
+use Rattle.std.proofs.Common.{true}
+use Rattle.std.specs.Result.{is_ok}
+use Rattle.sql_tables.specs.States.{Begins, Works}
+use Rattle.prof_tables.specs.Schema.{empty_schema, schema_to_derived, schema_to_arc, schema_one}
+use Rattle.prof_tables.specs.Tables.{Holds, new_tables}
+use Rattle.table_making.specs.Making.{AreEmpty}
+use Rattle.table_making.proofs.Parts.{makes_then, tables_then}
 use Rattle.table_making.proofs.making.fill_new.Goals as goal
 
-pub returns-clause-done : goal.returns-clause-done
-returns-clause-done g c clean was =
-    let third : HasCleanDisk (state g.S.Store c.make_last_tables.new.tx.conn.now) = omega (arith, c.begin_meta.ensures.passes.survives.clean) in
-    let second : HasCleanDisk (state g.S.Store c.make_row_tables.new.tx.conn.now) = omega (arith, c.make_last_tables.ensures.passes.survives.clean) in
-    let first : HasCleanDisk (state g.S.Store c.make_first_tables.new.tx.conn.now) = omega (arith, c.make_row_tables.ensures.passes.survives.clean) in
-    let one = c.in_ok-make_first_tables.ensures.made first was in
-    let two = c.in_ok-make_row_tables.ensures.made second (empties_of _ _ one) in
-    let three = c.in_ok-make_last_tables.ensures.made third (empties_of _ _ two) in
-    c.in_ok-begin_meta.ensures.begun clean three
+pub returns : goal.returns
+returns g c =
+    let one = c.in_ok-make_first_tables.ensures in
+    let two = tables_then g.S.Store true empty_schema schema_to_derived schema_to_arc _ _ _ one c.in_ok-make_row_tables.ensures in
+    let three = tables_then g.S.Store true empty_schema schema_to_arc schema_one _ _ _ two c.in_ok-make_last_tables.ensures in
+    makes_then g.S.Store (is_ok c.begin_meta.result) (Begins empty_schema) (Works schema_one (AreEmpty schema_one)) (Works schema_one (AreEmpty schema_one)) (Works schema_one (Holds new_tables)) _ _ _ three c.begin_meta.ensures (λ s it. it)

@@ -1,16 +1,13 @@
-use Rattle.std.proofs.Common.{arith}
-use Rattle.sqlite.specs.State.{HasCleanDisk}
-use Rattle.sqlite.specs.Held.{state}
-use Rattle.sql_tables.proofs.Creates.{empties_of}
+use Rattle.std.proofs.Common.{true}
+use Rattle.std.specs.Result.{is_ok}
+use Rattle.prof_tables.specs.Schema.{empty_schema, schema_to_meta, schema_to_run, schema_to_run_event, schema_to_derived, meta_text, run_text, run_event_text, derived_text}
 use Rattle.prof_tables.proofs.Creates.{makes_meta, makes_run, makes_run_event, makes_derived}
+use Rattle.table_making.proofs.Parts.{table_made, tables_then}
 use Rattle.table_making.proofs.making.make_first_tables.Goals as goal
 
-pub returns-clause-made : goal.returns-clause-made
-returns-clause-made g c clean was =
-    let clean-3 : HasCleanDisk (state g.S.Store c.execute-3.new.self.conn.now) = omega (arith, c.execute-4.ensures.survives.clean) in
-    let clean-2 : HasCleanDisk (state g.S.Store c.execute-2.new.self.conn.now) = omega (arith, c.execute-3.ensures.survives.clean) in
-    let clean-1 : HasCleanDisk (state g.S.Store c.execute.new.self.conn.now) = omega (arith, c.execute-2.ensures.survives.clean) in
-    let made-1 = makes_meta _ _ _ was (c.in_ok-execute.ensures.runs clean-1 was.running) in
-    let made-2 = makes_run _ _ _ (empties_of _ _ made-1) (c.in_ok-execute-2.ensures.runs clean-2 made-1.running) in
-    let made-3 = makes_run_event _ _ _ (empties_of _ _ made-2) (c.in_ok-execute-3.ensures.runs clean-3 made-2.running) in
-    makes_derived _ _ _ (empties_of _ _ made-3) (c.in_ok-execute-4.ensures.runs clean made-3.running)
+pub returns : goal.returns
+returns g c =
+    let one = table_made g.S.Store meta_text empty_schema schema_to_meta makes_meta true _ _ c.in_ok-write_inside.ensures in
+    let two = tables_then g.S.Store true empty_schema schema_to_meta schema_to_run _ _ _ one (table_made g.S.Store run_text schema_to_meta schema_to_run makes_run true _ _ c.in_ok-write_inside-2.ensures) in
+    let three = tables_then g.S.Store true empty_schema schema_to_run schema_to_run_event _ _ _ two (table_made g.S.Store run_event_text schema_to_run schema_to_run_event makes_run_event true _ _ c.in_ok-write_inside-3.ensures) in
+    tables_then g.S.Store (is_ok c.write_inside-4.result) empty_schema schema_to_run_event schema_to_derived _ _ _ three (table_made g.S.Store derived_text schema_to_run_event schema_to_derived makes_derived (is_ok c.write_inside-4.result) _ _ c.write_inside-4.ensures)

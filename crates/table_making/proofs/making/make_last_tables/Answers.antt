@@ -1,14 +1,12 @@
-use Rattle.std.proofs.Common.{arith}
-use Rattle.sqlite.specs.State.{HasCleanDisk}
-use Rattle.sqlite.specs.Held.{state}
-use Rattle.sql_tables.proofs.Creates.{empties_of}
+use Rattle.std.proofs.Common.{true}
+use Rattle.std.specs.Result.{is_ok}
+use Rattle.prof_tables.specs.Schema.{schema_to_arc, schema_to_stack, schema_to_grp, schema_one, stack_text, grp_text, member_text}
 use Rattle.prof_tables.proofs.Creates.{makes_stack, makes_grp, makes_member}
+use Rattle.table_making.proofs.Parts.{table_made, tables_then}
 use Rattle.table_making.proofs.making.make_last_tables.Goals as goal
 
-pub returns-clause-made : goal.returns-clause-made
-returns-clause-made g c clean was =
-    let clean-2 : HasCleanDisk (state g.S.Store c.execute-2.new.self.conn.now) = omega (arith, c.execute-3.ensures.survives.clean) in
-    let clean-1 : HasCleanDisk (state g.S.Store c.execute.new.self.conn.now) = omega (arith, c.execute-2.ensures.survives.clean) in
-    let made-1 = makes_stack _ _ _ was (c.in_ok-execute.ensures.runs clean-1 was.running) in
-    let made-2 = makes_grp _ _ _ (empties_of _ _ made-1) (c.in_ok-execute-2.ensures.runs clean-2 made-1.running) in
-    makes_member _ _ _ (empties_of _ _ made-2) (c.in_ok-execute-3.ensures.runs clean made-2.running)
+pub returns : goal.returns
+returns g c =
+    let one = table_made g.S.Store stack_text schema_to_arc schema_to_stack makes_stack true _ _ c.in_ok-write_inside.ensures in
+    let two = tables_then g.S.Store true schema_to_arc schema_to_stack schema_to_grp _ _ _ one (table_made g.S.Store grp_text schema_to_stack schema_to_grp makes_grp true _ _ c.in_ok-write_inside-2.ensures) in
+    tables_then g.S.Store (is_ok c.write_inside-3.result) schema_to_arc schema_to_grp schema_one _ _ _ two (table_made g.S.Store member_text schema_to_grp schema_one makes_member (is_ok c.write_inside-3.result) _ _ c.write_inside-3.ensures)

@@ -1,16 +1,13 @@
-use Rattle.std.proofs.Common.{arith}
-use Rattle.sqlite.specs.State.{HasCleanDisk}
-use Rattle.sqlite.specs.Held.{state}
-use Rattle.sql_tables.proofs.Creates.{empties_of}
+use Rattle.std.proofs.Common.{true}
+use Rattle.std.specs.Result.{is_ok}
+use Rattle.prof_tables.specs.Schema.{schema_to_derived, schema_to_coef, schema_to_name, schema_to_cell, schema_to_arc, coef_text, name_text, cell_text, arc_text}
 use Rattle.prof_tables.proofs.Creates.{makes_coef, makes_name, makes_cell, makes_arc}
+use Rattle.table_making.proofs.Parts.{table_made, tables_then}
 use Rattle.table_making.proofs.making.make_row_tables.Goals as goal
 
-pub returns-clause-made : goal.returns-clause-made
-returns-clause-made g c clean was =
-    let clean-3 : HasCleanDisk (state g.S.Store c.execute-3.new.self.conn.now) = omega (arith, c.execute-4.ensures.survives.clean) in
-    let clean-2 : HasCleanDisk (state g.S.Store c.execute-2.new.self.conn.now) = omega (arith, c.execute-3.ensures.survives.clean) in
-    let clean-1 : HasCleanDisk (state g.S.Store c.execute.new.self.conn.now) = omega (arith, c.execute-2.ensures.survives.clean) in
-    let made-1 = makes_coef _ _ _ was (c.in_ok-execute.ensures.runs clean-1 was.running) in
-    let made-2 = makes_name _ _ _ (empties_of _ _ made-1) (c.in_ok-execute-2.ensures.runs clean-2 made-1.running) in
-    let made-3 = makes_cell _ _ _ (empties_of _ _ made-2) (c.in_ok-execute-3.ensures.runs clean-3 made-2.running) in
-    makes_arc _ _ _ (empties_of _ _ made-3) (c.in_ok-execute-4.ensures.runs clean made-3.running)
+pub returns : goal.returns
+returns g c =
+    let one = table_made g.S.Store coef_text schema_to_derived schema_to_coef makes_coef true _ _ c.in_ok-write_inside.ensures in
+    let two = tables_then g.S.Store true schema_to_derived schema_to_coef schema_to_name _ _ _ one (table_made g.S.Store name_text schema_to_coef schema_to_name makes_name true _ _ c.in_ok-write_inside-2.ensures) in
+    let three = tables_then g.S.Store true schema_to_derived schema_to_name schema_to_cell _ _ _ two (table_made g.S.Store cell_text schema_to_name schema_to_cell makes_cell true _ _ c.in_ok-write_inside-3.ensures) in
+    tables_then g.S.Store (is_ok c.write_inside-4.result) schema_to_derived schema_to_cell schema_to_arc _ _ _ three (table_made g.S.Store arc_text schema_to_cell schema_to_arc makes_arc (is_ok c.write_inside-4.result) _ _ c.write_inside-4.ensures)
