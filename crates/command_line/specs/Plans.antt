@@ -57,6 +57,10 @@ HasWord rows id word = first_of id rows ≡ Some word
 abbrev pub HasRun : List Row → ℕ → Type 0
 HasRun rows number = option_map number_of (first_of (codes "N") rows) ≡ Some number
 
+-- the numbers that the words of an argument say
+abbrev pub HaveRuns : List Row → List ℕ → Type 0
+HaveRuns rows numbers = option_map (map number_of) (all_of (codes "N") rows) ≡ Some numbers
+
 -- the plan for a subcommand, by its name and what was found of its arguments
 abbrev pub IsPlanOf : Text → List Row → Plan → Type 0
 IsPlanOf name rows (Total path) = (name ≡ codes "total") × HasWord rows (codes "FILE") path.now
@@ -65,7 +69,7 @@ IsPlanOf name rows (Import db kind files) =
     × (all_of (codes "FILE") rows ≡ Some (map (λ file. file.now) files))
 IsPlanOf name rows (Remove db numbers) =
     (name ≡ codes "remove") × HasWord rows (codes "db") db.now
-    × (option_map (map number_of) (all_of (codes "N") rows) ≡ Some numbers)
+    × HaveRuns rows numbers
 IsPlanOf name rows (Runs db) = (name ≡ codes "runs") × HasWord rows (codes "db") db.now
 IsPlanOf name rows (Group db drop group) =
     (name ≡ codes "group") × HasWord rows (codes "db") db.now × IsFlag (one_of (codes "drop") rows) drop

@@ -1,7 +1,7 @@
 // What was found of the arguments of a subcommand.
-ghost use Rattle.std.specs.Prelude.{◌≡◌, ◌≢◌, ◌↔◌, [], All, map, codes, option_map, Some, IfOk, IfSome, IsSome};
+ghost use Rattle.std.specs.Prelude.{◌≡◌, ◌≢◌, ◌↔◌, [], All, map, codes, Some, IfOk, IfSome, IsSome};
 ghost use Rattle.clap.specs.Words.{all_of, found_of, one_of, rows_of};
-ghost use Rattle.command_line.specs.Plans.{IsRunNumber, SaysRun, number_of, HasWord, HasRun, IsFlag};
+ghost use Rattle.command_line.specs.Plans.{IsRunNumber, SaysRun, number_of, HasWord, HasRun, HaveRuns, IsFlag};
 
 use crate::grammar::LAST_RUN;
 use cg_text::Items;
@@ -86,7 +86,7 @@ fn runs_of(alloc: Global, texts: &[&str]) -> Result<Option<Items<u32>>, AllocErr
 pub fn runs(alloc: Global, words: &ArgMatches<'_>) -> Result<Option<Items<u32>>, AllocError>
     ensures some { IfOk result (λ found. IfSome found (λ numbers. numbers ≢ [])) }
     ensures range { IfOk result (λ found. IfSome found (All IsRunNumber)) }
-    ensures numbers { IfOk result (λ found. IfSome found (λ numbers. option_map (map number_of) (all_of (codes "N") (rows_of (found_of words.now))) ≡ Some numbers)) }
+    ensures numbers { IfOk result (λ found. IfSome found (HaveRuns (rows_of (found_of words.now)))) }
 {
     match all_words(words, "N") {
         Some(texts) => runs_of(alloc, texts),

@@ -2,7 +2,8 @@
 ghost use Rattle.std.specs.Prelude.{◌≡◌, ◌≤◌, ◌++◌, ◌∷◌, [], None, IfOk, OnOk, IfSome, IsTrue, length};
 ghost use Rattle.std.specs.Result.{is_ok};
 ghost use Rattle.prof_books.specs.Book.{ArcIsNamed};
-ghost use Rattle.held_runs.specs.HeldArcs.{HasGivenArcs, IsSameArcs, TakesArc, UsesArcs, GivesArc, TellsArc, NamesArcs, lines_from, part_line, plain_given, row_of};
+ghost use Rattle.held_runs.specs.HeldArcs.{HasGivenArcs, IsSameArcs, TakesArc, UsesArcs, GivesArc};
+ghost use Rattle.held_runs.specs.HeldArcs.{TellsArc, NamesArcs, lines_from, part_line, plain_given, row_of};
 ghost use Rattle.store_columns.specs.Lines.{arc_line};
 ghost use Rattle.prof_store.specs.Shown.{shown, StandsFor};
 ghost use Rattle.held_runs.specs.LineWalks.{KeepsError, AnswersAgain};

@@ -1,7 +1,8 @@
 // The lines of a run that its head is made of.
 ghost use Rattle.std.specs.Prelude.{◌≡◌, map, IfOk, IsPermutation};
 ghost use Rattle.std.specs.Result.{is_ok};
-ghost use Rattle.held_runs.specs.HeadLines.{first_two, first_three, event_columns, derived_columns, coef_columns, events_in_tables, derived_in_tables, coefs_in_tables, events_in_rows, derived_in_rows, coefs_in_rows};
+ghost use Rattle.held_runs.specs.HeadLines.{first_two, first_three, event_columns, derived_columns, coef_columns};
+ghost use Rattle.held_runs.specs.HeadLines.{events_in_tables, derived_in_tables, coefs_in_tables, events_in_rows, derived_in_rows, coefs_in_rows};
 ghost use Rattle.prof_store.specs.Shown.{Told, Found};
 ghost use Rattle.prof_store.specs.Shown.{Asks};
 

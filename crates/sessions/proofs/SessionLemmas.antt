@@ -1,5 +1,5 @@
 -- Turns of a session, one after another.
-use Rattle.std.proofs.Common.{◌≡◌, ℕ, ◌+◌, ◌<◌, Bool, true, false, ◌||◌, if◌then◌else◌, List, [], ◌∷◌, ◌++◌, map, length, drop, get_or, Option, Some, None, Result, Ok, Err, refl, sym, ap, ap₂, take, subst, ◌∙◌, append_assoc, append-nil}
+use Rattle.std.proofs.Common.{◌≡◌, ℕ, ◌+◌, ◌<◌, Bool, true, false, ◌||◌, if◌then◌else◌, List, [], ◌∷◌, ◌++◌, map, length, drop, get_or, Option, Some, None, Result, Ok, Err, OnOk, OnErr, refl, sym, ap, ap₂, take, subst, ◌∙◌, append_assoc, append-nil}
 use Rattle.std.specs.Io.KnownBytes.{Appends}
 use Rattle.std.proofs.KnownBytes.{Appends-nil, Appends-trans}
 use Rattle.std.proofs.Math.Seq.{take-add, take-length, take-append_seam, drop-append_seam}
@@ -29,7 +29,7 @@ use Rattle.sources.specs.Reads.{Come}
 use Rattle.program_files.specs.Imported.{FileReads, IsReadOf, WereRead}
 use Rattle.program_files.specs.declared.imported.FileSource.{FileSource}
 use Rattle.answer_lines.specs.Answers.{is_refused}
-use Rattle.sessions.specs.Sessions.{AreImports, AreLinesOf, ArePrinted, ArePrintedInPart, Prints, Took, WasDone, WasCut, WasRun, WasTold, answers_of, change_said, commands_of, status_after}
+use Rattle.sessions.specs.Sessions.{AreImports, AreLinesOf, ArePrinted, ArePrintedInPart, IsLineOf, Prints, Took, WasDone, WasCut, WasRun, WasTold, answers_of, change_said, commands_of, status_after}
 use Rattle.sessions.specs.declared.session.GroupChange.{GroupChange}
 use Rattle.sessions.specs.declared.session.GroupChange.TheVariants as changes
 use Rattle.sessions.specs.declared.session.Session.{Session}
@@ -70,6 +70,11 @@ part_on xs ys a b c first second =
     let n = second.1 in
     let same : take (length text + n) (text ++ more) ≡ text ++ take n more = take-add (length text) n (text ++ more) ∙ ap₂ ◌++◌ (take-append_seam text more) (ap (take n) (drop-append_seam text more)) in
     (text ++ more, length text + n, lines_on xs ys text more first.1 second.2, subst (Appends a c) (sym same) (Appends-trans a b c text (take n more) first.2 second.3))
+
+-- a line was written, whole or in part
+pub wrote : {E : Type 0} (result : Result Unit E) (answer : Answer) (line : List ℕ) (a b : Option (List ℕ)) → IsLineOf answer line → OnOk result (Appends a b line) → OnErr result ((n : ℕ) × Appends a b (take n line)) → Prints result (answer ∷ []) a b
+wrote (Ok done) answer line a b is whole part = (line, (line, [], is, refl, sym (append-nil line)), whole)
+wrote (Err e) answer line a b is whole part = (line, part.0, (line, [], is, refl, sym (append-nil line)), part.1)
 
 -- ---- the store is not asked
 

@@ -2,8 +2,7 @@
 ghost use Rattle.sqlite.specs.Held.{state};
 ghost use Rattle.sqlite.specs.State.{HasCleanDisk};
 ghost use Rattle.prof_store.specs.Shown.{IsFaithful};
-ghost use Rattle.program_files.specs.Imported.{WereRead};
-ghost use Rattle.sessions.specs.Sessions.{AreOf};
+ghost use Rattle.sessions.specs.Sessions.{Wants};
 ghost use Rattle.sessions.specs.Works.{CameTo, TotalPrinted, WasWorked};
 
 use crate::session::{Session, Work};
@@ -52,7 +51,7 @@ fn work_over<'a, R: Files + AllocGlobal, W: Write + Drop, S: Alter>(
     store: Store<S>,
     work: Work<'a>,
 ) -> (io::Result<u8>, W, Store<S>)
-    ensures { IsFaithful S.Store result.2 → CameTo S.Store W.contents (AreOf (WereRead R.File.remaining) work.entry) result.0 out.entry result.1 store result.2 }
+    ensures { IsFaithful S.Store result.2 → CameTo S.Store W.contents (Wants R.File.remaining work.entry) result.0 out.entry result.1 store result.2 }
 {
     let warehouse = Warehouse::new(store, Limits::standard());
     let mut session = Session::new(rt, out, warehouse);
@@ -69,7 +68,7 @@ fn work_in<'a, R: Files + AllocGlobal, W: Write + Drop, S: Alter>(
     is_new: bool,
     work: Work<'a>,
 ) -> (Result<io::Result<u8>, OpenEnd>, Connection<S>)
-    ensures { HasCleanDisk (state S.Store result.1) → WasWorked S.Store W.contents (AreOf (WereRead R.File.remaining) work.entry) is_new result.0 out.entry conn result.1 }
+    ensures { HasCleanDisk (state S.Store result.1) → WasWorked S.Store W.contents (Wants R.File.remaining work.entry) is_new result.0 out.entry conn result.1 }
 {
     match store_in(rt.alloc(), conn, is_new) {
         Ok(store) => {

@@ -8,7 +8,7 @@ ghost use Rattle.histories.specs.declared.answers.Answer.TheVariants as answers;
 ghost use Rattle.store_histories.specs.Answered.{HasHistory};
 ghost use Rattle.warehouse.specs.Answered.{Says};
 ghost use Rattle.program_files.specs.Imported.{FileReads, WereRead};
-ghost use Rattle.sessions.specs.Sessions.{AreImports, AreOf, Prints, WasRun, WasTold, change_said, status_after};
+ghost use Rattle.sessions.specs.Sessions.{AreImports, Prints, Wants, WasRun, WasTold, change_said, status_after};
 
 use answer_lines::{is_refused, line_of};
 use cg_text::Items;
@@ -211,7 +211,7 @@ impl<'a, R: Files + AllocGlobal, W: Write + Drop, S: Alter> Session<'a, R, W, S>
     /// Runs the commands that a work comes to, and prints their answers. It stops where printing fails.
     pub fn run(&mut self, work: Work<'a>) -> io::Result<()>
         ensures limits { self.new.warehouse.limits ≡ self.old.warehouse.limits }
-        ensures done { IsFaithful S.Store self.new.warehouse.store → WasRun S.Store W.contents (AreOf (WereRead R.File.remaining) work.entry) result self.old self.new }
+        ensures done { IsFaithful S.Store self.new.warehouse.store → WasRun S.Store W.contents (Wants R.File.remaining work.entry) result self.old self.new }
     {
         match work {
             Work::Import(kind, paths) => self.import(kind, paths.as_slice()),

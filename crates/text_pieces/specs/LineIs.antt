@@ -1,5 +1,5 @@
 -- The line that stands behind what is handed on of it.
-use Rattle.std.specs.Prelude.{◌≡◌, ℕ, ◌<◌, List, length}
+use Rattle.std.specs.Prelude.{◌≡◌, ℕ, ◌<◌, List, ◌∷◌, length}
 use Rattle.text_pieces.specs.declared.takes.Line.{Line}
 use Rattle.text_pieces.specs.declared.takes.Line.TheVariants.{Whole, TooLong}
 
@@ -7,3 +7,7 @@ use Rattle.text_pieces.specs.declared.takes.Line.TheVariants.{Whole, TooLong}
 abbrev pub IsLine : Line → List ℕ → Type 0
 IsLine (Whole bytes) line = bytes.now ≡ line
 IsLine TooLong line = 1048576 < length line
+
+-- it stands for what the line says besides, the nearest first
+abbrev pub Took : {T R : Type 0} → (List ℕ → R) → (T → List R → Type 0) → Line → T → T → Type 0
+Took reading_of stands line old new = (text : List ℕ) (back : List _) → IsLine line text → stands old back → stands new (reading_of text ∷ back)

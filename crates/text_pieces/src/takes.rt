@@ -15,7 +15,7 @@ pub enum Line<'a> {
 /// Takes the lines of a text, in order, and hands what they add to a sink. What a line says is told
 /// from its bytes alone; what it adds, from what it and the lines before it say.
 pub trait TakesLines<S> {
-    ghost use Rattle.text_pieces.specs.LineIs.{IsLine};
+    ghost use Rattle.text_pieces.specs.LineIs.{IsLine, Took};
 
     /// What a line can say.
     ghost Reading: { Type 0 };
@@ -51,7 +51,7 @@ pub trait TakesLines<S> {
     fn take_line(&mut self, line: Line<'_>, sink: &mut S) -> Result<(), AllocError>
         requires few { lines self.old < 2 ^ 62 }
         requires fits { fits self.old sink.old }
-        ensures stands { OnOk result ((text : List ℕ) (back : List Reading) → IsLine line.entry text → stands self.old back → stands self.new (reading_of text ∷ back)) }
+        ensures stands { OnOk result (Took reading_of stands line.entry self.old self.new) }
         ensures told { OnOk result ((text : List ℕ) (back : List Reading) → IsLine line.entry text → stands self.old back
             → meaning sink.new ≡ fold step (meaning sink.old) (adds (reading_of text) back)) }
         ensures fits { OnOk result (fits self.new sink.new) }
