@@ -1,1 +1,2 @@
 pub mod SessionLemmas
+pub mod WorkLemmas
