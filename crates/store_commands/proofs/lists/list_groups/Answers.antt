@@ -8,4 +8,4 @@ pub returns-clause-told : goal.returns-clause-told
 returns-clause-told g c clean h s =
     let told = c.in_ok-groups.ensures.told clean s.t s.stands in
     c.in_ok-groups_text.ensures ∙ ap (flat_map group_entry_line) c.deref.ensures.value
-    ∙ sym (tells_groups_text (λ (e : GroupEntry). string_bytes e.name) (λ e. e.baseline) (λ e. e.members) h s.t c.in_ok-groups.groups.items s.tells told.0 c.in_ok-groups.ensures.rising (c.in_ok-groups.ensures.members clean s.t s.stands) (λ e. e.rising))
+    ∙ sym (tells_groups_text (λ (e : GroupEntry). string_bytes e.name) (λ e. e.baseline) (λ e. e.members) h s.t c.in_ok-groups.groups.items s.tells told.groups c.in_ok-groups.ensures.rising told.each (λ e. e.rising))
