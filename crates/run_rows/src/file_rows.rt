@@ -6,9 +6,8 @@ ghost use Rattle.prof_tables.specs.Changes.{with_cells, with_arcs, with_stacks};
 ghost use Rattle.prof_tables.specs.Files.{all_named, numbers_in};
 ghost use Rattle.prof_books.specs.Files.{cell_lines, arc_lines, stack_lines};
 ghost use Rattle.run_rows.specs.FromRows.{part_line, cost_lines, row_lines};
-ghost use Rattle.store_columns.specs.Lines.{arc_line};
 ghost use Rattle.store_columns.specs.Within.{Writes, Tells};
-ghost use Rattle.run_rows.specs.Queues.{Queues};
+ghost use Rattle.run_rows.specs.Queues.{QueuesArcs};
 
 use crate::file_lines::{arc_of, cell_of, stack_of};
 use crate::line_writing::{put_lines, queue};
@@ -68,7 +67,7 @@ fn put_part<S: Alter>(
     part: usize,
     sum: u128,
 ) -> Result<(), StoreEnd>
-    ensures { Queues S.Store arc_line with_arcs (is_ok result) waiting.old.items (part_line run numbers.now row.now part sum ∷ []) waiting.new.items tx.old tx.new }
+    ensures { QueuesArcs S.Store (is_ok result) waiting.old.items (part_line run numbers.now row.now part sum ∷ []) waiting.new.items tx.old tx.new }
 {
     match arc_of(run, numbers, row, part, sum) {
         Some(line) => queue(tx, alloc, waiting, line),
@@ -87,7 +86,7 @@ fn put_cost<S: Alter>(
     part: usize,
     cost: u128,
 ) -> Result<(), StoreEnd>
-    ensures { Queues S.Store arc_line with_arcs (is_ok result) waiting.old.items (cost_lines run numbers.now row.now part cost) waiting.new.items tx.old tx.new }
+    ensures { QueuesArcs S.Store (is_ok result) waiting.old.items (cost_lines run numbers.now row.now part cost) waiting.new.items tx.old tx.new }
 {
     if cost > 0 {
         put_part(tx, alloc, waiting, run, numbers, row, part, cost)
@@ -105,7 +104,7 @@ fn put_parts<S: Alter>(
     numbers: &[u32],
     row: &ArcRow<u32, &[u128]>,
 ) -> Result<(), StoreEnd>
-    ensures { Queues S.Store arc_line with_arcs (is_ok result) waiting.old.items (row_lines run numbers.now row.now) waiting.new.items tx.old tx.new }
+    ensures { QueuesArcs S.Store (is_ok result) waiting.old.items (row_lines run numbers.now row.now) waiting.new.items tx.old tx.new }
 {
     put_part(tx, alloc, waiting, run, numbers, row, 0, row.count)?;
     let costs = row.costs;
