@@ -46,14 +46,14 @@ pub fn put_cells<S: Alter>(
 ) -> Result<(), StoreEnd>
     ensures { Writes S.Store (is_ok result) (with_cells (cell_lines run numbers.now (content_of rows.now).cells)) tx.old tx.new }
 {
-    let mut waiting = Vec::new(alloc);
+    let mut cells = Vec::new(alloc);
     'rows: for row in rows.numbered_cells() {
         match cell_of(run, numbers, &row) {
-            Some(line) => queue(tx, alloc, &mut waiting, line)?,
+            Some(line) => queue(tx, alloc, &mut cells, line)?,
             None => return Err(StoreEnd::Store),
         }
     }
-    put_lines(tx, alloc, &waiting)
+    put_lines(tx, alloc, &cells)
 }
 
 /// Takes up a part of the calls of a row.
@@ -124,11 +124,11 @@ pub fn put_arcs<S: Alter>(
 ) -> Result<(), StoreEnd>
     ensures { Writes S.Store (is_ok result) (with_arcs (arc_lines run numbers.now (content_of rows.now).arcs)) tx.old tx.new }
 {
-    let mut waiting = Vec::new(alloc);
+    let mut parts = Vec::new(alloc);
     'rows: for row in rows.numbered_arcs() {
-        put_parts(tx, alloc, &mut waiting, run, numbers, &row)?;
+        put_parts(tx, alloc, &mut parts, run, numbers, &row)?;
     }
-    put_lines(tx, alloc, &waiting)
+    put_lines(tx, alloc, &parts)
 }
 
 /// Writes the counts of a run's stacks.
@@ -140,12 +140,12 @@ pub fn put_stacks<S: Alter>(
 ) -> Result<(), StoreEnd>
     ensures { Writes S.Store (is_ok result) (with_stacks (stack_lines run (content_of rows.now).stacks)) tx.old tx.new }
 {
-    let mut waiting = Vec::new(alloc);
+    let mut stacks = Vec::new(alloc);
     'rows: for row in rows.stacks() {
         match stack_of(run, &row) {
-            Some(line) => queue(tx, alloc, &mut waiting, line)?,
+            Some(line) => queue(tx, alloc, &mut stacks, line)?,
             None => return Err(StoreEnd::Store),
         }
     }
-    put_lines(tx, alloc, &waiting)
+    put_lines(tx, alloc, &stacks)
 }
