@@ -10,6 +10,10 @@ use Rattle.prof_books.specs.Heads.{ColumnFits}
 abbrev pub OfContent : FileHead → FileTotals → (Content → Type 0) → Type 0
 OfContent head totals P = (c : Content) → AreTotals totals c (length head.events) → P c
 
+-- and of an event of the head, by its column
+abbrev pub OfColumn : FileHead → FileTotals → ℕ → (Content → Type 0) → Type 0
+OfColumn head totals place P = OfContent head totals (λ c. place < length head.events → P c)
+
 -- its sums fit their columns
 abbrev pub AllFit : FileHead → Content → Type 0
 AllFit head c = (k : ℕ) → k < length head.events → ColumnFits c k

@@ -2,7 +2,7 @@
 ghost use Rattle.std.specs.Prelude.{◌≡◌, ◌<◌, ◌^◌, ◌++◌, ◌∷◌, [], ◌↔◌, map, option_map, string_bytes, slice_index, length, IfOk, OnOk, IsTrue};
 ghost use Rattle.prof_books.specs.Heads as specs;
 ghost use Rattle.prof_books.specs.Heads.{stated_at, event_line_of, coef_lines_at, derived_lines_from, coef_lines_from, AreStated, IsWhole, ColumnFits};
-ghost use Rattle.run_heads.specs.Sums.{OfContent, AllFit};
+ghost use Rattle.run_heads.specs.Sums.{OfContent, OfColumn, AllFit};
 ghost use Rattle.store_columns.specs.Lines.{event_line, derived_line, coef_line};
 
 use cg_formulas::FileHead;
@@ -71,8 +71,8 @@ fn event_of<'a>(
     place: usize,
     name: &'a [u8],
 ) -> Result<EventLine<'a>, StoreEnd>
-    ensures value { OfContent head.now totals.now (λ c. place < length head.now.events → IfOk result (λ e. event_line e ≡ event_line_of run head.now c place name.now)) }
-    ensures fits { OfContent head.now totals.now (λ c. place < length head.now.events → OnOk result (ColumnFits c place)) }
+    ensures value { OfColumn head.now totals.now place (λ c. IfOk result (λ e. event_line e ≡ event_line_of run head.now c place name.now)) }
+    ensures fits { OfColumn head.now totals.now place (λ c. OnOk result (ColumnFits c place)) }
 {
     Ok(EventLine {
         run,

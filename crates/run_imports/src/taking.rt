@@ -16,14 +16,13 @@ ghost use Rattle.file_intake.specs.Intakes.{IsTakenOf};
 ghost use Rattle.sources.specs.Reads.{HasEnded};
 ghost use Rattle.run_imports.specs.Refused.{room_refusal};
 
-use cg_formulas::FileHead;
 use cg_text::Items;
-use cost_rows::{FileRows, Overflow, Side, admit};
+use cost_rows::{Overflow, Side, admit};
 use file_intake::Taken;
 use histories::{Answer, Excess, Limits, Refusal};
 use prof_store::{Store, StoreEnd, is_label};
 use profile_records::Kind;
-use run_putting::put_run;
+use run_putting::{SummedFile, put_run};
 use sqlite::Alter;
 use std::alloc::{AllocError, Global};
 
@@ -62,20 +61,18 @@ pub fn label_of(bytes: &[u8]) -> Option<&str>
 fn excess_with<S: Alter>(
     store: &mut Store<S>,
     alloc: Global,
-    head: &FileHead,
-    rows: &FileRows,
+    file: &SummedFile<'_>,
 ) -> Result<Option<Excess>, StoreEnd>
     ensures told { IsFaithful S.Store store.new → (h : History) (kind : Kind) (bytes : List ℕ) → StandsForHistory S.Store h store.old
-        → IsHeadOf kind head.now bytes → content_of rows.now ≡ rows_of kind bytes
+        → IsHeadOf kind file.now.head.now bytes → content_of file.now.rows.now ≡ rows_of kind bytes
         → IfOk result (λ excess. excess ≡ sums.excess_of (held h) kind bytes) }
     ensures asks { Asks S.Store (is_ok result) store.old store.new }
 {
-    let totals = store.totals_of(alloc, head.events.as_slice())?;
-    let file = rows.totals(alloc, head.events.len())?;
-    match admit(&totals, &file) {
+    let totals = store.totals_of(alloc, file.head.events.as_slice())?;
+    match admit(&totals, &file.totals) {
         Ok(()) => Ok(None),
         Err(overflow) => {
-            let excess = excess_of(alloc, head.events.as_slice(), overflow)?;
+            let excess = excess_of(alloc, file.head.events.as_slice(), overflow)?;
             Ok(Some(excess))
         }
     }
@@ -86,15 +83,14 @@ fn refusal_of<S: Alter>(
     store: &mut Store<S>,
     alloc: Global,
     limits: Limits,
-    head: &FileHead,
-    rows: &FileRows,
+    file: &SummedFile<'_>,
 ) -> Result<Option<Refusal>, StoreEnd>
     ensures told { IsFaithful S.Store store.new → (h : History) (kind : Kind) (bytes : List ℕ) → StandsForHistory S.Store h store.old
-        → IsHeadOf kind head.now bytes → content_of rows.now ≡ rows_of kind bytes
+        → IsHeadOf kind file.now.head.now bytes → content_of file.now.rows.now ≡ rows_of kind bytes
         → IfOk result (λ refusal. refusal ≡ room_refusal limits h kind bytes) }
     ensures asks { Asks S.Store (is_ok result) store.old store.new }
 {
-    if let Some(excess) = excess_with(store, alloc, head, rows)? {
+    if let Some(excess) = excess_with(store, alloc, file)? {
         return Ok(Some(Refusal::Overflow(excess)));
     }
     if store.run_count()? >= u64::from(limits.runs) {
@@ -114,20 +110,19 @@ fn put_file<S: Alter>(
     kind: Kind,
     digest: &[u8; 32],
     label: &str,
-    head: &FileHead,
-    rows: &FileRows,
+    file: &SummedFile<'_>,
 ) -> Result<Answer, StoreEnd>
     requires { IsLabel label.now }
     ensures answered { IsFaithful S.Store store.new → (h : History) (outcomes : List Outcome) → StandsForHistory S.Store h store.old
-        → HasEnded limits.bytes outcomes → IsNewFile h kind (bytes_of outcomes) digest.now head.now rows.now
+        → HasEnded limits.bytes outcomes → IsNewFile h kind (bytes_of outcomes) digest.now file.now.head.now file.now.rows.now
         → IfOk result (λ answer. WasDue S.Store limits h (Import kind label.now outcomes) answer store.new) }
     ensures turns { (outcomes : List Outcome) → HasEnded limits.bytes outcomes
-        → PutsNew S.Store limits kind label.now outcomes digest.now head.now rows.now result store.old store.new }
+        → PutsNew S.Store limits kind label.now outcomes digest.now file.now.head.now file.now.rows.now result store.old store.new }
 {
-    if let Some(refusal) = refusal_of(store, alloc, limits, head, rows)? {
+    if let Some(refusal) = refusal_of(store, alloc, limits, file)? {
         return Ok(Answer::Refused(refusal));
     }
-    let number = put_run(store, alloc, kind, digest, label, head, rows)?;
+    let number = put_run(store, alloc, kind, digest, label, file)?;
     Ok(Answer::Run(number))
 }
 
@@ -151,7 +146,10 @@ pub fn take_in<S: Alter>(
         return Ok(Answer::Held(number));
     }
     match &taken.file {
-        Ok((head, rows)) => put_file(store, alloc, limits, kind, &taken.digest, label, head, rows),
+        Ok((head, rows)) => {
+            let file = SummedFile::of(alloc, head, rows)?;
+            put_file(store, alloc, limits, kind, &taken.digest, label, &file)
+        }
         Err((fault, line)) => Ok(Answer::Refused(Refusal::File(*fault, *line))),
     }
 }

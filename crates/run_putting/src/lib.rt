@@ -3,5 +3,7 @@
 
 mod putting;
 mod runs_put;
+mod summed;
 
 pub use runs_put::put_run;
+pub use summed::SummedFile;

@@ -1,17 +1,17 @@
 // A file is put as a run.
-ghost use Rattle.std.specs.Prelude.{ℕ, ◌≡◌, ◌<◌, ◌^◌, length, IfOk, OnOk};
+ghost use Rattle.std.specs.Prelude.{◌≡◌, ◌<◌, ◌^◌, IfOk, OnOk};
 ghost use Rattle.std.specs.Result.{is_ok};
 ghost use Rattle.cost_rows.specs.Totals.{count_total};
 ghost use Rattle.cost_rows.specs.Rows.{content_of};
 ghost use Rattle.sqlite_rules.specs.Lists.{Has};
-ghost use Rattle.prof_books.specs.Heads.{IsWhole, ColumnFits};
+ghost use Rattle.prof_books.specs.Heads.{IsWhole};
 ghost use Rattle.prof_tables.specs.Labels.{IsLabel};
-ghost use Rattle.prof_books.specs.Runs.{with_file};
+ghost use Rattle.run_heads.specs.Sums.{AllFit};
+ghost use Rattle.run_putting.specs.Runs.{with_summed};
 ghost use Rattle.prof_store.specs.Shown.{Changes, ChangesIf, Tells};
 
 use crate::putting::put_in;
-use cg_formulas::FileHead;
-use cost_rows::FileRows;
+use crate::summed::SummedFile;
 use prof_store::Store;
 use profile_records::Kind;
 use run_heads::head_lines;
@@ -27,20 +27,18 @@ fn put_numbered<S: Alter>(
     kind: Kind,
     digest: &[u8; 32],
     label: &str,
-    head: &FileHead,
-    rows: &FileRows,
+    file: &SummedFile<'_>,
 ) -> Result<(), StoreEnd>
-    ensures whole { OnOk result (IsWhole head.now) }
-    ensures fits { OnOk result ((k : ℕ) → k < length head.now.events → ColumnFits (content_of rows.now) k) }
-    ensures counted { OnOk result (count_total (content_of rows.now).arcs < 2 ^ 63) }
-    ensures changes { ChangesIf S.Store (is_ok result) (λ t. t.next ≡ number) (with_file number kind digest.now label.now head.now (content_of rows.now)) store.old store.new }
+    ensures whole { OnOk result (IsWhole file.now.head.now) }
+    ensures fits { OnOk result (AllFit file.now.head.now (content_of file.now.rows.now)) }
+    ensures counted { OnOk result (count_total (content_of file.now.rows.now).arcs < 2 ^ 63) }
+    ensures changes { ChangesIf S.Store (is_ok result) (λ t. t.next ≡ number) (with_summed number kind digest.now label.now file.now) store.old store.new }
 {
     if !store.conn.is_autocommit() {
         return Err(StoreEnd::Store);
     }
-    let totals = rows.totals(alloc, head.events.len())?;
-    let lines = head_lines(alloc, number, head, &totals)?;
-    let Some(call_count) = whole_of(totals.call_count) else {
+    let lines = head_lines(alloc, number, file.head, &file.totals)?;
+    let Some(call_count) = whole_of(file.totals.call_count) else {
         return Err(StoreEnd::Store);
     };
     let run = RunLine {
@@ -50,7 +48,7 @@ fn put_numbered<S: Alter>(
         label,
         call_count,
     };
-    put_in(&mut store.conn, alloc, &run, &lines, rows)
+    put_in(&mut store.conn, alloc, &run, &lines, file.rows)
 }
 
 /// Puts a file as a run, and answers its number, which no run had before: what its head says
@@ -64,18 +62,17 @@ pub fn put_run<S: Alter>(
     kind: Kind,
     digest: &[u8; 32],
     label: &str,
-    head: &FileHead,
-    rows: &FileRows,
+    file: &SummedFile<'_>,
 ) -> Result<u32, StoreEnd>
     requires { IsLabel label.now }
     ensures told { Tells S.Store store.old store.new (λ t. IfOk result (λ number. number ≡ t.next)) }
     ensures taken { Tells S.Store store.old store.new (λ t. (r : _) → Has t.runs r → r.digest ≡ digest.now → OnOk result ⊥) }
-    ensures whole { OnOk result (IsWhole head.now) }
-    ensures fits { OnOk result ((k : ℕ) → k < length head.now.events → ColumnFits (content_of rows.now) k) }
-    ensures counted { OnOk result (count_total (content_of rows.now).arcs < 2 ^ 63) }
-    ensures changes { Changes S.Store (is_ok result) (λ t. with_file t.next kind digest.now label.now head.now (content_of rows.now) t) store.old store.new }
+    ensures whole { OnOk result (IsWhole file.now.head.now) }
+    ensures fits { OnOk result (AllFit file.now.head.now (content_of file.now.rows.now)) }
+    ensures counted { OnOk result (count_total (content_of file.now.rows.now).arcs < 2 ^ 63) }
+    ensures changes { Changes S.Store (is_ok result) (λ t. with_summed t.next kind digest.now label.now file.now t) store.old store.new }
 {
     let number = store.next_run()?;
-    put_numbered(store, alloc, number, kind, digest, label, head, rows)?;
+    put_numbered(store, alloc, number, kind, digest, label, file)?;
     Ok(number)
 }

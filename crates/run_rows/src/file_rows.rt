@@ -6,9 +6,8 @@ ghost use Rattle.prof_tables.specs.Changes.{with_cells, with_arcs, with_stacks};
 ghost use Rattle.prof_tables.specs.Files.{all_named, numbers_in};
 ghost use Rattle.prof_books.specs.Files.{cell_lines, arc_lines, stack_lines};
 ghost use Rattle.run_rows.specs.FromRows.{part_line, cost_lines, row_lines};
-ghost use Rattle.store_columns.specs.Lines.{arc_line};
 ghost use Rattle.store_columns.specs.Within.{Writes, Tells};
-ghost use Rattle.run_rows.specs.Queues.{Queues};
+ghost use Rattle.run_rows.specs.Queues.{QueuesArcs};
 
 use crate::file_lines::{arc_of, cell_of, stack_of};
 use crate::line_writing::{put_lines, queue};
@@ -47,14 +46,14 @@ pub fn put_cells<S: Alter>(
 ) -> Result<(), StoreEnd>
     ensures { Writes S.Store (is_ok result) (with_cells (cell_lines run numbers.now (content_of rows.now).cells)) tx.old tx.new }
 {
-    let mut waiting = Vec::new(alloc);
+    let mut cells = Vec::new(alloc);
     'rows: for row in rows.numbered_cells() {
         match cell_of(run, numbers, &row) {
-            Some(line) => queue(tx, alloc, &mut waiting, line)?,
+            Some(line) => queue(tx, alloc, &mut cells, line)?,
             None => return Err(StoreEnd::Store),
         }
     }
-    put_lines(tx, alloc, &waiting)
+    put_lines(tx, alloc, &cells)
 }
 
 /// Takes up a part of the calls of a row.
@@ -68,7 +67,7 @@ fn put_part<S: Alter>(
     part: usize,
     sum: u128,
 ) -> Result<(), StoreEnd>
-    ensures { Queues S.Store arc_line with_arcs (is_ok result) waiting.old.items (part_line run numbers.now row.now part sum ∷ []) waiting.new.items tx.old tx.new }
+    ensures { QueuesArcs S.Store (is_ok result) waiting.old.items (part_line run numbers.now row.now part sum ∷ []) waiting.new.items tx.old tx.new }
 {
     match arc_of(run, numbers, row, part, sum) {
         Some(line) => queue(tx, alloc, waiting, line),
@@ -87,7 +86,7 @@ fn put_cost<S: Alter>(
     part: usize,
     cost: u128,
 ) -> Result<(), StoreEnd>
-    ensures { Queues S.Store arc_line with_arcs (is_ok result) waiting.old.items (cost_lines run numbers.now row.now part cost) waiting.new.items tx.old tx.new }
+    ensures { QueuesArcs S.Store (is_ok result) waiting.old.items (cost_lines run numbers.now row.now part cost) waiting.new.items tx.old tx.new }
 {
     if cost > 0 {
         put_part(tx, alloc, waiting, run, numbers, row, part, cost)
@@ -105,7 +104,7 @@ fn put_parts<S: Alter>(
     numbers: &[u32],
     row: &ArcRow<u32, &[u128]>,
 ) -> Result<(), StoreEnd>
-    ensures { Queues S.Store arc_line with_arcs (is_ok result) waiting.old.items (row_lines run numbers.now row.now) waiting.new.items tx.old tx.new }
+    ensures { QueuesArcs S.Store (is_ok result) waiting.old.items (row_lines run numbers.now row.now) waiting.new.items tx.old tx.new }
 {
     put_part(tx, alloc, waiting, run, numbers, row, 0, row.count)?;
     let costs = row.costs;
@@ -125,11 +124,11 @@ pub fn put_arcs<S: Alter>(
 ) -> Result<(), StoreEnd>
     ensures { Writes S.Store (is_ok result) (with_arcs (arc_lines run numbers.now (content_of rows.now).arcs)) tx.old tx.new }
 {
-    let mut waiting = Vec::new(alloc);
+    let mut parts = Vec::new(alloc);
     'rows: for row in rows.numbered_arcs() {
-        put_parts(tx, alloc, &mut waiting, run, numbers, &row)?;
+        put_parts(tx, alloc, &mut parts, run, numbers, &row)?;
     }
-    put_lines(tx, alloc, &waiting)
+    put_lines(tx, alloc, &parts)
 }
 
 /// Writes the counts of a run's stacks.
@@ -141,12 +140,12 @@ pub fn put_stacks<S: Alter>(
 ) -> Result<(), StoreEnd>
     ensures { Writes S.Store (is_ok result) (with_stacks (stack_lines run (content_of rows.now).stacks)) tx.old tx.new }
 {
-    let mut waiting = Vec::new(alloc);
+    let mut stacks = Vec::new(alloc);
     'rows: for row in rows.stacks() {
         match stack_of(run, &row) {
-            Some(line) => queue(tx, alloc, &mut waiting, line)?,
+            Some(line) => queue(tx, alloc, &mut stacks, line)?,
             None => return Err(StoreEnd::Store),
         }
     }
-    put_lines(tx, alloc, &waiting)
+    put_lines(tx, alloc, &stacks)
 }

@@ -1,3 +1,1 @@
-pub mod Effects
-pub mod Parts
 pub mod Within

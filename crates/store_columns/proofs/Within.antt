@@ -76,12 +76,6 @@ module _ {S : Type 0} (g : Ghosts S) where
     done = λ (none : false ≡ true). absurd cc;
   }
 
-  -- the same by what is returned
-  pub writes_err : {T E : Type 0} (result : Result T E) (ok : Bool) (given other : Tables → Type 0) (change another : Tables → Tables) (old new : Transaction S)
-      → IsErr result → WritesIf g ok given change old new → WritesIf g (is_ok result) other another old new
-  writes_err (Ok x) ok given other change another old new is h = absurd (cc is)
-  writes_err (Err e) ok given other change another old new is h = writes_refused ok given other change another old new h
-
   -- a call, and one that was refused
   pub then_refused : {given next other : Tables → Type 0} {first second another : Tables → Tables} {old mid new : Transaction S}
       → WritesIf g true given first old mid → WritesIf g false next second mid new → WritesIf g false other another old new

@@ -2,19 +2,13 @@
 use Rattle.std.specs.Prelude.{◌≡◌, ℕ, ◌<◌, false, IsTrue}
 use Rattle.std.specs.List.{AllByRecursion}
 use Rattle.sqlite.specs.State.{HasCleanDisk, State, Survives}
-use Rattle.sql_tables.specs.States.{Works, KeepsCommit}
-use Rattle.prof_tables.specs.Schema.{schema_one}
-use Rattle.prof_tables.specs.Tables.{Tables, Holds, RunLine}
+use Rattle.sql_tables.specs.States.{KeepsCommit}
+use Rattle.prof_tables.specs.Tables.{Tables, RunLine}
 
 -- whatever comes of it, it commits nothing
 pub record Passes (old new : State) : Type 0 where
   pub kept : HasCleanDisk new → IsTrue old.in_transaction → KeepsCommit old new
   pub survives : Survives old new (λ _. ⊥)
-
--- it changes the tables, where P holds of them, and the transaction goes on
-pub record Makes (P : Tables → Type 0) (change : Tables → Tables) (old new : State) : Type 0 where
-  pub running : HasCleanDisk new → IsTrue old.in_transaction → IsTrue new.in_transaction
-  pub done : HasCleanDisk new → (t : Tables) → P t → Works schema_one (Holds t) old → Works schema_one (Holds (change t)) new
 
 -- each run's number is below a number
 abbrev pub IsAbove : ℕ → Tables → Type 0

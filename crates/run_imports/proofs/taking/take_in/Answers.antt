@@ -1,10 +1,11 @@
 use Rattle.std.proofs.Common.{◌≡◌, true, false, Some, None, Ok, sym, ap, subst, ◌∙◌}
 use Rattle.sha2.specs.Sha256.{sha256}
-use Rattle.sql_tables.proofs.Calls.{asked_rests, changed_asked, rests_as}
+use Rattle.sql_tables.proofs.Calls.{asked_refused, asked_rests, changed_asked, rests_as}
 use Rattle.prof_tables.specs.Schema.{schema_one}
 use Rattle.prof_tables.specs.Tables.{Holds}
-use Rattle.histories.specs.Files.{fault_of}
 use Rattle.sources.specs.Outcomes.{bytes_of}
+use Rattle.cost_rows.specs.Rows.{content_of}
+use Rattle.histories.specs.Files.{IsHeadOf, fault_of}
 use Rattle.histories.specs.History.{Import, held}
 use Rattle.histories.specs.Legal.{number_of}
 use Rattle.histories.specs.declared.answers.Answer.TheVariants.{Held, Refused}
@@ -33,29 +34,33 @@ returns-in-Some-clause-answered g c clean h outcomes s ended is =
 pub returns-in-Some-clause-turns : goal.returns-in-Some-clause-turns
 returns-in-Some-clause-turns g c outcomes ended is clean = changed_asked schema_one TellsHistory (Follows c.args.limits (Import c.args.kind c.args.label.now outcomes)) true _ _ (c.in_ok-number.ensures.asks clean)
 
-pub returns-in-Ok-clause-answered : goal.returns-in-Ok-clause-answered
-returns-in-Ok-clause-answered g c clean h outcomes s ended is =
+pub returns-in_ok-file-in-Ok-clause-answered : goal.returns-in_ok-file-in-Ok-clause-answered
+returns-in_ok-file-in-Ok-clause-answered g c clean h outcomes s ended is =
     let early = (c.put_file.ensures.turns outcomes ended clean).stays.was_clean in
     let none : number_of (sha256 (bytes_of outcomes)) (held h) ≡ None =
     ap (λ d. number_of d (held h)) (sym is.digest) ∙ tells_digest h s.t s.tells c.args.taken.now.digest c.in_ok-number.field-0 (c.in_ok-number.ensures.told early s.t s.stands) ∙ c.in_default.is in
-    let file : IsFileOf c.args.kind (bytes_of outcomes) (Ok (c.in-Ok.head, c.in-Ok.rows)) = subst (IsFileOf c.args.kind (bytes_of outcomes)) c.in-Ok.is is.file in
+    let whole : IsFileOf c.args.kind (bytes_of outcomes) (Ok (c.in-Ok.head, c.in-Ok.rows)) = subst (IsFileOf c.args.kind (bytes_of outcomes)) c.in-Ok.is is.file in
     let there : StandsForHistory g.S.Store h c.run_of_digest.new.self = record { t = s.t; stands = asked_rests schema_one (Holds s.t) _ _ (c.in_ok-number.ensures.asks early) s.stands; tells = s.tells } in
-    let new : IsNewFile h c.args.kind (bytes_of outcomes) c.args.taken.now.digest c.in-Ok.head c.in-Ok.rows = record { digest_is = is.digest; is_new = none; sound = file.0; head_is = file.1; rows_are = file.2 } in
+    let file = c.in_ok-file-in-Ok.file in
+    let same = c.in_ok-file-in-Ok.ensures in
+    let new : IsNewFile h c.args.kind (bytes_of outcomes) c.args.taken.now.digest file.head.now file.rows.now = record { digest_is = is.digest; is_new = none; sound = whole.0; head_is = subst (λ x. IsHeadOf c.args.kind x (bytes_of outcomes)) (sym same.0) whole.1; rows_are = ap content_of same.1 ∙ whole.2 } in
     c.put_file.ensures.answered clean h outcomes there ended new
 
-pub returns-in-Ok-clause-turns : goal.returns-in-Ok-clause-turns
-returns-in-Ok-clause-turns g c outcomes ended is clean =
+pub returns-in_ok-file-in-Ok-clause-turns : goal.returns-in_ok-file-in-Ok-clause-turns
+returns-in_ok-file-in-Ok-clause-turns g c outcomes ended is clean =
     let two = c.put_file.ensures.turns outcomes ended clean in
     let early = two.stays.was_clean in
-    let file : IsFileOf c.args.kind (bytes_of outcomes) (Ok (c.in-Ok.head, c.in-Ok.rows)) = subst (IsFileOf c.args.kind (bytes_of outcomes)) c.in-Ok.is is.file in
-    new_turns c.args.limits c.args.kind c.args.label.now outcomes c.args.taken.now.digest c.in-Ok.head c.in-Ok.rows g.S.Store c.args.store.now c.run_of_digest.new.self c.put_file.new.store c.put_file.result
+    let whole : IsFileOf c.args.kind (bytes_of outcomes) (Ok (c.in-Ok.head, c.in-Ok.rows)) = subst (IsFileOf c.args.kind (bytes_of outcomes)) c.in-Ok.is is.file in
+    let file = c.in_ok-file-in-Ok.file in
+    let same = c.in_ok-file-in-Ok.ensures in
+    new_turns c.args.limits c.args.kind c.args.label.now outcomes c.args.taken.now.digest file.head.now file.rows.now g.S.Store c.args.store.now c.run_of_digest.new.self c.put_file.new.store c.put_file.result
     (c.in_ok-number.ensures.asks early)
     (λ h s. record {
       digest_is = is.digest;
       is_new = ap (λ d. number_of d (held h)) (sym is.digest) ∙ tells_digest h s.t s.tells c.args.taken.now.digest c.in_ok-number.field-0 (c.in_ok-number.ensures.told early s.t s.stands) ∙ c.in_default.is;
-      sound = file.0;
-      head_is = file.1;
-      rows_are = file.2;
+      sound = whole.0;
+      head_is = subst (λ x. IsHeadOf c.args.kind x (bytes_of outcomes)) (sym same.0) whole.1;
+      rows_are = ap content_of same.1 ∙ whole.2;
     })
     two
 
@@ -69,3 +74,8 @@ returns-in-Err-clause-answered g c clean h outcomes s ended is =
 
 pub returns-in-Err-clause-turns : goal.returns-in-Err-clause-turns
 returns-in-Err-clause-turns g c outcomes ended is clean = changed_asked schema_one TellsHistory (Follows c.args.limits (Import c.args.kind c.args.label.now outcomes)) true _ _ (c.in_ok-number.ensures.asks clean)
+
+pub returns-in_err-file-in-Ok-clause-turns : goal.returns-in_err-file-in-Ok-clause-turns
+returns-in_err-file-in-Ok-clause-turns g c outcomes ended is clean =
+    let said = Import c.args.kind c.args.label.now outcomes in
+    turns_err c.args.limits said c.from_residual-in_err-file-in-Ok.result _ _ c.from_residual-in_err-file-in-Ok.ensures.0 (changed_asked schema_one TellsHistory (Follows c.args.limits said) false _ _ (asked_refused schema_one true _ _ (c.in_ok-number.ensures.asks clean)))

@@ -16,14 +16,14 @@ returns-clause-taken g c clean t was r there is =
     let next = c.in_ok-number.ensures.told early t was in
     let mid = asked_rests schema_one (Holds t) _ _ (c.in_ok-number.ensures.asks early) was in
     let made = two.done refl t (rests_as schema_one (Holds t) (λ db. (t.next ≡ c.in_ok-number.number) × Holds t db) _ mid (sym next, mid.holds)) in
-    taken t _ _ c.args.kind c.args.digest.now c.args.label.now c.args.head.now (content_of c.args.rows.now) r was.holds (subst (λ n. Holds (with_file n c.args.kind c.args.digest.now c.args.label.now c.args.head.now (content_of c.args.rows.now) t) (state g.S.Store c.put_numbered.new.store.conn).now.trees) next made.holds) there is
+    taken t _ _ c.args.kind c.args.digest.now c.args.label.now c.args.file.now.head.now (content_of c.args.file.now.rows.now) r was.holds (subst (λ n. Holds (with_file n c.args.kind c.args.digest.now c.args.label.now c.args.file.now.head.now (content_of c.args.file.now.rows.now) t) (state g.S.Store c.put_numbered.new.store.conn).now.trees) next made.holds) there is
 
 pub returns-clause-changes : goal.returns-clause-changes
 returns-clause-changes g c clean =
     let two = c.in_ok-put_numbered.ensures.changes clean in
     let early = two.stays.was_clean in
     let n = c.in_ok-number.number in
-    let file : ℕ → Tables → Tables = λ m. with_file m c.args.kind c.args.digest.now c.args.label.now c.args.head.now (content_of c.args.rows.now) in
+    let file : ℕ → Tables → Tables = λ m. with_file m c.args.kind c.args.digest.now c.args.label.now c.args.file.now.head.now (content_of c.args.file.now.rows.now) in
     let told = c.in_ok-number.ensures.told early in
     changed_as schema_one (λ t db. (t.next ≡ n) × Holds t db) (λ t. Holds (file n t)) Holds (λ t. Holds (file t.next t)) true true (shown g.S.Store c.args.store.now) (shown g.S.Store c.put_numbered.new.store)
     (λ t was. (t, rests_as schema_one (Holds t) (λ db. (t.next ≡ n) × Holds t db) _ was (sym (told t was), was.holds), λ next h. subst (λ m. Holds (file m t) next) (told t was) h))
@@ -34,7 +34,7 @@ returns-in_err-put_numbered-clause-changes g c clean =
     let two = c.in_err-put_numbered.ensures.changes clean in
     let early = two.stays.was_clean in
     let n = c.in_ok-number.number in
-    let file : ℕ → Tables → Tables = λ m. with_file m c.args.kind c.args.digest.now c.args.label.now c.args.head.now (content_of c.args.rows.now) in
+    let file : ℕ → Tables → Tables = λ m. with_file m c.args.kind c.args.digest.now c.args.label.now c.args.file.now.head.now (content_of c.args.file.now.rows.now) in
     let told = c.in_ok-number.ensures.told early in
     changed_err schema_one Holds (λ t. Holds (file t.next t)) c.from_residual-in_err-put_numbered.result _ _ c.from_residual-in_err-put_numbered.ensures.0
     (changed_as schema_one (λ t db. (t.next ≡ n) × Holds t db) (λ t. Holds (file n t)) Holds (λ t. Holds (file t.next t)) false false (shown g.S.Store c.args.store.now) (shown g.S.Store c.put_numbered.new.store)

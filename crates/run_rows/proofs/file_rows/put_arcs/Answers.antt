@@ -16,7 +16,7 @@ use Rattle.run_rows.proofs.file_rows.put_arcs.Goals as goal
 
 pub rows-init : goal.rows-init
 rows-init g c = record {
-  made = queues_begin g.S.Store with_arcs arc_line no_arcs _ c.args.tx.now c.new-waiting.ensures.items;
+  made = queues_begin g.S.Store with_arcs arc_line no_arcs _ c.args.tx.now c.new-parts.ensures.items;
   rest = c.into_iter-row-iterator.ensures.into_iter_gives ∙ c.numbered_arcs-row-items.ensures;
 }
 
@@ -31,7 +31,7 @@ rows-preserved g c =
     let then = map-append plain_numbered c.rows.yielded (c.in-Some.row ∷ []) in
     record {
       made = subst (λ l. Queues g.S.Store arc_line with_arcs true [] l waits c.args.tx.now c.put_parts.new.tx) (sym (ap (lines_of_arcs run numbers) then ∙ arcs_more run numbers seen row))
-          (queues_then g.S.Store with_arcs arc_line more_arcs true [] (lines_of_arcs run numbers seen) c.rows.waiting.items (lines_of_arc run numbers row) waits c.args.tx.now c.rows.tx c.put_parts.new.tx was.made c.in_ok-put_parts.ensures);
+          (queues_then g.S.Store with_arcs arc_line more_arcs true [] (lines_of_arcs run numbers seen) c.rows.parts.items (lines_of_arc run numbers row) waits c.args.tx.now c.rows.tx c.put_parts.new.tx was.made c.in_ok-put_parts.ensures);
       rest = ap (λ l. l ++ c.next.new.self) then ∙ append_assoc seen (row ∷ []) c.next.new.self ∙ ap (λ l. seen ++ l) (sym c.in-Some.ensures.steps) ∙ was.rest;
     }
 
@@ -41,7 +41,7 @@ returns-in_err-put_parts g c = then_err g.S.Store c.from_residual.result c.from_
 pub returns : goal.returns
 returns g c =
     let was = c.rows.invariant in
-    let waits = c.rows.waiting.items in
+    let waits = c.rows.parts.items in
     let seen = map plain_numbered c.rows.yielded in
     let all = sym (append-nil seen) ∙ ap (λ l. seen ++ l) (sym c.in-None.ensures.steps.0) ∙ was.rest in
     let lines = ap (lines_of_arcs c.args.run c.args.numbers.now) all ∙ arcs_are c.args.run c.args.numbers.now (content_of c.args.rows.now).arcs in

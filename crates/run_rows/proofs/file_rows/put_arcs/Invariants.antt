@@ -10,6 +10,6 @@ use Rattle.run_rows.proofs.file_rows.put_arcs.Given as goal
 -- the lines of the rows so far are taken up
 abbrev pub invariant-rows : goal.invariant-rows
 invariant-rows g l = record {
-  made : Queues g.S.Store arc_line with_arcs true [] (lines_of_arcs l.run l.numbers (map plain_numbered l.yielded)) l.waiting.items l.fn.tx l.tx;
+  made : Queues g.S.Store arc_line with_arcs true [] (lines_of_arcs l.run l.numbers (map plain_numbered l.yielded)) l.parts.items l.fn.tx l.tx;
   rest : map plain_numbered l.yielded ++ l.row-iterator ≡ numbered_arcs (content_of l.rows).arcs;
 }

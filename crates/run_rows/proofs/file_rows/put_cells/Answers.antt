@@ -15,7 +15,7 @@ use Rattle.run_rows.proofs.file_rows.put_cells.Goals as goal
 
 pub rows-init : goal.rows-init
 rows-init g c = record {
-  made = queues_begin g.S.Store with_cells cell_line no_cells _ c.args.tx.now c.new-waiting.ensures.items;
+  made = queues_begin g.S.Store with_cells cell_line no_cells _ c.args.tx.now c.new-cells.ensures.items;
   rest = c.into_iter-row-iterator.ensures.into_iter_gives ∙ c.numbered_cells-row-items.ensures;
 }
 
@@ -24,7 +24,7 @@ rows-preserved g c =
     let was = c.rows.invariant in
     let line = line_of_cell c.args.run c.args.numbers.now in
     let row = c.in-Some.row in
-    let waited = c.rows.waiting.items in
+    let waited = c.rows.cells.items in
     let waits = c.queue.new.waiting.items in
     let one = subst (λ l. Queues g.S.Store cell_line with_cells true waited (l ∷ []) waits c.rows.tx c.queue.new.tx) c.in-Some-cell_of.ensures c.in_ok-queue-in-Some-cell_of.ensures in
     record {
@@ -39,7 +39,7 @@ returns-in_err-queue-in-Some-cell_of g c = then_err g.S.Store c.from_residual.re
 pub returns : goal.returns
 returns g c =
     let was = c.rows.invariant in
-    let waits = c.rows.waiting.items in
+    let waits = c.rows.cells.items in
     let line = line_of_cell c.args.run c.args.numbers.now in
     let all = sym (append-nil c.rows.yielded) ∙ ap (λ l. c.rows.yielded ++ l) (sym c.in-None.ensures.steps.0) ∙ was.rest in
     let lines = ap (map line) all ∙ cells_are c.args.run c.args.numbers.now (content_of c.args.rows.now).cells in

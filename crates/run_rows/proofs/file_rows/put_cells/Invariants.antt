@@ -10,6 +10,6 @@ use Rattle.run_rows.proofs.file_rows.put_cells.Given as goal
 -- the lines of the rows so far are taken up
 abbrev pub invariant-rows : goal.invariant-rows
 invariant-rows g l = record {
-  made : Queues g.S.Store cell_line with_cells true [] (map (line_of_cell l.run l.numbers) l.yielded) l.waiting.items l.fn.tx l.tx;
+  made : Queues g.S.Store cell_line with_cells true [] (map (line_of_cell l.run l.numbers) l.yielded) l.cells.items l.fn.tx l.tx;
   rest : l.yielded ++ l.row-iterator ≡ numbered_cells (content_of l.rows).cells;
 }

@@ -16,7 +16,7 @@ use Rattle.run_rows.proofs.file_rows.put_stacks.Goals as goal
 
 pub rows-init : goal.rows-init
 rows-init g c = record {
-  made = queues_begin g.S.Store with_stacks stack_line no_stacks _ c.args.tx.now c.new-waiting.ensures.items;
+  made = queues_begin g.S.Store with_stacks stack_line no_stacks _ c.args.tx.now c.new-stacks.ensures.items;
   rest = c.into_iter-row-iterator.ensures.into_iter_gives ∙ c.stacks-row-items.ensures;
 }
 
@@ -27,7 +27,7 @@ rows-preserved g c =
     let seen = map plain_stack c.rows.yielded in
     let row = plain_stack c.in-Some.row in
     let then = map-append plain_stack c.rows.yielded (c.in-Some.row ∷ []) in
-    let waited = c.rows.waiting.items in
+    let waited = c.rows.stacks.items in
     let waits = c.queue.new.waiting.items in
     let one = subst (λ l. Queues g.S.Store stack_line with_stacks true waited (l ∷ []) waits c.rows.tx c.queue.new.tx) c.in-Some-stack_of.ensures c.in_ok-queue-in-Some-stack_of.ensures in
     record {
@@ -42,7 +42,7 @@ returns-in_err-queue-in-Some-stack_of g c = then_err g.S.Store c.from_residual.r
 pub returns : goal.returns
 returns g c =
     let was = c.rows.invariant in
-    let waits = c.rows.waiting.items in
+    let waits = c.rows.stacks.items in
     let line = plain_line_of_stack c.args.run in
     let seen = map plain_stack c.rows.yielded in
     let all = sym (append-nil seen) ∙ ap (λ l. seen ++ l) (sym c.in-None.ensures.steps.0) ∙ was.rest in

@@ -11,6 +11,6 @@ use Rattle.run_rows.proofs.file_rows.put_stacks.Given as goal
 -- the lines of the rows so far are taken up
 abbrev pub invariant-rows : goal.invariant-rows
 invariant-rows g l = record {
-  made : Queues g.S.Store stack_line with_stacks true [] (map (plain_line_of_stack l.run) (map plain_stack l.yielded)) l.waiting.items l.fn.tx l.tx;
+  made : Queues g.S.Store stack_line with_stacks true [] (map (plain_line_of_stack l.run) (map plain_stack l.yielded)) l.stacks.items l.fn.tx l.tx;
   rest : map plain_stack l.yielded ++ l.row-iterator ≡ stack_rows (content_of l.rows).stacks;
 }
