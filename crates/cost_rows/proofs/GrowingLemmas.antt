@@ -1,8 +1,8 @@
 -- Names that grow at their end keep those before, and their places.
-use Rattle.std.proofs.Common.{◌≡◌, inl, inr, ℕ, suc, List, [], ◌∷◌, ◌++◌, length, take, Some, unwrap_or, Result, Ok, Err, IfOk, OnErr, refl, sym, ap, ◌∙◌, append_assoc, append-nil}
+use Rattle.std.proofs.Common.{◌≡◌, inl, inr, ℕ, suc, List, [], ◌∷◌, ◌++◌, length, take, Some, unwrap_or, Result, Ok, Err, refl, sym, ap, ◌∙◌, append_assoc, append-nil}
 use Rattle.std.specs.Str.{bytes_eq}
 use Rattle.std.proofs.lemmas.Bool.{cases_Bool}
-use Rattle.cost_rows.specs.Naming.{further, place_of, with_name}
+use Rattle.cost_rows.specs.Naming.{further, place_of, with_name, GivesNumber}
 use Rattle.cost_rows.specs.Growing.{Grows}
 use Rattle.cost_rows.specs.Content.{number_of, place_in, place_of_cost, with_three, names_with_cost, names_with_callee, call_of}
 use Rattle.cost_rows.specs.declared.places.Place.{Place}
@@ -26,11 +26,11 @@ grows-with (first ∷ names) name = elim (cases_Bool (bytes_eq name first)) [
 ]
 
 -- after a call that may be refused
-pub grows-after : {N E : Type 0} (r : Result N E) (old new : List (List ℕ)) (name : List ℕ) → IfOk r (λ _. new ≡ with_name name old) → OnErr r (new ≡ old) → Grows old new
-grows-after (Ok n) old new name ok err =
+pub grows-after : {E : Type 0} (r : Result ℕ E) (old new : List (List ℕ)) (name : List ℕ) → GivesNumber name old r new → Grows old new
+grows-after (Ok n) old new name gives =
     let more = grows-with old name in
-    (more.0, ok ∙ more.1)
-grows-after (Err e) old new name ok err = grows-same old new err
+    (more.0, gives.1 ∙ more.1)
+grows-after (Err e) old new name same = grows-same old new same
 
 pub take-grows : (old new : List (List ℕ)) → Grows old new → take (length old) new ≡ old
 take-grows old new grows = ap (take (length old)) grows.1 ∙ front old grows.0

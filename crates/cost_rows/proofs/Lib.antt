@@ -1,3 +1,4 @@
+pub mod AboveLemmas
 pub mod NamingLemmas
 pub mod NumberedLemmas
 pub mod AdmitLemmas

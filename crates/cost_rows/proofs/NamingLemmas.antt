@@ -1,12 +1,12 @@
 -- Names and their numbers: a name's place is the one where it stands, and one more name changes no other's.
-use Rattle.std.proofs.Common.{◌≡◌, ◌↔◌, inl, inr, ℕ, zero, suc, Bool, true, false, not, List, [], ◌∷◌, ◌++◌, length, Option, Some, None, Result, Ok, Err, IfOk, OnErr, refl, sym, ap, ◌∙◌}
+use Rattle.std.proofs.Common.{◌≡◌, ◌↔◌, inl, inr, ℕ, zero, suc, Bool, true, false, not, List, [], ◌∷◌, ◌++◌, length, Option, Some, None, Result, Ok, Err, refl, sym, ap, ◌∙◌}
 use Rattle.std.specs.List.{list_any, slice_get}
 use Rattle.std.specs.Str.{bytes_eq}
 use Rattle.std.proofs.lemmas.Bool.{cases_Bool, and_parts, and_from, not-true, not_from_false, or_parts, or_from, true≢false}
 use Rattle.std.proofs.lemmas.Slice.Eq.{bytes_eq-Decides}
 use Rattle.std.proofs.lemmas.Map.Keys.{any_passes_from_place}
 use Rattle.cg_text.specs.Distinct.{are_distinct}
-use Rattle.cost_rows.specs.Naming.{further, place_of, with_name}
+use Rattle.cost_rows.specs.Naming.{further, place_of, with_name, GivesNumber}
 
 pub same_bytes : (a b : List ℕ) → bytes_eq a b ≡ true → a ≡ b
 same_bytes a b h = (bytes_eq-Decides a b).0 h
@@ -182,9 +182,9 @@ distinct-with (first ∷ names) new h = elim (cases_Bool (bytes_eq new first)) [
 ]
 
 -- the same of what a call that may be refused leaves
-pub distinct-after : {N E : Type 0} (r : Result N E) (old new : List (List ℕ)) (name : List ℕ) → are_distinct old ≡ true → IfOk r (λ _. new ≡ with_name name old) → OnErr r (new ≡ old) → are_distinct new ≡ true
-distinct-after (Ok n) old new name h ok err = ap are_distinct ok ∙ distinct-with old name h
-distinct-after (Err e) old new name h ok err = ap are_distinct err ∙ h
+pub distinct-after : {E : Type 0} (r : Result ℕ E) (old new : List (List ℕ)) (name : List ℕ) → are_distinct old ≡ true → GivesNumber name old r new → are_distinct new ≡ true
+distinct-after (Ok n) old new name h gives = ap are_distinct gives.1 ∙ distinct-with old name h
+distinct-after (Err e) old new name h same = ap are_distinct same ∙ h
 
 -- ---- the last name goes
 

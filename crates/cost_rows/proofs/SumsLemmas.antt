@@ -14,7 +14,7 @@ use Rattle.cost_rows.specs.Held.{IsHeld, CellHeld, CallHeld, AreHeld}
 use Rattle.cost_rows.specs.Merging.{merge, sum_where}
 use Rattle.cost_rows.specs.Places.{cell_cmp, call_cmp}
 use Rattle.cost_rows.specs.Content.{Content, empty, number_of, with_three, names_with_cost, names_with_callee, place_of_cost, cell_of, call_of, calls_of, with_cost, with_call, with_record}
-use Rattle.cost_rows.specs.Sums.{Spot, spot_of, callee_spot, name_at, spot_at, callee_at, passing_cell, passing_call, cells_where, calls_where, counts_where, content_of_records, own_sum, call_sum, count_sum}
+use Rattle.cost_rows.specs.Sums.{Spot, spot_of, callee_spot, name_at, spot_at, callee_at, passing_cell, passing_call, cells_where, calls_where, counts_where, content_of_records, ComesToRecords, own_sum, call_sum, count_sum}
 use Rattle.cost_rows.specs.declared.places.CellPlace.{CellPlace}
 use Rattle.cost_rows.specs.declared.places.Call.{Call}
 use Rattle.cost_rows.specs.declared.calls.Calls.{Calls}
@@ -265,3 +265,10 @@ pub sums-counts : (passes : Spot → Spot → Bool) (records : List Record)
 sums-counts passes records =
     law-arcs passes (λ calls. calls.count) (λ x y. refl) records empty none_held
     ∙ none_plus (arc_sum (λ calls. calls.count) passes records) ∙ count_sum-is passes records
+
+pub sums-records : (records : List Record) → ComesToRecords (content_of_records records) records
+sums-records records = record {
+  cells = λ passes k. sums-cells passes k records;
+  arcs = λ passes k. sums-arcs passes k records;
+  counts = λ passes. sums-counts passes records;
+}

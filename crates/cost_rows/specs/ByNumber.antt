@@ -1,6 +1,7 @@
 -- The rows that are walked with names by their numbers, and no cell whose sum is 0.
-use Rattle.std.specs.Prelude.{ℕ, suc, List, [], ◌∷◌, ◌++◌, map, nat_lt, if◌then◌else◌}
+use Rattle.std.specs.Prelude.{ℕ, List, [], ◌∷◌, ◌++◌, map}
 use Rattle.std.specs.Borrow.{Bor}
+use Rattle.cost_rows.specs.Above.{rows_above}
 use Rattle.cost_rows.specs.declared.places.CellPlace.{CellPlace}
 use Rattle.cost_rows.specs.declared.places.Call.{Call}
 use Rattle.cost_rows.specs.declared.calls.Calls.{Calls}
@@ -14,10 +15,7 @@ numbered_cell p event cost =
 
 -- the rows of a place, from an event on
 abbrev pub numbered_at : CellPlace → ℕ → List ℕ → List (CellRow ℕ)
-numbered_at p event [] = []
-numbered_at p event (cost ∷ costs) =
-    if nat_lt 0 cost then numbered_cell p event cost ∷ numbered_at p (suc event) costs
-    else numbered_at p (suc event) costs
+numbered_at p event costs = rows_above (numbered_cell p) event costs
 
 abbrev pub numbered_cells : List (CellPlace × List ℕ) → List (CellRow ℕ)
 numbered_cells [] = []

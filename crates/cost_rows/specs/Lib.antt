@@ -1,3 +1,4 @@
+pub mod Above
 pub mod Naming
 pub mod Numbered
 pub mod Admit

@@ -1,5 +1,5 @@
 -- Names and their numbers: a name's number is its place among the names, in the order in which they first came.
-use Rattle.std.specs.Prelude.{◌≡◌, ◌↔◌, ℕ, suc, true, List, [], ◌∷◌, fold, if◌then◌else◌, Option, Some, None, slice_get}
+use Rattle.std.specs.Prelude.{◌≡◌, ◌↔◌, ℕ, suc, true, List, [], ◌∷◌, fold, if◌then◌else◌, Option, Some, None, Result, Ok, Err, slice_get}
 use Rattle.std.specs.Str.{bytes_eq}
 use Rattle.cg_text.specs.Distinct.{are_distinct}
 
@@ -17,6 +17,11 @@ place_of name (first ∷ names) = if bytes_eq name first then Some 0 else furthe
 abbrev pub with_name : List ℕ → List (List ℕ) → List (List ℕ)
 with_name name [] = name ∷ []
 with_name name (first ∷ names) = if bytes_eq name first then first ∷ names else first ∷ with_name name names
+
+-- a name gets its number among names that hold it from now on, or is refused, and they are as they were
+abbrev pub GivesNumber : {E : Type 0} → List ℕ → List (List ℕ) → Result ℕ E → List (List ℕ) → Type 0
+GivesNumber name old (Ok n) new = (place_of name new ≡ Some n) × (new ≡ with_name name old)
+GivesNumber name old (Err e) new = new ≡ old
 
 -- the names of a list, each once, in the order in which they first came
 abbrev pub names_among : List (List ℕ) → List (List ℕ)

@@ -1,7 +1,7 @@
 // Names, each held once, by number.
-ghost use Rattle.std.specs.Prelude.{◌≡◌, ◌<◌, ◌≤◌, ◌^◌, true, Some, None, [], IfOk, OnErr, length, slice_get, take};
+ghost use Rattle.std.specs.Prelude.{◌≡◌, ◌<◌, ◌≤◌, ◌^◌, true, Some, None, [], length, slice_get, take};
 ghost use Rattle.cg_text.specs.Distinct.{are_distinct};
-ghost use Rattle.cost_rows.specs.Naming.{place_of, with_name};
+ghost use Rattle.cost_rows.specs.Naming.{place_of, GivesNumber};
 ghost use Rattle.cost_rows.specs.Sums.{name_at};
 
 use cg_text::Items;
@@ -78,9 +78,7 @@ impl Names {
     /// Holds a name that is not held yet.
     fn add(&mut self, name: &[u8]) -> Result<u32, AllocError>
         requires { place_of name.now self.old ≡ None }
-        ensures place { IfOk result (λ n. place_of name.now self.new ≡ Some n) }
-        ensures names { IfOk result (λ _. self.new ≡ with_name name.now self.old) }
-        ensures err { OnErr result (self.new ≡ self.old) }
+        ensures { GivesNumber name.now self.old result self.new }
     {
         let Ok(number) = u32::try_from(self.len()) else {
             return Err(AllocError);
@@ -98,10 +96,8 @@ impl Names {
     /// The number of a name, which is held from now on. A refusal leaves the names as they were;
     /// with 2^32 names held a new one is refused.
     pub fn id_of(&mut self, name: &[u8]) -> Result<u32, AllocError>
-        ensures place { IfOk result (λ n. place_of name.now self.new ≡ Some n) }
-        ensures names { IfOk result (λ _. self.new ≡ with_name name.now self.old) }
+        ensures number { GivesNumber name.now self.old result self.new }
         ensures distinct { are_distinct self.new ≡ true }
-        ensures err { OnErr result (self.new ≡ self.old) }
     {
         let _ = &self.alloc;
         if let Some(number) = self.find(name) {

@@ -1,8 +1,8 @@
 // The numbers of the names of a record.
-ghost use Rattle.std.specs.Prelude.{◌≡◌, IfOk, OnErr, Some};
+ghost use Rattle.std.specs.Prelude.{◌≡◌, IfOk};
 ghost use Rattle.cost_rows.specs.Content.{with_three, place_in};
 ghost use Rattle.cost_rows.specs.Growing.{Grows};
-ghost use Rattle.cost_rows.specs.Naming.{place_of, with_name};
+ghost use Rattle.cost_rows.specs.Naming.{GivesNumber};
 
 use crate::names::Names;
 use crate::places::Place;
@@ -11,9 +11,7 @@ use std::alloc::AllocError;
 /// The number of a name, which is held from now on: the one that it is thought to have costs no
 /// look-up. A refusal leaves the names as they were.
 pub(crate) fn number(names: &mut Names, guess: u32, name: &[u8]) -> Result<u32, AllocError>
-    ensures place { IfOk result (λ n. place_of name.now names.new ≡ Some n) }
-    ensures names { IfOk result (λ _. names.new ≡ with_name name.now names.old) }
-    ensures err { OnErr result (names.new ≡ names.old) }
+    ensures { GivesNumber name.now names.old result names.new }
 {
     if (guess as usize) < names.len() && names.name(guess) == name {
         return Ok(guess);

@@ -1,10 +1,9 @@
 -- The first sum that passes its bound, by the sums of tables and by the files that are held.
-use Rattle.std.proofs.Common.{◌≡◌, ℕ, suc, ◌+◌, ◌<◌, Bool, true, false, nat_lt, if◌then◌else◌, List, [], ◌∷◌, ◌++◌, map, length, slice_index, slice_index_or, Some, None, option_map, refl, sym, ap, ap₂, subst, ◌∙◌, arith}
+use Rattle.std.proofs.Common.{◌≡◌, ℕ, suc, ◌+◌, ◌<◌, Bool, true, false, nat_lt, if◌then◌else◌, List, [], ◌∷◌, ◌++◌, map, length, slice_index, slice_index_or, Some, option_map, refl, sym, ap, ap₂, subst, ◌∙◌, arith}
 use Rattle.sqlite_trees.specs.Tree.{Trees}
 use Rattle.cost_rows.specs.Admit as admit
 use Rattle.cost_rows.specs.Admit.{bound, column_sums, sums_of, overflow_of}
 use Rattle.cost_rows.specs.Totals.{AreTotals}
-use Rattle.cost_rows.specs.declared.limits.Overflow.{Overflow}
 use Rattle.cost_rows.specs.declared.limits.Side.TheVariants as sides
 use Rattle.cost_rows.specs.declared.rows.FileTotals.{FileTotals}
 use Rattle.prof_tables.specs.Tables.{Tables, Holds}

@@ -11,11 +11,10 @@ use Rattle.prof_tables.specs.Tables.{Tables, RunLine, GroupLine}
 use Rattle.prof_tables.specs.Changes as changes
 use Rattle.prof_books.specs.Book.{run_held}
 use Rattle.prof_books.specs.Entries.{held_run}
-use Rattle.prof_tables.specs.Labels.{IsGroupName}
 use Rattle.histories.specs.History.{History, File, held, next, groups}
 use Rattle.histories.specs.Legal.{number_of, has_run, has_group}
 use Rattle.histories.specs.Stands.{AreBooksOf, TablesTell, file_run}
-use Rattle.histories.proofs.Invariants.{OtherDigest, digests_apart, groups_named}
+use Rattle.histories.proofs.Invariants.{OtherDigest, digests_apart}
 use Rattle.histories.proofs.Tests.{Pairs, bytes_apart}
 
 -- ---- runs, each a file that is held

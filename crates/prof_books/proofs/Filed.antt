@@ -8,7 +8,8 @@ use Rattle.prof_tables.specs.Tables.{EventLine, DerivedLine, CoefLine}
 use Rattle.prof_books.specs.Book.{AreOf}
 use Rattle.prof_books.specs.Runs.{Filed, GoesInBook, IsOfItsRun}
 use Rattle.prof_books.proofs.Books.{book_put, named_put}
-use Rattle.prof_books.specs.Heads.{event_lines, event_lines_from, derived_lines, derived_lines_from, coef_lines, coef_lines_at, coef_lines_from}
+use Rattle.prof_books.specs.Heads.{event_lines, event_lines_from, derived_lines, derived_lines_from, coef_lines, coef_line_of, coef_lines_at, coef_lines_from}
+use Rattle.cost_rows.proofs.AboveLemmas.{all-above}
 
 events_of_run : (run : ℕ) (head : FileHead) (c : Content) (place : ℕ) (names : List (List ℕ)) → AllByRecursion (λ (e : EventLine). e.run ≡ run) (event_lines_from run head c place names)
 events_of_run run head c place [] = tt
@@ -18,18 +19,9 @@ derived_of_run : (run place : ℕ) (derived : List (List ℕ × List ℕ)) → A
 derived_of_run run place [] = tt
 derived_of_run run place (d ∷ derived) = (refl, derived_of_run run (suc place) derived)
 
-times_of_run : (run place event : ℕ) (times : List ℕ) → AllByRecursion (λ (k : CoefLine). k.run ≡ run) (coef_lines_at run place event times)
-times_of_run run place event [] = tt
-times_of_run run place event (n ∷ times) = go (nat_lt 0 n) (times_of_run run place (suc event) times)
-  where
-    go : (b : Bool) → AllByRecursion (λ (k : CoefLine). k.run ≡ run) (coef_lines_at run place (suc event) times)
-        → AllByRecursion (λ (k : CoefLine). k.run ≡ run) (if b then record { run = run; place = place; event = event; times = n } ∷ coef_lines_at run place (suc event) times else coef_lines_at run place (suc event) times)
-    go true rest = (refl, rest)
-    go false rest = rest
-
 coefs_of_run : (run place : ℕ) (derived : List (List ℕ × List ℕ)) → AllByRecursion (λ (k : CoefLine). k.run ≡ run) (coef_lines_from run place derived)
 coefs_of_run run place [] = tt
-coefs_of_run run place (d ∷ derived) = all-append (λ (k : CoefLine). k.run ≡ run) (coef_lines_at run place 0 d.1) (coef_lines_from run (suc place) derived) (times_of_run run place 0 d.1) (coefs_of_run run (suc place) derived)
+coefs_of_run run place (d ∷ derived) = all-append (λ (k : CoefLine). k.run ≡ run) (coef_lines_at run place 0 d.1) (coef_lines_from run (suc place) derived) (all-above (λ (k : CoefLine). k.run ≡ run) (coef_line_of run place) (λ event times. refl) 0 d.1) (coefs_of_run run (suc place) derived)
 
 -- each line of a head says its run
 pub head_of_run : (run : ℕ) (head : FileHead) (c : Content) → AreOf run (event_lines run head c) (derived_lines run head) (coef_lines run head)

@@ -12,6 +12,7 @@ use Rattle.cost_rows.specs.declared.places.CellPlace.{CellPlace}
 use Rattle.cost_rows.specs.declared.places.Call.{Call}
 use Rattle.cost_rows.specs.declared.calls.Calls.{Calls}
 use Rattle.cost_rows.specs.declared.rows.CellRow.{CellRow}
+use Rattle.cost_rows.proofs.AboveLemmas.{all-above, map-above}
 use Rattle.prof_tables.specs.Tables.{NameLine, CellLine, ArcLine, StackLine}
 use Rattle.prof_tables.specs.Files.{number_in}
 use Rattle.prof_books.specs.Book.{name_of, cell_held, part_held, CallPart, part_of, parts_from, parts_of, stack_held, IsHeld, CellIsNamed, ArcIsNamed}
@@ -51,20 +52,16 @@ module _ (known : List NameLine) (up : Rising known) where
         ∙ ap (λ b. P (name_at names p.place.object) b (name_of known (numbered numbers p.place.function))) (through names all p.place.file h.1) ∙ ap (P (name_at names p.place.object) (name_at names p.place.file)) (through names all p.place.function h.2) in
         e
 
-    cells_at : (p : CellPlace) (event : ℕ) (costs : List ℕ) → CellHeld names p → map (cell_held known) (cell_lines_at run numbers p event costs) ≡ map (cell_named names) (numbered_at p event costs)
-    cells_at p event [] h = refl
-    cells_at p event (cost ∷ costs) h = go (nat_lt 0 cost) (cells_at p (suc event) costs h)
-      where
-        go : (b : Bool) → map (cell_held known) (cell_lines_at run numbers p (suc event) costs) ≡ map (cell_named names) (numbered_at p (suc event) costs)
-            → map (cell_held known) (if b then cell_line_of run numbers p event cost ∷ cell_lines_at run numbers p (suc event) costs else cell_lines_at run numbers p (suc event) costs)
-            ≡ map (cell_named names) (if b then numbered_cell p event cost ∷ numbered_at p (suc event) costs else numbered_at p (suc event) costs)
-        go true rest = ap₂ ◌∷◌ (one_cell p event cost h) rest
-        go false rest = rest
+    cells_at : (p : CellPlace) (costs : List ℕ) → CellHeld names p → map (cell_held known) (cell_lines_at run numbers p 0 costs) ≡ map (cell_named names) (numbered_at p 0 costs)
+    cells_at p costs h =
+        let named : ℕ → ℕ → CellRow (List ℕ) = λ event cost. cell_named names (numbered_cell p event cost) in
+        map-above (cell_held known) (cell_line_of run numbers p) named (λ event cost. one_cell p event cost h) 0 costs
+        ∙ sym (map-above (cell_named names) (numbered_cell p) named (λ event cost. refl) 0 costs)
 
     pub cells_are : (cells : List (CellPlace × List ℕ)) → AllByRecursion (CellHeld names) (keys_of cells) → map (cell_held known) (cell_lines run numbers cells) ≡ cell_rows names cells
     cells_are [] h = refl
     cells_are (e ∷ cells) h =
-        map-append (cell_held known) (cell_lines_at run numbers e.0 0 e.1) (cell_lines run numbers cells) ∙ ap₂ ◌++◌ (cells_at e.0 0 e.1 h.0) (cells_are cells h.1)
+        map-append (cell_held known) (cell_lines_at run numbers e.0 0 e.1) (cell_lines run numbers cells) ∙ ap₂ ◌++◌ (cells_at e.0 e.1 h.0) (cells_are cells h.1)
         ∙ sym (map-append (cell_named names) (numbered_at e.0 0 e.1) (numbered_cells cells))
 
     -- ---- calls
@@ -85,55 +82,30 @@ module _ (known : List NameLine) (up : Rising known) where
         ∙ ap (P (m at.object) (m at.file) (m at.function) (m e.0.object) (m e.0.file)) (through names all e.0.function h.1.2) in
         same
 
-    parts_at : (e : Call × Calls) (part : ℕ) (costs : List ℕ) → CallHeld names e.0 → map (part_held known) (arc_lines_from run numbers e.0 part costs) ≡ parts_from (arc_named names (numbered_arc e)) part costs
-    parts_at e part [] h = refl
-    parts_at e part (cost ∷ costs) h = go (nat_lt 0 cost) (parts_at e (suc part) costs h)
-      where
-        go : (b : Bool) → map (part_held known) (arc_lines_from run numbers e.0 (suc part) costs) ≡ parts_from (arc_named names (numbered_arc e)) (suc part) costs
-            → map (part_held known) (if b then arc_line_of run numbers e.0 part cost ∷ arc_lines_from run numbers e.0 (suc part) costs else arc_lines_from run numbers e.0 (suc part) costs)
-            ≡ (if b then part_of (arc_named names (numbered_arc e)) part cost ∷ parts_from (arc_named names (numbered_arc e)) (suc part) costs else parts_from (arc_named names (numbered_arc e)) (suc part) costs)
-        go true rest = ap₂ ◌∷◌ (one_part e part cost h) rest
-        go false rest = rest
-
     pub parts_are : (arcs : List (Call × Calls)) → AllByRecursion (CallHeld names) (keys_of arcs) → map (part_held known) (arc_lines run numbers arcs) ≡ flat_map parts_of (arc_rows names arcs)
     parts_are [] h = refl
     parts_are (e ∷ arcs) h =
         map-append (part_held known) (arc_lines_at run numbers e.0 e.1) (arc_lines run numbers arcs)
-        ∙ ap₂ ◌++◌ (ap₂ ◌∷◌ (one_part e 0 e.1.count h.0) (parts_at e 1 e.1.costs h.0)) (parts_are arcs h.1)
+        ∙ ap₂ ◌++◌ (ap₂ ◌∷◌ (one_part e 0 e.1.count h.0) (map-above (part_held known) (arc_line_of run numbers e.0) (part_of (arc_named names (numbered_arc e))) (λ part sum. one_part e part sum h.0) 1 e.1.costs)) (parts_are arcs h.1)
 
     -- ---- their names are held
 
-    named_at : (p : CellPlace) (event : ℕ) (costs : List ℕ) → CellHeld names p → AllByRecursion (CellIsNamed known) (cell_lines_at run numbers p event costs)
-    named_at p event [] h = tt
-    named_at p event (cost ∷ costs) h = go (nat_lt 0 cost) (named_at p (suc event) costs h)
-      where
-        go : (b : Bool) → AllByRecursion (CellIsNamed known) (cell_lines_at run numbers p (suc event) costs)
-            → AllByRecursion (CellIsNamed known) (if b then cell_line_of run numbers p event cost ∷ cell_lines_at run numbers p (suc event) costs else cell_lines_at run numbers p (suc event) costs)
-        go true rest = ((held names all p.place.object h.0, held names all p.place.file h.1, held names all p.place.function h.2), rest)
-        go false rest = rest
+    cell_is_named : (p : CellPlace) (event cost : ℕ) → CellHeld names p → CellIsNamed known (cell_line_of run numbers p event cost)
+    cell_is_named p event cost h = (held names all p.place.object h.0, held names all p.place.file h.1, held names all p.place.function h.2)
 
     pub cells_named : (cells : List (CellPlace × List ℕ)) → AllByRecursion (CellHeld names) (keys_of cells) → AllByRecursion (CellIsNamed known) (cell_lines run numbers cells)
     cells_named [] h = tt
-    cells_named (e ∷ cells) h = all-append (CellIsNamed known) (cell_lines_at run numbers e.0 0 e.1) (cell_lines run numbers cells) (named_at e.0 0 e.1 h.0) (cells_named cells h.1)
+    cells_named (e ∷ cells) h = all-append (CellIsNamed known) (cell_lines_at run numbers e.0 0 e.1) (cell_lines run numbers cells) (all-above (CellIsNamed known) (cell_line_of run numbers e.0) (λ event cost. cell_is_named e.0 event cost h.0) 0 e.1) (cells_named cells h.1)
 
     call_named : (e : Call × Calls) (part sum : ℕ) → CallHeld names e.0 → ArcIsNamed known (arc_line_of run numbers e.0 part sum)
     call_named e part sum h =
         let it : (n : ℕ) → n < length names → IsHeld known (numbered numbers n) = held names all in
         (it e.0.place.object h.0.0, it e.0.place.file h.0.1, it e.0.place.function h.0.2, it e.0.object h.1.0, it e.0.file h.1.1, it e.0.function h.1.2)
 
-    costs_named : (e : Call × Calls) (part : ℕ) (costs : List ℕ) → CallHeld names e.0 → AllByRecursion (ArcIsNamed known) (arc_lines_from run numbers e.0 part costs)
-    costs_named e part [] h = tt
-    costs_named e part (cost ∷ costs) h = go (nat_lt 0 cost) (costs_named e (suc part) costs h)
-      where
-        go : (b : Bool) → AllByRecursion (ArcIsNamed known) (arc_lines_from run numbers e.0 (suc part) costs)
-            → AllByRecursion (ArcIsNamed known) (if b then arc_line_of run numbers e.0 part cost ∷ arc_lines_from run numbers e.0 (suc part) costs else arc_lines_from run numbers e.0 (suc part) costs)
-        go true rest = (call_named e part cost h, rest)
-        go false rest = rest
-
     pub calls_named : (arcs : List (Call × Calls)) → AllByRecursion (CallHeld names) (keys_of arcs) → AllByRecursion (ArcIsNamed known) (arc_lines run numbers arcs)
     calls_named [] h = tt
     calls_named (e ∷ arcs) h =
-        all-append (ArcIsNamed known) (arc_lines_at run numbers e.0 e.1) (arc_lines run numbers arcs) (call_named e 0 e.1.count h.0, costs_named e 1 e.1.costs h.0) (calls_named arcs h.1)
+        all-append (ArcIsNamed known) (arc_lines_at run numbers e.0 e.1) (arc_lines run numbers arcs) (call_named e 0 e.1.count h.0, all-above (ArcIsNamed known) (arc_line_of run numbers e.0) (λ part sum. call_named e part sum h.0) 1 e.1.costs) (calls_named arcs h.1)
 
 -- ---- stacks
 
@@ -148,32 +120,14 @@ stacks_are run (e ∷ stacks) = go (nat_lt 0 e.1) (stacks_are run stacks)
 
 -- ---- each of these lines is of the run
 
-cells_of_run_at : (run : ℕ) (known_as : List ℕ) (p : CellPlace) (event : ℕ) (costs : List ℕ) → AllByRecursion (λ (c : CellLine). c.run ≡ run) (cell_lines_at run known_as p event costs)
-cells_of_run_at run known_as p event [] = tt
-cells_of_run_at run known_as p event (cost ∷ costs) = go (nat_lt 0 cost) (cells_of_run_at run known_as p (suc event) costs)
-  where
-    go : (b : Bool) → AllByRecursion (λ (c : CellLine). c.run ≡ run) (cell_lines_at run known_as p (suc event) costs)
-        → AllByRecursion (λ (c : CellLine). c.run ≡ run) (if b then cell_line_of run known_as p event cost ∷ cell_lines_at run known_as p (suc event) costs else cell_lines_at run known_as p (suc event) costs)
-    go true rest = (refl, rest)
-    go false rest = rest
-
 pub cells_of_run : (run : ℕ) (known_as : List ℕ) (cells : List (CellPlace × List ℕ)) → AllByRecursion (λ (c : CellLine). c.run ≡ run) (cell_lines run known_as cells)
 cells_of_run run known_as [] = tt
-cells_of_run run known_as (e ∷ cells) = all-append (λ (c : CellLine). c.run ≡ run) (cell_lines_at run known_as e.0 0 e.1) (cell_lines run known_as cells) (cells_of_run_at run known_as e.0 0 e.1) (cells_of_run run known_as cells)
-
-costs_of_run : (run : ℕ) (known_as : List ℕ) (call : Call) (part : ℕ) (costs : List ℕ) → AllByRecursion (λ (a : ArcLine). a.run ≡ run) (arc_lines_from run known_as call part costs)
-costs_of_run run known_as call part [] = tt
-costs_of_run run known_as call part (cost ∷ costs) = go (nat_lt 0 cost) (costs_of_run run known_as call (suc part) costs)
-  where
-    go : (b : Bool) → AllByRecursion (λ (a : ArcLine). a.run ≡ run) (arc_lines_from run known_as call (suc part) costs)
-        → AllByRecursion (λ (a : ArcLine). a.run ≡ run) (if b then arc_line_of run known_as call part cost ∷ arc_lines_from run known_as call (suc part) costs else arc_lines_from run known_as call (suc part) costs)
-    go true rest = (refl, rest)
-    go false rest = rest
+cells_of_run run known_as (e ∷ cells) = all-append (λ (c : CellLine). c.run ≡ run) (cell_lines_at run known_as e.0 0 e.1) (cell_lines run known_as cells) (all-above (λ (c : CellLine). c.run ≡ run) (cell_line_of run known_as e.0) (λ event cost. refl) 0 e.1) (cells_of_run run known_as cells)
 
 pub calls_of_run : (run : ℕ) (known_as : List ℕ) (arcs : List (Call × Calls)) → AllByRecursion (λ (a : ArcLine). a.run ≡ run) (arc_lines run known_as arcs)
 calls_of_run run known_as [] = tt
 calls_of_run run known_as (e ∷ arcs) =
-    all-append (λ (a : ArcLine). a.run ≡ run) (arc_lines_at run known_as e.0 e.1) (arc_lines run known_as arcs) (refl, costs_of_run run known_as e.0 1 e.1.costs) (calls_of_run run known_as arcs)
+    all-append (λ (a : ArcLine). a.run ≡ run) (arc_lines_at run known_as e.0 e.1) (arc_lines run known_as arcs) (refl, all-above (λ (a : ArcLine). a.run ≡ run) (arc_line_of run known_as e.0) (λ part sum. refl) 1 e.1.costs) (calls_of_run run known_as arcs)
 
 pub stacks_of_run : (run : ℕ) (stacks : List (List ℕ × ℕ)) → AllByRecursion (λ (s : StackLine). s.run ≡ run) (stack_lines run stacks)
 stacks_of_run run [] = tt

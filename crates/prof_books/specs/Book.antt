@@ -2,6 +2,7 @@
 use Rattle.std.specs.Prelude.{◌≡◌, ℕ, suc, nat_lt, not, ◌==◌, if◌then◌else◌, List, [], ◌∷◌, ◌++◌, map, filter, flat_map}
 use Rattle.std.specs.List.{AllByRecursion, list_any}
 use Rattle.std.specs.Bool.{IsTrue}
+use Rattle.cost_rows.specs.Above.{rows_above}
 use Rattle.cost_rows.specs.Content.{Content}
 use Rattle.cost_rows.specs.Walks.{cell_rows, arc_rows, stack_rows}
 use Rattle.cost_rows.specs.declared.rows.CellRow.{CellRow}
@@ -79,8 +80,7 @@ part_of r part sum = record {
 
 -- the costs above 0, from a part on
 abbrev pub parts_from : ArcRow (List ℕ) (List ℕ) → ℕ → List ℕ → List CallPart
-parts_from r part [] = []
-parts_from r part (cost ∷ costs) = if nat_lt 0 cost then part_of r part cost ∷ parts_from r (suc part) costs else parts_from r (suc part) costs
+parts_from r part costs = rows_above (part_of r) part costs
 
 -- what a row of calls has: their number, always, and then their costs
 abbrev pub parts_of : ArcRow (List ℕ) (List ℕ) → List CallPart

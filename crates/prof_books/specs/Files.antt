@@ -3,6 +3,7 @@ use Rattle.std.specs.Prelude.{ℕ, suc, nat_lt, if◌then◌else◌, List, [], �
 use Rattle.cost_rows.specs.declared.places.CellPlace.{CellPlace}
 use Rattle.cost_rows.specs.declared.places.Call.{Call}
 use Rattle.cost_rows.specs.declared.calls.Calls.{Calls}
+use Rattle.cost_rows.specs.Above.{rows_above}
 use Rattle.cost_rows.specs.Content.{Content}
 use Rattle.prof_tables.specs.Tables.{Tables, RunLine, EventLine, DerivedLine, CoefLine, CellLine, ArcLine, StackLine}
 use Rattle.prof_tables.specs.Changes.{with_next, with_run, with_events, with_derived, with_coefs, with_cells, with_arcs, with_stacks}
@@ -25,10 +26,7 @@ cell_line_of run numbers p event cost = record {
 
 -- the sums above 0 at a place, from an event on
 abbrev pub cell_lines_at : ℕ → List ℕ → CellPlace → ℕ → List ℕ → List CellLine
-cell_lines_at run numbers p event [] = []
-cell_lines_at run numbers p event (cost ∷ costs) =
-    if nat_lt 0 cost then cell_line_of run numbers p event cost ∷ cell_lines_at run numbers p (suc event) costs
-    else cell_lines_at run numbers p (suc event) costs
+cell_lines_at run numbers p event costs = rows_above (cell_line_of run numbers p) event costs
 
 abbrev pub cell_lines : ℕ → List ℕ → List (CellPlace × List ℕ) → List CellLine
 cell_lines run numbers [] = []
@@ -50,10 +48,7 @@ arc_line_of run numbers c part sum = record {
 
 -- the costs above 0 of calls, from a part on
 abbrev pub arc_lines_from : ℕ → List ℕ → Call → ℕ → List ℕ → List ArcLine
-arc_lines_from run numbers c part [] = []
-arc_lines_from run numbers c part (cost ∷ costs) =
-    if nat_lt 0 cost then arc_line_of run numbers c part cost ∷ arc_lines_from run numbers c (suc part) costs
-    else arc_lines_from run numbers c (suc part) costs
+arc_lines_from run numbers c part costs = rows_above (arc_line_of run numbers c) part costs
 
 -- their number, always, and then their costs
 abbrev pub arc_lines_at : ℕ → List ℕ → Call → Calls → List ArcLine

@@ -2,6 +2,7 @@
 use Rattle.std.specs.Prelude.{ℕ, suc, ◌≡◌, ◌<◌, ◌^◌, nat_lt, if◌then◌else◌, List, [], ◌∷◌, ◌++◌, length, option_map, Option, Some, None, slice_get, ⊤}
 use Rattle.std.specs.Fmt.{decimal}
 use Rattle.cg_formulas.specs.declared.heads.FileHead.{FileHead}
+use Rattle.cost_rows.specs.Above.{rows_above}
 use Rattle.cost_rows.specs.Content.{Content}
 use Rattle.cost_rows.specs.Totals.{cell_total, arc_total}
 use Rattle.prof_tables.specs.Tables.{EventLine, DerivedLine, CoefLine}
@@ -38,12 +39,13 @@ derived_lines_from run place (d ∷ derived) = record { run = run; place = place
 abbrev pub derived_lines : ℕ → FileHead → List DerivedLine
 derived_lines run head = derived_lines_from run 0 head.derived.derived
 
+-- how often a derived event counts an event
+abbrev pub coef_line_of : ℕ → ℕ → ℕ → ℕ → CoefLine
+coef_line_of run place event times = record { run = run; place = place; event = event; times = times }
+
 -- the coefficients above 0 of one derived event, from an event on
 abbrev pub coef_lines_at : ℕ → ℕ → ℕ → List ℕ → List CoefLine
-coef_lines_at run place event [] = []
-coef_lines_at run place event (times ∷ more) =
-    if nat_lt 0 times then record { run = run; place = place; event = event; times = times } ∷ coef_lines_at run place (suc event) more
-    else coef_lines_at run place (suc event) more
+coef_lines_at run place event times = rows_above (coef_line_of run place) event times
 
 abbrev pub coef_lines_from : ℕ → ℕ → List (List ℕ × List ℕ) → List CoefLine
 coef_lines_from run place [] = []

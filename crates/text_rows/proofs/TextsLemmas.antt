@@ -1,28 +1,20 @@
 -- The rows of whole texts come to what the texts say.
 use Rattle.std.proofs.Common.{◌≡◌, ℕ, ◌+◌, true, List, [], ◌∷◌, Result, Ok, Err, refl, sym, ap, subst, ◌∙◌}
 use Rattle.std.specs.Result.{IsErrAnd, MatchResult}
-use Rattle.profile_records.specs.Records.{Record}
 use Rattle.callgrind_reader.specs.Files as callgrind
 use Rattle.folded_reader.specs.Files as folded
 use Rattle.profile_records.specs.Stacks.{Seen}
 use Rattle.cost_rows.specs.Content.{Content}
 use Rattle.cost_rows.specs.StackSums.{leaf_sum, frames_sum}
-use Rattle.cost_rows.specs.Sums.{content_of_records}
-use Rattle.text_rows.specs.Texts.{content_of_text, ComesToRecords, content_of_folded, all_counts, ComesToCounts}
+use Rattle.cost_rows.specs.Sums.{ComesToRecords}
+use Rattle.text_rows.specs.Texts.{content_of_text, content_of_folded, all_counts, ComesToCounts}
 use Rattle.cost_rows.proofs.StackSumsLemmas.{sums-stacks}
-use Rattle.cost_rows.proofs.SumsLemmas.{sums-cells, sums-arcs, sums-counts}
+use Rattle.cost_rows.proofs.SumsLemmas.{sums-records}
 
 -- an error that is passed on
 pub passed_on : {T E : Type 0} (r : Result T E) (e : E) (P : T → Type 0) (Q : E → Type 0) → IsErrAnd r (λ y. y ≡ e) → Q e → MatchResult r P Q
 passed_on (Ok x) e P Q is q = absurd is
 passed_on (Err y) e P Q is q = subst Q (sym is) q
-
-sums-records : (records : List Record) → ComesToRecords (content_of_records records) records
-sums-records records = record {
-  self_cost = λ k. sums-cells (λ _. true) k records;
-  call_cost = λ k. sums-arcs (λ _ _. true) k records;
-  call_count = sums-counts (λ _ _. true) records;
-}
 
 pub sums-text : (text : List ℕ) (c : Content) → c ≡ content_of_text text → ComesToRecords c (callgrind.records_of_file text)
 sums-text text c is = subst (λ c. ComesToRecords c (callgrind.records_of_file text)) (sym is) (sums-records (callgrind.records_of_file text))

@@ -1,23 +1,16 @@
 -- What the rows of a whole text come to.
-use Rattle.std.specs.Prelude.{◌≡◌, ℕ, ◌+◌, true, List, [], ◌∷◌}
-use Rattle.profile_records.specs.Records.{Record}
+use Rattle.std.specs.Prelude.{◌≡◌, ℕ, ◌+◌, List, [], ◌∷◌}
 use Rattle.callgrind_reader.specs.Files as callgrind
 use Rattle.folded_reader.specs.Files as folded
 use Rattle.profile_records.specs.Stacks.{Seen}
 use Rattle.cost_rows.specs.Content.{Content}
 use Rattle.cost_rows.specs.StackSums.{content_of_stacks}
-use Rattle.cost_rows.specs.Sums.{content_of_records, own_sum, call_sum, count_sum}
-use Rattle.cost_rows.specs.Totals.{cell_total, arc_total, count_total, stack_total}
+use Rattle.cost_rows.specs.Sums.{content_of_records}
+use Rattle.cost_rows.specs.Totals.{cell_total, stack_total}
 
 -- the rows of a Callgrind text
 abbrev pub content_of_text : List ℕ → Content
 content_of_text text = content_of_records (callgrind.records_of_file text)
-
--- rows that come to what records come to: by column the self records and the call records, and how many calls they count
-pub record ComesToRecords (c : Content) (records : List Record) : Type 0 where
-  pub self_cost : (k : ℕ) → cell_total k c.cells ≡ own_sum (λ _. true) k records
-  pub call_cost : (k : ℕ) → arc_total k c.arcs ≡ call_sum (λ _ _. true) k records
-  pub call_count : count_total c.arcs ≡ count_sum (λ _ _. true) records
 
 -- the rows of a folded text
 abbrev pub content_of_folded : List ℕ → Content

@@ -5,7 +5,8 @@ ghost use Rattle.callgrind_reader.specs.Reads as records;
 ghost use Rattle.folded_reader.specs.Files as folded;
 ghost use Rattle.folded_reader.specs.Reads as stacks;
 ghost use Rattle.cost_rows.specs.Rows.{content_of};
-ghost use Rattle.text_rows.specs.Texts.{content_of_text, ComesToRecords, content_of_folded, ComesToCounts};
+ghost use Rattle.text_rows.specs.Texts.{content_of_text, content_of_folded, ComesToCounts};
+ghost use Rattle.cost_rows.specs.Sums.{ComesToRecords};
 
 use callgrind_reader::Reader;
 use cg_formulas::FileHead;

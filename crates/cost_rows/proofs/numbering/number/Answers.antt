@@ -8,8 +8,5 @@ found c =
     place_at c.args.names.now c.args.name.now c.args.guess c.len.ensures.distinct
     (c.name.ensures ∙ ap Some (same_bytes c.name.result.now c.args.name.now (sym c.if-eq.ensures)))
 
-pub returns-then-eq-clause-place : goal.returns-then-eq-clause-place
-returns-then-eq-clause-place c = found c
-
-pub returns-then-eq-clause-names : goal.returns-then-eq-clause-names
-returns-then-eq-clause-names c = sym (with-held c.args.names.now c.args.name.now c.args.guess (found c))
+pub returns-then-eq : goal.returns-then-eq
+returns-then-eq c = (found c, sym (with-held c.args.names.now c.args.name.now c.args.guess (found c)))

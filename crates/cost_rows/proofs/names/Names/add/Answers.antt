@@ -25,8 +25,8 @@ invariant_of-self-in_default-insert c =
     (IsNumbered-more c.args.self.now c.args.name.now c.self.inside.numbers c.insert.new.self c.in_ok-key.key c.in-Ok.number is c.requires
     (c.in_ok-key.ensures.items_if_clones_equal (λ x y e. e)) (last c) small c.in_default-insert.ensures.entries)
 
-pub returns-clause-place : goal.returns-clause-place
-returns-clause-place c = ap (place_of c.args.name.now) (pushed c) ∙ place-new c.args.self.now c.args.name.now c.requires ∙ ap Some (sym (last c))
-
-pub returns-clause-names : goal.returns-clause-names
-returns-clause-names c = pushed c ∙ sym (with-new c.args.self.now c.args.name.now c.requires)
+pub returns : goal.returns
+returns c = (
+  ap (place_of c.args.name.now) (pushed c) ∙ place-new c.args.self.now c.args.name.now c.requires ∙ ap Some (sym (last c)),
+  pushed c ∙ sym (with-new c.args.self.now c.args.name.now c.requires),
+)
