@@ -10,6 +10,7 @@ pub mod Lines
 pub mod Files
 pub mod Table
 pub mod Space
+pub mod Columns
 pub mod Places
 pub mod Parts
 pub mod Accept

@@ -5,7 +5,7 @@ use Rattle.callgrind_reader.proofs.state.State.cost_line.Goals as goal
 pub returns-clause-follows : goal.returns-clause-follows
 returns-clause-follows g c = λ back live.
     let layout : c.layout-layout.result ≡ layout_of back = c.layout-layout.ensures ∙ ap or_line live.header.layout in
-    let moved = rw c.in-Ok.is at c.in_ok-placed.ensures.moved in
+    let moved = rw c.in-Ok.is at c.in_ok-placed.ensures.moves in
     record {
       fault = search rules;
       live = λ _. record {
