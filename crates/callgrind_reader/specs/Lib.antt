@@ -14,7 +14,10 @@ pub mod Columns
 pub mod Places
 pub mod Parts
 pub mod Accept
+pub mod Stated
 pub mod Stands
+pub mod Headers
+pub mod Steps
 pub mod Cut
 pub mod Ends
 pub mod Reads

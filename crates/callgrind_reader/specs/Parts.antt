@@ -1,8 +1,8 @@
 -- How the parts of a line's step tell what they found.
-use Rattle.std.specs.Prelude.{◌≡◌, ℕ, ◌+◌, ◌<◌, ◌≤◌, ◌^◌, List, ◌++◌, length, All, Result, Ok, Err, Option, Some, None, OnOk}
+use Rattle.std.specs.Prelude.{◌≡◌, ℕ, ◌+◌, ◌≤◌, List, ◌++◌, length, Result, Ok, Err, Option, Some, None, OnOk}
 use Rattle.cg_text.specs.declared.faults.Fault.{Fault}
 use Rattle.callgrind_reader.specs.Positions.{Offsets, width}
-use Rattle.callgrind_reader.specs.Costs.{padded, shape_fault, fields_row, unless_shape}
+use Rattle.callgrind_reader.specs.Costs.{AreAmounts, padded, shape_fault, fields_row, unless_shape}
 use Rattle.callgrind_reader.specs.Places.{IsPlaced, MovesOn}
 use Rattle.callgrind_reader.specs.declared.layouts.Layout.{Layout}
 use Rattle.callgrind_reader.specs.declared.places.Places.{Places}
@@ -22,10 +22,6 @@ with_front front (Err fault) = Err fault
 abbrev pub placed_row : Result PlacedLine Fault → List ℕ → Result (ℕ × List ℕ) Fault
 placed_row (Ok p) costs = Ok (p.line, costs)
 placed_row (Err fault) costs = Err fault
-
--- each is a cost
-abbrev pub AreAmounts : List ℕ → Type 0
-AreAmounts costs = All (λ c. c < 2 ^ 63) costs
 
 -- the fields of a cost line were read, from left to right, its costs into a row
 pub record ReadFields (layout : Layout) (before : Places) (fields : List (List ℕ)) (row : List ℕ) (r : Result PlacedLine Fault) : Type 0 where

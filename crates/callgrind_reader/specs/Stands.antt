@@ -1,5 +1,5 @@
 -- When what a reader keeps stands for the lines that it has read.
-use Rattle.std.specs.Prelude.{◌≡◌, ℕ, ◌<◌, Bool, List, ◌∷◌, length, nat_lt, slice_index, Option, None, Some}
+use Rattle.std.specs.Prelude.{◌≡◌, ℕ, List, ◌∷◌, length, Option, None, Some}
 use Rattle.cg_formulas.specs.Held.{Holds}
 use Rattle.cg_text.specs.Readings.{Reading}
 use Rattle.cg_text.specs.declared.faults.Fault.{Fault}
@@ -7,10 +7,9 @@ use Rattle.cg_text.specs.declared.words.Namespace.TheVariants.{Object, File, Fun
 use Rattle.callgrind_reader.specs.declared.names.Names.{Names}
 use Rattle.callgrind_reader.specs.declared.header.Header.{Header}
 use Rattle.callgrind_reader.specs.declared.state.State.{State}
-use Rattle.callgrind_reader.specs.declared.totals.Sums.{Sums}
 use Rattle.callgrind_reader.specs.Events.{events_of}
 use Rattle.callgrind_reader.specs.Positions.{settled, offsets_at}
-use Rattle.callgrind_reader.specs.Totals.{total_in, summary_in, has_totals, has_summary}
+use Rattle.callgrind_reader.specs.Stated.{StatedIs}
 use Rattle.callgrind_reader.specs.Calls.{awaiting}
 use Rattle.callgrind_reader.specs.Definitions.{definitions_of}
 use Rattle.callgrind_reader.specs.Lines.{fault_at}
@@ -18,17 +17,11 @@ use Rattle.callgrind_reader.specs.Accept.{seen}
 use Rattle.callgrind_reader.specs.Space.{SpaceIs}
 use Rattle.callgrind_reader.specs.Places.{IsPlaced}
 
--- sums of these columns, of a key that was given or not
-pub record SumsAre (s : Sums) (sum_in : ℕ → ℕ) (is_given : Bool) : Type 0 where
-  pub sums : (k : ℕ) → k < 64 → slice_index s.sums.items k ≡ sum_in k
-  pub given : nat_lt 0 s.lines ≡ is_given
-
 pub record HeaderIs (h : Header) (back : List Reading) : Type 0 where
   pub events : h.events.names ≡ events_of back
   pub layout : h.layout ≡ settled back
   pub formulas : Holds h.formulas (definitions_of back)
-  pub totals : SumsAre h.totals (λ k. total_in k back) (has_totals back)
-  pub summary : SumsAre h.summary (λ k. summary_in k back) (has_summary back)
+  pub stated : StatedIs h.stated back
 
 pub record NamesAre (n : Names) (back : List Reading) : Type 0 where
   pub objects : SpaceIs n.objects Object back

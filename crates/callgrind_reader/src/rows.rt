@@ -4,9 +4,9 @@ ghost use Rattle.cg_text.specs.Fields.{fields_of};
 ghost use Rattle.cg_text.specs.Numbers.{amount_of};
 ghost use Rattle.cg_text.specs.Subpositions.{subpos_of};
 ghost use Rattle.callgrind_reader.specs.Faulty.{each, err_of};
-ghost use Rattle.callgrind_reader.specs.Costs.{padded, shape_fault};
+ghost use Rattle.callgrind_reader.specs.Costs.{AreAmounts, padded, shape_fault};
 ghost use Rattle.callgrind_reader.specs.Calls.{counted};
-ghost use Rattle.callgrind_reader.specs.Parts.{list_or, with_front, AreAmounts, ReadFields, ReadRow};
+ghost use Rattle.callgrind_reader.specs.Parts.{list_or, with_front, ReadFields, ReadRow};
 
 use crate::layouts::Layout;
 use crate::places::{PlacedLine, Places};
