@@ -1,7 +1,11 @@
 -- When sums stand for the totals that lines have stated.
-use Rattle.std.specs.Prelude.{◌≡◌, ℕ, ◌+◌, ◌<◌, Bool, List, nat_lt, slice_index}
+use Rattle.std.specs.Prelude.{◌≡◌, ℕ, ◌+◌, ◌<◌, Bool, List, ◌∷◌, Ok, nat_lt, slice_index}
 use Rattle.cg_text.specs.Readings.{Reading}
-use Rattle.callgrind_reader.specs.Totals.{sum_in, is_stated}
+use Rattle.cg_text.specs.Kinds.{Header}
+use Rattle.cg_text.specs.Fields.{fields_of}
+use Rattle.cg_text.specs.Numbers.{amount_of}
+use Rattle.callgrind_reader.specs.Faulty.{each}
+use Rattle.callgrind_reader.specs.Totals.{header_key, sum_in, is_stated}
 use Rattle.callgrind_reader.specs.declared.totals.Sums.{Sums}
 use Rattle.callgrind_reader.specs.declared.stated.StatedKey.{StatedKey}
 use Rattle.callgrind_reader.specs.declared.stated.StatedKey.TheVariants.{Totals, Summary}
@@ -18,6 +22,11 @@ sums_of s Summary = s.summary
 
 pub record StatedIs (s : Stated) (back : List Reading) : Type 0 where
   pub each : (key : StatedKey) → SumsAre (sums_of s key) (λ k. sum_in key k back) (is_stated key back)
+
+-- a line of a key with these amounts was added
+abbrev pub AddsLine : StatedKey → List ℕ → Stated → Stated → Type 0
+AddsLine key amounts old new =
+    (back : List Reading) (value : List ℕ) → each amount_of (fields_of value) ≡ Ok amounts → StatedIs old back → StatedIs new (Ok (Header (header_key key) value) ∷ back)
 
 -- how many lines have stated totals
 abbrev pub stated_lines : Stated → ℕ

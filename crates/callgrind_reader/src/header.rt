@@ -2,7 +2,7 @@
 ghost use Rattle.std.specs.Prelude.{◌≡◌, ℕ, ◌<◌, ◌≤◌, ◌^◌, List, [], IfOk, length};
 ghost use Rattle.cg_text.specs.Readings.{Reading};
 ghost use Rattle.callgrind_reader.specs.Positions.{or_line};
-ghost use Rattle.callgrind_reader.specs.Totals.{header_key, stated_of};
+ghost use Rattle.callgrind_reader.specs.Totals.{header_key};
 ghost use Rattle.cg_text.specs.declared.words.HeaderKey.TheVariants.{Event, Positions};
 ghost use Rattle.callgrind_reader.specs.Files.{names_or_none, formulas_fault};
 
@@ -28,7 +28,7 @@ pub struct Header {
 impl Header {
     ghost use Rattle.callgrind_reader.specs.Stands.{HeaderIs};
     ghost use Rattle.callgrind_reader.specs.Stated.{stated_lines};
-    ghost use Rattle.callgrind_reader.specs.Headers.{HeaderKeeps, TakesHeader, Settles};
+    ghost use Rattle.callgrind_reader.specs.Headers.{HeaderKeeps, TakesHeader, StatesTotals, Settles};
     ghost use Rattle.callgrind_reader.specs.Ends.{ComesBy};
 
     /// No line was read.
@@ -138,7 +138,7 @@ impl Header {
 
     /// The totals that the lines so far state, one for each event.
     fn stated_totals(&self) -> Result<Option<Items<u128>>, AllocError>
-        ensures { IfOk result (λ stated. (back : List Reading) → HeaderIs self.now back → stated ≡ stated_of (length (names_or_none self.now.events.names)) back) }
+        ensures { IfOk result (StatesTotals self.now) }
     {
         let count = self.event_count();
         if count == 0 {

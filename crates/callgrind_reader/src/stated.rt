@@ -1,12 +1,8 @@
 // The totals that the lines of a file state.
-ghost use Rattle.std.specs.Prelude.{◌≡◌, ℕ, ◌+◌, ◌<◌, ◌≤◌, ◌^◌, ◌∷◌, [], List, IfOk, Ok};
+ghost use Rattle.std.specs.Prelude.{◌≡◌, ◌+◌, ◌<◌, ◌≤◌, ◌^◌, [], List, IfOk};
 ghost use Rattle.cg_text.specs.Readings.{Reading};
-ghost use Rattle.cg_text.specs.Kinds as kinds;
-ghost use Rattle.cg_text.specs.Fields.{fields_of};
-ghost use Rattle.cg_text.specs.Numbers.{amount_of};
-ghost use Rattle.callgrind_reader.specs.Faulty.{each};
 ghost use Rattle.callgrind_reader.specs.Costs.{AreAmounts};
-ghost use Rattle.callgrind_reader.specs.Totals.{header_key, first_stated};
+ghost use Rattle.callgrind_reader.specs.Totals.{first_stated};
 
 use crate::totals::Sums;
 use cg_text::Items;
@@ -27,7 +23,7 @@ pub struct Stated {
 }
 
 impl Stated {
-    ghost use Rattle.callgrind_reader.specs.Stated.{StatedIs, stated_lines};
+    ghost use Rattle.callgrind_reader.specs.Stated.{StatedIs, AddsLine, stated_lines};
 
     /// No line is added yet.
     pub fn new(alloc: Global) -> Result<Stated, AllocError>
@@ -44,8 +40,7 @@ impl Stated {
     pub fn add(&mut self, key: StatedKey, amounts: &[u64])
         requires small { AreAmounts amounts.now }
         requires few { stated_lines self.old < 2 ^ 63 }
-        ensures stated { (back : List Reading) (value : List ℕ) → each amount_of (fields_of value) ≡ Ok amounts.now → StatedIs self.old back
-            → StatedIs self.new (Ok (kinds.Header (header_key key) value) ∷ back) }
+        ensures stated { AddsLine key amounts.now self.old self.new }
         ensures lines { stated_lines self.new ≡ stated_lines self.old + 1 }
     {
         match key {
