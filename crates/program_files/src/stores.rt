@@ -1,14 +1,8 @@
 // The store at a path.
 ghost use Rattle.std.specs.Prelude.{◌≡◌, true, false, IfOk, IfErr};
 ghost use Rattle.sqlite.specs.Held.{state};
-ghost use Rattle.sqlite.specs.State.{HasCleanDisk};
-ghost use Rattle.sql_tables.specs.Calls.{Asked};
-ghost use Rattle.sql_tables.specs.States.{IsBlank, Rests};
-ghost use Rattle.prof_tables.specs.Schema.{empty_schema, schema_one};
-ghost use Rattle.prof_tables.specs.Tables.{Holds, new_tables};
-ghost use Rattle.prof_store.specs.Shown.{IsFaithful, StandsFor};
 ghost use Rattle.store_columns.specs.Ends.{end_for, opening};
-ghost use Rattle.program_files.specs.Stores.{store_text};
+ghost use Rattle.program_files.specs.Stores.{IsMade, IsTakenUp, IsHandedBack, store_text};
 
 use prof_store::{OpenEnd, Store};
 use sqlite::{Alter, Connection, Error, ErrorCode, File, FileStore};
@@ -63,9 +57,9 @@ pub fn store_in<S: Alter>(
     conn: Connection<S>,
     is_new: bool,
 ) -> Result<Store<S>, (OpenEnd, Connection<S>)>
-    ensures made { is_new ≡ true → IfOk result (λ store. IsFaithful S.Store store → IsBlank empty_schema (state S.Store conn) → StandsFor S.Store new_tables store) }
-    ensures taken_up { is_new ≡ false → IfOk result (λ store. IsFaithful S.Store store → (t : _) → Rests schema_one (Holds t) (state S.Store conn) → StandsFor S.Store t store) }
-    ensures refused { is_new ≡ false → IfErr result (λ e. HasCleanDisk (state S.Store e.1) → Asked (state S.Store conn).now.schema false (state S.Store conn) (state S.Store e.1)) }
+    ensures made { is_new ≡ true → IfOk result (IsMade S.Store (state S.Store conn)) }
+    ensures taken_up { is_new ≡ false → IfOk result (IsTakenUp S.Store (state S.Store conn)) }
+    ensures refused { is_new ≡ false → IfErr result (λ e. IsHandedBack (state S.Store conn) (state S.Store e.1)) }
 {
     if !is_new {
         return Store::open(alloc, conn);
