@@ -1,5 +1,5 @@
 -- What a line makes of a state, and of the sink that takes its record.
-use Rattle.std.specs.Prelude.{◌≡◌, ℕ, ◌+◌, ◌<◌, ◌≤◌, ◌^◌, List, ◌∷◌, fold, length, Result, Option, Some, IfSome, IfOk, OnOk, OnErr}
+use Rattle.std.specs.Prelude.{◌≡◌, ◌+◌, ◌<◌, ◌≤◌, ◌^◌, List, ◌∷◌, fold, length, Result, Option, Some, IfSome, IfOk, OnOk, OnErr}
 use Rattle.std.specs.declared.alloc.AllocError.{AllocError}
 use Rattle.cg_text.specs.Readings.{Reading}
 use Rattle.cg_text.specs.declared.faults.Fault.{Fault}
