@@ -1,6 +1,7 @@
 pub mod Examples
 pub mod FormulaExamples
 pub mod FaultyLemmas
+pub mod PlacesLemmas
 pub mod SeenLemmas
 pub mod ExactLemmas
 pub mod EndsLemmas

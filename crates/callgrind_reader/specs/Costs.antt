@@ -1,5 +1,5 @@
 -- The costs of a cost line.
-use Rattle.std.specs.Prelude.{ℕ, ◌+◌, ◌-◌, List, ◌++◌, length, drop, replicate, nat_lt, if◌then◌else◌, Result, Ok, Err, Option, Some, None}
+use Rattle.std.specs.Prelude.{ℕ, ◌+◌, ◌-◌, ◌<◌, ◌^◌, All, List, ◌++◌, length, drop, replicate, nat_lt, if◌then◌else◌, Result, Ok, Err, Option, Some, None}
 use Rattle.cg_text.specs.Readings.{Reading}
 use Rattle.cg_text.specs.Fields.{fields_of}
 use Rattle.cg_text.specs.Numbers.{amount_of}
@@ -9,6 +9,10 @@ use Rattle.callgrind_reader.specs.Faulty.{◌>>=◌, each}
 use Rattle.callgrind_reader.specs.Events.{events_of}
 use Rattle.callgrind_reader.specs.Positions.{Offsets, layout_of, width, offsets_at, place_of}
 use Rattle.callgrind_reader.specs.declared.layouts.Layout.{Layout}
+
+-- each is in the range of a cost
+abbrev pub AreAmounts : List ℕ → Type 0
+AreAmounts costs = All (λ c. c < 2 ^ 63) costs
 
 -- costs that are missing at the end are 0
 abbrev pub padded : ℕ → List ℕ → List ℕ

@@ -10,10 +10,14 @@ pub mod Lines
 pub mod Files
 pub mod Table
 pub mod Space
+pub mod Columns
 pub mod Places
 pub mod Parts
 pub mod Accept
+pub mod Stated
 pub mod Stands
+pub mod Headers
+pub mod Steps
 pub mod Cut
 pub mod Ends
 pub mod Reads

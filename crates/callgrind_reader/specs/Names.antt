@@ -1,5 +1,5 @@
 -- Identifiers, and the names in force. `back` are the lines before, the nearest first.
-use Rattle.std.specs.Prelude.{ℕ, Bool, true, false, ◌&&◌, List, [], ◌∷◌, ◌==◌, if◌then◌else◌, Result, Ok, Err, Option, Some, None, unwrap_or}
+use Rattle.std.specs.Prelude.{◌≡◌, ℕ, Bool, true, false, ◌&&◌, List, [], ◌∷◌, ◌==◌, if◌then◌else◌, Result, Ok, Err, Option, Some, None, unwrap_or}
 use Rattle.std.specs.Str.{bytes_eq}
 use Rattle.cg_text.specs.Readings.{Reading}
 use Rattle.cg_text.specs.Kinds.{Name}
@@ -75,6 +75,12 @@ spec_fault (Some id) None means = undefined (means id)
 abbrev pub name_fault : Result Spec Fault → (ℕ → Option (List ℕ)) → Option Fault
 name_fault (Ok s) means = spec_fault s.id s.text means
 name_fault (Err fault) means = Some fault
+
+-- what a name line of a space says: its fault, or what identifiers mean after it, and the name that it gives
+pub record Resolves (spec : Result Spec Fault) (before after : ℕ → Option (List ℕ)) (name : List ℕ) (fault : Option Fault) : Type 0 where
+  pub fault_is : fault ≡ name_fault spec before
+  pub means : fault ≡ None → (q : ℕ) → after q ≡ meaning_after spec q (before q)
+  pub name_is : fault ≡ None → name ≡ named spec before
 
 -- ---- names in force
 

@@ -1,5 +1,5 @@
 -- Positions: an address, a line number, or both.
-use Rattle.std.specs.Prelude.{ℕ, ◌+◌, ◌-◌, ◌^◌, ◌&&◌, List, [], ◌∷◌, nat_le, nat_lt, if◌then◌else◌, codes, Result, Ok, Err, Option, Some, None, unwrap_or}
+use Rattle.std.specs.Prelude.{ℕ, ◌+◌, ◌-◌, ◌^◌, Bool, true, false, ◌&&◌, List, [], ◌∷◌, nat_le, nat_lt, if◌then◌else◌, codes, Result, Ok, Err, Option, Some, None, unwrap_or}
 use Rattle.std.specs.Str.{bytes_eq}
 use Rattle.cg_text.specs.Readings.{Reading}
 use Rattle.cg_text.specs.Kinds.{Header, Cost, Calls}
@@ -60,17 +60,32 @@ width Line = 1
 width InstrLine = 2
 width Instr = 1
 
--- ---- the two columns
+-- ---- the two columns: an address, then a line number, each there or not
+
+abbrev pub has_address : Layout → Bool
+has_address Line = false
+has_address InstrLine = true
+has_address Instr = true
+
+abbrev pub has_line : Layout → Bool
+has_line Line = true
+has_line InstrLine = true
+has_line Instr = false
+
+-- the field of a column, and the fields behind it
+abbrev pub column : Bool → List (List ℕ) → Option (List ℕ)
+column true (f ∷ fs) = Some f
+column is_there fs = None
+
+abbrev pub behind : Bool → List (List ℕ) → List (List ℕ)
+behind true (f ∷ fs) = fs
+behind is_there fs = fs
 
 abbrev pub address_field : Layout → List (List ℕ) → Option (List ℕ)
-address_field InstrLine (f ∷ fs) = Some f
-address_field Instr (f ∷ fs) = Some f
-address_field layout fs = None
+address_field layout fields = column (has_address layout) fields
 
 abbrev pub line_field : Layout → List (List ℕ) → Option (List ℕ)
-line_field Line (f ∷ fs) = Some f
-line_field InstrLine (f ∷ g ∷ fs) = Some g
-line_field layout fs = None
+line_field layout fields = column (has_line layout) (behind (has_address layout) fields)
 
 -- ---- a position is the nearest number in its column and the offsets since: those up, less those down
 

@@ -1,14 +1,14 @@
 -- When a reader stands for a text, having handed out some records; and what a file comes to.
-use Rattle.std.specs.Prelude.{◌≡◌, ℕ, ◌+◌, ◌≤◌, List, [], Option, Some, None, IfSome, Result, Ok, Err}
+use Rattle.std.specs.Prelude.{◌≡◌, ℕ, ◌+◌, ◌≤◌, List, [], ◌++◌, Option, Some, None, IfSome, Result, Ok, Err}
 use Rattle.cg_formulas.specs.declared.heads.FileHead.{FileHead}
 use Rattle.cg_text.specs.Readings.{reading_of}
 use Rattle.cg_text.specs.declared.faults.ReadEnd.{ReadEnd}
 use Rattle.cg_text.specs.declared.faults.ReadEnd.TheVariants as ends
 use Rattle.callgrind_reader.specs.declared.reader.Reader.{Reader}
 use Rattle.profile_records.specs.Records.{Record}
-use Rattle.callgrind_reader.specs.Files.{sound_records, fault_of_file, events_of_file, derived_of_file, stated_of_file}
+use Rattle.callgrind_reader.specs.Files.{records_of_file, sound_records, fault_of_file, events_of_file, derived_of_file, stated_of_file}
 use Rattle.text_pieces.specs.Kept as pieces
-use Rattle.text_pieces.specs.Readers.{StandsFor}
+use Rattle.text_pieces.specs.Readers.{StandsFor, HandsAll, HandsPart}
 use Rattle.callgrind_reader.specs.Stands.{StandsAfter, count_of}
 
 -- the reader stands for the text so far, and has handed out these records
@@ -18,6 +18,11 @@ Reads r = StandsFor reading_of (sound_records []) StandsAfter r.pieces r.state
 -- a sink with this last line and this width of records would take the next record
 abbrev pub Takes : Reader → ℕ → Option ℕ → Type 0
 Takes r last width = (last ≤ r.state.lines) × IfSome width (λ n. count_of r.state.header.events.names ≡ Some n)
+
+module _ {M : Type 0} (step : M → Record → M) where
+  -- bytes were refused: the sink was told a part of what was still to be handed on
+  abbrev pub BreaksOff : Reader → M → List ℕ → M → Type 0
+  BreaksOff old before bytes after = (text : List ℕ) (told : List Record) → Reads old text told → HandsPart records_of_file step (text ++ bytes) told before after
 
 -- how many bytes the reader still takes
 abbrev pub room_of : Reader → ℕ
@@ -51,3 +56,8 @@ abbrev pub MatchMemory : Result FileHead ReadEnd → Type 0 → Type 0 → Type 
 MatchMemory (Ok head) P Q = P
 MatchMemory (Err (ends.Fault fault line)) P Q = P
 MatchMemory (Err ends.Memory) P Q = Q
+
+-- the file has ended: the sink was told all that was still to be handed on, or a part where memory ran out
+abbrev pub HandsOver : {M : Type 0} → (M → Record → M) → Reader → M → Result FileHead ReadEnd → M → Type 0
+HandsOver step r before result after = (text : List ℕ) (told : List Record) → Reads r text told
+    → MatchMemory result (HandsAll records_of_file step text told before after) (HandsPart records_of_file step text told before after)

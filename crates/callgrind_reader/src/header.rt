@@ -1,19 +1,16 @@
 // What header lines say of a file, and what cost lines settle of it.
-ghost use Rattle.std.specs.Prelude.{◌≡◌, ◌+◌, ◌<◌, ◌≤◌, ◌^◌, ◌∷◌, List, [], IfOk, IfSome, Option, Some, None, Ok, length};
+ghost use Rattle.std.specs.Prelude.{◌≡◌, ℕ, ◌<◌, ◌≤◌, ◌^◌, List, [], IfOk, length};
 ghost use Rattle.cg_text.specs.Readings.{Reading};
-ghost use Rattle.cg_text.specs.Kinds as kinds;
 ghost use Rattle.callgrind_reader.specs.Positions.{or_line};
-ghost use Rattle.cg_text.specs.declared.words.HeaderKey.TheVariants.{Event, Positions, Summary, Totals};
-ghost use Rattle.callgrind_reader.specs.Lines.{header_fault};
-ghost use Rattle.callgrind_reader.specs.Calls.{number_after};
+ghost use Rattle.callgrind_reader.specs.Totals.{header_key};
+ghost use Rattle.cg_text.specs.declared.words.HeaderKey.TheVariants.{Event, Positions};
 ghost use Rattle.callgrind_reader.specs.Files.{names_or_none, formulas_fault};
-ghost use Rattle.callgrind_reader.specs.Totals.{stated_of};
 
 use crate::events::Events;
 use crate::headers::{form_of, positions_fault, version_fault};
 use crate::layouts::Layout;
 use crate::rows::push_amounts;
-use crate::totals::Sums;
+use crate::stated::{Stated, StatedKey};
 use cg_formulas::{FileHead, FlatEnd, Formulas, TextEnd, event_line};
 use cg_text::{Fault, HeaderKey, Items, ReadEnd};
 use std::alloc::{AllocError, Global};
@@ -24,26 +21,26 @@ pub struct Header {
     pub(crate) events: Events,
     pub(crate) layout: Option<Layout>,
     pub(crate) formulas: Formulas,
-    pub(crate) totals: Sums,
-    pub(crate) summary: Sums,
+    pub(crate) stated: Stated,
     amounts: Vec<u64>,
 }
 
 impl Header {
     ghost use Rattle.callgrind_reader.specs.Stands.{HeaderIs};
+    ghost use Rattle.callgrind_reader.specs.Stated.{stated_lines};
+    ghost use Rattle.callgrind_reader.specs.Headers.{HeaderKeeps, TakesHeader, StatesTotals, Settles};
     ghost use Rattle.callgrind_reader.specs.Ends.{ComesBy};
 
     /// No line was read.
     pub fn new(alloc: Global) -> Result<Header, AllocError>
         ensures header { IfOk result (λ h. HeaderIs h []) }
-        ensures lines { IfOk result (λ h. (h.totals.lines ≡ 0) × (h.summary.lines ≡ 0)) }
+        ensures lines { IfOk result (λ h. stated_lines h.stated ≡ 0) }
     {
         Ok(Header {
             events: Events::new(alloc),
             layout: None,
             formulas: Formulas::new(alloc),
-            totals: Sums::new(alloc)?,
-            summary: Sums::new(alloc)?,
+            stated: Stated::new(alloc)?,
             amounts: Vec::new(alloc),
         })
     }
@@ -57,22 +54,15 @@ impl Header {
 
     /// Settles the positions, at a cost line or `calls=` line.
     pub fn settle(&mut self)
-        ensures events { self.new.events ≡ self.old.events }
-        ensures layout { self.new.layout ≡ Some (or_line self.old.layout) }
-        ensures formulas { self.new.formulas ≡ self.old.formulas }
-        ensures totals { self.new.totals ≡ self.old.totals }
-        ensures summary { self.new.summary ≡ self.old.summary }
+        ensures { Settles self.old self.new }
     {
         self.layout = Some(self.layout());
     }
 
     /// Takes a `positions:` line, and answers its fault.
     fn positions_line(&mut self, value: &[u8]) -> Option<Fault>
-        ensures fault { (back : List Reading) → HeaderIs self.old back → result ≡ header_fault Positions value.now back }
-        ensures header { (back : List Reading) → HeaderIs self.old back → result ≡ None → HeaderIs self.new (Ok (kinds.Header Positions value.now) ∷ back) }
-        ensures events { self.new.events ≡ self.old.events }
-        ensures totals { self.new.totals.lines ≡ self.old.totals.lines }
-        ensures summary { self.new.summary.lines ≡ self.old.summary.lines }
+        ensures takes { (line : ℕ) → TakesHeader line Positions value.now self.old result self.new }
+        ensures keeps { HeaderKeeps self.old self.new }
     {
         let form = form_of(value);
         if let Some(fault) = positions_fault(form, self.layout) {
@@ -84,47 +74,24 @@ impl Header {
         None
     }
 
-    /// Takes a `totals:` line, and answers its fault.
-    fn totals_line(&mut self, value: &[u8]) -> Result<Option<Fault>, AllocError>
-        requires { self.old.totals.lines < 2 ^ 63 }
-        ensures fault { IfOk result (λ f. (back : List Reading) → HeaderIs self.old back → f ≡ header_fault Totals value.now back) }
-        ensures header { IfOk result (λ f. (back : List Reading) → HeaderIs self.old back → f ≡ None → HeaderIs self.new (Ok (kinds.Header Totals value.now) ∷ back)) }
-        ensures events { self.new.events ≡ self.old.events }
-        ensures totals { self.new.totals.lines ≤ self.old.totals.lines + 1 }
-        ensures summary { self.new.summary.lines ≡ self.old.summary.lines }
+    /// Takes a line that states totals, and answers its fault.
+    fn stated_line(&mut self, key: StatedKey, value: &[u8]) -> Result<Option<Fault>, AllocError>
+        requires { stated_lines self.old.stated < 2 ^ 63 }
+        ensures takes { IfOk result (λ f. (line : ℕ) → TakesHeader line (header_key key) value.now self.old f self.new) }
+        ensures keeps { HeaderKeeps self.old self.new }
     {
         self.amounts.clear();
         let fault = push_amounts(&mut self.amounts, value)?;
         if fault.is_none() {
-            self.totals.add(&self.amounts);
-        }
-        Ok(fault)
-    }
-
-    /// Takes a `summary:` line, and answers its fault.
-    fn summary_line(&mut self, value: &[u8]) -> Result<Option<Fault>, AllocError>
-        requires { self.old.summary.lines < 2 ^ 63 }
-        ensures fault { IfOk result (λ f. (back : List Reading) → HeaderIs self.old back → f ≡ header_fault Summary value.now back) }
-        ensures header { IfOk result (λ f. (back : List Reading) → HeaderIs self.old back → f ≡ None → HeaderIs self.new (Ok (kinds.Header Summary value.now) ∷ back)) }
-        ensures events { self.new.events ≡ self.old.events }
-        ensures totals { self.new.totals.lines ≡ self.old.totals.lines }
-        ensures summary { self.new.summary.lines ≤ self.old.summary.lines + 1 }
-    {
-        self.amounts.clear();
-        let fault = push_amounts(&mut self.amounts, value)?;
-        if fault.is_none() {
-            self.summary.add(&self.amounts);
+            self.stated.add(key, &self.amounts);
         }
         Ok(fault)
     }
 
     /// Takes an `event:` line of this number, and answers its fault.
     fn formula_line(&mut self, line: u64, value: &[u8]) -> Result<Option<Fault>, AllocError>
-        ensures fault { IfOk result (λ f. (back : List Reading) → HeaderIs self.old back → f ≡ header_fault Event value.now back) }
-        ensures header { IfOk result (λ f. (back : List Reading) → HeaderIs self.old back → line ≡ number_after back → f ≡ None → HeaderIs self.new (Ok (kinds.Header Event value.now) ∷ back)) }
-        ensures events { self.new.events ≡ self.old.events }
-        ensures totals { self.new.totals.lines ≡ self.old.totals.lines }
-        ensures summary { self.new.summary.lines ≡ self.old.summary.lines }
+        ensures takes { IfOk result (λ f. TakesHeader line Event value.now self.old f self.new) }
+        ensures keeps { HeaderKeeps self.old self.new }
     {
         match event_line(self.events.alloc, value) {
             Ok(event) => {
@@ -143,20 +110,16 @@ impl Header {
         key: HeaderKey,
         value: &[u8],
     ) -> Result<Option<Fault>, AllocError>
-        requires totals { self.old.totals.lines < 2 ^ 63 }
-        requires summary { self.old.summary.lines < 2 ^ 63 }
-        ensures fault { IfOk result (λ f. (back : List Reading) → HeaderIs self.old back → f ≡ header_fault key value.now back) }
-        ensures header { IfOk result (λ f. (back : List Reading) → HeaderIs self.old back → line ≡ number_after back → f ≡ None → HeaderIs self.new (Ok (kinds.Header key value.now) ∷ back)) }
-        ensures kept { IfSome self.old.events.names (λ n. self.new.events.names ≡ Some n) }
-        ensures more_totals { self.new.totals.lines ≤ self.old.totals.lines + 1 }
-        ensures more_summary { self.new.summary.lines ≤ self.old.summary.lines + 1 }
+        requires { stated_lines self.old.stated < 2 ^ 63 }
+        ensures takes { IfOk result (λ f. TakesHeader line key value.now self.old f self.new) }
+        ensures keeps { HeaderKeeps self.old self.new }
     {
         match key {
             HeaderKey::Version => Ok(version_fault(value)),
             HeaderKey::Positions => Ok(self.positions_line(value)),
             HeaderKey::Events => self.events.take(value),
-            HeaderKey::Summary => self.summary_line(value),
-            HeaderKey::Totals => self.totals_line(value),
+            HeaderKey::Summary => self.stated_line(StatedKey::Summary, value),
+            HeaderKey::Totals => self.stated_line(StatedKey::Totals, value),
             HeaderKey::Event => self.formula_line(line, value),
             HeaderKey::Other => Ok(None),
         }
@@ -174,21 +137,14 @@ impl Header {
     }
 
     /// The totals that the lines so far state, one for each event.
-    #[tactic(auto, using(crate::proofs::TotalsLemmas::totals_rules))]
-    fn stated(&self) -> Result<Option<Items<u128>>, AllocError>
-        ensures { IfOk result (λ stated. (back : List Reading) → HeaderIs self.now back → stated ≡ stated_of (length (names_or_none self.now.events.names)) back) }
+    fn stated_totals(&self) -> Result<Option<Items<u128>>, AllocError>
+        ensures { IfOk result (StatesTotals self.now) }
     {
         let count = self.event_count();
         if count == 0 {
             return Ok(None);
         }
-        if self.totals.lines > 0 {
-            return Ok(Some(self.totals.first(self.events.alloc, count)?));
-        }
-        if self.summary.lines > 0 {
-            return Ok(Some(self.summary.first(self.events.alloc, count)?));
-        }
-        Ok(None)
+        self.stated.first(self.events.alloc, count)
     }
 
     /// What the lines so far say of their file, or the first fault of their formulas.
@@ -196,13 +152,12 @@ impl Header {
         ensures comes { (back : List Reading) → HeaderIs self back → ComesBy (formulas_fault back) result back }
         ensures few { IfOk result (λ head. length head.events ≤ 64) }
     {
-        let stated = self.stated()?;
+        let stated = self.stated_totals()?;
         let Header {
             events,
             layout: _,
             formulas,
-            totals: _,
-            summary: _,
+            stated: _,
             amounts: _,
         } = self;
         let events = events.into_names();

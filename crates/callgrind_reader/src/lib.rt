@@ -12,6 +12,7 @@ mod reader;
 mod rows;
 mod spaces;
 mod state;
+mod stated;
 mod tables;
 mod totals;
 

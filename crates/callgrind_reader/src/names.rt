@@ -1,11 +1,5 @@
 // The names of all three name spaces.
-ghost use Rattle.std.specs.Prelude.{◌≡◌, ℕ, ◌∷◌, List, [], IfOk, Option, Some, None, Ok, is_some, true};
-ghost use Rattle.cg_text.specs.Readings.{Reading};
-ghost use Rattle.cg_text.specs.Kinds as kinds;
-ghost use Rattle.cg_text.specs.Names.{name_of};
-ghost use Rattle.cg_text.specs.Words.{namespace_of};
-ghost use Rattle.callgrind_reader.specs.Names.{name_fault, meaning};
-ghost use Rattle.callgrind_reader.specs.Calls.{awaiting};
+ghost use Rattle.std.specs.Prelude.{[], IfOk};
 
 use crate::spaces::Space;
 use cg_text::{Fault, NameWord, Namespace};
@@ -20,7 +14,7 @@ pub struct Names {
 }
 
 impl Names {
-    ghost use Rattle.callgrind_reader.specs.Stands.{NamesAre};
+    ghost use Rattle.callgrind_reader.specs.Stands.{NamesAre, TakesWord, ForgetsCalled};
 
     /// Nothing is named yet.
     pub fn new(alloc: Global) -> Result<Names, AllocError>
@@ -35,8 +29,7 @@ impl Names {
 
     /// Takes a name line, and answers its fault.
     pub fn take(&mut self, word: NameWord, value: &[u8]) -> Result<Option<Fault>, AllocError>
-        ensures fault { IfOk result (λ f. (back : List Reading) → NamesAre self.old back → f ≡ name_fault (name_of value.now) (λ q. meaning (namespace_of word) q back)) }
-        ensures names { IfOk result (λ f. (back : List Reading) → NamesAre self.old back → f ≡ None → NamesAre self.new (Ok (kinds.Name word value.now) ∷ back)) }
+        ensures { IfOk result (TakesWord word value.now self.old self.new) }
     {
         match word.namespace() {
             Namespace::Object => self.objects.take(word.role(), value),
@@ -47,7 +40,7 @@ impl Names {
 
     /// Forgets the called names, after the cost line of a call.
     pub fn forget_called(&mut self)
-        ensures { (back : List Reading) (text : List ℕ) → NamesAre self.old back → is_some (awaiting back) ≡ true → NamesAre self.new (Ok (kinds.Cost text) ∷ back) }
+        ensures { ForgetsCalled self.old self.new }
     {
         self.objects.forget_called();
         self.files.forget_called();

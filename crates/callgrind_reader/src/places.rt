@@ -1,8 +1,8 @@
 // The positions of cost lines.
-ghost use Rattle.std.specs.Prelude.{◌≡◌, ℕ, ◌+◌, ◌<◌, ◌≤◌, ◌^◌, length, drop, IfOk, IfErr, IfSome, Some, Ok, Err};
+ghost use Rattle.std.specs.Prelude.{◌≡◌, ℕ, ◌+◌, ◌<◌, ◌≤◌, ◌^◌, IfOk, IfErr, Some};
 ghost use Rattle.cg_text.specs.Fields.{fields_of};
-ghost use Rattle.callgrind_reader.specs.declared.layouts.Layout.TheVariants.{Line, InstrLine, Instr};
-ghost use Rattle.callgrind_reader.specs.Positions.{Offsets, up, down, moved, ranged, placed, width, place_of, offsets_after};
+ghost use Rattle.callgrind_reader.specs.Positions.{up, down, ranged, placed};
+ghost use Rattle.callgrind_reader.specs.Columns.{ReadColumn, ReadFault};
 
 use crate::layouts::Layout;
 use cg_text::{Fault, SubPos, next_field, subpos};
@@ -30,9 +30,7 @@ pub struct PlacedLine<'a> {
 #[inline(always)]
 fn next_position(before: u64, by: SubPos, largest: u64) -> Result<u64, Fault>
     requires { before ≤ largest }
-    ensures value { (u d : ℕ) → before + d ≡ u → result ≡ ranged (largest + 1) (up by u) (down by d) }
-    ensures moved { IfOk result (λ n. (u d : ℕ) → before + d ≡ u → n + down by d ≡ up by u) }
-    ensures within { IfOk result (λ n. n ≤ largest) }
+    ensures { (u d : ℕ) → before + d ≡ u → result ≡ ranged (largest + 1) (up by u) (down by d) }
 {
     let next = match by {
         SubPos::Abs(n) => Some(n),
@@ -50,27 +48,36 @@ fn next_position(before: u64, by: SubPos, largest: u64) -> Result<u64, Fault>
 #[inline(always)]
 fn position(field: &[u8], before: u64, largest: u64) -> Result<u64, Fault>
     requires { before ≤ largest }
-    ensures value { (u d : ℕ) → before + d ≡ u → result ≡ placed (largest + 1) (Some field.now) u d }
-    ensures moved { IfOk result (λ n. (u d : ℕ) → before + d ≡ u → n + moved down (Some field.now) d ≡ moved up (Some field.now) u) }
-    ensures within { IfOk result (λ n. n ≤ largest) }
+    ensures { (u d : ℕ) → before + d ≡ u → result ≡ placed (largest + 1) (Some field.now) u d }
 {
     next_position(before, subpos(field)?, largest)
 }
 
-impl Layout {
-    /// How many positions a cost line begins with.
-    pub fn width(self) -> usize
-        ensures { result ≡ width self }
-    {
-        match self {
-            Layout::Line | Layout::Instr => 1,
-            Layout::InstrLine => 2,
-        }
+/// The position in a column, after the one before, and the text behind; where there is no such
+/// column, the position stays.
+#[inline(always)]
+fn read_column(
+    is_there: bool,
+    text: &[u8],
+    before: u64,
+    largest: u64,
+) -> Result<(u64, &[u8]), Fault>
+    requires { before ≤ largest }
+    ensures read { IfOk result (λ c. ReadColumn is_there (largest + 1) before (fields_of text.now) c.0 (fields_of c.1.now)) }
+    ensures fault { IfErr result (ReadFault is_there (largest + 1) before (fields_of text.now)) }
+{
+    if !is_there {
+        return Ok((before, text));
     }
+    let Some((field, rest)) = next_field(text) else {
+        return Err(Fault::ShortLine);
+    };
+    let next = position(field, before, largest)?;
+    Ok((next, rest))
 }
 
 impl Places {
-    ghost use Rattle.callgrind_reader.specs.Places.{IsPlaced};
+    ghost use Rattle.callgrind_reader.specs.Places.{ReadPlaces};
 
     /// Before the first cost line.
     pub fn new() -> Places
@@ -83,81 +90,19 @@ impl Places {
         }
     }
 
-    /// Reads a line number.
-    #[inline(always)]
-    fn read_line<'a>(self, text: &'a [u8]) -> Result<PlacedLine<'a>, Fault>
-        ensures value { IfOk result (λ p. (o : Offsets) → IsPlaced self o → place_of Line o (fields_of text.now) ≡ Ok p.line) }
-        ensures fault { IfErr result (λ f. (o : Offsets) → IsPlaced self o → width Line ≤ length (fields_of text.now) → place_of Line o (fields_of text.now) ≡ Err f) }
-        ensures moved { IfOk result (λ p. (o : Offsets) → IsPlaced self o → IsPlaced p.places (offsets_after Line (fields_of text.now) o)) }
-        ensures costs { IfOk result (λ p. fields_of p.costs.now ≡ drop (width Line) (fields_of text.now)) }
-        ensures count { IfOk result (λ p. width Line + length (fields_of p.costs.now) ≡ length (fields_of text.now)) }
-    {
-        let (field, costs) = next_field(text).ok_or(Fault::ShortLine)?;
-        let line = position(field, self.line, LARGEST_LINE)?;
-        let places = Places {
-            address: self.address,
-            line,
-        };
-        Ok(PlacedLine {
-            places,
-            line,
-            costs,
-        })
-    }
-
-    /// Reads an address; the line number is then 0.
-    fn read_address<'a>(self, text: &'a [u8]) -> Result<PlacedLine<'a>, Fault>
-        ensures value { IfOk result (λ p. (o : Offsets) → IsPlaced self o → place_of Instr o (fields_of text.now) ≡ Ok p.line) }
-        ensures fault { IfErr result (λ f. (o : Offsets) → IsPlaced self o → width Instr ≤ length (fields_of text.now) → place_of Instr o (fields_of text.now) ≡ Err f) }
-        ensures moved { IfOk result (λ p. (o : Offsets) → IsPlaced self o → IsPlaced p.places (offsets_after Instr (fields_of text.now) o)) }
-        ensures costs { IfOk result (λ p. fields_of p.costs.now ≡ drop (width Instr) (fields_of text.now)) }
-        ensures count { IfOk result (λ p. width Instr + length (fields_of p.costs.now) ≡ length (fields_of text.now)) }
-    {
-        let (field, costs) = next_field(text).ok_or(Fault::ShortLine)?;
-        let address = position(field, self.address, u64::MAX)?;
-        let places = Places {
-            address,
-            line: self.line,
-        };
-        Ok(PlacedLine {
-            places,
-            line: 0,
-            costs,
-        })
-    }
-
-    /// Reads an address and a line number.
-    fn read_both<'a>(self, text: &'a [u8]) -> Result<PlacedLine<'a>, Fault>
-        ensures value { IfOk result (λ p. (o : Offsets) → IsPlaced self o → place_of InstrLine o (fields_of text.now) ≡ Ok p.line) }
-        ensures fault { IfErr result (λ f. (o : Offsets) → IsPlaced self o → width InstrLine ≤ length (fields_of text.now) → place_of InstrLine o (fields_of text.now) ≡ Err f) }
-        ensures moved { IfOk result (λ p. (o : Offsets) → IsPlaced self o → IsPlaced p.places (offsets_after InstrLine (fields_of text.now) o)) }
-        ensures costs { IfOk result (λ p. fields_of p.costs.now ≡ drop (width InstrLine) (fields_of text.now)) }
-        ensures count { IfOk result (λ p. width InstrLine + length (fields_of p.costs.now) ≡ length (fields_of text.now)) }
-    {
-        let (field, rest) = next_field(text).ok_or(Fault::ShortLine)?;
-        let address = position(field, self.address, u64::MAX)?;
-        let (field, costs) = next_field(rest).ok_or(Fault::ShortLine)?;
-        let line = position(field, self.line, LARGEST_LINE)?;
-        let places = Places { address, line };
-        Ok(PlacedLine {
-            places,
-            line,
-            costs,
-        })
-    }
-
     /// Reads the positions of a cost line. A line with too few fields has a fault of any kind.
+    #[inline(always)]
     pub fn read<'a>(self, layout: Layout, text: &'a [u8]) -> Result<PlacedLine<'a>, Fault>
-        ensures value { IfOk result (λ p. (o : Offsets) → IsPlaced self o → place_of layout o (fields_of text.now) ≡ Ok p.line) }
-        ensures fault { IfErr result (λ f. (o : Offsets) → IsPlaced self o → width layout ≤ length (fields_of text.now) → place_of layout o (fields_of text.now) ≡ Err f) }
-        ensures moved { IfOk result (λ p. (o : Offsets) → IsPlaced self o → IsPlaced p.places (offsets_after layout (fields_of text.now) o)) }
-        ensures costs { IfOk result (λ p. fields_of p.costs.now ≡ drop (width layout) (fields_of text.now)) }
-        ensures count { IfOk result (λ p. width layout + length (fields_of p.costs.now) ≡ length (fields_of text.now)) }
+        ensures { ReadPlaces layout self (fields_of text.now) result }
     {
-        match layout {
-            Layout::Line => self.read_line(text),
-            Layout::Instr => self.read_address(text),
-            Layout::InstrLine => self.read_both(text),
-        }
+        let (address, rest) = read_column(layout.has_address(), text, self.address, u64::MAX)?;
+        let (line, costs) = read_column(layout.has_line(), rest, self.line, LARGEST_LINE)?;
+        let places = Places { address, line };
+        let line = if layout.has_line() { line } else { 0 };
+        Ok(PlacedLine {
+            places,
+            line,
+            costs,
+        })
     }
 }

@@ -1,9 +1,8 @@
 // Reads a file in pieces.
-ghost use Rattle.std.specs.Prelude.{◌≡◌, ℕ, ◌≤◌, OnOk, OnErr, IfOk, IsErr, None, Err, List, [], ◌++◌, length};
+ghost use Rattle.std.specs.Prelude.{◌≡◌, ℕ, ◌≤◌, OnOk, OnErr, IfOk, IsErr, None, Err, List, [], length};
 ghost use Rattle.text_pieces.specs.Kept.{taken_of};
-ghost use Rattle.text_pieces.specs.Readers.{GoesOn, HandsAll, HandsPart};
+ghost use Rattle.text_pieces.specs.Readers.{GoesOn};
 ghost use Rattle.profile_records.specs.Records.{Record};
-ghost use Rattle.callgrind_reader.specs.Files.{records_of_file};
 ghost use Rattle.cg_text.specs.declared.faults.ReadEnd.TheVariants.{Memory};
 
 use crate::state::State;
@@ -23,7 +22,7 @@ pub struct Reader {
 }
 
 impl Reader {
-    ghost use Rattle.callgrind_reader.specs.Reads.{Reads, Takes, room_of, IsSpent, StaysOpen, Ended, MatchMemory};
+    ghost use Rattle.callgrind_reader.specs.Reads.{Reads, Takes, room_of, IsSpent, StaysOpen, BreaksOff, Ended, HandsOver};
 
     /// Nothing was read.
     pub fn new(alloc: Global) -> Result<Reader, AllocError>
@@ -53,8 +52,7 @@ impl Reader {
         requires takes { (IsSpent self.old → ⊥) → Takes self.old (S.last sink.old) (S.width sink.old) }
         ensures reads { OnOk result (GoesOn Reads S.step self.old (S.meaning sink.old) piece.now self.new (S.meaning sink.new)) }
         ensures stays { OnOk result (StaysOpen self.old (length piece.now) self.new (S.last sink.new) (S.width sink.new)) }
-        ensures prefix { OnErr result ((text : List ℕ) (told : List Record) → Reads self.old text told
-            → HandsPart records_of_file S.step (text ++ piece.now) told (S.meaning sink.old) (S.meaning sink.new)) }
+        ensures prefix { OnErr result (BreaksOff S.step self.old (S.meaning sink.old) piece.now (S.meaning sink.new)) }
         ensures spent { IsSpent self.old → IsErr result }
         ensures err { OnErr result (IsSpent self.new) }
         ensures untouched { IsSpent self.old → sink.new ≡ sink.old }
@@ -67,9 +65,7 @@ impl Reader {
     pub fn finish<S: Sink>(self, sink: &mut S) -> Result<FileHead, ReadEnd>
         requires { (IsSpent self → ⊥) → Takes self (S.last sink.old) (S.width sink.old) }
         ensures ended { (text : List ℕ) (told : List Record) → Reads self text told → Ended result text }
-        ensures told { (text : List ℕ) (told : List Record) → Reads self text told → MatchMemory result
-            (HandsAll records_of_file S.step text told (S.meaning sink.old) (S.meaning sink.new))
-            (HandsPart records_of_file S.step text told (S.meaning sink.old) (S.meaning sink.new)) }
+        ensures told { HandsOver S.step self (S.meaning sink.old) result (S.meaning sink.new) }
         ensures few { IfOk result (λ head. length head.events ≤ 64) }
         ensures spent { IsSpent self → result ≡ Err Memory }
         ensures untouched { IsSpent self → sink.new ≡ sink.old }

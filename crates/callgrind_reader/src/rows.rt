@@ -1,14 +1,12 @@
 // The costs of cost lines, and the counts of calls.
-ghost use Rattle.std.specs.Prelude.{◌≡◌, ◌==◌, ℕ, ◌+◌, ◌-◌, ◌<◌, ◌≤◌, ◌^◌, OnOk, IfOk, IfErr, IfSome, Option, Some, None, [], ◌++◌, length, All, replicate, vec_len, if◌then◌else◌, Ok, Err, take, drop};
+ghost use Rattle.std.specs.Prelude.{◌≡◌, ◌==◌, ℕ, ◌+◌, ◌-◌, ◌<◌, ◌≤◌, ◌^◌, OnOk, IfOk, Option, Some, None, [], ◌++◌, length, All, replicate, vec_len, if◌then◌else◌, Ok, Err, take};
 ghost use Rattle.cg_text.specs.Fields.{fields_of};
 ghost use Rattle.cg_text.specs.Numbers.{amount_of};
 ghost use Rattle.cg_text.specs.Subpositions.{subpos_of};
 ghost use Rattle.callgrind_reader.specs.Faulty.{each, err_of};
-ghost use Rattle.callgrind_reader.specs.Positions.{Offsets, width, place_of, offsets_after};
-ghost use Rattle.callgrind_reader.specs.Costs.{padded, shape_fault, fields_row, unless_shape};
+ghost use Rattle.callgrind_reader.specs.Costs.{AreAmounts, padded, shape_fault};
 ghost use Rattle.callgrind_reader.specs.Calls.{counted};
-ghost use Rattle.callgrind_reader.specs.Parts.{list_or, with_front, placed_row};
-ghost use Rattle.callgrind_reader.specs.Places.{IsPlaced};
+ghost use Rattle.callgrind_reader.specs.Parts.{list_or, with_front, ReadFields, ReadRow};
 
 use crate::layouts::Layout;
 use crate::places::{PlacedLine, Places};
@@ -33,7 +31,7 @@ pub fn field_count(text: &[u8]) -> usize
 pub fn push_amounts(row: &mut Vec<u64>, text: &[u8]) -> Result<Option<Fault>, AllocError>
     ensures value { IfOk result (λ f. list_or f row.new.items ≡ with_front row.old.items (each amount_of (fields_of text.now))) }
     ensures count { IfOk result (λ f. f ≡ None → length row.new.items ≡ length row.old.items + length (fields_of text.now)) }
-    ensures small { OnOk result (All (λ c. c < 2 ^ 63) row.old.items → All (λ c. c < 2 ^ 63) row.new.items) }
+    ensures small { OnOk result (AreAmounts row.old.items → AreAmounts row.new.items) }
 {
     let mut rest = text;
     while let Some((field, more)) = next_field(rest) {
@@ -52,7 +50,7 @@ fn pad(row: &mut Vec<u64>, len: usize) -> Result<(), AllocError>
     requires { vec_len row.old ≤ len }
     ensures value { OnOk result (row.new.items ≡ padded len row.old.items) }
     ensures full { OnOk result (length row.new.items ≡ len) }
-    ensures small { OnOk result (All (λ c. c < 2 ^ 63) row.old.items → All (λ c. c < 2 ^ 63) row.new.items) }
+    ensures small { OnOk result (AreAmounts row.old.items → AreAmounts row.new.items) }
 {
     row.resize(len, 0)?;
     Ok(())
@@ -80,12 +78,7 @@ fn read_fields<'a>(
     before: Places,
     text: &'a [u8],
 ) -> Result<Result<PlacedLine<'a>, Fault>, AllocError>
-    ensures placed { IfOk result (λ r. IfOk r (λ p. (o : Offsets) → IsPlaced before o → place_of layout o (fields_of text.now) ≡ Ok p.line)) }
-    ensures costs { IfOk result (λ r. OnOk r (each amount_of (drop (width layout) (fields_of text.now)) ≡ Ok row.new.items)) }
-    ensures fault { IfOk result (λ r. IfErr r (λ f. (n : ℕ) (o : Offsets) → IsPlaced before o → width layout ≤ length (fields_of text.now) → fields_row n layout o (fields_of text.now) ≡ Err f)) }
-    ensures moved { IfOk result (λ r. IfOk r (λ p. (o : Offsets) → IsPlaced before o → IsPlaced p.places (offsets_after layout (fields_of text.now) o))) }
-    ensures count { IfOk result (λ r. OnOk r (width layout + length row.new.items ≡ length (fields_of text.now))) }
-    ensures small { IfOk result (λ r. OnOk r (All (λ c. c < 2 ^ 63) row.new.items)) }
+    ensures { IfOk result (ReadFields layout before (fields_of text.now) row.new.items) }
 {
     row.clear();
     let placed = match before.read(layout, text) {
@@ -107,11 +100,7 @@ pub fn cost_row<'a>(
     before: Places,
     text: &'a [u8],
 ) -> Result<Result<PlacedLine<'a>, Fault>, AllocError>
-    ensures value { IfOk result (λ r. (o : Offsets) → IsPlaced before o
-        → placed_row r row.new.items ≡ unless_shape (shape_fault events layout (fields_of text.now)) (fields_row events layout o (fields_of text.now))) }
-    ensures moved { IfOk result (λ r. IfOk r (λ p. (o : Offsets) → IsPlaced before o → IsPlaced p.places (offsets_after layout (fields_of text.now) o))) }
-    ensures wide { IfOk result (λ r. OnOk r (length row.new.items ≡ events)) }
-    ensures small { IfOk result (λ r. OnOk r (All (λ c. c < 2 ^ 63) row.new.items)) }
+    ensures { IfOk result (ReadRow events layout before (fields_of text.now) row.new.items) }
 {
     match read_fields(row, layout, before, text)? {
         Ok(placed) => {

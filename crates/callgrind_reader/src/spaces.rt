@@ -1,10 +1,8 @@
 // The names of a name space: what identifiers mean, and which names are in force.
-ghost use Rattle.std.specs.Prelude.{◌≡◌, ℕ, IfOk, IfSome, OnOk, Some, None, unwrap_or, if◌then◌else◌};
-ghost use Rattle.cg_text.specs.Names as names;
+ghost use Rattle.std.specs.Prelude.{◌≡◌, IfOk, OnOk, None, unwrap_or};
 ghost use Rattle.cg_text.specs.Names.{name_of};
-ghost use Rattle.cg_text.specs.declared.words.Role.TheVariants.{Own, Called};
 ghost use Rattle.callgrind_reader.specs.Table.{text_at};
-ghost use Rattle.callgrind_reader.specs.Names.{name_fault, meaning_after, named, same_role};
+ghost use Rattle.callgrind_reader.specs.Names.{Resolves};
 
 use crate::tables::NameTable;
 use cg_text::{Fault, Role, name_spec};
@@ -25,9 +23,7 @@ fn resolve(
     name: &mut Vec<u8>,
     value: &[u8],
 ) -> Result<Option<Fault>, AllocError>
-    ensures fault { IfOk result (λ f. f ≡ name_fault (name_of value.now) (text_at table.old)) }
-    ensures table { IfOk result (λ f. f ≡ None → (q : ℕ) → text_at table.new q ≡ meaning_after (name_of value.now) q (text_at table.old q)) }
-    ensures name { IfOk result (λ f. f ≡ None → name.new.items ≡ named (name_of value.now) (text_at table.old)) }
+    ensures { IfOk result (Resolves (name_of value.now) (text_at table.old) (text_at table.new) name.new.items) }
 {
     let spec = match name_spec(value) {
         Ok(spec) => spec,
@@ -69,7 +65,7 @@ pub struct Space {
 impl Space {
     ghost use Rattle.std.specs.Prelude.{List, []};
     ghost use Rattle.cg_text.specs.declared.words.Namespace.{Namespace};
-    ghost use Rattle.callgrind_reader.specs.Space.{SpaceIs, called_name};
+    ghost use Rattle.callgrind_reader.specs.Space.{SpaceIs, TakesName, called_name};
 
     /// Nothing is named yet.
     pub fn new(alloc: Global) -> Result<Space, AllocError>
@@ -109,10 +105,7 @@ impl Space {
 
     /// Takes the value of a name line of this space, and answers its fault.
     pub fn take(&mut self, role: Role, value: &[u8]) -> Result<Option<Fault>, AllocError>
-        ensures fault { IfOk result (λ f. f ≡ name_fault (name_of value.now) (text_at self.old.table)) }
-        ensures table { IfOk result (λ f. f ≡ None → (q : ℕ) → text_at self.new.table q ≡ meaning_after (name_of value.now) q (text_at self.old.table q)) }
-        ensures own { IfOk result (λ f. f ≡ None → self.new.own.items ≡ (if same_role Own role then named (name_of value.now) (text_at self.old.table) else self.old.own.items)) }
-        ensures called { IfOk result (λ f. f ≡ None → called_name self.new ≡ (if same_role Called role then Some (named (name_of value.now) (text_at self.old.table)) else called_name self.old)) }
+        ensures { IfOk result (TakesName role (name_of value.now) self.old self.new) }
     {
         match role {
             Role::Own => resolve(&mut self.table, &mut self.own, value),

@@ -9,6 +9,7 @@ ghost use Rattle.callgrind_reader.specs.Calls.{number_after, callee_of};
 ghost use Rattle.profile_records.specs.Records.{Own, Called};
 ghost use Rattle.callgrind_reader.specs.Lines.{record_of, record_with, cost_of};
 ghost use Rattle.callgrind_reader.specs.Accept.{adds, breaks, broken};
+ghost use Rattle.callgrind_reader.specs.Stated.{stated_lines};
 
 use crate::header::Header;
 use crate::names::Names;
@@ -31,8 +32,7 @@ pub struct State {
     pub(crate) fault: Option<(Fault, u64)>,
     row: Vec<u64>,
     ghost counted: { ForSome call (λ c. c.1 < 2 ^ 63) },
-    ghost few_totals: { header.totals.lines ≤ lines },
-    ghost few_summaries: { header.summary.lines ≤ lines },
+    ghost few: { stated_lines header.stated ≤ lines },
 }
 
 /// Whether a line ends the wait for a cost line without being one.
@@ -57,7 +57,8 @@ fn reading(line: Line<'_>) -> Result<LineKind<'_>, Fault>
 }
 
 impl State {
-    ghost use Rattle.callgrind_reader.specs.Stands.{NamesAre, Live, StandsAfter, Follows, count_of};
+    ghost use Rattle.callgrind_reader.specs.Stands.{NamesAre, Live, StandsAfter};
+    ghost use Rattle.callgrind_reader.specs.Steps.{IsCounted, SameLine, Takes, Fits, FitsNow, FitsRow, Hands, ReadsLine, ReadsOn};
     ghost use Rattle.callgrind_reader.specs.Ends.{Comes};
 
     /// No line was read.
@@ -79,13 +80,9 @@ impl State {
 
     /// Reads a header line that no fault comes before, and answers its fault.
     fn header_line(&mut self, key: HeaderKey, value: &[u8]) -> Result<Option<Fault>, AllocError>
-        requires few { self.old.lines < 2 ^ 63 }
-        requires totals { self.old.header.totals.lines < self.old.lines }
-        requires summary { self.old.header.summary.lines < self.old.lines }
-        ensures follows { IfOk result (λ f. (back : List Reading) → Live self.old back → self.old.lines ≡ number_after back → Follows self.new (Ok (kinds.Header key value.now)) f back) }
-        ensures lines { self.new.lines ≡ self.old.lines }
-        ensures fault { self.new.fault ≡ self.old.fault }
-        ensures events { IfSome self.old.header.events.names (λ n. self.new.header.events.names ≡ Some n) }
+        requires { IsCounted self.old }
+        ensures takes { IfOk result (λ f. Takes self.old (Ok (kinds.Header key value.now)) f self.new) }
+        ensures same { SameLine self.old self.new }
     {
         self.call = None;
         self.header.take(self.lines, key, value)
@@ -93,9 +90,8 @@ impl State {
 
     /// Reads a name line that no fault comes before, and answers its fault.
     fn name_line(&mut self, word: NameWord, value: &[u8]) -> Result<Option<Fault>, AllocError>
-        ensures follows { IfOk result (λ f. (back : List Reading) → Live self.old back → Follows self.new (Ok (kinds.Name word value.now)) f back) }
-        ensures lines { self.new.lines ≡ self.old.lines }
-        ensures fault { self.new.fault ≡ self.old.fault }
+        ensures takes { IfOk result (λ f. Takes self.old (Ok (kinds.Name word value.now)) f self.new) }
+        ensures same { SameLine self.old self.new }
         ensures header { self.new.header ≡ self.old.header }
     {
         self.call = None;
@@ -104,10 +100,8 @@ impl State {
 
     /// Reads a `calls=` line that no fault comes before, and answers its fault.
     fn calls_line(&mut self, value: &[u8]) -> Option<Fault>
-        ensures follows { (back : List Reading) → Live self.old back → self.old.lines ≡ number_after back → Follows self.new (Ok (kinds.Calls value.now)) result back }
-        ensures lines { self.new.lines ≡ self.old.lines }
-        ensures fault { self.new.fault ≡ self.old.fault }
-        ensures events { self.new.header.events ≡ self.old.header.events }
+        ensures takes { Takes self.old (Ok (kinds.Calls value.now)) result self.new }
+        ensures same { SameLine self.old self.new }
     {
         match call_count(self.header.layout().width(), value) {
             Ok(count) => {
@@ -121,9 +115,8 @@ impl State {
 
     /// Reads a jump that no fault comes before.
     fn jump_line(&mut self)
-        ensures follows { (back : List Reading) → Live self.old back → Follows self.new (Ok kinds.Jump) None back }
-        ensures lines { self.new.lines ≡ self.old.lines }
-        ensures fault { self.new.fault ≡ self.old.fault }
+        ensures takes { Takes self.old (Ok kinds.Jump) None self.new }
+        ensures same { SameLine self.old self.new }
         ensures header { self.new.header ≡ self.old.header }
     {
         self.call = None;
@@ -131,15 +124,9 @@ impl State {
 
     /// Hands on the record of a call's cost line, whose costs stand in the row.
     fn hand_call<S: Sink>(&self, line: u64, count: u64, sink: &mut S) -> Result<(), AllocError>
-        requires rises { S.last sink.old < self.now.lines }
-        requires wide { IfSome (S.width sink.old) (λ n. length self.now.row.items ≡ n) }
-        requires small { All (λ c. c < 2 ^ 63) self.now.row.items }
+        requires fits { FitsRow S.Sink self.now sink.old }
         requires count { count < 2 ^ 63 }
-        ensures told { OnOk result ((back : List Reading) → Live self.now back → self.now.lines ≡ number_after back
-            → S.meaning sink.new ≡ S.step (S.meaning sink.old) (Called (callee_of count back) (cost_of line self.now.row.items back))) }
-        ensures last { OnOk result (S.last sink.new ≡ self.now.lines) }
-        ensures width { OnOk result (S.width sink.new ≡ Some (length self.now.row.items)) }
-        ensures err { OnErr result (S.meaning sink.new ≡ S.meaning sink.old) }
+        ensures { Hands S.Sink self.now (λ back. Called (callee_of count back) (cost_of line self.now.row.items back)) result sink.old sink.new }
     {
         let object = self.names.objects.own();
         let file = self.names.files.own();
@@ -159,14 +146,8 @@ impl State {
 
     /// Hands on the record of a cost line that is no call's, whose costs stand in the row.
     fn hand_own<S: Sink>(&self, line: u64, sink: &mut S) -> Result<(), AllocError>
-        requires rises { S.last sink.old < self.now.lines }
-        requires wide { IfSome (S.width sink.old) (λ n. length self.now.row.items ≡ n) }
-        requires small { All (λ c. c < 2 ^ 63) self.now.row.items }
-        ensures told { OnOk result ((back : List Reading) → Live self.now back → self.now.lines ≡ number_after back
-            → S.meaning sink.new ≡ S.step (S.meaning sink.old) (Own (cost_of line self.now.row.items back))) }
-        ensures last { OnOk result (S.last sink.new ≡ self.now.lines) }
-        ensures width { OnOk result (S.width sink.new ≡ Some (length self.now.row.items)) }
-        ensures err { OnErr result (S.meaning sink.new ≡ S.meaning sink.old) }
+        requires { FitsRow S.Sink self.now sink.old }
+        ensures { Hands S.Sink self.now (λ back. Own (cost_of line self.now.row.items back)) result sink.old sink.new }
     {
         sink.self_cost(SelfCost {
             at: self.lines,
@@ -181,19 +162,12 @@ impl State {
     /// Hands on the record of a cost line, whose costs stand in the row; the called names of a call
     /// are then forgotten.
     fn hand_record<S: Sink>(&mut self, line: u64, sink: &mut S) -> Result<(), AllocError>
-        requires rises { S.last sink.old < self.old.lines }
-        requires wide { IfSome (S.width sink.old) (λ n. length self.old.row.items ≡ n) }
-        requires small { All (λ c. c < 2 ^ 63) self.old.row.items }
-        ensures told { OnOk result ((back : List Reading) → Live self.old back → self.old.lines ≡ number_after back
-            → S.meaning sink.new ≡ S.step (S.meaning sink.old) (record_with self.old.call (cost_of line self.old.row.items back) back)) }
+        requires { FitsRow S.Sink self.old sink.old }
+        ensures hands { Hands S.Sink self.old (λ back. record_with self.old.call (cost_of line self.old.row.items back) back) result sink.old sink.new }
         ensures names { OnOk result ((back : List Reading) (text : List ℕ) → Live self.old back → NamesAre self.new.names (Ok (kinds.Cost text) ∷ back)) }
-        ensures lines { self.new.lines ≡ self.old.lines }
+        ensures same { SameLine self.old self.new }
         ensures header { self.new.header ≡ self.old.header }
         ensures places { self.new.places ≡ self.old.places }
-        ensures fault { self.new.fault ≡ self.old.fault }
-        ensures last { OnOk result (S.last sink.new ≡ self.old.lines) }
-        ensures width { OnOk result (S.width sink.new ≡ Some (length self.old.row.items)) }
-        ensures err { OnErr result (S.meaning sink.new ≡ S.meaning sink.old) }
     {
         match self.call {
             Some((_, count)) => {
@@ -207,16 +181,8 @@ impl State {
 
     /// Reads a cost line that no fault comes before, and answers its fault.
     fn cost_line<S: Sink>(&mut self, text: &[u8], sink: &mut S) -> Result<Option<Fault>, AllocError>
-        requires rises { S.last sink.old < self.old.lines }
-        requires wide { IfSome (S.width sink.old) (λ n. count_of self.old.header.events.names ≡ Some n) }
-        ensures follows { IfOk result (λ f. (back : List Reading) → Live self.old back → Follows self.new (Ok (kinds.Cost text.now)) f back) }
-        ensures told { IfOk result (λ f. (back : List Reading) → Live self.old back → self.old.lines ≡ number_after back
-            → S.meaning sink.new ≡ fold S.step (S.meaning sink.old) (record_of (Ok (kinds.Cost text.now)) back)) }
-        ensures lines { self.new.lines ≡ self.old.lines }
-        ensures fault { self.new.fault ≡ self.old.fault }
-        ensures rises { OnOk result (S.last sink.new ≤ self.new.lines) }
-        ensures wide { OnOk result (IfSome (S.width sink.new) (λ n. count_of self.new.header.events.names ≡ Some n)) }
-        ensures err { OnErr result (S.meaning sink.new ≡ S.meaning sink.old) }
+        requires { FitsNow S.Sink self.old sink.old }
+        ensures { ReadsLine S.Sink self.old self.new (Ok (kinds.Cost text.now)) result sink.old sink.new }
     {
         let Some(events) = &self.header.events.names else {
             return Ok(Some(Fault::NoEvents));
@@ -240,19 +206,9 @@ impl State {
         kind: LineKind<'_>,
         sink: &mut S,
     ) -> Result<Option<Fault>, AllocError>
-        requires few { self.old.lines < 2 ^ 63 }
-        requires totals { self.old.header.totals.lines < self.old.lines }
-        requires summary { self.old.header.summary.lines < self.old.lines }
-        requires rises { S.last sink.old < self.old.lines }
-        requires wide { IfSome (S.width sink.old) (λ n. count_of self.old.header.events.names ≡ Some n) }
-        ensures follows { IfOk result (λ f. (back : List Reading) → Live self.old back → self.old.lines ≡ number_after back → Follows self.new (Ok (plain_kind kind.entry)) f back) }
-        ensures told { IfOk result (λ f. (back : List Reading) → Live self.old back → self.old.lines ≡ number_after back
-            → S.meaning sink.new ≡ fold S.step (S.meaning sink.old) (record_of (Ok (plain_kind kind.entry)) back)) }
-        ensures lines { self.new.lines ≡ self.old.lines }
-        ensures fault { self.new.fault ≡ self.old.fault }
-        ensures rises { OnOk result (S.last sink.new ≤ self.new.lines) }
-        ensures wide { OnOk result (IfSome (S.width sink.new) (λ n. count_of self.new.header.events.names ≡ Some n)) }
-        ensures err { OnErr result (S.meaning sink.new ≡ S.meaning sink.old) }
+        requires counted { IsCounted self.old }
+        requires fits { FitsNow S.Sink self.old sink.old }
+        ensures { ReadsLine S.Sink self.old self.new (Ok (plain_kind kind.entry)) result sink.old sink.new }
     {
         match kind {
             LineKind::Nothing => Ok(None),
@@ -273,19 +229,9 @@ impl State {
         reading: Result<LineKind<'_>, Fault>,
         sink: &mut S,
     ) -> Result<Option<Fault>, AllocError>
-        requires few { self.old.lines < 2 ^ 63 }
-        requires totals { self.old.header.totals.lines < self.old.lines }
-        requires summary { self.old.header.summary.lines < self.old.lines }
-        requires rises { S.last sink.old < self.old.lines }
-        requires wide { IfSome (S.width sink.old) (λ n. count_of self.old.header.events.names ≡ Some n) }
-        ensures follows { IfOk result (λ f. (back : List Reading) → Live self.old back → self.old.lines ≡ number_after back → Follows self.new (kind_is reading.entry) f back) }
-        ensures told { IfOk result (λ f. (back : List Reading) → Live self.old back → self.old.lines ≡ number_after back
-            → S.meaning sink.new ≡ fold S.step (S.meaning sink.old) (record_of (kind_is reading.entry) back)) }
-        ensures lines { self.new.lines ≡ self.old.lines }
-        ensures fault { self.new.fault ≡ self.old.fault }
-        ensures rises { OnOk result (S.last sink.new ≤ self.new.lines) }
-        ensures wide { OnOk result (IfSome (S.width sink.new) (λ n. count_of self.new.header.events.names ≡ Some n)) }
-        ensures err { OnErr result (S.meaning sink.new ≡ S.meaning sink.old) }
+        requires counted { IsCounted self.old }
+        requires fits { FitsNow S.Sink self.old sink.old }
+        ensures { ReadsLine S.Sink self.old self.new (kind_is reading.entry) result sink.old sink.new }
     {
         match reading {
             Ok(kind) => self.apply(kind, sink),
@@ -311,15 +257,8 @@ impl State {
         sink: &mut S,
     ) -> Result<(), AllocError>
         requires few { self.old.lines < 2 ^ 62 }
-        requires rises { S.last sink.old ≤ self.old.lines }
-        requires wide { IfSome (S.width sink.old) (λ n. count_of self.old.header.events.names ≡ Some n) }
-        ensures stands { OnOk result ((back : List Reading) → StandsAfter self.old back → StandsAfter self.new (kind_is reading.entry ∷ back)) }
-        ensures told { OnOk result ((back : List Reading) → StandsAfter self.old back
-            → S.meaning sink.new ≡ fold S.step (S.meaning sink.old) (adds (kind_is reading.entry) back)) }
-        ensures lines { self.new.lines ≡ self.old.lines + 1 }
-        ensures rises { OnOk result (S.last sink.new ≤ self.new.lines) }
-        ensures wide { OnOk result (IfSome (S.width sink.new) (λ n. count_of self.new.header.events.names ≡ Some n)) }
-        ensures err { OnErr result (S.meaning sink.new ≡ S.meaning sink.old) }
+        requires fits { Fits S.Sink self.old sink.old }
+        ensures { ReadsOn S.Sink self.old self.new (kind_is reading.entry) result sink.old sink.new }
     {
         self.lines += 1;
         if self.fault.is_some() {
@@ -352,7 +291,8 @@ impl State {
 
 impl<S: Sink> TakesLines<S> for State {
     ghost use Rattle.profile_records.specs.Records.{Record};
-    ghost use Rattle.callgrind_reader.specs.Stands.{StandsAfter, count_of};
+    ghost use Rattle.callgrind_reader.specs.Stands.{StandsAfter};
+    ghost use Rattle.callgrind_reader.specs.Steps.{Fits};
 
     ghost Reading = { Reading };
 
@@ -366,7 +306,7 @@ impl<S: Sink> TakesLines<S> for State {
 
     ghost lines = { λ s. s.lines };
 
-    ghost fits = { λ s k. (S.last k ≤ s.lines) × IfSome (S.width k) (λ n. count_of s.header.events.names ≡ Some n) };
+    ghost fits = { Fits S.Sink };
 
     ghost Meaning = { S.Meaning };
 

@@ -1,5 +1,6 @@
-// The totals that a file states.
-ghost use Rattle.std.specs.Prelude.{◌≡◌, ℕ, ◌+◌, ◌*◌, ◌<◌, ◌≤◌, ◌^◌, All, IfOk, Option, Some, None, length, slice_index, take, vec_len};
+// Sums of columns.
+ghost use Rattle.std.specs.Prelude.{◌≡◌, ℕ, ◌+◌, ◌*◌, ◌<◌, ◌≤◌, ◌^◌, All, IfOk, Option, Some, None, nat_lt, if◌then◌else◌, length, slice_index, take, vec_len};
+ghost use Rattle.callgrind_reader.specs.Costs.{AreAmounts};
 
 use crate::events::MOST_EVENTS;
 use cg_text::Items;
@@ -28,7 +29,7 @@ impl Sums {
 
     /// Adds the amounts of a line.
     pub fn add(&mut self, amounts: &[u64])
-        requires small { All (λ a. a < 2 ^ 63) amounts.now }
+        requires small { AreAmounts amounts.now }
         requires few { self.old.lines < 2 ^ 63 }
         ensures sums { (k : ℕ) → k < 64 → slice_index self.new.sums.items k ≡ slice_index self.old.sums.items k + slice_index amounts.now k }
         ensures lines { self.new.lines ≡ self.old.lines + 1 }
@@ -41,12 +42,15 @@ impl Sums {
         }
     }
 
-    /// The sums of the first columns.
-    pub fn first(&self, alloc: Global, count: usize) -> Result<Items<u128>, AllocError>
+    /// The sums of the first columns, if a line was added.
+    pub fn first(&self, alloc: Global, count: usize) -> Result<Option<Items<u128>>, AllocError>
         requires { count ≤ 64 }
-        ensures { IfOk result (λ sums. sums ≡ take count self.now.sums.items) }
+        ensures { IfOk result (λ sums. sums ≡ (if nat_lt 0 self.now.lines then Some (take count self.now.sums.items) else None)) }
     {
+        if self.lines == 0 {
+            return Ok(None);
+        }
         let sums = self.sums[..count].to_vec(alloc)?;
-        Ok(Items::from_vec(sums))
+        Ok(Some(Items::from_vec(sums)))
     }
 }

@@ -1,10 +1,10 @@
 -- What all definitions come to, from what is kept of them.
-use Rattle.std.proofs.Common.{ℕ, ◌≡◌, ◌+◌, ◌<◌, false, List, [], ◌∷◌, ◌++◌, map, reverse, length, take, drop, get_or, Option, Some, None, Ok, Err, sym, ap, ◌∙◌, subst}
+use Rattle.std.proofs.Common.{ℕ, ◌≡◌, ◌+◌, ◌<◌, false, List, [], ◌∷◌, ◌++◌, map, reverse, length, take, drop, get_or, Option, Some, None, Err, sym, ap, ◌∙◌, subst}
 use Rattle.std.proofs.lemmas.List.{map-append, reverse-append, take-append-drop, take_more}
-use Rattle.cg_formulas.specs.Formulas.{Definition, is_defined, coefficient, coefficients, derived_names, first_or, formula_fault, derived_of}
+use Rattle.cg_formulas.specs.Formulas.{Definition, is_defined, first_or, formula_fault}
 use Rattle.cg_formulas.specs.Definitions.{plain_definition, plain_back}
-use Rattle.cg_formulas.specs.Flats.{FlatIs, Flattens, Defines}
-use Rattle.cg_formulas.specs.Held.{Agree, Stands, AreFresh, Holds, kept_of}
+use Rattle.cg_formulas.specs.Flats.{FlatIs, Defines}
+use Rattle.cg_formulas.specs.Held.{Stands, AreFresh, Holds}
 use Rattle.cg_formulas.specs.declared.definitions.Definition as kept
 use Rattle.cg_text.specs.declared.faults.Fault as faults
 use Rattle.cg_text.specs.declared.faults.Fault.TheVariants.{EventTwice}
@@ -12,7 +12,6 @@ use Rattle.cg_formulas.specs.declared.flats.Flat.{Flat}
 use Rattle.cg_formulas.specs.declared.flats.FlatEnd.{FlatEnd}
 use Rattle.cg_formulas.specs.declared.flats.FlatEnd.TheVariants.{Fault, Memory}
 use Rattle.cg_formulas.specs.declared.formulas.Formulas.{Formulas}
-use Rattle.cg_formulas.proofs.RepeatLemmas.{maps-same}
 use Rattle.cg_formulas.proofs.HeldLemmas.{fault-stays, plain_back-push}
 
 -- ---- one by one
@@ -63,33 +62,3 @@ flat_err (Fault f line) flat events o ks i d ds same inside stands h =
 pub flat-err : (f : Formulas) (e : FlatEnd) (flat : Flat) (events : List (List ℕ)) (i : ℕ) (d : kept.Definition) (ds : List Definition) → flat.events ≡ events → i < length f.definitions
     → Holds f ds → Defines (Err e) flat (get_or f.definitions i d) (plain_back (take i f.definitions)) → FlatIs (Err e) events ds
 flat-err f e flat events i d ds same inside holds h = flat_err e flat events f.changed f.definitions i d ds same inside holds.stands h
-
-derived-agree : (events : List (List ℕ)) (es ds : List Definition) → Agree events es ds → derived_of events ds ≡ derived_of events es
-derived-agree events es ds a =
-    ap (map (λ name. (name, coefficients events name ds))) a.names
-    ∙ maps-same (λ name. (name, coefficients events name ds)) (λ name. (name, coefficients events name es)) (derived_names es)
-    (λ name. ap (λ row. (name, row)) (maps-same (λ event. coefficient event name ds) (λ event. coefficient event name es) events (λ event. a.values event name)))
-
-flat_ok : (flat : Flat) (events : List (List ℕ)) (o : Option ℕ) (es ds : List Definition) → o ≡ None → flat.events ≡ events → Flattens flat es → Stands o es ds → FlatIs (Ok flat) events ds
-flat_ok flat events (Some line) es ds none same f stands = absurd cc
-flat_ok flat events None es ds none same f stands =
-    let free : formula_fault events es ≡ None = subst (λ ns. formula_fault ns es ≡ None) same f.free in (
-      stands.fault events ∙ free,
-      record {
-        events = same;
-        derived = f.derived ∙ (ap (λ ns. derived_of ns es) same ∙ sym (derived-agree events es ds (stands.agree events free)));
-      },
-    )
-
-pub flat-ok : (f : Formulas) (flat : Flat) (events : List (List ℕ)) (ds : List Definition) → f.changed ≡ None → flat.events ≡ events → Flattens flat (kept_of f) → Holds f ds → FlatIs (Ok flat) events ds
-flat-ok f flat events ds none same flattens holds = flat_ok flat events f.changed (kept_of f) ds none same flattens holds.stands
-
-flat_changed : (line : ℕ) (flat : Flat) (events : List (List ℕ)) (o : Option ℕ) (es ds : List Definition) → o ≡ Some line → flat.events ≡ events → Flattens flat es → Stands o es ds → FlatIs (Err (Fault EventTwice line)) events ds
-flat_changed line flat events None es ds some same f stands = absurd cc
-flat_changed line flat events (Some at) es ds some same f stands =
-    let free : formula_fault events es ≡ None = subst (λ ns. formula_fault ns es ≡ None) same f.free in
-    let number : at ≡ line = cc in
-    stands events ∙ (ap (λ o. first_or o (Some EventTwice) at) free ∙ ap (λ n. Some (EventTwice, n)) number)
-
-pub flat-changed : (f : Formulas) (line : ℕ) (flat : Flat) (events : List (List ℕ)) (ds : List Definition) → f.changed ≡ Some line → flat.events ≡ events → Flattens flat (kept_of f) → Holds f ds → FlatIs (Err (Fault EventTwice line)) events ds
-flat-changed f line flat events ds some same flattens holds = flat_changed line flat events f.changed (kept_of f) ds some same flattens holds.stands

@@ -1,5 +1,5 @@
 -- Derived events: what the formulas of `event:` lines come to over the events of a file.
-use Rattle.std.specs.Prelude.{ℕ, ◌+◌, ◌*◌, Bool, true, false, not, ◌||◌, ◌&&◌, List, [], ◌∷◌, ◌++◌, map, length, sum, sum_by, zip, nat_lt, ◌==◌, if◌then◌else◌, Option, Some, None}
+use Rattle.std.specs.Prelude.{◌≡◌, ℕ, ◌+◌, ◌*◌, Bool, true, false, not, ◌||◌, ◌&&◌, List, [], ◌∷◌, ◌++◌, map, length, sum, sum_by, zip, nat_lt, ◌==◌, if◌then◌else◌, Option, Some, None}
 use Rattle.std.specs.List.{list_any, list_all}
 use Rattle.std.specs.Str.{bytes_eq}
 use Rattle.cg_formulas.specs.EventLines.{Term, Event}
@@ -104,3 +104,19 @@ defined_by line name (Some terms) back = record { line = line; name = name; term
 -- the definitions after one more line
 abbrev pub define : ℕ → Event → List Definition → List Definition
 define line e back = defined_by line e.name e.terms back
+
+-- ---- what the laws say
+
+-- a value of sums of costs is the sum of the values
+abbrev pub AddsUp : (List ℕ → Option ℕ) → Type 0
+AddsUp value = (costs more : List ℕ) → length costs ≡ length more → value (both costs more) ≡ plus (value costs) (value more)
+
+-- a name is defined again, with the same terms
+abbrev pub Repeats : Definition → List Definition → Type 0
+Repeats d back = (is_defined d.name back ≡ true) × (is_changed d back ≡ false)
+
+-- one more definition changes no first fault, and, where there is none, no value and no coefficient
+pub record ChangesNothing (events : List (List ℕ)) (d : Definition) (back : List Definition) : Type 0 where
+  pub fault : formula_fault events (d ∷ back) ≡ formula_fault events back
+  pub values : formula_fault events back ≡ None → (name costs : List ℕ) → derived_value events (d ∷ back) name costs ≡ derived_value events back name costs
+  pub derived : formula_fault events back ≡ None → derived_of events (d ∷ back) ≡ derived_of events back

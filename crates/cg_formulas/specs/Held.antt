@@ -1,6 +1,7 @@
 -- When what is kept of formulas stands for the definitions of all lines so far.
-use Rattle.std.specs.Prelude.{◌≡◌, ℕ, false, List, [], ◌∷◌, Option, Some, None, ⊤}
-use Rattle.cg_formulas.specs.Formulas.{Definition, coefficient, derived_names, is_defined, is_changed, formula_fault, first_or}
+use Rattle.std.specs.Prelude.{◌≡◌, ℕ, false, not, List, [], ◌∷◌, Option, Some, None, ⊤}
+use Rattle.cg_formulas.specs.EventLines.{Term}
+use Rattle.cg_formulas.specs.Formulas.{Definition, coefficient, same_terms, derived_names, is_defined, is_changed, formula_fault, first_or}
 use Rattle.cg_formulas.specs.declared.formulas.Formulas.{Formulas}
 use Rattle.cg_formulas.specs.Definitions.{plain_back}
 use Rattle.cg_text.specs.declared.faults.Fault.TheVariants.{EventTwice}
@@ -8,6 +9,10 @@ use Rattle.cg_text.specs.declared.faults.Fault.TheVariants.{EventTwice}
 -- what is kept
 abbrev pub kept_of : Formulas → List Definition
 kept_of f = plain_back f.definitions
+
+-- these terms tell whether a definition of this name changes what is kept
+abbrev pub TellChanges : Formulas → List ℕ → List Term → Type 0
+TellChanges f name terms = (d : Definition) → d.name ≡ name → is_changed d (kept_of f) ≡ not (same_terms terms d.terms)
 
 -- two lists of definitions, neither with a fault, say the same
 pub record Agree (events : List (List ℕ)) (es ds : List Definition) : Type 0 where

@@ -98,7 +98,7 @@ fn are_rows(derived: &[(Items<u8>, Items<u64>)], events: usize) -> bool
 }
 
 impl Flat {
-    ghost use Rattle.cg_formulas.specs.Flats.{flat_value, Flattens, Defines, IsFlat};
+    ghost use Rattle.cg_formulas.specs.Flats.{flat_value, Flattens, TellsKnown, AddsName, AddsTerms, CountsTerms, DefinesNew, IsFlat};
 
     /// The coefficients that are given, if no event stands twice and each derived event has one for
     /// each event, which come to 1,000,000 at most. Takes no memory.
@@ -168,8 +168,7 @@ impl Flat {
         requires { length row.old ≡ length self.now.events }
         ensures wide { length row.new ≡ length row.old }
         ensures known { (back : List specs.Definition) → Flattens self.now back → result ≡ is_known self.now.events back name.now }
-        ensures counts { IsTrue result → (back : List specs.Definition) (count : List ℕ → ℕ) → Flattens self.now back → IsRow row.old self.now.events count
-            → IsRow row.new self.now.events (λ event. count event + number * coefficient event name.now back) }
+        ensures counts { IsTrue result → AddsName self.now number name.now row.old row.new }
     {
         if let Some(at) = self.event_at(name) {
             row[at] = row[at].saturating_add(number);
@@ -187,8 +186,7 @@ impl Flat {
         requires { length row.old ≡ length self.now.events }
         ensures wide { length row.new ≡ length row.old }
         ensures known { (back : List specs.Definition) → Flattens self.now back → result ≡ list_all (λ t. is_known self.now.events back t.1) terms.now }
-        ensures counts { IsTrue result → (back : List specs.Definition) → Flattens self.now back → IsRow row.old self.now.events (λ _. 0)
-            → IsRow row.new self.now.events (λ event. counted event terms.now back) }
+        ensures counts { IsTrue result → AddsTerms self.now terms.now row.old row.new }
     {
         for (number, name) in terms {
             if !self.add_term(row, *number, name.as_slice()) {
@@ -205,8 +203,8 @@ impl Flat {
         terms: &[(u64, Items<u8>)],
     ) -> Result<Option<Vec<u64>>, AllocError>
         ensures wide { IfOk result (λ r. IfSome r (λ row. length row.items ≡ length self.now.events)) }
-        ensures known { IfOk result (λ r. (back : List specs.Definition) → Flattens self.now back → is_some r ≡ list_all (λ t. is_known self.now.events back t.1) terms.now) }
-        ensures counts { IfOk result (λ r. IfSome r (λ row. (back : List specs.Definition) → Flattens self.now back → IsRow row.items self.now.events (λ event. counted event terms.now back))) }
+        ensures known { IfOk result (λ r. TellsKnown self.now terms.now (is_some r)) }
+        ensures counts { IfOk result (λ r. IfSome r (λ row. CountsTerms self.now terms.now row.items)) }
     {
         let mut row = vec![in alloc; 0; self.events.len()]?;
         if self.add_terms(&mut row, terms) {
@@ -219,7 +217,7 @@ impl Flat {
     /// Adds the derived event of a definition whose name is new, or answers its fault.
     pub(crate) fn define(&mut self, alloc: Global, definition: &Definition) -> Result<(), FlatEnd>
         ensures events { self.new.events ≡ self.old.events }
-        ensures defines { (back : List specs.Definition) → Flattens self.old back → is_defined definition.now.name back ≡ false → Defines result self.new definition.now back }
+        ensures defines { DefinesNew result self.old definition.now self.new }
     {
         let name = definition.name.as_slice();
         if self.event_at(name).is_some() {

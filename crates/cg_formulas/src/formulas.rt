@@ -42,7 +42,7 @@ fn same_terms(terms: &[(u64, Items<u8>)], others: &[(u64, Items<u8>)]) -> bool
 }
 
 impl Formulas {
-    ghost use Rattle.cg_formulas.specs.Held.{Holds, kept_of};
+    ghost use Rattle.cg_formulas.specs.Held.{Holds, kept_of, TellChanges};
 
     /// No line was read.
     pub fn new(alloc: Global) -> Formulas
@@ -59,7 +59,7 @@ impl Formulas {
     fn find(&self, name: &[u8]) -> Option<&Definition>
         ensures none { IfNone result (is_defined name.now (kept_of self.now) ≡ false) }
         ensures some { IfSome result (λ _. is_defined name.now (kept_of self.now) ≡ true) }
-        ensures terms { IfSome result (λ e. (d : specs.Definition) → d.name ≡ name.now → is_changed d (kept_of self.now) ≡ not (same_terms e.now.formula.terms d.terms)) }
+        ensures terms { IfSome result (λ e. TellChanges self.now name.now e.now.formula.terms) }
     {
         let mut rest = self.definitions.as_slice();
         while let Some((last, front)) = rest.split_last() {

@@ -68,7 +68,3 @@ small-add_costs sums costs n more rises small low =
     let sum : slice_index sums k ≤ n * 2 ^ 63 = at_most sums k (n * 2 ^ 63) small in
     let cost : slice_index costs k < 2 ^ 63 = below_bound costs k (2 ^ 63) (lit< tt) low in
     rw (slice_index-add_costs sums costs k) (omega arith))
-
--- sums within a bound stay so where it rises
-pub small-rises : (sums : List ℕ) (n more : ℕ) → n ≤ more → All (λ s. s ≤ n * 2 ^ 63) sums → All (λ s. s ≤ more * 2 ^ 63) sums
-small-rises sums n more rises small = λ k d below. let here : slice_index_or sums k d ≤ n * 2 ^ 63 = small k d below in omega arith

@@ -5,14 +5,12 @@ ghost use Rattle.sources.specs.Reads.{Come, WasRead};
 ghost use Rattle.file_totals.specs.Readers.{IsTotalOf, IsAnswer, IsAnswerOf};
 
 use crate::total::{Total, TotalText, refused};
+use callgrind_reader::FILE_LIMIT;
 use sources::{Opened, Source, Unread, read_all};
 use std::alloc::{AllocError, Global};
 use std::fs;
 use std::io::{ErrorKind, Read};
 use std::rt::Files;
-
-/// The most bytes that a file may have.
-const FILE_LIMIT: u64 = 1_073_741_824;
 
 /// The total of what a source gives, if that was read to its end.
 fn total_of<S: Source>(alloc: Global, source: &mut S) -> Result<TotalText, Unread>

@@ -74,9 +74,6 @@ module _ (limit : ℕ) (outcomes : List Outcome) (is : IsUnreadFor limit outcome
 -- ---- what takes bytes, and one more piece
 
 module _ {T Form : Type 0} (has_taken : T → Form → List ℕ → Type 0) where
-  pub takes_nothing : (t : T) → Takes has_taken t [] t
-  takes_nothing t form bytes has = subst (has_taken t form) (sym (append-nil bytes)) has
-
   pub takes_on : (old between new : T) (outcomes : List Outcome) (piece : List ℕ) → Takes has_taken old (bytes_of outcomes) between → Takes has_taken between piece new → Takes has_taken old (bytes_of (outcomes ++ Gave piece ∷ [])) new
   takes_on old between new outcomes piece was is form bytes has =
       subst (has_taken new form) (append_assoc bytes (bytes_of outcomes) piece ∙ ap (λ l. bytes ++ l) (sym (bytes_on outcomes piece))) (is form (bytes ++ bytes_of outcomes) (was form bytes has))

@@ -1,17 +1,24 @@
-use Rattle.std.proofs.Common.{◌≡◌, refl, ◌∙◌, ap, rules}
+use Rattle.std.proofs.Common.{◌≡◌, refl, sym, subst, ◌∙◌, ap, rules}
 use Rattle.callgrind_reader.specs.Positions.{or_line, layout_of, offsets_at}
+use Rattle.callgrind_reader.specs.Stands.{HeaderIs}
 use Rattle.callgrind_reader.proofs.state.State.cost_line.Goals as goal
 
-pub returns-clause-follows : goal.returns-clause-follows
-returns-clause-follows g c = λ back live.
-    let layout : c.layout-layout.result ≡ layout_of back = c.layout-layout.ensures ∙ ap or_line live.header.layout in
-    let moved = rw c.in-Ok.is at c.in_ok-placed.ensures.moved in
-    record {
-      fault = search rules;
-      live = λ _. record {
-        header = search rules;
-        names = c.in_ok-hand_record.ensures.names back c.args.text.now (record { header = live.header; names = live.names; places = live.places; call = live.call });
-        places = rw (← layout) (moved (offsets_at back) live.places);
-        call = refl;
+pub returns : goal.returns
+returns g c = record {
+  follows = λ back live at.
+      let layout : c.layout-layout.result ≡ layout_of back = c.layout-layout.ensures ∙ ap or_line live.header.layout in
+      let moves = rw c.in-Ok.is at c.in_ok-placed.ensures.moves in
+      record {
+        fault = search rules;
+        live = λ _. record {
+          header = c.settle.ensures.cost back c.args.text.now (subst (λ h. HeaderIs h back) (sym c.in_ok-hand_record.ensures.header) live.header);
+          names = c.in_ok-hand_record.ensures.names back c.args.text.now (record { header = live.header; names = live.names; places = live.places; call = live.call });
+          places = rw (← layout) (moves (offsets_at back) live.places);
+          call = refl;
+        };
       };
-    }
+  told = λ back live at. search rules;
+  fits = search rules;
+  refused = tt;
+  same = search rules;
+}
