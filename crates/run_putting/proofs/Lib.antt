@@ -1,2 +1,1 @@
 pub mod FilePuts
-mod Puts

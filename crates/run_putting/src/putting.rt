@@ -1,16 +1,10 @@
 // A run is written, within a transaction.
-ghost use Rattle.std.specs.Prelude.{◌≡◌, false, OnOk, OnErr};
-ghost use Rattle.sqlite.specs.Held.{state};
-ghost use Rattle.sqlite.specs.State.{HasCleanDisk, Survives};
+ghost use Rattle.std.specs.Prelude.{◌≡◌, false};
 ghost use Rattle.std.specs.Result.{is_ok};
-ghost use Rattle.sql_tables.specs.Calls.{Stays};
-ghost use Rattle.sql_tables.specs.States.{Rests};
-ghost use Rattle.prof_tables.specs.Schema.{schema_one};
-ghost use Rattle.prof_tables.specs.Tables.{Holds};
 ghost use Rattle.cost_rows.specs.Rows.{content_of};
 ghost use Rattle.prof_books.specs.Files.{with_rows};
-ghost use Rattle.run_putting.specs.Runs.{with_head_of, with_run_of};
-ghost use Rattle.store_columns.specs.Steps.{IsAbove, IsUndone};
+ghost use Rattle.run_putting.specs.Runs.{with_head_of, with_run_of, CommitsIf};
+ghost use Rattle.store_columns.specs.Steps.{IsAbove};
 ghost use Rattle.store_columns.specs.Within.{WritesIf, Writes};
 
 use cost_rows::FileRows;
@@ -77,12 +71,7 @@ pub(crate) fn put_in<S: Alter>(
     rows: &FileRows,
 ) -> Result<(), StoreEnd>
     requires { conn.old.in_transaction ≡ false }
-    ensures done { HasCleanDisk (state S.Store conn.new) → (t : _) → t.next ≡ run.now.number → Rests schema_one (Holds t) (state S.Store conn.old)
-        → OnOk result (Rests schema_one (Holds (with_run_of run.now head.now rows.now t)) (state S.Store conn.new)) }
-    ensures undone { HasCleanDisk (state S.Store conn.new) → OnErr result (IsUndone (state S.Store conn.old) (state S.Store conn.new)) }
-    ensures stays { HasCleanDisk (state S.Store conn.new) → Stays (is_ok result) (state S.Store conn.old) (state S.Store conn.new) }
-    ensures crash { (t : _) → t.next ≡ run.now.number → Rests schema_one (Holds t) (state S.Store conn.old)
-        → Survives (state S.Store conn.old) (state S.Store conn.new) (Holds (with_run_of run.now head.now rows.now t)) }
+    ensures { CommitsIf S.Store (is_ok result) (λ t. t.next ≡ run.now.number) (with_run_of run.now head.now rows.now) conn.old conn.new }
 {
     let mut tx = conn.transaction();
     fill_run(&mut tx, alloc, run, head, rows)?;

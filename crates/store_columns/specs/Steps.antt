@@ -1,5 +1,5 @@
--- What a part of a transaction does to what a connection shows.
-use Rattle.std.specs.Prelude.{◌≡◌, ℕ, ◌<◌, false, IsTrue}
+-- What a part of a transaction does to what a connection shows, and where the numbers of runs lie.
+use Rattle.std.specs.Prelude.{ℕ, ◌<◌, IsTrue}
 use Rattle.std.specs.List.{AllByRecursion}
 use Rattle.sqlite.specs.State.{HasCleanDisk, State, Survives}
 use Rattle.sql_tables.specs.States.{KeepsCommit}
@@ -17,10 +17,3 @@ IsAbove n t = AllByRecursion (λ (r : RunLine). r.number < n) t.runs
 -- a number is above each run's, and below the next
 abbrev pub IsNext : ℕ → Tables → Type 0
 IsNext n t = (n < t.next) × IsAbove n t
-
--- nothing is changed and nothing is committed, so the last commit stands, while the connection is open
-pub record IsUndone (old new : State) : Type 0 where
-  pub was_open : IsTrue new.is_open → IsTrue old.is_open
-  pub now_is : IsTrue new.is_open → new.now ≡ old.committed
-  pub committed_is : IsTrue new.is_open → new.committed ≡ old.committed
-  pub autocommit : new.in_transaction ≡ false
