@@ -60,5 +60,5 @@ module _ {W S : Type 0} (g : Ghosts S) (contents : W → Option (List ℕ)) (wan
   -- a store was made or found in a database, and the work done over it; or there was none to be had, and all is as it was
   abbrev pub WasWorked : {E F : Type 0} → Bool → Result (Result ℕ E) F → W → Connection S → Connection S → Type 0
   WasWorked is_new result from old new = MatchResult result
-      (λ printed. (to : W) (opened closed : Store S) × (closed.conn ≡ new) × TakesUp is_new (state g old) (shown g opened) × CameTo printed from to opened closed)
+      (λ printed. (to : W) × (opened : Store S) × (closed : Store S) × (closed.conn ≡ new) × TakesUp is_new (state g old) (shown g opened) × CameTo printed from to opened closed)
       (λ end. Refuses is_new (state g old) (state g new))

@@ -6,6 +6,13 @@ use Rattle.sql_tables.specs.States.{Rests, LeavesOnly, IsBlank}
 use Rattle.prof_tables.specs.Schema.{empty_schema, schema_one}
 use Rattle.prof_tables.specs.Tables.{Holds, new_tables}
 
+-- nothing is changed and nothing is committed, so the last commit stands, while the connection is open
+pub record IsUndone (old new : State) : Type 0 where
+  pub was_open : IsTrue new.is_open → IsTrue old.is_open
+  pub now_is : IsTrue new.is_open → new.now ≡ old.committed
+  pub committed_is : IsTrue new.is_open → new.committed ≡ old.committed
+  pub autocommit : new.in_transaction ≡ false
+
 -- a call that makes the tables of schema 1, by one commit at its end, where a database has no table; where that is not done, all is as before; a crash leaves what it could leave before, or the new tables
 pub record Creates (is_done : Bool) (old new : State) : Type 0 where
   pub stays : Stays is_done old new

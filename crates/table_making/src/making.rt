@@ -7,9 +7,8 @@ ghost use Rattle.sql_tables.specs.Calls.{Stays};
 ghost use Rattle.sql_tables.specs.States.{Rests, IsBlank};
 ghost use Rattle.prof_tables.specs.Schema.{empty_schema, schema_to_derived, schema_to_arc, schema_one};
 ghost use Rattle.prof_tables.specs.Tables.{Holds, new_tables};
-ghost use Rattle.store_columns.specs.Steps.{IsUndone};
 ghost use Rattle.store_columns.specs.declared.errors.OpenEnd.TheVariants as ends;
-ghost use Rattle.table_making.specs.Created.{Creates};
+ghost use Rattle.table_making.specs.Created.{Creates, IsUndone};
 ghost use Rattle.table_making.specs.Making.{BeginsStore, FillsStore, MakesTables};
 
 use sqlite::{Alter, Connection, Transaction};
