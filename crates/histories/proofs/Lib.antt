@@ -11,6 +11,7 @@ pub mod Lists
 pub mod Members
 pub mod Parents
 pub mod Put
+pub mod ReadsDue
 pub mod Rows
 pub mod Steps
 pub mod Tells

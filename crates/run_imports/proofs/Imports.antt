@@ -13,9 +13,8 @@ use Rattle.prof_books.specs.Totals.{IsHeldIn}
 use Rattle.profile_records.specs.declared.kinds.Kind.{Kind}
 use Rattle.profile_records.specs.declared.kinds.Kind.TheVariants.{Callgrind, Folded}
 use Rattle.histories.specs.Files.{IsHeadOf, rows_of, events_of, fault_of}
-use Rattle.std.specs.List.{list_any}
-use Rattle.std.proofs.lemmas.Bool.{le-ltb}
-use Rattle.sources.specs.Outcomes.{Outcome, bytes_of, is_end}
+use Rattle.sources.specs.Outcomes.{Outcome, bytes_of}
+use Rattle.histories.proofs.ReadsDue as by_reads
 use Rattle.histories.specs.History.{History, Import, held, next}
 use Rattle.histories.specs.Legal.{due, file_due, number_of, faulty, first_or, when}
 use Rattle.histories.specs.Stands.{TablesTell}
@@ -67,12 +66,8 @@ module _ (limits : Limits) (h : History) (kind : Kind) (label : List ℕ) (outco
   abbrev bytes : List ℕ
   bytes = bytes_of outcomes
 
-  abbrev by_reads : Bool → Bool → Bool → Option Answer
-  by_reads long failed over =
-      if long then Some (answers.Refused reasons.TooLong) else if failed then Some (answers.Refused reasons.ReadFault) else if over then Some (file_due limits h kind bytes) else None
-
   pub ended_due : due limits h (Import kind label outcomes) ≡ Some (file_due limits h kind bytes)
-  ended_due = ap₂ (λ a b. by_reads a b (list_any is_end outcomes)) (le-ltb limits.bytes (length bytes) ended.reads.within) ended.reads.unfailed ∙ ap (by_reads false false) ended.ended
+  ended_due = by_reads.ended_due limits h kind outcomes ended.reads.within ended.reads.unfailed ended.ended
 
   abbrev by_answers : Option ℕ → Option (faults.Fault × ℕ) → Answer
   by_answers found fault = first_or

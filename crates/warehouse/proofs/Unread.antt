@@ -13,7 +13,7 @@ use Rattle.histories.specs.Legal.{IsInForm, IsLegal}
 use Rattle.histories.specs.declared.answers.Answer.TheVariants as answers
 use Rattle.histories.specs.declared.answers.Refusal.TheVariants as reasons
 use Rattle.histories.specs.declared.limits.Limits.{Limits}
-use Rattle.histories.proofs.Dues.{failed_due, long_due}
+use Rattle.histories.proofs.ReadsDue.{failed_due, long_due}
 use Rattle.histories.proofs.Held.{IsStill}
 use Rattle.store_histories.specs.Answered.{Answers, TellsHistory, Follows, is_accepted}
 use Rattle.store_histories.proofs.Settled.{untouched}
