@@ -1,5 +1,5 @@
 -- What a plan says, in the words of a history.
-use Rattle.std.specs.Prelude.{◌≡◌, ℕ, true, false, List, [], ◌∷◌, map}
+use Rattle.std.specs.Prelude.{◌≡◌, ℕ, Bool, IsTrue, true, false, List, [], ◌∷◌, map}
 use Rattle.command_line.specs.declared.plans.Plan.{Plan}
 use Rattle.command_line.specs.declared.plans.Plan.TheVariants as plans
 use Rattle.histories.specs.History.{Said, Remove, MakeGroup, DropGroup, Join, Leave, SetBaseline, Ask}
@@ -22,7 +22,7 @@ AreSaidBy reads (plans.Leave db name n) store list = (store ≡ db.now) × (list
 AreSaidBy reads (plans.Baseline db name n) store list = (store ≡ db.now) × (list ≡ SetBaseline name.now n ∷ [])
 AreSaidBy reads (plans.Groups db) store list = (store ≡ db.now) × (list ≡ Ask Groups ∷ [])
 
--- a task does what a plan says: a total for a total, and over the store of the plan commands that it says
+-- a task does what a plan says: a total for a total, and over the store of the plan commands that it says, whatever is asked of the reads of files
 abbrev pub IsTaskOf : Plan → Task → Type 0
 IsTaskOf plan (tasks.Total path) = plan ≡ plans.Total path
-IsTaskOf plan (tasks.Over db work) = (reads : List Outcome → Type 0) (list : List Said) → AreOf reads work list → AreSaidBy reads plan db.now list
+IsTaskOf plan (tasks.Over db work) = (reads : List Outcome → Bool) (list : List Said) → AreOf (λ outcomes. IsTrue (reads outcomes)) work list → AreSaidBy (λ outcomes. IsTrue (reads outcomes)) plan db.now list

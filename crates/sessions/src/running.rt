@@ -29,7 +29,7 @@ pub fn print_refused<R: Print>(rt: &R, reason: &str) -> io::Result<ExitCode> {
 
 /// Prints what a total came to, and answers the status.
 fn print_total<W: Write>(out: &mut W, total: Result<TotalText, AllocError>) -> io::Result<u8>
-    ensures { TotalPrinted total.entry result (W.contents out.old) (W.contents out.new) }
+    ensures { TotalPrinted total result (W.contents out.old) (W.contents out.new) }
 {
     match total {
         Ok(total) => {
@@ -51,7 +51,7 @@ fn work_over<'a, R: Files + AllocGlobal, W: Write + Drop, S: Alter>(
     store: Store<S>,
     work: Work<'a>,
 ) -> (io::Result<u8>, W, Store<S>)
-    ensures { IsFaithful S.Store result.2 → CameTo S.Store W.contents (Wants R.File.remaining work.entry) result.0 out.entry result.1 store result.2 }
+    ensures { IsFaithful S.Store result.2 → CameTo S.Store W.contents (Wants R.File.remaining work.entry) result.0 out result.1 store result.2 }
 {
     let warehouse = Warehouse::new(store, Limits::standard());
     let mut session = Session::new(rt, out, warehouse);
@@ -68,7 +68,7 @@ fn work_in<'a, R: Files + AllocGlobal, W: Write + Drop, S: Alter>(
     is_new: bool,
     work: Work<'a>,
 ) -> (Result<io::Result<u8>, OpenEnd>, Connection<S>)
-    ensures { HasCleanDisk (state S.Store result.1) → WasWorked S.Store W.contents (Wants R.File.remaining work.entry) is_new result.0 out.entry conn result.1 }
+    ensures { HasCleanDisk (state S.Store result.1) → WasWorked S.Store W.contents (Wants R.File.remaining work.entry) is_new result.0 out conn result.1 }
 {
     match store_in(rt.alloc(), conn, is_new) {
         Ok(store) => {

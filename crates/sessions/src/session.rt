@@ -72,9 +72,9 @@ fn is_in_form(name: &str, change: GroupChange) -> bool
     }
 }
 
-/// The command of a change, whatever the sources of imports are.
-fn change_command<R>(name: Vec<u8>, change: GroupChange) -> Command<R>
-    ensures { (comes : R → Outcome → R → Type 0) → Says comes result (change_said change name.items) }
+/// The command of a change.
+fn change_command<'a, R: Files>(name: Vec<u8>, change: GroupChange) -> Command<FileSource<'a, R>>
+    ensures { Says (FileReads R.File.remaining) result (change_said change name.items) }
 {
     match change {
         GroupChange::Make => Command::MakeGroup(name),

@@ -23,7 +23,7 @@ loop-path-preserved g c =
       so_far = λ clean.
           let t = c.in_ok-import_file.ensures.answered clean in
           let it = i.so_far (took_clean g.S.Store _ c.loop-path.self c.import_file.new.self t.2.took clean) in
-          import_on g.S.Store g.W.Write.contents (WereRead g.R.File.remaining) (λ path. path.now) c.args.kind paths at _ it.0 c.args.self.now c.loop-path.self c.import_file.new.self c.in_ok-import_file.field-0 low i.limits
+          import_on g.S.Store g.W.Write.contents (WereRead g.R.File.Read.remaining) (λ path. path.now) c.args.kind paths at _ it.0 c.args.self.now c.loop-path.self c.import_file.new.self c.in_ok-import_file.field-0 low i.limits
           it.1 it.2 t;
     }
 
@@ -36,8 +36,8 @@ returns-in_err-import_file-clause-done g c clean =
     let p = err_from_is_err_and c.from_residual.result c.from_residual.ensures.1 in
     let t = c.import_file.ensures.answered clean in
     let it = i.so_far (took_clean g.S.Store _ c.loop-path.self c.import_file.new.self t.2.took clean) in
-    subst (λ r. WasRun g.S.Store g.W.Write.contents (AreImports (WereRead g.R.File.remaining) c.args.kind (map (λ path. path.now) paths)) r c.args.self.now c.import_file.new.self) (sym p.1)
-    (import_cut g.S.Store g.W.Write.contents (WereRead g.R.File.remaining) (λ path. path.now) c.args.kind paths at _ it.0 c.args.self.now c.loop-path.self c.import_file.new.self c.import_file.result (none_read _) low i.limits it.1 it.2 t)
+    subst (λ r. WasRun g.S.Store g.W.Write.contents (AreImports (WereRead g.R.File.Read.remaining) c.args.kind (map (λ path. path.now) paths)) r c.args.self.now c.import_file.new.self) (sym p.1)
+    (import_cut g.S.Store g.W.Write.contents (WereRead g.R.File.Read.remaining) (λ path. path.now) c.args.kind paths at _ it.0 c.args.self.now c.loop-path.self c.import_file.new.self c.import_file.result (none_read g.R.File.Read.remaining) low i.limits it.1 it.2 t)
 
 pub returns-clause-done : goal.returns-clause-done
 returns-clause-done g c clean =
@@ -45,5 +45,5 @@ returns-clause-done g c clean =
     let paths = c.args.paths.now in
     let at = c.loop-path.path-index in
     let it = i.so_far clean in
-    let none : AreImports (WereRead g.R.File.remaining) c.args.kind (map (λ path. path.now) (drop at paths)) [] = subst (λ l. AreImports (WereRead g.R.File.remaining) c.args.kind l []) (sym (at_drop_all (map (λ path. path.now)) paths at (omega arith))) tt in
-    so_far_done g.S.Store g.W.Write.contents it.0 (AreImports (WereRead g.R.File.remaining) c.args.kind (map (λ path. path.now) paths)) c.args.self.now c.loop-path.self it.2 (subst (AreImports (WereRead g.R.File.remaining) c.args.kind (map (λ path. path.now) paths)) (append-nil it.0) (it.1 [] none))
+    let none : AreImports (WereRead g.R.File.Read.remaining) c.args.kind (map (λ path. path.now) (drop at paths)) [] = subst (λ l. AreImports (WereRead g.R.File.Read.remaining) c.args.kind l []) (sym (at_drop_all (map (λ path. path.now)) paths at (omega arith))) tt in
+    so_far_done g.S.Store g.W.Write.contents it.0 (AreImports (WereRead g.R.File.Read.remaining) c.args.kind (map (λ path. path.now) paths)) c.args.self.now c.loop-path.self it.2 (subst (AreImports (WereRead g.R.File.Read.remaining) c.args.kind (map (λ path. path.now) paths)) (append-nil it.0) (it.1 [] none))

@@ -11,5 +11,5 @@ abbrev pub invariant-loop-path : goal.invariant-loop-path
 invariant-loop-path g l = record {
   limits : l.self.warehouse.limits ≡ l.fn.self.warehouse.limits;
   so_far : IsFaithful g.S.Store l.self.warehouse.store
-      → (list : List Said) × ((rest : List Said) → AreImports (WereRead g.R.File.remaining) l.kind (map (λ path. path.now) (drop l.path-index l.paths)) rest → AreImports (WereRead g.R.File.remaining) l.kind (map (λ path. path.now) l.paths) (list ++ rest)) × SoFar g.S.Store g.W.Write.contents list l.fn.self l.self;
+      → (list : List Said) × ((rest : List Said) → AreImports (WereRead g.R.File.Read.remaining) l.kind (map (λ path. path.now) (drop l.path-index l.paths)) rest → AreImports (WereRead g.R.File.Read.remaining) l.kind (map (λ path. path.now) l.paths) (list ++ rest)) × SoFar g.S.Store g.W.Write.contents list l.fn.self l.self;
 }

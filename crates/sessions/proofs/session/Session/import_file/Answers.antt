@@ -16,7 +16,7 @@ returns-clause-answered g c clean =
     let outcomes = it.0 in
     let said = Import c.args.kind c.as_bytes-label.result.now outcomes in (
       outcomes,
-      were_read g.R.File.remaining _ _ outcomes c.new-source.ensures it.1,
+      were_read g.R.File.Read.remaining _ _ outcomes c.new-source.ensures it.1,
       subst (λ l. WasTold g.S.Store g.W.Write.contents (Import c.args.kind l outcomes) c.tell.result old new) c.as_bytes-label.ensures.value
           (told g.S.Store g.W.Write.contents said c.import-answer.result c.tell.result old new
           (subst (λ w. Answers g.S.Store old.warehouse.limits said c.import-answer.result old.warehouse.store w.store) (sym same) it.2) c.tell.ensures.status c.tell.ensures.printed),
