@@ -12,7 +12,7 @@ pub(crate) fn filled(alloc: Global, text: &str, cells: u32) -> Result<Store<MemS
     };
     let mut conn = match Store::create(alloc, conn) {
         Ok(store) => store.into_connection(),
-        Err((end, _)) => return Err(end),
+        Err(_) => return Err(StoreEnd::Store),
     };
     for text in [
         "INSERT INTO run VALUES (1, 1, x'01', 'a', 0)",
@@ -42,7 +42,7 @@ pub(crate) fn empty(alloc: Global, is_within: bool) -> Result<Store<MemStore>, S
     };
     let mut conn = match Store::create(alloc, conn) {
         Ok(store) => store.into_connection(),
-        Err((end, _)) => return Err(end),
+        Err(_) => return Err(StoreEnd::Store),
     };
     if is_within && conn.execute("BEGIN", &[]).is_err() {
         return Err(StoreEnd::Store);
