@@ -39,7 +39,8 @@ pub fn groups_leave_the_runs()
 {}
 
 /// The parts of rows of calls come to what the rows come to, for every test of calls: part 0 to how
-/// many they are, part k + 1 to what they cost in column k. So rows of equal parts have equal sums.
+/// many they are, part k + 1 to what they cost in column k. So rows of equal parts have equal sums. A
+/// part 0 that passes is there exactly where a row is, of whatever number and cost.
 pub fn parts_come_to_the_calls()
     ensures { (rows : List (ArcRow (List ℕ) (List ℕ))) → PartsCome rows }
 {}

@@ -1,5 +1,5 @@
-use Rattle.prof_books.proofs.Parts.{counts_are, costs_are}
+use Rattle.prof_books.proofs.Parts.{counts_are, costs_are, calls_are}
 use Rattle.prof_books.proofs.laws.parts_come_to_the_calls.Goals as goal
 
 pub returns : goal.returns
-returns c = λ rows. record { counts = λ passes. counts_are passes rows; costs = λ passes k. costs_are passes k rows }
+returns c = λ rows. record { counts = λ passes. counts_are passes rows; costs = λ passes k. costs_are passes k rows; called = λ passes. calls_are passes rows }
