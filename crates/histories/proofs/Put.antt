@@ -7,6 +7,7 @@ use Rattle.cg_formulas.specs.declared.heads.FileHead.{FileHead}
 use Rattle.cost_rows.specs.Content.{Content}
 use Rattle.cost_rows.specs.Held.{AreHeld}
 use Rattle.cost_rows.specs.Walks.{arc_rows}
+use Rattle.cost_rows.proofs.AboveLemmas.{cells-above, stacks-above}
 use Rattle.cost_rows.proofs.WalkSumsLemmas.{walked-cells, walked-costs, walked-counts, walked-calls, walked-stacks}
 use Rattle.prof_tables.specs.Tables.{Tables, Holds, GroupLine}
 use Rattle.prof_tables.specs.Changes as changes
@@ -81,6 +82,9 @@ module _ (number : ℕ) (kind : Kind) (label bytes : List ℕ) (head : FileHead)
         costs = λ passes k. sym (costs_are passes k (arc_rows rows.names rows.arcs)) ∙ walked-costs passes k rows.names rows.arcs ∙ all.arcs passes k;
         called = λ passes. sym (calls_are passes (arc_rows rows.names rows.arcs)) ∙ walked-calls passes rows.names rows.arcs ∙ all.called passes;
         stacks = λ passes. walked-stacks passes rows.stacks ∙ all.stacks_are passes;
+        whole = (arc_rows rows.names rows.arcs, refl);
+        cells_above = cells-above rows.names rows.cells;
+        stacks_above = stacks-above rows.stacks;
       }
 
 -- ---- the tables

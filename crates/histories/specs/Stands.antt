@@ -6,6 +6,7 @@ use Rattle.cg_formulas.specs.declared.heads.FileHead.{FileHead}
 use Rattle.cost_rows.specs.Sums.{Spot, own_sum, call_sum, count_sum, has_call}
 use Rattle.cost_rows.specs.StackSums.{frames_sum}
 use Rattle.cost_rows.specs.WalkSums.{rows_cost, stacks_count}
+use Rattle.cost_rows.specs.Walks.{HaveCosts, HaveCounts}
 use Rattle.prof_tables.specs.Changes.{has_member}
 use Rattle.prof_tables.specs.Tables.{Tables, EventLine, GroupLine}
 use Rattle.prof_books.specs.Book.{RunBook, book_of, IsNamed}
@@ -14,7 +15,7 @@ use Rattle.prof_books.specs.Heads.{stated_at, derived_lines_from, coef_lines_fro
 use Rattle.prof_books.specs.Runs.{CanBeHeld, with_file}
 use Rattle.profile_records.specs.Kinds.{kind_number}
 use Rattle.profile_records.specs.declared.kinds.Kind.{Kind}
-use Rattle.prof_books.specs.Parts.{parts_sum, has_part}
+use Rattle.prof_books.specs.Parts.{parts_sum, has_part, AreOfRows}
 use Rattle.histories.specs.Files.{events_of, derived_of, stated_of, records_of, stacks_of, rows_of, IsHeadOf}
 use Rattle.sources.specs.Outcomes.{Outcome, bytes_of}
 use Rattle.histories.specs.History.{Said, Import, History, File, with_turn, held, next, groups, is_member, baseline}
@@ -57,6 +58,10 @@ pub record IsBookOf (f : File) (r : RunBook) : Type 0 where
   pub called : (passes : Spot → Spot → Bool) → has_part passes r.parts ≡ has_call passes (records_of f.kind f.bytes)
   -- for every test of frames, the stacks to what they count
   pub stacks : (passes : List ℕ → Bool) → stacks_count passes r.stacks ≡ frames_sum passes (stacks_of f.kind f.bytes)
+  -- the parts are those of whole rows of calls, and no row is 0 but a part 0
+  pub whole : AreOfRows r.parts
+  pub cells_above : HaveCosts r.cells
+  pub stacks_above : HaveCounts r.stacks
 
 -- each run is that of a file, in the same order
 abbrev pub AreBooksOf : List File → List RunBook → Type 0
