@@ -2,6 +2,7 @@ pub mod Entries
 pub mod Files
 pub mod History
 pub mod Legal
+pub mod Selections
 pub mod Stands
 pub mod Sums
 pub mod Texts
