@@ -1,5 +1,5 @@
 -- The events of a file that is accepted stand apart.
-use Rattle.std.proofs.Common.{◌≡◌, ℕ, Bool, true, false, not, ◌==◌, nat_lt, List, [], ◌∷◌, length, Ok, Err, Option, Some, None, if◌then◌else◌, refl}
+use Rattle.std.proofs.Common.{◌≡◌, ℕ, Bool, true, false, not, ◌==◌, nat_lt, List, [], ◌∷◌, length, Ok, Option, Some, None, if◌then◌else◌, refl}
 use Rattle.cg_text.specs.Distinct.{are_distinct}
 use Rattle.cg_text.specs.Fields.{fields_of}
 use Rattle.cg_text.specs.Kinds.{Header}

@@ -1,5 +1,5 @@
 -- The sums over the files that are held stay within their bound.
-use Rattle.std.proofs.Common.{◌≡◌, ℕ, suc, ◌+◌, ◌≤◌, Bool, true, false, not, ◌||◌, nat_lt, bytes_eq, if◌then◌else◌, List, [], ◌∷◌, ◌++◌, filter, sum_by, Option, Some, None, refl, sym, ap, ap₂, subst, ◌∙◌, arith, inl, inr, ◌⊎◌}
+use Rattle.std.proofs.Common.{◌≡◌, ℕ, suc, ◌+◌, ◌≤◌, Bool, true, false, not, nat_lt, bytes_eq, if◌then◌else◌, List, [], ◌∷◌, ◌++◌, filter, sum_by, Some, None, refl, sym, ap₂, subst, ◌∙◌, arith}
 use Rattle.std.specs.List.{list_any, AllByRecursion}
 use Rattle.std.proofs.lemmas.Bool.Decides.{nat_tests}
 use Rattle.std.proofs.lemmas.Bool.{and_parts, not-true, or_parts}
@@ -9,15 +9,14 @@ use Rattle.cg_text.specs.Distinct.{are_distinct}
 use Rattle.cost_rows.specs.Admit.{bound}
 use Rattle.cost_rows.proofs.NamingLemmas.{same_bytes}
 use Rattle.profile_records.specs.declared.kinds.Kind.{Kind}
-use Rattle.sources.specs.Outcomes.{Outcome, bytes_of}
+use Rattle.sources.specs.Outcomes.{bytes_of}
 use Rattle.histories.specs.Files.{events_of}
-use Rattle.histories.specs.History.{Said, Import, Turn, History, File, held}
+use Rattle.histories.specs.History.{Said, Import, History, File, held}
 use Rattle.histories.specs.Legal.{IsLegal, IsHistory}
 use Rattle.histories.specs.Sums.{Sum, own_column, call_column, calls_of, column_named, own_held, calls_cost_held, calls_held, own_sums, call_sums, sums_with, first_above, excess_of}
 use Rattle.histories.specs.Told.{SumsFit}
 use Rattle.histories.specs.declared.answers.Answer.{Answer}
 use Rattle.histories.specs.declared.answers.Answer.TheVariants.{Run}
-use Rattle.histories.specs.declared.answers.Excess.{Excess}
 use Rattle.histories.specs.declared.answers.Excess.TheVariants.{CallCount}
 use Rattle.histories.specs.declared.limits.Limits.{Limits}
 use Rattle.histories.proofs.Distinct.{events_apart}

@@ -1,6 +1,6 @@
 -- A head that is what the lines of a run show is that of its file.
-use Rattle.std.proofs.Common.{◌≡◌, ℕ, ℤ, zero, suc, ◌+◌, ◌<◌, Bool, true, false, ◌&&◌, ◌==◌, eqb, pos, if◌then◌else◌, List, [], ◌∷◌, ◌++◌, map, length, slice_index, sum_by, refl, sym, ap, ap₂, subst, ◌∙◌, arith, IsPermutation}
-use Rattle.std.specs.List.{list_any, AllByRecursion}
+use Rattle.std.proofs.Common.{◌≡◌, ℕ, ℤ, zero, suc, ◌+◌, ◌<◌, Bool, true, ◌&&◌, ◌==◌, eqb, pos, if◌then◌else◌, List, [], ◌∷◌, map, length, slice_index, sum_by, refl, sym, ap, ap₂, subst, ◌∙◌, arith, IsPermutation}
+use Rattle.std.specs.List.{AllByRecursion}
 use Rattle.std.specs.Str.{bytes_eq}
 use Rattle.std.proofs.lemmas.Bool.{and_parts, eq-eqb, eqb-true}
 use Rattle.std.proofs.lemmas.List.{length-map}
@@ -16,19 +16,18 @@ use Rattle.sql_tables.proofs.Rows.{map-append}
 use Rattle.cg_formulas.specs.Formulas.{coefficient}
 use Rattle.cg_formulas.specs.declared.heads.FileHead.{FileHead}
 use Rattle.callgrind_reader.specs.Files.{definitions_of_file}
-use Rattle.cost_rows.specs.Content.{Content, empty}
+use Rattle.cost_rows.specs.Content.{empty}
 use Rattle.cost_rows.proofs.NamingLemmas.{same_bytes}
 use Rattle.cost_rows.proofs.WalkSumsLemmas.{is_above, column_from, column-at, one_more, none_more, nothing_each_way}
 use Rattle.prof_tables.specs.Seen.{event_shown, derived_shown, coef_shown}
 use Rattle.prof_tables.specs.Tables.{Tables, CoefLine}
-use Rattle.prof_books.specs.Book.{run_held}
 use Rattle.prof_books.specs.Heads as heads
 use Rattle.prof_books.specs.Heads.{derived_lines_from, coef_line_of, coef_lines_at, coef_lines_from}
 use Rattle.profile_records.specs.declared.kinds.Kind.{Kind}
 use Rattle.profile_records.specs.declared.kinds.Kind.TheVariants.{Callgrind, Folded}
 use Rattle.histories.specs.Files.{events_of, derived_of}
 use Rattle.histories.specs.History.{History, File, held}
-use Rattle.histories.specs.Stands.{IsBookOf, TablesTell, event_lines_from}
+use Rattle.histories.specs.Stands.{TablesTell, event_lines_from}
 use Rattle.histories.specs.Told.{IsHeadOfRun, TellsHead}
 use Rattle.histories.proofs.Lists.{same_rising}
 use Rattle.histories.proofs.Runs.{run_of}

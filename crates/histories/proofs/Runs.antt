@@ -1,18 +1,18 @@
 -- What tables that stand for a history tell of one run and of one group.
-use Rattle.std.proofs.Common.{◌≡◌, ℕ, suc, Bool, true, ◌==◌, eqb, List, [], ◌∷◌, map, flat_map, refl, sym, ap, subst, ◌∙◌, inl, inr, ◌||◌}
+use Rattle.std.proofs.Common.{◌≡◌, ℕ, suc, true, ◌==◌, eqb, List, [], ◌∷◌, map, refl, sym, ap, subst, ◌∙◌, inl, inr}
 use Rattle.std.specs.List.{list_any, AllByRecursion}
 use Rattle.std.proofs.lemmas.Bool.{eqb-true, or_cases}
 use Rattle.sqlite_rules.specs.Lists.{Has}
 use Rattle.cost_rows.specs.Sums.{call_sum, count_sum, has_call}
 use Rattle.prof_tables.specs.Tables.{Tables, RunLine, GroupLine}
 use Rattle.prof_tables.specs.Changes as changes
-use Rattle.prof_books.specs.Book.{parts_of, run_held}
+use Rattle.prof_books.specs.Book.{run_held}
 use Rattle.prof_books.specs.Parts.{parts_sum, has_part}
 use Rattle.prof_books.proofs.Parts.{counts_are, costs_are, calls_are}
 use Rattle.histories.specs.Files.{records_of}
 use Rattle.histories.specs.History.{History, File, held, baseline}
 use Rattle.histories.specs.Stands.{AreBooksOf, IsBookOf, TablesTell}
-use Rattle.histories.specs.Told.{IsHeldAs, CallsCome, TellsRows, TellsGroup}
+use Rattle.histories.specs.Told.{IsHeldAs, TellsRows, TellsGroup}
 use Rattle.histories.proofs.Texts.{tells_members}
 
 -- ---- runs

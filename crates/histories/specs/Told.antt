@@ -1,5 +1,5 @@
 -- What tables that stand for a history tell of it.
-use Rattle.std.specs.Prelude.{◌≡◌, ◌≢◌, ◌≤◌, ◌<◌, ℕ, suc, Bool, ◌==◌, List, Option, length, map, filter, flat_map, option_map, bytes_eq, IsPermutation}
+use Rattle.std.specs.Prelude.{◌≡◌, ◌≢◌, ◌≤◌, ◌<◌, ℕ, Bool, ◌==◌, List, Option, length, map, filter, flat_map, option_map, bytes_eq, IsPermutation}
 use Rattle.std.specs.List.{AllAdjacentBelow}
 use Rattle.std.specs.Option.{MatchOption}
 use Rattle.sqlite_rules.specs.Lists.{Has}
