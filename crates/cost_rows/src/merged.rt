@@ -3,11 +3,11 @@ ghost use Rattle.std.specs.Prelude.{◌≡◌, ◌+◌, ◌<◌, ◌^◌, OnOk, 
 ghost use Rattle.std.specs.BTreeMap.{IsUnchanged};
 ghost use Rattle.cost_rows.specs.Keys.{plain_place, plain_sums};
 ghost use Rattle.cost_rows.specs.KeySums.{sums_with, with_row, total_of, rows_of};
+ghost use Rattle.cost_rows.specs.Plain.{plain_cell};
 
 use crate::keys::{Key, Part};
 use crate::rows::CellRow;
 use crate::sum_rows::SumRows;
-use cg_text::Items;
 use std::alloc::{AllocError, Global};
 use std::collections::BTreeMap;
 use std::marker::Model;
@@ -68,11 +68,18 @@ impl Merged {
         }
     }
 
+    /// What rows are added up by.
+    pub fn key(&self) -> Key
+        ensures { result ≡ self.now.key }
+    {
+        self.key
+    }
+
     /// Adds a row's cost to the sum of the part of its place that the key tells; a cost of 0 adds
     /// nothing. A refusal leaves the sums as they were.
-    pub fn add(&mut self, row: &CellRow<Items<u8>>) -> Result<(), AllocError>
+    pub fn add(&mut self, row: &CellRow<&[u8]>) -> Result<(), AllocError>
         requires small { total_of self.old.sums + row.now.cost < 2 ^ 112 }
-        ensures ok { OnOk result (self.new ≡ with_row self.old row.now) }
+        ensures ok { OnOk result (self.new ≡ with_row self.old (plain_cell row.now)) }
         ensures total { OnOk result (total_of self.new.sums ≡ total_of self.old.sums + row.now.cost) }
         ensures err { OnErr result (self.new ≡ self.old) }
     {
