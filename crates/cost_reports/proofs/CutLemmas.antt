@@ -61,6 +61,7 @@ begins_from need before (x ∷ xs) = go (nat_le need (before * 100)) (begins_fro
   where
     more : List (Spot × ℕ)
     more = reaching need (before + x.1) xs
+
     go : (b : Bool) → more ≡ take (length more) xs → (if b then [] else x ∷ more) ≡ take (length (if b then [] else x ∷ more)) (x ∷ xs)
     go true rest = refl
     go false rest = ap (λ ys. x ∷ ys) rest
@@ -71,6 +72,7 @@ reaches_from need before (x ∷ xs) all = go (nat_le need (before * 100)) refl (
   where
     more : List (Spot × ℕ)
     more = reaching need (before + x.1) xs
+
     go : (b : Bool) → nat_le need (before * 100) ≡ b → need ≤ ((before + x.1) + total_of more) * 100 → need ≤ (before + total_of (if b then [] else x ∷ more)) * 100
     go true is rest = let h = leb-true need (before * 100) is in omega (arith, h)
     go false is rest = omega (arith, rest)
@@ -81,21 +83,27 @@ shortest_from need before (x ∷ xs) n less = go (nat_le need (before * 100)) re
   where
     more : List (Spot × ℕ)
     more = reaching need (before + x.1) xs
+
     go : (b : Bool) → nat_le need (before * 100) ≡ b → (n : ℕ) → n < length (if b then [] else x ∷ more)
         → ((n : ℕ) → n < length more → ((before + x.1) + total_of (take n xs)) * 100 < need) → (before + total_of (take n (x ∷ xs))) * 100 < need
     go true is n less rest = absurd (omega (arith, less))
     go false is zero less rest = let h = leb-false need (before * 100) is in omega (arith, h)
     go false is (suc n) less rest = let h = rest n (omega (arith, less)) in omega (arith, h)
 
+reaches_all : (threshold total : ℕ) (xs : List (Spot × ℕ)) → threshold ≤ 100 → total_of xs ≡ total → threshold * total ≤ total_of (reaching (threshold * total) 0 xs) * 100
+reaches_all threshold total xs within is =
+    let most : threshold * total ≤ 100 * total = mul-le-mul_right {m = threshold} {n = 100} total within in
+    let n : ℕ = total_of xs in
+    let same : n ≡ total = is in
+    let reaches = reaches_from (threshold * total) 0 xs (omega (arith, most, same)) in
+    omega (arith, reaches)
+
+shortest_of : (need : ℕ) (xs : List (Spot × ℕ)) (n : ℕ) → n < length (reaching need 0 xs) → total_of (take n xs) * 100 < need
+shortest_of need xs n less = let h = shortest_from need 0 xs n less in omega (arith, h)
+
 pub shortest_enough : (threshold : ℕ) (sums : List (Spot × ℕ)) → threshold ≤ 100 → IsShortest (threshold * total_of sums) (ranked rank_cmp sums) (enough threshold sums)
-shortest_enough threshold sums within =
-    let need = threshold * total_of sums in
-    let all : need ≤ (0 + total_of (ranked rank_cmp sums)) * 100 = at_most (total_ranked sums) in
-    record {
-      begins = begins_from need 0 (ranked rank_cmp sums);
-      reaches = reaches_from need 0 (ranked rank_cmp sums) all;
-      shortest = shortest_from need 0 (ranked rank_cmp sums);
-    }
-  where
-    at_most : {n : ℕ} → n ≡ total_of sums → threshold * total_of sums ≤ (0 + n) * 100
-    at_most {n} is = let h : threshold * total_of sums ≤ 100 * total_of sums = mul-le-mul_right {m = threshold} {n = 100} (total_of sums) within in omega (arith, h, is)
+shortest_enough threshold sums within = record {
+  begins = begins_from (threshold * total_of sums) 0 (ranked rank_cmp sums);
+  reaches = reaches_all threshold (total_of sums) (ranked rank_cmp sums) within (total_ranked sums);
+  shortest = shortest_of (threshold * total_of sums) (ranked rank_cmp sums);
+}

@@ -34,10 +34,10 @@ abbrev manual_calls : EventRecords
 manual_calls = record {
   coefs = 1 ∷ [];
   records =
-    own (codes "file1.c") (codes "main") 16 (20 ∷ [])
-    ∷ call (codes "main") (codes "func1") 1 (400 ∷ []) ∷ call (codes "main") (codes "func2") 3 (400 ∷ [])
-    ∷ own (codes "file1.c") (codes "func1") 51 (100 ∷ []) ∷ call (codes "func1") (codes "func2") 2 (300 ∷ [])
-    ∷ own (codes "file2.c") (codes "func2") 20 (700 ∷ []) ∷ [];
+      own (codes "file1.c") (codes "main") 16 (20 ∷ [])
+      ∷ call (codes "main") (codes "func1") 1 (400 ∷ []) ∷ call (codes "main") (codes "func2") 3 (400 ∷ [])
+      ∷ own (codes "file1.c") (codes "func1") 51 (100 ∷ []) ∷ call (codes "func1") (codes "func2") 2 (300 ∷ [])
+      ∷ own (codes "file2.c") (codes "func2") 20 (700 ∷ []) ∷ [];
 }
 
 by_function_of_manual_calls : text_by Function (codes "Instructions") all (manual_calls ∷ [])
@@ -63,7 +63,7 @@ abbrev four_lines : EventRecords
 four_lines = record {
   coefs = 1 ∷ [];
   records =
-    own (codes "a.c") (codes "f") 1 (50 ∷ []) ∷ own (codes "a.c") (codes "f") 2 (30 ∷ []) ∷ own (codes "a.c") (codes "f") 3 (15 ∷ []) ∷ own (codes "a.c") (codes "f") 4 (5 ∷ []) ∷ [];
+      own (codes "a.c") (codes "f") 1 (50 ∷ []) ∷ own (codes "a.c") (codes "f") 2 (30 ∷ []) ∷ own (codes "a.c") (codes "f") 3 (15 ∷ []) ∷ own (codes "a.c") (codes "f") 4 (5 ∷ []) ∷ [];
 }
 
 cut_by_the_limit : text_by Line (codes "Ir") (record { limit = Some 1; threshold = 80 }) (four_lines ∷ []) ≡ codes "by line Ir\n100 100.00% total\n50 50.00% a.c:1\n50 50.00% (rest)\n"
@@ -89,8 +89,8 @@ of_nothing = refl
 abbrev derived_event : EventRecords
 derived_event = record {
   coefs =
-    coefficients (codes "Ir" ∷ codes "L1m" ∷ codes "LLm" ∷ []) (codes "Est")
-    (record { line = 1; name = codes "Est"; terms = (1, codes "Ir") ∷ (10, codes "L1m") ∷ (100, codes "LLm") ∷ [] } ∷ []);
+      coefficients (codes "Ir" ∷ codes "L1m" ∷ codes "LLm" ∷ []) (codes "Est")
+      (record { line = 1; name = codes "Est"; terms = (1, codes "Ir") ∷ (10, codes "L1m") ∷ (100, codes "LLm") ∷ [] } ∷ []);
   records = own unknown (codes "f") 1 (1000 ∷ 20 ∷ 3 ∷ []) ∷ [];
 }
 

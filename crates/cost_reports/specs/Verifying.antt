@@ -35,8 +35,16 @@ abbrev pub verdict : ℕ → Option ℕ → List ℕ
 verdict sum None = codes "none none"
 verdict sum (Some stated) = decimal stated ++ (if sum == stated then codes " ok" else codes " differs")
 
+-- a run and one of its events
+abbrev pub event_text : ℕ → List ℕ → List ℕ
+event_text run event = decimal run ++ (codes " " ++ escaped event)
+
+-- a sum beside what is stated
+abbrev pub sum_text : ℕ → Option ℕ → List ℕ
+sum_text sum stated = decimal sum ++ (codes " " ++ verdict sum stated)
+
 abbrev pub check_line : ℕ → Checked → List ℕ
-check_line run c = decimal run ++ (codes " " ++ (escaped c.event ++ (codes " " ++ (decimal c.sum ++ (codes " " ++ (verdict c.sum c.stated ++ codes "\n"))))))
+check_line run c = event_text run c.event ++ (codes " " ++ (sum_text c.sum c.stated ++ codes "\n"))
 
 abbrev pub check_lines : ℕ → List Checked → List ℕ
 check_lines run checks = flat_map (check_line run) checks

@@ -1,5 +1,5 @@
 // Merged rows in the order of a report, cut.
-ghost use Rattle.std.specs.Prelude.{◌≡◌, ◌*◌, ◌<◌, ◌^◌, IfOk, take};
+ghost use Rattle.std.specs.Prelude.{◌≡◌, ◌*◌, ◌≤◌, ◌<◌, ◌^◌, IfOk, take};
 ghost use Rattle.cost_rows.specs.KeySums.{total_of};
 ghost use Rattle.cost_reports.specs.KeyReports.{rank_cmp, reaching, limited, shown};
 ghost use Rattle.cost_reports.specs.Ranking.{ranked};
@@ -35,6 +35,16 @@ fn rank(rows: &mut Vec<Row<'_>>)
     rows.sort_unstable();
 }
 
+/// The sums as rows, the greatest cost first, and equal costs in the order of their parts.
+fn ranked_rows<'a>(alloc: Global, merged: &'a Merged) -> Result<Vec<Row<'a>>, AllocError>
+    ensures order { IfOk result (λ rows. plain_rows rows.items ≡ ranked rank_cmp merged.now.sums) }
+    ensures total { IfOk result (λ rows. total_of (plain_rows rows.items) ≡ total_of merged.now.sums) }
+{
+    let mut rows = rows_of(alloc, merged)?;
+    rank(&mut rows);
+    Ok(rows)
+}
+
 /// How many rows it takes until they come to a hundredth of what is needed.
 fn count_reaching(rows: &[Row<'_>], need: u128) -> usize
     requires { total_of (plain_rows rows.now) < 2 ^ 112 }
@@ -48,6 +58,15 @@ fn count_reaching(rows: &[Row<'_>], need: u128) -> usize
         before += row.cost.0;
     }
     rows.len()
+}
+
+/// Keeps rows until they come to a hundredth of what is needed.
+fn keep_enough(rows: &mut Vec<Row<'_>>, need: u128)
+    requires { total_of (plain_rows rows.old.items) < 2 ^ 112 }
+    ensures { plain_rows rows.new.items ≡ reaching need 0 (plain_rows rows.old.items) }
+{
+    let count = count_reaching(rows, need);
+    rows.truncate(count);
 }
 
 /// Keeps at most so many rows.
@@ -65,12 +84,11 @@ pub(crate) fn shown_rows<'a>(
     merged: &'a Merged,
     cut: Cut,
 ) -> Result<Vec<Row<'a>>, AllocError>
-    ensures { IfOk result (λ rows. plain_rows rows.items ≡ shown cut merged.now.sums) }
+    ensures shown { IfOk result (λ rows. plain_rows rows.items ≡ shown cut merged.now.sums) }
+    ensures within { IfOk result (λ rows. total_of (plain_rows rows.items) ≤ total_of merged.now.sums) }
 {
-    let mut rows = rows_of(alloc, merged)?;
-    rank(&mut rows);
-    let count = count_reaching(&rows, u128::from(cut.threshold) * merged.total());
-    rows.truncate(count);
+    let mut rows = ranked_rows(alloc, merged)?;
+    keep_enough(&mut rows, u128::from(cut.threshold) * merged.total());
     keep_first(&mut rows, cut.limit);
     Ok(rows)
 }

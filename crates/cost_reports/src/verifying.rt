@@ -1,6 +1,6 @@
 // The sums of a run's events beside the totals that its file states.
 ghost use Rattle.std.specs.Prelude.{◌≡◌, ◌++◌, OnOk, IfOk, map};
-ghost use Rattle.cost_reports.specs.Verifying.{stated_in, checks_from, verified, verdict, check_line, check_lines, verify_text, plain_check};
+ghost use Rattle.cost_reports.specs.Verifying.{stated_in, checks_from, verified, verdict, event_text, sum_text, check_line, check_lines, verify_text, plain_check};
 
 use crate::numbers::push_number;
 use cg_formulas::FileHead;
@@ -96,17 +96,33 @@ fn push_verdict(text: &mut Vec<u8>, sum: u128, stated: Option<u128>) -> Result<(
     Ok(())
 }
 
+/// Adds a run and one of its events.
+fn push_event(text: &mut Vec<u8>, run: u32, event: &[u8]) -> Result<(), AllocError>
+    ensures { OnOk result (text.new.items ≡ text.old.items ++ event_text run event.now) }
+{
+    push_number(text, u128::from(run))?;
+    text.push(b' ')?;
+    push_escaped(text, event)?;
+    Ok(())
+}
+
+/// Adds a sum beside what is stated.
+fn push_sum(text: &mut Vec<u8>, sum: u128, stated: Option<u128>) -> Result<(), AllocError>
+    ensures { OnOk result (text.new.items ≡ text.old.items ++ sum_text sum stated) }
+{
+    push_number(text, sum)?;
+    text.push(b' ')?;
+    push_verdict(text, sum, stated)?;
+    Ok(())
+}
+
 /// Adds the line of a check.
 fn push_check(text: &mut Vec<u8>, run: u32, check: &Check<'_>) -> Result<(), AllocError>
     ensures { OnOk result (text.new.items ≡ text.old.items ++ check_line run (plain_check check.now)) }
 {
-    push_number(text, u128::from(run))?;
+    push_event(text, run, check.event)?;
     text.push(b' ')?;
-    push_escaped(text, check.event)?;
-    text.push(b' ')?;
-    push_number(text, check.sum)?;
-    text.push(b' ')?;
-    push_verdict(text, check.sum, check.stated)?;
+    push_sum(text, check.sum, check.stated)?;
     text.push(b'\n')?;
     Ok(())
 }
