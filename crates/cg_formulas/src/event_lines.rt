@@ -1,20 +1,21 @@
 // The values of `event:` lines.
 ghost use Rattle.std.specs.Prelude.{◌≡◌, not, position, take_while, drop};
 ghost use Rattle.std.specs.List.{prefix_len};
-ghost use Rattle.cg_formulas.specs.EventLines.{ends_name, is_plus, term_of, formula_of, is_colon, before_colon, named, event_of};
-ghost use Rattle.cg_formulas.specs.EventViews.{EventIs, ReadIs};
+ghost use Rattle.cg_formulas.specs.EventLines.{ends_name, formula_of, is_colon, before_colon, named, event_of};
+ghost use Rattle.cg_formulas.specs.EventViews.{EventIs, FormulaIs};
 
-use crate::terms::{ends_name, term};
+use crate::terms::{ends_name, is_formula};
 use cg_text::{Fault, Items, trim_start};
 use memchr::memchr;
 use std::alloc::{AllocError, Global};
 use std::error::Error;
 use std::fmt;
 
-/// A sum of terms, each a number of times the event of a name.
+/// A sum of terms, each a number of times the event of a name. Kept as the text that it is, whose
+/// terms are read anew where they are wanted.
 #[derive(Drop)]
 pub struct Formula {
-    pub terms: Items<(u64, Items<u8>)>,
+    pub text: Items<u8>,
 }
 
 /// What an `event:` line says: a name, and the formula that it stands for, if there is one.
@@ -59,34 +60,15 @@ impl From<AllocError> for TextEnd {
     }
 }
 
-/// Where the first `+` is.
-#[tactic(auto, using(cg_text::proofs::SearchLemmas::search_rules))]
-fn first_plus(text: &[u8]) -> Option<usize>
-    ensures { result ≡ position is_plus text.now }
+/// The formula that a text is, with a copy of it. `FormulaForm` where it is none.
+fn copied_formula(alloc: Global, text: &[u8]) -> Result<Formula, TextEnd>
+    ensures { FormulaIs result (formula_of text.now) }
 {
-    memchr(b'+', text)
-}
-
-/// The term that a text is, with a copy of its name. `FormulaForm` where it is none.
-fn copied_term(alloc: Global, text: &[u8]) -> Result<(u64, Items<u8>), TextEnd>
-    ensures { ReadIs result (term_of text.now) }
-{
-    let (number, name) = term(text).ok_or(TextEnd::Fault(Fault::FormulaForm))?;
-    Ok((number, Items::from_vec(name.to_vec(alloc)?)))
-}
-
-/// The terms that a text joins by `+`. `FormulaForm` where one of them is none.
-fn terms(alloc: Global, text: &[u8]) -> Result<Items<(u64, Items<u8>)>, TextEnd>
-    ensures { ReadIs result (formula_of text.now) }
-{
-    let mut terms = Items::new(alloc);
-    let mut rest = text;
-    while let Some(end) = first_plus(rest) {
-        terms.push(copied_term(alloc, &rest[..end])?)?;
-        rest = &rest[end + 1..];
+    if !is_formula(text) {
+        return Err(TextEnd::Fault(Fault::FormulaForm));
     }
-    terms.push(copied_term(alloc, rest)?)?;
-    Ok(terms)
+    let text = Items::from_vec(text.to_vec(alloc)?);
+    Ok(Formula { text })
 }
 
 /// Where the first `:` is.
@@ -114,9 +96,7 @@ fn named(alloc: Global, name: &[u8], rest: &[u8]) -> Result<EventLine, TextEnd>
 {
     let formula = match rest.split_first() {
         None | Some((b':', _)) => None,
-        Some((b'=', text)) => Some(Formula {
-            terms: terms(alloc, before_colon(text))?,
-        }),
+        Some((b'=', text)) => Some(copied_formula(alloc, before_colon(text))?),
         Some(_) => return Err(TextEnd::Fault(Fault::FormulaForm)),
     };
     let name = Items::from_vec(name.to_vec(alloc)?);
