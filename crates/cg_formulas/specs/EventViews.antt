@@ -1,5 +1,5 @@
 -- `event:` lines as the code has them, without where their bytes lie in memory.
-use Rattle.std.specs.Prelude.{◌≡◌, ℕ, List, [], ◌∷◌, map, Option, Some, None, Result, Ok, Err, ⊤}
+use Rattle.std.specs.Prelude.{◌≡◌, ℕ, ◌+◌, List, [], ◌∷◌, length, map, Option, Some, None, Result, Ok, Err, ⊤}
 use Rattle.std.specs.List.{slice_split}
 use denote.Ref.{Bor}
 use Rattle.cg_formulas.specs.EventLines.{Event, Term, term_of, is_plus, formula_of}
@@ -43,6 +43,14 @@ terms_of (Some formula) = Some (terms_in formula.text)
 
 abbrev pub plain_event : EventLine → Event
 plain_event e = record { name = e.name; terms = terms_of e.formula }
+
+-- how many bytes are kept of a formula, if there is one, and of a line
+abbrev pub formula_bytes : Option Formula → ℕ
+formula_bytes None = 0
+formula_bytes (Some formula) = length formula.text
+
+abbrev pub kept_bytes : EventLine → ℕ
+kept_bytes e = length e.name + formula_bytes e.formula
 
 -- what a line says, or its fault, unless memory was refused
 abbrev pub EventIs : Result EventLine TextEnd → Result Event faults.Fault → Type 0
