@@ -1,6 +1,5 @@
 // The coefficients of derived events over the events of a file, and their values.
 ghost use Rattle.std.specs.Prelude.{◌≡◌, ◌↔◌, ◌+◌, ◌*◌, ◌<◌, ◌≤◌, ◌^◌, ℕ, All, List, [], true, false, length, sum, position, is_some, IsTrue, IfOk, IfSome};
-ghost use Rattle.std.specs.List.{list_all};
 ghost use Rattle.std.specs.Map.{lookup};
 ghost use Rattle.std.specs.Option.{option_copied};
 ghost use Rattle.std.specs.Str.{bytes_eq};
@@ -187,7 +186,7 @@ impl Flat {
     fn add_terms(&self, row: &mut [u64], formula: &[u8]) -> bool
         requires { length row.old ≡ length self.now.events }
         ensures wide { length row.new ≡ length row.old }
-        ensures known { (back : List specs.Definition) → Flattens self.now back → result ≡ list_all (λ t. is_known self.now.events back t.1) (terms_in formula.now) }
+        ensures known { TellsKnown self.now (terms_in formula.now) result }
         ensures counts { IsTrue result → AddsTerms self.now (terms_in formula.now) row.old row.new }
     {
         for (number, name) in terms(formula) {
