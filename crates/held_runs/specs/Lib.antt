@@ -5,4 +5,6 @@ pub mod HeldHeads
 pub mod HeldStacks
 pub mod LineWalks
 pub mod NameLines
+pub mod RunNumbers
+pub mod RunTexts
 pub mod Walks
