@@ -4,5 +4,9 @@ pub mod HeldCells
 pub mod HeldHeads
 pub mod HeldStacks
 pub mod LineWalks
+pub mod Lookups
 pub mod NameLines
+pub mod OwnSums
+pub mod RunNumbers
+pub mod RunTexts
 pub mod Walks
