@@ -2,11 +2,15 @@
 #![tactic(auto)]
 
 #[cfg(test)]
+mod asked;
+#[cfg(test)]
 mod given;
 #[cfg(test)]
 mod imports;
 #[cfg(test)]
 mod lines;
+#[cfg(test)]
+mod reports;
 #[cfg(test)]
 mod stores;
 #[cfg(test)]
