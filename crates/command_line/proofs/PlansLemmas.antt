@@ -1,16 +1,15 @@
 -- What clap's getters give, in the words of plans.
-use Rattle.std.proofs.Common.{◌≡◌, refl, ℕ, Bool, true, false, List, [], ◌∷◌, map, Option, Some, None, Result, Ok, Err, IfOk, IfSome, option_map, ap, sym, ◌∙◌, codes}
+use Rattle.std.proofs.Common.{◌≡◌, refl, ℕ, Bool, true, false, List, [], ◌∷◌, map, Option, Some, None, Result, Ok, Err, IfOk, IfSome, option_map, ap, sym, subst, ◌∙◌, codes}
 use Rattle.std.specs.Borrow.{Bor}
 use Rattle.std.specs.declared.alloc.AllocError.{AllocError}
-use Rattle.clap.specs.Matches.{first_value, matched_of, one_text, raw_values}
-use Rattle.clap.specs.Walk.{Row, Text, all_of, one_of, rows_of}
+use Rattle.clap.specs.Matches.{ReadsOne, first_value, matched_of, one_text, raw_values}
+use Rattle.clap.specs.Walk.{Row, Text, all_of, first_of, one_of, rows_of}
 use Rattle.clap.specs.declared.parser.matches.Found.{Found}
 use Rattle.clap.proofs.WalkLemmas.{first_value-rows, one_text-rows, raw_values-rows}
-use Rattle.command_line.specs.Plans.{HasWord, IsFlag, number_of}
+use Rattle.command_line.specs.Plans.{HasNumber, IsFlag, number_of}
 
-pub word_found : (f : Found) (id : Text) (r : Option (Bor Text)) → option_map (λ s. s.now) r ≡ first_value f id → IfSome r (λ w. HasWord (rows_of f) id w.now)
-word_found f id None e = tt
-word_found f id (Some w) e = sym (first_value-rows f id) ∙ sym e
+pub word_found : (f : Found) (id : Text) (r : Option (Bor Text)) → option_map (λ s. s.now) r ≡ first_value f id → option_map (λ s. s.now) r ≡ first_of id (rows_of f)
+word_found f id r e = e ∙ first_value-rows f id
 
 pub words_found : (f : Found) (id : Text) (r : Option (Bor (List (Bor Text)))) (s : Bor (List (Bor Text))) → r ≡ Some s
     → option_map (λ (s : Bor (List (Bor Text))). map (λ v. v.now) s.now) r ≡ option_map raw_values (matched_of f id) → all_of id (rows_of f) ≡ Some (map (λ v. v.now) s.now)
@@ -39,3 +38,18 @@ pub numbers_found : (rows : List Row) (texts : List (Bor Text)) (r : Result (Opt
     → IfOk r (λ found. IfSome found (λ numbers. numbers ≡ map (λ v. number_of v.now) texts)) → IfOk r (λ found. IfSome found (λ numbers. option_map (map number_of) (all_of (codes "N") rows) ≡ Some numbers))
 numbers_found rows texts (Err e) all are = tt
 numbers_found rows texts (Ok found) all are = numbers_are rows texts found all are
+
+-- ---- the number that an option says
+
+number_read : {E : Type 0} (f : Found) (id t : Text) (r : Option ℕ) (gives : Text → Result ℕ E → Type 0) → ((n : ℕ) → gives t (Ok n) → n ≡ number_of t) → one_text f id ≡ Some t → ReadsOne gives t r
+    → IfSome r (HasNumber (rows_of f) id)
+number_read f id t None gives says is reads = tt
+number_read f id t (Some n) gives says is reads = ap (option_map number_of) (sym (one_text-rows f id) ∙ is) ∙ ap (λ n. Some n) (sym (says n reads))
+
+pub number_found : {E : Type 0} (f : Found) (id : Text) (r : Option ℕ) (gives : Text → Result ℕ E → Type 0) → ((t : Text) (n : ℕ) → gives t (Ok n) → n ≡ number_of t) → (one_text f id ≡ None → r ≡ None)
+    → ((t : Text) → one_text f id ≡ Some t → ReadsOne gives t r) → IfSome r (HasNumber (rows_of f) id)
+number_found f id r gives says none value = by (one_text f id) refl
+  where
+    by : (found : Option Text) → one_text f id ≡ found → IfSome r (HasNumber (rows_of f) id)
+    by None is = subst (λ (r : Option ℕ). IfSome r (HasNumber (rows_of f) id)) (sym (none is)) tt
+    by (Some t) is = number_read f id t r gives (says t) is (value t is)

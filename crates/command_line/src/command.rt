@@ -1,13 +1,13 @@
 // From the words of a command line to a plan.
-ghost use Rattle.std.specs.Prelude.{◌≡◌, false, [], codes, map, string_bytes, IfOk, IfErr, IfSome};
-ghost use Rattle.clap.specs.Words.{app_of, fault_of, found_of, rows_of, subcommand_of, subcommand_rows_of};
+ghost use Rattle.std.specs.Prelude.{◌≡◌, false, codes, map, string_bytes, IfOk, IfSome, MatchResult};
+ghost use Rattle.clap.specs.Words.{app_of, found_of, rows_of, subcommand_rows_of};
 ghost use Rattle.clap.specs.declared.builder.command.Command.TheViews.{out-Command as fields_of};
-ghost use Rattle.command_line.specs.Grammar.{command_line};
-ghost use Rattle.command_line.specs.Plans.{HasWord, HasRun, IsRunNumber, IsSound, IsPlanOf, IsPlanFor, IsEndOf};
+ghost use Rattle.command_line.specs.Grammar.{IsCommandLine};
+ghost use Rattle.command_line.specs.Plans.{ArePlanned, AreRuns, HasWord, HasRun, IsRunNumber, IsSelected, IsSound, IsPlanOf, IsPlanFor, IsRefusalFor, IsRefusalOf};
 
 use crate::grammar::grammar;
-use crate::plans::{Plan, PlanEnd};
-use crate::words::{files, is_given, run, runs, word};
+use crate::plans::{Plan, PlanEnd, Selected, Unplanned};
+use crate::words::{files, is_given, key, limit, run, runs, selected, threshold, word};
 use clap::error::ErrorKind;
 use clap::{ArgMatches, Command};
 use profile_records::Kind;
@@ -87,21 +87,64 @@ fn member<'a>(subcommand: &str, db: &'a str, words: &ArgMatches<'a>) -> Option<P
     }
 }
 
+/// Where the cost of an event went, over runs that were selected.
+fn by_key<'a>(db: &'a str, selected: Selected<'a>, words: &ArgMatches<'a>) -> Option<Plan<'a>>
+    requires db { HasWord (rows_of (found_of words.now)) (codes "db") db.now }
+    requires range { AreRuns selected }
+    requires selected { IsSelected (rows_of (found_of words.now)) selected }
+    ensures sound { IfSome result IsSound }
+    ensures plan { IfSome result (IsPlanOf (codes "by") (rows_of (found_of words.now))) }
+{
+    let key = key(words)?;
+    let event = word(words, "event")?;
+    let limit = limit(words)?;
+    let threshold = threshold(words)?;
+    Some(Plan::By {
+        db,
+        selected,
+        key,
+        event,
+        limit,
+        threshold,
+    })
+}
+
+/// The plan for a question over runs that are selected.
+fn over_selection<'a>(
+    name: &str,
+    db: &'a str,
+    words: &ArgMatches<'a>,
+) -> Result<Option<Plan<'a>>, Unplanned>
+    requires { HasWord (rows_of (found_of words.now)) (codes "db") db.now }
+    ensures sound { IfOk result (λ found. IfSome found IsSound) }
+    ensures plan { MatchResult result (λ found. IfSome found (IsPlanOf name.now (rows_of (found_of words.now)))) (IsRefusalOf (rows_of (found_of words.now))) }
+{
+    let Some(selected) = selected(words)? else {
+        return Ok(None);
+    };
+    match name {
+        "by" => Ok(by_key(db, selected, words)),
+        "verify" => Ok(Some(Plan::Verify { db, selected })),
+        _ => Ok(None),
+    }
+}
+
 /// The plan for a subcommand that wants the database.
 fn over_database<'a>(
     alloc: Global,
     name: &str,
     words: &ArgMatches<'a>,
-) -> Result<Option<Plan<'a>>, AllocError>
+) -> Result<Option<Plan<'a>>, Unplanned>
     ensures sound { IfOk result (λ found. IfSome found IsSound) }
-    ensures plan { IfOk result (λ found. IfSome found (IsPlanOf name.now (rows_of (found_of words.now)))) }
+    ensures plan { MatchResult result (λ found. IfSome found (IsPlanOf name.now (rows_of (found_of words.now)))) (IsRefusalOf (rows_of (found_of words.now))) }
 {
     let Some(db) = word(words, "db") else {
         return Ok(None);
     };
     match name {
-        "import" => import(alloc, db, words),
-        "remove" => remove(alloc, db, words),
+        "import" => Ok(import(alloc, db, words)?),
+        "remove" => Ok(remove(alloc, db, words)?),
+        "by" | "verify" => over_selection(name, db, words),
         "runs" => Ok(Some(Plan::Runs { db })),
         "group" => Ok(group(db, words)),
         "groups" => Ok(Some(Plan::Groups { db })),
@@ -114,9 +157,9 @@ fn plan_of<'a>(
     alloc: Global,
     name: &str,
     words: &ArgMatches<'a>,
-) -> Result<Option<Plan<'a>>, AllocError>
+) -> Result<Option<Plan<'a>>, Unplanned>
     ensures sound { IfOk result (λ found. IfSome found IsSound) }
-    ensures plan { IfOk result (λ found. IfSome found (IsPlanOf name.now (rows_of (found_of words.now)))) }
+    ensures plan { MatchResult result (λ found. IfSome found (IsPlanOf name.now (rows_of (found_of words.now)))) (IsRefusalOf (rows_of (found_of words.now))) }
 {
     if name == "total" {
         return match word(words, "FILE") {
@@ -128,9 +171,9 @@ fn plan_of<'a>(
 }
 
 /// The plan for what was found of the words, where that is of a subcommand.
-fn plan_found<'a>(alloc: Global, matches: &ArgMatches<'a>) -> Result<Option<Plan<'a>>, AllocError>
+fn plan_found<'a>(alloc: Global, matches: &ArgMatches<'a>) -> Result<Option<Plan<'a>>, Unplanned>
     ensures sound { IfOk result (λ found. IfSome found IsSound) }
-    ensures plan { IfOk result (λ found. IfSome found (IsPlanFor (subcommand_rows_of matches.now))) }
+    ensures plan { MatchResult result (λ found. IfSome found (IsPlanFor (subcommand_rows_of matches.now))) (IsRefusalFor (subcommand_rows_of matches.now)) }
 {
     match matches.subcommand() {
         Some((name, words)) => plan_of(alloc, name, words),
@@ -144,12 +187,9 @@ fn plan_by<'a>(
     grammar: &mut Command<'a>,
     words: &'a [String],
 ) -> Result<Plan<'a>, PlanEnd>
-    requires grammar { app_of grammar.old ≡ command_line }
+    requires grammar { IsCommandLine (app_of grammar.old) }
     requires local { (fields_of grammar.old).has_globals ≡ false }
-    ensures sound { IfOk result IsSound }
-    ensures plan { IfOk result (IsPlanFor (subcommand_of command_line (map string_bytes words.now))) }
-    ensures faultless { IfOk result (λ _. fault_of command_line (map string_bytes words.now) ≡ []) }
-    ensures fault { IfErr result (IsEndOf (fault_of command_line (map string_bytes words.now))) }
+    ensures { ArePlanned (map string_bytes words.now) result }
 {
     let matches = grammar.try_get_matches_from_mut(words)?;
     if let Some(plan) = plan_found(alloc, &matches)? {
@@ -161,10 +201,7 @@ fn plan_by<'a>(
 
 /// The plan for the words of a command line, of which the first is the program's name.
 pub fn plan<'a>(alloc: Global, words: &'a [String]) -> Result<Plan<'a>, PlanEnd>
-    ensures sound { IfOk result IsSound }
-    ensures plan { IfOk result (IsPlanFor (subcommand_of command_line (map string_bytes words.now))) }
-    ensures faultless { IfOk result (λ _. fault_of command_line (map string_bytes words.now) ≡ []) }
-    ensures fault { IfErr result (IsEndOf (fault_of command_line (map string_bytes words.now))) }
+    ensures { ArePlanned (map string_bytes words.now) result }
 {
     let mut grammar = grammar(alloc)?;
     plan_by(alloc, &mut grammar, words)

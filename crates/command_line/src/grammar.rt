@@ -10,6 +10,13 @@ use std::alloc::{AllocError, Global};
 /// The greatest number of a run.
 pub const LAST_RUN: u32 = 2_147_483_647;
 
+/// The words of keys.
+fn key_words<'a>() -> &'a [&'a str]
+    ensures { line.AreKeyWords result }
+{
+    &["object", "file", "function", "line"]
+}
+
 /// The option that names the database.
 fn database<'a>(alloc: Global) -> Arg<'a>
     ensures rule { rule_of result ≡ line.database }
@@ -58,6 +65,52 @@ fn run_number<'a>(alloc: Global) -> Arg<'a>
     operand(alloc, "N", "The number of a run").value_parser(numbers)
 }
 
+/// An option with a value, by its long name.
+fn option<'a>(alloc: Global, id: &'a str, value: &'a str, help: &'a str) -> Arg<'a>
+    ensures rule { rule_of result ≡ line.option id.entry.now }
+    ensures local { result.global ≡ false }
+{
+    Arg::new(alloc, id).long(id).value_name(value).help(help)
+}
+
+/// The option that names a run.
+fn run_option<'a>(alloc: Global) -> Arg<'a>
+    ensures rule { rule_of result ≡ line.run_option }
+    ensures local { result.global ≡ false }
+{
+    let numbers = value_parser!(u32).range(1..=i64::from(LAST_RUN));
+    option(alloc, "run", "N", "Of this run alone").value_parser(numbers)
+}
+
+/// The option that says how many rows are shown at most.
+fn limit_option<'a>(alloc: Global) -> Arg<'a>
+    ensures rule { rule_of result ≡ line.limit_option }
+    ensures local { result.global ≡ false }
+{
+    let help = "Show at most this many rows";
+    option(alloc, "limit", "L", help).value_parser(value_parser!(u32))
+}
+
+/// The option that says how much of the total the rows that are shown come to.
+fn threshold_option<'a>(alloc: Global) -> Arg<'a>
+    ensures rule { rule_of result ≡ line.threshold_option }
+    ensures local { result.global ≡ false }
+{
+    let help = "Show the greatest rows that come to this percentage of the total";
+    option(alloc, "threshold", "T", help)
+        .value_parser(value_parser!(u8).range(0..=100))
+        .default_value("100")
+}
+
+/// What rows are added up by.
+fn key_operand<'a>(alloc: Global) -> Arg<'a>
+    ensures rule { (words : line.KeyWords) × line.AreKeyWords words × (rule_of result ≡ line.key_operand words) }
+    ensures local { result.global ≡ false }
+{
+    let words = key_words();
+    operand(alloc, "KEY", "What costs are added up by").value_parser(words)
+}
+
 /// A subcommand that wants the database.
 fn over_database<'a>(
     alloc: Global,
@@ -82,6 +135,40 @@ fn over_group_and_run<'a>(
     over_database(alloc, name, about)?
         .arg(operand(alloc, "NAME", "The name of a group"))?
         .arg(run_number(alloc))
+}
+
+/// A subcommand over all runs, over one, or over those of a group.
+fn over_selection<'a>(
+    alloc: Global,
+    name: &'a str,
+    about: &'a str,
+) -> Result<Command<'a>, AllocError>
+    ensures app { IfOk result (λ command. app_of command ≡ line.over_selection name.entry.now) }
+    ensures local { IfOk result (λ command. (fields_of command).has_globals ≡ false) }
+{
+    over_database(alloc, name, about)?
+        .arg(run_option(alloc))?
+        .arg(option(alloc, "group", "G", "Of the runs of this group"))
+}
+
+/// With the options that say which rows are shown.
+fn with_cut<'a>(alloc: Global, command: Command<'a>) -> Result<Command<'a>, AllocError>
+    requires { (fields_of command).has_globals ≡ false }
+    ensures app { IfOk result (λ more. app_of more ≡ line.with_cut (app_of command.entry)) }
+    ensures local { IfOk result (λ more. (fields_of more).has_globals ≡ false) }
+{
+    command
+        .arg(limit_option(alloc))?
+        .arg(threshold_option(alloc))
+}
+
+fn by<'a>(alloc: Global) -> Result<Command<'a>, AllocError>
+    ensures app { IfOk result (λ command. (words : line.KeyWords) × line.AreKeyWords words × (app_of command ≡ line.by words)) }
+    ensures local { IfOk result (λ command. (fields_of command).has_globals ≡ false) }
+{
+    let event = option(alloc, "event", "E", "The event").required(true);
+    let command = over_selection(alloc, "by", "Report where the cost of an event went")?.arg(event)?;
+    with_cut(alloc, command)?.arg(key_operand(alloc))
 }
 
 fn total<'a>(alloc: Global) -> Result<Command<'a>, AllocError>
@@ -170,6 +257,17 @@ fn with_members<'a>(alloc: Global, command: Command<'a>) -> Result<Command<'a>, 
     with(command, baseline)
 }
 
+/// With the reports.
+fn with_reports<'a>(alloc: Global, command: Command<'a>) -> Result<Command<'a>, AllocError>
+    requires { (fields_of command).has_globals ≡ false }
+    ensures app { IfOk result (λ more. (words : line.KeyWords) × line.AreKeyWords words × (app_of more ≡ line.with_reports words (app_of command.entry))) }
+    ensures local { IfOk result (λ more. (fields_of more).has_globals ≡ false) }
+{
+    let command = with(command, by(alloc))?;
+    let about = "Compare sums with the totals that the files state";
+    with(command, over_selection(alloc, "verify", about))
+}
+
 /// The program's own command, with no subcommand yet.
 fn program<'a>(alloc: Global) -> Command<'a>
     ensures app { app_of result ≡ line.program }
@@ -182,10 +280,11 @@ fn program<'a>(alloc: Global) -> Command<'a>
 
 /// The command line that the program reads.
 pub fn grammar<'a>(alloc: Global) -> Result<Command<'a>, AllocError>
-    ensures app { IfOk result (λ command. app_of command ≡ line.command_line) }
+    ensures app { IfOk result (λ command. line.IsCommandLine (app_of command)) }
     ensures local { IfOk result (λ command. (fields_of command).has_globals ≡ false) }
 {
     let command = with_files(alloc, program(alloc))?;
     let command = with_lists(alloc, command)?;
-    with_members(alloc, command)
+    let command = with_members(alloc, command)?;
+    with_reports(alloc, command)
 }

@@ -1,16 +1,18 @@
 // What was found of the arguments of a subcommand.
-ghost use Rattle.std.specs.Prelude.{◌≡◌, ◌≢◌, ◌↔◌, [], All, map, codes, Some, IfOk, IfSome, IsSome};
-ghost use Rattle.clap.specs.Words.{all_of, found_of, one_of, rows_of};
-ghost use Rattle.command_line.specs.Plans.{IsRunNumber, SaysRun, number_of, HasWord, HasRun, HaveRuns, IsFlag};
+ghost use Rattle.std.specs.Prelude.{◌≡◌, ◌≢◌, ◌↔◌, ◌≤◌, [], All, map, codes, Some, option_map, IfOk, IfSome, IsSome, MatchResult};
+ghost use Rattle.clap.specs.Words.{all_of, first_of, found_of, one_of, rows_of};
+ghost use Rattle.command_line.specs.Plans.{AreRuns, HasNumber, HasNumberIfGiven, IsRefusalOf, IsRunNumber, IsSelected, SaysRun, key_word, number_of, HasWord, HasRun, HaveRuns, IsFlag};
 
 use crate::grammar::LAST_RUN;
+use crate::plans::{Selected, Unplanned};
 use cg_text::Items;
 use clap::ArgMatches;
+use cost_rows::Key;
 use std::alloc::{AllocError, Global};
 
 /// The word of an argument.
 pub fn word<'a>(words: &ArgMatches<'a>, id: &str) -> Option<&'a str>
-    ensures { IfSome result (λ word. HasWord (rows_of (found_of words.now)) id.now word.now) }
+    ensures { option_map (λ word. word.now) result ≡ first_of id.now (rows_of (found_of words.now)) }
 {
     words.get_str(id)
 }
@@ -65,6 +67,76 @@ pub fn run(words: &ArgMatches<'_>) -> Option<u32>
     ensures number { IfSome result (HasRun (rows_of (found_of words.now))) }
 {
     run_of(word(words, "N")?)
+}
+
+/// The number that the value of an option says.
+fn number(words: &ArgMatches<'_>, id: &str) -> Option<u32>
+    ensures { IfSome result (HasNumber (rows_of (found_of words.now)) id.now) }
+{
+    words.get_one::<u32>(id)
+}
+
+/// The number of the run that an option names.
+fn run_by(words: &ArgMatches<'_>, id: &str) -> Option<u32>
+    ensures range { IfSome result IsRunNumber }
+    ensures number { IfSome result (HasNumber (rows_of (found_of words.now)) id.now) }
+{
+    let number = number(words, id)?;
+    if number < 1 || LAST_RUN < number {
+        return None;
+    }
+    Some(number)
+}
+
+/// The runs that were selected.
+pub fn selected<'a>(words: &ArgMatches<'a>) -> Result<Option<Selected<'a>>, Unplanned>
+    ensures range { IfOk result (λ found. IfSome found AreRuns) }
+    ensures selected { MatchResult result (λ found. IfSome found (IsSelected (rows_of (found_of words.now)))) (IsRefusalOf (rows_of (found_of words.now))) }
+{
+    match (word(words, "run"), word(words, "group")) {
+        (None, None) => Ok(Some(Selected::All)),
+        (None, Some(group)) => Ok(Some(Selected::Group(group))),
+        (Some(_), None) => match run_by(words, "run") {
+            Some(number) => Ok(Some(Selected::Run(number))),
+            None => Ok(None),
+        },
+        (Some(_), Some(_)) => Err(Unplanned::RunAndGroup),
+    }
+}
+
+/// What rows are added up by.
+pub fn key(words: &ArgMatches<'_>) -> Option<Key>
+    ensures { IfSome result (λ key. HasWord (rows_of (found_of words.now)) (codes "KEY") (key_word key)) }
+{
+    match word(words, "KEY")? {
+        "object" => Some(Key::Object),
+        "file" => Some(Key::File),
+        "function" => Some(Key::Function),
+        "line" => Some(Key::Line),
+        _ => None,
+    }
+}
+
+/// How many rows are shown at most, if that was said.
+pub fn limit(words: &ArgMatches<'_>) -> Option<Option<u32>>
+    ensures { IfSome result (HasNumberIfGiven (rows_of (found_of words.now)) (codes "limit")) }
+{
+    match word(words, "limit") {
+        None => Some(None),
+        Some(_) => Some(Some(number(words, "limit")?)),
+    }
+}
+
+/// The percentage of the total that the rows that are shown come to.
+pub fn threshold(words: &ArgMatches<'_>) -> Option<u8>
+    ensures range { IfSome result (λ threshold. threshold ≤ 100) }
+    ensures number { IfSome result (HasNumber (rows_of (found_of words.now)) (codes "threshold")) }
+{
+    let threshold = number(words, "threshold")?;
+    if threshold > 100 {
+        return None;
+    }
+    Some(threshold as u8)
 }
 
 /// The numbers of runs, where all texts are such.
