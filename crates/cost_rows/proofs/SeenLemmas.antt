@@ -1,5 +1,5 @@
 -- A map whose keys are seen as something else: what is done to it is done to its entries as they are seen.
-use Rattle.std.proofs.Common.{inl, inr, ◌≡◌, ℕ, ◌≤◌, Bool, true, false, cond, List, [], ◌∷◌, Some, None, refl, sym, ap, ◌∙◌, arith}
+use Rattle.std.proofs.Common.{inl, inr, ◌≡◌, ℕ, suc, ◌≤◌, Bool, true, false, cond, List, [], ◌∷◌, length, Some, None, refl, sym, ap, ◌∙◌, arith}
 use Rattle.std.specs.declared.cmp.Ordering.{Ordering}
 use Rattle.std.specs.declared.cmp.Ordering.TheVariants.{Less, Equal, Greater}
 use Rattle.std.specs.Ordering.{match_ordering, is_eq}
@@ -19,6 +19,11 @@ key_cmp see cmp x y = cmp (see x) (see y)
 -- what is asked of a key
 abbrev pub asking : {K L : Type 0} → (K → L) → (L → L → Ordering) → L → K → Ordering
 asking see cmp q k = cmp q (see k)
+
+-- as many entries are seen as there are
+pub length-seen : {K L X : Type 0} (see : K → L) (es : List (K × X)) → length (seen see es) ≡ length es
+length-seen see [] = refl
+length-seen see (e ∷ es) = ap (λ n. suc n) (length-seen see es)
 
 module _ {K L X : Type 0} (see : K → L) (cmp : L → L → Ordering) where
   insert-step : (k : K) (v : X) (e : K × X) (es : List (K × X)) (r : Ordering) → seen see (insert_entry (key_cmp see cmp) es k v) ≡ insert_entry cmp (seen see es) (see k) v

@@ -1,9 +1,9 @@
 // What reports are made by.
 ghost use Rattle.std.specs.Prelude.{◌≡◌, OnOk, IfOk};
 ghost use Rattle.cost_rows.specs.Keys.{part_of, plain_place, place_of_row};
+ghost use Rattle.cost_rows.specs.Plain.{plain_cell};
 
 use crate::rows::CellRow;
-use cg_text::Items;
 use std::alloc::{AllocError, Global};
 
 /// What rows are added up by: objects; files; functions, each of its object; lines, each of its file.
@@ -45,16 +45,15 @@ impl Part {
     }
 
     /// Becomes the part of a row's place that a key tells.
-    pub(crate) fn set(&mut self, key: Key, row: &CellRow<Items<u8>>) -> Result<(), AllocError>
-        ensures { OnOk result (plain_place self.new ≡ part_of key (place_of_row row.now)) }
+    pub(crate) fn set(&mut self, key: Key, row: &CellRow<&[u8]>) -> Result<(), AllocError>
+        ensures { OnOk result (plain_place self.new ≡ part_of key (place_of_row (plain_cell row.now))) }
     {
         let unknown = b"???".as_slice();
-        let (object, file) = (row.object.as_slice(), row.file.as_slice());
         let (object, file, function, line) = match key {
-            Key::Object => (object, unknown, unknown, 0),
-            Key::File => (unknown, file, unknown, 0),
-            Key::Function => (object, unknown, row.function.as_slice(), 0),
-            Key::Line => (unknown, file, unknown, row.line),
+            Key::Object => (row.object, unknown, unknown, 0),
+            Key::File => (unknown, row.file, unknown, 0),
+            Key::Function => (row.object, unknown, row.function, 0),
+            Key::Line => (unknown, row.file, unknown, row.line),
         };
         replace(&mut self.object, object)?;
         replace(&mut self.file, file)?;

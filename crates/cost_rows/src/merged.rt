@@ -1,13 +1,13 @@
 // Rows of many files, added up by key.
-ghost use Rattle.std.specs.Prelude.{◌≡◌, ◌+◌, ◌<◌, ◌^◌, OnOk, OnErr, []};
+ghost use Rattle.std.specs.Prelude.{◌≡◌, ◌+◌, ◌<◌, ◌^◌, OnOk, OnErr, [], length};
 ghost use Rattle.std.specs.BTreeMap.{IsUnchanged};
 ghost use Rattle.cost_rows.specs.Keys.{plain_place, plain_sums};
 ghost use Rattle.cost_rows.specs.KeySums.{sums_with, with_row, total_of, rows_of};
+ghost use Rattle.cost_rows.specs.Plain.{plain_cell};
 
 use crate::keys::{Key, Part};
 use crate::rows::CellRow;
 use crate::sum_rows::SumRows;
-use cg_text::Items;
 use std::alloc::{AllocError, Global};
 use std::collections::BTreeMap;
 use std::marker::Model;
@@ -43,6 +43,9 @@ pub struct Merged {
     key: Key,
     recent: Part,
     sums: BTreeMap<Part, u128>,
+    total: u128,
+    ghost is_total: { total ≡ total_of (plain_sums sums.entries) },
+    ghost small: { total < 2 ^ 112 },
 }
 
 impl Model for Merged {
@@ -65,14 +68,37 @@ impl Merged {
             key,
             recent: Part::new(alloc),
             sums: BTreeMap::new(alloc),
+            total: 0,
         }
+    }
+
+    /// What rows are added up by.
+    pub fn key(&self) -> Key
+        ensures { result ≡ self.now.key }
+    {
+        self.key
+    }
+
+    /// How many sums there are.
+    pub fn len(&self) -> usize
+        ensures { result ≡ length self.now.sums }
+    {
+        self.sums.len()
+    }
+
+    /// The sum of all costs that were added.
+    pub fn total(&self) -> u128
+        ensures value { result ≡ total_of self.now.sums }
+        ensures small { result < 2 ^ 112 }
+    {
+        self.total
     }
 
     /// Adds a row's cost to the sum of the part of its place that the key tells; a cost of 0 adds
     /// nothing. A refusal leaves the sums as they were.
-    pub fn add(&mut self, row: &CellRow<Items<u8>>) -> Result<(), AllocError>
+    pub fn add(&mut self, row: &CellRow<&[u8]>) -> Result<(), AllocError>
         requires small { total_of self.old.sums + row.now.cost < 2 ^ 112 }
-        ensures ok { OnOk result (self.new ≡ with_row self.old row.now) }
+        ensures ok { OnOk result (self.new ≡ with_row self.old (plain_cell row.now)) }
         ensures total { OnOk result (total_of self.new.sums ≡ total_of self.old.sums + row.now.cost) }
         ensures err { OnErr result (self.new ≡ self.old) }
     {
@@ -80,7 +106,9 @@ impl Merged {
             return Ok(());
         }
         self.recent.set(self.key, row)?;
-        merge_sum(self.alloc, &mut self.sums, &self.recent, row.cost)
+        merge_sum(self.alloc, &mut self.sums, &self.recent, row.cost)?;
+        self.total += row.cost;
+        Ok(())
     }
 
     /// The sums as rows of event 0, by key: the parts outside the key are `???` and line 0. Takes

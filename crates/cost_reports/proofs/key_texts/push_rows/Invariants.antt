@@ -1,0 +1,12 @@
+use Rattle.std.proofs.Common.{◌≡◌, ◌<◌, ◌^◌, ◌++◌, drop}
+use Rattle.cost_rows.specs.KeySums.{total_of}
+use Rattle.cost_reports.specs.KeyTexts.{rows_text}
+use Rattle.cost_reports.specs.Rows.{plain_rows}
+use Rattle.cost_reports.proofs.key_texts.push_rows.Given as goal
+
+-- the lines so far, and those to come
+abbrev pub invariant-loop-row : goal.invariant-loop-row
+invariant-loop-row l = record {
+  lines : l.text.items ++ rows_text l.key l.total (plain_rows (drop l.row-index l.rows)) ≡ l.initial.text.items ++ rows_text l.key l.total (plain_rows l.rows);
+  small : total_of (plain_rows (drop l.row-index l.rows)) < 2 ^ 112;
+}

@@ -1,0 +1,106 @@
+// Merged rows in the order of a report, cut.
+ghost use Rattle.std.specs.Prelude.{◌≡◌, ◌*◌, ◌≤◌, ◌<◌, ◌^◌, IfOk, take};
+ghost use Rattle.cost_rows.specs.KeySums.{total_of};
+ghost use Rattle.cost_reports.specs.KeyReports.{rank_cmp, reaching, limited, shown};
+ghost use Rattle.cost_reports.specs.Ranking.{ranked};
+ghost use Rattle.cost_reports.specs.Rows.{plain_rows};
+
+use crate::cuts::Cut;
+use crate::rows::Row;
+use cost_rows::Merged;
+use std::alloc::{AllocError, Global};
+use std::cmp::Reverse;
+
+/// The sums as rows, in their order.
+fn rows_of<'a>(alloc: Global, merged: &'a Merged) -> Result<Vec<Row<'a>>, AllocError>
+    ensures { IfOk result (λ rows. plain_rows rows.items ≡ merged.now.sums) }
+{
+    let mut rows = Vec::with_capacity(alloc, merged.len())?;
+    for row in merged.rows() {
+        rows.push(Row {
+            cost: Reverse(row.cost),
+            object: row.object,
+            file: row.file,
+            function: row.function,
+            line: row.line,
+        })?;
+    }
+    Ok(rows)
+}
+
+/// The greatest cost first, and equal costs in the order of their parts.
+fn rank(rows: &mut Vec<Row<'_>>)
+    ensures { plain_rows rows.new.items ≡ ranked rank_cmp (plain_rows rows.old.items) }
+{
+    rows.sort_unstable();
+}
+
+/// The sums as rows, the greatest cost first, and equal costs in the order of their parts.
+fn ranked_rows<'a>(alloc: Global, merged: &'a Merged) -> Result<Vec<Row<'a>>, AllocError>
+    ensures order { IfOk result (λ rows. plain_rows rows.items ≡ ranked rank_cmp merged.now.sums) }
+    ensures total { IfOk result (λ rows. total_of (plain_rows rows.items) ≡ total_of merged.now.sums) }
+{
+    let mut rows = rows_of(alloc, merged)?;
+    rank(&mut rows);
+    Ok(rows)
+}
+
+/// How many rows it takes until they come to a hundredth of what is needed.
+fn count_reaching(rows: &[Row<'_>], need: u128) -> usize
+    requires { total_of (plain_rows rows.now) < 2 ^ 112 }
+    ensures { plain_rows (take result rows.now) ≡ reaching need 0 (plain_rows rows.now) }
+{
+    let mut before = 0;
+    for (k, row) in rows.iter().enumerate() {
+        if before * 100 >= need {
+            return k;
+        }
+        before += row.cost.0;
+    }
+    rows.len()
+}
+
+/// Keeps rows until they come to a hundredth of what is needed.
+fn keep_enough(rows: &mut Vec<Row<'_>>, need: u128)
+    requires { total_of (plain_rows rows.old.items) < 2 ^ 112 }
+    ensures { plain_rows rows.new.items ≡ reaching need 0 (plain_rows rows.old.items) }
+{
+    let count = count_reaching(rows, need);
+    rows.truncate(count);
+}
+
+/// Keeps at most so many rows.
+fn keep_first(rows: &mut Vec<Row<'_>>, limit: Option<u64>)
+    ensures { plain_rows rows.new.items ≡ limited limit (plain_rows rows.old.items) }
+{
+    if let Some(limit) = limit {
+        rows.truncate(limit as usize);
+    }
+}
+
+/// The rows that a report shows.
+pub(crate) fn shown_rows<'a>(
+    alloc: Global,
+    merged: &'a Merged,
+    cut: Cut,
+) -> Result<Vec<Row<'a>>, AllocError>
+    ensures shown { IfOk result (λ rows. plain_rows rows.items ≡ shown cut merged.now.sums) }
+    ensures within { IfOk result (λ rows. total_of (plain_rows rows.items) ≤ total_of merged.now.sums) }
+{
+    let mut rows = ranked_rows(alloc, merged)?;
+    keep_enough(&mut rows, u128::from(cut.threshold) * merged.total());
+    keep_first(&mut rows, cut.limit);
+    Ok(rows)
+}
+
+/// What rows come to.
+pub(crate) fn cost_of(rows: &[Row<'_>]) -> u128
+    requires { total_of (plain_rows rows.now) < 2 ^ 112 }
+    ensures { result ≡ total_of (plain_rows rows.now) }
+{
+    let mut sum = 0;
+    for row in rows {
+        sum += row.cost.0;
+    }
+    sum
+}
