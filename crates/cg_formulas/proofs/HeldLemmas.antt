@@ -8,6 +8,7 @@ use Rattle.std.proofs.lemmas.List.Folds.{list_any-append}
 use Rattle.std.proofs.lemmas.List.Sums.{sum_by-cons}
 use Rattle.std.proofs.lemmas.Grind.{common_steps}
 use Rattle.cg_formulas.specs.EventLines.{Term}
+use Rattle.cg_formulas.specs.EventViews.{terms_in}
 use Rattle.cg_formulas.specs.Formulas.{Definition, defines, is_defined, is_known, coefficient, coefficients, same_terms, is_changed, derived_names, definition_fault, first_or, formula_fault}
 use Rattle.cg_formulas.specs.Definitions.{plain_definition, plain_back}
 use Rattle.cg_formulas.specs.Held.{Agree, Alike, Stands, AreFresh, Holds, kept_of}
@@ -225,7 +226,7 @@ plain_back-push ds d = ap reverse (map-append plain_definition ds (d ∷ [])) �
 
 -- the last definition, where it is of the name
 pub found-last : (name : List ℕ) (ds : List kept.Definition) (d : kept.Definition) → bytes_eq name d.name ≡ true
-    → (is_defined name (plain_back (ds ++ d ∷ [])) ≡ true) × ((x : Definition) → x.name ≡ name → is_changed x (plain_back (ds ++ d ∷ [])) ≡ not (same_terms d.formula.terms x.terms))
+    → (is_defined name (plain_back (ds ++ d ∷ [])) ≡ true) × ((x : Definition) → x.name ≡ name → is_changed x (plain_back (ds ++ d ∷ [])) ≡ not (same_terms (terms_in d.formula.text) x.terms))
 found-last name ds d same =
     let split = plain_back-push ds d in
     (rw split (or_left _ _ same), λ x named. rw split (let here : bytes_eq x.name d.name ≡ true = ap (λ n. bytes_eq n d.name) named ∙ same in rw here refl))

@@ -1,16 +1,11 @@
 -- The terms of a formula, from its front.
-use Rattle.std.proofs.Common.{◌≡◌, ℕ, ◌+◌, List, [], ◌∷◌, ◌++◌, take, drop, map, position, Option, Some, None, Err, refl, sym, ◌∙◌, ap, append_assoc}
+use Rattle.std.proofs.Common.{inl, inr, ◌≡◌, ℕ, ◌+◌, true, false, List, [], ◌∷◌, length, take, drop, map, position, Option, Some, None, is_some, refl, sym, ◌∙◌, ap}
 use Rattle.std.specs.List.{slice_split}
+use Rattle.std.proofs.lemmas.Bool.{cases_Bool, both_ways}
+use denote.Ref.{Bor}
 use Rattle.cg_formulas.specs.EventLines.{Term, term_of, all_terms, with_first, is_plus, formula_of}
-use Rattle.cg_formulas.specs.EventViews.{ReadIs}
-use Rattle.cg_formulas.specs.declared.event_lines.TextEnd.{TextEnd}
-use Rattle.cg_formulas.specs.declared.event_lines.TextEnd.TheVariants.{Fault, Memory}
+use Rattle.cg_formulas.specs.EventViews.{leading, terms_in}
 use Rattle.cg_text.proofs.FieldsLemmas.{split-Some, split-None}
-
--- terms in front of others, if those are terms
-abbrev pub with_terms : List Term → Option (List Term) → Option (List Term)
-with_terms ts None = None
-with_terms ts (Some more) = Some (ts ++ more)
 
 -- a term and a formula
 abbrev pub with_term : Option Term → Option (List Term) → Option (List Term)
@@ -33,37 +28,72 @@ formula-None : (bs : List ℕ) → position is_plus bs ≡ None → formula_of b
 unfolding formula_of
 formula-None bs h = ap (λ parts. all_terms (map term_of parts)) (split-None is_plus bs h) ∙ all_terms-cons (term_of bs) []
 
--- one more term behind those so far
-with_terms-more : (ts : List Term) (t : Term) (more : Option (List Term)) → with_terms ts (with_first t more) ≡ with_terms (ts ++ t ∷ []) more
-with_terms-more ts t None = refl
-with_terms-more ts t (Some more) = ap Some (sym (append_assoc ts (t ∷ []) more))
+-- ---- the first term of a text, and the others
 
--- a text whose first terms are read, and the rest of it
-abbrev pub Continues : List ℕ → List Term → List ℕ → Type 0
-Continues text ts rest = formula_of text ≡ with_terms ts (formula_of rest)
+-- the terms of parts, of which this is the first
+abbrev led : Option Term → List Term → List Term
+led None ts = []
+led (Some t) ts = t ∷ ts
+
+leading-cons : (t : Option Term) (ts : List (Option Term)) → leading (t ∷ ts) ≡ led t (leading ts)
+leading-cons None ts = refl
+leading-cons (Some t) ts = refl
+
+terms-Some : (bs : List ℕ) (i : ℕ) → position is_plus bs ≡ Some i → terms_in bs ≡ led (term_of (take i bs)) (terms_in (drop (i + 1) bs))
+unfolding terms_in
+terms-Some bs i h =
+    ap (λ parts. leading (map term_of parts)) (split-Some is_plus bs i h)
+    ∙ leading-cons (term_of (take i bs)) (map term_of (slice_split is_plus (drop (i + 1) bs)))
+
+terms-None : (bs : List ℕ) → position is_plus bs ≡ None → terms_in bs ≡ led (term_of bs) []
+unfolding terms_in
+terms-None bs h = ap (λ parts. leading (map term_of parts)) (split-None is_plus bs h) ∙ leading-cons (term_of bs) []
 
 -- up to the next `+` stands a term
-pub continues-more : (text rest : List ℕ) (ts : List Term) (i : ℕ) (t : Term) → Continues text ts rest → position is_plus rest ≡ Some i → Some t ≡ term_of (take i rest) → Continues text (ts ++ t ∷ []) (drop (i + 1) rest)
-continues-more text rest ts i t so_far found is =
-    so_far ∙ ap (with_terms ts) (formula-Some rest i found ∙ ap (λ o. with_term o (formula_of (drop (i + 1) rest))) (sym is))
-    ∙ with_terms-more ts t (formula_of (drop (i + 1) rest))
-
--- or none, and then it is no formula
-pub continues-bad : (text rest : List ℕ) (ts : List Term) (i : ℕ) → Continues text ts rest → position is_plus rest ≡ Some i → None ≡ term_of (take i rest) → None ≡ formula_of text
-continues-bad text rest ts i so_far found is =
-    sym (so_far ∙ ap (with_terms ts) (formula-Some rest i found ∙ ap (λ o. with_term o (formula_of (drop (i + 1) rest))) (sym is)))
-
--- with no `+`, the rest is the last term
-pub continues-last : (text rest : List ℕ) (ts : List Term) (t : Term) → Continues text ts rest → position is_plus rest ≡ None → Some t ≡ term_of rest → Some (ts ++ t ∷ []) ≡ formula_of text
-continues-last text rest ts t so_far found is =
-    sym (so_far ∙ ap (with_terms ts) (formula-None rest found ∙ ap (λ o. with_term o (Some [])) (sym is)))
+pub begins-more : (bs : List ℕ) (i : ℕ) (t : Term) → position is_plus bs ≡ Some i → Some t ≡ term_of (take i bs)
+    → (formula_of bs ≡ with_first t (formula_of (drop (i + 1) bs))) × (terms_in bs ≡ t ∷ terms_in (drop (i + 1) bs))
+begins-more bs i t found is =
+    (formula-Some bs i found ∙ ap (λ o. with_term o (formula_of (drop (i + 1) bs))) (sym is), terms-Some bs i found ∙ ap (λ o. led o (terms_in (drop (i + 1) bs))) (sym is))
 
 -- or none
-pub continues-last_bad : (text rest : List ℕ) (ts : List Term) → Continues text ts rest → position is_plus rest ≡ None → None ≡ term_of rest → None ≡ formula_of text
-continues-last_bad text rest ts so_far found is =
-    sym (so_far ∙ ap (with_terms ts) (formula-None rest found ∙ ap (λ o. with_term o (Some [])) (sym is)))
+pub begins-bad : (bs : List ℕ) (i : ℕ) → position is_plus bs ≡ Some i → None ≡ term_of (take i bs) → (formula_of bs ≡ None) × (terms_in bs ≡ [])
+begins-bad bs i found is =
+    (formula-Some bs i found ∙ ap (λ o. with_term o (formula_of (drop (i + 1) bs))) (sym is), terms-Some bs i found ∙ ap (λ o. led o (terms_in (drop (i + 1) bs))) (sym is))
 
--- what ends a part ends the whole
-pub refused : {A B : Type 0} (e : TextEnd) (part : Option A) (whole : Option B) → ReadIs (Err e) part → (None ≡ part → None ≡ whole) → ReadIs (Err e) whole
-refused Memory part whole h bad = tt
-refused (Fault fault) part whole h bad = (h.0, bad h.1)
+-- with no `+`, the text is the last term
+pub begins-last : (bs : List ℕ) (t : Term) → position is_plus bs ≡ None → Some t ≡ term_of bs → (formula_of bs ≡ with_first t (Some [])) × (terms_in bs ≡ t ∷ [])
+begins-last bs t found is = (formula-None bs found ∙ ap (λ o. with_term o (Some [])) (sym is), terms-None bs found ∙ ap (λ o. led o []) (sym is))
+
+-- or none
+pub begins-last_bad : (bs : List ℕ) → position is_plus bs ≡ None → None ≡ term_of bs → (formula_of bs ≡ None) × (terms_in bs ≡ [])
+begins-last_bad bs found is = (formula-None bs found ∙ ap (λ o. with_term o (Some [])) (sym is), terms-None bs found ∙ ap (λ o. led o []) (sym is))
+
+-- a formula has all its terms
+leading-all : (parts : List (Option Term)) → is_some (all_terms parts) ≡ true → Some (leading parts) ≡ all_terms parts
+leading-all [] h = refl
+leading-all (None ∷ parts) h = cc
+leading-all (Some t ∷ parts) h =
+    elim (cases_Bool (is_some (all_terms parts))) [
+      | inl e ↦ ap (with_first t) (leading-all parts e)
+      | inr e ↦ absurd (both_ways _ (with-none t (all_terms parts) e) h)
+    ]
+  where
+    with-none : (t : Term) (o : Option (List Term)) → is_some o ≡ false → is_some (with_first t o) ≡ false
+    with-none t None e = refl
+    with-none t (Some ts) e = cc
+
+pub formula-terms : (text : List ℕ) → is_some (formula_of text) ≡ true → Some (terms_in text) ≡ formula_of text
+unfolding formula_of terms_in
+formula-terms text h = leading-all (map term_of (slice_split is_plus text)) h
+
+pub no_formula : (text : List ℕ) → is_some (formula_of text) ≡ false → None ≡ formula_of text
+no_formula text h = none-some (formula_of text) h
+  where
+    none-some : (o : Option (List Term)) → is_some o ≡ false → None ≡ o
+    none-some None e = refl
+    none-some (Some ts) e = cc
+
+-- how much is behind a `+`
+abbrev pub size_behind : Option (Bor (List ℕ)) → ℕ
+size_behind None = 0
+size_behind (Some rest) = length rest.now + 1

@@ -1,20 +1,21 @@
 // The values of `event:` lines.
-ghost use Rattle.std.specs.Prelude.{◌≡◌, not, position, take_while, drop};
+ghost use Rattle.std.specs.Prelude.{◌≡◌, ◌+◌, ◌≤◌, not, length, position, take_while, drop, IfOk};
 ghost use Rattle.std.specs.List.{prefix_len};
-ghost use Rattle.cg_formulas.specs.EventLines.{ends_name, is_plus, term_of, formula_of, is_colon, before_colon, named, event_of};
-ghost use Rattle.cg_formulas.specs.EventViews.{EventIs, ReadIs};
+ghost use Rattle.cg_formulas.specs.EventLines.{ends_name, formula_of, is_colon, before_colon, named, event_of};
+ghost use Rattle.cg_formulas.specs.EventViews.{EventIs, FormulaIs, kept_bytes};
 
-use crate::terms::{ends_name, term};
+use crate::terms::{ends_name, is_formula};
 use cg_text::{Fault, Items, trim_start};
 use memchr::memchr;
 use std::alloc::{AllocError, Global};
 use std::error::Error;
 use std::fmt;
 
-/// A sum of terms, each a number of times the event of a name.
+/// A sum of terms, each a number of times the event of a name. Kept as the text that it is, whose
+/// terms are read anew where they are wanted.
 #[derive(Drop)]
 pub struct Formula {
-    pub terms: Items<(u64, Items<u8>)>,
+    pub text: Items<u8>,
 }
 
 /// What an `event:` line says: a name, and the formula that it stands for, if there is one.
@@ -59,34 +60,16 @@ impl From<AllocError> for TextEnd {
     }
 }
 
-/// Where the first `+` is.
-#[tactic(auto, using(cg_text::proofs::SearchLemmas::search_rules))]
-fn first_plus(text: &[u8]) -> Option<usize>
-    ensures { result ≡ position is_plus text.now }
+/// The formula that a text is, with a copy of it. `FormulaForm` where it is none.
+fn copied_formula(alloc: Global, text: &[u8]) -> Result<Formula, TextEnd>
+    ensures formula { FormulaIs result (formula_of text.now) }
+    ensures text { IfOk result (λ formula. formula.text ≡ text.now) }
 {
-    memchr(b'+', text)
-}
-
-/// The term that a text is, with a copy of its name. `FormulaForm` where it is none.
-fn copied_term(alloc: Global, text: &[u8]) -> Result<(u64, Items<u8>), TextEnd>
-    ensures { ReadIs result (term_of text.now) }
-{
-    let (number, name) = term(text).ok_or(TextEnd::Fault(Fault::FormulaForm))?;
-    Ok((number, Items::from_vec(name.to_vec(alloc)?)))
-}
-
-/// The terms that a text joins by `+`. `FormulaForm` where one of them is none.
-fn terms(alloc: Global, text: &[u8]) -> Result<Items<(u64, Items<u8>)>, TextEnd>
-    ensures { ReadIs result (formula_of text.now) }
-{
-    let mut terms = Items::new(alloc);
-    let mut rest = text;
-    while let Some(end) = first_plus(rest) {
-        terms.push(copied_term(alloc, &rest[..end])?)?;
-        rest = &rest[end + 1..];
+    if !is_formula(text) {
+        return Err(TextEnd::Fault(Fault::FormulaForm));
     }
-    terms.push(copied_term(alloc, rest)?)?;
-    Ok(terms)
+    let text = Items::from_vec(text.to_vec(alloc)?);
+    Ok(Formula { text })
 }
 
 /// Where the first `:` is.
@@ -99,7 +82,8 @@ fn first_colon(text: &[u8]) -> Option<usize>
 
 /// What stands before the first `:`.
 fn before_colon(text: &[u8]) -> &[u8]
-    ensures { result.now ≡ before_colon text.now }
+    ensures text { result.now ≡ before_colon text.now }
+    ensures within { length result.now ≤ length text.now }
 {
     match first_colon(text) {
         Some(end) => &text[..end],
@@ -110,13 +94,12 @@ fn before_colon(text: &[u8]) -> &[u8]
 /// What a line says by a name and what follows it: nothing, `:` or `=` and a formula. Else
 /// `FormulaForm`.
 fn named(alloc: Global, name: &[u8], rest: &[u8]) -> Result<EventLine, TextEnd>
-    ensures { EventIs result (named name.now rest.now) }
+    ensures event { EventIs result (named name.now rest.now) }
+    ensures within { IfOk result (λ e. kept_bytes e ≤ length name.now + length rest.now) }
 {
     let formula = match rest.split_first() {
         None | Some((b':', _)) => None,
-        Some((b'=', text)) => Some(Formula {
-            terms: terms(alloc, before_colon(text))?,
-        }),
+        Some((b'=', text)) => Some(copied_formula(alloc, before_colon(text))?),
         Some(_) => return Err(TextEnd::Fault(Fault::FormulaForm)),
     };
     let name = Items::from_vec(name.to_vec(alloc)?);
@@ -134,6 +117,7 @@ fn name_end(text: &[u8]) -> Option<usize>
 fn split_name(text: &[u8]) -> (&[u8], &[u8])
     ensures name { result.0.now ≡ take_while (λ b. not (ends_name b)) text.now }
     ensures rest { result.1.now ≡ drop (prefix_len (λ b. not (ends_name b)) text.now) text.now }
+    ensures within { length result.0.now + length result.1.now ≤ length text.now }
 {
     match name_end(text) {
         Some(end) => (&text[..end], &text[end..]),
@@ -142,10 +126,12 @@ fn split_name(text: &[u8]) -> (&[u8], &[u8])
 }
 
 /// What the value of an `event:` line says: a name, then, if there are any, `=` and a formula, and
-/// then, if there is one, `:` and a long name, which is not kept. Else `FormulaForm`.
+/// then, if there is one, `:` and a long name, which is not kept. Else `FormulaForm`. No more bytes are
+/// kept than there are.
 #[tactic(auto, unfolding(crate::specs::EventLines::event_of))]
 pub fn event_line(alloc: Global, value: &[u8]) -> Result<EventLine, TextEnd>
-    ensures { EventIs result (event_of value.now) }
+    ensures event { EventIs result (event_of value.now) }
+    ensures within { IfOk result (λ e. kept_bytes e ≤ length value.now) }
 {
     let (name, rest) = split_name(trim_start(value));
     if name.is_empty() {

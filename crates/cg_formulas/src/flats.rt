@@ -8,9 +8,11 @@ ghost use Rattle.cg_formulas.specs.Formulas as specs;
 ghost use Rattle.cg_text.specs.Distinct.{are_distinct};
 ghost use Rattle.cg_formulas.specs.Formulas.{is_known, is_defined, coefficient};
 ghost use Rattle.cg_formulas.specs.Rows.{IsRow, counted};
+ghost use Rattle.cg_formulas.specs.EventViews.{terms_in};
 
 use crate::definitions::Definition;
 use crate::rows::{add_times, total, weighed};
+use crate::terms::terms;
 use cg_text::{Fault, Items, are_distinct};
 use std::alloc::{AllocError, Global};
 use std::error::Error;
@@ -182,14 +184,14 @@ impl Flat {
     }
 
     /// Adds what the terms of a formula count, and answers whether their names are known.
-    fn add_terms(&self, row: &mut [u64], terms: &[(u64, Items<u8>)]) -> bool
+    fn add_terms(&self, row: &mut [u64], formula: &[u8]) -> bool
         requires { length row.old ≡ length self.now.events }
         ensures wide { length row.new ≡ length row.old }
-        ensures known { (back : List specs.Definition) → Flattens self.now back → result ≡ list_all (λ t. is_known self.now.events back t.1) terms.now }
-        ensures counts { IsTrue result → AddsTerms self.now terms.now row.old row.new }
+        ensures known { (back : List specs.Definition) → Flattens self.now back → result ≡ list_all (λ t. is_known self.now.events back t.1) (terms_in formula.now) }
+        ensures counts { IsTrue result → AddsTerms self.now (terms_in formula.now) row.old row.new }
     {
-        for (number, name) in terms {
-            if !self.add_term(row, *number, name.as_slice()) {
+        for (number, name) in terms(formula) {
+            if !self.add_term(row, number, name) {
                 return false;
             }
         }
@@ -197,17 +199,13 @@ impl Flat {
     }
 
     /// What the terms of a formula count, or nothing where a name is not known.
-    fn counted(
-        &self,
-        alloc: Global,
-        terms: &[(u64, Items<u8>)],
-    ) -> Result<Option<Vec<u64>>, AllocError>
+    fn counted(&self, alloc: Global, formula: &[u8]) -> Result<Option<Vec<u64>>, AllocError>
         ensures wide { IfOk result (λ r. IfSome r (λ row. length row.items ≡ length self.now.events)) }
-        ensures known { IfOk result (λ r. TellsKnown self.now terms.now (is_some r)) }
-        ensures counts { IfOk result (λ r. IfSome r (λ row. CountsTerms self.now terms.now row.items)) }
+        ensures known { IfOk result (λ r. TellsKnown self.now (terms_in formula.now) (is_some r)) }
+        ensures counts { IfOk result (λ r. IfSome r (λ row. CountsTerms self.now (terms_in formula.now) row.items)) }
     {
         let mut row = vec![in alloc; 0; self.events.len()]?;
-        if self.add_terms(&mut row, terms) {
+        if self.add_terms(&mut row, formula) {
             Ok(Some(row))
         } else {
             Ok(None)
@@ -226,7 +224,7 @@ impl Flat {
         if self.derived.len() >= MOST_NAMES {
             return Err(FlatEnd::Fault(Fault::TooManyEvents, definition.line));
         }
-        let Some(row) = self.counted(alloc, definition.formula.terms.as_slice())? else {
+        let Some(row) = self.counted(alloc, definition.formula.text.as_slice())? else {
             return Err(FlatEnd::Fault(Fault::FormulaUnknown, definition.line));
         };
         if total(&row) > MOST_COUNTS {

@@ -1,14 +1,15 @@
 // The formulas of `event:` lines, until the events are known.
-ghost use Rattle.std.specs.Prelude.{◌≡◌, List, [], true, false, not, OnOk, OnErr, IfSome, IfNone};
+ghost use Rattle.std.specs.Prelude.{◌≡◌, ◌≤◌, List, [], true, false, not, length, OnOk, OnErr, IfSome, IfNone};
 ghost use Rattle.cg_formulas.specs.Formulas as specs;
 ghost use Rattle.cg_formulas.specs.Formulas.{define, is_defined, is_changed, same_terms};
 ghost use Rattle.cg_text.specs.Distinct.{are_distinct};
-ghost use Rattle.cg_formulas.specs.EventViews.{plain_event};
+ghost use Rattle.cg_formulas.specs.EventViews.{plain_event, terms_in};
 ghost use Rattle.cg_formulas.specs.Flats.{FlatIs};
 
 use crate::definitions::Definition;
 use crate::event_lines::EventLine;
 use crate::flats::{Flat, FlatEnd, MOST_NAMES};
+use crate::terms::terms;
 use cg_text::{Fault, Items};
 use std::alloc::{AllocError, Global};
 
@@ -20,25 +21,23 @@ pub struct Formulas {
     definitions: Items<Definition>,
     /// The first line that gives a name other terms than before.
     changed: Option<u64>,
+    ghost few: { length definitions ≤ 65 },
 }
 
 /// Whether two formulas have the same terms in the same order.
-fn same_terms(terms: &[(u64, Items<u8>)], others: &[(u64, Items<u8>)]) -> bool
-    ensures { result ≡ same_terms terms.now others.now }
+fn same_terms(formula: &[u8], other: &[u8]) -> bool
+    ensures { result ≡ same_terms (terms_in formula.now) (terms_in other.now) }
 {
-    let mut left = terms;
-    let mut right = others;
-    while let Some(((number, name), terms)) = left.split_first() {
-        let Some(((other_number, other_name), others)) = right.split_first() else {
+    let mut others = terms(other);
+    for (number, name) in terms(formula) {
+        let Some((other_number, other_name)) = others.next() else {
             return false;
         };
-        if number != other_number || name.as_slice() != other_name.as_slice() {
+        if number != other_number || name != other_name {
             return false;
         }
-        left = terms;
-        right = others;
     }
-    right.is_empty()
+    others.next().is_none()
 }
 
 impl Formulas {
@@ -59,7 +58,7 @@ impl Formulas {
     fn find(&self, name: &[u8]) -> Option<&Definition>
         ensures none { IfNone result (is_defined name.now (kept_of self.now) ≡ false) }
         ensures some { IfSome result (λ _. is_defined name.now (kept_of self.now) ≡ true) }
-        ensures terms { IfSome result (λ e. TellChanges self.now name.now e.now.formula.terms) }
+        ensures terms { IfSome result (λ e. TellChanges self.now name.now (terms_in e.now.formula.text)) }
     {
         let mut rest = self.definitions.as_slice();
         while let Some((last, front)) = rest.split_last() {
@@ -90,7 +89,7 @@ impl Formulas {
                 formula,
             });
         };
-        if !same_terms(earlier.formula.terms.as_slice(), formula.terms.as_slice()) {
+        if !same_terms(earlier.formula.text.as_slice(), formula.text.as_slice()) {
             self.changed = Some(line);
         }
         Ok(())

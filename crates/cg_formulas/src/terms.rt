@@ -1,12 +1,14 @@
 // The terms of formulas.
-ghost use Rattle.std.specs.Prelude.{◌≡◌, not, position, take_while, drop};
+ghost use Rattle.std.specs.Prelude.{◌≡◌, ◌<◌, ◌∷◌, [], not, position, take_while, drop, length, is_some, None, IfNone, IfSome};
 ghost use Rattle.std.specs.List.{list_all, prefix_len};
 ghost use Rattle.std.specs.Option.{option_map};
 ghost use Rattle.cg_text.specs.Numbers.{is_digit};
-ghost use Rattle.cg_formulas.specs.EventLines.{ends_name, ends_term, is_term_name, times, factor, behind_star, counted, term_of};
-ghost use Rattle.cg_formulas.specs.EventViews.{plain_term};
+ghost use Rattle.cg_formulas.specs.EventLines.{ends_name, ends_term, is_term_name, times, factor, behind_star, counted, term_of, is_plus, with_first, formula_of};
+ghost use Rattle.cg_formulas.specs.EventViews.{plain_term, terms_in, terms_behind, formula_behind};
 
 use cg_text::{is_blank, is_digit, trim_end, trim_start, value_in};
+use memchr::memchr;
+use std::marker::Model;
 
 /// Whether a byte ends a name: a blank, `=` or `:`.
 pub(crate) fn ends_name(b: u8) -> bool
@@ -102,4 +104,80 @@ pub(crate) fn term(text: &[u8]) -> Option<(u64, &[u8])>
 {
     let (digits, rest) = split_digits(trim_end(trim_start(text)));
     counted(digits, rest)
+}
+
+/// Where the first `+` is.
+#[tactic(auto, using(cg_text::proofs::SearchLemmas::search_rules))]
+fn first_plus(text: &[u8]) -> Option<usize>
+    ensures { result ≡ position is_plus text.now }
+{
+    memchr(b'+', text)
+}
+
+/// The first term of a text, and what is behind the `+` after it, if there is one; `None` where it
+/// begins with no term.
+fn first_term(text: &[u8]) -> Option<((u64, &[u8]), Option<&[u8]>)>
+    ensures none { IfNone result ((formula_of text.now ≡ None) × (terms_in text.now ≡ [])) }
+    ensures formula { IfSome result (λ p. formula_of text.now ≡ with_first (plain_term p.0) (formula_behind p.1)) }
+    ensures terms { IfSome result (λ p. terms_in text.now ≡ plain_term p.0 ∷ terms_behind p.1) }
+    ensures shorter { IfSome result (λ p. IfSome p.1 (λ rest. length rest.now < length text.now)) }
+{
+    match first_plus(text) {
+        Some(end) => Some((term(&text[..end])?, Some(&text[end + 1..]))),
+        None => Some((term(text)?, None)),
+    }
+}
+
+/// Whether a text is a formula: terms joined by `+`.
+pub(crate) fn is_formula(text: &[u8]) -> bool
+    ensures { result ≡ is_some (formula_of text.now) }
+{
+    let mut rest = Some(text);
+    while let Some(text) = rest {
+        let Some((_, behind)) = first_term(text) else {
+            return false;
+        };
+        rest = behind;
+    }
+    true
+}
+
+/// The terms of a text, from the first on, up to a part that is none.
+#[derive(Drop)]
+pub(crate) struct SplitTerms<'a> {
+    rest: Option<&'a [u8]>,
+}
+
+impl<'a> Model for SplitTerms<'a> {
+    ghost use Rattle.std.specs.Prelude.{List};
+    ghost use Rattle.cg_formulas.specs.EventLines.{Term};
+    ghost use Rattle.cg_formulas.specs.EventViews.{terms_behind};
+
+    ghost Value = { List Term };
+
+    ghost view = { λ a. terms_behind a.rest };
+}
+
+/// The terms of a formula.
+pub(crate) fn terms(text: &[u8]) -> SplitTerms<'_>
+    ensures { result ≡ terms_in text.now }
+{
+    SplitTerms { rest: Some(text) }
+}
+
+impl<'a> Iterator for SplitTerms<'a> {
+    ghost use Rattle.std.specs.Iterator.{YieldsFirstBy, item_count};
+    ghost use Rattle.cg_formulas.specs.EventViews.{plain_term};
+
+    type Item = (u64, &'a [u8]);
+
+    ghost next_gives = { YieldsFirstBy plain_term (λ s. s) };
+
+    ghost remaining = { item_count (λ s. s) };
+
+    fn next(&mut self) -> Option<(u64, &'a [u8])> {
+        let (term, rest) = first_term(self.rest.take()?)?;
+        self.rest = rest;
+        Some(term)
+    }
 }

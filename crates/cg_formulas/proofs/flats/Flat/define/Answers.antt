@@ -2,6 +2,7 @@ use Rattle.std.proofs.Common.{rules, ◌≡◌, ◌<◌, ◌≤◌, ℕ, List, [
 use Rattle.std.specs.List.{list_all, list_any}
 use Rattle.std.specs.Str.{bytes_eq}
 use Rattle.cg_formulas.specs.Formulas.{is_known, coefficients, derived_of}
+use Rattle.cg_formulas.specs.EventViews.{terms_in}
 use Rattle.cg_formulas.specs.Definitions.{plain_definition}
 use Rattle.cg_formulas.specs.Rows.{counted, IsRow, capped}
 use Rattle.cg_formulas.proofs.DefineLemmas.{is_event, fault-event, fault-many, fault-unknown, fault-large, fault-none, new-row, row-large, row-small, derived-new, count-derived}
@@ -31,7 +32,7 @@ returns-in_default-clause-defines c back flattens new =
     let count = count-derived events back in
     let same = ap length flattens.derived in
     let none : is_some c.in_ok-row.field-0 ≡ false = search rules in
-    let unknown : list_all (λ t. is_known events back t.1) d.terms ≡ false = sym (sym none ∙ (c.in_ok-row.ensures.known back flattens ∙ ap (list_all (λ t. is_known events back t.1)) c.as_slice.ensures)) in
+    let unknown : list_all (λ t. is_known events back t.1) d.terms ≡ false = sym (sym none ∙ (c.in_ok-row.ensures.known back flattens ∙ ap (λ text. list_all (λ t. is_known events back t.1) (terms_in text)) c.as_slice.ensures)) in
     fault-unknown events d back flattens.free event new (omega (arith, count, same)) unknown
 
 pub returns-then-total-gt-MOST_COUNTS-clause-defines :
@@ -43,9 +44,9 @@ returns-then-total-gt-MOST_COUNTS-clause-defines c back flattens new =
     let count = count-derived events back in
     let same = ap length flattens.derived in
     let some : is_some c.in_ok-row.field-0 ≡ true = ap is_some c.in-Some.is in
-    let known : list_all (λ t. is_known events back t.1) d.terms ≡ true = sym (sym some ∙ (c.in_ok-row.ensures.known back flattens ∙ ap (list_all (λ t. is_known events back t.1)) c.as_slice.ensures)) in
-    let counted_row : IsRow c.in-Some.row.items events (λ event'. counted event' c.as_slice.result.now back) = (rw c.in-Some.is at c.in_ok-row.ensures.counts) back flattens in
-    let row : IsRow c.in-Some.row.items events (λ event'. counted event' d.terms back) = subst (λ ts. IsRow c.in-Some.row.items events (λ event'. counted event' ts back)) c.as_slice.ensures counted_row in
+    let known : list_all (λ t. is_known events back t.1) d.terms ≡ true = sym (sym some ∙ (c.in_ok-row.ensures.known back flattens ∙ ap (λ text. list_all (λ t. is_known events back t.1) (terms_in text)) c.as_slice.ensures)) in
+    let counted_row : IsRow c.in-Some.row.items events (λ event'. counted event' (terms_in c.as_slice.result.now) back) = (rw c.in-Some.is at c.in_ok-row.ensures.counts) back flattens in
+    let row : IsRow c.in-Some.row.items events (λ event'. counted event' d.terms back) = subst (λ text. IsRow c.in-Some.row.items events (λ event'. counted event' (terms_in text) back)) c.as_slice.ensures counted_row in
     let total = c.total.ensures ∙ ap (λ xs. capped (sum xs)) c.deref.ensures.value in
     let more = c.if-total-gt-MOST_COUNTS.true in
     let large = row-large c.in-Some.row.items events (λ event'. counted event' d.terms back) row (subst (λ n. 1000000 < n) total more) in
@@ -72,9 +73,9 @@ returns-clause-defines c back flattens new =
     let count = count-derived events back in
     let same = ap length flattens.derived in
     let some : is_some c.in_ok-row.field-0 ≡ true = ap is_some c.in-Some.is in
-    let known : list_all (λ t. is_known events back t.1) d.terms ≡ true = sym (sym some ∙ (c.in_ok-row.ensures.known back flattens ∙ ap (list_all (λ t. is_known events back t.1)) c.as_slice.ensures)) in
-    let counted_row : IsRow c.in-Some.row.items events (λ event'. counted event' c.as_slice.result.now back) = (rw c.in-Some.is at c.in_ok-row.ensures.counts) back flattens in
-    let row : IsRow c.in-Some.row.items events (λ event'. counted event' d.terms back) = subst (λ ts. IsRow c.in-Some.row.items events (λ event'. counted event' ts back)) c.as_slice.ensures counted_row in
+    let known : list_all (λ t. is_known events back t.1) d.terms ≡ true = sym (sym some ∙ (c.in_ok-row.ensures.known back flattens ∙ ap (λ text. list_all (λ t. is_known events back t.1) (terms_in text)) c.as_slice.ensures)) in
+    let counted_row : IsRow c.in-Some.row.items events (λ event'. counted event' (terms_in c.as_slice.result.now) back) = (rw c.in-Some.is at c.in_ok-row.ensures.counts) back flattens in
+    let row : IsRow c.in-Some.row.items events (λ event'. counted event' d.terms back) = subst (λ text. IsRow c.in-Some.row.items events (λ event'. counted event' (terms_in text) back)) c.as_slice.ensures counted_row in
     let total = c.total.ensures ∙ ap (λ xs. capped (sum xs)) c.deref.ensures.value in
     let few = c.if-total-gt-MOST_COUNTS.false in
     let small = row-small c.in-Some.row.items events (λ event'. counted event' d.terms back) row (subst (λ n. n ≤ 1000000) total few) in
