@@ -1,5 +1,7 @@
 // What commands are answered.
 use cg_text::{Fault, Items};
+use cost_reports::Cut;
+use cost_rows::Key;
 
 /// A sum over all runs that would pass 2^63-1.
 #[derive(Drop)]
@@ -39,15 +41,35 @@ pub enum Refusal {
     GroupTaken,
     /// A label or the name of a group is out of form.
     BadName,
+    /// No file of those that were selected has this event.
+    NoSuchEvent,
+}
+
+/// Which runs a question is about.
+#[derive(Drop)]
+pub enum Selection {
+    All,
+    Run(u32),
+    /// The members of the group of this name.
+    Group(Items<u8>),
 }
 
 /// A question to the warehouse.
-#[derive(Clone, Copy, Debug, PartialEq, Eq)]
+#[derive(Drop)]
 pub enum Query {
     /// Which runs are held.
     Runs,
     /// Which groups are there, with their baselines and members.
     Groups,
+    /// Where the cost of an event went, by object, file, function or line.
+    By {
+        selection: Selection,
+        key: Key,
+        event: Items<u8>,
+        cut: Cut,
+    },
+    /// Whether the sums of each run are the totals that its file states.
+    Verify(Selection),
 }
 
 /// What a command is answered.

@@ -1,0 +1,6 @@
+//! Reports over a store: which runs a selection names, how often their events count in the one that is
+//! asked, and their rows, walked once and added up by key.
+#![tactic(auto)]
+
+mod counting;
+mod walking;
