@@ -1,6 +1,7 @@
 -- The definitions of derived events, computed on examples.
 use Rattle.std.proofs.Common.{◌≡◌, ℕ, List, [], ◌∷◌, ◌-◌, ◌^◌, codes, refl, Some, None, Ok, Err}
 use Rattle.cg_formulas.specs.EventLines.{event_of, formula_of, term_of}
+use Rattle.cg_formulas.specs.EventViews.{terms_in}
 use Rattle.cg_formulas.specs.Formulas.{Definition, derived_value, formula_fault, derived_of, define}
 use Rattle.cg_text.specs.declared.faults.Fault.TheVariants.{EventTwice, FormulaForm, FormulaUnknown, FormulaTooLarge}
 
@@ -110,6 +111,25 @@ formula-end = refl
 formula-twice : formula_of (codes "a+a") ≡ Some ((1, codes "a") ∷ (1, codes "a") ∷ [])
 unfolding formula_of term_of
 formula-twice = refl
+
+-- ---- terms, read from a text
+
+text-formula : terms_in (codes "Ir + 10L1m+100 * LLm ") ≡ (1, codes "Ir") ∷ (10, codes "L1m") ∷ (100, codes "LLm") ∷ []
+unfolding terms_in term_of
+text-formula = refl
+
+text-one : terms_in (codes "Ir") ≡ (1, codes "Ir") ∷ []
+unfolding terms_in term_of
+text-one = refl
+
+-- up to a part that is none
+text-out_of_form : terms_in (codes "a + 2 3x + b") ≡ (1, codes "a") ∷ []
+unfolding terms_in term_of
+text-out_of_form = refl
+
+text-empty : terms_in [] ≡ []
+unfolding terms_in term_of
+text-empty = refl
 
 -- ---- derived events
 

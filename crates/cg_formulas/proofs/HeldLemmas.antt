@@ -1,8 +1,8 @@
 -- What is kept of definitions stands for all of them.
-use Rattle.std.proofs.Common.{inl, inr, ℕ, ◌≡◌, ◌+◌, ◌*◌, ◌<◌, Bool, true, false, not, ◌||◌, List, [], ◌∷◌, ◌++◌, map, reverse, length, sum, sum_by, Option, Some, None, is_some, if◌then◌else◌, ◌⊎◌, nat_lt, refl, sym, ap, ◌∙◌, subst, arith}
+use Rattle.std.proofs.Common.{inl, inr, ℕ, zero, suc, get_or, set, ◌≡◌, ◌+◌, ◌*◌, ◌<◌, Bool, true, false, not, ◌||◌, List, [], ◌∷◌, ◌++◌, map, reverse, length, sum, sum_by, Option, Some, None, is_some, if◌then◌else◌, ◌⊎◌, nat_lt, refl, sym, ap, ◌∙◌, subst, arith}
 use Rattle.std.specs.List.{list_any, list_all}
 use Rattle.std.specs.Str.{bytes_eq}
-use Rattle.std.proofs.lemmas.Bool.{cases_Bool, not-false, or_left}
+use Rattle.std.proofs.lemmas.Bool.{cases_Bool, not-false}
 use Rattle.std.proofs.lemmas.List.{map-append, reverse-append}
 use Rattle.std.proofs.lemmas.List.Folds.{list_any-append}
 use Rattle.std.proofs.lemmas.List.Sums.{sum_by-cons}
@@ -11,7 +11,7 @@ use Rattle.cg_formulas.specs.EventLines.{Term}
 use Rattle.cg_formulas.specs.EventViews.{terms_in}
 use Rattle.cg_formulas.specs.Formulas.{Definition, defines, is_defined, is_known, coefficient, coefficients, same_terms, is_changed, derived_names, definition_fault, first_or, formula_fault}
 use Rattle.cg_formulas.specs.Definitions.{plain_definition, plain_back}
-use Rattle.cg_formulas.specs.Held.{Agree, Alike, Stands, AreFresh, Holds, kept_of}
+use Rattle.cg_formulas.specs.Held.{terms_at, Agree, Alike, Stands, AreFresh, Holds, kept_of}
 use Rattle.cg_formulas.specs.declared.formulas.Formulas.{Formulas}
 use Rattle.cg_formulas.specs.declared.definitions.Definition as kept
 use Rattle.cg_text.specs.declared.faults.Fault.{Fault}
@@ -224,19 +224,23 @@ alike-many d es ds fresh many a = record {
 pub plain_back-push : (ds : List kept.Definition) (d : kept.Definition) → plain_back (ds ++ d ∷ []) ≡ plain_definition d ∷ plain_back ds
 plain_back-push ds d = ap reverse (map-append plain_definition ds (d ∷ [])) ∙ reverse-append (map plain_definition ds) (plain_definition d ∷ [])
 
--- the last definition, where it is of the name
-pub found-last : (name : List ℕ) (ds : List kept.Definition) (d : kept.Definition) → bytes_eq name d.name ≡ true
-    → (is_defined name (plain_back (ds ++ d ∷ [])) ≡ true) × ((x : Definition) → x.name ≡ name → is_changed x (plain_back (ds ++ d ∷ [])) ≡ not (same_terms (terms_in d.formula.text) x.terms))
-found-last name ds d same =
-    let split = plain_back-push ds d in
-    (rw split (or_left _ _ same), λ x named. rw split (let here : bytes_eq x.name d.name ≡ true = ap (λ n. bytes_eq n d.name) named ∙ same in rw here refl))
+-- the terms at a place are those of its definition
+terms_by_place : (ds : List kept.Definition) (i : ℕ) (d : kept.Definition) → i < length ds → get_or (map (λ e. terms_in e.formula.text) ds) i [] ≡ terms_in (get_or ds i d).formula.text
+terms_by_place [] i d inside = absurd (omega (arith, inside))
+terms_by_place (x ∷ ds) zero d inside = refl
+terms_by_place (x ∷ ds) (suc i) d inside = terms_by_place ds i d (omega (arith, inside))
 
--- and where it is of another
-pub passed-last : (name : List ℕ) (ds : List kept.Definition) (d : kept.Definition) → bytes_eq name d.name ≡ false
-    → (is_defined name (plain_back (ds ++ d ∷ [])) ≡ is_defined name (plain_back ds)) × ((x : Definition) → x.name ≡ name → is_changed x (plain_back (ds ++ d ∷ [])) ≡ is_changed x (plain_back ds))
-passed-last name ds d other =
-    let split = plain_back-push ds d in
-    (rw split (rw other refl), λ x named. rw split (let here : bytes_eq x.name d.name ≡ false = ap (λ n. bytes_eq n d.name) named ∙ other in rw here refl))
+pub kept_terms : (f : Formulas) (at : ℕ) (d : kept.Definition) → at < length f.definitions → terms_at f at ≡ terms_in (get_or f.definitions at d).formula.text
+kept_terms f at d inside = terms_by_place f.definitions at d inside
+
+-- another definition that says the same changes nothing
+maps-set : (ds : List kept.Definition) (i : ℕ) (d e : kept.Definition) → plain_definition e ≡ plain_definition (get_or ds i d) → map plain_definition (set ds i e) ≡ map plain_definition ds
+maps-set [] i d e same = refl
+maps-set (x ∷ ds) zero d e same = ap (λ y. y ∷ map plain_definition ds) same
+maps-set (x ∷ ds) (suc i) d e same = ap (λ ys. plain_definition x ∷ ys) (maps-set ds i d e same)
+
+pub set-same : (ds : List kept.Definition) (i : ℕ) (d e : kept.Definition) → plain_definition e ≡ plain_definition (get_or ds i d) → plain_back (set ds i e) ≡ plain_back ds
+set-same ds i d e same = ap reverse (maps-set ds i d e same)
 
 pub length-plain_back : (ds : List kept.Definition) → length (plain_back ds) ≡ length ds
 length-plain_back ds = grind (arith, common_steps)
@@ -270,17 +274,18 @@ stands_repeat : (o : Option ℕ) (d : Definition) (es ds : List Definition) → 
 stands_repeat (Some line) d es ds none here same stands = cc
 stands_repeat None d es ds none here same stands = alike-repeat d es ds stands here same
 
-pub holds-repeat : (f g : Formulas) (d : Definition) (ds : List Definition) → is_some f.changed ≡ false → g ≡ f → is_defined d.name (kept_of f) ≡ true → is_changed d (kept_of f) ≡ false → Holds f ds → Holds g (d ∷ ds)
-holds-repeat f g d ds none is here same holds = subst (λ h. Holds h (d ∷ ds)) (sym is) (record { fresh = holds.fresh; stands = stands_repeat f.changed d (kept_of f) ds none here same holds.stands })
+pub holds-repeat : (f g : Formulas) (d : Definition) (ds : List Definition) → is_some f.changed ≡ false → kept_of g ≡ kept_of f → g.changed ≡ f.changed → is_defined d.name (kept_of f) ≡ true → is_changed d (kept_of f) ≡ false → Holds f ds → Holds g (d ∷ ds)
+holds-repeat f g d ds none kept as_before here same holds = record {
+  fresh = subst AreFresh (sym kept) holds.fresh;
+  stands = subst (λ o. Stands o (kept_of g) (d ∷ ds)) (sym as_before) (subst (λ es. Stands f.changed es (d ∷ ds)) (sym kept) (stands_repeat f.changed d (kept_of f) ds none here same holds.stands));
+}
 
 stands_changed : (o : Option ℕ) (d : Definition) (es ds : List Definition) → is_some o ≡ false → is_changed d es ≡ true → Stands o es ds → Stands (Some d.line) es (d ∷ ds)
 stands_changed (Some line) d es ds none changed stands = cc
 stands_changed None d es ds none changed stands = changed-stands d es ds stands changed
 
-pub holds-changed : (f g : Formulas) (d : Definition) (ds : List Definition) → is_some f.changed ≡ false → g.definitions ≡ f.definitions → g.changed ≡ Some d.line → is_changed d (kept_of f) ≡ true → Holds f ds → Holds g (d ∷ ds)
-holds-changed f g d ds none kept now changed holds =
-    let same : kept_of g ≡ kept_of f = ap plain_back kept in
-    record {
-      fresh = subst AreFresh (sym same) holds.fresh;
-      stands = subst (λ o. Stands o (kept_of g) (d ∷ ds)) (sym now) (subst (λ es. Stands (Some d.line) es (d ∷ ds)) (sym same) (stands_changed f.changed d (kept_of f) ds none changed holds.stands));
-    }
+pub holds-changed : (f g : Formulas) (d : Definition) (ds : List Definition) → is_some f.changed ≡ false → kept_of g ≡ kept_of f → g.changed ≡ Some d.line → is_changed d (kept_of f) ≡ true → Holds f ds → Holds g (d ∷ ds)
+holds-changed f g d ds none kept now changed holds = record {
+  fresh = subst AreFresh (sym kept) holds.fresh;
+  stands = subst (λ o. Stands o (kept_of g) (d ∷ ds)) (sym now) (subst (λ es. Stands (Some d.line) es (d ∷ ds)) (sym kept) (stands_changed f.changed d (kept_of f) ds none changed holds.stands));
+}

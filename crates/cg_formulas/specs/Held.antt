@@ -1,6 +1,7 @@
 -- When what is kept of formulas stands for the definitions of all lines so far.
-use Rattle.std.specs.Prelude.{◌≡◌, ℕ, false, not, List, [], ◌∷◌, Option, Some, None, ⊤}
+use Rattle.std.specs.Prelude.{◌≡◌, ◌<◌, ℕ, true, false, not, List, [], ◌∷◌, map, length, get_or, if◌then◌else◌, Option, Some, None, ⊤}
 use Rattle.cg_formulas.specs.EventLines.{Term}
+use Rattle.cg_formulas.specs.EventViews.{terms_in}
 use Rattle.cg_formulas.specs.Formulas.{Definition, coefficient, same_terms, derived_names, is_defined, is_changed, formula_fault, first_or}
 use Rattle.cg_formulas.specs.declared.formulas.Formulas.{Formulas}
 use Rattle.cg_formulas.specs.Definitions.{plain_back}
@@ -10,9 +11,20 @@ use Rattle.cg_text.specs.declared.faults.Fault.TheVariants.{EventTwice}
 abbrev pub kept_of : Formulas → List Definition
 kept_of f = plain_back f.definitions
 
--- these terms tell whether a definition of this name changes what is kept
-abbrev pub TellChanges : Formulas → List ℕ → List Term → Type 0
-TellChanges f name terms = (d : Definition) → d.name ≡ name → is_changed d (kept_of f) ≡ not (same_terms terms d.terms)
+-- the terms that are kept at a place
+abbrev pub terms_at : Formulas → ℕ → List Term
+terms_at f at = get_or (map (λ d. terms_in d.formula.text) f.definitions) at []
+
+-- the nearest definition of a name, which tells whether a definition of the name changes what is kept
+pub record IsNearest (f : Formulas) (name : List ℕ) (at : ℕ) : Type 0 where
+  pub inside : at < length f.definitions
+  pub defined : is_defined name (kept_of f) ≡ true
+  pub changes : (d : Definition) → d.name ≡ name → is_changed d (kept_of f) ≡ not (same_terms (terms_at f at) d.terms)
+
+-- at this line these terms were given for the definition at a place: the same as before, or a change
+pub record Redefines (old : Formulas) (at line : ℕ) (terms : List Term) (new : Formulas) : Type 0 where
+  pub kept : kept_of new ≡ kept_of old
+  pub changed : new.changed ≡ (if same_terms (terms_at old at) terms then old.changed else Some line)
 
 -- two lists of definitions, neither with a fault, say the same
 pub record Agree (events : List (List ℕ)) (es ds : List Definition) : Type 0 where

@@ -1,23 +1,24 @@
 // The formulas of `event:` lines, until the events are known.
-ghost use Rattle.std.specs.Prelude.{◌≡◌, ◌≤◌, List, [], true, false, not, length, OnOk, OnErr, IfSome, IfNone};
+ghost use Rattle.std.specs.Prelude.{◌≡◌, ◌<◌, ◌≤◌, List, [], true, false, not, length, OnOk, OnErr, IfSome, IfNone};
 ghost use Rattle.cg_formulas.specs.Formulas as specs;
-ghost use Rattle.cg_formulas.specs.Formulas.{define, is_defined, is_changed, same_terms};
+ghost use Rattle.cg_formulas.specs.Formulas.{define, is_defined, same_terms};
 ghost use Rattle.cg_text.specs.Distinct.{are_distinct};
 ghost use Rattle.cg_formulas.specs.EventViews.{plain_event, terms_in};
 ghost use Rattle.cg_formulas.specs.Flats.{FlatIs};
 
 use crate::definitions::Definition;
-use crate::event_lines::EventLine;
+use crate::event_lines::{EventLine, Formula};
 use crate::flats::{Flat, FlatEnd, MOST_NAMES};
 use crate::terms::terms;
 use cg_text::{Fault, Items};
 use std::alloc::{AllocError, Global};
+use std::mem;
 
 /// The formulas of `event:` lines. What is kept does not grow with lines that say again what was said.
 #[derive(Drop)]
 pub struct Formulas {
     alloc: Global,
-    /// The first definition of each name, up to the first name too many.
+    /// The first definition of each name, up to the first name too many, by its shortest text.
     definitions: Items<Definition>,
     /// The first line that gives a name other terms than before.
     changed: Option<u64>,
@@ -41,7 +42,7 @@ fn same_terms(formula: &[u8], other: &[u8]) -> bool
 }
 
 impl Formulas {
-    ghost use Rattle.cg_formulas.specs.Held.{Holds, kept_of, TellChanges};
+    ghost use Rattle.cg_formulas.specs.Held.{Holds, kept_of, terms_at, IsNearest, Redefines};
 
     /// No line was read.
     pub fn new(alloc: Global) -> Formulas
@@ -54,20 +55,47 @@ impl Formulas {
         }
     }
 
-    /// The nearest definition of a name.
-    fn find(&self, name: &[u8]) -> Option<&Definition>
+    /// Where the nearest definition of a name is.
+    #[tactic(auto, using(crate::proofs::HeldLemmas::kept_terms))]
+    fn find(&self, name: &[u8]) -> Option<usize>
         ensures none { IfNone result (is_defined name.now (kept_of self.now) ≡ false) }
-        ensures some { IfSome result (λ _. is_defined name.now (kept_of self.now) ≡ true) }
-        ensures terms { IfSome result (λ e. TellChanges self.now name.now (terms_in e.now.formula.text)) }
+        ensures some { IfSome result (λ at. IsNearest self.now name.now at) }
     {
-        let mut rest = self.definitions.as_slice();
-        while let Some((last, front)) = rest.split_last() {
-            if name == last.name.as_slice() {
-                return Some(last);
+        let mut end = self.definitions.len();
+        while end > 0 {
+            end -= 1;
+            if name == self.definitions.as_slice()[end].name.as_slice() {
+                return Some(end);
             }
-            rest = front;
         }
         None
+    }
+
+    /// Keeps this formula in the place of another with the same terms.
+    fn replace_formula(&mut self, at: usize, formula: Formula)
+        requires { at < length self.old.definitions }
+        ensures definitions { terms_at self.old at ≡ terms_in formula.text → kept_of self.new ≡ kept_of self.old }
+        ensures changed { self.new.changed ≡ self.old.changed }
+    {
+        let none = Items::new(self.alloc);
+        let mut definitions = mem::replace(&mut self.definitions, none).into_vec();
+        definitions[at].formula = formula;
+        self.definitions = Items::from_vec(definitions);
+    }
+
+    /// Takes a formula of a name that has one. Where its terms are the same, the shorter text is kept,
+    /// so that no later line is compared with much more than it has.
+    #[tactic(auto, using(crate::proofs::HeldLemmas::kept_terms))]
+    fn redefine(&mut self, line: u64, at: usize, formula: Formula)
+        requires { at < length self.old.definitions }
+        ensures { Redefines self.old at line (terms_in formula.text) self.new }
+    {
+        let earlier = self.definitions.as_slice()[at].formula.text.as_slice();
+        if !same_terms(earlier, formula.text.as_slice()) {
+            self.changed = Some(line);
+        } else if formula.text.len() < earlier.len() {
+            self.replace_formula(at, formula);
+        }
     }
 
     /// Takes an `event:` line; where memory is refused, nothing changes.
@@ -82,15 +110,13 @@ impl Formulas {
         if self.changed.is_some() || self.definitions.len() > MOST_NAMES {
             return Ok(());
         }
-        let Some(earlier) = self.find(name.as_slice()) else {
-            return self.definitions.push(Definition {
+        match self.find(name.as_slice()) {
+            Some(at) => self.redefine(line, at, formula),
+            None => self.definitions.push(Definition {
                 line,
                 name,
                 formula,
-            });
-        };
-        if !same_terms(earlier.formula.text.as_slice(), formula.text.as_slice()) {
-            self.changed = Some(line);
+            })?,
         }
         Ok(())
     }
