@@ -1,9 +1,9 @@
 -- The rows of merged records come to what the records come to.
-use Rattle.std.proofs.Common.{◌≡◌, ℕ, ◌+◌, ◌<◌, ◌≤◌, zero, suc, Bool, List, [], ◌∷◌, ◌++◌, length, fold, slice_index, Some, unwrap_or, if◌then◌else◌, refl, sym, ap, ◌∙◌, subst, arith, add_assoc, length-append}
+use Rattle.std.proofs.Common.{◌≡◌, ℕ, ◌+◌, ◌<◌, ◌≤◌, zero, suc, Bool, true, false, ◌||◌, List, [], ◌∷◌, ◌++◌, length, fold, slice_index, Some, unwrap_or, if◌then◌else◌, refl, sym, ap, ap₂, ◌∙◌, subst, arith, add_assoc, length-append}
 use Rattle.std.specs.declared.cmp.Ordering.{Ordering}
 use Rattle.std.specs.declared.cmp.Ordering.TheVariants.{Less, Equal, Greater}
 use Rattle.std.specs.Ordering.{match_ordering}
-use Rattle.std.specs.List.{AllByRecursion, slice_get}
+use Rattle.std.specs.List.{AllByRecursion, list_any, slice_get}
 use Rattle.std.specs.Map.{keys_of}
 use Rattle.profile_records.specs.Records.{Cost, Callee, Record, Own, Called}
 use Rattle.cost_rows.specs.Naming.{place_of, with_name}
@@ -14,14 +14,14 @@ use Rattle.cost_rows.specs.Held.{IsHeld, CellHeld, CallHeld, AreHeld}
 use Rattle.cost_rows.specs.Merging.{merge, sum_where}
 use Rattle.cost_rows.specs.Places.{cell_cmp, call_cmp}
 use Rattle.cost_rows.specs.Content.{Content, empty, number_of, with_three, names_with_cost, names_with_callee, place_of_cost, cell_of, call_of, calls_of, with_cost, with_call, with_record}
-use Rattle.cost_rows.specs.Sums.{Spot, spot_of, callee_spot, name_at, spot_at, callee_at, passing_cell, passing_call, cells_where, calls_where, counts_where, content_of_records, ComesToRecords, own_sum, call_sum, count_sum}
+use Rattle.cost_rows.specs.Sums.{Spot, spot_of, callee_spot, name_at, spot_at, callee_at, passing_cell, passing_call, cells_where, calls_where, counts_where, content_of_records, ComesToRecords, own_sum, call_sum, count_sum, has_arc, has_call}
 use Rattle.cost_rows.specs.declared.places.CellPlace.{CellPlace}
 use Rattle.cost_rows.specs.declared.places.Call.{Call}
 use Rattle.cost_rows.specs.declared.calls.Calls.{Calls}
 use Rattle.cost_rows.proofs.NamingLemmas.{at_place}
 use Rattle.cost_rows.proofs.ColumnsLemmas.{slice_index-added}
 use Rattle.cost_rows.proofs.GrowingLemmas.{grows-more, grows-with, kept-by_three, held-three}
-use Rattle.cost_rows.proofs.MergeLemmas.{sum-merge}
+use Rattle.cost_rows.proofs.MergeLemmas.{sum-merge, keys-merge}
 use Rattle.cost_rows.proofs.PlacesLemmas.{cell_cmp-apart, call_cmp-apart}
 
 -- ---- names by their numbers
@@ -83,6 +83,11 @@ sum-same p q f (e ∷ es) same =
     ap (λ b. (if b then f e.1 else 0) + sum_where p f es) same.0
     ∙ ap (λ n. (if q e.0 then f e.1 else 0) + n) (sum-same p q f es same.1)
 
+-- and find the same
+any-same : {K : Type 0} (p q : K → Bool) (ks : List K) → AllByRecursion (λ k. p k ≡ q k) ks → list_any p ks ≡ list_any q ks
+any-same p q [] same = refl
+any-same p q (k ∷ ks) same = ap₂ ◌||◌ same.0 (any-same p q ks same.1)
+
 cells-kept : (passes : Spot → Bool) (f : List ℕ → ℕ) (names new : List (List ℕ)) (cells : List (CellPlace × List ℕ)) → Grows names new → AllByRecursion (CellHeld names) (keys_of cells)
     → sum_where (passing_cell passes new) f cells ≡ sum_where (passing_cell passes names) f cells
 cells-kept passes f names new cells grows held =
@@ -90,13 +95,21 @@ cells-kept passes f names new cells grows held =
     (all-weaker (CellHeld names) (λ p. passing_cell passes new p ≡ passing_cell passes names p) (keys_of cells)
     (λ p h. ap passes (spot-kept names new p.place.object p.place.file p.place.function p.place.line grows h)) held)
 
+-- a test of calls is answered the same among more names
+tests-kept : (passes : Spot → Spot → Bool) (names new : List (List ℕ)) (arcs : List (Call × Calls)) → Grows names new → AllByRecursion (CallHeld names) (keys_of arcs)
+    → AllByRecursion (λ a. passing_call passes new a ≡ passing_call passes names a) (keys_of arcs)
+tests-kept passes names new arcs grows held =
+    all-weaker (CallHeld names) (λ a. passing_call passes new a ≡ passing_call passes names a) (keys_of arcs)
+    (λ a h. ap (λ s. passes s (callee_at new a)) (spot-kept names new a.place.object a.place.file a.place.function a.place.line grows h.0)
+    ∙ ap (passes (spot_at names a.place)) (spot-kept names new a.object a.file a.function 0 grows h.1)) held
+
 arcs-kept : (passes : Spot → Spot → Bool) (f : Calls → ℕ) (names new : List (List ℕ)) (arcs : List (Call × Calls)) → Grows names new → AllByRecursion (CallHeld names) (keys_of arcs)
     → sum_where (passing_call passes new) f arcs ≡ sum_where (passing_call passes names) f arcs
-arcs-kept passes f names new arcs grows held =
-    sum-same (passing_call passes new) (passing_call passes names) f arcs
-    (all-weaker (CallHeld names) (λ a. passing_call passes new a ≡ passing_call passes names a) (keys_of arcs)
-    (λ a h. ap (λ s. passes s (callee_at new a)) (spot-kept names new a.place.object a.place.file a.place.function a.place.line grows h.0)
-    ∙ ap (passes (spot_at names a.place)) (spot-kept names new a.object a.file a.function 0 grows h.1)) held)
+arcs-kept passes f names new arcs grows held = sum-same (passing_call passes new) (passing_call passes names) f arcs (tests-kept passes names new arcs grows held)
+
+has-kept : (passes : Spot → Spot → Bool) (names new : List (List ℕ)) (arcs : List (Call × Calls)) → Grows names new → AllByRecursion (CallHeld names) (keys_of arcs)
+    → list_any (passing_call passes new) (keys_of arcs) ≡ list_any (passing_call passes names) (keys_of arcs)
+has-kept passes names new arcs grows held = any-same (passing_call passes new) (passing_call passes names) (keys_of arcs) (tests-kept passes names new arcs grows held)
 
 held-grows : (names new : List (List ℕ)) (cells : List (CellPlace × List ℕ)) → Grows names new → AllByRecursion (CellHeld names) (keys_of cells) → AllByRecursion (CellHeld new) (keys_of cells)
 held-grows names new cells grows held = all-weaker (CellHeld names) (CellHeld new) (keys_of cells) (λ p h. held-kept names new p.place.object p.place.file p.place.function grows h) held
@@ -173,21 +186,37 @@ cells-cost passes k c cost held =
     (cells-kept passes (λ v. slice_index v k) c.names new c.cells (grows-three c.names cost.object cost.file cost.function) held.cells)
     ∙ ap (λ s. cells_where passes k c + (if passes s then slice_index cost.costs k else 0)) spot
 
-arcs-call : (passes : Spot → Spot → Bool) (f : Calls → ℕ) (adds : (x y : Calls) → f (calls_added x y) ≡ f x + f y) (c : Content) (callee : Callee) (cost : Cost) → AreHeld c
-    → sum_where (passing_call passes (with_call c callee cost).names) f (with_call c callee cost).arcs ≡ sum_where (passing_call passes c.names) f c.arcs + (if passes (spot_of cost) (callee_spot callee) then f (calls_of callee cost) else 0)
-arcs-call passes f adds c callee cost held =
+-- the calls of a record, by the names that it leaves
+call-named : (passes : Spot → Spot → Bool) (c : Content) (callee : Callee) (cost : Cost)
+    → passing_call passes (with_call c callee cost).names (call_of (with_call c callee cost).names callee cost) ≡ passes (spot_of cost) (callee_spot callee)
+call-named passes c callee cost =
     let mid = names_with_cost cost c.names in
     let new = names_with_callee callee mid in
-    let grows = grows-more c.names mid new (grows-three c.names cost.object cost.file cost.function) (grows-three mid callee.object callee.file callee.function) in
     let caller = named-then c.names cost.object cost.file cost.function callee.object callee.file callee.function in
     let called = named-three mid callee.object callee.file callee.function in
     let place : spot_at new (place_of_cost new cost) ≡ spot_of cost = same_spot _ _ _ _ _ _ cost.line caller.0 caller.1 caller.2 in
     let whom : callee_at new (call_of new callee cost) ≡ callee_spot callee = same_spot _ _ _ _ _ _ 0 called.0 called.1 called.2 in
+    ap₂ passes place whom
+
+call-grows : (c : Content) (callee : Callee) (cost : Cost) → Grows c.names (with_call c callee cost).names
+call-grows c callee cost =
+    let mid = names_with_cost cost c.names in
+    grows-more c.names mid (names_with_callee callee mid) (grows-three c.names cost.object cost.file cost.function) (grows-three mid callee.object callee.file callee.function)
+
+arcs-call : (passes : Spot → Spot → Bool) (f : Calls → ℕ) (adds : (x y : Calls) → f (calls_added x y) ≡ f x + f y) (c : Content) (callee : Callee) (cost : Cost) → AreHeld c
+    → sum_where (passing_call passes (with_call c callee cost).names) f (with_call c callee cost).arcs ≡ sum_where (passing_call passes c.names) f c.arcs + (if passes (spot_of cost) (callee_spot callee) then f (calls_of callee cost) else 0)
+arcs-call passes f adds c callee cost held =
+    let new = (with_call c callee cost).names in
     let more : Calls = calls_of callee cost in
     sum-merge call_cmp-apart calls_added (passing_call passes new) f adds c.arcs (call_of new callee cost) more
-    ∙ ap (λ n. n + (if passing_call passes new (call_of new callee cost) then f more else 0)) (arcs-kept passes f c.names new c.arcs grows held.arcs)
-    ∙ ap (λ s. sum_where (passing_call passes c.names) f c.arcs + (if passes s (callee_at new (call_of new callee cost)) then f more else 0)) place
-    ∙ ap (λ s. sum_where (passing_call passes c.names) f c.arcs + (if passes (spot_of cost) s then f more else 0)) whom
+    ∙ ap₂ (λ n b. n + (if b then f more else 0)) (arcs-kept passes f c.names new c.arcs (call-grows c callee cost) held.arcs) (call-named passes c callee cost)
+
+has-call : (passes : Spot → Spot → Bool) (c : Content) (callee : Callee) (cost : Cost) → AreHeld c
+    → has_arc passes (with_call c callee cost) ≡ passes (spot_of cost) (callee_spot callee) || has_arc passes c
+has-call passes c callee cost held =
+    let new = (with_call c callee cost).names in
+    keys-merge call_cmp-apart calls_added (passing_call passes new) c.arcs (call_of new callee cost) (calls_of callee cost)
+    ∙ ap₂ ◌||◌ (call-named passes c callee cost) (has-kept passes c.names new c.arcs (call-grows c callee cost) held.arcs)
 
 -- ---- all records
 
@@ -202,11 +231,8 @@ law-cells passes k (Own cost ∷ records) c held =
     ∙ ap (λ n. n + own_sum passes k records) (cells-cost passes k c cost held)
     ∙ add_assoc (cells_where passes k c) (if passes (spot_of cost) then slice_index cost.costs k else 0) (own_sum passes k records)
 law-cells passes k (Called callee cost ∷ records) c held =
-    let mid = names_with_cost cost c.names in
-    let new = names_with_callee callee mid in
-    let grows = grows-more c.names mid new (grows-three c.names cost.object cost.file cost.function) (grows-three mid callee.object callee.file callee.function) in
     law-cells passes k records (with_call c callee cost) (held-call c callee cost held)
-    ∙ ap (λ n. n + own_sum passes k records) (cells-kept passes (λ v. slice_index v k) c.names new c.cells grows held.cells)
+    ∙ ap (λ n. n + own_sum passes k records) (cells-kept passes (λ v. slice_index v k) c.names (with_call c callee cost).names c.cells (call-grows c callee cost) held.cells)
 
 -- what the call records come to by a measure
 abbrev arc_sum : (Calls → ℕ) → (Spot → Spot → Bool) → List Record → ℕ
@@ -224,6 +250,26 @@ law-arcs passes f adds (Called callee cost ∷ records) c held =
     law-arcs passes f adds records (with_call c callee cost) (held-call c callee cost held)
     ∙ ap (λ n. n + arc_sum f passes records) (arcs-call passes f adds c callee cost held)
     ∙ add_assoc (sum_where (passing_call passes c.names) f c.arcs) (if passes (spot_of cost) (callee_spot callee) then f (calls_of callee cost) else 0) (arc_sum f passes records)
+
+or_none : (b : Bool) → b ≡ b || false
+or_none true = refl
+or_none false = refl
+
+turned : (a b d : Bool) → (a || b) || d ≡ b || (a || d)
+turned true true d = refl
+turned true false d = refl
+turned false true d = refl
+turned false false d = refl
+
+law-called : (passes : Spot → Spot → Bool) (records : List Record) (c : Content) → AreHeld c → has_arc passes (fold with_record c records) ≡ has_arc passes c || has_call passes records
+law-called passes [] c held = or_none (has_arc passes c)
+law-called passes (Own cost ∷ records) c held =
+    law-called passes records (with_cost c cost) (held-cost c cost held)
+    ∙ ap (λ b. b || has_call passes records) (has-kept passes c.names (names_with_cost cost c.names) c.arcs (grows-three c.names cost.object cost.file cost.function) held.arcs)
+law-called passes (Called callee cost ∷ records) c held =
+    law-called passes records (with_call c callee cost) (held-call c callee cost held)
+    ∙ ap (λ b. b || has_call passes records) (has-call passes c callee cost held)
+    ∙ turned (passes (spot_of cost) (callee_spot callee)) (has_arc passes c) (has_call passes records)
 
 call_sum-is : (passes : Spot → Spot → Bool) (k : ℕ) (records : List Record) → arc_sum (λ calls. slice_index calls.costs k) passes records ≡ call_sum passes k records
 call_sum-is passes k [] = refl
@@ -266,9 +312,13 @@ sums-counts passes records =
     law-arcs passes (λ calls. calls.count) (λ x y. refl) records empty none_held
     ∙ none_plus (arc_sum (λ calls. calls.count) passes records) ∙ count_sum-is passes records
 
+pub calls-there : (passes : Spot → Spot → Bool) (records : List Record) → has_arc passes (content_of_records records) ≡ has_call passes records
+calls-there passes records = law-called passes records empty none_held
+
 pub sums-records : (records : List Record) → ComesToRecords (content_of_records records) records
 sums-records records = record {
   cells = λ passes k. sums-cells passes k records;
   arcs = λ passes k. sums-arcs passes k records;
   counts = λ passes. sums-counts passes records;
+  called = λ passes. calls-there passes records;
 }

@@ -1,11 +1,13 @@
 -- The rows that are walked come to the sums that are held.
-use Rattle.std.proofs.Common.{◌≡◌, ℕ, ◌+◌, ◌<◌, zero, suc, Bool, true, false, ◌&&◌, ◌==◌, nat_lt, List, [], ◌∷◌, ◌++◌, map, slice_index, if◌then◌else◌, refl, ap, ◌∙◌, arith}
+use Rattle.std.proofs.Common.{◌≡◌, ℕ, ◌+◌, ◌<◌, zero, suc, Bool, true, false, ◌&&◌, ◌||◌, ◌==◌, nat_lt, List, [], ◌∷◌, ◌++◌, map, slice_index, if◌then◌else◌, refl, ap, ◌∙◌, arith}
 use Rattle.std.proofs.lemmas.Bool.Decides.{nat_tests}
+use Rattle.std.specs.List.{list_any}
+use Rattle.std.specs.Map.{keys_of}
 use Rattle.cost_rows.specs.Merging.{sum_where}
 use Rattle.cost_rows.specs.Sums.{Spot, spot_at, callee_at, passing_cell, passing_call}
 use Rattle.cost_rows.specs.ByNumber.{numbered_cell, numbered_at, numbered_cells}
 use Rattle.cost_rows.specs.Walks.{cell_named, cell_rows, arc_rows, stack_rows}
-use Rattle.cost_rows.specs.WalkSums.{rows_cost, calls_cost, calls_count, stacks_count}
+use Rattle.cost_rows.specs.WalkSums.{rows_cost, calls_cost, calls_count, has_calls, stacks_count}
 use Rattle.cost_rows.specs.declared.rows.CellRow.{CellRow}
 use Rattle.cost_rows.specs.declared.places.CellPlace.{CellPlace}
 use Rattle.cost_rows.specs.declared.places.Call.{Call}
@@ -96,6 +98,10 @@ walked-costs passes k names (e ∷ arcs) = ap (λ n. (if passes (spot_at names e
 pub walked-counts : (passes : Spot → Spot → Bool) (names : List (List ℕ)) (arcs : List (Call × Calls)) → calls_count passes (arc_rows names arcs) ≡ sum_where (passing_call passes names) (λ calls. calls.count) arcs
 walked-counts passes names [] = refl
 walked-counts passes names (e ∷ arcs) = ap (λ n. (if passes (spot_at names e.0.place) (callee_at names e.0) then e.1.count else 0) + n) (walked-counts passes names arcs)
+
+pub walked-calls : (passes : Spot → Spot → Bool) (names : List (List ℕ)) (arcs : List (Call × Calls)) → has_calls passes (arc_rows names arcs) ≡ list_any (passing_call passes names) (keys_of arcs)
+walked-calls passes names [] = refl
+walked-calls passes names (e ∷ arcs) = ap (λ b. passes (spot_at names e.0.place) (callee_at names e.0) || b) (walked-calls passes names arcs)
 
 none_counted : (b : Bool) (n : ℕ) → n ≡ (if b then 0 else 0) + n
 none_counted true n = omega arith

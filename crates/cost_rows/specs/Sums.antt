@@ -1,5 +1,6 @@
 -- What the records of a file come to, straight from the records.
-use Rattle.std.specs.Prelude.{◌≡◌, ℕ, ◌+◌, Bool, true, List, [], ◌∷◌, fold, slice_index, slice_index_or, if◌then◌else◌}
+use Rattle.std.specs.Prelude.{◌≡◌, ℕ, ◌+◌, Bool, true, false, ◌||◌, List, [], ◌∷◌, fold, slice_index, slice_index_or, if◌then◌else◌}
+use Rattle.std.specs.List.{list_any}
 use Rattle.std.specs.List.Sorted.{IsStrictlySortedBy}
 use Rattle.std.specs.Map.{keys_of}
 use Rattle.cg_text.specs.Distinct.{are_distinct}
@@ -56,6 +57,10 @@ calls_where passes k c = sum_where (passing_call passes c.names) (λ calls. slic
 abbrev pub counts_where : (Spot → Spot → Bool) → Content → ℕ
 counts_where passes c = sum_where (passing_call passes c.names) (λ calls. calls.count) c.arcs
 
+-- whether there are calls that pass, of whatever number and cost
+abbrev pub has_arc : (Spot → Spot → Bool) → Content → Bool
+has_arc passes c = list_any (passing_call passes c.names) (keys_of c.arcs)
+
 -- what the stacks that pass count
 abbrev pub stacks_where : (List ℕ → Bool) → Content → ℕ
 stacks_where passes c = sum_where passes (λ count. count) c.stacks
@@ -79,6 +84,12 @@ count_sum passes [] = 0
 count_sum passes (Own cost ∷ records) = count_sum passes records
 count_sum passes (Called callee cost ∷ records) = (if passes (spot_of cost) (callee_spot callee) then callee.count else 0) + count_sum passes records
 
+-- whether there is a call record that passes, of whatever count and cost
+abbrev pub has_call : (Spot → Spot → Bool) → List Record → Bool
+has_call passes [] = false
+has_call passes (Own cost ∷ records) = has_call passes records
+has_call passes (Called callee cost ∷ records) = passes (spot_of cost) (callee_spot callee) || has_call passes records
+
 -- the rows that records make
 abbrev pub content_of_records : List Record → Content
 content_of_records records = fold with_record empty records
@@ -88,6 +99,8 @@ pub record ComesToRecords (c : Content) (records : List Record) : Type 0 where
   pub cells : (passes : Spot → Bool) (k : ℕ) → cells_where passes k c ≡ own_sum passes k records
   pub arcs : (passes : Spot → Spot → Bool) (k : ℕ) → calls_where passes k c ≡ call_sum passes k records
   pub counts : (passes : Spot → Spot → Bool) → counts_where passes c ≡ count_sum passes records
+  -- and calls are there exactly where call records are, those of count and cost 0 too
+  pub called : (passes : Spot → Spot → Bool) → has_arc passes c ≡ has_call passes records
 
 -- each key stands once, in order, and no name stands twice
 pub record IsInOrder (c : Content) : Type 0 where

@@ -1,8 +1,8 @@
 -- What the rows that are walked come to.
-use Rattle.std.specs.Prelude.{◌≡◌, ℕ, ◌+◌, Bool, ◌&&◌, ◌==◌, List, [], ◌∷◌, slice_index, if◌then◌else◌}
+use Rattle.std.specs.Prelude.{◌≡◌, ℕ, ◌+◌, Bool, false, ◌&&◌, ◌||◌, ◌==◌, List, [], ◌∷◌, slice_index, if◌then◌else◌}
 use Rattle.cost_rows.specs.Keys.{place_of_row}
 use Rattle.cost_rows.specs.Content.{Content}
-use Rattle.cost_rows.specs.Sums.{Spot, cells_where, calls_where, counts_where, stacks_where}
+use Rattle.cost_rows.specs.Sums.{Spot, cells_where, calls_where, counts_where, has_arc, stacks_where}
 use Rattle.cost_rows.specs.Walks.{cell_rows, arc_rows, stack_rows}
 use Rattle.cost_rows.specs.declared.rows.CellRow.{CellRow}
 use Rattle.cost_rows.specs.declared.rows.ArcRow.{ArcRow}
@@ -30,6 +30,11 @@ abbrev pub calls_count : (Spot → Spot → Bool) → List (ArcRow (List ℕ) (L
 calls_count passes [] = 0
 calls_count passes (r ∷ rows) = (if passes (caller_of_row r) (callee_of_row r) then r.count else 0) + calls_count passes rows
 
+-- whether there is a row of calls that pass
+abbrev pub has_calls : (Spot → Spot → Bool) → List (ArcRow (List ℕ) (List ℕ)) → Bool
+has_calls passes [] = false
+has_calls passes (r ∷ rows) = passes (caller_of_row r) (callee_of_row r) || has_calls passes rows
+
 -- what the stacks that pass count
 abbrev pub stacks_count : (List ℕ → Bool) → List (StackRow (List ℕ)) → ℕ
 stacks_count passes [] = 0
@@ -40,4 +45,5 @@ pub record WalksCome (c : Content) : Type 0 where
   pub cells : (passes : Spot → Bool) (k : ℕ) → rows_cost passes k (cell_rows c.names c.cells) ≡ cells_where passes k c
   pub arcs : (passes : Spot → Spot → Bool) (k : ℕ) → calls_cost passes k (arc_rows c.names c.arcs) ≡ calls_where passes k c
   pub counts : (passes : Spot → Spot → Bool) → calls_count passes (arc_rows c.names c.arcs) ≡ counts_where passes c
+  pub called : (passes : Spot → Spot → Bool) → has_calls passes (arc_rows c.names c.arcs) ≡ has_arc passes c
   pub stacks : (passes : List ℕ → Bool) → stacks_count passes (stack_rows c.stacks) ≡ stacks_where passes c

@@ -1,5 +1,6 @@
 -- The rows that are walked: names in place of their numbers, and no cell or stack whose sum is 0.
-use Rattle.std.specs.Prelude.{ℕ, List, [], ◌∷◌, map, nat_lt, if◌then◌else◌}
+use Rattle.std.specs.Prelude.{ℕ, ◌<◌, List, [], ◌∷◌, map, nat_lt, if◌then◌else◌}
+use Rattle.std.specs.List.{AllByRecursion}
 use Rattle.cost_rows.specs.ByNumber.{numbered_cells, numbered_arcs}
 use Rattle.cost_rows.specs.Sums.{name_at}
 use Rattle.cost_rows.specs.declared.places.CellPlace.{CellPlace}
@@ -42,3 +43,11 @@ arc_rows names arcs = map (arc_named names) (numbered_arcs arcs)
 abbrev pub stack_rows : List (List ℕ × ℕ) → List (StackRow (List ℕ))
 stack_rows [] = []
 stack_rows (e ∷ stacks) = if nat_lt 0 e.1 then record { stack = e.0; count = e.1 } ∷ stack_rows stacks else stack_rows stacks
+
+-- ---- no row of 0
+
+abbrev pub HaveCosts : List (CellRow (List ℕ)) → Type 0
+HaveCosts rows = AllByRecursion (λ (r : CellRow (List ℕ)). 0 < r.cost) rows
+
+abbrev pub HaveCounts : List (StackRow (List ℕ)) → Type 0
+HaveCounts rows = AllByRecursion (λ (r : StackRow (List ℕ)). 0 < r.count) rows

@@ -10,6 +10,7 @@ ghost use Rattle.cost_rows.specs.Naming.{with_name, KeepsNumbers, NumbersTell};
 ghost use Rattle.cost_rows.specs.StackSums.{content_of_stacks, ComesToStacks};
 ghost use Rattle.cost_rows.specs.Sums.{content_of_records, ComesToRecords, IsInOrder};
 ghost use Rattle.cost_rows.specs.WalkSums.{WalksCome};
+ghost use Rattle.cost_rows.specs.Walks.{cell_rows, stack_rows, HaveCosts, HaveCounts};
 ghost use Rattle.cost_rows.specs.declared.keys.Key.{Key};
 ghost use Rattle.cost_rows.specs.declared.rows.CellRow.{CellRow};
 
@@ -32,7 +33,8 @@ pub fn merging_keeps_each_sum<K: Ord, X>()
 
 /// The rows of merged records come to what the records come to: for every test of places by their
 /// names and each column, the self records; for every test of calls, the call records and their
-/// counts. Each key stands once, in order, and no name stands twice.
+/// counts, and calls are there exactly where call records are. Each key stands once, in order, and no
+/// name stands twice.
 pub fn rows_come_to_the_records()
     ensures sums { (records : List Record) → ComesToRecords (content_of_records records) records }
     ensures order { (records : List Record) → IsInOrder (content_of_records records) }
@@ -53,10 +55,11 @@ pub fn rows_have_their_names()
 {}
 
 /// What is walked comes to what is held: for every test of places by their names and each event, the
-/// rows of cells; for every test of calls, their rows and how many there were; for every test of
-/// frames, the rows of stacks.
+/// rows of cells; for every test of calls, their rows and how many there were, and whether there are
+/// any; for every test of frames, the rows of stacks. No row of a cell or of a stack is 0.
 pub fn walked_rows_come_to_the_sums()
-    ensures { (c : Content) → WalksCome c }
+    ensures sums { (c : Content) → WalksCome c }
+    ensures above { (c : Content) → HaveCosts (cell_rows c.names c.cells) × HaveCounts (stack_rows c.stacks) }
 {}
 
 /// What rows that are added one after another come to: for every test of the parts of places that a

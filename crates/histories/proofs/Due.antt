@@ -91,10 +91,22 @@ module _ (limits : Limits) (h : History) (kind : Kind) (bytes : List ℕ) (n : �
       first (Some m) here same = absurd cc
       first None here same = (fault (fault_of kind bytes) (excess_of (held h) kind bytes) (nat_le limits.runs (length (held h))) (nat_le limits.numbers (next h)) same, here)
 
-pub run_legal : (limits : Limits) (h : History) (kind : Kind) (label : List ℕ) (outcomes : List Outcome) (n : ℕ) → IsLegal limits h (Import kind label outcomes) (Run n) → (n ≡ next h) × (number_of (sha256 (bytes_of outcomes)) (held h) ≡ None)
-run_legal limits h kind label outcomes n legal =
-    run_due limits h kind (bytes_of outcomes) n
-    (go (nat_lt limits.bytes (length (bytes_of outcomes))) (list_any is_failed outcomes) (list_any is_end outcomes) (was_due limits h (Import kind label outcomes) (Run n) tt legal).1)
+  -- and the file has no fault, and no sum over it and those that are held is above its bound
+  sound_due : file_due limits h kind bytes ≡ Run n → (fault_of kind bytes ≡ None) × (excess_of (held h) kind bytes ≡ None)
+  sound_due is = go (number_of (sha256 bytes) (held h)) (fault_of kind bytes) (excess_of (held h) kind bytes) (nat_le limits.runs (length (held h))) (nat_le limits.numbers (next h)) is
+    where
+      go : (a : Option ℕ) (b : Option (faults.Fault × ℕ)) (c : Option Excess) (d e : Bool)
+          → first_or (option_map Held a ∷ option_map faulty b ∷ option_map (λ excess. Refused (reasons.Overflow excess)) c ∷ when d (Refused reasons.Full) ∷ when e (Refused reasons.NumbersSpent) ∷ []) (Run (next h)) ≡ Run n
+          → (b ≡ None) × (c ≡ None)
+      go (Some m) b c d e same = absurd cc
+      go None (Some b) c d e same = absurd cc
+      go None None (Some c) d e same = absurd cc
+      go None None None d e same = (refl, refl)
+
+-- an import that is answered with a number was answered by its whole file
+file_was_due : (limits : Limits) (h : History) (kind : Kind) (label : List ℕ) (outcomes : List Outcome) (n : ℕ) → IsLegal limits h (Import kind label outcomes) (Run n) → file_due limits h kind (bytes_of outcomes) ≡ Run n
+file_was_due limits h kind label outcomes n legal =
+    go (nat_lt limits.bytes (length (bytes_of outcomes))) (list_any is_failed outcomes) (list_any is_end outcomes) (was_due limits h (Import kind label outcomes) (Run n) tt legal).1
   where
     go : (a b c : Bool)
         → (if a then Some (Refused reasons.TooLong) else if b then Some (Refused reasons.ReadFault) else if c then Some (file_due limits h kind (bytes_of outcomes)) else None) ≡ Some (Run n)
@@ -103,3 +115,9 @@ run_legal limits h kind label outcomes n legal =
     go false true c same = absurd cc
     go false false true same = cc
     go false false false same = absurd cc
+
+pub run_legal : (limits : Limits) (h : History) (kind : Kind) (label : List ℕ) (outcomes : List Outcome) (n : ℕ) → IsLegal limits h (Import kind label outcomes) (Run n) → (n ≡ next h) × (number_of (sha256 (bytes_of outcomes)) (held h) ≡ None)
+run_legal limits h kind label outcomes n legal = run_due limits h kind (bytes_of outcomes) n (file_was_due limits h kind label outcomes n legal)
+
+pub run_fits : (limits : Limits) (h : History) (kind : Kind) (label : List ℕ) (outcomes : List Outcome) (n : ℕ) → IsLegal limits h (Import kind label outcomes) (Run n) → (fault_of kind (bytes_of outcomes) ≡ None) × (excess_of (held h) kind (bytes_of outcomes) ≡ None)
+run_fits limits h kind label outcomes n legal = sound_due limits h kind (bytes_of outcomes) n (file_was_due limits h kind label outcomes n legal)

@@ -1,9 +1,11 @@
 pub mod Baselines
 pub mod Books
 pub mod Cuts
+pub mod Distinct
 pub mod Due
 pub mod Examples
 pub mod Excesses
+pub mod Fits
 pub mod Groups
 pub mod Held
 pub mod Invariants
@@ -13,6 +15,8 @@ pub mod Parents
 pub mod Put
 pub mod ReadsDue
 pub mod Rows
+pub mod Runs
+pub mod Selections
 pub mod Steps
 pub mod Tells
 pub mod Tests

@@ -7,7 +7,8 @@ use Rattle.cg_formulas.specs.declared.heads.FileHead.{FileHead}
 use Rattle.cost_rows.specs.Content.{Content}
 use Rattle.cost_rows.specs.Held.{AreHeld}
 use Rattle.cost_rows.specs.Walks.{arc_rows}
-use Rattle.cost_rows.proofs.WalkSumsLemmas.{walked-cells, walked-costs, walked-counts, walked-stacks}
+use Rattle.cost_rows.proofs.AboveLemmas.{cells-above, stacks-above}
+use Rattle.cost_rows.proofs.WalkSumsLemmas.{walked-cells, walked-costs, walked-counts, walked-calls, walked-stacks}
 use Rattle.prof_tables.specs.Tables.{Tables, Holds, GroupLine}
 use Rattle.prof_tables.specs.Changes as changes
 use Rattle.prof_books.specs.Book.{Book, book_of, with_run_book}
@@ -18,7 +19,7 @@ use Rattle.profile_records.specs.declared.kinds.Kind.{Kind}
 use Rattle.profile_records.specs.declared.kinds.Kind.TheVariants.{Callgrind, Folded}
 use Rattle.prof_books.proofs.Books.{book_put, named_put}
 use Rattle.prof_books.proofs.Filed.{head_of_run}
-use Rattle.prof_books.proofs.Parts.{counts_are, costs_are}
+use Rattle.prof_books.proofs.Parts.{counts_are, costs_are, calls_are}
 use Rattle.histories.specs.Files.{events_of, derived_of, stated_of, IsHeadOf, rows_of}
 use Rattle.sources.specs.Outcomes.{Outcome, bytes_of}
 use Rattle.histories.specs.History.{Import, History, File, held, baseline}
@@ -79,7 +80,11 @@ module _ (number : ℕ) (kind : Kind) (label bytes : List ℕ) (head : FileHead)
         cells = λ passes k. walked-cells passes k rows.names rows.cells ∙ all.cells passes k;
         counts = λ passes. sym (counts_are passes (arc_rows rows.names rows.arcs)) ∙ walked-counts passes rows.names rows.arcs ∙ all.counts passes;
         costs = λ passes k. sym (costs_are passes k (arc_rows rows.names rows.arcs)) ∙ walked-costs passes k rows.names rows.arcs ∙ all.arcs passes k;
+        called = λ passes. sym (calls_are passes (arc_rows rows.names rows.arcs)) ∙ walked-calls passes rows.names rows.arcs ∙ all.called passes;
         stacks = λ passes. walked-stacks passes rows.stacks ∙ all.stacks_are passes;
+        whole = (arc_rows rows.names rows.arcs, refl);
+        cells_above = cells-above rows.names rows.cells;
+        stacks_above = stacks-above rows.stacks;
       }
 
 -- ---- the tables

@@ -1,6 +1,8 @@
 -- The rows of a file come to what its records and stacks come to.
 use Rattle.std.proofs.Common.{◌≡◌, ℕ, ◌+◌, suc, zero, Bool, true, false, if◌then◌else◌, List, [], ◌∷◌, map, fold, slice_index, refl, sym, ap, ◌∙◌, arith}
 use Rattle.callgrind_reader.specs.Files.{records_of_file}
+use Rattle.std.specs.List.{list_any}
+use Rattle.std.specs.Map.{keys_of}
 use Rattle.profile_records.specs.Records.{Record, Own, Called}
 use Rattle.profile_records.specs.Stacks.{Seen}
 use Rattle.folded_reader.specs.Files.{stacks_of_file}
@@ -8,9 +10,9 @@ use Rattle.cost_rows.specs.Content.{Content, empty, with_record, leaf_cost}
 use Rattle.cost_rows.specs.Held.{AreHeld}
 use Rattle.cost_rows.specs.Merging.{sum_where}
 use Rattle.cost_rows.specs.StackSums.{content_of_stacks, frames_sum, leaf_sum}
-use Rattle.cost_rows.specs.Sums.{Spot, spot_of, passing_call, cells_where, calls_where, counts_where, stacks_where, content_of_records, own_sum, call_sum, count_sum}
+use Rattle.cost_rows.specs.Sums.{Spot, spot_of, passing_call, cells_where, calls_where, counts_where, stacks_where, content_of_records, own_sum, call_sum, count_sum, has_arc, has_call}
 use Rattle.cost_rows.proofs.StackSumsLemmas.{held-stacks, sums-stacks}
-use Rattle.cost_rows.proofs.SumsLemmas.{held-records, sums-cells, sums-arcs, sums-counts}
+use Rattle.cost_rows.proofs.SumsLemmas.{held-records, sums-cells, sums-arcs, sums-counts, calls-there}
 use Rattle.profile_records.specs.declared.kinds.Kind.{Kind}
 use Rattle.profile_records.specs.declared.kinds.Kind.TheVariants.{Callgrind, Folded}
 use Rattle.histories.specs.Files.{records_of, stacks_of, rows_of, sample}
@@ -20,6 +22,7 @@ pub record ComesTo (c : Content) (records : List Record) (stacks : List Seen) : 
   pub cells : (passes : Spot → Bool) (k : ℕ) → cells_where passes k c ≡ own_sum passes k records
   pub arcs : (passes : Spot → Spot → Bool) (k : ℕ) → calls_where passes k c ≡ call_sum passes k records
   pub counts : (passes : Spot → Spot → Bool) → counts_where passes c ≡ count_sum passes records
+  pub called : (passes : Spot → Spot → Bool) → has_arc passes c ≡ has_call passes records
   pub stacks_are : (passes : List ℕ → Bool) → stacks_where passes c ≡ frames_sum passes stacks
 
 -- records make no stacks
@@ -34,6 +37,7 @@ records_come records = record {
   cells = λ passes k. sums-cells passes k records;
   arcs = λ passes k. sums-arcs passes k records;
   counts = λ passes. sums-counts passes records;
+  called = λ passes. calls-there passes records;
   stacks_are = λ passes. ap (sum_where passes (λ count. count)) (no_stacks records empty);
 }
 
@@ -58,12 +62,17 @@ no_counts : (passes : Spot → Spot → Bool) (seen : List Seen) → count_sum p
 no_counts passes [] = refl
 no_counts passes (s ∷ seen) = no_counts passes seen
 
+no_call : (passes : Spot → Spot → Bool) (seen : List Seen) → has_call passes (map sample seen) ≡ false
+no_call passes [] = refl
+no_call passes (s ∷ seen) = no_call passes seen
+
 stacks_come : (seen : List Seen) → ComesTo (content_of_stacks seen) (map sample seen) seen
 stacks_come seen = record {
   held = held-stacks seen;
   cells = columns;
   arcs = λ passes k. ap (sum_where (passing_call passes (content_of_stacks seen).names) (λ calls. slice_index calls.costs k)) (sums-stacks seen).arcs ∙ sym (no_calls passes k seen);
   counts = λ passes. ap (sum_where (passing_call passes (content_of_stacks seen).names) (λ calls. calls.count)) (sums-stacks seen).arcs ∙ sym (no_counts passes seen);
+  called = λ passes. ap (λ arcs. list_any (passing_call passes (content_of_stacks seen).names) (keys_of arcs)) (sums-stacks seen).arcs ∙ sym (no_call passes seen);
   stacks_are = (sums-stacks seen).stacks;
 }
   where

@@ -3,6 +3,7 @@ pub mod Files
 pub mod History
 pub mod Legal
 pub mod Reports
+pub mod SelectedRuns
 pub mod Selections
 pub mod Stands
 pub mod Sums

@@ -3,9 +3,10 @@ use Rattle.std.specs.Prelude.{◌≡◌, ℕ, suc, Bool, List, [], ◌∷◌, ma
 use Rattle.std.specs.List.{AllByRecursion}
 use Rattle.sha2.specs.Sha256.{sha256}
 use Rattle.cg_formulas.specs.declared.heads.FileHead.{FileHead}
-use Rattle.cost_rows.specs.Sums.{Spot, own_sum, call_sum, count_sum}
+use Rattle.cost_rows.specs.Sums.{Spot, own_sum, call_sum, count_sum, has_call}
 use Rattle.cost_rows.specs.StackSums.{frames_sum}
 use Rattle.cost_rows.specs.WalkSums.{rows_cost, stacks_count}
+use Rattle.cost_rows.specs.Walks.{HaveCosts, HaveCounts}
 use Rattle.prof_tables.specs.Changes.{has_member}
 use Rattle.prof_tables.specs.Tables.{Tables, EventLine, GroupLine}
 use Rattle.prof_books.specs.Book.{RunBook, book_of, IsNamed}
@@ -14,7 +15,7 @@ use Rattle.prof_books.specs.Heads.{stated_at, derived_lines_from, coef_lines_fro
 use Rattle.prof_books.specs.Runs.{CanBeHeld, with_file}
 use Rattle.profile_records.specs.Kinds.{kind_number}
 use Rattle.profile_records.specs.declared.kinds.Kind.{Kind}
-use Rattle.prof_books.specs.Parts.{parts_sum}
+use Rattle.prof_books.specs.Parts.{parts_sum, has_part, AreOfRows}
 use Rattle.histories.specs.Files.{events_of, derived_of, stated_of, records_of, stacks_of, rows_of, IsHeadOf}
 use Rattle.sources.specs.Outcomes.{Outcome, bytes_of}
 use Rattle.histories.specs.History.{Said, Import, History, File, with_turn, held, next, groups, is_member, baseline}
@@ -53,8 +54,14 @@ pub record IsBookOf (f : File) (r : RunBook) : Type 0 where
   -- for every test of calls, part 0 to how many there were, and part k + 1 to what they cost in column k
   pub counts : (passes : Spot → Spot → Bool) → parts_sum passes 0 r.parts ≡ count_sum passes (records_of f.kind f.bytes)
   pub costs : (passes : Spot → Spot → Bool) (k : ℕ) → parts_sum passes (suc k) r.parts ≡ call_sum passes k (records_of f.kind f.bytes)
+  -- a part 0 that passes is there exactly where a call record is, of whatever count and cost
+  pub called : (passes : Spot → Spot → Bool) → has_part passes r.parts ≡ has_call passes (records_of f.kind f.bytes)
   -- for every test of frames, the stacks to what they count
   pub stacks : (passes : List ℕ → Bool) → stacks_count passes r.stacks ≡ frames_sum passes (stacks_of f.kind f.bytes)
+  -- the parts are those of whole rows of calls, and no row is 0 but a part 0
+  pub whole : AreOfRows r.parts
+  pub cells_above : HaveCosts r.cells
+  pub stacks_above : HaveCounts r.stacks
 
 -- each run is that of a file, in the same order
 abbrev pub AreBooksOf : List File → List RunBook → Type 0

@@ -1,21 +1,24 @@
 // What legal turns make of histories, and of tables that stand for them: laws of the definitions, each
 // the contract of a function that does nothing.
-ghost use Rattle.std.specs.Prelude.{◌≡◌, ℕ, ◌++◌, [], ◌∷◌, List};
+ghost use Rattle.std.specs.Prelude.{◌≡◌, ℕ, ◌++◌, [], ◌∷◌, List, true};
+ghost use Rattle.sqlite_rules.specs.Lists.{Has};
 ghost use Rattle.sqlite_trees.specs.Tree.{Trees};
 ghost use Rattle.cg_formulas.specs.declared.heads.FileHead.{FileHead};
-ghost use Rattle.prof_tables.specs.Changes.{joined, with_baseline, with_group, without_group, without_member, without_run};
+ghost use Rattle.prof_tables.specs.Changes.{has_run, joined, with_baseline, with_group, without_group, without_member, without_run};
 ghost use Rattle.prof_tables.specs.Tables.{Tables, Holds, new_tables};
 ghost use Rattle.prof_books.specs.Totals.{held_count};
 ghost use Rattle.profile_records.specs.declared.kinds.Kind.{Kind};
 ghost use Rattle.sources.specs.Outcomes.{Outcome};
 ghost use Rattle.histories.specs.Entries.{GroupShown, ListsGroups, ListsRuns, RunShown};
-ghost use Rattle.histories.specs.History.{Said, Import, Remove, MakeGroup, DropGroup, Join, Leave, SetBaseline, Turn, History, held};
+ghost use Rattle.histories.specs.History.{Said, Import, Remove, MakeGroup, DropGroup, Join, Leave, SetBaseline, Turn, History, File, held};
 ghost use Rattle.histories.specs.Legal.{AreAlike, AreDueAlike, GaveSame, AreLegal, IsHistory, IsLegal, IsTidy};
+ghost use Rattle.histories.specs.SelectedRuns.{AreSelected, TellsSelected};
 ghost use Rattle.histories.specs.Stands.{AreToldAlike, IsImport, TablesTell, TurnsInto};
 ghost use Rattle.histories.specs.Sums.{calls_held};
-ghost use Rattle.histories.specs.Told.{TellsHeld, TellsSums};
+ghost use Rattle.histories.specs.Told.{IsHeldAs, SumsFit, TellsGroup, TellsHeld, TellsRows, TellsSums};
 ghost use Rattle.histories.specs.declared.answers.Answer.TheVariants.{Held, Done, Text, Refused};
 ghost use Rattle.histories.specs.declared.answers.Refusal.{Refusal};
+ghost use Rattle.histories.specs.declared.answers.Selection.{Selection};
 ghost use Rattle.histories.specs.declared.limits.Limits.{Limits};
 
 /// A history with a legal turn more is a history, and so with a list of them; two legal lists one after
@@ -67,6 +70,31 @@ pub fn tables_tell_what_is_held()
 pub fn tables_tell_the_sums()
     ensures sums { (h : History) (t : Tables) (db : Trees) → Holds t db → TablesTell h t → TellsSums h t }
     ensures call_count { (h : History) (t : Tables) → TablesTell h t → held_count t ≡ calls_held (held h) }
+{}
+
+/// A number that is held is that of a file, and of a run of the book that tells of it. Its rows in the
+/// tables, by number, come to what the file says: cells, for every test of places; calls, for every
+/// test of them, and which there are; stacks, for every test of frames. None is 0 but numbers of calls.
+pub fn tables_tell_each_run()
+    ensures held { (h : History) (t : Tables) (n : ℕ) → TablesTell h t → has_run t n ≡ true → IsHeldAs h t n }
+    ensures rows { (h : History) (t : Tables) (f : File) → TablesTell h t → Has (held h) f → TellsRows f t }
+{}
+
+/// The lines of a group tell its members and its baseline.
+pub fn tables_tell_each_group()
+    ensures { (h : History) (t : Tables) (name : List ℕ) → TablesTell h t → TellsGroup h t name }
+{}
+
+/// A selection names each file once: all that are held, the one of a number, or those of the members of
+/// a group. The runs of the tables that it names are those of these files, in the same order.
+pub fn tables_tell_selections()
+    ensures files { (h : History) → IsHistory h → AreSelected h }
+    ensures runs { (h : History) (t : Tables) (s : Selection) → TablesTell h t → TellsSelected h t s }
+{}
+
+/// The sums over the files that are held, by event, stay within their bound in each history.
+pub fn held_sums_fit()
+    ensures { (h : History) → IsHistory h → SumsFit (held h) }
 {}
 
 /// The texts of lists are those of entries that show the lines of the tables: each run in order, and

@@ -21,7 +21,7 @@ derived_of_run run place (d ∷ derived) = (refl, derived_of_run run (suc place)
 
 coefs_of_run : (run place : ℕ) (derived : List (List ℕ × List ℕ)) → AllByRecursion (λ (k : CoefLine). k.run ≡ run) (coef_lines_from run place derived)
 coefs_of_run run place [] = tt
-coefs_of_run run place (d ∷ derived) = all-append (λ (k : CoefLine). k.run ≡ run) (coef_lines_at run place 0 d.1) (coef_lines_from run (suc place) derived) (all-above (λ (k : CoefLine). k.run ≡ run) (coef_line_of run place) (λ event times. refl) 0 d.1) (coefs_of_run run (suc place) derived)
+coefs_of_run run place (d ∷ derived) = all-append (λ (k : CoefLine). k.run ≡ run) (coef_lines_at run place 0 d.1) (coef_lines_from run (suc place) derived) (all-above (λ (k : CoefLine). k.run ≡ run) (coef_line_of run place) (λ event times above. refl) 0 d.1) (coefs_of_run run (suc place) derived)
 
 -- each line of a head says its run
 pub head_of_run : (run : ℕ) (head : FileHead) (c : Content) → AreOf run (event_lines run head c) (derived_lines run head) (coef_lines run head)

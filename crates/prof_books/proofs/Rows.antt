@@ -95,7 +95,7 @@ module _ (known : List NameLine) (up : Rising known) where
 
     pub cells_named : (cells : List (CellPlace × List ℕ)) → AllByRecursion (CellHeld names) (keys_of cells) → AllByRecursion (CellIsNamed known) (cell_lines run numbers cells)
     cells_named [] h = tt
-    cells_named (e ∷ cells) h = all-append (CellIsNamed known) (cell_lines_at run numbers e.0 0 e.1) (cell_lines run numbers cells) (all-above (CellIsNamed known) (cell_line_of run numbers e.0) (λ event cost. cell_is_named e.0 event cost h.0) 0 e.1) (cells_named cells h.1)
+    cells_named (e ∷ cells) h = all-append (CellIsNamed known) (cell_lines_at run numbers e.0 0 e.1) (cell_lines run numbers cells) (all-above (CellIsNamed known) (cell_line_of run numbers e.0) (λ event cost above. cell_is_named e.0 event cost h.0) 0 e.1) (cells_named cells h.1)
 
     call_named : (e : Call × Calls) (part sum : ℕ) → CallHeld names e.0 → ArcIsNamed known (arc_line_of run numbers e.0 part sum)
     call_named e part sum h =
@@ -105,7 +105,7 @@ module _ (known : List NameLine) (up : Rising known) where
     pub calls_named : (arcs : List (Call × Calls)) → AllByRecursion (CallHeld names) (keys_of arcs) → AllByRecursion (ArcIsNamed known) (arc_lines run numbers arcs)
     calls_named [] h = tt
     calls_named (e ∷ arcs) h =
-        all-append (ArcIsNamed known) (arc_lines_at run numbers e.0 e.1) (arc_lines run numbers arcs) (call_named e 0 e.1.count h.0, all-above (ArcIsNamed known) (arc_line_of run numbers e.0) (λ part sum. call_named e part sum h.0) 1 e.1.costs) (calls_named arcs h.1)
+        all-append (ArcIsNamed known) (arc_lines_at run numbers e.0 e.1) (arc_lines run numbers arcs) (call_named e 0 e.1.count h.0, all-above (ArcIsNamed known) (arc_line_of run numbers e.0) (λ part sum above. call_named e part sum h.0) 1 e.1.costs) (calls_named arcs h.1)
 
 -- ---- stacks
 
@@ -122,12 +122,12 @@ stacks_are run (e ∷ stacks) = go (nat_lt 0 e.1) (stacks_are run stacks)
 
 pub cells_of_run : (run : ℕ) (known_as : List ℕ) (cells : List (CellPlace × List ℕ)) → AllByRecursion (λ (c : CellLine). c.run ≡ run) (cell_lines run known_as cells)
 cells_of_run run known_as [] = tt
-cells_of_run run known_as (e ∷ cells) = all-append (λ (c : CellLine). c.run ≡ run) (cell_lines_at run known_as e.0 0 e.1) (cell_lines run known_as cells) (all-above (λ (c : CellLine). c.run ≡ run) (cell_line_of run known_as e.0) (λ event cost. refl) 0 e.1) (cells_of_run run known_as cells)
+cells_of_run run known_as (e ∷ cells) = all-append (λ (c : CellLine). c.run ≡ run) (cell_lines_at run known_as e.0 0 e.1) (cell_lines run known_as cells) (all-above (λ (c : CellLine). c.run ≡ run) (cell_line_of run known_as e.0) (λ event cost above. refl) 0 e.1) (cells_of_run run known_as cells)
 
 pub calls_of_run : (run : ℕ) (known_as : List ℕ) (arcs : List (Call × Calls)) → AllByRecursion (λ (a : ArcLine). a.run ≡ run) (arc_lines run known_as arcs)
 calls_of_run run known_as [] = tt
 calls_of_run run known_as (e ∷ arcs) =
-    all-append (λ (a : ArcLine). a.run ≡ run) (arc_lines_at run known_as e.0 e.1) (arc_lines run known_as arcs) (refl, all-above (λ (a : ArcLine). a.run ≡ run) (arc_line_of run known_as e.0) (λ part sum. refl) 1 e.1.costs) (calls_of_run run known_as arcs)
+    all-append (λ (a : ArcLine). a.run ≡ run) (arc_lines_at run known_as e.0 e.1) (arc_lines run known_as arcs) (refl, all-above (λ (a : ArcLine). a.run ≡ run) (arc_line_of run known_as e.0) (λ part sum above. refl) 1 e.1.costs) (calls_of_run run known_as arcs)
 
 pub stacks_of_run : (run : ℕ) (stacks : List (List ℕ × ℕ)) → AllByRecursion (λ (s : StackLine). s.run ≡ run) (stack_lines run stacks)
 stacks_of_run run [] = tt

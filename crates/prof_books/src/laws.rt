@@ -6,8 +6,8 @@ ghost use Rattle.cost_rows.specs.Content.{Content};
 ghost use Rattle.cost_rows.specs.declared.rows.ArcRow.{ArcRow};
 ghost use Rattle.prof_tables.specs.Changes.{without_run};
 ghost use Rattle.prof_tables.specs.Tables.{Tables, GroupLine, MemberLine, new_tables};
-ghost use Rattle.prof_books.specs.Book.{IsNamed, book_of, new_book, regrouped, regrouped_book, without_run_book};
-ghost use Rattle.prof_books.specs.Parts.{PartsCome};
+ghost use Rattle.prof_books.specs.Book.{CallPart, IsNamed, book_of, new_book, regrouped, regrouped_book, without_run_book};
+ghost use Rattle.prof_books.specs.Parts.{AreOfRows, AreWhole, PartsCome};
 ghost use Rattle.prof_books.specs.Runs.{filed, Filed, GoesInBook, IsOfItsRun};
 ghost use Rattle.profile_records.specs.declared.kinds.Kind.{Kind};
 
@@ -39,7 +39,10 @@ pub fn groups_leave_the_runs()
 {}
 
 /// The parts of rows of calls come to what the rows come to, for every test of calls: part 0 to how
-/// many they are, part k + 1 to what they cost in column k. So rows of equal parts have equal sums.
+/// many they are, part k + 1 to what they cost in column k. So rows of equal parts have equal sums. A
+/// part 0 that passes is there exactly where a row is, of whatever number and cost. No part stands
+/// without its part 0, and none but a part 0 is 0.
 pub fn parts_come_to_the_calls()
-    ensures { (rows : List (ArcRow (List ℕ) (List ℕ))) → PartsCome rows }
+    ensures whole { (parts : List CallPart) → AreOfRows parts → AreWhole parts }
+    ensures sums { (rows : List (ArcRow (List ℕ) (List ℕ))) → PartsCome rows }
 {}
