@@ -8,14 +8,22 @@ use Rattle.histories.specs.History as history
 use Rattle.sources.specs.Outcomes.{Outcome}
 use Rattle.histories.specs.History.{History, Said, Turn}
 use Rattle.histories.specs.Legal.{AreLegal}
+use Rattle.command_line.specs.declared.plans.Selected.{Selected}
+use Rattle.command_line.specs.declared.plans.Selected.TheVariants as selected
 use Rattle.histories.specs.declared.answers.Answer.{Answer}
 use Rattle.histories.specs.declared.answers.Answer.TheVariants.{Refused}
 use Rattle.histories.specs.declared.answers.Refusal.TheVariants.{Memory}
+use Rattle.histories.specs.declared.answers.Query.{Query}
+use Rattle.histories.specs.declared.answers.Query.TheVariants as queries
+use Rattle.histories.specs.declared.answers.Selection.{Selection}
+use Rattle.histories.specs.declared.answers.Selection.TheVariants as selections
 use Rattle.store_histories.specs.Answered.{HasHistory, Links}
 use Rattle.program_files.specs.Imported.{WereRead}
 use Rattle.answer_lines.specs.Answers.{is_refused, line_text}
 use Rattle.sessions.specs.declared.session.GroupChange.{GroupChange}
 use Rattle.sessions.specs.declared.session.GroupChange.TheVariants as changes
+use Rattle.sessions.specs.declared.session.Question.{Question}
+use Rattle.sessions.specs.declared.session.Question.TheVariants as questions
 use Rattle.sessions.specs.declared.session.Session.{Session}
 use Rattle.sessions.specs.declared.session.Work.{Work}
 use Rattle.sessions.specs.declared.session.Work.TheVariants as works
@@ -35,11 +43,22 @@ change_said (changes.Join n) name = history.Join name n
 change_said (changes.Leave n) name = history.Leave name n
 change_said (changes.SetBaseline n) name = history.SetBaseline name n
 
+abbrev pub selection_said : Selected → Selection
+selection_said selected.All = selections.All
+selection_said (selected.Run n) = selections.Run n
+selection_said (selected.Group name) = selections.Group name.now
+
+abbrev pub query_said : Question → Query
+query_said questions.Runs = queries.Runs
+query_said questions.Groups = queries.Groups
+query_said (questions.By selected key event cut) = queries.By (selection_said selected) key event.now cut
+query_said (questions.Verify selected) = queries.Verify (selection_said selected)
+
 abbrev pub AreOf : (List Outcome → Type 0) → Work → List Said → Type 0
 AreOf reads (works.Import kind paths) list = AreImports reads kind (map (λ path. path.now) paths) list
 AreOf reads (works.Remove numbers) list = list ≡ map history.Remove numbers
 AreOf reads (works.Group name change) list = list ≡ change_said change name.now ∷ []
-AreOf reads (works.Ask query) list = list ≡ history.Ask query ∷ []
+AreOf reads (works.Ask question) list = list ≡ history.Ask (query_said question) ∷ []
 
 -- the same, where the reads are those of files
 abbrev pub Wants : {F : Type 0} → (F → Option (List ℕ)) → Work → List Said → Type 0

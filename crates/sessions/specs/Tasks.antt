@@ -1,26 +1,33 @@
 -- What a plan says, in the words of a history.
-use Rattle.std.specs.Prelude.{◌≡◌, ℕ, Bool, IsTrue, true, false, List, [], ◌∷◌, map}
+use Rattle.std.specs.Prelude.{◌≡◌, ℕ, Bool, IsTrue, true, false, List, [], ◌∷◌, map, Option}
 use Rattle.command_line.specs.declared.plans.Plan.{Plan}
 use Rattle.command_line.specs.declared.plans.Plan.TheVariants as plans
 use Rattle.histories.specs.History.{Said, Remove, MakeGroup, DropGroup, Join, Leave, SetBaseline, Ask}
-use Rattle.histories.specs.declared.answers.Query.TheVariants.{Runs, Groups}
+use Rattle.histories.specs.declared.answers.Query.TheVariants as queries
+use Rattle.cost_reports.specs.declared.cuts.Cut.{Cut}
 use Rattle.sources.specs.Outcomes.{Outcome}
-use Rattle.sessions.specs.Sessions.{AreImports, AreOf}
+use Rattle.sessions.specs.Sessions.{AreImports, AreOf, selection_said}
 use Rattle.sessions.specs.declared.tasks.Task.{Task}
 use Rattle.sessions.specs.declared.tasks.Task.TheVariants as tasks
+
+abbrev pub cut_said : Option ℕ → ℕ → Cut
+cut_said limit threshold = record { limit = limit; threshold = threshold }
 
 -- the path of the store that a plan names, and the commands that it says; a total is none
 abbrev pub AreSaidBy : (List Outcome → Type 0) → Plan → List ℕ → List Said → Type 0
 AreSaidBy reads (plans.Total path) store list = ⊥
 AreSaidBy reads (plans.Import db kind files) store list = (store ≡ db.now) × AreImports reads kind (map (λ path. path.now) files) list
 AreSaidBy reads (plans.Remove db numbers) store list = (store ≡ db.now) × (list ≡ map Remove numbers)
-AreSaidBy reads (plans.Runs db) store list = (store ≡ db.now) × (list ≡ Ask Runs ∷ [])
+AreSaidBy reads (plans.Runs db) store list = (store ≡ db.now) × (list ≡ Ask queries.Runs ∷ [])
 AreSaidBy reads (plans.Group db false name) store list = (store ≡ db.now) × (list ≡ MakeGroup name.now ∷ [])
 AreSaidBy reads (plans.Group db true name) store list = (store ≡ db.now) × (list ≡ DropGroup name.now ∷ [])
 AreSaidBy reads (plans.Join db name n) store list = (store ≡ db.now) × (list ≡ Join name.now n ∷ [])
 AreSaidBy reads (plans.Leave db name n) store list = (store ≡ db.now) × (list ≡ Leave name.now n ∷ [])
 AreSaidBy reads (plans.Baseline db name n) store list = (store ≡ db.now) × (list ≡ SetBaseline name.now n ∷ [])
-AreSaidBy reads (plans.Groups db) store list = (store ≡ db.now) × (list ≡ Ask Groups ∷ [])
+AreSaidBy reads (plans.Groups db) store list = (store ≡ db.now) × (list ≡ Ask queries.Groups ∷ [])
+AreSaidBy reads (plans.By db selected key event limit threshold) store list =
+    (store ≡ db.now) × (list ≡ Ask (queries.By (selection_said selected) key event.now (cut_said limit threshold)) ∷ [])
+AreSaidBy reads (plans.Verify db selected) store list = (store ≡ db.now) × (list ≡ Ask (queries.Verify (selection_said selected)) ∷ [])
 
 -- a task does what a plan says: a total for a total, and over the store of the plan commands that it says, whatever is asked of the reads of files
 abbrev pub IsTaskOf : Plan → Task → Type 0

@@ -1,18 +1,21 @@
 // Commands over an opened store, each with its answer printed as it is there.
-ghost use Rattle.std.specs.Prelude.{◌≡◌, ◌↔◌, IsTrue, List, [], ◌∷◌, map};
+ghost use Rattle.std.specs.Prelude.{◌≡◌, ◌↔◌, IfOk, IsTrue, List, [], ◌∷◌, map};
 ghost use Rattle.prof_store.specs.Shown.{IsFaithful, IsUsable};
 ghost use Rattle.sources.specs.Outcomes.{Outcome};
-ghost use Rattle.histories.specs.History.{History, Said, Import, Remove};
+ghost use Rattle.histories.specs.History.{History, Said, Ask, Import, Remove};
 ghost use Rattle.histories.specs.Legal.{IsInForm, IsLegal};
 ghost use Rattle.histories.specs.declared.answers.Answer.TheVariants as answers;
 ghost use Rattle.store_histories.specs.Answered.{HasHistory};
 ghost use Rattle.warehouse.specs.Answered.{Says};
 ghost use Rattle.program_files.specs.Imported.{FileReads, WereRead};
-ghost use Rattle.sessions.specs.Sessions.{AreImports, Prints, Wants, WasRun, WasTold, change_said, status_after};
+ghost use Rattle.sessions.specs.Sessions.{AreImports, Prints, Wants, WasRun, WasTold, change_said, query_said, selection_said, status_after};
 
 use answer_lines::{is_refused, line_of};
 use cg_text::Items;
-use histories::{Answer, Query, Refusal};
+use command_line::Selected;
+use cost_reports::Cut;
+use cost_rows::Key;
+use histories::{Answer, Query, Refusal, Selection};
 use prof_store::is_group_name;
 use profile_records::Kind;
 use program_files::FileSource;
@@ -37,6 +40,22 @@ pub enum GroupChange {
     SetBaseline(u32),
 }
 
+/// What the store is asked.
+#[derive(Drop)]
+pub enum Question<'a> {
+    Runs,
+    Groups,
+    /// Where the cost of an event went.
+    By {
+        selected: Selected<'a>,
+        key: Key,
+        event: &'a str,
+        cut: Cut,
+    },
+    /// Whether sums are the totals that files state.
+    Verify(Selected<'a>),
+}
+
 /// What is done over an opened store.
 #[derive(Drop)]
 pub enum Work<'a> {
@@ -46,7 +65,7 @@ pub enum Work<'a> {
     Remove(Items<u32>),
     /// Change the group of a name.
     Group(&'a str, GroupChange),
-    Ask(Query),
+    Ask(Question<'a>),
 }
 
 /// Prints an answer. Where there is no memory for its line, it says so, and the command stands.
@@ -82,6 +101,46 @@ fn change_command<'a, R: Files>(name: Vec<u8>, change: GroupChange) -> Command<F
         GroupChange::Join(number) => Command::Join(name, number),
         GroupChange::Leave(number) => Command::Leave(name, number),
         GroupChange::SetBaseline(number) => Command::SetBaseline(name, number),
+    }
+}
+
+/// The bytes of a word, in memory of their own.
+fn bytes_of(alloc: Global, word: &str) -> Result<Items<u8>, AllocError>
+    ensures { IfOk result (λ bytes. bytes ≡ word.now) }
+{
+    Ok(Items::from_vec(word.as_bytes().to_vec(alloc)?))
+}
+
+/// The runs that were selected.
+fn selection_of(alloc: Global, selected: Selected<'_>) -> Result<Selection, AllocError>
+    ensures { IfOk result (λ selection. selection ≡ selection_said selected) }
+{
+    match selected {
+        Selected::All => Ok(Selection::All),
+        Selected::Run(number) => Ok(Selection::Run(number)),
+        Selected::Group(name) => Ok(Selection::Group(bytes_of(alloc, name)?)),
+    }
+}
+
+/// The query of a question.
+fn query_of(alloc: Global, question: Question<'_>) -> Result<Query, AllocError>
+    ensures { IfOk result (λ query. query ≡ query_said question.entry) }
+{
+    match question {
+        Question::Runs => Ok(Query::Runs),
+        Question::Groups => Ok(Query::Groups),
+        Question::By {
+            selected,
+            key,
+            event,
+            cut,
+        } => Ok(Query::By {
+            selection: selection_of(alloc, selected)?,
+            key,
+            event: bytes_of(alloc, event)?,
+            cut,
+        }),
+        Question::Verify(selected) => Ok(Query::Verify(selection_of(alloc, selected)?)),
     }
 }
 
@@ -208,6 +267,17 @@ impl<'a, R: Files + AllocGlobal, W: Write + Drop, S: Alter> Session<'a, R, W, S>
         self.apply(change_command(name, change))
     }
 
+    /// Asks a question.
+    fn ask(&mut self, question: Question<'_>) -> io::Result<()>
+        ensures limits { self.new.warehouse.limits ≡ self.old.warehouse.limits }
+        ensures answered { IsFaithful S.Store self.new.warehouse.store → WasTold S.Store W.contents (Ask (query_said question.entry)) result self.old self.new }
+    {
+        let Ok(query) = query_of(self.rt.alloc(), question) else {
+            return self.refuse(Refusal::Memory);
+        };
+        self.apply(Command::Ask(query))
+    }
+
     /// Runs the commands that a work comes to, and prints their answers. It stops where printing fails.
     pub fn run(&mut self, work: Work<'a>) -> io::Result<()>
         ensures limits { self.new.warehouse.limits ≡ self.old.warehouse.limits }
@@ -217,7 +287,7 @@ impl<'a, R: Files + AllocGlobal, W: Write + Drop, S: Alter> Session<'a, R, W, S>
             Work::Import(kind, paths) => self.import(kind, paths.as_slice()),
             Work::Remove(numbers) => self.remove(numbers.as_slice()),
             Work::Group(name, change) => self.change_group(name, change),
-            Work::Ask(query) => self.apply(Command::Ask(query)),
+            Work::Ask(question) => self.ask(question),
         }
     }
 }

@@ -1,4 +1,5 @@
 pub mod After
 pub mod Due
 pub mod Links
+pub mod Questions
 pub mod Settled
