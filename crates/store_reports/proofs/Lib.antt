@@ -1,0 +1,3 @@
+mod CountedLemmas
+mod ReportLemmas
+mod WalkLemmas

@@ -1,2 +1,4 @@
 pub mod Counted
+pub mod Reported
+pub mod Selected
 pub mod Walked

@@ -3,4 +3,8 @@
 #![tactic(auto)]
 
 mod counting;
+mod reports;
+mod selecting;
 mod walking;
+
+pub use reports::by_answer;
