@@ -4,7 +4,6 @@ use Rattle.std.specs.Fmt.{digits}
 use Rattle.cg_formulas.specs.Formulas.{coefficients}
 use Rattle.cg_text.specs.Names.{unknown}
 use Rattle.profile_records.specs.Records.{Record, Own, Called}
-use Rattle.cost_rows.specs.Sums.{Spot}
 use Rattle.cost_rows.specs.declared.keys.Key.{Key}
 use Rattle.cost_rows.specs.declared.keys.Key.TheVariants.{Object, File, Function, Line}
 use Rattle.cost_reports.specs.Costs.{EventRecords, costs_by}

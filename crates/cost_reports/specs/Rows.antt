@@ -1,6 +1,5 @@
 -- The rows of a report as the code holds them, and as merged rows give them.
 use Rattle.std.specs.Prelude.{ℕ, List, map}
-use Rattle.std.specs.Borrow.{Bor}
 use Rattle.cost_rows.specs.Keys.{place_of_row}
 use Rattle.cost_rows.specs.Sums.{Spot}
 use Rattle.cost_rows.specs.declared.rows.CellRow.{CellRow}

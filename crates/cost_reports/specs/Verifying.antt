@@ -1,6 +1,5 @@
 -- The sum of each event of a run beside the total that its file states.
 use Rattle.std.specs.Prelude.{ℕ, ◌+◌, ◌==◌, if◌then◌else◌, List, [], ◌∷◌, ◌++◌, flat_map, codes, slice_get, slice_index, Option, Some, None}
-use Rattle.std.specs.Borrow.{Bor}
 use Rattle.std.specs.Fmt.{decimal}
 use Rattle.printed_names.specs.Escapes.{escaped}
 use Rattle.cost_reports.specs.declared.verifying.Check.{Check}

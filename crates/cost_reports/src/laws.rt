@@ -36,6 +36,7 @@ pub fn equal_costs_have_equal_sums()
 /// each column, the sums of their rows are those of the records; and these come to what all records
 /// cost, whatever the key.
 pub fn cells_come_to_the_records()
-    ensures sums { (key : Key) (files : List EventRecords) (runs : List EventCells) → StandForEach files runs → sums_by key (all_rows runs) ≡ costs_by key files }
+    ensures sums { (key : Key) (files : List EventRecords) (runs : List EventCells) → StandForEach files runs
+        → sums_by key (all_rows runs) ≡ costs_by key files }
     ensures total { (key : Key) (files : List EventRecords) → total_of (costs_by key files) ≡ total_of (all_costs files) }
 {}

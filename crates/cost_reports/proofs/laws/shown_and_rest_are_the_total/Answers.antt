@@ -1,5 +1,4 @@
-use Rattle.std.proofs.Common.{◌+◌, arith}
-use Rattle.cost_rows.specs.KeySums.{total_of}
+use Rattle.std.proofs.Common.{arith}
 use Rattle.cost_reports.proofs.CutLemmas.{shown_within}
 use Rattle.cost_reports.proofs.KeyLemmas.{total_by_key}
 use Rattle.cost_reports.proofs.laws.shown_and_rest_are_the_total.Goals as goal

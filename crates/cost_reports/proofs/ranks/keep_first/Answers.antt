@@ -1,4 +1,4 @@
-use Rattle.std.proofs.Common.{take, sym, ap, ◌∙◌}
+use Rattle.std.proofs.Common.{sym, ap, ◌∙◌}
 use Rattle.std.proofs.lemmas.List.{take-map}
 use Rattle.cost_reports.specs.KeyReports.{limited}
 use Rattle.cost_reports.specs.Rows.{plain_row, plain_rows}
