@@ -1,3 +1,2 @@
 mod CountedLemmas
-mod ReportLemmas
 mod WalkLemmas

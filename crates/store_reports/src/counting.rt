@@ -46,7 +46,9 @@ pub(crate) fn count_runs<S: Alter>(
     let mut runs = Vec::new(alloc);
     for number in numbers {
         let run = count_run(store, alloc, *number, event)?;
-        runs.push(run)?;
+        if runs.push(run).is_err() {
+            return Err(StoreEnd::Memory);
+        }
     }
     Ok(runs)
 }

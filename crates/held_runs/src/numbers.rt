@@ -1,0 +1,82 @@
+// The numbers of runs: of all, and of the members of a group.
+ghost use Rattle.std.specs.Prelude.{◌≡◌, ◌<◌, [], map, length, IfOk, IsTrue, IsPermutation};
+ghost use Rattle.std.specs.List.{AllAdjacentBelow};
+ghost use Rattle.std.specs.Result.{is_ok};
+ghost use Rattle.sqlite_trees.specs.Tree.{IsAscending};
+ghost use Rattle.held_runs.specs.RunNumbers.{first_one, number_shown, numbers_in_tables, numbers_in_rows, members_in_tables, members_in_rows};
+ghost use Rattle.prof_store.specs.Shown.{Told, Found};
+ghost use Rattle.prof_store.specs.Shown.{Asks};
+
+use cg_text::Items;
+use prof_store::{Store, select};
+use sqlite::{Alter, Row, params};
+use std::alloc::Global;
+use store_columns::{StoreEnd, number_at};
+
+fn read_numbers(alloc: Global, rows: &[Row]) -> Result<Items<u32>, StoreEnd>
+    ensures read { IfOk result (λ numbers. map number_shown numbers ≡ map first_one rows.now) }
+{
+    let mut numbers = Items::new(alloc);
+    'rows: for row in rows {
+        let number = number_at(row, 0)?;
+        if numbers.push(number).is_err() {
+            return Err(StoreEnd::Memory);
+        }
+    }
+    Ok(numbers)
+}
+
+/// Whether numbers rise.
+fn rise(numbers: &[u32]) -> bool
+    ensures { IsTrue result → AllAdjacentBelow (λ a b. a < b) numbers.now (length numbers.now) }
+{
+    for k in 1..numbers.len() {
+        if numbers[k] <= numbers[k - 1] {
+            return false;
+        }
+    }
+    true
+}
+
+/// The numbers in rows, of which none comes twice.
+fn numbers_in(alloc: Global, rows: &[Row]) -> Result<Items<u32>, StoreEnd>
+    ensures read { IfOk result (λ numbers. map number_shown numbers ≡ map first_one rows.now) }
+    ensures rising { IfOk result (IsAscending (λ a b. a < b)) }
+{
+    let numbers = read_numbers(alloc, rows)?;
+    if rise(numbers.as_slice()) {
+        Ok(numbers)
+    } else {
+        Err(StoreEnd::Store)
+    }
+}
+
+/// The numbers of all runs, rising.
+pub fn run_numbers<S: Alter>(store: &mut Store<S>, alloc: Global) -> Result<Items<u32>, StoreEnd>
+    ensures told { Told S.Store result store.old store.new (λ t numbers. numbers ≡ numbers_in_tables t) }
+    ensures found { Found S.Store result store.old store.new (λ db numbers. IsPermutation (numbers_in_rows db) (map number_shown numbers)) }
+    ensures rising { IfOk result (IsAscending (λ a b. a < b)) }
+    ensures asks { Asks S.Store (is_ok result) store.old store.new }
+{
+    let rows = select(&mut store.conn, "SELECT run FROM run ORDER BY run", &[])?;
+    numbers_in(alloc, &rows)
+}
+
+/// The numbers of the runs that are in a group, rising: none where there is no such group.
+pub fn members_of<S: Alter>(
+    store: &mut Store<S>,
+    alloc: Global,
+    name: &str,
+) -> Result<Items<u32>, StoreEnd>
+    ensures told { Told S.Store result store.old store.new (λ t numbers. numbers ≡ members_in_tables name.now t) }
+    ensures found { Found S.Store result store.old store.new (λ db numbers. IsPermutation (members_in_rows name.now db) (map number_shown numbers)) }
+    ensures rising { IfOk result (IsAscending (λ a b. a < b)) }
+    ensures asks { Asks S.Store (is_ok result) store.old store.new }
+{
+    let rows = select(
+        &mut store.conn,
+        "SELECT run FROM member WHERE grp = ?1 ORDER BY run",
+        params![name],
+    )?;
+    numbers_in(alloc, &rows)
+}
