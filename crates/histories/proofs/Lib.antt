@@ -7,6 +7,7 @@ pub mod Examples
 pub mod Excesses
 pub mod Fits
 pub mod Groups
+pub mod Heads
 pub mod Held
 pub mod Invariants
 pub mod Lists

@@ -18,10 +18,10 @@ use Rattle.histories.proofs.Texts.{tells_members}
 -- ---- runs
 
 -- a run of the book that is a file's
-record IsRunOf (t : Tables) (lines : List RunLine) (f : File) : Type 0 where
-  line : RunLine
-  there : Has lines line
-  book : IsBookOf f (run_held t line)
+pub record IsRunOf (t : Tables) (lines : List RunLine) (f : File) : Type 0 where
+  pub line : RunLine
+  pub there : Has lines line
+  pub book : IsBookOf f (run_held t line)
 
 -- one of these files with its run
 record IsOneOf (t : Tables) (lines : List RunLine) (files : List File) (n : ℕ) : Type 0 where
@@ -34,7 +34,7 @@ module _ (t : Tables) where
   later_run : (r : RunLine) (lines : List RunLine) (f : File) → IsRunOf t lines f → IsRunOf t (r ∷ lines) f
   later_run r lines f is = record { line = is.line; there = inr is.there; book = is.book }
 
-  run_of : (lines : List RunLine) (files : List File) (f : File) → AreBooksOf files (map (run_held t) lines) → Has files f → IsRunOf t lines f
+  pub run_of : (lines : List RunLine) (files : List File) (f : File) → AreBooksOf files (map (run_held t) lines) → Has files f → IsRunOf t lines f
   run_of lines [] f all there = absurd there
   run_of [] (g ∷ files) f all there = absurd all
   run_of (r ∷ lines) (g ∷ files) f all (inl same) = record { line = r; there = inl refl; book = subst (λ e. IsBookOf e (run_held t r)) (sym same) all.0 }

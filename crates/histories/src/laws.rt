@@ -15,7 +15,7 @@ ghost use Rattle.histories.specs.Legal.{AreAlike, AreDueAlike, GaveSame, AreLega
 ghost use Rattle.histories.specs.SelectedRuns.{AreSelected, TellsSelected};
 ghost use Rattle.histories.specs.Stands.{AreToldAlike, IsImport, TablesTell, TurnsInto};
 ghost use Rattle.histories.specs.Sums.{calls_held};
-ghost use Rattle.histories.specs.Told.{IsHeldAs, SumsFit, TellsGroup, TellsHeld, TellsRows, TellsSums};
+ghost use Rattle.histories.specs.Told.{IsHeldAs, IsHeadOfRun, SumsFit, TellsGroup, TellsHead, TellsHeld, TellsRows, TellsSums};
 ghost use Rattle.histories.specs.declared.answers.Answer.TheVariants.{Held, Done, Text, Refused};
 ghost use Rattle.histories.specs.declared.answers.Refusal.{Refusal};
 ghost use Rattle.histories.specs.declared.answers.Selection.{Selection};
@@ -78,6 +78,12 @@ pub fn tables_tell_the_sums()
 pub fn tables_tell_each_run()
     ensures held { (h : History) (t : Tables) (n : ℕ) → TablesTell h t → has_run t n ≡ true → IsHeldAs h t n }
     ensures rows { (h : History) (t : Tables) (f : File) → TablesTell h t → Has (held h) f → TellsRows f t }
+{}
+
+/// A head whose lines show what those of a held run show, in whatever order, has the events and the
+/// derived events of its file.
+pub fn tables_tell_each_head()
+    ensures { (h : History) (t : Tables) (f : File) (head : FileHead) → TablesTell h t → Has (held h) f → IsHeadOfRun f.number head t → TellsHead f head }
 {}
 
 /// The lines of a group tell its members and its baseline.

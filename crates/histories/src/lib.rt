@@ -10,7 +10,7 @@ pub use answers::{Answer, Excess, Query, Refusal, Selection};
 pub use laws::{
     a_file_that_is_put_is_an_import, changes_are_commands, cuts_do_not_show, held_sums_fit,
     histories_grow, members_and_baselines_are_held, tables_stay_through_what_changes_nothing,
-    tables_tell_each_group, tables_tell_each_run, tables_tell_selections, tables_tell_the_lists,
-    tables_tell_the_sums, tables_tell_what_is_held,
+    tables_tell_each_group, tables_tell_each_head, tables_tell_each_run, tables_tell_selections,
+    tables_tell_the_lists, tables_tell_the_sums, tables_tell_what_is_held,
 };
 pub use limits::Limits;
