@@ -1,2 +1,3 @@
 mod CountedLemmas
+mod SelectLemmas
 mod WalkLemmas

@@ -1,11 +1,16 @@
 -- Rows that are added one after another.
-use Rattle.std.proofs.Common.{◌≡◌, ℕ, List, [], ◌∷◌, ◌++◌, map, refl, sym, ap, ◌∙◌, Some, None, append_assoc, append-nil}
-use Rattle.std.specs.Prelude.{fold, unwrap_or}
+use Rattle.std.proofs.Common.{◌≡◌, ℕ, List, [], ◌∷◌, ◌++◌, ◌*◌, map, refl, sym, ap, ◌∙◌, Some, None, append_assoc, append-nil, arith}
+use Rattle.std.specs.Prelude.{Bool, true, false, if◌then◌else◌, fold, nat_eq, unwrap_or}
 use Rattle.std.proofs.lemmas.List.{map-append}
 use Rattle.std.proofs.lemmas.List.Sums.{fold-append}
-use Rattle.cost_rows.specs.KeySums.{Sums, with_row}
+use Rattle.cost_rows.specs.KeySums.{Sums, sums_with, with_row}
+use Rattle.cost_rows.specs.Keys.{part_of, place_of_row}
+use Rattle.cost_rows.specs.declared.keys.Key.{Key}
 use Rattle.cost_rows.specs.declared.rows.CellRow.{CellRow}
 use Rattle.cost_reports.specs.Costs.{all_rows, weighted}
+use Rattle.cost_reports.specs.KeyReports.{report_of}
+use Rattle.cost_reports.specs.KeyTexts.{key_report_text}
+use Rattle.cost_reports.specs.declared.cuts.Cut.{Cut}
 use Rattle.prof_tables.specs.Tables.{Tables}
 use Rattle.prof_books.specs.Book.{cells_held}
 use Rattle.store_reports.specs.Counted.{event_cells}
@@ -20,7 +25,9 @@ added_more counts sums cells cell =
 -- cells of a run that does not have the event add nothing
 added_none : (sums : Sums) (cells : List (CellRow (List ℕ))) → added [] sums cells ≡ sums
 added_none sums [] = refl
-added_none sums (cell ∷ cells) = added_none sums cells
+added_none sums (cell ∷ cells) =
+    let free : 0 * cell.cost ≡ 0 = omega arith in
+    ap (λ (cost : ℕ). fold with_row (with_row sums (record cell { event = 0; cost = cost })) (map (weighted []) cells)) free ∙ added_none sums cells
 
 all_rows-append : (t : Tables) (runs more : List Counted) → all_rows (map (event_cells t) (runs ++ more)) ≡ all_rows (map (event_cells t) runs) ++ all_rows (map (event_cells t) more)
 all_rows-append t [] more = refl
@@ -28,19 +35,38 @@ all_rows-append t (run ∷ runs) more =
     let cells = map (weighted (event_cells t run).coefs) (event_cells t run).cells in
     ap (λ rows. cells ++ rows) (all_rows-append t runs more) ∙ sym (append_assoc cells (all_rows (map (event_cells t) runs)) (all_rows (map (event_cells t) more)))
 
-pub all_added_more : (t : Tables) (sums : Sums) (runs : List Counted) (run : Counted) → all_added t sums (runs ++ run ∷ []) ≡ added (unwrap_or run.counts []) (all_added t sums runs) (cells_held run.number t)
-all_added_more t sums runs run =
-    let cells = map (weighted (unwrap_or run.counts [])) (cells_held run.number t) in
-    ap (fold with_row sums) (all_rows-append t runs (run ∷ []) ∙ ap (λ rows. all_rows (map (event_cells t) runs) ++ rows) (append-nil cells))
-    ∙ fold-append with_row sums (all_rows (map (event_cells t) runs)) cells
+pub all_added_on : (t : Tables) (sums : Sums) (runs : List Counted) (run : Counted) → all_added t sums (runs ++ run ∷ []) ≡ all_added t (all_added t sums runs) (run ∷ [])
+all_added_on t sums runs run =
+    ap (fold with_row sums) (all_rows-append t runs (run ∷ [])) ∙ fold-append with_row sums (all_rows (map (event_cells t) runs)) (all_rows (map (event_cells t) (run ∷ [])))
 
-pub all_added_none : (t : Tables) (sums : Sums) (runs : List Counted) (run : Counted) → run.counts ≡ None → all_added t sums (runs ++ run ∷ []) ≡ all_added t sums runs
-all_added_none t sums runs run none =
-    all_added_more t sums runs run
-    ∙ ap (λ counts. added (unwrap_or counts []) (all_added t sums runs) (cells_held run.number t)) none
-    ∙ added_none (all_added t sums runs) (cells_held run.number t)
+one_added : (t : Tables) (sums : Sums) (run : Counted) → all_added t sums (run ∷ []) ≡ added (unwrap_or run.counts []) sums (cells_held run.number t)
+one_added t sums run = ap (fold with_row sums) (append-nil (map (weighted (unwrap_or run.counts [])) (cells_held run.number t)))
 
-pub all_added_some : (t : Tables) (sums : Sums) (runs : List Counted) (run : Counted) (counts : List ℕ) → run.counts ≡ Some counts
-    → all_added t sums (runs ++ run ∷ []) ≡ added counts (all_added t sums runs) (cells_held run.number t)
-all_added_some t sums runs run counts some =
-    all_added_more t sums runs run ∙ ap (λ counts. added (unwrap_or counts []) (all_added t sums runs) (cells_held run.number t)) some
+pub one_added_none : (t : Tables) (sums : Sums) (run : Counted) → run.counts ≡ None → sums ≡ all_added t sums (run ∷ [])
+one_added_none t sums run none =
+    sym (one_added t sums run ∙ ap (λ counts. added (unwrap_or counts []) sums (cells_held run.number t)) none ∙ added_none sums (cells_held run.number t))
+
+pub one_added_some : (t : Tables) (sums : Sums) (run : Counted) (counts : List ℕ) → run.counts ≡ Some counts → added counts sums (cells_held run.number t) ≡ all_added t sums (run ∷ [])
+one_added_some t sums run counts some = sym (one_added t sums run ∙ ap (λ counts. added (unwrap_or counts []) sums (cells_held run.number t)) some)
+
+-- ---- what they are added up by
+
+with_row-key : (sums : Sums) (row : CellRow (List ℕ)) → (with_row sums row).key ≡ sums.key
+with_row-key sums row = by (nat_eq row.cost 0)
+  where
+    by : (b : Bool) → (if b then sums else record { key = sums.key; sums = sums_with (part_of sums.key (place_of_row row)) row.cost sums.sums }).key ≡ sums.key
+    by true = refl
+    by false = refl
+
+rows-key : (sums : Sums) (rows : List (CellRow (List ℕ))) → (fold with_row sums rows).key ≡ sums.key
+rows-key sums [] = refl
+rows-key sums (row ∷ rows) = rows-key (with_row sums row) rows ∙ with_row-key sums row
+
+all_added-key : (t : Tables) (sums : Sums) (runs : List Counted) → (all_added t sums runs).key ≡ sums.key
+all_added-key t sums runs = rows-key sums (all_rows (map (event_cells t) runs))
+
+pub text_of_added : (t : Tables) (key : Key) (runs : List Counted) (event : List ℕ) (cut : Cut) (merged : Sums) → merged ≡ all_added t (record { key = key; sums = [] }) runs
+    → key_report_text event (report_of merged.key cut merged.sums) ≡ key_report_text event (report_of key cut (all_added t (record { key = key; sums = [] }) runs).sums)
+text_of_added t key runs event cut merged is =
+    ap (λ (m : Sums). key_report_text event (report_of m.key cut m.sums)) is
+    ∙ ap (λ k. key_report_text event (report_of k cut (all_added t (record { key = key; sums = [] }) runs).sums)) (all_added-key t (record { key = key; sums = [] }) runs)

@@ -1,5 +1,5 @@
 // The cells of runs are added to sums by key.
-ghost use Rattle.std.specs.Prelude.{◌≡◌, ◌<◌, [], length, OnOk};
+ghost use Rattle.std.specs.Prelude.{◌≡◌, ◌<◌, [], ◌∷◌, length, OnOk};
 ghost use Rattle.std.specs.Result.{is_ok};
 ghost use Rattle.cost_rows.specs.KeySums.{with_row};
 ghost use Rattle.cost_rows.specs.Plain.{plain_cell};
@@ -80,6 +80,22 @@ fn add_run<S: Alter>(
     add_cells(&mut cells, counts, merged)
 }
 
+/// Adds the cells of a run, if that has the event.
+fn add_counted<S: Alter>(
+    store: &mut Store<S>,
+    names: &HeldNames,
+    run: &Counted,
+    merged: &mut Merged,
+) -> Result<(), StoreEnd>
+    ensures told { Tells S.Store store.old store.new (λ t. names.now ≡ t.names → OnOk result (merged.new ≡ all_added t merged.old (run.now ∷ []))) }
+    ensures asks { AsksIfOpen S.Store (is_ok result) store.old store.new }
+{
+    match &run.counts {
+        Some(counts) => add_run(store, names, run.number, counts.as_slice(), merged),
+        None => Ok(()),
+    }
+}
+
 /// Adds the cells of runs, of those that have the event.
 pub(crate) fn add_runs<S: Alter>(
     store: &mut Store<S>,
@@ -91,9 +107,7 @@ pub(crate) fn add_runs<S: Alter>(
     ensures asks { AsksIfOpen S.Store (is_ok result) store.old store.new }
 {
     for run in runs {
-        if let Some(counts) = &run.counts {
-            add_run(store, names, run.number, counts.as_slice(), merged)?;
-        }
+        add_counted(store, names, run, merged)?;
     }
     Ok(())
 }
