@@ -1,10 +1,14 @@
 pub mod ArcRows
 mod Asking
 pub mod CellRows
+pub mod Examples
 mod HeadReading
 mod LineLists
 pub mod LineWalks
 mod NameLists
+mod NumberLists
+pub mod OwnSumLists
+mod RunTexts
 pub mod StackRows
 pub mod WalkSteps
 pub mod WalkTables

@@ -5,4 +5,7 @@ pub mod HeldHeads
 pub mod HeldStacks
 pub mod LineWalks
 pub mod NameLines
+pub mod OwnSums
+pub mod RunNumbers
+pub mod RunTexts
 pub mod Walks

@@ -1,0 +1,50 @@
+// The sums of a run's own costs.
+ghost use Rattle.std.specs.Prelude.{◌≡◌, [], map, IfOk};
+ghost use Rattle.std.specs.Result.{is_ok};
+ghost use Rattle.held_runs.specs.HeadLines.{first_two};
+ghost use Rattle.held_runs.specs.OwnSums.{sums_from, events_of_run, AreOwnSums, AreOwnSumsAt};
+ghost use Rattle.prof_store.specs.Shown.{Told, Found};
+ghost use Rattle.prof_store.specs.Shown.{Asks};
+
+use cg_text::Items;
+use prof_store::{Store, select};
+use sqlite::{Alter, Row, params};
+use std::alloc::Global;
+use store_columns::{StoreEnd, number_at, sum_at};
+
+/// The sums in rows whose places go up from 0 by one.
+fn sums_in(alloc: Global, rows: &[Row]) -> Result<Items<u128>, StoreEnd>
+    ensures read { IfOk result (λ sums. sums_from 0 sums ≡ map first_two rows.now) }
+{
+    let mut sums = Items::new(alloc);
+    'rows: for row in rows {
+        let place = number_at(row, 0)?;
+        if place as usize != sums.len() {
+            return Err(StoreEnd::Store);
+        }
+        let sum = sum_at(row, 1)?;
+        if sums.push(u128::from(sum)).is_err() {
+            return Err(StoreEnd::Memory);
+        }
+    }
+    Ok(sums)
+}
+
+/// The sums of a run's own costs, one for each event, in the order of their places: none where no
+/// such run is held. `Store` where a place is left out or a sum is no number.
+pub fn sums_of<S: Alter>(
+    store: &mut Store<S>,
+    alloc: Global,
+    run: u32,
+) -> Result<Items<u128>, StoreEnd>
+    ensures told { Told S.Store result store.old store.new (λ t. AreOwnSums (events_of_run run t)) }
+    ensures found { Found S.Store result store.old store.new (AreOwnSumsAt run) }
+    ensures asks { Asks S.Store (is_ok result) store.old store.new }
+{
+    let rows = select(
+        &mut store.conn,
+        "SELECT pos, self_cost FROM run_event WHERE run = ?1 ORDER BY pos",
+        params![run],
+    )?;
+    sums_in(alloc, &rows)
+}
