@@ -1,3 +1,3 @@
-mod CountedLemmas
-mod ReportLemmas
-mod WalkLemmas
+mod HeadLemmas
+mod ShortLemmas
+mod StatedLemmas

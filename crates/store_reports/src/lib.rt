@@ -3,6 +3,7 @@
 #![tactic(auto)]
 
 mod counting;
+mod laws;
 mod reports;
 mod selecting;
 mod walking;
