@@ -4,7 +4,7 @@ use Rattle.cg_formulas.specs.declared.heads.FileHead.{FileHead}
 use Rattle.histories.specs.Files.{events_of, derived_of, stated_of}
 use Rattle.histories.specs.History.{File}
 
--- its events and its derived events, with a coefficient for each of these events, are those of the file; and so are the totals that it states, where it has an event
+-- its events and its derived events are those of the file, with coefficients for just these events, and so are the totals that it states, where it has an event
 pub record TellsHead (f : File) (head : FileHead) : Type 0 where
   pub events : head.events ≡ events_of f.kind f.bytes
   pub wide : head.derived.events ≡ head.events
