@@ -1,5 +1,5 @@
 pub mod ArcRows
-mod Asking
+pub mod Asking
 pub mod CellRows
 pub mod Examples
 mod HeadReading

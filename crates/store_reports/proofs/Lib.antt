@@ -1,3 +1,7 @@
 mod CountedLemmas
+mod HeadLemmas
+mod ReportLemmas
 mod SelectLemmas
+mod ShortLemmas
+mod StatedLemmas
 mod WalkLemmas

@@ -23,7 +23,6 @@ use Rattle.histories.specs.Legal.{ask_due, first_or, no_event, no_selection, whe
 use Rattle.histories.specs.Reports.{by_text, counts_of, event_records, has_event}
 use Rattle.histories.specs.Selections.{numbers_of, selected, selects}
 use Rattle.histories.specs.Stands.{TablesTell}
-use Rattle.histories.specs.Told.{TellsHead}
 use Rattle.histories.specs.declared.answers.Answer.{Answer}
 use Rattle.histories.specs.declared.answers.Answer.TheVariants.{Refused, Text}
 use Rattle.histories.specs.declared.answers.Refusal.TheVariants.{NoSuchEvent}
@@ -33,7 +32,8 @@ use Rattle.histories.proofs.Runs.{tells_rows}
 use Rattle.store_reports.specs.Counted.{AreCounted, IsCounted, event_cells}
 use Rattle.store_reports.specs.Reported.{Reports, has_counts, report_in}
 use Rattle.store_reports.specs.declared.counting.Counted.{Counted}
-use Rattle.store_reports.proofs.HeadLemmas.{head_told}
+use Rattle.store_reports.specs.Heads.{TellsHead}
+use Rattle.store_reports.proofs.HeadLemmas.{held_head_told}
 
 -- ---- one run
 
@@ -42,13 +42,13 @@ record IsRunOf (event : List ℕ) (f : File) (run : Counted) : Type 0 where
   number : run.number ≡ f.number
   counts : run.counts ≡ counts_of event f
 
-same_row : (f : File) (head : FileHead) (event : List ℕ) → TellsHead f head → head.derived.events ≡ head.events → row_of head.derived event ≡ counts_of event f
-same_row f head event told own = ap₂ (λ events derived. row_in events derived event) (own ∙ told.events) told.derived
+same_row : (f : File) (head : FileHead) (event : List ℕ) → TellsHead f head → row_of head.derived event ≡ counts_of event f
+same_row f head event told = ap₂ (λ events derived. row_in events derived event) (told.wide ∙ told.events) told.derived
 
 run_of_file : (h : History) (t : Tables) (f : File) (event : List ℕ) (run : Counted) → TablesTell h t → Has (held h) f → IsCounted t event f.number run → IsRunOf event f run
 run_of_file h t f event run tell is it = record {
   number = it.number_is;
-  counts = it.counts_are ∙ same_row f it.head event (head_told h t f it.head tell is it.head_is) it.head_is.1.sound.events_same;
+  counts = it.counts_are ∙ same_row f it.head event (held_head_told h t f it.head tell is it.head_is);
 }
 
 -- ---- each in turn

@@ -1,5 +1,5 @@
 -- Rows that are added one after another.
-use Rattle.std.proofs.Common.{◌≡◌, ℕ, List, [], ◌∷◌, ◌++◌, ◌*◌, map, refl, sym, ap, ◌∙◌, Some, None, append_assoc, append-nil, arith}
+use Rattle.std.proofs.Common.{◌≡◌, ℕ, List, [], ◌∷◌, ◌++◌, ◌*◌, map, Result, Ok, Err, OnOk, refl, sym, ap, subst, ◌∙◌, Some, None, append_assoc, append-nil, arith}
 use Rattle.std.specs.Prelude.{Bool, true, false, if◌then◌else◌, fold, nat_eq, unwrap_or}
 use Rattle.std.proofs.lemmas.List.{map-append}
 use Rattle.std.proofs.lemmas.List.Sums.{fold-append}
@@ -11,7 +11,13 @@ use Rattle.cost_reports.specs.Costs.{all_rows, weighted}
 use Rattle.cost_reports.specs.KeyReports.{report_of}
 use Rattle.cost_reports.specs.KeyTexts.{key_report_text}
 use Rattle.cost_reports.specs.declared.cuts.Cut.{Cut}
+use Rattle.sqlite.specs.State.{State}
+use Rattle.sqlite_trees.specs.declared.store.Store.{Ghosts}
+use Rattle.sql_tables.specs.Calls.{Asked}
+use Rattle.prof_tables.specs.Schema.{schema_one}
 use Rattle.prof_tables.specs.Tables.{Tables}
+use Rattle.prof_store.specs.Shown.{IsFaithful, shown}
+use Rattle.prof_store.specs.declared.store.Store.{Store}
 use Rattle.prof_books.specs.Book.{cells_held}
 use Rattle.store_reports.specs.Counted.{event_cells}
 use Rattle.store_reports.specs.Walked.{added, all_added}
@@ -70,3 +76,16 @@ pub text_of_added : (t : Tables) (key : Key) (runs : List Counted) (event : List
 text_of_added t key runs event cut merged is =
     ap (λ (m : Sums). key_report_text event (report_of m.key cut m.sums)) is
     ∙ ap (λ k. key_report_text event (report_of k cut (all_added t (record { key = key; sums = [] }) runs).sums)) (all_added-key t (record { key = key; sums = [] }) runs)
+
+-- ---- a store that a walk gives back
+
+module _ {S : Type 0} (g : Ghosts S) (new mid : Store S) where
+  pub told_at : (P : Type 0) → new ≡ mid → (IsFaithful g mid → P) → IsFaithful g new → P
+  told_at P is told clean = told (subst (IsFaithful g) is clean)
+
+  pub asked_at : (answered : Bool) (old : State) → new ≡ mid → (IsFaithful g mid → Asked schema_one answered old (shown g mid)) → IsFaithful g new → Asked schema_one answered old (shown g new)
+  asked_at answered old is asked clean = subst (λ (s : Store S). Asked schema_one answered old (shown g s)) (sym is) (asked (subst (IsFaithful g) is clean))
+
+pub on_ok : {T E : Type 0} (result : Result T E) (P Q : Type 0) → (P → Q) → OnOk result P → OnOk result Q
+on_ok (Ok x) P Q f p = f p
+on_ok (Err e) P Q f p = tt

@@ -1,4 +1,1 @@
-pub mod Counted
-pub mod Reported
-pub mod Selected
-pub mod Walked
+pub mod Heads

@@ -3,8 +3,10 @@
 #![tactic(auto)]
 
 mod counting;
+mod laws;
 mod reports;
 mod selecting;
 mod walking;
 
+pub use laws::heads_are_told;
 pub use reports::by_answer;

@@ -25,7 +25,7 @@ returns-clause-told g c clean t stands =
       counted = c.in_ok-runs.ensures.told early t stands;
       answer_is =
           ap Text (c.in_ok-report_text.ensures ∙ text_of_added t c.args.key c.in_ok-runs.runs.items c.args.event.now c.args.cut c.in_ok-merged.merged sums)
-          ∙ sym (ap (λ (b : Bool). if b then Text _ else Refused NoSuchEvent) known);
+          ∙ sym (ap (λ (b : Bool). if b then Text (key_report_text c.args.event.now (report_of c.args.key c.args.cut (all_added t (record { key = c.args.key; sums = [] }) c.in_ok-runs.runs.items).sums)) else Refused NoSuchEvent) known);
     }
 
 pub returns-clause-asks : goal.returns-clause-asks

@@ -1,25 +1,4 @@
-use Rattle.std.proofs.Common.{◌≡◌, ◌<◌, ◌++◌, ◌∷◌, [], length, get_or, take, sym, ap, ◌∙◌, true, arith}
-use Rattle.std.proofs.lemmas.List.{take_more}
-use Rattle.sql_tables.proofs.Calls.{asked_rests_yet}
-use Rattle.prof_tables.specs.Schema.{schema_one}
-use Rattle.prof_tables.specs.Tables.{Holds}
-use Rattle.held_runs.proofs.Asking.{asked_open_then}
-use Rattle.store_reports.specs.Walked.{all_added}
-use Rattle.store_reports.proofs.WalkLemmas.{all_added_on}
 use Rattle.store_reports.proofs.walking.add_runs.Goals as goal
 
 pub loop-run-preserved : goal.loop-run-preserved
-loop-run-preserved g c =
-    let i = c.loop-run.invariant in
-    let n = c.in_ok-add_counted.ensures in
-    let runs = c.args.runs.now in
-    let at = c.loop-run.run-index in
-    let low : at < length runs = omega arith in
-    record {
-      asked = λ clean. let one = n.asks clean in asked_open_then schema_one true _ _ _ (i.asked one.stays.was_clean) one;
-      told = λ clean t stands named.
-          let early = (n.asks clean).stays.was_clean in
-          let mid = asked_rests_yet schema_one (Holds t) _ _ (i.asked early) stands in
-          n.told clean t mid named ∙ ap (λ sums. all_added t sums (get_or runs at _ ∷ [])) (i.told early t stands named)
-          ∙ sym (ap (all_added t c.args.merged.now) (take_more runs at _ low) ∙ all_added_on t c.args.merged.now (take at runs) (get_or runs at _));
-    }
+loop-run-preserved g c = ?
