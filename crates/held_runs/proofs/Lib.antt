@@ -5,6 +5,7 @@ pub mod Examples
 mod HeadReading
 mod LineLists
 pub mod LineWalks
+mod LookupFinds
 mod NameLists
 mod NumberLists
 pub mod OwnSumLists

@@ -4,6 +4,7 @@ pub mod HeldCells
 pub mod HeldHeads
 pub mod HeldStacks
 pub mod LineWalks
+pub mod Lookups
 pub mod NameLines
 pub mod OwnSums
 pub mod RunNumbers

@@ -78,6 +78,7 @@ impl<'a, S: Alter> Cells<'a, S> {
     /// The next row, or `None` behind the last one. An error ends the walk, and is answered again
     /// at each later call; a name that is not held is one, and so is a cell of none of the events.
     pub fn next(&mut self) -> Result<Option<CellRow<&'a [u8]>>, StoreEnd>
+        ensures same_reference { self.new.lines.store.ghost_name ≡ self.old.lines.store.ghost_name }
         ensures same { IsSameCells self.old self.new }
         ensures failed { KeepsError self.old.lines self.new.lines result }
         ensures again { AnswersAgain self.old.lines self.new.lines result }

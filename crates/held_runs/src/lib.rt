@@ -1,4 +1,5 @@
-//! What a store tells of the runs that it holds: their heads, and their rows one at a time.
+//! What a store tells of the runs that it holds: their numbers, also by group, their kinds, heads and
+//! sums, and their rows one at a time.
 #![tactic(auto)]
 
 mod arc_lines;
@@ -10,6 +11,7 @@ mod heads;
 mod heads_held;
 mod held_names;
 mod lines;
+mod lookups;
 mod numbers;
 mod own_sums;
 mod stack_lines;
@@ -20,6 +22,7 @@ pub use arcs::{Arcs, arcs_of};
 pub use cells::{Cells, cells_of};
 pub use heads::head_of;
 pub use held_names::{HeldNames, names_of};
+pub use lookups::{baseline_of, kind_of};
 pub use numbers::{members_of, run_numbers};
 pub use own_sums::sums_of;
 pub use stacks::{Stacks, stacks_of};

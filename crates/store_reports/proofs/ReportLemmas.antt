@@ -1,9 +1,13 @@
 -- From the runs of the tables to the files of a history.
-use Rattle.std.proofs.Common.{◌≡◌, ℕ, Bool, true, false, not, ◌||◌, if◌then◌else◌, List, [], ◌∷◌, map, Option, Some, None, filter, inl, inr, refl, sym, ap, ap₂, subst, ◌∙◌}
+use Rattle.std.proofs.Common.{◌≡◌, ℕ, Bool, true, false, not, ◌&&◌, ◌||◌, if◌then◌else◌, List, [], ◌∷◌, map, Option, Some, None, Result, Ok, Err, IfOk, filter, inl, inr, refl, sym, ap, ap₂, subst, ◌∙◌}
 use Rattle.std.specs.Prelude.{unwrap_or}
 use Rattle.std.specs.List.{AllByRecursion, list_any}
 use Rattle.std.specs.Option.{is_some}
+use Rattle.sqlite.specs.State.{State}
 use Rattle.sqlite_rules.specs.Lists.{Has}
+use Rattle.sqlite_schema.specs.declared.schema.Schema.{Schema}
+use Rattle.sql_tables.specs.Calls.{Asked}
+use Rattle.sql_tables.proofs.Calls.{asked_then}
 use Rattle.sql_tables.proofs.Queries.{has_kept}
 use Rattle.cg_formulas.specs.Flats.{row_in, row_of}
 use Rattle.cg_formulas.specs.declared.heads.FileHead.{FileHead}
@@ -31,6 +35,7 @@ use Rattle.histories.specs.declared.answers.Selection.{Selection}
 use Rattle.histories.proofs.Runs.{tells_rows}
 use Rattle.store_reports.specs.Counted.{AreCounted, IsCounted, event_cells}
 use Rattle.store_reports.specs.Reported.{Reports, has_counts, report_in}
+use Rattle.store_reports.specs.Selected.{AreSelected}
 use Rattle.store_reports.specs.declared.counting.Counted.{Counted}
 use Rattle.store_reports.specs.Heads.{TellsHead}
 use Rattle.store_reports.proofs.HeadLemmas.{held_head_told}
@@ -67,7 +72,7 @@ are_runs h t event tell (f ∷ files) [] all counted = absurd counted
 are_runs h t event tell (f ∷ files) (run ∷ runs) all counted = (run_of_file h t f event run tell all.0 counted.0, are_runs h t event tell files runs all.1 counted.1)
 
 all_held : {X : Type 0} (p : X → Bool) (P : X → Type 0) (xs : List X) → ((x : X) → Has xs x → P x) → AllByRecursion P (filter p xs)
-all_held p P xs each = go (filter p xs) (λ x is. each x (has_kept p xs x is).0)
+all_held {X = X} p P xs each = go (filter p xs) (λ x is. each x (has_kept p xs x is).0)
   where
     go : (ys : List X) → ((x : X) → Has ys x → P x) → AllByRecursion P ys
     go [] each = tt
@@ -101,7 +106,7 @@ stand_for_each h t event tell (f ∷ files) (run ∷ runs) all are = (
 
 -- ---- the answer
 
-pub report_is_due : (h : History) (t : Tables) (s : Selection) (key : Key) (event : List ℕ) (cut : Cut) (answer : Answer) → TablesTell h t → no_selection h s ≡ None → Reports t (numbers_of (selected h s)) key event cut answer
+report_is_due : (h : History) (t : Tables) (s : Selection) (key : Key) (event : List ℕ) (cut : Cut) (answer : Answer) → TablesTell h t → no_selection h s ≡ None → Reports t (numbers_of (selected h s)) key event cut answer
     → answer ≡ ask_due h (queries.By s key event cut)
 report_is_due h t s key event cut answer tell there it =
     let files = selected h s in
@@ -119,3 +124,18 @@ report_is_due h t s key event cut answer tell there it =
 
 pub refused_is_due : (h : History) (s : Selection) (key : Key) (event : List ℕ) (cut : Cut) (answer : Answer) → no_selection h s ≡ Some answer → answer ≡ ask_due h (queries.By s key event cut)
 refused_is_due h s key event cut answer is = sym (ap (λ n. first_or (n ∷ no_event event (selected h s) ∷ []) (Text (by_text (selected h s) key event cut))) is)
+
+pub reports_are_due : {E : Type 0} (h : History) (t : Tables) (s : Selection) (key : Key) (event : List ℕ) (cut : Cut) (result : Result Answer E) (numbers given : List ℕ) → TablesTell h t → AreSelected h s (Ok numbers)
+    → given ≡ numbers → IfOk result (Reports t given key event cut) → IfOk result (λ answer. answer ≡ ask_due h (queries.By s key event cut))
+reports_are_due h t s key event cut (Err e) numbers given tell selected same it = tt
+reports_are_due h t s key event cut (Ok answer) numbers given tell selected same it =
+    report_is_due h t s key event cut answer tell selected.0 (subst (λ ns. Reports t ns key event cut answer) (same ∙ selected.1) it)
+
+-- ---- calls that ask
+
+open_too : (ok is_open : Bool) → is_open ≡ true → (ok && is_open) ≡ ok
+open_too true is_open is = is
+open_too false is_open is = refl
+
+pub asked_from : (schema : Schema) (ok : Bool) (old mid new : State) → Asked schema true old mid → Asked schema (ok && mid.is_open) mid new → Asked schema ok old new
+asked_from schema ok old mid new one two = asked_then schema ok old mid new one (subst (λ b. Asked schema b mid new) (open_too ok mid.is_open (one.stays.is_open refl)) two)

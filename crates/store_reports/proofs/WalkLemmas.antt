@@ -11,13 +11,10 @@ use Rattle.cost_reports.specs.Costs.{all_rows, weighted}
 use Rattle.cost_reports.specs.KeyReports.{report_of}
 use Rattle.cost_reports.specs.KeyTexts.{key_report_text}
 use Rattle.cost_reports.specs.declared.cuts.Cut.{Cut}
-use Rattle.sqlite.specs.State.{State}
-use Rattle.sqlite_trees.specs.declared.store.Store.{Ghosts}
+use Rattle.sqlite.specs.State.{State, HasCleanDisk}
 use Rattle.sql_tables.specs.Calls.{Asked}
 use Rattle.prof_tables.specs.Schema.{schema_one}
 use Rattle.prof_tables.specs.Tables.{Tables}
-use Rattle.prof_store.specs.Shown.{IsFaithful, shown}
-use Rattle.prof_store.specs.declared.store.Store.{Store}
 use Rattle.prof_books.specs.Book.{cells_held}
 use Rattle.store_reports.specs.Counted.{event_cells}
 use Rattle.store_reports.specs.Walked.{added, all_added}
@@ -79,12 +76,12 @@ text_of_added t key runs event cut merged is =
 
 -- ---- a store that a walk gives back
 
-module _ {S : Type 0} (g : Ghosts S) (new mid : Store S) where
-  pub told_at : (P : Type 0) → new ≡ mid → (IsFaithful g mid → P) → IsFaithful g new → P
-  told_at P is told clean = told (subst (IsFaithful g) is clean)
+module _ (new mid : State) (is : new ≡ mid) where
+  pub told_at : (P : Type 0) → (HasCleanDisk mid → P) → HasCleanDisk new → P
+  told_at P told clean = told (subst HasCleanDisk is clean)
 
-  pub asked_at : (answered : Bool) (old : State) → new ≡ mid → (IsFaithful g mid → Asked schema_one answered old (shown g mid)) → IsFaithful g new → Asked schema_one answered old (shown g new)
-  asked_at answered old is asked clean = subst (λ (s : Store S). Asked schema_one answered old (shown g s)) (sym is) (asked (subst (IsFaithful g) is clean))
+  pub asked_at : (answered : Bool) (old : State) → (HasCleanDisk mid → Asked schema_one answered old mid) → HasCleanDisk new → Asked schema_one answered old new
+  asked_at answered old asked clean = subst (Asked schema_one answered old) (sym is) (asked (subst HasCleanDisk is clean))
 
 pub on_ok : {T E : Type 0} (result : Result T E) (P Q : Type 0) → (P → Q) → OnOk result P → OnOk result Q
 on_ok (Ok x) P Q f p = f p

@@ -1,1 +1,5 @@
+pub mod Counted
 pub mod Heads
+pub mod Reported
+pub mod Selected
+pub mod Walked

@@ -9,7 +9,7 @@ ghost use Rattle.cost_reports.specs.KeyTexts.{key_report_text};
 ghost use Rattle.prof_store.specs.Shown.{Asks as StoreAsks, Told};
 ghost use Rattle.held_runs.specs.Walks.{AsksIfOpen};
 ghost use Rattle.histories.specs.declared.answers.Query.TheVariants as queries;
-ghost use Rattle.store_histories.specs.Answered.{Asks};
+ghost use Rattle.store_histories.specs.Answered.{Asks, has_changed};
 ghost use Rattle.store_reports.specs.Counted.{AreCounted};
 ghost use Rattle.store_reports.specs.Reported.{Reports, has_counts, report_in};
 ghost use Rattle.store_reports.specs.Selected.{AreSelected, ToldOf};
@@ -73,6 +73,7 @@ fn report<S: Alter>(
     cut: Cut,
 ) -> Result<Answer, StoreEnd>
     ensures told { Told S.Store result store.old store.new (λ t answer. Reports t numbers.now key event.now cut answer) }
+    ensures still { has_changed result ≡ false }
     ensures asks { AsksIfOpen S.Store (is_ok result) store.old store.new }
 {
     let runs = count_runs(store, alloc, numbers, event)?;

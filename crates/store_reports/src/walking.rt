@@ -6,13 +6,12 @@ ghost use Rattle.cost_rows.specs.Plain.{plain_cell};
 ghost use Rattle.cost_reports.specs.Costs.{weighted};
 ghost use Rattle.prof_books.specs.Book.{cells_held};
 ghost use Rattle.prof_store.specs.Shown.{Tells};
-ghost use Rattle.held_runs.specs.HeldCells.{HasGivenCells, IsSameCells};
 ghost use Rattle.held_runs.specs.Walks.{AsksIfOpen};
 ghost use Rattle.store_reports.specs.Walked.{added, all_added};
 
 use crate::counting::Counted;
 use cost_rows::{CellRow, Merged};
-use held_runs::{Cells, HeldNames, cells_of};
+use held_runs::{HeldNames, cells_of};
 use prof_store::{Store, StoreEnd};
 use sqlite::Alter;
 
@@ -44,27 +43,6 @@ fn add_cell(merged: &mut Merged, counts: &[u64], cell: &CellRow<&[u8]>) -> Resul
     Ok(())
 }
 
-/// Adds the cells that a walk has still to give: all of a run.
-fn add_cells<S: Alter>(
-    cells: &mut Cells<'_, S>,
-    counts: &[u64],
-    merged: &mut Merged,
-) -> Result<(), StoreEnd>
-    requires { length counts.now ≡ cells.old.events }
-    ensures same { IsSameCells cells.old cells.new }
-    ensures told { Tells S.Store cells.old.lines.store.now cells.new.lines.store.now (λ t. cells.old.names.now ≡ t.names → HasGivenCells S.Store [] cells.old
-        → OnOk result (merged.new ≡ added counts.now merged.old (cells_held cells.old.lines.walk.run t))) }
-    ensures asks { AsksIfOpen S.Store (is_ok result) cells.old.lines.store.now cells.new.lines.store.now }
-{
-    'cells: for _ in 0..u64::MAX {
-        let Some(cell) = cells.next()? else {
-            return Ok(());
-        };
-        add_cell(merged, counts, &cell)?;
-    }
-    Err(StoreEnd::Store)
-}
-
 /// Adds the cells of a run.
 fn add_run<S: Alter>(
     store: &mut Store<S>,
@@ -77,7 +55,13 @@ fn add_run<S: Alter>(
     ensures asks { AsksIfOpen S.Store (is_ok result) store.old store.new }
 {
     let mut cells = cells_of(store, number, names, counts.len());
-    add_cells(&mut cells, counts, merged)
+    'cells: for _ in 0..u64::MAX {
+        let Some(cell) = cells.next()? else {
+            return Ok(());
+        };
+        add_cell(merged, counts, &cell)?;
+    }
+    Err(StoreEnd::Store)
 }
 
 /// Adds the cells of a run, if that has the event.

@@ -1,0 +1,20 @@
+use Rattle.std.specs.Result.{is_ok}
+use Rattle.sqlite_exec.proofs.MarkLemmas.{if_ok_then}
+use Rattle.sql_tables.proofs.Calls.{asked_err, asked_if}
+use Rattle.prof_tables.specs.Schema.{schema_one}
+use Rattle.held_runs.proofs.RunTexts.{baseline_of_plain}
+use Rattle.held_runs.proofs.LookupFinds.{baseline_found, baseline_told}
+use Rattle.held_runs.proofs.lookups.baseline_of.Goals as goal
+
+pub returns-clause-told : goal.returns-clause-told
+returns-clause-told g c clean t was =
+    if_ok_then c.number_or_null_at.result c.number_or_null_at.ensures.read (λ baseline is. baseline_told t _ was.holds c.args.name.now baseline (baseline_found _ _ c.in_ok-row.row was.schema_is c.args.name.now baseline (rw c.params-to_sql.ensures at (c.in_ok-row.ensures.row clean)) is))
+
+pub returns-clause-found : goal.returns-clause-found
+returns-clause-found g c clean has = if_ok_then c.number_or_null_at.result c.number_or_null_at.ensures.read (λ baseline is. baseline_found _ _ c.in_ok-row.row has c.args.name.now baseline (rw c.params-to_sql.ensures at (c.in_ok-row.ensures.row clean)) is)
+
+pub returns-clause-asks : goal.returns-clause-asks
+returns-clause-asks g c clean = asked_if schema_one (is_ok c.number_or_null_at.result) _ _ (c.in_ok-row.ensures.asked clean baseline_of_plain)
+
+pub returns-in_err-row-clause-asks : goal.returns-in_err-row-clause-asks
+returns-in_err-row-clause-asks g c clean = asked_err schema_one c.from_residual.result _ _ c.from_residual.ensures.0 (c.in_err-row.ensures.asked clean baseline_of_plain)
