@@ -53,6 +53,7 @@ fn push_reason(text: &mut Vec<u8>, alloc: Global, refusal: &Refusal) -> Result<(
         Refusal::NoSuchGroup => "no such group",
         Refusal::GroupTaken => "group exists",
         Refusal::BadName => "bad name",
+        Refusal::NoSuchEvent => "no such event",
     };
     text.extend_from_slice(reason.as_bytes())?;
     Ok(())

@@ -11,7 +11,7 @@ use Rattle.std.proofs.lemmas.List.Sums.{passes_at_first}
 use Rattle.cg_formulas.specs.Formulas.{Definition, defines, is_defined, coefficient, coefficients, derived_names, formula_fault, weighed}
 use Rattle.cg_text.specs.Distinct.{are_distinct}
 use Rattle.cg_formulas.specs.Rows.{IsRow, capped}
-use Rattle.cg_formulas.specs.Flats.{Flattens, flat_value, value_by}
+use Rattle.cg_formulas.specs.Flats.{Flattens, flat_value, row_of, value_by}
 use Rattle.cg_formulas.specs.declared.flats.Flat.{Flat}
 use Rattle.cg_text.proofs.SearchLemmas.{position-Some, position-None}
 use Rattle.cg_formulas.proofs.RepeatLemmas.{names-same, name-itself, defined-no_event}
@@ -199,6 +199,12 @@ weighed-at name (n ∷ names) (c ∷ costs) (suc i) distinct inside at wide =
     weighed-cons (coefficient n name []) c (coefficients names name []) costs ∙ (ap (λ k. k * c + weighed (coefficients names name []) costs) zero ∙ omega (arith, rest))
 
 -- the value of an event is its cost
+pub row-own : (flat : Flat) (name : List ℕ) (i : ℕ) → position (bytes_eq name) flat.events ≡ Some i → row_of flat name ≡ Some (coefficients flat.events name [])
+row-own flat name i at = ap (λ (b : Bool). if b then Some (coefficients flat.events name []) else lookup (bytes_eq name) flat.derived) (found-any name flat.events i at)
+
+pub row-other : (flat : Flat) (name : List ℕ) → position (bytes_eq name) flat.events ≡ None → row_of flat name ≡ lookup (bytes_eq name) flat.derived
+row-other flat name none = ap (λ (b : Bool). if b then Some (coefficients flat.events name []) else lookup (bytes_eq name) flat.derived) (found-none name flat.events none)
+
 pub value-event : (flat : Flat) (name costs : List ℕ) (i : ℕ) → are_distinct flat.events ≡ true → position (bytes_eq name) flat.events ≡ Some i → length costs ≡ length flat.events → Some (get_or costs i 0) ≡ flat_value flat name costs
 value-event flat name costs i distinct found wide =
     let at = found-at name flat.events i found in

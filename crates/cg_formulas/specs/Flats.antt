@@ -13,11 +13,12 @@ use Rattle.cg_formulas.specs.declared.flats.Flat.{Flat}
 use Rattle.cg_formulas.specs.declared.flats.FlatEnd.{FlatEnd}
 use Rattle.cg_formulas.specs.declared.flats.FlatEnd.TheVariants.{Fault, Memory}
 
--- the coefficients of a name, one for each event
+-- the coefficients of a name, one for each event, where derived events have these
+abbrev pub row_in : List (List ℕ) → List (List ℕ × List ℕ) → List ℕ → Option (List ℕ)
+row_in events derived name = if list_any (bytes_eq name) events then Some (coefficients events name []) else lookup (bytes_eq name) derived
+
 abbrev pub row_of : Flat → List ℕ → Option (List ℕ)
-row_of flat name =
-    if list_any (bytes_eq name) flat.events then Some (coefficients flat.events name [])
-    else lookup (bytes_eq name) flat.derived
+row_of flat name = row_in flat.events flat.derived name
 
 -- no event stands twice, and each derived event has a coefficient for each event, which come to 1,000,000 at most
 abbrev pub IsFlat : List (List ℕ) → List (List ℕ × List ℕ) → Type 0

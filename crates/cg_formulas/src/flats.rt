@@ -5,7 +5,7 @@ ghost use Rattle.std.specs.Option.{option_copied};
 ghost use Rattle.std.specs.Str.{bytes_eq};
 ghost use Rattle.cg_formulas.specs.Formulas as specs;
 ghost use Rattle.cg_text.specs.Distinct.{are_distinct};
-ghost use Rattle.cg_formulas.specs.Formulas.{is_known, is_defined, coefficient};
+ghost use Rattle.cg_formulas.specs.Formulas.{is_known, is_defined, coefficient, coefficients};
 ghost use Rattle.cg_formulas.specs.Rows.{IsRow, counted};
 ghost use Rattle.cg_formulas.specs.EventViews.{terms_in};
 
@@ -98,8 +98,19 @@ fn are_rows(derived: &[(Items<u8>, Items<u64>)], events: usize) -> bool
         .all(|(_, row)| is_row(row.as_slice(), events))
 }
 
+/// How often each event counts in the event of a name: once, and the others not at all.
+fn own_row(alloc: Global, events: &[Items<u8>], name: &[u8]) -> Result<Items<u64>, AllocError>
+    ensures { IfOk result (λ row. row ≡ coefficients events.now name.now []) }
+{
+    let mut row = Items::new(alloc);
+    for event in events {
+        row.push(u64::from(event.as_slice() == name))?;
+    }
+    Ok(row)
+}
+
 impl Flat {
-    ghost use Rattle.cg_formulas.specs.Flats.{flat_value, Flattens, TellsKnown, AddsName, AddsTerms, CountsTerms, DefinesNew, IsFlat};
+    ghost use Rattle.cg_formulas.specs.Flats.{flat_value, row_of, Flattens, TellsKnown, AddsName, AddsTerms, CountsTerms, DefinesNew, IsFlat};
 
     /// The coefficients that are given, if no event stands twice and each derived event has one for
     /// each event, which come to 1,000,000 at most. Takes no memory.
@@ -133,7 +144,7 @@ impl Flat {
         self.events
             .as_slice()
             .iter()
-            .position(|event| name == event.as_slice())
+            .position(|event| event.as_slice() == name)
     }
 
     /// The coefficients of a derived event.
@@ -148,6 +159,19 @@ impl Flat {
             rest = more;
         }
         None
+    }
+
+    /// How often each event counts in an event or a derived event; `None` where the name is neither.
+    pub fn row(&self, alloc: Global, name: &[u8]) -> Result<Option<Items<u64>>, AllocError>
+        ensures { IfOk result (λ row. row ≡ row_of self.now name.now) }
+    {
+        if let Some(_at) = self.event_at(name) {
+            return Ok(Some(own_row(alloc, self.events.as_slice(), name)?));
+        }
+        match self.coefficients(name) {
+            Some(row) => Ok(Some(Items::from_vec(row.to_vec(alloc)?))),
+            None => Ok(None),
+        }
     }
 
     /// The value of an event or a derived event, where each event has a cost; `None` where the name

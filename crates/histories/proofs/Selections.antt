@@ -1,5 +1,5 @@
 -- The files of a selection, and the runs of tables that they are.
-use Rattle.std.proofs.Common.{◌≡◌, ℕ, ◌<◌, Bool, true, false, ◌||◌, ◌==◌, eqb, List, [], ◌∷◌, map, filter, refl, sym, ap, ◌∙◌, cond, arith}
+use Rattle.std.proofs.Common.{◌≡◌, ℕ, ◌<◌, Bool, true, false, ◌||◌, ◌==◌, eqb, List, [], ◌∷◌, map, filter, refl, sym, ap, ap₂, ◌∙◌, cond, arith}
 use Rattle.std.specs.Cmp.{nat_cmp_is}
 use Rattle.std.specs.List.{list_any, AllByRecursion}
 use Rattle.std.specs.List.Sorted.{IsStrictlySortedBy}
@@ -8,10 +8,13 @@ use Rattle.std.specs.declared.cmp.Ordering.TheVariants.{Less}
 use Rattle.std.proofs.lemmas.Bool.{eqb-true, ne_eqb}
 use Rattle.prof_tables.specs.Tables.{Tables, RunLine}
 use Rattle.prof_books.specs.Book.{run_held}
-use Rattle.histories.specs.History.{History, File, held, is_member}
-use Rattle.histories.specs.Legal.{IsHistory}
-use Rattle.histories.specs.Selections.{Selection, AllRuns, OneRun, MembersOf, selects, selected, numbers_of, selects_in, AreSelected, TellsSelected}
+use Rattle.histories.specs.History.{History, File, held, is_member, members}
+use Rattle.histories.specs.Legal.{IsHistory, has_run}
+use Rattle.histories.specs.SelectedRuns.{selects_in, AreSelected, TellsSelected}
+use Rattle.histories.specs.Selections.{selects, selected, numbers_of}
 use Rattle.histories.specs.Stands.{AreBooksOf, TablesTell}
+use Rattle.histories.specs.declared.answers.Selection.{Selection}
+use Rattle.histories.specs.declared.answers.Selection.TheVariants as selections
 use Rattle.histories.proofs.Invariants.{IsBefore, numbered}
 use Rattle.histories.proofs.Lists.{pairs_map}
 use Rattle.histories.proofs.Tests.{Pairs, all_on, filter_all, pairs_filter}
@@ -77,9 +80,9 @@ are_selected h is = record {
 -- ---- in tables
 
 selects_same : (h : History) (t : Tables) → TablesTell h t → (s : Selection) (n : ℕ) → selects_in t s n ≡ selects h s n
-selects_same h t tell AllRuns n = refl
-selects_same h t tell (OneRun m) n = refl
-selects_same h t tell (MembersOf name) n = tell.members name n
+selects_same h t tell selections.All n = refl
+selects_same h t tell (selections.Run m) n = refl
+selects_same h t tell (selections.Group name) n = tell.members name n
 
 module _ (t : Tables) (p q : ℕ → Bool) (same : (n : ℕ) → q n ≡ p n) where
   books_where : (files : List File) (lines : List RunLine) → AreBooksOf files (map (run_held t) lines)

@@ -10,11 +10,16 @@ use Rattle.histories.specs.Files.{fault_of}
 use Rattle.sources.specs.Outcomes.{Outcome, bytes_of, is_failed, is_end}
 use Rattle.histories.specs.History.{Said, Import, Remove, MakeGroup, DropGroup, Join, Leave, SetBaseline, Ask, History, File, held, next, groups, is_member, baseline}
 use Rattle.histories.specs.Sums.{excess_of}
-use Rattle.histories.specs.Texts.{text_of}
+use Rattle.histories.specs.Reports.{has_event}
+use Rattle.histories.specs.Texts.{groups_text, runs_text}
 use Rattle.histories.specs.declared.limits.Limits.{Limits}
 use Rattle.histories.specs.declared.answers.Answer.{Answer}
 use Rattle.histories.specs.declared.answers.Answer.TheVariants.{Run, Held, Done, Text, Refused}
 use Rattle.histories.specs.declared.answers.Refusal.TheVariants as reasons
+use Rattle.histories.specs.declared.answers.Query.{Query}
+use Rattle.histories.specs.declared.answers.Query.TheVariants as queries
+use Rattle.histories.specs.declared.answers.Selection.{Selection}
+use Rattle.histories.specs.declared.answers.Selection.TheVariants as selections
 
 -- ---- the forms of names
 
@@ -83,6 +88,23 @@ no_group h name = when (not (has_group h name)) (Refused reasons.NoSuchGroup)
 abbrev pub no_run : History → ℕ → Option Answer
 no_run h n = when (not (has_run h n)) (Refused reasons.NoSuchRun)
 
+-- ---- questions
+
+-- the run, or the group, that is named is not held
+abbrev pub no_selection : History → Selection → Option Answer
+no_selection h selections.All = None
+no_selection h (selections.Run n) = no_run h n
+no_selection h (selections.Group name) = no_group h name
+
+abbrev pub no_event : List ℕ → List File → Option Answer
+no_event event files = when (not (list_any (has_event event) files)) (Refused reasons.NoSuchEvent)
+
+abbrev pub ask_due : History → Query → Answer
+ask_due h queries.Runs = Text (runs_text h)
+ask_due h queries.Groups = Text (groups_text h)
+
+-- ---- each command
+
 -- what a command in form is answered, if it is answered at all
 abbrev pub due : Limits → History → Said → Option Answer
 due limits h (Import kind label outcomes) = import_due limits h kind outcomes
@@ -93,7 +115,7 @@ due limits h (DropGroup name) = Some (first_or (no_group h name ∷ []) Done)
 due limits h (Join name n) = Some (first_or (no_group h name ∷ no_run h n ∷ []) Done)
 due limits h (Leave name n) = Some (first_or (no_group h name ∷ no_run h n ∷ []) Done)
 due limits h (SetBaseline name n) = Some (first_or (no_group h name ∷ no_run h n ∷ []) Done)
-due limits h (Ask query) = Some (Text (text_of h query))
+due limits h (Ask query) = Some (ask_due h query)
 
 -- want of memory, or a database call that failed
 abbrev pub IsWant : Answer → Type 0

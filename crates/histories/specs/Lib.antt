@@ -2,6 +2,8 @@ pub mod Entries
 pub mod Files
 pub mod History
 pub mod Legal
+pub mod Reports
+pub mod SelectedRuns
 pub mod Selections
 pub mod Stands
 pub mod Sums

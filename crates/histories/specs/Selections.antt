@@ -1,25 +1,14 @@
--- Selections of runs: the files that they name, and the runs of tables that these are.
-use Rattle.std.specs.Prelude.{◌≡◌, ℕ, Bool, true, ◌==◌, List, [], ◌∷◌, map, filter}
-use Rattle.std.specs.List.Sorted.{IsStrictlySortedBy}
-use Rattle.std.specs.Ordering.{nat_cmp}
-use Rattle.prof_tables.specs.Changes.{has_member}
-use Rattle.prof_tables.specs.Tables.{Tables, RunLine}
-use Rattle.prof_books.specs.Book.{run_held}
-use Rattle.histories.specs.History.{History, File, held, is_member, members}
-use Rattle.histories.specs.Legal.{has_run}
-use Rattle.histories.specs.Stands.{AreBooksOf}
-
--- all runs, one of them, or the members of a group
-pub data Selection : Type 0 where
-  AllRuns : Selection
-  OneRun : ℕ → Selection
-  MembersOf : List ℕ → Selection
+-- Selections of runs, and the files that they name.
+use Rattle.std.specs.Prelude.{ℕ, Bool, true, ◌==◌, List, map, filter}
+use Rattle.histories.specs.History.{History, File, held, is_member}
+use Rattle.histories.specs.declared.answers.Selection.{Selection}
+use Rattle.histories.specs.declared.answers.Selection.TheVariants as selections
 
 -- whether it names a run
 abbrev pub selects : History → Selection → ℕ → Bool
-selects h AllRuns n = true
-selects h (OneRun m) n = n == m
-selects h (MembersOf name) n = is_member h name n
+selects h selections.All n = true
+selects h (selections.Run m) n = n == m
+selects h (selections.Group name) n = is_member h name n
 
 -- the files that it names, each once, the oldest first
 abbrev pub selected : History → Selection → List File
@@ -27,27 +16,3 @@ selected h s = filter (λ (f : File). selects h s f.number) (held h)
 
 abbrev pub numbers_of : List File → List ℕ
 numbers_of files = map (λ (f : File). f.number) files
-
--- ---- in tables
-
-abbrev pub selects_in : Tables → Selection → ℕ → Bool
-selects_in t AllRuns n = true
-selects_in t (OneRun m) n = n == m
-selects_in t (MembersOf name) n = has_member t name n
-
--- the runs that it names, in the order of their rows
-abbrev pub runs_selected : Tables → Selection → List RunLine
-runs_selected t s = filter (λ (r : RunLine). selects_in t s r.number) t.runs
-
--- ---- what is sure of them
-
--- each file is named once; a run that is held names its file, and a group those of its members
-pub record AreSelected (h : History) : Type 0 where
-  pub once : (s : Selection) → IsStrictlySortedBy nat_cmp (numbers_of (selected h s))
-  pub all : selected h AllRuns ≡ held h
-  pub one : (n : ℕ) → has_run h n ≡ true → (f : File) × (selected h (OneRun n) ≡ f ∷ []) × (f.number ≡ n)
-  pub group : (name : List ℕ) → numbers_of (selected h (MembersOf name)) ≡ members h name
-
--- the runs that a selection names are those of the files that it names, in the same order
-abbrev pub TellsSelected : History → Tables → Selection → Type 0
-TellsSelected h t s = AreBooksOf (selected h s) (map (run_held t) (runs_selected t s))

@@ -10,8 +10,6 @@ use Rattle.hex.specs.Hex.{encode_lower}
 use Rattle.profile_records.specs.declared.kinds.Kind.{Kind}
 use Rattle.profile_records.specs.declared.kinds.Kind.TheVariants.{Callgrind, Folded}
 use Rattle.histories.specs.History.{History, File, held, groups, members, baseline}
-use Rattle.histories.specs.declared.answers.Query.{Query}
-use Rattle.histories.specs.declared.answers.Query.TheVariants.{Runs, Groups}
 
 -- ---- runs
 
@@ -65,8 +63,3 @@ rising (name ∷ names) = among name (rising names)
 
 abbrev pub groups_text : History → List ℕ
 groups_text h = flat_map (λ name. group_line name (baseline h name) (members h name)) (rising (groups h))
-
--- what a question is answered
-abbrev pub text_of : History → Query → List ℕ
-text_of h Runs = runs_text h
-text_of h Groups = groups_text h

@@ -39,6 +39,17 @@ pub enum Refusal {
     GroupTaken,
     /// A label or the name of a group is out of form.
     BadName,
+    /// No file of those that were selected has this event.
+    NoSuchEvent,
+}
+
+/// Which runs a question is about.
+#[derive(Drop)]
+pub enum Selection {
+    All,
+    Run(u32),
+    /// The members of the group of this name.
+    Group(Items<u8>),
 }
 
 /// A question to the warehouse.

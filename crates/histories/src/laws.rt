@@ -12,12 +12,13 @@ ghost use Rattle.sources.specs.Outcomes.{Outcome};
 ghost use Rattle.histories.specs.Entries.{GroupShown, ListsGroups, ListsRuns, RunShown};
 ghost use Rattle.histories.specs.History.{Said, Import, Remove, MakeGroup, DropGroup, Join, Leave, SetBaseline, Turn, History, File, held};
 ghost use Rattle.histories.specs.Legal.{AreAlike, AreDueAlike, GaveSame, AreLegal, IsHistory, IsLegal, IsTidy};
-ghost use Rattle.histories.specs.Selections.{Selection, AreSelected, TellsSelected};
+ghost use Rattle.histories.specs.SelectedRuns.{AreSelected, TellsSelected};
 ghost use Rattle.histories.specs.Stands.{AreToldAlike, IsImport, TablesTell, TurnsInto};
 ghost use Rattle.histories.specs.Sums.{calls_held};
 ghost use Rattle.histories.specs.Told.{IsHeldAs, IsHeadOfRun, SumsFit, TellsGroup, TellsHead, TellsHeld, TellsRows, TellsSums};
 ghost use Rattle.histories.specs.declared.answers.Answer.TheVariants.{Held, Done, Text, Refused};
 ghost use Rattle.histories.specs.declared.answers.Refusal.{Refusal};
+ghost use Rattle.histories.specs.declared.answers.Selection.{Selection};
 ghost use Rattle.histories.specs.declared.limits.Limits.{Limits};
 
 /// A history with a legal turn more is a history, and so with a list of them; two legal lists one after

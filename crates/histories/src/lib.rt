@@ -6,7 +6,7 @@ mod answers;
 mod laws;
 mod limits;
 
-pub use answers::{Answer, Excess, Query, Refusal};
+pub use answers::{Answer, Excess, Query, Refusal, Selection};
 pub use laws::{
     a_file_that_is_put_is_an_import, changes_are_commands, cuts_do_not_show, held_sums_fit,
     histories_grow, members_and_baselines_are_held, tables_stay_through_what_changes_nothing,

@@ -1,2 +1,1 @@
 mod Dues
-mod Names

@@ -1,15 +1,13 @@
 // Commands over a store, each with its answer.
 ghost use Rattle.prof_store.specs.Shown.{IsFaithful};
-ghost use Rattle.histories.specs.History.{Remove, MakeGroup, DropGroup, Ask};
+ghost use Rattle.histories.specs.History.{Remove, MakeGroup, DropGroup};
 ghost use Rattle.store_histories.specs.Answered.{Answers};
 ghost use Rattle.store_commands.specs.Changes.{said_of};
 
 use crate::changes::{Change, change_group, drop_group, group_name, make_group, remove};
-use crate::lists::ask;
-use histories::{Answer, Limits, Query, Refusal};
+use histories::{Answer, Limits, Refusal};
 use prof_store::Store;
 use sqlite::Alter;
-use std::alloc::Global;
 use store_histories::answer_of;
 
 /// Drops a run.
@@ -47,11 +45,4 @@ pub fn change_in<S: Alter>(store: &mut Store<S>, change: Change, name: &[u8], nu
         Some(name) => answer_of(change_group(store, change, name, number)),
         None => Answer::Refused(Refusal::NoSuchGroup),
     }
-}
-
-/// Answers a question.
-pub fn ask_in<S: Alter>(store: &mut Store<S>, alloc: Global, query: Query) -> Answer
-    ensures answered { (limits : _) → IsFaithful S.Store store.new → Answers S.Store limits (Ask query) result store.old store.new }
-{
-    answer_of(ask(store, alloc, query))
 }

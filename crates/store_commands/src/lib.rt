@@ -6,5 +6,6 @@ mod answering;
 mod changes;
 mod lists;
 
-pub use answering::{ask_in, change_in, drop_in, make_in, remove_in};
+pub use answering::{change_in, drop_in, make_in, remove_in};
 pub use changes::Change;
+pub use lists::{groups_answer, runs_answer};

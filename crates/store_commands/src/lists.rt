@@ -3,14 +3,14 @@ ghost use Rattle.std.specs.Prelude.{◌≡◌, ◌++◌, flat_map, codes, string
 ghost use Rattle.std.specs.Result.{is_ok};
 ghost use Rattle.std.specs.Fmt.{decimal};
 ghost use Rattle.prof_store.specs.Shown.{IsFaithful, Asks};
-ghost use Rattle.histories.specs.History.{History, Ask};
+ghost use Rattle.histories.specs.History.{History};
 ghost use Rattle.histories.specs.Texts as texts;
-ghost use Rattle.histories.specs.declared.limits.Limits.{Limits};
-ghost use Rattle.store_histories.specs.Answered.{StandsForHistory, WasDue, TurnsIf, has_changed};
+ghost use Rattle.histories.specs.declared.answers.Query.TheVariants.{Runs, Groups};
+ghost use Rattle.store_histories.specs.Answered.{StandsForHistory, Asks as AnswersAsked};
 ghost use Rattle.store_commands.specs.Lists.{entry_line, group_entry_line};
 
 use cg_text::Items;
-use histories::{Answer, Query};
+use histories::Answer;
 use prof_store::{GroupEntry, RunEntry, Store, StoreEnd};
 use profile_records::Kind;
 use sqlite::Alter;
@@ -137,18 +137,18 @@ fn list_groups<S: Alter>(store: &mut Store<S>, alloc: Global) -> Result<Items<u8
     Ok(groups_text(alloc, &groups)?)
 }
 
-/// Answers a question.
-pub(crate) fn ask<S: Alter>(
-    store: &mut Store<S>,
-    alloc: Global,
-    query: Query,
-) -> Result<Answer, StoreEnd>
-    ensures answered { IsFaithful S.Store store.new → (limits : Limits) (h : History) → StandsForHistory S.Store h store.old
-        → IfOk result (λ answer. WasDue S.Store limits h (Ask query) answer store.new) }
-    ensures turns { (limits : Limits) → TurnsIf S.Store limits (Ask query) (is_ok result) (has_changed result) store.old store.new }
+/// Answers which runs are held.
+pub fn runs_answer<S: Alter>(store: &mut Store<S>, alloc: Global) -> Result<Answer, StoreEnd>
+    ensures { AnswersAsked S.Store Runs result store.old store.new }
 {
-    match query {
-        Query::Runs => Ok(Answer::Text(list_runs(store, alloc)?)),
-        Query::Groups => Ok(Answer::Text(list_groups(store, alloc)?)),
-    }
+    let text = list_runs(store, alloc)?;
+    Ok(Answer::Text(text))
+}
+
+/// Answers which groups are there.
+pub fn groups_answer<S: Alter>(store: &mut Store<S>, alloc: Global) -> Result<Answer, StoreEnd>
+    ensures { AnswersAsked S.Store Groups result store.old store.new }
+{
+    let text = list_groups(store, alloc)?;
+    Ok(Answer::Text(text))
 }

@@ -1,4 +1,6 @@
 pub mod After
 pub mod Due
 pub mod Links
+pub mod Names
+pub mod Questions
 pub mod Settled

@@ -1,8 +1,9 @@
 -- What is answered to a command, and what it leaves.
-use Rattle.std.specs.Prelude.{◌≡◌, Bool, true, false, IsTrue, Some, Result, Ok, Err, List, [], ◌∷◌, ◌++◌}
+use Rattle.std.specs.Prelude.{◌≡◌, Bool, true, false, IsTrue, Some, Result, Ok, Err, IfOk, List, [], ◌∷◌, ◌++◌}
+use Rattle.std.specs.Result.{is_ok}
 use Rattle.sqlite_trees.specs.declared.store.Store.{Ghosts}
 use Rattle.sqlite_trees.specs.Tree.{Trees}
-use Rattle.sql_tables.specs.Calls.{Changed}
+use Rattle.sql_tables.specs.Calls.{Asked, Changed}
 use Rattle.prof_tables.specs.Schema.{schema_one}
 use Rattle.prof_tables.specs.Tables.{Tables, Holds}
 use Rattle.prof_store.specs.Shown.{shown, StandsFor, IsFaithful, IsUsable}
@@ -10,12 +11,13 @@ use Rattle.prof_store.specs.declared.store.Store.{Store}
 use Rattle.store_columns.specs.declared.errors.StoreEnd.{StoreEnd}
 use Rattle.store_columns.specs.declared.errors.StoreEnd.TheVariants as ends
 use Rattle.histories.specs.History.{History, Said, Turn}
-use Rattle.histories.specs.Legal.{IsLegal, IsHistory, due}
+use Rattle.histories.specs.Legal.{IsLegal, IsHistory, ask_due, due}
 use Rattle.histories.specs.Stands.{TablesTell}
 use Rattle.histories.specs.declared.answers.Answer.{Answer}
 use Rattle.histories.specs.declared.answers.Answer.TheVariants as answers
 use Rattle.histories.specs.declared.answers.Refusal.TheVariants as reasons
 use Rattle.histories.specs.declared.limits.Limits.{Limits}
+use Rattle.histories.specs.declared.answers.Query.{Query}
 
 -- a history that goes on by one turn
 abbrev pub with_turn : History → Said → Answer → History
@@ -79,6 +81,15 @@ module _ {S : Type 0} (g : Ghosts S) where
   pub record Answers (limits : Limits) (said : Said) (answer : Answer) (old new : Store S) : Type 0 where
     pub turned : Changed schema_one TellsHistory (Follows limits said) (is_accepted answer) (is_accepted answer) (shown g old) (shown g new)
     pub answered : (h : History) → HasHistory h old → IsAnswered limits h said answer new
+
+  -- a question was answered, with a text or a refusal, what is due after each history that the tables stand for; the store was only asked
+  pub record WasAsked (query : Query) (result : Result Answer StoreEnd) (old new : Store S) : Type 0 where
+    pub due : (h : History) → StandsForHistory h old → IfOk result (λ answer. answer ≡ ask_due h query)
+    pub still : has_changed result ≡ false
+    pub asks : Asked schema_one (is_ok result) (shown g old) (shown g new)
+
+  abbrev pub Asks : Query → Result Answer StoreEnd → Store S → Store S → Type 0
+  Asks query result old new = IsFaithful g new → WasAsked query result old new
 
   -- turns one after another, each from the store that the one before left
   abbrev pub Links : Limits → History → Store S → Store S → Type 0

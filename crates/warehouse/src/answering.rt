@@ -3,19 +3,20 @@ ghost use Rattle.std.specs.Prelude.{List};
 ghost use Rattle.prof_tables.specs.Labels.{IsLabel};
 ghost use Rattle.prof_store.specs.Shown.{IsFaithful};
 ghost use Rattle.sources.specs.Outcomes.{Outcome};
-ghost use Rattle.histories.specs.History.{Import};
-ghost use Rattle.store_histories.specs.Answered.{Answers};
+ghost use Rattle.histories.specs.History.{Ask, Import};
+ghost use Rattle.store_histories.specs.Answered.{Answers, Asks};
 ghost use Rattle.sources.specs.Reads.{Come};
 
 use crate::refusals::unread_answer;
 use file_intake::take_file;
-use histories::{Answer, Limits, Refusal};
-use prof_store::Store;
+use histories::{Answer, Limits, Query, Refusal};
+use prof_store::{Store, StoreEnd};
 use profile_records::Kind;
 use run_imports::{label_of, take_in};
 use sources::Source;
 use sqlite::Alter;
 use std::alloc::Global;
+use store_commands::{groups_answer, runs_answer};
 use store_histories::answer_of;
 
 /// Takes in the file that a source gives, under a label in form.
@@ -53,4 +54,21 @@ pub(crate) fn import_in<S: Alter, R: Source>(
         Some(label) => import_labelled(store, alloc, limits, kind, label, source),
         None => Answer::Refused(Refusal::BadName),
     }
+}
+
+/// What a question is answered.
+fn answer<S: Alter>(store: &mut Store<S>, alloc: Global, query: Query) -> Result<Answer, StoreEnd>
+    ensures { Asks S.Store query result store.old store.new }
+{
+    match query {
+        Query::Runs => runs_answer(store, alloc),
+        Query::Groups => groups_answer(store, alloc),
+    }
+}
+
+/// Answers a question.
+pub(crate) fn ask_in<S: Alter>(store: &mut Store<S>, alloc: Global, query: Query) -> Answer
+    ensures answered { (limits : _) → IsFaithful S.Store store.new → Answers S.Store limits (Ask query) result store.old store.new }
+{
+    answer_of(answer(store, alloc, query))
 }

@@ -7,7 +7,7 @@ ghost use Rattle.store_histories.specs.Answered.{Answers};
 ghost use Rattle.warehouse.specs.Answered.{WasAnswered, WasRun};
 ghost use Rattle.sources.specs.Reads.{Come};
 
-use crate::answering::import_in;
+use crate::answering::{ask_in, import_in};
 use crate::command::Command;
 use crate::warehouse::Warehouse;
 use histories::Answer;
@@ -16,7 +16,7 @@ use sources::Source;
 use sqlite::Alter;
 use std::alloc::{AllocError, Global};
 use std::collections::VecDeque;
-use store_commands::{Change, ask_in, change_in, drop_in, make_in, remove_in};
+use store_commands::{Change, change_in, drop_in, make_in, remove_in};
 
 impl<S: Alter> Warehouse<S> {
     /// Takes in the file that a source gives, a piece at a time. The source is read to its end even

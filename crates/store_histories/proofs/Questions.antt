@@ -1,0 +1,43 @@
+-- A question that was answered, as a command.
+use Rattle.std.specs.Result.{is_ok}
+use Rattle.std.proofs.Common.{◌≡◌, Bool, false, Result, Ok, Err, IfOk, Some, ap, sym, subst}
+use Rattle.sqlite_trees.specs.declared.store.Store.{Ghosts}
+use Rattle.sql_tables.specs.Calls.{Changed}
+use Rattle.sql_tables.proofs.Calls.{asked_rests, changed_asked}
+use Rattle.prof_tables.specs.Schema.{schema_one}
+use Rattle.prof_tables.specs.Tables.{Holds}
+use Rattle.prof_store.specs.Shown.{shown}
+use Rattle.prof_store.specs.declared.store.Store.{Store}
+use Rattle.store_columns.specs.declared.errors.StoreEnd.{StoreEnd}
+use Rattle.histories.specs.History.{History, Ask}
+use Rattle.histories.specs.declared.answers.Answer.{Answer}
+use Rattle.histories.specs.declared.answers.Answer.TheVariants as answers
+use Rattle.histories.specs.declared.answers.Query.{Query}
+use Rattle.histories.specs.declared.limits.Limits.{Limits}
+use Rattle.histories.proofs.Held.{IsStill}
+use Rattle.store_histories.specs.Answered.{Answers, Follows, StandsForHistory, TellsHistory, WasAsked, WasDue, answer_for, has_changed, is_accepted}
+use Rattle.store_histories.proofs.Due.{was_still}
+use Rattle.store_histories.proofs.Settled.{settled, turns_answer}
+
+stays_still : (answer : Answer) → is_accepted answer ≡ false → IsStill answer
+stays_still (answers.Run n) is = absurd cc
+stays_still (answers.Held n) is = tt
+stays_still answers.Done is = absurd cc
+stays_still (answers.Text text) is = tt
+stays_still (answers.Refused refusal) is = tt
+
+module _ {S : Type 0} (g : Ghosts S) (limits : Limits) (query : Query) (old new : Store S) where
+  was_due : (result : Result Answer StoreEnd) → WasAsked g query result old new → (h : History) → StandsForHistory g h old → IfOk result (λ answer. WasDue g limits h (Ask query) answer new)
+  was_due (Err end) asked h s = tt
+  was_due (Ok answer) asked h s =
+      was_still limits h (Ask query) tt g old new answer (stays_still answer asked.still) (ap (λ a. Some a) (sym (asked.due h s))) s
+      (asked_rests schema_one (Holds s.t) (shown g old) (shown g new) asked.asks s.stands)
+
+  pub question_answered : (result : Result Answer StoreEnd) → WasAsked g query result old new → Answers g limits (Ask query) (answer_for result) old new
+  question_answered result asked =
+      let unchanged = changed_asked schema_one TellsHistory (Follows limits (Ask query)) (is_ok result) (shown g old) (shown g new) asked.asks in
+      let turned = subst (λ (done : Bool). Changed schema_one TellsHistory (Follows limits (Ask query)) (is_ok result) done (shown g old) (shown g new)) (sym asked.still) unchanged in
+      record {
+        turned = turns_answer limits (Ask query) result (shown g old) (shown g new) turned;
+        answered = λ h has. settled g limits h (Ask query) old new has result tt (was_due result asked h) turned;
+      }

@@ -1,0 +1,6 @@
+mod CountedLemmas
+mod HeadLemmas
+mod ReportLemmas
+mod SelectLemmas
+mod ShortLemmas
+mod StatedLemmas

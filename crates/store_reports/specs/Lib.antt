@@ -1,0 +1,3 @@
+pub mod Counted
+pub mod Heads
+pub mod Selected
