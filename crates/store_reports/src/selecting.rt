@@ -26,11 +26,7 @@ fn all_runs<S: Alter>(store: &mut Store<S>, alloc: Global) -> Result<Numbers, St
 }
 
 /// A run, if it is held.
-fn one_run<S: Alter>(
-    store: &mut Store<S>,
-    alloc: Global,
-    number: u32,
-) -> Result<Numbers, StoreEnd>
+fn one_run<S: Alter>(store: &mut Store<S>, alloc: Global, number: u32) -> Result<Numbers, StoreEnd>
     ensures told { ToldOf S.Store result store.old store.new (λ h found. AreSelected h (selections.Run number) found) }
     ensures asks { Asks S.Store (is_ok result) store.old store.new }
 {
@@ -55,11 +51,7 @@ fn name_text(name: &[u8]) -> &str
 }
 
 /// The members of a group, if it is there.
-fn of_group<S: Alter>(
-    store: &mut Store<S>,
-    alloc: Global,
-    name: &[u8],
-) -> Result<Numbers, StoreEnd>
+fn of_group<S: Alter>(store: &mut Store<S>, alloc: Global, name: &[u8]) -> Result<Numbers, StoreEnd>
     ensures told { ToldOf S.Store result store.old store.new (λ h found. AreSelected h (selections.Group name.now) found) }
     ensures asks { Asks S.Store (is_ok result) store.old store.new }
 {
