@@ -6,23 +6,31 @@ use cost_rows::{CellRow, Key, Merged};
 use std::alloc::{AllocError, Global};
 use std::test::Fail;
 
-fn row<'a>(function: &'a [u8], line: u64, cost: u128) -> CellRow<&'a [u8]> {
-    CellRow {
+/// What rows come to stays below this.
+const BOUND: u128 = 1 << 112;
+
+/// Adds what a line of a function costs.
+fn add(merged: &mut Merged, function: &[u8], line: u64, cost: u128) -> Result<(), AllocError> {
+    if cost >= BOUND || merged.total() + cost >= BOUND {
+        return Err(AllocError);
+    }
+    let row = CellRow {
         object: b"???".as_slice(),
         file: b"a\nc".as_slice(),
         function,
         line,
         event: 0,
         cost,
-    }
+    };
+    merged.add(&row)
 }
 
 fn text_of(alloc: Global, key: Key, cut: Cut) -> Result<Items<u8>, AllocError> {
     let mut merged = Merged::new(alloc, key);
-    merged.add(&row(b"main", 16, 20))?;
-    merged.add(&row(b"func1", 51, 100))?;
-    merged.add(&row(b"func2", 20, 600))?;
-    merged.add(&row(b"func2", 21, 100))?;
+    add(&mut merged, b"main", 16, 20)?;
+    add(&mut merged, b"func1", 51, 100)?;
+    add(&mut merged, b"func2", 20, 600)?;
+    add(&mut merged, b"func2", 21, 100)?;
     by(alloc, &merged, cut)?.text(alloc, b"Instructions")
 }
 
