@@ -1,6 +1,7 @@
 pub mod ArcRows
-mod Asking
+pub mod Asking
 pub mod CellRows
+pub mod CellSteps
 pub mod Examples
 mod HeadReading
 mod LineLists

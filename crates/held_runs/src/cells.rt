@@ -24,7 +24,7 @@ pub struct Cells<'a, S: Alter> {
 }
 
 /// A cell with its names, which have to be held, of one of so many events.
-fn cell_row<'a>(
+pub(crate) fn cell_row<'a>(
     line: &CellLine,
     names: &'a HeldNames,
     events: usize,

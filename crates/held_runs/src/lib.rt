@@ -6,6 +6,7 @@ mod arc_lines;
 mod arcs;
 mod cell_lines;
 mod cells;
+mod handed_cells;
 mod head_lines;
 mod heads;
 mod heads_held;
@@ -20,6 +21,7 @@ mod walks;
 
 pub use arcs::{Arcs, arcs_of};
 pub use cells::{Cells, cells_of};
+pub use handed_cells::{TakesCells, each_cell};
 pub use heads::head_of;
 pub use held_names::{HeldNames, names_of};
 pub use lookups::{baseline_of, kind_of};

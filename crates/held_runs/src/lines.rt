@@ -32,8 +32,18 @@ pub(crate) trait Line: Sized {
         ensures { IfOk result (λ line. columns line ≡ read_from (asked listed run) row.now) };
 }
 
+/// A walk over the lines of a run in a table, which has given nothing.
+pub(crate) fn begin<S: Alter>(store: &mut Store<S>, table: Listed, run: u32) -> Walk
+    ensures run { result.run ≡ run }
+    ensures ready { IsReady (shown S.Store store.old) → Gives S.Store table [] store.new result }
+    ensures untouched { store.new.conn ≡ store.old.conn }
+{
+    store.page.clear();
+    Walk::over(table, run)
+}
+
 /// The next line of a walk.
-fn next_line<S: Alter, L: Line>(
+pub(crate) fn next_line<S: Alter, L: Line>(
     store: &mut Store<S>,
     walk: &mut Walk,
 ) -> Result<Option<L>, StoreEnd>
@@ -74,10 +84,10 @@ impl<'a, S: Alter, L: Line> Lines<'a, S, L> {
         ensures failed { result.failed ≡ None }
         ensures untouched { result.store.now.conn ≡ store.old.conn }
     {
-        store.page.clear();
+        let walk = begin(store, L::table(), run);
         Lines {
             store,
-            walk: Walk::over(L::table(), run),
+            walk,
             failed: None,
             of: PhantomData,
         }

@@ -10,7 +10,8 @@ use Rattle.histories.specs.Files.{fault_of}
 use Rattle.sources.specs.Outcomes.{Outcome, bytes_of, is_failed, is_end}
 use Rattle.histories.specs.History.{Said, Import, Remove, MakeGroup, DropGroup, Join, Leave, SetBaseline, Ask, History, File, held, next, groups, is_member, baseline}
 use Rattle.histories.specs.Sums.{excess_of}
-use Rattle.histories.specs.Reports.{has_event}
+use Rattle.histories.specs.Reports.{by_text, has_event, verified_text}
+use Rattle.histories.specs.Selections.{selected}
 use Rattle.histories.specs.Texts.{groups_text, runs_text}
 use Rattle.histories.specs.declared.limits.Limits.{Limits}
 use Rattle.histories.specs.declared.answers.Answer.{Answer}
@@ -102,6 +103,9 @@ no_event event files = when (not (list_any (has_event event) files)) (Refused re
 abbrev pub ask_due : History → Query → Answer
 ask_due h queries.Runs = Text (runs_text h)
 ask_due h queries.Groups = Text (groups_text h)
+ask_due h (queries.By selection key event cut) =
+    first_or (no_selection h selection ∷ no_event event (selected h selection) ∷ []) (Text (by_text (selected h selection) key event cut))
+ask_due h (queries.Verify selection) = first_or (no_selection h selection ∷ []) (Text (verified_text (selected h selection)))
 
 -- ---- each command
 

@@ -6,8 +6,9 @@ use Rattle.std.specs.Option.{is_some}
 use Rattle.cg_formulas.specs.Formulas.{coefficients}
 use Rattle.cg_formulas.specs.Flats.{row_in}
 use Rattle.cost_rows.specs.declared.keys.Key.{Key}
-use Rattle.cost_reports.specs.Costs.{EventRecords, costs_by}
-use Rattle.cost_reports.specs.KeyReports.{report_of}
+use Rattle.cost_rows.specs.KeySums.{total_of}
+use Rattle.cost_reports.specs.Costs.{EventRecords, all_costs, costs_by}
+use Rattle.cost_reports.specs.KeyReports.{ReportByKey, report_of}
 use Rattle.cost_reports.specs.KeyTexts.{key_report_text}
 use Rattle.cost_reports.specs.Verifying.{verified, verify_text}
 use Rattle.cost_reports.specs.declared.cuts.Cut.{Cut}
@@ -28,8 +29,15 @@ has_event event f = is_some (counts_of event f)
 abbrev pub event_records : List ℕ → File → EventRecords
 event_records event f = record { coefs = unwrap_or (counts_of event f) []; records = records_of f.kind f.bytes }
 
+-- what the self records of files cost in all
+abbrev pub self_costs : List ℕ → List File → ℕ
+self_costs event files = total_of (all_costs (map (event_records event) files))
+
+abbrev pub report_by : List File → Key → List ℕ → Cut → ReportByKey
+report_by files key event cut = report_of key cut (costs_by key (map (event_records event) files))
+
 abbrev pub by_text : List File → Key → List ℕ → Cut → List ℕ
-by_text files key event cut = key_report_text event (report_of key cut (costs_by key (map (event_records event) files)))
+by_text files key event cut = key_report_text event (report_by files key event cut)
 
 -- ---- verification
 

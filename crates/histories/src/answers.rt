@@ -1,5 +1,7 @@
 // What commands are answered.
 use cg_text::{Fault, Items};
+use cost_reports::Cut;
+use cost_rows::Key;
 
 /// A sum over all runs that would pass 2^63-1.
 #[derive(Drop)]
@@ -53,12 +55,21 @@ pub enum Selection {
 }
 
 /// A question to the warehouse.
-#[derive(Clone, Copy, Debug, PartialEq, Eq)]
+#[derive(Drop)]
 pub enum Query {
     /// Which runs are held.
     Runs,
     /// Which groups are there, with their baselines and members.
     Groups,
+    /// Where the cost of an event went, by key.
+    By {
+        selection: Selection,
+        key: Key,
+        event: Items<u8>,
+        cut: Cut,
+    },
+    /// What the sums of runs are beside the totals that their files state.
+    Verify(Selection),
 }
 
 /// What a command is answered.

@@ -1,3 +1,4 @@
+pub mod Questions
 pub mod Sessions
 pub mod Tasks
 pub mod Works

@@ -14,6 +14,7 @@ use Rattle.histories.specs.declared.answers.Refusal.TheVariants.{Memory}
 use Rattle.store_histories.specs.Answered.{HasHistory, Links}
 use Rattle.program_files.specs.Imported.{WereRead}
 use Rattle.answer_lines.specs.Answers.{is_refused, line_text}
+use Rattle.sessions.specs.Questions.{query_said}
 use Rattle.sessions.specs.declared.session.GroupChange.{GroupChange}
 use Rattle.sessions.specs.declared.session.GroupChange.TheVariants as changes
 use Rattle.sessions.specs.declared.session.Session.{Session}
@@ -39,7 +40,7 @@ abbrev pub AreOf : (List Outcome → Type 0) → Work → List Said → Type 0
 AreOf reads (works.Import kind paths) list = AreImports reads kind (map (λ path. path.now) paths) list
 AreOf reads (works.Remove numbers) list = list ≡ map history.Remove numbers
 AreOf reads (works.Group name change) list = list ≡ change_said change name.now ∷ []
-AreOf reads (works.Ask query) list = list ≡ history.Ask query ∷ []
+AreOf reads (works.Ask question) list = list ≡ history.Ask (query_said question) ∷ []
 
 -- the same, where the reads are those of files
 abbrev pub Wants : {F : Type 0} → (F → Option (List ℕ)) → Work → List Said → Type 0

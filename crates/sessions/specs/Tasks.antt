@@ -1,13 +1,19 @@
 -- What a plan says, in the words of a history.
-use Rattle.std.specs.Prelude.{◌≡◌, ℕ, Bool, IsTrue, true, false, List, [], ◌∷◌, map}
+use Rattle.std.specs.Prelude.{◌≡◌, ℕ, Bool, IsTrue, true, false, List, [], ◌∷◌, map, Option}
 use Rattle.command_line.specs.declared.plans.Plan.{Plan}
 use Rattle.command_line.specs.declared.plans.Plan.TheVariants as plans
 use Rattle.histories.specs.History.{Said, Remove, MakeGroup, DropGroup, Join, Leave, SetBaseline, Ask}
-use Rattle.histories.specs.declared.answers.Query.TheVariants.{Runs, Groups}
+use Rattle.histories.specs.declared.answers.Query.TheVariants.{Runs, Groups, By, Verify}
+use Rattle.cost_reports.specs.declared.cuts.Cut.{Cut}
 use Rattle.sources.specs.Outcomes.{Outcome}
+use Rattle.sessions.specs.Questions.{selection_said}
 use Rattle.sessions.specs.Sessions.{AreImports, AreOf}
 use Rattle.sessions.specs.declared.tasks.Task.{Task}
 use Rattle.sessions.specs.declared.tasks.Task.TheVariants as tasks
+
+-- how much of a report is shown
+abbrev pub cut_said : Option ℕ → ℕ → Cut
+cut_said limit threshold = record { limit = limit; threshold = threshold }
 
 -- the path of the store that a plan names, and the commands that it says; a total is none
 abbrev pub AreSaidBy : (List Outcome → Type 0) → Plan → List ℕ → List Said → Type 0
@@ -21,6 +27,9 @@ AreSaidBy reads (plans.Join db name n) store list = (store ≡ db.now) × (list 
 AreSaidBy reads (plans.Leave db name n) store list = (store ≡ db.now) × (list ≡ Leave name.now n ∷ [])
 AreSaidBy reads (plans.Baseline db name n) store list = (store ≡ db.now) × (list ≡ SetBaseline name.now n ∷ [])
 AreSaidBy reads (plans.Groups db) store list = (store ≡ db.now) × (list ≡ Ask Groups ∷ [])
+AreSaidBy reads (plans.By db selected event limit threshold key) store list =
+    (store ≡ db.now) × (list ≡ Ask (By (selection_said selected) key event.now (cut_said limit threshold)) ∷ [])
+AreSaidBy reads (plans.Verify db selected) store list = (store ≡ db.now) × (list ≡ Ask (Verify (selection_said selected)) ∷ [])
 
 -- a task does what a plan says: a total for a total, and over the store of the plan commands that it says, whatever is asked of the reads of files
 abbrev pub IsTaskOf : Plan → Task → Type 0

@@ -2,9 +2,11 @@
 //! as it is there, and the total of a file.
 #![tactic(auto)]
 
+mod questions;
 mod running;
 mod session;
 mod tasks;
 
+pub use questions::Question;
 pub use running::{print_refused, run_plan};
 pub use session::{GroupChange, Session, Work};

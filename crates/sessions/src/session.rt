@@ -2,17 +2,19 @@
 ghost use Rattle.std.specs.Prelude.{◌≡◌, ◌↔◌, IsTrue, List, [], ◌∷◌, map};
 ghost use Rattle.prof_store.specs.Shown.{IsFaithful, IsUsable};
 ghost use Rattle.sources.specs.Outcomes.{Outcome};
-ghost use Rattle.histories.specs.History.{History, Said, Import, Remove};
+ghost use Rattle.histories.specs.History.{History, Said, Ask, Import, Remove};
 ghost use Rattle.histories.specs.Legal.{IsInForm, IsLegal};
 ghost use Rattle.histories.specs.declared.answers.Answer.TheVariants as answers;
 ghost use Rattle.store_histories.specs.Answered.{HasHistory};
 ghost use Rattle.warehouse.specs.Answered.{Says};
 ghost use Rattle.program_files.specs.Imported.{FileReads, WereRead};
+ghost use Rattle.sessions.specs.Questions.{query_said};
 ghost use Rattle.sessions.specs.Sessions.{AreImports, Prints, Wants, WasRun, WasTold, change_said, status_after};
 
+use crate::questions::{Question, query_of};
 use answer_lines::{is_refused, line_of};
 use cg_text::Items;
-use histories::{Answer, Query, Refusal};
+use histories::{Answer, Refusal};
 use prof_store::is_group_name;
 use profile_records::Kind;
 use program_files::FileSource;
@@ -46,7 +48,8 @@ pub enum Work<'a> {
     Remove(Items<u32>),
     /// Change the group of a name.
     Group(&'a str, GroupChange),
-    Ask(Query),
+    /// Ask a question.
+    Ask(Question<'a>),
 }
 
 /// Prints an answer. Where there is no memory for its line, it says so, and the command stands.
@@ -208,6 +211,17 @@ impl<'a, R: Files + AllocGlobal, W: Write + Drop, S: Alter> Session<'a, R, W, S>
         self.apply(change_command(name, change))
     }
 
+    /// Asks a question.
+    fn ask(&mut self, question: Question<'a>) -> io::Result<()>
+        ensures limits { self.new.warehouse.limits ≡ self.old.warehouse.limits }
+        ensures answered { IsFaithful S.Store self.new.warehouse.store → WasTold S.Store W.contents (Ask (query_said question)) result self.old self.new }
+    {
+        match query_of(self.rt.alloc(), question) {
+            Ok(query) => self.apply(Command::Ask(query)),
+            Err(AllocError) => self.refuse(Refusal::Memory),
+        }
+    }
+
     /// Runs the commands that a work comes to, and prints their answers. It stops where printing fails.
     pub fn run(&mut self, work: Work<'a>) -> io::Result<()>
         ensures limits { self.new.warehouse.limits ≡ self.old.warehouse.limits }
@@ -217,7 +231,7 @@ impl<'a, R: Files + AllocGlobal, W: Write + Drop, S: Alter> Session<'a, R, W, S>
             Work::Import(kind, paths) => self.import(kind, paths.as_slice()),
             Work::Remove(numbers) => self.remove(numbers.as_slice()),
             Work::Group(name, change) => self.change_group(name, change),
-            Work::Ask(query) => self.apply(Command::Ask(query)),
+            Work::Ask(question) => self.ask(question),
         }
     }
 }

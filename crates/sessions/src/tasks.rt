@@ -1,9 +1,11 @@
 // What is to be done for a plan.
-ghost use Rattle.sessions.specs.Tasks.{IsTaskOf};
+ghost use Rattle.std.specs.Prelude.{◌≡◌};
+ghost use Rattle.sessions.specs.Tasks.{IsTaskOf, cut_said};
 
+use crate::questions::Question;
 use crate::session::{GroupChange, Work};
 use command_line::Plan;
-use histories::Query;
+use cost_reports::Cut;
 
 /// What is to be done.
 #[derive(Drop)]
@@ -14,6 +16,16 @@ pub(crate) enum Task<'a> {
     Over(&'a str, Work<'a>),
 }
 
+/// How much of a report is shown.
+fn cut_of(limit: Option<u32>, threshold: u8) -> Cut
+    ensures { result ≡ cut_said limit threshold }
+{
+    Cut {
+        limit: limit.map(u64::from),
+        threshold,
+    }
+}
+
 /// The task of a plan.
 pub(crate) fn task_of<'a>(plan: Plan<'a>) -> Task<'a>
     ensures { IsTaskOf plan.entry result }
@@ -22,7 +34,7 @@ pub(crate) fn task_of<'a>(plan: Plan<'a>) -> Task<'a>
         Plan::Total { path } => Task::Total(path),
         Plan::Import { db, kind, files } => Task::Over(db, Work::Import(kind, files)),
         Plan::Remove { db, numbers } => Task::Over(db, Work::Remove(numbers)),
-        Plan::Runs { db } => Task::Over(db, Work::Ask(Query::Runs)),
+        Plan::Runs { db } => Task::Over(db, Work::Ask(Question::Runs)),
         Plan::Group {
             db,
             drop: false,
@@ -42,6 +54,24 @@ pub(crate) fn task_of<'a>(plan: Plan<'a>) -> Task<'a>
         Plan::Baseline { db, name, number } => {
             Task::Over(db, Work::Group(name, GroupChange::SetBaseline(number)))
         }
-        Plan::Groups { db } => Task::Over(db, Work::Ask(Query::Groups)),
+        Plan::Groups { db } => Task::Over(db, Work::Ask(Question::Groups)),
+        Plan::By {
+            db,
+            selected,
+            event,
+            limit,
+            threshold,
+            key,
+        } => {
+            let cut = cut_of(limit, threshold);
+            let question = Question::By {
+                selected,
+                key,
+                event,
+                cut,
+            };
+            Task::Over(db, Work::Ask(question))
+        }
+        Plan::Verify { db, selected } => Task::Over(db, Work::Ask(Question::Verify(selected))),
     }
 }

@@ -401,7 +401,7 @@ head_told f t line head short book is =
 -- ---- of a file that a history holds
 
 -- the run of the book that tells of a file
-line_of : (t : Tables) (lines : List RunLine) (files : List File) (f : File) → AreBooksOf files (map (run_held t) lines) → Has files f → (line : RunLine) × IsBookOf f (run_held t line)
+pub line_of : (t : Tables) (lines : List RunLine) (files : List File) (f : File) → AreBooksOf files (map (run_held t) lines) → Has files f → (line : RunLine) × IsBookOf f (run_held t line)
 line_of t lines [] f all there = absurd there
 line_of t [] (g ∷ files) f all there = absurd all
 line_of t (line ∷ lines) (g ∷ files) f all (inl same) = (line, subst (λ k. IsBookOf k (run_held t line)) (sym same) all.0)

@@ -1,5 +1,8 @@
+mod CheckLemmas
 mod CountedLemmas
+mod DueLemmas
 mod HeadLemmas
+mod MergeLemmas
 mod ReportLemmas
 mod SelectLemmas
 mod ShortLemmas

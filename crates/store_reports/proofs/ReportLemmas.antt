@@ -64,7 +64,7 @@ all_held {X = X} p P xs each = go (filter p xs) (λ x is. each x (has_kept p xs 
     go [] each = tt
     go (y ∷ ys) each = (each y (inl refl), go ys (λ x is. each x (inr is)))
 
-selected_held : (h : History) (s : Selection) → AllByRecursion (Has (held h)) (selected h s)
+pub selected_held : (h : History) (s : Selection) → AllByRecursion (Has (held h)) (selected h s)
 selected_held h s = all_held (λ (f : File). selects h s f.number) (Has (held h)) (held h) (λ f is. is)
 
 -- ---- what they come to

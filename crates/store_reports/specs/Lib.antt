@@ -1,3 +1,5 @@
+pub mod Checked
 pub mod Counted
 pub mod Heads
+pub mod Reported
 pub mod Selected

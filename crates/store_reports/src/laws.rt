@@ -1,17 +1,18 @@
 // What runs that are held tell of their files: laws of the definitions, each the contract of
 // a function that does nothing.
-ghost use Rattle.std.specs.Prelude.{◌≡◌, ℕ, List, map};
+ghost use Rattle.std.specs.Prelude.{◌≡◌, ℕ, ◌+◌, List, map};
 ghost use Rattle.std.specs.List.{list_any};
 ghost use Rattle.sqlite_rules.specs.Lists.{Has};
 ghost use Rattle.cg_formulas.specs.declared.heads.FileHead.{FileHead};
-ghost use Rattle.cost_rows.specs.KeySums.{sums_by};
+ghost use Rattle.cost_rows.specs.KeySums.{sums_by, total_of};
 ghost use Rattle.cost_rows.specs.declared.keys.Key.{Key};
 ghost use Rattle.cost_reports.specs.Costs.{all_rows, costs_by};
 ghost use Rattle.cost_reports.specs.Verifying.{verified};
+ghost use Rattle.cost_reports.specs.declared.cuts.Cut.{Cut};
 ghost use Rattle.prof_tables.specs.Tables.{Tables};
 ghost use Rattle.histories.specs.Files.{events_of, stated_of};
 ghost use Rattle.histories.specs.History.{History, File, held};
-ghost use Rattle.histories.specs.Reports.{event_records, has_event};
+ghost use Rattle.histories.specs.Reports.{event_records, has_event, report_by, self_costs};
 ghost use Rattle.histories.specs.Selections.{numbers_of, selected};
 ghost use Rattle.histories.specs.Stands.{TablesTell};
 ghost use Rattle.histories.specs.declared.answers.Selection.{Selection};
@@ -37,4 +38,12 @@ pub fn runs_cost_what_files_cost()
         → AreCounted t event (numbers_of (selected h s)) runs → list_any has_counts runs ≡ list_any (has_event event) (selected h s) }
     ensures costs { (h : History) (t : Tables) (s : Selection) (key : Key) (event : List ℕ) (runs : List Counted) → TablesTell h t
         → AreCounted t event (numbers_of (selected h s)) runs → sums_by key (all_rows (map (event_cells t) runs)) ≡ costs_by key (map (event_records event) (selected h s)) }
+{}
+
+/// What a report shows, and what is left, come to what the self records of the selected files cost in the
+/// event, as the line grammar reads them: for every selection, event, key and cut.
+pub fn reports_sum_to_the_records()
+    ensures sums { (h : History) (s : Selection) (key : Key) (event : List ℕ) (cut : Cut) → let r = report_by (selected h s) key event cut in
+        total_of r.rows + r.rest ≡ self_costs event (selected h s) }
+    ensures total { (h : History) (s : Selection) (key : Key) (event : List ℕ) (cut : Cut) → (report_by (selected h s) key event cut).total ≡ self_costs event (selected h s) }
 {}

@@ -18,6 +18,7 @@ use sqlite::Alter;
 use std::alloc::Global;
 use store_commands::{groups_answer, runs_answer};
 use store_histories::answer_of;
+use store_reports::{by_answer, verify_answer};
 
 /// Takes in the file that a source gives, under a label in form.
 fn import_labelled<S: Alter, R: Source>(
@@ -58,17 +59,24 @@ pub(crate) fn import_in<S: Alter, R: Source>(
 
 /// What a question is answered.
 fn answer<S: Alter>(store: &mut Store<S>, alloc: Global, query: Query) -> Result<Answer, StoreEnd>
-    ensures { Asks S.Store query result store.old store.new }
+    ensures { Asks S.Store query.entry result store.old store.new }
 {
     match query {
         Query::Runs => runs_answer(store, alloc),
         Query::Groups => groups_answer(store, alloc),
+        Query::By {
+            selection,
+            key,
+            event,
+            cut,
+        } => by_answer(store, alloc, &selection, key, &event, cut),
+        Query::Verify(selection) => verify_answer(store, alloc, &selection),
     }
 }
 
 /// Answers a question.
 pub(crate) fn ask_in<S: Alter>(store: &mut Store<S>, alloc: Global, query: Query) -> Answer
-    ensures answered { (limits : _) → IsFaithful S.Store store.new → Answers S.Store limits (Ask query) result store.old store.new }
+    ensures answered { (limits : _) → IsFaithful S.Store store.new → Answers S.Store limits (Ask query.entry) result store.old store.new }
 {
     answer_of(answer(store, alloc, query))
 }

@@ -9,7 +9,7 @@ mod refusals;
 mod warehouse;
 
 pub use command::Command;
-pub use histories::{Answer, Excess, Limits, Query, Refusal};
+pub use histories::{Answer, Excess, Limits, Query, Refusal, Selection};
 pub use laws::{histories_survive, memory_never_fails};
 pub use profile_records::Kind;
 pub use sources::{ReadFault, Source};

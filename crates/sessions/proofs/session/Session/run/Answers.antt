@@ -1,6 +1,7 @@
 use Rattle.std.proofs.Common.{◌≡◌, [], ◌∷◌, map, refl, sym, ap, subst, rules}
-use Rattle.histories.specs.History.{Remove}
+use Rattle.histories.specs.History.{Ask, Remove}
 use Rattle.program_files.specs.Imported.{WereRead}
+use Rattle.sessions.specs.Questions.{query_said}
 use Rattle.sessions.specs.Sessions.{AreImports, Wants, WasRun, change_said}
 use Rattle.sessions.proofs.SessionLemmas.{run_one}
 use Rattle.sessions.proofs.session.Session.run.Goals as goal
@@ -24,5 +25,5 @@ returns-in-Group-clause-done g c clean =
 
 pub returns-in-Ask-clause-done : goal.returns-in-Ask-clause-done
 returns-in-Ask-clause-done g c clean =
-    let it = c.apply.ensures.answered clean in
-    run_one g.S.Store g.W.Write.contents it.0 (Wants g.R.File.Read.remaining c.args.work) c.apply.result c.args.self.now c.apply.new.self (subst (λ work. Wants g.R.File.Read.remaining work (it.0 ∷ [])) (sym c.in-Ask.is) (ap (λ said. said ∷ []) it.1)) it.2
+    let said = Ask (query_said c.in-Ask.question) in
+    run_one g.S.Store g.W.Write.contents said (Wants g.R.File.Read.remaining c.args.work) c.ask.result c.args.self.now c.ask.new.self (subst (λ work. Wants g.R.File.Read.remaining work (said ∷ [])) (sym c.in-Ask.is) refl) (c.ask.ensures.answered clean)

@@ -1,0 +1,20 @@
+-- Questions of a command line, in the words of a history.
+use Rattle.command_line.specs.declared.plans.Selected.{Selected}
+use Rattle.command_line.specs.declared.plans.Selected.TheVariants as selected
+use Rattle.histories.specs.declared.answers.Query.{Query}
+use Rattle.histories.specs.declared.answers.Query.TheVariants as queries
+use Rattle.histories.specs.declared.answers.Selection.{Selection}
+use Rattle.histories.specs.declared.answers.Selection.TheVariants as selections
+use Rattle.sessions.specs.declared.questions.Question.{Question}
+use Rattle.sessions.specs.declared.questions.Question.TheVariants as questions
+
+abbrev pub selection_said : Selected → Selection
+selection_said selected.All = selections.All
+selection_said (selected.Run n) = selections.Run n
+selection_said (selected.Group name) = selections.Group name.now
+
+abbrev pub query_said : Question → Query
+query_said questions.Runs = queries.Runs
+query_said questions.Groups = queries.Groups
+query_said (questions.By selected key event cut) = queries.By (selection_said selected) key event.now cut
+query_said (questions.Verify selected) = queries.Verify (selection_said selected)

@@ -1,0 +1,75 @@
+-- The lines of runs that are checked are those of the files of a selection.
+use Rattle.std.proofs.Common.{◌≡◌, ℕ, suc, ◌+◌, ◌<◌, List, [], ◌∷◌, ◌++◌, map, flat_map, length, get_or, take, Result, Ok, Err, append_assoc, append-nil, refl, sym, ap, ap₂, subst, ◌∙◌}
+use Rattle.std.specs.List.{AllByRecursion}
+use Rattle.std.proofs.lemmas.List.{take_more}
+use Rattle.sqlite_rules.specs.Lists.{Has}
+use Rattle.cost_reports.specs.Verifying.{verified, verify_text}
+use Rattle.prof_books.specs.Book.{run_held}
+use Rattle.prof_tables.specs.Tables.{Tables, EventLine}
+use Rattle.held_runs.specs.OwnSums.{AreOwnSums, IsByPlace, events_of_run}
+use Rattle.held_runs.proofs.OwnSumLists.{own_sums_by_place}
+use Rattle.histories.specs.Files.{events_of}
+use Rattle.histories.specs.History.{History, File, held}
+use Rattle.histories.specs.Legal.{ask_due, first_or}
+use Rattle.histories.specs.Reports.{file_verified, own_columns, own_columns_from, verified_text}
+use Rattle.histories.specs.Selections.{numbers_of, selected}
+use Rattle.histories.specs.Stands.{TablesTell, event_lines_from}
+use Rattle.histories.specs.declared.answers.Answer.TheVariants.{Text, Refused}
+use Rattle.histories.specs.declared.answers.Query.TheVariants.{Verify}
+use Rattle.histories.specs.declared.answers.Refusal.{Refusal}
+use Rattle.histories.specs.declared.answers.Selection.{Selection}
+use Rattle.store_reports.specs.Checked.{IsChecked, IsRunChecked, AreChecked}
+use Rattle.store_reports.specs.Selected.{AreSelected}
+use Rattle.store_reports.proofs.HeadLemmas.{held_head_told, line_of, verified_told}
+use Rattle.store_reports.proofs.ReportLemmas.{selected_held}
+
+-- ---- one after another
+
+checked_more : (t : Tables) (numbers : List ℕ) (number : ℕ) (text lines : List ℕ) → AreChecked t numbers text → IsRunChecked t number lines → AreChecked t (numbers ++ number ∷ []) (text ++ lines)
+checked_more t [] number text lines all one = (lines, [], one, refl, ap (λ x. x ++ lines) all ∙ sym (append-nil lines))
+checked_more t (n ∷ numbers) number text lines all one =
+    let first = all.0 in
+    let more = all.1 in
+    (first, more ++ lines, all.2, checked_more t numbers number more lines all.3 one, ap (λ x. x ++ lines) all.4 ∙ append_assoc first more lines)
+
+pub checked_so_far : (t : Tables) (numbers : List ℕ) (at : ℕ) (text more : List ℕ) → at < length numbers → AreChecked t (take at numbers) text → IsChecked t (get_or numbers at 0) text more → AreChecked t (take (at + 1) numbers) more
+checked_so_far t numbers at text more low all one =
+    subst (λ ns. AreChecked t ns more) (sym (take_more numbers at 0 low))
+    (subst (AreChecked t (take at numbers ++ get_or numbers at 0 ∷ [])) (sym one.2) (checked_more t (take at numbers) (get_or numbers at 0) text one.0 all one.1))
+
+-- ---- of one file
+
+lines_by_place : (f : File) (place : ℕ) (events : List (List ℕ)) → IsByPlace place (event_lines_from f place events)
+lines_by_place f place [] = tt
+lines_by_place f place (event ∷ events) = (refl, lines_by_place f (suc place) events)
+
+lines_own : (f : File) (place : ℕ) (events : List (List ℕ)) → map (λ (e : EventLine). e.self_cost) (event_lines_from f place events) ≡ own_columns_from f place events
+lines_own f place [] = refl
+lines_own f place (event ∷ events) = ap (λ l. _ ∷ l) (lines_own f (suc place) events)
+
+own_told : (h : History) (t : Tables) (f : File) (sums : List ℕ) → TablesTell h t → Has (held h) f → AreOwnSums (events_of_run f.number t) sums → sums ≡ own_columns f
+own_told h t f sums tell there are =
+    let run = line_of t t.runs (held h) f tell.runs there in
+    let events = events_of f.kind f.bytes in
+    let lines : events_of_run f.number t ≡ event_lines_from f 0 events = ap (λ n. events_of_run n t) (sym run.1.number) ∙ run.1.events in
+    own_sums_by_place (event_lines_from f 0 events) sums (lines_by_place f 0 events) (subst (λ l. AreOwnSums l sums) lines are) ∙ lines_own f 0 events
+
+run_told : (h : History) (t : Tables) (f : File) (lines : List ℕ) → TablesTell h t → Has (held h) f → IsRunChecked t f.number lines → lines ≡ file_verified f
+run_told h t f lines tell there run =
+    run.lines_are ∙ ap verify_text (verified_told f run.head f.number run.sums (held_head_told h t f run.head tell there run.head_is))
+    ∙ ap (λ sums. verify_text (verified f.number (events_of f.kind f.bytes) sums _)) (own_told h t f run.sums tell there run.sums_are)
+
+-- ---- of a selection
+
+runs_told : (h : History) (t : Tables) (files : List File) (text : List ℕ) → TablesTell h t → AllByRecursion (Has (held h)) files → AreChecked t (numbers_of files) text → text ≡ verified_text files
+runs_told h t [] text tell all checked = checked
+runs_told h t (f ∷ files) text tell all checked =
+    checked.4 ∙ ap₂ ◌++◌ (run_told h t f checked.0 tell all.0 checked.2) (runs_told h t files checked.1 tell all.1 checked.3)
+
+pub verify_is_due : (h : History) (t : Tables) (s : Selection) (numbers : List ℕ) (text : List ℕ) → TablesTell h t → AreSelected h s (Ok numbers) → AreChecked t numbers text → Text text ≡ ask_due h (Verify s)
+verify_is_due h t s numbers text tell found checked =
+    ap Text (runs_told h t (selected h s) text tell (selected_held h s) (subst (λ ns. AreChecked t ns text) found.1 checked))
+    ∙ ap (λ missing. first_or (missing ∷ []) (Text (verified_text (selected h s)))) (sym found.0)
+
+pub verify_is_refused : (h : History) (s : Selection) (refusal : Refusal) → AreSelected h s (Err refusal) → Refused refusal ≡ ask_due h (Verify s)
+verify_is_refused h s refusal found = ap (λ missing. first_or (missing ∷ []) (Text (verified_text (selected h s)))) (sym found)

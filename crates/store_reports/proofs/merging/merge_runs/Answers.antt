@@ -1,0 +1,22 @@
+use Rattle.std.proofs.Common.{◌≡◌, ◌<◌, [], length, get_or, take, sym, ap, subst, ◌∙◌, arith, rules}
+use Rattle.sql_tables.proofs.Calls.{asked_rests_yet}
+use Rattle.prof_tables.specs.Schema.{schema_one}
+use Rattle.prof_tables.specs.Tables.{Holds}
+use Rattle.held_runs.proofs.Asking.{asked_open_then}
+use Rattle.store_reports.proofs.MergeLemmas.{run_merged}
+use Rattle.store_reports.proofs.merging.merge_runs.Goals as goal
+
+pub loop-run-preserved : goal.loop-run-preserved
+loop-run-preserved g c =
+    let i = c.loop-run.invariant in
+    let runs = c.args.runs.now in
+    let at = c.loop-run.run-index in
+    let low : at < length runs = omega arith in
+    let one = c.in_ok-add_run.ensures in
+    record {
+      asked = λ clean. let asks = one.asks clean in asked_open_then schema_one true _ _ _ (i.asked asks.stays.was_clean) asks;
+      told = λ clean t stands named.
+          let early = (one.asks clean).stays.was_clean in
+          let mid = asked_rests_yet schema_one (Holds t) _ _ (i.asked early) stands in
+          one.told clean t mid named ∙ run_merged t (record { key = c.args.key; sums = [] }) runs at _ _ low (i.told early t stands named);
+    }

@@ -1,0 +1,24 @@
+-- The sums of runs beside the totals that their files state.
+use Rattle.std.specs.Prelude.{◌≡◌, ℕ, List, [], ◌∷◌, ◌++◌}
+use Rattle.cg_formulas.specs.declared.heads.FileHead.{FileHead}
+use Rattle.cost_reports.specs.Verifying.{verified, verify_text}
+use Rattle.prof_tables.specs.Tables.{Tables}
+use Rattle.held_runs.specs.HeldHeads.{IsHeadIn}
+use Rattle.held_runs.specs.OwnSums.{AreOwnSums, events_of_run}
+
+-- the lines of a run: by its head, and the own sums of its events
+pub record IsRunChecked (t : Tables) (number : ℕ) (lines : List ℕ) : Type 0 where
+  pub head : FileHead
+  pub head_is : IsHeadIn number t head
+  pub sums : List ℕ
+  pub sums_are : AreOwnSums (events_of_run number t) sums
+  pub lines_are : lines ≡ verify_text (verified number head.events sums head.stated)
+
+-- they were added to a text
+abbrev pub IsChecked : Tables → ℕ → List ℕ → List ℕ → Type 0
+IsChecked t number old new = (lines : List ℕ) × IsRunChecked t number lines × (new ≡ old ++ lines)
+
+-- the lines of runs, in turn
+abbrev pub AreChecked : Tables → List ℕ → List ℕ → Type 0
+AreChecked t [] text = text ≡ []
+AreChecked t (number ∷ numbers) text = (lines : List ℕ) × (more : List ℕ) × IsRunChecked t number lines × AreChecked t numbers more × (text ≡ lines ++ more)

@@ -1,0 +1,67 @@
+// The answers to questions of what files state.
+ghost use Rattle.std.specs.Prelude.{◌≡◌, ◌++◌, flat_map, OnOk};
+ghost use Rattle.std.specs.Result.{is_ok};
+ghost use Rattle.prof_store.specs.Shown.{Asks, Told};
+ghost use Rattle.held_runs.specs.Walks.{AsksIfOpen};
+ghost use Rattle.histories.specs.declared.answers.Query.TheVariants.{Verify};
+ghost use Rattle.store_histories.specs.Answered.{Asks as AnswersAsked};
+ghost use Rattle.store_reports.specs.Checked.{IsChecked, AreChecked};
+
+use crate::selecting::select_runs;
+use cg_text::Items;
+use cost_reports::verify;
+use held_runs::{head_of, sums_of};
+use histories::{Answer, Selection};
+use prof_store::{Store, StoreEnd};
+use sqlite::Alter;
+use std::alloc::Global;
+
+/// Adds the lines of a run: the sums of its events beside the totals that its file states.
+fn check_run<S: Alter>(
+    store: &mut Store<S>,
+    alloc: Global,
+    number: u32,
+    text: &mut Vec<u8>,
+) -> Result<(), StoreEnd>
+    ensures told { Told S.Store result store.old store.new (λ t _. IsChecked t number text.old.items text.new.items) }
+    ensures asks { Asks S.Store (is_ok result) store.old store.new }
+{
+    let head = head_of(store, alloc, number)?;
+    let sums = sums_of(store, alloc, number)?;
+    let checks = verify(alloc, number, &head, sums.as_slice())?;
+    checks.push_text(text)?;
+    Ok(())
+}
+
+/// The lines of runs.
+fn check_runs<S: Alter>(
+    store: &mut Store<S>,
+    alloc: Global,
+    numbers: &[u32],
+) -> Result<Items<u8>, StoreEnd>
+    ensures told { Told S.Store result store.old store.new (λ t text. AreChecked t numbers.now text) }
+    ensures asks { AsksIfOpen S.Store (is_ok result) store.old store.new }
+{
+    let mut text = Vec::new(alloc);
+    for number in numbers {
+        check_run(store, alloc, *number, &mut text)?;
+    }
+    Ok(Items::from_vec(text))
+}
+
+/// Answers what the sums of the events are beside the totals that the files state, for the runs of
+/// a selection.
+pub fn verify_answer<S: Alter>(
+    store: &mut Store<S>,
+    alloc: Global,
+    selection: &Selection,
+) -> Result<Answer, StoreEnd>
+    ensures { AnswersAsked S.Store (Verify selection.now) result store.old store.new }
+{
+    let numbers = match select_runs(store, alloc, selection)? {
+        Ok(numbers) => numbers,
+        Err(refusal) => return Ok(Answer::Refused(refusal)),
+    };
+    let text = check_runs(store, alloc, numbers.as_slice())?;
+    Ok(Answer::Text(text))
+}

@@ -1,0 +1,65 @@
+// The sums of runs by key.
+ghost use Rattle.std.specs.Prelude.{◌≡◌, [], fold, IfOk};
+ghost use Rattle.std.specs.Result.{is_ok};
+ghost use Rattle.cost_rows.specs.KeySums.{with_row};
+ghost use Rattle.prof_store.specs.Shown.{Told};
+ghost use Rattle.held_runs.specs.Walks.{AsksIfOpen};
+ghost use Rattle.store_reports.specs.Reported.{merged_with, merged_from};
+
+use crate::counting::Counted;
+use crate::event_sums::EventSums;
+use cost_rows::{Key, Merged};
+use held_runs::{HeldNames, each_cell};
+use prof_store::{Store, StoreEnd};
+use sqlite::Alter;
+use std::alloc::Global;
+
+/// Adds the cells of a run, each as often as its column counts.
+fn add_cells<S: Alter>(
+    store: &mut Store<S>,
+    names: &HeldNames,
+    number: u32,
+    counts: &[u64],
+    merged: Merged,
+) -> Result<Merged, StoreEnd>
+    ensures told { Told S.Store result store.old store.new (λ t sums. names.now ≡ t.names → sums ≡ merged_with t number counts.now merged) }
+    ensures asks { AsksIfOpen S.Store (is_ok result) store.old store.new }
+{
+    let mut sums = EventSums { counts, merged };
+    each_cell(store, number, names, counts.len(), &mut sums)?;
+    Ok(sums.merged)
+}
+
+/// Adds a run. One without the event costs nothing.
+fn add_run<S: Alter>(
+    store: &mut Store<S>,
+    names: &HeldNames,
+    run: &Counted,
+    merged: Merged,
+) -> Result<Merged, StoreEnd>
+    ensures told { Told S.Store result store.old store.new (λ t sums. names.now ≡ t.names → sums ≡ merged_from t merged run.now) }
+    ensures asks { AsksIfOpen S.Store (is_ok result) store.old store.new }
+{
+    match &run.counts {
+        Some(counts) => add_cells(store, names, run.number, counts.as_slice(), merged),
+        None => Ok(merged),
+    }
+}
+
+/// The sums of runs by key, one run after another.
+pub(crate) fn merge_runs<S: Alter>(
+    store: &mut Store<S>,
+    alloc: Global,
+    names: &HeldNames,
+    runs: &[Counted],
+    key: Key,
+) -> Result<Merged, StoreEnd>
+    ensures told { Told S.Store result store.old store.new (λ t sums. names.now ≡ t.names → sums ≡ fold (merged_from t) (record { key = key; sums = [] }) runs.now) }
+    ensures asks { AsksIfOpen S.Store (is_ok result) store.old store.new }
+{
+    let mut merged = Merged::new(alloc, key);
+    for run in runs {
+        merged = add_run(store, names, run, merged)?;
+    }
+    Ok(merged)
+}

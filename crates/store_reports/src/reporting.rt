@@ -1,0 +1,85 @@
+// The answers to questions by key.
+ghost use Rattle.std.specs.Prelude.{◌≡◌};
+ghost use Rattle.std.specs.List.{list_any};
+ghost use Rattle.std.specs.Result.{is_ok};
+ghost use Rattle.prof_store.specs.Shown.{Told};
+ghost use Rattle.held_runs.specs.Walks.{AsksIfOpen};
+ghost use Rattle.histories.specs.declared.answers.Query.TheVariants.{By};
+ghost use Rattle.store_histories.specs.Answered.{Asks as AnswersAsked};
+ghost use Rattle.store_reports.specs.Counted.{has_counts};
+ghost use Rattle.store_reports.specs.Reported.{AnswersRuns, report_over};
+
+use crate::counting::{Counted, count_runs};
+use crate::merging::merge_runs;
+use crate::selecting::select_runs;
+use cg_text::Items;
+use cost_reports::{Cut, by};
+use cost_rows::Key;
+use held_runs::names_of;
+use histories::{Answer, Refusal, Selection};
+use prof_store::{Store, StoreEnd};
+use sqlite::Alter;
+use std::alloc::Global;
+
+/// Whether one of some runs has the event.
+fn have_event(runs: &[Counted]) -> bool
+    ensures { result ≡ list_any has_counts runs.now }
+{
+    runs.iter().any(|run| run.counts.is_some())
+}
+
+/// The text of the report over some runs.
+fn report_text<S: Alter>(
+    store: &mut Store<S>,
+    alloc: Global,
+    runs: &[Counted],
+    key: Key,
+    event: &[u8],
+    cut: Cut,
+) -> Result<Items<u8>, StoreEnd>
+    ensures told { Told S.Store result store.old store.new (λ t text. text ≡ report_over t runs.now key event.now cut) }
+    ensures asks { AsksIfOpen S.Store (is_ok result) store.old store.new }
+{
+    let names = names_of(store, alloc)?;
+    let merged = merge_runs(store, alloc, &names, runs, key)?;
+    let report = by(alloc, &merged, cut)?;
+    Ok(report.text(alloc, event)?)
+}
+
+/// The answer over the runs of some numbers.
+fn answer_runs<S: Alter>(
+    store: &mut Store<S>,
+    alloc: Global,
+    numbers: &[u32],
+    key: Key,
+    event: &[u8],
+    cut: Cut,
+) -> Result<Answer, StoreEnd>
+    ensures told { Told S.Store result store.old store.new (λ t answer. AnswersRuns t numbers.now key event.now cut answer) }
+    ensures asks { AsksIfOpen S.Store (is_ok result) store.old store.new }
+{
+    let runs = count_runs(store, alloc, numbers, event)?;
+    if !have_event(&runs) {
+        return Ok(Answer::Refused(Refusal::NoSuchEvent));
+    }
+    let text = report_text(store, alloc, &runs, key, event, cut)?;
+    Ok(Answer::Text(text))
+}
+
+/// Answers where the cost of an event went, by key, over the runs of a selection.
+pub fn by_answer<S: Alter>(
+    store: &mut Store<S>,
+    alloc: Global,
+    selection: &Selection,
+    key: Key,
+    event: &Items<u8>,
+    cut: Cut,
+) -> Result<Answer, StoreEnd>
+    ensures { AnswersAsked S.Store (By selection.now key event.now cut) result store.old store.new }
+{
+    let numbers = match select_runs(store, alloc, selection)? {
+        Ok(numbers) => numbers,
+        Err(refusal) => return Ok(Answer::Refused(refusal)),
+    };
+    answer_runs(store, alloc, numbers.as_slice(), key, event.as_slice(), cut)
+}
