@@ -10,6 +10,7 @@ use prof_store::StoreEnd;
 const TOO_MUCH: u128 = 1 << 112;
 
 /// Sums by key, and how often each column of the run that is read counts in the event.
+#[derive(Drop)]
 pub(crate) struct EventSums<'a> {
     pub counts: &'a [u64],
     pub merged: Merged,
@@ -32,7 +33,7 @@ fn times_of(counts: &[u64], column: usize) -> u64
 }
 
 impl TakesCells for EventSums<'_> {
-    ghost use Rattle.std.specs.Prelude.{List, ℕ, ◌×◌};
+    ghost use Rattle.std.specs.Prelude.{List, ℕ};
     ghost use Rattle.cost_rows.specs.KeySums.{Sums, with_row};
     ghost use Rattle.cost_reports.specs.Costs.{weighted};
 

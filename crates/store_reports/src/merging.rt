@@ -27,7 +27,8 @@ fn add_cells<S: Alter>(
 {
     let mut sums = EventSums { counts, merged };
     each_cell(store, number, names, counts.len(), &mut sums)?;
-    Ok(sums.merged)
+    let EventSums { counts: _, merged } = sums;
+    Ok(merged)
 }
 
 /// Adds a run. One without the event costs nothing.
