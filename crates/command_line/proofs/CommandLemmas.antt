@@ -1,40 +1,65 @@
 -- From what clap says of a parse to the plan of the words.
 use Rattle.std.proofs.Common.{◌≡◌, ◌≢◌, refl, inl, inr, true, List, [], Option, ap, sym, subst, ◌∙◌}
-use Rattle.clap.specs.Words.{App, HasKind, HasMatchesOf, IsAmong, Row, Text, fault_of, is_simple, is_simple_and_free, kind_of, subcommand_of, subcommand_rows_of}
+use Rattle.clap.specs.Words.{App, HasKind, HasMatchesOf, IsAmong, Kinds, Row, Text, fault_of, is_simple, is_simple_and_free, kind_of, subcommand_of, subcommand_rows_of}
+use Rattle.clap.specs.declared.builder.value_parser.ValueParser.{ValueParser}
 use Rattle.clap.specs.declared.parser.matches.ArgMatches.{ArgMatches}
 use Rattle.clap.specs.declared.error.Error.{Error}
+use Rattle.clap.specs.declared.error.kind.ErrorKind.{ErrorKind}
 use Rattle.clap.specs.declared.error.kind.ErrorKind.TheVariants.{OutOfMemory}
 use Rattle.command_line.specs.declared.plans.Plan.{Plan}
 use Rattle.command_line.specs.declared.plans.PlanEnd.{PlanEnd}
-use Rattle.command_line.specs.declared.plans.PlanEnd.TheVariants.{Memory, Clap}
-use Rattle.command_line.specs.Grammar.{command_line}
-use Rattle.command_line.specs.Plans.{IsEndBy, IsEndOf, IsPlanFor}
+use Rattle.command_line.specs.declared.plans.PlanEnd.TheVariants.{Memory, RunAndGroup, Clap}
+use Rattle.command_line.specs.Grammar.{IsCommandLine, command_line}
+use Rattle.command_line.specs.Plans.{AreBothNamed, IsEndBy, IsEndFor, IsEndFound, IsPlanFor, IsPlannedFor}
 
-command_line-simple : is_simple command_line ≡ true
-command_line-simple = refl
+-- ---- the command line is one of those of which clap's definitions say all
 
-pub plan_for : (a : App) (m : ArgMatches) (words : List Text) (plan : Plan) → a ≡ command_line → HasMatchesOf a words m → IsPlanFor (subcommand_rows_of m) plan → IsPlanFor (subcommand_of command_line words) plan
-plan_for a m words plan is matches given =
-    let simple : is_simple a ≡ true = ap is_simple is ∙ command_line-simple in
-    let P : Option (Text × List Row) → Type 0 = λ s. IsPlanFor s plan in
-    subst P ((matches simple).1 ∙ ap (λ (a : App). subcommand_of a words) is) given
+line_simple : (keys : ValueParser) → is_simple (command_line keys) ≡ true
+line_simple keys = refl
+
+line_free : (keys : ValueParser) → is_simple_and_free (command_line keys) ≡ true
+line_free keys = refl
+
+simple : (a : App) → IsCommandLine a → is_simple a ≡ true
+simple a (keys, takes, is) = ap is_simple is ∙ line_simple keys
+
+free : (a : App) → IsCommandLine a → is_simple_and_free a ≡ true
+free a (keys, takes, is) = ap is_simple_and_free is ∙ line_free keys
+
+-- ---- plans
+
+pub plan_for : (a : App) (m : ArgMatches) (words : List Text) (plan : Plan) → IsCommandLine a → HasMatchesOf a words m → (is_simple_and_free a ≡ true → fault_of a words ≡ [])
+    → IsPlannedFor (subcommand_rows_of m) plan → IsPlanFor words plan
+plan_for a m words plan line matches none given =
+    let P : Option (Text × List Row) → Type 0 = λ found. IsPlannedFor found plan in
+    record { app = a; line = line; faultless = none (free a line); planned = subst P (matches (simple a line)).1 given }
 
 -- ---- faults
 
-command_line-free : is_simple_and_free command_line ≡ true
-command_line-free = refl
+among_kept : (kinds : Kinds) (error kept : Error) → HasKind kinds error → kept ≡ error → (kind_of error ≢ OutOfMemory) → IsAmong (kind_of kept) kinds
+among_kept kinds error kept (inl memory) same other = absurd (other memory)
+among_kept kinds error kept (inr among) same other =
+    let P : Error → Type 0 = λ e. IsAmong (kind_of e) kinds in
+    subst P (sym same) among
 
-pub no_fault : (a : App) (words : List Text) → a ≡ command_line → (is_simple_and_free a ≡ true → fault_of a words ≡ []) → fault_of command_line words ≡ []
-no_fault a words is none = ap (λ (a : App). fault_of a words) (sym is) ∙ none (ap is_simple_and_free is ∙ command_line-free)
+none_among : (kind : ErrorKind) (kinds : Kinds) → IsAmong kind kinds → kinds ≡ [] → ⊥
+none_among kind kinds among none = subst (IsAmong kind) none among
 
-fault_among : (a : App) (words : List Text) (error kept : Error) → a ≡ command_line → HasKind (fault_of a words) error → kept ≡ error → (kind_of error ≢ OutOfMemory) → IsAmong (kind_of kept) (fault_of command_line words)
-fault_among a words error kept is (inl memory) same other = absurd (other memory)
-fault_among a words error kept is (inr among) same other =
-    let P : App → Type 0 = λ a. IsAmong (kind_of error) (fault_of a words) in
-    let Q : Error → Type 0 = λ e. IsAmong (kind_of e) (fault_of command_line words) in
-    subst Q (sym same) (subst P is among)
+pub fault_kept : (a : App) (words : List Text) (error : Error) (end : PlanEnd) → IsCommandLine a → (is_simple_and_free a ≡ true → HasKind (fault_of a words) error) → IsEndBy error end
+    → IsEndFor words end
+fault_kept a words error Memory line kinds by = tt
+fault_kept a words error RunAndGroup line kinds by = absurd by
+fault_kept a words error (Clap kept) line kinds (same, other) =
+    let among = among_kept (fault_of a words) error kept (kinds (free a line)) same other in
+    (a, line, (λ some. among), (λ none both. none_among (kind_of kept) (fault_of a words) among none))
 
-pub fault_kept : (a : App) (words : List Text) (error : Error) (end : PlanEnd) → a ≡ command_line → (is_simple_and_free a ≡ true → HasKind (fault_of a words) error) → IsEndBy error end
-    → IsEndOf (fault_of command_line words) end
-fault_kept a words error Memory is kinds by = tt
-fault_kept a words error (Clap kept) is kinds (same, other) = λ some. fault_among a words error kept is (kinds (ap is_simple_and_free is ∙ command_line-free)) same other
+pub both_named : (a : App) (m : ArgMatches) (words : List Text) (end : PlanEnd) → IsCommandLine a → HasMatchesOf a words m → (is_simple_and_free a ≡ true → fault_of a words ≡ [])
+    → IsEndFound (subcommand_rows_of m) end → IsEndFor words end
+both_named a m words Memory line matches none found = tt
+both_named a m words RunAndGroup line matches none found = (a, line, none (free a line), subst AreBothNamed (matches (simple a line)).1 found)
+both_named a m words (Clap error) line matches none found = absurd found
+
+pub no_plan : (a : App) (m : ArgMatches) (words : List Text) (error : Error) → IsCommandLine a → HasMatchesOf a words m → (is_simple_and_free a ≡ true → fault_of a words ≡ [])
+    → (AreBothNamed (subcommand_rows_of m) → ⊥) → IsEndFor words (Clap error)
+no_plan a m words error line matches none one =
+    (a, line, (λ some. absurd (some (none (free a line)))), (λ _ both. one (subst AreBothNamed (sym (matches (simple a line)).1) both)))

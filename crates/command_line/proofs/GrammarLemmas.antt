@@ -1,8 +1,12 @@
 -- From one more subcommand of a command to what the whole command says.
-use Rattle.std.proofs.Common.{◌≡◌, IfOk, IsOkAnd, Result, Ok, Err, ap, ◌∙◌}
+use Rattle.std.proofs.Common.{◌≡◌, List, map, IfOk, IsOkAnd, Result, Ok, Err, ap, ◌∙◌}
+use Rattle.std.specs.Borrow.{Bor}
 use Rattle.std.specs.declared.alloc.AllocError.{AllocError}
-use Rattle.clap.specs.Words.{App, app_of, with_subcommand}
+use Rattle.clap.specs.Words.{App, Text, app_of, with_subcommand}
 use Rattle.clap.specs.declared.builder.command.Command.{Command}
+use Rattle.clap.specs.declared.builder.value_parser.ValueParser.{ValueParser}
+use Rattle.clap.specs.declared.builder.value_parser.ValueParser.TheVariants.{Names}
+use Rattle.command_line.specs.Grammar.{IsCommandLine, command_line, key_words, with_reports}
 
 -- a command that got one more has got the one that was made
 pub has_got : (made : Result Command AllocError) (all before more : App) → IsOkAnd made (λ one. all ≡ with_subcommand before (app_of one).top) → IfOk made (λ one. app_of one ≡ more)
@@ -15,3 +19,15 @@ pub got_last : (result made : Result Command AllocError) (before known more : Ap
     → IfOk made (λ one. app_of one ≡ more) → IfOk result (λ all. app_of all ≡ with_subcommand known more.top)
 got_last (Ok all) made before known more got same is = has_got made (app_of all) before more got is ∙ ap (λ (a : App). with_subcommand a more.top) same
 got_last (Err end) made before known more got same is = tt
+
+-- ---- the whole command line
+
+pub reports_last : (result : Result Command AllocError) (keys : ValueParser) (before known : App) → before ≡ known → IfOk result (λ all. app_of all ≡ with_reports keys before)
+    → IfOk result (λ all. app_of all ≡ with_reports keys known)
+reports_last (Ok all) keys before known same is = is ∙ ap (λ (a : App). with_reports keys a) same
+reports_last (Err end) keys before known same is = tt
+
+pub line_made : (result : Result Command AllocError) (words : Bor (List (Bor Text))) → map (λ word. word.now) words.now ≡ key_words → IfOk result (λ all. app_of all ≡ command_line (Names words))
+    → IfOk result (λ all. IsCommandLine (app_of all))
+line_made (Ok all) words are is = (Names words, are, is)
+line_made (Err end) words are is = tt

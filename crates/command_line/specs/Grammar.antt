@@ -1,18 +1,23 @@
 -- The command line that the program reads, as clap's definitions see it.
-use Rattle.std.specs.Prelude.{true, pos, Some, codes}
+use Rattle.std.specs.Prelude.{◌≡◌, true, pos, List, [], ◌∷◌, map, Some, codes}
 use Rattle.clap.specs.Lexer.{usize_max}
 use Rattle.clap.specs.Words.{App, Rule, Text, new_app, new_rule, with_rule, with_subcommand}
 use Rattle.clap.specs.Simple.{on_top}
 use Rattle.clap.specs.declared.builder.action.ArgAction.TheVariants.{SetTrue}
-use Rattle.clap.specs.declared.builder.value_parser.ValueParser.TheVariants.{Signed}
+use Rattle.clap.specs.declared.builder.value_parser.ValueParser.{ValueParser}
+use Rattle.clap.specs.declared.builder.value_parser.ValueParser.TheVariants.{Signed, Names}
 
 -- ---- arguments
 
 abbrev pub operand : Text → Rule
 operand id = record (new_rule id) { required = true }
 
+-- an option with a value
+abbrev pub option : Text → Rule
+option id = record (new_rule id) { long = Some id; value_names = 1 }
+
 abbrev pub database : Rule
-database = record (operand (codes "db")) { long = Some (codes "db"); value_names = 1 }
+database = record (option (codes "db")) { required = true }
 
 abbrev pub flag : Text → Rule
 flag id = record (new_rule id) { long = Some id; action = Some SetTrue }
@@ -21,8 +26,31 @@ flag id = record (new_rule id) { long = Some id; action = Some SetTrue }
 abbrev pub several : Rule → Rule
 several r = record r { range = Some (record { start_inclusive = 1; end_inclusive = usize_max }) }
 
+abbrev pub run_numbers : ValueParser
+run_numbers = Signed (pos 1) (pos 2147483647)
+
 abbrev pub run_number : Rule
-run_number = record (operand (codes "N")) { parser = Some (Signed (pos 1) (pos 2147483647)) }
+run_number = record (operand (codes "N")) { parser = Some run_numbers }
+
+abbrev pub run_option : Rule
+run_option = record (option (codes "run")) { parser = Some run_numbers }
+
+abbrev pub group_option : Rule
+group_option = option (codes "group")
+
+abbrev pub event : Rule
+event = record (option (codes "event")) { required = true }
+
+abbrev pub limit : Rule
+limit = record (option (codes "limit")) { parser = Some (Signed (pos 0) (pos 4294967295)) }
+
+-- 100 where it is not given
+abbrev pub threshold : Rule
+threshold = record (option (codes "threshold")) { parser = Some (Signed (pos 0) (pos 100)); defaults = codes "100" ∷ [] }
+
+-- one of the words that a parser takes
+abbrev pub key : ValueParser → Rule
+key keys = record (operand (codes "KEY")) { parser = Some keys }
 
 -- ---- subcommands
 
@@ -31,6 +59,9 @@ over_database name = with_rule (new_app name) database
 
 abbrev pub over_group_and_run : Text → App
 over_group_and_run name = with_rule (with_rule (over_database name) (operand (codes "NAME"))) run_number
+
+abbrev pub over_selection : Text → App
+over_selection name = with_rule (with_rule (over_database name) run_option) group_option
 
 abbrev pub total : App
 total = with_rule (new_app (codes "total")) (operand (codes "FILE"))
@@ -44,13 +75,16 @@ remove = with_rule (over_database (codes "remove")) (several run_number)
 abbrev pub group : App
 group = with_rule (with_rule (over_database (codes "group")) (flag (codes "drop"))) (operand (codes "NAME"))
 
+abbrev pub by : ValueParser → App
+by keys = with_rule (with_rule (with_rule (with_rule (over_selection (codes "by")) event) limit) threshold) (key keys)
+
+abbrev pub verify : App
+verify = over_selection (codes "verify")
+
 -- ---- the program
 
-abbrev pub wants_subcommand : App → App
-wants_subcommand = on_top (λ s. record s { subcommand_required = true })
-
 abbrev pub program : App
-program = wants_subcommand (new_app (codes "profhouse"))
+program = on_top (λ s. record s { has_version = true; subcommand_required = true }) (new_app (codes "profhouse"))
 
 abbrev pub with_files : App → App
 with_files a = with_subcommand (with_subcommand (with_subcommand a total.top) import.top) remove.top
@@ -63,5 +97,22 @@ with_members a =
     with_subcommand (with_subcommand (with_subcommand a (over_group_and_run (codes "join")).top) (over_group_and_run (codes "leave")).top)
     (over_group_and_run (codes "baseline")).top
 
-abbrev pub command_line : App
-command_line = with_members (with_lists (with_files program))
+abbrev pub with_reports : ValueParser → App → App
+with_reports keys a = with_subcommand (with_subcommand a (by keys).top) verify.top
+
+abbrev pub command_line : ValueParser → App
+command_line keys = with_reports keys (with_members (with_lists (with_files program)))
+
+-- ---- the words of keys
+
+abbrev pub key_words : List Text
+key_words = codes "object" ∷ codes "file" ∷ codes "function" ∷ codes "line" ∷ []
+
+-- the parser takes the words of keys; where these lie in memory is left open
+abbrev pub TakesKeys : ValueParser → Type 0
+TakesKeys (Names words) = map (λ word. word.now) words.now ≡ key_words
+TakesKeys parser = ⊥
+
+-- this is the command line
+abbrev pub IsCommandLine : App → Type 0
+IsCommandLine a = (keys : ValueParser) × TakesKeys keys × (a ≡ command_line keys)

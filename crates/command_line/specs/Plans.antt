@@ -1,18 +1,25 @@
 -- What a plan has of the words of a command line.
-use Rattle.std.specs.Prelude.{◌≡◌, ◌≢◌, ◌≤◌, ℕ, Bool, true, false, List, [], map, Option, Some, None, option_map, codes}
+use Rattle.std.specs.Prelude.{◌≡◌, ◌≢◌, ◌≤◌, ℕ, Bool, true, false, List, [], map, Option, Some, None, IsSome, option_map, codes}
 use Rattle.std.specs.List.{All}
 use Rattle.std.specs.Str.Parse.{IsNumeral, digits_value, without_leading_plus}
+use Rattle.clap.specs.Faults.{fault_of}
 use Rattle.clap.specs.Kinds.{IsAmong, Kinds}
+use Rattle.clap.specs.Simple.{App, subcommand_of}
 use Rattle.clap.specs.Values.{kind_of}
 use Rattle.clap.specs.Walk.{Row, Text, all_of, first_of, one_of}
 use Rattle.clap.specs.declared.error.Error.{Error}
 use Rattle.clap.specs.declared.error.kind.ErrorKind.TheVariants.{OutOfMemory}
+use Rattle.cost_rows.specs.declared.keys.Key.{Key}
+use Rattle.cost_rows.specs.declared.keys.Key.TheVariants.{Object, File, Function, Line}
 use Rattle.profile_records.specs.declared.kinds.Kind.{Kind}
 use Rattle.profile_records.specs.declared.kinds.Kind.TheVariants.{Callgrind, Folded}
 use Rattle.command_line.specs.declared.plans.Plan.{Plan}
 use Rattle.command_line.specs.declared.plans.PlanEnd.{PlanEnd}
-use Rattle.command_line.specs.declared.plans.PlanEnd.TheVariants.{Memory, Clap}
-use Rattle.command_line.specs.declared.plans.Plan.TheVariants.{Total, Import, Remove, Runs, Group, Join, Leave, Baseline, Groups}
+use Rattle.command_line.specs.declared.plans.PlanEnd.TheVariants.{Memory, RunAndGroup, Clap}
+use Rattle.command_line.specs.declared.plans.Plan.TheVariants.{Total, Import, Remove, Runs, Group, Join, Leave, Baseline, Groups, By, Verify}
+use Rattle.command_line.specs.declared.plans.Selected.{Selected}
+use Rattle.command_line.specs.declared.plans.Selected.TheVariants as selected
+use Rattle.command_line.specs.Grammar.{IsCommandLine}
 
 -- ---- the numbers of runs
 
@@ -29,13 +36,20 @@ SaysRun text = IsNumeral 10 (without_leading_plus text) × IsRunNumber (number_o
 
 -- ---- what is sure of a plan
 
--- numbers of runs are in their range, and where a list is wanted it has one item at least
+abbrev pub IsSoundSelection : Selected → Type 0
+IsSoundSelection selected.All = Unit {0}
+IsSoundSelection (selected.Run number) = IsRunNumber number
+IsSoundSelection (selected.Group name) = Unit {0}
+
+-- numbers of runs are in their range, where a list is wanted it has one item at least, and a threshold is one in percent
 abbrev pub IsSound : Plan → Type 0
 IsSound (Import db kind files) = files ≢ []
 IsSound (Remove db numbers) = (numbers ≢ []) × All IsRunNumber numbers
 IsSound (Join db name number) = IsRunNumber number
 IsSound (Leave db name number) = IsRunNumber number
 IsSound (Baseline db name number) = IsRunNumber number
+IsSound (By db runs event limit threshold key) = IsSoundSelection runs × (threshold ≤ 100)
+IsSound (Verify db runs) = IsSoundSelection runs
 IsSound plan = Unit {0}
 
 -- ---- where a plan has its parts from
@@ -56,6 +70,23 @@ HasWord rows id word = first_of id rows ≡ Some word
 -- the number that the word of an argument says
 abbrev pub HasRun : List Row → ℕ → Type 0
 HasRun rows number = option_map number_of (first_of (codes "N") rows) ≡ Some number
+
+-- the number of an option, where it has one
+abbrev pub HasNumber : List Row → Text → Option ℕ → Type 0
+HasNumber rows id number = option_map number_of (one_of id rows) ≡ number
+
+-- the runs that are selected: those of a group, one run, or all where neither is named
+abbrev pub HasSelection : List Row → Selected → Type 0
+HasSelection rows selected.All = (first_of (codes "run") rows ≡ None) × (first_of (codes "group") rows ≡ None)
+HasSelection rows (selected.Run number) = (option_map number_of (first_of (codes "run") rows) ≡ Some number) × (first_of (codes "group") rows ≡ None)
+HasSelection rows (selected.Group name) = (first_of (codes "run") rows ≡ None) × HasWord rows (codes "group") name.now
+
+-- the word of a key
+abbrev pub key_word : Key → Text
+key_word Object = codes "object"
+key_word File = codes "file"
+key_word Function = codes "function"
+key_word Line = codes "line"
 
 -- the numbers that the words of an argument say
 abbrev pub HaveRuns : List Row → List ℕ → Type 0
@@ -81,19 +112,58 @@ IsPlanOf name rows (Leave db group number) =
 IsPlanOf name rows (Baseline db group number) =
     (name ≡ codes "baseline") × HasWord rows (codes "db") db.now × HasWord rows (codes "NAME") group.now × HasRun rows number
 IsPlanOf name rows (Groups db) = (name ≡ codes "groups") × HasWord rows (codes "db") db.now
+IsPlanOf name rows (By db runs event limit threshold key) =
+    (name ≡ codes "by") × HasWord rows (codes "db") db.now × HasSelection rows runs × HasWord rows (codes "event") event.now
+    × HasNumber rows (codes "limit") limit × HasNumber rows (codes "threshold") (Some threshold) × HasWord rows (codes "KEY") (key_word key)
+IsPlanOf name rows (Verify db runs) = (name ≡ codes "verify") × HasWord rows (codes "db") db.now × HasSelection rows runs
 
-abbrev pub IsPlanFor : Option (Text × List Row) → Plan → Type 0
-IsPlanFor None plan = ⊥
-IsPlanFor (Some found) plan = IsPlanOf found.0 found.1 plan
+-- what is said of a plan for a subcommand
+pub record IsPlanned (name : Text) (rows : List Row) (plan : Plan) : Type 0 where
+  pub sound : IsSound plan
+  pub of : IsPlanOf name rows plan
+
+-- the same, where there is a subcommand
+abbrev pub IsPlannedFor : Option (Text × List Row) → Plan → Type 0
+IsPlannedFor None plan = ⊥
+IsPlannedFor (Some found) plan = IsPlanned found.0 found.1 plan
+
+-- the plan for the words of a command line, in which its grammar finds no fault
+pub record IsPlanFor (words : List Text) (plan : Plan) : Type 0 where
+  pub app : App
+  pub line : IsCommandLine app
+  pub faultless : fault_of app words ≡ []
+  pub planned : IsPlannedFor (subcommand_of app words) plan
 
 -- ---- why there is no plan
+
+-- a run and a group were both named
+abbrev pub NamesBoth : List Row → Type 0
+NamesBoth rows = IsSome (first_of (codes "run") rows) × IsSome (first_of (codes "group") rows)
+
+abbrev pub AreBothNamed : Option (Text × List Row) → Type 0
+AreBothNamed None = ⊥
+AreBothNamed (Some found) = NamesBoth found.1
+
+-- why nothing is planned for what was found of a subcommand
+abbrev pub IsEndFound : Option (Text × List Row) → PlanEnd → Type 0
+IsEndFound found Memory = Unit {0}
+IsEndFound found RunAndGroup = AreBothNamed found
+IsEndFound found (Clap error) = ⊥
 
 -- what a clap error is to the program
 abbrev pub IsEndBy : Error → PlanEnd → Type 0
 IsEndBy error Memory = kind_of error ≡ OutOfMemory
+IsEndBy error RunAndGroup = ⊥
 IsEndBy error (Clap kept) = (kept ≡ error) × (kind_of error ≢ OutOfMemory)
 
--- a fault of words that have these kinds of faults is one of them, and want of memory may come at any time
-abbrev pub IsEndOf : Kinds → PlanEnd → Type 0
-IsEndOf kinds Memory = Unit {0}
-IsEndOf kinds (Clap error) = kinds ≢ [] → IsAmong (kind_of error) kinds
+-- by the kinds of faults that words have, and what is found of their subcommand: a fault of the grammar is one of them, and comes
+-- first; then a run and a group exclude each other; want of memory may come at any time
+abbrev pub IsEndOf : Kinds → Option (Text × List Row) → PlanEnd → Type 0
+IsEndOf kinds found Memory = Unit {0}
+IsEndOf kinds found RunAndGroup = (kinds ≡ []) × AreBothNamed found
+IsEndOf kinds found (Clap error) = (kinds ≢ [] → IsAmong (kind_of error) kinds) × (kinds ≡ [] → AreBothNamed found → ⊥)
+
+-- why there is no plan for the words of a command line
+abbrev pub IsEndFor : List Text → PlanEnd → Type 0
+IsEndFor words Memory = Unit {0}
+IsEndFor words end = (app : App) × IsCommandLine app × IsEndOf (fault_of app words) (subcommand_of app words) end

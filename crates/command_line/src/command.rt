@@ -1,27 +1,27 @@
 // From the words of a command line to a plan.
-ghost use Rattle.std.specs.Prelude.{◌≡◌, false, [], codes, map, string_bytes, IfOk, IfErr, IfSome};
-ghost use Rattle.clap.specs.Words.{app_of, fault_of, found_of, rows_of, subcommand_of, subcommand_rows_of};
+ghost use Rattle.std.specs.Prelude.{◌≡◌, false, codes, map, string_bytes, IfOk, IfErr, IfSome};
+ghost use Rattle.clap.specs.Words.{app_of, found_of, rows_of, subcommand_rows_of};
 ghost use Rattle.clap.specs.declared.builder.command.Command.TheViews.{out-Command as fields_of};
-ghost use Rattle.command_line.specs.Grammar.{command_line};
-ghost use Rattle.command_line.specs.Plans.{HasWord, HasRun, IsRunNumber, IsSound, IsPlanOf, IsPlanFor, IsEndOf};
+ghost use Rattle.command_line.specs.Grammar.{IsCommandLine};
+ghost use Rattle.command_line.specs.Plans.{HasWord, HasRun, IsRunNumber, IsPlanned, IsPlannedFor, IsPlanFor};
+ghost use Rattle.command_line.specs.Plans.{AreBothNamed, IsEndFound, IsEndFor};
 
 use crate::grammar::grammar;
 use crate::plans::{Plan, PlanEnd};
-use crate::words::{files, is_given, run, runs, word};
+use crate::words::{files, is_given, key, limit, run, run_and_group, runs, selected, threshold, word};
 use clap::error::ErrorKind;
 use clap::{ArgMatches, Command};
 use profile_records::Kind;
 use std::alloc::{AllocError, Global};
 
-/// Files to be taken in.
+/// Files to be imported.
 fn import<'a>(
     alloc: Global,
     db: &'a str,
     words: &ArgMatches<'a>,
 ) -> Result<Option<Plan<'a>>, AllocError>
     requires { HasWord (rows_of (found_of words.now)) (codes "db") db.now }
-    ensures sound { IfOk result (λ found. IfSome found IsSound) }
-    ensures plan { IfOk result (λ found. IfSome found (IsPlanOf (codes "import") (rows_of (found_of words.now)))) }
+    ensures { IfOk result (λ found. IfSome found (IsPlanned (codes "import") (rows_of (found_of words.now)))) }
 {
     let Some(files) = files(alloc, words)? else {
         return Ok(None);
@@ -41,8 +41,7 @@ fn remove<'a>(
     words: &ArgMatches<'a>,
 ) -> Result<Option<Plan<'a>>, AllocError>
     requires { HasWord (rows_of (found_of words.now)) (codes "db") db.now }
-    ensures sound { IfOk result (λ found. IfSome found IsSound) }
-    ensures plan { IfOk result (λ found. IfSome found (IsPlanOf (codes "remove") (rows_of (found_of words.now)))) }
+    ensures { IfOk result (λ found. IfSome found (IsPlanned (codes "remove") (rows_of (found_of words.now)))) }
 {
     match runs(alloc, words)? {
         Some(numbers) => Ok(Some(Plan::Remove { db, numbers })),
@@ -53,8 +52,7 @@ fn remove<'a>(
 /// A group to be made or dropped.
 fn group<'a>(db: &'a str, words: &ArgMatches<'a>) -> Option<Plan<'a>>
     requires { HasWord (rows_of (found_of words.now)) (codes "db") db.now }
-    ensures sound { IfSome result IsSound }
-    ensures plan { IfSome result (IsPlanOf (codes "group") (rows_of (found_of words.now))) }
+    ensures { IfSome result (IsPlanned (codes "group") (rows_of (found_of words.now))) }
 {
     let name = word(words, "NAME")?;
     let drop = is_given(words, "drop");
@@ -75,8 +73,7 @@ fn group_and_run<'a>(words: &ArgMatches<'a>) -> Option<(&'a str, u32)>
 /// What a run and a group are to each other from now on.
 fn member<'a>(subcommand: &str, db: &'a str, words: &ArgMatches<'a>) -> Option<Plan<'a>>
     requires { HasWord (rows_of (found_of words.now)) (codes "db") db.now }
-    ensures sound { IfSome result IsSound }
-    ensures plan { IfSome result (IsPlanOf subcommand.now (rows_of (found_of words.now))) }
+    ensures { IfSome result (IsPlanned subcommand.now (rows_of (found_of words.now))) }
 {
     let (name, number) = group_and_run(words)?;
     match subcommand {
@@ -87,14 +84,52 @@ fn member<'a>(subcommand: &str, db: &'a str, words: &ArgMatches<'a>) -> Option<P
     }
 }
 
+/// A report by a key.
+fn by<'a>(db: &'a str, words: &ArgMatches<'a>) -> Option<Plan<'a>>
+    requires { HasWord (rows_of (found_of words.now)) (codes "db") db.now }
+    ensures { IfSome result (IsPlanned (codes "by") (rows_of (found_of words.now))) }
+{
+    Some(Plan::By {
+        db,
+        selected: selected(words)?,
+        event: word(words, "event")?,
+        limit: limit(words)?,
+        threshold: threshold(words)?,
+        key: key(words)?,
+    })
+}
+
+/// A comparison with the totals that files state.
+fn verify<'a>(db: &'a str, words: &ArgMatches<'a>) -> Option<Plan<'a>>
+    requires { HasWord (rows_of (found_of words.now)) (codes "db") db.now }
+    ensures { IfSome result (IsPlanned (codes "verify") (rows_of (found_of words.now))) }
+{
+    let selected = selected(words)?;
+    Some(Plan::Verify { db, selected })
+}
+
+/// The plan for a subcommand that wants the database and has no list.
+fn without_list<'a>(name: &str, db: &'a str, words: &ArgMatches<'a>) -> Option<Plan<'a>>
+    requires { HasWord (rows_of (found_of words.now)) (codes "db") db.now }
+    ensures { IfSome result (IsPlanned name.now (rows_of (found_of words.now))) }
+{
+    match name {
+        "runs" => Some(Plan::Runs { db }),
+        "group" => group(db, words),
+        "groups" => Some(Plan::Groups { db }),
+        "by" => by(db, words),
+        "verify" => verify(db, words),
+        _ => member(name, db, words),
+    }
+}
+
 /// The plan for a subcommand that wants the database.
 fn over_database<'a>(
     alloc: Global,
     name: &str,
     words: &ArgMatches<'a>,
 ) -> Result<Option<Plan<'a>>, AllocError>
-    ensures sound { IfOk result (λ found. IfSome found IsSound) }
-    ensures plan { IfOk result (λ found. IfSome found (IsPlanOf name.now (rows_of (found_of words.now)))) }
+    ensures { IfOk result (λ found. IfSome found (IsPlanned name.now (rows_of (found_of words.now)))) }
 {
     let Some(db) = word(words, "db") else {
         return Ok(None);
@@ -102,10 +137,7 @@ fn over_database<'a>(
     match name {
         "import" => import(alloc, db, words),
         "remove" => remove(alloc, db, words),
-        "runs" => Ok(Some(Plan::Runs { db })),
-        "group" => Ok(group(db, words)),
-        "groups" => Ok(Some(Plan::Groups { db })),
-        _ => Ok(member(name, db, words)),
+        _ => Ok(without_list(name, db, words)),
     }
 }
 
@@ -115,8 +147,7 @@ fn plan_of<'a>(
     name: &str,
     words: &ArgMatches<'a>,
 ) -> Result<Option<Plan<'a>>, AllocError>
-    ensures sound { IfOk result (λ found. IfSome found IsSound) }
-    ensures plan { IfOk result (λ found. IfSome found (IsPlanOf name.now (rows_of (found_of words.now)))) }
+    ensures { IfOk result (λ found. IfSome found (IsPlanned name.now (rows_of (found_of words.now)))) }
 {
     if name == "total" {
         return match word(words, "FILE") {
@@ -128,12 +159,14 @@ fn plan_of<'a>(
 }
 
 /// The plan for what was found of the words, where that is of a subcommand.
-fn plan_found<'a>(alloc: Global, matches: &ArgMatches<'a>) -> Result<Option<Plan<'a>>, AllocError>
-    ensures sound { IfOk result (λ found. IfSome found IsSound) }
-    ensures plan { IfOk result (λ found. IfSome found (IsPlanFor (subcommand_rows_of matches.now))) }
+fn plan_found<'a>(alloc: Global, matches: &ArgMatches<'a>) -> Result<Option<Plan<'a>>, PlanEnd>
+    ensures planned { IfOk result (λ found. IfSome found (IsPlannedFor (subcommand_rows_of matches.now))) }
+    ensures one { IfOk result (λ _. AreBothNamed (subcommand_rows_of matches.now) → ⊥) }
+    ensures end { IfErr result (IsEndFound (subcommand_rows_of matches.now)) }
 {
     match matches.subcommand() {
-        Some((name, words)) => plan_of(alloc, name, words),
+        Some((_, words)) if run_and_group(words) => Err(PlanEnd::RunAndGroup),
+        Some((name, words)) => Ok(plan_of(alloc, name, words)?),
         None => Ok(None),
     }
 }
@@ -144,12 +177,10 @@ fn plan_by<'a>(
     grammar: &mut Command<'a>,
     words: &'a [String],
 ) -> Result<Plan<'a>, PlanEnd>
-    requires grammar { app_of grammar.old ≡ command_line }
+    requires grammar { IsCommandLine (app_of grammar.old) }
     requires local { (fields_of grammar.old).has_globals ≡ false }
-    ensures sound { IfOk result IsSound }
-    ensures plan { IfOk result (IsPlanFor (subcommand_of command_line (map string_bytes words.now))) }
-    ensures faultless { IfOk result (λ _. fault_of command_line (map string_bytes words.now) ≡ []) }
-    ensures fault { IfErr result (IsEndOf (fault_of command_line (map string_bytes words.now))) }
+    ensures plan { IfOk result (IsPlanFor (map string_bytes words.now)) }
+    ensures end { IfErr result (IsEndFor (map string_bytes words.now)) }
 {
     let matches = grammar.try_get_matches_from_mut(words)?;
     if let Some(plan) = plan_found(alloc, &matches)? {
@@ -161,10 +192,8 @@ fn plan_by<'a>(
 
 /// The plan for the words of a command line, of which the first is the program's name.
 pub fn plan<'a>(alloc: Global, words: &'a [String]) -> Result<Plan<'a>, PlanEnd>
-    ensures sound { IfOk result IsSound }
-    ensures plan { IfOk result (IsPlanFor (subcommand_of command_line (map string_bytes words.now))) }
-    ensures faultless { IfOk result (λ _. fault_of command_line (map string_bytes words.now) ≡ []) }
-    ensures fault { IfErr result (IsEndOf (fault_of command_line (map string_bytes words.now))) }
+    ensures plan { IfOk result (IsPlanFor (map string_bytes words.now)) }
+    ensures end { IfErr result (IsEndFor (map string_bytes words.now)) }
 {
     let mut grammar = grammar(alloc)?;
     plan_by(alloc, &mut grammar, words)

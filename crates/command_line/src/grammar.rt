@@ -1,25 +1,43 @@
 // The grammar of the command line.
-ghost use Rattle.std.specs.Prelude.{◌≡◌, false, codes, IfOk, IsOkAnd};
+ghost use Rattle.std.specs.Prelude.{◌≡◌, false, codes, map, IfOk, IsOkAnd};
 ghost use Rattle.clap.specs.Words.{app_of, rule_of, with_subcommand};
+ghost use Rattle.clap.specs.declared.builder.value_parser.ValueParser.TheVariants.{Names};
 ghost use Rattle.clap.specs.declared.builder.command.Command.TheViews.{out-Command as fields_of};
 ghost use Rattle.command_line.specs.Grammar as line;
 
+use clap::builder::ValueParser;
 use clap::{Arg, ArgAction, Command, value_parser};
 use std::alloc::{AllocError, Global};
 
+/// The version of the program.
+const VERSION: &str = "0.1.0";
+
 /// The greatest number of a run.
 pub const LAST_RUN: u32 = 2_147_483_647;
+
+/// What a threshold is a part of, in percent.
+pub const WHOLE: u8 = 100;
+
+/// The words of keys.
+static KEYS: [&str; 4] = ["object", "file", "function", "line"];
+
+/// An option with a value.
+fn option<'a>(alloc: Global, id: &'a str, value: &'a str, help: &'a str) -> Arg<'a>
+    ensures rule { rule_of result ≡ line.option id.entry.now }
+    ensures local { result.global ≡ false }
+{
+    Arg::new(alloc, id)
+        .long(id)
+        .value_name(value)
+        .help(help)
+}
 
 /// The option that names the database.
 fn database<'a>(alloc: Global) -> Arg<'a>
     ensures rule { rule_of result ≡ line.database }
     ensures local { result.global ≡ false }
 {
-    Arg::new(alloc, "db")
-        .long("db")
-        .value_name("D")
-        .required(true)
-        .help("The database file")
+    option(alloc, "db", "D", "The database file").required(true)
 }
 
 /// A word that has to be given.
@@ -49,13 +67,70 @@ fn several<'a>(arg: Arg<'a>) -> Arg<'a>
     arg.num_args(1..)
 }
 
+/// The numbers that a run may have.
+fn run_numbers<'a>() -> ValueParser<'a>
+    ensures { result ≡ line.run_numbers }
+{
+    value_parser!(u32).range(1..=i64::from(LAST_RUN))
+}
+
 /// The number of a run, which has to be given.
 fn run_number<'a>(alloc: Global) -> Arg<'a>
     ensures rule { rule_of result ≡ line.run_number }
     ensures local { result.global ≡ false }
 {
-    let numbers = value_parser!(u32).range(1..=i64::from(LAST_RUN));
-    operand(alloc, "N", "The number of a run").value_parser(numbers)
+    operand(alloc, "N", "The number of a run").value_parser(run_numbers())
+}
+
+/// The option that selects one run.
+fn run_option<'a>(alloc: Global) -> Arg<'a>
+    ensures rule { rule_of result ≡ line.run_option }
+    ensures local { result.global ≡ false }
+{
+    option(alloc, "run", "N", "Only the run of this number").value_parser(run_numbers())
+}
+
+/// The option that selects the runs of a group.
+fn group_option<'a>(alloc: Global) -> Arg<'a>
+    ensures rule { rule_of result ≡ line.group_option }
+    ensures local { result.global ≡ false }
+{
+    option(alloc, "group", "NAME", "Only the runs of this group")
+}
+
+/// The option that names an event.
+fn event<'a>(alloc: Global) -> Arg<'a>
+    ensures rule { rule_of result ≡ line.event }
+    ensures local { result.global ≡ false }
+{
+    option(alloc, "event", "E", "The event whose costs are reported").required(true)
+}
+
+/// The option that says how many rows are shown at most.
+fn limit<'a>(alloc: Global) -> Arg<'a>
+    ensures rule { rule_of result ≡ line.limit }
+    ensures local { result.global ≡ false }
+{
+    option(alloc, "limit", "L", "Show at most this many rows").value_parser(value_parser!(u32))
+}
+
+/// The option that says how much of the total is shown.
+fn threshold<'a>(alloc: Global) -> Arg<'a>
+    ensures rule { rule_of result ≡ line.threshold }
+    ensures local { result.global ≡ false }
+{
+    let percents = value_parser!(u8).range(0..=i64::from(WHOLE));
+    option(alloc, "threshold", "T", "Show rows until they come to this percentage of the total")
+        .value_parser(percents)
+        .default_value("100")
+}
+
+/// The word of a key.
+fn key<'a>(alloc: Global, words: &'a [&'a str]) -> Arg<'a>
+    ensures rule { rule_of result ≡ line.key (Names words.entry) }
+    ensures local { result.global ≡ false }
+{
+    operand(alloc, "KEY", "What costs are added up by").value_parser(ValueParser::Names(words))
 }
 
 /// A subcommand that wants the database.
@@ -84,12 +159,26 @@ fn over_group_and_run<'a>(
         .arg(run_number(alloc))
 }
 
+/// A subcommand over runs that may be selected.
+fn over_selection<'a>(
+    alloc: Global,
+    name: &'a str,
+    about: &'a str,
+) -> Result<Command<'a>, AllocError>
+    ensures app { IfOk result (λ command. app_of command ≡ line.over_selection name.entry.now) }
+    ensures local { IfOk result (λ command. (fields_of command).has_globals ≡ false) }
+{
+    over_database(alloc, name, about)?
+        .arg(run_option(alloc))?
+        .arg(group_option(alloc))
+}
+
 fn total<'a>(alloc: Global) -> Result<Command<'a>, AllocError>
     ensures app { IfOk result (λ command. app_of command ≡ line.total) }
     ensures local { IfOk result (λ command. (fields_of command).has_globals ≡ false) }
 {
     Command::new(alloc, "total")
-        .about("Print the exact sums of a file's self costs, by event")
+        .about("Print the sum of each event of a Callgrind file")
         .arg(operand(alloc, "FILE", "A file in the Callgrind format"))
 }
 
@@ -97,7 +186,7 @@ fn import<'a>(alloc: Global) -> Result<Command<'a>, AllocError>
     ensures app { IfOk result (λ command. app_of command ≡ line.import) }
     ensures local { IfOk result (λ command. (fields_of command).has_globals ≡ false) }
 {
-    over_database(alloc, "import", "Take in files")?
+    over_database(alloc, "import", "Import profile files")?
         .arg(flag(alloc, "folded", "The files hold folded stacks"))?
         .arg(several(operand(alloc, "FILE", "The files, each a run of its own")))
 }
@@ -116,6 +205,17 @@ fn group<'a>(alloc: Global) -> Result<Command<'a>, AllocError>
     over_database(alloc, "group", "Make a group, or drop one")?
         .arg(flag(alloc, "drop", "Drop the group"))?
         .arg(operand(alloc, "NAME", "The name of the group"))
+}
+
+fn by<'a>(alloc: Global, keys: &'a [&'a str]) -> Result<Command<'a>, AllocError>
+    ensures app { IfOk result (λ command. app_of command ≡ line.by (Names keys.entry)) }
+    ensures local { IfOk result (λ command. (fields_of command).has_globals ≡ false) }
+{
+    over_selection(alloc, "by", "Report costs by object, file, function or line")?
+        .arg(event(alloc))?
+        .arg(limit(alloc))?
+        .arg(threshold(alloc))?
+        .arg(key(alloc, keys))
 }
 
 /// A command with one more subcommand, where there was memory to make that. What was made of it is
@@ -162,12 +262,27 @@ fn with_members<'a>(alloc: Global, command: Command<'a>) -> Result<Command<'a>, 
     ensures app { IfOk result (λ more. app_of more ≡ line.with_members (app_of command.entry)) }
     ensures local { IfOk result (λ more. (fields_of more).has_globals ≡ false) }
 {
-    let join = over_group_and_run(alloc, "join", "Let a run join a group");
+    let join = over_group_and_run(alloc, "join", "Add a run to a group");
     let command = with(command, join)?;
-    let leave = over_group_and_run(alloc, "leave", "Let a run leave a group");
+    let leave = over_group_and_run(alloc, "leave", "Remove a run from a group");
     let command = with(command, leave)?;
     let baseline = over_group_and_run(alloc, "baseline", "Make a run the baseline of a group");
     with(command, baseline)
+}
+
+/// With the reports.
+fn with_reports<'a>(
+    alloc: Global,
+    command: Command<'a>,
+    keys: &'a [&'a str],
+) -> Result<Command<'a>, AllocError>
+    requires { (fields_of command).has_globals ≡ false }
+    ensures app { IfOk result (λ more. app_of more ≡ line.with_reports (Names keys.entry) (app_of command.entry)) }
+    ensures local { IfOk result (λ more. (fields_of more).has_globals ≡ false) }
+{
+    let command = with(command, by(alloc, keys))?;
+    let verify = over_selection(alloc, "verify", "Compare sums of costs with the totals that files state");
+    with(command, verify)
 }
 
 /// The program's own command, with no subcommand yet.
@@ -176,16 +291,33 @@ fn program<'a>(alloc: Global) -> Command<'a>
     ensures local { (fields_of result).has_globals ≡ false }
 {
     Command::new(alloc, "profhouse")
+        .version(VERSION)
         .about("A warehouse of run profiles whose every figure is exact")
         .subcommand_required(true)
 }
 
-/// The command line that the program reads.
-pub fn grammar<'a>(alloc: Global) -> Result<Command<'a>, AllocError>
-    ensures app { IfOk result (λ command. app_of command ≡ line.command_line) }
+/// The command line that the program reads, by the words of keys.
+fn grammar_of<'a>(alloc: Global, keys: &'a [&'a str]) -> Result<Command<'a>, AllocError>
+    ensures app { IfOk result (λ command. app_of command ≡ line.command_line (Names keys.entry)) }
     ensures local { IfOk result (λ command. (fields_of command).has_globals ≡ false) }
 {
     let command = with_files(alloc, program(alloc))?;
     let command = with_lists(alloc, command)?;
-    with_members(alloc, command)
+    let command = with_members(alloc, command)?;
+    with_reports(alloc, command, keys)
+}
+
+/// The words of keys, as a list.
+fn keys<'a>() -> &'a [&'a str]
+    ensures { map (λ key. key.now) result.now ≡ line.key_words }
+{
+    KEYS.as_slice()
+}
+
+/// The command line that the program reads.
+pub fn grammar<'a>(alloc: Global) -> Result<Command<'a>, AllocError>
+    ensures app { IfOk result (λ command. line.IsCommandLine (app_of command)) }
+    ensures local { IfOk result (λ command. (fields_of command).has_globals ≡ false) }
+{
+    grammar_of(alloc, keys())
 }

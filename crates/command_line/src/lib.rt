@@ -7,4 +7,4 @@ mod plans;
 mod words;
 
 pub use command::plan;
-pub use plans::{Plan, PlanEnd};
+pub use plans::{Plan, PlanEnd, Selected};

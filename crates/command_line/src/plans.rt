@@ -1,8 +1,19 @@
 // What the program is told to do.
 use cg_text::Items;
 use clap::error::ErrorKind;
+use cost_rows::Key;
 use profile_records::Kind;
 use std::alloc::AllocError;
+
+/// The runs that a report is about.
+#[derive(Clone, Copy)]
+pub enum Selected<'a> {
+    All,
+    /// The run of this number.
+    Run(u32),
+    /// The runs of the group of this name.
+    Group(&'a str),
+}
 
 /// What the program is told to do.
 #[derive(Drop)]
@@ -11,7 +22,7 @@ pub enum Plan<'a> {
     Total {
         path: &'a str,
     },
-    /// Take in files.
+    /// Import files.
     Import {
         db: &'a str,
         kind: Kind,
@@ -32,13 +43,13 @@ pub enum Plan<'a> {
         drop: bool,
         name: &'a str,
     },
-    /// Let a run join a group.
+    /// Add a run to a group.
     Join {
         db: &'a str,
         name: &'a str,
         number: u32,
     },
-    /// Let a run leave a group.
+    /// Remove a run from a group.
     Leave {
         db: &'a str,
         name: &'a str,
@@ -54,6 +65,21 @@ pub enum Plan<'a> {
     Groups {
         db: &'a str,
     },
+    /// Report the costs of an event by a key: the fewest rows that come to `threshold` percent of the
+    /// total, and of them at most `limit`, where one was given.
+    By {
+        db: &'a str,
+        selected: Selected<'a>,
+        event: &'a str,
+        limit: Option<u32>,
+        threshold: u8,
+        key: Key,
+    },
+    /// Compare the sums of runs with the totals that their files state.
+    Verify {
+        db: &'a str,
+        selected: Selected<'a>,
+    },
 }
 
 /// Why there is no plan.
@@ -61,6 +87,8 @@ pub enum Plan<'a> {
 pub enum PlanEnd {
     /// A growth was refused.
     Memory,
+    /// Both a run and a group were selected.
+    RunAndGroup,
     /// Help was asked for, or the words are at fault.
     Clap(clap::Error),
 }

@@ -1,16 +1,20 @@
 // What was found of the arguments of a subcommand.
-ghost use Rattle.std.specs.Prelude.{◌≡◌, ◌≢◌, ◌↔◌, [], All, map, codes, Some, IfOk, IfSome, IsSome};
-ghost use Rattle.clap.specs.Words.{all_of, found_of, one_of, rows_of};
-ghost use Rattle.command_line.specs.Plans.{IsRunNumber, SaysRun, number_of, HasWord, HasRun, HaveRuns, IsFlag};
+ghost use Rattle.std.specs.Prelude.{◌≡◌, ◌≢◌, ◌↔◌, ◌≤◌, true, [], All, map, codes, Some, None, IfOk, IfSome, IsSome};
+ghost use Rattle.clap.specs.Words.{all_of, first_of, found_of, one_of, rows_of};
+ghost use Rattle.command_line.specs.Plans.{IsRunNumber, IsSoundSelection, SaysRun, number_of, key_word};
+ghost use Rattle.command_line.specs.Plans.{HasWord, HasNumber, HasRun, HaveRuns, HasSelection, IsFlag, NamesBoth};
 
-use crate::grammar::LAST_RUN;
+use crate::grammar::{LAST_RUN, WHOLE};
+use crate::plans::Selected;
 use cg_text::Items;
 use clap::ArgMatches;
+use cost_rows::Key;
 use std::alloc::{AllocError, Global};
 
 /// The word of an argument.
 pub fn word<'a>(words: &ArgMatches<'a>, id: &str) -> Option<&'a str>
-    ensures { IfSome result (λ word. HasWord (rows_of (found_of words.now)) id.now word.now) }
+    ensures word { IfSome result (λ word. HasWord (rows_of (found_of words.now)) id.now word.now) }
+    ensures none { result ≡ None → first_of id.now (rows_of (found_of words.now)) ≡ None }
 {
     words.get_str(id)
 }
@@ -91,5 +95,56 @@ pub fn runs(alloc: Global, words: &ArgMatches<'_>) -> Result<Option<Items<u32>>,
     match all_words(words, "N") {
         Some(texts) => runs_of(alloc, texts),
         None => Ok(None),
+    }
+}
+
+/// Whether a run and a group were both selected.
+pub fn run_and_group(words: &ArgMatches<'_>) -> bool
+    ensures { result ≡ true ↔ NamesBoth (rows_of (found_of words.now)) }
+{
+    word(words, "run").is_some() && word(words, "group").is_some()
+}
+
+/// The runs that were selected, where they are not so in two ways.
+pub fn selected<'a>(words: &ArgMatches<'a>) -> Option<Selected<'a>>
+    ensures sound { IfSome result IsSoundSelection }
+    ensures selection { IfSome result (HasSelection (rows_of (found_of words.now))) }
+{
+    match (word(words, "run"), word(words, "group")) {
+        (None, None) => Some(Selected::All),
+        (Some(number), None) => Some(Selected::Run(run_of(number)?)),
+        (None, Some(name)) => Some(Selected::Group(name)),
+        (Some(_), Some(_)) => None,
+    }
+}
+
+/// The limit on rows, if there is one: no answer where its word is no number.
+pub fn limit(words: &ArgMatches<'_>) -> Option<Option<u32>>
+    ensures { IfSome result (HasNumber (rows_of (found_of words.now)) (codes "limit")) }
+{
+    words.try_get_one::<u32>("limit").ok()
+}
+
+/// The threshold, in percent.
+pub fn threshold(words: &ArgMatches<'_>) -> Option<u8>
+    ensures range { IfSome result (λ percent. percent ≤ 100) }
+    ensures number { IfSome result (λ percent. HasNumber (rows_of (found_of words.now)) (codes "threshold") (Some percent)) }
+{
+    match words.get_one::<u8>("threshold") {
+        Some(percent) if percent <= WHOLE => Some(percent),
+        _ => None,
+    }
+}
+
+/// The key that was named.
+pub fn key(words: &ArgMatches<'_>) -> Option<Key>
+    ensures { IfSome result (λ key. HasWord (rows_of (found_of words.now)) (codes "KEY") (key_word key)) }
+{
+    match word(words, "KEY")? {
+        "object" => Some(Key::Object),
+        "file" => Some(Key::File),
+        "function" => Some(Key::Function),
+        "line" => Some(Key::Line),
+        _ => None,
     }
 }

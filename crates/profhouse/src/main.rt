@@ -12,6 +12,10 @@ fn main(rt: HostRuntime) -> Result<ExitCode> {
     let code = match plan(rt.alloc(), words.as_slice()) {
         Ok(plan) => run_plan(&rt, plan)?,
         Err(PlanEnd::Memory) => print_refused(&rt, "out of memory")?,
+        Err(PlanEnd::RunAndGroup) => {
+            eprintln!(rt; "usage: --run and --group exclude each other")?;
+            ExitCode::from(2)
+        }
         Err(PlanEnd::Clap(error)) => {
             error.print(&rt)?;
             ExitCode::from(error.exit_code() as u8)
