@@ -41,12 +41,22 @@ def rust_twin(source, *options, name=None):
     return path
 
 
+def c_twin(name, *sources):
+    """Builds a C program over libsqlite3, and returns the path of what it built."""
+    path = os.path.join(OUT, f"{name}_twin")
+    texts = [os.path.join(TWINS, source) for source in sources]
+    subprocess.run(["gcc", "-std=gnu11", "-O2", "-o", path, *texts, "-lsqlite3"], check=True)
+    return path
+
+
 def import_twin():
     """Builds the C program that imports a Callgrind file by libsqlite3."""
-    path = os.path.join(OUT, "import_twin")
-    sources = [os.path.join(TWINS, name) for name in ("import.c", "import_file.c", "import_rows.c")]
-    subprocess.run(["gcc", "-std=gnu11", "-O2", "-o", path, *sources, "-lsqlite3"], check=True)
-    return path
+    return c_twin("import", "import.c", "import_file.c", "import_rows.c")
+
+
+def report_twin():
+    """Builds the C program that prints a report by key by libsqlite3."""
+    return c_twin("reports", "reports.c", "import_rows.c")
 
 
 def made(name, write):
@@ -120,6 +130,39 @@ def one_line():
 def comments():
     """The path of a file of 64 MB of comments."""
     return made("comments.cg", lambda file: file.write("events: Ir\n" + ("#" + "x" * 998 + "\n") * 64_000))
+
+
+SCRIPT = "import json, decimal, email.parser, unittest, argparse; json.dumps(list(range(2000)))"
+PYTHON = [sys.executable, "-c", SCRIPT]
+
+
+def compiler():
+    """rustc itself, not the program that chooses among toolchains, with this work."""
+    root = subprocess.run(["rustc", "--print", "sysroot"], check=True, capture_output=True, text=True)
+    return [os.path.join(root.stdout.strip(), "bin", "rustc"), "--edition", "2021", "-O", "-g",
+            "--emit=obj", "-o", os.path.join(OUT, "rows.o"), os.path.join(TWINS, "rows.rs")]
+
+
+# Of each dump of a real program what valgrind is told, and the program that it watches. Plain dumps of python3 are no
+# longer than 1.5 MB; with the functions on the way to a function in its name they are 11 MB.
+DUMPS = {
+    "callers": (["--separate-callers=4"], lambda: PYTHON),
+    "compiler": ([], compiler),
+    "instr": (["--dump-instr=yes", "--cache-sim=yes", "--collect-jumps=yes", "--separate-callers=2"],
+              lambda: PYTHON),
+}
+
+
+def dump(kind):
+    """The path of a dump of a real program."""
+    path = os.path.join(OUT, f"import.{kind}.cg")
+    if not os.path.exists(path):
+        options, program = DUMPS[kind]
+        command = ["valgrind", "--tool=callgrind", *options, f"--callgrind-out-file={path}.part"]
+        subprocess.run(command + program(), check=True,
+                       stdout=subprocess.DEVNULL, stderr=subprocess.DEVNULL)
+        os.rename(path + ".part", path)
+    return path
 
 
 def digest_commands(program):

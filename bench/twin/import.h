@@ -1,4 +1,4 @@
-/* The parts of the twin of an import; import.c says what it does. */
+/* The parts of the twins of an import and of a report; import.c and reports.c say what these do. */
 
 #include <stddef.h>
 #include <stdint.h>

@@ -1,4 +1,4 @@
-/* The digest, the names and the merged rows of the twin of an import. */
+/* The digest, the names and the merged rows of the twins of an import and of a report. */
 
 #define _GNU_SOURCE
 #include "import.h"
@@ -8,7 +8,7 @@
 
 void fail(const char *reason)
 {
-    fprintf(stderr, "import: %s\n", reason);
+    fprintf(stderr, "twin: %s\n", reason);
     exit(1);
 }
 
