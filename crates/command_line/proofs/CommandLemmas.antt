@@ -51,15 +51,15 @@ fault_kept a words error Memory line kinds by = tt
 fault_kept a words error RunAndGroup line kinds by = absurd by
 fault_kept a words error (Clap kept) line kinds (same, other) =
     let among = among_kept (fault_of a words) error kept (kinds (free a line)) same other in
-    (a, line, (λ some. among), (λ none both. none_among (kind_of kept) (fault_of a words) among none))
+    (a, line, ((λ some. among), (λ none both. none_among (kind_of kept) (fault_of a words) among none)))
 
 pub both_named : (a : App) (m : ArgMatches) (words : List Text) (end : PlanEnd) → IsCommandLine a → HasMatchesOf a words m → (is_simple_and_free a ≡ true → fault_of a words ≡ [])
     → IsEndFound (subcommand_rows_of m) end → IsEndFor words end
 both_named a m words Memory line matches none found = tt
-both_named a m words RunAndGroup line matches none found = (a, line, none (free a line), subst AreBothNamed (matches (simple a line)).1 found)
+both_named a m words RunAndGroup line matches none found = (a, line, (none (free a line), subst AreBothNamed (matches (simple a line)).1 found))
 both_named a m words (Clap error) line matches none found = absurd found
 
 pub no_plan : (a : App) (m : ArgMatches) (words : List Text) (error : Error) → IsCommandLine a → HasMatchesOf a words m → (is_simple_and_free a ≡ true → fault_of a words ≡ [])
     → (AreBothNamed (subcommand_rows_of m) → ⊥) → IsEndFor words (Clap error)
 no_plan a m words error line matches none one =
-    (a, line, (λ some. absurd (some (none (free a line)))), (λ _ both. one (subst AreBothNamed (sym (matches (simple a line)).1) both)))
+    (a, line, ((λ some. absurd (some (none (free a line)))), (λ _ both. one (subst AreBothNamed (sym (matches (simple a line)).1) both))))

@@ -8,7 +8,9 @@ ghost use Rattle.command_line.specs.Plans.{AreBothNamed, IsEndFound, IsEndFor};
 
 use crate::grammar::grammar;
 use crate::plans::{Plan, PlanEnd};
-use crate::words::{files, is_given, key, limit, run, run_and_group, runs, selected, threshold, word};
+use crate::words::{
+    files, is_given, key, limit, run, run_and_group, runs, selected, threshold, word,
+};
 use clap::error::ErrorKind;
 use clap::{ArgMatches, Command};
 use profile_records::Kind;

@@ -26,10 +26,7 @@ fn option<'a>(alloc: Global, id: &'a str, value: &'a str, help: &'a str) -> Arg<
     ensures rule { rule_of result ≡ line.option id.entry.now }
     ensures local { result.global ≡ false }
 {
-    Arg::new(alloc, id)
-        .long(id)
-        .value_name(value)
-        .help(help)
+    Arg::new(alloc, id).long(id).value_name(value).help(help)
 }
 
 /// The option that names the database.
@@ -120,9 +117,14 @@ fn threshold<'a>(alloc: Global) -> Arg<'a>
     ensures local { result.global ≡ false }
 {
     let percents = value_parser!(u8).range(0..=i64::from(WHOLE));
-    option(alloc, "threshold", "T", "Show rows until they come to this percentage of the total")
-        .value_parser(percents)
-        .default_value("100")
+    option(
+        alloc,
+        "threshold",
+        "T",
+        "Show rows until they come to this percentage of the total",
+    )
+    .value_parser(percents)
+    .default_value("100")
 }
 
 /// The word of a key.
@@ -211,11 +213,15 @@ fn by<'a>(alloc: Global, keys: &'a [&'a str]) -> Result<Command<'a>, AllocError>
     ensures app { IfOk result (λ command. app_of command ≡ line.by (Names keys.entry)) }
     ensures local { IfOk result (λ command. (fields_of command).has_globals ≡ false) }
 {
-    over_selection(alloc, "by", "Report costs by object, file, function or line")?
-        .arg(event(alloc))?
-        .arg(limit(alloc))?
-        .arg(threshold(alloc))?
-        .arg(key(alloc, keys))
+    over_selection(
+        alloc,
+        "by",
+        "Report costs by object, file, function or line",
+    )?
+    .arg(event(alloc))?
+    .arg(limit(alloc))?
+    .arg(threshold(alloc))?
+    .arg(key(alloc, keys))
 }
 
 /// A command with one more subcommand, where there was memory to make that. What was made of it is
@@ -281,7 +287,11 @@ fn with_reports<'a>(
     ensures local { IfOk result (λ more. (fields_of more).has_globals ≡ false) }
 {
     let command = with(command, by(alloc, keys))?;
-    let verify = over_selection(alloc, "verify", "Compare sums of costs with the totals that files state");
+    let verify = over_selection(
+        alloc,
+        "verify",
+        "Compare sums of costs with the totals that files state",
+    );
     with(command, verify)
 }
 
