@@ -14,6 +14,7 @@ use Rattle.histories.specs.Legal.{ask_due, first_or}
 use Rattle.histories.specs.Reports.{file_verified, own_columns, own_columns_from, verified_text}
 use Rattle.histories.specs.Selections.{numbers_of, selected}
 use Rattle.histories.specs.Stands.{TablesTell, event_lines_from}
+use Rattle.histories.specs.Sums.{own_column}
 use Rattle.histories.specs.declared.answers.Answer.TheVariants.{Text, Refused}
 use Rattle.histories.specs.declared.answers.Query.TheVariants.{Verify}
 use Rattle.histories.specs.declared.answers.Refusal.{Refusal}
@@ -45,7 +46,7 @@ lines_by_place f place (event ∷ events) = (refl, lines_by_place f (suc place) 
 
 lines_own : (f : File) (place : ℕ) (events : List (List ℕ)) → map (λ (e : EventLine). e.self_cost) (event_lines_from f place events) ≡ own_columns_from f place events
 lines_own f place [] = refl
-lines_own f place (event ∷ events) = ap (λ l. _ ∷ l) (lines_own f (suc place) events)
+lines_own f place (event ∷ events) = ap (λ l. own_column f.kind f.bytes place ∷ l) (lines_own f (suc place) events)
 
 own_told : (h : History) (t : Tables) (f : File) (sums : List ℕ) → TablesTell h t → Has (held h) f → AreOwnSums (events_of_run f.number t) sums → sums ≡ own_columns f
 own_told h t f sums tell there are =

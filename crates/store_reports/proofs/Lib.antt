@@ -1,3 +1,4 @@
+mod AskLemmas
 mod CheckLemmas
 mod CountedLemmas
 mod DueLemmas

@@ -1,31 +1,48 @@
 -- Cells of runs that are merged one after another.
-use Rattle.std.proofs.Common.{◌≡◌, ◌×◌, ℕ, ◌+◌, ◌<◌, List, [], ◌∷◌, ◌++◌, map, fold, length, get_or, take, refl, sym, ap, ◌∙◌}
+use Rattle.std.proofs.Common.{◌≡◌, ℕ, ◌+◌, ◌*◌, ◌<◌, Bool, true, false, if◌then◌else◌, nat_eq, List, [], ◌∷◌, ◌++◌, map, fold, length, get_or, take, refl, sym, ap, ◌∙◌, arith}
 use Rattle.std.specs.Prelude.{unwrap_or}
 use Rattle.std.proofs.lemmas.Grind.{fold-append}
 use Rattle.std.proofs.lemmas.List.{take_more}
-use Rattle.cost_rows.specs.KeySums.{Sums, with_row}
+use Rattle.cost_rows.specs.KeySums.{Sums, sums_with, with_row}
+use Rattle.cost_rows.specs.Keys.{part_of, place_of_row}
 use Rattle.cost_rows.specs.declared.rows.CellRow.{CellRow}
+use Rattle.cost_rows.specs.declared.keys.Key.{Key}
 use Rattle.cost_reports.specs.Costs.{all_rows, weighted}
+use Rattle.cost_reports.specs.KeyReports.{report_of}
+use Rattle.cost_reports.specs.KeyTexts.{key_report_text}
+use Rattle.cost_reports.specs.declared.cuts.Cut.{Cut}
 use Rattle.prof_books.specs.Book.{cells_held}
 use Rattle.prof_tables.specs.Tables.{Tables}
 use Rattle.store_reports.specs.Counted.{event_cells}
-use Rattle.store_reports.specs.Reported.{merged_from}
+use Rattle.store_reports.specs.Reported.{merged_from, report_over}
 use Rattle.store_reports.specs.declared.counting.Counted.{Counted}
 
 -- ---- the cells of one run
 
-pub taken : List ℕ × Sums → CellRow (List ℕ) → List ℕ × Sums
+abbrev pub taken : List ℕ × Sums → CellRow (List ℕ) → List ℕ × Sums
 taken m row = (m.0, with_row m.1 (weighted m.0 row))
 
 pub cells_taken : (counts : List ℕ) (sums : Sums) (cells : List (CellRow (List ℕ))) → fold taken (counts, sums) cells ≡ (counts, fold with_row sums (map (weighted counts) cells))
-unfolding taken
 cells_taken counts sums [] = refl
 cells_taken counts sums (cell ∷ cells) = cells_taken counts (with_row sums (weighted counts cell)) cells
 
 -- what counts nothing costs nothing
 pub none_taken : (sums : Sums) (cells : List (CellRow (List ℕ))) → fold with_row sums (map (weighted []) cells) ≡ sums
 none_taken sums [] = refl
-none_taken sums (cell ∷ cells) = none_taken sums cells
+none_taken sums (cell ∷ cells) =
+    ap (λ cost. fold with_row (with_row sums (record cell { event = 0; cost = cost })) (map (weighted []) cells)) (none_of cell.cost) ∙ none_taken sums cells
+  where
+    none_of : (cost : ℕ) → 0 * cost ≡ 0
+    none_of cost = omega arith
+
+-- the key stays
+key_of_either : (b : Bool) (x y : Sums) → x.key ≡ y.key → (if b then x else y).key ≡ x.key
+key_of_either true x y same = refl
+key_of_either false x y same = sym same
+
+pub key_stays : (sums : Sums) (rows : List (CellRow (List ℕ))) → (fold with_row sums rows).key ≡ sums.key
+key_stays sums [] = refl
+key_stays sums (row ∷ rows) = key_stays (with_row sums row) rows ∙ key_of_either (nat_eq row.cost 0) sums (record { key = sums.key; sums = sums_with (part_of sums.key (place_of_row row)) row.cost sums.sums }) refl
 
 -- ---- runs one after another
 
@@ -38,3 +55,12 @@ pub run_merged : (t : Tables) (start : Sums) (runs : List Counted) (at : ℕ) (d
     → merged_from t before (get_or runs at d) ≡ fold (merged_from t) start (take (at + 1) runs)
 run_merged t start runs at d before low was =
     ap (λ s. merged_from t s (get_or runs at d)) was ∙ sym (fold-append (merged_from t) start (take at runs) (get_or runs at d ∷ [])) ∙ ap (fold (merged_from t) start) (sym (take_more runs at d low))
+
+-- the report over what was merged
+pub report_merged : (t : Tables) (key : Key) (event : List ℕ) (cut : Cut) (runs : List Counted) (merged : Sums) → merged ≡ fold (merged_from t) (record { key = key; sums = [] }) runs
+    → key_report_text event (report_of merged.key cut merged.sums) ≡ report_over t runs key event cut
+report_merged t key event cut runs merged is =
+    let start : Sums = record { key = key; sums = [] } in
+    let rows = all_rows (map (event_cells t) runs) in
+    let all : merged ≡ fold with_row start rows = is ∙ runs_merged t start runs in
+    ap (λ (s : Sums). key_report_text event (report_of s.key cut s.sums)) all ∙ ap (λ k. key_report_text event (report_of k cut (fold with_row start rows).sums)) (key_stays start rows)

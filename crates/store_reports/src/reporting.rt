@@ -1,11 +1,11 @@
 // The answers to questions by key.
-ghost use Rattle.std.specs.Prelude.{◌≡◌};
+ghost use Rattle.std.specs.Prelude.{◌≡◌, false};
 ghost use Rattle.std.specs.List.{list_any};
 ghost use Rattle.std.specs.Result.{is_ok};
 ghost use Rattle.prof_store.specs.Shown.{Told};
 ghost use Rattle.held_runs.specs.Walks.{AsksIfOpen};
 ghost use Rattle.histories.specs.declared.answers.Query.TheVariants.{By};
-ghost use Rattle.store_histories.specs.Answered.{Asks as AnswersAsked};
+ghost use Rattle.store_histories.specs.Answered.{Asks as AnswersAsked, has_changed};
 ghost use Rattle.store_reports.specs.Counted.{has_counts};
 ghost use Rattle.store_reports.specs.Reported.{AnswersRuns, report_over};
 
@@ -56,6 +56,7 @@ fn answer_runs<S: Alter>(
     cut: Cut,
 ) -> Result<Answer, StoreEnd>
     ensures told { Told S.Store result store.old store.new (λ t answer. AnswersRuns t numbers.now key event.now cut answer) }
+    ensures still { has_changed result ≡ false }
     ensures asks { AsksIfOpen S.Store (is_ok result) store.old store.new }
 {
     let runs = count_runs(store, alloc, numbers, event)?;

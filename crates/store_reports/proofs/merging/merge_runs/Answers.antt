@@ -1,8 +1,9 @@
-use Rattle.std.proofs.Common.{◌≡◌, ◌<◌, [], length, get_or, take, sym, ap, subst, ◌∙◌, arith, rules}
+use Rattle.std.proofs.Common.{◌≡◌, ◌<◌, true, [], length, get_or, take, sym, ap, subst, ◌∙◌, arith, rules}
 use Rattle.sql_tables.proofs.Calls.{asked_rests_yet}
 use Rattle.prof_tables.specs.Schema.{schema_one}
 use Rattle.prof_tables.specs.Tables.{Holds}
 use Rattle.held_runs.proofs.Asking.{asked_open_then}
+use Rattle.store_reports.specs.Reported.{merged_from}
 use Rattle.store_reports.proofs.MergeLemmas.{run_merged}
 use Rattle.store_reports.proofs.merging.merge_runs.Goals as goal
 
@@ -12,11 +13,12 @@ loop-run-preserved g c =
     let runs = c.args.runs.now in
     let at = c.loop-run.run-index in
     let low : at < length runs = omega arith in
-    let one = c.in_ok-add_run.ensures in
+    let one = c.in_ok-merged.ensures in
     record {
       asked = λ clean. let asks = one.asks clean in asked_open_then schema_one true _ _ _ (i.asked asks.stays.was_clean) asks;
       told = λ clean t stands named.
           let early = (one.asks clean).stays.was_clean in
           let mid = asked_rests_yet schema_one (Holds t) _ _ (i.asked early) stands in
-          one.told clean t mid named ∙ run_merged t (record { key = c.args.key; sums = [] }) runs at _ _ low (i.told early t stands named);
+          one.told clean t mid named ∙ ap (merged_from t c.loop-run.merged) c.run-item.is
+              ∙ run_merged t (record { key = c.args.key; sums = [] }) runs at c.run-item.result c.loop-run.merged low (i.told early t stands named);
     }

@@ -11,5 +11,5 @@ abbrev pub invariant-loop-run : goal.invariant-loop-run
 invariant-loop-run g l = record {
   asked : IsFaithful g.S.Store l.store → Asked schema_one (shown g.S.Store l.fn.store).is_open (shown g.S.Store l.fn.store) (shown g.S.Store l.store);
   told : IsFaithful g.S.Store l.store → (t : Tables) → StandsFor g.S.Store t l.fn.store → l.names ≡ t.names
-      → l.merged ≡ fold (merged_from t) (record { key = l.key; sums = [] }) (take l.run-index l.runs);
+      → l.merged ≡ fold (merged_from t) (record { key = l.fn.key; sums = [] }) (take l.run-index l.runs);
 }
