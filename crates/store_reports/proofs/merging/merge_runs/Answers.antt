@@ -20,5 +20,5 @@ loop-run-preserved g c =
           let early = (one.asks clean).stays.was_clean in
           let mid = asked_rests_yet schema_one (Holds t) _ _ (i.asked early) stands in
           one.told clean t mid named ∙ ap (merged_from t c.loop-run.merged) c.run-item.is
-              ∙ run_merged t (record { key = c.args.key; sums = [] }) runs at c.run-item.result c.loop-run.merged low (i.told early t stands named);
+          ∙ run_merged t (record { key = c.args.key; sums = [] }) runs at c.run-item.result c.loop-run.merged low (i.told early t stands named);
     }

@@ -27,8 +27,8 @@ returns g c clean =
           let found = rw c.in-Ok.is at (c.in_ok-numbers.ensures.told early h s) in
           let mid = asked_rests schema_one (Holds s.t) _ _ (c.in_ok-numbers.ensures.asks early) s.stands in
           if_ok_so c.answer_runs.result (λ answer told. by_is_due h s.t selection c.args.key c.args.event.now c.args.cut c.in-Ok.numbers answer s.tells found
-              (subst (λ e. AnswersRuns s.t c.in-Ok.numbers c.args.key e c.args.cut answer) event (subst (λ ns. AnswersRuns s.t ns c.args.key c.as_slice-2.result.now c.args.cut answer) numbers told)))
-              (c.answer_runs.ensures.told clean s.t mid);
+          (subst (λ e. AnswersRuns s.t c.in-Ok.numbers c.args.key e c.args.cut answer) event (subst (λ ns. AnswersRuns s.t ns c.args.key c.as_slice-2.result.now c.args.cut answer) numbers told)))
+          (c.answer_runs.ensures.told clean s.t mid);
       still = c.answer_runs.ensures.still;
       asks = asked_of_open schema_one (is_ok c.answer_runs.result) _ _ _ (c.in_ok-numbers.ensures.asks early) asks;
     }
