@@ -59,7 +59,7 @@ pub(crate) fn import_in<S: Alter, R: Source>(
 
 /// What a question is answered.
 fn answer<S: Alter>(store: &mut Store<S>, alloc: Global, query: Query) -> Result<Answer, StoreEnd>
-    ensures { Asks S.Store query.entry result store.old store.new }
+    ensures { Asks S.Store query result store.old store.new }
 {
     match query {
         Query::Runs => runs_answer(store, alloc),
@@ -76,7 +76,7 @@ fn answer<S: Alter>(store: &mut Store<S>, alloc: Global, query: Query) -> Result
 
 /// Answers a question.
 pub(crate) fn ask_in<S: Alter>(store: &mut Store<S>, alloc: Global, query: Query) -> Answer
-    ensures answered { (limits : _) → IsFaithful S.Store store.new → Answers S.Store limits (Ask query.entry) result store.old store.new }
+    ensures answered { (limits : _) → IsFaithful S.Store store.new → Answers S.Store limits (Ask query) result store.old store.new }
 {
     answer_of(answer(store, alloc, query))
 }
