@@ -1,5 +1,6 @@
 // Questions, as the words of a command line ask them.
 ghost use Rattle.std.specs.Prelude.{◌≡◌, IfOk};
+ghost use Rattle.histories.specs.declared.answers.Query.TheVariants.{By};
 ghost use Rattle.sessions.specs.Questions.{query_said, selection_said};
 
 use cg_text::Items;
@@ -36,7 +37,7 @@ fn bytes_of(alloc: Global, name: &str) -> Result<Items<u8>, AllocError>
 
 /// The selection of the runs that are selected.
 fn selection_of(alloc: Global, selected: Selected<'_>) -> Result<Selection, AllocError>
-    ensures { IfOk result (λ selection. selection ≡ selection_said selected) }
+    ensures { IfOk result (λ selection. selection ≡ selection_said selected.entry) }
 {
     match selected {
         Selected::All => Ok(Selection::All),
@@ -53,7 +54,7 @@ fn by_query(
     event: &str,
     cut: Cut,
 ) -> Result<Query, AllocError>
-    ensures { IfOk result (λ query. query ≡ query_said (Question.By selected key event cut)) }
+    ensures { IfOk result (λ query. query ≡ By (selection_said selected.entry) key event.now cut) }
 {
     let selection = selection_of(alloc, selected)?;
     let event = bytes_of(alloc, event)?;
@@ -67,7 +68,7 @@ fn by_query(
 
 /// What the warehouse is asked.
 pub(crate) fn query_of(alloc: Global, question: Question<'_>) -> Result<Query, AllocError>
-    ensures { IfOk result (λ query. query ≡ query_said question) }
+    ensures { IfOk result (λ query. query ≡ query_said question.entry) }
 {
     match question {
         Question::Runs => Ok(Query::Runs),

@@ -214,7 +214,7 @@ impl<'a, R: Files + AllocGlobal, W: Write + Drop, S: Alter> Session<'a, R, W, S>
     /// Asks a question.
     fn ask(&mut self, question: Question<'a>) -> io::Result<()>
         ensures limits { self.new.warehouse.limits ≡ self.old.warehouse.limits }
-        ensures answered { IsFaithful S.Store self.new.warehouse.store → WasTold S.Store W.contents (Ask (query_said question)) result self.old self.new }
+        ensures answered { IsFaithful S.Store self.new.warehouse.store → WasTold S.Store W.contents (Ask (query_said question.entry)) result self.old self.new }
     {
         match query_of(self.rt.alloc(), question) {
             Ok(query) => self.apply(Command::Ask(query)),
