@@ -46,7 +46,8 @@ pub fn each_cell<S: Alter, T: TakesCells>(
     events: usize,
     taker: &mut T,
 ) -> Result<(), StoreEnd>
-    ensures told { Told S.Store result store.old store.new (λ t _. names.now ≡ t.names → T.meaning taker.new ≡ fold T.step (T.meaning taker.old) (cells_held run t)) }
+    ensures told { Told S.Store result store.old store.new (λ t _. names.now ≡ t.names
+        → T.meaning taker.new ≡ fold T.step (T.meaning taker.old) (cells_held run t)) }
     ensures asks { AsksIfOpen S.Store (is_ok result) store.old store.new }
 {
     let mut walk = begin(store, Listed::Cells, run);

@@ -45,5 +45,6 @@ pub fn runs_cost_what_files_cost()
 pub fn reports_sum_to_the_records()
     ensures sums { (h : History) (s : Selection) (key : Key) (event : List ℕ) (cut : Cut) → let r = report_by (selected h s) key event cut in
         total_of r.rows + r.rest ≡ self_costs event (selected h s) }
-    ensures total { (h : History) (s : Selection) (key : Key) (event : List ℕ) (cut : Cut) → (report_by (selected h s) key event cut).total ≡ self_costs event (selected h s) }
+    ensures total { (h : History) (s : Selection) (key : Key) (event : List ℕ) (cut : Cut)
+        → (report_by (selected h s) key event cut).total ≡ self_costs event (selected h s) }
 {}

@@ -55,7 +55,8 @@ pub(crate) fn merge_runs<S: Alter>(
     runs: &[Counted],
     key: Key,
 ) -> Result<Merged, StoreEnd>
-    ensures told { Told S.Store result store.old store.new (λ t sums. names.now ≡ t.names → sums ≡ fold (merged_from t) (record { key = key; sums = [] }) runs.now) }
+    ensures told { Told S.Store result store.old store.new (λ t sums. names.now ≡ t.names
+        → sums ≡ fold (merged_from t) (record { key = key; sums = [] }) runs.now) }
     ensures asks { AsksIfOpen S.Store (is_ok result) store.old store.new }
 {
     let mut merged = Merged::new(alloc, key);
