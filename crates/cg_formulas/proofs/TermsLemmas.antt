@@ -86,13 +86,6 @@ pub formula-terms : (text : List ℕ) → is_some (formula_of text) ≡ true →
 unfolding formula_of terms_in
 formula-terms text h = leading-all (map term_of (slice_split is_plus text)) h
 
-pub no_formula : (text : List ℕ) → is_some (formula_of text) ≡ false → None ≡ formula_of text
-no_formula text h = none-some (formula_of text) h
-  where
-    none-some : (o : Option (List Term)) → is_some o ≡ false → None ≡ o
-    none-some None e = refl
-    none-some (Some ts) e = cc
-
 -- how much is behind a `+`
 abbrev pub size_behind : Option (Bor (List ℕ)) → ℕ
 size_behind None = 0

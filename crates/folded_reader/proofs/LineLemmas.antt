@@ -1,12 +1,12 @@
 -- The last blank of a line, and counts.
-use Rattle.std.proofs.Common.{inl, inr, ◌≡◌, ℕ, zero, suc, ◌+◌, ◌-◌, ◌<◌, ◌^◌, ◌⊎◌, Bool, true, false, List, [], ◌∷◌, length, take, drop, MatchOption, Option, nat_eq, nat_le, nat_lt, if◌then◌else◌, codes, Result, Ok, Err, refl, sym, ap, ◌∙◌, arith}
+use Rattle.std.proofs.Common.{inl, inr, ◌≡◌, ℕ, zero, suc, ◌+◌, ◌-◌, ◌<◌, ◌^◌, Bool, true, false, List, [], ◌∷◌, length, take, drop, MatchOption, Option, nat_eq, nat_le, nat_lt, if◌then◌else◌, codes, Result, Ok, Err, refl, sym, ap, ◌∙◌, arith}
 use Rattle.std.specs.List.{list_all, starts_with}
 use Rattle.std.proofs.lemmas.Bool.{cases_Bool, and_parts, leb-true, ne_eqb, lt-ltb}
 use Rattle.memchr.specs.Find.{IsLastByte}
 use Rattle.cg_text.specs.Fields.{is_blank}
 use Rattle.cg_text.specs.Numbers.{is_digit, number_of, amount_of, below_half, value_in}
 use Rattle.cg_text.specs.declared.faults.Fault.{Fault}
-use Rattle.cg_text.specs.declared.faults.Fault.TheVariants.{NumberTooLarge, FoldedLine}
+use Rattle.cg_text.specs.declared.faults.Fault.TheVariants.{NumberTooLarge}
 use Rattle.profile_records.proofs.LastLemmas.{last-byte}
 use Rattle.profile_records.specs.Stacks.{Stack}
 use Rattle.folded_reader.specs.Lines.{behind_blank, or_folded, count_of, counted, stack_of, some_stack, text_says}
@@ -39,12 +39,6 @@ count-amount [] some all = absurd (some refl)
 count-amount (b ∷ bs) some all =
     let plain = decimal-no_hexadecimal (b ∷ bs) all in
     rw plain (rw all (folded_if (nat_lt (value_in 10 (b ∷ bs)) (2 ^ 64)) (value_in 10 (b ∷ bs))))
-
--- what is no digits is no count
-pub count-none : (text : List ℕ) → (length text ≡ 0) ⊎ (list_all is_digit text ≡ false) → Err FoldedLine ≡ count_of text
-count-none [] h = refl
-count-none (b ∷ bs) (inl none) = absurd (omega (arith, none))
-count-none (b ∷ bs) (inr other) = rw other refl
 
 -- ---- lines
 

@@ -74,10 +74,6 @@ number_kept t name other h = go (has_name t other)
 abbrev pub AllHeld : Tables → List (List ℕ) → Type 0
 AllHeld t = AllByRecursion (λ name. has_name t name ≡ true)
 
-all_still : (t : Tables) (names : List (List ℕ)) (other : List ℕ) → AllHeld t names → AllHeld (named other t) names
-all_still t [] other h = tt
-all_still t (name ∷ names) other h = (still_has t name other h.0, all_still t names other h.1)
-
 still_all : (t : Tables) (name : List ℕ) (names : List (List ℕ)) → has_name t name ≡ true → has_name (all_named names t) name ≡ true
 still_all t name [] h = h
 still_all t name (other ∷ names) h = still_all (named other t) name names (still_has t name other h)

@@ -16,7 +16,7 @@ use Rattle.std.specs.Ordering.{is_eq}
 use Rattle.std.proofs.lemmas.Map.Text.{is_eq-slice_cmp}
 use Rattle.std.proofs.lemmas.Int.{ints}
 use Rattle.sqlite_keyed.proofs.KeyedLemmas.{Less-from_lt}
-use Rattle.prof_tables.specs.Tables.{number, number_or_null, text_or_null}
+use Rattle.prof_tables.specs.Tables.{number, text_or_null}
 
 either : (b : Bool) (x : Value) → cond b x x ≡ x
 either true x = refl
@@ -33,10 +33,6 @@ cast_whole z = either _ (Int z)
 
 pub cast_number : (n : ℕ) → cast Integer (Int (pos n)) ≡ Int (pos n)
 cast_number n = cast_whole (pos n)
-
-pub cast_number_or_null : (n : Option ℕ) → cast Integer (number_or_null n) ≡ number_or_null n
-cast_number_or_null None = cast_null
-cast_number_or_null (Some n) = cast_number n
 
 pub cast_text_or_null : (text : Option (List ℕ)) → cast Text (text_or_null text) ≡ text_or_null text
 cast_text_or_null None = refl

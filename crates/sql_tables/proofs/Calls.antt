@@ -1,5 +1,5 @@
 -- Calls one after another, and what each kind of statement is.
-use Rattle.std.proofs.Common.{refl, Option, None, ◌≡◌, ◌≤◌, ◌+◌, ◌⊎◌, inl, inr, ℕ, List, Bool, true, false, Ok, Err, Result, IsTrue, sym, ap, subst, ◌∙◌, arith}
+use Rattle.std.proofs.Common.{refl, Option, None, ◌≡◌, ◌≤◌, ◌⊎◌, inl, inr, ℕ, List, Bool, true, false, Ok, Err, Result, IsTrue, sym, ap, subst, ◌∙◌, arith}
 use Rattle.std.specs.Result.{is_ok, IsErr}
 use Rattle.sqlite_disk.specs.Disk.{MoreFaults}
 use Rattle.sqlite_value.specs.Order.{Row}
@@ -14,16 +14,13 @@ use Rattle.sqlite.specs.Calls.{IsWrite}
 use Rattle.sqlite.specs.Listing.{understood}
 use Rattle.sqlite.specs.State.{State, HasCleanDisk, IsUnchanged, IsRolledBack, Survives, Executes, CommitsBy, Shown, QueriesRow, FailsToQuery, CommitsShowing}
 use Rattle.sqlite.proofs.Callers.{IsPlain, command_of}
-use Rattle.sql_tables.specs.States.{Rests, LeavesOnly}
+use Rattle.sql_tables.specs.States.{Rests}
 use Rattle.sql_tables.specs.Calls.{IsSettled, IsAsBefore, Stays, Asked, Changed}
 use Rattle.sql_tables.proofs.Opens.{WasOpen, WritesText, was_open_if_kept, shown_open, fails_was_open, row_open, no_row_open, no_row_unchanged, row_was_open, ran_open}
 use Rattle.sql_tables.proofs.Statements.{plain_mode, refused, done as write_done, crash as write_crash}
 use Rattle.sql_tables.proofs.Queries.{shown_keeps, failed_keeps, row_keeps, row_unchanged, commits_nothing}
 
 -- ---- faults
-
-more_later : (a b c : ℕ) → MoreFaults a b → b ≤ c → MoreFaults a c
-more_later a b c h k = omega (arith, h, k)
 
 more_before : (a b c : ℕ) → a ≤ b → MoreFaults b c → MoreFaults a c
 more_before a b c h k = omega (arith, h, k)
@@ -113,15 +110,6 @@ asked_then schema ok old mid new one two = record {
   crash = λ is has db may. elim (two.crash (one.stays.is_open refl) (ap (λ (d : Database). d.schema) (one.same refl has) ∙ has) db may) [ inl before ↦ one.crash is has db before | inr none ↦ absurd none ];
 }
 
--- in a loop: as long as it was open at first it is open
-pub asked_yet : (schema : Schema) (s : State) → HasCleanDisk s → Asked schema s.is_open s s
-asked_yet schema s clean = record {
-  stays = record { was_clean = clean; counts = omega arith; closes = λ is. inl is; was_open = λ is. is; is_open = λ is. is };
-  same = λ _ _. cc;
-  kept = (asked_none schema s clean).kept;
-  crash = λ _ _ db may. inl may;
-}
-
 pub asked_on : (schema : Schema) (ok : Bool) (old mid new : State) → Asked schema old.is_open old mid → Asked schema ok mid new → Asked schema ok old new
 asked_on schema ok old mid new one two = record {
   stays = record {
@@ -145,10 +133,6 @@ asked_rests schema P old new h was = rests_before schema P old new was (h.stays.
 
 pub asked_rests_yet : (schema : Schema) (P : Trees → Type 0) (old new : State) → Asked schema old.is_open old new → Rests schema P old → Rests schema P new
 asked_rests_yet schema P old new h was = rests_before schema P old new was (h.stays.is_open was.usable) (h.kept (settled_of schema P old was) (h.stays.is_open was.usable))
-
--- the same where tables of any schema were asked
-pub asked_any_rests : (schema : Schema) (P : Trees → Type 0) (old new : State) → Asked old.now.schema true old new → Rests schema P old → Rests schema P new
-asked_any_rests schema P old new h was = rests_before schema P old new was (h.stays.is_open refl) (h.kept (record { schema_is = refl; settled = was.settled; autocommit = was.autocommit }) (h.stays.is_open refl))
 
 -- ---- calls that change
 
@@ -274,18 +258,3 @@ asked_err schema (Err e) old new is h = h
 pub changed_err : {T E M : Type 0} (schema : Schema) (Before After : M → Trees → Type 0) (r : Result T E) (old new : State) → IsErr r → Changed schema Before After false false old new → Changed schema Before After (is_ok r) (is_ok r) old new
 changed_err schema Before After (Ok x) old new is h = absurd (cc is)
 changed_err schema Before After (Err e) old new is h = h
-
--- a transaction: what was written in it, and its end
-pub stays_through : {C D : Trees → Type 0} (ok : Bool) (old mid new : State) → Survives old mid C → Survives mid new D → HasCleanDisk new → WasOpen old new → (IsTrue ok → IsTrue new.is_open) → Stays ok old new
-stays_through ok old mid new one two clean was_open is_open =
-    let early : HasCleanDisk mid = omega (arith, two.clean, clean) in
-    record {
-      was_clean = omega (arith, one.clean, early);
-      counts = omega (arith, one.counts, two.counts);
-      closes = λ is. elim (one.closes early is) [
-        | inl there ↦ elim (two.closes clean there) [ inl still ↦ inl still | inr more ↦ inr (more_before old.faults mid.faults new.faults one.counts more) ]
-        | inr more ↦ inr (more_later old.faults mid.faults new.faults more two.counts)
-      ];
-      was_open = was_open;
-      is_open = is_open;
-    }

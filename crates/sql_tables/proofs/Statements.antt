@@ -53,28 +53,6 @@ refused sql params old new e (inr h) = elim (cases_Bool (shows_rows false h.0)) 
 ]
 
 module _ (schema : Schema) (P : Trees → Type 0) where
-  -- a call that was refused leaves what stood
-  pub rests_if_kept : (old new : State) → Rests schema P old → IsTrue new.is_open → IsUnchanged old new ⊎ IsRolledBack old new → Rests schema P new
-  rests_if_kept old new was is_open (inl same) = record {
-    schema_is = ap (λ (d : Database). d.schema) same.0.now_is ∙ was.schema_is;
-    holds = subst (λ (d : Database). P d.trees) (sym same.0.now_is) was.holds;
-    settled = same.0.committed_is ∙ was.settled ∙ sym same.0.now_is;
-    autocommit = same.0.mode ∙ was.autocommit;
-    usable = is_open;
-  }
-  rests_if_kept old new was is_open (inr back) =
-      let now : new.now ≡ old.now = (back.undone is_open).0 ∙ was.settled in
-      record {
-        schema_is = ap (λ (d : Database). d.schema) now ∙ was.schema_is;
-        holds = subst (λ (d : Database). P d.trees) (sym now) was.holds;
-        settled = (back.undone is_open).1 ∙ sym (back.undone is_open).0;
-        autocommit = back.autocommit;
-        usable = is_open;
-      }
-
-  -- a call that only read leaves what stood
-  pub rests_if_same : (old new : State) → Rests schema P old → IsUnchanged old new → Rests schema P new
-  rests_if_same old new was same = rests_if_kept old new was same.0.is_open (inl same)
 
   pub works_if_same : (old new : State) → Works schema P old → IsUnchanged old new → Works schema P new
   works_if_same old new was same = record {

@@ -1,14 +1,7 @@
 -- What a part of a transaction does to what a connection shows, and where the numbers of runs lie.
-use Rattle.std.specs.Prelude.{ℕ, ◌<◌, IsTrue}
+use Rattle.std.specs.Prelude.{ℕ, ◌<◌}
 use Rattle.std.specs.List.{AllByRecursion}
-use Rattle.sqlite.specs.State.{HasCleanDisk, State, Survives}
-use Rattle.sql_tables.specs.States.{KeepsCommit}
 use Rattle.prof_tables.specs.Tables.{Tables, RunLine}
-
--- whatever comes of it, it commits nothing
-pub record Passes (old new : State) : Type 0 where
-  pub kept : HasCleanDisk new → IsTrue old.in_transaction → KeepsCommit old new
-  pub survives : Survives old new (λ _. ⊥)
 
 -- each run's number is below a number
 abbrev pub IsAbove : ℕ → Tables → Type 0

@@ -136,10 +136,6 @@ module _ {T S : Type 0} (t : Ghosts T S) where
 
   -- ---- what is answered
 
-  pub refuses : {X E : Type 0} (r : Result X E) (a c : Moment T S) (bytes : List ℕ) → IsErr r → Refused t a c → TakesLine t r a bytes c
-  refuses (Ok x) a c bytes is h = absurd (cc is)
-  refuses (Err e) a c bytes is h = record { done = tt; refused = h }
-
   pub stops : {X E : Type 0} (r : Result X E) (a c : Moment T S) (bytes : List ℕ) → IsErr r → Stops t a bytes c → TakesBytes t r a bytes c
   stops (Ok x) a c bytes is h = absurd (cc is)
   stops (Err e) a c bytes is h = record { done = tt; stopped = h }

@@ -1,27 +1,14 @@
--- What is told from the first line on, and calls of a reader one after another.
+-- What is told from the first line on.
 use Rattle.std.proofs.Common.{◌≡◌, ℕ, List, [], ◌++◌, fold, map, Result, Ok, Err, OnOk, OnErr, refl, sym, ◌∙◌, ap, subst}
-use Rattle.std.proofs.lemmas.List.{append-nil, append_assoc}
-use Rattle.std.proofs.lemmas.Grind.{fold-append}
+use Rattle.std.proofs.lemmas.List.{append-nil}
 use Rattle.cg_text.specs.Lines.{lines_of}
 use Rattle.text_pieces.specs.Cut.{cut}
 use Rattle.text_pieces.specs.Backwards.{back_of, end_of, held, so_far, in_all, Agrees, IsPrefix}
 use Rattle.text_pieces.specs.Moves.{at, Took, TakesBytes, Ends}
-use Rattle.text_pieces.specs.Readers.{StandsFor, GoesOn, HandsAll, HandsPart}
+use Rattle.text_pieces.specs.Readers.{StandsFor, HandsAll, HandsPart}
 use Rattle.text_pieces.specs.declared.pieces.Pieces.{Pieces}
 use Rattle.text_pieces.specs.declared.takes.TakesLines.{Ghosts}
 use Rattle.text_pieces.proofs.PrefixLemmas.{text_prefix, file_prefix}
-
--- ---- calls one after another
-
-module _ {R B M : Type 0} (Reads : R → List ℕ → List B → Type 0) (step : M → B → M) where
-  pub goes_none : (r : R) (m : M) → GoesOn Reads step r m [] r m
-  goes_none r m text told reads = ([], rw (append-nil text, append-nil told) reads, refl)
-
-  pub goes_then : (a b c : R) (k l m : M) (xs ys : List ℕ) → GoesOn Reads step a k xs b l → GoesOn Reads step b l ys c m → GoesOn Reads step a k (xs ++ ys) c m
-  goes_then a b c k l m xs ys one two text told reads =
-      let first = one text told reads in
-      let last = two (text ++ xs) (told ++ first.0) first.1 in
-      (first.0 ++ last.0, rw (← append_assoc text xs ys, ← append_assoc told first.0 last.0) last.1, last.2 ∙ ap (λ x. fold step x last.0) first.2 ∙ sym (fold-append step k first.0 last.0))
 
 -- ---- a format that is told from the first line on as looking back
 

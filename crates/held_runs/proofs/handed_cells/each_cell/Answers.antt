@@ -1,11 +1,10 @@
-use Rattle.std.proofs.Common.{◌≡◌, map, true, sym, ap, subst, ◌∙◌}
-use Rattle.sql_tables.proofs.Calls.{asked_rests_yet, asked_yet}
+use Rattle.std.proofs.Common.{map, true, ◌∙◌}
+use Rattle.sql_tables.proofs.Calls.{asked_rests_yet}
 use Rattle.prof_tables.specs.Schema.{schema_one}
 use Rattle.prof_tables.specs.Tables.{Holds, cell_columns}
-use Rattle.prof_store.specs.Shown.{shown}
 use Rattle.store_columns.specs.Lines.{cell_line}
 use Rattle.held_runs.proofs.Asking.{asked_open_then}
-use Rattle.held_runs.proofs.CellSteps.{none_handed, one_handed, all_handed}
+use Rattle.held_runs.proofs.CellSteps.{one_handed, all_handed}
 use Rattle.held_runs.proofs.WalkSteps.{ready_for}
 use Rattle.held_runs.proofs.handed_cells.each_cell.Goals as goal
 
