@@ -53,7 +53,6 @@ refused sql params old new e (inr h) = elim (cases_Bool (shows_rows false h.0)) 
 ]
 
 module _ (schema : Schema) (P : Trees → Type 0) where
-
   pub works_if_same : (old new : State) → Works schema P old → IsUnchanged old new → Works schema P new
   works_if_same old new was same = record {
     schema_is = ap (λ (d : Database). d.schema) same.0.now_is ∙ was.schema_is;
