@@ -1,8 +1,8 @@
 -- What is printed of an answer, and which answers are refusals.
 use Rattle.std.specs.Prelude.{ℕ, Bool, true, false, List, ◌++◌, codes}
 use Rattle.std.specs.Fmt.{decimal}
-use Rattle.cg_text.specs.Ends.{end_text}
-use Rattle.cg_text.specs.declared.faults.ReadEnd.TheVariants as ends
+use Rattle.cg_text.specs.Errors.{error_text}
+use Rattle.cg_text.specs.declared.faults.ReadError.TheVariants as ends
 use Rattle.histories.specs.declared.answers.Answer.{Answer}
 use Rattle.histories.specs.declared.answers.Answer.TheVariants.{Run, Held, Done, Text, Refused}
 use Rattle.histories.specs.declared.answers.Excess.{Excess}
@@ -24,7 +24,7 @@ reason_text Memory = codes "out of memory"
 reason_text Store = codes "store failed"
 reason_text ReadFault = codes "read failed"
 reason_text TooLong = codes "too long"
-reason_text (File fault line) = end_text (ends.Fault fault line)
+reason_text (File fault line) = error_text (ends.Fault fault line)
 reason_text (Overflow excess) = excess_text excess
 reason_text Full = codes "full"
 reason_text NumbersSpent = codes "run numbers spent"

@@ -1,19 +1,19 @@
 // Answers as they are printed.
 ghost use Rattle.std.specs.Prelude.{◌≡◌, ◌++◌, OnOk, IfOk, codes};
-ghost use Rattle.cg_text.specs.Ends.{end_text};
-ghost use Rattle.cg_text.specs.declared.faults.ReadEnd.TheVariants as ends;
+ghost use Rattle.cg_text.specs.Errors.{error_text};
+ghost use Rattle.cg_text.specs.declared.faults.ReadError.TheVariants as ends;
 ghost use Rattle.answer_lines.specs.Answers as told;
 
-use cg_text::{Fault, Items, ReadEnd};
+use cg_text::{Fault, ListVec, ReadError};
 use histories::{Answer, Excess, Refusal};
 use printed_names::push_escaped;
 use std::alloc::{AllocError, Global};
 
 /// Adds a fault and its line.
 fn push_fault(text: &mut Vec<u8>, alloc: Global, fault: Fault, line: u64) -> Result<(), AllocError>
-    ensures { OnOk result (text.new.items ≡ text.old.items ++ end_text (ends.Fault fault line)) }
+    ensures { OnOk result (text.new.items ≡ text.old.items ++ error_text (ends.Fault fault line)) }
 {
-    let reason = ReadEnd::Fault(fault, line).to_string(alloc)?;
+    let reason = ReadError::Fault(fault, line).to_string(alloc)?;
     text.extend_from_slice(reason.as_bytes())?;
     Ok(())
 }
@@ -71,7 +71,7 @@ fn refusal_line(alloc: Global, refusal: &Refusal) -> Result<Vec<u8>, AllocError>
 }
 
 /// What is printed of an answer: one line, or the lines of a text as they are.
-pub fn line_of(alloc: Global, answer: &Answer) -> Result<Items<u8>, AllocError>
+pub fn line_of(alloc: Global, answer: &Answer) -> Result<ListVec<u8>, AllocError>
     ensures { IfOk result (λ line. line ≡ told.line_text answer.now) }
 {
     let line = match answer {
@@ -81,7 +81,7 @@ pub fn line_of(alloc: Global, answer: &Answer) -> Result<Items<u8>, AllocError>
         Answer::Text(text) => text.as_slice().to_vec(alloc)?,
         Answer::Refused(refusal) => refusal_line(alloc, refusal)?,
     };
-    Ok(Items::from_vec(line))
+    Ok(ListVec::from_vec(line))
 }
 
 /// Whether an answer is a refusal.

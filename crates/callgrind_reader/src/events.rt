@@ -7,27 +7,27 @@ ghost use Rattle.callgrind_reader.specs.Events.{first_of, same_names, events_fau
 ghost use Rattle.callgrind_reader.specs.Files.{names_or_none};
 
 use crate::rows::field_count;
-use cg_text::{Fault, Items, are_distinct, next_field};
+use cg_text::{Fault, ListVec, are_distinct, next_field};
 use std::alloc::{AllocError, Global};
 
 /// The most events that a file may have.
 pub const MOST_EVENTS: usize = 64;
 
 /// The fields of a text, each as a name.
-fn read_names(alloc: Global, text: &[u8]) -> Result<Items<Items<u8>>, AllocError>
+fn read_names(alloc: Global, text: &[u8]) -> Result<ListVec<ListVec<u8>>, AllocError>
     ensures { IfOk result (λ names. names ≡ fields_of text.now) }
 {
-    let mut names = Items::new(alloc);
+    let mut names = ListVec::new(alloc);
     let mut rest = text;
     while let Some((field, more)) = next_field(rest) {
-        names.push(Items::from_vec(field.to_vec(alloc)?))?;
+        names.push(ListVec::from_vec(field.to_vec(alloc)?))?;
         rest = more;
     }
     Ok(names)
 }
 
 /// Whether two lists have the same names in the same order.
-fn same_names(names: &[Items<u8>], others: &[Items<u8>]) -> bool
+fn same_names(names: &[ListVec<u8>], others: &[ListVec<u8>]) -> bool
     ensures { result ≡ same_names names.now others.now }
 {
     let mut left = names;
@@ -49,7 +49,7 @@ fn same_names(names: &[Items<u8>], others: &[Items<u8>]) -> bool
 #[derive(Drop)]
 pub struct Events {
     pub(crate) alloc: Global,
-    pub(crate) names: Option<Items<Items<u8>>>,
+    pub(crate) names: Option<ListVec<ListVec<u8>>>,
     ghost few: { ForSome names (λ n. length n ≤ 64) },
     ghost distinct: { ForSome names (λ n. are_distinct n ≡ true) },
 }
@@ -63,7 +63,7 @@ impl Events {
     }
 
     /// The names of the events, none where no line named them.
-    pub fn into_names(self) -> Items<Items<u8>>
+    pub fn into_names(self) -> ListVec<ListVec<u8>>
         ensures names { result ≡ names_or_none self.names }
         ensures few { length result ≤ 64 }
         ensures distinct { are_distinct result ≡ true }
@@ -71,7 +71,7 @@ impl Events {
         let Events { alloc, names } = self;
         match names {
             Some(names) => names,
-            None => Items::new(alloc),
+            None => ListVec::new(alloc),
         }
     }
 

@@ -11,8 +11,8 @@ use crate::headers::{form_of, positions_fault, version_fault};
 use crate::layouts::Layout;
 use crate::rows::push_amounts;
 use crate::stated::{Stated, StatedKey};
-use cg_formulas::{FileHead, FlatEnd, Formulas, TextEnd, event_line};
-use cg_text::{Fault, HeaderKey, Items, ReadEnd};
+use cg_formulas::{FileHead, FlatError, Formulas, TextError, event_line};
+use cg_text::{Fault, HeaderKey, ListVec, ReadError};
 use std::alloc::{AllocError, Global};
 
 /// What is known of a file's header.
@@ -98,8 +98,8 @@ impl Header {
                 self.formulas.add(line, event)?;
                 Ok(None)
             }
-            Err(TextEnd::Fault(fault)) => Ok(Some(fault)),
-            Err(TextEnd::Memory) => Err(AllocError),
+            Err(TextError::Fault(fault)) => Ok(Some(fault)),
+            Err(TextError::Memory) => Err(AllocError),
         }
     }
 
@@ -137,7 +137,7 @@ impl Header {
     }
 
     /// The totals that the lines so far state, one for each event.
-    fn stated_totals(&self) -> Result<Option<Items<u128>>, AllocError>
+    fn stated_totals(&self) -> Result<Option<ListVec<u128>>, AllocError>
         ensures { IfOk result (StatesTotals self.now) }
     {
         let count = self.event_count();
@@ -148,7 +148,7 @@ impl Header {
     }
 
     /// What the lines so far say of their file, or the first fault of their formulas.
-    pub fn into_head(self) -> Result<FileHead, ReadEnd>
+    pub fn into_head(self) -> Result<FileHead, ReadError>
         ensures comes { (back : List Reading) → HeaderIs self back → ComesBy (formulas_fault back) result back }
         ensures few { IfOk result (λ head. length head.events ≤ 64) }
     {
@@ -167,8 +167,8 @@ impl Header {
                 derived,
                 stated,
             }),
-            Err(FlatEnd::Fault(fault, line)) => Err(ReadEnd::Fault(fault, line)),
-            Err(FlatEnd::Memory) => Err(ReadEnd::Memory),
+            Err(FlatError::Fault(fault, line)) => Err(ReadError::Fault(fault, line)),
+            Err(FlatError::Memory) => Err(ReadError::Memory),
         }
     }
 }

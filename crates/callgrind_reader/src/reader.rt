@@ -3,11 +3,11 @@ ghost use Rattle.std.specs.Prelude.{◌≡◌, ℕ, ◌≤◌, OnOk, OnErr, IfOk
 ghost use Rattle.text_pieces.specs.Kept.{taken_of};
 ghost use Rattle.text_pieces.specs.Readers.{GoesOn};
 ghost use Rattle.profile_records.specs.Records.{Record};
-ghost use Rattle.cg_text.specs.declared.faults.ReadEnd.TheVariants.{Memory};
+ghost use Rattle.cg_text.specs.declared.faults.ReadError.TheVariants.{Memory};
 
 use crate::state::State;
 use cg_formulas::FileHead;
-use cg_text::ReadEnd;
+use cg_text::ReadError;
 use profile_records::Sink;
 use std::alloc::{AllocError, Global};
 use text_pieces::Pieces;
@@ -62,7 +62,7 @@ impl Reader {
 
     /// Ends the file: hands on the record of its last line, if that has no end, and answers the
     /// file's head or its first fault.
-    pub fn finish<S: Sink>(self, sink: &mut S) -> Result<FileHead, ReadEnd>
+    pub fn finish<S: Sink>(self, sink: &mut S) -> Result<FileHead, ReadError>
         requires { (IsSpent self → ⊥) → Takes self (S.last sink.old) (S.width sink.old) }
         ensures ended { (text : List ℕ) (told : List Record) → Reads self text told → Ended result text }
         ensures told { HandsOver S.step self (S.meaning sink.old) result (S.meaning sink.new) }

@@ -5,7 +5,7 @@ ghost use Rattle.callgrind_reader.specs.Costs.{AreAmounts};
 ghost use Rattle.callgrind_reader.specs.Totals.{first_stated};
 
 use crate::totals::Sums;
-use cg_text::Items;
+use cg_text::ListVec;
 use std::alloc::{AllocError, Global};
 
 /// A key whose lines state totals.
@@ -50,7 +50,7 @@ impl Stated {
     }
 
     /// The first columns of what the lines state, by the first key that has lines.
-    pub fn first(&self, alloc: Global, count: usize) -> Result<Option<Items<u128>>, AllocError>
+    pub fn first(&self, alloc: Global, count: usize) -> Result<Option<ListVec<u128>>, AllocError>
         requires { count ≤ 64 }
         ensures { IfOk result (λ stated. (back : List Reading) → StatedIs self.now back → stated ≡ first_stated count back) }
     {

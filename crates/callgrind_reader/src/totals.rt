@@ -3,7 +3,7 @@ ghost use Rattle.std.specs.Prelude.{◌≡◌, ℕ, ◌+◌, ◌*◌, ◌<◌, �
 ghost use Rattle.callgrind_reader.specs.Costs.{AreAmounts};
 
 use crate::events::MOST_EVENTS;
-use cg_text::Items;
+use cg_text::ListVec;
 use std::alloc::{AllocError, Global};
 
 /// Sums over the lines of a key, one for each column that can have an event.
@@ -43,7 +43,7 @@ impl Sums {
     }
 
     /// The sums of the first columns, if a line was added.
-    pub fn first(&self, alloc: Global, count: usize) -> Result<Option<Items<u128>>, AllocError>
+    pub fn first(&self, alloc: Global, count: usize) -> Result<Option<ListVec<u128>>, AllocError>
         requires { count ≤ 64 }
         ensures { IfOk result (λ sums. sums ≡ (if nat_lt 0 self.now.lines then Some (take count self.now.sums.items) else None)) }
     {
@@ -51,6 +51,6 @@ impl Sums {
             return Ok(None);
         }
         let sums = self.sums[..count].to_vec(alloc)?;
-        Ok(Some(Items::from_vec(sums)))
+        Ok(Some(ListVec::from_vec(sums)))
     }
 }

@@ -5,4 +5,4 @@ pub mod Definitions
 pub mod Rows
 pub mod Flats
 pub mod Held
-pub mod Ends
+pub mod Errors

@@ -12,7 +12,7 @@ ghost use Rattle.cg_formulas.specs.EventViews.{terms_in};
 use crate::definitions::Definition;
 use crate::rows::{add_times, total, weighed};
 use crate::terms::terms;
-use cg_text::{Fault, Items, are_distinct};
+use cg_text::{Fault, ListVec, are_distinct};
 use std::alloc::{AllocError, Global};
 use std::error::Error;
 use std::fmt;
@@ -27,9 +27,9 @@ const MOST_COUNTS: u64 = 1_000_000;
 #[derive(Drop)]
 pub struct Flat {
     /// The names of the events.
-    pub events: Items<Items<u8>>,
+    pub events: ListVec<ListVec<u8>>,
     /// The derived names, each with its coefficients.
-    pub derived: Items<(Items<u8>, Items<u64>)>,
+    pub derived: ListVec<(ListVec<u8>, ListVec<u64>)>,
     ghost distinct: { are_distinct events ≡ true },
     ghost shape: { All (λ d. length d.1 ≡ length events) derived },
     ghost small: { All (λ d. sum d.1 ≤ 1000000) derived },
@@ -38,45 +38,45 @@ pub struct Flat {
 /// Why formulas come to no coefficients: their first fault with its line, or want of memory. Printed
 /// as `line 4: F18 formula too large` or `out of memory`.
 #[derive(Clone, Copy, Debug, PartialEq, Eq)]
-pub enum FlatEnd {
+pub enum FlatError {
     Fault(Fault, u64),
     Memory,
 }
 
-impl fmt::Display for FlatEnd {
+impl fmt::Display for FlatError {
     ghost use Rattle.std.specs.Prelude.{Some};
-    ghost use Rattle.cg_formulas.specs.Ends.{flat_end_text};
+    ghost use Rattle.cg_formulas.specs.Errors.{flat_error_text};
 
-    ghost output = { λ end. Some (flat_end_text end) };
+    ghost output = { λ end. Some (flat_error_text end) };
 
     fn fmt<W: fmt::Write>(&self, f: &mut fmt::Formatter<W>) -> fmt::Result {
         match self {
-            FlatEnd::Fault(fault, line) => write!(f, "line {line}: {fault}"),
-            FlatEnd::Memory => write!(f, "out of memory"),
+            FlatError::Fault(fault, line) => write!(f, "line {line}: {fault}"),
+            FlatError::Memory => write!(f, "out of memory"),
         }
     }
 }
 
-impl Error for FlatEnd {}
+impl Error for FlatError {}
 
-impl From<AllocError> for FlatEnd {
+impl From<AllocError> for FlatError {
     ghost use Rattle.std.specs.Prelude.{◌≡◌};
-    ghost use Rattle.cg_formulas.specs.declared.flats.FlatEnd.TheVariants as ends;
+    ghost use Rattle.cg_formulas.specs.declared.flats.FlatError.TheVariants as ends;
 
     ghost from_gives = { λ _ end. end ≡ ends.Memory };
 
-    fn from(_error: AllocError) -> FlatEnd {
-        FlatEnd::Memory
+    fn from(_error: AllocError) -> FlatError {
+        FlatError::Memory
     }
 }
 
 /// The names, each with its bytes in memory of its own.
-fn copied(alloc: Global, names: &[Items<u8>]) -> Result<Items<Items<u8>>, AllocError>
+fn copied(alloc: Global, names: &[ListVec<u8>]) -> Result<ListVec<ListVec<u8>>, AllocError>
     ensures { IfOk result (λ copies. copies ≡ names.now) }
 {
-    let mut copies = Items::new(alloc);
+    let mut copies = ListVec::new(alloc);
     for name in names {
-        copies.push(Items::from_vec(name.as_slice().to_vec(alloc)?))?;
+        copies.push(ListVec::from_vec(name.as_slice().to_vec(alloc)?))?;
     }
     Ok(copies)
 }
@@ -90,7 +90,7 @@ fn is_row(row: &[u64], events: usize) -> bool
 }
 
 /// Whether each derived event has a coefficient for each event, and none comes to more than the most.
-fn are_rows(derived: &[(Items<u8>, Items<u64>)], events: usize) -> bool
+fn are_rows(derived: &[(ListVec<u8>, ListVec<u64>)], events: usize) -> bool
     ensures { IsTrue result ↔ All (λ d. (length d.1 ≡ events) × (sum d.1 ≤ 1000000)) derived.now }
 {
     derived
@@ -99,10 +99,10 @@ fn are_rows(derived: &[(Items<u8>, Items<u64>)], events: usize) -> bool
 }
 
 /// How often each event counts in the event of a name: once, and the others not at all.
-fn own_row(alloc: Global, events: &[Items<u8>], name: &[u8]) -> Result<Items<u64>, AllocError>
+fn own_row(alloc: Global, events: &[ListVec<u8>], name: &[u8]) -> Result<ListVec<u64>, AllocError>
     ensures { IfOk result (λ row. row ≡ coefficients events.now name.now []) }
 {
-    let mut row = Items::new(alloc);
+    let mut row = ListVec::new(alloc);
     for event in events {
         row.push(u64::from(event.as_slice() == name))?;
     }
@@ -114,7 +114,10 @@ impl Flat {
 
     /// The coefficients that are given, if no event stands twice and each derived event has one for
     /// each event, which come to 1,000,000 at most. Takes no memory.
-    pub fn of(events: Items<Items<u8>>, derived: Items<(Items<u8>, Items<u64>)>) -> Option<Flat>
+    pub fn of(
+        events: ListVec<ListVec<u8>>,
+        derived: ListVec<(ListVec<u8>, ListVec<u64>)>,
+    ) -> Option<Flat>
         ensures given { IfSome result (λ flat. (flat.events ≡ events) × (flat.derived ≡ derived)) }
         ensures which { IsTrue (is_some result) ↔ IsFlat events derived }
     {
@@ -126,14 +129,14 @@ impl Flat {
     }
 
     /// No event is derived yet.
-    pub(crate) fn new(alloc: Global, events: &[Items<u8>]) -> Result<Flat, AllocError>
+    pub(crate) fn new(alloc: Global, events: &[ListVec<u8>]) -> Result<Flat, AllocError>
         requires { are_distinct events.now ≡ true }
         ensures events { IfOk result (λ flat. flat.events ≡ events.now) }
         ensures derived { IfOk result (λ flat. flat.derived ≡ []) }
     {
         Ok(Flat {
             events: copied(alloc, events)?,
-            derived: Items::new(alloc),
+            derived: ListVec::new(alloc),
         })
     }
 
@@ -162,14 +165,14 @@ impl Flat {
     }
 
     /// How often each event counts in an event or a derived event; `None` where the name is neither.
-    pub fn row(&self, alloc: Global, name: &[u8]) -> Result<Option<Items<u64>>, AllocError>
+    pub fn row(&self, alloc: Global, name: &[u8]) -> Result<Option<ListVec<u64>>, AllocError>
         ensures { IfOk result (λ row. row ≡ row_of self.now name.now) }
     {
         if let Some(_at) = self.event_at(name) {
             return Ok(Some(own_row(alloc, self.events.as_slice(), name)?));
         }
         match self.coefficients(name) {
-            Some(row) => Ok(Some(Items::from_vec(row.to_vec(alloc)?))),
+            Some(row) => Ok(Some(ListVec::from_vec(row.to_vec(alloc)?))),
             None => Ok(None),
         }
     }
@@ -236,25 +239,25 @@ impl Flat {
     }
 
     /// Adds the derived event of a definition whose name is new, or answers its fault.
-    pub(crate) fn define(&mut self, alloc: Global, definition: &Definition) -> Result<(), FlatEnd>
+    pub(crate) fn define(&mut self, alloc: Global, definition: &Definition) -> Result<(), FlatError>
         ensures events { self.new.events ≡ self.old.events }
         ensures defines { DefinesNew result self.old definition.now self.new }
     {
         let name = definition.name.as_slice();
         if self.event_at(name).is_some() {
-            return Err(FlatEnd::Fault(Fault::EventTwice, definition.line));
+            return Err(FlatError::Fault(Fault::EventTwice, definition.line));
         }
         if self.derived.len() >= MOST_NAMES {
-            return Err(FlatEnd::Fault(Fault::TooManyEvents, definition.line));
+            return Err(FlatError::Fault(Fault::TooManyEvents, definition.line));
         }
         let Some(row) = self.counted(alloc, definition.formula.text.as_slice())? else {
-            return Err(FlatEnd::Fault(Fault::FormulaUnknown, definition.line));
+            return Err(FlatError::Fault(Fault::FormulaUnknown, definition.line));
         };
         if total(&row) > MOST_COUNTS {
-            return Err(FlatEnd::Fault(Fault::FormulaTooLarge, definition.line));
+            return Err(FlatError::Fault(Fault::FormulaTooLarge, definition.line));
         }
-        let name = Items::from_vec(name.to_vec(alloc)?);
-        self.derived.push((name, Items::from_vec(row)))?;
+        let name = ListVec::from_vec(name.to_vec(alloc)?);
+        self.derived.push((name, ListVec::from_vec(row)))?;
         Ok(())
     }
 }

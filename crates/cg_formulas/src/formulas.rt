@@ -8,9 +8,9 @@ ghost use Rattle.cg_formulas.specs.Flats.{FlatIs};
 
 use crate::definitions::Definition;
 use crate::event_lines::{EventLine, Formula};
-use crate::flats::{Flat, FlatEnd, MOST_NAMES};
+use crate::flats::{Flat, FlatError, MOST_NAMES};
 use crate::terms::terms;
-use cg_text::{Fault, Items};
+use cg_text::{Fault, ListVec};
 use std::alloc::{AllocError, Global};
 use std::mem;
 
@@ -19,7 +19,7 @@ use std::mem;
 pub struct Formulas {
     alloc: Global,
     /// The first definition of each name, up to the first name too many, by its shortest text.
-    definitions: Items<Definition>,
+    definitions: ListVec<Definition>,
     /// The first line that gives a name other terms than before.
     changed: Option<u64>,
     ghost few: { length definitions ≤ 65 },
@@ -50,7 +50,7 @@ impl Formulas {
     {
         Formulas {
             alloc,
-            definitions: Items::new(alloc),
+            definitions: ListVec::new(alloc),
             changed: None,
         }
     }
@@ -77,10 +77,10 @@ impl Formulas {
         ensures definitions { terms_at self.old at ≡ terms_in formula.text → kept_of self.new ≡ kept_of self.old }
         ensures changed { self.new.changed ≡ self.old.changed }
     {
-        let none = Items::new(self.alloc);
+        let none = ListVec::new(self.alloc);
         let mut definitions = mem::replace(&mut self.definitions, none).into_vec();
         definitions[at].formula = formula;
-        self.definitions = Items::from_vec(definitions);
+        self.definitions = ListVec::from_vec(definitions);
     }
 
     /// Takes a formula of a name that has one. Where its terms are the same, the shorter text is kept,
@@ -123,7 +123,7 @@ impl Formulas {
 
     /// The coefficients of the derived events over the events of a file, or the first fault of the
     /// formulas with its line.
-    pub fn flatten(&self, events: &[Items<u8>]) -> Result<Flat, FlatEnd>
+    pub fn flatten(&self, events: &[ListVec<u8>]) -> Result<Flat, FlatError>
         requires { are_distinct events.now ≡ true }
         ensures { (back : List specs.Definition) → Holds self.now back → FlatIs result events.now back }
     {
@@ -132,7 +132,7 @@ impl Formulas {
             flat.define(self.alloc, definition)?;
         }
         match self.changed {
-            Some(line) => Err(FlatEnd::Fault(Fault::EventTwice, line)),
+            Some(line) => Err(FlatError::Fault(Fault::EventTwice, line)),
             None => Ok(flat),
         }
     }

@@ -11,8 +11,8 @@ mod laws;
 mod rows;
 mod terms;
 
-pub use event_lines::{EventLine, Formula, TextEnd, event_line};
-pub use flats::{Flat, FlatEnd};
+pub use event_lines::{EventLine, Formula, TextError, event_line};
+pub use flats::{Flat, FlatError};
 pub use formulas::Formulas;
 pub use heads::FileHead;
 pub use laws::{a_repeat_changes_nothing, coefficients_give_the_values, values_add_up};

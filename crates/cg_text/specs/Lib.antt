@@ -10,4 +10,4 @@ pub mod Readings
 pub mod Distinct
 pub mod Views
 pub mod Faults
-pub mod Ends
+pub mod Errors

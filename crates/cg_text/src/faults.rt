@@ -98,34 +98,34 @@ impl Error for Fault {}
 /// Why a reader gives no head: the file's first fault with its line, or want of memory. Printed as
 /// `line 3: F12 position range` or `out of memory`.
 #[derive(Clone, Copy, Debug, PartialEq, Eq)]
-pub enum ReadEnd {
+pub enum ReadError {
     Fault(Fault, u64),
     Memory,
 }
 
-impl fmt::Display for ReadEnd {
+impl fmt::Display for ReadError {
     ghost use Rattle.std.specs.Prelude.{Some};
-    ghost use Rattle.cg_text.specs.Ends.{end_text};
+    ghost use Rattle.cg_text.specs.Errors.{error_text};
 
-    ghost output = { λ end. Some (end_text end) };
+    ghost output = { λ end. Some (error_text end) };
 
     fn fmt<W: fmt::Write>(&self, f: &mut fmt::Formatter<W>) -> fmt::Result {
         match self {
-            ReadEnd::Fault(fault, line) => write!(f, "line {line}: {fault}"),
-            ReadEnd::Memory => write!(f, "out of memory"),
+            ReadError::Fault(fault, line) => write!(f, "line {line}: {fault}"),
+            ReadError::Memory => write!(f, "out of memory"),
         }
     }
 }
 
-impl Error for ReadEnd {}
+impl Error for ReadError {}
 
-impl From<AllocError> for ReadEnd {
+impl From<AllocError> for ReadError {
     ghost use Rattle.std.specs.Prelude.{◌≡◌};
-    ghost use Rattle.cg_text.specs.declared.faults.ReadEnd.TheVariants as ends;
+    ghost use Rattle.cg_text.specs.declared.faults.ReadError.TheVariants as ends;
 
     ghost from_gives = { λ _ end. end ≡ ends.Memory };
 
-    fn from(_error: AllocError) -> ReadEnd {
-        ReadEnd::Memory
+    fn from(_error: AllocError) -> ReadError {
+        ReadError::Memory
     }
 }

@@ -4,10 +4,10 @@
 mod blanks;
 mod distinct;
 mod faults;
-mod items;
 mod kinds;
 mod laws;
 mod lines;
+mod list_vec;
 mod names;
 mod numbers;
 mod positions;
@@ -18,11 +18,11 @@ mod words;
 
 pub use blanks::{is_blank, line_text, strip_carriage_return, trim_end, trim_start};
 pub use distinct::are_distinct;
-pub use faults::{Fault, ReadEnd};
-pub use items::Items;
+pub use faults::{Fault, ReadError};
 pub use kinds::{LineKind, classify};
 pub use laws::lines_are_the_text;
 pub use lines::{Lines, first_line, line_end};
+pub use list_vec::ListVec;
 pub use names::{NameSpec, name_spec};
 pub use numbers::{amount, is_digit, number, value_in};
 pub use positions::SubPos;

@@ -7,7 +7,7 @@ ghost use Rattle.command_line.specs.Plans.{HasWord, HasRun, IsRunNumber, IsPlann
 ghost use Rattle.command_line.specs.Plans.{AreBothNamed, IsEndFound, IsEndFor};
 
 use crate::grammar::grammar;
-use crate::plans::{Plan, PlanEnd};
+use crate::plans::{Plan, PlanError};
 use crate::words::{
     files, is_given, key, limit, run, run_and_group, runs, selected, threshold, word,
 };
@@ -161,13 +161,13 @@ fn plan_of<'a>(
 }
 
 /// The plan for what was found of the words, where that is of a subcommand.
-fn plan_found<'a>(alloc: Global, matches: &ArgMatches<'a>) -> Result<Option<Plan<'a>>, PlanEnd>
+fn plan_found<'a>(alloc: Global, matches: &ArgMatches<'a>) -> Result<Option<Plan<'a>>, PlanError>
     ensures planned { IfOk result (λ found. IfSome found (IsPlannedFor (subcommand_rows_of matches.now))) }
     ensures one { IfOk result (λ _. AreBothNamed (subcommand_rows_of matches.now) → ⊥) }
     ensures end { IfErr result (IsEndFound (subcommand_rows_of matches.now)) }
 {
     match matches.subcommand() {
-        Some((_, words)) if run_and_group(words) => Err(PlanEnd::RunAndGroup),
+        Some((_, words)) if run_and_group(words) => Err(PlanError::RunAndGroup),
         Some((name, words)) => Ok(plan_of(alloc, name, words)?),
         None => Ok(None),
     }
@@ -178,7 +178,7 @@ fn plan_by<'a>(
     alloc: Global,
     grammar: &mut Command<'a>,
     words: &'a [String],
-) -> Result<Plan<'a>, PlanEnd>
+) -> Result<Plan<'a>, PlanError>
     requires grammar { IsCommandLine (app_of grammar.old) }
     requires local { (fields_of grammar.old).has_globals ≡ false }
     ensures plan { IfOk result (IsPlanFor (map string_bytes words.now)) }
@@ -189,11 +189,11 @@ fn plan_by<'a>(
         return Ok(plan);
     }
     let error = grammar.error(ErrorKind::MissingSubcommand, "a subcommand is required")?;
-    Err(PlanEnd::Clap(error))
+    Err(PlanError::Clap(error))
 }
 
 /// The plan for the words of a command line, of which the first is the program's name.
-pub fn plan<'a>(alloc: Global, words: &'a [String]) -> Result<Plan<'a>, PlanEnd>
+pub fn plan<'a>(alloc: Global, words: &'a [String]) -> Result<Plan<'a>, PlanError>
     ensures plan { IfOk result (IsPlanFor (map string_bytes words.now)) }
     ensures end { IfErr result (IsEndFor (map string_bytes words.now)) }
 {

@@ -7,4 +7,4 @@ mod plans;
 mod words;
 
 pub use command::plan;
-pub use plans::{Plan, PlanEnd, Selected};
+pub use plans::{Plan, PlanError, Selected};

@@ -1,5 +1,5 @@
 // What the program is told to do.
-use cg_text::Items;
+use cg_text::ListVec;
 use clap::error::ErrorKind;
 use cost_rows::Key;
 use profile_records::Kind;
@@ -26,12 +26,12 @@ pub enum Plan<'a> {
     Import {
         db: &'a str,
         kind: Kind,
-        files: Items<&'a str>,
+        files: ListVec<&'a str>,
     },
     /// Remove runs.
     Remove {
         db: &'a str,
-        numbers: Items<u32>,
+        numbers: ListVec<u32>,
     },
     /// List the runs.
     Runs {
@@ -84,7 +84,7 @@ pub enum Plan<'a> {
 
 /// Why there is no plan.
 #[derive(Drop)]
-pub enum PlanEnd {
+pub enum PlanError {
     /// A growth was refused.
     Memory,
     /// Both a run and a group were selected.
@@ -93,27 +93,27 @@ pub enum PlanEnd {
     Clap(clap::Error),
 }
 
-impl From<AllocError> for PlanEnd {
+impl From<AllocError> for PlanError {
     ghost use Rattle.std.specs.Prelude.{◌≡◌};
-    ghost use Rattle.command_line.specs.declared.plans.PlanEnd.TheVariants as ends;
+    ghost use Rattle.command_line.specs.declared.plans.PlanError.TheVariants as ends;
 
     ghost from_gives = { λ _ end. end ≡ ends.Memory };
 
-    fn from(_error: AllocError) -> PlanEnd {
-        PlanEnd::Memory
+    fn from(_error: AllocError) -> PlanError {
+        PlanError::Memory
     }
 }
 
-impl From<clap::Error> for PlanEnd {
+impl From<clap::Error> for PlanError {
     ghost use Rattle.command_line.specs.Plans.{IsEndBy};
 
     ghost from_gives = { IsEndBy };
 
-    fn from(error: clap::Error) -> PlanEnd {
+    fn from(error: clap::Error) -> PlanError {
         if error.kind() == ErrorKind::OutOfMemory {
-            PlanEnd::Memory
+            PlanError::Memory
         } else {
-            PlanEnd::Clap(error)
+            PlanError::Clap(error)
         }
     }
 }

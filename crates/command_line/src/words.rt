@@ -6,7 +6,7 @@ ghost use Rattle.command_line.specs.Plans.{HasWord, HasNumber, HasRun, HaveRuns,
 
 use crate::grammar::{LAST_RUN, WHOLE};
 use crate::plans::Selected;
-use cg_text::Items;
+use cg_text::ListVec;
 use clap::ArgMatches;
 use cost_rows::Key;
 use std::alloc::{AllocError, Global};
@@ -42,12 +42,12 @@ fn all_words<'m, 'a>(words: &'m ArgMatches<'a>, id: &str) -> Option<&'m [&'a str
 pub fn files<'a>(
     alloc: Global,
     words: &ArgMatches<'a>,
-) -> Result<Option<Items<&'a str>>, AllocError>
+) -> Result<Option<ListVec<&'a str>>, AllocError>
     ensures some { IfOk result (λ found. IfSome found (λ files. files ≢ [])) }
     ensures words { IfOk result (λ found. IfSome found (λ files. all_of (codes "FILE") (rows_of (found_of words.now)) ≡ Some (map (λ file. file.now) files))) }
 {
     match all_words(words, "FILE") {
-        Some(files) => Ok(Some(Items::from_vec(files.to_vec(alloc)?))),
+        Some(files) => Ok(Some(ListVec::from_vec(files.to_vec(alloc)?))),
         None => Ok(None),
     }
 }
@@ -72,7 +72,7 @@ pub fn run(words: &ArgMatches<'_>) -> Option<u32>
 }
 
 /// The numbers of runs, where all texts are such.
-fn runs_of(alloc: Global, texts: &[&str]) -> Result<Option<Items<u32>>, AllocError>
+fn runs_of(alloc: Global, texts: &[&str]) -> Result<Option<ListVec<u32>>, AllocError>
     ensures range { IfOk result (λ found. IfSome found (All IsRunNumber)) }
     ensures value { IfOk result (λ found. IfSome found (λ numbers. numbers ≡ map (λ text. number_of text.now) texts.now)) }
 {
@@ -83,11 +83,11 @@ fn runs_of(alloc: Global, texts: &[&str]) -> Result<Option<Items<u32>>, AllocErr
         };
         numbers.push(number)?;
     }
-    Ok(Some(Items::from_vec(numbers)))
+    Ok(Some(ListVec::from_vec(numbers)))
 }
 
 /// The numbers of the runs that were named.
-pub fn runs(alloc: Global, words: &ArgMatches<'_>) -> Result<Option<Items<u32>>, AllocError>
+pub fn runs(alloc: Global, words: &ArgMatches<'_>) -> Result<Option<ListVec<u32>>, AllocError>
     ensures some { IfOk result (λ found. IfSome found (λ numbers. numbers ≢ [])) }
     ensures range { IfOk result (λ found. IfSome found (All IsRunNumber)) }
     ensures numbers { IfOk result (λ found. IfSome found (HaveRuns (rows_of (found_of words.now)))) }

@@ -8,7 +8,7 @@ use crate::key_reports::Report;
 use crate::numbers::push_number;
 use crate::percents::push_percent;
 use crate::rows::Row;
-use cg_text::Items;
+use cg_text::ListVec;
 use cost_rows::Key;
 use printed_names::push_escaped;
 use std::alloc::{AllocError, Global};
@@ -105,7 +105,7 @@ fn push_head(text: &mut Vec<u8>, key: Key, event: &[u8]) -> Result<(), AllocErro
 
 impl Report<'_> {
     /// The lines of the report of an event.
-    pub fn text(&self, alloc: Global, event: &[u8]) -> Result<Items<u8>, AllocError>
+    pub fn text(&self, alloc: Global, event: &[u8]) -> Result<ListVec<u8>, AllocError>
         ensures { IfOk result (λ text. text ≡ key_report_text event.now self.now) }
     {
         let mut text = Vec::new(alloc);
@@ -113,6 +113,6 @@ impl Report<'_> {
         push_sum(&mut text, self.total, self.total, b"total")?;
         push_rows(&mut text, self.key, self.total, &self.rows)?;
         push_sum(&mut text, self.rest, self.total, b"(rest)")?;
-        Ok(Items::from_vec(text))
+        Ok(ListVec::from_vec(text))
     }
 }

@@ -4,7 +4,7 @@ ghost use Rattle.cost_reports.specs.Verifying.{stated_in, checks_from, verified,
 
 use crate::numbers::push_number;
 use cg_formulas::FileHead;
-use cg_text::Items;
+use cg_text::ListVec;
 use printed_names::push_escaped;
 use std::alloc::{AllocError, Global};
 use std::marker::Model;
@@ -34,7 +34,7 @@ impl<'a> Model for Verification<'a> {
 }
 
 /// The total that is stated of a column.
-fn stated_in(stated: &Option<Items<u128>>, column: usize) -> Option<u128>
+fn stated_in(stated: &Option<ListVec<u128>>, column: usize) -> Option<u128>
     ensures { result ≡ stated_in stated.now column }
 {
     match stated {
@@ -46,9 +46,9 @@ fn stated_in(stated: &Option<Items<u128>>, column: usize) -> Option<u128>
 /// The checks of events; past the last sum it is 0.
 fn checks_of<'a>(
     alloc: Global,
-    events: &'a [Items<u8>],
+    events: &'a [ListVec<u8>],
     sums: &[u128],
-    stated: &Option<Items<u128>>,
+    stated: &Option<ListVec<u128>>,
 ) -> Result<Vec<Check<'a>>, AllocError>
     ensures { IfOk result (λ checks. map plain_check checks.items ≡ checks_from sums.now stated.now 0 events.now) }
 {
@@ -146,11 +146,11 @@ impl Verification<'_> {
     }
 
     /// A line for each event.
-    pub fn text(&self, alloc: Global) -> Result<Items<u8>, AllocError>
+    pub fn text(&self, alloc: Global) -> Result<ListVec<u8>, AllocError>
         ensures { IfOk result (λ text. text ≡ verify_text self.now) }
     {
         let mut text = Vec::new(alloc);
         self.push_text(&mut text)?;
-        Ok(Items::from_vec(text))
+        Ok(ListVec::from_vec(text))
     }
 }

@@ -13,7 +13,7 @@ use crate::records::{merge_call, merge_own};
 use crate::rows::FileTotals;
 use crate::totals::{total_columns, total_count};
 use crate::walks::{ArcWalk, CellWalk, StackWalk};
-use cg_text::Items;
+use cg_text::ListVec;
 use profile_records::{CallCost, SelfCost, Sink};
 use std::alloc::{AllocError, Global};
 use std::collections::BTreeMap;
@@ -129,8 +129,8 @@ impl FileRows {
         let self_cost = total_columns(alloc, &self.cells, events)?;
         let call_cost = total_columns(alloc, &self.arcs, events)?;
         Ok(FileTotals {
-            self_cost: Items::from_vec(self_cost),
-            call_cost: Items::from_vec(call_cost),
+            self_cost: ListVec::from_vec(self_cost),
+            call_cost: ListVec::from_vec(call_cost),
             call_count: total_count(&self.arcs),
         })
     }

@@ -4,7 +4,7 @@ ghost use Rattle.cg_text.specs.Distinct.{are_distinct};
 ghost use Rattle.cost_rows.specs.Naming.{place_of, GivesNumber};
 ghost use Rattle.cost_rows.specs.Sums.{name_at};
 
-use cg_text::Items;
+use cg_text::ListVec;
 use std::alloc::{AllocError, Global};
 use std::collections::BTreeMap;
 use std::marker::Model;
@@ -14,7 +14,7 @@ use std::marker::Model;
 #[derive(Drop)]
 pub struct Names {
     alloc: Global,
-    names: Vec<Items<u8>>,
+    names: Vec<ListVec<u8>>,
     numbers: BTreeMap<Vec<u8>, u32>,
 }
 
@@ -85,7 +85,7 @@ impl Names {
         };
         let key = name.to_vec(self.alloc)?;
         let held = name.to_vec(self.alloc)?;
-        self.names.push(Items::from_vec(held))?;
+        self.names.push(ListVec::from_vec(held))?;
         if let Err(refused) = self.numbers.insert(key, number) {
             let _ = self.names.pop();
             return Err(AllocError::from(refused));

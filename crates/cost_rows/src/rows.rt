@@ -1,6 +1,6 @@
 // Rows of profiles: sums by what they belong to.
 
-use cg_text::Items;
+use cg_text::ListVec;
 
 /// The sum of an event's own costs at a place. Names are bytes, owned or borrowed.
 #[derive(Drop)]
@@ -45,7 +45,7 @@ pub struct StackRow<N> {
 /// The sums of some files by column: own costs, inclusive costs of calls, and the number of calls.
 #[derive(Drop)]
 pub struct FileTotals {
-    pub self_cost: Items<u128>,
-    pub call_cost: Items<u128>,
+    pub self_cost: ListVec<u128>,
+    pub call_cost: ListVec<u128>,
     pub call_count: u128,
 }

@@ -9,7 +9,7 @@ ghost use Rattle.file_intake.specs.Intakes.{Stands, HasTaken, IsTakenOf, HasEnde
 
 use callgrind_reader::Reader;
 use cg_formulas::FileHead;
-use cg_text::{Fault, ReadEnd};
+use cg_text::{Fault, ReadError};
 use cost_rows::FileRows;
 use folded_reader::FoldedReader;
 use profile_records::Kind;
@@ -63,7 +63,7 @@ impl FileReader {
     }
 
     /// Ends the file, and hands on what its last line says.
-    fn finish(self, rows: &mut FileRows) -> Result<FileHead, ReadEnd>
+    fn finish(self, rows: &mut FileRows) -> Result<FileHead, ReadError>
         requires { (kind : Kind) × (bytes : List ℕ) × Stands self rows.old kind bytes }
         ensures { (kind : Kind) (bytes : List ℕ) → Stands self rows.old kind bytes → HasEndedAs kind bytes result rows.new }
     {
@@ -102,11 +102,11 @@ impl Intake {
                 digest,
                 file: Ok((head, rows)),
             }),
-            Err(ReadEnd::Fault(fault, line)) => Ok(Taken {
+            Err(ReadError::Fault(fault, line)) => Ok(Taken {
                 digest,
                 file: Err((fault, line)),
             }),
-            Err(ReadEnd::Memory) => Err(AllocError),
+            Err(ReadError::Memory) => Err(AllocError),
         }
     }
 }

@@ -16,7 +16,7 @@ pub fn take_file<R: Source>(
     source: &mut R,
 ) -> Result<Taken, Unread>
     requires { limit ≤ 2 ^ 30 }
-    ensures { WasRead R.comes limit source.old source.new result (IsTakenOf kind) }
+    ensures { WasRead R.reads limit source.old source.new result (IsTakenOf kind) }
 {
     let mut intake = Intake::new(alloc, kind)?;
     read_all(alloc, limit, source, &mut intake)?;

@@ -2,7 +2,7 @@
 use Rattle.std.proofs.Common.{◌≡◌, ℕ, ◌≤◌, inl, inr, List, length, Option, Some, Result, Ok, Err, IfOk, codes, subst, arith}
 use Rattle.std.specs.declared.alloc.AllocError.{AllocError}
 use Rattle.sources.specs.Outcomes.{Outcome, bytes_of}
-use Rattle.sources.specs.Reads.{Come, IsUnreadFor}
+use Rattle.sources.specs.Reads.{Reads, IsUnreadFor}
 use Rattle.sources.specs.Known.{IsRead}
 use Rattle.sources.specs.declared.reading.Unread.TheVariants.{Failed, TooLong}
 use Rattle.sources.proofs.Known.{known_whole, known_most}
@@ -24,7 +24,7 @@ module _ (outcomes : List Outcome) (r : Result TotalText AllocError) where
       go (Ok t) refused = inr (inr (cause, refused))
       go (Err e) refused = tt
 
-module _ {S : Type 0} (remaining : S → Option (List ℕ)) (from to : S) (outcomes : List Outcome) (text : List ℕ) (known : remaining from ≡ Some text) (came : Come (λ a o b. IsRead (remaining a) o (remaining b)) from outcomes to) where
+module _ {S : Type 0} (remaining : S → Option (List ℕ)) (from to : S) (outcomes : List Outcome) (text : List ℕ) (known : remaining from ≡ Some text) (came : Reads (λ a o b. IsRead (remaining a) o (remaining b)) from outcomes to) where
   pub answer_known : (r : Result TotalText AllocError) → IfOk r (IsAnswer outcomes) → IfOk r (IsAnswerOf text)
   answer_known (Err e) is = tt
   answer_known (Ok t) (inl whole) =

@@ -1,8 +1,8 @@
 -- The printed total is that of the file.
 use Rattle.std.proofs.Common.{◌≡◌, ℕ, ◌+◌, List, [], ◌∷◌, ◌++◌, fold, slice_index, Some, None, sym, ◌∙◌, ap, refl, zero-add}
-use Rattle.cg_text.specs.Ends.{end_text}
+use Rattle.cg_text.specs.Errors.{error_text}
 use Rattle.cg_text.specs.declared.faults.Fault as faults
-use Rattle.cg_text.specs.declared.faults.ReadEnd.TheVariants.{Fault}
+use Rattle.cg_text.specs.declared.faults.ReadError.TheVariants.{Fault}
 use Rattle.callgrind_reader.specs.Files.{records_of_file, fault_of_file, events_of_file}
 use Rattle.file_totals.specs.Sums.{self_sum, add_record}
 use Rattle.file_totals.specs.TotalLines.{total_line, total_lines, refused_line}
@@ -23,5 +23,5 @@ total-accepted text events sums none named summed =
     (λ k. ap (λ xs. slice_index xs k) summed ∙ slice_index-fold (records_of_file text) [] k ∙ zero-add (self_sum k (records_of_file text)))
     ∙ sym (ap (λ f. total_or_fault f (events_of_file text) (records_of_file text)) none)
 
-pub total-refused : (text : List ℕ) (fault : faults.Fault) (line : ℕ) → fault_of_file text ≡ Some (fault, line) → refused_line (end_text (Fault fault line)) ≡ total_of_file text
+pub total-refused : (text : List ℕ) (fault : faults.Fault) (line : ℕ) → fault_of_file text ≡ Some (fault, line) → refused_line (error_text (Fault fault line)) ≡ total_of_file text
 total-refused text fault line first = sym (ap (λ f. total_or_fault f (events_of_file text) (records_of_file text)) first)

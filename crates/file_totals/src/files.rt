@@ -1,7 +1,7 @@
 // Totals of what sources give, and of files by their paths.
 ghost use Rattle.std.specs.Prelude.{◌≡◌, ℕ, List, IfOk, Some};
 ghost use Rattle.sources.specs.Outcomes.{Outcome};
-ghost use Rattle.sources.specs.Reads.{Come, WasRead};
+ghost use Rattle.sources.specs.Reads.{Reads, WasRead};
 ghost use Rattle.file_totals.specs.Readers.{IsTotalOf, IsAnswer, IsAnswerOf};
 
 use crate::total::{Total, TotalText, refused};
@@ -14,7 +14,7 @@ use std::rt::Files;
 
 /// The total of what a source gives, if that was read to its end.
 fn total_of<S: Source>(alloc: Global, source: &mut S) -> Result<TotalText, Unread>
-    ensures { WasRead S.comes 1073741824 source.old source.new result IsTotalOf }
+    ensures { WasRead S.reads 1073741824 source.old source.new result IsTotalOf }
 {
     let mut total = Total::new(alloc)?;
     read_all(alloc, FILE_LIMIT, source, &mut total)?;
@@ -24,7 +24,7 @@ fn total_of<S: Source>(alloc: Global, source: &mut S) -> Result<TotalText, Unrea
 /// The total of what a source gives, where that is not too long and no read failed, else the line
 /// that says which.
 pub fn total_read<S: Source>(alloc: Global, source: &mut S) -> Result<TotalText, AllocError>
-    ensures { (outcomes : List Outcome) × Come S.comes source.old outcomes source.new × IfOk result (IsAnswer outcomes) }
+    ensures { (outcomes : List Outcome) × Reads S.reads source.old outcomes source.new × IfOk result (IsAnswer outcomes) }
 {
     match total_of(alloc, source) {
         Ok(total) => Ok(total),

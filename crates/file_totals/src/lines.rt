@@ -2,7 +2,7 @@
 ghost use Rattle.std.specs.Prelude.{◌≡◌, ◌++◌, OnOk, IfOk, slice_index};
 ghost use Rattle.file_totals.specs.TotalLines.{total_line, total_lines, refused_line};
 
-use cg_text::Items;
+use cg_text::ListVec;
 use printed_names::push_escaped;
 use std::alloc::{AllocError, Global};
 
@@ -24,9 +24,9 @@ fn push_total_line(
 /// The line of each event with its sum, which is 0 for an event past the last sum.
 pub fn total_lines(
     alloc: Global,
-    events: &[Items<u8>],
+    events: &[ListVec<u8>],
     sums: &[u128],
-) -> Result<Items<u8>, AllocError>
+) -> Result<ListVec<u8>, AllocError>
     ensures { IfOk result (λ text. text ≡ total_lines (λ k. slice_index sums.now k) 0 events.now) }
 {
     let mut text = Vec::new(alloc);
@@ -34,13 +34,13 @@ pub fn total_lines(
         let sum = sums.get(k).copied().unwrap_or(0);
         push_total_line(&mut text, alloc, event.as_slice(), sum)?;
     }
-    Ok(Items::from_vec(text))
+    Ok(ListVec::from_vec(text))
 }
 
 /// The one line of what is not accepted.
-pub fn refused_line(alloc: Global, reason: &str) -> Result<Items<u8>, AllocError>
+pub fn refused_line(alloc: Global, reason: &str) -> Result<ListVec<u8>, AllocError>
     ensures { IfOk result (λ text. text ≡ refused_line reason.now) }
 {
     let line = format!(in alloc; "refused: {reason}\n")?;
-    Ok(Items::from_vec(line.into_bytes()))
+    Ok(ListVec::from_vec(line.into_bytes()))
 }

@@ -9,7 +9,7 @@ use Rattle.prof_books.specs.Book.{CallPart, name_of, part_held, parts_held, part
 use Rattle.store_columns.specs.Lines.{arc_line}
 use Rattle.prof_tables.specs.RunLines.{arcs_in}
 use Rattle.prof_store.specs.Shown.{IsFaithful}
-use Rattle.store_columns.specs.declared.errors.StoreEnd.{StoreEnd}
+use Rattle.store_columns.specs.declared.errors.StoreError.{StoreError}
 use Rattle.store_columns.specs.declared.lines.ArcLine.{ArcLine}
 use Rattle.held_runs.specs.declared.arcs.Arcs.{Arcs}
 use Rattle.held_runs.specs.declared.walks.Listed.TheVariants as table
@@ -109,22 +109,22 @@ module _ {S : Type 0} (g : Ghosts S) where
   -- ---- a call
 
   -- the lines that are used grow by the one that is taken
-  abbrev pub TakesArc : Arcs S → Arcs S → Result (Option ArcLine) StoreEnd → Type 0
+  abbrev pub TakesArc : Arcs S → Arcs S → Result (Option ArcLine) StoreError → Type 0
   TakesArc old new result = IsFaithful g new.lines.store.now → (used : List Arc) → HasUsedArcs used old → IfOk result (HasTakenArc used new)
 
   -- they grow by the lines of costs
-  abbrev pub UsesArcs : Arc → Arcs S → Arcs S → Result (List ℕ) StoreEnd → Type 0
+  abbrev pub UsesArcs : Arc → Arcs S → Arcs S → Result (List ℕ) StoreError → Type 0
   UsesArcs first old new result = IsFaithful g new.lines.store.now → (used : List Arc) → HasUsedArcs used old → IfOk result (λ costs. HasUsedArcs (used ++ lines_from first 1 costs) new)
 
   -- what was given grows by the row that is answered
-  abbrev pub GivesArc : Arcs S → Arcs S → Result (Option (ArcRow (Bor (List ℕ)) (List ℕ))) StoreEnd → Type 0
+  abbrev pub GivesArc : Arcs S → Arcs S → Result (Option (ArcRow (Bor (List ℕ)) (List ℕ))) StoreError → Type 0
   GivesArc old new result = IsFaithful g new.lines.store.now → (given : List (ArcRow (List ℕ) (List ℕ))) → HasGivenArcs given old → IfOk result (HasGivenArcsOn given new)
 
   -- the rows are those of the run, with the names that are held
-  abbrev pub TellsArc : Arcs S → Arcs S → Result (Option (ArcRow (Bor (List ℕ)) (List ℕ))) StoreEnd → Type 0
+  abbrev pub TellsArc : Arcs S → Arcs S → Result (Option (ArcRow (Bor (List ℕ)) (List ℕ))) StoreError → Type 0
   TellsArc old new result = Tells g old.lines.store.now new.lines.store.now (λ t. old.names.now ≡ t.names → (given : List (ArcRow (List ℕ) (List ℕ))) → HasGivenArcs given old → IfOk result (TellsArcRows old.lines.walk.run t given))
 
   -- at the end, of each of its lines the names are held
-  abbrev pub NamesArcs : Arcs S → Arcs S → Result (Option (ArcRow (Bor (List ℕ)) (List ℕ))) StoreEnd → Type 0
+  abbrev pub NamesArcs : Arcs S → Arcs S → Result (Option (ArcRow (Bor (List ℕ)) (List ℕ))) StoreError → Type 0
   NamesArcs old new result =
       Tells g old.lines.store.now new.lines.store.now (λ t. (given : List (ArcRow (List ℕ) (List ℕ))) → HasGivenArcs given old → IfOk result (λ row. row ≡ None → AllByRecursion (ArcIsNamed old.names.now) (arcs_in old.lines.walk.run t)))

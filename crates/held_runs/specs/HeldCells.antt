@@ -9,7 +9,7 @@ use Rattle.prof_tables.specs.Tables.{Tables, CellLine, cell_columns}
 use Rattle.prof_books.specs.Book.{cell_held, cells_held, CellIsNamed}
 use Rattle.prof_tables.specs.RunLines.{cells_in}
 use Rattle.prof_store.specs.Shown.{IsFaithful}
-use Rattle.store_columns.specs.declared.errors.StoreEnd.{StoreEnd}
+use Rattle.store_columns.specs.declared.errors.StoreError.{StoreError}
 use Rattle.held_runs.specs.declared.cells.Cells.{Cells}
 use Rattle.held_runs.specs.declared.walks.Listed.TheVariants as table
 use Rattle.held_runs.specs.LineWalks.{IsSameWalk}
@@ -53,19 +53,19 @@ module _ {S : Type 0} (g : Ghosts S) where
   -- ---- a call
 
   -- what was given grows by the row that is answered
-  abbrev pub GivesCell : Cells S → Cells S → Result (Option (CellRow (Bor (List ℕ)))) StoreEnd → Type 0
+  abbrev pub GivesCell : Cells S → Cells S → Result (Option (CellRow (Bor (List ℕ)))) StoreError → Type 0
   GivesCell old new result = IsFaithful g new.lines.store.now → (given : List (CellRow (List ℕ))) → HasGivenCells given old → IfOk result (HasGivenCellsOn given new)
 
   -- the rows are those of the run, with the names that are held
-  abbrev pub TellsCell : Cells S → Cells S → Result (Option (CellRow (Bor (List ℕ)))) StoreEnd → Type 0
+  abbrev pub TellsCell : Cells S → Cells S → Result (Option (CellRow (Bor (List ℕ)))) StoreError → Type 0
   TellsCell old new result = Tells g old.lines.store.now new.lines.store.now (λ t. old.names.now ≡ t.names → (given : List (CellRow (List ℕ))) → HasGivenCells given old → IfOk result (TellsCellRows old.lines.walk.run t given))
 
   -- at the end, of each cell of the run the names are held
-  abbrev pub NamesCells : Cells S → Cells S → Result (Option (CellRow (Bor (List ℕ)))) StoreEnd → Type 0
+  abbrev pub NamesCells : Cells S → Cells S → Result (Option (CellRow (Bor (List ℕ)))) StoreError → Type 0
   NamesCells old new result =
       Tells g old.lines.store.now new.lines.store.now (λ t. (given : List (CellRow (List ℕ))) → HasGivenCells given old → IfOk result (λ row. row ≡ None → AllByRecursion (CellIsNamed old.names.now) (cells_in old.lines.walk.run t)))
 
   -- and the event is there
-  abbrev pub CountsCells : Cells S → Cells S → Result (Option (CellRow (Bor (List ℕ)))) StoreEnd → Type 0
+  abbrev pub CountsCells : Cells S → Cells S → Result (Option (CellRow (Bor (List ℕ)))) StoreError → Type 0
   CountsCells old new result =
       Tells g old.lines.store.now new.lines.store.now (λ t. (given : List (CellRow (List ℕ))) → HasGivenCells given old → IfOk result (λ row. row ≡ None → AllByRecursion (IsOfAnEvent old.events) (cells_in old.lines.walk.run t)))

@@ -6,7 +6,7 @@ use Rattle.cost_rows.specs.declared.rows.StackRow.{StackRow}
 use Rattle.prof_tables.specs.Tables.{Tables, StackLine, stack_columns}
 use Rattle.prof_books.specs.Book.{stack_held, stacks_held}
 use Rattle.prof_store.specs.Shown.{IsFaithful}
-use Rattle.store_columns.specs.declared.errors.StoreEnd.{StoreEnd}
+use Rattle.store_columns.specs.declared.errors.StoreError.{StoreError}
 use Rattle.held_runs.specs.declared.stacks.Stacks.{Stacks}
 use Rattle.held_runs.specs.declared.walks.Listed.TheVariants as table
 use Rattle.prof_store.specs.Shown.{Tells}
@@ -40,9 +40,9 @@ module _ {S : Type 0} (g : Ghosts S) where
   -- ---- a call
 
   -- what was given grows by the row that is answered
-  abbrev pub GivesStack : {Z : Type 0} → Stacks S → Stacks S → Result (Option (StackRow (Vec ℕ Z))) StoreEnd → Type 0
+  abbrev pub GivesStack : {Z : Type 0} → Stacks S → Stacks S → Result (Option (StackRow (Vec ℕ Z))) StoreError → Type 0
   GivesStack old new result = IsFaithful g new.lines.store.now → (given : List (StackRow (List ℕ))) → HasGivenStacks given old → IfOk result (HasGivenStacksOn given new)
 
   -- the rows are those of the run
-  abbrev pub TellsStack : {Z : Type 0} → Stacks S → Stacks S → Result (Option (StackRow (Vec ℕ Z))) StoreEnd → Type 0
+  abbrev pub TellsStack : {Z : Type 0} → Stacks S → Stacks S → Result (Option (StackRow (Vec ℕ Z))) StoreError → Type 0
   TellsStack old new result = Tells g old.lines.store.now new.lines.store.now (λ t. (given : List (StackRow (List ℕ))) → HasGivenStacks given old → IfOk result (TellsStackRows old.lines.walk.run t given))

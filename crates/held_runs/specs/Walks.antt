@@ -10,7 +10,7 @@ use Rattle.sql_tables.specs.Walks.{Asked, Reads, HasReadAll, in_page, in_window}
 use Rattle.prof_tables.specs.Schema.{schema_one, cell_at, arc_at, stack_at}
 use Rattle.prof_tables.specs.WalkTexts.{cell_window_text, cell_ends_text, cells_of, arc_window_text, arc_ends_text, arcs_of, stack_window_text, stack_ends_text, stacks_of}
 use Rattle.prof_store.specs.declared.store.Store.{Store}
-use Rattle.store_columns.specs.declared.errors.StoreEnd.{StoreEnd}
+use Rattle.store_columns.specs.declared.errors.StoreError.{StoreError}
 use Rattle.held_runs.specs.declared.walks.Listed.{Listed}
 use Rattle.held_runs.specs.declared.walks.Listed.TheVariants.{Cells, Arcs, Stacks}
 use Rattle.held_runs.specs.declared.walks.Span.{Span}
@@ -94,7 +94,7 @@ module _ {S : Type 0} (g : Ghosts S) where
   Moves old walk new P = IsFaithful g new → (given : List Row) → Walks given old walk → P given
 
   -- what was given grows by the line that is answered
-  abbrev pub GivesLine : {L : Type 0} → Listed → (L → Row) → Store S → Walk → Store S → Walk → Result (Option L) StoreEnd → Type 0
+  abbrev pub GivesLine : {L : Type 0} → Listed → (L → Row) → Store S → Walk → Store S → Walk → Result (Option L) StoreError → Type 0
   GivesLine table columns old walk new next result = IsFaithful g new → (given : List Row) → Gives table given old walk → IfOk result (GivesOn table columns given new next)
 
   -- a call that asks where it has to: a page at hand is given without, so an answer tells nothing of a store that was not open

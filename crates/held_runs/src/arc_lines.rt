@@ -3,7 +3,7 @@
 use crate::lines::Line;
 use crate::walks::Listed;
 use sqlite::Row;
-use store_columns::{ArcLine, StoreEnd, number_at, whole_at};
+use store_columns::{ArcLine, StoreError, number_at, whole_at};
 
 impl Line for ArcLine {
     ghost use Rattle.prof_tables.specs.Tables.{arc_columns};
@@ -18,7 +18,7 @@ impl Line for ArcLine {
         Listed::Arcs
     }
 
-    fn read(run: u32, row: &Row) -> Result<ArcLine, StoreEnd> {
+    fn read(run: u32, row: &Row) -> Result<ArcLine, StoreError> {
         let object = number_at(row, 1)?;
         let file = number_at(row, 2)?;
         let function = number_at(row, 3)?;

@@ -11,12 +11,12 @@ ghost use Rattle.held_runs.specs.Walks.{IsReady, AsksIfOpen};
 
 use crate::held_names::HeldNames;
 use crate::lines::Lines;
-use cg_text::Items;
+use cg_text::ListVec;
 use cost_rows::ArcRow;
 use prof_store::Store;
 use sqlite::Alter;
 use std::alloc::Global;
-use store_columns::{ArcLine, StoreEnd};
+use store_columns::{ArcLine, StoreError};
 
 /// The sums of a run's calls, read one row at a time.
 pub struct Arcs<'a, S: Alter> {
@@ -28,37 +28,37 @@ pub struct Arcs<'a, S: Alter> {
 }
 
 /// Adds zeros, up to a length.
-fn fill(costs: &mut Items<u128>, len: usize) -> Result<(), StoreEnd>
+fn fill(costs: &mut ListVec<u128>, len: usize) -> Result<(), StoreError>
     ensures lines { OnOk result ((first : _) (part : _) → lines_from first part costs.new ≡ lines_from first part costs.old) }
     ensures len { OnOk result (length costs.old ≤ len → length costs.new ≡ len) }
 {
     'columns: for _ in costs.len()..len {
         if costs.push(0).is_err() {
-            return Err(StoreEnd::Memory);
+            return Err(StoreError::Memory);
         }
     }
     Ok(())
 }
 
 /// Adds a part at its column, and a 0 for each column before it that has none.
-fn add_part(costs: &mut Items<u128>, line: &ArcLine, events: usize) -> Result<(), StoreEnd>
+fn add_part(costs: &mut ListVec<u128>, line: &ArcLine, events: usize) -> Result<(), StoreError>
     ensures lines { OnOk result ((first : _) → lines_from first 1 costs.new ≡ lines_from first 1 costs.old ++ part_line first line.now.part line.now.sum ∷ []) }
     ensures within { OnOk result (length costs.new ≤ events) }
 {
     let part = line.part as usize;
     let sum = line.sum.get();
     if part <= costs.len() || part > events || sum == 0 {
-        return Err(StoreEnd::Store);
+        return Err(StoreError::Store);
     }
     fill(costs, part - 1)?;
     match costs.push(u128::from(sum)) {
         Ok(()) => Ok(()),
-        Err(_) => Err(StoreEnd::Memory),
+        Err(_) => Err(StoreError::Memory),
     }
 }
 
 /// The costs of all columns.
-fn filled(mut costs: Items<u128>, events: usize) -> Result<Items<u128>, StoreEnd>
+fn filled(mut costs: ListVec<u128>, events: usize) -> Result<ListVec<u128>, StoreError>
     ensures lines { IfOk result (λ full. (first : _) (part : _) → lines_from first part full ≡ lines_from first part costs) }
     ensures events { IfOk result (λ full. length costs ≤ events → length full ≡ events) }
 {
@@ -84,8 +84,8 @@ fn is_part_of(first: &ArcLine, line: &ArcLine) -> bool
 fn arc_row<'a>(
     first: &ArcLine,
     names: &'a HeldNames,
-    costs: Items<u128>,
-) -> Result<ArcRow<&'a [u8], Items<u128>>, StoreEnd>
+    costs: ListVec<u128>,
+) -> Result<ArcRow<&'a [u8], ListVec<u128>>, StoreError>
     ensures row { IfOk result (λ row. plain_given row ≡ row_of names.now (arc_line first.now) costs) }
     ensures named { OnOk result (ArcIsNamed names.now (arc_line first.now)) }
 {
@@ -137,7 +137,7 @@ pub fn arcs_of<'a, S: Alter>(
 
 impl<'a, S: Alter> Arcs<'a, S> {
     /// The line that waits, or the next one.
-    fn line(&mut self) -> Result<Option<ArcLine>, StoreEnd>
+    fn line(&mut self) -> Result<Option<ArcLine>, StoreError>
         ensures same { IsSameArcs self.old self.new }
         ensures failed { OnOk result (self.new.lines.failed ≡ self.old.lines.failed) }
         ensures taken { TakesArc S.Store self.old self.new result }
@@ -150,14 +150,14 @@ impl<'a, S: Alter> Arcs<'a, S> {
     }
 
     /// The costs of the row whose count stands in `first`. The line behind them waits.
-    fn costs(&mut self, first: &ArcLine) -> Result<Items<u128>, StoreEnd>
+    fn costs(&mut self, first: &ArcLine) -> Result<ListVec<u128>, StoreError>
         ensures same { IsSameArcs self.old self.new }
         ensures failed { OnOk result (self.new.lines.failed ≡ self.old.lines.failed) }
         ensures used { UsesArcs S.Store (arc_line first.now) self.old self.new result }
         ensures long { IfOk result (λ costs. length costs ≡ self.old.events) }
         ensures asks { AsksIfOpen S.Store (is_ok result) self.old.lines.store.now self.new.lines.store.now }
     {
-        let mut costs = Items::new(self.alloc);
+        let mut costs = ListVec::new(self.alloc);
         'parts: for _ in 0..u64::MAX {
             let Some(line) = self.line()? else {
                 return filled(costs, self.events);
@@ -168,10 +168,10 @@ impl<'a, S: Alter> Arcs<'a, S> {
             }
             add_part(&mut costs, &line, self.events)?;
         }
-        Err(StoreEnd::Store)
+        Err(StoreError::Store)
     }
 
-    fn row(&mut self) -> Result<Option<ArcRow<&'a [u8], Items<u128>>>, StoreEnd>
+    fn row(&mut self) -> Result<Option<ArcRow<&'a [u8], ListVec<u128>>>, StoreError>
         ensures same { IsSameArcs self.old self.new }
         ensures failed { OnOk result (self.new.lines.failed ≡ self.old.lines.failed) }
         ensures long { IfOk result (λ row. IfSome row (λ r. length r.costs ≡ self.old.events)) }
@@ -182,7 +182,7 @@ impl<'a, S: Alter> Arcs<'a, S> {
             return Ok(None);
         };
         if first.part != 0 {
-            return Err(StoreEnd::Store);
+            return Err(StoreError::Store);
         }
         let costs = self.costs(&first)?;
         let row = arc_row(&first, self.names, costs)?;
@@ -192,7 +192,7 @@ impl<'a, S: Alter> Arcs<'a, S> {
     /// The next row, or `None` behind the last one. An error ends the walk, and is answered again
     /// at each later call; a name that is not held is one, and so are parts out of form: without
     /// the count, not rising, of cost 0, or of a column that is none of the events.
-    pub fn next(&mut self) -> Result<Option<ArcRow<&'a [u8], Items<u128>>>, StoreEnd>
+    pub fn next(&mut self) -> Result<Option<ArcRow<&'a [u8], ListVec<u128>>>, StoreError>
         ensures same { IsSameArcs self.old self.new }
         ensures failed { KeepsError self.old.lines self.new.lines result }
         ensures again { AnswersAgain self.old.lines self.new.lines result }

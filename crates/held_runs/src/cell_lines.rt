@@ -3,7 +3,7 @@
 use crate::lines::Line;
 use crate::walks::Listed;
 use sqlite::Row;
-use store_columns::{CellLine, StoreEnd, number_at, whole_at};
+use store_columns::{CellLine, StoreError, number_at, whole_at};
 
 impl Line for CellLine {
     ghost use Rattle.prof_tables.specs.Tables.{cell_columns};
@@ -18,7 +18,7 @@ impl Line for CellLine {
         Listed::Cells
     }
 
-    fn read(run: u32, row: &Row) -> Result<CellLine, StoreEnd> {
+    fn read(run: u32, row: &Row) -> Result<CellLine, StoreError> {
         let object = number_at(row, 1)?;
         let file = number_at(row, 2)?;
         let function = number_at(row, 3)?;

@@ -14,7 +14,7 @@ use crate::lines::Lines;
 use cost_rows::CellRow;
 use prof_store::Store;
 use sqlite::Alter;
-use store_columns::{CellLine, StoreEnd};
+use store_columns::{CellLine, StoreError};
 
 /// The sums of a run's own costs, read one at a time.
 pub struct Cells<'a, S: Alter> {
@@ -28,14 +28,14 @@ pub(crate) fn cell_row<'a>(
     line: &CellLine,
     names: &'a HeldNames,
     events: usize,
-) -> Result<CellRow<&'a [u8]>, StoreEnd>
+) -> Result<CellRow<&'a [u8]>, StoreError>
     ensures row { IfOk result (λ row. plain_cell row ≡ cell_held names.now (cell_line line.now)) }
     ensures named { OnOk result (CellIsNamed names.now (cell_line line.now)) }
     ensures counted { IfOk result (λ row. row.event < events) }
 {
     let event = line.event as usize;
     if event >= events {
-        return Err(StoreEnd::Store);
+        return Err(StoreError::Store);
     }
     let object = names.held(line.object)?;
     let file = names.held(line.file)?;
@@ -77,7 +77,7 @@ pub fn cells_of<'a, S: Alter>(
 impl<'a, S: Alter> Cells<'a, S> {
     /// The next row, or `None` behind the last one. An error ends the walk, and is answered again
     /// at each later call; a name that is not held is one, and so is a cell of none of the events.
-    pub fn next(&mut self) -> Result<Option<CellRow<&'a [u8]>>, StoreEnd>
+    pub fn next(&mut self) -> Result<Option<CellRow<&'a [u8]>>, StoreError>
         ensures same { IsSameCells self.old self.new }
         ensures failed { KeepsError self.old.lines self.new.lines result }
         ensures again { AnswersAgain self.old.lines self.new.lines result }

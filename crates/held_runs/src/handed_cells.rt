@@ -15,7 +15,7 @@ use crate::walks::Listed;
 use cost_rows::CellRow;
 use prof_store::Store;
 use sqlite::Alter;
-use store_columns::{CellLine, StoreEnd};
+use store_columns::{CellLine, StoreError};
 
 /// Takes the cells of runs.
 pub trait TakesCells {
@@ -33,7 +33,7 @@ pub trait TakesCells {
     ghost step: { Meaning → CellRow (List ℕ) → Meaning };
 
     /// Takes a cell.
-    fn take(&mut self, row: &CellRow<&[u8]>) -> Result<(), StoreEnd>
+    fn take(&mut self, row: &CellRow<&[u8]>) -> Result<(), StoreError>
         ensures { OnOk result (meaning self.new ≡ step (meaning self.old) (plain_cell row.now)) };
 }
 
@@ -45,7 +45,7 @@ pub fn each_cell<S: Alter, T: TakesCells>(
     names: &HeldNames,
     events: usize,
     taker: &mut T,
-) -> Result<(), StoreEnd>
+) -> Result<(), StoreError>
     ensures told { Told S.Store result store.old store.new (λ t _. names.now ≡ t.names
         → T.meaning taker.new ≡ fold T.step (T.meaning taker.old) (cells_held run t)) }
     ensures asks { AsksIfOpen S.Store (is_ok result) store.old store.new }
@@ -61,5 +61,5 @@ pub fn each_cell<S: Alter, T: TakesCells>(
             None => return Ok(()),
         }
     }
-    Err(StoreEnd::Store)
+    Err(StoreError::Store)
 }

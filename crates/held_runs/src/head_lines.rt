@@ -9,7 +9,7 @@ ghost use Rattle.prof_store.specs.Shown.{Asks};
 use prof_store::{Store, select};
 use sqlite::{Alter, Row, params};
 use std::alloc::Global;
-use store_columns::{StoreEnd, bytes_at, number_at, sum_at, text_or_null_at};
+use store_columns::{StoreError, bytes_at, number_at, sum_at, text_or_null_at};
 
 /// An event of a run: its place, its name, and the total that the file states, in decimal.
 #[derive(Drop)]
@@ -34,7 +34,7 @@ pub(crate) struct HeadCoef {
     pub times: u64,
 }
 
-fn events_in(alloc: Global, rows: &[Row]) -> Result<Vec<HeadEvent>, StoreEnd>
+fn events_in(alloc: Global, rows: &[Row]) -> Result<Vec<HeadEvent>, StoreError>
     ensures read { IfOk result (λ lines. map event_columns lines.items ≡ map first_three rows.now) }
 {
     let mut lines = Vec::new(alloc);
@@ -48,13 +48,13 @@ fn events_in(alloc: Global, rows: &[Row]) -> Result<Vec<HeadEvent>, StoreEnd>
             stated,
         };
         if lines.push(line).is_err() {
-            return Err(StoreEnd::Memory);
+            return Err(StoreError::Memory);
         }
     }
     Ok(lines)
 }
 
-fn derived_in(alloc: Global, rows: &[Row]) -> Result<Vec<HeadDerived>, StoreEnd>
+fn derived_in(alloc: Global, rows: &[Row]) -> Result<Vec<HeadDerived>, StoreError>
     ensures read { IfOk result (λ lines. map derived_columns lines.items ≡ map first_two rows.now) }
 {
     let mut lines = Vec::new(alloc);
@@ -63,13 +63,13 @@ fn derived_in(alloc: Global, rows: &[Row]) -> Result<Vec<HeadDerived>, StoreEnd>
         let name = bytes_at(row, 1)?;
         let line = HeadDerived { place, name };
         if lines.push(line).is_err() {
-            return Err(StoreEnd::Memory);
+            return Err(StoreError::Memory);
         }
     }
     Ok(lines)
 }
 
-fn coefs_in(alloc: Global, rows: &[Row]) -> Result<Vec<HeadCoef>, StoreEnd>
+fn coefs_in(alloc: Global, rows: &[Row]) -> Result<Vec<HeadCoef>, StoreError>
     ensures read { IfOk result (λ lines. map coef_columns lines.items ≡ map first_three rows.now) }
 {
     let mut lines = Vec::new(alloc);
@@ -83,7 +83,7 @@ fn coefs_in(alloc: Global, rows: &[Row]) -> Result<Vec<HeadCoef>, StoreEnd>
             times,
         };
         if lines.push(line).is_err() {
-            return Err(StoreEnd::Memory);
+            return Err(StoreError::Memory);
         }
     }
     Ok(lines)
@@ -94,7 +94,7 @@ pub(crate) fn events_of<S: Alter>(
     store: &mut Store<S>,
     alloc: Global,
     run: u32,
-) -> Result<Vec<HeadEvent>, StoreEnd>
+) -> Result<Vec<HeadEvent>, StoreError>
     ensures told { Told S.Store result store.old store.new (λ t lines. IsPermutation (events_in_tables run t) (map event_columns lines.items)) }
     ensures found { Found S.Store result store.old store.new (λ db lines. IsPermutation (events_in_rows run db) (map event_columns lines.items)) }
     ensures asks { Asks S.Store (is_ok result) store.old store.new }
@@ -112,7 +112,7 @@ pub(crate) fn derived_of<S: Alter>(
     store: &mut Store<S>,
     alloc: Global,
     run: u32,
-) -> Result<Vec<HeadDerived>, StoreEnd>
+) -> Result<Vec<HeadDerived>, StoreError>
     ensures told { Told S.Store result store.old store.new (λ t lines. IsPermutation (derived_in_tables run t) (map derived_columns lines.items)) }
     ensures found { Found S.Store result store.old store.new (λ db lines. IsPermutation (derived_in_rows run db) (map derived_columns lines.items)) }
     ensures asks { Asks S.Store (is_ok result) store.old store.new }
@@ -130,7 +130,7 @@ pub(crate) fn coefs_of<S: Alter>(
     store: &mut Store<S>,
     alloc: Global,
     run: u32,
-) -> Result<Vec<HeadCoef>, StoreEnd>
+) -> Result<Vec<HeadCoef>, StoreError>
     ensures told { Told S.Store result store.old store.new (λ t lines. IsPermutation (coefs_in_tables run t) (map coef_columns lines.items)) }
     ensures found { Found S.Store result store.old store.new (λ db lines. IsPermutation (coefs_in_rows run db) (map coef_columns lines.items)) }
     ensures asks { Asks S.Store (is_ok result) store.old store.new }

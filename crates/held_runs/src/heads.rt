@@ -11,10 +11,14 @@ use cg_formulas::FileHead;
 use prof_store::Store;
 use sqlite::Alter;
 use std::alloc::Global;
-use store_columns::StoreEnd;
+use store_columns::StoreError;
 
 /// The head of a run whose number is held, as its lines say it.
-fn said_head<S: Alter>(store: &mut Store<S>, alloc: Global, run: u32) -> Result<FileHead, StoreEnd>
+fn said_head<S: Alter>(
+    store: &mut Store<S>,
+    alloc: Global,
+    run: u32,
+) -> Result<FileHead, StoreError>
     ensures told { Told S.Store result store.old store.new (λ t. IsReadIn run t) }
     ensures found { Found S.Store result store.old store.new (λ db. IsReadAt run db) }
     ensures asks { Asks S.Store (is_ok result) store.old store.new }
@@ -34,13 +38,13 @@ pub fn head_of<S: Alter>(
     store: &mut Store<S>,
     alloc: Global,
     run: u32,
-) -> Result<FileHead, StoreEnd>
+) -> Result<FileHead, StoreError>
     ensures told { Told S.Store result store.old store.new (λ t. IsHeadIn run t) }
     ensures found { Found S.Store result store.old store.new (λ db. IsHeadAt run db) }
     ensures asks { Asks S.Store (is_ok result) store.old store.new }
 {
     if !store.has_run(run)? {
-        return Err(StoreEnd::Store);
+        return Err(StoreError::Store);
     }
     said_head(store, alloc, run)
 }

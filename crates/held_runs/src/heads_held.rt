@@ -5,73 +5,73 @@ ghost use Rattle.held_runs.specs.HeldHeads.{placed, event_place, event_total, St
 
 use crate::head_lines::{HeadCoef, HeadDerived, HeadEvent};
 use cg_formulas::{FileHead, Flat};
-use cg_text::{Items, are_distinct};
+use cg_text::{ListVec, are_distinct};
 use std::alloc::Global;
-use store_columns::StoreEnd;
+use store_columns::StoreError;
 
 /// A copy of a name whose place is the next.
-fn name_at(alloc: Global, place: u32, next: usize, name: &[u8]) -> Result<Items<u8>, StoreEnd>
+fn name_at(alloc: Global, place: u32, next: usize, name: &[u8]) -> Result<ListVec<u8>, StoreError>
     ensures read { IfOk result (λ copy. (place ≡ next) × (copy ≡ name.now)) }
 {
     if place as usize != next {
-        return Err(StoreEnd::Store);
+        return Err(StoreError::Store);
     }
     match name.to_vec(alloc) {
-        Ok(copy) => Ok(Items::from_vec(copy)),
-        Err(_) => Err(StoreEnd::Memory),
+        Ok(copy) => Ok(ListVec::from_vec(copy)),
+        Err(_) => Err(StoreError::Memory),
     }
 }
 
 /// The names of events whose places go up from 0 by one.
-fn event_names(alloc: Global, lines: &[HeadEvent]) -> Result<Items<Items<u8>>, StoreEnd>
+fn event_names(alloc: Global, lines: &[HeadEvent]) -> Result<ListVec<ListVec<u8>>, StoreError>
     ensures read { IfOk result (λ names. map event_place lines.now ≡ placed 0 names) }
 {
-    let mut names = Items::new(alloc);
+    let mut names = ListVec::new(alloc);
     'lines: for line in lines {
         let name = name_at(alloc, line.place, names.len(), &line.name)?;
         if names.push(name).is_err() {
-            return Err(StoreEnd::Memory);
+            return Err(StoreError::Memory);
         }
     }
     Ok(names)
 }
 
 /// The number that a text is in decimal, without a leading zero.
-fn decimal_in(alloc: Global, text: &str) -> Result<u128, StoreEnd>
+fn decimal_in(alloc: Global, text: &str) -> Result<u128, StoreError>
     ensures read { IfOk result (λ number. decimal number ≡ text.now) }
 {
     let Ok(number) = text.parse::<u128>() else {
-        return Err(StoreEnd::Store);
+        return Err(StoreError::Store);
     };
     let Ok(again) = format!(in alloc; "{number}") else {
-        return Err(StoreEnd::Memory);
+        return Err(StoreError::Memory);
     };
     if again.as_str() == text {
         Ok(number)
     } else {
-        Err(StoreEnd::Store)
+        Err(StoreError::Store)
     }
 }
 
 /// The totals that are stated, where each event has one.
-fn all_stated(alloc: Global, lines: &[HeadEvent]) -> Result<Items<u128>, StoreEnd>
+fn all_stated(alloc: Global, lines: &[HeadEvent]) -> Result<ListVec<u128>, StoreError>
     ensures read { IfOk result (λ sums. map event_total lines.now ≡ map (λ n. Some (decimal n)) sums) }
 {
-    let mut sums = Items::new(alloc);
+    let mut sums = ListVec::new(alloc);
     'lines: for line in lines {
         let Some(text) = &line.stated else {
-            return Err(StoreEnd::Store);
+            return Err(StoreError::Store);
         };
         let sum = decimal_in(alloc, text.as_str())?;
         if sums.push(sum).is_err() {
-            return Err(StoreEnd::Memory);
+            return Err(StoreError::Memory);
         }
     }
     Ok(sums)
 }
 
 /// The totals that are stated, if each event has one, or none has.
-fn stated_in(alloc: Global, lines: &[HeadEvent]) -> Result<Option<Items<u128>>, StoreEnd>
+fn stated_in(alloc: Global, lines: &[HeadEvent]) -> Result<Option<ListVec<u128>>, StoreError>
     ensures read { IfOk result (States lines.now) }
 {
     if lines.iter().all(|line| line.stated.is_none()) {
@@ -101,17 +101,17 @@ fn row_in(
     place: usize,
     events: usize,
     coefs: &[HeadCoef],
-) -> Result<(Items<u64>, usize), StoreEnd>
+) -> Result<(ListVec<u64>, usize), StoreError>
     ensures within { IfOk result (λ r. r.1 ≤ length coefs.now) }
     ensures said { IfOk result (λ r. map coef_line_said (take r.1 coefs.now) ≡ coefs_at place 0 r.0) }
 {
-    let mut row = Items::new(alloc);
+    let mut row = ListVec::new(alloc);
     let mut used = 0;
     'events: for event in 0..events {
         let (times, more) = first_times(place, event, &coefs[used..]);
         used += more;
         if row.push(times).is_err() {
-            return Err(StoreEnd::Memory);
+            return Err(StoreError::Memory);
         }
     }
     Ok((row, used))
@@ -123,11 +123,11 @@ fn derived_in(
     events: usize,
     lines: &[HeadDerived],
     coefs: &[HeadCoef],
-) -> Result<Items<(Items<u8>, Items<u64>)>, StoreEnd>
+) -> Result<ListVec<(ListVec<u8>, ListVec<u64>)>, StoreError>
     ensures names { IfOk result (λ derived. map derived_place lines.now ≡ placed 0 (map (λ d. d.0) derived)) }
     ensures rows { IfOk result (λ derived. map coef_line_said coefs.now ≡ coefs_from 0 (map (λ d. d.1) derived)) }
 {
-    let mut derived = Items::new(alloc);
+    let mut derived = ListVec::new(alloc);
     let mut used = 0;
     'lines: for line in lines {
         let place = derived.len();
@@ -135,13 +135,13 @@ fn derived_in(
         let (row, more) = row_in(alloc, place, events, &coefs[used..])?;
         used += more;
         if derived.push((name, row)).is_err() {
-            return Err(StoreEnd::Memory);
+            return Err(StoreError::Memory);
         }
     }
     if used == coefs.len() {
         Ok(derived)
     } else {
-        Err(StoreEnd::Store)
+        Err(StoreError::Store)
     }
 }
 
@@ -150,14 +150,14 @@ fn all_names(
     alloc: Global,
     events: &[HeadEvent],
     derived: &[HeadDerived],
-) -> Result<Items<Items<u8>>, StoreEnd>
+) -> Result<ListVec<ListVec<u8>>, StoreError>
     ensures read { IfOk result (λ names. names ≡ map (λ e. e.name.items) events.now ++ map (λ d. d.name.items) derived.now) }
 {
     let mut names = event_names(alloc, events)?;
     'derived: for line in derived {
         let name = name_at(alloc, line.place, line.place as usize, &line.name)?;
         if names.push(name).is_err() {
-            return Err(StoreEnd::Memory);
+            return Err(StoreError::Memory);
         }
     }
     Ok(names)
@@ -169,12 +169,12 @@ pub(crate) fn head_in(
     events: &[HeadEvent],
     derived: &[HeadDerived],
     coefs: &[HeadCoef],
-) -> Result<FileHead, StoreEnd>
+) -> Result<FileHead, StoreError>
     ensures read { IfOk result (λ head. IsReadFrom head events.now derived.now coefs.now) }
 {
     let all = all_names(alloc, events, derived)?;
     if !are_distinct(all.as_slice()) {
-        return Err(StoreEnd::Store);
+        return Err(StoreError::Store);
     }
     let names = event_names(alloc, events)?;
     let stated = stated_in(alloc, events)?;
@@ -185,6 +185,6 @@ pub(crate) fn head_in(
             derived,
             stated,
         }),
-        None => Err(StoreEnd::Store),
+        None => Err(StoreError::Store),
     }
 }

@@ -13,7 +13,7 @@ use prof_store::{Store, select};
 use sqlite::{Alter, Row};
 use std::alloc::Global;
 use std::marker::Model;
-use store_columns::{StoreEnd, bytes_at, number_at};
+use store_columns::{StoreError, bytes_at, number_at};
 
 /// A name and its number.
 #[derive(Drop)]
@@ -42,7 +42,7 @@ impl Model for HeldNames {
     ghost invariant = { λ h. IsAscending (λ a b. a.number < b.number) h.names.items };
 }
 
-fn read_name(row: &Row) -> Result<HeldName, StoreEnd>
+fn read_name(row: &Row) -> Result<HeldName, StoreError>
     ensures { IfOk result (λ name. name_shown (name_line name) ≡ first_two row.now) }
 {
     let number = number_at(row, 0)?;
@@ -50,14 +50,14 @@ fn read_name(row: &Row) -> Result<HeldName, StoreEnd>
     Ok(HeldName { number, bytes })
 }
 
-fn read_names(alloc: Global, rows: &[Row]) -> Result<Vec<HeldName>, StoreEnd>
+fn read_names(alloc: Global, rows: &[Row]) -> Result<Vec<HeldName>, StoreError>
     ensures { IfOk result (λ names. map (λ n. name_shown (name_line n)) names.items ≡ map first_two rows.now) }
 {
     let mut names = Vec::new(alloc);
     'rows: for row in rows {
         let name = read_name(row)?;
         if names.push(name).is_err() {
-            return Err(StoreEnd::Memory);
+            return Err(StoreError::Memory);
         }
     }
     Ok(names)
@@ -76,7 +76,7 @@ fn rise(names: &[HeldName]) -> bool
 }
 
 /// The names in rows, whose numbers rise.
-fn names_in(alloc: Global, rows: &[Row]) -> Result<HeldNames, StoreEnd>
+fn names_in(alloc: Global, rows: &[Row]) -> Result<HeldNames, StoreError>
     ensures read { IfOk result (λ names. map name_shown names ≡ map first_two rows.now) }
     ensures rising { IfOk result (IsAscending (λ a b. a.number < b.number)) }
 {
@@ -84,7 +84,7 @@ fn names_in(alloc: Global, rows: &[Row]) -> Result<HeldNames, StoreEnd>
     if rise(&names) {
         Ok(HeldNames { names })
     } else {
-        Err(StoreEnd::Store)
+        Err(StoreError::Store)
     }
 }
 
@@ -125,15 +125,15 @@ impl HeldNames {
     }
 
     /// The name of a number, which has to be held.
-    pub(crate) fn held(&self, number: u32) -> Result<&[u8], StoreEnd>
+    pub(crate) fn held(&self, number: u32) -> Result<&[u8], StoreError>
         ensures { IfOk result (λ name. IsHeld self.now number × (name.now ≡ name_of self.now number)) }
     {
-        self.name(number).ok_or(StoreEnd::Store)
+        self.name(number).ok_or(StoreError::Store)
     }
 }
 
 /// The names that are held, in the order of their numbers: read once, for any number of walks.
-pub fn names_of<S: Alter>(store: &mut Store<S>, alloc: Global) -> Result<HeldNames, StoreEnd>
+pub fn names_of<S: Alter>(store: &mut Store<S>, alloc: Global) -> Result<HeldNames, StoreError>
     ensures told { Told S.Store result store.old store.new (λ t names. names ≡ t.names) }
     ensures found { Found S.Store result store.old store.new (λ db names. IsPermutation (map name_seen (db 11)) (map name_shown names)) }
     ensures rising { IfOk result (IsAscending (λ a b. a.number < b.number)) }

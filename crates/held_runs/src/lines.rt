@@ -10,7 +10,7 @@ use crate::walks::{Listed, Walk, has_row};
 use prof_store::Store;
 use sqlite::{Alter, Row};
 use std::marker::PhantomData;
-use store_columns::StoreEnd;
+use store_columns::StoreError;
 
 /// What a row is read as, in one of the tables whose rows are lines of runs.
 pub(crate) trait Line: Sized {
@@ -28,7 +28,7 @@ pub(crate) trait Line: Sized {
         ensures { result ≡ listed };
 
     /// Reads a row of a page, behind its rowid.
-    fn read(run: u32, row: &Row) -> Result<Self, StoreEnd>
+    fn read(run: u32, row: &Row) -> Result<Self, StoreError>
         ensures { IfOk result (λ line. columns line ≡ read_from (asked listed run) row.now) };
 }
 
@@ -46,7 +46,7 @@ pub(crate) fn begin<S: Alter>(store: &mut Store<S>, table: Listed, run: u32) -> 
 pub(crate) fn next_line<S: Alter, L: Line>(
     store: &mut Store<S>,
     walk: &mut Walk,
-) -> Result<Option<L>, StoreEnd>
+) -> Result<Option<L>, StoreError>
     ensures run { walk.new.run ≡ walk.old.run }
     ensures given { GivesLine S.Store L.listed L.columns store.old walk.old store.new walk.new result }
     ensures asks { AsksIfOpen S.Store (is_ok result) store.old store.new }
@@ -60,7 +60,7 @@ pub(crate) fn next_line<S: Alter, L: Line>(
             walk.at += 1;
             Ok(Some(line))
         }
-        None => Err(StoreEnd::Store),
+        None => Err(StoreError::Store),
     }
 }
 
@@ -70,7 +70,7 @@ pub(crate) struct Lines<'a, S: Alter, L: Line> {
     pub store: &'a mut Store<S>,
     pub walk: Walk,
     /// The error that ended the walk.
-    pub failed: Option<StoreEnd>,
+    pub failed: Option<StoreError>,
     /// What a row is read as.
     pub of: PhantomData<L>,
 }
@@ -94,7 +94,7 @@ impl<'a, S: Alter, L: Line> Lines<'a, S, L> {
     }
 
     /// The next line, or `None` behind the last one.
-    pub fn next(&mut self) -> Result<Option<L>, StoreEnd>
+    pub fn next(&mut self) -> Result<Option<L>, StoreError>
         ensures same { IsSameWalk self.old self.new }
         ensures failed { KeepsError self.old self.new result }
         ensures again { AnswersAgain self.old self.new result }
@@ -111,7 +111,7 @@ impl<'a, S: Alter, L: Line> Lines<'a, S, L> {
     }
 
     /// Ends the walk with this error, which what reads the lines may meet too.
-    pub fn end(&mut self, end: StoreEnd) -> StoreEnd
+    pub fn end(&mut self, end: StoreError) -> StoreError
         ensures end { result ≡ end }
         ensures failed { self.new.failed ≡ Some end }
         ensures store { self.new.store ≡ self.old.store }

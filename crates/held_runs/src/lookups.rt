@@ -7,10 +7,10 @@ ghost use Rattle.prof_store.specs.Shown.{Asks};
 
 use prof_store::{Kind, Store, select_row};
 use sqlite::{Alter, params};
-use store_columns::{StoreEnd, kind_at, number_or_null_at};
+use store_columns::{StoreError, kind_at, number_or_null_at};
 
 /// The kind of a run. `Store` where no such run is held, or its kind is none.
-pub fn kind_of<S: Alter>(store: &mut Store<S>, run: u32) -> Result<Kind, StoreEnd>
+pub fn kind_of<S: Alter>(store: &mut Store<S>, run: u32) -> Result<Kind, StoreError>
     ensures told { Told S.Store result store.old store.new (IsKindOf run) }
     ensures found { Found S.Store result store.old store.new (IsKindAt run) }
     ensures asks { Asks S.Store (is_ok result) store.old store.new }
@@ -24,7 +24,7 @@ pub fn kind_of<S: Alter>(store: &mut Store<S>, run: u32) -> Result<Kind, StoreEn
 }
 
 /// The baseline of a group, if it has one. `Store` where no such group is held.
-pub fn baseline_of<S: Alter>(store: &mut Store<S>, name: &str) -> Result<Option<u32>, StoreEnd>
+pub fn baseline_of<S: Alter>(store: &mut Store<S>, name: &str) -> Result<Option<u32>, StoreError>
     ensures told { Told S.Store result store.old store.new (IsBaselineOf name.now) }
     ensures found { Found S.Store result store.old store.new (IsBaselineAt name.now) }
     ensures asks { Asks S.Store (is_ok result) store.old store.new }

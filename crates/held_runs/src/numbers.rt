@@ -7,20 +7,20 @@ ghost use Rattle.held_runs.specs.RunNumbers.{first_one, number_shown, numbers_in
 ghost use Rattle.prof_store.specs.Shown.{Told, Found};
 ghost use Rattle.prof_store.specs.Shown.{Asks};
 
-use cg_text::Items;
+use cg_text::ListVec;
 use prof_store::{Store, select};
 use sqlite::{Alter, Row, params};
 use std::alloc::Global;
-use store_columns::{StoreEnd, number_at};
+use store_columns::{StoreError, number_at};
 
-fn read_numbers(alloc: Global, rows: &[Row]) -> Result<Items<u32>, StoreEnd>
+fn read_numbers(alloc: Global, rows: &[Row]) -> Result<ListVec<u32>, StoreError>
     ensures read { IfOk result (λ numbers. map number_shown numbers ≡ map first_one rows.now) }
 {
-    let mut numbers = Items::new(alloc);
+    let mut numbers = ListVec::new(alloc);
     'rows: for row in rows {
         let number = number_at(row, 0)?;
         if numbers.push(number).is_err() {
-            return Err(StoreEnd::Memory);
+            return Err(StoreError::Memory);
         }
     }
     Ok(numbers)
@@ -39,7 +39,7 @@ fn rise(numbers: &[u32]) -> bool
 }
 
 /// The numbers in rows, of which none comes twice.
-fn numbers_in(alloc: Global, rows: &[Row]) -> Result<Items<u32>, StoreEnd>
+fn numbers_in(alloc: Global, rows: &[Row]) -> Result<ListVec<u32>, StoreError>
     ensures read { IfOk result (λ numbers. map number_shown numbers ≡ map first_one rows.now) }
     ensures rising { IfOk result (IsAscending (λ a b. a < b)) }
 {
@@ -47,12 +47,15 @@ fn numbers_in(alloc: Global, rows: &[Row]) -> Result<Items<u32>, StoreEnd>
     if rise(numbers.as_slice()) {
         Ok(numbers)
     } else {
-        Err(StoreEnd::Store)
+        Err(StoreError::Store)
     }
 }
 
 /// The numbers of all runs, rising.
-pub fn run_numbers<S: Alter>(store: &mut Store<S>, alloc: Global) -> Result<Items<u32>, StoreEnd>
+pub fn run_numbers<S: Alter>(
+    store: &mut Store<S>,
+    alloc: Global,
+) -> Result<ListVec<u32>, StoreError>
     ensures told { Told S.Store result store.old store.new (λ t numbers. numbers ≡ numbers_in_tables t) }
     ensures found { Found S.Store result store.old store.new (λ db numbers. IsPermutation (numbers_in_rows db) (map number_shown numbers)) }
     ensures rising { IfOk result (IsAscending (λ a b. a < b)) }
@@ -67,7 +70,7 @@ pub fn members_of<S: Alter>(
     store: &mut Store<S>,
     alloc: Global,
     name: &str,
-) -> Result<Items<u32>, StoreEnd>
+) -> Result<ListVec<u32>, StoreError>
     ensures told { Told S.Store result store.old store.new (λ t numbers. numbers ≡ members_in_tables name.now t) }
     ensures found { Found S.Store result store.old store.new (λ db numbers. IsPermutation (members_in_rows name.now db) (map number_shown numbers)) }
     ensures rising { IfOk result (IsAscending (λ a b. a < b)) }

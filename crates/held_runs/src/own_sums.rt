@@ -6,25 +6,25 @@ ghost use Rattle.held_runs.specs.OwnSums.{sums_from, events_of_run, AreOwnSums, 
 ghost use Rattle.prof_store.specs.Shown.{Told, Found};
 ghost use Rattle.prof_store.specs.Shown.{Asks};
 
-use cg_text::Items;
+use cg_text::ListVec;
 use prof_store::{Store, select};
 use sqlite::{Alter, Row, params};
 use std::alloc::Global;
-use store_columns::{StoreEnd, number_at, sum_at};
+use store_columns::{StoreError, number_at, sum_at};
 
 /// The sums in rows whose places go up from 0 by one.
-fn sums_in(alloc: Global, rows: &[Row]) -> Result<Items<u128>, StoreEnd>
+fn sums_in(alloc: Global, rows: &[Row]) -> Result<ListVec<u128>, StoreError>
     ensures read { IfOk result (λ sums. sums_from 0 sums ≡ map first_two rows.now) }
 {
-    let mut sums = Items::new(alloc);
+    let mut sums = ListVec::new(alloc);
     'rows: for row in rows {
         let place = number_at(row, 0)?;
         if place as usize != sums.len() {
-            return Err(StoreEnd::Store);
+            return Err(StoreError::Store);
         }
         let sum = sum_at(row, 1)?;
         if sums.push(u128::from(sum)).is_err() {
-            return Err(StoreEnd::Memory);
+            return Err(StoreError::Memory);
         }
     }
     Ok(sums)
@@ -36,7 +36,7 @@ pub fn sums_of<S: Alter>(
     store: &mut Store<S>,
     alloc: Global,
     run: u32,
-) -> Result<Items<u128>, StoreEnd>
+) -> Result<ListVec<u128>, StoreError>
     ensures told { Told S.Store result store.old store.new (λ t. AreOwnSums (events_of_run run t)) }
     ensures found { Found S.Store result store.old store.new (AreOwnSumsAt run) }
     ensures asks { Asks S.Store (is_ok result) store.old store.new }

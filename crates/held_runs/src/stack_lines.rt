@@ -3,7 +3,7 @@
 use crate::lines::Line;
 use crate::walks::Listed;
 use sqlite::Row;
-use store_columns::{HeldStack, StoreEnd, bytes_at, whole_at};
+use store_columns::{HeldStack, StoreError, bytes_at, whole_at};
 
 impl Line for HeldStack {
     ghost use Rattle.prof_tables.specs.Tables.{stack_columns};
@@ -18,7 +18,7 @@ impl Line for HeldStack {
         Listed::Stacks
     }
 
-    fn read(run: u32, row: &Row) -> Result<HeldStack, StoreEnd> {
+    fn read(run: u32, row: &Row) -> Result<HeldStack, StoreError> {
         let frames = bytes_at(row, 1)?;
         let count = whole_at(row, 2)?;
         Ok(HeldStack { run, frames, count })

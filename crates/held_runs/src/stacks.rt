@@ -12,7 +12,7 @@ use crate::lines::Lines;
 use cost_rows::StackRow;
 use prof_store::Store;
 use sqlite::Alter;
-use store_columns::{HeldStack, StoreEnd};
+use store_columns::{HeldStack, StoreError};
 
 /// How often a run's stacks were seen, read one at a time.
 pub struct Stacks<'a, S: Alter> {
@@ -46,7 +46,7 @@ pub fn stacks_of<S: Alter>(store: &mut Store<S>, run: u32) -> Stacks<'_, S>
 impl<S: Alter> Stacks<'_, S> {
     /// The next row, or `None` behind the last one. An error ends the walk, and is answered again
     /// at each later call.
-    pub fn next(&mut self) -> Result<Option<StackRow<Vec<u8>>>, StoreEnd>
+    pub fn next(&mut self) -> Result<Option<StackRow<Vec<u8>>>, StoreError>
         ensures same { IsSameWalk self.old.lines self.new.lines }
         ensures failed { KeepsError self.old.lines self.new.lines result }
         ensures again { AnswersAgain self.old.lines self.new.lines result }

@@ -8,7 +8,7 @@ ghost use Rattle.held_runs.specs.Walks.{window_text_of, ends_text_of, asked, pag
 
 use prof_store::{Store, select, select_row};
 use sqlite::{Alter, Row, params};
-use store_columns::{StoreEnd, number_at, number_or_null_at};
+use store_columns::{StoreError, number_at, number_or_null_at};
 
 /// A table whose rows are lines of runs.
 #[derive(Clone, Copy, Debug, PartialEq, Eq)]
@@ -85,14 +85,14 @@ fn ends_text(table: Listed) -> &'static str
 }
 
 /// Refuses rows whose rowids do not rise from above `low`.
-fn rise(rows: &[Row], low: u32) -> Result<(), StoreEnd>
+fn rise(rows: &[Row], low: u32) -> Result<(), StoreError>
     ensures { OnOk result (IsTable rows.now) }
 {
     let mut last = low;
     'rows: for row in rows {
         let id = number_at(row, 0)?;
         if id <= last {
-            return Err(StoreEnd::Store);
+            return Err(StoreError::Store);
         }
         last = id;
     }
@@ -100,7 +100,7 @@ fn rise(rows: &[Row], low: u32) -> Result<(), StoreEnd>
 }
 
 /// Where the rows lie, by the least and the greatest rowid. Without any they may lie anywhere.
-fn span_in(row: &Row) -> Result<Span, StoreEnd>
+fn span_in(row: &Row) -> Result<Span, StoreError>
     ensures { IfOk result (IsSpanIn row.now) }
 {
     let Some(first) = number_or_null_at(row, 0)? else {
@@ -108,7 +108,7 @@ fn span_in(row: &Row) -> Result<Span, StoreEnd>
     };
     let top = number_at(row, 1)?;
     if first == 0 {
-        return Err(StoreEnd::Store);
+        return Err(StoreError::Store);
     }
     Ok(Span {
         low: first - 1,
@@ -117,7 +117,7 @@ fn span_in(row: &Row) -> Result<Span, StoreEnd>
 }
 
 /// Where the rows of a run lie.
-fn span_of<S: Alter>(store: &mut Store<S>, table: Listed, run: u32) -> Result<Span, StoreEnd>
+fn span_of<S: Alter>(store: &mut Store<S>, table: Listed, run: u32) -> Result<Span, StoreError>
     ensures lie { OfReady S.Store store.old store.new (IfOk result (λ span. Lie (asked table run) (rows_of S.Store table store.new) span.low span.top)) }
     ensures page { store.new.page ≡ store.old.page }
     ensures asks { Asks S.Store (is_ok result) store.old store.new }
@@ -133,7 +133,7 @@ fn load<S: Alter>(
     run: u32,
     low: u32,
     high: u32,
-) -> Result<(), StoreEnd>
+) -> Result<(), StoreError>
     ensures loaded { OfReady S.Store store.old store.new (OnOk result (store.new.page.items ≡ page_of table run low high (rows_of S.Store table store.old))) }
     ensures asks { Asks S.Store (is_ok result) store.old store.new }
 {
@@ -143,7 +143,7 @@ fn load<S: Alter>(
 }
 
 /// Finds out where the rows of the walk lie.
-fn place<S: Alter>(store: &mut Store<S>, walk: &mut Walk) -> Result<(), StoreEnd>
+fn place<S: Alter>(store: &mut Store<S>, walk: &mut Walk) -> Result<(), StoreError>
     ensures table { walk.new.table ≡ walk.old.table }
     ensures run { walk.new.run ≡ walk.old.run }
     ensures page { store.new.page ≡ store.old.page }
@@ -162,7 +162,7 @@ fn place<S: Alter>(store: &mut Store<S>, walk: &mut Walk) -> Result<(), StoreEnd
 }
 
 /// Turns to the next page. `false`: there is none.
-fn turn<S: Alter>(store: &mut Store<S>, walk: &mut Walk) -> Result<bool, StoreEnd>
+fn turn<S: Alter>(store: &mut Store<S>, walk: &mut Walk) -> Result<bool, StoreError>
     ensures table { walk.new.table ≡ walk.old.table }
     ensures run { walk.new.run ≡ walk.old.run }
     ensures moved { Moves S.Store store.old walk.old store.new (λ given. IsRead store.old walk.old → IfOk result (WalksOn S.Store given store.new walk.new)) }
@@ -184,7 +184,7 @@ fn turn<S: Alter>(store: &mut Store<S>, walk: &mut Walk) -> Result<bool, StoreEn
 }
 
 /// Whether a row is at hand, after as many turns as it takes.
-pub(crate) fn has_row<S: Alter>(store: &mut Store<S>, walk: &mut Walk) -> Result<bool, StoreEnd>
+pub(crate) fn has_row<S: Alter>(store: &mut Store<S>, walk: &mut Walk) -> Result<bool, StoreError>
     ensures table { walk.new.table ≡ walk.old.table }
     ensures run { walk.new.run ≡ walk.old.run }
     ensures moved { Moves S.Store store.old walk.old store.new (λ given. IfOk result (WalksOn S.Store given store.new walk.new)) }
@@ -198,5 +198,5 @@ pub(crate) fn has_row<S: Alter>(store: &mut Store<S>, walk: &mut Walk) -> Result
             return Ok(false);
         }
     }
-    Err(StoreEnd::Store)
+    Err(StoreError::Store)
 }

@@ -8,7 +8,7 @@ use Rattle.profile_records.specs.declared.kinds.Kind.{Kind}
 use Rattle.histories.specs.Files.{fault_of}
 use Rattle.sources.specs.Outcomes.{Outcome, bytes_of, is_failed, is_end}
 use Rattle.histories.specs.History.{Said, Import, MakeGroup, Join, SetBaseline, History, held, next, groups}
-use Rattle.histories.specs.Legal.{IsLegal, IsInForm, due, file_due, first_or, when, faulty, number_of, has_run, has_group}
+use Rattle.histories.specs.Legal.{IsLegal, IsInForm, expected_answer, file_due, first_or, when, faulty, number_of, has_run, has_group}
 use Rattle.histories.specs.Sums.{excess_of}
 use Rattle.histories.specs.declared.limits.Limits.{Limits}
 use Rattle.histories.specs.declared.answers.Answer.{Answer}
@@ -29,7 +29,7 @@ refused_not (Held n) refusal is same = cc
 refused_not Done refusal is same = cc
 refused_not (Text text) refusal is same = cc
 
-pub was_due : (limits : Limits) (h : History) (said : Said) (answer : Answer) → IsTaken answer → IsLegal limits h said answer → IsInForm said × (due limits h said ≡ Some answer)
+pub was_due : (limits : Limits) (h : History) (said : Said) (answer : Answer) → IsTaken answer → IsLegal limits h said answer → IsInForm said × (expected_answer limits h said ≡ Some answer)
 was_due limits h said answer is legal = elim legal [
   | inl form ↦ (
     form.0,

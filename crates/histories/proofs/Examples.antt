@@ -18,7 +18,7 @@ use Rattle.profile_records.specs.declared.kinds.Kind.{Kind}
 use Rattle.profile_records.specs.declared.kinds.Kind.TheVariants.{Callgrind, Folded}
 use Rattle.sources.specs.Outcomes.{Outcome, Gave, Failed}
 use Rattle.histories.specs.History.{Said, Import, Remove, MakeGroup, DropGroup, Join, Leave, SetBaseline, Ask, Turn, History, File, held, next, groups, members, is_member, baseline}
-use Rattle.histories.specs.Legal.{due, AreLegal}
+use Rattle.histories.specs.Legal.{expected_answer, AreLegal}
 use Rattle.histories.specs.Texts.{groups_text, runs_text}
 use Rattle.histories.specs.declared.answers.Answer.{Answer}
 use Rattle.histories.specs.declared.answers.Answer.TheVariants.{Run, Held, Done, Text, Refused}
@@ -79,24 +79,24 @@ gone = again ++ turn (Remove 1) Done ∷ []
 abbrev back : History
 back = gone ++ turn (import Callgrind cycles) (Run 2) ∷ []
 
-taken_is_run : due standard [] (import Callgrind cycles) ≡ Some (Run 1)
+taken_is_run : expected_answer standard [] (import Callgrind cycles) ≡ Some (Run 1)
 unfolding reading_of line_text kind_of name_of number_of amount_of subpos_of
 taken_is_run = refl
 
-again_is_held : due standard taken (import Callgrind cycles) ≡ Some (Held 1)
+again_is_held : expected_answer standard taken (import Callgrind cycles) ≡ Some (Held 1)
 unfolding first_words schedule rounds compress hash_after digest_bytes sha256
 again_is_held = refl
 
 -- whatever its kind, and though it is no folded file
-folded_is_held : due standard (taken ++ turn (import Callgrind cycles) (Held 1) ∷ []) (import Folded cycles) ≡ Some (Held 1)
+folded_is_held : expected_answer standard (taken ++ turn (import Callgrind cycles) (Held 1) ∷ []) (import Folded cycles) ≡ Some (Held 1)
 unfolding first_words schedule rounds compress hash_after digest_bytes sha256
 folded_is_held = refl
 
-removal_is_done : due standard again (Remove 1) ≡ Some Done
+removal_is_done : expected_answer standard again (Remove 1) ≡ Some Done
 removal_is_done = refl
 
 -- a number is not used again
-back_is_second : due standard gone (import Callgrind cycles) ≡ Some (Run 2)
+back_is_second : expected_answer standard gone (import Callgrind cycles) ≡ Some (Run 2)
 unfolding reading_of line_text kind_of name_of number_of amount_of subpos_of
 back_is_second = refl
 
@@ -138,16 +138,16 @@ with_most = turn (import Callgrind most) (Run 1) ∷ []
 abbrev refused : History
 refused = with_most ++ turn (import Callgrind one) (Refused (reasons.Overflow (SelfCost (codes "Ir")))) ∷ []
 
-most_is_run : due standard [] (import Callgrind most) ≡ Some (Run 1)
+most_is_run : expected_answer standard [] (import Callgrind most) ≡ Some (Run 1)
 unfolding reading_of line_text kind_of name_of number_of amount_of subpos_of
 most_is_run = refl
 
-one_is_too_much : due standard with_most (import Callgrind one) ≡ Some (Refused (reasons.Overflow (SelfCost (codes "Ir"))))
+one_is_too_much : expected_answer standard with_most (import Callgrind one) ≡ Some (Refused (reasons.Overflow (SelfCost (codes "Ir"))))
 unfolding reading_of line_text kind_of name_of number_of amount_of subpos_of first_words schedule rounds compress hash_after digest_bytes sha256
 one_is_too_much = refl
 
 -- a refused file takes no number
-one_is_second : due standard (refused ++ turn (Remove 1) Done ∷ []) (import Callgrind one) ≡ Some (Run 2)
+one_is_second : expected_answer standard (refused ++ turn (Remove 1) Done ∷ []) (import Callgrind one) ≡ Some (Run 2)
 unfolding reading_of line_text kind_of name_of number_of amount_of subpos_of
 one_is_second = refl
 
@@ -158,15 +158,15 @@ next-refused : next refused ≡ 2
 next-refused = refl
 
 -- one file alone, and a number that is too large in itself
-calls_too_much : due standard [] (import Callgrind (codes "events: Ir\nfn=f\ncalls=1 1\n1 9223372036854775807\ncalls=1 1\n1 1\n")) ≡ Some (Refused (reasons.Overflow (CallCost (codes "Ir"))))
+calls_too_much : expected_answer standard [] (import Callgrind (codes "events: Ir\nfn=f\ncalls=1 1\n1 9223372036854775807\ncalls=1 1\n1 1\n")) ≡ Some (Refused (reasons.Overflow (CallCost (codes "Ir"))))
 unfolding reading_of line_text kind_of name_of number_of amount_of subpos_of
 calls_too_much = refl
 
-too_many_calls : due standard [] (import Callgrind (codes "events: Ir\nfn=f\ncalls=9223372036854775807 1\n1\ncalls=1 1\n1\n")) ≡ Some (Refused (reasons.Overflow CallCount))
+too_many_calls : expected_answer standard [] (import Callgrind (codes "events: Ir\nfn=f\ncalls=9223372036854775807 1\n1\ncalls=1 1\n1\n")) ≡ Some (Refused (reasons.Overflow CallCount))
 unfolding reading_of line_text kind_of name_of number_of amount_of subpos_of
 too_many_calls = refl
 
-fault_of_line : due standard [] (import Callgrind (codes "events: Ir\n1 9223372036854775808\n")) ≡ Some (Refused (reasons.File NumberTooLarge 2))
+fault_of_line : expected_answer standard [] (import Callgrind (codes "events: Ir\n1 9223372036854775808\n")) ≡ Some (Refused (reasons.File NumberTooLarge 2))
 unfolding reading_of line_text kind_of name_of number_of amount_of subpos_of
 fault_of_line = refl
 
@@ -178,17 +178,17 @@ small = record { bytes = 2; runs = 2; groups = 1; numbers = 3; bytes_fit = omega
 abbrev reads : List Outcome → Said
 reads outcomes = Import Callgrind (codes "a") outcomes
 
-read_failed : due small [] (reads (Gave (codes "#") ∷ Failed ∷ [])) ≡ Some (Refused reasons.ReadFault)
+read_failed : expected_answer small [] (reads (Gave (codes "#") ∷ Failed ∷ [])) ≡ Some (Refused reasons.ReadFault)
 read_failed = refl
 
-too_long : due small [] (reads (Gave (codes "###") ∷ [])) ≡ Some (Refused reasons.TooLong)
+too_long : expected_answer small [] (reads (Gave (codes "###") ∷ [])) ≡ Some (Refused reasons.TooLong)
 too_long = refl
 
-too_long_first : due small [] (reads (Gave (codes "##") ∷ Gave (codes "#") ∷ Failed ∷ [])) ≡ Some (Refused reasons.TooLong)
+too_long_first : expected_answer small [] (reads (Gave (codes "##") ∷ Gave (codes "#") ∷ Failed ∷ [])) ≡ Some (Refused reasons.TooLong)
 too_long_first = refl
 
 -- none is due while the source goes on
-goes_on : due small [] (reads (Gave (codes "##") ∷ [])) ≡ None
+goes_on : expected_answer small [] (reads (Gave (codes "##") ∷ [])) ≡ None
 goes_on = refl
 
 -- ---- limits
@@ -199,15 +199,15 @@ narrow = record { bytes = 2 ^ 30; runs = 2; groups = 1; numbers = 3; bytes_fit =
 abbrev two : History
 two = turn (import Callgrind cycles) (Run 1) ∷ turn (import Callgrind functions) (Run 2) ∷ []
 
-second_is_run : due narrow taken (import Callgrind functions) ≡ Some (Run 2)
+second_is_run : expected_answer narrow taken (import Callgrind functions) ≡ Some (Run 2)
 unfolding reading_of line_text kind_of name_of number_of amount_of subpos_of first_words schedule rounds compress hash_after digest_bytes sha256
 second_is_run = refl
 
-third_is_full : due narrow two (import Callgrind ticks) ≡ Some (Refused reasons.Full)
+third_is_full : expected_answer narrow two (import Callgrind ticks) ≡ Some (Refused reasons.Full)
 unfolding reading_of line_text kind_of name_of number_of amount_of subpos_of first_words schedule rounds compress hash_after digest_bytes sha256
 third_is_full = refl
 
-numbers_are_spent : due narrow (two ++ turn (import Callgrind ticks) (Refused reasons.Full) ∷ turn (Remove 1) Done ∷ []) (import Callgrind ticks) ≡ Some (Refused reasons.NumbersSpent)
+numbers_are_spent : expected_answer narrow (two ++ turn (import Callgrind ticks) (Refused reasons.Full) ∷ turn (Remove 1) Done ∷ []) (import Callgrind ticks) ≡ Some (Refused reasons.NumbersSpent)
 unfolding reading_of line_text kind_of name_of number_of amount_of subpos_of first_words schedule rounds compress hash_after digest_bytes sha256
 numbers_are_spent = refl
 
@@ -215,19 +215,19 @@ numbers_are_spent = refl
 abbrev alone : Limits
 alone = record { bytes = 2 ^ 30; runs = 1; groups = 1; numbers = 2; bytes_fit = omega arith; runs_fit = omega arith; groups_fit = omega arith; numbers_fit = omega arith }
 
-fault_before_full : due alone with_most (import Callgrind (codes "events: Ir\n1 9223372036854775808\n")) ≡ Some (Refused (reasons.File NumberTooLarge 2))
+fault_before_full : expected_answer alone with_most (import Callgrind (codes "events: Ir\n1 9223372036854775808\n")) ≡ Some (Refused (reasons.File NumberTooLarge 2))
 unfolding reading_of line_text kind_of name_of number_of amount_of subpos_of first_words schedule rounds compress hash_after digest_bytes sha256
 fault_before_full = refl
 
-overflow_before_full : due alone with_most (import Callgrind one) ≡ Some (Refused (reasons.Overflow (SelfCost (codes "Ir"))))
+overflow_before_full : expected_answer alone with_most (import Callgrind one) ≡ Some (Refused (reasons.Overflow (SelfCost (codes "Ir"))))
 unfolding reading_of line_text kind_of name_of number_of amount_of subpos_of first_words schedule rounds compress hash_after digest_bytes sha256
 overflow_before_full = refl
 
-full_before_spent : due alone with_most (import Callgrind cycles) ≡ Some (Refused reasons.Full)
+full_before_spent : expected_answer alone with_most (import Callgrind cycles) ≡ Some (Refused reasons.Full)
 unfolding reading_of line_text kind_of name_of number_of amount_of subpos_of first_words schedule rounds compress hash_after digest_bytes sha256
 full_before_spent = refl
 
-no_run_there : due standard [] (Remove 5) ≡ Some (Refused reasons.NoSuchRun)
+no_run_there : expected_answer standard [] (Remove 5) ≡ Some (Refused reasons.NoSuchRun)
 no_run_there = refl
 
 -- ---- groups
@@ -274,7 +274,7 @@ baseline-left = refl
 list_after : groups_text ungrouped ≡ codes "g - -\nh - -\n"
 list_after = refl
 
-groups_are_due : due standard grouped (Ask Groups) ≡ Some (Text (codes "g 1 1\nh - 1\n"))
+groups_are_due : expected_answer standard grouped (Ask Groups) ≡ Some (Text (codes "g 1 1\nh - 1\n"))
 unfolding digits
 groups_are_due = refl
 
@@ -288,34 +288,34 @@ joined = made ++ turn (import Callgrind cycles) (Run 1) ∷ turn (Leave g 1) Don
 abbrev renewed : History
 renewed = joined ++ turn (SetBaseline g 1) Done ∷ turn (DropGroup g) Done ∷ turn (MakeGroup g) Done ∷ []
 
-made_is_done : due narrow [] (MakeGroup g) ≡ Some Done
+made_is_done : expected_answer narrow [] (MakeGroup g) ≡ Some Done
 made_is_done = refl
 
-made_twice : due narrow made (MakeGroup g) ≡ Some (Refused reasons.GroupTaken)
+made_twice : expected_answer narrow made (MakeGroup g) ≡ Some (Refused reasons.GroupTaken)
 made_twice = refl
 
-made_too_many : due narrow made (MakeGroup k) ≡ Some (Refused reasons.Full)
+made_too_many : expected_answer narrow made (MakeGroup k) ≡ Some (Refused reasons.Full)
 made_too_many = refl
 
-dropped_none : due narrow made (DropGroup k) ≡ Some (Refused reasons.NoSuchGroup)
+dropped_none : expected_answer narrow made (DropGroup k) ≡ Some (Refused reasons.NoSuchGroup)
 dropped_none = refl
 
-joined_none : due narrow made (Join k 7) ≡ Some (Refused reasons.NoSuchGroup)
+joined_none : expected_answer narrow made (Join k 7) ≡ Some (Refused reasons.NoSuchGroup)
 joined_none = refl
 
-joined_no_run : due narrow made (Join g 7) ≡ Some (Refused reasons.NoSuchRun)
+joined_no_run : expected_answer narrow made (Join g 7) ≡ Some (Refused reasons.NoSuchRun)
 joined_no_run = refl
 
-left_no_run : due narrow made (Leave g 7) ≡ Some (Refused reasons.NoSuchRun)
+left_no_run : expected_answer narrow made (Leave g 7) ≡ Some (Refused reasons.NoSuchRun)
 left_no_run = refl
 
-based_no_group : due narrow made (SetBaseline k 7) ≡ Some (Refused reasons.NoSuchGroup)
+based_no_group : expected_answer narrow made (SetBaseline k 7) ≡ Some (Refused reasons.NoSuchGroup)
 based_no_group = refl
 
-left_is_done : due narrow (made ++ turn (import Callgrind cycles) (Run 1) ∷ []) (Leave g 1) ≡ Some Done
+left_is_done : expected_answer narrow (made ++ turn (import Callgrind cycles) (Run 1) ∷ []) (Leave g 1) ≡ Some Done
 left_is_done = refl
 
-joined_twice : due narrow joined (Join g 1) ≡ Some Done
+joined_twice : expected_answer narrow joined (Join g 1) ≡ Some Done
 joined_twice = refl
 
 list_joined : groups_text joined ≡ codes "g - 1\n"
@@ -348,7 +348,7 @@ member-left = refl
 abbrev empty : History
 empty = turn (Import Callgrind (codes "empty.out") (Gave [] ∷ [])) (Run 1) ∷ []
 
-empty_is_run : due standard [] (Import Callgrind (codes "empty.out") (Gave [] ∷ [])) ≡ Some (Run 1)
+empty_is_run : expected_answer standard [] (Import Callgrind (codes "empty.out") (Gave [] ∷ [])) ≡ Some (Run 1)
 unfolding reading_of line_text kind_of name_of number_of amount_of subpos_of
 empty_is_run = refl
 

@@ -68,8 +68,8 @@ file_due limits h kind bytes = first_or
     (Run (next h))
 
 -- none is due while the source goes on
-abbrev pub import_due : Limits → History → Kind → List Outcome → Option Answer
-import_due limits h kind outcomes =
+abbrev pub expected_of_import : Limits → History → Kind → List Outcome → Option Answer
+expected_of_import limits h kind outcomes =
     if nat_lt limits.bytes (length (bytes_of outcomes)) then Some (Refused reasons.TooLong)
     else if list_any is_failed outcomes then Some (Refused reasons.ReadFault)
     else if list_any is_end outcomes then Some (file_due limits h kind (bytes_of outcomes))
@@ -100,26 +100,26 @@ no_selection h (selections.Group name) = no_group h name
 abbrev pub no_event : List ℕ → List File → Option Answer
 no_event event files = when (not (list_any (has_event event) files)) (Refused reasons.NoSuchEvent)
 
-abbrev pub ask_due : History → Query → Answer
-ask_due h queries.Runs = Text (runs_text h)
-ask_due h queries.Groups = Text (groups_text h)
-ask_due h (queries.By selection key event cut) =
+abbrev pub expected_of_query : History → Query → Answer
+expected_of_query h queries.Runs = Text (runs_text h)
+expected_of_query h queries.Groups = Text (groups_text h)
+expected_of_query h (queries.By selection key event cut) =
     first_or (no_selection h selection ∷ no_event event (selected h selection) ∷ []) (Text (by_text (selected h selection) key event cut))
-ask_due h (queries.Verify selection) = first_or (no_selection h selection ∷ []) (Text (verified_text (selected h selection)))
+expected_of_query h (queries.Verify selection) = first_or (no_selection h selection ∷ []) (Text (verified_text (selected h selection)))
 
 -- ---- each command
 
 -- what a command in form is answered, if it is answered at all
-abbrev pub due : Limits → History → Said → Option Answer
-due limits h (Import kind label outcomes) = import_due limits h kind outcomes
-due limits h (Remove n) = Some (first_or (no_run h n ∷ []) Done)
-due limits h (MakeGroup name) =
+abbrev pub expected_answer : Limits → History → Said → Option Answer
+expected_answer limits h (Import kind label outcomes) = expected_of_import limits h kind outcomes
+expected_answer limits h (Remove n) = Some (first_or (no_run h n ∷ []) Done)
+expected_answer limits h (MakeGroup name) =
     Some (first_or (when (has_group h name) (Refused reasons.GroupTaken) ∷ when (nat_le limits.groups (length (groups h))) (Refused reasons.Full) ∷ []) Done)
-due limits h (DropGroup name) = Some (first_or (no_group h name ∷ []) Done)
-due limits h (Join name n) = Some (first_or (no_group h name ∷ no_run h n ∷ []) Done)
-due limits h (Leave name n) = Some (first_or (no_group h name ∷ no_run h n ∷ []) Done)
-due limits h (SetBaseline name n) = Some (first_or (no_group h name ∷ no_run h n ∷ []) Done)
-due limits h (Ask query) = Some (ask_due h query)
+expected_answer limits h (DropGroup name) = Some (first_or (no_group h name ∷ []) Done)
+expected_answer limits h (Join name n) = Some (first_or (no_group h name ∷ no_run h n ∷ []) Done)
+expected_answer limits h (Leave name n) = Some (first_or (no_group h name ∷ no_run h n ∷ []) Done)
+expected_answer limits h (SetBaseline name n) = Some (first_or (no_group h name ∷ no_run h n ∷ []) Done)
+expected_answer limits h (Ask query) = Some (expected_of_query h query)
 
 -- want of memory, or a database call that failed
 abbrev pub IsWant : Answer → Type 0
@@ -128,7 +128,7 @@ IsWant answer = (answer ≡ Refused reasons.Memory) ⊎ (answer ≡ Refused reas
 -- a command in form is answered what is due, or want, at any moment; one out of form is refused as such, and no source is read
 abbrev pub IsLegal : Limits → History → Said → Answer → Type 0
 IsLegal limits h said answer =
-    (IsInForm said × ((due limits h said ≡ Some answer) ⊎ IsWant answer))
+    (IsInForm said × ((expected_answer limits h said ≡ Some answer) ⊎ IsWant answer))
     ⊎ ((IsInForm said → ⊥) × IsUnread said × (answer ≡ Refused reasons.BadName))
 
 -- ---- lists of commands
@@ -172,4 +172,4 @@ pub record AreAlike (xs ys : List Outcome) : Type 0 where
 
 -- after each history two commands are due the same answer
 abbrev pub AreDueAlike : Said → Said → Type 0
-AreDueAlike one other = (limits : Limits) (h : History) → due limits h one ≡ due limits h other
+AreDueAlike one other = (limits : Limits) (h : History) → expected_answer limits h one ≡ expected_answer limits h other

@@ -1,5 +1,5 @@
 // What commands are answered.
-use cg_text::{Fault, Items};
+use cg_text::{Fault, ListVec};
 use cost_reports::Cut;
 use cost_rows::Key;
 
@@ -7,9 +7,9 @@ use cost_rows::Key;
 #[derive(Drop)]
 pub enum Excess {
     /// The own costs of an event.
-    SelfCost(Items<u8>),
+    SelfCost(ListVec<u8>),
     /// The costs of calls, by an event.
-    CallCost(Items<u8>),
+    CallCost(ListVec<u8>),
     /// How many calls there were.
     CallCount,
 }
@@ -51,7 +51,7 @@ pub enum Selection {
     All,
     Run(u32),
     /// The members of the group of this name.
-    Group(Items<u8>),
+    Group(ListVec<u8>),
 }
 
 /// A question to the warehouse.
@@ -65,7 +65,7 @@ pub enum Query {
     By {
         selection: Selection,
         key: Key,
-        event: Items<u8>,
+        event: ListVec<u8>,
         cut: Cut,
     },
     /// What the sums of runs are beside the totals that their files state.
@@ -80,6 +80,6 @@ pub enum Answer {
     /// The file was held already, as the run of this number.
     Held(u32),
     Done,
-    Text(Items<u8>),
+    Text(ListVec<u8>),
     Refused(Refusal),
 }

@@ -10,10 +10,10 @@ use Rattle.sqlite.specs.Listing.{understood}
 use Rattle.sqlite.specs.State.{State, HasCleanDisk, Executes, QueriesRow, Shown}
 use Rattle.sql_tables.specs.Calls.{Asked}
 use Rattle.prof_tables.specs.Schema.{schema_one}
-use Rattle.store_columns.specs.declared.errors.StoreEnd.{StoreEnd}
+use Rattle.store_columns.specs.declared.errors.StoreError.{StoreError}
 
 -- it was run, or failed with some error
-abbrev pub Ran : List ℕ → Row → State → State → Result ℕ StoreEnd → Type 0
+abbrev pub Ran : List ℕ → Row → State → State → Result ℕ StoreError → Type 0
 Ran sql params old new (Ok count) = Executes sql params old new (Ok count)
 Ran sql params old new (Err end) = (error : Error) × Executes sql params old new (Err error)
 
@@ -27,13 +27,13 @@ abbrev pub AsksBy : List ℕ → Bool → State → State → Type 0
 AsksBy sql answered old new = HasCleanDisk new → IsPlain (understood schema_one sql) → Asked schema_one answered old new
 
 -- its rows are those that the query shows
-abbrev pub ShowsAll : List ℕ → Row → State → State → Result (Vec rows.Row Global) StoreEnd → Type 0
+abbrev pub ShowsAll : List ℕ → Row → State → State → Result (Vec rows.Row Global) StoreError → Type 0
 ShowsAll sql params old new result = HasCleanDisk new → IfOk result (λ found. Shown sql params old new found.items)
 
 -- it is the first that the query shows
-abbrev pub ShowsRow : List ℕ → Row → State → State → Result rows.Row StoreEnd → Type 0
+abbrev pub ShowsRow : List ℕ → Row → State → State → Result rows.Row StoreError → Type 0
 ShowsRow sql params old new result = HasCleanDisk new → IfOk result (λ row. QueriesRow sql params old new (Ok row))
 
 -- it is the first that the query shows, or the query shows none
-abbrev pub ShowsFirst : List ℕ → Row → State → State → Result (Option rows.Row) StoreEnd → Type 0
+abbrev pub ShowsFirst : List ℕ → Row → State → State → Result (Option rows.Row) StoreError → Type 0
 ShowsFirst sql params old new result = HasCleanDisk new → IfOk result (λ row. QueriesRow sql params old new (row_or_none row))

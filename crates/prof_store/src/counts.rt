@@ -8,13 +8,13 @@ ghost use Rattle.prof_store.specs.Shown.{Asks, Found, Told};
 use crate::statements::select_row;
 use crate::store::Store;
 use sqlite::{Alter, Row};
-use store_columns::{StoreEnd, sum_at};
+use store_columns::{StoreError, sum_at};
 
 /// SQL counts no further.
 const MOST: u64 = 0x7fff_ffff_ffff_ffff;
 
 /// The count in a row, which may stand for more at `MOST` alone.
-fn count_in(row: &Row) -> Result<u64, StoreEnd>
+fn count_in(row: &Row) -> Result<u64, StoreError>
     ensures read { IfOk result (λ n. column row.now 0 ≡ Int (pos n)) }
     ensures exact { IfOk result (λ n. n + 1 < 2 ^ 63) }
 {
@@ -22,13 +22,13 @@ fn count_in(row: &Row) -> Result<u64, StoreEnd>
     if count < MOST {
         Ok(count)
     } else {
-        Err(StoreEnd::Store)
+        Err(StoreError::Store)
     }
 }
 
 impl<S: Alter> Store<S> {
     /// How many runs are held.
-    pub fn run_count(&mut self) -> Result<u64, StoreEnd>
+    pub fn run_count(&mut self) -> Result<u64, StoreError>
         ensures told { Told S.Store result self.old self.new (λ t n. n ≡ length t.runs) }
         ensures found { Found S.Store result self.old self.new (λ db n. n ≡ length (db 1)) }
         ensures asks { Asks S.Store (is_ok result) self.old self.new }
@@ -38,7 +38,7 @@ impl<S: Alter> Store<S> {
     }
 
     /// How many groups are held.
-    pub fn group_count(&mut self) -> Result<u64, StoreEnd>
+    pub fn group_count(&mut self) -> Result<u64, StoreError>
         ensures told { Told S.Store result self.old self.new (λ t n. n ≡ length t.groups) }
         ensures found { Found S.Store result self.old self.new (λ db n. n ≡ length (db 19)) }
         ensures asks { Asks S.Store (is_ok result) self.old self.new }

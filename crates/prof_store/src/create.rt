@@ -5,12 +5,12 @@ ghost use Rattle.sqlite.specs.State.{HasCleanDisk};
 ghost use Rattle.prof_tables.specs.Schema.{empty_schema};
 ghost use Rattle.table_making.specs.Created.{Creates};
 ghost use Rattle.prof_store.specs.Shown.{shown, IsFaithful};
-ghost use Rattle.store_columns.specs.declared.errors.OpenEnd.TheVariants as ends;
+ghost use Rattle.store_columns.specs.declared.errors.OpenError.TheVariants as ends;
 
 use crate::store::Store;
 use sqlite::{Alter, Connection};
 use std::alloc::Global;
-use store_columns::OpenEnd;
+use store_columns::OpenError;
 use table_making::create_tables;
 
 impl<S: Alter> Store<S> {
@@ -20,7 +20,7 @@ impl<S: Alter> Store<S> {
     pub fn create(
         alloc: Global,
         mut conn: Connection<S>,
-    ) -> Result<Store<S>, (OpenEnd, Connection<S>)>
+    ) -> Result<Store<S>, (OpenError, Connection<S>)>
         ensures made { IfOk result (λ store. IsFaithful S.Store store → Creates true (state S.Store conn) (shown S.Store store)) }
         ensures refused { IfErr result (λ e. HasCleanDisk (state S.Store e.1) → Creates false (state S.Store conn) (state S.Store e.1)) }
         ensures wrong { IfErr result (λ e. (e.0 ≡ ends.WrongSchema) ↔ (¬ ((state S.Store conn).now.schema ≡ empty_schema))) }

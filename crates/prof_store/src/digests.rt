@@ -9,10 +9,10 @@ ghost use Rattle.prof_store.specs.Shown.{Asks, Found, Told, shown};
 use crate::statements::select_first;
 use crate::store::Store;
 use sqlite::{Alter, Row, params};
-use store_columns::{StoreEnd, number_at};
+use store_columns::{StoreError, number_at};
 
 /// The number in a row of one column, if there is a row.
-fn number_in(row: Option<Row>) -> Result<Option<u32>, StoreEnd>
+fn number_in(row: Option<Row>) -> Result<Option<u32>, StoreError>
     ensures read { IfOk result (λ found. MatchOption found (row ≡ None) (λ n. (shown : _) × (row ≡ Some shown) × (column shown 0 ≡ Int (pos n)))) }
 {
     match row {
@@ -23,7 +23,7 @@ fn number_in(row: Option<Row>) -> Result<Option<u32>, StoreEnd>
 
 impl<S: Alter> Store<S> {
     /// The run that has a digest, if one is held.
-    pub fn run_of_digest(&mut self, digest: &[u8]) -> Result<Option<u32>, StoreEnd>
+    pub fn run_of_digest(&mut self, digest: &[u8]) -> Result<Option<u32>, StoreError>
         ensures told { Told S.Store result self.old self.new (IsRunOf digest.now) }
         ensures found { Found S.Store result self.old self.new (IsRowOf digest.now) }
         ensures asks { Asks S.Store (is_ok result) self.old self.new }

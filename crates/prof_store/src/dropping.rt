@@ -7,12 +7,12 @@ ghost use Rattle.prof_store.specs.Shown.{ChangesIf};
 use crate::statements::write;
 use crate::store::Store;
 use sqlite::{Alter, params};
-use store_columns::StoreEnd;
+use store_columns::StoreError;
 
 impl<S: Alter> Store<S> {
     /// Drops a run that is held, with all its lines. Groups lose it as a member and as a baseline;
     /// its number is not used again, and names stay.
-    pub fn drop_run(&mut self, run: u32) -> Result<(), StoreEnd>
+    pub fn drop_run(&mut self, run: u32) -> Result<(), StoreError>
         ensures changes { ChangesIf S.Store (is_ok result) (λ t. has_run t run ≡ true) (without_run run) self.old self.new }
     {
         write(

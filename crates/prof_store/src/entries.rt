@@ -3,7 +3,7 @@ ghost use Rattle.std.specs.Prelude.{string_bytes, length, ◌<◌};
 ghost use Rattle.std.specs.List.{AllAdjacentBelow};
 ghost use Rattle.prof_tables.specs.Labels.{IsLabel, IsGroupName};
 
-use cg_text::Items;
+use cg_text::ListVec;
 use profile_records::Kind;
 
 /// A run that is held.
@@ -21,7 +21,7 @@ pub struct RunEntry {
 pub struct GroupEntry {
     pub name: String,
     pub baseline: Option<u32>,
-    pub members: Items<u32>,
+    pub members: ListVec<u32>,
     ghost form: { IsGroupName (string_bytes name) },
     ghost rising: { AllAdjacentBelow (λ a b. a < b) members (length members) },
 }

@@ -8,11 +8,11 @@ ghost use Rattle.prof_store.specs.Shown.{Changes, ChangesIf};
 use crate::statements::write;
 use crate::store::Store;
 use sqlite::{Alter, params};
-use store_columns::StoreEnd;
+use store_columns::StoreError;
 
 impl<S: Alter> Store<S> {
     /// Makes a group with no member and no baseline. The name is in form (`is_group_name`).
-    pub fn put_group(&mut self, name: &str) -> Result<(), StoreEnd>
+    pub fn put_group(&mut self, name: &str) -> Result<(), StoreError>
         requires { IsGroupName name.now }
         ensures changes { Changes S.Store (is_ok result) (with_group name.now) self.old self.new }
     {
@@ -25,7 +25,7 @@ impl<S: Alter> Store<S> {
     }
 
     /// Drops a group that is held, with its members; the runs stay.
-    pub fn drop_group(&mut self, name: &str) -> Result<(), StoreEnd>
+    pub fn drop_group(&mut self, name: &str) -> Result<(), StoreError>
         ensures changes { ChangesIf S.Store (is_ok result) (λ t. has_group t name.now ≡ true) (without_group name.now) self.old self.new }
     {
         write(
@@ -37,7 +37,7 @@ impl<S: Alter> Store<S> {
     }
 
     /// Takes a run out of a group.
-    pub fn leave(&mut self, name: &str, run: u32) -> Result<(), StoreEnd>
+    pub fn leave(&mut self, name: &str, run: u32) -> Result<(), StoreError>
         ensures changes { Changes S.Store (is_ok result) (without_member name.now run) self.old self.new }
     {
         write(
@@ -49,7 +49,7 @@ impl<S: Alter> Store<S> {
     }
 
     /// Makes a run the baseline of a group, in place of an older one.
-    pub fn set_baseline(&mut self, name: &str, run: u32) -> Result<(), StoreEnd>
+    pub fn set_baseline(&mut self, name: &str, run: u32) -> Result<(), StoreError>
         ensures changes { Changes S.Store (is_ok result) (with_baseline name.now run) self.old self.new }
     {
         write(

@@ -9,11 +9,11 @@ ghost use Rattle.prof_store.specs.Shown.{Asks, Found, Told};
 use crate::entries::GroupEntry;
 use crate::statements::select;
 use crate::store::Store;
-use cg_text::Items;
+use cg_text::ListVec;
 use sqlite::{Alter, Row};
 use std::alloc::Global;
 use std::cmp::Ordering;
-use store_columns::{StoreEnd, is_group_name, number_at, number_or_null_at, text_at};
+use store_columns::{StoreError, is_group_name, number_at, number_or_null_at, text_at};
 
 /// A run that is in a group.
 #[derive(Drop)]
@@ -22,7 +22,7 @@ pub(crate) struct Member {
     pub run: u32,
 }
 
-fn members_in(alloc: Global, rows: &[Row]) -> Result<Vec<Member>, StoreEnd>
+fn members_in(alloc: Global, rows: &[Row]) -> Result<Vec<Member>, StoreError>
     ensures read { IfOk result (λ members. map (λ m. member_columns (member_line m)) members.items ≡ map first_two rows.now) }
 {
     let mut members = Vec::new(alloc);
@@ -30,24 +30,24 @@ fn members_in(alloc: Global, rows: &[Row]) -> Result<Vec<Member>, StoreEnd>
         let group = text_at(row, 0)?;
         let run = number_at(row, 1)?;
         if members.push(Member { group, run }).is_err() {
-            return Err(StoreEnd::Memory);
+            return Err(StoreError::Memory);
         }
     }
     Ok(members)
 }
 
 /// The runs of the members at the front that are of one group.
-fn runs_of(alloc: Global, name: &str, members: &[Member]) -> Result<Items<u32>, StoreEnd>
+fn runs_of(alloc: Global, name: &str, members: &[Member]) -> Result<ListVec<u32>, StoreError>
     ensures within { IfOk result (λ runs. length runs ≤ length members.now) }
     ensures front { IfOk result (λ runs. map (member_of name.now) runs ≡ map member_line (take (length runs) members.now)) }
 {
-    let mut runs = Items::new(alloc);
+    let mut runs = ListVec::new(alloc);
     'members: for member in members {
         if member.group.as_str() != name {
             return Ok(runs);
         }
         if runs.push(member.run).is_err() {
-            return Err(StoreEnd::Memory);
+            return Err(StoreError::Memory);
         }
     }
     Ok(runs)
@@ -82,12 +82,12 @@ fn names_rise(entries: &[GroupEntry]) -> bool
 fn group_entry(
     name: String,
     baseline: Option<u32>,
-    members: Items<u32>,
-) -> Result<GroupEntry, StoreEnd>
+    members: ListVec<u32>,
+) -> Result<GroupEntry, StoreError>
     ensures read { IfOk result (λ entry. (entry.name ≡ name) × (entry.baseline ≡ baseline) × (entry.members ≡ members)) }
 {
     if !is_group_name(name.as_str()) || !rise(members.as_slice()) {
-        return Err(StoreEnd::Store);
+        return Err(StoreError::Store);
     }
     Ok(GroupEntry {
         name,
@@ -97,7 +97,7 @@ fn group_entry(
 }
 
 /// The groups in rows, each with the next members that are of it, and the members that are left.
-fn joined(alloc: Global, rows: &[Row], members: &[Member]) -> Result<Vec<GroupEntry>, StoreEnd>
+fn joined(alloc: Global, rows: &[Row], members: &[Member]) -> Result<Vec<GroupEntry>, StoreError>
     ensures groups { IfOk result (λ entries. map (λ e. group_columns (entry_group e)) entries.items ≡ map first_two rows.now) }
     ensures members { IfOk result (λ entries. flat_map entry_members entries.items ≡ map member_line members.now) }
 {
@@ -110,18 +110,18 @@ fn joined(alloc: Global, rows: &[Row], members: &[Member]) -> Result<Vec<GroupEn
         joined += runs.len();
         let entry = group_entry(name, baseline, runs)?;
         if entries.push(entry).is_err() {
-            return Err(StoreEnd::Memory);
+            return Err(StoreError::Memory);
         }
     }
     if joined == members.len() {
         Ok(entries)
     } else {
-        Err(StoreEnd::Store)
+        Err(StoreError::Store)
     }
 }
 
 /// The groups in rows, of which none comes twice, each with its members.
-fn groups_in(alloc: Global, rows: &[Row], members: &[Member]) -> Result<Vec<GroupEntry>, StoreEnd>
+fn groups_in(alloc: Global, rows: &[Row], members: &[Member]) -> Result<Vec<GroupEntry>, StoreError>
     ensures groups { IfOk result (λ entries. map (λ e. group_columns (entry_group e)) entries.items ≡ map first_two rows.now) }
     ensures members { IfOk result (λ entries. flat_map entry_members entries.items ≡ map member_line members.now) }
     ensures rising { IfOk result (λ entries. AllAdjacentBelow IsBefore entries.items (length entries.items)) }
@@ -130,13 +130,13 @@ fn groups_in(alloc: Global, rows: &[Row], members: &[Member]) -> Result<Vec<Grou
     if names_rise(&entries) {
         Ok(entries)
     } else {
-        Err(StoreEnd::Store)
+        Err(StoreError::Store)
     }
 }
 
 impl<S: Alter> Store<S> {
     /// The members of all groups, by group and run.
-    fn members(&mut self, alloc: Global) -> Result<Vec<Member>, StoreEnd>
+    fn members(&mut self, alloc: Global) -> Result<Vec<Member>, StoreError>
         ensures told { Told S.Store result self.old self.new (λ t members. IsPermutation t.members (map member_line members.items)) }
         ensures found { Found S.Store result self.old self.new (λ db members. AreMembersIn db (map member_line members.items)) }
         ensures asks { Asks S.Store (is_ok result) self.old self.new }
@@ -150,7 +150,11 @@ impl<S: Alter> Store<S> {
     }
 
     /// The groups with these members, by name.
-    fn groups_of(&mut self, alloc: Global, members: &[Member]) -> Result<Vec<GroupEntry>, StoreEnd>
+    fn groups_of(
+        &mut self,
+        alloc: Global,
+        members: &[Member],
+    ) -> Result<Vec<GroupEntry>, StoreError>
         ensures told { Told S.Store result self.old self.new (λ t entries. IsPermutation t.groups (map entry_group entries.items)) }
         ensures found { Found S.Store result self.old self.new (λ db entries. AreGroupsIn db (map entry_group entries.items)) }
         ensures members { IfOk result (λ entries. flat_map entry_members entries.items ≡ map member_line members.now) }
@@ -166,7 +170,7 @@ impl<S: Alter> Store<S> {
     }
 
     /// The groups with their members, by name.
-    pub fn groups(&mut self, alloc: Global) -> Result<Vec<GroupEntry>, StoreEnd>
+    pub fn groups(&mut self, alloc: Global) -> Result<Vec<GroupEntry>, StoreError>
         ensures told { Told S.Store result self.old self.new (λ t entries. AreGroups t entries.items) }
         ensures groups { Found S.Store result self.old self.new (λ db entries. AreGroupsIn db (map entry_group entries.items)) }
         ensures members { Found S.Store result self.old self.new (λ db entries. AreMembersIn db (flat_map entry_members entries.items)) }

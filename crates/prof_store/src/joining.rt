@@ -9,11 +9,11 @@ ghost use Rattle.prof_store.specs.Shown.{Asks, Changes, Found, Told};
 use crate::statements::{select, write};
 use crate::store::Store;
 use sqlite::{Alter, params};
-use store_columns::StoreEnd;
+use store_columns::StoreError;
 
 impl<S: Alter> Store<S> {
     /// Whether a run is in a group.
-    pub fn is_member(&mut self, name: &str, run: u32) -> Result<bool, StoreEnd>
+    pub fn is_member(&mut self, name: &str, run: u32) -> Result<bool, StoreError>
         ensures told { Told S.Store result self.old self.new (λ t is. is ≡ has_member t name.now run) }
         ensures found { Found S.Store result self.old self.new (λ db is. is ≡ list_any (is_member_row name.now run) (db 21)) }
         ensures asks { Asks S.Store (is_ok result) self.old self.new }
@@ -27,7 +27,7 @@ impl<S: Alter> Store<S> {
     }
 
     /// Writes a member that is not there yet.
-    fn put_member(&mut self, name: &str, run: u32) -> Result<(), StoreEnd>
+    fn put_member(&mut self, name: &str, run: u32) -> Result<(), StoreError>
         ensures changes { Changes S.Store (is_ok result) (with_member name.now run) self.old self.new }
     {
         write(
@@ -39,7 +39,7 @@ impl<S: Alter> Store<S> {
     }
 
     /// Takes a run into a group, where it may be already.
-    pub fn join(&mut self, name: &str, run: u32) -> Result<(), StoreEnd>
+    pub fn join(&mut self, name: &str, run: u32) -> Result<(), StoreError>
         ensures changes { Changes S.Store (is_ok result) (joined name.now run) self.old self.new }
     {
         if self.is_member(name, run)? {

@@ -25,4 +25,4 @@ pub use profile_records::Kind;
 pub use sqlite::Alter;
 pub use statements::{select, select_first, select_row, write};
 pub use store::Store;
-pub use store_columns::{OpenEnd, StoreEnd, is_group_name, is_label};
+pub use store_columns::{OpenError, StoreError, is_group_name, is_label};

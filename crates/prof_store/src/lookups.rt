@@ -11,11 +11,11 @@ ghost use Rattle.prof_store.specs.Shown.{Asks, Found, Told};
 use crate::statements::select;
 use crate::store::Store;
 use sqlite::{Alter, params};
-use store_columns::StoreEnd;
+use store_columns::StoreError;
 
 impl<S: Alter> Store<S> {
     /// Whether a run is held.
-    pub fn has_run(&mut self, run: u32) -> Result<bool, StoreEnd>
+    pub fn has_run(&mut self, run: u32) -> Result<bool, StoreError>
         ensures told { Told S.Store result self.old self.new (λ t is. is ≡ has_run t run) }
         ensures found { Found S.Store result self.old self.new (λ db is. is ≡ list_any (is_at 0 (number run)) (db 1)) }
         ensures asks { Asks S.Store (is_ok result) self.old self.new }
@@ -29,7 +29,7 @@ impl<S: Alter> Store<S> {
     }
 
     /// Whether a group is held.
-    pub fn has_group(&mut self, name: &str) -> Result<bool, StoreEnd>
+    pub fn has_group(&mut self, name: &str) -> Result<bool, StoreError>
         ensures told { Told S.Store result self.old self.new (λ t is. is ≡ has_group t name.now) }
         ensures found { Found S.Store result self.old self.new (λ db is. is ≡ list_any (is_at 1 (Text name.now)) (db 19)) }
         ensures asks { Asks S.Store (is_ok result) self.old self.new }

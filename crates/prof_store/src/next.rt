@@ -9,11 +9,11 @@ ghost use Rattle.prof_store.specs.Shown.{Asks, Found, Told};
 use crate::statements::select_row;
 use crate::store::Store;
 use sqlite::Alter;
-use store_columns::{StoreEnd, number_at};
+use store_columns::{StoreError, number_at};
 
 impl<S: Alter> Store<S> {
     /// The number that the next run gets.
-    pub fn next_run(&mut self) -> Result<u32, StoreEnd>
+    pub fn next_run(&mut self) -> Result<u32, StoreError>
         ensures told { Told S.Store result self.old self.new (λ t n. n ≡ t.next) }
         ensures found { Found S.Store result self.old self.new (λ db n. (r : _) × Has (db 0) r × (column r 3 ≡ Int (pos n))) }
         ensures asks { Asks S.Store (is_ok result) self.old self.new }

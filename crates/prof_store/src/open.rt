@@ -10,12 +10,12 @@ ghost use Rattle.prof_tables.specs.Texts.{schema_text};
 ghost use Rattle.prof_store.specs.Schemas.{AsksAny, IsStore, Reads, SaysSchema};
 ghost use Rattle.prof_store.specs.Shown.{shown, IsFaithful};
 ghost use Rattle.sqlite.specs.declared.error.Error.TheVariants as errors;
-ghost use Rattle.store_columns.specs.declared.errors.OpenEnd.TheVariants as ends;
+ghost use Rattle.store_columns.specs.declared.errors.OpenError.TheVariants as ends;
 
 use crate::store::Store;
 use sqlite::{Alter, Connection, Error, Row};
 use std::alloc::Global;
-use store_columns::{OpenEnd, end_of, number_at};
+use store_columns::{OpenError, error_of, number_at};
 
 fn select_schema<S: Alter>(conn: &mut Connection<S>) -> Result<Row, Error>
     ensures row { HasCleanDisk (state S.Store conn.new) → QueriesRow schema_text [] (state S.Store conn.old) (state S.Store conn.new) result }
@@ -25,19 +25,19 @@ fn select_schema<S: Alter>(conn: &mut Connection<S>) -> Result<Row, Error>
 }
 
 /// The number in a row of one column. A text that is not understood finds no such tables.
-fn schema_in(answer: Result<Row, Error>) -> Result<u32, OpenEnd>
+fn schema_in(answer: Result<Row, Error>) -> Result<u32, OpenError>
     ensures read { IfOk result (λ n. (row : _) × (answer ≡ Ok row) × (column row 0 ≡ Int (pos n))) }
     ensures wrong { IfErr result (λ e. e ≡ ends.WrongSchema → (fault : _) × (answer ≡ Err (errors.SqlInputError fault))) }
 {
     match answer {
         Ok(row) => Ok(number_at(&row, 0)?),
-        Err(Error::SqlInputError(_)) => Err(OpenEnd::WrongSchema),
-        Err(error) => Err(OpenEnd::from(end_of(error))),
+        Err(Error::SqlInputError(_)) => Err(OpenError::WrongSchema),
+        Err(error) => Err(OpenError::from(error_of(error))),
     }
 }
 
 /// The number of the schema that the tables are of.
-fn schema_of<S: Alter>(conn: &mut Connection<S>) -> Result<u32, OpenEnd>
+fn schema_of<S: Alter>(conn: &mut Connection<S>) -> Result<u32, OpenError>
     ensures shows { HasCleanDisk (state S.Store conn.new) → IfOk result (Reads (state S.Store conn.old) (state S.Store conn.new)) }
     ensures found { HasCleanDisk (state S.Store conn.new) → IfOk result (SaysSchema (state S.Store conn.old).now) }
     ensures told { HasCleanDisk (state S.Store conn.new) → IsStore (state S.Store conn.old) → IfOk result (λ n. n ≡ 1) }
@@ -55,7 +55,7 @@ impl<S: Alter> Store<S> {
     pub fn open(
         alloc: Global,
         mut conn: Connection<S>,
-    ) -> Result<Store<S>, (OpenEnd, Connection<S>)>
+    ) -> Result<Store<S>, (OpenError, Connection<S>)>
         ensures shows { IfOk result (λ store. IsFaithful S.Store store → Reads (state S.Store conn) (shown S.Store store) 1) }
         ensures found { IfOk result (λ store. IsFaithful S.Store store → SaysSchema (state S.Store conn).now 1) }
         ensures right { IfErr result (λ e. HasCleanDisk (state S.Store e.1) → IsStore (state S.Store conn) → e.0 ≢ ends.WrongSchema) }
@@ -67,7 +67,7 @@ impl<S: Alter> Store<S> {
                 conn,
                 page: Vec::new(alloc),
             }),
-            Ok(_) => Err((OpenEnd::WrongSchema, conn)),
+            Ok(_) => Err((OpenError::WrongSchema, conn)),
             Err(end) => Err((end, conn)),
         }
     }

@@ -12,9 +12,9 @@ use crate::statements::select;
 use crate::store::Store;
 use sqlite::{Alter, Row};
 use std::alloc::Global;
-use store_columns::{StoreEnd, digest_at, kind_at, label_at, number_at};
+use store_columns::{StoreError, digest_at, kind_at, label_at, number_at};
 
-fn run_entry(row: &Row) -> Result<RunEntry, StoreEnd>
+fn run_entry(row: &Row) -> Result<RunEntry, StoreError>
     ensures read { IfOk result (λ entry. entry_columns entry ≡ first_four row.now) }
 {
     let number = number_at(row, 0)?;
@@ -29,14 +29,14 @@ fn run_entry(row: &Row) -> Result<RunEntry, StoreEnd>
     })
 }
 
-fn run_entries(alloc: Global, rows: &[Row]) -> Result<Vec<RunEntry>, StoreEnd>
+fn run_entries(alloc: Global, rows: &[Row]) -> Result<Vec<RunEntry>, StoreError>
     ensures read { IfOk result (λ entries. map entry_columns entries.items ≡ map first_four rows.now) }
 {
     let mut entries = Vec::new(alloc);
     'rows: for row in rows {
         let entry = run_entry(row)?;
         if entries.push(entry).is_err() {
-            return Err(StoreEnd::Memory);
+            return Err(StoreError::Memory);
         }
     }
     Ok(entries)
@@ -55,7 +55,7 @@ fn rise(entries: &[RunEntry]) -> bool
 }
 
 /// The runs in rows, of which none comes twice.
-fn runs_in(alloc: Global, rows: &[Row]) -> Result<Vec<RunEntry>, StoreEnd>
+fn runs_in(alloc: Global, rows: &[Row]) -> Result<Vec<RunEntry>, StoreError>
     ensures read { IfOk result (λ entries. map entry_columns entries.items ≡ map first_four rows.now) }
     ensures rising { IfOk result (λ entries. AllAdjacentBelow (λ a b. a.number < b.number) entries.items (length entries.items)) }
 {
@@ -63,13 +63,13 @@ fn runs_in(alloc: Global, rows: &[Row]) -> Result<Vec<RunEntry>, StoreEnd>
     if rise(&entries) {
         Ok(entries)
     } else {
-        Err(StoreEnd::Store)
+        Err(StoreError::Store)
     }
 }
 
 impl<S: Alter> Store<S> {
     /// The runs that are held, in the order of their numbers.
-    pub fn runs(&mut self, alloc: Global) -> Result<Vec<RunEntry>, StoreEnd>
+    pub fn runs(&mut self, alloc: Global) -> Result<Vec<RunEntry>, StoreError>
         ensures told { Told S.Store result self.old self.new (λ t entries. map entry_run entries.items ≡ map held_run t.runs) }
         ensures found { Found S.Store result self.old self.new (λ db entries. IsPermutation (map run_seen (db 1)) (map entry_columns entries.items)) }
         ensures rising { IfOk result (λ entries. AllAdjacentBelow (λ a b. a.number < b.number) entries.items (length entries.items)) }

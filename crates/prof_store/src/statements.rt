@@ -7,20 +7,20 @@ ghost use Rattle.prof_store.specs.Statements.{AsksBy, Ran, ShowsAll, ShowsFirst,
 
 use sqlite::types::ValueRef;
 use sqlite::{Alter, Connection, Error, Row};
-use store_columns::{StoreEnd, end_of};
+use store_columns::{StoreError, error_of};
 
 /// All rows that a query shows.
 pub fn select<S: Alter>(
     conn: &mut Connection<S>,
     sql: &str,
     params: &[ValueRef<'_>],
-) -> Result<Vec<Row>, StoreEnd>
+) -> Result<Vec<Row>, StoreError>
     ensures asked { AsksBy sql.now (is_ok result) (state S.Store conn.old) (state S.Store conn.new) }
     ensures rows { ShowsAll sql.now (bound params.now) (state S.Store conn.old) (state S.Store conn.new) result }
 {
     match conn.query_all(sql, params) {
         Ok(rows) => Ok(rows),
-        Err(error) => Err(end_of(error)),
+        Err(error) => Err(error_of(error)),
     }
 }
 
@@ -29,13 +29,13 @@ pub fn select_row<S: Alter>(
     conn: &mut Connection<S>,
     sql: &str,
     params: &[ValueRef<'_>],
-) -> Result<Row, StoreEnd>
+) -> Result<Row, StoreError>
     ensures asked { AsksBy sql.now (is_ok result) (state S.Store conn.old) (state S.Store conn.new) }
     ensures row { ShowsRow sql.now (bound params.now) (state S.Store conn.old) (state S.Store conn.new) result }
 {
     match conn.query_row(sql, params) {
         Ok(row) => Ok(row),
-        Err(error) => Err(end_of(error)),
+        Err(error) => Err(error_of(error)),
     }
 }
 
@@ -44,14 +44,14 @@ pub fn select_first<S: Alter>(
     conn: &mut Connection<S>,
     sql: &str,
     params: &[ValueRef<'_>],
-) -> Result<Option<Row>, StoreEnd>
+) -> Result<Option<Row>, StoreError>
     ensures asked { AsksBy sql.now (is_ok result) (state S.Store conn.old) (state S.Store conn.new) }
     ensures row { ShowsFirst sql.now (bound params.now) (state S.Store conn.old) (state S.Store conn.new) result }
 {
     match conn.query_row(sql, params) {
         Ok(row) => Ok(Some(row)),
         Err(Error::QueryReturnedNoRows) => Ok(None),
-        Err(error) => Err(end_of(error)),
+        Err(error) => Err(error_of(error)),
     }
 }
 
@@ -60,7 +60,7 @@ pub fn write<S: Alter>(
     conn: &mut Connection<S>,
     sql: &str,
     params: &[ValueRef<'_>],
-) -> Result<usize, StoreEnd>
+) -> Result<usize, StoreError>
     ensures ran { HasCleanDisk (state S.Store conn.new)
         → Ran sql.now (bound params.now) (state S.Store conn.old) (state S.Store conn.new) result }
     ensures survives { Survives (state S.Store conn.old) (state S.Store conn.new)
@@ -68,6 +68,6 @@ pub fn write<S: Alter>(
 {
     match conn.execute(sql, params) {
         Ok(count) => Ok(count),
-        Err(error) => Err(end_of(error)),
+        Err(error) => Err(error_of(error)),
     }
 }

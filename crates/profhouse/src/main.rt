@@ -2,7 +2,7 @@
 #![tactic(auto)]
 
 use anyhow::Result;
-use command_line::{PlanEnd, plan};
+use command_line::{PlanError, plan};
 use sessions::{print_refused, run_plan};
 use std::env;
 use std::process::ExitCode;
@@ -11,12 +11,12 @@ fn main(rt: HostRuntime) -> Result<ExitCode> {
     let words: Vec<String> = env::args(&rt)?.collect(rt.alloc())?;
     let code = match plan(rt.alloc(), words.as_slice()) {
         Ok(plan) => run_plan(&rt, plan)?,
-        Err(PlanEnd::Memory) => print_refused(&rt, "out of memory")?,
-        Err(PlanEnd::RunAndGroup) => {
+        Err(PlanError::Memory) => print_refused(&rt, "out of memory")?,
+        Err(PlanError::RunAndGroup) => {
             eprintln!(rt; "usage: --run and --group exclude each other")?;
             ExitCode::from(2)
         }
-        Err(PlanEnd::Clap(error)) => {
+        Err(PlanError::Clap(error)) => {
             error.print(&rt)?;
             ExitCode::from(error.exit_code() as u8)
         }

@@ -2,7 +2,7 @@
 use Rattle.std.specs.Prelude.{◌≡◌, ℕ, List, Option, None, Some}
 use Rattle.sources.specs.Known.{IsRead}
 use Rattle.sources.specs.Outcomes.{Outcome, Failed}
-use Rattle.sources.specs.Reads.{Come}
+use Rattle.sources.specs.Reads.{Reads}
 use Rattle.sources.specs.declared.opened.Opened.{Opened}
 use Rattle.program_files.specs.declared.imported.FileSource.{FileSource}
 
@@ -20,4 +20,4 @@ module _ {F : Type 0} (remaining : F → Option (List ℕ)) where
 
   -- the reads of a file, from its opening on
   abbrev pub WereRead : List Outcome → Type 0
-  WereRead outcomes = (to : Option (Opened F)) × Come IsReadOf None outcomes to
+  WereRead outcomes = (to : Option (Opened F)) × Reads IsReadOf None outcomes to

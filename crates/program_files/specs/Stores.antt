@@ -4,8 +4,8 @@ use Rattle.sqlite.specs.State.{State}
 use Rattle.sql_tables.specs.Calls.{Asked}
 use Rattle.table_making.specs.Created.{Creates}
 use Rattle.prof_store.specs.Schemas.{Reads}
-use Rattle.store_columns.specs.declared.errors.OpenEnd.{OpenEnd}
-use Rattle.store_columns.specs.declared.errors.OpenEnd.TheVariants as ends
+use Rattle.store_columns.specs.declared.errors.OpenError.{OpenError}
+use Rattle.store_columns.specs.declared.errors.OpenError.TheVariants as ends
 
 -- a new store is made, or the one of the database is found and left as it was
 abbrev pub TakesUp : Bool → State → State → Type 0
@@ -17,7 +17,7 @@ abbrev pub Refuses : Bool → State → State → Type 0
 Refuses true old new = Creates false old new
 Refuses false old new = Asked old.now.schema false old new
 
-abbrev pub store_text : OpenEnd → List ℕ
+abbrev pub store_text : OpenError → List ℕ
 store_text ends.Memory = codes "store: out of memory"
 store_text ends.Store = codes "store: failed"
 store_text ends.WrongSchema = codes "store: wrong schema"

@@ -37,7 +37,7 @@ fn open_at<R: Files>(rt: &R, path: &str) -> Result<Opened<R::File>, ReadFault> {
 impl<R: Files> Source for FileSource<'_, R> {
     ghost use Rattle.program_files.specs.Imported.{FileReads};
 
-    ghost comes = { FileReads R.File.remaining };
+    ghost reads = { FileReads R.File.remaining };
 
     fn read(&mut self, buf: &mut [u8]) -> Result<usize, ReadFault> {
         if self.file.is_none() {

@@ -5,4 +5,4 @@ mod imported;
 mod stores;
 
 pub use imported::FileSource;
-pub use stores::{StoreFile, database_at, end_line, is_new_at, store_in};
+pub use stores::{StoreFile, database_at, error_line, is_new_at, store_in};

@@ -3,10 +3,10 @@ ghost use Rattle.std.specs.Prelude.{◌≡◌, IfOk, IfErr};
 ghost use Rattle.sqlite.specs.Held.{state};
 ghost use Rattle.sqlite.specs.State.{HasCleanDisk};
 ghost use Rattle.prof_store.specs.Shown.{shown, IsFaithful};
-ghost use Rattle.store_columns.specs.Ends.{end_for, opening};
+ghost use Rattle.store_columns.specs.Errors.{error_for, opening};
 ghost use Rattle.program_files.specs.Stores.{Refuses, TakesUp, store_text};
 
-use prof_store::{OpenEnd, Store};
+use prof_store::{OpenError, Store};
 use sqlite::{Alter, Connection, Error, ErrorCode, File, FileStore};
 use std::alloc::Global;
 use std::fs;
@@ -17,39 +17,39 @@ use std::rt::HostRuntime;
 pub type StoreFile = FileStore<File>;
 
 /// Why the database is not opened.
-fn end_of_open(error: Error) -> OpenEnd
-    ensures { result ≡ opening (end_for error) }
+fn error_of_open(error: Error) -> OpenError
+    ensures { result ≡ opening (error_for error) }
 {
     match error {
-        Error::SqliteFailure(ErrorCode::OutOfMemory) => OpenEnd::Memory,
-        _ => OpenEnd::Store,
+        Error::SqliteFailure(ErrorCode::OutOfMemory) => OpenError::Memory,
+        _ => OpenError::Store,
     }
 }
 
 /// How many bytes the file at a path has: none where there is no file.
-fn length_at(rt: &HostRuntime, path: &str) -> Result<u64, OpenEnd> {
+fn length_at(rt: &HostRuntime, path: &str) -> Result<u64, OpenError> {
     match fs::metadata(rt, path) {
         Ok(metadata) => Ok(metadata.len()),
         Err(error) if error.kind() == ErrorKind::NotFound => Ok(0),
-        Err(error) if error.kind() == ErrorKind::OutOfMemory => Err(OpenEnd::Memory),
-        Err(_) => Err(OpenEnd::Store),
+        Err(error) if error.kind() == ErrorKind::OutOfMemory => Err(OpenError::Memory),
+        Err(_) => Err(OpenError::Store),
     }
 }
 
 /// Whether a path is to become a new store: where there is no file, or an empty one. A file of one byte is
 /// no store, and is not opened: the database would take it for a new one that a stop left half made, and
 /// write over it. No clause: of the files at a path the checker knows nothing.
-pub fn is_new_at(rt: &HostRuntime, path: &str) -> Result<bool, OpenEnd> {
+pub fn is_new_at(rt: &HostRuntime, path: &str) -> Result<bool, OpenError> {
     match length_at(rt, path)? {
         0 => Ok(true),
-        1 => Err(OpenEnd::WrongSchema),
+        1 => Err(OpenError::WrongSchema),
         _ => Ok(false),
     }
 }
 
 /// The database at a path, opened. No clause: of the files at a path the checker knows nothing.
-pub fn database_at(rt: &HostRuntime, path: &str) -> Result<Connection<StoreFile>, OpenEnd> {
-    Connection::open(rt, path).map_err(end_of_open)
+pub fn database_at(rt: &HostRuntime, path: &str) -> Result<Connection<StoreFile>, OpenError> {
+    Connection::open(rt, path).map_err(error_of_open)
 }
 
 /// The store of a database: a new one where it is to become one, else the one that it holds. A refusal
@@ -58,7 +58,7 @@ pub fn store_in<S: Alter>(
     alloc: Global,
     conn: Connection<S>,
     is_new: bool,
-) -> Result<Store<S>, (OpenEnd, Connection<S>)>
+) -> Result<Store<S>, (OpenError, Connection<S>)>
     ensures taken_up { IfOk result (λ store. IsFaithful S.Store store → TakesUp is_new (state S.Store conn) (shown S.Store store)) }
     ensures refused { IfErr result (λ e. HasCleanDisk (state S.Store e.1) → Refuses is_new (state S.Store conn) (state S.Store e.1)) }
 {
@@ -70,12 +70,12 @@ pub fn store_in<S: Alter>(
 }
 
 /// The line of a store that is not opened.
-pub fn end_line(end: OpenEnd) -> &'static str
+pub fn error_line(end: OpenError) -> &'static str
     ensures { result.now ≡ store_text end }
 {
     match end {
-        OpenEnd::Memory => "store: out of memory",
-        OpenEnd::Store => "store: failed",
-        OpenEnd::WrongSchema => "store: wrong schema",
+        OpenError::Memory => "store: out of memory",
+        OpenError::Store => "store: failed",
+        OpenError::WrongSchema => "store: wrong schema",
     }
 }

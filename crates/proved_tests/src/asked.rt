@@ -1,15 +1,15 @@
 // What a store tells of its runs and groups, over rows that are written by hand.
 use crate::stores::filled;
 use held_runs::{baseline_of, kind_of, members_of, run_numbers, sums_of};
-use prof_store::{Kind, Store, StoreEnd};
+use prof_store::{Kind, Store, StoreError};
 use sqlite::{Connection, MemStore};
 use std::alloc::Global;
 use std::test::Fail;
 
-fn reopened(alloc: Global, conn: Connection<MemStore>) -> Result<Store<MemStore>, StoreEnd> {
+fn reopened(alloc: Global, conn: Connection<MemStore>) -> Result<Store<MemStore>, StoreError> {
     match Store::open(alloc, conn) {
         Ok(store) => Ok(store),
-        Err(_) => Err(StoreEnd::Store),
+        Err(_) => Err(StoreError::Store),
     }
 }
 

@@ -34,7 +34,7 @@ impl Given {
 }
 
 impl Source for Given {
-    ghost comes = { λ from outcome to. Unit {0} };
+    ghost reads = { λ from outcome to. Unit {0} };
 
     fn read(&mut self, buf: &mut [u8]) -> Result<usize, ReadFault> {
         self.give(buf).ok_or(ReadFault)

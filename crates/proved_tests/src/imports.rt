@@ -1,7 +1,7 @@
 // Imports into a warehouse of small limits.
 use crate::given::Given;
 use crate::stores::empty;
-use prof_store::StoreEnd;
+use prof_store::StoreError;
 use sqlite::MemStore;
 use std::alloc::{AllocError, Global};
 use std::test::Fail;
@@ -30,7 +30,7 @@ fn word(answer: &Answer) -> &'static str {
 }
 
 /// An empty warehouse that takes in files of so many bytes, two runs, one group, and three numbers.
-fn small_house(alloc: Global, bytes: u16) -> Result<Warehouse<MemStore>, StoreEnd> {
+fn small_house(alloc: Global, bytes: u16) -> Result<Warehouse<MemStore>, StoreError> {
     let limits = Limits {
         bytes: u64::from(bytes),
         runs: 2,

@@ -1,6 +1,6 @@
 // Reports of small rows.
 use cg_formulas::{FileHead, Flat};
-use cg_text::Items;
+use cg_text::ListVec;
 use cost_reports::{Cut, by, verify};
 use cost_rows::{CellRow, Key, Merged};
 use std::alloc::{AllocError, Global};
@@ -25,7 +25,7 @@ fn add(merged: &mut Merged, function: &[u8], line: u64, cost: u128) -> Result<()
     merged.add(&row)
 }
 
-fn text_of(alloc: Global, key: Key, cut: Cut) -> Result<Items<u8>, AllocError> {
+fn text_of(alloc: Global, key: Key, cut: Cut) -> Result<ListVec<u8>, AllocError> {
     let mut merged = Merged::new(alloc, key);
     add(&mut merged, b"main", 16, 20)?;
     add(&mut merged, b"func1", 51, 100)?;
@@ -87,11 +87,11 @@ fn by_function_and_line(rt: HostRuntime) -> Result<(), Fail> {
     Ok(())
 }
 
-fn head_of(alloc: Global, stated: Option<Items<u128>>) -> Result<FileHead, AllocError> {
-    let mut events = Items::new(alloc);
-    events.push(Items::from_vec(b"Ir".to_vec(alloc)?))?;
-    events.push(Items::from_vec(b"Dr".to_vec(alloc)?))?;
-    let derived = Flat::of(Items::new(alloc), Items::new(alloc)).ok_or(AllocError)?;
+fn head_of(alloc: Global, stated: Option<ListVec<u128>>) -> Result<FileHead, AllocError> {
+    let mut events = ListVec::new(alloc);
+    events.push(ListVec::from_vec(b"Ir".to_vec(alloc)?))?;
+    events.push(ListVec::from_vec(b"Dr".to_vec(alloc)?))?;
+    let derived = Flat::of(ListVec::new(alloc), ListVec::new(alloc)).ok_or(AllocError)?;
     Ok(FileHead {
         events,
         derived,
@@ -102,7 +102,7 @@ fn head_of(alloc: Global, stated: Option<Items<u128>>) -> Result<FileHead, Alloc
 #[test]
 fn sums_beside_totals(rt: HostRuntime) -> Result<(), Fail> {
     let alloc = rt.alloc();
-    let head = head_of(alloc, Some(Items::from_vec(vec![in alloc; 8, 4]?)))?;
+    let head = head_of(alloc, Some(ListVec::from_vec(vec![in alloc; 8, 4]?)))?;
     let text = verify(alloc, 3, &head, &[9, 4])?.text(alloc)?;
     assert_eq!(rt;
         text.as_slice(),

@@ -1,18 +1,18 @@
 // A store in memory whose rows are written by hand. No clauses: what the tests over it want fails where it is
 // another.
-use prof_store::{Store, StoreEnd};
+use prof_store::{Store, StoreError};
 use sqlite::{Connection, MemStore, params};
 use std::alloc::Global;
 
 /// A store in which a text was run, with the run 1, the names `a` (1), `b` (2), `c` (3) and `g` (7), and
 /// cells of the run on the lines 1, 2, .., each of which costs as much as its line says.
-pub(crate) fn filled(alloc: Global, text: &str, cells: u32) -> Result<Store<MemStore>, StoreEnd> {
+pub(crate) fn filled(alloc: Global, text: &str, cells: u32) -> Result<Store<MemStore>, StoreError> {
     let Ok(conn) = Connection::open_in_memory(alloc) else {
-        return Err(StoreEnd::Memory);
+        return Err(StoreError::Memory);
     };
     let mut conn = match Store::create(alloc, conn) {
         Ok(store) => store.into_connection(),
-        Err(_) => return Err(StoreEnd::Store),
+        Err(_) => return Err(StoreError::Store),
     };
     for text in [
         "INSERT INTO run VALUES (1, 1, x'01', 'a', 0)",
@@ -20,35 +20,35 @@ pub(crate) fn filled(alloc: Global, text: &str, cells: u32) -> Result<Store<MemS
         text,
     ] {
         if conn.execute(text, &[]).is_err() {
-            return Err(StoreEnd::Store);
+            return Err(StoreError::Store);
         }
     }
     for line in 1..=cells {
         let text = "INSERT INTO cell VALUES (1, 1, 2, 3, ?1, 0, ?1)";
         if conn.execute(text, params![line]).is_err() {
-            return Err(StoreEnd::Store);
+            return Err(StoreError::Store);
         }
     }
     match Store::open(alloc, conn) {
         Ok(store) => Ok(store),
-        Err(_) => Err(StoreEnd::Store),
+        Err(_) => Err(StoreError::Store),
     }
 }
 
 /// A store without rows, which has an open transaction or not.
-pub(crate) fn empty(alloc: Global, is_within: bool) -> Result<Store<MemStore>, StoreEnd> {
+pub(crate) fn empty(alloc: Global, is_within: bool) -> Result<Store<MemStore>, StoreError> {
     let Ok(conn) = Connection::open_in_memory(alloc) else {
-        return Err(StoreEnd::Memory);
+        return Err(StoreError::Memory);
     };
     let mut conn = match Store::create(alloc, conn) {
         Ok(store) => store.into_connection(),
-        Err(_) => return Err(StoreEnd::Store),
+        Err(_) => return Err(StoreError::Store),
     };
     if is_within && conn.execute("BEGIN", &[]).is_err() {
-        return Err(StoreEnd::Store);
+        return Err(StoreError::Store);
     }
     match Store::open(alloc, conn) {
         Ok(store) => Ok(store),
-        Err(_) => Err(StoreEnd::Store),
+        Err(_) => Err(StoreError::Store),
     }
 }

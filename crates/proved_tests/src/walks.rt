@@ -2,14 +2,14 @@
 use crate::stores::filled;
 use cg_formulas::FileHead;
 use held_runs::{arcs_of, cells_of, head_of, names_of, stacks_of};
-use prof_store::{Store, StoreEnd};
+use prof_store::{Store, StoreError};
 use sqlite::MemStore;
 use std::alloc::Global;
 use std::test::Fail;
 
 /// What a walk over the cells of run 1 comes to: the costs of those of the objects `a` and `g`, and the
 /// lines of all.
-fn cells(store: &mut Store<MemStore>, alloc: Global) -> Result<(u128, u128, u64), StoreEnd> {
+fn cells(store: &mut Store<MemStore>, alloc: Global) -> Result<(u128, u128, u64), StoreError> {
     let names = names_of(store, alloc)?;
     let mut walk = cells_of(store, 1, &names, 2);
     let (mut of_a, mut of_g, mut lines) = (0u128, 0u128, 0u64);
@@ -30,7 +30,7 @@ fn cells(store: &mut Store<MemStore>, alloc: Global) -> Result<(u128, u128, u64)
 
 /// What a walk over the calls of run 1 comes to, of those to the function `b` in `c` of `g`: how many they
 /// are, and what they cost of the second event.
-fn calls(store: &mut Store<MemStore>, alloc: Global) -> Result<(u128, u128), StoreEnd> {
+fn calls(store: &mut Store<MemStore>, alloc: Global) -> Result<(u128, u128), StoreError> {
     let names = names_of(store, alloc)?;
     let mut walk = arcs_of(store, alloc, 1, &names, 2);
     let (mut count, mut costs) = (0u128, 0u128);
@@ -109,16 +109,16 @@ fn a_head_is_told(rt: HostRuntime) -> Result<(), Fail> {
 }
 
 /// A number for a refusal, and none for a row.
-fn mark<T: Drop>(told: Result<T, StoreEnd>, number: u8) -> u8 {
+fn mark<T: Drop>(told: Result<T, StoreError>, number: u8) -> u8 {
     match told {
-        Err(StoreEnd::Store) => number,
+        Err(StoreError::Store) => number,
         _ => 0,
     }
 }
 
 /// Which of these refuse the rows of run 1, of two events: the head (1), a walk over its cells (2; 4 when
 /// it is asked again), one over its calls (8), one over its stacks (16).
-fn refusals(alloc: Global, text: &str) -> Result<u8, StoreEnd> {
+fn refusals(alloc: Global, text: &str) -> Result<u8, StoreError> {
     let mut store = filled(alloc, text, 1)?;
     let head = mark(head_of(&mut store, alloc, 1), 1);
     let stacks = mark(stacks_of(&mut store, 1).next(), 16);
@@ -155,11 +155,11 @@ fn memory_refused_to_walk(rt: HostRuntime) -> Result<(), Fail> {
         Err(_) => filled(alloc, CALLS, 2)?,
     };
     let costs = match cells(&mut store, alloc) {
-        Err(StoreEnd::Memory) => cells(&mut store, alloc)?,
+        Err(StoreError::Memory) => cells(&mut store, alloc)?,
         told => told?,
     };
     let told = match calls(&mut store, alloc) {
-        Err(StoreEnd::Memory) => calls(&mut store, alloc)?,
+        Err(StoreError::Memory) => calls(&mut store, alloc)?,
         told => told?,
     };
     assert!(rt; costs == (3, 0, 3) && told == (4, 400));

@@ -6,10 +6,10 @@ ghost use Rattle.store_columns.specs.Steps.{IsAbove, IsNext};
 ghost use Rattle.store_columns.specs.Within.{WritesIf};
 
 use sqlite::{Alter, Transaction, params};
-use store_columns::{RunLine, StoreEnd, write_inside};
+use store_columns::{RunLine, StoreError, write_inside};
 
 /// Sets the number of the next run, within a transaction.
-pub fn raise_next<S: Alter>(tx: &mut Transaction<'_, S>, next: u32) -> Result<(), StoreEnd>
+pub fn raise_next<S: Alter>(tx: &mut Transaction<'_, S>, next: u32) -> Result<(), StoreError>
     ensures { WritesIf S.Store (is_ok result) (IsAbove next) (with_next next) tx.old tx.new }
 {
     write_inside(tx, "UPDATE meta SET next_run = ?1", params![next])
@@ -19,7 +19,7 @@ pub fn raise_next<S: Alter>(tx: &mut Transaction<'_, S>, next: u32) -> Result<()
 pub fn put_line_of_run<S: Alter>(
     tx: &mut Transaction<'_, S>,
     run: &RunLine<'_>,
-) -> Result<(), StoreEnd>
+) -> Result<(), StoreError>
     ensures { WritesIf S.Store (is_ok result) (IsNext run.now.number) (with_run (run_line run.now)) tx.old tx.new }
 {
     write_inside(

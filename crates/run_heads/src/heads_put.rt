@@ -6,11 +6,11 @@ ghost use Rattle.run_heads.specs.Sums.{OfContent, OfColumn, AllFit};
 ghost use Rattle.store_columns.specs.Lines.{event_line, derived_line, coef_line};
 
 use cg_formulas::FileHead;
-use cg_text::Items;
+use cg_text::ListVec;
 use cost_rows::FileTotals;
 use std::alloc::{AllocError, Global};
 use store_columns::{
-    CoefLine, DerivedLine, EventLine, HeadLines, StoreEnd, Whole, small_of, whole_of,
+    CoefLine, DerivedLine, EventLine, HeadLines, StoreError, Whole, small_of, whole_of,
 };
 
 /// Adds a line at the end.
@@ -22,35 +22,35 @@ fn add<T: Drop>(lines: &mut Vec<T>, line: T) -> Result<(), AllocError>
 }
 
 /// A place that fits its column.
-fn place_of(place: usize) -> Result<u32, StoreEnd>
+fn place_of(place: usize) -> Result<u32, StoreError>
     ensures { IfOk result (λ n. n ≡ place) }
 {
     match small_of(place) {
         Some(small) => Ok(small),
-        None => Err(StoreEnd::Store),
+        None => Err(StoreError::Store),
     }
 }
 
 /// The sum of a column, if it fits.
-fn sum_at(sums: &[u128], place: usize) -> Result<Whole, StoreEnd>
+fn sum_at(sums: &[u128], place: usize) -> Result<Whole, StoreError>
     ensures value { IfOk result (λ w. w ≡ slice_index sums.now place) }
     ensures fits { OnOk result (slice_index sums.now place < 2 ^ 63) }
 {
     let Some(sum) = sums.get(place) else {
-        return Err(StoreEnd::Store);
+        return Err(StoreError::Store);
     };
     match whole_of(*sum) {
         Some(whole) => Ok(whole),
-        None => Err(StoreEnd::Store),
+        None => Err(StoreError::Store),
     }
 }
 
 /// The total that a file states of a column, in decimal.
 fn total_text(
     alloc: Global,
-    stated: &Option<Items<u128>>,
+    stated: &Option<ListVec<u128>>,
     place: usize,
-) -> Result<Option<String>, StoreEnd>
+) -> Result<Option<String>, StoreError>
     ensures { IfOk result (λ text. option_map string_bytes text ≡ stated_at stated.now place) }
 {
     let Some(totals) = stated else {
@@ -70,7 +70,7 @@ fn event_of<'a>(
     totals: &FileTotals,
     place: usize,
     name: &'a [u8],
-) -> Result<EventLine<'a>, StoreEnd>
+) -> Result<EventLine<'a>, StoreError>
     ensures value { OfColumn head.now totals.now place (λ c. IfOk result (λ e. event_line e ≡ event_line_of run head.now c place name.now)) }
     ensures fits { OfColumn head.now totals.now place (λ c. OnOk result (ColumnFits c place)) }
 {
@@ -90,7 +90,7 @@ fn event_lines<'a>(
     run: u32,
     head: &'a FileHead,
     totals: &FileTotals,
-) -> Result<Vec<EventLine<'a>>, StoreEnd>
+) -> Result<Vec<EventLine<'a>>, StoreError>
     ensures value { OfContent head.now totals.now (λ c. IfOk result (λ lines. map event_line lines.items ≡ specs.event_lines run head.now c)) }
     ensures fits { OfContent head.now totals.now (λ c. OnOk result (AllFit head.now c)) }
 {
@@ -107,8 +107,8 @@ fn event_lines<'a>(
 fn derived_lines(
     alloc: Global,
     run: u32,
-    derived: &[(Items<u8>, Items<u64>)],
-) -> Result<Vec<DerivedLine<'_>>, StoreEnd>
+    derived: &[(ListVec<u8>, ListVec<u64>)],
+) -> Result<Vec<DerivedLine<'_>>, StoreError>
     ensures { IfOk result (λ lines. map derived_line lines.items ≡ derived_lines_from run 0 derived.now) }
 {
     let mut lines = Vec::new(alloc);
@@ -129,13 +129,13 @@ fn push_coefs(
     run: u32,
     place: u32,
     coefficients: &[u64],
-) -> Result<(), StoreEnd>
+) -> Result<(), StoreError>
     ensures { OnOk result (map coef_line lines.new.items ≡ map coef_line lines.old.items ++ coef_lines_at run place 0 coefficients.now) }
 {
     'events: for event in 0..coefficients.len() {
         if coefficients[event] > 0 {
             let Some(times) = Whole::of(coefficients[event]) else {
-                return Err(StoreEnd::Store);
+                return Err(StoreError::Store);
             };
             let line = CoefLine {
                 run,
@@ -153,8 +153,8 @@ fn push_coefs(
 fn coef_lines(
     alloc: Global,
     run: u32,
-    derived: &[(Items<u8>, Items<u64>)],
-) -> Result<Vec<CoefLine>, StoreEnd>
+    derived: &[(ListVec<u8>, ListVec<u64>)],
+) -> Result<Vec<CoefLine>, StoreError>
     ensures { IfOk result (λ lines. map coef_line lines.items ≡ coef_lines_from run 0 derived.now) }
 {
     let mut lines = Vec::new(alloc);
@@ -165,7 +165,7 @@ fn coef_lines(
 }
 
 /// Whether a file states one total for each of so many events, or none.
-fn are_stated(stated: &Option<Items<u128>>, events: usize) -> bool
+fn are_stated(stated: &Option<ListVec<u128>>, events: usize) -> bool
     ensures { IsTrue result ↔ AreStated stated.now events }
 {
     match stated {
@@ -181,7 +181,7 @@ pub fn head_lines<'a>(
     run: u32,
     head: &'a FileHead,
     totals: &FileTotals,
-) -> Result<HeadLines<'a>, StoreEnd>
+) -> Result<HeadLines<'a>, StoreError>
     ensures whole { IfOk result (λ _. IsWhole head.now) }
     ensures events { OfContent head.now totals.now (λ c. IfOk result (λ lines. map event_line lines.events.items ≡ specs.event_lines run head.now c)) }
     ensures fits { OfContent head.now totals.now (λ c. OnOk result (AllFit head.now c)) }
@@ -190,7 +190,7 @@ pub fn head_lines<'a>(
 {
     let events = head.events.len();
     if head.derived.events.len() != events || !are_stated(&head.stated, events) {
-        return Err(StoreEnd::Store);
+        return Err(StoreError::Store);
     }
     let derived = head.derived.derived.as_slice();
     Ok(HeadLines {

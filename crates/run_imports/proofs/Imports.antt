@@ -16,7 +16,7 @@ use Rattle.histories.specs.Files.{IsHeadOf, rows_of, events_of, fault_of}
 use Rattle.sources.specs.Outcomes.{Outcome, bytes_of}
 use Rattle.histories.proofs.ReadsDue as by_reads
 use Rattle.histories.specs.History.{History, Import, held, next}
-use Rattle.histories.specs.Legal.{due, file_due, number_of, faulty, first_or, when}
+use Rattle.histories.specs.Legal.{expected_answer, file_due, number_of, faulty, first_or, when}
 use Rattle.histories.specs.Stands.{TablesTell}
 use Rattle.histories.specs.Sums.{excess_of, excess_at}
 use Rattle.histories.specs.declared.answers.Answer.{Answer}
@@ -66,7 +66,7 @@ module _ (limits : Limits) (h : History) (kind : Kind) (label : List ℕ) (outco
   abbrev bytes : List ℕ
   bytes = bytes_of outcomes
 
-  pub ended_due : due limits h (Import kind label outcomes) ≡ Some (file_due limits h kind bytes)
+  pub ended_due : expected_answer limits h (Import kind label outcomes) ≡ Some (file_due limits h kind bytes)
   ended_due = by_reads.ended_due limits h kind outcomes ended.reads.within ended.reads.unfailed ended.ended
 
   abbrev by_answers : Option ℕ → Option (faults.Fault × ℕ) → Answer
@@ -79,14 +79,14 @@ module _ (limits : Limits) (h : History) (kind : Kind) (label : List ℕ) (outco
       ∷ [])
       (answers.Run (next h))
 
-  pub held_due : (n : ℕ) → number_of (sha256 bytes) (held h) ≡ Some n → due limits h (Import kind label outcomes) ≡ Some (answers.Held n)
+  pub held_due : (n : ℕ) → number_of (sha256 bytes) (held h) ≡ Some n → expected_answer limits h (Import kind label outcomes) ≡ Some (answers.Held n)
   held_due n is = ended_due ∙ ap (λ found. Some (by_answers found (fault_of kind bytes))) is
 
   module _ (new : number_of (sha256 bytes) (held h) ≡ None) where
-    pub fault_due : (fault : faults.Fault × ℕ) → fault_of kind bytes ≡ Some fault → due limits h (Import kind label outcomes) ≡ Some (faulty fault)
+    pub fault_due : (fault : faults.Fault × ℕ) → fault_of kind bytes ≡ Some fault → expected_answer limits h (Import kind label outcomes) ≡ Some (faulty fault)
     fault_due fault is = ended_due ∙ ap₂ (λ found fault. Some (by_answers found fault)) new is
 
-    pub room_due : fault_of kind bytes ≡ None → due limits h (Import kind label outcomes) ≡ Some (refused_or (room_refusal limits h kind bytes) (answers.Run (next h)))
+    pub room_due : fault_of kind bytes ≡ None → expected_answer limits h (Import kind label outcomes) ≡ Some (refused_or (room_refusal limits h kind bytes) (answers.Run (next h)))
     room_due sound = ended_due ∙ ap₂ (λ found fault. Some (by_answers found fault)) new sound ∙ ap (λ a. Some a) (same (excess_of (held h) kind bytes) (nat_le limits.runs (length (held h))) (nat_le limits.numbers (next h)))
       where
         same : (e : Option Excess) (full spent : Bool)

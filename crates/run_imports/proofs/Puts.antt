@@ -1,7 +1,7 @@
 -- A file that was put.
 use Rattle.std.proofs.Common.{◌≡◌, ◌∙◌, ℕ, Bool, true, List, Some, None, Result, refl, inl, sym, ap, subst}
 use Rattle.std.specs.Result.{is_ok}
-use Rattle.store_columns.specs.declared.errors.StoreEnd.{StoreEnd}
+use Rattle.store_columns.specs.declared.errors.StoreError.{StoreError}
 use Rattle.histories.specs.declared.answers.Answer.{Answer}
 use Rattle.sqlite_trees.specs.declared.store.Store.{Ghosts}
 use Rattle.sqlite_trees.specs.Tree.{Trees}
@@ -18,7 +18,7 @@ use Rattle.prof_store.specs.Shown.{shown, StandsFor}
 use Rattle.prof_store.specs.declared.store.Store.{Store}
 use Rattle.sources.specs.Outcomes.{Outcome, bytes_of}
 use Rattle.histories.specs.History.{History, Import, next}
-use Rattle.histories.specs.Legal.{due, IsInForm, IsLegal}
+use Rattle.histories.specs.Legal.{expected_answer, IsInForm, IsLegal}
 use Rattle.histories.specs.Stands.{TablesTell}
 use Rattle.histories.specs.declared.answers.Answer.TheVariants.{Run}
 use Rattle.histories.specs.declared.limits.Limits.{Limits}
@@ -32,7 +32,7 @@ use Rattle.run_imports.proofs.Imports.{room_due}
 use Rattle.run_imports.specs.Imports.{IsNewFile}
 
 module _ (limits : Limits) (h : History) (kind : Kind) (label : List ℕ) (outcomes : List Outcome) (digest : List ℕ) (head : FileHead) (rows : FileRows) (t : Tables) (db : Trees)
-    (form : IsInForm (Import kind label outcomes)) (is : due limits h (Import kind label outcomes) ≡ Some (Run t.next)) (new : IsNewFile h kind (bytes_of outcomes) digest head rows) (was : Holds t db) (tell : TablesTell h t) where
+    (form : IsInForm (Import kind label outcomes)) (is : expected_answer limits h (Import kind label outcomes) ≡ Some (Run t.next)) (new : IsNewFile h kind (bytes_of outcomes) digest head rows) (was : Holds t db) (tell : TablesTell h t) where
   abbrev after : Tables
   after = with_file t.next kind digest label head (content_of rows) t
 
@@ -56,7 +56,7 @@ module _ (limits : Limits) (h : History) (kind : Kind) (label : List ℕ) (outco
 module _ (limits : Limits) (kind : Kind) (label : List ℕ) (outcomes : List Outcome) (digest : List ℕ) (head : FileHead) (rows : FileRows) (form : IsInForm (Import kind label outcomes)) (ended : HasEnded limits.bytes outcomes)
     {S : Type 0} (g : Ghosts S) (old mid new : Store S) (asked : Asked schema_one true (shown g old) (shown g mid))
     (told : (h : History) → StandsForHistory g h old → IsNewFile h kind (bytes_of outcomes) digest head rows → room_refusal limits h kind (bytes_of outcomes) ≡ None) where
-  pub run_due : (h : History) (s : StandsForHistory g h old) → IsNewFile h kind (bytes_of outcomes) digest head rows → due limits h (Import kind label outcomes) ≡ Some (Run s.t.next)
+  pub run_due : (h : History) (s : StandsForHistory g h old) → IsNewFile h kind (bytes_of outcomes) digest head rows → expected_answer limits h (Import kind label outcomes) ≡ Some (Run s.t.next)
   run_due h s it = room_due limits h kind label outcomes ended it.is_new it.sound ∙ ap (λ r. Some (refused_or r (Run (next h)))) (told h s it) ∙ ap (λ n. Some (Run n)) (sym s.tells.next)
 
   abbrev put : Tables → Tables
@@ -83,7 +83,7 @@ module _ (limits : Limits) (kind : Kind) (label : List ℕ) (outcomes : List Out
       was_run limits h kind label outcomes digest head rows s.t (shown g old).now.trees form (run_due h s it) it s.stands.holds s.tells g new number (is s.t there) (made.done refl s.t there)
 
 -- a file that is put after it was asked whether it is held
-pub new_turns : (limits : Limits) (kind : Kind) (label : List ℕ) (outcomes : List Outcome) (digest : List ℕ) (head : FileHead) (rows : FileRows) {S : Type 0} (g : Ghosts S) (old mid new : Store S) (result : Result Answer StoreEnd)
+pub new_turns : (limits : Limits) (kind : Kind) (label : List ℕ) (outcomes : List Outcome) (digest : List ℕ) (head : FileHead) (rows : FileRows) {S : Type 0} (g : Ghosts S) (old mid new : Store S) (result : Result Answer StoreError)
     → Asked schema_one true (shown g old) (shown g mid) → ((h : History) → StandsForHistory g h old → IsNewFile h kind (bytes_of outcomes) digest head rows)
     → Changed schema_one (λ h db. IsNewFile h kind (bytes_of outcomes) digest head rows × TellsHistory h db) (Follows limits (Import kind label outcomes)) (is_ok result) (has_changed result) (shown g mid) (shown g new)
     → Changed schema_one TellsHistory (Follows limits (Import kind label outcomes)) (is_ok result) (has_changed result) (shown g old) (shown g new)

@@ -7,7 +7,7 @@ use Rattle.sql_tables.specs.Calls.{Changed}
 use Rattle.prof_tables.specs.Schema.{schema_one}
 use Rattle.prof_store.specs.Shown.{shown, IsFaithful}
 use Rattle.prof_store.specs.declared.store.Store.{Store}
-use Rattle.store_columns.specs.declared.errors.StoreEnd.{StoreEnd}
+use Rattle.store_columns.specs.declared.errors.StoreError.{StoreError}
 use Rattle.cg_formulas.specs.declared.heads.FileHead.{FileHead}
 use Rattle.cost_rows.specs.Rows.{content_of}
 use Rattle.cost_rows.specs.declared.file_rows.FileRows.{FileRows}
@@ -29,6 +29,6 @@ pub record IsNewFile (h : History) (kind : Kind) (bytes digest : List ℕ) (head
   pub rows_are : content_of rows ≡ rows_of kind bytes
 
 -- what a call leaves that puts such a file as a run, whatever the history
-abbrev pub PutsNew : {S : Type 0} → Ghosts S → Limits → Kind → List ℕ → List Outcome → List ℕ → FileHead → FileRows → Result Answer StoreEnd → Store S → Store S → Type 0
+abbrev pub PutsNew : {S : Type 0} → Ghosts S → Limits → Kind → List ℕ → List Outcome → List ℕ → FileHead → FileRows → Result Answer StoreError → Store S → Store S → Type 0
 PutsNew g limits kind label outcomes digest head rows result old new =
     IsFaithful g new → Changed schema_one (λ h db. IsNewFile h kind (bytes_of outcomes) digest head rows × TellsHistory h db) (Follows limits (Import kind label outcomes)) (is_ok result) (has_changed result) (shown g old) (shown g new)

@@ -16,18 +16,22 @@ ghost use Rattle.file_intake.specs.Intakes.{IsTakenOf};
 ghost use Rattle.sources.specs.Reads.{HasEnded};
 ghost use Rattle.run_imports.specs.Refused.{room_refusal};
 
-use cg_text::Items;
+use cg_text::ListVec;
 use cost_rows::{Overflow, Side, admit};
 use file_intake::Taken;
 use histories::{Answer, Excess, Limits, Refusal};
-use prof_store::{Store, StoreEnd, is_label};
+use prof_store::{Store, StoreError, is_label};
 use profile_records::Kind;
 use run_putting::{SummedFile, put_run};
 use sqlite::Alter;
 use std::alloc::{AllocError, Global};
 
 /// What would pass its bound, by the name of its event.
-fn excess_of(alloc: Global, events: &[Items<u8>], overflow: Overflow) -> Result<Excess, AllocError>
+fn excess_of(
+    alloc: Global,
+    events: &[ListVec<u8>],
+    overflow: Overflow,
+) -> Result<Excess, AllocError>
     ensures { IfOk result (λ excess. excess ≡ sums.excess_at events.now overflow) }
 {
     let event = match events.get(overflow.column) {
@@ -37,11 +41,11 @@ fn excess_of(alloc: Global, events: &[Items<u8>], overflow: Overflow) -> Result<
     match overflow.side {
         Side::SelfCost => {
             let name = Vec::from_slice(alloc, event)?;
-            Ok(Excess::SelfCost(Items::from_vec(name)))
+            Ok(Excess::SelfCost(ListVec::from_vec(name)))
         }
         Side::CallCost => {
             let name = Vec::from_slice(alloc, event)?;
-            Ok(Excess::CallCost(Items::from_vec(name)))
+            Ok(Excess::CallCost(ListVec::from_vec(name)))
         }
         Side::CallCount => Ok(Excess::CallCount),
     }
@@ -62,7 +66,7 @@ fn excess_with<S: Alter>(
     store: &mut Store<S>,
     alloc: Global,
     file: &SummedFile<'_>,
-) -> Result<Option<Excess>, StoreEnd>
+) -> Result<Option<Excess>, StoreError>
     ensures told { IsFaithful S.Store store.new → (h : History) (kind : Kind) (bytes : List ℕ) → StandsForHistory S.Store h store.old
         → IsHeadOf kind file.now.head.now bytes → content_of file.now.rows.now ≡ rows_of kind bytes
         → IfOk result (λ excess. excess ≡ sums.excess_of (held h) kind bytes) }
@@ -84,7 +88,7 @@ fn refusal_of<S: Alter>(
     alloc: Global,
     limits: Limits,
     file: &SummedFile<'_>,
-) -> Result<Option<Refusal>, StoreEnd>
+) -> Result<Option<Refusal>, StoreError>
     ensures told { IsFaithful S.Store store.new → (h : History) (kind : Kind) (bytes : List ℕ) → StandsForHistory S.Store h store.old
         → IsHeadOf kind file.now.head.now bytes → content_of file.now.rows.now ≡ rows_of kind bytes
         → IfOk result (λ refusal. refusal ≡ room_refusal limits h kind bytes) }
@@ -111,7 +115,7 @@ fn put_file<S: Alter>(
     digest: &[u8; 32],
     label: &str,
     file: &SummedFile<'_>,
-) -> Result<Answer, StoreEnd>
+) -> Result<Answer, StoreError>
     requires { IsLabel label.now }
     ensures answered { IsFaithful S.Store store.new → (h : History) (outcomes : List Outcome) → StandsForHistory S.Store h store.old
         → HasEnded limits.bytes outcomes → IsNewFile h kind (bytes_of outcomes) digest.now file.now.head.now file.now.rows.now
@@ -134,7 +138,7 @@ pub fn take_in<S: Alter>(
     kind: Kind,
     label: &str,
     taken: &Taken,
-) -> Result<Answer, StoreEnd>
+) -> Result<Answer, StoreError>
     requires { IsLabel label.now }
     ensures answered { IsFaithful S.Store store.new → (h : History) (outcomes : List Outcome) → StandsForHistory S.Store h store.old
         → HasEnded limits.bytes outcomes → IsTakenOf kind (bytes_of outcomes) taken.now

@@ -12,7 +12,7 @@ use run_heads::{put_line_of_run, raise_next};
 use run_rows::{number_names, put_arcs, put_cells, put_lines, put_stacks};
 use sqlite::{Alter, Connection, Transaction};
 use std::alloc::Global;
-use store_columns::{HeadLines, RunLine, StoreEnd, end_of};
+use store_columns::{HeadLines, RunLine, StoreError, error_of};
 
 /// Writes what a run says of itself, and raises the next number above its own.
 fn put_head<S: Alter>(
@@ -20,11 +20,11 @@ fn put_head<S: Alter>(
     alloc: Global,
     run: &RunLine<'_>,
     head: &HeadLines<'_>,
-) -> Result<(), StoreEnd>
+) -> Result<(), StoreError>
     ensures { WritesIf S.Store (is_ok result) (IsAbove run.now.number) (with_head_of run.now head.now) tx.old tx.new }
 {
     let Some(next) = run.number.checked_add(1) else {
-        return Err(StoreEnd::Store);
+        return Err(StoreError::Store);
     };
     raise_next(tx, next)?;
     put_line_of_run(tx, run)?;
@@ -39,7 +39,7 @@ fn put_rows<S: Alter>(
     alloc: Global,
     run: u32,
     rows: &FileRows,
-) -> Result<(), StoreEnd>
+) -> Result<(), StoreError>
     ensures { Writes S.Store (is_ok result) (with_rows run (content_of rows.now)) tx.old tx.new }
 {
     let numbers = number_names(tx, alloc, rows.names())?;
@@ -55,7 +55,7 @@ fn fill_run<S: Alter>(
     run: &RunLine<'_>,
     head: &HeadLines<'_>,
     rows: &FileRows,
-) -> Result<(), StoreEnd>
+) -> Result<(), StoreError>
     ensures { WritesIf S.Store (is_ok result) (λ t. t.next ≡ run.now.number) (with_run_of run.now head.now rows.now) tx.old tx.new }
 {
     put_head(tx, alloc, run, head)?;
@@ -69,7 +69,7 @@ pub(crate) fn put_in<S: Alter>(
     run: &RunLine<'_>,
     head: &HeadLines<'_>,
     rows: &FileRows,
-) -> Result<(), StoreEnd>
+) -> Result<(), StoreError>
     requires { conn.old.in_transaction ≡ false }
     ensures { CommitsIf S.Store (is_ok result) (λ t. t.next ≡ run.now.number) (with_run_of run.now head.now rows.now) conn.old conn.new }
 {
@@ -77,6 +77,6 @@ pub(crate) fn put_in<S: Alter>(
     fill_run(&mut tx, alloc, run, head, rows)?;
     match tx.commit() {
         Ok(()) => Ok(()),
-        Err(error) => Err(end_of(error)),
+        Err(error) => Err(error_of(error)),
     }
 }

@@ -17,7 +17,7 @@ use profile_records::Kind;
 use run_heads::head_lines;
 use sqlite::Alter;
 use std::alloc::Global;
-use store_columns::{RunLine, StoreEnd, number_of_kind, whole_of};
+use store_columns::{RunLine, StoreError, number_of_kind, whole_of};
 
 /// Puts a file under a number, which is the next run's.
 fn put_numbered<S: Alter>(
@@ -28,18 +28,18 @@ fn put_numbered<S: Alter>(
     digest: &[u8; 32],
     label: &str,
     file: &SummedFile<'_>,
-) -> Result<(), StoreEnd>
+) -> Result<(), StoreError>
     ensures whole { OnOk result (IsWhole file.now.head.now) }
     ensures fits { OnOk result (AllFit file.now.head.now (content_of file.now.rows.now)) }
     ensures counted { OnOk result (count_total (content_of file.now.rows.now).arcs < 2 ^ 63) }
     ensures changes { ChangesIf S.Store (is_ok result) (λ t. t.next ≡ number) (with_summed number kind digest.now label.now file.now) store.old store.new }
 {
     if !store.conn.is_autocommit() {
-        return Err(StoreEnd::Store);
+        return Err(StoreError::Store);
     }
     let lines = head_lines(alloc, number, file.head, &file.totals)?;
     let Some(call_count) = whole_of(file.totals.call_count) else {
-        return Err(StoreEnd::Store);
+        return Err(StoreError::Store);
     };
     let run = RunLine {
         number,
@@ -63,7 +63,7 @@ pub fn put_run<S: Alter>(
     digest: &[u8; 32],
     label: &str,
     file: &SummedFile<'_>,
-) -> Result<u32, StoreEnd>
+) -> Result<u32, StoreError>
     requires { IsLabel label.now }
     ensures told { Tells S.Store store.old store.new (λ t. IfOk result (λ number. number ≡ t.next)) }
     ensures taken { Tells S.Store store.old store.new (λ t. (r : _) → Has t.runs r → r.digest ≡ digest.now → OnOk result ⊥) }

@@ -15,14 +15,14 @@ use crate::name_texts::number_name;
 use cost_rows::{ArcRow, FileRows, Names};
 use sqlite::{Alter, Transaction};
 use std::alloc::Global;
-use store_columns::{ArcLine, StoreEnd};
+use store_columns::{ArcLine, StoreError};
 
 /// The numbers of a file's names, which are held from now on.
 pub fn number_names<S: Alter>(
     tx: &mut Transaction<'_, S>,
     alloc: Global,
     names: &Names,
-) -> Result<Vec<u32>, StoreEnd>
+) -> Result<Vec<u32>, StoreError>
     ensures writes { Writes S.Store (is_ok result) (all_named names.now) tx.old tx.new }
     ensures told { Tells S.Store tx.old tx.new (λ t. IfOk result (λ numbers. numbers.items ≡ numbers_in (all_named names.now t) names.now)) }
 {
@@ -30,7 +30,7 @@ pub fn number_names<S: Alter>(
     'names: for at in 0..names.len() {
         let number = number_name(tx, names.name(at as u32))?;
         if numbers.push(number).is_err() {
-            return Err(StoreEnd::Memory);
+            return Err(StoreError::Memory);
         }
     }
     Ok(numbers)
@@ -43,14 +43,14 @@ pub fn put_cells<S: Alter>(
     run: u32,
     numbers: &[u32],
     rows: &FileRows,
-) -> Result<(), StoreEnd>
+) -> Result<(), StoreError>
     ensures { Writes S.Store (is_ok result) (with_cells (cell_lines run numbers.now (content_of rows.now).cells)) tx.old tx.new }
 {
     let mut cells = Vec::new(alloc);
     'rows: for row in rows.numbered_cells() {
         match cell_of(run, numbers, &row) {
             Some(line) => queue(tx, alloc, &mut cells, line)?,
-            None => return Err(StoreEnd::Store),
+            None => return Err(StoreError::Store),
         }
     }
     put_lines(tx, alloc, &cells)
@@ -66,12 +66,12 @@ fn put_part<S: Alter>(
     row: &ArcRow<u32, &[u128]>,
     part: usize,
     sum: u128,
-) -> Result<(), StoreEnd>
+) -> Result<(), StoreError>
     ensures { QueuesArcs S.Store (is_ok result) waiting.old.items (part_line run numbers.now row.now part sum ∷ []) waiting.new.items tx.old tx.new }
 {
     match arc_of(run, numbers, row, part, sum) {
         Some(line) => queue(tx, alloc, waiting, line),
-        None => Err(StoreEnd::Store),
+        None => Err(StoreError::Store),
     }
 }
 
@@ -85,7 +85,7 @@ fn put_cost<S: Alter>(
     row: &ArcRow<u32, &[u128]>,
     part: usize,
     cost: u128,
-) -> Result<(), StoreEnd>
+) -> Result<(), StoreError>
     ensures { QueuesArcs S.Store (is_ok result) waiting.old.items (cost_lines run numbers.now row.now part cost) waiting.new.items tx.old tx.new }
 {
     if cost > 0 {
@@ -103,7 +103,7 @@ fn put_parts<S: Alter>(
     run: u32,
     numbers: &[u32],
     row: &ArcRow<u32, &[u128]>,
-) -> Result<(), StoreEnd>
+) -> Result<(), StoreError>
     ensures { QueuesArcs S.Store (is_ok result) waiting.old.items (row_lines run numbers.now row.now) waiting.new.items tx.old tx.new }
 {
     put_part(tx, alloc, waiting, run, numbers, row, 0, row.count)?;
@@ -121,7 +121,7 @@ pub fn put_arcs<S: Alter>(
     run: u32,
     numbers: &[u32],
     rows: &FileRows,
-) -> Result<(), StoreEnd>
+) -> Result<(), StoreError>
     ensures { Writes S.Store (is_ok result) (with_arcs (arc_lines run numbers.now (content_of rows.now).arcs)) tx.old tx.new }
 {
     let mut parts = Vec::new(alloc);
@@ -137,14 +137,14 @@ pub fn put_stacks<S: Alter>(
     alloc: Global,
     run: u32,
     rows: &FileRows,
-) -> Result<(), StoreEnd>
+) -> Result<(), StoreError>
     ensures { Writes S.Store (is_ok result) (with_stacks (stack_lines run (content_of rows.now).stacks)) tx.old tx.new }
 {
     let mut stacks = Vec::new(alloc);
     'rows: for row in rows.stacks() {
         match stack_of(run, &row) {
             Some(line) => queue(tx, alloc, &mut stacks, line)?,
-            None => return Err(StoreEnd::Store),
+            None => return Err(StoreError::Store),
         }
     }
     put_lines(tx, alloc, &stacks)

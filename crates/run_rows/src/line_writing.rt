@@ -10,14 +10,14 @@ use crate::lines::{Line, LineOfMany};
 use sqlite::types::ValueRef;
 use sqlite::{Alter, Transaction};
 use std::alloc::{AllocError, Global};
-use store_columns::{StoreEnd, write_inside};
+use store_columns::{StoreError, write_inside};
 
 /// Writes a line. What `values` held is dropped: it serves the next line again.
 fn put_line<'a, S: Alter, L: Line>(
     tx: &mut Transaction<'_, S>,
     values: &mut Vec<ValueRef<'a>>,
     line: &'a L,
-) -> Result<(), StoreEnd>
+) -> Result<(), StoreError>
     ensures { Writes S.Store (is_ok result) (L.with_lines (L.plain line.now ∷ [])) tx.old tx.new }
 {
     values.clear();
@@ -30,7 +30,7 @@ pub fn put_lines<S: Alter, L: Line>(
     tx: &mut Transaction<'_, S>,
     alloc: Global,
     lines: &[L],
-) -> Result<(), StoreEnd>
+) -> Result<(), StoreError>
     ensures { Writes S.Store (is_ok result) (L.with_lines (map L.plain lines.now)) tx.old tx.new }
 {
     let mut values = Vec::new(alloc);
@@ -56,7 +56,7 @@ fn put_fifty<S: Alter, L: LineOfMany>(
     tx: &mut Transaction<'_, S>,
     alloc: Global,
     lines: &[L],
-) -> Result<(), StoreEnd>
+) -> Result<(), StoreError>
     requires { length lines.now ≡ 50 }
     ensures { Writes S.Store (is_ok result) (L.with_lines (map L.plain lines.now)) tx.old tx.new }
 {
@@ -70,11 +70,11 @@ pub(crate) fn queue<S: Alter, L: LineOfMany + Drop>(
     alloc: Global,
     waiting: &mut Vec<L>,
     line: L,
-) -> Result<(), StoreEnd>
+) -> Result<(), StoreError>
     ensures { Queues S.Store L.plain L.with_lines (is_ok result) waiting.old.items (L.plain line ∷ []) waiting.new.items tx.old tx.new }
 {
     if waiting.push(line).is_err() {
-        return Err(StoreEnd::Memory);
+        return Err(StoreError::Memory);
     }
     if waiting.len() == 50 {
         put_fifty(tx, alloc, waiting)?;

@@ -25,7 +25,7 @@ use Rattle.store_histories.proofs.Settled.{untouched}
 use Rattle.warehouse.specs.Answered.{Says}
 use Rattle.warehouse.specs.declared.command.Command as commands
 use Rattle.warehouse.specs.declared.command.Command.TheVariants as command
-use Rattle.sources.specs.Reads.{Come}
+use Rattle.sources.specs.Reads.{Reads}
 use Rattle.program_files.specs.Imported.{FileReads, IsReadOf, WereRead}
 use Rattle.program_files.specs.declared.imported.FileSource.{FileSource}
 use Rattle.answer_lines.specs.Answers.{is_refused}
@@ -203,12 +203,12 @@ pub none_read : {F : Type 0} (remaining : F → Option (List ℕ)) → WereRead 
 none_read remaining = (None, refl)
 
 -- what came of a source that was made anew
-come_of : {R F D : Type 0} (remaining : F → Option (List ℕ)) (from to : FileSource R F D) (outcomes : List Outcome) → Come (FileReads remaining) from outcomes to → Come (IsReadOf remaining) from.file outcomes to.file
+come_of : {R F D : Type 0} (remaining : F → Option (List ℕ)) (from to : FileSource R F D) (outcomes : List Outcome) → Reads (FileReads remaining) from outcomes to → Reads (IsReadOf remaining) from.file outcomes to.file
 come_of remaining from to [] same = ap (λ (s : FileSource _ _ _). s.file) same
 come_of remaining from to (o ∷ outcomes) it = (it.0.file, it.1, come_of remaining it.0 to outcomes it.2)
 
-pub were_read : {R F D : Type 0} (remaining : F → Option (List ℕ)) (from to : FileSource R F D) (outcomes : List Outcome) → from.file ≡ None → Come (FileReads remaining) from outcomes to → WereRead remaining outcomes
-were_read remaining from to outcomes new it = (to.file, subst (λ file. Come (IsReadOf remaining) file outcomes to.file) new (come_of remaining from to outcomes it))
+pub were_read : {R F D : Type 0} (remaining : F → Option (List ℕ)) (from to : FileSource R F D) (outcomes : List Outcome) → from.file ≡ None → Reads (FileReads remaining) from outcomes to → WereRead remaining outcomes
+were_read remaining from to outcomes new it = (to.file, subst (λ file. Reads (IsReadOf remaining) file outcomes to.file) new (come_of remaining from to outcomes it))
 
 -- ---- what a change says
 
@@ -219,12 +219,12 @@ no_import (changes.Join n) name label kind outcomes is = cc
 no_import (changes.Leave n) name label kind outcomes is = cc
 no_import (changes.SetBaseline n) name label kind outcomes is = cc
 
-pub same_said : {R : Type 0} (comes : R → Outcome → R → Type 0) (command : commands.Command R) (change : GroupChange) (name : List ℕ) (said : Said) → Says comes command said → Says comes command (change_said change name) → said ≡ change_said change name
-same_said comes (command.Import kind label source) change name said is one = absurd (no_import change name label.items kind one.0 one.3)
-same_said comes (command.Remove n) change name said is one = is ∙ sym one
-same_said comes (command.MakeGroup group) change name said is one = is ∙ sym one
-same_said comes (command.DropGroup group) change name said is one = is ∙ sym one
-same_said comes (command.Join group n) change name said is one = is ∙ sym one
-same_said comes (command.Leave group n) change name said is one = is ∙ sym one
-same_said comes (command.SetBaseline group n) change name said is one = is ∙ sym one
-same_said comes (command.Ask query) change name said is one = is ∙ sym one
+pub same_said : {R : Type 0} (reads : R → Outcome → R → Type 0) (command : commands.Command R) (change : GroupChange) (name : List ℕ) (said : Said) → Says reads command said → Says reads command (change_said change name) → said ≡ change_said change name
+same_said reads (command.Import kind label source) change name said is one = absurd (no_import change name label.items kind one.0 one.3)
+same_said reads (command.Remove n) change name said is one = is ∙ sym one
+same_said reads (command.MakeGroup group) change name said is one = is ∙ sym one
+same_said reads (command.DropGroup group) change name said is one = is ∙ sym one
+same_said reads (command.Join group n) change name said is one = is ∙ sym one
+same_said reads (command.Leave group n) change name said is one = is ∙ sym one
+same_said reads (command.SetBaseline group n) change name said is one = is ∙ sym one
+same_said reads (command.Ask query) change name said is one = is ∙ sym one

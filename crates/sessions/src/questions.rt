@@ -3,7 +3,7 @@ ghost use Rattle.std.specs.Prelude.{◌≡◌, IfOk};
 ghost use Rattle.histories.specs.declared.answers.Query.TheVariants.{By};
 ghost use Rattle.sessions.specs.Questions.{query_said, selection_said};
 
-use cg_text::Items;
+use cg_text::ListVec;
 use command_line::Selected;
 use cost_reports::Cut;
 use cost_rows::Key;
@@ -29,10 +29,10 @@ pub enum Question<'a> {
 }
 
 /// The bytes of a name.
-fn bytes_of(alloc: Global, name: &str) -> Result<Items<u8>, AllocError>
+fn bytes_of(alloc: Global, name: &str) -> Result<ListVec<u8>, AllocError>
     ensures { IfOk result (λ bytes. bytes ≡ name.now) }
 {
-    Ok(Items::from_vec(Vec::from_slice(alloc, name.as_bytes())?))
+    Ok(ListVec::from_vec(Vec::from_slice(alloc, name.as_bytes())?))
 }
 
 /// The selection of the runs that are selected.

@@ -10,8 +10,8 @@ use crate::tasks::{Task, task_of};
 use command_line::Plan;
 use file_totals::{TotalText, total_file};
 use histories::Limits;
-use prof_store::{OpenEnd, Store};
-use program_files::{StoreFile, database_at, end_line, is_new_at, store_in};
+use prof_store::{OpenError, Store};
+use program_files::{StoreFile, database_at, error_line, is_new_at, store_in};
 use sqlite::{Alter, Connection};
 use std::alloc::AllocError;
 use std::io;
@@ -67,7 +67,7 @@ fn work_in<'a, R: Files + AllocGlobal, W: Write + Drop, S: Alter>(
     conn: Connection<S>,
     is_new: bool,
     work: Work<'a>,
-) -> (Result<io::Result<u8>, OpenEnd>, Connection<S>)
+) -> (Result<io::Result<u8>, OpenError>, Connection<S>)
     ensures { HasCleanDisk (state S.Store result.1) → WasWorked S.Store W.contents (Wants R.File.remaining work.entry) is_new result.0 out conn result.1 }
 {
     match store_in(rt.alloc(), conn, is_new) {
@@ -80,8 +80,8 @@ fn work_in<'a, R: Files + AllocGlobal, W: Write + Drop, S: Alter>(
 }
 
 /// Prints why a store was not opened. No clause: of what is printed the checker knows nothing.
-fn print_unopened<R: Print>(rt: &R, end: OpenEnd) -> io::Result<ExitCode> {
-    println!(rt; "{}", end_line(end))?;
+fn print_unopened<R: Print>(rt: &R, end: OpenError) -> io::Result<ExitCode> {
+    println!(rt; "{}", error_line(end))?;
     Ok(ExitCode::FAILURE)
 }
 
@@ -94,14 +94,14 @@ fn work_in_file<'a>(
     conn: Connection<StoreFile>,
     is_new: bool,
     work: Work<'a>,
-) -> Result<io::Result<u8>, OpenEnd> {
+) -> Result<io::Result<u8>, OpenError> {
     let (came_to, conn) = work_in(rt, io::writer(rt), conn, is_new, work);
     let _closed = conn.close();
     came_to
 }
 
 /// Does a work over the store at a path. No clause: as `run_over`.
-fn work_at<'a>(rt: &'a HostRuntime, db: &str, work: Work<'a>) -> Result<io::Result<u8>, OpenEnd> {
+fn work_at<'a>(rt: &'a HostRuntime, db: &str, work: Work<'a>) -> Result<io::Result<u8>, OpenError> {
     let is_new = is_new_at(rt, db)?;
     let conn = database_at(rt, db)?;
     work_in_file(rt, conn, is_new, work)

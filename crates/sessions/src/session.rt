@@ -13,7 +13,7 @@ ghost use Rattle.sessions.specs.Sessions.{AreImports, Prints, Wants, WasRun, Was
 
 use crate::questions::{Question, query_of};
 use answer_lines::{is_refused, line_of};
-use cg_text::Items;
+use cg_text::ListVec;
 use histories::{Answer, Refusal};
 use prof_store::is_group_name;
 use profile_records::Kind;
@@ -43,9 +43,9 @@ pub enum GroupChange {
 #[derive(Drop)]
 pub enum Work<'a> {
     /// Take in the files at paths.
-    Import(Kind, Items<&'a str>),
+    Import(Kind, ListVec<&'a str>),
     /// Remove runs.
-    Remove(Items<u32>),
+    Remove(ListVec<u32>),
     /// Change the group of a name.
     Group(&'a str, GroupChange),
     /// Ask a question.

@@ -4,7 +4,7 @@ use Rattle.std.proofs.lemmas.List.{length-append}
 use Rattle.std.specs.List.{list_any}
 use Rattle.std.specs.Io.KnownBytes.{Consumes, Keeps, IsAtEnd}
 use Rattle.sources.specs.Outcomes.{Outcome, Gave, Failed, bytes_of, is_end}
-use Rattle.sources.specs.Reads.{Come}
+use Rattle.sources.specs.Reads.{Reads}
 use Rattle.sources.specs.Known.{IsRead}
 
 -- of all bytes these were given, and the others are left
@@ -31,10 +31,10 @@ first_empty [] ys is = refl
 first_empty (x ∷ xs) ys is = cc
 
 module _ {S : Type 0} (remaining : S → Option (List ℕ)) where
-  abbrev comes : S → Outcome → S → Type 0
-  comes from o to = IsRead (remaining from) o (remaining to)
+  abbrev reads : S → Outcome → S → Type 0
+  reads from o to = IsRead (remaining from) o (remaining to)
 
-  known_left : (outcomes : List Outcome) (from to : S) (all : List ℕ) → remaining from ≡ Some all → Come comes from outcomes to → Left all (bytes_of outcomes) (remaining to)
+  known_left : (outcomes : List Outcome) (from to : S) (all : List ℕ) → remaining from ≡ Some all → Reads reads from outcomes to → Left all (bytes_of outcomes) (remaining to)
   known_left [] from to all known came = (all, subst (λ s. remaining s ≡ Some all) came known, refl)
   known_left (Gave bytes ∷ outcomes) from to all known came =
       let first = gave_left all bytes (remaining from) (remaining came.0) known came.1.0 in
@@ -43,7 +43,7 @@ module _ {S : Type 0} (remaining : S → Option (List ℕ)) where
   known_left (Failed ∷ outcomes) from to all known came = known_left outcomes came.0 to all (failed_left all (remaining from) (remaining came.0) known came.1) came.2
 
   -- reads that told the end gave all
-  pub known_whole : (outcomes : List Outcome) (from to : S) (all : List ℕ) → remaining from ≡ Some all → Come comes from outcomes to → list_any is_end outcomes ≡ true → bytes_of outcomes ≡ all
+  pub known_whole : (outcomes : List Outcome) (from to : S) (all : List ℕ) → remaining from ≡ Some all → Reads reads from outcomes to → list_any is_end outcomes ≡ true → bytes_of outcomes ≡ all
   known_whole [] from to all known came ended = cc
   known_whole (Gave [] ∷ outcomes) from to all known came ended =
       let first = gave_left all [] (remaining from) (remaining came.0) known came.1.0 in
@@ -58,7 +58,7 @@ module _ {S : Type 0} (remaining : S → Option (List ℕ)) where
       known_whole outcomes came.0 to all (failed_left all (remaining from) (remaining came.0) known came.1) came.2 ended
 
   -- and they gave no more than there was
-  pub known_most : (outcomes : List Outcome) (from to : S) (all : List ℕ) → remaining from ≡ Some all → Come comes from outcomes to → length (bytes_of outcomes) ≤ length all
+  pub known_most : (outcomes : List Outcome) (from to : S) (all : List ℕ) → remaining from ≡ Some all → Reads reads from outcomes to → length (bytes_of outcomes) ≤ length all
   known_most outcomes from to all known came =
       let left = known_left outcomes from to all known came in
       let joined = ap length left.2 ∙ length-append (bytes_of outcomes) left.0 in omega (arith, joined)

@@ -4,12 +4,12 @@ use Rattle.std.proofs.lemmas.List.{length-append}
 use Rattle.std.specs.List.{list_any}
 use Rattle.sources.specs.Outcomes.{Outcome, Gave, Failed, bytes_of, is_failed, is_end}
 use Rattle.sources.specs.Takes.{HasRoom, Takes}
-use Rattle.sources.specs.Reads.{Come, AreSound, HasEnded, IsUnreadFor}
+use Rattle.sources.specs.Reads.{Reads, AreSound, HasEnded, IsUnreadFor}
 use Rattle.sources.specs.declared.reading.Unread.TheVariants as reasons
 
-module _ {S : Type 0} (comes : S → Outcome → S → Type 0) where
-  pub come_on : (from between to : S) (outcomes : List Outcome) (o : Outcome) → Come comes from outcomes between → comes between o to → Come comes from (outcomes ++ o ∷ []) to
-  come_on from between to [] o was is = let P : S → Type 0 = λ x. Come comes x (o ∷ []) to in subst P (sym was) (to, is, refl)
+module _ {S : Type 0} (reads : S → Outcome → S → Type 0) where
+  pub come_on : (from between to : S) (outcomes : List Outcome) (o : Outcome) → Reads reads from outcomes between → reads between o to → Reads reads from (outcomes ++ o ∷ []) to
+  come_on from between to [] o was is = let P : S → Type 0 = λ x. Reads reads x (o ∷ []) to in subst P (sym was) (to, is, refl)
   come_on from between to (first ∷ outcomes) o was is = (was.0, was.1, come_on was.0 between to outcomes o was.2 is)
 
 pub bytes_on : (outcomes : List Outcome) (piece : List ℕ) → bytes_of (outcomes ++ Gave piece ∷ []) ≡ bytes_of outcomes ++ piece

@@ -7,9 +7,9 @@ use Rattle.sources.specs.declared.reading.Unread.{Unread}
 use Rattle.sources.specs.declared.reading.Unread.TheVariants.{Memory, Failed, TooLong}
 
 -- these reads, one after another, lead from one state to another
-abbrev pub Come : {S : Type 0} → (S → Outcome → S → Type 0) → S → List Outcome → S → Type 0
-Come comes from [] to = from ≡ to
-Come comes from (o ∷ outcomes) to = (between : _) × comes from o between × Come comes between outcomes to
+abbrev pub Reads : {S : Type 0} → (S → Outcome → S → Type 0) → S → List Outcome → S → Type 0
+Reads reads from [] to = from ≡ to
+Reads reads from (o ∷ outcomes) to = (between : _) × reads from o between × Reads reads between outcomes to
 
 -- no more than the limit, and no failure
 pub record AreSound (limit : ℕ) (outcomes : List Outcome) : Type 0 where
@@ -28,7 +28,7 @@ IsUnreadFor limit outcomes Failed = (before : List Outcome) × AreSound limit be
 IsUnreadFor limit outcomes Memory = Unit {0}
 
 -- a source was read to its end, and its bytes were made this of; or it was not, for this cause
-pub record WasRead {S X : Type 0} (comes : S → Outcome → S → Type 0) (limit : ℕ) (from to : S) (result : Result X Unread) (Made : List ℕ → X → Type 0) : Type 0 where
+pub record WasRead {S X : Type 0} (reads : S → Outcome → S → Type 0) (limit : ℕ) (from to : S) (result : Result X Unread) (Made : List ℕ → X → Type 0) : Type 0 where
   pub outcomes : List Outcome
-  pub came : Come comes from outcomes to
+  pub came : Reads reads from outcomes to
   pub read : MatchResult result (λ x. HasEnded limit outcomes × Made (bytes_of outcomes) x) (IsUnreadFor limit outcomes)

@@ -22,7 +22,7 @@ impl<F: Read> Opened<F> {
 impl<F: Read> Source for Opened<F> {
     ghost use Rattle.sources.specs.Known.{IsRead};
 
-    ghost comes = { λ from outcome to. IsRead (F.remaining from.file) outcome (F.remaining to.file) };
+    ghost reads = { λ from outcome to. IsRead (F.remaining from.file) outcome (F.remaining to.file) };
 
     fn read(&mut self, buf: &mut [u8]) -> Result<usize, ReadFault> {
         match self.file.read(buf) {

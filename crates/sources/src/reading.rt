@@ -38,7 +38,7 @@ fn read_through<S: Source, T: TakesBytes>(
 ) -> Result<(), Unread>
     requires some { 0 < length buffer.old }
     requires room { HasRoom T.has_taken takes.old limit }
-    ensures { WasRead S.comes limit source.old source.new result (λ bytes _. Takes T.has_taken takes.old bytes takes.new) }
+    ensures { WasRead S.reads limit source.old source.new result (λ bytes _. Takes T.has_taken takes.old bytes takes.new) }
 {
     let mut left = limit;
     'reads: for _ in 0..u64::MAX {
@@ -66,7 +66,7 @@ pub fn read_all<S: Source, T: TakesBytes>(
     takes: &mut T,
 ) -> Result<(), Unread>
     requires { HasRoom T.has_taken takes.old limit }
-    ensures { WasRead S.comes limit source.old source.new result (λ bytes _. Takes T.has_taken takes.old bytes takes.new) }
+    ensures { WasRead S.reads limit source.old source.new result (λ bytes _. Takes T.has_taken takes.old bytes takes.new) }
 {
     let mut buffer = vec![in alloc; 0u8; PIECE]?;
     read_through(source, buffer.as_mut_slice(), limit, takes)

@@ -1,4 +1,4 @@
-pub mod Ends
+pub mod Errors
 pub mod Lines
 pub mod Names
 pub mod Steps

@@ -5,77 +5,77 @@ ghost use Rattle.sqlite_value.specs.Order.{column};
 ghost use Rattle.prof_tables.specs.Tables.{number_or_null, text_or_null};
 ghost use Rattle.store_columns.specs.Names.{ShowsFirst};
 
-use crate::errors::{StoreEnd, end_of};
+use crate::errors::{StoreError, error_of};
 use crate::whole::Whole;
 use sqlite::Row;
 
-pub fn number_at(row: &Row, at: usize) -> Result<u32, StoreEnd>
+pub fn number_at(row: &Row, at: usize) -> Result<u32, StoreError>
     ensures read { IfOk result (λ n. column row.now at ≡ Int (pos n)) }
 {
     match row.get(at) {
         Ok(number) => Ok(number),
-        Err(error) => Err(end_of(error)),
+        Err(error) => Err(error_of(error)),
     }
 }
 
-pub fn number_or_null_at(row: &Row, at: usize) -> Result<Option<u32>, StoreEnd>
+pub fn number_or_null_at(row: &Row, at: usize) -> Result<Option<u32>, StoreError>
     ensures read { IfOk result (λ n. column row.now at ≡ number_or_null n) }
 {
     match row.get::<Option<u32>>(at) {
         Ok(Some(number)) => Ok(Some(number)),
         Ok(None) => Ok(None),
-        Err(error) => Err(end_of(error)),
+        Err(error) => Err(error_of(error)),
     }
 }
 
-pub fn sum_at(row: &Row, at: usize) -> Result<u64, StoreEnd>
+pub fn sum_at(row: &Row, at: usize) -> Result<u64, StoreError>
     ensures read { IfOk result (λ n. column row.now at ≡ Int (pos n)) }
 {
     match row.get(at) {
         Ok(sum) => Ok(sum),
-        Err(error) => Err(end_of(error)),
+        Err(error) => Err(error_of(error)),
     }
 }
 
-pub fn whole_at(row: &Row, at: usize) -> Result<Whole, StoreEnd>
+pub fn whole_at(row: &Row, at: usize) -> Result<Whole, StoreError>
     ensures { IfOk result (λ number. column row.now at ≡ Int (pos number)) }
 {
     match row.get::<u64>(at) {
-        Ok(number) => Whole::of(number).ok_or(StoreEnd::Store),
-        Err(error) => Err(end_of(error)),
+        Ok(number) => Whole::of(number).ok_or(StoreError::Store),
+        Err(error) => Err(error_of(error)),
     }
 }
 
-pub fn text_at(row: &Row, at: usize) -> Result<String, StoreEnd>
+pub fn text_at(row: &Row, at: usize) -> Result<String, StoreError>
     ensures read { IfOk result (λ text. column row.now at ≡ Text (string_bytes text)) }
 {
     match row.get(at) {
         Ok(text) => Ok(text),
-        Err(error) => Err(end_of(error)),
+        Err(error) => Err(error_of(error)),
     }
 }
 
-pub fn text_or_null_at(row: &Row, at: usize) -> Result<Option<String>, StoreEnd>
+pub fn text_or_null_at(row: &Row, at: usize) -> Result<Option<String>, StoreError>
     ensures read { IfOk result (λ text. column row.now at ≡ text_or_null (option_map string_bytes text)) }
 {
     match row.get::<Option<String>>(at) {
         Ok(Some(text)) => Ok(Some(text)),
         Ok(None) => Ok(None),
-        Err(error) => Err(end_of(error)),
+        Err(error) => Err(error_of(error)),
     }
 }
 
-pub fn bytes_at(row: &Row, at: usize) -> Result<Vec<u8>, StoreEnd>
+pub fn bytes_at(row: &Row, at: usize) -> Result<Vec<u8>, StoreError>
     ensures read { IfOk result (λ bytes. column row.now at ≡ Blob bytes.items) }
 {
     match row.get(at) {
         Ok(bytes) => Ok(bytes),
-        Err(error) => Err(end_of(error)),
+        Err(error) => Err(error_of(error)),
     }
 }
 
 /// The number in the first row, if there is a row.
-pub fn first_number(rows: &[Row]) -> Result<Option<u32>, StoreEnd>
+pub fn first_number(rows: &[Row]) -> Result<Option<u32>, StoreError>
     ensures { IfOk result (ShowsFirst rows.now) }
 {
     match rows.first() {

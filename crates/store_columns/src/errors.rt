@@ -1,13 +1,13 @@
 // Why a call of the store is refused.
 ghost use Rattle.std.specs.Prelude.{◌≡◌};
-ghost use Rattle.store_columns.specs.Ends.{end_for};
+ghost use Rattle.store_columns.specs.Errors.{error_for};
 
 use sqlite::{Error, ErrorCode};
 use std::alloc::AllocError;
 
 /// Why a call is refused. The tables are as before.
 #[derive(Clone, Copy, Debug, PartialEq, Eq)]
-pub enum StoreEnd {
+pub enum StoreError {
     /// A growth was refused.
     Memory,
     /// A database call failed for another cause, or rows are out of form.
@@ -16,7 +16,7 @@ pub enum StoreEnd {
 
 /// Why a store is not opened. The tables are as before.
 #[derive(Clone, Copy, Debug, PartialEq, Eq)]
-pub enum OpenEnd {
+pub enum OpenError {
     /// A growth was refused.
     Memory,
     /// A database call failed for another cause, or rows are out of form.
@@ -26,36 +26,36 @@ pub enum OpenEnd {
 }
 
 /// What an error of the database is for a caller.
-pub fn end_of(error: Error) -> StoreEnd
-    ensures { result ≡ end_for error }
+pub fn error_of(error: Error) -> StoreError
+    ensures { result ≡ error_for error }
 {
     match error {
-        Error::SqliteFailure(ErrorCode::OutOfMemory) => StoreEnd::Memory,
-        _ => StoreEnd::Store,
+        Error::SqliteFailure(ErrorCode::OutOfMemory) => StoreError::Memory,
+        _ => StoreError::Store,
     }
 }
 
-impl From<AllocError> for StoreEnd {
+impl From<AllocError> for StoreError {
     ghost use Rattle.std.specs.Prelude.{◌≡◌};
-    ghost use Rattle.store_columns.specs.declared.errors.StoreEnd.TheVariants as ends;
+    ghost use Rattle.store_columns.specs.declared.errors.StoreError.TheVariants as ends;
 
     ghost from_gives = { λ _ end. end ≡ ends.Memory };
 
-    fn from(_error: AllocError) -> StoreEnd {
-        StoreEnd::Memory
+    fn from(_error: AllocError) -> StoreError {
+        StoreError::Memory
     }
 }
 
-impl From<StoreEnd> for OpenEnd {
+impl From<StoreError> for OpenError {
     ghost use Rattle.std.specs.Prelude.{◌≡◌};
-    ghost use Rattle.store_columns.specs.Ends.{opening};
+    ghost use Rattle.store_columns.specs.Errors.{opening};
 
     ghost from_gives = { λ end opened. opened ≡ opening end };
 
-    fn from(end: StoreEnd) -> OpenEnd {
+    fn from(end: StoreError) -> OpenError {
         match end {
-            StoreEnd::Memory => OpenEnd::Memory,
-            StoreEnd::Store => OpenEnd::Store,
+            StoreError::Memory => OpenError::Memory,
+            StoreError::Store => OpenError::Store,
         }
     }
 }

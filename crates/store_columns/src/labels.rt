@@ -6,7 +6,7 @@ ghost use Rattle.prof_tables.specs.Labels as specs;
 ghost use Rattle.prof_tables.specs.Labels.{IsLabel, IsGroupName};
 
 use crate::columns::{bytes_at, text_at};
-use crate::errors::StoreEnd;
+use crate::errors::StoreError;
 use sqlite::Row;
 
 /// Whether a text is a label: 1 to 1,024 bytes, and no control character.
@@ -32,7 +32,7 @@ pub fn is_group_name(text: &str) -> bool
     !bytes.is_empty() && bytes.len() <= 64 && bytes.iter().all(|byte| is_name_byte(*byte))
 }
 
-pub fn label_at(row: &Row, at: usize) -> Result<String, StoreEnd>
+pub fn label_at(row: &Row, at: usize) -> Result<String, StoreError>
     ensures read { IfOk result (λ label. column row.now at ≡ Text (string_bytes label)) }
     ensures form { IfOk result (λ label. IsLabel (string_bytes label)) }
 {
@@ -40,16 +40,16 @@ pub fn label_at(row: &Row, at: usize) -> Result<String, StoreEnd>
     if is_label(label.as_str()) {
         Ok(label)
     } else {
-        Err(StoreEnd::Store)
+        Err(StoreError::Store)
     }
 }
 
-pub fn digest_at(row: &Row, at: usize) -> Result<[u8; 32], StoreEnd>
+pub fn digest_at(row: &Row, at: usize) -> Result<[u8; 32], StoreError>
     ensures read { IfOk result (λ digest. column row.now at ≡ Blob digest) }
 {
     let bytes = bytes_at(row, at)?;
     match <[u8; 32]>::try_from(bytes.as_slice()) {
         Ok(digest) => Ok(digest),
-        Err(_) => Err(StoreEnd::Store),
+        Err(_) => Err(StoreError::Store),
     }
 }

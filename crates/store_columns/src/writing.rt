@@ -3,7 +3,7 @@ ghost use Rattle.std.specs.Result.{is_ok};
 ghost use Rattle.sqlite.specs.Values.{bound};
 ghost use Rattle.store_columns.specs.Within.{Ran};
 
-use crate::errors::{StoreEnd, end_of};
+use crate::errors::{StoreError, error_of};
 use sqlite::types::ValueRef;
 use sqlite::{Alter, Transaction};
 
@@ -12,11 +12,11 @@ pub fn write_inside<S: Alter>(
     tx: &mut Transaction<'_, S>,
     text: &str,
     params: &[ValueRef<'_>],
-) -> Result<(), StoreEnd>
+) -> Result<(), StoreError>
     ensures { Ran S.Store text.now (bound params.now) (is_ok result) tx.old tx.new }
 {
     match tx.execute(text, params) {
         Ok(_) => Ok(()),
-        Err(error) => Err(end_of(error)),
+        Err(error) => Err(error_of(error)),
     }
 }

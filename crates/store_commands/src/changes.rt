@@ -11,7 +11,7 @@ ghost use Rattle.store_commands.specs.Changes.{changed, said_of};
 ghost use Rattle.store_histories.specs.Refusals.{missing_of};
 
 use histories::{Answer, Limits, Refusal};
-use prof_store::{Store, StoreEnd, is_group_name};
+use prof_store::{Store, StoreError, is_group_name};
 use sqlite::Alter;
 
 /// The name of a group that bytes are, if they are in form.
@@ -39,7 +39,7 @@ pub enum Change {
 }
 
 /// Drops a run.
-pub(crate) fn remove<S: Alter>(store: &mut Store<S>, number: u32) -> Result<Answer, StoreEnd>
+pub(crate) fn remove<S: Alter>(store: &mut Store<S>, number: u32) -> Result<Answer, StoreError>
     ensures answered { IsFaithful S.Store store.new → (limits : Limits) (h : History) → StandsForHistory S.Store h store.old
         → IfOk result (λ answer. WasDue S.Store limits h (Remove number) answer store.new) }
     ensures turns { (limits : Limits) → TurnsIf S.Store limits (Remove number) (is_ok result) (has_changed result) store.old store.new }
@@ -56,7 +56,7 @@ pub(crate) fn make_group<S: Alter>(
     store: &mut Store<S>,
     limits: Limits,
     name: &str,
-) -> Result<Answer, StoreEnd>
+) -> Result<Answer, StoreError>
     requires { IsGroupName name.now }
     ensures answered { IsFaithful S.Store store.new → (h : History) → StandsForHistory S.Store h store.old
         → IfOk result (λ answer. WasDue S.Store limits h (MakeGroup name.now) answer store.new) }
@@ -73,7 +73,7 @@ pub(crate) fn make_group<S: Alter>(
 }
 
 /// Drops a group.
-pub(crate) fn drop_group<S: Alter>(store: &mut Store<S>, name: &str) -> Result<Answer, StoreEnd>
+pub(crate) fn drop_group<S: Alter>(store: &mut Store<S>, name: &str) -> Result<Answer, StoreError>
     ensures answered { IsFaithful S.Store store.new → (limits : Limits) (h : History) → StandsForHistory S.Store h store.old
         → IfOk result (λ answer. WasDue S.Store limits h (DropGroup name.now) answer store.new) }
     ensures turns { (limits : Limits) → TurnsIf S.Store limits (DropGroup name.now) (is_ok result) (has_changed result) store.old store.new }
@@ -90,7 +90,7 @@ fn missing<S: Alter>(
     store: &mut Store<S>,
     name: &str,
     number: u32,
-) -> Result<Option<Refusal>, StoreEnd>
+) -> Result<Option<Refusal>, StoreError>
     ensures told { Told S.Store result store.old store.new (λ t refusal. refusal ≡ missing_of (has_group t name.now) (has_run t number)) }
     ensures asks { Asks S.Store (is_ok result) store.old store.new }
 {
@@ -109,7 +109,7 @@ fn change_held<S: Alter>(
     change: Change,
     name: &str,
     number: u32,
-) -> Result<(), StoreEnd>
+) -> Result<(), StoreError>
     ensures changes { Changes S.Store (is_ok result) (changed change name.now number) store.old store.new }
 {
     match change {
@@ -125,7 +125,7 @@ pub(crate) fn change_group<S: Alter>(
     change: Change,
     name: &str,
     number: u32,
-) -> Result<Answer, StoreEnd>
+) -> Result<Answer, StoreError>
     ensures answered { IsFaithful S.Store store.new → (limits : Limits) (h : History) → StandsForHistory S.Store h store.old
         → IfOk result (λ answer. WasDue S.Store limits h (said_of change name.now number) answer store.new) }
     ensures turns { (limits : Limits) → TurnsIf S.Store limits (said_of change name.now number) (is_ok result) (has_changed result) store.old store.new }

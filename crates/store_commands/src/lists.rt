@@ -9,9 +9,9 @@ ghost use Rattle.histories.specs.declared.answers.Query.TheVariants.{Runs, Group
 ghost use Rattle.store_histories.specs.Answered.{StandsForHistory, Asks as AnswersAsked};
 ghost use Rattle.store_commands.specs.Lists.{entry_line, group_entry_line};
 
-use cg_text::Items;
+use cg_text::ListVec;
 use histories::Answer;
-use prof_store::{GroupEntry, RunEntry, Store, StoreEnd};
+use prof_store::{GroupEntry, RunEntry, Store, StoreError};
 use profile_records::Kind;
 use sqlite::Alter;
 use std::alloc::{AllocError, Global};
@@ -39,14 +39,14 @@ fn push_run(text: &mut Vec<u8>, alloc: Global, run: &RunEntry) -> Result<(), All
 }
 
 /// The runs, a line for each.
-fn runs_text(alloc: Global, runs: &[RunEntry]) -> Result<Items<u8>, AllocError>
+fn runs_text(alloc: Global, runs: &[RunEntry]) -> Result<ListVec<u8>, AllocError>
     ensures { IfOk result (λ text. text ≡ flat_map entry_line runs.now) }
 {
     let mut text = Vec::new(alloc);
     for run in runs {
         push_run(&mut text, alloc, run)?;
     }
-    Ok(Items::from_vec(text))
+    Ok(ListVec::from_vec(text))
 }
 
 /// Adds a number behind a comma.
@@ -109,18 +109,18 @@ fn push_group(text: &mut Vec<u8>, alloc: Global, group: &GroupEntry) -> Result<(
 }
 
 /// The groups, a line for each.
-fn groups_text(alloc: Global, groups: &[GroupEntry]) -> Result<Items<u8>, AllocError>
+fn groups_text(alloc: Global, groups: &[GroupEntry]) -> Result<ListVec<u8>, AllocError>
     ensures { IfOk result (λ text. text ≡ flat_map group_entry_line groups.now) }
 {
     let mut text = Vec::new(alloc);
     for group in groups {
         push_group(&mut text, alloc, group)?;
     }
-    Ok(Items::from_vec(text))
+    Ok(ListVec::from_vec(text))
 }
 
 /// The list of the runs that are held.
-fn list_runs<S: Alter>(store: &mut Store<S>, alloc: Global) -> Result<Items<u8>, StoreEnd>
+fn list_runs<S: Alter>(store: &mut Store<S>, alloc: Global) -> Result<ListVec<u8>, StoreError>
     ensures told { IsFaithful S.Store store.new → (h : History) → StandsForHistory S.Store h store.old → IfOk result (λ text. text ≡ texts.runs_text h) }
     ensures asks { Asks S.Store (is_ok result) store.old store.new }
 {
@@ -129,7 +129,7 @@ fn list_runs<S: Alter>(store: &mut Store<S>, alloc: Global) -> Result<Items<u8>,
 }
 
 /// The list of the groups.
-fn list_groups<S: Alter>(store: &mut Store<S>, alloc: Global) -> Result<Items<u8>, StoreEnd>
+fn list_groups<S: Alter>(store: &mut Store<S>, alloc: Global) -> Result<ListVec<u8>, StoreError>
     ensures told { IsFaithful S.Store store.new → (h : History) → StandsForHistory S.Store h store.old → IfOk result (λ text. text ≡ texts.groups_text h) }
     ensures asks { Asks S.Store (is_ok result) store.old store.new }
 {
@@ -138,7 +138,7 @@ fn list_groups<S: Alter>(store: &mut Store<S>, alloc: Global) -> Result<Items<u8
 }
 
 /// Answers which runs are held.
-pub fn runs_answer<S: Alter>(store: &mut Store<S>, alloc: Global) -> Result<Answer, StoreEnd>
+pub fn runs_answer<S: Alter>(store: &mut Store<S>, alloc: Global) -> Result<Answer, StoreError>
     ensures { AnswersAsked S.Store Runs result store.old store.new }
 {
     let text = list_runs(store, alloc)?;
@@ -146,7 +146,7 @@ pub fn runs_answer<S: Alter>(store: &mut Store<S>, alloc: Global) -> Result<Answ
 }
 
 /// Answers which groups are there.
-pub fn groups_answer<S: Alter>(store: &mut Store<S>, alloc: Global) -> Result<Answer, StoreEnd>
+pub fn groups_answer<S: Alter>(store: &mut Store<S>, alloc: Global) -> Result<Answer, StoreError>
     ensures { AnswersAsked S.Store Groups result store.old store.new }
 {
     let text = list_groups(store, alloc)?;

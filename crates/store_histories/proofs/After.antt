@@ -11,7 +11,7 @@ use Rattle.prof_tables.specs.Tables.{Tables, Holds}
 use Rattle.prof_store.specs.Shown.{shown, StandsFor}
 use Rattle.prof_store.specs.declared.store.Store.{Store}
 use Rattle.histories.specs.History.{History, Said}
-use Rattle.histories.specs.Legal.{IsInForm, IsLegal, due}
+use Rattle.histories.specs.Legal.{IsInForm, IsLegal, expected_answer}
 use Rattle.histories.specs.Stands.{TablesTell}
 use Rattle.histories.specs.declared.answers.Answer.TheVariants.{Done}
 use Rattle.histories.specs.declared.limits.Limits.{Limits}
@@ -24,7 +24,7 @@ given P After answered done old new h =
     changed_as schema_one Holds After (λ t db. P t × Holds t db) After answered done old new (λ t was. (t, rests_as schema_one (λ db. P t × Holds t db) (Holds t) old was was.holds.1, λ next k. k)) h
 
 -- what the questions told of the tables is P, and then Done is due
-module _ (limits : Limits) (said : Said) (form : IsInForm said) (P : Tables → Type 0) (change : Tables → Tables) (is_due : (h : History) (t : Tables) → TablesTell h t → P t → due limits h said ≡ Some Done)
+module _ (limits : Limits) (said : Said) (form : IsInForm said) (P : Tables → Type 0) (change : Tables → Tables) (is_due : (h : History) (t : Tables) → TablesTell h t → P t → expected_answer limits h said ≡ Some Done)
     (tells : (h : History) (t : Tables) → TablesTell h t → IsLegal limits h said Done → TablesTell (with_turn h said Done) (change t)) {S : Type 0} (g : Ghosts S) (old mid new : Store S)
     (asked : Asked schema_one true (shown g old) (shown g mid)) (told : (t : Tables) → StandsFor g t old → P t) where
   pub turns_after : (answered done : Bool) → Changed schema_one (λ t db. P t × Holds t db) (λ t. Holds (change t)) answered done (shown g mid) (shown g new) → Changed schema_one TellsHistory (Follows limits said) answered done (shown g old) (shown g new)

@@ -11,7 +11,7 @@ use Rattle.prof_tables.specs.Tables.{Tables, Holds}
 use Rattle.prof_store.specs.Shown.{shown, StandsFor}
 use Rattle.prof_store.specs.declared.store.Store.{Store}
 use Rattle.histories.specs.History.{History, Said}
-use Rattle.histories.specs.Legal.{IsInForm, IsLegal, due}
+use Rattle.histories.specs.Legal.{IsInForm, IsLegal, expected_answer}
 use Rattle.histories.specs.Stands.{TablesTell}
 use Rattle.histories.specs.declared.answers.Answer.{Answer}
 use Rattle.histories.specs.declared.answers.Answer.TheVariants as answers
@@ -21,14 +21,14 @@ use Rattle.histories.proofs.Steps.{tell_same}
 use Rattle.store_histories.specs.Answered.{with_turn, TellsHistory, Follows, StandsForHistory, WasDue}
 
 module _ (limits : Limits) (h : History) (said : Said) (form : IsInForm said) where
-  legal : (answer : Answer) → due limits h said ≡ Some answer → IsLegal limits h said answer
+  legal : (answer : Answer) → expected_answer limits h said ≡ Some answer → IsLegal limits h said answer
   legal answer is = inl (form, inl is)
 
   -- nothing has changed
-  pub was_still : {S : Type 0} (g : Ghosts S) (old new : Store S) (answer : Answer) → IsStill answer → due limits h said ≡ Some answer → (s : StandsForHistory g h old) → StandsFor g s.t new → WasDue g limits h said answer new
+  pub was_still : {S : Type 0} (g : Ghosts S) (old new : Store S) (answer : Answer) → IsStill answer → expected_answer limits h said ≡ Some answer → (s : StandsForHistory g h old) → StandsFor g s.t new → WasDue g limits h said answer new
   was_still g old new answer still is s stands = record { is_due = is; after = record { t = s.t; stands = stands; tells = tell_same limits h said answer s.t still s.tells (legal answer is) } }
 
-  module _ (t : Tables) (is : due limits h said ≡ Some answers.Done) (tells : IsLegal limits h said answers.Done → TablesTell (with_turn h said answers.Done) t) where
+  module _ (t : Tables) (is : expected_answer limits h said ≡ Some answers.Done) (tells : IsLegal limits h said answers.Done → TablesTell (with_turn h said answers.Done) t) where
     pub was_done : {S : Type 0} (g : Ghosts S) (new : Store S) → StandsFor g t new → WasDue g limits h said answers.Done new
     was_done g new stands = record { is_due = is; after = record { t = t; stands = stands; tells = tells (legal answers.Done is) } }
 

@@ -8,7 +8,7 @@ use Rattle.prof_tables.specs.Schema.{schema_one}
 use Rattle.prof_tables.specs.Tables.{Holds}
 use Rattle.prof_store.specs.Shown.{shown}
 use Rattle.prof_store.specs.declared.store.Store.{Store}
-use Rattle.store_columns.specs.declared.errors.StoreEnd.{StoreEnd}
+use Rattle.store_columns.specs.declared.errors.StoreError.{StoreError}
 use Rattle.histories.specs.History.{History, Ask}
 use Rattle.histories.specs.declared.answers.Answer.{Answer}
 use Rattle.histories.specs.declared.answers.Answer.TheVariants as answers
@@ -27,13 +27,13 @@ stays_still (answers.Text text) is = tt
 stays_still (answers.Refused refusal) is = tt
 
 module _ {S : Type 0} (g : Ghosts S) (limits : Limits) (query : Query) (old new : Store S) where
-  was_due : (result : Result Answer StoreEnd) → WasAsked g query result old new → (h : History) → StandsForHistory g h old → IfOk result (λ answer. WasDue g limits h (Ask query) answer new)
+  was_due : (result : Result Answer StoreError) → WasAsked g query result old new → (h : History) → StandsForHistory g h old → IfOk result (λ answer. WasDue g limits h (Ask query) answer new)
   was_due (Err end) asked h s = tt
   was_due (Ok answer) asked h s =
-      was_still limits h (Ask query) tt g old new answer (stays_still answer asked.still) (ap (λ a. Some a) (sym (asked.due h s))) s
+      was_still limits h (Ask query) tt g old new answer (stays_still answer asked.still) (ap (λ a. Some a) (sym (asked.expected_answer h s))) s
       (asked_rests schema_one (Holds s.t) (shown g old) (shown g new) asked.asks s.stands)
 
-  pub question_answered : (result : Result Answer StoreEnd) → WasAsked g query result old new → Answers g limits (Ask query) (answer_for result) old new
+  pub question_answered : (result : Result Answer StoreError) → WasAsked g query result old new → Answers g limits (Ask query) (answer_for result) old new
   question_answered result asked =
       let unchanged = changed_asked schema_one TellsHistory (Follows limits (Ask query)) (is_ok result) (shown g old) (shown g new) asked.asks in
       let turned = subst (λ (done : Bool). Changed schema_one TellsHistory (Follows limits (Ask query)) (is_ok result) done (shown g old) (shown g new)) (sym asked.still) unchanged in

@@ -11,8 +11,8 @@ use Rattle.prof_tables.specs.Schema.{schema_one}
 use Rattle.prof_tables.specs.Tables.{Holds}
 use Rattle.prof_tables.specs.Labels.{IsGroupName}
 use Rattle.prof_store.specs.Shown.{shown, IsFaithful}
-use Rattle.store_columns.specs.declared.errors.StoreEnd.{StoreEnd}
-use Rattle.store_columns.specs.declared.errors.StoreEnd.TheVariants as ends
+use Rattle.store_columns.specs.declared.errors.StoreError.{StoreError}
+use Rattle.store_columns.specs.declared.errors.StoreError.TheVariants as ends
 use Rattle.prof_store.specs.declared.store.Store.{Store}
 use Rattle.histories.specs.History.{History, Said, groups}
 use Rattle.histories.specs.Legal.{IsInForm, IsUnread, IsLegal, IsHistory, has_group}
@@ -41,7 +41,7 @@ module _ {S : Type 0} (g : Ghosts S) (limits : Limits) (h : History) (said : Sai
     };
   }
 
-  pub settled : (result : Result Answer StoreEnd) → IsInForm said → (StandsForHistory g h old → IfOk result (λ answer. WasDue g limits h said answer new))
+  pub settled : (result : Result Answer StoreError) → IsInForm said → (StandsForHistory g h old → IfOk result (λ answer. WasDue g limits h said answer new))
       → Changed schema_one TellsHistory (Follows limits said) (is_ok result) (has_changed result) (shown g old) (shown g new) → IsAnswered g limits h said (answer_for result) new
   settled (Ok answer) form answered turned =
       let it = answered (has.stands (turned.stays.was_open (turned.stays.is_open refl))) in
@@ -51,17 +51,17 @@ module _ {S : Type 0} (g : Ghosts S) (limits : Limits) (h : History) (said : Sai
   settled (Err ends.Store) form answered turned = still_answered false (answers.Refused reasons.Store) tt (inl (form, inr (inr refl))) turned
 
 -- of a call that is refused
-pub turns_err_from : (limits : Limits) (said : Said) (Before : History → Trees → Type 0) (result : Result Answer StoreEnd) (old new : State) → IsErr result → Changed schema_one Before (Follows limits said) false false old new
+pub turns_err_from : (limits : Limits) (said : Said) (Before : History → Trees → Type 0) (result : Result Answer StoreError) (old new : State) → IsErr result → Changed schema_one Before (Follows limits said) false false old new
     → Changed schema_one Before (Follows limits said) (is_ok result) (has_changed result) old new
 turns_err_from limits said Before (Ok answer) old new is h = absurd (cc is)
 turns_err_from limits said Before (Err end) old new is h = h
 
-pub turns_err : (limits : Limits) (said : Said) (result : Result Answer StoreEnd) (old new : State) → IsErr result → Changed schema_one TellsHistory (Follows limits said) false false old new
+pub turns_err : (limits : Limits) (said : Said) (result : Result Answer StoreError) (old new : State) → IsErr result → Changed schema_one TellsHistory (Follows limits said) false false old new
     → Changed schema_one TellsHistory (Follows limits said) (is_ok result) (has_changed result) old new
 turns_err limits said result old new is h = turns_err_from limits said TellsHistory result old new is h
 
 -- what a call leaves is what its answer leaves
-pub turns_answer : (limits : Limits) (said : Said) (result : Result Answer StoreEnd) (old new : State) → Changed schema_one TellsHistory (Follows limits said) (is_ok result) (has_changed result) old new
+pub turns_answer : (limits : Limits) (said : Said) (result : Result Answer StoreError) (old new : State) → Changed schema_one TellsHistory (Follows limits said) (is_ok result) (has_changed result) old new
     → Changed schema_one TellsHistory (Follows limits said) (is_accepted (answer_for result)) (is_accepted (answer_for result)) old new
 turns_answer limits said (Ok answer) old new h = record { stays = stays_if (is_accepted answer) old new h.stays; done = h.done; kept = h.kept; crash = h.crash }
 turns_answer limits said (Err ends.Memory) old new h = h

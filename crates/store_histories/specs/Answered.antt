@@ -8,10 +8,10 @@ use Rattle.prof_tables.specs.Schema.{schema_one}
 use Rattle.prof_tables.specs.Tables.{Tables, Holds}
 use Rattle.prof_store.specs.Shown.{shown, StandsFor, IsFaithful, IsUsable}
 use Rattle.prof_store.specs.declared.store.Store.{Store}
-use Rattle.store_columns.specs.declared.errors.StoreEnd.{StoreEnd}
-use Rattle.store_columns.specs.declared.errors.StoreEnd.TheVariants as ends
+use Rattle.store_columns.specs.declared.errors.StoreError.{StoreError}
+use Rattle.store_columns.specs.declared.errors.StoreError.TheVariants as ends
 use Rattle.histories.specs.History.{History, Said, Turn}
-use Rattle.histories.specs.Legal.{IsLegal, IsHistory, ask_due, due}
+use Rattle.histories.specs.Legal.{IsLegal, IsHistory, expected_of_query, expected_answer}
 use Rattle.histories.specs.Stands.{TablesTell}
 use Rattle.histories.specs.declared.answers.Answer.{Answer}
 use Rattle.histories.specs.declared.answers.Answer.TheVariants as answers
@@ -30,7 +30,7 @@ is_accepted answers.Done = true
 is_accepted answer = false
 
 -- whether a call answered that the tables changed
-abbrev pub has_changed : Result Answer StoreEnd → Bool
+abbrev pub has_changed : Result Answer StoreError → Bool
 has_changed (Ok answer) = is_accepted answer
 has_changed (Err end) = false
 
@@ -61,7 +61,7 @@ module _ {S : Type 0} (g : Ghosts S) where
 
   -- a command in form was answered what was due, and its turn is the history's last
   pub record WasDue (limits : Limits) (h : History) (said : Said) (answer : Answer) (new : Store S) : Type 0 where
-    pub is_due : due limits h said ≡ Some answer
+    pub is_due : expected_answer limits h said ≡ Some answer
     pub after : StandsForHistory (with_turn h said answer) new
 
   -- what a call for a command leaves, whatever the history: where the command is not done, all is as before; a crash leaves what it could leave before, or tables with the command done
@@ -83,12 +83,12 @@ module _ {S : Type 0} (g : Ghosts S) where
     pub answered : (h : History) → HasHistory h old → IsAnswered limits h said answer new
 
   -- a question was answered, with a text or a refusal, what is due after each history that the tables stand for; the store was only asked
-  pub record WasAsked (query : Query) (result : Result Answer StoreEnd) (old new : Store S) : Type 0 where
-    pub due : (h : History) → StandsForHistory h old → IfOk result (λ answer. answer ≡ ask_due h query)
+  pub record WasAsked (query : Query) (result : Result Answer StoreError) (old new : Store S) : Type 0 where
+    pub expected_answer : (h : History) → StandsForHistory h old → IfOk result (λ answer. answer ≡ expected_of_query h query)
     pub still : has_changed result ≡ false
     pub asks : Asked schema_one (is_ok result) (shown g old) (shown g new)
 
-  abbrev pub Asks : Query → Result Answer StoreEnd → Store S → Store S → Type 0
+  abbrev pub Asks : Query → Result Answer StoreError → Store S → Store S → Type 0
   Asks query result old new = IsFaithful g new → WasAsked query result old new
 
   -- turns one after another, each from the store that the one before left
@@ -97,7 +97,7 @@ module _ {S : Type 0} (g : Ghosts S) where
   Links limits (turn ∷ later) old new = (mid : Store S) × Answers limits turn.said turn.answer old mid × Links limits later mid new
 
 -- want of memory or of the store is refused as such
-abbrev pub answer_for : Result Answer StoreEnd → Answer
+abbrev pub answer_for : Result Answer StoreError → Answer
 answer_for (Ok answer) = answer
 answer_for (Err ends.Memory) = answers.Refused reasons.Memory
 answer_for (Err ends.Store) = answers.Refused reasons.Store

@@ -3,15 +3,15 @@ ghost use Rattle.std.specs.Prelude.{◌≡◌};
 ghost use Rattle.store_histories.specs.Answered.{answer_for};
 
 use histories::{Answer, Refusal};
-use prof_store::StoreEnd;
+use prof_store::StoreError;
 
 /// The answer that is due, or the refusal for want of memory or of the store.
-pub fn answer_of(outcome: Result<Answer, StoreEnd>) -> Answer
+pub fn answer_of(outcome: Result<Answer, StoreError>) -> Answer
     ensures { result ≡ answer_for outcome }
 {
     match outcome {
         Ok(answer) => answer,
-        Err(StoreEnd::Memory) => Answer::Refused(Refusal::Memory),
-        Err(StoreEnd::Store) => Answer::Refused(Refusal::Store),
+        Err(StoreError::Memory) => Answer::Refused(Refusal::Memory),
+        Err(StoreError::Store) => Answer::Refused(Refusal::Store),
     }
 }

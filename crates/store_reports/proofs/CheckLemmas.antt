@@ -10,7 +10,7 @@ use Rattle.held_runs.specs.OwnSums.{AreOwnSums, IsByPlace, events_of_run}
 use Rattle.held_runs.proofs.OwnSumLists.{own_sums_by_place}
 use Rattle.histories.specs.Files.{events_of}
 use Rattle.histories.specs.History.{History, File, held}
-use Rattle.histories.specs.Legal.{ask_due, first_or}
+use Rattle.histories.specs.Legal.{expected_of_query, first_or}
 use Rattle.histories.specs.Reports.{file_verified, own_columns, own_columns_from, verified_text}
 use Rattle.histories.specs.Selections.{numbers_of, selected}
 use Rattle.histories.specs.Stands.{TablesTell, event_lines_from}
@@ -67,10 +67,10 @@ runs_told h t [] text tell all checked = checked
 runs_told h t (f ∷ files) text tell all checked =
     checked.4 ∙ ap₂ ◌++◌ (run_told h t f checked.0 tell all.0 checked.2) (runs_told h t files checked.1 tell all.1 checked.3)
 
-pub verify_is_due : (h : History) (t : Tables) (s : Selection) (numbers : List ℕ) (text : List ℕ) → TablesTell h t → AreSelected h s (Ok numbers) → AreChecked t numbers text → Text text ≡ ask_due h (Verify s)
+pub verify_is_due : (h : History) (t : Tables) (s : Selection) (numbers : List ℕ) (text : List ℕ) → TablesTell h t → AreSelected h s (Ok numbers) → AreChecked t numbers text → Text text ≡ expected_of_query h (Verify s)
 verify_is_due h t s numbers text tell found checked =
     ap Text (runs_told h t (selected h s) text tell (selected_held h s) (subst (λ ns. AreChecked t ns text) found.1 checked))
     ∙ ap (λ missing. first_or (missing ∷ []) (Text (verified_text (selected h s)))) (sym found.0)
 
-pub verify_is_refused : (h : History) (s : Selection) (refusal : Refusal) → AreSelected h s (Err refusal) → Refused refusal ≡ ask_due h (Verify s)
+pub verify_is_refused : (h : History) (s : Selection) (refusal : Refusal) → AreSelected h s (Err refusal) → Refused refusal ≡ expected_of_query h (Verify s)
 verify_is_refused h s refusal found = ap (λ missing. first_or (missing ∷ []) (Text (verified_text (selected h s)))) (sym found)

@@ -7,7 +7,7 @@ use Rattle.cost_reports.specs.KeyTexts.{key_report_text}
 use Rattle.cost_reports.specs.declared.cuts.Cut.{Cut}
 use Rattle.prof_tables.specs.Tables.{Tables}
 use Rattle.histories.specs.History.{History}
-use Rattle.histories.specs.Legal.{ask_due, first_or, no_event, no_selection, when}
+use Rattle.histories.specs.Legal.{expected_of_query, first_or, no_event, no_selection, when}
 use Rattle.histories.specs.Reports.{by_text, has_event}
 use Rattle.histories.specs.Selections.{numbers_of, selected}
 use Rattle.histories.specs.Stands.{TablesTell}
@@ -35,7 +35,7 @@ report_same : (h : History) (t : Tables) (s : Selection) (key : Key) (event : Li
 report_same h t s key event cut runs tell counted = ap (λ sums. key_report_text event (report_of key cut sums)) (runs_cost h t s key event runs tell counted)
 
 pub by_is_due : (h : History) (t : Tables) (s : Selection) (key : Key) (event : List ℕ) (cut : Cut) (numbers : List ℕ) (answer : Answer) → TablesTell h t → AreSelected h s (Ok numbers)
-    → AnswersRuns t numbers key event cut answer → answer ≡ ask_due h (By s key event cut)
+    → AnswersRuns t numbers key event cut answer → answer ≡ expected_of_query h (By s key event cut)
 by_is_due h t s key event cut numbers answer tell found answers =
     let runs = answers.0 in
     let counted : AreCounted t event (numbers_of (selected h s)) runs = subst (λ ns. AreCounted t event ns runs) found.1 answers.1 in
@@ -45,5 +45,5 @@ by_is_due h t s key event cut numbers answer tell found answers =
     ∙ due_or (list_any has_counts runs) (list_any (has_event event) (selected h s)) (Refused NoSuchEvent) (Text text) (runs_have_event h t s event runs tell counted)
     ∙ ap (λ missing. first_or (missing ∷ no_event event (selected h s) ∷ []) (Text text)) (sym found.0)
 
-pub by_is_refused : (h : History) (s : Selection) (key : Key) (event : List ℕ) (cut : Cut) (refusal : Refusal) → AreSelected h s (Err refusal) → Refused refusal ≡ ask_due h (By s key event cut)
+pub by_is_refused : (h : History) (s : Selection) (key : Key) (event : List ℕ) (cut : Cut) (refusal : Refusal) → AreSelected h s (Err refusal) → Refused refusal ≡ expected_of_query h (By s key event cut)
 by_is_refused h s key event cut refusal found = ap (λ missing. first_or (missing ∷ no_event event (selected h s) ∷ []) (Text (by_text (selected h s) key event cut))) (sym found)

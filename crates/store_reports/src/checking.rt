@@ -8,11 +8,11 @@ ghost use Rattle.store_histories.specs.Answered.{Asks as AnswersAsked};
 ghost use Rattle.store_reports.specs.Checked.{IsChecked, AreChecked};
 
 use crate::selecting::select_runs;
-use cg_text::Items;
+use cg_text::ListVec;
 use cost_reports::verify;
 use held_runs::{head_of, sums_of};
 use histories::{Answer, Selection};
-use prof_store::{Store, StoreEnd};
+use prof_store::{Store, StoreError};
 use sqlite::Alter;
 use std::alloc::Global;
 
@@ -22,7 +22,7 @@ fn check_run<S: Alter>(
     alloc: Global,
     number: u32,
     text: &mut Vec<u8>,
-) -> Result<(), StoreEnd>
+) -> Result<(), StoreError>
     ensures told { Told S.Store result store.old store.new (λ t _. IsChecked t number text.old.items text.new.items) }
     ensures asks { Asks S.Store (is_ok result) store.old store.new }
 {
@@ -38,7 +38,7 @@ fn check_runs<S: Alter>(
     store: &mut Store<S>,
     alloc: Global,
     numbers: &[u32],
-) -> Result<Items<u8>, StoreEnd>
+) -> Result<ListVec<u8>, StoreError>
     ensures told { Told S.Store result store.old store.new (λ t text. AreChecked t numbers.now text) }
     ensures asks { AsksIfOpen S.Store (is_ok result) store.old store.new }
 {
@@ -46,7 +46,7 @@ fn check_runs<S: Alter>(
     for number in numbers {
         check_run(store, alloc, *number, &mut text)?;
     }
-    Ok(Items::from_vec(text))
+    Ok(ListVec::from_vec(text))
 }
 
 /// Answers what the sums of the events are beside the totals that the files state, for the runs of
@@ -55,7 +55,7 @@ pub fn verify_answer<S: Alter>(
     store: &mut Store<S>,
     alloc: Global,
     selection: &Selection,
-) -> Result<Answer, StoreEnd>
+) -> Result<Answer, StoreError>
     ensures { AnswersAsked S.Store (Verify selection.now) result store.old store.new }
 {
     let numbers = match select_runs(store, alloc, selection)? {

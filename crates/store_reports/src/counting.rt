@@ -5,9 +5,9 @@ ghost use Rattle.prof_store.specs.Shown.{Told, Asks};
 ghost use Rattle.held_runs.specs.Walks.{AsksIfOpen};
 ghost use Rattle.store_reports.specs.Counted.{IsCounted, AreCounted};
 
-use cg_text::Items;
+use cg_text::ListVec;
 use held_runs::head_of;
-use prof_store::{Store, StoreEnd};
+use prof_store::{Store, StoreError};
 use sqlite::Alter;
 use std::alloc::Global;
 
@@ -15,7 +15,7 @@ use std::alloc::Global;
 #[derive(Drop)]
 pub struct Counted {
     pub number: u32,
-    pub counts: Option<Items<u64>>,
+    pub counts: Option<ListVec<u64>>,
 }
 
 /// A run of this number, by its head.
@@ -24,7 +24,7 @@ fn count_run<S: Alter>(
     alloc: Global,
     number: u32,
     event: &[u8],
-) -> Result<Counted, StoreEnd>
+) -> Result<Counted, StoreError>
     ensures told { Told S.Store result store.old store.new (λ t run. IsCounted t event.now number run) }
     ensures asks { Asks S.Store (is_ok result) store.old store.new }
 {
@@ -39,7 +39,7 @@ pub fn count_runs<S: Alter>(
     alloc: Global,
     numbers: &[u32],
     event: &[u8],
-) -> Result<Vec<Counted>, StoreEnd>
+) -> Result<Vec<Counted>, StoreError>
     ensures told { Told S.Store result store.old store.new (λ t runs. AreCounted t event.now numbers.now runs.items) }
     ensures asks { AsksIfOpen S.Store (is_ok result) store.old store.new }
 {
@@ -47,7 +47,7 @@ pub fn count_runs<S: Alter>(
     for number in numbers {
         let run = count_run(store, alloc, *number, event)?;
         if runs.push(run).is_err() {
-            return Err(StoreEnd::Memory);
+            return Err(StoreError::Memory);
         }
     }
     Ok(runs)

@@ -4,7 +4,7 @@ ghost use Rattle.cost_rows.specs.KeySums.{total_of};
 
 use cost_rows::{CellRow, Merged};
 use held_runs::TakesCells;
-use prof_store::StoreEnd;
+use prof_store::StoreError;
 
 /// The greatest sum of a report, and one more.
 const TOO_MUCH: u128 = 1 << 112;
@@ -43,10 +43,10 @@ impl TakesCells for EventSums<'_> {
 
     ghost step = { λ m row. (m.0, with_row m.1 (weighted m.0 row)) };
 
-    fn take(&mut self, row: &CellRow<&[u8]>) -> Result<(), StoreEnd> {
+    fn take(&mut self, row: &CellRow<&[u8]>) -> Result<(), StoreError> {
         let times = times_of(self.counts, row.event);
         let Some(cost) = cost_within(self.merged.total(), times, row.cost) else {
-            return Err(StoreEnd::Store);
+            return Err(StoreError::Store);
         };
         self.merged.add(&CellRow {
             object: row.object,

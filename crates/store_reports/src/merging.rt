@@ -10,7 +10,7 @@ use crate::counting::Counted;
 use crate::event_sums::EventSums;
 use cost_rows::{Key, Merged};
 use held_runs::{HeldNames, each_cell};
-use prof_store::{Store, StoreEnd};
+use prof_store::{Store, StoreError};
 use sqlite::Alter;
 use std::alloc::Global;
 
@@ -21,7 +21,7 @@ fn add_cells<S: Alter>(
     number: u32,
     counts: &[u64],
     merged: Merged,
-) -> Result<Merged, StoreEnd>
+) -> Result<Merged, StoreError>
     ensures told { Told S.Store result store.old store.new (λ t sums. names.now ≡ t.names → sums ≡ merged_with t number counts.now merged) }
     ensures asks { AsksIfOpen S.Store (is_ok result) store.old store.new }
 {
@@ -37,7 +37,7 @@ fn add_run<S: Alter>(
     names: &HeldNames,
     run: &Counted,
     merged: Merged,
-) -> Result<Merged, StoreEnd>
+) -> Result<Merged, StoreError>
     ensures told { Told S.Store result store.old store.new (λ t sums. names.now ≡ t.names → sums ≡ merged_from t merged run.now) }
     ensures asks { AsksIfOpen S.Store (is_ok result) store.old store.new }
 {
@@ -54,7 +54,7 @@ pub(crate) fn merge_runs<S: Alter>(
     names: &HeldNames,
     runs: &[Counted],
     key: Key,
-) -> Result<Merged, StoreEnd>
+) -> Result<Merged, StoreError>
     ensures told { Told S.Store result store.old store.new (λ t sums. names.now ≡ t.names
         → sums ≡ fold (merged_from t) (record { key = key; sums = [] }) runs.now) }
     ensures asks { AsksIfOpen S.Store (is_ok result) store.old store.new }

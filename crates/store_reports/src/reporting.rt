@@ -12,12 +12,12 @@ ghost use Rattle.store_reports.specs.Reported.{AnswersRuns, report_over};
 use crate::counting::{Counted, count_runs};
 use crate::merging::merge_runs;
 use crate::selecting::select_runs;
-use cg_text::Items;
+use cg_text::ListVec;
 use cost_reports::{Cut, by};
 use cost_rows::Key;
 use held_runs::names_of;
 use histories::{Answer, Refusal, Selection};
-use prof_store::{Store, StoreEnd};
+use prof_store::{Store, StoreError};
 use sqlite::Alter;
 use std::alloc::Global;
 
@@ -36,7 +36,7 @@ fn report_text<S: Alter>(
     key: Key,
     event: &[u8],
     cut: Cut,
-) -> Result<Items<u8>, StoreEnd>
+) -> Result<ListVec<u8>, StoreError>
     ensures told { Told S.Store result store.old store.new (λ t text. text ≡ report_over t runs.now key event.now cut) }
     ensures asks { AsksIfOpen S.Store (is_ok result) store.old store.new }
 {
@@ -54,7 +54,7 @@ fn answer_runs<S: Alter>(
     key: Key,
     event: &[u8],
     cut: Cut,
-) -> Result<Answer, StoreEnd>
+) -> Result<Answer, StoreError>
     ensures told { Told S.Store result store.old store.new (λ t answer. AnswersRuns t numbers.now key event.now cut answer) }
     ensures still { has_changed result ≡ false }
     ensures asks { AsksIfOpen S.Store (is_ok result) store.old store.new }
@@ -73,9 +73,9 @@ pub fn by_answer<S: Alter>(
     alloc: Global,
     selection: &Selection,
     key: Key,
-    event: &Items<u8>,
+    event: &ListVec<u8>,
     cut: Cut,
-) -> Result<Answer, StoreEnd>
+) -> Result<Answer, StoreError>
     ensures { AnswersAsked S.Store (By selection.now key event.now cut) result store.old store.new }
 {
     let numbers = match select_runs(store, alloc, selection)? {

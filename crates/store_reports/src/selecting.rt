@@ -6,18 +6,18 @@ ghost use Rattle.prof_store.specs.Shown.{Asks};
 ghost use Rattle.histories.specs.declared.answers.Selection.TheVariants as selections;
 ghost use Rattle.store_reports.specs.Selected.{AreSelected, ToldOf};
 
-use cg_text::Items;
+use cg_text::ListVec;
 use held_runs::{members_of, run_numbers};
 use histories::{Refusal, Selection};
-use prof_store::{Store, StoreEnd};
+use prof_store::{Store, StoreError};
 use sqlite::Alter;
 use std::alloc::Global;
 
 /// Numbers of runs, or why there are none.
-pub type Numbers = Result<Items<u32>, Refusal>;
+pub type Numbers = Result<ListVec<u32>, Refusal>;
 
 /// All runs.
-fn all_runs<S: Alter>(store: &mut Store<S>, alloc: Global) -> Result<Numbers, StoreEnd>
+fn all_runs<S: Alter>(store: &mut Store<S>, alloc: Global) -> Result<Numbers, StoreError>
     ensures told { ToldOf S.Store result store.old store.new (λ h found. AreSelected h selections.All found) }
     ensures asks { Asks S.Store (is_ok result) store.old store.new }
 {
@@ -26,14 +26,18 @@ fn all_runs<S: Alter>(store: &mut Store<S>, alloc: Global) -> Result<Numbers, St
 }
 
 /// A run, if it is held.
-fn one_run<S: Alter>(store: &mut Store<S>, alloc: Global, number: u32) -> Result<Numbers, StoreEnd>
+fn one_run<S: Alter>(
+    store: &mut Store<S>,
+    alloc: Global,
+    number: u32,
+) -> Result<Numbers, StoreError>
     ensures told { ToldOf S.Store result store.old store.new (λ h found. AreSelected h (selections.Run number) found) }
     ensures asks { Asks S.Store (is_ok result) store.old store.new }
 {
     if !store.has_run(number)? {
         return Ok(Err(Refusal::NoSuchRun));
     }
-    let mut numbers = Items::new(alloc);
+    let mut numbers = ListVec::new(alloc);
     numbers.push(number)?;
     Ok(Ok(numbers))
 }
@@ -51,7 +55,11 @@ fn name_text(name: &[u8]) -> &str
 }
 
 /// The members of a group, if it is there.
-fn of_group<S: Alter>(store: &mut Store<S>, alloc: Global, name: &[u8]) -> Result<Numbers, StoreEnd>
+fn of_group<S: Alter>(
+    store: &mut Store<S>,
+    alloc: Global,
+    name: &[u8],
+) -> Result<Numbers, StoreError>
     ensures told { ToldOf S.Store result store.old store.new (λ h found. AreSelected h (selections.Group name.now) found) }
     ensures asks { Asks S.Store (is_ok result) store.old store.new }
 {
@@ -68,7 +76,7 @@ pub fn select_runs<S: Alter>(
     store: &mut Store<S>,
     alloc: Global,
     selection: &Selection,
-) -> Result<Numbers, StoreEnd>
+) -> Result<Numbers, StoreError>
     ensures told { ToldOf S.Store result store.old store.new (λ h found. AreSelected h selection.now found) }
     ensures asks { Asks S.Store (is_ok result) store.old store.new }
 {

@@ -7,16 +7,16 @@ ghost use Rattle.sql_tables.specs.Calls.{Stays};
 ghost use Rattle.sql_tables.specs.States.{Rests, IsBlank};
 ghost use Rattle.prof_tables.specs.Schema.{empty_schema, schema_to_derived, schema_to_arc, schema_one};
 ghost use Rattle.prof_tables.specs.Tables.{Holds, new_tables};
-ghost use Rattle.store_columns.specs.declared.errors.OpenEnd.TheVariants as ends;
+ghost use Rattle.store_columns.specs.declared.errors.OpenError.TheVariants as ends;
 ghost use Rattle.table_making.specs.Created.{Creates, IsUndone};
 ghost use Rattle.table_making.specs.Making.{BeginsStore, FillsStore, MakesTables};
 
 use sqlite::{Alter, Connection, Transaction};
 use sqlite_schema::schema::Schema;
-use store_columns::{OpenEnd, StoreEnd, end_of, write_inside};
+use store_columns::{OpenError, StoreError, error_of, write_inside};
 
 /// Makes the tables of runs and their events.
-fn make_first_tables<S: Alter>(tx: &mut Transaction<'_, S>) -> Result<(), StoreEnd>
+fn make_first_tables<S: Alter>(tx: &mut Transaction<'_, S>) -> Result<(), StoreError>
     ensures { MakesTables S.Store (is_ok result) empty_schema schema_to_derived tx.old tx.new }
 {
     write_inside(
@@ -42,7 +42,7 @@ fn make_first_tables<S: Alter>(tx: &mut Transaction<'_, S>) -> Result<(), StoreE
 }
 
 /// Makes the tables of names, cells and calls.
-fn make_row_tables<S: Alter>(tx: &mut Transaction<'_, S>) -> Result<(), StoreEnd>
+fn make_row_tables<S: Alter>(tx: &mut Transaction<'_, S>) -> Result<(), StoreError>
     ensures { MakesTables S.Store (is_ok result) schema_to_derived schema_to_arc tx.old tx.new }
 {
     write_inside(
@@ -68,7 +68,7 @@ fn make_row_tables<S: Alter>(tx: &mut Transaction<'_, S>) -> Result<(), StoreEnd
 }
 
 /// Makes the tables of stacks and groups.
-fn make_last_tables<S: Alter>(tx: &mut Transaction<'_, S>) -> Result<(), StoreEnd>
+fn make_last_tables<S: Alter>(tx: &mut Transaction<'_, S>) -> Result<(), StoreError>
     ensures { MakesTables S.Store (is_ok result) schema_to_arc schema_one tx.old tx.new }
 {
     write_inside(
@@ -89,7 +89,7 @@ fn make_last_tables<S: Alter>(tx: &mut Transaction<'_, S>) -> Result<(), StoreEn
 }
 
 /// Writes the row of a new store.
-fn begin_meta<S: Alter>(tx: &mut Transaction<'_, S>) -> Result<(), StoreEnd>
+fn begin_meta<S: Alter>(tx: &mut Transaction<'_, S>) -> Result<(), StoreError>
     ensures { BeginsStore S.Store (is_ok result) tx.old tx.new }
 {
     write_inside(
@@ -100,7 +100,7 @@ fn begin_meta<S: Alter>(tx: &mut Transaction<'_, S>) -> Result<(), StoreEnd>
 }
 
 /// Makes the tables of a new store, within a transaction.
-fn fill_new<S: Alter>(tx: &mut Transaction<'_, S>) -> Result<(), StoreEnd>
+fn fill_new<S: Alter>(tx: &mut Transaction<'_, S>) -> Result<(), StoreError>
     ensures { FillsStore S.Store (is_ok result) tx.old tx.new }
 {
     make_first_tables(tx)?;
@@ -110,7 +110,7 @@ fn fill_new<S: Alter>(tx: &mut Transaction<'_, S>) -> Result<(), StoreEnd>
 }
 
 /// Makes the tables of a new store in a database that has none, in one transaction.
-fn create_in<S: Alter>(conn: &mut Connection<S>) -> Result<(), StoreEnd>
+fn create_in<S: Alter>(conn: &mut Connection<S>) -> Result<(), StoreError>
     requires { conn.old.in_transaction ≡ false }
     ensures done { HasCleanDisk (state S.Store conn.new) → IsBlank empty_schema (state S.Store conn.old)
         → OnOk result (Rests schema_one (Holds new_tables) (state S.Store conn.new)) }
@@ -122,7 +122,7 @@ fn create_in<S: Alter>(conn: &mut Connection<S>) -> Result<(), StoreEnd>
     fill_new(&mut tx)?;
     match tx.commit() {
         Ok(()) => Ok(()),
-        Err(error) => Err(end_of(error)),
+        Err(error) => Err(error_of(error)),
     }
 }
 
@@ -137,18 +137,18 @@ fn is_blank(schema: &Schema) -> bool
 
 /// Makes the tables of a new store, in one transaction, in a database that has no table. `WrongSchema`
 /// says that it has some; `Store` answers a connection within a transaction too.
-pub fn create_tables<S: Alter>(conn: &mut Connection<S>) -> Result<(), OpenEnd>
+pub fn create_tables<S: Alter>(conn: &mut Connection<S>) -> Result<(), OpenError>
     ensures wrong { IfErr result (λ end. (end ≡ ends.WrongSchema) ↔ (¬ ((state S.Store conn.old).now.schema ≡ empty_schema))) }
     ensures creates { HasCleanDisk (state S.Store conn.new) → Creates (is_ok result) (state S.Store conn.old) (state S.Store conn.new) }
 {
     if !is_blank(conn.schema()) {
-        return Err(OpenEnd::WrongSchema);
+        return Err(OpenError::WrongSchema);
     }
     if !conn.is_autocommit() {
-        return Err(OpenEnd::Store);
+        return Err(OpenError::Store);
     }
     match create_in(conn) {
         Ok(()) => Ok(()),
-        Err(end) => Err(OpenEnd::from(end)),
+        Err(end) => Err(OpenError::from(end)),
     }
 }

@@ -10,13 +10,13 @@ ghost use Rattle.cost_rows.specs.Sums.{ComesToRecords};
 
 use callgrind_reader::Reader;
 use cg_formulas::FileHead;
-use cg_text::ReadEnd;
+use cg_text::ReadError;
 use cost_rows::FileRows;
 use folded_reader::FoldedReader;
 use std::alloc::Global;
 
 /// The head and the rows of a Callgrind text, or its first fault.
-pub fn rows_of_text(alloc: Global, text: &[u8]) -> Result<(FileHead, FileRows), ReadEnd>
+pub fn rows_of_text(alloc: Global, text: &[u8]) -> Result<(FileHead, FileRows), ReadError>
     requires { length text.now ≤ 1073741824 }
     ensures ended { MatchResult result (λ p. records.Ended (Ok p.0) text.now) (λ end. records.Ended (Err end) text.now) }
     ensures rows { IfOk result (λ p. content_of p.1 ≡ content_of_text text.now) }
@@ -30,7 +30,7 @@ pub fn rows_of_text(alloc: Global, text: &[u8]) -> Result<(FileHead, FileRows), 
 }
 
 /// The head and the rows of a text of folded stacks, or its first fault.
-pub fn rows_of_folded(alloc: Global, text: &[u8]) -> Result<(FileHead, FileRows), ReadEnd>
+pub fn rows_of_folded(alloc: Global, text: &[u8]) -> Result<(FileHead, FileRows), ReadError>
     requires { length text.now ≤ 1073741824 }
     ensures ended { MatchResult result (λ p. stacks.Ended (Ok p.0) text.now) (λ end. stacks.Ended (Err end) text.now) }
     ensures rows { IfOk result (λ p. content_of p.1 ≡ content_of_folded text.now) }

@@ -12,24 +12,24 @@ use Rattle.store_histories.proofs.Links.{links_on, links_legal, links_after}
 use Rattle.warehouse.specs.Answered.{Says, AreSaid, WasAnswered, WasRun}
 use Rattle.warehouse.specs.declared.command.Command as commands
 
-module _ {R : Type 0} (comes : R → Outcome → R → Type 0) where
-  said_on : (list : List (commands.Command R)) (turns : History) (one : commands.Command R) (turn : Turn) → AreSaid comes list turns → Says comes one turn.said → AreSaid comes (list ++ one ∷ []) (turns ++ turn ∷ [])
+module _ {R : Type 0} (reads : R → Outcome → R → Type 0) where
+  said_on : (list : List (commands.Command R)) (turns : History) (one : commands.Command R) (turn : Turn) → AreSaid reads list turns → Says reads one turn.said → AreSaid reads (list ++ one ∷ []) (turns ++ turn ∷ [])
   said_on [] [] one turn all is = (is, tt)
   said_on [] (t ∷ turns) one turn all is = absurd all
   said_on (c ∷ list) [] one turn all is = absurd all
   said_on (c ∷ list) (t ∷ turns) one turn all is = (all.0, said_on list turns one turn all.1 is)
 
-module _ {S R : Type 0} (g : Ghosts S) (comes : R → Outcome → R → Type 0) (limits : Limits) where
-  pub run_nothing : (store : Store S) → WasRun g comes limits [] [] store store
+module _ {S R : Type 0} (g : Ghosts S) (reads : R → Outcome → R → Type 0) (limits : Limits) where
+  pub run_nothing : (store : Store S) → WasRun g reads limits [] [] store store
   run_nothing store = record { turns = []; said = tt; answered = refl; links = refl; legal = λ h has. tt; after = λ h has. subst (λ l. HasHistory g l store) (sym (append-nil h)) has }
 
-  pub run_on : (list : List (commands.Command R)) (given : List Answer) (old mid new : Store S) → WasRun g comes limits list given old mid → (one : commands.Command R) (answer : Answer) → WasAnswered g comes limits one answer mid new
-      → WasRun g comes limits (list ++ one ∷ []) (given ++ answer ∷ []) old new
+  pub run_on : (list : List (commands.Command R)) (given : List Answer) (old mid new : Store S) → WasRun g reads limits list given old mid → (one : commands.Command R) (answer : Answer) → WasAnswered g reads limits one answer mid new
+      → WasRun g reads limits (list ++ one ∷ []) (given ++ answer ∷ []) old new
   run_on list given old mid new w one answer is =
       let turn : Turn = record { said = is.said; answer = answer } in
       let links = links_on g limits w.turns turn old mid new w.links is.answers in record {
         turns = w.turns ++ turn ∷ [];
-        said = said_on comes list w.turns one turn w.said is.says;
+        said = said_on reads list w.turns one turn w.said is.says;
         answered = map-append (λ (t : Turn). t.answer) w.turns (turn ∷ []) ∙ ap (λ l. l ++ answer ∷ []) w.answered;
         links = links;
         legal = λ h has. links_legal g limits h (w.turns ++ turn ∷ []) old new links has;

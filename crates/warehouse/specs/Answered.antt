@@ -9,7 +9,7 @@ use Rattle.histories.specs.declared.answers.Answer.{Answer}
 use Rattle.histories.specs.declared.answers.Answer.TheVariants as answers
 use Rattle.histories.specs.declared.answers.Refusal.TheVariants as reasons
 use Rattle.histories.specs.declared.limits.Limits.{Limits}
-use Rattle.sources.specs.Reads.{Come}
+use Rattle.sources.specs.Reads.{Reads}
 use Rattle.sources.specs.declared.reading.Unread.{Unread}
 use Rattle.sources.specs.declared.reading.Unread.TheVariants as unread
 use Rattle.store_histories.specs.Answered.{HasHistory, Answers, Links}
@@ -18,10 +18,10 @@ use Rattle.warehouse.specs.declared.command.Command.TheVariants as command
 
 -- ---- what a command says
 
-module _ {R : Type 0} (comes : R → Outcome → R → Type 0) where
+module _ {R : Type 0} (reads : R → Outcome → R → Type 0) where
   -- an import, with what the reads of its source came to
   abbrev pub Says : commands.Command R → Said → Type 0
-  Says (command.Import kind label source) said = (outcomes : List Outcome) × (to : R) × Come comes source outcomes to × (said ≡ Import kind label.items outcomes)
+  Says (command.Import kind label source) said = (outcomes : List Outcome) × (to : R) × Reads reads source outcomes to × (said ≡ Import kind label.items outcomes)
   Says (command.Remove n) said = said ≡ Remove n
   Says (command.MakeGroup name) said = said ≡ MakeGroup name.items
   Says (command.DropGroup name) said = said ≡ DropGroup name.items
@@ -35,17 +35,17 @@ module _ {R : Type 0} (comes : R → Outcome → R → Type 0) where
   AreSaid (one ∷ more) (turn ∷ later) = Says one turn.said × AreSaid more later
   AreSaid more later = ⊥
 
-module _ {S R : Type 0} (g : Ghosts S) (comes : R → Outcome → R → Type 0) where
+module _ {S R : Type 0} (g : Ghosts S) (reads : R → Outcome → R → Type 0) where
   -- a command was answered, whatever its source came to
   pub record WasAnswered (limits : Limits) (one : commands.Command R) (answer : Answer) (old new : Store S) : Type 0 where
     pub said : Said
-    pub says : Says comes one said
+    pub says : Says reads one said
     pub answers : Answers g limits said answer old new
 
   -- commands were run: each is a turn from the store that the one before left, and is given its answer; after a history that the store has, each answer is legal, and the store has the history with all turns
   pub record WasRun (limits : Limits) (list : List (commands.Command R)) (given : List Answer) (old new : Store S) : Type 0 where
     pub turns : History
-    pub said : AreSaid comes list turns
+    pub said : AreSaid reads list turns
     pub answered : map (λ (turn : Turn). turn.answer) turns ≡ given
     pub links : Links g limits turns old new
     pub legal : (h : History) → HasHistory g h old → AreLegal limits h turns

@@ -5,12 +5,12 @@ ghost use Rattle.prof_store.specs.Shown.{IsFaithful};
 ghost use Rattle.sources.specs.Outcomes.{Outcome};
 ghost use Rattle.histories.specs.History.{Ask, Import};
 ghost use Rattle.store_histories.specs.Answered.{Answers, Asks};
-ghost use Rattle.sources.specs.Reads.{Come};
+ghost use Rattle.sources.specs.Reads.{Reads};
 
 use crate::refusals::unread_answer;
 use file_intake::take_file;
 use histories::{Answer, Limits, Query, Refusal};
-use prof_store::{Store, StoreEnd};
+use prof_store::{Store, StoreError};
 use profile_records::Kind;
 use run_imports::{label_of, take_in};
 use sources::Source;
@@ -30,7 +30,7 @@ fn import_labelled<S: Alter, R: Source>(
     source: &mut R,
 ) -> Answer
     requires { IsLabel label.now }
-    ensures answered { IsFaithful S.Store store.new → (outcomes : List Outcome) × Come R.comes source.old outcomes source.new
+    ensures answered { IsFaithful S.Store store.new → (outcomes : List Outcome) × Reads R.reads source.old outcomes source.new
         × Answers S.Store limits (Import kind label.now outcomes) result store.old store.new }
 {
     match take_file(alloc, kind, limits.bytes, source) {
@@ -48,7 +48,7 @@ pub(crate) fn import_in<S: Alter, R: Source>(
     label: &[u8],
     source: &mut R,
 ) -> Answer
-    ensures answered { IsFaithful S.Store store.new → (outcomes : List Outcome) × Come R.comes source.old outcomes source.new
+    ensures answered { IsFaithful S.Store store.new → (outcomes : List Outcome) × Reads R.reads source.old outcomes source.new
         × Answers S.Store limits (Import kind label.now outcomes) result store.old store.new }
 {
     match label_of(label) {
@@ -58,7 +58,7 @@ pub(crate) fn import_in<S: Alter, R: Source>(
 }
 
 /// What a question is answered.
-fn answer<S: Alter>(store: &mut Store<S>, alloc: Global, query: Query) -> Result<Answer, StoreEnd>
+fn answer<S: Alter>(store: &mut Store<S>, alloc: Global, query: Query) -> Result<Answer, StoreError>
     ensures { Asks S.Store query result store.old store.new }
 {
     match query {

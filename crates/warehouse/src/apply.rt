@@ -5,7 +5,7 @@ ghost use Rattle.sources.specs.Outcomes.{Outcome};
 ghost use Rattle.histories.specs.History.{Import};
 ghost use Rattle.store_histories.specs.Answered.{Answers};
 ghost use Rattle.warehouse.specs.Answered.{WasAnswered, WasRun};
-ghost use Rattle.sources.specs.Reads.{Come};
+ghost use Rattle.sources.specs.Reads.{Reads};
 
 use crate::answering::{ask_in, import_in};
 use crate::command::Command;
@@ -30,7 +30,7 @@ impl<S: Alter> Warehouse<S> {
         source: &mut R,
     ) -> Answer
         ensures limits { self.new.limits ≡ self.old.limits }
-        ensures answered { IsFaithful S.Store self.new.store → (outcomes : List Outcome) × Come R.comes source.old outcomes source.new
+        ensures answered { IsFaithful S.Store self.new.store → (outcomes : List Outcome) × Reads R.reads source.old outcomes source.new
             × Answers S.Store self.old.limits (Import kind label.now outcomes) result self.old.store self.new.store }
     {
         import_in(&mut self.store, alloc, self.limits, kind, label, source)
@@ -39,7 +39,7 @@ impl<S: Alter> Warehouse<S> {
     /// Does what a command says, and answers it. A refused command changes nothing.
     pub fn apply<R: Source + Drop>(&mut self, alloc: Global, command: Command<R>) -> Answer
         ensures limits { self.new.limits ≡ self.old.limits }
-        ensures answered { IsFaithful S.Store self.new.store → WasAnswered S.Store R.comes self.old.limits command result self.old.store self.new.store }
+        ensures answered { IsFaithful S.Store self.new.store → WasAnswered S.Store R.reads self.old.limits command result self.old.store self.new.store }
     {
         let store = &mut self.store;
         match command {

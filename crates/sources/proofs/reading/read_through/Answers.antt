@@ -17,7 +17,7 @@ returns-in_default g c =
     let was = c.reads.invariant in
     record {
       outcomes = was.outcomes ++ Failed ∷ [];
-      came = come_on g.S.Source.comes c.args.source.now c.reads.source c.read.new.self was.outcomes Failed was.came c.in_default.ensures.came;
+      came = come_on g.S.Source.reads c.args.source.now c.reads.source c.read.new.self was.outcomes Failed was.came c.in_default.ensures.came;
       read = failed_now c.args.limit c.reads.left was.outcomes was.left was.unfailed;
     }
 
@@ -27,7 +27,7 @@ returns-then-count-eq0 g c =
     let nothing : take c.in-Ok.count c.read.new.buf ≡ [] = ap (λ n. take n c.read.new.buf) c.if-count-eq0.true in
     record {
       outcomes = was.outcomes ++ Gave [] ∷ [];
-      came = come_on g.S.Source.comes c.args.source.now c.reads.source c.read.new.self was.outcomes (Gave []) was.came (subst (λ l. g.S.Source.comes c.reads.source (Gave l) c.read.new.self) nothing c.in-Ok.ensures.came);
+      came = come_on g.S.Source.reads c.args.source.now c.reads.source c.read.new.self was.outcomes (Gave []) was.came (subst (λ l. g.S.Source.reads c.reads.source (Gave l) c.read.new.self) nothing c.in-Ok.ensures.came);
       read = (
         ended_now c.args.limit c.reads.left was.outcomes was.left was.unfailed,
         subst (λ l. Takes g.T.TakesBytes.has_taken c.args.takes.now l c.reads.takes) (sym (bytes_on was.outcomes [] ∙ append-nil (bytes_of was.outcomes))) was.took,
@@ -41,7 +41,7 @@ returns-then-count-left g c =
     let many : length piece ≡ c.in-Ok.count = length-take-le c.in-Ok.count c.read.new.buf c.in-Ok.ensures.within in
     record {
       outcomes = was.outcomes ++ Gave piece ∷ [];
-      came = come_on g.S.Source.comes c.args.source.now c.reads.source c.read.new.self was.outcomes (Gave piece) was.came c.in-Ok.ensures.came;
+      came = come_on g.S.Source.reads c.args.source.now c.reads.source c.read.new.self was.outcomes (Gave piece) was.came c.in-Ok.ensures.came;
       read = too_long_now c.args.limit c.reads.left was.outcomes was.left was.unfailed piece (omega (arith, many, c.if-count-left.true));
     }
 
@@ -51,7 +51,7 @@ returns-in_err-feed g c =
     let piece = take c.in-Ok.count c.read.new.buf in
     record {
       outcomes = was.outcomes ++ Gave piece ∷ [];
-      came = come_on g.S.Source.comes c.args.source.now c.reads.source c.read.new.self was.outcomes (Gave piece) was.came c.in-Ok.ensures.came;
+      came = come_on g.S.Source.reads c.args.source.now c.reads.source c.read.new.self was.outcomes (Gave piece) was.came c.in-Ok.ensures.came;
       read = passed_on c.from_residual.result reasons.Memory _ (IsUnreadFor c.args.limit (was.outcomes ++ Gave piece ∷ [])) c.from_residual.ensures.1 tt;
     }
 
@@ -65,7 +65,7 @@ reads-preserved g c =
     let some : 0 < c.in-Ok.count = omega (arith, c.if-count-eq0.false) in
     record {
       outcomes = was.outcomes ++ Gave piece ∷ [];
-      came = come_on g.S.Source.comes c.args.source.now c.reads.source c.read.new.self was.outcomes (Gave piece) was.came c.in-Ok.ensures.came;
+      came = come_on g.S.Source.reads c.args.source.now c.reads.source c.read.new.self was.outcomes (Gave piece) was.came c.in-Ok.ensures.came;
       unfailed = unfailed_on c.args.limit c.reads.left was.outcomes was.left was.unfailed piece;
       left = ap (λ n. length (bytes_of (was.outcomes ++ Gave piece ∷ [])) + (c.reads.left - n)) (sym many) ∙ left_on c.args.limit c.reads.left was.outcomes was.left was.unfailed piece fits;
       counted = omega (arith, joined, many, some, was.counted);

@@ -2,13 +2,13 @@ use Rattle.std.proofs.Common.{◌≡◌, ◌+◌, ◌<◌, ◌≤◌, false, Lis
 use Rattle.std.specs.List.{list_any}
 use Rattle.sources.specs.Outcomes.{Outcome, bytes_of, is_failed}
 use Rattle.sources.specs.Takes.{HasRoom, Takes}
-use Rattle.sources.specs.Reads.{Come}
+use Rattle.sources.specs.Reads.{Reads}
 use Rattle.sources.proofs.reading.read_through.Given as goal
 
 abbrev pub invariant-reads : goal.invariant-reads
 invariant-reads g l = record {
   outcomes : List Outcome;
-  came : Come g.S.Source.comes l.fn.source outcomes l.source;
+  came : Reads g.S.Source.reads l.fn.source outcomes l.source;
   unfailed : list_any is_failed outcomes ≡ false;
   left : length (bytes_of outcomes) + l.left ≡ l.fn.limit;
   counted : l.counter ≤ length (bytes_of outcomes);

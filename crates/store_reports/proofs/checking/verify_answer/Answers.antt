@@ -9,7 +9,7 @@ use Rattle.store_reports.proofs.checking.verify_answer.Goals as goal
 
 pub returns-in-Err : goal.returns-in-Err
 returns-in-Err g c clean = record {
-  due = λ h s. verify_is_refused h c.args.selection.now c.in-Err.refusal (rw c.in-Err.is at (c.in_ok-numbers.ensures.told clean h s));
+  expected_answer = λ h s. verify_is_refused h c.args.selection.now c.in-Err.refusal (rw c.in-Err.is at (c.in_ok-numbers.ensures.told clean h s));
   still = refl;
   asks = c.in_ok-numbers.ensures.asks clean;
 }
@@ -21,7 +21,7 @@ returns g c clean =
     let text = c.in_ok-text.text in
     let numbers : c.as_slice.result.now ≡ c.in-Ok.numbers = search rules in
     record {
-      due = λ h s.
+      expected_answer = λ h s.
           let found = rw c.in-Ok.is at (c.in_ok-numbers.ensures.told early h s) in
           let mid = asked_rests schema_one (Holds s.t) _ _ (c.in_ok-numbers.ensures.asks early) s.stands in
           verify_is_due h s.t c.args.selection.now c.in-Ok.numbers text s.tells found (subst (λ ns. AreChecked s.t ns text) numbers (c.in_ok-text.ensures.told clean s.t mid));

@@ -10,7 +10,7 @@ use Rattle.store_reports.proofs.reporting.by_answer.Goals as goal
 
 pub returns-in-Err : goal.returns-in-Err
 returns-in-Err g c clean = record {
-  due = λ h s. by_is_refused h c.args.selection.now c.args.key c.args.event.now c.args.cut c.in-Err.refusal (rw c.in-Err.is at (c.in_ok-numbers.ensures.told clean h s));
+  expected_answer = λ h s. by_is_refused h c.args.selection.now c.args.key c.args.event.now c.args.cut c.in-Err.refusal (rw c.in-Err.is at (c.in_ok-numbers.ensures.told clean h s));
   still = refl;
   asks = c.in_ok-numbers.ensures.asks clean;
 }
@@ -23,7 +23,7 @@ returns g c clean =
     let numbers : c.as_slice.result.now ≡ c.in-Ok.numbers = search rules in
     let event : c.as_slice-2.result.now ≡ c.args.event.now = search rules in
     record {
-      due = λ h s.
+      expected_answer = λ h s.
           let found = rw c.in-Ok.is at (c.in_ok-numbers.ensures.told early h s) in
           let mid = asked_rests schema_one (Holds s.t) _ _ (c.in_ok-numbers.ensures.asks early) s.stands in
           if_ok_so c.answer_runs.result (λ answer told. by_is_due h s.t selection c.args.key c.args.event.now c.args.cut c.in-Ok.numbers answer s.tells found

@@ -1,10 +1,10 @@
 use Rattle.std.proofs.Common.{◌≡◌, ℕ, ◌↔◌, IsTrue, true, refl, List, [], fold, Some, None, Err, sym, ◌∙◌, ap, arith, false}
 use Rattle.std.proofs.lemmas.Grind.{fold-append}
 use Rattle.std.proofs.lemmas.Result.{IfOk-weaker}
-use Rattle.cg_text.specs.Ends.{end_text}
+use Rattle.cg_text.specs.Errors.{error_text}
 use Rattle.cg_text.specs.declared.faults.Fault as faults
-use Rattle.cg_text.specs.declared.faults.ReadEnd.{ReadEnd}
-use Rattle.cg_text.specs.declared.faults.ReadEnd.TheVariants.{Fault}
+use Rattle.cg_text.specs.declared.faults.ReadError.{ReadError}
+use Rattle.cg_text.specs.declared.faults.ReadError.TheVariants.{Fault}
 use Rattle.callgrind_reader.specs.Files.{records_of_file, fault_of_file}
 use Rattle.callgrind_reader.specs.Reads.{Ended}
 use Rattle.file_totals.specs.declared.total.TotalText.{TotalText}
@@ -29,7 +29,7 @@ returns c = λ text (told, reads, summed).
     }
 
 -- the file's first fault
-first_fault : (end : ReadEnd) (fault : faults.Fault) (line : ℕ) (text : List ℕ) → end ≡ Fault fault line → Ended (Err end) text → fault_of_file text ≡ Some (fault, line)
+first_fault : (end : ReadError) (fault : faults.Fault) (line : ℕ) (text : List ℕ) → end ≡ Fault fault line → Ended (Err end) text → fault_of_file text ≡ Some (fault, line)
 first_fault end fault line text is ended = rw is at ended
 
 -- a refusal is no acceptance
@@ -41,5 +41,5 @@ returns-in-Err-Fault c = λ text (told, reads, summed).
     let fault = c.in-Err-Fault.fault in
     let line = c.in-Err-Fault.line in
     let first = first_fault c.in-Err-Fault.field-0 fault line text c.in-Err-Fault.field-0-is (c.in-Err-Fault.ensures.ended text told reads) in
-    IfOk-weaker c.refused_fault.result (IsRefusal (end_text (Fault fault line))) (IsTotalOf text)
+    IfOk-weaker c.refused_fault.result (IsRefusal (error_text (Fault fault line))) (IsTotalOf text)
     (λ t is. record { printed = is.printed ∙ total-refused text fault line first; accepted = refused_exactly t text (fault, line) first is.accepted }) c.refused_fault.ensures

@@ -10,4 +10,4 @@ abbrev pub invariant-commands : goal.invariant-commands
 invariant-commands g l =
     (l.self.limits ≡ l.fn.self.limits) × (vec_len l.answers ≡ l.counter) × (vec_capacity l.answers ≡ l.count) × (deque_len l.rest + l.counter ≡ l.count)
     × ((front : List (commands.Command g.row.R.Denot)) × (l.fn.commands.items ≡ front ++ l.rest.items)
-    × (IsFaithful g.S.Store l.self.store → WasRun g.S.Store g.R.Source.comes l.fn.self.limits front l.answers.items l.fn.self.store l.self.store))
+    × (IsFaithful g.S.Store l.self.store → WasRun g.S.Store g.R.Source.reads l.fn.self.limits front l.answers.items l.fn.self.store l.self.store))

@@ -6,11 +6,11 @@ use std::marker::Model;
 
 /// A list over a `Vec`, which it is made from and turned back into at no cost.
 #[derive(Drop)]
-pub struct Items<T> {
+pub struct ListVec<T> {
     vec: Vec<T>,
 }
 
-impl<T> Model for Items<T> {
+impl<T> Model for ListVec<T> {
     ghost use Rattle.std.specs.Prelude.{List};
 
     ghost Value = { List T };
@@ -18,28 +18,28 @@ impl<T> Model for Items<T> {
     ghost view = { λ a. a.vec.items };
 }
 
-impl<T> Items<T> {
+impl<T> ListVec<T> {
     /// A list with no item, which takes no memory.
-    pub fn new(alloc: Global) -> Items<T>
+    pub fn new(alloc: Global) -> ListVec<T>
         ensures { result ≡ [] }
     {
-        Items {
+        ListVec {
             vec: Vec::new(alloc),
         }
     }
 
     /// The list of a vector's items.
-    pub fn from_vec(vec: Vec<T>) -> Items<T>
+    pub fn from_vec(vec: Vec<T>) -> ListVec<T>
         ensures { result ≡ vec.items }
     {
-        Items { vec }
+        ListVec { vec }
     }
 
     /// The vector of the items.
     pub fn into_vec(self) -> Vec<T>
         ensures { result.items ≡ self }
     {
-        let Items { vec } = self;
+        let ListVec { vec } = self;
         vec
     }
 
@@ -65,7 +65,7 @@ impl<T> Items<T> {
     }
 }
 
-impl<T: Drop> Items<T> {
+impl<T: Drop> ListVec<T> {
     /// Adds an item at the end; where memory is refused, the list stays as it was.
     pub fn push(&mut self, item: T) -> Result<(), AllocError>
         ensures ok { OnOk result (self.new ≡ self.old ++ item ∷ []) }

@@ -1,0 +1,17 @@
+-- What is printed where an `event:` line is not read, and where formulas come to no coefficients.
+use Rattle.std.specs.Prelude.{ℕ, List, codes}
+use Rattle.cg_text.specs.Faults.{fault_text}
+use Rattle.cg_text.specs.Errors.{error_text}
+use Rattle.cg_text.specs.declared.faults.ReadError.TheVariants.{Fault, Memory}
+use Rattle.cg_formulas.specs.declared.event_lines.TextError.{TextError}
+use Rattle.cg_formulas.specs.declared.event_lines.TextError.TheVariants as texts
+use Rattle.cg_formulas.specs.declared.flats.FlatError.{FlatError}
+use Rattle.cg_formulas.specs.declared.flats.FlatError.TheVariants as flats
+
+abbrev pub text_error_text : TextError → List ℕ
+text_error_text (texts.Fault fault) = fault_text fault
+text_error_text texts.Memory = codes "out of memory"
+
+abbrev pub flat_error_text : FlatError → List ℕ
+flat_error_text (flats.Fault fault line) = error_text (Fault fault line)
+flat_error_text flats.Memory = error_text Memory
