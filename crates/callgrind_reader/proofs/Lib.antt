@@ -6,3 +6,4 @@ pub mod SeenLemmas
 pub mod ExactLemmas
 pub mod EndsLemmas
 pub mod TotalsLemmas
+pub mod TableLemmas

@@ -8,7 +8,9 @@ pub mod Totals
 pub mod Definitions
 pub mod Lines
 pub mod Files
+pub mod Inside
 pub mod Table
+pub mod Current
 pub mod Space
 pub mod Columns
 pub mod Places

@@ -1,14 +1,33 @@
 -- A table of identifiers, as a function from them.
-use Rattle.std.specs.Prelude.{ℕ, List, Option, Some, None}
+use Rattle.std.specs.Prelude.{◌≡◌, ◌==◌, ℕ, ◌<◌, ◌≤◌, List, Option, Some, None, slice_get, vec_len, if◌then◌else◌, unwrap_or}
 use Rattle.std.specs.Ordering.{nat_cmp}
 use Rattle.std.specs.BTreeMap.{get}
-use Rattle.std.specs.declared.vec.Vec.{Vec}
+use Rattle.cg_text.specs.Names.{unknown}
 use Rattle.callgrind_reader.specs.declared.tables.NameTable.{NameTable}
 
-abbrev pub items_of : {X Z : Type 0} → Option (Vec X Z) → Option (List X)
-items_of None = None
-items_of (Some v) = Some v.items
+-- the name at a place, if there is one
+abbrev pub name_among : List (List ℕ) → Option ℕ → Option (List ℕ)
+name_among names None = None
+name_among names (Some place) = slice_get names place
+
+abbrev pub name_at : NameTable → Option ℕ → Option (List ℕ)
+name_at t place = name_among t.names.items place
+
+-- how many names a table has
+abbrev pub names_in : NameTable → ℕ
+names_in t = vec_len t.names
 
 -- what an identifier means
 abbrev pub text_at : NameTable → ℕ → Option (List ℕ)
-text_at t q = items_of (get nat_cmp t.texts q)
+text_at t q = name_at t (get nat_cmp t.places q)
+
+-- names that are held keep their places
+abbrev pub Keeps : NameTable → NameTable → Type 0
+Keeps old new = (place : ℕ) → place < names_in old → name_at new (Some place) ≡ name_at old (Some place)
+
+-- an identifier was given a name, which stands at a place from now on
+pub record Defines (id : ℕ) (text : List ℕ) (old new : NameTable) (place : ℕ) : Type 0 where
+  pub means : (q : ℕ) → text_at new q ≡ (if id == q then Some text else text_at old q)
+  pub name : name_at new (Some place) ≡ Some text
+  pub inside : place < names_in new
+  pub keeps : Keeps old new

@@ -1,65 +1,97 @@
 // The names of a name space: what identifiers mean, and which names are in force.
-ghost use Rattle.std.specs.Prelude.{◌≡◌, IfOk, OnOk, None, unwrap_or};
+ghost use Rattle.std.specs.Prelude.{◌≡◌, ℕ, ◌<◌, ◌≤◌, IfOk, OnOk, OnErr, IfSome, Some, None, unwrap_or};
 ghost use Rattle.cg_text.specs.Names.{name_of};
-ghost use Rattle.callgrind_reader.specs.Table.{text_at};
-ghost use Rattle.callgrind_reader.specs.Names.{Resolves};
+ghost use Rattle.callgrind_reader.specs.Inside.{IsInside};
+ghost use Rattle.callgrind_reader.specs.Table.{names_in};
+ghost use Rattle.callgrind_reader.specs.Current.{given_text, place_given, text_of, Gives};
+ghost use Rattle.callgrind_reader.specs.declared.tables.NameTable.{NameTable};
 
 use crate::tables::NameTable;
 use cg_text::{Fault, Role, name_spec};
 use std::alloc::{AllocError, Global};
 
-/// Writes a text over another.
-fn overwrite(text: &mut Vec<u8>, new: &[u8]) -> Result<(), AllocError>
-    ensures { OnOk result (text.new.items ≡ new.now) }
-{
-    text.clear();
-    text.extend_from_slice(new)
+/// What a name line gives: the place of a name in the table, or a name that has no identifier.
+#[derive(Clone, Copy)]
+pub(crate) enum Given<'a> {
+    Held(usize),
+    Plain(&'a [u8]),
 }
 
-/// Takes what a name line says: its name goes into `name`, and its definition into the table.
-/// Answers the line's fault.
-fn resolve(
+/// Takes what a name line says: its definition goes into the table. Answers the name or the line's
+/// fault.
+fn resolve<'a>(
     table: &mut NameTable,
-    name: &mut Vec<u8>,
-    value: &[u8],
-) -> Result<Option<Fault>, AllocError>
-    ensures { IfOk result (Resolves (name_of value.now) (text_at table.old) (text_at table.new) name.new.items) }
+    value: &'a [u8],
+) -> Result<Result<Given<'a>, Fault>, AllocError>
+    ensures gives { IfOk result (Gives (name_of value.now) table.old table.new) }
+    ensures grows { names_in table.old ≤ names_in table.new }
 {
     let spec = match name_spec(value) {
         Ok(spec) => spec,
-        Err(fault) => return Ok(Some(fault)),
+        Err(fault) => return Ok(Err(fault)),
     };
-    match spec.id {
-        None => overwrite(name, spec.text.unwrap_or(b"???"))?,
-        Some(id) => match spec.text {
-            Some(text) => {
-                match table.find(id) {
-                    Some(before) => {
-                        if before != text {
-                            return Ok(Some(Fault::IdRedefined));
-                        }
-                    }
-                    None => table.define(id, text)?,
-                }
-                overwrite(name, text)?;
-            }
-            None => match table.find(id) {
-                Some(text) => overwrite(name, text)?,
-                None => return Ok(Some(Fault::UnknownId)),
-            },
-        },
+    let Some(id) = spec.id else {
+        return Ok(Ok(Given::Plain(spec.text.unwrap_or(b"???"))));
+    };
+    let Some(place) = table.find(id) else {
+        return match spec.text {
+            Some(text) => Ok(Ok(Given::Held(table.define(id, text)?))),
+            None => Ok(Err(Fault::UnknownId)),
+        };
+    };
+    match spec.text {
+        None => Ok(Ok(Given::Held(place))),
+        Some(text) if table.name(place) == text => Ok(Ok(Given::Held(place))),
+        Some(_) => Ok(Err(Fault::IdRedefined)),
     }
-    Ok(None)
+}
+
+/// A name in force: that of a place in the table, or else one that had no identifier.
+#[derive(Drop)]
+pub(crate) struct Current {
+    place: Option<usize>,
+    plain: Vec<u8>,
+}
+
+impl Current {
+    /// The name that was given.
+    fn set(&mut self, given: Given<'_>) -> Result<(), AllocError>
+        ensures text { OnOk result ((table : NameTable) → text_of table self.new ≡ given_text table given.entry) }
+        ensures place { OnOk result (self.new.place ≡ place_given given.entry) }
+        ensures err { OnErr result (self.new.place ≡ self.old.place) }
+    {
+        match given {
+            Given::Held(place) => self.place = Some(place),
+            Given::Plain(text) => {
+                self.plain.clear();
+                self.plain.extend_from_slice(text)?;
+                self.place = None;
+            }
+        }
+        Ok(())
+    }
+
+    /// Its bytes.
+    fn text<'a>(&'a self, table: &'a NameTable) -> &'a [u8]
+        requires { IsInside (names_in table.now) self.now.place }
+        ensures { text_of table.now self.now ≡ Some result.now }
+    {
+        match self.place {
+            Some(place) => table.name(place),
+            None => self.plain.as_slice(),
+        }
+    }
 }
 
 /// What is kept of a name space.
 #[derive(Drop)]
 pub struct Space {
     table: NameTable,
-    own: Vec<u8>,
-    called: Vec<u8>,
+    own: Current,
+    called: Current,
     is_called: bool,
-    jumped: Vec<u8>,
+    ghost own_inside: { IsInside (names_in table) own.place },
+    ghost called_inside: { IsInside (names_in table) called.place },
 }
 
 impl Space {
@@ -73,25 +105,34 @@ impl Space {
     {
         Ok(Space {
             table: NameTable::new(alloc),
-            own: b"???".to_vec(alloc)?,
-            called: Vec::new(alloc),
+            own: Current {
+                place: None,
+                plain: b"???".to_vec(alloc)?,
+            },
+            called: Current {
+                place: None,
+                plain: Vec::new(alloc),
+            },
             is_called: false,
-            jumped: Vec::new(alloc),
         })
     }
 
     /// The name in force.
     pub fn own(&self) -> &[u8]
-        ensures { result.now ≡ self.now.own.items }
+        ensures { text_of self.now.table self.now.own ≡ Some result.now }
     {
-        &self.own
+        self.own.text(&self.table)
     }
 
     /// The name of what is called: the called name, or else another.
     pub fn called_or<'a>(&'a self, other: &'a [u8]) -> &'a [u8]
         ensures { result.now ≡ unwrap_or (called_name self.now) other.now }
     {
-        if self.is_called { &self.called } else { other }
+        if self.is_called {
+            self.called.text(&self.table)
+        } else {
+            other
+        }
     }
 
     /// Forgets the called name.
@@ -107,14 +148,18 @@ impl Space {
     pub fn take(&mut self, role: Role, value: &[u8]) -> Result<Option<Fault>, AllocError>
         ensures { IfOk result (TakesName role (name_of value.now) self.old self.new) }
     {
+        let given = match resolve(&mut self.table, value)? {
+            Ok(given) => given,
+            Err(fault) => return Ok(Some(fault)),
+        };
         match role {
-            Role::Own => resolve(&mut self.table, &mut self.own, value),
+            Role::Own => self.own.set(given)?,
             Role::Called => {
-                let fault = resolve(&mut self.table, &mut self.called, value)?;
+                self.called.set(given)?;
                 self.is_called = true;
-                Ok(fault)
             }
-            Role::Jumped => resolve(&mut self.table, &mut self.jumped, value),
+            Role::Jumped => {}
         }
+        Ok(None)
     }
 }

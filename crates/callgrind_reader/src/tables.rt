@@ -1,19 +1,25 @@
 // The names that identifiers mean.
-ghost use Rattle.std.specs.Prelude.{◌≡◌, ◌==◌, ℕ, OnOk, Some, None, if◌then◌else◌};
-ghost use Rattle.std.specs.Option.{option_copied};
+ghost use Rattle.std.specs.Prelude.{◌≡◌, ◌==◌, ℕ, ◌<◌, ◌≤◌, IfOk, IfSome, Some, None, vec_len, if◌then◌else◌};
+ghost use Rattle.std.specs.Ordering.{nat_cmp};
+ghost use Rattle.std.specs.BTreeMap.{get};
+ghost use Rattle.callgrind_reader.specs.Inside.{AreInside, IsInside};
 
+use cg_text::Items;
 use std::alloc::{AllocError, Global};
 use std::collections::BTreeMap;
 
-/// The names that identifiers mean. An ordered map: no file can choose identifiers that collide.
+/// The names that identifiers mean, each held once: a name is known by its place among them. An
+/// ordered map finds the places: no file can choose identifiers that collide.
 #[derive(Drop)]
 pub struct NameTable {
     alloc: Global,
-    texts: BTreeMap<u64, Vec<u8>>,
+    places: BTreeMap<u64, usize>,
+    names: Vec<Items<u8>>,
+    ghost inside: { AreInside (get nat_cmp places) (vec_len names) },
 }
 
 impl NameTable {
-    ghost use Rattle.callgrind_reader.specs.Table.{text_at};
+    ghost use Rattle.callgrind_reader.specs.Table.{text_at, name_at, names_in, Defines};
 
     /// No identifier means anything.
     pub fn new(alloc: Global) -> NameTable
@@ -21,26 +27,36 @@ impl NameTable {
     {
         NameTable {
             alloc,
-            texts: BTreeMap::new(alloc),
+            places: BTreeMap::new(alloc),
+            names: Vec::new(alloc),
         }
     }
 
-    /// What an identifier means.
-    pub fn find(&self, id: u64) -> Option<&[u8]>
-        ensures { option_copied result ≡ text_at self.now id }
+    /// The place of the name that an identifier means.
+    pub fn find(&self, id: u64) -> Option<usize>
+        ensures name { name_at self.now result ≡ text_at self.now id }
+        ensures inside { IsInside (names_in self.now) result }
     {
-        match self.texts.get(&id) {
-            Some(text) => Some(text.as_slice()),
-            None => None,
-        }
+        self.places.get(&id).copied()
     }
 
-    /// Gives a text to an identifier.
-    pub fn define(&mut self, id: u64, text: &[u8]) -> Result<(), AllocError>
-        ensures { OnOk result ((q : ℕ) → text_at self.new q ≡ (if id == q then Some text.now else text_at self.old q)) }
+    /// The name at a place.
+    pub fn name(&self, place: usize) -> &[u8]
+        requires { place < names_in self.now }
+        ensures { name_at self.now (Some place) ≡ Some result.now }
+    {
+        self.names[place].as_slice()
+    }
+
+    /// Gives a name to an identifier that has none, and answers its place.
+    pub fn define(&mut self, id: u64, text: &[u8]) -> Result<usize, AllocError>
+        ensures defines { IfOk result (Defines id text.now self.old self.new) }
+        ensures grows { names_in self.old ≤ names_in self.new }
     {
         let text = text.to_vec(self.alloc)?;
-        self.texts.insert(id, text)?;
-        Ok(())
+        let place = self.names.len();
+        self.names.push(Items::from_vec(text))?;
+        self.places.insert(id, place)?;
+        Ok(place)
     }
 }

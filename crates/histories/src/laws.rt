@@ -114,6 +114,6 @@ pub fn tables_tell_the_lists<E>()
 /// read failed in both or in none, and that both ended or did not, are due the same answer; and tables
 /// stand for a history with the one where they stand for it with the other.
 pub fn cuts_do_not_show()
-    ensures due { (kind : Kind) (label : List ℕ) (xs ys : List Outcome) → AreAlike xs ys → AreDueAlike (Import kind label xs) (Import kind label ys) }
+    ensures answers { (kind : Kind) (label : List ℕ) (xs ys : List Outcome) → AreAlike xs ys → AreDueAlike (Import kind label xs) (Import kind label ys) }
     ensures tables { (kind : Kind) (label : List ℕ) (xs ys : List Outcome) → GaveSame xs ys → AreToldAlike (Import kind label xs) (Import kind label ys) }
 {}

@@ -15,8 +15,8 @@ abbrev by_bytes : Limits → History → Kind → List ℕ → Bool → Bool →
 by_bytes limits h kind bytes failed over =
     if nat_lt limits.bytes (length bytes) then Some (Refused TooLong) else if failed then Some (Refused ReadFault) else if over then Some (file_due limits h kind bytes) else None
 
-pub returns-clause-due : goal.returns-clause-due
-returns-clause-due c kind label xs ys alike limits h =
+pub returns-clause-answers : goal.returns-clause-answers
+returns-clause-answers c kind label xs ys alike limits h =
     ap (λ bytes. by_bytes limits h kind bytes (list_any is_failed xs) (list_any is_end xs)) alike.bytes
     ∙ ap₂ (by_bytes limits h kind (bytes_of ys)) alike.failed alike.ended
 
