@@ -4,7 +4,7 @@ ghost use Rattle.std.specs.Ordering.{nat_cmp};
 ghost use Rattle.std.specs.BTreeMap.{get};
 ghost use Rattle.callgrind_reader.specs.Inside.{AreInside, IsInside};
 
-use cg_text::Items;
+use cg_text::ListVec;
 use std::alloc::{AllocError, Global};
 use std::collections::BTreeMap;
 
@@ -14,7 +14,7 @@ use std::collections::BTreeMap;
 pub struct NameTable {
     alloc: Global,
     places: BTreeMap<u64, usize>,
-    names: Vec<Items<u8>>,
+    names: Vec<ListVec<u8>>,
     ghost inside: { AreInside (get nat_cmp places) (vec_len names) },
 }
 
@@ -55,7 +55,7 @@ impl NameTable {
     {
         let text = text.to_vec(self.alloc)?;
         let place = self.names.len();
-        self.names.push(Items::from_vec(text))?;
+        self.names.push(ListVec::from_vec(text))?;
         self.places.insert(id, place)?;
         Ok(place)
     }
