@@ -5,7 +5,7 @@ use prof_store::StoreError;
 use sqlite::MemStore;
 use std::alloc::{AllocError, Global};
 use std::test::Fail;
-use warehouse::{Answer, Command, Kind, Limits, Refusal, Source, Warehouse};
+use warehouse::{Answer, Command, GroupChange, Kind, Limits, Refusal, Source, Warehouse};
 
 /// A file of 15 bytes.
 const SMALL: &[u8] = b"events: Ir\n1 1\n";
@@ -55,7 +55,7 @@ fn make_group(
     alloc: Global,
     name: &[u8],
 ) -> Result<&'static str, AllocError> {
-    let command = Command::MakeGroup(name.to_vec(alloc)?);
+    let command = Command::Group(name.to_vec(alloc)?, GroupChange::Make);
     Ok(word(&house.apply::<Given>(alloc, command)))
 }
 

@@ -1,5 +1,5 @@
 -- Turns of a session, one after another.
-use Rattle.std.proofs.Common.{◌≡◌, ℕ, ◌+◌, ◌<◌, Bool, true, false, ◌||◌, if◌then◌else◌, List, [], ◌∷◌, ◌++◌, map, length, drop, get_or, Option, Some, None, Result, Ok, Err, OnOk, OnErr, refl, sym, ap, ap₂, take, subst, ◌∙◌, append_assoc, append-nil}
+use Rattle.std.proofs.Common.{◌≡◌, ℕ, ◌+◌, ◌<◌, Bool, true, false, ◌||◌, if◌then◌else◌, List, [], ◌∷◌, ◌++◌, map, length, drop, get_or, Option, None, Result, Ok, Err, OnOk, OnErr, refl, sym, ap, ap₂, take, subst, ◌∙◌, append_assoc, append-nil}
 use Rattle.std.specs.Io.KnownBytes.{Appends}
 use Rattle.std.proofs.KnownBytes.{Appends-nil, Appends-trans}
 use Rattle.std.proofs.Math.Seq.{take-add, take-length, take-append_seam, drop-append_seam}
@@ -22,16 +22,11 @@ use Rattle.histories.specs.declared.limits.Limits.{Limits}
 use Rattle.store_histories.specs.Answered.{Answers, Links, TellsHistory, Follows}
 use Rattle.store_histories.proofs.Links.{links_append, links_clean, links_legal, links_after}
 use Rattle.store_histories.proofs.Settled.{untouched}
-use Rattle.warehouse.specs.Answered.{Says}
-use Rattle.warehouse.specs.declared.command.Command as commands
-use Rattle.warehouse.specs.declared.command.Command.TheVariants as command
 use Rattle.sources.specs.Reads.{Reads}
 use Rattle.program_files.specs.Imported.{FileReads, IsReadOf, WereRead}
 use Rattle.program_files.specs.declared.imported.FileSource.{FileSource}
 use Rattle.answer_lines.specs.Answers.{is_refused}
-use Rattle.sessions.specs.Sessions.{AreImports, AreLinesOf, ArePrinted, ArePrintedInPart, IsLineOf, Prints, Took, WasDone, WasCut, WasRun, WasTold, answers_of, change_said, commands_of, status_after}
-use Rattle.sessions.specs.declared.session.GroupChange.{GroupChange}
-use Rattle.sessions.specs.declared.session.GroupChange.TheVariants as changes
+use Rattle.sessions.specs.Sessions.{AreImports, AreLinesOf, ArePrinted, ArePrintedInPart, IsLineOf, Prints, Took, WasDone, WasCut, WasRun, WasTold, answers_of, commands_of, status_after}
 use Rattle.sessions.specs.declared.session.Session.{Session}
 
 -- ---- the status
@@ -209,22 +204,3 @@ come_of remaining from to (o ∷ outcomes) it = (it.0.file, it.1, come_of remain
 
 pub were_read : {R F D : Type 0} (remaining : F → Option (List ℕ)) (from to : FileSource R F D) (outcomes : List Outcome) → from.file ≡ None → Reads (FileReads remaining) from outcomes to → WereRead remaining outcomes
 were_read remaining from to outcomes new it = (to.file, subst (λ file. Reads (IsReadOf remaining) file outcomes to.file) new (come_of remaining from to outcomes it))
-
--- ---- what a change says
-
-no_import : (change : GroupChange) (name label : List ℕ) (kind : Kind) (outcomes : List Outcome) → change_said change name ≡ Import kind label outcomes → ⊥
-no_import changes.Make name label kind outcomes is = cc
-no_import changes.Drop name label kind outcomes is = cc
-no_import (changes.Join n) name label kind outcomes is = cc
-no_import (changes.Leave n) name label kind outcomes is = cc
-no_import (changes.SetBaseline n) name label kind outcomes is = cc
-
-pub same_said : {R : Type 0} (reads : R → Outcome → R → Type 0) (command : commands.Command R) (change : GroupChange) (name : List ℕ) (said : Said) → Says reads command said → Says reads command (change_said change name) → said ≡ change_said change name
-same_said reads (command.Import kind label source) change name said is one = absurd (no_import change name label.items kind one.0 one.3)
-same_said reads (command.Remove n) change name said is one = is ∙ sym one
-same_said reads (command.MakeGroup group) change name said is one = is ∙ sym one
-same_said reads (command.DropGroup group) change name said is one = is ∙ sym one
-same_said reads (command.Join group n) change name said is one = is ∙ sym one
-same_said reads (command.Leave group n) change name said is one = is ∙ sym one
-same_said reads (command.SetBaseline group n) change name said is one = is ∙ sym one
-same_said reads (command.Ask query) change name said is one = is ∙ sym one

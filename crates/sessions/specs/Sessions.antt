@@ -13,10 +13,9 @@ use Rattle.histories.specs.declared.answers.Answer.TheVariants.{Refused}
 use Rattle.histories.specs.declared.answers.Refusal.TheVariants.{Memory}
 use Rattle.store_histories.specs.Answered.{HasHistory, Links}
 use Rattle.program_files.specs.Imported.{WereRead}
+use Rattle.store_commands.specs.Changes.{change_said}
 use Rattle.answer_lines.specs.Answers.{is_refused, line_text}
 use Rattle.sessions.specs.Questions.{query_said}
-use Rattle.sessions.specs.declared.session.GroupChange.{GroupChange}
-use Rattle.sessions.specs.declared.session.GroupChange.TheVariants as changes
 use Rattle.sessions.specs.declared.session.Session.{Session}
 use Rattle.sessions.specs.declared.session.Work.{Work}
 use Rattle.sessions.specs.declared.session.Work.TheVariants as works
@@ -28,13 +27,6 @@ abbrev pub AreImports : (List Outcome → Type 0) → Kind → List (List ℕ) �
 AreImports reads kind [] [] = Unit {0}
 AreImports reads kind (path ∷ paths) (said ∷ later) = (outcomes : List Outcome) × reads outcomes × (said ≡ history.Import kind path outcomes) × AreImports reads kind paths later
 AreImports reads kind paths list = ⊥
-
-abbrev pub change_said : GroupChange → List ℕ → Said
-change_said changes.Make name = history.MakeGroup name
-change_said changes.Drop name = history.DropGroup name
-change_said (changes.Join n) name = history.Join name n
-change_said (changes.Leave n) name = history.Leave name n
-change_said (changes.SetBaseline n) name = history.SetBaseline name n
 
 abbrev pub AreOf : (List Outcome → Type 0) → Work → List Said → Type 0
 AreOf reads (works.Import kind paths) list = AreImports reads kind (map (λ path. path.now) paths) list

@@ -9,4 +9,4 @@ mod tasks;
 
 pub use questions::Question;
 pub use running::{print_refused, run_plan};
-pub use session::{GroupChange, Session, Work};
+pub use session::{Session, Work};

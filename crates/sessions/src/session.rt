@@ -9,7 +9,8 @@ ghost use Rattle.store_histories.specs.Answered.{HasHistory};
 ghost use Rattle.warehouse.specs.Answered.{Says};
 ghost use Rattle.program_files.specs.Imported.{FileReads, WereRead};
 ghost use Rattle.sessions.specs.Questions.{query_said};
-ghost use Rattle.sessions.specs.Sessions.{AreImports, Prints, Wants, WasRun, WasTold, change_said, status_after};
+ghost use Rattle.store_commands.specs.Changes.{change_said};
+ghost use Rattle.sessions.specs.Sessions.{AreImports, Prints, Wants, WasRun, WasTold, status_after};
 
 use crate::questions::{Question, query_of};
 use answer_lines::{is_refused, line_of};
@@ -23,21 +24,8 @@ use std::alloc::{AllocError, Global};
 use std::io;
 use std::io::Write;
 use std::rt::Files;
-use warehouse::{Command, Warehouse};
+use warehouse::{Command, GroupChange, Warehouse};
 use written_texts::write_text;
-
-/// What is done to a group by its name.
-#[derive(Clone, Copy, Debug, PartialEq, Eq)]
-pub enum GroupChange {
-    Make,
-    Drop,
-    /// A run joins it.
-    Join(u32),
-    /// A run leaves it.
-    Leave(u32),
-    /// A run becomes its baseline.
-    SetBaseline(u32),
-}
 
 /// What is done over an opened store.
 #[derive(Drop)]
@@ -72,19 +60,6 @@ fn is_in_form(name: &str, change: GroupChange) -> bool
         | GroupChange::Join(_)
         | GroupChange::Leave(_)
         | GroupChange::SetBaseline(_) => true,
-    }
-}
-
-/// The command of a change.
-fn change_command<'a, R: Files>(name: Vec<u8>, change: GroupChange) -> Command<FileSource<'a, R>>
-    ensures { Says (FileReads R.File.remaining) result (change_said change name.items) }
-{
-    match change {
-        GroupChange::Make => Command::MakeGroup(name),
-        GroupChange::Drop => Command::DropGroup(name),
-        GroupChange::Join(number) => Command::Join(name, number),
-        GroupChange::Leave(number) => Command::Leave(name, number),
-        GroupChange::SetBaseline(number) => Command::SetBaseline(name, number),
     }
 }
 
@@ -208,7 +183,7 @@ impl<'a, R: Files + AllocGlobal, W: Write + Drop, S: Alter> Session<'a, R, W, S>
         let Ok(name) = Vec::from_slice(self.rt.alloc(), name.as_bytes()) else {
             return self.refuse(Refusal::Memory);
         };
-        self.apply(change_command(name, change))
+        self.apply(Command::Group(name, change))
     }
 
     /// Asks a question.

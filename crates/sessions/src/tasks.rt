@@ -3,9 +3,10 @@ ghost use Rattle.std.specs.Prelude.{◌≡◌};
 ghost use Rattle.sessions.specs.Tasks.{IsTaskOf, cut_said};
 
 use crate::questions::Question;
-use crate::session::{GroupChange, Work};
+use crate::session::Work;
 use command_line::Plan;
 use cost_reports::Cut;
+use warehouse::GroupChange;
 
 /// What is to be done.
 #[derive(Drop)]

@@ -1,79 +1,109 @@
 -- What is due to removals and changes of groups.
-use Rattle.std.proofs.Common.{◌≡◌, ◌<◌, sym, None, ℕ, Bool, true, false, not, nat_le, List, [], ◌∷◌, length, Some, refl, ap, ap₂, ◌∙◌}
+use Rattle.std.proofs.Common.{◌≡◌, sym, None, ℕ, inl, Bool, true, false, not, nat_le, List, [], ◌∷◌, length, Some, refl, ap, ap₂, ◌∙◌}
+use Rattle.sqlite_trees.specs.Tree.{Trees}
+use Rattle.sqlite.specs.State.{State}
+use Rattle.sql_tables.specs.Calls.{Changed}
+use Rattle.sql_tables.proofs.Calls.{rests_as, changed_as}
 use Rattle.prof_tables.specs.Changes as tables
-use Rattle.prof_tables.specs.Tables.{Tables}
-use Rattle.histories.specs.History.{History, Remove, MakeGroup, DropGroup, groups}
-use Rattle.histories.specs.Legal.{IsInForm, IsLegal, expected_answer, when, first_or, has_run, has_group}
+use Rattle.prof_tables.specs.Labels.{IsGroupName}
+use Rattle.prof_tables.specs.Schema.{schema_one}
+use Rattle.prof_tables.specs.Tables.{Tables, Holds}
+use Rattle.histories.specs.History.{History, Remove, MakeGroup, groups}
+use Rattle.histories.specs.Legal.{IsHistory, IsInForm, IsLegal, expected_answer, when, first_or, has_run, has_group}
 use Rattle.histories.specs.Stands.{TablesTell}
 use Rattle.histories.specs.declared.answers.Answer.{Answer}
 use Rattle.histories.specs.declared.answers.Answer.TheVariants as answers
 use Rattle.histories.specs.declared.answers.Refusal.TheVariants as reasons
 use Rattle.histories.specs.declared.limits.Limits.{Limits}
 use Rattle.histories.proofs.Tells.{tells_run, tells_group, tells_groups}
-use Rattle.store_histories.proofs.Due.{has_room}
-use Rattle.histories.proofs.Steps.{tell_joined, tell_left, tell_based}
+use Rattle.histories.proofs.Steps.{tell_made, tell_dropped, tell_joined, tell_left, tell_based}
 use Rattle.store_histories.specs.Answered.{with_turn}
 use Rattle.store_histories.specs.Refusals.{missing_of, refused_or}
-use Rattle.store_commands.specs.Changes.{changed, said_of}
-use Rattle.store_commands.specs.declared.changes.Change.{Change}
-use Rattle.store_commands.specs.declared.changes.Change.TheVariants as change
+use Rattle.store_histories.proofs.Settled.{bad_name, no_group_named}
+use Rattle.store_commands.specs.Changes.{changed, change_said, refusal_for, unmade_for, unnamed_for}
+use Rattle.store_commands.specs.declared.changes.GroupChange.{GroupChange}
+use Rattle.store_commands.specs.declared.changes.GroupChange.TheVariants as change
 
 module _ (limits : Limits) (h : History) where
   pub remove_due : (n : ℕ) (b : Bool) → has_run h n ≡ b → expected_answer limits h (Remove n) ≡ Some (first_or (when (not b) (answers.Refused reasons.NoSuchRun) ∷ []) answers.Done)
   remove_due n b is = ap (λ x. Some (first_or (when (not x) (answers.Refused reasons.NoSuchRun) ∷ []) answers.Done)) is
 
-  pub drop_due : (name : List ℕ) (b : Bool) → has_group h name ≡ b → expected_answer limits h (DropGroup name) ≡ Some (first_or (when (not b) (answers.Refused reasons.NoSuchGroup) ∷ []) answers.Done)
-  drop_due name b is = ap (λ x. Some (first_or (when (not x) (answers.Refused reasons.NoSuchGroup) ∷ []) answers.Done)) is
+  pub due_if_run : (n : ℕ) (t : Tables) → TablesTell h t → tables.has_run t n ≡ true → expected_answer limits h (Remove n) ≡ Some answers.Done
+  due_if_run n t tells is = remove_due n true (sym (tells_run h t tells n) ∙ is)
 
-  pub make_due : (name : List ℕ) (b full : Bool) → has_group h name ≡ b → nat_le limits.groups (length (groups h)) ≡ full
-      → expected_answer limits h (MakeGroup name) ≡ Some (first_or (when b (answers.Refused reasons.GroupTaken) ∷ when full (answers.Refused reasons.Full) ∷ []) answers.Done)
-  make_due name b full is many = ap₂ (λ x y. Some (first_or (when x (answers.Refused reasons.GroupTaken) ∷ when y (answers.Refused reasons.Full) ∷ []) answers.Done)) is many
+  -- ---- the first condition that holds, as a history says it and as the code looks for it
+
+  abbrev made : Bool → Bool → Answer
+  made taken full = first_or (when taken (answers.Refused reasons.GroupTaken) ∷ when full (answers.Refused reasons.Full) ∷ []) answers.Done
+
+  same_made : (taken full : Bool) → Some (made taken full) ≡ Some (refused_or (unmade_for taken full) answers.Done)
+  same_made true full = refl
+  same_made false true = refl
+  same_made false false = refl
+
+  abbrev dropped : Bool → Answer
+  dropped group = first_or (when (not group) (answers.Refused reasons.NoSuchGroup) ∷ []) answers.Done
+
+  same_dropped : (group : Bool) → Some (dropped group) ≡ Some (refused_or (missing_of group true) answers.Done)
+  same_dropped true = refl
+  same_dropped false = refl
 
   abbrev missing : Bool → Bool → Answer
-  missing b c = first_or (when (not b) (answers.Refused reasons.NoSuchGroup) ∷ when (not c) (answers.Refused reasons.NoSuchRun) ∷ []) answers.Done
+  missing group run = first_or (when (not group) (answers.Refused reasons.NoSuchGroup) ∷ when (not run) (answers.Refused reasons.NoSuchRun) ∷ []) answers.Done
 
-  pub change_due : (c : Change) (name : List ℕ) (n : ℕ) (group run : Bool) → has_group h name ≡ group → has_run h n ≡ run → expected_answer limits h (said_of c name n) ≡ Some (refused_or (missing_of group run) answers.Done)
-  change_due c name n group run is there = go c ∙ ap₂ (λ x y. Some (missing x y)) is there ∙ same group run
-    where
-      go : (c : Change) → expected_answer limits h (said_of c name n) ≡ Some (missing (has_group h name) (has_run h n))
-      go change.Join = refl
-      go change.Leave = refl
-      go change.SetBaseline = refl
+  same_missing : (group run : Bool) → Some (missing group run) ≡ Some (refused_or (missing_of group run) answers.Done)
+  same_missing false run = refl
+  same_missing true false = refl
+  same_missing true true = refl
 
-      same : (group run : Bool) → Some (missing group run) ≡ Some (refused_or (missing_of group run) answers.Done)
-      same false run = refl
-      same true false = refl
-      same true true = refl
+  -- what is due, by what the tables hold
+  pub change_due : (c : GroupChange) (name : List ℕ) (t : Tables) → TablesTell h t → expected_answer limits h (change_said c name) ≡ Some (refused_or (refusal_for limits c name t) answers.Done)
+  change_due change.Make name t tells =
+      ap₂ (λ x y. Some (made x (nat_le limits.groups y))) (sym (tells_group h t tells name)) (sym (tells_groups h t tells))
+      ∙ same_made (tables.has_group t name) (nat_le limits.groups (length t.groups))
+  change_due change.Drop name t tells = ap (λ x. Some (dropped x)) (sym (tells_group h t tells name)) ∙ same_dropped (tables.has_group t name)
+  change_due (change.Join n) name t tells = ap₂ (λ x y. Some (missing x y)) (sym (tells_group h t tells name)) (sym (tells_run h t tells n)) ∙ same_missing (tables.has_group t name) (tables.has_run t n)
+  change_due (change.Leave n) name t tells = ap₂ (λ x y. Some (missing x y)) (sym (tells_group h t tells name)) (sym (tells_run h t tells n)) ∙ same_missing (tables.has_group t name) (tables.has_run t n)
+  change_due (change.SetBaseline n) name t tells = ap₂ (λ x y. Some (missing x y)) (sym (tells_group h t tells name)) (sym (tells_run h t tells n)) ∙ same_missing (tables.has_group t name) (tables.has_run t n)
 
-pub change_form : (c : Change) (name : List ℕ) (n : ℕ) → IsInForm (said_of c name n)
-change_form change.Join name n = tt
-change_form change.Leave name n = tt
-change_form change.SetBaseline name n = tt
+  pub due_if_free : (c : GroupChange) (name : List ℕ) (t : Tables) → TablesTell h t → refusal_for limits c name t ≡ None → expected_answer limits h (change_said c name) ≡ Some answers.Done
+  due_if_free c name t tells is = change_due c name t tells ∙ ap (λ r. Some (refused_or r answers.Done)) is
 
-pub tell_changed : (limits : Limits) (h : History) (c : Change) (name : List ℕ) (n : ℕ) (t : Tables) → TablesTell h t → IsLegal limits h (said_of c name n) answers.Done → TablesTell (with_turn h (said_of c name n) answers.Done) (changed c name n t)
-tell_changed limits h change.Join name n t tells legal = tell_joined limits h name n t tells legal
-tell_changed limits h change.Leave name n t tells legal = tell_left limits h name n t tells legal
-tell_changed limits h change.SetBaseline name n t tells legal = tell_based limits h name n t tells legal
+  pub tell_changed : (c : GroupChange) (name : List ℕ) (t : Tables) → TablesTell h t → IsLegal limits h (change_said c name) answers.Done → TablesTell (with_turn h (change_said c name) answers.Done) (changed c name t)
+  tell_changed change.Make name t tells legal = tell_made limits h name t tells legal
+  tell_changed change.Drop name t tells legal = tell_dropped limits h name t tells legal
+  tell_changed (change.Join n) name t tells legal = tell_joined limits h name n t tells legal
+  tell_changed (change.Leave n) name t tells legal = tell_left limits h name n t tells legal
+  tell_changed (change.SetBaseline n) name t tells legal = tell_based limits h name n t tells legal
 
--- ---- what is due, by what the tables hold
+  -- a name that no group can have is refused as such, or is no group's
+  pub unnamed_legal : (c : GroupChange) (name : List ℕ) → IsHistory h → (IsGroupName name → ⊥) → IsLegal limits h (change_said c name) (answers.Refused (unnamed_for c))
+  unnamed_legal change.Make name legal none = bad_name limits h (MakeGroup name) none tt
+  unnamed_legal change.Drop name legal none = inl (tt, inl (ap (λ x. Some (dropped x)) (no_group_named h name legal none)))
+  unnamed_legal (change.Join n) name legal none = inl (tt, inl (ap (λ x. Some (missing x (has_run h n))) (no_group_named h name legal none)))
+  unnamed_legal (change.Leave n) name legal none = inl (tt, inl (ap (λ x. Some (missing x (has_run h n))) (no_group_named h name legal none)))
+  unnamed_legal (change.SetBaseline n) name legal none = inl (tt, inl (ap (λ x. Some (missing x (has_run h n))) (no_group_named h name legal none)))
 
-module _ (limits : Limits) where
-  pub due_if_run : (n : ℕ) (h : History) (t : Tables) → TablesTell h t → tables.has_run t n ≡ true → expected_answer limits h (Remove n) ≡ Some answers.Done
-  due_if_run n h t tells is = remove_due limits h n true (sym (tells_run h t tells n) ∙ is)
+pub change_form : (c : GroupChange) (name : List ℕ) → IsGroupName name → IsInForm (change_said c name)
+change_form change.Make name form = form
+change_form change.Drop name form = tt
+change_form (change.Join n) name form = tt
+change_form (change.Leave n) name form = tt
+change_form (change.SetBaseline n) name form = tt
 
-  pub due_if_group : (name : List ℕ) (h : History) (t : Tables) → TablesTell h t → tables.has_group t name ≡ true → expected_answer limits h (DropGroup name) ≡ Some answers.Done
-  due_if_group name h t tells is = drop_due limits h name true (sym (tells_group h t tells name) ∙ is)
+-- ---- changes of tables in some state
 
-  -- a name that is free, and room for one more
-  pub record HasRoomFor (name : List ℕ) (t : Tables) : Type 0 where
-    pub is_free : tables.has_group t name ≡ false
-    pub has_room : length t.groups < limits.groups
+-- a group that is dropped is held
+pub drop_held : (limits : Limits) (name : List ℕ) (t : Tables) → refusal_for limits change.Drop name t ≡ None → tables.has_group t name ≡ true
+drop_held limits name t is = go (tables.has_group t name) is
+  where
+    go : (b : Bool) → missing_of b true ≡ None → b ≡ true
+    go true is = refl
+    go false is = absurd cc
 
-  pub due_if_room : (name : List ℕ) (h : History) (t : Tables) → TablesTell h t → HasRoomFor name t → expected_answer limits h (MakeGroup name) ≡ Some answers.Done
-  due_if_room name h t tells is = make_due limits h name false false (sym (tells_group h t tells name) ∙ is.is_free) (has_room limits.groups (length t.groups) (length (groups h)) (tells_groups h t tells) is.has_room)
-
-  pub due_by_tables : (c : Change) (name : List ℕ) (n : ℕ) (h : History) (t : Tables) → TablesTell h t → expected_answer limits h (said_of c name n) ≡ Some (refused_or (missing_of (tables.has_group t name) (tables.has_run t n)) answers.Done)
-  due_by_tables c name n h t tells = change_due limits h c name n (tables.has_group t name) (tables.has_run t n) (sym (tells_group h t tells name)) (sym (tells_run h t tells n))
-
-  pub due_if_held : (c : Change) (name : List ℕ) (n : ℕ) (h : History) (t : Tables) → TablesTell h t → missing_of (tables.has_group t name) (tables.has_run t n) ≡ None → expected_answer limits h (said_of c name n) ≡ Some answers.Done
-  due_if_held c name n h t tells is = due_by_tables c name n h t tells ∙ ap (λ r. Some (refused_or r answers.Done)) is
+-- a change of tables in some state is one of those in a narrower one
+pub given_less : (P Q : Tables → Type 0) (After : Tables → Trees → Type 0) (answered done : Bool) (old new : State) → ((t : Tables) → P t → Q t)
+    → Changed schema_one (λ t db. Q t × Holds t db) After answered done old new → Changed schema_one (λ t db. P t × Holds t db) After answered done old new
+given_less P Q After answered done old new less h =
+    changed_as schema_one (λ t db. Q t × Holds t db) After (λ t db. P t × Holds t db) After answered done old new
+    (λ t was. (t, rests_as schema_one (λ db. P t × Holds t db) (λ db. Q t × Holds t db) old was (less t was.holds.0, was.holds.1), λ next k. k)) h

@@ -1,19 +1,50 @@
--- What is done to a group and a run.
-use Rattle.std.specs.Prelude.{ℕ, List}
-use Rattle.prof_tables.specs.Changes.{joined, without_member, with_baseline}
+-- What is done to a group by its name.
+use Rattle.std.specs.Prelude.{Bool, true, false, List, ℕ, nat_le, length, Option, Some, None}
+use Rattle.prof_tables.specs.Changes.{has_group, has_run, with_group, without_group, joined, without_member, with_baseline}
 use Rattle.prof_tables.specs.Tables.{Tables}
 use Rattle.histories.specs.History as history
 use Rattle.histories.specs.History.{Said}
-use Rattle.store_commands.specs.declared.changes.Change.{Change}
-use Rattle.store_commands.specs.declared.changes.Change.TheVariants.{Join, Leave, SetBaseline}
+use Rattle.histories.specs.declared.answers.Refusal.{Refusal}
+use Rattle.histories.specs.declared.answers.Refusal.TheVariants.{BadName, Full, GroupTaken, NoSuchGroup}
+use Rattle.histories.specs.declared.limits.Limits.{Limits}
+use Rattle.store_histories.specs.Refusals.{missing_of}
+use Rattle.store_commands.specs.declared.changes.GroupChange.{GroupChange}
+use Rattle.store_commands.specs.declared.changes.GroupChange.TheVariants.{Make, Drop, Join, Leave, SetBaseline}
 
-abbrev pub changed : Change → List ℕ → ℕ → Tables → Tables
-changed Join name n t = joined name n t
-changed Leave name n t = without_member name n t
-changed SetBaseline name n t = with_baseline name n t
+-- what it makes of the tables
+abbrev pub changed : GroupChange → List ℕ → Tables → Tables
+changed Make name t = with_group name t
+changed Drop name t = without_group name t
+changed (Join n) name t = joined name n t
+changed (Leave n) name t = without_member name n t
+changed (SetBaseline n) name t = with_baseline name n t
 
 -- the command that asks for it
-abbrev pub said_of : Change → List ℕ → ℕ → Said
-said_of Join name n = history.Join name n
-said_of Leave name n = history.Leave name n
-said_of SetBaseline name n = history.SetBaseline name n
+abbrev pub change_said : GroupChange → List ℕ → Said
+change_said Make name = history.MakeGroup name
+change_said Drop name = history.DropGroup name
+change_said (Join n) name = history.Join name n
+change_said (Leave n) name = history.Leave name n
+change_said (SetBaseline n) name = history.SetBaseline name n
+
+-- why a group is not made: its name is taken, or there are as many as there may be
+abbrev pub unmade_for : Bool → Bool → Option Refusal
+unmade_for true full = Some GroupTaken
+unmade_for false true = Some Full
+unmade_for false false = None
+
+-- why it is refused, by what the tables hold
+abbrev pub refusal_for : Limits → GroupChange → List ℕ → Tables → Option Refusal
+refusal_for limits Make name t = unmade_for (has_group t name) (nat_le limits.groups (length t.groups))
+refusal_for limits Drop name t = missing_of (has_group t name) true
+refusal_for limits (Join n) name t = missing_of (has_group t name) (has_run t n)
+refusal_for limits (Leave n) name t = missing_of (has_group t name) (has_run t n)
+refusal_for limits (SetBaseline n) name t = missing_of (has_group t name) (has_run t n)
+
+-- why it is refused under a name that no group can have
+abbrev pub unnamed_for : GroupChange → Refusal
+unnamed_for Make = BadName
+unnamed_for Drop = NoSuchGroup
+unnamed_for (Join n) = NoSuchGroup
+unnamed_for (Leave n) = NoSuchGroup
+unnamed_for (SetBaseline n) = NoSuchGroup

@@ -1,14 +1,14 @@
 // Runs are removed; groups are made, changed and dropped.
-ghost use Rattle.std.specs.Prelude.{◌≡◌, MatchOption, IfOk};
+ghost use Rattle.std.specs.Prelude.{◌≡◌, MatchOption, IfOk, None, nat_le, length};
 ghost use Rattle.std.specs.Result.{is_ok};
 ghost use Rattle.prof_tables.specs.Changes.{has_run, has_group};
 ghost use Rattle.prof_tables.specs.Labels.{IsGroupName};
-ghost use Rattle.prof_store.specs.Shown.{Asks, Changes, IsFaithful, Told};
-ghost use Rattle.histories.specs.History.{History, Remove, MakeGroup, DropGroup};
+ghost use Rattle.prof_store.specs.Shown.{Asks, ChangesIf, IsFaithful, Told};
+ghost use Rattle.histories.specs.History.{History, Remove};
 ghost use Rattle.histories.specs.declared.limits.Limits.{Limits};
 ghost use Rattle.store_histories.specs.Answered.{StandsForHistory, WasDue, TurnsIf, has_changed};
-ghost use Rattle.store_commands.specs.Changes.{changed, said_of};
 ghost use Rattle.store_histories.specs.Refusals.{missing_of};
+ghost use Rattle.store_commands.specs.Changes.{changed, change_said, refusal_for, unmade_for, unnamed_for};
 
 use histories::{Answer, Limits, Refusal};
 use prof_store::{Store, StoreError, is_group_name};
@@ -30,12 +30,17 @@ pub(crate) fn group_name(bytes: &[u8]) -> Option<&str>
     }
 }
 
-/// What is done to a group and a run.
+/// What is done to a group by its name.
 #[derive(Clone, Copy, Debug, PartialEq, Eq)]
-pub enum Change {
-    Join,
-    Leave,
-    SetBaseline,
+pub enum GroupChange {
+    Make,
+    Drop,
+    /// A run joins it.
+    Join(u32),
+    /// A run leaves it.
+    Leave(u32),
+    /// A run becomes its baseline.
+    SetBaseline(u32),
 }
 
 /// Drops a run.
@@ -51,38 +56,34 @@ pub(crate) fn remove<S: Alter>(store: &mut Store<S>, number: u32) -> Result<Answ
     Ok(Answer::Done)
 }
 
-/// Makes a group.
-pub(crate) fn make_group<S: Alter>(
+/// Why a group cannot be made, if it cannot.
+fn unmade<S: Alter>(
     store: &mut Store<S>,
     limits: Limits,
     name: &str,
-) -> Result<Answer, StoreError>
-    requires { IsGroupName name.now }
-    ensures answered { IsFaithful S.Store store.new → (h : History) → StandsForHistory S.Store h store.old
-        → IfOk result (λ answer. WasDue S.Store limits h (MakeGroup name.now) answer store.new) }
-    ensures turns { TurnsIf S.Store limits (MakeGroup name.now) (is_ok result) (has_changed result) store.old store.new }
+) -> Result<Option<Refusal>, StoreError>
+    ensures told { Told S.Store result store.old store.new (λ t refusal. refusal ≡ unmade_for (has_group t name.now) (nat_le limits.groups (length t.groups))) }
+    ensures asks { Asks S.Store (is_ok result) store.old store.new }
 {
     if store.has_group(name)? {
-        return Ok(Answer::Refused(Refusal::GroupTaken));
+        return Ok(Some(Refusal::GroupTaken));
     }
     if store.group_count()? >= u64::from(limits.groups) {
-        return Ok(Answer::Refused(Refusal::Full));
+        return Ok(Some(Refusal::Full));
     }
-    store.put_group(name)?;
-    Ok(Answer::Done)
+    Ok(None)
 }
 
-/// Drops a group.
-pub(crate) fn drop_group<S: Alter>(store: &mut Store<S>, name: &str) -> Result<Answer, StoreError>
-    ensures answered { IsFaithful S.Store store.new → (limits : Limits) (h : History) → StandsForHistory S.Store h store.old
-        → IfOk result (λ answer. WasDue S.Store limits h (DropGroup name.now) answer store.new) }
-    ensures turns { (limits : Limits) → TurnsIf S.Store limits (DropGroup name.now) (is_ok result) (has_changed result) store.old store.new }
+/// Why a group cannot be changed, if it is not held.
+fn no_group<S: Alter>(store: &mut Store<S>, name: &str) -> Result<Option<Refusal>, StoreError>
+    ensures told { Told S.Store result store.old store.new (λ t refusal. refusal ≡ missing_of (has_group t name.now) true) }
+    ensures asks { Asks S.Store (is_ok result) store.old store.new }
 {
-    if !store.has_group(name)? {
-        return Ok(Answer::Refused(Refusal::NoSuchGroup));
+    if store.has_group(name)? {
+        Ok(None)
+    } else {
+        Ok(Some(Refusal::NoSuchGroup))
     }
-    store.drop_group(name)?;
-    Ok(Answer::Done)
 }
 
 /// Why a group and a run cannot be changed, if one of them is not held.
@@ -103,36 +104,70 @@ fn missing<S: Alter>(
     Ok(None)
 }
 
-/// Changes a group that is held by a run that is held.
-fn change_held<S: Alter>(
+/// Why a change is refused, if it is.
+fn refusal_of<S: Alter>(
     store: &mut Store<S>,
-    change: Change,
+    limits: Limits,
     name: &str,
-    number: u32,
-) -> Result<(), StoreError>
-    ensures changes { Changes S.Store (is_ok result) (changed change name.now number) store.old store.new }
+    change: GroupChange,
+) -> Result<Option<Refusal>, StoreError>
+    ensures told { Told S.Store result store.old store.new (λ t refusal. refusal ≡ refusal_for limits change name.now t) }
+    ensures asks { Asks S.Store (is_ok result) store.old store.new }
 {
     match change {
-        Change::Join => store.join(name, number),
-        Change::Leave => store.leave(name, number),
-        Change::SetBaseline => store.set_baseline(name, number),
+        GroupChange::Make => unmade(store, limits, name),
+        GroupChange::Drop => no_group(store, name),
+        GroupChange::Join(number) | GroupChange::Leave(number) | GroupChange::SetBaseline(number) =>
+            missing(store, name, number),
     }
 }
 
-/// Changes a group by a run.
+/// Does a change that nothing refuses.
+fn change_free<S: Alter>(
+    store: &mut Store<S>,
+    name: &str,
+    change: GroupChange,
+) -> Result<(), StoreError>
+    requires { IsGroupName name.now }
+    ensures changes { (limits : Limits) → ChangesIf S.Store (is_ok result) (λ t. refusal_for limits change name.now t ≡ None) (changed change name.now) store.old store.new }
+{
+    match change {
+        GroupChange::Make => store.put_group(name),
+        GroupChange::Drop => store.drop_group(name),
+        GroupChange::Join(number) => store.join(name, number),
+        GroupChange::Leave(number) => store.leave(name, number),
+        GroupChange::SetBaseline(number) => store.set_baseline(name, number),
+    }
+}
+
+/// Changes a group.
 pub(crate) fn change_group<S: Alter>(
     store: &mut Store<S>,
-    change: Change,
+    limits: Limits,
     name: &str,
-    number: u32,
+    change: GroupChange,
 ) -> Result<Answer, StoreError>
-    ensures answered { IsFaithful S.Store store.new → (limits : Limits) (h : History) → StandsForHistory S.Store h store.old
-        → IfOk result (λ answer. WasDue S.Store limits h (said_of change name.now number) answer store.new) }
-    ensures turns { (limits : Limits) → TurnsIf S.Store limits (said_of change name.now number) (is_ok result) (has_changed result) store.old store.new }
+    requires { IsGroupName name.now }
+    ensures answered { IsFaithful S.Store store.new → (h : History) → StandsForHistory S.Store h store.old
+        → IfOk result (λ answer. WasDue S.Store limits h (change_said change name.now) answer store.new) }
+    ensures turns { TurnsIf S.Store limits (change_said change name.now) (is_ok result) (has_changed result) store.old store.new }
 {
-    if let Some(refusal) = missing(store, name, number)? {
+    if let Some(refusal) = refusal_of(store, limits, name, change)? {
         return Ok(Answer::Refused(refusal));
     }
-    change_held(store, change, name, number)?;
+    change_free(store, name, change)?;
     Ok(Answer::Done)
+}
+
+/// Why a change is refused under a name that no group can have.
+pub(crate) fn unnamed(change: GroupChange) -> Refusal
+    ensures { result ≡ unnamed_for change }
+{
+    match change {
+        GroupChange::Make => Refusal::BadName,
+        GroupChange::Drop
+        | GroupChange::Join(_)
+        | GroupChange::Leave(_)
+        | GroupChange::SetBaseline(_) => Refusal::NoSuchGroup,
+    }
 }

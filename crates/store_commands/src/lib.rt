@@ -6,6 +6,6 @@ mod answering;
 mod changes;
 mod lists;
 
-pub use answering::{change_in, drop_in, make_in, remove_in};
-pub use changes::Change;
+pub use answering::{change_in, remove_in};
+pub use changes::GroupChange;
 pub use lists::{groups_answer, runs_answer};

@@ -3,7 +3,7 @@ use Rattle.std.specs.Prelude.{◌≡◌, map, List, [], ◌∷◌, ◌++◌}
 use Rattle.sqlite_trees.specs.declared.store.Store.{Ghosts}
 use Rattle.prof_store.specs.declared.store.Store.{Store}
 use Rattle.sources.specs.Outcomes.{Outcome}
-use Rattle.histories.specs.History.{History, Said, Turn, Import, Remove, MakeGroup, DropGroup, Join, Leave, SetBaseline, Ask}
+use Rattle.histories.specs.History.{History, Said, Turn, Import, Remove, Ask}
 use Rattle.histories.specs.Legal.{AreLegal}
 use Rattle.histories.specs.declared.answers.Answer.{Answer}
 use Rattle.histories.specs.declared.answers.Answer.TheVariants as answers
@@ -13,6 +13,7 @@ use Rattle.sources.specs.Reads.{Reads}
 use Rattle.sources.specs.declared.reading.Unread.{Unread}
 use Rattle.sources.specs.declared.reading.Unread.TheVariants as unread
 use Rattle.store_histories.specs.Answered.{HasHistory, Answers, Links}
+use Rattle.store_commands.specs.Changes.{change_said}
 use Rattle.warehouse.specs.declared.command.Command as commands
 use Rattle.warehouse.specs.declared.command.Command.TheVariants as command
 
@@ -23,11 +24,7 @@ module _ {R : Type 0} (reads : R → Outcome → R → Type 0) where
   abbrev pub Says : commands.Command R → Said → Type 0
   Says (command.Import kind label source) said = (outcomes : List Outcome) × (to : R) × Reads reads source outcomes to × (said ≡ Import kind label.items outcomes)
   Says (command.Remove n) said = said ≡ Remove n
-  Says (command.MakeGroup name) said = said ≡ MakeGroup name.items
-  Says (command.DropGroup name) said = said ≡ DropGroup name.items
-  Says (command.Join name n) said = said ≡ Join name.items n
-  Says (command.Leave name n) said = said ≡ Leave name.items n
-  Says (command.SetBaseline name n) said = said ≡ SetBaseline name.items n
+  Says (command.Group name change) said = said ≡ change_said change name.items
   Says (command.Ask query) said = said ≡ Ask query
 
   abbrev pub AreSaid : List (commands.Command R) → History → Type 0

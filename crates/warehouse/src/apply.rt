@@ -16,7 +16,7 @@ use sources::Source;
 use sqlite::Alter;
 use std::alloc::{AllocError, Global};
 use std::collections::VecDeque;
-use store_commands::{Change, change_in, drop_in, make_in, remove_in};
+use store_commands::{change_in, remove_in};
 
 impl<S: Alter> Warehouse<S> {
     /// Takes in the file that a source gives, a piece at a time. The source is read to its end even
@@ -56,17 +56,7 @@ impl<S: Alter> Warehouse<S> {
                 &mut source,
             ),
             Command::Remove(number) => remove_in(store, number),
-            Command::MakeGroup(name) => make_in(store, self.limits, name.as_slice()),
-            Command::DropGroup(name) => drop_in(store, name.as_slice()),
-            Command::Join(name, number) => {
-                change_in(store, Change::Join, name.as_slice(), number)
-            }
-            Command::Leave(name, number) => {
-                change_in(store, Change::Leave, name.as_slice(), number)
-            }
-            Command::SetBaseline(name, number) => {
-                change_in(store, Change::SetBaseline, name.as_slice(), number)
-            }
+            Command::Group(name, change) => change_in(store, self.limits, name.as_slice(), change),
             Command::Ask(query) => ask_in(store, alloc, query),
         }
     }
@@ -80,7 +70,7 @@ impl<S: Alter> Warehouse<S> {
     ) -> Result<Vec<Answer>, AllocError>
         ensures limits { self.new.limits ≡ self.old.limits }
         ensures answered { IsFaithful S.Store self.new.store
-            → IfOk result (λ answers. WasRun S.Store R.comes self.old.limits commands.items answers.items self.old.store self.new.store) }
+            → IfOk result (λ answers. WasRun S.Store R.reads self.old.limits commands.items answers.items self.old.store self.new.store) }
         ensures err { OnErr result (self.new ≡ self.old) }
     {
         let count = commands.len();

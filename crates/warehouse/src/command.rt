@@ -1,6 +1,7 @@
 // What a warehouse is told to do.
 use histories::Query;
 use profile_records::Kind;
+use store_commands::GroupChange;
 
 /// A command; R is what the bytes of a file come from.
 #[derive(Drop)]
@@ -13,13 +14,7 @@ pub enum Command<R> {
     },
     /// Drop the run of a number.
     Remove(u32),
-    MakeGroup(Vec<u8>),
-    DropGroup(Vec<u8>),
-    /// Take a run into a group.
-    Join(Vec<u8>, u32),
-    /// Take a run out of a group.
-    Leave(Vec<u8>, u32),
-    /// Make a run the baseline of a group.
-    SetBaseline(Vec<u8>, u32),
+    /// Change the group of a name.
+    Group(Vec<u8>, GroupChange),
     Ask(Query),
 }

@@ -13,4 +13,5 @@ pub use histories::{Answer, Excess, Limits, Query, Refusal, Selection};
 pub use laws::{histories_survive, memory_never_fails};
 pub use profile_records::Kind;
 pub use sources::{ReadFault, Source};
+pub use store_commands::GroupChange;
 pub use warehouse::Warehouse;

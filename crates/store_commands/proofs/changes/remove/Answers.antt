@@ -35,7 +35,7 @@ returns-in_err-drop_run-clause-turns g c limits clean =
     let two = c.in_err-drop_run.ensures.changes clean in
     let early = two.stays.was_clean in
     turns_err limits (Remove n) c.from_residual-in_err-drop_run.result _ _ c.from_residual-in_err-drop_run.ensures.0
-    (turns_after limits (Remove n) tt (λ t. tables.has_run t n ≡ true) (without_run n) (due_if_run limits n) (λ h t. tell_removed limits h n t) g.S.Store c.args.store.now c.has_run.new.self c.drop_run.new.self
+    (turns_after limits (Remove n) tt (λ t. tables.has_run t n ≡ true) (without_run n) (λ h t. due_if_run limits h n t) (λ h t. tell_removed limits h n t) g.S.Store c.args.store.now c.has_run.new.self c.drop_run.new.self
     (c.in_ok-has_run.ensures.asks early) (λ t was. sym (c.in_ok-has_run.ensures.told early t was) ∙ c.if-not-branch.false) false false two)
 
 pub returns-clause-answered : goal.returns-clause-answered
@@ -43,7 +43,7 @@ returns-clause-answered g c clean limits h s =
     let n = c.args.number in
     let two = c.in_ok-drop_run.ensures.changes clean in
     let early = two.stays.was_clean in
-    done_after limits (Remove n) tt (λ t. tables.has_run t n ≡ true) (without_run n) (due_if_run limits n) (λ h t. tell_removed limits h n t) g.S.Store c.args.store.now c.has_run.new.self c.drop_run.new.self
+    done_after limits (Remove n) tt (λ t. tables.has_run t n ≡ true) (without_run n) (λ h t. due_if_run limits h n t) (λ h t. tell_removed limits h n t) g.S.Store c.args.store.now c.has_run.new.self c.drop_run.new.self
     (c.in_ok-has_run.ensures.asks early) (λ t was. sym (c.in_ok-has_run.ensures.told early t was) ∙ c.if-not-branch.false) h s true two
 
 pub returns-clause-turns : goal.returns-clause-turns
@@ -51,5 +51,5 @@ returns-clause-turns g c limits clean =
     let n = c.args.number in
     let two = c.in_ok-drop_run.ensures.changes clean in
     let early = two.stays.was_clean in
-    turns_after limits (Remove n) tt (λ t. tables.has_run t n ≡ true) (without_run n) (due_if_run limits n) (λ h t. tell_removed limits h n t) g.S.Store c.args.store.now c.has_run.new.self c.drop_run.new.self
+    turns_after limits (Remove n) tt (λ t. tables.has_run t n ≡ true) (without_run n) (λ h t. due_if_run limits h n t) (λ h t. tell_removed limits h n t) g.S.Store c.args.store.now c.has_run.new.self c.drop_run.new.self
     (c.in_ok-has_run.ensures.asks early) (λ t was. sym (c.in_ok-has_run.ensures.told early t was) ∙ c.if-not-branch.false) true true two

@@ -2,7 +2,8 @@ use Rattle.std.proofs.Common.{◌≡◌, [], ◌∷◌, map, refl, sym, ap, subs
 use Rattle.histories.specs.History.{Ask, Remove}
 use Rattle.program_files.specs.Imported.{WereRead}
 use Rattle.sessions.specs.Questions.{query_said}
-use Rattle.sessions.specs.Sessions.{AreImports, Wants, WasRun, change_said}
+use Rattle.store_commands.specs.Changes.{change_said}
+use Rattle.sessions.specs.Sessions.{AreImports, Wants, WasRun}
 use Rattle.sessions.proofs.SessionLemmas.{run_one}
 use Rattle.sessions.proofs.session.Session.run.Goals as goal
 
