@@ -1,5 +1,5 @@
 -- A file that was put.
-use Rattle.std.proofs.Common.{◌≡◌, ◌∙◌, ℕ, Bool, true, List, Some, None, Result, refl, inl, sym, ap, subst}
+use Rattle.std.proofs.Common.{◌≡◌, ◌∙◌, ℕ, Bool, true, List, Some, None, Result, Ok, Err, Option, refl, inl, sym, ap, subst}
 use Rattle.std.specs.Result.{is_ok}
 use Rattle.store_columns.specs.declared.errors.StoreError.{StoreError}
 use Rattle.histories.specs.declared.answers.Answer.{Answer}
@@ -22,12 +22,13 @@ use Rattle.histories.specs.Legal.{expected_answer, IsInForm, IsLegal}
 use Rattle.histories.specs.Stands.{TablesTell}
 use Rattle.histories.specs.declared.answers.Answer.TheVariants.{Run}
 use Rattle.histories.specs.declared.limits.Limits.{Limits}
+use Rattle.histories.specs.declared.answers.Refusal.{Refusal}
 use Rattle.histories.proofs.Put.{tell_put}
 use Rattle.store_histories.specs.Answered.{with_turn, has_changed, TellsHistory, Follows, StandsForHistory, WasDue}
 use Rattle.store_histories.specs.Refusals.{refused_or}
 use Rattle.store_histories.proofs.Due.{told_stands}
 use Rattle.sources.specs.Reads.{HasEnded}
-use Rattle.run_imports.specs.Refused.{room_refusal}
+use Rattle.run_imports.specs.Refused.{number_unless, room_refusal}
 use Rattle.run_imports.proofs.Imports.{room_due}
 use Rattle.run_imports.specs.Imports.{IsNewFile}
 
@@ -52,35 +53,64 @@ module _ (limits : Limits) (h : History) (kind : Kind) (label : List ℕ) (outco
   pub was_run : {S : Type 0} (g : Ghosts S) (store : Store S) (number : ℕ) → number ≡ t.next → StandsFor g (with_file t.next kind digest label head (content_of rows) t) store → WasDue g limits h (Import kind label outcomes) (Run number) store
   was_run g store number same stands = subst (λ n. WasDue g limits h (Import kind label outcomes) (Run n) store) (sym same) (record { is_due = is; after = record { t = after; stands = stands; tells = told _ stands.holds } })
 
--- what becomes of a store that was asked whether there is room, and said so
-module _ (limits : Limits) (kind : Kind) (label : List ℕ) (outcomes : List Outcome) (digest : List ℕ) (head : FileHead) (rows : FileRows) (form : IsInForm (Import kind label outcomes)) (ended : HasEnded limits.bytes outcomes)
-    {S : Type 0} (g : Ghosts S) (old mid new : Store S) (asked : Asked schema_one true (shown g old) (shown g mid))
-    (told : (h : History) → StandsForHistory g h old → IsNewFile h kind (bytes_of outcomes) digest head rows → room_refusal limits h kind (bytes_of outcomes) ≡ None) where
-  pub run_due : (h : History) (s : StandsForHistory g h old) → IsNewFile h kind (bytes_of outcomes) digest head rows → expected_answer limits h (Import kind label outcomes) ≡ Some (Run s.t.next)
-  run_due h s it = room_due limits h kind label outcomes ended it.is_new it.sound ∙ ap (λ r. Some (refused_or r (Run (next h)))) (told h s it) ∙ ap (λ n. Some (Run n)) (sym s.tells.next)
+-- a number that was answered is the next one, and nothing refuses it
+free : (r : Option Refusal) (n m : ℕ) → Ok m ≡ number_unless r n → (r ≡ None) × (m ≡ n)
+free None n m is = (refl, ap value is)
+  where
+    value : Result ℕ Refusal → ℕ
+    value (Ok k) = k
+    value (Err e) = 0
+free (Some refusal) n m is = absurd cc
 
-  abbrev put : Tables → Tables
-  put t = with_file t.next kind digest label head (content_of rows) t
+-- where it is refused, that is why
+pub refused_for : (r : Option Refusal) (n : ℕ) (refusal : Refusal) → Err refusal ≡ number_unless r n → r ≡ Some refusal
+refused_for None n refusal is = absurd cc
+refused_for (Some other) n refusal is = ap reason (sym is)
+  where
+    reason : Result ℕ Refusal → Option Refusal
+    reason (Ok k) = None
+    reason (Err e) = Some e
+
+-- what becomes of a store that was asked for a number, and answered it
+module _ (limits : Limits) (kind : Kind) (label : List ℕ) (outcomes : List Outcome) (digest : List ℕ) (head : FileHead) (rows : FileRows) (form : IsInForm (Import kind label outcomes)) (ended : HasEnded limits.bytes outcomes)
+    (number : ℕ) {S : Type 0} (g : Ghosts S) (old mid new : Store S) (asked : Asked schema_one true (shown g old) (shown g mid))
+    (told : (h : History) → StandsForHistory g h old → IsNewFile h kind (bytes_of outcomes) digest head rows → Ok number ≡ number_unless (room_refusal limits h kind (bytes_of outcomes)) (next h)) where
+  pub run_due : (h : History) (s : StandsForHistory g h old) → IsNewFile h kind (bytes_of outcomes) digest head rows → expected_answer limits h (Import kind label outcomes) ≡ Some (Run s.t.next)
+  run_due h s it =
+      let none = (free (room_refusal limits h kind (bytes_of outcomes)) (next h) number (told h s it)).0 in
+      room_due limits h kind label outcomes ended it.is_new it.sound ∙ ap (λ r. Some (refused_or r (Run (next h)))) none ∙ ap (λ n. Some (Run n)) (sym s.tells.next)
+
+  is_next : (h : History) (s : StandsForHistory g h old) → IsNewFile h kind (bytes_of outcomes) digest head rows → s.t.next ≡ number
+  is_next h s it = s.tells.next ∙ sym (free (room_refusal limits h kind (bytes_of outcomes)) (next h) number (told h s it)).1
+
+  abbrev by_number : ℕ → Tables → Tables
+  by_number n t = with_file n kind digest label head (content_of rows) t
+
+  abbrev Given : Tables → Trees → Type 0
+  Given t db = (t.next ≡ number) × Holds t db
 
   abbrev Before : History → Trees → Type 0
   Before h db = IsNewFile h kind (bytes_of outcomes) digest head rows × TellsHistory h db
 
-  pub run_turns : (answered done : Bool) → Changed schema_one Holds (λ t. Holds (put t)) answered done (shown g mid) (shown g new) → Changed schema_one Before (Follows limits (Import kind label outcomes)) answered done (shown g old) (shown g new)
+  pub run_turns : (answered done : Bool) → Changed schema_one Given (λ t. Holds (by_number number t)) answered done (shown g mid) (shown g new) → Changed schema_one Before (Follows limits (Import kind label outcomes)) answered done (shown g old) (shown g new)
   run_turns answered done made =
-      changed_as schema_one Holds (λ t. Holds (put t)) Before (Follows limits (Import kind label outcomes)) answered done (shown g old) (shown g new)
+      changed_as schema_one Given (λ t. Holds (by_number number t)) Before (Follows limits (Import kind label outcomes)) answered done (shown g old) (shown g new)
       (λ h was.
-      let s = told_stands g h old (rests_as schema_one (Before h) (TellsHistory h) (shown g old) was was.holds.1) in (
+      let s = told_stands g h old (rests_as schema_one (Before h) (TellsHistory h) (shown g old) was was.holds.1) in
+      let same = is_next h s was.holds.0 in (
         s.t,
-        s.stands,
-        follows_run limits h kind label outcomes digest head rows s.t (shown g old).now.trees form (run_due h s was.holds.0) was.holds.0 s.stands.holds s.tells,
+        rests_as schema_one (Holds s.t) (Given s.t) (shown g old) s.stands (same, s.stands.holds),
+        λ after k. follows_run limits h kind label outcomes digest head rows s.t (shown g old).now.trees form (run_due h s was.holds.0) was.holds.0 s.stands.holds s.tells after (subst (λ n. Holds (by_number n s.t) after) (sym same) k),
       ))
-      (changed_then schema_one Holds (λ t. Holds (put t)) answered done (shown g old) (shown g mid) (shown g new) asked made)
+      (changed_then schema_one Given (λ t. Holds (by_number number t)) answered done (shown g old) (shown g mid) (shown g new) asked made)
 
-  pub run_done : (h : History) → StandsForHistory g h old → IsNewFile h kind (bytes_of outcomes) digest head rows → (answered : Bool) → Changed schema_one Holds (λ t. Holds (put t)) answered true (shown g mid) (shown g new)
-      → (number : ℕ) → ((t : Tables) → StandsFor g t mid → number ≡ t.next) → WasDue g limits h (Import kind label outcomes) (Run number) new
-  run_done h s it answered made number is =
+  pub run_done : (h : History) → StandsForHistory g h old → IsNewFile h kind (bytes_of outcomes) digest head rows → (answered : Bool) → Changed schema_one Given (λ t. Holds (by_number number t)) answered true (shown g mid) (shown g new)
+      → WasDue g limits h (Import kind label outcomes) (Run number) new
+  run_done h s it answered made =
       let there = asked_rests schema_one (Holds s.t) (shown g old) (shown g mid) asked s.stands in
-      was_run limits h kind label outcomes digest head rows s.t (shown g old).now.trees form (run_due h s it) it s.stands.holds s.tells g new number (is s.t there) (made.done refl s.t there)
+      let same = is_next h s it in
+      was_run limits h kind label outcomes digest head rows s.t (shown g old).now.trees form (run_due h s it) it s.stands.holds s.tells g new number (sym same)
+      (subst (λ n. StandsFor g (by_number n s.t) new) (sym same) (made.done refl s.t (rests_as schema_one (Holds s.t) (Given s.t) (shown g mid) there (same, there.holds))))
 
 -- a file that is put after it was asked whether it is held
 pub new_turns : (limits : Limits) (kind : Kind) (label : List ℕ) (outcomes : List Outcome) (digest : List ℕ) (head : FileHead) (rows : FileRows) {S : Type 0} (g : Ghosts S) (old mid new : Store S) (result : Result Answer StoreError)

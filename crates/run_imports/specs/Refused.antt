@@ -1,5 +1,5 @@
 -- Refusals in the order in which they are looked for.
-use Rattle.std.specs.Prelude.{Bool, true, false, ℕ, nat_le, List, length, Option, Some, None, option_map}
+use Rattle.std.specs.Prelude.{Bool, true, false, ℕ, nat_le, List, length, Option, Some, None, Result, Ok, Err, option_map}
 use Rattle.profile_records.specs.declared.kinds.Kind.{Kind}
 use Rattle.histories.specs.History.{History, held, next}
 use Rattle.histories.specs.Sums.{excess_of}
@@ -21,3 +21,8 @@ room_refusal limits h kind bytes =
     or_later (option_map reasons.Overflow (excess_of (held h) kind bytes))
     (or_later (if_some (nat_le limits.runs (length (held h))) reasons.Full)
     (if_some (nat_le limits.numbers (next h)) reasons.NumbersSpent))
+
+-- a number, unless it is refused
+abbrev pub number_unless : Option Refusal → ℕ → Result ℕ Refusal
+number_unless (Some refusal) n = Err refusal
+number_unless None n = Ok n

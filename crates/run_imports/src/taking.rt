@@ -8,13 +8,13 @@ ghost use Rattle.profile_records.specs.declared.kinds.Kind.{Kind};
 ghost use Rattle.prof_store.specs.Shown.{IsFaithful, Asks};
 ghost use Rattle.histories.specs.Files.{IsHeadOf, rows_of};
 ghost use Rattle.sources.specs.Outcomes.{Outcome, bytes_of};
-ghost use Rattle.histories.specs.History.{History, Import, held};
+ghost use Rattle.histories.specs.History.{History, Import, held, next};
 ghost use Rattle.histories.specs.Sums as sums;
 ghost use Rattle.store_histories.specs.Answered.{StandsForHistory, WasDue, TurnsIf, has_changed};
 ghost use Rattle.run_imports.specs.Imports.{IsNewFile, PutsNew};
 ghost use Rattle.file_intake.specs.Intakes.{IsTakenOf};
 ghost use Rattle.sources.specs.Reads.{HasEnded};
-ghost use Rattle.run_imports.specs.Refused.{room_refusal};
+ghost use Rattle.run_imports.specs.Refused.{number_unless, room_refusal};
 
 use cg_text::ListVec;
 use cost_rows::{Overflow, Side, admit};
@@ -82,28 +82,29 @@ fn excess_with<S: Alter>(
     }
 }
 
-/// Why there is no room for a file that has no fault and is not held, if there is none.
-fn refusal_of<S: Alter>(
+/// The number under which a file is put that has no fault and is not held, or why there is no room for it.
+fn number_for<S: Alter>(
     store: &mut Store<S>,
     alloc: Global,
     limits: Limits,
     file: &SummedFile<'_>,
-) -> Result<Option<Refusal>, StoreError>
+) -> Result<Result<u32, Refusal>, StoreError>
     ensures told { IsFaithful S.Store store.new → (h : History) (kind : Kind) (bytes : List ℕ) → StandsForHistory S.Store h store.old
         → IsHeadOf kind file.now.head.now bytes → content_of file.now.rows.now ≡ rows_of kind bytes
-        → IfOk result (λ refusal. refusal ≡ room_refusal limits h kind bytes) }
+        → IfOk result (λ number. number ≡ number_unless (room_refusal limits h kind bytes) (next h)) }
     ensures asks { Asks S.Store (is_ok result) store.old store.new }
 {
     if let Some(excess) = excess_with(store, alloc, file)? {
-        return Ok(Some(Refusal::Overflow(excess)));
+        return Ok(Err(Refusal::Overflow(excess)));
     }
     if store.run_count()? >= u64::from(limits.runs) {
-        return Ok(Some(Refusal::Full));
+        return Ok(Err(Refusal::Full));
     }
-    if store.next_run()? >= limits.numbers {
-        return Ok(Some(Refusal::NumbersSpent));
+    let number = store.next_run()?;
+    if number >= limits.numbers {
+        return Ok(Err(Refusal::NumbersSpent));
     }
-    Ok(None)
+    Ok(Ok(number))
 }
 
 /// Puts a file that has no fault and is not held, if there is room for it.
@@ -123,11 +124,13 @@ fn put_file<S: Alter>(
     ensures turns { (outcomes : List Outcome) → HasEnded limits.bytes outcomes
         → PutsNew S.Store limits kind label.now outcomes digest.now file.now.head.now file.now.rows.now result store.old store.new }
 {
-    if let Some(refusal) = refusal_of(store, alloc, limits, file)? {
-        return Ok(Answer::Refused(refusal));
+    match number_for(store, alloc, limits, file)? {
+        Ok(number) => {
+            put_run(store, alloc, number, kind, digest, label, file)?;
+            Ok(Answer::Run(number))
+        }
+        Err(refusal) => Ok(Answer::Refused(refusal)),
     }
-    let number = put_run(store, alloc, kind, digest, label, file)?;
-    Ok(Answer::Run(number))
 }
 
 /// Takes in a file that was read to its end.

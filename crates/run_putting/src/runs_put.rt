@@ -1,14 +1,13 @@
 // A file is put as a run.
-ghost use Rattle.std.specs.Prelude.{◌≡◌, ◌<◌, ◌^◌, IfOk, OnOk};
+ghost use Rattle.std.specs.Prelude.{◌≡◌, ◌<◌, ◌^◌, OnOk};
 ghost use Rattle.std.specs.Result.{is_ok};
 ghost use Rattle.cost_rows.specs.Totals.{count_total};
 ghost use Rattle.cost_rows.specs.Rows.{content_of};
 ghost use Rattle.sqlite_rules.specs.Lists.{Has};
 ghost use Rattle.prof_books.specs.Heads.{IsWhole};
-ghost use Rattle.prof_tables.specs.Labels.{IsLabel};
 ghost use Rattle.run_heads.specs.Sums.{AllFit};
 ghost use Rattle.run_putting.specs.Runs.{with_summed};
-ghost use Rattle.prof_store.specs.Shown.{Changes, ChangesIf, Tells};
+ghost use Rattle.prof_store.specs.Shown.{ChangesIf, Tells};
 
 use crate::putting::put_in;
 use crate::summed::SummedFile;
@@ -19,8 +18,12 @@ use sqlite::Alter;
 use std::alloc::Global;
 use store_columns::{RunLine, StoreError, number_of_kind, whole_of};
 
-/// Puts a file under a number, which is the next run's.
-fn put_numbered<S: Alter>(
+/// Puts a file as the run of a number, which no run had before (`Store::next_run`): what its head says
+/// and the sums of its rows, in one transaction. `digest` is the SHA-256 of the file, `label` a
+/// text in form (`is_label`). `Store` answers a digest that is held, a sum of a column or a
+/// number of calls above 2^63-1, a head that states a total for some events alone, and a
+/// connection within a transaction.
+pub fn put_run<S: Alter>(
     store: &mut Store<S>,
     alloc: Global,
     number: u32,
@@ -29,6 +32,7 @@ fn put_numbered<S: Alter>(
     label: &str,
     file: &SummedFile<'_>,
 ) -> Result<(), StoreError>
+    ensures taken { Tells S.Store store.old store.new (λ t. t.next ≡ number → (r : _) → Has t.runs r → r.digest ≡ digest.now → OnOk result ⊥) }
     ensures whole { OnOk result (IsWhole file.now.head.now) }
     ensures fits { OnOk result (AllFit file.now.head.now (content_of file.now.rows.now)) }
     ensures counted { OnOk result (count_total (content_of file.now.rows.now).arcs < 2 ^ 63) }
@@ -49,30 +53,4 @@ fn put_numbered<S: Alter>(
         call_count,
     };
     put_in(&mut store.conn, alloc, &run, &lines, file.rows)
-}
-
-/// Puts a file as a run, and answers its number, which no run had before: what its head says
-/// and the sums of its rows, in one transaction. `digest` is the SHA-256 of the file, `label` a
-/// text in form (`is_label`). `Store` answers a digest that is held, a sum of a column or a
-/// number of calls above 2^63-1, a head that states a total for some events alone, and a
-/// connection within a transaction.
-pub fn put_run<S: Alter>(
-    store: &mut Store<S>,
-    alloc: Global,
-    kind: Kind,
-    digest: &[u8; 32],
-    label: &str,
-    file: &SummedFile<'_>,
-) -> Result<u32, StoreError>
-    requires { IsLabel label.now }
-    ensures told { Tells S.Store store.old store.new (λ t. IfOk result (λ number. number ≡ t.next)) }
-    ensures taken { Tells S.Store store.old store.new (λ t. (r : _) → Has t.runs r → r.digest ≡ digest.now → OnOk result ⊥) }
-    ensures whole { OnOk result (IsWhole file.now.head.now) }
-    ensures fits { OnOk result (AllFit file.now.head.now (content_of file.now.rows.now)) }
-    ensures counted { OnOk result (count_total (content_of file.now.rows.now).arcs < 2 ^ 63) }
-    ensures changes { Changes S.Store (is_ok result) (λ t. with_summed t.next kind digest.now label.now file.now t) store.old store.new }
-{
-    let number = store.next_run()?;
-    put_numbered(store, alloc, number, kind, digest, label, file)?;
-    Ok(number)
 }

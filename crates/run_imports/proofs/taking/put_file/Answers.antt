@@ -1,5 +1,5 @@
-use Rattle.std.proofs.Common.{◌≡◌, true, false, Some, None, sym, ap, ◌∙◌}
-use Rattle.cost_rows.specs.Rows.{content_of}
+use Rattle.std.proofs.Common.{true, false, Some, sym, ap, ◌∙◌}
+use Rattle.sqlite_trees.specs.Tree.{Trees}
 use Rattle.sql_tables.proofs.Calls.{asked_rests, changed_asked}
 use Rattle.prof_tables.specs.Schema.{schema_one}
 use Rattle.prof_tables.specs.Tables.{Holds}
@@ -10,43 +10,48 @@ use Rattle.store_histories.specs.Answered.{TellsHistory, Follows}
 use Rattle.store_histories.specs.Refusals.{refused_or}
 use Rattle.store_histories.proofs.Due.{was_still}
 use Rattle.run_imports.specs.Imports.{IsNewFile}
+use Rattle.run_imports.specs.Refused.{room_refusal}
 use Rattle.run_imports.proofs.Imports.{room_due}
-use Rattle.run_imports.proofs.Puts.{run_turns, run_done}
+use Rattle.run_imports.proofs.Puts.{refused_for, run_turns, run_done}
 use Rattle.store_histories.proofs.Settled.{turns_err_from as turns_err}
 use Rattle.run_imports.proofs.taking.put_file.Goals as goal
 
-pub returns-in_err-refusal-clause-turns : goal.returns-in_err-refusal-clause-turns
-returns-in_err-refusal-clause-turns g c outcomes ended clean =
-    turns_err c.args.limits (Import c.args.kind c.args.label.now outcomes) (λ h db. IsNewFile h c.args.kind (bytes_of outcomes) c.args.digest.now c.args.file.now.head.now c.args.file.now.rows.now × TellsHistory h db) c.from_residual.result _ _ c.from_residual.ensures.0 (changed_asked schema_one (λ h db. IsNewFile h c.args.kind (bytes_of outcomes) c.args.digest.now c.args.file.now.head.now c.args.file.now.rows.now × TellsHistory h db) (Follows c.args.limits (Import c.args.kind c.args.label.now outcomes)) false _ _ (c.in_err-refusal.ensures.asks clean))
+pub returns-in_err-number_for-clause-turns : goal.returns-in_err-number_for-clause-turns
+returns-in_err-number_for-clause-turns g c outcomes ended clean =
+    let said = Import c.args.kind c.args.label.now outcomes in
+    let before = λ h (db : Trees). IsNewFile h c.args.kind (bytes_of outcomes) c.args.digest.now c.args.file.now.head.now c.args.file.now.rows.now × TellsHistory h db in
+    turns_err c.args.limits said before c.from_residual.result _ _ c.from_residual.ensures.0 (changed_asked schema_one before (Follows c.args.limits said) false _ _ (c.in_err-number_for.ensures.asks clean))
 
-pub returns-in-Some-clause-answered : goal.returns-in-Some-clause-answered
-returns-in-Some-clause-answered g c clean h outcomes s ended new =
-    let told = sym (c.in_ok-refusal.ensures.told clean h c.args.kind (bytes_of outcomes) s new.head_is new.rows_are) ∙ c.in-Some.is in
-    was_still c.args.limits h (Import c.args.kind c.args.label.now outcomes) (c.utf8.label, c.requires) g.S.Store c.args.store.now c.refusal_of.new.store (Refused c.in-Some.refusal) tt
-    (room_due c.args.limits h c.args.kind c.args.label.now outcomes ended new.is_new new.sound ∙ ap (λ r. Some (refused_or r (Run (next h)))) told) s (asked_rests schema_one (Holds s.t) _ _ (c.in_ok-refusal.ensures.asks clean) s.stands)
+pub returns-in-Err-clause-answered : goal.returns-in-Err-clause-answered
+returns-in-Err-clause-answered g c clean h outcomes s ended new =
+    let why = refused_for (room_refusal c.args.limits h c.args.kind (bytes_of outcomes)) (next h) c.in-Err.refusal (sym c.in-Err.is ∙ c.in_ok-number_for.ensures.told clean h c.args.kind (bytes_of outcomes) s new.head_is new.rows_are) in
+    was_still c.args.limits h (Import c.args.kind c.args.label.now outcomes) (c.utf8.label, c.requires) g.S.Store c.args.store.now c.number_for.new.store (Refused c.in-Err.refusal) tt
+    (room_due c.args.limits h c.args.kind c.args.label.now outcomes ended new.is_new new.sound ∙ ap (λ r. Some (refused_or r (Run (next h)))) why) s (asked_rests schema_one (Holds s.t) _ _ (c.in_ok-number_for.ensures.asks clean) s.stands)
 
-pub returns-in-Some-clause-turns : goal.returns-in-Some-clause-turns
-returns-in-Some-clause-turns g c outcomes ended clean =
-    changed_asked schema_one (λ h db. IsNewFile h c.args.kind (bytes_of outcomes) c.args.digest.now c.args.file.now.head.now c.args.file.now.rows.now × TellsHistory h db) (Follows c.args.limits (Import c.args.kind c.args.label.now outcomes)) true _ _ (c.in_ok-refusal.ensures.asks clean)
+pub returns-in-Err-clause-turns : goal.returns-in-Err-clause-turns
+returns-in-Err-clause-turns g c outcomes ended clean =
+    let before = λ h (db : Trees). IsNewFile h c.args.kind (bytes_of outcomes) c.args.digest.now c.args.file.now.head.now c.args.file.now.rows.now × TellsHistory h db in
+    changed_asked schema_one before (Follows c.args.limits (Import c.args.kind c.args.label.now outcomes)) true _ _ (c.in_ok-number_for.ensures.asks clean)
 
-pub returns-in_err-number-clause-turns : goal.returns-in_err-number-clause-turns
-returns-in_err-number-clause-turns g c outcomes ended clean =
-    let two = c.in_err-number.ensures.changes clean in
+pub returns-in_err-put_run-in-Ok-clause-turns : goal.returns-in_err-put_run-in-Ok-clause-turns
+returns-in_err-put_run-in-Ok-clause-turns g c outcomes ended clean =
+    let two = c.in_err-put_run-in-Ok.ensures.changes clean in
     let early = two.stays.was_clean in
-    turns_err c.args.limits (Import c.args.kind c.args.label.now outcomes) (λ h db. IsNewFile h c.args.kind (bytes_of outcomes) c.args.digest.now c.args.file.now.head.now c.args.file.now.rows.now × TellsHistory h db) c.from_residual-in_err-number.result _ _ c.from_residual-in_err-number.ensures.0
-    (run_turns c.args.limits c.args.kind c.args.label.now outcomes c.args.digest.now c.args.file.now.head.now c.args.file.now.rows.now (c.utf8.label, c.requires) ended g.S.Store c.args.store.now c.refusal_of.new.store c.put_run.new.store
-    (c.in_ok-refusal.ensures.asks early) (λ h s new. sym (c.in_ok-refusal.ensures.told early h c.args.kind (bytes_of outcomes) s new.head_is new.rows_are) ∙ c.in_default.is) false false two)
+    let before = λ h (db : Trees). IsNewFile h c.args.kind (bytes_of outcomes) c.args.digest.now c.args.file.now.head.now c.args.file.now.rows.now × TellsHistory h db in
+    turns_err c.args.limits (Import c.args.kind c.args.label.now outcomes) before c.from_residual-in_err-put_run-in-Ok.result _ _ c.from_residual-in_err-put_run-in-Ok.ensures.0
+    (run_turns c.args.limits c.args.kind c.args.label.now outcomes c.args.digest.now c.args.file.now.head.now c.args.file.now.rows.now (c.utf8.label, c.requires) ended c.in-Ok.number g.S.Store c.args.store.now c.number_for.new.store c.put_run.new.store
+    (c.in_ok-number_for.ensures.asks early) (λ h s new. sym c.in-Ok.is ∙ c.in_ok-number_for.ensures.told early h c.args.kind (bytes_of outcomes) s new.head_is new.rows_are) false false two)
 
-pub returns-clause-answered : goal.returns-clause-answered
-returns-clause-answered g c clean h outcomes s ended new =
-    let two = c.in_ok-number.ensures.changes clean in
+pub returns-in-Ok-clause-answered : goal.returns-in-Ok-clause-answered
+returns-in-Ok-clause-answered g c clean h outcomes s ended new =
+    let two = c.in_ok-put_run-in-Ok.ensures.changes clean in
     let early = two.stays.was_clean in
-    run_done c.args.limits c.args.kind c.args.label.now outcomes c.args.digest.now c.args.file.now.head.now c.args.file.now.rows.now (c.utf8.label, c.requires) ended g.S.Store c.args.store.now c.refusal_of.new.store c.put_run.new.store
-    (c.in_ok-refusal.ensures.asks early) (λ h s new. sym (c.in_ok-refusal.ensures.told early h c.args.kind (bytes_of outcomes) s new.head_is new.rows_are) ∙ c.in_default.is) h s new true two c.in_ok-number.number (c.in_ok-number.ensures.told clean)
+    run_done c.args.limits c.args.kind c.args.label.now outcomes c.args.digest.now c.args.file.now.head.now c.args.file.now.rows.now (c.utf8.label, c.requires) ended c.in-Ok.number g.S.Store c.args.store.now c.number_for.new.store c.put_run.new.store
+    (c.in_ok-number_for.ensures.asks early) (λ h s new. sym c.in-Ok.is ∙ c.in_ok-number_for.ensures.told early h c.args.kind (bytes_of outcomes) s new.head_is new.rows_are) h s new true two
 
-pub returns-clause-turns : goal.returns-clause-turns
-returns-clause-turns g c outcomes ended clean =
-    let two = c.in_ok-number.ensures.changes clean in
+pub returns-in-Ok-clause-turns : goal.returns-in-Ok-clause-turns
+returns-in-Ok-clause-turns g c outcomes ended clean =
+    let two = c.in_ok-put_run-in-Ok.ensures.changes clean in
     let early = two.stays.was_clean in
-    run_turns c.args.limits c.args.kind c.args.label.now outcomes c.args.digest.now c.args.file.now.head.now c.args.file.now.rows.now (c.utf8.label, c.requires) ended g.S.Store c.args.store.now c.refusal_of.new.store c.put_run.new.store
-    (c.in_ok-refusal.ensures.asks early) (λ h s new. sym (c.in_ok-refusal.ensures.told early h c.args.kind (bytes_of outcomes) s new.head_is new.rows_are) ∙ c.in_default.is) true true two
+    run_turns c.args.limits c.args.kind c.args.label.now outcomes c.args.digest.now c.args.file.now.head.now c.args.file.now.rows.now (c.utf8.label, c.requires) ended c.in-Ok.number g.S.Store c.args.store.now c.number_for.new.store c.put_run.new.store
+    (c.in_ok-number_for.ensures.asks early) (λ h s new. sym c.in-Ok.is ∙ c.in_ok-number_for.ensures.told early h c.args.kind (bytes_of outcomes) s new.head_is new.rows_are) true true two
