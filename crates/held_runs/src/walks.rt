@@ -58,7 +58,7 @@ impl Walk {
 /// How many rowids a window has.
 const WINDOW: u32 = 512;
 
-fn window_text(table: Listed) -> &'static str
+fn window_sql(table: Listed) -> &'static str
     ensures { result.now ≡ window_text_of table }
 {
     match table {
@@ -74,7 +74,7 @@ fn window_text(table: Listed) -> &'static str
     }
 }
 
-fn ends_text(table: Listed) -> &'static str
+fn ends_sql(table: Listed) -> &'static str
     ensures { result.now ≡ ends_text_of table }
 {
     match table {
@@ -122,7 +122,7 @@ fn span_of<S: Alter>(store: &mut Store<S>, table: Listed, run: u32) -> Result<Sp
     ensures page { store.new.page ≡ store.old.page }
     ensures asks { Asks S.Store (is_ok result) store.old store.new }
 {
-    let row = select_row(&mut store.conn, ends_text(table), params![run])?;
+    let row = select_row(&mut store.conn, ends_sql(table), params![run])?;
     span_in(&row)
 }
 
@@ -137,7 +137,7 @@ fn load<S: Alter>(
     ensures loaded { OfReady S.Store store.old store.new (OnOk result (store.new.page.items ≡ page_of table run low high (rows_of S.Store table store.old))) }
     ensures asks { Asks S.Store (is_ok result) store.old store.new }
 {
-    let rows = select(&mut store.conn, window_text(table), params![run, low, high])?;
+    let rows = select(&mut store.conn, window_sql(table), params![run, low, high])?;
     store.page = rows;
     rise(&store.page, low)
 }

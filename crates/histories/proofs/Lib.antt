@@ -15,6 +15,7 @@ pub mod Members
 pub mod Parents
 pub mod Put
 pub mod ReadsDue
+pub mod ReportExamples
 pub mod Rows
 pub mod Runs
 pub mod Selections

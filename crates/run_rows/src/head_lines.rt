@@ -24,7 +24,7 @@ impl Line for EventLine<'_> {
 
     ghost text_of_one = { put_event_text };
 
-    fn text() -> &'static str
+    fn insert_sql() -> &'static str
         ensures { result.now ≡ put_event_text }
     {
         "INSERT INTO run_event (run, pos, name, self_cost, call_cost, stated) VALUES (?1, ?2, ?3, ?4, ?5, ?6)"
@@ -68,7 +68,7 @@ impl Line for DerivedLine<'_> {
 
     ghost text_of_one = { put_derived_text };
 
-    fn text() -> &'static str
+    fn insert_sql() -> &'static str
         ensures { result.now ≡ put_derived_text }
     {
         "INSERT INTO derived (run, pos, name) VALUES (?1, ?2, ?3)"
@@ -105,7 +105,7 @@ impl Line for CoefLine {
 
     ghost text_of_one = { put_coef_text };
 
-    fn text() -> &'static str {
+    fn insert_sql() -> &'static str {
         "INSERT INTO coef (run, pos, event, n) VALUES (?1, ?2, ?3, ?4)"
     }
 

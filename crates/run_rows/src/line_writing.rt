@@ -22,7 +22,7 @@ fn put_line<'a, S: Alter, L: Line>(
 {
     values.clear();
     line.add_values(values)?;
-    write_inside(tx, L::text(), values)
+    write_inside(tx, L::insert_sql(), values)
 }
 
 /// Writes lines, each by a statement, within a transaction.
@@ -61,7 +61,7 @@ fn put_fifty<S: Alter, L: LineOfMany>(
     ensures { Writes S.Store (is_ok result) (L.with_lines (map L.plain lines.now)) tx.old tx.new }
 {
     let values = values_of(alloc, lines)?;
-    write_inside(tx, L::fifty_text(), &values)
+    write_inside(tx, L::insert_fifty_sql(), &values)
 }
 
 /// Takes up a line, and writes those that wait once they are fifty.

@@ -28,7 +28,7 @@ pub trait Line: Sized {
     ghost text_of_one: { List ℕ };
 
     /// The text of the statement that writes a line.
-    fn text() -> &'static str
+    fn insert_sql() -> &'static str
         ensures { result.now ≡ text_of_one };
 
     /// Adds the values of a line, column by column, behind others.
@@ -53,7 +53,7 @@ pub(crate) trait LineOfMany: Line {
     ghost text_of_fifty: { List ℕ };
 
     /// The text of the statement that writes fifty lines.
-    fn fifty_text() -> &'static str
+    fn insert_fifty_sql() -> &'static str
         ensures { result.now ≡ text_of_fifty };
 
     /// The statement writes the lines.

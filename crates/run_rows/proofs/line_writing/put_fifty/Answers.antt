@@ -11,4 +11,4 @@ returns g c =
     let lines = map g.L.Line.plain c.args.lines.now in
     let given = ap bound c.deref.ensures.value ∙ c.in_ok-values.ensures in
     text_writes _ _ _ _ (g.met.L.LineOfMany.puts_fifty lines (mapped_length g.L.Line.plain c.args.lines.now ∙ c.requires)) g.S.Store _ _ _
-    (subst₂ (λ text params. Ran g.S.Store text params (is_ok c.write_inside.result) c.args.tx.now c.write_inside.new.tx) c.fifty_text.ensures given c.write_inside.ensures)
+    (subst₂ (λ text params. Ran g.S.Store text params (is_ok c.write_inside.result) c.args.tx.now c.write_inside.new.tx) c.insert_fifty_sql.ensures given c.write_inside.ensures)

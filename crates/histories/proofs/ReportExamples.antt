@@ -1,0 +1,105 @@
+-- Reports over histories, computed on worked ones.
+use Rattle.std.proofs.Common.{◌≡◌, ℕ, List, [], ◌∷◌, ◌++◌, codes, None, Some, refl}
+use Rattle.std.specs.Fmt.{digits}
+use Rattle.cg_text.specs.Fields.{line_text}
+use Rattle.cg_text.specs.Kinds.{kind_of}
+use Rattle.cg_text.specs.Names.{name_of}
+use Rattle.cg_text.specs.Numbers.{number_of, amount_of}
+use Rattle.cg_text.specs.Readings.{reading_of}
+use Rattle.cg_text.specs.Subpositions.{subpos_of}
+use Rattle.cost_reports.specs.declared.cuts.Cut.{Cut}
+use Rattle.cost_rows.specs.declared.keys.Key.{Key}
+use Rattle.cost_rows.specs.declared.keys.Key.TheVariants as keys
+use Rattle.profile_records.specs.declared.kinds.Kind.{Kind}
+use Rattle.profile_records.specs.declared.kinds.Kind.TheVariants.{Callgrind, Folded}
+use Rattle.sources.specs.Outcomes.{Gave}
+use Rattle.histories.specs.History.{History, Import, MakeGroup, Join, Turn}
+use Rattle.histories.specs.Legal.{expected_of_query}
+use Rattle.histories.specs.declared.answers.Answer.{Answer}
+use Rattle.histories.specs.declared.answers.Answer.TheVariants.{Run, Done, Text, Refused}
+use Rattle.histories.specs.declared.answers.Query.TheVariants.{By, Verify}
+use Rattle.histories.specs.declared.answers.Refusal.TheVariants as reasons
+use Rattle.histories.specs.declared.answers.Selection.{Selection}
+use Rattle.histories.specs.declared.answers.Selection.TheVariants as selections
+
+-- ---- files and histories
+
+abbrev imported : ℕ → Kind → List ℕ → Turn
+imported n kind bytes = record { said = Import kind (codes "a") (Gave bytes ∷ Gave [] ∷ []); answer = Run n }
+
+abbrev whole : Cut
+whole = record { limit = None; threshold = 100 }
+
+abbrev by : Selection → Key → List ℕ → History → Answer
+by selection key event h = expected_of_query h (By selection key event whole)
+
+abbrev functions : List ℕ
+functions = codes "# callgrind format\nevents: Instructions\n\nfl=file1.c\nfn=main\n16 20\ncfn=func1\ncalls=1 50\n16 400\ncfi=file2.c\ncfn=func2\ncalls=3 20\n16 400\n\nfn=func1\n51 100\ncfi=file2.c\ncfn=func2\ncalls=2 20\n51 300\n\nfl=file2.c\nfn=func2\n20 700\n"
+
+abbrev ticks : List ℕ
+ticks = codes "positions: instr line\nevents: ticks\nfn=func\n0x80001234 90 1\n+3 * 5\n+1 +1 6\n"
+
+abbrev estimated : List ℕ
+estimated = codes "event: Est = Ir + 10 L1m + 100 * LLm : Estimate\nevents: Ir L1m LLm\nfn=f\n1 1000 20 3\n"
+
+abbrev estimated_otherwise : List ℕ
+estimated_otherwise = codes "event: Est = 2 Ir\nevents: Ir\n1 5\n"
+
+abbrev stated : List ℕ
+stated = codes "events: Ir\nsummary: 10\nfn=f\n1 9\ntotals: 8\n"
+
+-- ---- costs by key
+
+-- what is called costs its caller nothing
+functions_are_told : by selections.All keys.Function (codes "Instructions") (imported 1 Callgrind functions ∷ [])
+    ≡ Text (codes "by function Instructions\n820 100.00% total\n700 85.36% ???:func2\n100 12.19% ???:func1\n20 2.43% ???:main\n0 0.00% (rest)\n")
+unfolding digits reading_of line_text kind_of name_of number_of amount_of subpos_of
+functions_are_told = refl
+
+-- equal costs in the order of their lines
+lines_are_told : by selections.All keys.Line (codes "ticks") (imported 1 Callgrind ticks ∷ [])
+    ≡ Text (codes "by line ticks\n12 100.00% total\n6 50.00% ???:90\n6 50.00% ???:91\n0 0.00% (rest)\n")
+unfolding digits reading_of line_text kind_of name_of number_of amount_of subpos_of
+lines_are_told = refl
+
+-- a derived event by the formula of each run
+formulas_are_those_of_runs : by selections.All keys.Function (codes "Est") (imported 1 Callgrind estimated ∷ imported 2 Callgrind estimated_otherwise ∷ [])
+    ≡ Text (codes "by function Est\n1510 100.00% total\n1500 99.33% ???:f\n10 0.66% ???:???\n0 0.00% (rest)\n")
+unfolding digits reading_of line_text kind_of name_of number_of amount_of subpos_of
+formulas_are_those_of_runs = refl
+
+-- a stack costs its last function
+samples_are_told : by selections.All keys.Function (codes "samples") (imported 1 Folded (codes "a;b;a 3\na;b 2\n") ∷ [])
+    ≡ Text (codes "by function samples\n5 100.00% total\n3 60.00% ???:a\n2 40.00% ???:b\n0 0.00% (rest)\n")
+unfolding digits reading_of line_text kind_of name_of number_of amount_of subpos_of
+samples_are_told = refl
+
+-- ---- which files
+
+abbrev grouped : History
+grouped = imported 1 Callgrind ticks ∷ imported 2 Callgrind estimated_otherwise ∷ record { said = MakeGroup (codes "g"); answer = Done } ∷ record { said = Join (codes "g") 2; answer = Done } ∷ []
+
+one_group_is_told : by (selections.Group (codes "g")) keys.Function (codes "Ir") grouped ≡ Text (codes "by function Ir\n5 100.00% total\n5 100.00% ???:???\n0 0.00% (rest)\n")
+unfolding digits reading_of line_text kind_of name_of number_of amount_of subpos_of
+one_group_is_told = refl
+
+-- no file that is selected has the event
+event_of_another_run : by (selections.Group (codes "g")) keys.Function (codes "ticks") grouped ≡ Refused reasons.NoSuchEvent
+unfolding reading_of line_text kind_of name_of number_of amount_of subpos_of
+event_of_another_run = refl
+
+-- the selection is looked at first
+no_run_first : by (selections.Run 3) keys.Function (codes "ticks") grouped ≡ Refused reasons.NoSuchRun
+no_run_first = refl
+
+no_group_first : by (selections.Group (codes "h")) keys.Function (codes "ticks") grouped ≡ Refused reasons.NoSuchGroup
+no_group_first = refl
+
+no_events_at_all : by selections.All keys.Function (codes "Ir") [] ≡ Refused reasons.NoSuchEvent
+no_events_at_all = refl
+
+-- ---- verification
+
+sums_are_verified : expected_of_query (imported 1 Callgrind stated ∷ imported 2 Callgrind estimated_otherwise ∷ []) (Verify selections.All) ≡ Text (codes "1 Ir 9 8 differs\n2 Ir 5 none none\n")
+unfolding digits reading_of line_text kind_of name_of number_of amount_of subpos_of
+sums_are_verified = refl
