@@ -32,13 +32,15 @@ pub trait TakesCells {
     /// What a cell makes of a meaning.
     ghost step: { Meaning → CellRow (List ℕ) → Meaning };
 
-    /// Takes a cell.
+    /// Takes a cell. An error, out of memory or a sum that would pass its bound, ends the walk; of what
+    /// the taker means then nothing is said, so it is not to be asked any more.
     fn take(&mut self, row: &CellRow<&[u8]>) -> Result<(), StoreError>
         ensures { OnOk result (meaning self.new ≡ step (meaning self.old) (plain_cell row.now)) };
 }
 
 /// Hands on the cells of a run, with so many events and the names that `names` has: those of this
-/// store. A name that is not held is an error, and so is a cell of none of the events.
+/// store. Errors: `Memory`; `Store` for a call of the database that fails, for rows out of form, for a
+/// name that is not held and for a cell of none of the events; and those of the taker.
 pub fn each_cell<S: Alter, T: TakesCells>(
     store: &mut Store<S>,
     run: u32,

@@ -50,7 +50,8 @@ fn check_runs<S: Alter>(
 }
 
 /// Answers what the sums of the events are beside the totals that the files state, for the runs of
-/// a selection.
+/// a selection: a text, or the refusal of a run or a group that is not held. Errors: `Memory`; and
+/// `Store` for a call of the database that fails and for rows out of form.
 pub fn verify_answer<S: Alter>(
     store: &mut Store<S>,
     alloc: Global,

@@ -67,7 +67,10 @@ fn answer_runs<S: Alter>(
     Ok(Answer::Text(text))
 }
 
-/// Answers where the cost of an event went, by key, over the runs of a selection.
+/// Answers where the cost of an event went, by key, over the runs of a selection: a text, or the refusal
+/// of a run or a group that is not held, or of an event that none of the runs has. Errors: `Memory`; and
+/// `Store` for a call of the database that fails, for rows out of form and for a sum of 2^112 or more,
+/// which no files that are held come to.
 pub fn by_answer<S: Alter>(
     store: &mut Store<S>,
     alloc: Global,
