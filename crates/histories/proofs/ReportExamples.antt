@@ -7,6 +7,8 @@ use Rattle.cg_text.specs.Names.{name_of}
 use Rattle.cg_text.specs.Numbers.{number_of, amount_of}
 use Rattle.cg_text.specs.Readings.{reading_of}
 use Rattle.cg_text.specs.Subpositions.{subpos_of}
+use Rattle.cg_formulas.specs.EventLines.{event_of, formula_of, term_of}
+use Rattle.folded_reader.specs.Lines.{reading_of as stack_of}
 use Rattle.cost_reports.specs.declared.cuts.Cut.{Cut}
 use Rattle.cost_rows.specs.declared.keys.Key.{Key}
 use Rattle.cost_rows.specs.declared.keys.Key.TheVariants as keys
@@ -65,13 +67,13 @@ lines_are_told = refl
 -- a derived event by the formula of each run
 formulas_are_those_of_runs : by selections.All keys.Function (codes "Est") (imported 1 Callgrind estimated ∷ imported 2 Callgrind estimated_otherwise ∷ [])
     ≡ Text (codes "by function Est\n1510 100.00% total\n1500 99.33% ???:f\n10 0.66% ???:???\n0 0.00% (rest)\n")
-unfolding digits reading_of line_text kind_of name_of number_of amount_of subpos_of
+unfolding digits reading_of line_text kind_of name_of number_of amount_of subpos_of event_of formula_of term_of
 formulas_are_those_of_runs = refl
 
 -- a stack costs its last function
 samples_are_told : by selections.All keys.Function (codes "samples") (imported 1 Folded (codes "a;b;a 3\na;b 2\n") ∷ [])
     ≡ Text (codes "by function samples\n5 100.00% total\n3 60.00% ???:a\n2 40.00% ???:b\n0 0.00% (rest)\n")
-unfolding digits reading_of line_text kind_of name_of number_of amount_of subpos_of
+unfolding digits reading_of line_text kind_of name_of number_of amount_of subpos_of stack_of
 samples_are_told = refl
 
 -- ---- which files
@@ -80,12 +82,12 @@ abbrev grouped : History
 grouped = imported 1 Callgrind ticks ∷ imported 2 Callgrind estimated_otherwise ∷ record { said = MakeGroup (codes "g"); answer = Done } ∷ record { said = Join (codes "g") 2; answer = Done } ∷ []
 
 one_group_is_told : by (selections.Group (codes "g")) keys.Function (codes "Ir") grouped ≡ Text (codes "by function Ir\n5 100.00% total\n5 100.00% ???:???\n0 0.00% (rest)\n")
-unfolding digits reading_of line_text kind_of name_of number_of amount_of subpos_of
+unfolding digits reading_of line_text kind_of name_of number_of amount_of subpos_of event_of formula_of term_of
 one_group_is_told = refl
 
 -- no file that is selected has the event
 event_of_another_run : by (selections.Group (codes "g")) keys.Function (codes "ticks") grouped ≡ Refused reasons.NoSuchEvent
-unfolding reading_of line_text kind_of name_of number_of amount_of subpos_of
+unfolding reading_of line_text kind_of name_of number_of amount_of subpos_of event_of formula_of term_of
 event_of_another_run = refl
 
 -- the selection is looked at first
@@ -101,5 +103,5 @@ no_events_at_all = refl
 -- ---- verification
 
 sums_are_verified : expected_of_query (imported 1 Callgrind stated ∷ imported 2 Callgrind estimated_otherwise ∷ []) (Verify selections.All) ≡ Text (codes "1 Ir 9 8 differs\n2 Ir 5 none none\n")
-unfolding digits reading_of line_text kind_of name_of number_of amount_of subpos_of
+unfolding digits reading_of line_text kind_of name_of number_of amount_of subpos_of event_of formula_of term_of
 sums_are_verified = refl
