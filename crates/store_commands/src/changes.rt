@@ -1,5 +1,5 @@
 // Runs are removed; groups are made, changed and dropped.
-ghost use Rattle.std.specs.Prelude.{◌≡◌, MatchOption, IfOk, None, nat_le, length};
+ghost use Rattle.std.specs.Prelude.{◌≡◌, MatchOption, IfOk, None, true, nat_le, length};
 ghost use Rattle.std.specs.Result.{is_ok};
 ghost use Rattle.prof_tables.specs.Changes.{has_run, has_group};
 ghost use Rattle.prof_tables.specs.Labels.{IsGroupName};
