@@ -18,8 +18,8 @@ returns-then-branch-from-clause-told g c clean h kind bytes s is rows_are =
     let full = has_none c.args.limits.runs c.in_ok-run_count.field-0 (length (held h)) (c.in_ok-run_count.ensures.told clean s.t once ∙ tells_many h s.t s.tells) (search (rules, c.if-branch-from.true)) in
     sym (ap (λ r. number_unless r (next h)) (room_full c.args.limits h kind bytes fits full))
 
-pub returns-then-branch-limits-clause-told : goal.returns-then-branch-limits-clause-told
-returns-then-branch-limits-clause-told g c clean h kind bytes s is rows_are =
+pub returns-then-number-limits-clause-told : goal.returns-then-number-limits-clause-told
+returns-then-number-limits-clause-told g c clean h kind bytes s is rows_are =
     let second = (c.in_ok-number.ensures.asks clean).stays.was_clean in
     let first = (c.run_count.ensures.asks second).stays.was_clean in
     let once = asked_rests schema_one (Holds s.t) _ _ (c.in_ok-excess.ensures.asks first) s.stands in
@@ -27,7 +27,7 @@ returns-then-branch-limits-clause-told g c clean h kind bytes s is rows_are =
     let fits : excess_of (held h) kind bytes ≡ None = sym (c.in_ok-excess.ensures.told first h kind bytes s is rows_are) ∙ c.in_default.is in
     let few = has_room c.args.limits.runs c.in_ok-run_count.field-0 (length (held h)) (c.in_ok-run_count.ensures.told second s.t once ∙ tells_many h s.t s.tells) (search (rules, c.if-branch-from.false)) in
     let is_next : c.in_ok-number.number ≡ next h = c.in_ok-number.ensures.told clean s.t twice ∙ s.tells.next in
-    let spent = has_none c.args.limits.numbers c.in_ok-number.number (next h) is_next (search (rules, c.if-branch-limits.true)) in
+    let spent = has_none c.args.limits.numbers c.in_ok-number.number (next h) is_next (search (rules, c.if-number-limits.true)) in
     sym (ap (λ r. number_unless r (next h)) (room_spent c.args.limits h kind bytes fits few spent))
 
 pub returns-clause-told : goal.returns-clause-told
@@ -39,5 +39,5 @@ returns-clause-told g c clean h kind bytes s is rows_are =
     let fits : excess_of (held h) kind bytes ≡ None = sym (c.in_ok-excess.ensures.told first h kind bytes s is rows_are) ∙ c.in_default.is in
     let few = has_room c.args.limits.runs c.in_ok-run_count.field-0 (length (held h)) (c.in_ok-run_count.ensures.told second s.t once ∙ tells_many h s.t s.tells) (search (rules, c.if-branch-from.false)) in
     let is_next : c.in_ok-number.number ≡ next h = c.in_ok-number.ensures.told clean s.t twice ∙ s.tells.next in
-    let some = has_room c.args.limits.numbers c.in_ok-number.number (next h) is_next (search (rules, c.if-branch-limits.false)) in
+    let some = has_room c.args.limits.numbers c.in_ok-number.number (next h) is_next (search (rules, c.if-number-limits.false)) in
     ap (λ n. Ok n) is_next ∙ sym (ap (λ r. number_unless r (next h)) (room_left c.args.limits h kind bytes fits few some))
