@@ -1,6 +1,6 @@
 // The grammar of the command line.
 ghost use Rattle.std.specs.Prelude.{◌≡◌, false, codes, map, IfOk, IsOkAnd};
-ghost use Rattle.clap.specs.Words.{app_of, rule_of, with_subcommand};
+ghost use Rattle.clap.specs.Words.{app_of, new_app, rule_of, with_subcommand};
 ghost use Rattle.clap.specs.declared.builder.value_parser.ValueParser.TheVariants.{Names};
 ghost use Rattle.clap.specs.declared.builder.command.Command.TheViews.{out-Command as fields_of};
 ghost use Rattle.command_line.specs.Grammar as line;
@@ -135,16 +135,25 @@ fn key<'a>(alloc: Global, words: &'a [&'a str]) -> Arg<'a>
     operand(alloc, "KEY", "What costs are added up by").value_parser(ValueParser::Names(words))
 }
 
+/// A subcommand with no words yet. Its help says what it is about, and ends with an example.
+fn described<'a>(alloc: Global, name: &'a str, about: &'a str, example: &'a str) -> Command<'a>
+    ensures app { app_of result ≡ new_app name.entry.now }
+    ensures local { (fields_of result).has_globals ≡ false }
+{
+    Command::new(alloc, name).about(about).after_help(example)
+}
+
 /// A subcommand that wants the database.
 fn over_database<'a>(
     alloc: Global,
     name: &'a str,
     about: &'a str,
+    example: &'a str,
 ) -> Result<Command<'a>, AllocError>
     ensures app { IfOk result (λ command. app_of command ≡ line.over_database name.entry.now) }
     ensures local { IfOk result (λ command. (fields_of command).has_globals ≡ false) }
 {
-    Command::new(alloc, name).about(about).arg(database(alloc))
+    described(alloc, name, about, example).arg(database(alloc))
 }
 
 /// A subcommand that wants a group and a run.
@@ -152,11 +161,12 @@ fn over_group_and_run<'a>(
     alloc: Global,
     name: &'a str,
     about: &'a str,
+    example: &'a str,
 ) -> Result<Command<'a>, AllocError>
     ensures app { IfOk result (λ command. app_of command ≡ line.over_group_and_run name.entry.now) }
     ensures local { IfOk result (λ command. (fields_of command).has_globals ≡ false) }
 {
-    over_database(alloc, name, about)?
+    over_database(alloc, name, about, example)?
         .arg(operand(alloc, "NAME", "The name of a group"))?
         .arg(run_number(alloc))
 }
@@ -166,11 +176,12 @@ fn over_selection<'a>(
     alloc: Global,
     name: &'a str,
     about: &'a str,
+    example: &'a str,
 ) -> Result<Command<'a>, AllocError>
     ensures app { IfOk result (λ command. app_of command ≡ line.over_selection name.entry.now) }
     ensures local { IfOk result (λ command. (fields_of command).has_globals ≡ false) }
 {
-    over_database(alloc, name, about)?
+    over_database(alloc, name, about, example)?
         .arg(run_option(alloc))?
         .arg(group_option(alloc))
 }
@@ -179,34 +190,54 @@ fn total<'a>(alloc: Global) -> Result<Command<'a>, AllocError>
     ensures app { IfOk result (λ command. app_of command ≡ line.total) }
     ensures local { IfOk result (λ command. (fields_of command).has_globals ≡ false) }
 {
-    Command::new(alloc, "total")
-        .about("Print the sum of each event of a Callgrind file")
-        .arg(operand(alloc, "FILE", "A file in the Callgrind format"))
+    described(
+        alloc,
+        "total",
+        "Print the sum of each event of a Callgrind file",
+        "Example: profhouse total callgrind.out.4711",
+    )
+    .arg(operand(alloc, "FILE", "A file in the Callgrind format"))
 }
 
 fn import<'a>(alloc: Global) -> Result<Command<'a>, AllocError>
     ensures app { IfOk result (λ command. app_of command ≡ line.import) }
     ensures local { IfOk result (λ command. (fields_of command).has_globals ≡ false) }
 {
-    over_database(alloc, "import", "Import profile files")?
-        .arg(flag(alloc, "folded", "The files hold folded stacks"))?
-        .arg(several(operand(alloc, "FILE", "The files, each a run of its own")))
+    over_database(
+        alloc,
+        "import",
+        "Import profile files",
+        "Example: profhouse import --db s.db callgrind.out.4711 callgrind.out.4712",
+    )?
+    .arg(flag(alloc, "folded", "The files hold folded stacks"))?
+    .arg(several(operand(alloc, "FILE", "The files, each a run of its own")))
 }
 
 fn remove<'a>(alloc: Global) -> Result<Command<'a>, AllocError>
     ensures app { IfOk result (λ command. app_of command ≡ line.remove) }
     ensures local { IfOk result (λ command. (fields_of command).has_globals ≡ false) }
 {
-    over_database(alloc, "remove", "Remove runs")?.arg(several(run_number(alloc)))
+    over_database(
+        alloc,
+        "remove",
+        "Remove runs",
+        "Example: profhouse remove --db s.db 2",
+    )?
+    .arg(several(run_number(alloc)))
 }
 
 fn group<'a>(alloc: Global) -> Result<Command<'a>, AllocError>
     ensures app { IfOk result (λ command. app_of command ≡ line.group) }
     ensures local { IfOk result (λ command. (fields_of command).has_globals ≡ false) }
 {
-    over_database(alloc, "group", "Make a group, or drop one")?
-        .arg(flag(alloc, "drop", "Drop the group"))?
-        .arg(operand(alloc, "NAME", "The name of the group"))
+    over_database(
+        alloc,
+        "group",
+        "Make a group, or drop one",
+        "Example: profhouse group --db s.db nightly",
+    )?
+    .arg(flag(alloc, "drop", "Drop the group"))?
+    .arg(operand(alloc, "NAME", "The name of the group"))
 }
 
 fn by<'a>(alloc: Global, keys: &'a [&'a str]) -> Result<Command<'a>, AllocError>
@@ -217,6 +248,7 @@ fn by<'a>(alloc: Global, keys: &'a [&'a str]) -> Result<Command<'a>, AllocError>
         alloc,
         "by",
         "Report costs by object, file, function or line",
+        "Example: profhouse by --db s.db --event Ir function",
     )?
     .arg(event(alloc))?
     .arg(limit(alloc))?
@@ -257,8 +289,24 @@ fn with_lists<'a>(alloc: Global, command: Command<'a>) -> Result<Command<'a>, Al
     ensures app { IfOk result (λ more. app_of more ≡ line.with_lists (app_of command.entry)) }
     ensures local { IfOk result (λ more. (fields_of more).has_globals ≡ false) }
 {
-    let command = with(command, over_database(alloc, "runs", "List the runs"))?;
-    let command = with(command, over_database(alloc, "groups", "List the groups"))?;
+    let command = with(
+        command,
+        over_database(
+            alloc,
+            "runs",
+            "List the runs",
+            "Example: profhouse runs --db s.db",
+        ),
+    )?;
+    let command = with(
+        command,
+        over_database(
+            alloc,
+            "groups",
+            "List the groups",
+            "Example: profhouse groups --db s.db",
+        ),
+    )?;
     with(command, group(alloc))
 }
 
@@ -268,11 +316,26 @@ fn with_members<'a>(alloc: Global, command: Command<'a>) -> Result<Command<'a>, 
     ensures app { IfOk result (λ more. app_of more ≡ line.with_members (app_of command.entry)) }
     ensures local { IfOk result (λ more. (fields_of more).has_globals ≡ false) }
 {
-    let join = over_group_and_run(alloc, "join", "Add a run to a group");
+    let join = over_group_and_run(
+        alloc,
+        "join",
+        "Add a run to a group",
+        "Example: profhouse join --db s.db nightly 1",
+    );
     let command = with(command, join)?;
-    let leave = over_group_and_run(alloc, "leave", "Remove a run from a group");
+    let leave = over_group_and_run(
+        alloc,
+        "leave",
+        "Remove a run from a group",
+        "Example: profhouse leave --db s.db nightly 1",
+    );
     let command = with(command, leave)?;
-    let baseline = over_group_and_run(alloc, "baseline", "Make a run the baseline of a group");
+    let baseline = over_group_and_run(
+        alloc,
+        "baseline",
+        "Make a run the baseline of a group",
+        "Example: profhouse baseline --db s.db nightly 1",
+    );
     with(command, baseline)
 }
 
@@ -291,6 +354,7 @@ fn with_reports<'a>(
         alloc,
         "verify",
         "Compare sums of costs with the totals that files state",
+        "Example: profhouse verify --db s.db",
     );
     with(command, verify)
 }
