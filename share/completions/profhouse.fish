@@ -1,0 +1,43 @@
+# Completion of profhouse for fish. docs/USAGE.md says where it belongs, and tests/words_of_help reads it.
+
+# Whether the command is one of these.
+function __profhouse_command
+    set -l words (commandline -opc)
+    test (count $words) -gt 1; and contains -- $words[2] $argv
+end
+
+# Whether there is no command yet.
+function __profhouse_no_command
+    test (count (commandline -opc)) -eq 1
+end
+
+complete -c profhouse -f
+
+complete -c profhouse -n __profhouse_no_command -a total -d 'Print the sum of each event of a Callgrind file'
+complete -c profhouse -n __profhouse_no_command -a import -d 'Import profile files'
+complete -c profhouse -n __profhouse_no_command -a remove -d 'Remove runs'
+complete -c profhouse -n __profhouse_no_command -a runs -d 'List the runs'
+complete -c profhouse -n __profhouse_no_command -a groups -d 'List the groups'
+complete -c profhouse -n __profhouse_no_command -a group -d 'Make a group, or drop one'
+complete -c profhouse -n __profhouse_no_command -a join -d 'Add a run to a group'
+complete -c profhouse -n __profhouse_no_command -a leave -d 'Remove a run from a group'
+complete -c profhouse -n __profhouse_no_command -a baseline -d 'Make a run the baseline of a group'
+complete -c profhouse -n __profhouse_no_command -a by -d 'Report costs by object, file, function or line'
+complete -c profhouse -n __profhouse_no_command -a verify -d 'Compare sums of costs with the totals that files state'
+complete -c profhouse -n __profhouse_no_command -a help -d 'Print the help of the program or of a command'
+complete -c profhouse -n __profhouse_no_command -s h -l help -d 'Print help'
+complete -c profhouse -n __profhouse_no_command -s V -l version -d 'Print version'
+
+complete -c profhouse -n '__profhouse_command total import remove runs groups group join leave baseline by verify' -s h -l help -d 'Print help'
+complete -c profhouse -n '__profhouse_command import remove runs groups group join leave baseline by verify' -l db -r -F -d 'The database file'
+complete -c profhouse -n '__profhouse_command import' -l folded -d 'The files hold folded stacks'
+complete -c profhouse -n '__profhouse_command group' -l drop -d 'Drop the group'
+complete -c profhouse -n '__profhouse_command by verify' -l run -x -d 'Only the run of this number'
+complete -c profhouse -n '__profhouse_command by verify' -l group -x -d 'Only the runs of this group'
+complete -c profhouse -n '__profhouse_command by' -l event -x -d 'The event whose costs are reported'
+complete -c profhouse -n '__profhouse_command by' -l limit -x -d 'Show at most this many rows'
+complete -c profhouse -n '__profhouse_command by' -l threshold -x -d 'Show rows until they come to this percentage of the total'
+
+complete -c profhouse -n '__profhouse_command total import' -F
+complete -c profhouse -n '__profhouse_command by' -a 'object file function line'
+complete -c profhouse -n '__profhouse_command help' -a 'total import remove runs groups group join leave baseline by verify help'
