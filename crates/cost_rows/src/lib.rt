@@ -1,25 +1,45 @@
 //! The rows of profiles: names interned, records merged, and sums that must fit.
 #![tactic(auto)]
 
+// How many calls there were, and their sums.
 mod calls;
+// The sums of a place, by column (specs/Columns.antt).
 mod costs;
+// The rows of one file: a sink of records and of stacks (specs/Content.antt, Rows.antt).
 mod file_rows;
+// Which numbers the names of the records before had.
 mod guesses;
+// What reports add costs up by: object, file, function or line.
 mod keys;
+// Laws: what rows come to is what the records come to.
 mod laws;
+// Whether a file's sums fit beside those that are held (specs/Admit.antt).
 mod limits;
+// Rows of many files, added up by key (specs/KeySums.antt).
 mod merged;
+// One more count in a map of stacks (specs/Stacks.antt).
 mod merges;
+// Names, each once, by number (specs/Naming.antt, Growing.antt).
 mod names;
+// A file's rows with names by number (specs/ByNumber.antt).
 mod numbered;
+// The numbers of a record's names (specs/Numbered.antt). A name as in the record before costs a comparison.
 mod numbering;
+// What sums belong to, with names by number.
 mod places;
+// The amounts of a record are added (specs/Merging.antt).
 mod records;
+// The rows as they are lent and handed over (specs/Plain.antt).
 mod rows;
+// The rows of a folded file (specs/StackSums.antt).
 mod stack_rows;
+// Sums by key, as rows (specs/KeySums.antt).
 mod sum_rows;
+// One more amount at its key in an ordered map (specs/Merging.antt).
 mod sums;
+// A file's sums by column (specs/Sums.antt, WalkSums.antt).
 mod totals;
+// A file's rows with names, one after another.
 mod walks;
 
 pub use file_rows::FileRows;

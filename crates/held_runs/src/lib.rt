@@ -2,21 +2,37 @@
 //! sums, and their rows one at a time.
 #![tactic(auto)]
 
+// The calls of a run, as they lie in the table (specs/NameLines.antt).
 mod arc_lines;
+// The calls of a run, with names in place (specs/HeldArcs.antt).
 mod arcs;
+// The cells of a run, as they lie in the table (specs/NameLines.antt).
 mod cell_lines;
+// The cells of a run, with names in place (specs/HeldCells.antt).
 mod cells;
+// Hands on each cell of a run.
 mod handed_cells;
+// The lines of the head of a run.
 mod head_lines;
+// The head of a run by its number (specs/HeldHeads.antt).
 mod heads;
+// The head of a run, made of its lines (specs/HeldHeads.antt).
 mod heads_held;
+// Names and their numbers (specs/NameLines.antt).
 mod held_names;
+// The lines of a run in one of its tables, one at a time (specs/LineWalks.antt).
 mod lines;
+// The kind of a run, the baseline of a group.
 mod lookups;
+// The numbers of all runs, and of the members of a group (specs/RunNumbers.antt).
 mod numbers;
+// The sums of a run's own costs.
 mod own_sums;
+// The stacks of a run, as they lie in the table (specs/NameLines.antt).
 mod stack_lines;
+// The stacks of a run, one at a time (specs/HeldStacks.antt).
 mod stacks;
+// Walks over windows of rowids.
 mod walks;
 
 pub use arcs::{Arcs, arcs_of};

@@ -2,8 +2,11 @@
 //! what is held after it, and of its legal answers.
 #![tactic(auto)]
 
+// What commands are answered.
 mod answers;
+// Laws: what legal turns make of histories and of the tables.
 mod laws;
+// How much a warehouse holds.
 mod limits;
 
 pub use answers::{Answer, Excess, Query, Refusal, Selection};

@@ -2,6 +2,7 @@
 //! and laws that say what each change of the tables makes of it.
 #![tactic(auto)]
 
+// Laws: what each change of the tables makes of the book.
 mod laws;
 
 pub use laws::{

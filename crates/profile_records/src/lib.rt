@@ -2,9 +2,13 @@
 //! and of which kind a profile is.
 #![tactic(auto)]
 
+// Finds the function that was running.
 mod frames;
+// The kinds of profiles.
 mod kinds;
+// The trait of what takes records, and the records as they are lent (specs/Records.antt, Lent.antt).
 mod sink;
+// The trait of what takes stacks (specs/Stacks.antt).
 mod stack_sink;
 
 pub use frames::leaf;

@@ -1,17 +1,24 @@
 //! Tests of what no command line of the program reaches, over the public calls of the other crates.
 #![tactic(auto)]
 
+// What a store answers about its runs and groups.
 #[cfg(test)]
 mod asked;
+// A file whose reads are given by hand.
 #[cfg(test)]
 mod given;
+// Imports into a warehouse with small limits.
 #[cfg(test)]
 mod imports;
+// What takes lines may refuse one; then each later piece is refused.
 #[cfg(test)]
 mod lines;
+// Reports of small rows.
 #[cfg(test)]
 mod reports;
+// A store in memory whose rows are written by hand.
 #[cfg(test)]
 mod stores;
+// Names, heads and walks over the rows of a run.
 #[cfg(test)]
 mod walks;

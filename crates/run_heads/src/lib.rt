@@ -2,7 +2,9 @@
 //! a transaction.
 #![tactic(auto)]
 
+// The statements on a run's own line and on the next number.
 mod head_texts;
+// The lines that the head of a file becomes (specs/Sums.antt).
 mod heads_put;
 
 pub use head_texts::{put_line_of_run, raise_next};

@@ -1,6 +1,7 @@
 //! Whether a file that was read is taken in, and why not: held already, faulty, too much, or put as a run.
 #![tactic(auto)]
 
+// Imports a file that was read, or refuses it (specs/Imports.antt, Refused.antt).
 mod taking;
 
 pub use taking::{label_of, take_in};

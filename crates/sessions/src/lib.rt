@@ -2,9 +2,13 @@
 //! as it is there, and the total of a file.
 #![tactic(auto)]
 
+// Questions, from the words of a command line.
 mod questions;
+// Does what a plan says.
 mod running;
+// Runs commands over the store, and prints each answer as it is there (specs/Sessions.antt).
 mod session;
+// What is to be done for a plan.
 mod tasks;
 
 pub use questions::Question;

@@ -1,12 +1,19 @@
 //! The lines of a store's tables, what their columns may hold, and why the store refuses.
 #![tactic(auto)]
 
+// The values in the columns of a row (specs/Names.antt).
 mod columns;
+// Why the store refuses (specs/Errors.antt).
 mod errors;
+// The kinds of runs, as numbers.
 mod kinds;
+// The forms of digests, labels and names of groups.
 mod labels;
+// The lines of the tables.
 mod lines;
+// Whole numbers that a column can hold.
 mod whole;
+// The call through which every statement within a transaction goes (specs/Within.antt, Steps.antt).
 mod writing;
 
 pub use columns::{

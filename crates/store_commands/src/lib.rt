@@ -2,8 +2,11 @@
 //! what is held is listed.
 #![tactic(auto)]
 
+// Answers each command.
 mod answering;
+// Runs are removed; groups are made, changed and dropped.
 mod changes;
+// The texts of lists.
 mod lists;
 
 pub use answering::{change_in, remove_in};

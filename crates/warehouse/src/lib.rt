@@ -1,11 +1,17 @@
 //! The warehouse: commands over a store of runs, and their answers.
 #![tactic(auto)]
 
+// Files are imported, each with its answer.
 mod answering;
+// Commands, one by one and in lists.
 mod apply;
+// What a warehouse is told to do.
 mod command;
+// Laws: which histories a store has.
 mod laws;
+// The refusals of sources that were not read.
 mod refusals;
+// The warehouse: a store of runs under limits.
 mod warehouse;
 
 pub use command::Command;
