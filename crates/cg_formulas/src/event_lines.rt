@@ -12,7 +12,7 @@ use std::error::Error;
 use std::fmt;
 
 /// A sum of terms, each a number of times the event of a name. Kept as the text that it is, whose
-/// terms are read anew where they are wanted.
+/// terms are read again where they are needed.
 #[derive(Drop)]
 pub struct Formula {
     pub text: ListVec<u8>,

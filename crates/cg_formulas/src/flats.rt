@@ -35,7 +35,7 @@ pub struct Flat {
     ghost small: { All (λ d. sum d.1 ≤ 1000000) derived },
 }
 
-/// Why formulas come to no coefficients: their first fault with its line, or want of memory. Printed
+/// Why formulas come to no coefficients: their first fault with its line, or out of memory. Printed
 /// as `line 4: F18 formula too large` or `out of memory`.
 #[derive(Clone, Copy, Debug, PartialEq, Eq)]
 pub enum FlatError {

@@ -21,7 +21,7 @@ pub enum Fault {
     Version,
     /// A cost line with no `events:` line before it, or an `events:` line without a name.
     NoEvents,
-    /// A name twice in an `events:` line, or a derived event defined anew by other terms.
+    /// A name twice in an `events:` line, or a derived event defined again by other terms.
     EventTwice,
     /// A second `events:` line with another list.
     EventsChanged,
@@ -95,7 +95,7 @@ impl fmt::Display for Fault {
 
 impl Error for Fault {}
 
-/// Why a reader gives no head: the file's first fault with its line, or want of memory. Printed as
+/// Why a reader gives no head: the file's first fault with its line, or out of memory. Printed as
 /// `line 3: F12 position range` or `out of memory`.
 #[derive(Clone, Copy, Debug, PartialEq, Eq)]
 pub enum ReadError {

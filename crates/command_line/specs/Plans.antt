@@ -157,7 +157,7 @@ IsEndBy error RunAndGroup = ⊥
 IsEndBy error (Clap kept) = (kept ≡ error) × (kind_of error ≢ OutOfMemory)
 
 -- by the kinds of faults that words have, and what is found of their subcommand: a fault of the grammar is one of them, and comes
--- first; then a run and a group exclude each other; want of memory may come at any time
+-- first; then a run and a group exclude each other; out of memory may come at any time
 abbrev pub IsEndOf : Kinds → Option (Text × List Row) → PlanError → Type 0
 IsEndOf kinds found Memory = Unit {0}
 IsEndOf kinds found RunAndGroup = (kinds ≡ []) × AreBothNamed found

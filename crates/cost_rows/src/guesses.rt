@@ -16,7 +16,7 @@ const NOWHERE: Place = Place {
 pub(crate) const NO_CELL: CellPlace = CellPlace { place: NOWHERE };
 
 /// The place of the last record, and that of the last record of each function, by the number of its
-/// name. No clause speaks of them: whoever takes a guess compares it with the record's names first.
+/// name. No guarantee speaks of them: whoever takes a guess compares it with the record's names first.
 #[derive(Drop)]
 pub(crate) struct Guesses {
     recent: Place,
@@ -24,7 +24,7 @@ pub(crate) struct Guesses {
 }
 
 impl Guesses {
-    /// No place is kept. Takes no memory. No clause: a guess may be any place.
+    /// No place is kept. Takes no memory. No guarantee: a guess may be any place.
     pub(crate) fn new(alloc: Global) -> Guesses {
         Guesses {
             recent: NOWHERE,
@@ -32,7 +32,7 @@ impl Guesses {
         }
     }
 
-    /// The place that a record of a function is thought to have. No clause: a wrong one costs time.
+    /// The place that a record of a function is thought to have. No guarantee: a wrong one costs time.
     pub(crate) fn guess(&self, names: &Names, function: &[u8]) -> Place {
         let recent = self.recent;
         if (recent.function as usize) < names.len() && names.name(recent.function) == function {
@@ -48,7 +48,7 @@ impl Guesses {
         }
     }
 
-    /// Keeps the place of a record. No clause: a guess may be any place.
+    /// Keeps the place of a record. No guarantee: a guess may be any place.
     pub(crate) fn keep(&mut self, place: Place) -> Result<(), AllocError> {
         let function = place.function as usize;
         if self.by_function.len() <= function {

@@ -43,7 +43,7 @@ pub fn total_opened<F: Read + Drop>(alloc: Global, file: F) -> Result<TotalText,
 }
 
 /// The total of the file at a path, of which one piece and one line at most are held at a time. No
-/// clause: of an opened file the checker knows no bytes; `total_opened` says what is made of them.
+/// guarantee: of an opened file the checker knows no bytes; `total_opened` says what is made of them.
 pub fn total_file<R: Files + AllocGlobal>(rt: &R, path: &str) -> Result<TotalText, AllocError> {
     match fs::open(rt, path) {
         Ok(file) => total_opened(rt.alloc(), file),

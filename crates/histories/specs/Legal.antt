@@ -121,7 +121,7 @@ expected_answer limits h (Leave name n) = Some (first_or (no_group h name ∷ no
 expected_answer limits h (SetBaseline name n) = Some (first_or (no_group h name ∷ no_run h n ∷ []) Done)
 expected_answer limits h (Ask query) = Some (expected_of_query h query)
 
--- want of memory, or a database call that failed
+-- out of memory, or a database call that failed
 abbrev pub IsWant : Answer → Type 0
 IsWant answer = (answer ≡ Refused reasons.Memory) ⊎ (answer ≡ Refused reasons.Store)
 

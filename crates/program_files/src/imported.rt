@@ -26,7 +26,7 @@ impl<'a, R: Files> FileSource<'a, R> {
     }
 }
 
-/// The file at a path, opened. No clause: which file that is, the checker does not know.
+/// The file at a path, opened. No guarantee: which file that is, the checker does not know.
 fn open_at<R: Files>(rt: &R, path: &str) -> Result<Opened<R::File>, ReadFault> {
     match fs::open(rt, path) {
         Ok(file) => Ok(Opened::new(file)),

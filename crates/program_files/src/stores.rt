@@ -38,7 +38,7 @@ fn length_at(rt: &HostRuntime, path: &str) -> Result<u64, OpenError> {
 
 /// Whether a path is to become a new store: where there is no file, or an empty one. A file of one byte is
 /// no store, and is not opened: the database would take it for a new one that a stop left half made, and
-/// write over it. No clause: of the files at a path the checker knows nothing.
+/// write over it. No guarantee: of the files at a path the checker knows nothing.
 pub fn is_new_at(rt: &HostRuntime, path: &str) -> Result<bool, OpenError> {
     match length_at(rt, path)? {
         0 => Ok(true),
@@ -47,7 +47,7 @@ pub fn is_new_at(rt: &HostRuntime, path: &str) -> Result<bool, OpenError> {
     }
 }
 
-/// The database at a path, opened. No clause: of the files at a path the checker knows nothing.
+/// The database at a path, opened. No guarantee: of the files at a path the checker knows nothing.
 pub fn database_at(rt: &HostRuntime, path: &str) -> Result<Connection<StoreFile>, OpenError> {
     Connection::open(rt, path).map_err(error_of_open)
 }

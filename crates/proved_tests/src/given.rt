@@ -12,7 +12,7 @@ pub(crate) struct Given {
 }
 
 impl Given {
-    /// All that is left, in pieces of so many bytes. No clause: the tests see what it gives.
+    /// All that is left, in pieces of so many bytes. No guarantee: the tests see what it gives.
     pub(crate) fn sound(left: &'static [u8], most: usize) -> Given {
         Given {
             left,

@@ -29,7 +29,7 @@ fn word(answer: &Answer) -> &'static str {
     }
 }
 
-/// An empty warehouse that takes in files of so many bytes, two runs, one group, and three numbers.
+/// An empty warehouse that imports files of so many bytes, two runs, one group, and three numbers.
 fn small_house(alloc: Global, bytes: u16) -> Result<Warehouse<MemStore>, StoreError> {
     let limits = Limits {
         bytes: u64::from(bytes),

@@ -1,4 +1,4 @@
-// A store in memory whose rows are written by hand. No clauses: what the tests over it want fails where it is
+// A store in memory whose rows are written by hand. No guarantees: what the tests over it want fails where it is
 // another.
 use prof_store::{Store, StoreError};
 use sqlite::{Connection, MemStore, params};

@@ -1,4 +1,4 @@
-// A file is taken in.
+// A file is imported.
 ghost use Rattle.std.specs.Prelude.{◌≡◌, ℕ, List, MatchOption, IfOk};
 ghost use Rattle.std.specs.Result.{is_ok};
 ghost use Rattle.std.specs.Str.{IsUtf8};
@@ -133,7 +133,7 @@ fn put_file<S: Alter>(
     }
 }
 
-/// Takes in a file that was read to its end.
+/// Imports a file that was read to its end.
 pub fn take_in<S: Alter>(
     store: &mut Store<S>,
     alloc: Global,

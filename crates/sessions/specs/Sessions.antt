@@ -50,7 +50,7 @@ answers_of turns = map (λ (turn : Turn). turn.answer) turns
 abbrev pub status_after : ℕ → List Answer → ℕ
 status_after status answers = if list_any is_refused answers then 1 else status
 
--- the line of an answer, or that of want of memory, where there was none for its line
+-- the line of an answer, or that of out of memory, where there was none for its line
 abbrev pub IsLineOf : Answer → List ℕ → Type 0
 IsLineOf answer line = (line ≡ line_text answer) ⊎ (line ≡ line_text (Refused Memory))
 

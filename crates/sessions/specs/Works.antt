@@ -18,7 +18,7 @@ use Rattle.sessions.specs.Sessions.{ArePrinted, ArePrintedInPart, answers_of, co
 
 -- ---- a total
 
--- the text of a total, or that of want of memory
+-- the text of a total, or that of out of memory
 abbrev pub total_printed : Result TotalText AllocError → List ℕ
 total_printed (Ok total) = total.text
 total_printed (Err e) = codes "refused: out of memory\n"

@@ -21,7 +21,7 @@ use std::rt::{Files, HostRuntime};
 use warehouse::Warehouse;
 use written_texts::write_text;
 
-/// Prints the line of a refusal. No clause: of what is printed the checker knows nothing.
+/// Prints the line of a refusal. No guarantee: of what is printed the checker knows nothing.
 pub fn print_refused<R: Print>(rt: &R, reason: &str) -> io::Result<ExitCode> {
     println!(rt; "refused: {reason}")?;
     Ok(ExitCode::FAILURE)
@@ -79,14 +79,14 @@ fn work_in<'a, R: Files + AllocGlobal, W: Write + Drop, S: Alter>(
     }
 }
 
-/// Prints why a store was not opened. No clause: of what is printed the checker knows nothing.
+/// Prints why a store was not opened. No guarantee: of what is printed the checker knows nothing.
 fn print_unopened<R: Print>(rt: &R, end: OpenError) -> io::Result<ExitCode> {
     println!(rt; "{}", error_line(end))?;
     Ok(ExitCode::FAILURE)
 }
 
 /// Does a work over a database, and closes it: what was committed is copied from the log into the file;
-/// where that fails, it stands in the log, and the next opening finds it there. No clause: nothing of the
+/// where that fails, it stands in the log, and the next opening finds it there. No guarantee: nothing of the
 /// database comes back. It is generic in the store, though only a store in a file is handed to it: what
 /// it calls is then not looked at once more for that store, which took the prover 30 seconds.
 fn work_and_close<'a, S: Alter>(
@@ -100,14 +100,14 @@ fn work_and_close<'a, S: Alter>(
     came_to
 }
 
-/// Does a work over the store at a path. No clause: as `run_over`.
+/// Does a work over the store at a path. No guarantee: as `run_over`.
 fn work_at<'a>(rt: &'a HostRuntime, db: &str, work: Work<'a>) -> Result<io::Result<u8>, OpenError> {
     let is_new = is_new_at(rt, db)?;
     let conn = database_at(rt, db)?;
     work_and_close(rt, conn, is_new, work)
 }
 
-/// Does a work over the store at a path, and prints why that was not opened. No clause: which history the
+/// Does a work over the store at a path, and prints why that was not opened. No guarantee: which history the
 /// store at a path has, the checker does not know; `Session::run` says what is done over a store of any
 /// history, and which status comes of it.
 fn run_over<'a>(rt: &'a HostRuntime, db: &str, work: Work<'a>) -> io::Result<ExitCode> {
@@ -117,7 +117,7 @@ fn run_over<'a>(rt: &'a HostRuntime, db: &str, work: Work<'a>) -> io::Result<Exi
     }
 }
 
-/// Does what a plan says, and prints what it came to. No clause: which files stand at the paths of a plan
+/// Does what a plan says, and prints what it came to. No guarantee: which files stand at the paths of a plan
 /// the checker does not know; `task_of`, `total_read` and `work_in` say what is made of them.
 pub fn run_plan<'a>(rt: &'a HostRuntime, plan: Plan<'a>) -> io::Result<ExitCode> {
     match task_of(plan) {

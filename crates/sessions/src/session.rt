@@ -30,7 +30,7 @@ use written_texts::write_text;
 /// What is done over an opened store.
 #[derive(Drop)]
 pub enum Work<'a> {
-    /// Take in the files at paths.
+    /// Import the files at paths.
     Import(Kind, ListVec<&'a str>),
     /// Remove runs.
     Remove(ListVec<u32>),
@@ -134,7 +134,7 @@ impl<'a, R: Files + AllocGlobal, W: Write + Drop, S: Alter> Session<'a, R, W, S>
         self.tell(answer)
     }
 
-    /// Takes in a file, under its path as its label.
+    /// Imports a file, under its path as its label.
     fn import_file(&mut self, kind: Kind, path: &'a str) -> io::Result<()>
         ensures limits { self.new.warehouse.limits ≡ self.old.warehouse.limits }
         ensures answered { IsFaithful S.Store self.new.warehouse.store → (outcomes : List Outcome) × WereRead R.File.remaining outcomes
@@ -148,7 +148,7 @@ impl<'a, R: Files + AllocGlobal, W: Write + Drop, S: Alter> Session<'a, R, W, S>
         self.tell(answer)
     }
 
-    /// Takes in files, each under its path as its label.
+    /// Imports files, each under its path as its label.
     fn import(&mut self, kind: Kind, paths: &[&'a str]) -> io::Result<()>
         ensures limits { self.new.warehouse.limits ≡ self.old.warehouse.limits }
         ensures done { IsFaithful S.Store self.new.warehouse.store

@@ -21,7 +21,7 @@ pub record HasEnded (limit : ℕ) (outcomes : List Outcome) : Type 0 where
   pub reads : AreSound limit outcomes
   pub ended : list_any is_end outcomes ≡ true
 
--- why a source was not read to its end: more than the limit came, or the last read failed; want of memory may come at any moment
+-- why a source was not read to its end: more than the limit came, or the last read failed; out of memory may come at any moment
 abbrev pub IsUnreadFor : ℕ → List Outcome → Unread → Type 0
 IsUnreadFor limit outcomes TooLong = limit < length (bytes_of outcomes)
 IsUnreadFor limit outcomes Failed = (before : List Outcome) × AreSound limit before × (outcomes ≡ before ++ outcome.Failed ∷ [])

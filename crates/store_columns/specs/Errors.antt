@@ -7,7 +7,7 @@ use Rattle.store_columns.specs.declared.errors.StoreError.TheVariants as ends
 use Rattle.store_columns.specs.declared.errors.OpenError.{OpenError}
 use Rattle.store_columns.specs.declared.errors.OpenError.TheVariants as opens
 
--- want of memory is told from all that can fail else
+-- out of memory is told from all else that can fail
 abbrev pub error_for : Error → StoreError
 error_for (SqliteFailure OutOfMemory) = ends.Memory
 error_for error = ends.Store

@@ -96,7 +96,7 @@ module _ {S : Type 0} (g : Ghosts S) where
   Links limits [] old new = old ≡ new
   Links limits (turn ∷ later) old new = (mid : Store S) × Answers limits turn.said turn.answer old mid × Links limits later mid new
 
--- want of memory or of the store is refused as such
+-- out of memory, or a failure of the store, is refused as such
 abbrev pub answer_for : Result Answer StoreError → Answer
 answer_for (Ok answer) = answer
 answer_for (Err ends.Memory) = answers.Refused reasons.Memory

@@ -1,4 +1,4 @@
-// Files are taken in, each with its answer.
+// Files are imported, each with its answer.
 ghost use Rattle.std.specs.Prelude.{List};
 ghost use Rattle.prof_tables.specs.Labels.{IsLabel};
 ghost use Rattle.prof_store.specs.Shown.{IsFaithful};
@@ -20,7 +20,7 @@ use store_commands::{groups_answer, runs_answer};
 use store_histories::answer_of;
 use store_reports::{by_answer, verify_answer};
 
-/// Takes in the file that a source gives, under a label in form.
+/// Imports the file that a source gives, under a label in form.
 fn import_labelled<S: Alter, R: Source>(
     store: &mut Store<S>,
     alloc: Global,
@@ -39,7 +39,7 @@ fn import_labelled<S: Alter, R: Source>(
     }
 }
 
-/// Takes in the file that a source gives.
+/// Imports the file that a source gives.
 pub(crate) fn import_in<S: Alter, R: Source>(
     store: &mut Store<S>,
     alloc: Global,

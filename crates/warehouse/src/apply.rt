@@ -19,7 +19,7 @@ use std::collections::VecDeque;
 use store_commands::{change_in, remove_in};
 
 impl<S: Alter> Warehouse<S> {
-    /// Takes in the file that a source gives, a piece at a time. The source is read to its end even
+    /// Imports the file that a source gives, a piece at a time. The source is read to its end even
     /// after a fault of the file, unless a read fails, memory is refused or the file is too long; under
     /// a label out of form it is not read.
     pub fn import<R: Source>(

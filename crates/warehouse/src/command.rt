@@ -6,7 +6,7 @@ use store_commands::GroupChange;
 /// A command; R is what the bytes of a file come from.
 #[derive(Drop)]
 pub enum Command<R> {
-    /// Take in a file, under a label.
+    /// Import a file, under a label.
     Import {
         kind: Kind,
         label: Vec<u8>,
