@@ -44,7 +44,7 @@ fn merge_lent<'a>(
 ) -> Result<(), AllocError>
     requires first { firsts_of (lent_pairs sums.old.entries) + pair.first < 2 ^ 128 }
     requires second { seconds_of (lent_pairs sums.old.entries) + pair.second < 2 ^ 128 }
-    ensures sums { OnOk result (lent_pairs sums.new.entries ≡ pairs_with (lent_place place) pair (lent_pairs sums.old.entries)) }
+    ensures sums { OnOk result (lent_pairs sums.new.entries ≡ pairs_with (lent_place place.entry) pair (lent_pairs sums.old.entries)) }
     ensures total { OnOk result (pair_total (lent_pairs sums.new.entries) ≡ pairs_added (pair_total (lent_pairs sums.old.entries)) pair) }
 {
     match sums.get_mut(&place) {
@@ -104,6 +104,7 @@ fn sums_beside<'a>(
 ) -> Result<BTreeMap<LentPlace<'a>, Pair>, AllocError>
     ensures { IfOk result (λ sums. lent_pairs sums.entries ≡ beside first.now.sums second.now.sums) }
 {
+    let _small = first.total();
     let mut sums = BTreeMap::new(alloc);
     add_firsts(&mut sums, first)?;
     add_seconds(&mut sums, second)?;

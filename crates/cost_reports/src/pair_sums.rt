@@ -21,6 +21,7 @@ fn merge_pair(
     requires first { firsts_of (held_pairs sums.old.entries) + pair.first < 2 ^ 128 }
     requires second { seconds_of (held_pairs sums.old.entries) + pair.second < 2 ^ 128 }
     ensures ok { OnOk result (held_pairs sums.new.entries ≡ pairs_with (held_place place.now) pair (held_pairs sums.old.entries)) }
+    ensures total { OnOk result (pair_total (held_pairs sums.new.entries) ≡ pairs_added (pair_total (held_pairs sums.old.entries)) pair) }
     ensures err { OnErr result (IsUnchanged sums.old sums.new) }
 {
     match sums.get_mut(place) {

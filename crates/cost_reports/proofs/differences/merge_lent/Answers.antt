@@ -25,3 +25,15 @@ returns-in-Some-clause-total c = ap pair_total (returns-in-Some-clause-sums c) �
 
 pub returns-in_ok-insert-in-None-clause-total : goal.returns-in_ok-insert-in-None-clause-total
 returns-in_ok-insert-in-None-clause-total c = ap pair_total (returns-in_ok-insert-in-None-clause-sums c) ∙ total_with (lent_place c.args.place) c.args.pair (lent_pairs c.args.sums.now.entries)
+
+pub plus-requires-clause-first : goal.plus-requires-clause-first
+plus-requires-clause-first c =
+    let found = c.in-Some.ensures.value ∙ seen-lookup lent_place named_cmp c.args.sums.now.entries (lent_place c.args.place) in
+    let least = pair_least (λ (p : Pair). p.first) (is_at (named_cmp (lent_place c.args.place))) (lent_pairs c.args.sums.now.entries) c.in-Some.sum.now found in
+    omega (arith, least, c.requires.first)
+
+pub plus-requires-clause-second : goal.plus-requires-clause-second
+plus-requires-clause-second c =
+    let found = c.in-Some.ensures.value ∙ seen-lookup lent_place named_cmp c.args.sums.now.entries (lent_place c.args.place) in
+    let least = pair_least (λ (p : Pair). p.second) (is_at (named_cmp (lent_place c.args.place))) (lent_pairs c.args.sums.now.entries) c.in-Some.sum.now found in
+    omega (arith, least, c.requires.second)
