@@ -105,7 +105,7 @@ times_more : (n count : ℕ) → suc n * count ≡ count + n * count
 times_more n count = grind arith
 
 total_costs : (count : ℕ) (names : List (List ℕ)) → total_of (names_costs count names) ≡ length names * count
-total_costs count [] = refl
+total_costs count [] = omega arith
 total_costs count (name ∷ names) = ap (λ n. count + n) (total_costs count names) ∙ sym (times_more (length names) count)
 
 -- a stack counts at most once for each of its bytes, and once more

@@ -42,7 +42,8 @@ fn add_functions(
     count: u128,
 ) -> Result<(), AllocError>
     requires small { total_of merged.old.sums + total_of (names_costs count (names_in functions.now.keys)) < 2 ^ 112 }
-    ensures { OnOk result (merged.new ≡ fold with_row merged.old (rows_of (names_costs count (names_in functions.now.keys)))) }
+    ensures sums { OnOk result (merged.new ≡ fold with_row merged.old (rows_of (names_costs count (names_in functions.now.keys)))) }
+    ensures key { merged.new.key ≡ merged.old.key }
 {
     for function in functions.iter() {
         merged.add(&CellRow {
