@@ -17,32 +17,32 @@ use Rattle.cost_reports.proofs.KeyLemmas.{no_more, same_by_key, where_append, ro
 
 -- ---- costs of columns, each as often as it counts
 
-value : List ℕ → (ℕ → ℕ) → ℕ
+pub value : List ℕ → (ℕ → ℕ) → ℕ
 value [] cost = 0
 value (times ∷ coefs) cost = times * cost 0 + value coefs (λ k. cost (suc k))
 
-value_same : (coefs : List ℕ) (f g : ℕ → ℕ) → ((k : ℕ) → f k ≡ g k) → value coefs f ≡ value coefs g
+pub value_same : (coefs : List ℕ) (f g : ℕ → ℕ) → ((k : ℕ) → f k ≡ g k) → value coefs f ≡ value coefs g
 unfolding value
 value_same [] f g e = refl
 value_same (times ∷ coefs) f g e = ap₂ ◌+◌ (ap (λ n. times * n) (e 0)) (value_same coefs (λ k. f (suc k)) (λ k. g (suc k)) (λ k. e (suc k)))
 
-swap_sums : (a b c d : ℕ) → (a + b) + (c + d) ≡ (a + c) + (b + d)
+pub swap_sums : (a b c d : ℕ) → (a + b) + (c + d) ≡ (a + c) + (b + d)
 swap_sums a b c d = omega arith
 
-value_sum : (coefs : List ℕ) (f g : ℕ → ℕ) → value coefs (λ k. f k + g k) ≡ value coefs f + value coefs g
+pub value_sum : (coefs : List ℕ) (f g : ℕ → ℕ) → value coefs (λ k. f k + g k) ≡ value coefs f + value coefs g
 unfolding value
 value_sum [] f g = refl
 value_sum (times ∷ coefs) f g =
     ap₂ ◌+◌ (mul-add times (f 0) (g 0)) (value_sum coefs (λ k. f (suc k)) (λ k. g (suc k)))
     ∙ swap_sums (times * f 0) (times * g 0) (value coefs (λ k. f (suc k))) (value coefs (λ k. g (suc k)))
 
-value_none : (coefs : List ℕ) → value coefs (λ _. 0) ≡ 0
+pub value_none : (coefs : List ℕ) → value coefs (λ _. 0) ≡ 0
 unfolding value
 value_none [] = refl
 value_none (times ∷ coefs) = ap₂ ◌+◌ (mul-zero times) (value_none coefs)
 
 -- past the last cost there is none
-value_weighed : (coefs costs : List ℕ) → weighed coefs costs ≡ value coefs (λ k. slice_index costs k)
+pub value_weighed : (coefs costs : List ℕ) → weighed coefs costs ≡ value coefs (λ k. slice_index costs k)
 unfolding value
 value_weighed [] costs = refl
 value_weighed (times ∷ coefs) [] = sym (value_none (times ∷ coefs))
@@ -71,7 +71,7 @@ row_where : (b : Bool) (coefs : List ℕ) (event cost : ℕ) → (if b then slic
 row_where true coefs event cost = sym (one_row coefs event cost)
 row_where false coefs event cost = sym (value_none coefs)
 
-record_where : (b : Bool) (coefs costs : List ℕ) → (if b then weighed coefs costs else 0) ≡ value coefs (λ k. if b then slice_index costs k else 0)
+pub record_where : (b : Bool) (coefs costs : List ℕ) → (if b then weighed coefs costs else 0) ≡ value coefs (λ k. if b then slice_index costs k else 0)
 record_where true coefs costs = value_weighed coefs costs
 record_where false coefs costs = sym (value_none coefs)
 
@@ -94,7 +94,7 @@ module _ (key : Key) (passes : Spot → Bool) where
       ∙ sym (value_sum coefs (λ k. if tests (spot_of cost) then slice_index cost.costs k else 0) (λ k. own_sum tests k records))
   records_value coefs (Called callee cost ∷ records) = records_value coefs records
 
-  same_costs : (files : List EventRecords) (runs : List EventCells) → StandForEach files runs → cost_where key passes (all_rows runs) ≡ cost_where key passes (rows_of (all_costs files))
+  pub same_costs : (files : List EventRecords) (runs : List EventCells) → StandForEach files runs → cost_where key passes (all_rows runs) ≡ cost_where key passes (rows_of (all_costs files))
   same_costs [] [] stand = refl
   same_costs [] (r ∷ runs) stand = absurd stand
   same_costs (f ∷ files) [] stand = absurd stand

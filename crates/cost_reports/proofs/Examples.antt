@@ -12,10 +12,10 @@ use Rattle.cost_reports.specs.KeyTexts.{key_report_text}
 use Rattle.cost_reports.specs.Verifying.{verified, verify_text}
 use Rattle.cost_reports.specs.declared.cuts.Cut.{Cut}
 
-abbrev own : List ℕ → List ℕ → ℕ → List ℕ → Record
+abbrev pub own : List ℕ → List ℕ → ℕ → List ℕ → Record
 own file function line costs = Own (record { at = 0; object = unknown; file = file; function = function; line = line; costs = costs })
 
-abbrev call : List ℕ → List ℕ → ℕ → List ℕ → Record
+abbrev pub call : List ℕ → List ℕ → ℕ → List ℕ → Record
 call caller callee count costs =
     Called (record { object = unknown; file = codes "file2.c"; function = callee; count = count }) (record { at = 0; object = unknown; file = codes "file1.c"; function = caller; line = 1; costs = costs })
 
@@ -29,7 +29,7 @@ text_by key event cut files = key_report_text event (report_of key cut (costs_by
 -- ---- reports by key
 
 -- what the calls cost is no cost of the caller
-abbrev manual_calls : EventRecords
+abbrev pub manual_calls : EventRecords
 manual_calls = record {
   coefs = 1 ∷ [];
   records =
@@ -51,14 +51,14 @@ unfolding digits
 by_file_of_two = refl
 
 -- equal costs in the order of the key
-abbrev instr_line : EventRecords
+abbrev pub instr_line : EventRecords
 instr_line = record { coefs = 1 ∷ []; records = own unknown (codes "func") 90 (1 ∷ []) ∷ own unknown (codes "func") 90 (5 ∷ []) ∷ own unknown (codes "func") 91 (6 ∷ []) ∷ [] }
 
 by_line_of_instr_line : text_by Line (codes "ticks") all (instr_line ∷ []) ≡ codes "by line ticks\n12 100.00% total\n6 50.00% ???:90\n6 50.00% ???:91\n0 0.00% (rest)\n"
 unfolding digits
 by_line_of_instr_line = refl
 
-abbrev four_lines : EventRecords
+abbrev pub four_lines : EventRecords
 four_lines = record {
   coefs = 1 ∷ [];
   records =

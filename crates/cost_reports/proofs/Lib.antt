@@ -1,7 +1,15 @@
+pub mod CallCostLemmas
+pub mod CallLemmas
 pub mod CostLemmas
 pub mod CutLemmas
+pub mod DifferenceLemmas
+pub mod FrameLemmas
+pub mod InclusiveLemmas
 pub mod KeyLemmas
+pub mod PairLemmas
 pub mod RankLemmas
 pub mod RowLemmas
 pub mod SameSums
+mod CallExamples
+mod DifferenceExamples
 mod Examples

@@ -1,6 +1,11 @@
+pub mod Calls
 pub mod Costs
+pub mod Differences
+pub mod Functions
+pub mod Inclusive
 pub mod KeyReports
 pub mod KeyTexts
+pub mod Pairs
 pub mod Percents
 pub mod Ranking
 pub mod Rows

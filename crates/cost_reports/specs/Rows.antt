@@ -1,15 +1,35 @@
--- The rows of a report as the code holds them, and as merged rows give them.
+-- The rows of reports as the code holds them, and as merged rows give them.
 use Rattle.std.specs.Prelude.{ℕ, List, map}
 use Rattle.cost_rows.specs.Keys.{place_of_row}
 use Rattle.cost_rows.specs.Sums.{Spot}
 use Rattle.cost_rows.specs.declared.rows.CellRow.{CellRow}
+use Rattle.cost_reports.specs.declared.pairs.Pair.{Pair}
+use Rattle.cost_reports.specs.declared.places.LentPlace.{LentPlace}
+use Rattle.cost_reports.specs.declared.rows.CallRow.{CallRow}
+use Rattle.cost_reports.specs.declared.rows.DifferenceRow.{DifferenceRow}
 use Rattle.cost_reports.specs.declared.rows.Row.{Row}
+use Rattle.cost_reports.specs.declared.signed.Signed.{Signed}
+
+abbrev pub lent_place : LentPlace → Spot
+lent_place p = record { object = p.object.now; file = p.file.now; function = p.function.now; line = p.line }
 
 abbrev pub plain_row : Row → Spot × ℕ
-plain_row r = (record { object = r.object.now; file = r.file.now; function = r.function.now; line = r.line }, r.cost.0)
+plain_row r = (lent_place r.place, r.cost.0)
 
 abbrev pub plain_rows : List Row → List (Spot × ℕ)
 plain_rows rows = map plain_row rows
+
+abbrev pub plain_difference : DifferenceRow → Spot × Signed
+plain_difference r = (lent_place r.place, record { size = r.size.0; below = r.below })
+
+abbrev pub plain_differences : List DifferenceRow → List (Spot × Signed)
+plain_differences rows = map plain_difference rows
+
+abbrev pub plain_call : CallRow → Spot × Pair
+plain_call r = (lent_place r.place, record { first = r.cost.0; second = r.count })
+
+abbrev pub plain_calls : List CallRow → List (Spot × Pair)
+plain_calls rows = map plain_call rows
 
 -- the sum that a merged row has
 abbrev pub sum_of_row : CellRow (List ℕ) → Spot × ℕ

@@ -2,18 +2,19 @@
 ghost use Rattle.std.specs.Prelude.{◌≡◌, ◌++◌, ◌<◌, ◌^◌, OnOk, IfOk};
 ghost use Rattle.cost_rows.specs.KeySums.{total_of};
 ghost use Rattle.cost_reports.specs.KeyTexts.{key_name, part_text, cost_text, cost_line, row_text, rows_text, head_text, key_report_text};
-ghost use Rattle.cost_reports.specs.Rows.{plain_row, plain_rows};
+ghost use Rattle.cost_reports.specs.Rows.{lent_place, plain_row, plain_rows};
 
 use crate::key_reports::Report;
 use crate::numbers::push_number;
 use crate::percents::push_percent;
+use crate::places::LentPlace;
 use crate::rows::Row;
 use cg_text::ListVec;
 use cost_rows::Key;
 use printed_names::push_escaped;
 use std::alloc::{AllocError, Global};
 
-fn key_name(key: Key) -> &'static [u8]
+pub(crate) fn key_name(key: Key) -> &'static [u8]
     ensures { result.now ≡ key_name key }
 {
     match key {
@@ -25,21 +26,25 @@ fn key_name(key: Key) -> &'static [u8]
 }
 
 /// Adds the part of a place that a key tells.
-fn push_part(text: &mut Vec<u8>, key: Key, row: &Row<'_>) -> Result<(), AllocError>
-    ensures { OnOk result (text.new.items ≡ text.old.items ++ part_text key (plain_row row.now).0) }
+pub(crate) fn push_part(
+    text: &mut Vec<u8>,
+    key: Key,
+    place: &LentPlace<'_>,
+) -> Result<(), AllocError>
+    ensures { OnOk result (text.new.items ≡ text.old.items ++ part_text key (lent_place place.now)) }
 {
     match key {
-        Key::Object => push_escaped(text, row.object)?,
-        Key::File => push_escaped(text, row.file)?,
+        Key::Object => push_escaped(text, place.object)?,
+        Key::File => push_escaped(text, place.file)?,
         Key::Function => {
-            push_escaped(text, row.object)?;
+            push_escaped(text, place.object)?;
             text.push(b':')?;
-            push_escaped(text, row.function)?;
+            push_escaped(text, place.function)?;
         }
         Key::Line => {
-            push_escaped(text, row.file)?;
+            push_escaped(text, place.file)?;
             text.push(b':')?;
-            push_number(text, u128::from(row.line))?;
+            push_number(text, u128::from(place.line))?;
         }
     }
     Ok(())
@@ -57,7 +62,12 @@ fn push_cost(text: &mut Vec<u8>, cost: u128, total: u128) -> Result<(), AllocErr
 }
 
 /// Adds the line of a cost that is of no part of a place.
-fn push_sum(text: &mut Vec<u8>, cost: u128, total: u128, name: &[u8]) -> Result<(), AllocError>
+pub(crate) fn push_sum(
+    text: &mut Vec<u8>,
+    cost: u128,
+    total: u128,
+    name: &[u8],
+) -> Result<(), AllocError>
     requires { cost < 2 ^ 112 }
     ensures { OnOk result (text.new.items ≡ text.old.items ++ cost_line cost total name.now) }
 {
@@ -75,13 +85,18 @@ fn push_row(text: &mut Vec<u8>, key: Key, total: u128, row: &Row<'_>) -> Result<
 {
     push_cost(text, row.cost.0, total)?;
     text.push(b' ')?;
-    push_part(text, key, row)?;
+    push_part(text, key, &row.place)?;
     text.push(b'\n')?;
     Ok(())
 }
 
 /// Adds the lines of rows.
-fn push_rows(text: &mut Vec<u8>, key: Key, total: u128, rows: &[Row<'_>]) -> Result<(), AllocError>
+pub(crate) fn push_rows(
+    text: &mut Vec<u8>,
+    key: Key,
+    total: u128,
+    rows: &[Row<'_>],
+) -> Result<(), AllocError>
     requires { total_of (plain_rows rows.now) < 2 ^ 112 }
     ensures { OnOk result (text.new.items ≡ text.old.items ++ rows_text key total (plain_rows rows.now)) }
 {

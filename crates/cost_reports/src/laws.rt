@@ -1,12 +1,18 @@
 // Laws of the definitions, each the contract of a function that does nothing.
-ghost use Rattle.std.specs.Prelude.{◌≡◌, ℕ, ◌+◌, ◌*◌, ◌≤◌, Bool, List, sum_by};
+ghost use Rattle.std.specs.Prelude.{◌≡◌, ℕ, ◌+◌, ◌*◌, ◌≤◌, Bool, false, List, [], sum_by};
 ghost use Rattle.cost_rows.specs.KeySums.{total_of, cost_where, rows_of, sums_by};
 ghost use Rattle.cost_rows.specs.Sums.{Spot};
 ghost use Rattle.cost_rows.specs.declared.keys.Key.{Key};
 ghost use Rattle.cost_rows.specs.declared.rows.CellRow.{CellRow};
+ghost use Rattle.cost_rows.specs.declared.rows.StackRow.{StackRow};
+ghost use Rattle.profile_records.specs.Stacks.{Seen};
+ghost use Rattle.cost_reports.specs.Calls.{Calls, CallsStandForEach, EventArcs, HaveFunctions, all_arcs, all_calls, calls_by, sum_of, totals_of};
 ghost use Rattle.cost_reports.specs.Costs.{EventRecords, EventCells, StandForEach, all_costs, all_rows, costs_by};
+ghost use Rattle.cost_reports.specs.Differences.{difference_of, gains_of, losses_of, negative};
+ghost use Rattle.cost_reports.specs.Inclusive.{SameStacks, inclusive_costs, inclusive_rows};
 ghost use Rattle.cost_reports.specs.KeyReports.{rank_cmp, enough, report_of, IsShortest};
 ghost use Rattle.cost_reports.specs.Ranking.{ranked};
+ghost use Rattle.cost_reports.specs.declared.call_sides.CallSide.{CallSide};
 ghost use Rattle.cost_reports.specs.declared.cuts.Cut.{Cut};
 
 /// What a report shows and what is left come to the total, and the total is that of the rows that
@@ -39,4 +45,39 @@ pub fn cells_come_to_the_records()
     ensures sums { (key : Key) (files : List EventRecords) (runs : List EventCells) → StandForEach files runs
         → sums_by key (all_rows runs) ≡ costs_by key files }
     ensures total { (key : Key) (files : List EventRecords) → total_of (costs_by key files) ≡ total_of (all_costs files) }
+{}
+
+/// The rows of a difference come to its total: those above 0 less those below 0 are what the first
+/// sums come to less what the second do.
+pub fn differences_come_to_the_total()
+    ensures { (key : Key) (firsts seconds : List (Spot × ℕ)) → let rows = (difference_of key firsts seconds).rows in
+        gains_of rows + total_of seconds ≡ losses_of rows + total_of firsts }
+{}
+
+/// Sums less themselves are no difference, and a difference backwards is its negative.
+pub fn differences_turn_round()
+    ensures itself { (key : Key) (sums : List (Spot × ℕ))
+        → difference_of key sums sums ≡ record { key = key; rows = []; total = record { size = 0; below = false } } }
+    ensures backwards { (key : Key) (firsts seconds : List (Spot × ℕ)) → difference_of key seconds firsts ≡ negative (difference_of key firsts seconds) }
+{}
+
+/// Over all functions that call or are called, each once, the totals of the callers add up to what
+/// the calls come to, and so do the totals of the callees.
+pub fn callers_and_callees_come_to_the_calls()
+    ensures { (side : CallSide) (calls : List Calls) (functions : List Spot) → HaveFunctions functions calls → totals_of side calls functions ≡ sum_of calls }
+{}
+
+/// Where the rows of calls of each run come to the call records of its file, for every test of calls
+/// and each column, and are there where these are, the callers and callees of a function are those of
+/// the records.
+pub fn calls_come_to_the_records()
+    ensures { (side : CallSide) (f : Spot) (files : List EventRecords) (runs : List EventArcs) → CallsStandForEach files runs
+        → calls_by side f (all_arcs runs) ≡ calls_by side f (all_calls files) }
+{}
+
+/// Where cells, rows of calls and rows of stacks come to the records and the stacks of their files,
+/// the inclusive costs of the rows are those of the files.
+pub fn inclusive_costs_come_to_the_records()
+    ensures { (files : List EventRecords) (seen : List Seen) (cells : List EventCells) (arcs : List EventArcs) (rows : List (StackRow (List ℕ)))
+        → StandForEach files cells → CallsStandForEach files arcs → SameStacks rows seen → inclusive_rows cells arcs rows ≡ inclusive_costs files seen }
 {}

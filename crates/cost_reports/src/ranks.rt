@@ -6,6 +6,7 @@ ghost use Rattle.cost_reports.specs.Ranking.{ranked};
 ghost use Rattle.cost_reports.specs.Rows.{plain_rows};
 
 use crate::cuts::Cut;
+use crate::places::place_of_row;
 use crate::rows::Row;
 use cost_rows::Merged;
 use std::alloc::{AllocError, Global};
@@ -19,10 +20,7 @@ fn rows_of<'a>(alloc: Global, merged: &'a Merged) -> Result<Vec<Row<'a>>, AllocE
     for row in merged.rows() {
         rows.push(Row {
             cost: Reverse(row.cost),
-            object: row.object,
-            file: row.file,
-            function: row.function,
-            line: row.line,
+            place: place_of_row(&row),
         })?;
     }
     Ok(rows)
@@ -36,7 +34,7 @@ fn rank(rows: &mut Vec<Row<'_>>)
 }
 
 /// The sums as rows, the greatest cost first, and equal costs in the order of their parts.
-fn ranked_rows<'a>(alloc: Global, merged: &'a Merged) -> Result<Vec<Row<'a>>, AllocError>
+pub(crate) fn ranked_rows<'a>(alloc: Global, merged: &'a Merged) -> Result<Vec<Row<'a>>, AllocError>
     ensures order { IfOk result (λ rows. plain_rows rows.items ≡ ranked rank_cmp merged.now.sums) }
     ensures total { IfOk result (λ rows. total_of (plain_rows rows.items) ≡ total_of merged.now.sums) }
 {

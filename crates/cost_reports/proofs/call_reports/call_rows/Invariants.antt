@@ -1,0 +1,8 @@
+use Rattle.std.proofs.Common.{◌≡◌, ◌++◌}
+use Rattle.cost_reports.specs.Pairs.{held_pairs}
+use Rattle.cost_reports.specs.Rows.{plain_calls}
+use Rattle.cost_reports.proofs.call_reports.call_rows.Given as goal
+
+-- the rows so far, and those to come
+abbrev pub invariant-loop-place : goal.invariant-loop-place
+invariant-loop-place l = plain_calls l.rows.items ++ held_pairs l.place-iterator ≡ l.sums

@@ -1,0 +1,119 @@
+-- What functions cost with all that they call, straight from the records and the stacks.
+use Rattle.std.specs.Prelude.{◌≡◌, ℕ, ◌+◌, Bool, if◌then◌else◌, List, [], ◌∷◌, ◌++◌, map, fold, codes}
+use Rattle.std.specs.Borrow.{Bor}
+use Rattle.std.specs.BTreeSet.{insert_key}
+use Rattle.cg_text.specs.Names.{unknown}
+use Rattle.cost_rows.specs.KeySums.{Sums, rows_of, sums_by, total_of, with_row}
+use Rattle.cost_rows.specs.Stacks.{bytes_cmp}
+use Rattle.cost_rows.specs.StackSums.{frames_sum}
+use Rattle.cost_rows.specs.Sums.{Spot}
+use Rattle.cost_rows.specs.WalkSums.{stacks_count}
+use Rattle.cost_rows.specs.declared.keys.Key.TheVariants.{Function}
+use Rattle.cost_rows.specs.declared.rows.CellRow.{CellRow}
+use Rattle.cost_rows.specs.declared.rows.StackRow.{StackRow}
+use Rattle.profile_records.specs.Frames.{functions_of}
+use Rattle.profile_records.specs.Stacks.{Seen}
+use Rattle.printed_names.specs.Escapes.{escaped}
+use Rattle.cost_reports.specs.Calls.{Calls, EventArcs, all_arcs, all_calls}
+use Rattle.cost_reports.specs.Costs.{EventCells, EventRecords, all_costs, all_rows}
+use Rattle.cost_reports.specs.Functions.{function_spot, is_one_function}
+use Rattle.cost_reports.specs.KeyReports.{rank_cmp}
+use Rattle.cost_reports.specs.KeyTexts.{cost_line, rows_text}
+use Rattle.cost_reports.specs.Ranking.{ranked}
+
+-- what calls to another function cost their callers
+abbrev pub outward_costs : List Calls → List (Spot × ℕ)
+outward_costs [] = []
+outward_costs (c ∷ calls) = if is_one_function c.caller c.callee then outward_costs calls else (c.caller, c.sum.first) ∷ outward_costs calls
+
+-- the functions that have a frame in a stack, each once
+abbrev pub functions_in : List ℕ → List (List ℕ)
+functions_in frames = fold (insert_key bytes_cmp) [] (functions_of frames)
+
+-- a count at each of some functions, which are of no known object
+abbrev pub names_costs : ℕ → List (List ℕ) → List (Spot × ℕ)
+names_costs count names = map (λ name. (function_spot unknown name, count)) names
+
+-- each stack counts once for each of its functions
+abbrev pub frame_costs : List Seen → List (Spot × ℕ)
+frame_costs [] = []
+frame_costs (s ∷ seen) = names_costs s.stack.count (functions_in s.stack.frames) ++ frame_costs seen
+
+-- what all stacks count
+abbrev pub count_of : List Seen → ℕ
+count_of [] = 0
+count_of (s ∷ seen) = s.stack.count + count_of seen
+
+-- what functions cost with all that they call, and what all cost by themselves
+pub record InclusiveCosts : Type 0 where
+  pub sums : List (Spot × ℕ)
+  pub total : ℕ
+
+-- self costs and the costs of calls from a function to another, of Callgrind files; and the stacks of folded ones
+abbrev pub inclusive_costs : List EventRecords → List Seen → InclusiveCosts
+inclusive_costs files seen = record {
+  sums = sums_by Function (rows_of (all_costs files ++ (outward_costs (all_calls files) ++ frame_costs seen)));
+  total = total_of (all_costs files) + count_of seen;
+}
+
+-- the greatest first
+pub record RankedCosts : Type 0 where
+  pub rows : List (Spot × ℕ)
+  pub total : ℕ
+
+abbrev pub inclusive_report : InclusiveCosts → RankedCosts
+inclusive_report costs = record { rows = ranked rank_cmp costs.sums; total = costs.total }
+
+-- ---- the text
+
+abbrev pub inclusive_head : List ℕ → List ℕ
+inclusive_head event = codes "inclusive " ++ (escaped event ++ codes "\n")
+
+abbrev pub inclusive_text : List ℕ → RankedCosts → List ℕ
+inclusive_text event r = inclusive_head event ++ (cost_line r.total r.total (codes "total") ++ rows_text Function r.total r.rows)
+
+-- ---- costs that are handed in row by row
+
+-- as sums by function
+abbrev pub by_function : InclusiveCosts → Sums
+by_function held = record { key = Function; sums = held.sums }
+
+-- own costs of a Callgrind file
+abbrev pub with_own : InclusiveCosts → CellRow (List ℕ) → InclusiveCosts
+with_own held row = record { sums = (with_row (by_function held) row).sums; total = held.total + row.cost }
+
+-- what calls cost
+abbrev pub with_outward : InclusiveCosts → Calls → InclusiveCosts
+with_outward held c = record held { sums = (fold with_row (by_function held) (rows_of (outward_costs (c ∷ [])))).sums }
+
+-- a stack of a folded file
+abbrev pub with_stack : InclusiveCosts → StackRow (List ℕ) → InclusiveCosts
+with_stack held r = record {
+  sums = (fold with_row (by_function held) (rows_of (names_costs r.count (functions_in r.stack)))).sums;
+  total = held.total + r.count;
+}
+
+-- names that are lent
+abbrev pub names_in : List (Bor (List ℕ)) → List (List ℕ)
+names_in lent = map (λ (name : Bor (List ℕ)). name.now) lent
+
+-- ---- from rows
+
+abbrev pub row_costs : List (StackRow (List ℕ)) → List (Spot × ℕ)
+row_costs [] = []
+row_costs (r ∷ rows) = names_costs r.count (functions_in r.stack) ++ row_costs rows
+
+abbrev pub rows_count : List (StackRow (List ℕ)) → ℕ
+rows_count [] = 0
+rows_count (r ∷ rows) = r.count + rows_count rows
+
+-- cells and calls of Callgrind runs, and stacks of folded ones
+abbrev pub inclusive_rows : List EventCells → List EventArcs → List (StackRow (List ℕ)) → InclusiveCosts
+inclusive_rows cells arcs stacks = record {
+  sums = sums_by Function (all_rows cells ++ rows_of (outward_costs (all_arcs arcs) ++ row_costs stacks));
+  total = total_of (sums_by Function (all_rows cells)) + rows_count stacks;
+}
+
+-- rows of stacks come to the stacks that were seen, for every test of their frames
+abbrev pub SameStacks : List (StackRow (List ℕ)) → List Seen → Type 0
+SameStacks rows seen = (test : List ℕ → Bool) → stacks_count test rows ≡ frames_sum test seen

@@ -1,0 +1,167 @@
+// Who calls a function, and whom it calls.
+ghost use Rattle.std.specs.Prelude.{◌≡◌, ◌+◌, ◌<◌, ◌^◌, [], OnOk, OnErr, IfOk};
+ghost use Rattle.cost_reports.specs.Calls.{call_cmp, call_report_of, calls_of_row, with_calls};
+ghost use Rattle.cost_reports.specs.Functions.{function_spot, is_one_function};
+ghost use Rattle.cost_reports.specs.Pairs.{firsts_of, seconds_of, held_place, AreBelow};
+ghost use Rattle.cost_reports.specs.Ranking.{ranked};
+ghost use Rattle.cost_reports.specs.Rows.{plain_calls};
+
+use crate::call_sides::CallSide;
+use crate::pair_sums::PairSums;
+use crate::pairs::Pair;
+use crate::places::{HeldPlace, LentPlace, function_place};
+use crate::rows::CallRow;
+use cost_rows::ArcRow;
+use std::alloc::{AllocError, Global};
+use std::cmp::Reverse;
+use std::marker::Model;
+
+/// The calls of one function, added up by the function on the other side: what they cost, and how
+/// many there were.
+#[derive(Drop)]
+pub struct CallSums {
+    side: CallSide,
+    function: HeldPlace,
+    sums: PairSums,
+}
+
+impl Model for CallSums {
+    ghost use Rattle.cost_reports.specs.Calls.{CallsOfFunction};
+    ghost use Rattle.cost_reports.specs.Pairs.{held_place};
+
+    ghost Value = { CallsOfFunction };
+
+    ghost view = { λ a. record { side = a.side; function = held_place a.function; sums = a.sums } };
+}
+
+/// A function of an object, with names of its own.
+fn held_function(alloc: Global, object: &[u8], function: &[u8]) -> Result<HeldPlace, AllocError>
+    ensures { IfOk result (λ place. held_place place ≡ function_spot object.now function.now) }
+{
+    let mut place = HeldPlace::new(alloc);
+    place.set(&function_place(object, function))?;
+    Ok(place)
+}
+
+/// Whether a function is one of an object and a name.
+fn is_function(place: &HeldPlace, object: &[u8], function: &[u8]) -> bool
+    ensures { result ≡ is_one_function (held_place place.now) (function_spot object.now function.now) }
+{
+    place.object.as_slice() == object && place.function.as_slice() == function
+}
+
+impl CallSums {
+    /// Of the calls to a function, or from it; no row was added.
+    pub fn new(
+        alloc: Global,
+        side: CallSide,
+        object: &[u8],
+        function: &[u8],
+    ) -> Result<CallSums, AllocError>
+        ensures { IfOk result (λ calls. calls ≡ record { side = side; function = function_spot object.now function.now; sums = [] }) }
+    {
+        Ok(CallSums {
+            side,
+            function: held_function(alloc, object, function)?,
+            sums: PairSums::new(alloc),
+        })
+    }
+
+    /// What the calls cost.
+    pub fn cost(&self) -> u128
+        ensures value { result ≡ firsts_of self.now.sums }
+        ensures small { result < 2 ^ 112 }
+    {
+        self.sums.total().first
+    }
+
+    /// How many calls there were.
+    pub fn count(&self) -> u128
+        ensures value { result ≡ seconds_of self.now.sums }
+        ensures small { result < 2 ^ 112 }
+    {
+        self.sums.total().second
+    }
+
+    /// Adds a row of calls, if they are to the function, or from it. A refusal leaves the sums as
+    /// they were.
+    pub fn add(&mut self, row: &ArcRow<&[u8], u128>) -> Result<(), AllocError>
+        requires small { AreBelow (firsts_of self.old.sums + row.now.costs) (seconds_of self.old.sums + row.now.count) }
+        ensures ok { OnOk result (self.new ≡ with_calls self.old (calls_of_row row.now)) }
+        ensures err { OnErr result (self.new ≡ self.old) }
+    {
+        let (is_asked, other) = match self.side {
+            CallSide::Callers => (
+                is_function(&self.function, row.called_object, row.called_function),
+                function_place(row.object, row.function),
+            ),
+            CallSide::Callees => (
+                is_function(&self.function, row.object, row.function),
+                function_place(row.called_object, row.called_function),
+            ),
+        };
+        if !is_asked {
+            return Ok(());
+        }
+        let calls = Pair {
+            first: row.costs,
+            second: row.count,
+        };
+        self.sums.add(&other, calls)
+    }
+}
+
+/// The callers of a function, or those that it calls, the greatest cost first. The names of its rows
+/// are those of the sums that it is of.
+#[derive(Drop)]
+pub struct CallReport<'a> {
+    pub(crate) side: CallSide,
+    pub(crate) function: LentPlace<'a>,
+    pub(crate) rows: Vec<CallRow<'a>>,
+    pub(crate) total: Pair,
+}
+
+impl<'a> Model for CallReport<'a> {
+    ghost use Rattle.cost_reports.specs.Calls.{RankedCalls};
+    ghost use Rattle.cost_reports.specs.Rows.{lent_place, plain_calls};
+
+    ghost Value = { RankedCalls };
+
+    ghost view = { λ r. record { side = r.side; function = lent_place r.function; rows = plain_calls r.rows.items; total = r.total } };
+}
+
+/// The functions on the other side with their sums, in order.
+fn call_rows(alloc: Global, sums: &PairSums) -> Result<Vec<CallRow<'_>>, AllocError>
+    ensures { IfOk result (λ rows. plain_calls rows.items ≡ sums.now) }
+{
+    let mut rows = Vec::with_capacity(alloc, sums.len())?;
+    for (place, pair) in sums.iter() {
+        rows.push(CallRow {
+            cost: Reverse(pair.first),
+            place: place.lend(),
+            count: pair.second,
+        })?;
+    }
+    Ok(rows)
+}
+
+/// The greatest cost first, and equal costs in the order of their functions.
+fn rank(rows: &mut Vec<CallRow<'_>>)
+    ensures { plain_calls rows.new.items ≡ ranked call_cmp (plain_calls rows.old.items) }
+{
+    rows.sort_unstable();
+}
+
+/// The callers or callees of a function. Memory is the only refusal.
+pub fn calls<'a>(alloc: Global, sums: &'a CallSums) -> Result<CallReport<'a>, AllocError>
+    ensures { IfOk result (λ report. report ≡ call_report_of sums.now) }
+{
+    let mut rows = call_rows(alloc, &sums.sums)?;
+    rank(&mut rows);
+    Ok(CallReport {
+        side: sums.side,
+        function: sums.function.lend(),
+        rows,
+        total: sums.sums.total(),
+    })
+}

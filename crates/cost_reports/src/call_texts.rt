@@ -1,0 +1,101 @@
+// The text of a report of calls.
+ghost use Rattle.std.specs.Prelude.{◌≡◌, ◌++◌, OnOk, IfOk, codes};
+ghost use Rattle.cost_reports.specs.Calls.{side_name, pair_text, call_line, call_row_text, call_lines, call_head, call_report_text};
+ghost use Rattle.cost_reports.specs.Rows.{lent_place, plain_call, plain_calls};
+
+use crate::call_reports::CallReport;
+use crate::call_sides::CallSide;
+use crate::key_texts::push_part;
+use crate::numbers::push_number;
+use crate::pairs::Pair;
+use crate::places::LentPlace;
+use crate::rows::CallRow;
+use cg_text::Items;
+use cost_rows::Key;
+use printed_names::push_escaped;
+use std::alloc::{AllocError, Global};
+
+fn side_name(side: CallSide) -> &'static [u8]
+    ensures { result.now ≡ side_name side }
+{
+    match side {
+        CallSide::Callers => b"callers",
+        CallSide::Callees => b"callees",
+    }
+}
+
+/// Adds what calls cost, and how many there were.
+fn push_pair(text: &mut Vec<u8>, calls: Pair) -> Result<(), AllocError>
+    ensures { OnOk result (text.new.items ≡ text.old.items ++ pair_text calls) }
+{
+    push_number(text, calls.first)?;
+    text.push(b' ')?;
+    push_number(text, calls.second)?;
+    Ok(())
+}
+
+/// Adds the line of all calls.
+fn push_total(text: &mut Vec<u8>, calls: Pair) -> Result<(), AllocError>
+    ensures { OnOk result (text.new.items ≡ text.old.items ++ call_line calls (codes "total")) }
+{
+    push_pair(text, calls)?;
+    text.push(b' ')?;
+    text.extend_from_slice(b"total\n")?;
+    Ok(())
+}
+
+/// Adds the line of a row.
+fn push_row(text: &mut Vec<u8>, row: &CallRow<'_>) -> Result<(), AllocError>
+    ensures { OnOk result (text.new.items ≡ text.old.items ++ call_row_text (plain_call row.now)) }
+{
+    let calls = Pair {
+        first: row.cost.0,
+        second: row.count,
+    };
+    push_pair(text, calls)?;
+    text.push(b' ')?;
+    push_part(text, Key::Function, &row.place)?;
+    text.push(b'\n')?;
+    Ok(())
+}
+
+/// Adds the lines of rows.
+fn push_rows(text: &mut Vec<u8>, rows: &[CallRow<'_>]) -> Result<(), AllocError>
+    ensures { OnOk result (text.new.items ≡ text.old.items ++ call_lines (plain_calls rows.now)) }
+{
+    for row in rows {
+        push_row(text, row)?;
+    }
+    Ok(())
+}
+
+/// Adds whose calls they are, and of which event.
+fn push_head(
+    text: &mut Vec<u8>,
+    side: CallSide,
+    event: &[u8],
+    function: &LentPlace<'_>,
+) -> Result<(), AllocError>
+    ensures { OnOk result (text.new.items ≡ text.old.items ++ call_head side event.now (lent_place function.now)) }
+{
+    text.extend_from_slice(side_name(side))?;
+    text.push(b' ')?;
+    push_escaped(text, event)?;
+    text.push(b' ')?;
+    push_part(text, Key::Function, function)?;
+    text.push(b'\n')?;
+    Ok(())
+}
+
+impl CallReport<'_> {
+    /// The lines of the calls of an event.
+    pub fn text(&self, alloc: Global, event: &[u8]) -> Result<Items<u8>, AllocError>
+        ensures { IfOk result (λ text. text ≡ call_report_text event.now self.now) }
+    {
+        let mut text = Vec::new(alloc);
+        push_head(&mut text, self.side, event, &self.function)?;
+        push_total(&mut text, self.total)?;
+        push_rows(&mut text, &self.rows)?;
+        Ok(Items::from_vec(text))
+    }
+}

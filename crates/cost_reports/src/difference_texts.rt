@@ -1,0 +1,64 @@
+// The text of a difference.
+ghost use Rattle.std.specs.Prelude.{◌≡◌, ◌++◌, OnOk, IfOk};
+ghost use Rattle.cost_reports.specs.Differences.{difference_line, difference_lines, difference_head, difference_text};
+ghost use Rattle.cost_reports.specs.Rows.{plain_difference, plain_differences};
+
+use crate::differences::Difference;
+use crate::key_texts::{key_name, push_part};
+use crate::rows::DifferenceRow;
+use crate::signed::{Signed, push_signed};
+use cg_text::Items;
+use cost_rows::Key;
+use printed_names::push_escaped;
+use std::alloc::{AllocError, Global};
+
+/// Adds the line of a row.
+fn push_row(text: &mut Vec<u8>, key: Key, row: &DifferenceRow<'_>) -> Result<(), AllocError>
+    ensures { OnOk result (text.new.items ≡ text.old.items ++ difference_line key (plain_difference row.now)) }
+{
+    let difference = Signed {
+        size: row.size.0,
+        below: row.below,
+    };
+    push_signed(text, difference)?;
+    text.push(b' ')?;
+    push_part(text, key, &row.place)?;
+    text.push(b'\n')?;
+    Ok(())
+}
+
+/// Adds the lines of rows.
+fn push_rows(text: &mut Vec<u8>, key: Key, rows: &[DifferenceRow<'_>]) -> Result<(), AllocError>
+    ensures { OnOk result (text.new.items ≡ text.old.items ++ difference_lines key (plain_differences rows.now)) }
+{
+    for row in rows {
+        push_row(text, key, row)?;
+    }
+    Ok(())
+}
+
+/// Adds what the difference is by, and of which event.
+fn push_head(text: &mut Vec<u8>, key: Key, event: &[u8]) -> Result<(), AllocError>
+    ensures { OnOk result (text.new.items ≡ text.old.items ++ difference_head key event.now) }
+{
+    text.extend_from_slice(b"subtract ")?;
+    text.extend_from_slice(key_name(key))?;
+    text.push(b' ')?;
+    push_escaped(text, event)?;
+    text.push(b'\n')?;
+    Ok(())
+}
+
+impl Difference<'_> {
+    /// The lines of the difference of an event.
+    pub fn text(&self, alloc: Global, event: &[u8]) -> Result<Items<u8>, AllocError>
+        ensures { IfOk result (λ text. text ≡ difference_text event.now self.now) }
+    {
+        let mut text = Vec::new(alloc);
+        push_head(&mut text, self.key, event)?;
+        push_signed(&mut text, self.total)?;
+        text.extend_from_slice(b" total\n")?;
+        push_rows(&mut text, self.key, &self.rows)?;
+        Ok(Items::from_vec(text))
+    }
+}

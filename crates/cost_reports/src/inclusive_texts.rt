@@ -1,0 +1,33 @@
+// The text of inclusive costs.
+ghost use Rattle.std.specs.Prelude.{◌≡◌, ◌++◌, OnOk, IfOk};
+ghost use Rattle.cost_reports.specs.Inclusive.{inclusive_head, inclusive_text};
+
+use crate::inclusives::InclusiveReport;
+use crate::key_texts::{push_rows, push_sum};
+use cg_text::Items;
+use cost_rows::Key;
+use printed_names::push_escaped;
+use std::alloc::{AllocError, Global};
+
+/// Adds of which event the costs are.
+fn push_head(text: &mut Vec<u8>, event: &[u8]) -> Result<(), AllocError>
+    ensures { OnOk result (text.new.items ≡ text.old.items ++ inclusive_head event.now) }
+{
+    text.extend_from_slice(b"inclusive ")?;
+    push_escaped(text, event)?;
+    text.push(b'\n')?;
+    Ok(())
+}
+
+impl InclusiveReport<'_> {
+    /// The lines of the inclusive costs of an event.
+    pub fn text(&self, alloc: Global, event: &[u8]) -> Result<Items<u8>, AllocError>
+        ensures { IfOk result (λ text. text ≡ inclusive_text event.now self.now) }
+    {
+        let mut text = Vec::new(alloc);
+        push_head(&mut text, event)?;
+        push_sum(&mut text, self.total, self.total, b"total")?;
+        push_rows(&mut text, Key::Function, self.total, &self.rows)?;
+        Ok(Items::from_vec(text))
+    }
+}

@@ -1,0 +1,164 @@
+// What functions cost with all that they call.
+ghost use Rattle.std.specs.Prelude.{◌≡◌, ◌+◌, ◌*◌, ◌<◌, ◌^◌, [], fold, length, OnOk, IfOk};
+ghost use Rattle.cost_rows.specs.KeySums.{total_of, with_row, rows_of};
+ghost use Rattle.cost_rows.specs.Plain.{plain_cell, plain_stack};
+ghost use Rattle.cost_rows.specs.declared.keys.Key.TheVariants.{Function};
+ghost use Rattle.cost_reports.specs.Calls.{calls_of_row};
+ghost use Rattle.cost_reports.specs.Inclusive.{inclusive_report, names_in, names_costs, with_own, with_outward, with_stack};
+ghost use Rattle.cost_reports.specs.Pairs.{AreBelow};
+ghost use Rattle.cost_reports.specs.Rows.{plain_rows};
+
+use crate::frames::functions_in;
+use crate::ranks::ranked_rows;
+use crate::rows::Row;
+use cost_rows::{ArcRow, CellRow, Key, Merged, StackRow};
+use std::alloc::{AllocError, Global};
+use std::collections::BTreeSet;
+use std::marker::Model;
+
+/// What functions cost with all that they call, added up row by row: contracts see a cost above 0
+/// for each function, in order, and what all cost by themselves.
+#[derive(Drop)]
+pub struct InclusiveSums {
+    alloc: Global,
+    merged: Merged,
+    total: u128,
+    ghost by_function: { merged.key ≡ Function },
+    ghost small: { total < 2 ^ 112 },
+}
+
+impl Model for InclusiveSums {
+    ghost use Rattle.cost_reports.specs.Inclusive.{InclusiveCosts};
+
+    ghost Value = { InclusiveCosts };
+
+    ghost view = { λ a. record { sums = a.merged.sums; total = a.total } };
+}
+
+/// Adds a count at each of some functions, which are of no known object.
+fn add_functions(
+    merged: &mut Merged,
+    functions: &BTreeSet<&[u8]>,
+    count: u128,
+) -> Result<(), AllocError>
+    requires small { total_of merged.old.sums + total_of (names_costs count (names_in functions.now.keys)) < 2 ^ 112 }
+    ensures sums { OnOk result (merged.new ≡ fold with_row merged.old (rows_of (names_costs count (names_in functions.now.keys)))) }
+    ensures key { merged.new.key ≡ merged.old.key }
+{
+    for function in functions.iter() {
+        merged.add(&CellRow {
+            object: b"???".as_slice(),
+            file: b"???".as_slice(),
+            function: *function,
+            line: 0,
+            event: 0,
+            cost: count,
+        })?;
+    }
+    Ok(())
+}
+
+impl InclusiveSums {
+    /// No row was added. Takes no memory.
+    pub fn new(alloc: Global) -> InclusiveSums
+        ensures sums { result.sums ≡ [] }
+        ensures total { result.total ≡ 0 }
+    {
+        InclusiveSums {
+            alloc,
+            merged: Merged::new(alloc, Key::Function),
+            total: 0,
+        }
+    }
+
+    /// What all functions cost by themselves.
+    pub fn total(&self) -> u128
+        ensures value { result ≡ self.now.total }
+        ensures small { result < 2 ^ 112 }
+    {
+        self.total
+    }
+
+    /// What is held of all functions: a cost counts once for each function that it is told of.
+    pub fn sum(&self) -> u128
+        ensures value { result ≡ total_of self.now.sums }
+        ensures small { result < 2 ^ 112 }
+    {
+        self.merged.total()
+    }
+
+    /// Adds a row of own costs of a run that is no folded one.
+    pub fn add_own(&mut self, row: &CellRow<&[u8]>) -> Result<(), AllocError>
+        requires small { AreBelow (total_of self.old.sums + row.now.cost) (self.old.total + row.now.cost) }
+        ensures { OnOk result (self.new ≡ with_own self.old (plain_cell row.now)) }
+    {
+        self.merged.add(row)?;
+        self.total += row.cost;
+        Ok(())
+    }
+
+    /// Adds a row of calls, which costs its caller what the calls cost, unless they are of the caller
+    /// itself.
+    pub fn add_calls(&mut self, row: &ArcRow<&[u8], u128>) -> Result<(), AllocError>
+        requires small { total_of self.old.sums + row.now.costs < 2 ^ 112 }
+        ensures { OnOk result (self.new ≡ with_outward self.old (calls_of_row row.now)) }
+    {
+        if row.object == row.called_object && row.function == row.called_function {
+            return Ok(());
+        }
+        self.merged.add(&CellRow {
+            object: row.object,
+            file: b"???".as_slice(),
+            function: row.function,
+            line: 0,
+            event: 0,
+            cost: row.costs,
+        })
+    }
+
+    /// Adds a row of stacks of a folded run: its count once for each function that has a frame in it.
+    pub fn add_stack(&mut self, row: &StackRow<&[u8]>) -> Result<(), AllocError>
+        requires sum { total_of self.old.sums + (length row.now.stack.now + 1) * row.now.count < 2 ^ 112 }
+        requires total { self.old.total + row.now.count < 2 ^ 112 }
+        ensures { OnOk result (self.new ≡ with_stack self.old (plain_stack row.now)) }
+    {
+        let functions = functions_in(self.alloc, row.stack)?;
+        add_functions(&mut self.merged, &functions, row.count)?;
+        self.total += row.count;
+        Ok(())
+    }
+}
+
+/// What functions cost with all that they call, the greatest cost first, and what all cost by
+/// themselves. The names of its rows are those of the sums that it is of.
+#[derive(Drop)]
+pub struct InclusiveReport<'a> {
+    pub(crate) rows: Vec<Row<'a>>,
+    pub(crate) total: u128,
+    ghost small_rows: { total_of (plain_rows rows.items) < 2 ^ 112 },
+    ghost small_total: { total < 2 ^ 112 },
+}
+
+impl<'a> Model for InclusiveReport<'a> {
+    ghost use Rattle.cost_reports.specs.Inclusive.{RankedCosts};
+    ghost use Rattle.cost_reports.specs.Rows.{plain_rows};
+
+    ghost Value = { RankedCosts };
+
+    ghost view = { λ r. record { rows = plain_rows r.rows.items; total = r.total } };
+}
+
+/// The inclusive costs of functions. Memory is the only refusal.
+pub fn inclusive<'a>(
+    alloc: Global,
+    sums: &'a InclusiveSums,
+) -> Result<InclusiveReport<'a>, AllocError>
+    ensures { IfOk result (λ report. report ≡ inclusive_report sums.now) }
+{
+    let rows = ranked_rows(alloc, &sums.merged)?;
+    let _small = sums.merged.total();
+    Ok(InclusiveReport {
+        rows,
+        total: sums.total,
+    })
+}
