@@ -10,7 +10,7 @@ use crate::numbers::push_number;
 use crate::pairs::Pair;
 use crate::places::LentPlace;
 use crate::rows::CallRow;
-use cg_text::Items;
+use cg_text::ListVec;
 use cost_rows::Key;
 use printed_names::push_escaped;
 use std::alloc::{AllocError, Global};
@@ -89,13 +89,13 @@ fn push_head(
 
 impl CallReport<'_> {
     /// The lines of the calls of an event.
-    pub fn text(&self, alloc: Global, event: &[u8]) -> Result<Items<u8>, AllocError>
+    pub fn text(&self, alloc: Global, event: &[u8]) -> Result<ListVec<u8>, AllocError>
         ensures { IfOk result (λ text. text ≡ call_report_text event.now self.now) }
     {
         let mut text = Vec::new(alloc);
         push_head(&mut text, self.side, event, &self.function)?;
         push_total(&mut text, self.total)?;
         push_rows(&mut text, &self.rows)?;
-        Ok(Items::from_vec(text))
+        Ok(ListVec::from_vec(text))
     }
 }

@@ -7,7 +7,7 @@ use crate::differences::Difference;
 use crate::key_texts::{key_name, push_part};
 use crate::rows::DifferenceRow;
 use crate::signed::{Signed, push_signed};
-use cg_text::Items;
+use cg_text::ListVec;
 use cost_rows::Key;
 use printed_names::push_escaped;
 use std::alloc::{AllocError, Global};
@@ -51,7 +51,7 @@ fn push_head(text: &mut Vec<u8>, key: Key, event: &[u8]) -> Result<(), AllocErro
 
 impl Difference<'_> {
     /// The lines of the difference of an event.
-    pub fn text(&self, alloc: Global, event: &[u8]) -> Result<Items<u8>, AllocError>
+    pub fn text(&self, alloc: Global, event: &[u8]) -> Result<ListVec<u8>, AllocError>
         ensures { IfOk result (λ text. text ≡ difference_text event.now self.now) }
     {
         let mut text = Vec::new(alloc);
@@ -59,6 +59,6 @@ impl Difference<'_> {
         push_signed(&mut text, self.total)?;
         text.extend_from_slice(b" total\n")?;
         push_rows(&mut text, self.key, &self.rows)?;
-        Ok(Items::from_vec(text))
+        Ok(ListVec::from_vec(text))
     }
 }

@@ -4,7 +4,7 @@ ghost use Rattle.cost_reports.specs.Inclusive.{inclusive_head, inclusive_text};
 
 use crate::inclusives::InclusiveReport;
 use crate::key_texts::{push_rows, push_sum};
-use cg_text::Items;
+use cg_text::ListVec;
 use cost_rows::Key;
 use printed_names::push_escaped;
 use std::alloc::{AllocError, Global};
@@ -21,13 +21,13 @@ fn push_head(text: &mut Vec<u8>, event: &[u8]) -> Result<(), AllocError>
 
 impl InclusiveReport<'_> {
     /// The lines of the inclusive costs of an event.
-    pub fn text(&self, alloc: Global, event: &[u8]) -> Result<Items<u8>, AllocError>
+    pub fn text(&self, alloc: Global, event: &[u8]) -> Result<ListVec<u8>, AllocError>
         ensures { IfOk result (λ text. text ≡ inclusive_text event.now self.now) }
     {
         let mut text = Vec::new(alloc);
         push_head(&mut text, event)?;
         push_sum(&mut text, self.total, self.total, b"total")?;
         push_rows(&mut text, Key::Function, self.total, &self.rows)?;
-        Ok(Items::from_vec(text))
+        Ok(ListVec::from_vec(text))
     }
 }

@@ -11,7 +11,7 @@ use command_line::Plan;
 use file_totals::{TotalText, total_file};
 use histories::Limits;
 use prof_store::{OpenError, Store};
-use program_files::{database_at, error_line, is_new_at, store_in};
+use program_files::{StoreFile, database_at, error_line, is_new_at, store_in};
 use sqlite::{Alter, Connection};
 use std::alloc::AllocError;
 use std::io;
@@ -85,17 +85,28 @@ fn print_unopened<R: Print>(rt: &R, end: OpenError) -> io::Result<ExitCode> {
     Ok(ExitCode::FAILURE)
 }
 
-/// Does a work over a database, and closes it: what was committed is copied from the log into the file;
-/// where that fails, it stands in the log, and the next opening finds it there. No guarantee: nothing of the
-/// database comes back. It is generic in the store, though only a store in a file is handed to it: what
-/// it calls is then not looked at once more for that store, which took the prover 30 seconds.
-fn work_and_close<'a, S: Alter>(
+/// Does a work over a database, as `work_in`. No guarantee: it stands between that and a database in a
+/// file, so that what `work_in` guarantees is not looked at once more for that type, which takes the
+/// prover some twenty seconds, and nothing of it would reach the caller, who closes the database.
+fn work_on<'a, S: Alter>(
     rt: &'a HostRuntime,
     conn: Connection<S>,
     is_new: bool,
     work: Work<'a>,
+) -> (Result<io::Result<u8>, OpenError>, Connection<S>) {
+    work_in(rt, io::writer(rt), conn, is_new, work)
+}
+
+/// Does a work over a database in a file, and closes it: what was committed is copied from the log into
+/// the file; where that fails, it stands in the log, and the next opening finds it there. No guarantee:
+/// nothing of the database comes back.
+fn work_and_close<'a>(
+    rt: &'a HostRuntime,
+    conn: Connection<StoreFile>,
+    is_new: bool,
+    work: Work<'a>,
 ) -> Result<io::Result<u8>, OpenError> {
-    let (came_to, conn) = work_in(rt, io::writer(rt), conn, is_new, work);
+    let (came_to, conn) = work_on(rt, conn, is_new, work);
     let _closed = conn.close();
     came_to
 }
