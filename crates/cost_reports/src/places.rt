@@ -61,7 +61,7 @@ fn replace(held: &mut Vec<u8>, name: &[u8]) -> Result<(), AllocError>
 }
 
 impl HeldPlace {
-    /// No names, and line 0. No clause: `set` replaces all of it before it is read.
+    /// No names, and line 0. No guarantee: `set` replaces all of it before it is read.
     pub(crate) fn new(alloc: Global) -> HeldPlace {
         HeldPlace {
             object: Vec::new(alloc),

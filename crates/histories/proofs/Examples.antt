@@ -65,7 +65,7 @@ ticks = codes "positions: instr line\nevents: ticks\nfn=func\n0x80001234 90 1\n+
 abbrev named : ℕ → Kind → List ℕ → File
 named n kind bytes = record { number = n; kind = kind; label = codes "a"; bytes = bytes }
 
--- ---- one file, taken in, held, removed and taken in again
+-- ---- one file, imported, held, removed and imported again
 
 abbrev taken : History
 taken = turn (import Callgrind cycles) (Run 1) ∷ []

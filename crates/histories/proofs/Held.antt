@@ -60,7 +60,7 @@ held_still h said answer still =
     ∙ ap₂ ◌++◌ (filter_all (stays said answer) (held h) (λ f. ap not (still_removes f.number said answer still))) (still_taken said answer still)
     ∙ append-nil (held h)
 
--- a file is taken in
+-- a file is imported
 pub held_put : (h : History) (kind : Kind) (label : List ℕ) (outcomes : List Outcome) (n : ℕ) → held (h ++ record { said = Import kind label outcomes; answer = Run n } ∷ []) ≡ held h ++ record { number = n; kind = kind; label = label; bytes = bytes_of outcomes } ∷ []
 held_put h kind label outcomes n =
     held_more h (record { said = Import kind label outcomes; answer = Run n }) ∙ ap (λ l. l ++ taken (Import kind label outcomes) (Run n)) (filter_all (stays (Import kind label outcomes) (Run n)) (held h) (λ f. refl))

@@ -34,7 +34,7 @@ pub record AreNumbered (h : History) : Type 0 where
   pub below : AreBelow (next h) (held h)
   pub rising : Pairs IsBefore (held h)
 
--- a turn takes in no file, or one under the next number whose digest no file has
+-- a turn imports no file, or one under the next number whose digest no file has
 pub record IsNew (h : History) (answer : Answer) (f : File) : Type 0 where
   pub number : f.number ≡ next h
   pub digest : number_of (sha256 f.bytes) (held h) ≡ None

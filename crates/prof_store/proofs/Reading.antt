@@ -1,4 +1,4 @@
--- From what a query leaves to the clauses of a call: it changes nothing.
+-- From what a query leaves to the guarantees of a call: it changes nothing.
 use Rattle.std.specs.Result.{OnOk, IfOk, IfErr, is_ok}
 use Rattle.std.specs.Option.{MatchOption}
 use Rattle.std.proofs.Common.{◌≡◌, Ok, Err, Result, Option, Some, None, true}

@@ -197,7 +197,7 @@ module _ {R W S X : Type 0} (g : Ghosts S) (contents : W → Option (List ℕ)) 
 pub none_read : {F : Type 0} (remaining : F → Option (List ℕ)) → WereRead remaining []
 none_read remaining = (None, refl)
 
--- what came of a source that was made anew
+-- what came of a source that was newly made
 come_of : {R F D : Type 0} (remaining : F → Option (List ℕ)) (from to : FileSource R F D) (outcomes : List Outcome) → Reads (FileReads remaining) from outcomes to → Reads (IsReadOf remaining) from.file outcomes to.file
 come_of remaining from to [] same = ap (λ (s : FileSource _ _ _). s.file) same
 come_of remaining from to (o ∷ outcomes) it = (it.0.file, it.1, come_of remaining it.0 to outcomes it.2)

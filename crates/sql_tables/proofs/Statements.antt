@@ -1,4 +1,4 @@
--- One statement that writes, by itself or in a transaction: from what it makes of the rows to the clauses of a call.
+-- One statement that writes, by itself or in a transaction: from what it makes of the rows to the guarantees of a call.
 use Rattle.std.proofs.Common.{◌≡◌, ◌⊎◌, inl, inr, ℕ, List, false, if◌then◌else◌, Option, None, Ok, Err, Result, IsTrue, sym, ap, subst, subst₂, ◌∙◌, append-nil}
 use Rattle.std.proofs.lemmas.Bool.{cases_Bool}
 use Rattle.sqlite_value.specs.Order.{Row}

@@ -6,7 +6,7 @@ use Rattle.sessions.specs.Sessions.{AreImports}
 use Rattle.sessions.proofs.SessionLemmas.{SoFar}
 use Rattle.sessions.proofs.session.Session.import.Given as goal
 
--- the files so far were taken in, and the others are to come
+-- the files so far were imported, and the others are to come
 abbrev pub invariant-loop-path : goal.invariant-loop-path
 invariant-loop-path g l = record {
   limits : l.self.warehouse.limits ≡ l.fn.self.warehouse.limits;
