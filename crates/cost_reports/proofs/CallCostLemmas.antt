@@ -15,7 +15,7 @@ use Rattle.cost_reports.specs.Functions.{function_spot, is_one_function}
 use Rattle.cost_reports.specs.declared.call_sides.CallSide.{CallSide}
 use Rattle.cost_reports.specs.declared.call_sides.CallSide.TheVariants.{Callers, Callees}
 use Rattle.cost_reports.specs.declared.pairs.Pair.{Pair}
-use Rattle.cost_reports.proofs.CostLemmas.{value, value_same, value_sum, value_none, value_weighed, record_where}
+use Rattle.cost_reports.proofs.CostLemmas.{value, value_same, value_sum, value_none, record_where}
 use Rattle.cost_reports.proofs.PairLemmas.{pair, measure, told, firsts_by, seconds_by, keys_by, sorted_by}
 use Rattle.cost_reports.proofs.SameSums.{same_merged}
 

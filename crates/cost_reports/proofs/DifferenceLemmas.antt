@@ -1,11 +1,10 @@
 -- Differences: what their rows come to, and the same backwards.
-use Rattle.std.proofs.Common.{inl, inr, ◌≡◌, ℕ, zero, suc, ◌+◌, ◌-◌, ◌==◌, ◌<◌, ◌≤◌, nat_lt, Bool, true, false, not, ◌&&◌, ◌||◌, List, [], ◌∷◌, ◌++◌, map, drop, if◌then◌else◌, refl, sym, ap, ap₂, subst, ◌∙◌, arith}
+use Rattle.std.proofs.Common.{inl, inr, ◌≡◌, ℕ, zero, suc, ◌+◌, ◌-◌, ◌==◌, ◌≤◌, nat_lt, Bool, true, false, not, ◌&&◌, ◌||◌, List, [], ◌∷◌, ◌++◌, map, drop, if◌then◌else◌, refl, sym, ap, ap₂, subst, ◌∙◌, arith}
 use Rattle.std.specs.declared.cmp.Ordering.{Ordering}
 use Rattle.std.specs.declared.cmp.Ordering.TheVariants.{Less, Equal, Greater}
 use Rattle.std.specs.List.{list_any, AllByRecursion}
 use Rattle.std.specs.List.Sorted.{IsStrictlySortedBy}
 use Rattle.std.specs.Map.{keys_of}
-use Rattle.std.specs.Ordering.{nat_cmp, bool_cmp, ordering_then}
 use Rattle.std.proofs.lemmas.Bool.{cases_Bool, eqb-true, eqb-false, ltb-true, ltb-false, lt-ltb, eq-eqb}
 use Rattle.std.proofs.lemmas.Map.Keys.{sorted_head, sorted_tail}
 use Rattle.cost_rows.specs.Keys.{named_cmp}
@@ -14,9 +13,10 @@ use Rattle.cost_rows.specs.Merging.{sum_where}
 use Rattle.cost_rows.specs.Sums.{Spot}
 use Rattle.cost_rows.specs.declared.keys.Key.{Key}
 use Rattle.cost_rows.proofs.KeysLemmas.{named_cmp-total, named_cmp-apart}
-use Rattle.cost_reports.specs.Differences.{less, as_first, as_second, beside, differing, difference_cmp, difference_of, gains_of, losses_of, negated, negated_row, negative}
+use Rattle.cost_reports.specs.Differences.{less, beside, differing, difference_cmp, difference_of, gains_of, losses_of, negated, negated_row, negative, on_side}
 use Rattle.cost_reports.specs.Pairs.{firsts_of, pairs_by, seconds_of}
 use Rattle.cost_reports.specs.Ranking.{placed, among, ranked}
+use Rattle.cost_reports.specs.declared.differences.Side.TheVariants.{First, Second}
 use Rattle.cost_reports.specs.declared.pairs.Pair.{Pair}
 use Rattle.cost_reports.specs.declared.signed.Signed.{Signed}
 use Rattle.cost_reports.proofs.PairLemmas.{pair, measure, told, firsts_by, seconds_by, keys_by, sorted_by}
@@ -30,26 +30,26 @@ nothing : (b : Bool) (n : ℕ) → (if b then n else n) ≡ n
 nothing true n = refl
 nothing false n = refl
 
-no_firsts : (passes : Spot → Bool) (seconds : List (Spot × ℕ)) → sum_where passes (λ (p : Pair). p.first) (map as_second seconds) ≡ 0
+no_firsts : (passes : Spot → Bool) (seconds : List (Spot × ℕ)) → sum_where passes (λ (p : Pair). p.first) (map (on_side Second) seconds) ≡ 0
 no_firsts passes [] = refl
 no_firsts passes (e ∷ seconds) = let here = nothing (passes e.0) 0 in let rest = no_firsts passes seconds in omega (arith, here, rest)
 
-firsts_where : (passes : Spot → Bool) (firsts seconds : List (Spot × ℕ)) → sum_where passes (λ (p : Pair). p.first) (map as_first firsts ++ map as_second seconds) ≡ sum_where passes (λ n. n) firsts
+firsts_where : (passes : Spot → Bool) (firsts seconds : List (Spot × ℕ)) → sum_where passes (λ (p : Pair). p.first) (map (on_side First) firsts ++ map (on_side Second) seconds) ≡ sum_where passes (λ n. n) firsts
 firsts_where passes [] seconds = no_firsts passes seconds
 firsts_where passes (e ∷ firsts) seconds = ap (λ n. (if passes e.0 then e.1 else 0) + n) (firsts_where passes firsts seconds)
 
-seconds_alone : (passes : Spot → Bool) (seconds : List (Spot × ℕ)) → sum_where passes (λ (p : Pair). p.second) (map as_second seconds) ≡ sum_where passes (λ n. n) seconds
+seconds_alone : (passes : Spot → Bool) (seconds : List (Spot × ℕ)) → sum_where passes (λ (p : Pair). p.second) (map (on_side Second) seconds) ≡ sum_where passes (λ n. n) seconds
 seconds_alone passes [] = refl
 seconds_alone passes (e ∷ seconds) = ap (λ n. (if passes e.0 then e.1 else 0) + n) (seconds_alone passes seconds)
 
-seconds_where : (passes : Spot → Bool) (firsts seconds : List (Spot × ℕ)) → sum_where passes (λ (p : Pair). p.second) (map as_first firsts ++ map as_second seconds) ≡ sum_where passes (λ n. n) seconds
+seconds_where : (passes : Spot → Bool) (firsts seconds : List (Spot × ℕ)) → sum_where passes (λ (p : Pair). p.second) (map (on_side First) firsts ++ map (on_side Second) seconds) ≡ sum_where passes (λ n. n) seconds
 seconds_where passes [] seconds = seconds_alone passes seconds
 seconds_where passes (e ∷ firsts) seconds =
     let here = nothing (passes e.0) 0 in
     let rest = seconds_where passes firsts seconds in
     omega (arith, here, rest)
 
-keys_alone : (passes : Spot → Bool) (seconds : List (Spot × ℕ)) → list_any passes (keys_of (map as_second seconds)) ≡ list_any passes (keys_of seconds)
+keys_alone : (passes : Spot → Bool) (seconds : List (Spot × ℕ)) → list_any passes (keys_of (map (on_side Second) seconds)) ≡ list_any passes (keys_of seconds)
 keys_alone passes [] = refl
 keys_alone passes (e ∷ seconds) = ap (λ b. passes e.0 || b) (keys_alone passes seconds)
 
@@ -57,26 +57,26 @@ or_or : (a b d : Bool) → (a || (b || d)) ≡ ((a || b) || d)
 or_or true b d = refl
 or_or false b d = refl
 
-keys_where : (passes : Spot → Bool) (firsts seconds : List (Spot × ℕ)) → list_any passes (keys_of (map as_first firsts ++ map as_second seconds)) ≡ (list_any passes (keys_of firsts) || list_any passes (keys_of seconds))
+keys_where : (passes : Spot → Bool) (firsts seconds : List (Spot × ℕ)) → list_any passes (keys_of (map (on_side First) firsts ++ map (on_side Second) seconds)) ≡ (list_any passes (keys_of firsts) || list_any passes (keys_of seconds))
 keys_where passes [] seconds = keys_alone passes seconds
 keys_where passes (e ∷ firsts) seconds =
     ap (λ b. passes e.0 || b) (keys_where passes firsts seconds) ∙ or_or (passes e.0) (list_any passes (keys_of firsts)) (list_any passes (keys_of seconds))
 
 -- ---- one side alone
 
-firsts_alone : (firsts : List (Spot × ℕ)) → firsts_of (map as_first firsts) ≡ total_of firsts
+firsts_alone : (firsts : List (Spot × ℕ)) → firsts_of (map (on_side First) firsts) ≡ total_of firsts
 firsts_alone [] = refl
 firsts_alone (e ∷ firsts) = ap (λ n. e.1 + n) (firsts_alone firsts)
 
-pub first_total : (firsts : List (Spot × ℕ)) → firsts_of (pairs_by (map as_first firsts)) ≡ total_of firsts
-first_total firsts = firsts_by (λ _. true) (map as_first firsts) ∙ firsts_alone firsts
+pub first_total : (firsts : List (Spot × ℕ)) → firsts_of (pairs_by (map (on_side First) firsts)) ≡ total_of firsts
+first_total firsts = firsts_by (λ _. true) (map (on_side First) firsts) ∙ firsts_alone firsts
 
-no_seconds : (firsts : List (Spot × ℕ)) → seconds_of (map as_first firsts) ≡ 0
+no_seconds : (firsts : List (Spot × ℕ)) → seconds_of (map (on_side First) firsts) ≡ 0
 no_seconds [] = refl
 no_seconds (e ∷ firsts) = let rest = no_seconds firsts in omega (arith, rest)
 
-pub second_total : (firsts : List (Spot × ℕ)) → seconds_of (pairs_by (map as_first firsts)) ≡ 0
-second_total firsts = seconds_by (λ _. true) (map as_first firsts) ∙ no_seconds firsts
+pub second_total : (firsts : List (Spot × ℕ)) → seconds_of (pairs_by (map (on_side First) firsts)) ≡ 0
+second_total firsts = seconds_by (λ _. true) (map (on_side First) firsts) ∙ no_seconds firsts
 
 -- ---- the sides exchanged
 
@@ -104,33 +104,33 @@ or_turned false false = refl
 beside_turned : (firsts seconds : List (Spot × ℕ)) → beside seconds firsts ≡ map turned (beside firsts seconds)
 beside_turned firsts seconds =
     same_merged named_cmp-total named_cmp-apart measure told (beside seconds firsts) (map turned (beside firsts seconds))
-    (sorted_by (map as_first seconds ++ map as_second firsts))
-    (subst (IsStrictlySortedBy named_cmp) (sym (turned_keys (beside firsts seconds))) (sorted_by (map as_first firsts ++ map as_second seconds)))
+    (sorted_by (map (on_side First) seconds ++ map (on_side Second) firsts))
+    (subst (IsStrictlySortedBy named_cmp) (sym (turned_keys (beside firsts seconds))) (sorted_by (map (on_side First) firsts ++ map (on_side Second) seconds)))
     keys sums
   where
     keys : (passes : Spot → Bool) → list_any passes (keys_of (beside seconds firsts)) ≡ list_any passes (keys_of (map turned (beside firsts seconds)))
     keys passes =
-        keys_by passes (map as_first seconds ++ map as_second firsts)
+        keys_by passes (map (on_side First) seconds ++ map (on_side Second) firsts)
         ∙ keys_where passes seconds firsts
         ∙ or_turned (list_any passes (keys_of seconds)) (list_any passes (keys_of firsts))
         ∙ sym (keys_where passes firsts seconds)
-        ∙ sym (keys_by passes (map as_first firsts ++ map as_second seconds))
+        ∙ sym (keys_by passes (map (on_side First) firsts ++ map (on_side Second) seconds))
         ∙ ap (list_any passes) (sym (turned_keys (beside firsts seconds)))
 
     first_sums : (passes : Spot → Bool) → sum_where passes (λ (p : Pair). p.first) (beside seconds firsts) ≡ sum_where passes (λ (p : Pair). p.first) (map turned (beside firsts seconds))
     first_sums passes =
-        firsts_by passes (map as_first seconds ++ map as_second firsts)
+        firsts_by passes (map (on_side First) seconds ++ map (on_side Second) firsts)
         ∙ firsts_where passes seconds firsts
         ∙ sym (seconds_where passes firsts seconds)
-        ∙ sym (seconds_by passes (map as_first firsts ++ map as_second seconds))
+        ∙ sym (seconds_by passes (map (on_side First) firsts ++ map (on_side Second) seconds))
         ∙ sym (turned_firsts passes (beside firsts seconds))
 
     second_sums : (passes : Spot → Bool) → sum_where passes (λ (p : Pair). p.second) (beside seconds firsts) ≡ sum_where passes (λ (p : Pair). p.second) (map turned (beside firsts seconds))
     second_sums passes =
-        seconds_by passes (map as_first seconds ++ map as_second firsts)
+        seconds_by passes (map (on_side First) seconds ++ map (on_side Second) firsts)
         ∙ seconds_where passes seconds firsts
         ∙ sym (firsts_where passes firsts seconds)
-        ∙ sym (firsts_by passes (map as_first firsts ++ map as_second seconds))
+        ∙ sym (firsts_by passes (map (on_side First) firsts ++ map (on_side Second) seconds))
         ∙ sym (turned_seconds passes (beside firsts seconds))
 
     sums : (i : ℕ) (passes : Spot → Bool) → sum_where passes (measure i) (beside seconds firsts) ≡ sum_where passes (measure i) (map turned (beside firsts seconds))
@@ -257,7 +257,7 @@ less_backwards key firsts seconds =
     ap₂ (λ rows total. record { key = key; rows = rows; total = total })
     (ap (λ es. ranked difference_cmp (differing es)) (beside_turned firsts seconds)
     ∙ ap (ranked difference_cmp) (differing_back (beside firsts seconds))
-    ∙ ranked_back (differing (beside firsts seconds)) (rising_differing (beside firsts seconds) (sorted_by (map as_first firsts ++ map as_second seconds))))
+    ∙ ranked_back (differing (beside firsts seconds)) (rising_differing (beside firsts seconds) (sorted_by (map (on_side First) firsts ++ map (on_side Second) seconds))))
     (less_back (total_of firsts) (total_of seconds))
 
 -- ---- what rows come to
@@ -319,7 +319,7 @@ come_to_the_total key firsts seconds =
     let rows = ranked difference_cmp (differing es) in
     let gains : gains_of rows ≡ rows_sum gain (differing es) = gains_sum rows ∙ sum_ranked gain (differing es) in
     let losses : losses_of rows ≡ rows_sum loss (differing es) = losses_sum rows ∙ sum_ranked loss (differing es) in
-    let first : firsts_of es ≡ total_of firsts = firsts_by (λ _. true) (map as_first firsts ++ map as_second seconds) ∙ firsts_where (λ _. true) firsts seconds in
-    let second : seconds_of es ≡ total_of seconds = seconds_by (λ _. true) (map as_first firsts ++ map as_second seconds) ∙ seconds_where (λ _. true) firsts seconds in
+    let first : firsts_of es ≡ total_of firsts = firsts_by (λ _. true) (map (on_side First) firsts ++ map (on_side Second) seconds) ∙ firsts_where (λ _. true) firsts seconds in
+    let second : seconds_of es ≡ total_of seconds = seconds_by (λ _. true) (map (on_side First) firsts ++ map (on_side Second) seconds) ∙ seconds_where (λ _. true) firsts seconds in
     let sums = differing_sum es in
     omega (arith, gains, losses, first, second, sums)

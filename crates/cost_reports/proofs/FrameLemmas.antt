@@ -1,5 +1,5 @@
 -- The frames of a stack, one after another, and the set of their functions.
-use Rattle.std.proofs.Common.{inl, inr, zero, suc, ◌≡◌, ℕ, ◌+◌, ◌*◌, ◌<◌, ◌≤◌, Bool, true, false, cond, List, [], ◌∷◌, map, fold, length, take, drop, slice_index, refl, sym, ap, ◌∙◌, arith}
+use Rattle.std.proofs.Common.{zero, suc, ◌≡◌, ℕ, ◌+◌, ◌*◌, ◌<◌, ◌≤◌, Bool, true, false, cond, List, [], ◌∷◌, map, fold, length, take, drop, slice_index, refl, sym, ap, ◌∙◌, arith}
 use Rattle.std.specs.declared.cmp.Ordering.{Ordering}
 use Rattle.std.specs.declared.cmp.Ordering.TheVariants.{Less, Equal, Greater}
 use Rattle.std.specs.Borrow.{Bor}
@@ -7,7 +7,6 @@ use Rattle.std.specs.BTreeSet.{insert_key}
 use Rattle.std.specs.List.{slice_split, onto_first}
 use Rattle.std.specs.Ordering.{match_ordering}
 use Rattle.std.proofs.Math.Nat.{mul-le-mul_right}
-use Rattle.std.proofs.lemmas.Bool.{cases_Bool}
 use Rattle.std.proofs.lemmas.List.Splits.{slice_split-cons_yes, slice_split-cons_no}
 use Rattle.memchr.specs.Find.{Nowhere, Passes}
 use Rattle.cost_rows.specs.KeySums.{total_of}

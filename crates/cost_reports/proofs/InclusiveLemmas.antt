@@ -17,7 +17,7 @@ use Rattle.cost_reports.specs.Costs.{EventCells, EventRecords, StandForEach, all
 use Rattle.cost_reports.specs.Functions.{function_spot, is_one_function}
 use Rattle.cost_reports.specs.Inclusive.{SameStacks, frame_costs, functions_in, inclusive_costs, inclusive_rows, names_costs, outward_costs, row_costs, rows_count, count_of}
 use Rattle.cost_reports.proofs.CostLemmas.{value, value_same, value_sum, value_none, record_where, cells_are_records, same_costs}
-use Rattle.cost_reports.proofs.KeyLemmas.{same_by_key, total_of_rows, where_append, rows_append}
+use Rattle.cost_reports.proofs.KeyLemmas.{same_by_key, total_by_key, total_of_rows, where_append, rows_append}
 
 -- ---- stacks, each as often as it weighs
 
@@ -218,10 +218,10 @@ module _ (passes : Spot → Bool) where
 
 -- the inclusive costs of rows are those of the records and the stacks
 pub inclusive_are_records : (files : List EventRecords) (seen : List Seen) (cells : List EventCells) (arcs : List EventArcs) (rows : List (StackRow (List ℕ)))
-    → StandForEach files cells → CallsStandForEach files arcs → SameStacks rows seen → inclusive_rows cells arcs rows ≡ inclusive_costs files seen
+    → StandForEach files cells → CallsStandForEach files arcs → SameStacks rows seen → inclusive_rows (all_rows cells) (all_arcs arcs) rows ≡ inclusive_costs files seen
 inclusive_are_records files seen cells arcs rows own calls stacks =
     ap₂ (λ sums total. record { sums = sums; total = total })
     (same_by_key Function (all_rows cells ++ rows_of (outward_costs (all_arcs arcs) ++ row_costs rows)) (rows_of (all_costs files ++ (outward_costs (all_calls files) ++ frame_costs seen)))
     (λ passes. same_where passes files cells arcs rows seen own calls stacks))
-    (ap₂ ◌+◌ (ap total_of (cells_are_records Function files cells own) ∙ total_of_rows Function (all_costs files))
+    (ap₂ ◌+◌ (sym (total_by_key Function (all_rows cells)) ∙ ap total_of (cells_are_records Function files cells own) ∙ total_of_rows Function (all_costs files))
     (counts_of_rows rows ∙ same_tests rows seen stacks (λ _. true) ∙ sym (counts_of_seen seen)))

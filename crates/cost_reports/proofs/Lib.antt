@@ -1,3 +1,4 @@
+pub mod AddedLemmas
 pub mod CallCostLemmas
 pub mod CallLemmas
 pub mod CostLemmas

@@ -11,6 +11,8 @@ use Rattle.printed_names.specs.Escapes.{escaped}
 use Rattle.cost_reports.specs.KeyTexts.{key_name, part_text}
 use Rattle.cost_reports.specs.Pairs.{pairs_by}
 use Rattle.cost_reports.specs.Ranking.{ranked}
+use Rattle.cost_reports.specs.declared.differences.Side.{Side}
+use Rattle.cost_reports.specs.declared.differences.Side.TheVariants.{First, Second}
 use Rattle.cost_reports.specs.declared.pairs.Pair.{Pair}
 use Rattle.cost_reports.specs.declared.signed.Signed.{Signed}
 
@@ -18,16 +20,17 @@ use Rattle.cost_reports.specs.declared.signed.Signed.{Signed}
 abbrev pub less : ℕ → ℕ → Signed
 less m n = record { size = (m - n) + (n - m); below = nat_lt m n }
 
--- a sum of the first, and one of the second
-abbrev pub as_first : Spot × ℕ → Spot × Pair
-as_first e = (e.0, record { first = e.1; second = 0 })
+-- a number on one side, and none on the other
+abbrev pub pair_on : Side → ℕ → Pair
+pair_on First n = record { first = n; second = 0 }
+pair_on Second n = record { first = 0; second = n }
 
-abbrev pub as_second : Spot × ℕ → Spot × Pair
-as_second e = (e.0, record { first = 0; second = e.1 })
+abbrev pub on_side : Side → Spot × ℕ → Spot × Pair
+on_side side e = (e.0, pair_on side e.1)
 
 -- the sums of both, side by side
 abbrev pub beside : List (Spot × ℕ) → List (Spot × ℕ) → List (Spot × Pair)
-beside firsts seconds = pairs_by (map as_first firsts ++ map as_second seconds)
+beside firsts seconds = pairs_by (map (on_side First) firsts ++ map (on_side Second) seconds)
 
 -- the first sum of each place less the second, where they differ
 abbrev pub differing : List (Spot × Pair) → List (Spot × Signed)

@@ -1,5 +1,5 @@
 -- What functions cost with all that they call, straight from the records and the stacks.
-use Rattle.std.specs.Prelude.{◌≡◌, ℕ, ◌+◌, Bool, if◌then◌else◌, List, [], ◌∷◌, ◌++◌, map, fold, codes}
+use Rattle.std.specs.Prelude.{◌≡◌, ℕ, ◌+◌, Bool, if◌then◌else◌, List, [], ◌∷◌, ◌++◌, map, fold, sum_by, codes}
 use Rattle.std.specs.Borrow.{Bor}
 use Rattle.std.specs.BTreeSet.{insert_key}
 use Rattle.cg_text.specs.Names.{unknown}
@@ -14,8 +14,8 @@ use Rattle.cost_rows.specs.declared.rows.StackRow.{StackRow}
 use Rattle.profile_records.specs.Frames.{functions_of}
 use Rattle.profile_records.specs.Stacks.{Seen}
 use Rattle.printed_names.specs.Escapes.{escaped}
-use Rattle.cost_reports.specs.Calls.{Calls, EventArcs, all_arcs, all_calls}
-use Rattle.cost_reports.specs.Costs.{EventCells, EventRecords, all_costs, all_rows}
+use Rattle.cost_reports.specs.Calls.{Calls, all_calls}
+use Rattle.cost_reports.specs.Costs.{EventRecords, all_costs}
 use Rattle.cost_reports.specs.Functions.{function_spot, is_one_function}
 use Rattle.cost_reports.specs.KeyReports.{rank_cmp}
 use Rattle.cost_reports.specs.KeyTexts.{cost_line, rows_text}
@@ -97,6 +97,21 @@ with_stack held r = record {
 abbrev pub names_in : List (Bor (List ℕ)) → List (List ℕ)
 names_in lent = map (λ (name : Bor (List ℕ)). name.now) lent
 
+-- a row that is handed in
+pub data InclusiveRow : Type 0 where
+  OfOwn : CellRow (List ℕ) → InclusiveRow
+  OfCalls : Calls → InclusiveRow
+  OfStack : StackRow (List ℕ) → InclusiveRow
+
+abbrev pub with_inclusive : InclusiveCosts → InclusiveRow → InclusiveCosts
+with_inclusive held (OfOwn row) = with_own held row
+with_inclusive held (OfCalls c) = with_outward held c
+with_inclusive held (OfStack row) = with_stack held row
+
+-- before the first row
+abbrev pub no_costs : InclusiveCosts
+no_costs = record { sums = []; total = 0 }
+
 -- ---- from rows
 
 abbrev pub row_costs : List (StackRow (List ℕ)) → List (Spot × ℕ)
@@ -107,12 +122,31 @@ abbrev pub rows_count : List (StackRow (List ℕ)) → ℕ
 rows_count [] = 0
 rows_count (r ∷ rows) = r.count + rows_count rows
 
--- cells and calls of Callgrind runs, and stacks of folded ones
-abbrev pub inclusive_rows : List EventCells → List EventArcs → List (StackRow (List ℕ)) → InclusiveCosts
-inclusive_rows cells arcs stacks = record {
-  sums = sums_by Function (all_rows cells ++ rows_of (outward_costs (all_arcs arcs) ++ row_costs stacks));
-  total = total_of (sums_by Function (all_rows cells)) + rows_count stacks;
+-- rows of own costs and of calls of Callgrind runs, and of the stacks of folded ones
+abbrev pub inclusive_rows : List (CellRow (List ℕ)) → List Calls → List (StackRow (List ℕ)) → InclusiveCosts
+inclusive_rows own calls stacks = record {
+  sums = sums_by Function (own ++ rows_of (outward_costs calls ++ row_costs stacks));
+  total = sum_by (λ (r : CellRow (List ℕ)). r.cost) own + rows_count stacks;
 }
+
+-- the rows of each kind, among others
+abbrev pub own_in : List InclusiveRow → List (CellRow (List ℕ))
+own_in [] = []
+own_in (OfOwn row ∷ rows) = row ∷ own_in rows
+own_in (OfCalls c ∷ rows) = own_in rows
+own_in (OfStack row ∷ rows) = own_in rows
+
+abbrev pub calls_in : List InclusiveRow → List Calls
+calls_in [] = []
+calls_in (OfOwn row ∷ rows) = calls_in rows
+calls_in (OfCalls c ∷ rows) = c ∷ calls_in rows
+calls_in (OfStack row ∷ rows) = calls_in rows
+
+abbrev pub stacks_in : List InclusiveRow → List (StackRow (List ℕ))
+stacks_in [] = []
+stacks_in (OfOwn row ∷ rows) = stacks_in rows
+stacks_in (OfCalls c ∷ rows) = stacks_in rows
+stacks_in (OfStack row ∷ rows) = row ∷ stacks_in rows
 
 -- rows of stacks come to the stacks that were seen, for every test of their frames
 abbrev pub SameStacks : List (StackRow (List ℕ)) → List Seen → Type 0

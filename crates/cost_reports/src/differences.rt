@@ -1,9 +1,9 @@
 // What rows cost less what other rows cost, by key.
-ghost use Rattle.std.specs.Prelude.{◌≡◌, ◌+◌, ◌<◌, ◌^◌, OnOk, IfOk, map};
+ghost use Rattle.std.specs.Prelude.{◌≡◌, ◌+◌, ◌<◌, ◌≤◌, ◌^◌, OnOk, IfOk, map};
 ghost use Rattle.cost_rows.specs.KeySums.{total_of};
 ghost use Rattle.cost_rows.specs.Merging.{merge_all};
 ghost use Rattle.cost_rows.specs.Keys.{named_cmp};
-ghost use Rattle.cost_reports.specs.Differences.{as_first, as_second, beside, difference_of, differing, difference_cmp};
+ghost use Rattle.cost_reports.specs.Differences.{beside, difference_of, differing, difference_cmp, on_side, pair_on};
 ghost use Rattle.cost_reports.specs.Pairs.{pairs_added, pairs_with, pair_total, firsts_of, seconds_of, lent_pairs, AreBelow};
 ghost use Rattle.cost_reports.specs.Ranking.{ranked};
 ghost use Rattle.cost_reports.specs.Rows.{lent_place, plain_differences};
@@ -36,6 +36,31 @@ impl<'a> Model for Difference<'a> {
     ghost view = { λ d. record { key = d.key; rows = plain_differences d.rows.items; total = d.total } };
 }
 
+/// One of the two sides of a difference.
+#[derive(Clone, Copy)]
+pub(crate) enum Side {
+    First,
+    Second,
+}
+
+/// A cost on one side, and none on the other.
+fn pair_on(side: Side, cost: u128) -> Pair
+    ensures value { result ≡ pair_on side cost }
+    ensures first { result.first ≤ cost }
+    ensures second { result.second ≤ cost }
+{
+    match side {
+        Side::First => Pair {
+            first: cost,
+            second: 0,
+        },
+        Side::Second => Pair {
+            first: 0,
+            second: cost,
+        },
+    }
+}
+
 /// Merges a pair into the sums of its place.
 fn merge_lent<'a>(
     sums: &mut BTreeMap<LentPlace<'a>, Pair>,
@@ -56,42 +81,19 @@ fn merge_lent<'a>(
     Ok(())
 }
 
-/// Adds the costs of the first rows.
-fn add_firsts<'a>(
+/// Adds costs to one side.
+fn add_costs<'a>(
     sums: &mut BTreeMap<LentPlace<'a>, Pair>,
     merged: &'a Merged,
+    side: Side,
 ) -> Result<(), AllocError>
     requires small { AreBelow (firsts_of (lent_pairs sums.old.entries)) (seconds_of (lent_pairs sums.old.entries)) }
     ensures sums { OnOk result (lent_pairs sums.new.entries
-        ≡ merge_all named_cmp pairs_added (lent_pairs sums.old.entries) (map as_first merged.now.sums)) }
+        ≡ merge_all named_cmp pairs_added (lent_pairs sums.old.entries) (map (on_side side) merged.now.sums)) }
 {
     let _small = merged.total();
     for row in merged.rows() {
-        let cost = Pair {
-            first: row.cost,
-            second: 0,
-        };
-        merge_lent(sums, place_of_row(&row), cost)?;
-    }
-    Ok(())
-}
-
-/// Adds the costs of the second rows.
-fn add_seconds<'a>(
-    sums: &mut BTreeMap<LentPlace<'a>, Pair>,
-    merged: &'a Merged,
-) -> Result<(), AllocError>
-    requires small { AreBelow (firsts_of (lent_pairs sums.old.entries)) (seconds_of (lent_pairs sums.old.entries)) }
-    ensures sums { OnOk result (lent_pairs sums.new.entries
-        ≡ merge_all named_cmp pairs_added (lent_pairs sums.old.entries) (map as_second merged.now.sums)) }
-{
-    let _small = merged.total();
-    for row in merged.rows() {
-        let cost = Pair {
-            first: 0,
-            second: row.cost,
-        };
-        merge_lent(sums, place_of_row(&row), cost)?;
+        merge_lent(sums, place_of_row(&row), pair_on(side, row.cost))?;
     }
     Ok(())
 }
@@ -106,8 +108,8 @@ fn sums_beside<'a>(
 {
     let _small = first.total();
     let mut sums = BTreeMap::new(alloc);
-    add_firsts(&mut sums, first)?;
-    add_seconds(&mut sums, second)?;
+    add_costs(&mut sums, first, Side::First)?;
+    add_costs(&mut sums, second, Side::Second)?;
     Ok(sums)
 }
 

@@ -1,15 +1,15 @@
 // Laws of the definitions, each the contract of a function that does nothing.
-ghost use Rattle.std.specs.Prelude.{◌≡◌, ℕ, ◌+◌, ◌*◌, ◌≤◌, Bool, false, List, [], sum_by};
+ghost use Rattle.std.specs.Prelude.{◌≡◌, ℕ, ◌+◌, ◌*◌, ◌≤◌, Bool, false, List, [], fold, sum_by};
 ghost use Rattle.cost_rows.specs.KeySums.{total_of, cost_where, rows_of, sums_by};
 ghost use Rattle.cost_rows.specs.Sums.{Spot};
 ghost use Rattle.cost_rows.specs.declared.keys.Key.{Key};
 ghost use Rattle.cost_rows.specs.declared.rows.CellRow.{CellRow};
 ghost use Rattle.cost_rows.specs.declared.rows.StackRow.{StackRow};
 ghost use Rattle.profile_records.specs.Stacks.{Seen};
-ghost use Rattle.cost_reports.specs.Calls.{Calls, CallsStandForEach, EventArcs, HaveFunctions, all_arcs, all_calls, calls_by, sum_of, totals_of};
+ghost use Rattle.cost_reports.specs.Calls.{Calls, CallsStandForEach, EventArcs, HaveFunctions, all_arcs, all_calls, calls_by, sum_of, totals_of, with_calls};
 ghost use Rattle.cost_reports.specs.Costs.{EventRecords, EventCells, StandForEach, all_costs, all_rows, costs_by};
 ghost use Rattle.cost_reports.specs.Differences.{difference_of, gains_of, losses_of, negative};
-ghost use Rattle.cost_reports.specs.Inclusive.{SameStacks, inclusive_costs, inclusive_rows};
+ghost use Rattle.cost_reports.specs.Inclusive.{InclusiveRow, SameStacks, calls_in, inclusive_costs, inclusive_rows, no_costs, own_in, stacks_in, with_inclusive};
 ghost use Rattle.cost_reports.specs.KeyReports.{rank_cmp, enough, report_of, IsShortest};
 ghost use Rattle.cost_reports.specs.Ranking.{ranked};
 ghost use Rattle.cost_reports.specs.declared.call_sides.CallSide.{CallSide};
@@ -79,5 +79,15 @@ pub fn calls_come_to_the_records()
 /// the inclusive costs of the rows are those of the files.
 pub fn inclusive_costs_come_to_the_records()
     ensures { (files : List EventRecords) (seen : List Seen) (cells : List EventCells) (arcs : List EventArcs) (rows : List (StackRow (List ℕ)))
-        → StandForEach files cells → CallsStandForEach files arcs → SameStacks rows seen → inclusive_rows cells arcs rows ≡ inclusive_costs files seen }
+        → StandForEach files cells → CallsStandForEach files arcs → SameStacks rows seen
+        → inclusive_rows (all_rows cells) (all_arcs arcs) rows ≡ inclusive_costs files seen }
+{}
+
+/// Calls that are added one after another come to the callers or callees of their function. Rows of
+/// own costs, of calls and of stacks that are added in whatever order come to the inclusive costs of
+/// the rows of each kind.
+pub fn added_rows_come_to_the_reports()
+    ensures calls { (side : CallSide) (f : Spot) (calls : List Calls)
+        → fold with_calls (record { side = side; function = f; sums = [] }) calls ≡ record { side = side; function = f; sums = calls_by side f calls } }
+    ensures inclusive { (rows : List InclusiveRow) → fold with_inclusive no_costs rows ≡ inclusive_rows (own_in rows) (calls_in rows) (stacks_in rows) }
 {}

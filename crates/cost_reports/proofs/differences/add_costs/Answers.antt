@@ -2,11 +2,11 @@ use Rattle.std.proofs.Common.{◌≡◌, map, ap, ◌∙◌, arith}
 use Rattle.cost_rows.specs.KeySums.{total_of}
 use Rattle.cost_rows.specs.Keys.{named_cmp}
 use Rattle.cost_rows.specs.Merging.{merge_all}
-use Rattle.cost_reports.specs.Differences.{as_second}
+use Rattle.cost_reports.specs.Differences.{on_side}
 use Rattle.cost_reports.specs.Pairs.{pairs_added, lent_pairs}
 use Rattle.cost_reports.specs.Rows.{sum_of_row}
 use Rattle.cost_reports.proofs.RowLemmas.{sums_of_rows}
-use Rattle.cost_reports.proofs.differences.add_seconds.Goals as goal
+use Rattle.cost_reports.proofs.differences.add_costs.Goals as goal
 
 pub loop-row-init : goal.loop-row-init
 loop-row-init c =
@@ -16,7 +16,7 @@ loop-row-init c =
     let small = c.total-small.ensures.small in
     let value = c.total-small.ensures.value in
     record {
-      sums = ap (λ sums. merge_all named_cmp pairs_added (lent_pairs c.args.sums.now.entries) (map as_second sums)) all;
-      first = c.requires.small.first;
+      sums = ap (λ sums. merge_all named_cmp pairs_added (lent_pairs c.args.sums.now.entries) (map (on_side c.args.side) sums)) all;
+      first = omega (arith, total, small, value, c.requires.small.first);
       second = omega (arith, total, small, value, c.requires.small.second);
     }
