@@ -24,7 +24,7 @@ use Rattle.cost_reports.proofs.KeyLemmas.{same_by_key, total_by_key, total_of_ro
 none_first : (n : ℕ) → n ≡ 0 + n
 none_first n = omega arith
 
-abbrev times : ℕ → ℕ → ℕ
+abbrev pub times : ℕ → ℕ → ℕ
 times zero n = 0
 times (suc k) n = n + times k n
 
@@ -114,11 +114,11 @@ counts_of_seen [] = refl
 counts_of_seen (s ∷ seen) = ap (λ n. s.stack.count + n) (counts_of_seen seen)
 
 module _ (passes : Spot → Bool) where
-  abbrev how_many : List (List ℕ) → ℕ
+  abbrev pub how_many : List (List ℕ) → ℕ
   how_many [] = 0
   how_many (name ∷ names) = (if passes (function_spot unknown name) then 1 else 0) + how_many names
 
-  names_where : (count : ℕ) (names : List (List ℕ)) → cost_where Function passes (rows_of (names_costs count names)) ≡ times (how_many names) count
+  pub names_where : (count : ℕ) (names : List (List ℕ)) → cost_where Function passes (rows_of (names_costs count names)) ≡ times (how_many names) count
   names_where count [] = refl
   names_where count (name ∷ names) = go (passes (function_spot unknown name)) (names_where count names)
     where

@@ -16,7 +16,7 @@ use Rattle.cost_reports.proofs.SameSums.{same_sums}
 pub no_more : (n : ℕ) → 0 + n ≡ n
 no_more n = omega arith
 
-sums_cost : (key : Key) (passes : Spot → Bool) (rows : List (CellRow (List ℕ))) → sum_where passes (λ n. n) (sums_by key rows) ≡ cost_where key passes rows
+pub sums_cost : (key : Key) (passes : Spot → Bool) (rows : List (CellRow (List ℕ))) → sum_where passes (λ n. n) (sums_by key rows) ≡ cost_where key passes rows
 sums_cost key passes rows = sums-rows passes rows (record { key = key; sums = [] }) ∙ no_more (cost_where key passes rows)
 
 are_sums : (key : Key) (rows : List (CellRow (List ℕ))) → AreSums (sums_by key rows)

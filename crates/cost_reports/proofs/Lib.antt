@@ -5,6 +5,7 @@ pub mod CostLemmas
 pub mod CutLemmas
 pub mod DifferenceLemmas
 pub mod FrameLemmas
+pub mod FunctionLemmas
 pub mod InclusiveLemmas
 pub mod KeyLemmas
 pub mod PairLemmas

@@ -1,7 +1,8 @@
 -- What functions cost with all that they call, straight from the records and the stacks.
-use Rattle.std.specs.Prelude.{◌≡◌, ℕ, ◌+◌, Bool, if◌then◌else◌, List, [], ◌∷◌, ◌++◌, map, fold, sum_by, codes}
+use Rattle.std.specs.Prelude.{◌≡◌, ℕ, ◌+◌, Bool, not, ◌&&◌, if◌then◌else◌, List, [], ◌∷◌, ◌++◌, map, fold, sum_by, codes}
 use Rattle.std.specs.Borrow.{Bor}
 use Rattle.std.specs.BTreeSet.{insert_key}
+use Rattle.std.specs.List.{list_any}
 use Rattle.cg_text.specs.Names.{unknown}
 use Rattle.cost_rows.specs.KeySums.{Sums, rows_of, sums_by, total_of, with_row}
 use Rattle.cost_rows.specs.Stacks.{bytes_cmp}
@@ -151,3 +152,27 @@ stacks_in (OfStack row ∷ rows) = row ∷ stacks_in rows
 -- rows of stacks come to the stacks that were seen, for every test of their frames
 abbrev pub SameStacks : List (StackRow (List ℕ)) → List Seen → Type 0
 SameStacks rows seen = (test : List ℕ → Bool) → stacks_count test rows ≡ frames_sum test seen
+
+-- ---- of one function
+
+-- what a function costs by itself
+abbrev pub own_cost : Spot → List (Spot × ℕ) → ℕ
+own_cost f [] = 0
+own_cost f (e ∷ costs) = (if is_one_function e.0 f then e.1 else 0) + own_cost f costs
+
+-- what its calls to other functions cost
+abbrev pub outward_cost : Spot → List Calls → ℕ
+outward_cost f [] = 0
+outward_cost f (c ∷ calls) = (if not (is_one_function c.caller c.callee) && is_one_function c.caller f then c.sum.first else 0) + outward_cost f calls
+
+-- whether it has a frame in a stack
+abbrev pub is_frame : Spot → List ℕ → Bool
+is_frame f frames = list_any (λ name. is_one_function (function_spot unknown name) f) (functions_of frames)
+
+-- what the stacks count in which it has a frame
+abbrev pub frame_count : Spot → List Seen → ℕ
+frame_count f [] = 0
+frame_count f (s ∷ seen) = (if is_frame f s.stack.frames then s.stack.count else 0) + frame_count f seen
+
+abbrev pub inclusive_cost : Spot → List EventRecords → List Seen → ℕ
+inclusive_cost f files seen = own_cost f (all_costs files) + (outward_cost f (all_calls files) + frame_count f seen)

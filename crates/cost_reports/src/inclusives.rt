@@ -87,7 +87,7 @@ impl InclusiveSums {
         self.merged.total()
     }
 
-    /// Adds a row of own costs of a run that is no folded one.
+    /// Adds a row of own costs of a Callgrind run. Those of a folded run are in its stacks.
     pub fn add_own(&mut self, row: &CellRow<&[u8]>) -> Result<(), AllocError>
         requires small { AreBelow (total_of self.old.sums + row.now.cost) (self.old.total + row.now.cost) }
         ensures { OnOk result (self.new ≡ with_own self.old (plain_cell row.now)) }
@@ -117,6 +117,7 @@ impl InclusiveSums {
     }
 
     /// Adds a row of stacks of a folded run: its count once for each function that has a frame in it.
+    /// They are at most as many as the frames have bytes, and one more: so much room is asked for.
     pub fn add_stack(&mut self, row: &StackRow<&[u8]>) -> Result<(), AllocError>
         requires sum { total_of self.old.sums + (length row.now.stack.now + 1) * row.now.count < 2 ^ 112 }
         requires total { self.old.total + row.now.count < 2 ^ 112 }

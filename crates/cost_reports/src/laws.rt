@@ -1,6 +1,7 @@
 // Laws of the definitions, each the contract of a function that does nothing.
 ghost use Rattle.std.specs.Prelude.{◌≡◌, ℕ, ◌+◌, ◌*◌, ◌≤◌, Bool, false, List, [], fold, sum_by};
 ghost use Rattle.cost_rows.specs.KeySums.{total_of, cost_where, rows_of, sums_by};
+ghost use Rattle.cost_rows.specs.Merging.{sum_where};
 ghost use Rattle.cost_rows.specs.Sums.{Spot};
 ghost use Rattle.cost_rows.specs.declared.keys.Key.{Key};
 ghost use Rattle.cost_rows.specs.declared.rows.CellRow.{CellRow};
@@ -9,7 +10,8 @@ ghost use Rattle.profile_records.specs.Stacks.{Seen};
 ghost use Rattle.cost_reports.specs.Calls.{Calls, CallsStandForEach, EventArcs, HaveFunctions, all_arcs, all_calls, calls_by, sum_of, totals_of, with_calls};
 ghost use Rattle.cost_reports.specs.Costs.{EventRecords, EventCells, StandForEach, all_costs, all_rows, costs_by};
 ghost use Rattle.cost_reports.specs.Differences.{difference_of, gains_of, losses_of, negative};
-ghost use Rattle.cost_reports.specs.Inclusive.{InclusiveRow, SameStacks, calls_in, inclusive_costs, inclusive_rows, no_costs, own_in, stacks_in, with_inclusive};
+ghost use Rattle.cost_reports.specs.Functions.{is_one_function};
+ghost use Rattle.cost_reports.specs.Inclusive.{InclusiveRow, SameStacks, calls_in, inclusive_cost, inclusive_costs, inclusive_rows, no_costs, own_in, stacks_in, with_inclusive};
 ghost use Rattle.cost_reports.specs.KeyReports.{rank_cmp, enough, report_of, IsShortest};
 ghost use Rattle.cost_reports.specs.Ranking.{ranked};
 ghost use Rattle.cost_reports.specs.declared.call_sides.CallSide.{CallSide};
@@ -90,4 +92,11 @@ pub fn added_rows_come_to_the_reports()
     ensures calls { (side : CallSide) (f : Spot) (calls : List Calls)
         → fold with_calls (record { side = side; function = f; sums = [] }) calls ≡ record { side = side; function = f; sums = calls_by side f calls } }
     ensures inclusive { (rows : List InclusiveRow) → fold with_inclusive no_costs rows ≡ inclusive_rows (own_in rows) (calls_in rows) (stacks_in rows) }
+{}
+
+/// What the inclusive costs have at a function is its self cost, what its calls to other functions
+/// cost, and what the stacks count in which it has a frame, each stack once.
+pub fn inclusive_costs_are_those_of_each_function()
+    ensures { (f : Spot) (files : List EventRecords) (seen : List Seen)
+        → sum_where (λ p. is_one_function p f) (λ n. n) (inclusive_costs files seen).sums ≡ inclusive_cost f files seen }
 {}

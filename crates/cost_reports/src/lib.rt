@@ -33,7 +33,8 @@ pub use key_reports::{Report, by};
 pub use laws::{
     added_rows_come_to_the_reports, callers_and_callees_come_to_the_calls,
     calls_come_to_the_records, cells_come_to_the_records, differences_come_to_the_total,
-    differences_turn_round, equal_costs_have_equal_sums, inclusive_costs_come_to_the_records,
+    differences_turn_round, equal_costs_have_equal_sums,
+    inclusive_costs_are_those_of_each_function, inclusive_costs_come_to_the_records,
     shown_and_rest_are_the_total, the_fewest_rows_are_shown,
 };
 pub use verifying::{Verification, verify};
