@@ -85,9 +85,8 @@ fn print_unopened<R: Print>(rt: &R, end: OpenError) -> io::Result<ExitCode> {
     Ok(ExitCode::FAILURE)
 }
 
-/// Does a work over a database, as `work_in`. No guarantee: it stands between that and a database in a
-/// file, so that what `work_in` guarantees is not looked at once more for that type, which takes the
-/// prover some twenty seconds, and nothing of it would reach the caller, who closes the database.
+/// Does a work over a database, as `work_in`, and prints to the standard output. No guarantee: nothing of
+/// it would reach the caller, who closes the database.
 fn work_on<'a, S: Alter>(
     rt: &'a HostRuntime,
     conn: Connection<S>,
