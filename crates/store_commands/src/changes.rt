@@ -129,7 +129,8 @@ fn change_free<S: Alter>(
     change: GroupChange,
 ) -> Result<(), StoreError>
     requires { IsGroupName name.now }
-    ensures changes { (limits : Limits) → ChangesIf S.Store (is_ok result) (λ t. refusal_for limits change name.now t ≡ None) (changed change name.now) store.old store.new }
+    ensures changes { (limits : Limits)
+        → ChangesIf S.Store (is_ok result) (λ t. refusal_for limits change name.now t ≡ None) (changed change name.now) store.old store.new }
 {
     match change {
         GroupChange::Make => store.put_group(name),
