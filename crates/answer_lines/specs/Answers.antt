@@ -8,7 +8,7 @@ use Rattle.histories.specs.declared.answers.Answer.TheVariants.{Run, Held, Done,
 use Rattle.histories.specs.declared.answers.Excess.{Excess}
 use Rattle.histories.specs.declared.answers.Excess.TheVariants.{SelfCost, CallCost, CallCount}
 use Rattle.histories.specs.declared.answers.Refusal.{Refusal}
-use Rattle.histories.specs.declared.answers.Refusal.TheVariants.{Memory, Store, ReadFault, TooLong, File, Overflow, Full, NumbersSpent, NoSuchRun, NoSuchGroup, GroupTaken, BadName, NoSuchEvent}
+use Rattle.histories.specs.declared.answers.Refusal.TheVariants.{Memory, Store, ReadFault, TooLong, File, Overflow, Full, NumbersSpent, NoSuchRun, NoSuchGroup, GroupTaken, BadName, NoSuchEvent, NoSuchName, NoBaseline}
 use Rattle.printed_names.specs.Escapes.{escaped}
 use Rattle.file_totals.specs.TotalLines.{refused_line}
 
@@ -33,6 +33,8 @@ reason_text NoSuchGroup = codes "no such group"
 reason_text GroupTaken = codes "group exists"
 reason_text BadName = codes "bad name"
 reason_text NoSuchEvent = codes "no such event"
+reason_text NoSuchName = codes "no such name"
+reason_text NoBaseline = codes "no baseline"
 
 -- one line; a text has its own lines, and none if it is empty
 abbrev pub line_text : Answer → List ℕ

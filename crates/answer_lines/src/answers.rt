@@ -54,6 +54,8 @@ fn push_reason(text: &mut Vec<u8>, alloc: Global, refusal: &Refusal) -> Result<(
         Refusal::GroupTaken => "group exists",
         Refusal::BadName => "bad name",
         Refusal::NoSuchEvent => "no such event",
+        Refusal::NoSuchName => "no such name",
+        Refusal::NoBaseline => "no baseline",
     };
     text.extend_from_slice(reason.as_bytes())?;
     Ok(())

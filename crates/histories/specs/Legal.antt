@@ -3,6 +3,8 @@ use Rattle.std.specs.Prelude.{◌≡◌, ◌⊎◌, ℕ, ◌==◌, Bool, true, f
 use Rattle.std.specs.List.{list_any, AllByRecursion}
 use Rattle.std.specs.Str.{IsUtf8}
 use Rattle.sha2.specs.Sha256.{sha256}
+use Rattle.cost_reports.specs.Functions.{function_spot}
+use Rattle.cost_rows.specs.Sums.{Spot}
 use Rattle.cg_text.specs.declared.faults.Fault as faults
 use Rattle.prof_tables.specs.Labels.{IsLabel, IsGroupName}
 use Rattle.profile_records.specs.declared.kinds.Kind.{Kind}
@@ -10,7 +12,7 @@ use Rattle.histories.specs.Files.{fault_of}
 use Rattle.sources.specs.Outcomes.{Outcome, bytes_of, is_failed, is_end}
 use Rattle.histories.specs.History.{Said, Import, Remove, MakeGroup, DropGroup, Join, Leave, SetBaseline, Ask, History, File, held, next, groups, is_member, baseline}
 use Rattle.histories.specs.Sums.{excess_of}
-use Rattle.histories.specs.Reports.{by_text, has_event, verified_text}
+use Rattle.histories.specs.Reports.{by_text, calls_text, has_event, inclusive_of_files, knows, subtract_text, verified_text}
 use Rattle.histories.specs.Selections.{selected}
 use Rattle.histories.specs.Texts.{groups_text, runs_text}
 use Rattle.histories.specs.declared.limits.Limits.{Limits}
@@ -100,12 +102,40 @@ no_selection h (selections.Group name) = no_group h name
 abbrev pub no_event : List ℕ → List File → Option Answer
 no_event event files = when (not (list_any (has_event event) files)) (Refused reasons.NoSuchEvent)
 
+-- a function that no file tells of
+abbrev pub no_name : Spot → List File → Option Answer
+no_name f files = when (not (list_any (knows f) files)) (Refused reasons.NoSuchName)
+
+-- what a selection is compared with: what is given, or else the baseline of the group that it is
+abbrev pub compared : History → Selection → Option Selection → Option Selection
+compared h first (Some second) = Some second
+compared h (selections.Group name) None = option_map selections.Run (baseline h name)
+compared h first None = None
+
+abbrev pub no_second : History → Option Selection → Option Answer
+no_second h None = Some (Refused reasons.NoBaseline)
+no_second h (Some second) = no_selection h second
+
+abbrev pub files_of : History → Option Selection → List File
+files_of h None = []
+files_of h (Some s) = selected h s
+
 abbrev pub expected_of_query : History → Query → Answer
 expected_of_query h queries.Runs = Text (runs_text h)
 expected_of_query h queries.Groups = Text (groups_text h)
 expected_of_query h (queries.By selection key event cut) =
     first_or (no_selection h selection ∷ no_event event (selected h selection) ∷ []) (Text (by_text (selected h selection) key event cut))
 expected_of_query h (queries.Verify selection) = first_or (no_selection h selection ∷ []) (Text (verified_text (selected h selection)))
+expected_of_query h (queries.Inclusive selection event) =
+    first_or (no_selection h selection ∷ no_event event (selected h selection) ∷ []) (Text (inclusive_of_files (selected h selection) event))
+expected_of_query h (queries.Calls selection side event object function) =
+    let files = selected h selection in
+    let f = function_spot object function in
+    first_or (no_selection h selection ∷ no_event event files ∷ no_name f files ∷ []) (Text (calls_text side f files event))
+expected_of_query h (queries.Subtract first second key event) =
+    let firsts = selected h first in
+    let seconds = files_of h (compared h first second) in
+    first_or (no_selection h first ∷ no_second h (compared h first second) ∷ no_event event (firsts ++ seconds) ∷ []) (Text (subtract_text key event firsts seconds))
 
 -- ---- each command
 

@@ -1,5 +1,5 @@
 -- Reports over the files that a selection names.
-use Rattle.std.specs.Prelude.{ℕ, suc, Bool, ◌||◌, bytes_eq, List, [], ◌∷◌, map, flat_map, Option, unwrap_or}
+use Rattle.std.specs.Prelude.{ℕ, suc, Bool, ◌||◌, ◌&&◌, nat_lt, if◌then◌else◌, List, [], ◌∷◌, map, flat_map, Option, unwrap_or}
 use Rattle.std.specs.List.{list_any}
 use Rattle.std.specs.Map.{lookup}
 use Rattle.std.specs.Option.{is_some}
@@ -7,12 +7,22 @@ use Rattle.cg_formulas.specs.Formulas.{coefficients}
 use Rattle.cg_formulas.specs.Flats.{row_in}
 use Rattle.cost_rows.specs.declared.keys.Key.{Key}
 use Rattle.cost_rows.specs.KeySums.{total_of}
+use Rattle.cost_rows.specs.Sums.{Spot, spot_of, callee_spot}
+use Rattle.cost_reports.specs.Calls.{CallsOfFunction, all_calls, call_report_of, call_report_text, calls_by}
 use Rattle.cost_reports.specs.Costs.{EventRecords, all_costs, costs_by}
+use Rattle.cost_reports.specs.Differences.{DifferenceByKey, difference_of, difference_text}
+use Rattle.cost_reports.specs.Functions.{is_one_function}
+use Rattle.cost_reports.specs.Inclusive.{InclusiveCosts, inclusive_costs, inclusive_report, inclusive_text, is_frame}
 use Rattle.cost_reports.specs.KeyReports.{ReportByKey, report_of}
 use Rattle.cost_reports.specs.KeyTexts.{key_report_text}
 use Rattle.cost_reports.specs.Verifying.{verified, verify_text}
+use Rattle.cost_reports.specs.declared.call_sides.CallSide.{CallSide}
 use Rattle.cost_reports.specs.declared.cuts.Cut.{Cut}
-use Rattle.histories.specs.Files.{events_of, derived_of, stated_of, records_of}
+use Rattle.profile_records.specs.Records.{Record, Own, Called}
+use Rattle.profile_records.specs.Stacks.{Seen}
+use Rattle.profile_records.specs.declared.kinds.Kind.{Kind}
+use Rattle.profile_records.specs.declared.kinds.Kind.TheVariants.{Callgrind, Folded}
+use Rattle.histories.specs.Files.{events_of, derived_of, stated_of, records_of, stacks_of}
 use Rattle.histories.specs.History.{File}
 use Rattle.histories.specs.Sums.{own_column}
 
@@ -38,6 +48,58 @@ report_by files key event cut = report_of key cut (costs_by key (map (event_reco
 
 abbrev pub by_text : List File → Key → List ℕ → Cut → List ℕ
 by_text files key event cut = key_report_text event (report_by files key event cut)
+
+-- ---- inclusive costs
+
+-- the records of a Callgrind file; a folded one has stacks in their place
+abbrev pub called_records : Kind → List ℕ → List Record
+called_records Callgrind bytes = records_of Callgrind bytes
+called_records Folded bytes = []
+
+abbrev pub inclusive_records : List ℕ → File → EventRecords
+inclusive_records event f = record { coefs = unwrap_or (counts_of event f) []; records = called_records f.kind f.bytes }
+
+-- the stacks of a file, which count nothing in an event that it does not have
+abbrev pub event_stacks : List ℕ → File → List Seen
+event_stacks event f = if has_event event f then stacks_of f.kind f.bytes else []
+
+abbrev pub inclusive_of : List File → List ℕ → InclusiveCosts
+inclusive_of files event = inclusive_costs (map (inclusive_records event) files) (flat_map (event_stacks event) files)
+
+abbrev pub inclusive_of_files : List File → List ℕ → List ℕ
+inclusive_of_files files event = inclusive_text event (inclusive_report (inclusive_of files event))
+
+-- ---- calls
+
+-- the calls of files that have one side at a function; of a file without the event too, which cost nothing
+abbrev pub calls_of_function : CallSide → Spot → List File → List ℕ → CallsOfFunction
+calls_of_function side f files event = record { side = side; function = f; sums = calls_by side f (all_calls (map (event_records event) files)) }
+
+abbrev pub calls_text : CallSide → Spot → List File → List ℕ → List ℕ
+calls_text side f files event = call_report_text event (call_report_of (calls_of_function side f files event))
+
+-- whether a record tells of a function: a line of it costs something in some column, or it calls or is called
+abbrev pub tells_of : Spot → Record → Bool
+tells_of f (Own cost) = is_one_function (spot_of cost) f && list_any (nat_lt 0) cost.costs
+tells_of f (Called callee cost) = is_one_function (spot_of cost) f || is_one_function (callee_spot callee) f
+
+-- whether it has a frame in a stack that was seen
+abbrev pub is_seen_in : Spot → Seen → Bool
+is_seen_in f s = nat_lt 0 s.stack.count && is_frame f s.stack.frames
+
+abbrev pub knows : Spot → File → Bool
+knows f file = list_any (tells_of f) (records_of file.kind file.bytes) || list_any (is_seen_in f) (stacks_of file.kind file.bytes)
+
+-- ---- differences
+
+abbrev pub costs_of_files : Key → List ℕ → List File → List (Spot × ℕ)
+costs_of_files key event files = costs_by key (map (event_records event) files)
+
+abbrev pub difference_by : Key → List ℕ → List File → List File → DifferenceByKey
+difference_by key event firsts seconds = difference_of key (costs_of_files key event firsts) (costs_of_files key event seconds)
+
+abbrev pub subtract_text : Key → List ℕ → List File → List File → List ℕ
+subtract_text key event firsts seconds = difference_text event (difference_by key event firsts seconds)
 
 -- ---- verification
 

@@ -1,6 +1,6 @@
 // What commands are answered.
 use cg_text::{Fault, ListVec};
-use cost_reports::Cut;
+use cost_reports::{CallSide, Cut};
 use cost_rows::Key;
 
 /// A sum over all runs that would pass 2^63-1.
@@ -43,6 +43,12 @@ pub enum Refusal {
     BadName,
     /// No file of those that were selected has this event.
     NoSuchEvent,
+    /// No file of those that were selected knows this function: none of its lines costs anything, it
+    /// neither calls nor is called, and it is in no stack.
+    NoSuchName,
+    /// There is nothing to compare with: no second selection was given, and the first is no group with
+    /// a baseline.
+    NoBaseline,
 }
 
 /// Which runs a question is about.
@@ -70,6 +76,27 @@ pub enum Query {
     },
     /// What the sums of runs are beside the totals that their files state.
     Verify(Selection),
+    /// What functions cost with all that they call.
+    Inclusive {
+        selection: Selection,
+        event: ListVec<u8>,
+    },
+    /// Who calls a function of an object, or whom it calls.
+    Calls {
+        selection: Selection,
+        side: CallSide,
+        event: ListVec<u8>,
+        object: ListVec<u8>,
+        function: ListVec<u8>,
+    },
+    /// What the runs of the first selection cost less what those of the second do, by key. Without a
+    /// second one it is the baseline of the first, a group.
+    Subtract {
+        first: Selection,
+        second: Option<Selection>,
+        key: Key,
+        event: ListVec<u8>,
+    },
 }
 
 /// What a command is answered.

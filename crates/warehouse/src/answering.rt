@@ -18,7 +18,7 @@ use sqlite::Alter;
 use std::alloc::Global;
 use store_commands::{groups_answer, runs_answer};
 use store_histories::answer_of;
-use store_reports::{by_answer, verify_answer};
+use store_reports::{by_answer, calls_answer, inclusive_answer, subtract_answer, verify_answer};
 
 /// Imports the file that a source gives, under a label in form.
 fn import_labelled<S: Alter, R: Source>(
@@ -71,6 +71,20 @@ fn answer<S: Alter>(store: &mut Store<S>, alloc: Global, query: Query) -> Result
             cut,
         } => by_answer(store, alloc, &selection, key, &event, cut),
         Query::Verify(selection) => verify_answer(store, alloc, &selection),
+        Query::Inclusive { selection, event } => inclusive_answer(store, alloc, &selection, &event),
+        Query::Calls {
+            selection,
+            side,
+            event,
+            object,
+            function,
+        } => calls_answer(store, alloc, &selection, side, &event, &object, &function),
+        Query::Subtract {
+            first,
+            second,
+            key,
+            event,
+        } => subtract_answer(store, alloc, &first, &second, key, &event),
     }
 }
 
