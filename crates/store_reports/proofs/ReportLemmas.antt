@@ -29,9 +29,9 @@ use Rattle.store_reports.proofs.HeadLemmas.{held_head_told}
 -- ---- one run
 
 -- it has the number of the file, and counts its events as the file does
-record IsRunOf (event : List ℕ) (f : File) (run : Counted) : Type 0 where
-  number : run.number ≡ f.number
-  counts : run.counts ≡ counts_of event f
+pub record IsRunOf (event : List ℕ) (f : File) (run : Counted) : Type 0 where
+  pub number : run.number ≡ f.number
+  pub counts : run.counts ≡ counts_of event f
 
 same_row : (f : File) (head : FileHead) (event : List ℕ) → TellsHead f head → row_of head.derived event ≡ counts_of event f
 same_row f head event told = ap₂ (λ events derived. row_in events derived event) (told.wide ∙ told.events) told.derived
@@ -44,12 +44,12 @@ run_of_file h t f event run tell is it = record {
 
 -- ---- each in turn
 
-AreRunsOf : List ℕ → List File → List Counted → Type 0
+pub AreRunsOf : List ℕ → List File → List Counted → Type 0
 AreRunsOf event [] [] = Unit {0}
 AreRunsOf event (f ∷ files) (run ∷ runs) = IsRunOf event f run × AreRunsOf event files runs
 AreRunsOf event files runs = ⊥
 
-are_runs : (h : History) (t : Tables) (event : List ℕ) → TablesTell h t → (files : List File) (runs : List Counted) → AllByRecursion (Has (held h)) files → AreCounted t event (numbers_of files) runs
+pub are_runs : (h : History) (t : Tables) (event : List ℕ) → TablesTell h t → (files : List File) (runs : List Counted) → AllByRecursion (Has (held h)) files → AreCounted t event (numbers_of files) runs
     → AreRunsOf event files runs
 unfolding AreRunsOf
 are_runs h t event tell [] [] all counted = tt
