@@ -1,9 +1,8 @@
 // The calls of a run, handed on row by row.
-ghost use Rattle.std.specs.Prelude.{◌≡◌, OnOk};
+ghost use Rattle.std.specs.Prelude.{◌≡◌};
 ghost use Rattle.std.specs.Result.{is_ok};
 ghost use Rattle.prof_store.specs.Shown.{Told};
 ghost use Rattle.held_runs.specs.HandedCalls.{CallsCameTo};
-ghost use Rattle.held_runs.specs.HeldArcs.{plain_given};
 ghost use Rattle.held_runs.specs.Walks.{AsksIfOpen};
 
 use crate::call_walks::{begin_calls, next_call};

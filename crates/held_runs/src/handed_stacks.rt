@@ -1,5 +1,5 @@
 // Every stack of a run, handed on one at a time.
-ghost use Rattle.std.specs.Prelude.{◌≡◌, OnOk, fold};
+ghost use Rattle.std.specs.Prelude.{◌≡◌, fold};
 ghost use Rattle.std.specs.Result.{is_ok};
 ghost use Rattle.cost_rows.specs.Plain.{plain_stack};
 ghost use Rattle.prof_books.specs.Book.{stack_held, stacks_held};
