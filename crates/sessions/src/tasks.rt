@@ -1,11 +1,13 @@
 // What is to be done for a plan.
 ghost use Rattle.std.specs.Prelude.{◌≡◌};
-ghost use Rattle.sessions.specs.Tasks.{IsTaskOf, cut_said};
+ghost use Rattle.sessions.specs.Tasks.{Asks, IsTaskOf, cut_said};
+ghost use Rattle.sessions.specs.declared.questions.Question.TheVariants.{Calls};
+ghost use Rattle.sessions.specs.declared.session.Work.TheVariants.{Ask};
 
 use crate::questions::Question;
 use crate::session::Work;
-use command_line::Plan;
-use cost_reports::Cut;
+use command_line::{Plan, Selected};
+use cost_reports::{CallSide, Cut};
 use warehouse::GroupChange;
 
 /// What is to be done.
@@ -24,6 +26,73 @@ fn cut_of(limit: Option<u32>, threshold: u8) -> Cut
     Cut {
         limit: limit.map(u64::from),
         threshold,
+    }
+}
+
+/// The question about the calls that have one side at a function.
+fn ask_of_calls<'a>(
+    side: CallSide,
+    selected: Selected<'a>,
+    event: &'a str,
+    object: &'a str,
+    function: &'a str,
+) -> Work<'a>
+    ensures { result ≡ Ask (Calls selected.entry side event.entry object.entry function.entry) }
+{
+    Work::Ask(Question::Calls {
+        selected,
+        side,
+        event,
+        object,
+        function,
+    })
+}
+
+/// The task of a plan that asks for a report.
+fn report_task<'a>(plan: Plan<'a>) -> Task<'a>
+    requires { Asks plan.entry }
+    ensures { IsTaskOf plan.entry result }
+{
+    match plan {
+        Plan::By {
+            db,
+            selected,
+            event,
+            limit,
+            threshold,
+            key,
+        } => {
+            let cut = cut_of(limit, threshold);
+            Task::Over(db, Work::Ask(Question::By { selected, key, event, cut }))
+        }
+        Plan::Inclusive {
+            db,
+            selected,
+            event,
+        } => Task::Over(db, Work::Ask(Question::Inclusive { selected, event })),
+        Plan::Callers {
+            db,
+            selected,
+            event,
+            object,
+            function,
+        } => Task::Over(db, ask_of_calls(CallSide::Callers, selected, event, object, function)),
+        Plan::Callees {
+            db,
+            selected,
+            event,
+            object,
+            function,
+        } => Task::Over(db, ask_of_calls(CallSide::Callees, selected, event, object, function)),
+        Plan::Subtract {
+            db,
+            selected,
+            less,
+            event,
+            key,
+        } => Task::Over(db, Work::Ask(Question::Subtract { selected, less, key, event })),
+        Plan::Verify { db, selected } => Task::Over(db, Work::Ask(Question::Verify(selected))),
+        _ => unreachable!(),
     }
 }
 
@@ -56,23 +125,6 @@ pub(crate) fn task_of<'a>(plan: Plan<'a>) -> Task<'a>
             Task::Over(db, Work::Group(name, GroupChange::SetBaseline(number)))
         }
         Plan::Groups { db } => Task::Over(db, Work::Ask(Question::Groups)),
-        Plan::By {
-            db,
-            selected,
-            event,
-            limit,
-            threshold,
-            key,
-        } => {
-            let cut = cut_of(limit, threshold);
-            let question = Question::By {
-                selected,
-                key,
-                event,
-                cut,
-            };
-            Task::Over(db, Work::Ask(question))
-        }
-        Plan::Verify { db, selected } => Task::Over(db, Work::Ask(Question::Verify(selected))),
+        report => report_task(report),
     }
 }
