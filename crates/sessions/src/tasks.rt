@@ -50,7 +50,7 @@ fn ask_of_calls<'a>(
 
 /// The task of a plan that asks for a report.
 fn report_task<'a>(plan: Plan<'a>) -> Task<'a>
-    requires { Asks plan.entry }
+    requires { Asks plan }
     ensures { IsTaskOf plan.entry result }
 {
     match plan {
