@@ -60,7 +60,7 @@ both_named a m words Memory line matches none found = tt
 both_named a m words RunAndGroup line matches none found = (a, line, (none (free a line), subst AreBothNamed (matches (simple a line)).1 found))
 both_named a m words LessRunAndLessGroup line matches none found =
     let same = (matches (simple a line)).1 in
-    (a, line, (none (free a line), ((λ both. found.0 (subst AreBothNamed (sym same) both)), subst AreBothLessNamed same found.1)))
+    (a, line, (none (free a line), (λ both. found.0 (subst AreBothNamed (sym same) both)), subst AreBothLessNamed same found.1))
 both_named a m words (Clap error) line matches none found = absurd found
 
 pub no_plan : (a : App) (m : ArgMatches) (words : List Text) (error : Error) → IsCommandLine a → HasMatchesOf a words m → (is_simple_and_free a ≡ true → fault_of a words ≡ [])

@@ -149,12 +149,16 @@ fn subtract<'a>(db: &'a str, words: &ArgMatches<'a>) -> Option<Plan<'a>>
     requires { HasWord (rows_of (found_of words.now)) (codes "db") db.now }
     ensures { IfSome result (IsPlanned (codes "subtract") (rows_of (found_of words.now))) }
 {
+    let selected = selected(words)?;
+    let less = less(words)?;
+    let event = word(words, "event")?;
+    let key = key(words)?;
     Some(Plan::Subtract {
         db,
-        selected: selected(words)?,
-        less: less(words)?,
-        event: word(words, "event")?,
-        key: key(words)?,
+        selected,
+        less,
+        event,
+        key,
     })
 }
 

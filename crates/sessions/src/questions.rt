@@ -87,11 +87,7 @@ fn by_query(
 }
 
 /// The question of inclusive costs.
-fn inclusive_query(
-    alloc: Global,
-    selected: Selected<'_>,
-    event: &str,
-) -> Result<Query, AllocError>
+fn inclusive_query(alloc: Global, selected: Selected<'_>, event: &str) -> Result<Query, AllocError>
     ensures { IfOk result (λ query. query ≡ Inclusive (selection_said selected.entry) event.now) }
 {
     let selection = selection_of(alloc, selected)?;

@@ -63,7 +63,15 @@ fn report_task<'a>(plan: Plan<'a>) -> Task<'a>
             key,
         } => {
             let cut = cut_of(limit, threshold);
-            Task::Over(db, Work::Ask(Question::By { selected, key, event, cut }))
+            Task::Over(
+                db,
+                Work::Ask(Question::By {
+                    selected,
+                    key,
+                    event,
+                    cut,
+                }),
+            )
         }
         Plan::Inclusive {
             db,
@@ -76,21 +84,35 @@ fn report_task<'a>(plan: Plan<'a>) -> Task<'a>
             event,
             object,
             function,
-        } => Task::Over(db, ask_of_calls(CallSide::Callers, selected, event, object, function)),
+        } => Task::Over(
+            db,
+            ask_of_calls(CallSide::Callers, selected, event, object, function),
+        ),
         Plan::Callees {
             db,
             selected,
             event,
             object,
             function,
-        } => Task::Over(db, ask_of_calls(CallSide::Callees, selected, event, object, function)),
+        } => Task::Over(
+            db,
+            ask_of_calls(CallSide::Callees, selected, event, object, function),
+        ),
         Plan::Subtract {
             db,
             selected,
             less,
             event,
             key,
-        } => Task::Over(db, Work::Ask(Question::Subtract { selected, less, key, event })),
+        } => Task::Over(
+            db,
+            Work::Ask(Question::Subtract {
+                selected,
+                less,
+                key,
+                event,
+            }),
+        ),
         Plan::Verify { db, selected } => Task::Over(db, Work::Ask(Question::Verify(selected))),
         _ => unreachable!(),
     }
