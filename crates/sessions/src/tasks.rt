@@ -1,13 +1,15 @@
 // What is to be done for a plan.
 ghost use Rattle.std.specs.Prelude.{◌≡◌};
 ghost use Rattle.sessions.specs.Tasks.{Asks, IsTaskOf, cut_said};
-ghost use Rattle.sessions.specs.declared.questions.Question.TheVariants.{Calls};
+ghost use Rattle.sessions.specs.declared.questions.Question.TheVariants.{By, Calls, Subtract};
 ghost use Rattle.sessions.specs.declared.session.Work.TheVariants.{Ask};
+ghost use Rattle.sessions.specs.declared.tasks.Task.TheVariants.{Over};
 
 use crate::questions::Question;
 use crate::session::Work;
 use command_line::{Plan, Selected};
 use cost_reports::{CallSide, Cut};
+use cost_rows::Key;
 use warehouse::GroupChange;
 
 /// What is to be done.
@@ -29,22 +31,53 @@ fn cut_of(limit: Option<u32>, threshold: u8) -> Cut
     }
 }
 
-/// The question about the calls that have one side at a function.
+/// The question where the cost of an event went.
+fn ask_by<'a>(selected: Selected<'a>, key: Key, event: &'a str, cut: Cut) -> Work<'a>
+    ensures { result ≡ Ask (By selected.entry key event.entry cut) }
+{
+    Work::Ask(Question::By {
+        selected,
+        key,
+        event,
+        cut,
+    })
+}
+
+/// The task to ask about the calls that have one side at a function.
 fn ask_of_calls<'a>(
+    db: &'a str,
     side: CallSide,
     selected: Selected<'a>,
     event: &'a str,
     object: &'a str,
     function: &'a str,
-) -> Work<'a>
-    ensures { result ≡ Ask (Calls selected.entry side event.entry object.entry function.entry) }
+) -> Task<'a>
+    ensures { result ≡ Over db.entry (Ask (Calls selected.entry side event.entry object.entry function.entry)) }
 {
-    Work::Ask(Question::Calls {
+    let question = Question::Calls {
         selected,
         side,
         event,
         object,
         function,
+    };
+    Task::Over(db, Work::Ask(question))
+}
+
+/// The question what some runs cost less what others do.
+fn ask_to_subtract<'a>(
+    selected: Selected<'a>,
+    less: Option<Selected<'a>>,
+    key: Key,
+    event: &'a str,
+) -> Work<'a>
+    ensures { result ≡ Ask (Subtract selected.entry less.entry key event.entry) }
+{
+    Work::Ask(Question::Subtract {
+        selected,
+        less,
+        key,
+        event,
     })
 }
 
@@ -61,18 +94,7 @@ fn report_task<'a>(plan: Plan<'a>) -> Task<'a>
             limit,
             threshold,
             key,
-        } => {
-            let cut = cut_of(limit, threshold);
-            Task::Over(
-                db,
-                Work::Ask(Question::By {
-                    selected,
-                    key,
-                    event,
-                    cut,
-                }),
-            )
-        }
+        } => Task::Over(db, ask_by(selected, key, event, cut_of(limit, threshold))),
         Plan::Inclusive {
             db,
             selected,
@@ -84,35 +106,21 @@ fn report_task<'a>(plan: Plan<'a>) -> Task<'a>
             event,
             object,
             function,
-        } => Task::Over(
-            db,
-            ask_of_calls(CallSide::Callers, selected, event, object, function),
-        ),
+        } => ask_of_calls(db, CallSide::Callers, selected, event, object, function),
         Plan::Callees {
             db,
             selected,
             event,
             object,
             function,
-        } => Task::Over(
-            db,
-            ask_of_calls(CallSide::Callees, selected, event, object, function),
-        ),
+        } => ask_of_calls(db, CallSide::Callees, selected, event, object, function),
         Plan::Subtract {
             db,
             selected,
             less,
             event,
             key,
-        } => Task::Over(
-            db,
-            Work::Ask(Question::Subtract {
-                selected,
-                less,
-                key,
-                event,
-            }),
-        ),
+        } => Task::Over(db, ask_to_subtract(selected, less, key, event)),
         Plan::Verify { db, selected } => Task::Over(db, Work::Ask(Question::Verify(selected))),
         _ => unreachable!(),
     }
