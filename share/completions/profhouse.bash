@@ -3,7 +3,7 @@
 _profhouse()
 {
     local word=${COMP_WORDS[COMP_CWORD]} before=${COMP_WORDS[COMP_CWORD - 1]}
-    local commands="total import remove runs groups group join leave baseline by verify help"
+    local commands="total import remove runs groups group join leave baseline by inclusive callers callees subtract verify help"
     local options="--db --help" operands=
     COMPREPLY=()
 
@@ -25,6 +25,9 @@ _profhouse()
         remove | runs | groups | join | leave | baseline) ;;
         group) options+=" --drop" ;;
         by) options+=" --run --group --event --limit --threshold" operands="object file function line" ;;
+        inclusive) options+=" --run --group --event" ;;
+        callers | callees) options+=" --run --group --event --object" ;;
+        subtract) options+=" --run --group --less-run --less-group --event" operands="object file function line" ;;
         verify) options+=" --run --group" ;;
         help) options= operands=$commands ;;
         *) return ;;
@@ -32,7 +35,7 @@ _profhouse()
 
     case $before in
         --db) options= operands=files ;;
-        --run | --group | --event | --limit | --threshold) return ;;
+        --run | --group | --less-run | --less-group | --event | --limit | --threshold | --object) return ;;
     esac
 
     if [[ $options && $word == -* ]]; then

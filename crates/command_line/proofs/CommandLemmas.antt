@@ -8,9 +8,9 @@ use Rattle.clap.specs.declared.error.kind.ErrorKind.{ErrorKind}
 use Rattle.clap.specs.declared.error.kind.ErrorKind.TheVariants.{OutOfMemory}
 use Rattle.command_line.specs.declared.plans.Plan.{Plan}
 use Rattle.command_line.specs.declared.plans.PlanError.{PlanError}
-use Rattle.command_line.specs.declared.plans.PlanError.TheVariants.{Memory, RunAndGroup, Clap}
+use Rattle.command_line.specs.declared.plans.PlanError.TheVariants.{Memory, RunAndGroup, LessRunAndLessGroup, Clap}
 use Rattle.command_line.specs.Grammar.{IsCommandLine, command_line}
-use Rattle.command_line.specs.Plans.{AreBothNamed, IsEndBy, IsEndFor, IsEndFound, IsPlanFor, IsPlannedFor}
+use Rattle.command_line.specs.Plans.{AreApart, AreBothLessNamed, AreBothNamed, IsEndBy, IsEndFor, IsEndFound, IsPlanFor, IsPlannedFor}
 
 -- ---- the command line is one of those of which clap's definitions say all
 
@@ -49,17 +49,21 @@ pub fault_kept : (a : App) (words : List Text) (error : Error) (end : PlanError)
     → IsEndFor words end
 fault_kept a words error Memory line kinds by = tt
 fault_kept a words error RunAndGroup line kinds by = absurd by
+fault_kept a words error LessRunAndLessGroup line kinds by = absurd by
 fault_kept a words error (Clap kept) line kinds (same, other) =
     let among = among_kept (fault_of a words) error kept (kinds (free a line)) same other in
-    (a, line, ((λ some. among), (λ none both. none_among (kind_of kept) (fault_of a words) among none)))
+    (a, line, ((λ some. among), (λ none. absurd (none_among (kind_of kept) (fault_of a words) among none))))
 
 pub both_named : (a : App) (m : ArgMatches) (words : List Text) (end : PlanError) → IsCommandLine a → HasMatchesOf a words m → (is_simple_and_free a ≡ true → fault_of a words ≡ [])
     → IsEndFound (subcommand_rows_of m) end → IsEndFor words end
 both_named a m words Memory line matches none found = tt
 both_named a m words RunAndGroup line matches none found = (a, line, (none (free a line), subst AreBothNamed (matches (simple a line)).1 found))
+both_named a m words LessRunAndLessGroup line matches none found =
+    let same = (matches (simple a line)).1 in
+    (a, line, (none (free a line), (λ both. found.0 (subst AreBothNamed (sym same) both)), subst AreBothLessNamed same found.1))
 both_named a m words (Clap error) line matches none found = absurd found
 
 pub no_plan : (a : App) (m : ArgMatches) (words : List Text) (error : Error) → IsCommandLine a → HasMatchesOf a words m → (is_simple_and_free a ≡ true → fault_of a words ≡ [])
-    → (AreBothNamed (subcommand_rows_of m) → ⊥) → IsEndFor words (Clap error)
-no_plan a m words error line matches none one =
-    (a, line, ((λ some. absurd (some (none (free a line)))), (λ _ both. one (subst AreBothNamed (sym (matches (simple a line)).1) both))))
+    → AreApart (subcommand_rows_of m) → IsEndFor words (Clap error)
+no_plan a m words error line matches none apart =
+    (a, line, ((λ some. absurd (some (none (free a line)))), (λ _. subst AreApart (matches (simple a line)).1 apart)))

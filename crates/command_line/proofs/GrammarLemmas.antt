@@ -6,7 +6,7 @@ use Rattle.clap.specs.Words.{App, Text, app_of, with_subcommand}
 use Rattle.clap.specs.declared.builder.command.Command.{Command}
 use Rattle.clap.specs.declared.builder.value_parser.ValueParser.{ValueParser}
 use Rattle.clap.specs.declared.builder.value_parser.ValueParser.TheVariants.{Names}
-use Rattle.command_line.specs.Grammar.{IsCommandLine, command_line, key_words, with_reports}
+use Rattle.command_line.specs.Grammar.{IsCommandLine, command_line, key_words}
 
 -- a command that got one more has got the one that was made
 pub has_got : (made : Result Command AllocError) (all before more : App) → IsOkAnd made (λ one. all ≡ with_subcommand before (app_of one).top) → IfOk made (λ one. app_of one ≡ more)
@@ -22,10 +22,10 @@ got_last (Err end) made before known more got same is = tt
 
 -- ---- the whole command line
 
-pub reports_last : (result : Result Command AllocError) (keys : ValueParser) (before known : App) → before ≡ known → IfOk result (λ all. app_of all ≡ with_reports keys before)
-    → IfOk result (λ all. app_of all ≡ with_reports keys known)
-reports_last (Ok all) keys before known same is = is ∙ ap (λ (a : App). with_reports keys a) same
-reports_last (Err end) keys before known same is = tt
+-- what a command that is known got more
+pub last_by : (result : Result Command AllocError) (more : App → App) (before known : App) → before ≡ known → IfOk result (λ all. app_of all ≡ more before) → IfOk result (λ all. app_of all ≡ more known)
+last_by (Ok all) more before known same is = is ∙ ap more same
+last_by (Err end) more before known same is = tt
 
 pub line_made : (result : Result Command AllocError) (words : Bor (List (Bor Text))) → map (λ word. word.now) words.now ≡ key_words → IfOk result (λ all. app_of all ≡ command_line (Names words))
     → IfOk result (λ all. IsCommandLine (app_of all))

@@ -32,11 +32,9 @@ run_numbers = Signed (pos 1) (pos 2147483647)
 abbrev pub run_number : Rule
 run_number = record (operand (codes "N")) { parser = Some run_numbers }
 
-abbrev pub run_option : Rule
-run_option = record (option (codes "run")) { parser = Some run_numbers }
-
-abbrev pub group_option : Rule
-group_option = option (codes "group")
+-- an option that names a run
+abbrev pub run_option : Text → Rule
+run_option id = record (option id) { parser = Some run_numbers }
 
 abbrev pub event : Rule
 event = record (option (codes "event")) { required = true }
@@ -47,6 +45,10 @@ limit = record (option (codes "limit")) { parser = Some (Signed (pos 0) (pos 429
 -- 100 where it is not given
 abbrev pub threshold : Rule
 threshold = record (option (codes "threshold")) { parser = Some (Signed (pos 0) (pos 100)); defaults = codes "100" ∷ [] }
+
+-- ??? where it is not given: so an object is called that no file names
+abbrev pub object : Rule
+object = record (option (codes "object")) { defaults = codes "???" ∷ [] }
 
 -- one of the words that a parser takes
 abbrev pub key : ValueParser → Rule
@@ -61,7 +63,7 @@ abbrev pub over_group_and_run : Text → App
 over_group_and_run name = with_rule (with_rule (over_database name) (operand (codes "NAME"))) run_number
 
 abbrev pub over_selection : Text → App
-over_selection name = with_rule (with_rule (over_database name) run_option) group_option
+over_selection name = with_rule (with_rule (over_database name) (run_option (codes "run"))) (option (codes "group"))
 
 abbrev pub total : App
 total = with_rule (new_app (codes "total")) (operand (codes "FILE"))
@@ -77,6 +79,20 @@ group = with_rule (with_rule (over_database (codes "group")) (flag (codes "drop"
 
 abbrev pub by : ValueParser → App
 by keys = with_rule (with_rule (with_rule (with_rule (over_selection (codes "by")) event) limit) threshold) (key keys)
+
+abbrev pub inclusive : App
+inclusive = with_rule (over_selection (codes "inclusive")) event
+
+-- a report of the calls that have one side at a function
+abbrev pub over_calls : Text → App
+over_calls name = with_rule (with_rule (with_rule (over_selection name) event) object) (operand (codes "FUNCTION"))
+
+-- over two selections
+abbrev pub over_less : Text → App
+over_less name = with_rule (with_rule (over_selection name) (run_option (codes "less-run"))) (option (codes "less-group"))
+
+abbrev pub subtract : ValueParser → App
+subtract keys = with_rule (with_rule (over_less (codes "subtract")) event) (key keys)
 
 abbrev pub verify : App
 verify = over_selection (codes "verify")
@@ -97,8 +113,17 @@ with_members a =
     with_subcommand (with_subcommand (with_subcommand a (over_group_and_run (codes "join")).top) (over_group_and_run (codes "leave")).top)
     (over_group_and_run (codes "baseline")).top
 
+abbrev pub with_costs : ValueParser → App → App
+with_costs keys a = with_subcommand (with_subcommand a (by keys).top) inclusive.top
+
+abbrev pub with_calls : App → App
+with_calls a = with_subcommand (with_subcommand a (over_calls (codes "callers")).top) (over_calls (codes "callees")).top
+
+abbrev pub with_comparisons : ValueParser → App → App
+with_comparisons keys a = with_subcommand (with_subcommand a (subtract keys).top) verify.top
+
 abbrev pub with_reports : ValueParser → App → App
-with_reports keys a = with_subcommand (with_subcommand a (by keys).top) verify.top
+with_reports keys a = with_comparisons keys (with_calls (with_costs keys a))
 
 abbrev pub command_line : ValueParser → App
 command_line keys = with_reports keys (with_members (with_lists (with_files program)))

@@ -1,5 +1,5 @@
 -- What a plan has of the words of a command line.
-use Rattle.std.specs.Prelude.{◌≡◌, ◌≢◌, ◌≤◌, ℕ, Bool, true, false, List, [], map, Option, Some, None, IsSome, option_map, codes}
+use Rattle.std.specs.Prelude.{◌≡◌, ◌≢◌, ◌≤◌, ℕ, Bool, true, false, List, [], map, Option, Some, None, IsSome, option_map, codes, IfSome}
 use Rattle.std.specs.List.{All}
 use Rattle.std.specs.Str.Parse.{IsNumeral, digits_value, without_leading_plus}
 use Rattle.clap.specs.Faults.{fault_of}
@@ -15,8 +15,9 @@ use Rattle.profile_records.specs.declared.kinds.Kind.{Kind}
 use Rattle.profile_records.specs.declared.kinds.Kind.TheVariants.{Callgrind, Folded}
 use Rattle.command_line.specs.declared.plans.Plan.{Plan}
 use Rattle.command_line.specs.declared.plans.PlanError.{PlanError}
-use Rattle.command_line.specs.declared.plans.PlanError.TheVariants.{Memory, RunAndGroup, Clap}
-use Rattle.command_line.specs.declared.plans.Plan.TheVariants.{Total, Import, Remove, Runs, Group, Join, Leave, Baseline, Groups, By, Verify}
+use Rattle.command_line.specs.declared.plans.PlanError.TheVariants.{Memory, RunAndGroup, LessRunAndLessGroup, Clap}
+use Rattle.command_line.specs.declared.plans.Plan.TheVariants.{Total, Import, Remove, Runs, Group, Join, Leave, Baseline, Groups}
+use Rattle.command_line.specs.declared.plans.Plan.TheVariants.{By, Inclusive, Callers, Callees, Subtract, Verify}
 use Rattle.command_line.specs.declared.plans.Selected.{Selected}
 use Rattle.command_line.specs.declared.plans.Selected.TheVariants as selected
 use Rattle.command_line.specs.Grammar.{IsCommandLine}
@@ -49,6 +50,10 @@ IsSound (Join db name number) = IsRunNumber number
 IsSound (Leave db name number) = IsRunNumber number
 IsSound (Baseline db name number) = IsRunNumber number
 IsSound (By db runs event limit threshold key) = IsSoundSelection runs × (threshold ≤ 100)
+IsSound (Inclusive db runs event) = IsSoundSelection runs
+IsSound (Callers db runs event object function) = IsSoundSelection runs
+IsSound (Callees db runs event object function) = IsSoundSelection runs
+IsSound (Subtract db runs less event key) = IsSoundSelection runs × IfSome less IsSoundSelection
 IsSound (Verify db runs) = IsSoundSelection runs
 IsSound plan = Unit {0}
 
@@ -75,11 +80,20 @@ HasRun rows number = option_map number_of (first_of (codes "N") rows) ≡ Some n
 abbrev pub HasNumber : List Row → Text → Option ℕ → Type 0
 HasNumber rows id number = option_map number_of (one_of id rows) ≡ number
 
--- the runs that are selected: those of a group, one run, or all where neither is named
+-- the runs that two options select: those of a group, one run, or all where neither is given
+abbrev pub HasSelectionBy : Text → Text → List Row → Selected → Type 0
+HasSelectionBy run group rows selected.All = (first_of run rows ≡ None) × (first_of group rows ≡ None)
+HasSelectionBy run group rows (selected.Run number) = (option_map number_of (first_of run rows) ≡ Some number) × (first_of group rows ≡ None)
+HasSelectionBy run group rows (selected.Group name) = (first_of run rows ≡ None) × HasWord rows group name.now
+
 abbrev pub HasSelection : List Row → Selected → Type 0
-HasSelection rows selected.All = (first_of (codes "run") rows ≡ None) × (first_of (codes "group") rows ≡ None)
-HasSelection rows (selected.Run number) = (option_map number_of (first_of (codes "run") rows) ≡ Some number) × (first_of (codes "group") rows ≡ None)
-HasSelection rows (selected.Group name) = (first_of (codes "run") rows ≡ None) × HasWord rows (codes "group") name.now
+HasSelection rows runs = HasSelectionBy (codes "run") (codes "group") rows runs
+
+-- the runs whose costs are taken off: none are selected where neither option is given
+abbrev pub HasLess : List Row → Option Selected → Type 0
+HasLess rows None = HasSelectionBy (codes "less-run") (codes "less-group") rows selected.All
+HasLess rows (Some selected.All) = ⊥
+HasLess rows (Some runs) = HasSelectionBy (codes "less-run") (codes "less-group") rows runs
 
 -- the word of a key
 abbrev pub key_word : Key → Text
@@ -115,6 +129,17 @@ IsPlanOf name rows (Groups db) = (name ≡ codes "groups") × HasWord rows (code
 IsPlanOf name rows (By db runs event limit threshold key) =
     (name ≡ codes "by") × HasWord rows (codes "db") db.now × HasSelection rows runs × HasWord rows (codes "event") event.now
     × HasNumber rows (codes "limit") limit × HasNumber rows (codes "threshold") (Some threshold) × HasWord rows (codes "KEY") (key_word key)
+IsPlanOf name rows (Inclusive db runs event) =
+    (name ≡ codes "inclusive") × HasWord rows (codes "db") db.now × HasSelection rows runs × HasWord rows (codes "event") event.now
+IsPlanOf name rows (Callers db runs event object function) =
+    (name ≡ codes "callers") × HasWord rows (codes "db") db.now × HasSelection rows runs × HasWord rows (codes "event") event.now
+    × HasWord rows (codes "object") object.now × HasWord rows (codes "FUNCTION") function.now
+IsPlanOf name rows (Callees db runs event object function) =
+    (name ≡ codes "callees") × HasWord rows (codes "db") db.now × HasSelection rows runs × HasWord rows (codes "event") event.now
+    × HasWord rows (codes "object") object.now × HasWord rows (codes "FUNCTION") function.now
+IsPlanOf name rows (Subtract db runs less event key) =
+    (name ≡ codes "subtract") × HasWord rows (codes "db") db.now × HasSelection rows runs × HasLess rows less
+    × HasWord rows (codes "event") event.now × HasWord rows (codes "KEY") (key_word key)
 IsPlanOf name rows (Verify db runs) = (name ≡ codes "verify") × HasWord rows (codes "db") db.now × HasSelection rows runs
 
 -- what is said of a plan for a subcommand
@@ -136,32 +161,46 @@ pub record IsPlanFor (words : List Text) (plan : Plan) : Type 0 where
 
 -- ---- why there is no plan
 
--- a run and a group were both named
-abbrev pub NamesBoth : List Row → Type 0
-NamesBoth rows = IsSome (first_of (codes "run") rows) × IsSome (first_of (codes "group") rows)
+-- a run and a group were both named, by these options
+abbrev pub NamesBoth : Text → Text → List Row → Type 0
+NamesBoth run group rows = IsSome (first_of run rows) × IsSome (first_of group rows)
 
 abbrev pub AreBothNamed : Option (Text × List Row) → Type 0
 AreBothNamed None = ⊥
-AreBothNamed (Some found) = NamesBoth found.1
+AreBothNamed (Some found) = NamesBoth (codes "run") (codes "group") found.1
+
+-- the same of the runs whose costs are taken off
+abbrev pub AreBothLessNamed : Option (Text × List Row) → Type 0
+AreBothLessNamed None = ⊥
+AreBothLessNamed (Some found) = NamesBoth (codes "less-run") (codes "less-group") found.1
+
+-- no run was named beside a group
+pub record AreApart (found : Option (Text × List Row)) : Type 0 where
+  pub runs : AreBothNamed found → ⊥
+  pub less : AreBothLessNamed found → ⊥
 
 -- why nothing is planned for what was found of a subcommand
 abbrev pub IsEndFound : Option (Text × List Row) → PlanError → Type 0
 IsEndFound found Memory = Unit {0}
 IsEndFound found RunAndGroup = AreBothNamed found
+IsEndFound found LessRunAndLessGroup = (AreBothNamed found → ⊥) × AreBothLessNamed found
 IsEndFound found (Clap error) = ⊥
 
 -- what a clap error is to the program
 abbrev pub IsEndBy : Error → PlanError → Type 0
 IsEndBy error Memory = kind_of error ≡ OutOfMemory
 IsEndBy error RunAndGroup = ⊥
+IsEndBy error LessRunAndLessGroup = ⊥
 IsEndBy error (Clap kept) = (kept ≡ error) × (kind_of error ≢ OutOfMemory)
 
 -- by the kinds of faults that words have, and what is found of their subcommand: a fault of the grammar is one of them, and comes
--- first; then a run and a group exclude each other; out of memory may come at any time
+-- first; then a run and a group exclude each other, first those of the report and then those that are taken off; out of memory may
+-- come at any time
 abbrev pub IsEndOf : Kinds → Option (Text × List Row) → PlanError → Type 0
 IsEndOf kinds found Memory = Unit {0}
 IsEndOf kinds found RunAndGroup = (kinds ≡ []) × AreBothNamed found
-IsEndOf kinds found (Clap error) = (kinds ≢ [] → IsAmong (kind_of error) kinds) × (kinds ≡ [] → AreBothNamed found → ⊥)
+IsEndOf kinds found LessRunAndLessGroup = (kinds ≡ []) × (AreBothNamed found → ⊥) × AreBothLessNamed found
+IsEndOf kinds found (Clap error) = (kinds ≢ [] → IsAmong (kind_of error) kinds) × (kinds ≡ [] → AreApart found)
 
 -- why there is no plan for the words of a command line
 abbrev pub IsEndFor : List Text → PlanError → Type 0

@@ -4,12 +4,13 @@ ghost use Rattle.clap.specs.Words.{app_of, found_of, rows_of, subcommand_rows_of
 ghost use Rattle.clap.specs.declared.builder.command.Command.TheViews.{out-Command as fields_of};
 ghost use Rattle.command_line.specs.Grammar.{IsCommandLine};
 ghost use Rattle.command_line.specs.Plans.{HasWord, HasRun, IsRunNumber, IsPlanned, IsPlannedFor, IsPlanFor};
-ghost use Rattle.command_line.specs.Plans.{AreBothNamed, IsEndFound, IsEndFor};
+ghost use Rattle.command_line.specs.Plans.{AreApart, IsEndFound, IsEndFor};
 
 use crate::grammar::grammar;
 use crate::plans::{Plan, PlanError};
 use crate::words::{
-    files, is_given, key, limit, run, run_and_group, runs, selected, threshold, word,
+    files, is_given, key, less, less_run_and_less_group, limit, run, run_and_group, runs, selected,
+    threshold, word,
 };
 use clap::error::ErrorKind;
 use clap::{ArgMatches, Command};
@@ -101,6 +102,66 @@ fn by<'a>(db: &'a str, words: &ArgMatches<'a>) -> Option<Plan<'a>>
     })
 }
 
+/// A report of inclusive costs.
+fn inclusive<'a>(db: &'a str, words: &ArgMatches<'a>) -> Option<Plan<'a>>
+    requires { HasWord (rows_of (found_of words.now)) (codes "db") db.now }
+    ensures { IfSome result (IsPlanned (codes "inclusive") (rows_of (found_of words.now))) }
+{
+    let selected = selected(words)?;
+    let event = word(words, "event")?;
+    Some(Plan::Inclusive {
+        db,
+        selected,
+        event,
+    })
+}
+
+/// A report of the calls that have one side at a function.
+fn calls<'a>(subcommand: &str, db: &'a str, words: &ArgMatches<'a>) -> Option<Plan<'a>>
+    requires { HasWord (rows_of (found_of words.now)) (codes "db") db.now }
+    ensures { IfSome result (IsPlanned subcommand.now (rows_of (found_of words.now))) }
+{
+    let selected = selected(words)?;
+    let event = word(words, "event")?;
+    let object = word(words, "object")?;
+    let function = word(words, "FUNCTION")?;
+    match subcommand {
+        "callers" => Some(Plan::Callers {
+            db,
+            selected,
+            event,
+            object,
+            function,
+        }),
+        "callees" => Some(Plan::Callees {
+            db,
+            selected,
+            event,
+            object,
+            function,
+        }),
+        _ => None,
+    }
+}
+
+/// A report of differences by a key.
+fn subtract<'a>(db: &'a str, words: &ArgMatches<'a>) -> Option<Plan<'a>>
+    requires { HasWord (rows_of (found_of words.now)) (codes "db") db.now }
+    ensures { IfSome result (IsPlanned (codes "subtract") (rows_of (found_of words.now))) }
+{
+    let selected = selected(words)?;
+    let less = less(words)?;
+    let event = word(words, "event")?;
+    let key = key(words)?;
+    Some(Plan::Subtract {
+        db,
+        selected,
+        less,
+        event,
+        key,
+    })
+}
+
 /// A comparison with the totals that files state.
 fn verify<'a>(db: &'a str, words: &ArgMatches<'a>) -> Option<Plan<'a>>
     requires { HasWord (rows_of (found_of words.now)) (codes "db") db.now }
@@ -108,6 +169,20 @@ fn verify<'a>(db: &'a str, words: &ArgMatches<'a>) -> Option<Plan<'a>>
 {
     let selected = selected(words)?;
     Some(Plan::Verify { db, selected })
+}
+
+/// The plan for a report.
+fn report<'a>(name: &str, db: &'a str, words: &ArgMatches<'a>) -> Option<Plan<'a>>
+    requires { HasWord (rows_of (found_of words.now)) (codes "db") db.now }
+    ensures { IfSome result (IsPlanned name.now (rows_of (found_of words.now))) }
+{
+    match name {
+        "by" => by(db, words),
+        "inclusive" => inclusive(db, words),
+        "subtract" => subtract(db, words),
+        "verify" => verify(db, words),
+        _ => calls(name, db, words),
+    }
 }
 
 /// The plan for a subcommand that wants the database and has no list.
@@ -119,9 +194,8 @@ fn without_list<'a>(name: &str, db: &'a str, words: &ArgMatches<'a>) -> Option<P
         "runs" => Some(Plan::Runs { db }),
         "group" => group(db, words),
         "groups" => Some(Plan::Groups { db }),
-        "by" => by(db, words),
-        "verify" => verify(db, words),
-        _ => member(name, db, words),
+        "join" | "leave" | "baseline" => member(name, db, words),
+        _ => report(name, db, words),
     }
 }
 
@@ -163,11 +237,12 @@ fn plan_of<'a>(
 /// The plan for what was found of the words, where that is of a subcommand.
 fn plan_found<'a>(alloc: Global, matches: &ArgMatches<'a>) -> Result<Option<Plan<'a>>, PlanError>
     ensures planned { IfOk result (λ found. IfSome found (IsPlannedFor (subcommand_rows_of matches.now))) }
-    ensures one { IfOk result (λ _. AreBothNamed (subcommand_rows_of matches.now) → ⊥) }
+    ensures apart { IfOk result (λ _. AreApart (subcommand_rows_of matches.now)) }
     ensures end { IfErr result (IsEndFound (subcommand_rows_of matches.now)) }
 {
     match matches.subcommand() {
         Some((_, words)) if run_and_group(words) => Err(PlanError::RunAndGroup),
+        Some((_, words)) if less_run_and_less_group(words) => Err(PlanError::LessRunAndLessGroup),
         Some((name, words)) => Ok(plan_of(alloc, name, words)?),
         None => Ok(None),
     }

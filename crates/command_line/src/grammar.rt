@@ -79,20 +79,20 @@ fn run_number<'a>(alloc: Global) -> Arg<'a>
     operand(alloc, "N", "The number of a run").value_parser(run_numbers())
 }
 
-/// The option that selects one run.
-fn run_option<'a>(alloc: Global) -> Arg<'a>
-    ensures rule { rule_of result ≡ line.run_option }
+/// An option that selects one run.
+fn run_option<'a>(alloc: Global, id: &'a str, help: &'a str) -> Arg<'a>
+    ensures rule { rule_of result ≡ line.run_option id.entry.now }
     ensures local { result.global ≡ false }
 {
-    option(alloc, "run", "N", "Only the run of this number").value_parser(run_numbers())
+    option(alloc, id, "N", help).value_parser(run_numbers())
 }
 
-/// The option that selects the runs of a group.
-fn group_option<'a>(alloc: Global) -> Arg<'a>
-    ensures rule { rule_of result ≡ line.group_option }
+/// An option that selects the runs of a group.
+fn group_option<'a>(alloc: Global, id: &'a str, help: &'a str) -> Arg<'a>
+    ensures rule { rule_of result ≡ line.option id.entry.now }
     ensures local { result.global ≡ false }
 {
-    option(alloc, "group", "NAME", "Only the runs of this group")
+    option(alloc, id, "NAME", help)
 }
 
 /// The option that names an event.
@@ -125,6 +125,14 @@ fn threshold<'a>(alloc: Global) -> Arg<'a>
     )
     .value_parser(percents)
     .default_value("100")
+}
+
+/// The option that names the object of a function.
+fn object<'a>(alloc: Global) -> Arg<'a>
+    ensures rule { rule_of result ≡ line.object }
+    ensures local { result.global ≡ false }
+{
+    option(alloc, "object", "O", "The object of the function").default_value("???")
 }
 
 /// The word of a key.
@@ -182,8 +190,8 @@ fn over_selection<'a>(
     ensures local { IfOk result (λ command. (fields_of command).has_globals ≡ false) }
 {
     over_database(alloc, name, about, example)?
-        .arg(run_option(alloc))?
-        .arg(group_option(alloc))
+        .arg(run_option(alloc, "run", "Only the run of this number"))?
+        .arg(group_option(alloc, "group", "Only the runs of this group"))
 }
 
 fn total<'a>(alloc: Global) -> Result<Command<'a>, AllocError>
@@ -253,6 +261,64 @@ fn by<'a>(alloc: Global, keys: &'a [&'a str]) -> Result<Command<'a>, AllocError>
     .arg(event(alloc))?
     .arg(limit(alloc))?
     .arg(threshold(alloc))?
+    .arg(key(alloc, keys))
+}
+
+fn inclusive<'a>(alloc: Global) -> Result<Command<'a>, AllocError>
+    ensures app { IfOk result (λ command. app_of command ≡ line.inclusive) }
+    ensures local { IfOk result (λ command. (fields_of command).has_globals ≡ false) }
+{
+    over_selection(
+        alloc,
+        "inclusive",
+        "Report what functions cost with all that they call",
+        "Example: profhouse inclusive --db s.db --event Ir",
+    )?
+    .arg(event(alloc))
+}
+
+/// A subcommand on the calls that have one side at a function.
+fn over_calls<'a>(
+    alloc: Global,
+    name: &'a str,
+    about: &'a str,
+    example: &'a str,
+) -> Result<Command<'a>, AllocError>
+    ensures app { IfOk result (λ command. app_of command ≡ line.over_calls name.entry.now) }
+    ensures local { IfOk result (λ command. (fields_of command).has_globals ≡ false) }
+{
+    over_selection(alloc, name, about, example)?
+        .arg(event(alloc))?
+        .arg(object(alloc))?
+        .arg(operand(alloc, "FUNCTION", "The name of the function"))
+}
+
+/// A subcommand over runs that may be selected, less others that may be.
+fn over_less<'a>(
+    alloc: Global,
+    name: &'a str,
+    about: &'a str,
+    example: &'a str,
+) -> Result<Command<'a>, AllocError>
+    ensures app { IfOk result (λ command. app_of command ≡ line.over_less name.entry.now) }
+    ensures local { IfOk result (λ command. (fields_of command).has_globals ≡ false) }
+{
+    over_selection(alloc, name, about, example)?
+        .arg(run_option(alloc, "less-run", "Less the run of this number"))?
+        .arg(group_option(alloc, "less-group", "Less the runs of this group"))
+}
+
+fn subtract<'a>(alloc: Global, keys: &'a [&'a str]) -> Result<Command<'a>, AllocError>
+    ensures app { IfOk result (λ command. app_of command ≡ line.subtract (Names keys.entry)) }
+    ensures local { IfOk result (λ command. (fields_of command).has_globals ≡ false) }
+{
+    over_less(
+        alloc,
+        "subtract",
+        "Report how costs differ, by object, file, function or line",
+        "Example: profhouse subtract --db s.db --group nightly --event Ir function",
+    )?
+    .arg(event(alloc))?
     .arg(key(alloc, keys))
 }
 
@@ -339,6 +405,62 @@ fn with_members<'a>(alloc: Global, command: Command<'a>) -> Result<Command<'a>, 
     with(command, baseline)
 }
 
+/// With the reports of costs.
+fn with_costs<'a>(
+    alloc: Global,
+    command: Command<'a>,
+    keys: &'a [&'a str],
+) -> Result<Command<'a>, AllocError>
+    requires { (fields_of command).has_globals ≡ false }
+    ensures app { IfOk result (λ more. app_of more ≡ line.with_costs (Names keys.entry) (app_of command.entry)) }
+    ensures local { IfOk result (λ more. (fields_of more).has_globals ≡ false) }
+{
+    let command = with(command, by(alloc, keys))?;
+    with(command, inclusive(alloc))
+}
+
+/// With the reports of calls.
+fn with_calls<'a>(alloc: Global, command: Command<'a>) -> Result<Command<'a>, AllocError>
+    requires { (fields_of command).has_globals ≡ false }
+    ensures app { IfOk result (λ more. app_of more ≡ line.with_calls (app_of command.entry)) }
+    ensures local { IfOk result (λ more. (fields_of more).has_globals ≡ false) }
+{
+    let callers = over_calls(
+        alloc,
+        "callers",
+        "Report who calls a function",
+        "Example: profhouse callers --db s.db --event Ir --object /tmp/a.out main",
+    );
+    let command = with(command, callers)?;
+    let callees = over_calls(
+        alloc,
+        "callees",
+        "Report whom a function calls",
+        "Example: profhouse callees --db s.db --event Ir --object /tmp/a.out main",
+    );
+    with(command, callees)
+}
+
+/// With the reports that compare.
+fn with_comparisons<'a>(
+    alloc: Global,
+    command: Command<'a>,
+    keys: &'a [&'a str],
+) -> Result<Command<'a>, AllocError>
+    requires { (fields_of command).has_globals ≡ false }
+    ensures app { IfOk result (λ more. app_of more ≡ line.with_comparisons (Names keys.entry) (app_of command.entry)) }
+    ensures local { IfOk result (λ more. (fields_of more).has_globals ≡ false) }
+{
+    let command = with(command, subtract(alloc, keys))?;
+    let verify = over_selection(
+        alloc,
+        "verify",
+        "Compare sums of costs with the totals that files state",
+        "Example: profhouse verify --db s.db",
+    );
+    with(command, verify)
+}
+
 /// With the reports.
 fn with_reports<'a>(
     alloc: Global,
@@ -349,14 +471,9 @@ fn with_reports<'a>(
     ensures app { IfOk result (λ more. app_of more ≡ line.with_reports (Names keys.entry) (app_of command.entry)) }
     ensures local { IfOk result (λ more. (fields_of more).has_globals ≡ false) }
 {
-    let command = with(command, by(alloc, keys))?;
-    let verify = over_selection(
-        alloc,
-        "verify",
-        "Compare sums of costs with the totals that files state",
-        "Example: profhouse verify --db s.db",
-    );
-    with(command, verify)
+    let command = with_costs(alloc, command, keys)?;
+    let command = with_calls(alloc, command)?;
+    with_comparisons(alloc, command, keys)
 }
 
 /// The program's own command, with no subcommand yet.

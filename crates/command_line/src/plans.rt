@@ -75,6 +75,37 @@ pub enum Plan<'a> {
         threshold: u8,
         key: Key,
     },
+    /// Report what functions cost with all that they call.
+    Inclusive {
+        db: &'a str,
+        selected: Selected<'a>,
+        event: &'a str,
+    },
+    /// Report who calls a function of an object.
+    Callers {
+        db: &'a str,
+        selected: Selected<'a>,
+        event: &'a str,
+        object: &'a str,
+        function: &'a str,
+    },
+    /// Report whom a function of an object calls.
+    Callees {
+        db: &'a str,
+        selected: Selected<'a>,
+        event: &'a str,
+        object: &'a str,
+        function: &'a str,
+    },
+    /// Report by a key what the selected runs cost less what others do. Where no others are selected,
+    /// they are the baseline of the selected group.
+    Subtract {
+        db: &'a str,
+        selected: Selected<'a>,
+        less: Option<Selected<'a>>,
+        event: &'a str,
+        key: Key,
+    },
     /// Compare the sums of runs with the totals that their files state.
     Verify {
         db: &'a str,
@@ -89,6 +120,8 @@ pub enum PlanError {
     Memory,
     /// Both a run and a group were selected.
     RunAndGroup,
+    /// Both a run and a group were selected whose costs are taken off.
+    LessRunAndLessGroup,
     /// Help was asked for, or the words are at fault.
     Clap(clap::Error),
 }

@@ -2,7 +2,8 @@
 ghost use Rattle.std.specs.Prelude.{◌≡◌, ◌≢◌, ◌↔◌, ◌≤◌, true, [], All, map, codes, Some, None, IfOk, IfSome, IsSome};
 ghost use Rattle.clap.specs.Words.{all_of, first_of, found_of, one_of, rows_of};
 ghost use Rattle.command_line.specs.Plans.{IsRunNumber, IsSoundSelection, SaysRun, number_of, key_word};
-ghost use Rattle.command_line.specs.Plans.{HasWord, HasNumber, HasRun, HaveRuns, HasSelection, IsFlag, NamesBoth};
+ghost use Rattle.command_line.specs.Plans.{HasWord, HasNumber, HasRun, HaveRuns, IsFlag, NamesBoth};
+ghost use Rattle.command_line.specs.Plans.{HasSelection, HasSelectionBy, HasLess};
 
 use crate::grammar::{LAST_RUN, WHOLE};
 use crate::plans::Selected;
@@ -98,11 +99,38 @@ pub fn runs(alloc: Global, words: &ArgMatches<'_>) -> Result<Option<ListVec<u32>
     }
 }
 
+/// Whether a run and a group were both named, by these options.
+fn names_both(words: &ArgMatches<'_>, run: &str, group: &str) -> bool
+    ensures { result ≡ true ↔ NamesBoth run.now group.now (rows_of (found_of words.now)) }
+{
+    word(words, run).is_some() && word(words, group).is_some()
+}
+
 /// Whether a run and a group were both selected.
 pub fn run_and_group(words: &ArgMatches<'_>) -> bool
-    ensures { result ≡ true ↔ NamesBoth (rows_of (found_of words.now)) }
+    ensures { result ≡ true ↔ NamesBoth (codes "run") (codes "group") (rows_of (found_of words.now)) }
 {
-    word(words, "run").is_some() && word(words, "group").is_some()
+    names_both(words, "run", "group")
+}
+
+/// Whether a run and a group were both selected whose costs are taken off.
+pub fn less_run_and_less_group(words: &ArgMatches<'_>) -> bool
+    ensures { result ≡ true ↔ NamesBoth (codes "less-run") (codes "less-group") (rows_of (found_of words.now)) }
+{
+    names_both(words, "less-run", "less-group")
+}
+
+/// The runs that two options select, where they do not so in two ways.
+fn selected_by<'a>(words: &ArgMatches<'a>, run: &str, group: &str) -> Option<Selected<'a>>
+    ensures sound { IfSome result IsSoundSelection }
+    ensures selection { IfSome result (HasSelectionBy run.now group.now (rows_of (found_of words.now))) }
+{
+    match (word(words, run), word(words, group)) {
+        (None, None) => Some(Selected::All),
+        (Some(number), None) => Some(Selected::Run(run_of(number)?)),
+        (None, Some(name)) => Some(Selected::Group(name)),
+        (Some(_), Some(_)) => None,
+    }
 }
 
 /// The runs that were selected, where they are not so in two ways.
@@ -110,11 +138,18 @@ pub fn selected<'a>(words: &ArgMatches<'a>) -> Option<Selected<'a>>
     ensures sound { IfSome result IsSoundSelection }
     ensures selection { IfSome result (HasSelection (rows_of (found_of words.now))) }
 {
-    match (word(words, "run"), word(words, "group")) {
-        (None, None) => Some(Selected::All),
-        (Some(number), None) => Some(Selected::Run(run_of(number)?)),
-        (None, Some(name)) => Some(Selected::Group(name)),
-        (Some(_), Some(_)) => None,
+    selected_by(words, "run", "group")
+}
+
+/// The runs whose costs are taken off, if such were selected: no answer where they are in two ways.
+pub fn less<'a>(words: &ArgMatches<'a>) -> Option<Option<Selected<'a>>>
+    ensures sound { IfSome result (λ less. IfSome less IsSoundSelection) }
+    ensures selection { IfSome result (HasLess (rows_of (found_of words.now))) }
+{
+    match selected_by(words, "less-run", "less-group")? {
+        Selected::All => Some(None),
+        Selected::Run(number) => Some(Some(Selected::Run(number))),
+        Selected::Group(name) => Some(Some(Selected::Group(name))),
     }
 }
 

@@ -16,6 +16,10 @@ fn main(rt: HostRuntime) -> Result<ExitCode> {
             eprintln!(rt; "usage: --run and --group exclude each other")?;
             ExitCode::from(2)
         }
+        Err(PlanError::LessRunAndLessGroup) => {
+            eprintln!(rt; "usage: --less-run and --less-group exclude each other")?;
+            ExitCode::from(2)
+        }
         Err(PlanError::Clap(error)) => {
             error.print(&rt)?;
             ExitCode::from(error.exit_code() as u8)

@@ -1,4 +1,5 @@
 -- Questions of a command line, in the words of a history.
+use Rattle.std.specs.Prelude.{option_map}
 use Rattle.command_line.specs.declared.plans.Selected.{Selected}
 use Rattle.command_line.specs.declared.plans.Selected.TheVariants as selected
 use Rattle.histories.specs.declared.answers.Query.{Query}
@@ -18,3 +19,6 @@ query_said questions.Runs = queries.Runs
 query_said questions.Groups = queries.Groups
 query_said (questions.By selected key event cut) = queries.By (selection_said selected) key event.now cut
 query_said (questions.Verify selected) = queries.Verify (selection_said selected)
+query_said (questions.Inclusive selected event) = queries.Inclusive (selection_said selected) event.now
+query_said (questions.Calls selected side event object function) = queries.Calls (selection_said selected) side event.now object.now function.now
+query_said (questions.Subtract selected less key event) = queries.Subtract (selection_said selected) (option_map selection_said less) key event.now

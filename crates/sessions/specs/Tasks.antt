@@ -1,9 +1,10 @@
 -- What a plan says, in the words of a history.
-use Rattle.std.specs.Prelude.{◌≡◌, ℕ, Bool, IsTrue, true, false, List, [], ◌∷◌, map, Option}
+use Rattle.std.specs.Prelude.{◌≡◌, ℕ, Bool, IsTrue, true, false, List, [], ◌∷◌, map, Option, option_map}
 use Rattle.command_line.specs.declared.plans.Plan.{Plan}
 use Rattle.command_line.specs.declared.plans.Plan.TheVariants as plans
 use Rattle.histories.specs.History.{Said, Remove, MakeGroup, DropGroup, Join, Leave, SetBaseline, Ask}
-use Rattle.histories.specs.declared.answers.Query.TheVariants.{Runs, Groups, By, Verify}
+use Rattle.histories.specs.declared.answers.Query.TheVariants.{Runs, Groups, By, Verify, Inclusive, Calls, Subtract}
+use Rattle.cost_reports.specs.declared.call_sides.CallSide.TheVariants as sides
 use Rattle.cost_reports.specs.declared.cuts.Cut.{Cut}
 use Rattle.sources.specs.Outcomes.{Outcome}
 use Rattle.sessions.specs.Questions.{selection_said}
@@ -29,7 +30,24 @@ AreSaidBy reads (plans.Baseline db name n) store list = (store ≡ db.now) × (l
 AreSaidBy reads (plans.Groups db) store list = (store ≡ db.now) × (list ≡ Ask Groups ∷ [])
 AreSaidBy reads (plans.By db selected event limit threshold key) store list =
     (store ≡ db.now) × (list ≡ Ask (By (selection_said selected) key event.now (cut_said limit threshold)) ∷ [])
+AreSaidBy reads (plans.Inclusive db selected event) store list = (store ≡ db.now) × (list ≡ Ask (Inclusive (selection_said selected) event.now) ∷ [])
+AreSaidBy reads (plans.Callers db selected event object function) store list =
+    (store ≡ db.now) × (list ≡ Ask (Calls (selection_said selected) sides.Callers event.now object.now function.now) ∷ [])
+AreSaidBy reads (plans.Callees db selected event object function) store list =
+    (store ≡ db.now) × (list ≡ Ask (Calls (selection_said selected) sides.Callees event.now object.now function.now) ∷ [])
+AreSaidBy reads (plans.Subtract db selected less event key) store list =
+    (store ≡ db.now) × (list ≡ Ask (Subtract (selection_said selected) (option_map selection_said less) key event.now) ∷ [])
 AreSaidBy reads (plans.Verify db selected) store list = (store ≡ db.now) × (list ≡ Ask (Verify (selection_said selected)) ∷ [])
+
+-- the plans that ask for a report
+abbrev pub Asks : Plan → Type 0
+Asks (plans.By db selected event limit threshold key) = Unit {0}
+Asks (plans.Inclusive db selected event) = Unit {0}
+Asks (plans.Callers db selected event object function) = Unit {0}
+Asks (plans.Callees db selected event object function) = Unit {0}
+Asks (plans.Subtract db selected less event key) = Unit {0}
+Asks (plans.Verify db selected) = Unit {0}
+Asks plan = ⊥
 
 -- a task does what a plan says: a total for a total, and over the store of the plan commands that it says, whatever is asked of the reads of files
 abbrev pub IsTaskOf : Plan → Task → Type 0

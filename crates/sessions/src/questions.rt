@@ -1,11 +1,11 @@
 // Questions, as the words of a command line ask them.
-ghost use Rattle.std.specs.Prelude.{◌≡◌, IfOk};
-ghost use Rattle.histories.specs.declared.answers.Query.TheVariants.{By};
+ghost use Rattle.std.specs.Prelude.{◌≡◌, IfOk, option_map};
+ghost use Rattle.histories.specs.declared.answers.Query.TheVariants.{By, Inclusive, Calls, Subtract};
 ghost use Rattle.sessions.specs.Questions.{query_said, selection_said};
 
 use cg_text::ListVec;
 use command_line::Selected;
-use cost_reports::Cut;
+use cost_reports::{CallSide, Cut};
 use cost_rows::Key;
 use histories::{Query, Selection};
 use std::alloc::{AllocError, Global};
@@ -26,6 +26,26 @@ pub enum Question<'a> {
     },
     /// What the sums of runs are beside the totals that their files state.
     Verify(Selected<'a>),
+    /// What functions cost with all that they call.
+    Inclusive {
+        selected: Selected<'a>,
+        event: &'a str,
+    },
+    /// Who calls a function of an object, or whom it calls.
+    Calls {
+        selected: Selected<'a>,
+        side: CallSide,
+        event: &'a str,
+        object: &'a str,
+        function: &'a str,
+    },
+    /// What some runs cost less what others do, by key.
+    Subtract {
+        selected: Selected<'a>,
+        less: Option<Selected<'a>>,
+        key: Key,
+        event: &'a str,
+    },
 }
 
 /// The bytes of a name.
@@ -66,6 +86,70 @@ fn by_query(
     })
 }
 
+/// The question of inclusive costs.
+fn inclusive_query(alloc: Global, selected: Selected<'_>, event: &str) -> Result<Query, AllocError>
+    ensures { IfOk result (λ query. query ≡ Inclusive (selection_said selected.entry) event.now) }
+{
+    let selection = selection_of(alloc, selected)?;
+    let event = bytes_of(alloc, event)?;
+    Ok(Query::Inclusive { selection, event })
+}
+
+/// The question of the calls that have one side at a function.
+fn calls_query(
+    alloc: Global,
+    selected: Selected<'_>,
+    side: CallSide,
+    event: &str,
+    object: &str,
+    function: &str,
+) -> Result<Query, AllocError>
+    ensures { IfOk result (λ query. query ≡ Calls (selection_said selected.entry) side event.now object.now function.now) }
+{
+    let selection = selection_of(alloc, selected)?;
+    let event = bytes_of(alloc, event)?;
+    let object = bytes_of(alloc, object)?;
+    let function = bytes_of(alloc, function)?;
+    Ok(Query::Calls {
+        selection,
+        side,
+        event,
+        object,
+        function,
+    })
+}
+
+/// The selection of the runs whose costs are taken off, if such were selected.
+fn second_of(alloc: Global, less: Option<Selected<'_>>) -> Result<Option<Selection>, AllocError>
+    ensures { IfOk result (λ second. second ≡ option_map selection_said less.entry) }
+{
+    match less {
+        Some(selected) => Ok(Some(selection_of(alloc, selected)?)),
+        None => Ok(None),
+    }
+}
+
+/// The question of differences by key.
+fn subtract_query(
+    alloc: Global,
+    selected: Selected<'_>,
+    less: Option<Selected<'_>>,
+    key: Key,
+    event: &str,
+) -> Result<Query, AllocError>
+    ensures { IfOk result (λ query. query ≡ Subtract (selection_said selected.entry) (option_map selection_said less.entry) key event.now) }
+{
+    let first = selection_of(alloc, selected)?;
+    let second = second_of(alloc, less)?;
+    let event = bytes_of(alloc, event)?;
+    Ok(Query::Subtract {
+        first,
+        second,
+        key,
+        event,
+    })
+}
+
 /// What the warehouse is asked.
 pub(crate) fn query_of(alloc: Global, question: Question<'_>) -> Result<Query, AllocError>
     ensures { IfOk result (λ query. query ≡ query_said question.entry) }
@@ -80,5 +164,19 @@ pub(crate) fn query_of(alloc: Global, question: Question<'_>) -> Result<Query, A
             cut,
         } => by_query(alloc, selected, key, event, cut),
         Question::Verify(selected) => Ok(Query::Verify(selection_of(alloc, selected)?)),
+        Question::Inclusive { selected, event } => inclusive_query(alloc, selected, event),
+        Question::Calls {
+            selected,
+            side,
+            event,
+            object,
+            function,
+        } => calls_query(alloc, selected, side, event, object, function),
+        Question::Subtract {
+            selected,
+            less,
+            key,
+            event,
+        } => subtract_query(alloc, selected, less, key, event),
     }
 }

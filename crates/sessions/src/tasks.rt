@@ -1,11 +1,15 @@
 // What is to be done for a plan.
 ghost use Rattle.std.specs.Prelude.{◌≡◌};
-ghost use Rattle.sessions.specs.Tasks.{IsTaskOf, cut_said};
+ghost use Rattle.sessions.specs.Tasks.{Asks, IsTaskOf, cut_said};
+ghost use Rattle.sessions.specs.declared.questions.Question.TheVariants.{By, Calls, Subtract};
+ghost use Rattle.sessions.specs.declared.session.Work.TheVariants.{Ask};
+ghost use Rattle.sessions.specs.declared.tasks.Task.TheVariants.{Over};
 
 use crate::questions::Question;
 use crate::session::Work;
-use command_line::Plan;
-use cost_reports::Cut;
+use command_line::{Plan, Selected};
+use cost_reports::{CallSide, Cut};
+use cost_rows::Key;
 use warehouse::GroupChange;
 
 /// What is to be done.
@@ -24,6 +28,101 @@ fn cut_of(limit: Option<u32>, threshold: u8) -> Cut
     Cut {
         limit: limit.map(u64::from),
         threshold,
+    }
+}
+
+/// The question where the cost of an event went.
+fn ask_by<'a>(selected: Selected<'a>, key: Key, event: &'a str, cut: Cut) -> Work<'a>
+    ensures { result ≡ Ask (By selected.entry key event.entry cut) }
+{
+    Work::Ask(Question::By {
+        selected,
+        key,
+        event,
+        cut,
+    })
+}
+
+/// The task to ask about the calls that have one side at a function.
+fn ask_of_calls<'a>(
+    db: &'a str,
+    side: CallSide,
+    selected: Selected<'a>,
+    event: &'a str,
+    object: &'a str,
+    function: &'a str,
+) -> Task<'a>
+    ensures { result ≡ Over db.entry (Ask (Calls selected.entry side event.entry object.entry function.entry)) }
+{
+    let question = Question::Calls {
+        selected,
+        side,
+        event,
+        object,
+        function,
+    };
+    Task::Over(db, Work::Ask(question))
+}
+
+/// The question what some runs cost less what others do.
+fn ask_to_subtract<'a>(
+    selected: Selected<'a>,
+    less: Option<Selected<'a>>,
+    key: Key,
+    event: &'a str,
+) -> Work<'a>
+    ensures { result ≡ Ask (Subtract selected.entry less.entry key event.entry) }
+{
+    Work::Ask(Question::Subtract {
+        selected,
+        less,
+        key,
+        event,
+    })
+}
+
+/// The task of a plan that asks for a report.
+fn report_task<'a>(plan: Plan<'a>) -> Task<'a>
+    requires { Asks plan }
+    ensures { IsTaskOf plan.entry result }
+{
+    match plan {
+        Plan::By {
+            db,
+            selected,
+            event,
+            limit,
+            threshold,
+            key,
+        } => Task::Over(db, ask_by(selected, key, event, cut_of(limit, threshold))),
+        Plan::Inclusive {
+            db,
+            selected,
+            event,
+        } => Task::Over(db, Work::Ask(Question::Inclusive { selected, event })),
+        Plan::Callers {
+            db,
+            selected,
+            event,
+            object,
+            function,
+        } => ask_of_calls(db, CallSide::Callers, selected, event, object, function),
+        Plan::Callees {
+            db,
+            selected,
+            event,
+            object,
+            function,
+        } => ask_of_calls(db, CallSide::Callees, selected, event, object, function),
+        Plan::Subtract {
+            db,
+            selected,
+            less,
+            event,
+            key,
+        } => Task::Over(db, ask_to_subtract(selected, less, key, event)),
+        Plan::Verify { db, selected } => Task::Over(db, Work::Ask(Question::Verify(selected))),
+        _ => unreachable!(),
     }
 }
 
@@ -56,23 +155,6 @@ pub(crate) fn task_of<'a>(plan: Plan<'a>) -> Task<'a>
             Task::Over(db, Work::Group(name, GroupChange::SetBaseline(number)))
         }
         Plan::Groups { db } => Task::Over(db, Work::Ask(Question::Groups)),
-        Plan::By {
-            db,
-            selected,
-            event,
-            limit,
-            threshold,
-            key,
-        } => {
-            let cut = cut_of(limit, threshold);
-            let question = Question::By {
-                selected,
-                key,
-                event,
-                cut,
-            };
-            Task::Over(db, Work::Ask(question))
-        }
-        Plan::Verify { db, selected } => Task::Over(db, Work::Ask(Question::Verify(selected))),
+        report => report_task(report),
     }
 }

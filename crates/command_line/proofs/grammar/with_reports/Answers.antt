@@ -1,13 +1,13 @@
-use Rattle.std.proofs.Common.{◌≡◌, ap}
-use Rattle.clap.specs.Words.{App, app_of, with_subcommand}
+use Rattle.std.proofs.Common.{◌≡◌, ap, ◌∙◌}
+use Rattle.clap.specs.Words.{App, app_of}
 use Rattle.clap.specs.declared.builder.value_parser.ValueParser.TheVariants.{Names}
 use Rattle.command_line.specs.Grammar as line
-use Rattle.command_line.proofs.GrammarLemmas.{got_last, has_got}
+use Rattle.command_line.proofs.GrammarLemmas.{last_by}
 use Rattle.command_line.proofs.grammar.with_reports.Goals as goal
 
 pub returns-clause-app : goal.returns-clause-app
 returns-clause-app c =
-    let before = app_of c.args.command in
-    let first : App = with_subcommand before (line.by (Names c.args.keys)).top in
-    let one : app_of c.in_ok-command.command ≡ first = has_got c.by.result _ before (line.by (Names c.args.keys)) c.in_ok-command.ensures.app c.by.ensures.app in
-    got_last c.with-2.result c.over_selection-verify.result _ first (line.verify) c.with-2.ensures.app one c.over_selection-verify.ensures.app
+    let keys = Names c.args.keys in
+    let costs : app_of c.in_ok-command.command ≡ line.with_costs keys (app_of c.args.command) = c.in_ok-command.ensures.app in
+    let calls : app_of c.in_ok-command-2.command ≡ line.with_calls (line.with_costs keys (app_of c.args.command)) = c.in_ok-command-2.ensures.app ∙ ap (λ (a : App). line.with_calls a) costs in
+    last_by c.with_comparisons.result (line.with_comparisons keys) (app_of c.in_ok-command-2.command) _ calls c.with_comparisons.ensures.app
