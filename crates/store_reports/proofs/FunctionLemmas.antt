@@ -114,33 +114,29 @@ taken_calls : (m : Taken) (calls : List Calls) → (fold with_call m calls).call
 taken_calls m [] = refl
 taken_calls m (c ∷ calls) = taken_calls (with_call m c) calls
 
--- the text, where the function is known by its calls, or else by other rows
-pub text_known : (t : Tables) (runs : List Counted) (side : CallSide) (f : Spot) (event : List ℕ) (all : Taken) (rows : Bool) → AreTakenFrom t runs (not_taken side f) all → (all.known ≡ false → rows ≡ true)
-    → (all.known ≡ false → rows ≡ list_any (is_in_rows t f) runs) → IsCallsText t runs side f event (Some (call_report_text event (call_report_of all.calls)))
-text_known t runs side f event all rows from found are =
-    let arcs = from.0 in
-    let known : all.known ≡ list_any (touches f) (all_arcs arcs) = ap (λ (m : Taken). m.known) from.2 ∙ taken_known (not_taken side f) (all_arcs arcs) in
-    let calls : all.calls ≡ record { side = side; function = f; sums = calls_by side f (all_arcs arcs) } = ap (λ (m : Taken). m.calls) from.2 ∙ taken_calls (not_taken side f) (all_arcs arcs) ∙ calls_come_to side f (all_arcs arcs) in
-    (arcs, from.1, go all.known known calls found are)
-  where
-    text : CallsOfFunction → List ℕ
-    text calls = call_report_text event (call_report_of calls)
+module _ (t : Tables) (runs : List Counted) (side : CallSide) (f : Spot) (event : List ℕ) (all : Taken) (known : Bool) (from : AreTakenFrom t runs (not_taken side f) all)
+    (is : known ≡ all.known || list_any (is_in_rows t f) runs) where
+  known_is : known ≡ list_any (touches f) (all_arcs from.0) || list_any (is_in_rows t f) runs
+  known_is = is ∙ ap (λ b. b || list_any (is_in_rows t f) runs) (ap (λ (m : Taken). m.known) from.2 ∙ taken_known (not_taken side f) (all_arcs from.0))
 
-    go : (k : Bool) → k ≡ list_any (touches f) (all_arcs from.0) → all.calls ≡ record { side = side; function = f; sums = calls_by side f (all_arcs from.0) } → (k ≡ false → rows ≡ true)
-        → (k ≡ false → rows ≡ list_any (is_in_rows t f) runs) → Some (text all.calls) ≡ calls_text_over t runs side f event from.0
-    go true known calls found are =
-        ap (λ c. Some (text c)) calls ∙ ap (λ b. if b || list_any (is_in_rows t f) runs then Some (text (record { side = side; function = f; sums = calls_by side f (all_arcs from.0) })) else None) known
-    go false known calls found are =
-        ap (λ c. Some (text c)) calls
-        ∙ ap₂ (λ a b. if a || b then Some (text (record { side = side; function = f; sums = calls_by side f (all_arcs from.0) })) else None) known (sym (found refl) ∙ are refl)
+  calls_are : all.calls ≡ record { side = side; function = f; sums = calls_by side f (all_arcs from.0) }
+  calls_are = ap (λ (m : Taken). m.calls) from.2 ∙ taken_calls (not_taken side f) (all_arcs from.0) ∙ calls_come_to side f (all_arcs from.0)
 
-pub text_unknown : (t : Tables) (runs : List Counted) (side : CallSide) (f : Spot) (event : List ℕ) (all : Taken) → AreTakenFrom t runs (not_taken side f) all → all.known ≡ false
-    → false ≡ list_any (is_in_rows t f) runs → IsCallsText t runs side f event None
-text_unknown t runs side f event all from none rows =
-    let arcs = from.0 in
-    let known : all.known ≡ list_any (touches f) (all_arcs arcs) = ap (λ (m : Taken). m.known) from.2 ∙ taken_known (not_taken side f) (all_arcs arcs) in
-    let text = call_report_text event (call_report_of (record { side = side; function = f; sums = calls_by side f (all_arcs arcs) })) in
-    (arcs, from.1, ap₂ (λ a b. if a || b then Some text else None) (sym none ∙ known) rows)
+  -- the text, where the function is known
+  pub text_found : known ≡ true → IsCallsText t runs side f event (Some (call_report_text event (call_report_of all.calls)))
+  text_found is_true = (
+    from.0,
+    from.1,
+    ap (λ calls. Some (call_report_text event (call_report_of calls))) calls_are
+        ∙ ap (λ b. if b then Some (call_report_text event (call_report_of (record { side = side; function = f; sums = calls_by side f (all_arcs from.0) }))) else None) (sym is_true ∙ known_is),
+  )
+
+  pub text_missing : known ≡ false → IsCallsText t runs side f event None
+  text_missing is_false = (
+    from.0,
+    from.1,
+    ap (λ b. if b then Some (call_report_text event (call_report_of (record { side = side; function = f; sums = calls_by side f (all_arcs from.0) }))) else None) (sym is_false ∙ known_is),
+  )
 
 -- ---- rows and records know the same functions
 
@@ -181,11 +177,11 @@ second_true false b is = absurd cc
 -- a cost above 0, and its column
 some_cost : (costs : List ℕ) → list_any (nat_lt 0) costs ≡ true → (k : ℕ) × (0 < slice_index costs k)
 some_cost [] is = absurd cc
-some_cost (cost ∷ costs) is = go (nat_lt 0 cost) refl is
+some_cost (cost ∷ costs) is = go (nat_lt 0 cost) refl is (some_cost costs)
   where
-    go : (b : Bool) → nat_lt 0 cost ≡ b → b || list_any (nat_lt 0) costs ≡ true → (k : ℕ) × (0 < slice_index (cost ∷ costs) k)
-    go true here any = (0, is_above cost here)
-    go false here any = let rest = some_cost costs any in (suc rest.0, rest.1)
+    go : (b : Bool) → nat_lt 0 cost ≡ b → b || list_any (nat_lt 0) costs ≡ true → (list_any (nat_lt 0) costs ≡ true → (k : ℕ) × (0 < slice_index costs k)) → (k : ℕ) × (0 < slice_index (cost ∷ costs) k)
+    go true here any rest = (0, is_above cost here)
+    go false here any rest = let later = rest any in (suc later.0, later.1)
 
 cost_there : (costs : List ℕ) (k : ℕ) → 0 < slice_index costs k → list_any (nat_lt 0) costs ≡ true
 cost_there [] k low = absurd (let n : ℕ = 0 in omega (arith, low))
@@ -217,46 +213,48 @@ module _ (f : Spot) where
 
   own_positive : (k : ℕ) (records : List Record) → 0 < own_sum of_f k records → list_any own_tells records ≡ true
   own_positive k [] low = absurd (omega (arith, low))
-  own_positive k (Own cost ∷ records) low = go (of_f (spot_of cost)) (slice_index cost.costs k) refl (cost_there cost.costs k) low
+  own_positive k (Own cost ∷ records) low = go (of_f (spot_of cost)) (slice_index cost.costs k) refl (cost_there cost.costs k) low (own_positive k records)
     where
       go : (b : Bool) (n : ℕ) → of_f (spot_of cost) ≡ b → (0 < n → list_any (nat_lt 0) cost.costs ≡ true) → 0 < (if b then n else 0) + own_sum of_f k records
-          → (of_f (spot_of cost) && list_any (nat_lt 0) cost.costs) || list_any own_tells records ≡ true
-      go true zero here any low = or_second _ _ (own_positive k records (omega (arith, low)))
-      go true (suc n) here any low = or_first _ _ (both_true _ _ here (any (omega arith)))
-      go false n here any low = or_second _ _ (own_positive k records (omega (arith, low)))
+          → (0 < own_sum of_f k records → list_any own_tells records ≡ true) → (of_f (spot_of cost) && list_any (nat_lt 0) cost.costs) || list_any own_tells records ≡ true
+      go true zero here any low rest = or_second _ _ (rest (omega (arith, low)))
+      go true (suc n) here any low rest = or_first _ _ (both_true _ _ here (any (omega arith)))
+      go false n here any low rest = or_second _ _ (rest (omega (arith, low)))
   own_positive k (Called callee cost ∷ records) low = own_positive k records low
 
   own_there : (records : List Record) → list_any own_tells records ≡ true → (k : ℕ) × (0 < own_sum of_f k records)
   own_there [] is = absurd cc
-  own_there (Own cost ∷ records) is = go (own_tells (Own cost)) refl is
+  own_there (Own cost ∷ records) is = go (own_tells (Own cost)) refl is (own_there records)
     where
-      go : (b : Bool) → own_tells (Own cost) ≡ b → b || list_any own_tells records ≡ true → (k : ℕ) × (0 < own_sum of_f k (Own cost ∷ records))
-      go true here any =
+      go : (b : Bool) → own_tells (Own cost) ≡ b → b || list_any own_tells records ≡ true → (list_any own_tells records ≡ true → (k : ℕ) × (0 < own_sum of_f k records))
+          → (k : ℕ) × (0 < own_sum of_f k (Own cost ∷ records))
+      go true here any rest =
           let column = some_cost cost.costs (second_true (of_f (spot_of cost)) (list_any (nat_lt 0) cost.costs) here) in
           let at = first_true (of_f (spot_of cost)) (list_any (nat_lt 0) cost.costs) here in
           let low = column.1 in
           (column.0, subst (λ b. 0 < (if b then slice_index cost.costs column.0 else 0) + own_sum of_f column.0 records) (sym at) (omega (arith, low)))
-      go false here any = let rest = own_there records any in let low = rest.1 in (rest.0, omega (arith, low))
+      go false here any rest = let later = rest any in let low = later.1 in (later.0, omega (arith, low))
   own_there (Called callee cost ∷ records) is = own_there records is
 
   cells_positive : (k : ℕ) (cells : List (CellRow (List ℕ))) → 0 < rows_cost of_f k cells → is_in_cells f cells ≡ true
   cells_positive k [] low = absurd (omega (arith, low))
-  cells_positive k (r ∷ cells) low = go (of_f (place_of_row r)) (r.event == k) refl low
+  cells_positive k (r ∷ cells) low = go (of_f (place_of_row r)) (r.event == k) refl low (cells_positive k cells)
     where
-      go : (a b : Bool) → of_f (place_of_row r) ≡ a → 0 < (if a && b then r.cost else 0) + rows_cost of_f k cells → of_f (place_of_row r) || is_in_cells f cells ≡ true
-      go true b here low = or_first _ _ here
-      go false b here low = or_second _ _ (cells_positive k cells (omega (arith, low)))
+      go : (a b : Bool) → of_f (place_of_row r) ≡ a → 0 < (if a && b then r.cost else 0) + rows_cost of_f k cells → (0 < rows_cost of_f k cells → is_in_cells f cells ≡ true)
+          → of_f (place_of_row r) || is_in_cells f cells ≡ true
+      go true b here low rest = or_first _ _ here
+      go false b here low rest = or_second _ _ (rest (omega (arith, low)))
 
   cell_there : (cells : List (CellRow (List ℕ))) → HaveCosts cells → is_in_cells f cells ≡ true → (k : ℕ) × (0 < rows_cost of_f k cells)
   cell_there [] above is = absurd cc
-  cell_there (r ∷ cells) above is = go (of_f (place_of_row r)) refl is
+  cell_there (r ∷ cells) above is = go (of_f (place_of_row r)) refl is (cell_there cells above.1)
     where
       low : 0 < r.cost
       low = above.0
 
-      go : (b : Bool) → of_f (place_of_row r) ≡ b → b || is_in_cells f cells ≡ true → (k : ℕ) × (0 < rows_cost of_f k (r ∷ cells))
-      go true here any = (r.event, subst (λ b. 0 < (if b then r.cost else 0) + rows_cost of_f r.event cells) (sym (both_true _ _ here (same_number r.event))) (omega (arith, low)))
-      go false here any = let rest = cell_there cells above.1 any in let some = rest.1 in (rest.0, omega (arith, some))
+      go : (b : Bool) → of_f (place_of_row r) ≡ b → b || is_in_cells f cells ≡ true → (is_in_cells f cells ≡ true → (k : ℕ) × (0 < rows_cost of_f k cells)) → (k : ℕ) × (0 < rows_cost of_f k (r ∷ cells))
+      go true here any rest = (r.event, subst (λ b. 0 < (if b then r.cost else 0) + rows_cost of_f r.event cells) (sym (both_true _ _ here (same_number r.event))) (omega (arith, low)))
+      go false here any rest = let later = rest any in let some = later.1 in (later.0, omega (arith, some))
 
   cells_know : (cells : List (CellRow (List ℕ))) (records : List Record) → HaveCosts cells → ((passes : Spot → Bool) (k : ℕ) → rows_cost passes k cells ≡ own_sum passes k records)
       → is_in_cells f cells ≡ list_any own_tells records
@@ -266,43 +264,44 @@ module _ (f : Spot) where
 
   stacks_positive : (stacks : List (StackRow (List ℕ))) → 0 < stacks_count (is_frame f) stacks → is_in_stacks f stacks ≡ true
   stacks_positive [] low = absurd (omega (arith, low))
-  stacks_positive (r ∷ stacks) low = go (is_frame f r.stack) refl low
+  stacks_positive (r ∷ stacks) low = go (is_frame f r.stack) refl low (stacks_positive stacks)
     where
-      go : (b : Bool) → is_frame f r.stack ≡ b → 0 < (if b then r.count else 0) + stacks_count (is_frame f) stacks → is_frame f r.stack || is_in_stacks f stacks ≡ true
-      go true here low = or_first _ _ here
-      go false here low = or_second _ _ (stacks_positive stacks (omega (arith, low)))
+      go : (b : Bool) → is_frame f r.stack ≡ b → 0 < (if b then r.count else 0) + stacks_count (is_frame f) stacks → (0 < stacks_count (is_frame f) stacks → is_in_stacks f stacks ≡ true)
+          → is_frame f r.stack || is_in_stacks f stacks ≡ true
+      go true here low rest = or_first _ _ here
+      go false here low rest = or_second _ _ (rest (omega (arith, low)))
 
   stack_there : (stacks : List (StackRow (List ℕ))) → HaveCounts stacks → is_in_stacks f stacks ≡ true → 0 < stacks_count (is_frame f) stacks
   stack_there [] above is = absurd cc
-  stack_there (r ∷ stacks) above is = go (is_frame f r.stack) is
+  stack_there (r ∷ stacks) above is = go (is_frame f r.stack) is (stack_there stacks above.1)
     where
       low : 0 < r.count
       low = above.0
 
-      go : (b : Bool) → b || is_in_stacks f stacks ≡ true → 0 < (if b then r.count else 0) + stacks_count (is_frame f) stacks
-      go true any = omega (arith, low)
-      go false any = let rest = stack_there stacks above.1 any in omega (arith, rest)
+      go : (b : Bool) → b || is_in_stacks f stacks ≡ true → (is_in_stacks f stacks ≡ true → 0 < stacks_count (is_frame f) stacks) → 0 < (if b then r.count else 0) + stacks_count (is_frame f) stacks
+      go true any rest = omega (arith, low)
+      go false any rest = let some = rest any in omega (arith, some)
 
   seen_positive : (seen : List Seen) → 0 < frames_sum (is_frame f) seen → list_any (is_seen_in f) seen ≡ true
   seen_positive [] low = absurd (omega (arith, low))
-  seen_positive (s ∷ seen) low = go (is_frame f s.stack.frames) s.stack.count refl refl low
+  seen_positive (s ∷ seen) low = go (is_frame f s.stack.frames) s.stack.count refl refl low (seen_positive seen)
     where
-      go : (b : Bool) (n : ℕ) → is_frame f s.stack.frames ≡ b → s.stack.count ≡ n → 0 < (if b then n else 0) + frames_sum (is_frame f) seen
+      go : (b : Bool) (n : ℕ) → is_frame f s.stack.frames ≡ b → s.stack.count ≡ n → 0 < (if b then n else 0) + frames_sum (is_frame f) seen → (0 < frames_sum (is_frame f) seen → list_any (is_seen_in f) seen ≡ true)
           → (nat_lt 0 s.stack.count && is_frame f s.stack.frames) || list_any (is_seen_in f) seen ≡ true
-      go true zero here count low = or_second _ _ (seen_positive seen (omega (arith, low)))
-      go true (suc n) here count low = or_first _ _ (both_true _ _ (above_is s.stack.count (omega (arith, count))) here)
-      go false n here count low = or_second _ _ (seen_positive seen (omega (arith, low)))
+      go true zero here count low rest = or_second _ _ (rest (omega (arith, low)))
+      go true (suc n) here count low rest = or_first _ _ (both_true _ _ (above_is s.stack.count (omega (arith, count))) here)
+      go false n here count low rest = or_second _ _ (rest (omega (arith, low)))
 
   seen_there : (seen : List Seen) → list_any (is_seen_in f) seen ≡ true → 0 < frames_sum (is_frame f) seen
   seen_there [] is = absurd cc
-  seen_there (s ∷ seen) is = go (is_seen_in f s) refl is
+  seen_there (s ∷ seen) is = go (is_seen_in f s) refl is (seen_there seen)
     where
-      go : (b : Bool) → is_seen_in f s ≡ b → b || list_any (is_seen_in f) seen ≡ true → 0 < frames_sum (is_frame f) (s ∷ seen)
-      go true here any =
+      go : (b : Bool) → is_seen_in f s ≡ b → b || list_any (is_seen_in f) seen ≡ true → (list_any (is_seen_in f) seen ≡ true → 0 < frames_sum (is_frame f) seen) → 0 < frames_sum (is_frame f) (s ∷ seen)
+      go true here any rest =
           let low = is_above s.stack.count (first_true _ (is_frame f s.stack.frames) here) in
           let at = second_true (nat_lt 0 s.stack.count) (is_frame f s.stack.frames) here in
           subst (λ b. 0 < (if b then s.stack.count else 0) + frames_sum (is_frame f) seen) (sym at) (omega (arith, low))
-      go false here any = let rest = seen_there seen any in omega (arith, rest)
+      go false here any rest = let some = rest any in omega (arith, some)
 
   stacks_know : (stacks : List (StackRow (List ℕ))) (seen : List Seen) → HaveCounts stacks → ((test : List ℕ → Bool) → stacks_count test stacks ≡ frames_sum test seen)
       → is_in_stacks f stacks ≡ list_any (is_seen_in f) seen
@@ -333,7 +332,6 @@ module _ (f : Spot) where
 
   runs_know : (h : History) (t : Tables) (event : List ℕ) → TablesTell h t → (files : List File) (runs : List Counted) (rows : List EventArcs) → AllByRecursion (Has (held h)) files → AreRunsOf event files runs
       → AreArcsOf runs t rows → list_any (touches f) (all_arcs rows) || list_any (is_in_rows t f) runs ≡ list_any (knows f) files
-  unfolding AreRunsOf
   runs_know h t event tell [] [] [] all are arcs = refl
   runs_know h t event tell [] [] (r ∷ rows) all are arcs = absurd arcs
   runs_know h t event tell [] (run ∷ runs) rows all are arcs = absurd are
@@ -353,7 +351,6 @@ module _ (f : Spot) where
 
 calls_stand : (h : History) (t : Tables) (event : List ℕ) → TablesTell h t → (files : List File) (runs : List Counted) (rows : List EventArcs) → AllByRecursion (Has (held h)) files → AreRunsOf event files runs
     → AreArcsOf runs t rows → CallsStandForEach (map (event_records event) files) rows
-unfolding AreRunsOf
 calls_stand h t event tell [] [] [] all are arcs = tt
 calls_stand h t event tell [] [] (r ∷ rows) all are arcs = absurd arcs
 calls_stand h t event tell [] (run ∷ runs) rows all are arcs = absurd are

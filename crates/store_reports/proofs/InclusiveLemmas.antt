@@ -328,8 +328,8 @@ frames_append : (test : List ℕ → Bool) (xs ys : List Seen) → frames_sum te
 frames_append test [] ys = let n : ℕ = frames_sum test ys in let e : n ≡ 0 + n = omega arith in e
 frames_append test (x ∷ xs) ys = let rest = frames_append test xs ys in omega (arith, rest)
 
-both_seen : (xs ys : List (StackRow (List ℕ))) (as bs : List Seen) → SameStacks xs as → SameStacks ys bs → SameStacks (xs ++ ys) (as ++ bs)
-both_seen xs ys as bs one two = λ test. count_append test xs ys ∙ ap₂ ◌+◌ (one test) (two test) ∙ sym (frames_append test as bs)
+both_seen : (xs ys : List (StackRow (List ℕ))) (seen more : List Seen) → SameStacks xs seen → SameStacks ys more → SameStacks (xs ++ ys) (seen ++ more)
+both_seen xs ys seen more one two = λ test. count_append test xs ys ∙ ap₂ ◌+◌ (one test) (two test) ∙ sym (frames_append test seen more)
 
 one_more : (event : List ℕ) (f : File) (files : List File) (first later rows : List InclusiveRow) → rows ≡ first ++ later → AddsFile event f first → AddsFiles event files later → AddsFiles event (f ∷ files) rows
 one_more event f files first later rows are one rest =
@@ -351,7 +351,6 @@ one_more event f files first later rows are one rest =
 
 files_added : (h : History) (t : Tables) (event : List ℕ) → TablesTell h t → (files : List File) (runs : List Counted) (rows : List InclusiveRow) → AllByRecursion (Has (held h)) files
     → AreRunsOf event files runs → AreRowsOfRuns t runs rows → AddsFiles event files rows
-unfolding AreRunsOf
 files_added h t event tell [] [] rows all are rows_are = record {
   cells = [];
   own = tt;

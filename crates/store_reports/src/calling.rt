@@ -1,12 +1,13 @@
 // The answers to questions of who calls a function, and whom it calls.
-ghost use Rattle.std.specs.Prelude.{◌≡◌, ◌∷◌, [], IfOk, fold, map, unwrap_or};
+ghost use Rattle.std.specs.Prelude.{◌≡◌, ◌||◌, [], IfOk, unwrap_or};
+ghost use Rattle.std.specs.List.{list_any};
 ghost use Rattle.std.specs.Result.{is_ok};
 ghost use Rattle.cost_reports.specs.Functions.{function_spot};
 ghost use Rattle.prof_store.specs.Shown.{Told};
 ghost use Rattle.held_runs.specs.Walks.{AsksIfOpen};
 ghost use Rattle.histories.specs.declared.answers.Query.TheVariants.{Calls};
 ghost use Rattle.store_histories.specs.Answered.{Asks as AnswersAsked};
-ghost use Rattle.store_reports.specs.FunctionCalls.{AreTakenFrom, IsCallsText, IsTakenFrom, not_taken, taken_of};
+ghost use Rattle.store_reports.specs.FunctionCalls.{AreTakenFrom, IsCallsText, IsTakenFrom, is_in_rows, not_taken, taken_of};
 
 use crate::counting::Counted;
 use crate::event_runs::event_runs;
@@ -83,6 +84,25 @@ fn no_calls<'n>(
     })
 }
 
+/// Whether some runs know a function: a call of it was seen, or it has own costs or a frame in a stack.
+fn is_known<S: Alter>(
+    store: &mut Store<S>,
+    names: &HeldNames,
+    runs: &[Counted],
+    is_called: bool,
+    object: &[u8],
+    name: &[u8],
+) -> Result<bool, StoreError>
+    ensures told { Told S.Store result store.old store.new (λ t known. names.now ≡ t.names
+        → known ≡ is_called || list_any (is_in_rows t (function_spot object.now name.now)) runs.now) }
+    ensures asks { AsksIfOpen S.Store (is_ok result) store.old store.new }
+{
+    if is_called {
+        return Ok(true);
+    }
+    is_in_runs(store, names, runs, object, name)
+}
+
 /// The text of the calls of a function over some runs, if one of them knows it.
 fn calls_text<S: Alter>(
     store: &mut Store<S>,
@@ -99,7 +119,7 @@ fn calls_text<S: Alter>(
     let names = names_of(store, alloc)?;
     let none = no_calls(alloc, side, object, name)?;
     let all = add_runs(store, alloc, &names, runs, none)?;
-    if !all.known && !is_in_runs(store, &names, runs, object, name)? {
+    if !is_known(store, &names, runs, all.known, object, name)? {
         return Ok(None);
     }
     let report = calls(alloc, &all.sums)?;

@@ -8,12 +8,6 @@ use Rattle.store_reports.specs.InclusiveRuns.{Adds, AreRowsOf}
 use Rattle.store_reports.proofs.InclusiveLemmas.{rows_so_far}
 use Rattle.store_reports.proofs.including.add_runs.Goals as goal
 
-pub loop-run-initially : goal.loop-run-initially
-loop-run-initially g c = record {
-  asked = search rules;
-  told = λ clean t stands named. ([], refl, search rules);
-}
-
 pub loop-run-preserved : goal.loop-run-preserved
 loop-run-preserved g c =
     let i = c.loop-run.invariant in

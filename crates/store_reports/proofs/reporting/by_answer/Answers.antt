@@ -11,7 +11,7 @@ use Rattle.store_reports.proofs.reporting.by_answer.Goals as goal
 pub returns-in-Err : goal.returns-in-Err
 returns-in-Err g c clean =
     let selection = c.args.selection.now in
-    let event : c.as_slice.result.now ≡ c.args.event.now = search rules in
+    let event : c.as_slice-event.result.now ≡ c.args.event.now = search rules in
     record {
       expected_answer = λ h s. by_is_refused h s.t selection c.args.key c.args.event.now c.args.cut c.in-Err.refusal
           (subst (λ e. AreEventRuns h s.t selection e (Err c.in-Err.refusal)) event (rw c.in-Err.is at (c.in_ok-runs.ensures.told clean h s)));
@@ -25,8 +25,8 @@ returns g c clean =
     let asks = c.in_ok-text.ensures.asks clean in
     let early = asks.stays.was_clean in
     let text = c.in_ok-text.text in
-    let event : c.as_slice.result.now ≡ c.args.event.now = search rules in
-    let runs : c.as_slice-2.result.now ≡ c.in-Ok.runs = search rules in
+    let event : c.as_slice-event.result.now ≡ c.args.event.now = search rules in
+    let runs : c.as_slice.result.now ≡ c.in-Ok.runs = search rules in
     record {
       expected_answer = λ h s.
           let found = subst (λ e. AreEventRuns h s.t selection e (Ok c.in-Ok.runs)) event (rw c.in-Ok.is at (c.in_ok-runs.ensures.told early h s)) in
