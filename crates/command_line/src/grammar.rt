@@ -304,8 +304,8 @@ fn over_less<'a>(
     ensures local { IfOk result (λ command. (fields_of command).has_globals ≡ false) }
 {
     over_selection(alloc, name, about, example)?
-        .arg(run_option(alloc, "less-run", "Less the run of this number"))?
-        .arg(group_option(alloc, "less-group", "Less the runs of this group"))
+        .arg(run_option(alloc, "less-run", "Take off the costs of this run"))?
+        .arg(group_option(alloc, "less-group", "Take off the costs of this group"))
 }
 
 fn subtract<'a>(alloc: Global, keys: &'a [&'a str]) -> Result<Command<'a>, AllocError>
