@@ -1,5 +1,5 @@
 -- Reports over histories, computed on worked ones.
-use Rattle.std.proofs.Common.{◌≡◌, ℕ, List, [], ◌∷◌, ◌++◌, codes, None, Some, refl}
+use Rattle.std.proofs.Common.{◌≡◌, ℕ, List, [], ◌∷◌, ◌++◌, codes, Option, None, Some, refl}
 use Rattle.std.specs.Fmt.{digits}
 use Rattle.cg_text.specs.Fields.{line_text}
 use Rattle.cg_text.specs.Kinds.{kind_of}
@@ -9,17 +9,19 @@ use Rattle.cg_text.specs.Readings.{reading_of}
 use Rattle.cg_text.specs.Subpositions.{subpos_of}
 use Rattle.cg_formulas.specs.EventLines.{event_of, formula_of, term_of}
 use Rattle.folded_reader.specs.Lines.{reading_of as stack_of}
+use Rattle.cost_reports.specs.declared.call_sides.CallSide.{CallSide}
+use Rattle.cost_reports.specs.declared.call_sides.CallSide.TheVariants as sides
 use Rattle.cost_reports.specs.declared.cuts.Cut.{Cut}
 use Rattle.cost_rows.specs.declared.keys.Key.{Key}
 use Rattle.cost_rows.specs.declared.keys.Key.TheVariants as keys
 use Rattle.profile_records.specs.declared.kinds.Kind.{Kind}
 use Rattle.profile_records.specs.declared.kinds.Kind.TheVariants.{Callgrind, Folded}
 use Rattle.sources.specs.Outcomes.{Gave}
-use Rattle.histories.specs.History.{History, Import, MakeGroup, Join, Turn}
+use Rattle.histories.specs.History.{History, Import, Remove, MakeGroup, Join, SetBaseline, Turn}
 use Rattle.histories.specs.Legal.{expected_of_query}
 use Rattle.histories.specs.declared.answers.Answer.{Answer}
 use Rattle.histories.specs.declared.answers.Answer.TheVariants.{Run, Done, Text, Refused}
-use Rattle.histories.specs.declared.answers.Query.TheVariants.{By, Verify}
+use Rattle.histories.specs.declared.answers.Query.TheVariants.{By, Calls, Inclusive, Subtract, Verify}
 use Rattle.histories.specs.declared.answers.Refusal.TheVariants as reasons
 use Rattle.histories.specs.declared.answers.Selection.{Selection}
 use Rattle.histories.specs.declared.answers.Selection.TheVariants as selections
@@ -105,3 +107,97 @@ no_events_at_all = refl
 sums_are_verified : expected_of_query (imported 1 Callgrind stated ∷ imported 2 Callgrind estimated_otherwise ∷ []) (Verify selections.All) ≡ Text (codes "1 Ir 9 8 differs\n2 Ir 5 none none\n")
 unfolding digits reading_of line_text kind_of name_of number_of amount_of subpos_of event_of formula_of term_of
 sums_are_verified = refl
+
+-- ---- with all that is called
+
+inclusive_costs_are_told : expected_of_query (imported 1 Callgrind functions ∷ []) (Inclusive selections.All (codes "Instructions"))
+    ≡ Text (codes "inclusive Instructions\n820 100.00% total\n820 100.00% ???:main\n700 85.36% ???:func2\n400 48.78% ???:func1\n")
+unfolding digits reading_of line_text kind_of name_of number_of amount_of subpos_of
+inclusive_costs_are_told = refl
+
+-- a stack counts once for each of its functions
+inclusive_samples_are_told : expected_of_query (imported 1 Folded (codes "a;b;a 3\na;b 2\n") ∷ []) (Inclusive selections.All (codes "samples"))
+    ≡ Text (codes "inclusive samples\n5 100.00% total\n5 100.00% ???:a\n5 100.00% ???:b\n")
+unfolding digits reading_of line_text kind_of name_of number_of amount_of subpos_of stack_of
+inclusive_samples_are_told = refl
+
+-- ---- calls
+
+abbrev calls : CallSide → List ℕ → List ℕ → History → Answer
+calls side event name h = expected_of_query h (Calls selections.All side event (codes "???") name)
+
+callers_are_told : calls sides.Callers (codes "Instructions") (codes "func2") (imported 1 Callgrind functions ∷ []) ≡ Text (codes "callers Instructions ???:func2\n700 5 total\n400 3 ???:main\n300 2 ???:func1\n")
+unfolding digits reading_of line_text kind_of name_of number_of amount_of subpos_of
+callers_are_told = refl
+
+callees_are_told : calls sides.Callees (codes "Instructions") (codes "main") (imported 1 Callgrind functions ∷ []) ≡ Text (codes "callees Instructions ???:main\n800 4 total\n400 1 ???:func1\n400 3 ???:func2\n")
+unfolding digits reading_of line_text kind_of name_of number_of amount_of subpos_of
+callees_are_told = refl
+
+-- a run without the event has calls that cost nothing
+calls_of_another_event : calls sides.Callers (codes "ticks") (codes "func2") (imported 1 Callgrind functions ∷ imported 2 Callgrind ticks ∷ [])
+    ≡ Text (codes "callers ticks ???:func2\n0 5 total\n0 2 ???:func1\n0 3 ???:main\n")
+unfolding digits reading_of line_text kind_of name_of number_of amount_of subpos_of
+calls_of_another_event = refl
+
+-- a frame of a stack is known, and nobody calls it
+frames_are_known : calls sides.Callers (codes "samples") (codes "a") (imported 1 Folded (codes "a;b 2\n") ∷ []) ≡ Text (codes "callers samples ???:a\n0 0 total\n")
+unfolding digits reading_of line_text kind_of name_of number_of amount_of subpos_of stack_of
+frames_are_known = refl
+
+nobody_is_known : calls sides.Callers (codes "Instructions") (codes "nobody") (imported 1 Callgrind functions ∷ []) ≡ Refused reasons.NoSuchName
+unfolding reading_of line_text kind_of name_of number_of amount_of subpos_of
+nobody_is_known = refl
+
+-- the event is looked at before the name
+no_event_first : calls sides.Callers (codes "Ir") (codes "nobody") (imported 1 Callgrind functions ∷ []) ≡ Refused reasons.NoSuchEvent
+unfolding reading_of line_text kind_of name_of number_of amount_of subpos_of
+no_event_first = refl
+
+-- ---- differences
+
+abbrev fifty_and_fifty : List ℕ
+fifty_and_fifty = codes "events: Ir\nfl=a.c\nfn=f\n1 50\n2 30\n3 15\n4 5\n"
+
+abbrev one : List ℕ
+one = codes "events: Ir\n1 1\n"
+
+abbrev two_runs : History
+two_runs = imported 1 Callgrind fifty_and_fifty ∷ imported 2 Callgrind one ∷ []
+
+abbrev subtracted : Selection → Option Selection → History → Answer
+subtracted first second h = expected_of_query h (Subtract first second keys.Function (codes "Ir"))
+
+differences_are_told : subtracted (selections.Run 2) (Some (selections.Run 1)) two_runs ≡ Text (codes "subtract function Ir\n-99 total\n-100 ???:f\n1 ???:???\n")
+unfolding digits reading_of line_text kind_of name_of number_of amount_of subpos_of
+differences_are_told = refl
+
+no_difference_from_itself : subtracted (selections.Run 1) (Some (selections.Run 1)) two_runs ≡ Text (codes "subtract function Ir\n0 total\n")
+unfolding digits reading_of line_text kind_of name_of number_of amount_of subpos_of
+no_difference_from_itself = refl
+
+-- the baseline of a group stands for a second selection
+abbrev compared_group : List Turn → History
+compared_group turns = two_runs ++ record { said = MakeGroup (codes "g"); answer = Done } ∷ record { said = Join (codes "g") 2; answer = Done } ∷ turns
+
+abbrev based : Turn
+based = record { said = SetBaseline (codes "g") 1; answer = Done }
+
+baselines_are_compared : subtracted (selections.Group (codes "g")) None (compared_group (based ∷ [])) ≡ Text (codes "subtract function Ir\n-99 total\n-100 ???:f\n1 ???:???\n")
+unfolding digits reading_of line_text kind_of name_of number_of amount_of subpos_of
+baselines_are_compared = refl
+
+no_baseline_was_set : subtracted (selections.Group (codes "g")) None (compared_group []) ≡ Refused reasons.NoBaseline
+no_baseline_was_set = refl
+
+removed_baseline_is_none : subtracted (selections.Group (codes "g")) None (compared_group (based ∷ record { said = Remove 1; answer = Done } ∷ [])) ≡ Refused reasons.NoBaseline
+removed_baseline_is_none = refl
+
+runs_have_no_baseline : subtracted (selections.Run 1) None two_runs ≡ Refused reasons.NoBaseline
+runs_have_no_baseline = refl
+
+first_selection_first : subtracted (selections.Run 3) None two_runs ≡ Refused reasons.NoSuchRun
+first_selection_first = refl
+
+second_selection_before_the_event : expected_of_query two_runs (Subtract (selections.Run 1) (Some (selections.Group (codes "h"))) keys.Function (codes "Dr")) ≡ Refused reasons.NoSuchGroup
+second_selection_before_the_event = refl
