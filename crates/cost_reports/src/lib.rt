@@ -2,26 +2,47 @@
 //! in: nothing here knows where they are kept.
 #![tactic(auto)]
 
+// The callers of a function, or those that it calls (specs/Calls.antt).
 mod call_reports;
+// The two sides of calls.
 mod call_sides;
+// The text of calls (specs/Calls.antt).
 mod call_texts;
+// How much of a report is shown.
 mod cuts;
+// The text of a difference (specs/Differences.antt).
 mod difference_texts;
+// The rows of some runs less those of others (specs/Differences.antt).
 mod differences;
+// The functions of a stack (specs/Inclusive.antt).
 mod frames;
+// The text of inclusive costs (specs/Inclusive.antt).
 mod inclusive_texts;
+// What functions cost with all that they call (specs/Inclusive.antt).
 mod inclusives;
+// A report by key (specs/KeyReports.antt).
 mod key_reports;
+// The text of a report by key (specs/KeyTexts.antt).
 mod key_texts;
+// Laws: what reports come to, from the rows of runs to the records of their files.
 mod laws;
+// What is printed of a number.
 mod numbers;
+// Two sums side by side, by place (specs/Pairs.antt).
 mod pair_sums;
+// Two numbers that are added up side by side (specs/Pairs.antt).
 mod pairs;
+// A part of a total in percent (specs/Percents.antt).
 mod percents;
+// Places by names, lent and held (specs/Functions.antt).
 mod places;
+// Rows in the order of a report (specs/Ranking.antt).
 mod ranks;
+// The rows of reports, their names borrowed (specs/Rows.antt).
 mod rows;
+// Whole numbers with a sign (specs/Differences.antt).
 mod signed;
+// The sums of a run's events beside the totals that its file states (specs/Verifying.antt).
 mod verifying;
 
 pub use call_reports::{CallReport, CallSums, calls};
