@@ -21,7 +21,8 @@ fn turn(
     part: &LentPart<'_>,
 ) -> Result<(), AllocError>
     ensures part { OnOk result (plain_place recent.new ≡ plain_part part.now) }
-    ensures near { (slots : List (Spot × ℕ)) → LeadTo near.old.entries (plain_place recent.old) slots → LeadTo near.new.entries (plain_place recent.new) slots }
+    ensures near { (slots : List (Spot × ℕ)) → LeadTo near.old.entries (plain_place recent.old) slots
+        → LeadTo near.new.entries (plain_place recent.new) slots }
 {
     if recent.has_names(part) {
         recent.line = part.line;
