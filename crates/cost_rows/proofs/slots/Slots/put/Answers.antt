@@ -1,4 +1,4 @@
-use Rattle.std.proofs.Common.{◌≡◌, ℕ, ◌++◌, List, [], ◌∷◌, None, length, sym, ◌∙◌, ap, arith}
+use Rattle.std.proofs.Common.{◌≡◌, None, length, ◌∙◌, ap, arith}
 use Rattle.std.specs.BTreeMap.{insert_entry}
 use Rattle.cost_rows.specs.Keys.{named_cmp, plain_place, plain_sums}
 use Rattle.cost_rows.specs.KeySums.{sums_with}
