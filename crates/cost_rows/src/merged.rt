@@ -14,7 +14,7 @@ use std::alloc::{AllocError, Global};
 use std::collections::BTreeMap;
 use std::marker::Model;
 
-/// Turns to a part. Lines lead to slots of the names of the part before only while these stay.
+/// Turns to a part. Unless it has the names of the part before, the lines that led to slots are forgotten.
 fn turn(
     recent: &mut Part,
     near: &mut BTreeMap<u64, usize>,
@@ -53,7 +53,7 @@ fn merge_near(
         return Ok(());
     }
     let slot = slots.merge(alloc, part, cost)?;
-    // where there is no memory for this, the next row of the part is searched for once more
+    // without memory for this the next row of the part is searched for once more
     let _ = near.insert(part.line, slot);
     Ok(())
 }
