@@ -17,3 +17,4 @@ pub mod WalkSumsLemmas
 pub mod SeenLemmas
 pub mod KeysLemmas
 pub mod KeySumsLemmas
+pub mod SlotsLemmas

@@ -32,7 +32,7 @@ module _ {K L X : Type 0} (see : K → L) (cmp : L → L → Ordering) where
   insert-step k v e es Equal rest = refl
   insert-step k v e es Greater rest = ap (λ more. (see e.0, e.1) ∷ more) rest
 
-  seen-insert : (es : List (K × X)) (k : K) (v : X) → seen see (insert_entry (key_cmp see cmp) es k v) ≡ insert_entry cmp (seen see es) (see k) v
+  pub seen-insert : (es : List (K × X)) (k : K) (v : X) → seen see (insert_entry (key_cmp see cmp) es k v) ≡ insert_entry cmp (seen see es) (see k) v
   seen-insert [] k v = refl
   seen-insert (e ∷ es) k v = insert-step k v e es (key_cmp see cmp k e.0) (seen-insert es k v)
 

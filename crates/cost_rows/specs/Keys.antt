@@ -7,6 +7,7 @@ use Rattle.cost_rows.specs.Merging.{seen}
 use Rattle.cost_rows.specs.Stacks.{bytes_cmp}
 use Rattle.cost_rows.specs.Sums.{Spot}
 use Rattle.cost_rows.specs.declared.keys.Key.{Key}
+use Rattle.cost_rows.specs.declared.keys.LentPart.{LentPart}
 use Rattle.cost_rows.specs.declared.keys.Part.{Part}
 use Rattle.cost_rows.specs.declared.rows.CellRow.{CellRow}
 use Rattle.cost_rows.specs.declared.keys.Key.TheVariants.{Object, File, Function, Line}
@@ -28,6 +29,10 @@ named_cmp a b =
 -- a place as it is kept
 abbrev pub plain_place : Part → Spot
 plain_place p = record { object = p.object.items; file = p.file.items; function = p.function.items; line = p.line }
+
+-- a part as it is lent
+abbrev pub plain_part : LentPart → Spot
+plain_part p = record { object = p.object.now; file = p.file.now; function = p.function.now; line = p.line }
 
 -- the place of a row
 abbrev pub place_of_row : CellRow (List ℕ) → Spot

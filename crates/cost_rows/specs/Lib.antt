@@ -20,4 +20,5 @@ pub mod Plain
 pub mod Keys
 pub mod Held
 pub mod KeySums
+pub mod Slots
 pub mod ByNumber

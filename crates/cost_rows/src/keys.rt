@@ -1,7 +1,8 @@
 // What reports are made by.
-ghost use Rattle.std.specs.Prelude.{◌≡◌, OnOk, IfOk};
-ghost use Rattle.cost_rows.specs.Keys.{part_of, plain_place, place_of_row};
+ghost use Rattle.std.specs.Prelude.{◌≡◌, IsTrue, OnOk, IfOk};
+ghost use Rattle.cost_rows.specs.Keys.{part_of, plain_part, plain_place, place_of_row};
 ghost use Rattle.cost_rows.specs.Plain.{plain_cell};
+ghost use Rattle.cost_rows.specs.Slots.{at_line};
 
 use crate::rows::CellRow;
 use std::alloc::{AllocError, Global};
@@ -15,13 +16,50 @@ pub enum Key {
     Line,
 }
 
-/// A place by names; the parts outside a key are `???`, and line 0.
+/// The part of a row's place that a key tells, with the row's names; the others are `???`, and line 0.
+#[derive(Clone, Copy)]
+pub(crate) struct LentPart<'a> {
+    pub(crate) object: &'a [u8],
+    pub(crate) file: &'a [u8],
+    pub(crate) function: &'a [u8],
+    pub(crate) line: u64,
+}
+
+impl Key {
+    /// The part of a row's place that the key tells.
+    pub(crate) fn part<'a>(self, row: &CellRow<&'a [u8]>) -> LentPart<'a>
+        ensures { plain_part result ≡ part_of self (place_of_row (plain_cell row.now)) }
+    {
+        let unknown = b"???".as_slice();
+        let (object, file, function, line) = match self {
+            Key::Object => (row.object, unknown, unknown, 0),
+            Key::File => (unknown, row.file, unknown, 0),
+            Key::Function => (row.object, unknown, row.function, 0),
+            Key::Line => (unknown, row.file, unknown, row.line),
+        };
+        LentPart {
+            object,
+            file,
+            function,
+            line,
+        }
+    }
+}
+
+/// A part of a place, with names of its own.
 #[derive(PartialEq, Eq, PartialOrd, Ord, Drop)]
 pub(crate) struct Part {
     pub(crate) object: Vec<u8>,
     pub(crate) file: Vec<u8>,
     pub(crate) function: Vec<u8>,
     pub(crate) line: u64,
+}
+
+/// Whether a name is held.
+fn is_name(held: &[u8], name: &[u8]) -> bool
+    ensures { IsTrue result → held.now ≡ name.now }
+{
+    held == name
 }
 
 /// Replaces a name.
@@ -44,22 +82,24 @@ impl Part {
         }
     }
 
-    /// Becomes the part of a row's place that a key tells.
-    pub(crate) fn set(&mut self, key: Key, row: &CellRow<&[u8]>) -> Result<(), AllocError>
-        ensures { OnOk result (plain_place self.new ≡ part_of key (place_of_row (plain_cell row.now))) }
+    /// Becomes a part that is lent.
+    pub(crate) fn set(&mut self, part: &LentPart<'_>) -> Result<(), AllocError>
+        ensures { OnOk result (plain_place self.new ≡ plain_part part.now) }
     {
-        let unknown = b"???".as_slice();
-        let (object, file, function, line) = match key {
-            Key::Object => (row.object, unknown, unknown, 0),
-            Key::File => (unknown, row.file, unknown, 0),
-            Key::Function => (row.object, unknown, row.function, 0),
-            Key::Line => (unknown, row.file, unknown, row.line),
-        };
-        replace(&mut self.object, object)?;
-        replace(&mut self.file, file)?;
-        replace(&mut self.function, function)?;
-        self.line = line;
+        replace(&mut self.object, part.object)?;
+        replace(&mut self.file, part.file)?;
+        replace(&mut self.function, part.function)?;
+        self.line = part.line;
         Ok(())
+    }
+
+    /// Whether its names are those of a part. Most rows that differ do so in the function.
+    pub(crate) fn has_names(&self, part: &LentPart<'_>) -> bool
+        ensures { IsTrue result → at_line (plain_place self.now) part.now.line ≡ plain_part part.now }
+    {
+        is_name(&self.function, part.function)
+            && is_name(&self.file, part.file)
+            && is_name(&self.object, part.object)
     }
 
     /// The same once more.

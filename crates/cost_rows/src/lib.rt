@@ -33,6 +33,8 @@ mod records;
 mod rows;
 // The rows of a folded file (specs/StackSums.antt).
 mod stack_rows;
+// Sums by part, each in a slot of its own (specs/Slots.antt).
+mod slots;
 // Sums by key, as rows (specs/KeySums.antt).
 mod sum_rows;
 // One more amount at its key in an ordered map (specs/Merging.antt).
