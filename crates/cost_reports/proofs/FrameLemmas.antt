@@ -1,10 +1,13 @@
 -- The frames of a stack, one after another, and the set of their functions.
-use Rattle.std.proofs.Common.{zero, suc, ◌≡◌, ℕ, ◌+◌, ◌*◌, ◌<◌, ◌≤◌, Bool, true, false, cond, List, [], ◌∷◌, map, fold, length, take, drop, slice_index, refl, sym, ap, ◌∙◌, arith}
+use Rattle.std.proofs.Common.{zero, suc, ◌≡◌, ℕ, ◌+◌, ◌*◌, ◌<◌, ◌≤◌, Bool, true, false, ◌&&◌, ◌||◌, cond, List, [], ◌∷◌, map, fold, length, take, drop, slice_index, refl, sym, ap, ◌∙◌, arith}
 use Rattle.std.specs.declared.cmp.Ordering.{Ordering}
 use Rattle.std.specs.declared.cmp.Ordering.TheVariants.{Less, Equal, Greater}
 use Rattle.std.specs.Borrow.{Bor}
 use Rattle.std.specs.BTreeSet.{insert_key}
-use Rattle.std.specs.List.{slice_split, onto_first}
+use Rattle.std.specs.List.{list_any, slice_split, onto_first}
+use Rattle.std.specs.Str.{bytes_eq}
+use Rattle.cg_text.specs.Names.{unknown}
+use Rattle.cost_rows.proofs.NamingLemmas.{same_bytes, bytes-same}
 use Rattle.std.specs.Ordering.{match_ordering}
 use Rattle.std.proofs.Math.Nat.{mul-le-mul_right}
 use Rattle.std.proofs.lemmas.List.Splits.{slice_split-cons_yes, slice_split-cons_no}
@@ -113,3 +116,30 @@ total_in count frames =
     let total = total_costs count (functions_in frames) in
     let most = mul-le-mul_right {m = length (functions_in frames)} {n = length frames + 1} count (few_functions frames) in
     omega (arith, total, most)
+
+-- ---- whether one of the functions has a name
+
+pub functions_last : (xs : List ℕ) → Nowhere (Passes is_semicolon xs) 0 (length xs) → functions_of xs ≡ function_of xs ∷ []
+functions_last xs none = ap (map function_of) (no_more_frames xs none)
+
+or_false : (b : Bool) → b || false ≡ b
+or_false true = refl
+or_false false = refl
+
+pub last_named : (p : List ℕ → Bool) (xs : List ℕ) → Nowhere (Passes is_semicolon xs) 0 (length xs) → list_any p (functions_of xs) ≡ p (function_of xs)
+last_named p xs none = ap (list_any p) (functions_last xs none) ∙ or_false (p (function_of xs))
+
+-- the functions of another object are none of its own
+pub other_object : (object name : List ℕ) (names : List (List ℕ)) → bytes_eq object unknown ≡ false → list_any (λ n. bytes_eq unknown object && bytes_eq n name) names ≡ false
+other_object object name names other = go names
+  where
+    flipped : (b : Bool) → bytes_eq unknown object ≡ b → b ≡ false
+    flipped true is = absurd (let e : bytes_eq object unknown ≡ true = bytes-same object unknown (sym (same_bytes unknown object is)) in let n : true ≡ false = sym e ∙ other in cc)
+    flipped false is = refl
+
+    apart : bytes_eq unknown object ≡ false
+    apart = flipped (bytes_eq unknown object) refl
+
+    go : (ns : List (List ℕ)) → list_any (λ n. bytes_eq unknown object && bytes_eq n name) ns ≡ false
+    go [] = refl
+    go (n ∷ ns) = ap (λ b. (b && bytes_eq n name) || list_any (λ n. bytes_eq unknown object && bytes_eq n name) ns) apart ∙ go ns

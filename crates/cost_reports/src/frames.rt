@@ -1,7 +1,9 @@
 // The functions of a stack.
-ghost use Rattle.std.specs.Prelude.{◌≡◌, IfOk, map};
-ghost use Rattle.profile_records.specs.Frames.{function_of};
-ghost use Rattle.cost_reports.specs.Inclusive.{functions_in, names_in};
+ghost use Rattle.std.specs.Prelude.{◌≡◌, IfOk, bytes_eq, map};
+ghost use Rattle.std.specs.List.{list_any};
+ghost use Rattle.profile_records.specs.Frames.{function_of, functions_of};
+ghost use Rattle.cost_reports.specs.Functions.{function_spot};
+ghost use Rattle.cost_reports.specs.Inclusive.{functions_in, is_frame, names_in};
 
 use memchr::memchr;
 use std::alloc::{AllocError, Global};
@@ -26,4 +28,25 @@ pub(crate) fn functions_in(alloc: Global, frames: &[u8]) -> Result<BTreeSet<&[u8
     }
     functions.insert(function(rest))?;
     Ok(functions)
+}
+
+/// Whether one of the functions of a stack has this name.
+fn has_frame(frames: &[u8], name: &[u8]) -> bool
+    ensures { result ≡ list_any (λ function. bytes_eq function name.now) (functions_of frames.now) }
+{
+    let mut rest = frames;
+    while let Some(at) = memchr(b';', rest) {
+        if function(&rest[..at]) == name {
+            return true;
+        }
+        rest = &rest[at + 1..];
+    }
+    function(rest) == name
+}
+
+/// Whether a function of an object has a frame in a stack, whose functions are of no known object.
+pub fn is_frame(frames: &[u8], object: &[u8], name: &[u8]) -> bool
+    ensures { result ≡ is_frame (function_spot object.now name.now) frames.now }
+{
+    object == b"???".as_slice() && has_frame(frames, name)
 }

@@ -28,6 +28,7 @@ pub use call_reports::{CallReport, CallSums, calls};
 pub use call_sides::CallSide;
 pub use cuts::Cut;
 pub use differences::{Difference, subtract};
+pub use frames::is_frame;
 pub use inclusives::{InclusiveReport, InclusiveSums, inclusive};
 pub use key_reports::{Report, by};
 pub use laws::{

@@ -9,7 +9,8 @@ use Rattle.sqlite_trees.specs.declared.store.Store.{Ghosts}
 use Rattle.cost_rows.specs.declared.rows.ArcRow.{ArcRow}
 use Rattle.prof_tables.specs.Tables.{Tables, NameLine, ArcLine as Arc, arc_columns}
 use Rattle.prof_tables.specs.RunLines.{arcs_in}
-use Rattle.held_runs.specs.declared.arcs.Arcs.{Arcs}
+use Rattle.prof_store.specs.declared.store.Store.{Store}
+use Rattle.held_runs.specs.declared.call_walks.CallWalk.{CallWalk}
 use Rattle.prof_books.specs.Book.{part_held, part_of, parts_from, parts_of, ArcIsNamed}
 use Rattle.held_runs.specs.HeldArcs.{GivesArcs, HasUsedArcs, HasTakenArc, HasGivenArcs, HasGivenAllArcs, HasGivenArcsOn, IsSameArcs, TellsArcRows, lines_from, part_line, plain_given, row_of, waiting_line}
 use Rattle.prof_store.specs.Shown.{StandsFor}
@@ -76,46 +77,42 @@ module _ (names : List NameLine) (first : Arc) where
 -- ---- the walk
 
 -- two calls over the same walk
-pub same_then : {S : Type 0} (old mid new : Arcs S) → IsSameArcs old mid → IsSameArcs mid new → IsSameArcs old new
-same_then old mid new one two = record {
-  walk = record { same_reference = two.walk.same_reference ∙ one.walk.same_reference; run = two.walk.run ∙ one.walk.run };
-  names = two.names ∙ one.names;
-  events = two.events ∙ one.events;
-}
+pub same_then : (old mid new : CallWalk) → IsSameArcs old mid → IsSameArcs mid new → IsSameArcs old new
+same_then old mid new one two = record { run = two.run ∙ one.run; names = two.names ∙ one.names; events = two.events ∙ one.events }
 
 module _ {S : Type 0} (g : Ghosts S) where
   -- no line waits
-  pub used_none : (used : List Arc) (c : Arcs S) → c.waiting ≡ None → GivesArcs g used c → HasUsedArcs g used c
-  used_none used c none gives = record { gives = subst (λ w. GivesArcs g (used ++ waiting_line w) c) (sym none) (subst (λ l. GivesArcs g l c) (sym (append-nil used)) gives) }
+  pub used_none : (used : List Arc) (store : Store S) (c : CallWalk) → c.waiting ≡ None → GivesArcs g used store c → HasUsedArcs g used store c
+  used_none used store c none gives = record { gives = subst (λ w. GivesArcs g (used ++ waiting_line w) store c) (sym none) (subst (λ l. GivesArcs g l store c) (sym (append-nil used)) gives) }
 
-  pub gives_none : (used : List Arc) (c : Arcs S) → c.waiting ≡ None → HasUsedArcs g used c → GivesArcs g used c
-  gives_none used c none was = subst (λ l. GivesArcs g l c) (append-nil used) (subst (λ w. GivesArcs g (used ++ waiting_line w) c) none was.gives)
+  pub gives_none : (used : List Arc) (store : Store S) (c : CallWalk) → c.waiting ≡ None → HasUsedArcs g used store c → GivesArcs g used store c
+  gives_none used store c none was = subst (λ l. GivesArcs g l store c) (append-nil used) (subst (λ w. GivesArcs g (used ++ waiting_line w) store c) none was.gives)
 
   -- the next line is taken
-  pub next_taken : (used : List Arc) (c : Arcs S) (line : Option ArcLine) → c.waiting ≡ None → GivesOn g table.Arcs (λ (a : ArcLine). arc_columns (arc_line a)) (map arc_columns used) c.lines.store.now c.lines.walk line → HasTakenArc g used c line
-  next_taken used c None none gives = (none, gives.0, gives.1)
-  next_taken used c (Some line) none gives = (none, given_more g table.Arcs arc_columns used (arc_line line) c.lines.store.now c.lines.walk gives)
+  pub next_taken : (used : List Arc) (store : Store S) (c : CallWalk) (line : Option ArcLine) → c.waiting ≡ None → GivesOn g table.Arcs (λ (a : ArcLine). arc_columns (arc_line a)) (map arc_columns used) store c.walk line → HasTakenArc g used store c line
+  next_taken used store c None none gives = (none, gives.0, gives.1)
+  next_taken used store c (Some line) none gives = (none, given_more g table.Arcs arc_columns used (arc_line line) store c.walk gives)
 
   -- a row shows its lines
-  pub one_row : (given : List (ArcRow (List ℕ) (List ℕ))) (old new : Arcs S) (first : Arc) (costs : List ℕ) (row : ArcRow (Bor (List ℕ)) (List ℕ)) → new.names.now ≡ old.names.now → first.part ≡ 0 → (was : HasGivenArcs g given old)
-      → HasUsedArcs g ((was.lines ++ first ∷ []) ++ lines_from first 1 costs) new → plain_given row ≡ row_of old.names.now first costs → ArcIsNamed old.names.now first → HasGivenArcs g (given ++ plain_given row ∷ []) new
-  one_row given old new first costs row names counts was used says named =
+  pub one_row : (given : List (ArcRow (List ℕ) (List ℕ))) (old store : Store S) (before c : CallWalk) (first : Arc) (costs : List ℕ) (row : ArcRow (Bor (List ℕ)) (List ℕ)) → c.names.now ≡ before.names.now → first.part ≡ 0 → (was : HasGivenArcs g given old before)
+      → HasUsedArcs g ((was.lines ++ first ∷ []) ++ lines_from first 1 costs) store c → plain_given row ≡ row_of before.names.now first costs → ArcIsNamed before.names.now first → HasGivenArcs g (given ++ plain_given row ∷ []) store c
+  one_row given old store before c first costs row names counts was used says named =
       let more = first ∷ lines_from first 1 costs in
       let same = append_assoc was.lines (first ∷ []) (lines_from first 1 costs) in
       record {
         lines = was.lines ++ more;
-        used = subst (λ l. HasUsedArcs g l new) same used;
-        parts_are = ap (λ (n : List NameLine). map (part_held n) (was.lines ++ more)) names ∙ map-append (part_held old.names.now) was.lines more
-            ∙ ap₂ ◌++◌ was.parts_are (row_parts old.names.now first costs counts ∙ ap parts_of (sym says) ∙ sym (append-nil (parts_of (plain_given row)))) ∙ sym (flat_map-append parts_of given (plain_given row ∷ []));
-        named = subst (λ (n : List NameLine). AllByRecursion (ArcIsNamed n) (was.lines ++ more)) (sym names) (all_append _ was.lines more was.named (named, parts_are_named old.names.now first named 1 costs));
+        used = subst (λ l. HasUsedArcs g l store c) same used;
+        parts_are = ap (λ (n : List NameLine). map (part_held n) (was.lines ++ more)) names ∙ map-append (part_held before.names.now) was.lines more
+            ∙ ap₂ ◌++◌ was.parts_are (row_parts before.names.now first costs counts ∙ ap parts_of (sym says) ∙ sym (append-nil (parts_of (plain_given row)))) ∙ sym (flat_map-append parts_of given (plain_given row ∷ []));
+        named = subst (λ (n : List NameLine). AllByRecursion (ArcIsNamed n) (was.lines ++ more)) (sym names) (all_append _ was.lines more was.named (named, parts_are_named before.names.now first named 1 costs));
       }
 
   -- the lines given are all
-  pub no_row : (given : List (ArcRow (List ℕ) (List ℕ))) (old new : Arcs S) → new.names.now ≡ old.names.now → (was : HasGivenArcs g given old) → HasTakenArc g was.lines new None → HasGivenAllArcs g given new
-  no_row given old new names was taken = record {
+  pub no_row : (given : List (ArcRow (List ℕ) (List ℕ))) (old store : Store S) (before c : CallWalk) → c.names.now ≡ before.names.now → (was : HasGivenArcs g given old before) → HasTakenArc g was.lines store c None → HasGivenAllArcs g given store c
+  no_row given old store before c names was taken = record {
     has = record {
       lines = was.lines;
-      used = used_none was.lines new taken.0 taken.1;
+      used = used_none was.lines store c taken.0 taken.1;
       parts_are = ap (λ (n : List NameLine). map (part_held n) was.lines) names ∙ was.parts_are;
       named = subst (λ (n : List NameLine). AllByRecursion (ArcIsNamed n) was.lines) (sym names) was.named;
     };
@@ -124,12 +121,13 @@ module _ {S : Type 0} (g : Ghosts S) where
   }
 
   -- in the words of the book
-  pub tells_arc_rows : (t : Tables) (c : Arcs S) (given : List (ArcRow (List ℕ) (List ℕ))) (row : Option (ArcRow (Bor (List ℕ)) (List ℕ))) → c.names.now ≡ t.names → StandsFor g t c.lines.store.now → HasGivenArcsOn g given c row → TellsArcRows c.lines.walk.run t given row
-  tells_arc_rows t c given None names was has =
-      let all = arcs_end g t c.lines.store.now c.lines.walk was has.has.lines (gives_none has.has.lines c has.none_waits has.has.used) has.all in
+  pub tells_arc_rows : (t : Tables) (store : Store S) (c : CallWalk) (given : List (ArcRow (List ℕ) (List ℕ))) (row : Option (ArcRow (Bor (List ℕ)) (List ℕ))) → c.names.now ≡ t.names → StandsFor g t store → HasGivenArcsOn g given store c row
+      → TellsArcRows c.walk.run t given row
+  tells_arc_rows t store c given None names was has =
+      let all = arcs_end g t store c.walk was has.has.lines (gives_none has.has.lines store c has.none_waits has.has.used) has.all in
       ap₂ (λ (n : List NameLine) l. map (part_held n) l) (sym names) all ∙ has.has.parts_are
-  tells_arc_rows t c given (Some row) names was has =
-      let begun = arcs_begin g t c.lines.store.now c.lines.walk was (has.lines ++ waiting_line c.waiting) has.used.gives in
+  tells_arc_rows t store c given (Some row) names was has =
+      let begun = arcs_begin g t store c.walk was (has.lines ++ waiting_line c.waiting) has.used.gives in
       let more = waiting_line c.waiting ++ begun.0 in (
         map (part_held c.names.now) more,
         ap₂ (λ (n : List NameLine) l. map (part_held n) l) (sym names) (begun.1 ∙ append_assoc has.lines (waiting_line c.waiting) begun.0) ∙ map-append (part_held c.names.now) has.lines more
@@ -137,6 +135,6 @@ module _ {S : Type 0} (g : Ghosts S) where
       )
 
   -- and all names are held
-  pub arcs_are_named : (t : Tables) (c : Arcs S) (given : List (ArcRow (List ℕ) (List ℕ))) → StandsFor g t c.lines.store.now → HasGivenAllArcs g given c → AllByRecursion (ArcIsNamed c.names.now) (arcs_in c.lines.walk.run t)
-  arcs_are_named t c given was has =
-      subst (AllByRecursion (ArcIsNamed c.names.now)) (sym (arcs_end g t c.lines.store.now c.lines.walk was has.has.lines (gives_none has.has.lines c has.none_waits has.has.used) has.all)) has.has.named
+  pub arcs_are_named : (t : Tables) (store : Store S) (c : CallWalk) (given : List (ArcRow (List ℕ) (List ℕ))) → StandsFor g t store → HasGivenAllArcs g given store c → AllByRecursion (ArcIsNamed c.names.now) (arcs_in c.walk.run t)
+  arcs_are_named t store c given was has =
+      subst (AllByRecursion (ArcIsNamed c.names.now)) (sym (arcs_end g t store c.walk was has.has.lines (gives_none has.has.lines store c has.none_waits has.has.used) has.all)) has.has.named

@@ -1,10 +1,11 @@
 pub mod ArcRows
 pub mod Asking
+pub mod CallSteps
 pub mod CellRows
-pub mod CellSteps
 pub mod Examples
 mod HeadReading
 mod LineLists
+pub mod LineSteps
 pub mod LineWalks
 mod LookupFinds
 mod NameLists

@@ -11,9 +11,9 @@ use Rattle.prof_tables.specs.RunLines.{arcs_in}
 use Rattle.prof_store.specs.Shown.{IsFaithful}
 use Rattle.store_columns.specs.declared.errors.StoreError.{StoreError}
 use Rattle.store_columns.specs.declared.lines.ArcLine.{ArcLine}
-use Rattle.held_runs.specs.declared.arcs.Arcs.{Arcs}
+use Rattle.prof_store.specs.declared.store.Store.{Store}
+use Rattle.held_runs.specs.declared.call_walks.CallWalk.{CallWalk}
 use Rattle.held_runs.specs.declared.walks.Listed.TheVariants as table
-use Rattle.held_runs.specs.LineWalks.{IsSameWalk}
 use Rattle.prof_store.specs.Shown.{Tells}
 use Rattle.held_runs.specs.Walks.{Gives, HasWalked}
 
@@ -64,67 +64,67 @@ abbrev pub waiting_line : Option ArcLine → List Arc
 waiting_line None = []
 waiting_line (Some line) = arc_line line ∷ []
 
--- the same walk, with the same names and events
-pub record IsSameArcs {S : Type 0} (old new : Arcs S) : Type 0 where
-  pub walk : IsSameWalk old.lines new.lines
+-- a walk over the same run, with the same names and events
+pub record IsSameArcs (old new : CallWalk) : Type 0 where
+  pub run : new.walk.run ≡ old.walk.run
   pub names : new.names.now ≡ old.names.now
   pub events : new.events ≡ old.events
 
 module _ {S : Type 0} (g : Ghosts S) where
   -- the walk has given these lines
-  abbrev pub GivesArcs : List Arc → Arcs S → Type 0
-  GivesArcs lines c = Gives g table.Arcs (map arc_columns lines) c.lines.store.now c.lines.walk
+  abbrev pub GivesArcs : List Arc → Store S → CallWalk → Type 0
+  GivesArcs lines store c = Gives g table.Arcs (map arc_columns lines) store c.walk
 
   -- and they are all that the table has of the run
-  abbrev pub HasWalkedArcs : List Arc → Arcs S → Type 0
-  HasWalkedArcs lines c = HasWalked g (map arc_columns lines) c.lines.store.now c.lines.walk
+  abbrev pub HasWalkedArcs : List Arc → Store S → CallWalk → Type 0
+  HasWalkedArcs lines store c = HasWalked g (map arc_columns lines) store c.walk
 
   -- these lines are used, and that which waits comes next
-  pub record HasUsedArcs (used : List Arc) (c : Arcs S) : Type 0 where
-    pub gives : GivesArcs (used ++ waiting_line c.waiting) c
+  pub record HasUsedArcs (used : List Arc) (store : Store S) (c : CallWalk) : Type 0 where
+    pub gives : GivesArcs (used ++ waiting_line c.waiting) store c
 
   -- one line more is taken, or there is none; none waits
-  abbrev pub HasTakenArc : List Arc → Arcs S → Option ArcLine → Type 0
-  HasTakenArc used c (Some line) = (c.waiting ≡ None) × GivesArcs (used ++ arc_line line ∷ []) c
-  HasTakenArc used c None = (c.waiting ≡ None) × GivesArcs used c × HasWalkedArcs used c
+  abbrev pub HasTakenArc : List Arc → Store S → CallWalk → Option ArcLine → Type 0
+  HasTakenArc used store c (Some line) = (c.waiting ≡ None) × GivesArcs (used ++ arc_line line ∷ []) store c
+  HasTakenArc used store c None = (c.waiting ≡ None) × GivesArcs used store c × HasWalkedArcs used store c
 
   -- the walk has given these rows: they show lines of the table, whose names are held
-  pub record HasGivenArcs (given : List (ArcRow (List ℕ) (List ℕ))) (c : Arcs S) : Type 0 where
+  pub record HasGivenArcs (given : List (ArcRow (List ℕ) (List ℕ))) (store : Store S) (c : CallWalk) : Type 0 where
     pub lines : List Arc
-    pub used : HasUsedArcs lines c
+    pub used : HasUsedArcs lines store c
     pub parts_are : map (part_held c.names.now) lines ≡ flat_map parts_of given
     pub named : AllByRecursion (ArcIsNamed c.names.now) lines
 
   -- and they are all that the table has of the run
-  pub record HasGivenAllArcs (given : List (ArcRow (List ℕ) (List ℕ))) (c : Arcs S) : Type 0 where
-    pub has : HasGivenArcs given c
+  pub record HasGivenAllArcs (given : List (ArcRow (List ℕ) (List ℕ))) (store : Store S) (c : CallWalk) : Type 0 where
+    pub has : HasGivenArcs given store c
     pub none_waits : c.waiting ≡ None
-    pub all : HasWalkedArcs has.lines c
+    pub all : HasWalkedArcs has.lines store c
 
   -- one more is given, or those so far are all
-  abbrev pub HasGivenArcsOn : List (ArcRow (List ℕ) (List ℕ)) → Arcs S → Option (ArcRow (Bor (List ℕ)) (List ℕ)) → Type 0
-  HasGivenArcsOn given c (Some row) = HasGivenArcs (given ++ plain_given row ∷ []) c
-  HasGivenArcsOn given c None = HasGivenAllArcs given c
+  abbrev pub HasGivenArcsOn : List (ArcRow (List ℕ) (List ℕ)) → Store S → CallWalk → Option (ArcRow (Bor (List ℕ)) (List ℕ)) → Type 0
+  HasGivenArcsOn given store c (Some row) = HasGivenArcs (given ++ plain_given row ∷ []) store c
+  HasGivenArcsOn given store c None = HasGivenAllArcs given store c
 
-  -- ---- a call
+  -- ---- a call, which leads from a store and a walk to the next
 
   -- the lines that are used grow by the one that is taken
-  abbrev pub TakesArc : Arcs S → Arcs S → Result (Option ArcLine) StoreError → Type 0
-  TakesArc old new result = IsFaithful g new.lines.store.now → (used : List Arc) → HasUsedArcs used old → IfOk result (HasTakenArc used new)
+  abbrev pub TakesArc : Store S → CallWalk → Store S → CallWalk → Result (Option ArcLine) StoreError → Type 0
+  TakesArc old before new after result = IsFaithful g new → (used : List Arc) → HasUsedArcs used old before → IfOk result (HasTakenArc used new after)
 
   -- they grow by the lines of costs
-  abbrev pub UsesArcs : Arc → Arcs S → Arcs S → Result (List ℕ) StoreError → Type 0
-  UsesArcs first old new result = IsFaithful g new.lines.store.now → (used : List Arc) → HasUsedArcs used old → IfOk result (λ costs. HasUsedArcs (used ++ lines_from first 1 costs) new)
+  abbrev pub UsesArcs : Arc → Store S → CallWalk → Store S → CallWalk → Result (List ℕ) StoreError → Type 0
+  UsesArcs first old before new after result = IsFaithful g new → (used : List Arc) → HasUsedArcs used old before → IfOk result (λ costs. HasUsedArcs (used ++ lines_from first 1 costs) new after)
 
   -- what was given grows by the row that is answered
-  abbrev pub GivesArc : Arcs S → Arcs S → Result (Option (ArcRow (Bor (List ℕ)) (List ℕ))) StoreError → Type 0
-  GivesArc old new result = IsFaithful g new.lines.store.now → (given : List (ArcRow (List ℕ) (List ℕ))) → HasGivenArcs given old → IfOk result (HasGivenArcsOn given new)
+  abbrev pub GivesArc : Store S → CallWalk → Store S → CallWalk → Result (Option (ArcRow (Bor (List ℕ)) (List ℕ))) StoreError → Type 0
+  GivesArc old before new after result = IsFaithful g new → (given : List (ArcRow (List ℕ) (List ℕ))) → HasGivenArcs given old before → IfOk result (HasGivenArcsOn given new after)
 
   -- the rows are those of the run, with the names that are held
-  abbrev pub TellsArc : Arcs S → Arcs S → Result (Option (ArcRow (Bor (List ℕ)) (List ℕ))) StoreError → Type 0
-  TellsArc old new result = Tells g old.lines.store.now new.lines.store.now (λ t. old.names.now ≡ t.names → (given : List (ArcRow (List ℕ) (List ℕ))) → HasGivenArcs given old → IfOk result (TellsArcRows old.lines.walk.run t given))
+  abbrev pub TellsArc : Store S → CallWalk → Store S → Result (Option (ArcRow (Bor (List ℕ)) (List ℕ))) StoreError → Type 0
+  TellsArc old before new result = Tells g old new (λ t. before.names.now ≡ t.names → (given : List (ArcRow (List ℕ) (List ℕ))) → HasGivenArcs given old before → IfOk result (TellsArcRows before.walk.run t given))
 
   -- at the end, of each of its lines the names are held
-  abbrev pub NamesArcs : Arcs S → Arcs S → Result (Option (ArcRow (Bor (List ℕ)) (List ℕ))) StoreError → Type 0
-  NamesArcs old new result =
-      Tells g old.lines.store.now new.lines.store.now (λ t. (given : List (ArcRow (List ℕ) (List ℕ))) → HasGivenArcs given old → IfOk result (λ row. row ≡ None → AllByRecursion (ArcIsNamed old.names.now) (arcs_in old.lines.walk.run t)))
+  abbrev pub NamesArcs : Store S → CallWalk → Store S → Result (Option (ArcRow (Bor (List ℕ)) (List ℕ))) StoreError → Type 0
+  NamesArcs old before new result =
+      Tells g old new (λ t. (given : List (ArcRow (List ℕ) (List ℕ))) → HasGivenArcs given old before → IfOk result (λ row. row ≡ None → AllByRecursion (ArcIsNamed before.names.now) (arcs_in before.walk.run t)))

@@ -1,3 +1,4 @@
+pub mod HandedCalls
 pub mod HeadLines
 pub mod HeldArcs
 pub mod HeldCells

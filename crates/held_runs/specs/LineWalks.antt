@@ -1,5 +1,6 @@
 -- What a call leaves of a walk over the lines of a run.
-use Rattle.std.specs.Prelude.{◌≡◌, Some, Result, Err, MatchResult}
+use Rattle.std.specs.Prelude.{◌≡◌, Option, Some, Result, Err, MatchResult}
+use Rattle.prof_store.specs.declared.store.Store.{Store}
 use Rattle.store_columns.specs.declared.errors.StoreError.{StoreError}
 use Rattle.held_runs.specs.declared.lines.Lines.{Lines}
 
@@ -8,11 +9,11 @@ pub record IsSameWalk {S L : Type 0} (old new : Lines S L) : Type 0 where
   pub same_reference : new.store.ghost_name ≡ old.store.ghost_name
   pub run : new.walk.run ≡ old.walk.run
 
-module _ {S L T : Type 0} where
+module _ {T : Type 0} where
   -- an error is kept
-  abbrev pub KeepsError : Lines S L → Lines S L → Result T StoreError → Type 0
-  KeepsError old new result = MatchResult result (λ _. new.failed ≡ old.failed) (λ e. new.failed ≡ Some e)
+  abbrev pub KeepsError : Option StoreError → Option StoreError → Result T StoreError → Type 0
+  KeepsError old new result = MatchResult result (λ _. new ≡ old) (λ e. new ≡ Some e)
 
-  -- an error that was kept is answered, and nothing is done
-  abbrev pub AnswersAgain : Lines S L → Lines S L → Result T StoreError → Type 0
-  AnswersAgain old new result = (e : StoreError) → old.failed ≡ Some e → (result ≡ Err e) × (new.store.now ≡ old.store.now)
+  -- an error that was kept is answered, and nothing is done to the store
+  abbrev pub AnswersAgain : {S : Type 0} → Option StoreError → Store S → Store S → Result T StoreError → Type 0
+  AnswersAgain kept old new result = (e : StoreError) → kept ≡ Some e → (result ≡ Err e) × (new ≡ old)

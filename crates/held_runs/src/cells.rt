@@ -79,8 +79,8 @@ impl<'a, S: Alter> Cells<'a, S> {
     /// at each later call; a name that is not held is one, and so is a cell of none of the events.
     pub fn next(&mut self) -> Result<Option<CellRow<&'a [u8]>>, StoreError>
         ensures same { IsSameCells self.old self.new }
-        ensures failed { KeepsError self.old.lines self.new.lines result }
-        ensures again { AnswersAgain self.old.lines self.new.lines result }
+        ensures failed { KeepsError self.old.lines.failed self.new.lines.failed result }
+        ensures again { AnswersAgain self.old.lines.failed self.old.lines.store.now self.new.lines.store.now result }
         ensures counted { IfOk result (λ row. IfSome row (λ r. r.event < self.old.events)) }
         ensures given { GivesCell S.Store self.old self.new result }
         ensures told { TellsCell S.Store self.old self.new result }

@@ -6,12 +6,18 @@
 mod arc_lines;
 // The calls of a run, with names in place (specs/HeldArcs.antt).
 mod arcs;
+// How far a walk over the calls of a run has come, and its next row (specs/HeldArcs.antt).
+mod call_walks;
 // The cells of a run, as they lie in the table (specs/NameLines.antt).
 mod cell_lines;
 // The cells of a run, with names in place (specs/HeldCells.antt).
 mod cells;
+// Hands on the calls of a run (specs/HandedCalls.antt).
+mod handed_calls;
 // Hands on each cell of a run.
 mod handed_cells;
+// Hands on each stack of a run.
+mod handed_stacks;
 // The lines of the head of a run.
 mod head_lines;
 // The head of a run by its number (specs/HeldHeads.antt).
@@ -37,7 +43,9 @@ mod walks;
 
 pub use arcs::{Arcs, arcs_of};
 pub use cells::{Cells, cells_of};
+pub use handed_calls::{TakesCalls, each_call};
 pub use handed_cells::{TakesCells, each_cell};
+pub use handed_stacks::{TakesStacks, each_stack};
 pub use heads::head_of;
 pub use held_names::{HeldNames, names_of};
 pub use lookups::{baseline_of, kind_of};

@@ -96,8 +96,8 @@ impl<'a, S: Alter, L: Line> Lines<'a, S, L> {
     /// The next line, or `None` behind the last one.
     pub fn next(&mut self) -> Result<Option<L>, StoreError>
         ensures same { IsSameWalk self.old self.new }
-        ensures failed { KeepsError self.old self.new result }
-        ensures again { AnswersAgain self.old self.new result }
+        ensures failed { KeepsError self.old.failed self.new.failed result }
+        ensures again { AnswersAgain self.old.failed self.old.store.now self.new.store.now result }
         ensures given { GivesLine S.Store L.listed L.columns self.old.store.now self.old.walk self.new.store.now self.new.walk result }
         ensures asks { AsksIfOpen S.Store (is_ok result) self.old.store.now self.new.store.now }
     {

@@ -48,8 +48,8 @@ impl<S: Alter> Stacks<'_, S> {
     /// at each later call.
     pub fn next(&mut self) -> Result<Option<StackRow<Vec<u8>>>, StoreError>
         ensures same { IsSameWalk self.old.lines self.new.lines }
-        ensures failed { KeepsError self.old.lines self.new.lines result }
-        ensures again { AnswersAgain self.old.lines self.new.lines result }
+        ensures failed { KeepsError self.old.lines.failed self.new.lines.failed result }
+        ensures again { AnswersAgain self.old.lines.failed self.old.lines.store.now self.new.lines.store.now result }
         ensures given { GivesStack S.Store self.old self.new result }
         ensures told { TellsStack S.Store self.old self.new result }
         ensures asks { AsksIfOpen S.Store (is_ok result) self.old.lines.store.now self.new.lines.store.now }

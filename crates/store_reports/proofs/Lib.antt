@@ -1,10 +1,15 @@
 mod AskLemmas
 mod CheckLemmas
+mod CompareLemmas
 mod CountedLemmas
-mod DueLemmas
+mod EventLemmas
+mod FunctionLemmas
 mod HeadLemmas
+mod InclusiveLemmas
+mod KindLemmas
 mod MergeLemmas
 mod ReportLemmas
 mod SelectLemmas
 mod ShortLemmas
 mod StatedLemmas
+mod WeightLemmas

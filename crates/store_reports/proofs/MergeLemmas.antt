@@ -13,6 +13,7 @@ use Rattle.cost_reports.specs.KeyTexts.{key_report_text}
 use Rattle.cost_reports.specs.declared.cuts.Cut.{Cut}
 use Rattle.prof_books.specs.Book.{cells_held}
 use Rattle.prof_tables.specs.Tables.{Tables}
+use Rattle.store_reports.specs.Compared.{costs_over}
 use Rattle.store_reports.specs.Counted.{event_cells}
 use Rattle.store_reports.specs.Reported.{merged_from, report_over}
 use Rattle.store_reports.specs.declared.counting.Counted.{Counted}
@@ -64,3 +65,14 @@ report_merged t key event cut runs merged is =
     let rows = all_rows (map (event_cells t) runs) in
     let all : merged ≡ fold with_row start rows = is ∙ runs_merged t start runs in
     ap (λ (s : Sums). key_report_text event (report_of s.key cut s.sums)) all ∙ ap (λ k. key_report_text event (report_of k cut (fold with_row start rows).sums)) (key_stays start rows)
+
+-- the key and the sums of what was merged
+merged_all : (t : Tables) (key : Key) (runs : List Counted) (merged : Sums) → merged ≡ fold (merged_from t) (record { key = key; sums = [] }) runs
+    → merged ≡ fold with_row (record { key = key; sums = [] }) (all_rows (map (event_cells t) runs))
+merged_all t key runs merged is = is ∙ runs_merged t (record { key = key; sums = [] }) runs
+
+pub merged_key : (t : Tables) (key : Key) (runs : List Counted) (merged : Sums) → merged ≡ fold (merged_from t) (record { key = key; sums = [] }) runs → merged.key ≡ key
+merged_key t key runs merged is = ap (λ (s : Sums). s.key) (merged_all t key runs merged is) ∙ key_stays (record { key = key; sums = [] }) (all_rows (map (event_cells t) runs))
+
+pub merged_costs : (t : Tables) (key : Key) (runs : List Counted) (merged : Sums) → merged ≡ fold (merged_from t) (record { key = key; sums = [] }) runs → merged.sums ≡ costs_over t key runs
+merged_costs t key runs merged is = ap (λ (s : Sums). s.sums) (merged_all t key runs merged is)

@@ -29,9 +29,9 @@ use Rattle.store_reports.proofs.HeadLemmas.{held_head_told}
 -- ---- one run
 
 -- it has the number of the file, and counts its events as the file does
-record IsRunOf (event : List ℕ) (f : File) (run : Counted) : Type 0 where
-  number : run.number ≡ f.number
-  counts : run.counts ≡ counts_of event f
+pub record IsRunOf (event : List ℕ) (f : File) (run : Counted) : Type 0 where
+  pub number : run.number ≡ f.number
+  pub counts : run.counts ≡ counts_of event f
 
 same_row : (f : File) (head : FileHead) (event : List ℕ) → TellsHead f head → row_of head.derived event ≡ counts_of event f
 same_row f head event told = ap₂ (λ events derived. row_in events derived event) (told.wide ∙ told.events) told.derived
@@ -44,14 +44,13 @@ run_of_file h t f event run tell is it = record {
 
 -- ---- each in turn
 
-AreRunsOf : List ℕ → List File → List Counted → Type 0
+abbrev pub AreRunsOf : List ℕ → List File → List Counted → Type 0
 AreRunsOf event [] [] = Unit {0}
 AreRunsOf event (f ∷ files) (run ∷ runs) = IsRunOf event f run × AreRunsOf event files runs
 AreRunsOf event files runs = ⊥
 
-are_runs : (h : History) (t : Tables) (event : List ℕ) → TablesTell h t → (files : List File) (runs : List Counted) → AllByRecursion (Has (held h)) files → AreCounted t event (numbers_of files) runs
+pub are_runs : (h : History) (t : Tables) (event : List ℕ) → TablesTell h t → (files : List File) (runs : List Counted) → AllByRecursion (Has (held h)) files → AreCounted t event (numbers_of files) runs
     → AreRunsOf event files runs
-unfolding AreRunsOf
 are_runs h t event tell [] [] all counted = tt
 are_runs h t event tell [] (run ∷ runs) all counted = absurd counted
 are_runs h t event tell (f ∷ files) [] all counted = absurd counted
@@ -70,7 +69,6 @@ selected_held h s = all_held (λ (f : File). selects h s f.number) (Has (held h)
 -- ---- what they come to
 
 any_has : (event : List ℕ) (files : List File) (runs : List Counted) → AreRunsOf event files runs → list_any has_counts runs ≡ list_any (has_event event) files
-unfolding AreRunsOf
 any_has event [] [] are = refl
 any_has event [] (run ∷ runs) are = absurd are
 any_has event (f ∷ files) [] are = absurd are
@@ -78,7 +76,6 @@ any_has event (f ∷ files) (run ∷ runs) are = ap₂ (λ a b. a || b) (ap is_s
 
 stand_for_each : (h : History) (t : Tables) (event : List ℕ) → TablesTell h t → (files : List File) (runs : List Counted) → AllByRecursion (Has (held h)) files → AreRunsOf event files runs
     → StandForEach (map (event_records event) files) (map (event_cells t) runs)
-unfolding AreRunsOf
 stand_for_each h t event tell [] [] all are = tt
 stand_for_each h t event tell [] (run ∷ runs) all are = absurd are
 stand_for_each h t event tell (f ∷ files) [] all are = absurd are

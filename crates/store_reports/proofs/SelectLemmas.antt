@@ -48,7 +48,7 @@ no_empty_name : IsGroupName [] → ⊥
 no_empty_name named = omega (arith, named.0)
 
 -- the name that stands for bytes is theirs, where a group has it
-group_there : (h : History) (t : Tables) (name text : List ℕ) → TablesTell h t → (IsGroupName name → text ≡ name) → (text ≡ name) ⊎ (text ≡ []) → tables.has_group t text ≡ true → text ≡ name
+pub group_there : (h : History) (t : Tables) (name text : List ℕ) → TablesTell h t → (IsGroupName name → text ≡ name) → (text ≡ name) ⊎ (text ≡ []) → tables.has_group t text ≡ true → text ≡ name
 group_there h t name text tell named (inl same) some = same
 group_there h t name text tell named (inr empty) some =
     let none : has_group h [] ≡ false = no_group_named h [] tell.legal no_empty_name in

@@ -1,5 +1,5 @@
 -- Runs with how often their events count in the event that is asked.
-use Rattle.std.specs.Prelude.{◌≡◌, ℕ, Bool, List, [], ◌∷◌, unwrap_or}
+use Rattle.std.specs.Prelude.{◌≡◌, ℕ, Bool, List, [], ◌∷◌, length, unwrap_or}
 use Rattle.std.specs.Option.{is_some}
 use Rattle.cg_formulas.specs.Flats.{row_of}
 use Rattle.cg_formulas.specs.declared.heads.FileHead.{FileHead}
@@ -14,6 +14,7 @@ pub record IsCounted (t : Tables) (event : List ℕ) (number : ℕ) (run : Count
   pub number_is : run.number ≡ number
   pub head : FileHead
   pub head_is : IsHeadIn number t head
+  pub events_are : run.events ≡ length head.events
   pub counts_are : run.counts ≡ row_of head.derived event
 
 -- each in turn

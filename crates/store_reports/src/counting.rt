@@ -15,6 +15,8 @@ use std::alloc::Global;
 #[derive(Drop)]
 pub struct Counted {
     pub number: u32,
+    /// How many events it has.
+    pub events: usize,
     pub counts: Option<ListVec<u64>>,
 }
 
@@ -30,7 +32,12 @@ fn count_run<S: Alter>(
 {
     let head = head_of(store, alloc, number)?;
     let counts = head.derived.row(alloc, event)?;
-    Ok(Counted { number, counts })
+    let events = head.events.len();
+    Ok(Counted {
+        number,
+        events,
+        counts,
+    })
 }
 
 /// The runs of these numbers.

@@ -1,32 +1,23 @@
 // The answers to questions by key.
-ghost use Rattle.std.specs.Prelude.{◌≡◌, false};
-ghost use Rattle.std.specs.List.{list_any};
+ghost use Rattle.std.specs.Prelude.{◌≡◌};
 ghost use Rattle.std.specs.Result.{is_ok};
 ghost use Rattle.prof_store.specs.Shown.{Told};
 ghost use Rattle.held_runs.specs.Walks.{AsksIfOpen};
 ghost use Rattle.histories.specs.declared.answers.Query.TheVariants.{By};
-ghost use Rattle.store_histories.specs.Answered.{Asks as AnswersAsked, has_changed};
-ghost use Rattle.store_reports.specs.Counted.{has_counts};
-ghost use Rattle.store_reports.specs.Reported.{AnswersRuns, report_over};
+ghost use Rattle.store_histories.specs.Answered.{Asks as AnswersAsked};
+ghost use Rattle.store_reports.specs.Reported.{report_over};
 
-use crate::counting::{Counted, count_runs};
+use crate::counting::Counted;
+use crate::event_runs::event_runs;
 use crate::merging::merge_runs;
-use crate::selecting::select_runs;
 use cg_text::ListVec;
 use cost_reports::{Cut, by};
 use cost_rows::Key;
 use held_runs::names_of;
-use histories::{Answer, Refusal, Selection};
+use histories::{Answer, Selection};
 use prof_store::{Store, StoreError};
 use sqlite::Alter;
 use std::alloc::Global;
-
-/// Whether one of some runs has the event.
-fn have_event(runs: &[Counted]) -> bool
-    ensures { result ≡ list_any has_counts runs.now }
-{
-    runs.iter().any(|run| run.counts.is_some())
-}
 
 /// The text of the report over some runs.
 fn report_text<S: Alter>(
@@ -46,27 +37,6 @@ fn report_text<S: Alter>(
     Ok(report.text(alloc, event)?)
 }
 
-/// The answer over the runs of some numbers.
-fn answer_runs<S: Alter>(
-    store: &mut Store<S>,
-    alloc: Global,
-    numbers: &[u32],
-    key: Key,
-    event: &[u8],
-    cut: Cut,
-) -> Result<Answer, StoreError>
-    ensures told { Told S.Store result store.old store.new (λ t answer. AnswersRuns t numbers.now key event.now cut answer) }
-    ensures still { has_changed result ≡ false }
-    ensures asks { AsksIfOpen S.Store (is_ok result) store.old store.new }
-{
-    let runs = count_runs(store, alloc, numbers, event)?;
-    if !have_event(&runs) {
-        return Ok(Answer::Refused(Refusal::NoSuchEvent));
-    }
-    let text = report_text(store, alloc, &runs, key, event, cut)?;
-    Ok(Answer::Text(text))
-}
-
 /// Answers where the cost of an event went, by key, over the runs of a selection: a text, or the refusal
 /// of a run or a group that is not held, or of an event that none of the runs has. Errors: `Memory`; and
 /// `Store` for a call of the database that fails, for rows out of form and for a sum of 2^112 or more,
@@ -81,9 +51,11 @@ pub fn by_answer<S: Alter>(
 ) -> Result<Answer, StoreError>
     ensures { AnswersAsked S.Store (By selection.now key event.now cut) result store.old store.new }
 {
-    let numbers = match select_runs(store, alloc, selection)? {
-        Ok(numbers) => numbers,
+    let event = event.as_slice();
+    let runs = match event_runs(store, alloc, selection, event)? {
+        Ok(runs) => runs,
         Err(refusal) => return Ok(Answer::Refused(refusal)),
     };
-    answer_runs(store, alloc, numbers.as_slice(), key, event.as_slice(), cut)
+    let text = report_text(store, alloc, runs.as_slice(), key, event, cut)?;
+    Ok(Answer::Text(text))
 }

@@ -26,7 +26,7 @@ fn all_runs<S: Alter>(store: &mut Store<S>, alloc: Global) -> Result<Numbers, St
 }
 
 /// A run, if it is held.
-fn one_run<S: Alter>(
+pub(crate) fn one_run<S: Alter>(
     store: &mut Store<S>,
     alloc: Global,
     number: u32,
@@ -44,7 +44,7 @@ fn one_run<S: Alter>(
 
 /// The text of a group's name. Bytes that are no text are no group's name, and neither is the empty
 /// text, which stands for them.
-fn name_text(name: &[u8]) -> &str
+pub(crate) fn name_text(name: &[u8]) -> &str
     ensures named { IsGroupName name.now → result.now ≡ name.now }
     ensures other { (result.now ≡ name.now) ⊎ (result.now ≡ []) }
 {

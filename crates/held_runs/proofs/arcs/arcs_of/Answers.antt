@@ -1,9 +1,5 @@
-use Rattle.std.proofs.Common.{[], refl}
 use Rattle.held_runs.proofs.WalkSteps.{ready_for}
 use Rattle.held_runs.proofs.arcs.arcs_of.Goals as goal
 
-pub returns-clause-ready : goal.returns-clause-ready
-returns-clause-ready g c was = record { lines = []; used = record { gives = c.of_run.ensures.ready was }; parts_are = refl; named = tt }
-
 pub returns-clause-begun : goal.returns-clause-begun
-returns-clause-begun g c t was = returns-clause-ready g c (ready_for t _ was)
+returns-clause-begun g c t was = c.begin_calls-calls.ensures.ready (ready_for t _ was)

@@ -1,0 +1,19 @@
+use Rattle.std.proofs.Common.{false, fold, ap, ◌∙◌}
+use Rattle.sql_tables.proofs.Calls.{asked_rests_yet}
+use Rattle.cost_reports.specs.Functions.{function_spot}
+use Rattle.prof_books.specs.Book.{cells_held, stacks_held}
+use Rattle.prof_tables.specs.Schema.{schema_one}
+use Rattle.prof_tables.specs.Tables.{Holds}
+use Rattle.store_reports.specs.FunctionCalls.{is_in_cells, with_stack_sought}
+use Rattle.store_reports.proofs.FunctionLemmas.{cells_sought, stacks_sought}
+use Rattle.store_reports.proofs.known_names.is_in_run.Goals as goal
+
+pub returns-clause-told : goal.returns-clause-told
+returns-clause-told g c clean t stands named =
+    let f = function_spot c.args.object.now c.args.name.now in
+    let cells = cells_held c.args.run.now.number t in
+    let stacks = stacks_held c.args.run.now.number t in
+    let early = (c.in_ok-each_stack.ensures.asks clean).stays.was_clean in
+    let found = c.in_ok-each_cell.ensures.told early t stands named ∙ cells_sought f false cells in
+    let mid = asked_rests_yet schema_one (Holds t) _ _ (c.in_ok-each_cell.ensures.asks early) stands in
+    ap (λ m. m.1) (c.in_ok-each_stack.ensures.told clean t mid ∙ ap (λ m. fold with_stack_sought m stacks) found ∙ stacks_sought f (is_in_cells f cells) stacks)

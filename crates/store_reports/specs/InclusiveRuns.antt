@@ -1,0 +1,64 @@
+-- Inclusive costs over runs of the tables.
+use Rattle.std.specs.Prelude.{◌≡◌, ℕ, List, [], ◌∷◌, ◌++◌, map, fold}
+use Rattle.std.specs.Option.{MatchOption}
+use Rattle.cost_rows.specs.declared.rows.ArcRow.{ArcRow}
+use Rattle.cost_rows.specs.declared.rows.CellRow.{CellRow}
+use Rattle.cost_rows.specs.declared.rows.StackRow.{StackRow}
+use Rattle.cost_reports.specs.Calls.{weighted_calls}
+use Rattle.cost_reports.specs.Costs.{weighted}
+use Rattle.cost_reports.specs.Inclusive.{InclusiveCosts, InclusiveRow, OfOwn, OfCalls, OfStack, inclusive_report, inclusive_text, no_costs, with_inclusive, with_outward, with_own, with_stack}
+use Rattle.prof_books.specs.Book.{cells_held, stacks_held}
+use Rattle.prof_tables.specs.Tables.{Tables}
+use Rattle.profile_records.specs.declared.kinds.Kind.{Kind}
+use Rattle.profile_records.specs.declared.kinds.Kind.TheVariants.{Callgrind, Folded}
+use Rattle.held_runs.specs.HandedCalls.{AreCallsOf}
+use Rattle.held_runs.specs.Lookups.{IsKindOf}
+use Rattle.store_reports.specs.declared.counting.Counted.{Counted}
+
+-- ---- one row, of a run whose columns count so often
+
+abbrev pub with_own_row : List ℕ × InclusiveCosts → CellRow (List ℕ) → List ℕ × InclusiveCosts
+with_own_row m row = (m.0, with_own m.1 (weighted m.0 row))
+
+abbrev pub with_call_row : List ℕ × InclusiveCosts → ArcRow (List ℕ) (List ℕ) → List ℕ × InclusiveCosts
+with_call_row m row = (m.0, with_outward m.1 (weighted_calls m.0 row))
+
+abbrev pub with_stack_row : List ℕ × InclusiveCosts → StackRow (List ℕ) → List ℕ × InclusiveCosts
+with_stack_row m row = (m.0, with_stack m.1 row)
+
+-- ---- the rows of runs
+
+abbrev pub own_rows : List ℕ → List (CellRow (List ℕ)) → List InclusiveRow
+own_rows counts cells = map (λ row. OfOwn (weighted counts row)) cells
+
+abbrev pub call_rows : List ℕ → List (ArcRow (List ℕ) (List ℕ)) → List InclusiveRow
+call_rows counts arcs = map (λ row. OfCalls (weighted_calls counts row)) arcs
+
+-- own costs and calls of a Callgrind run, and the stacks of a folded one
+abbrev pub AreRowsOfKind : Kind → Tables → ℕ → List ℕ → List InclusiveRow → Type 0
+AreRowsOfKind Callgrind t number counts rows =
+    (arcs : List (ArcRow (List ℕ) (List ℕ))) × AreCallsOf number t arcs × (rows ≡ own_rows counts (cells_held number t) ++ call_rows counts arcs)
+AreRowsOfKind Folded t number counts rows = rows ≡ map OfStack (stacks_held number t)
+
+-- by the kind that the tables tell
+abbrev pub AreRowsCounted : Tables → ℕ → List ℕ → List InclusiveRow → Type 0
+AreRowsCounted t number counts rows = (kind : Kind) × IsKindOf number t kind × AreRowsOfKind kind t number counts rows
+
+-- a run without the event has none
+abbrev pub AreRowsOf : Tables → Counted → List InclusiveRow → Type 0
+AreRowsOf t run rows = MatchOption run.counts (rows ≡ []) (λ counts. AreRowsCounted t run.number counts rows)
+
+-- one run after another
+abbrev pub AreRowsOfRuns : Tables → List Counted → List InclusiveRow → Type 0
+AreRowsOfRuns t [] rows = rows ≡ []
+AreRowsOfRuns t (run ∷ runs) rows =
+    (first : List InclusiveRow) × (later : List InclusiveRow) × AreRowsOf t run first × AreRowsOfRuns t runs later × (rows ≡ first ++ later)
+
+-- such rows were added
+abbrev pub Adds : (List InclusiveRow → Type 0) → InclusiveCosts → InclusiveCosts → Type 0
+Adds Are old new = (rows : List InclusiveRow) × Are rows × (new ≡ fold with_inclusive old rows)
+
+-- the text of the inclusive costs of runs
+abbrev pub IsInclusiveText : Tables → List Counted → List ℕ → List ℕ → Type 0
+IsInclusiveText t runs event text =
+    (costs : InclusiveCosts) × Adds (AreRowsOfRuns t runs) no_costs costs × (text ≡ inclusive_text event (inclusive_report costs))

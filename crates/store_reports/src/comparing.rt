@@ -1,0 +1,131 @@
+// The answers to questions of differences.
+ghost use Rattle.std.specs.Prelude.{◌≡◌, None, false};
+ghost use Rattle.std.specs.Result.{is_ok};
+ghost use Rattle.prof_store.specs.Shown.{Asks, Told};
+ghost use Rattle.held_runs.specs.Walks.{AsksIfOpen};
+ghost use Rattle.histories.specs.Legal.{compared};
+ghost use Rattle.histories.specs.declared.answers.Query.TheVariants.{Subtract};
+ghost use Rattle.histories.specs.declared.answers.Selection.TheVariants as selections;
+ghost use Rattle.store_histories.specs.Answered.{Asks as AnswersAsked, has_changed};
+ghost use Rattle.store_reports.specs.Compared.{AnswersDifference, AreCompared, difference_over};
+ghost use Rattle.store_reports.specs.Selected.{ToldOf};
+
+use crate::counting::{Counted, count_runs};
+use crate::event_runs::have_event;
+use crate::merging::merge_runs;
+use crate::selecting::{Numbers, name_text, one_run, select_runs};
+use cg_text::ListVec;
+use cost_reports::subtract;
+use cost_rows::Key;
+use held_runs::{baseline_of, names_of};
+use histories::{Answer, Refusal, Selection};
+use prof_store::{Store, StoreError};
+use sqlite::Alter;
+use std::alloc::Global;
+
+/// The baseline of a group, as a selection of one run.
+fn baseline_run<S: Alter>(
+    store: &mut Store<S>,
+    alloc: Global,
+    name: &[u8],
+) -> Result<Numbers, StoreError>
+    ensures told { ToldOf S.Store result store.old store.new (λ h found. AreCompared h (compared h (selections.Group name.now) None) found) }
+    ensures asks { Asks S.Store (is_ok result) store.old store.new }
+{
+    match baseline_of(store, name_text(name))? {
+        Some(number) => one_run(store, alloc, number),
+        None => Ok(Err(Refusal::NoBaseline)),
+    }
+}
+
+/// The runs that a selection is compared with: those of the second one, or the baseline of the first.
+fn compared_runs<S: Alter>(
+    store: &mut Store<S>,
+    alloc: Global,
+    first: &Selection,
+    second: &Option<Selection>,
+) -> Result<Numbers, StoreError>
+    ensures told { ToldOf S.Store result store.old store.new (λ h found. AreCompared h (compared h first.now second.now) found) }
+    ensures asks { AsksIfOpen S.Store (is_ok result) store.old store.new }
+{
+    if let Some(second) = second {
+        return select_runs(store, alloc, second);
+    }
+    match first {
+        Selection::Group(name) => baseline_run(store, alloc, name.as_slice()),
+        _ => Ok(Err(Refusal::NoBaseline)),
+    }
+}
+
+/// The text of the difference between some runs and others.
+fn difference_text<S: Alter>(
+    store: &mut Store<S>,
+    alloc: Global,
+    firsts: &[Counted],
+    seconds: &[Counted],
+    key: Key,
+    event: &[u8],
+) -> Result<ListVec<u8>, StoreError>
+    ensures told { Told S.Store result store.old store.new (λ t text. text ≡ difference_over t firsts.now seconds.now key event.now) }
+    ensures asks { AsksIfOpen S.Store (is_ok result) store.old store.new }
+{
+    let names = names_of(store, alloc)?;
+    let first = merge_runs(store, alloc, &names, firsts, key)?;
+    let second = merge_runs(store, alloc, &names, seconds, key)?;
+    let difference = subtract(alloc, &first, &second)?;
+    Ok(difference.text(alloc, event)?)
+}
+
+/// The answer over the runs of some numbers and those of others.
+fn answer_difference<S: Alter>(
+    store: &mut Store<S>,
+    alloc: Global,
+    numbers: &[u32],
+    others: &[u32],
+    key: Key,
+    event: &[u8],
+) -> Result<Answer, StoreError>
+    ensures told { Told S.Store result store.old store.new (λ t answer. AnswersDifference t numbers.now others.now key event.now answer) }
+    ensures still { has_changed result ≡ false }
+    ensures asks { AsksIfOpen S.Store (is_ok result) store.old store.new }
+{
+    let firsts = count_runs(store, alloc, numbers, event)?;
+    let seconds = count_runs(store, alloc, others, event)?;
+    if !have_event(&firsts) && !have_event(&seconds) {
+        return Ok(Answer::Refused(Refusal::NoSuchEvent));
+    }
+    let text = difference_text(store, alloc, &firsts, &seconds, key, event)?;
+    Ok(Answer::Text(text))
+}
+
+/// Answers what the runs of the first selection cost less what those of the second do, by key, or, where
+/// no second one is given, less the baseline of the group that is the first: a text, or the refusal of a
+/// run or a group that is not held, of a first selection without a baseline, or of an event that none of
+/// the runs has. Errors: `Memory`; and `Store` as for a report by key.
+pub fn subtract_answer<S: Alter>(
+    store: &mut Store<S>,
+    alloc: Global,
+    first: &Selection,
+    second: &Option<Selection>,
+    key: Key,
+    event: &ListVec<u8>,
+) -> Result<Answer, StoreError>
+    ensures { AnswersAsked S.Store (Subtract first.now second.now key event.now) result store.old store.new }
+{
+    let numbers = match select_runs(store, alloc, first)? {
+        Ok(numbers) => numbers,
+        Err(refusal) => return Ok(Answer::Refused(refusal)),
+    };
+    let others = match compared_runs(store, alloc, first, second)? {
+        Ok(numbers) => numbers,
+        Err(refusal) => return Ok(Answer::Refused(refusal)),
+    };
+    answer_difference(
+        store,
+        alloc,
+        numbers.as_slice(),
+        others.as_slice(),
+        key,
+        event.as_slice(),
+    )
+}
