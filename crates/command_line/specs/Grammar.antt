@@ -65,6 +65,22 @@ over_group_and_run name = with_rule (with_rule (over_database name) (operand (co
 abbrev pub over_selection : Text → App
 over_selection name = with_rule (with_rule (over_database name) (run_option (codes "run"))) (option (codes "group"))
 
+-- over an event of these runs
+abbrev pub over_event : Text → App
+over_event name = with_rule (over_selection name) event
+
+-- over some of the rows of these
+abbrev pub over_cut : Text → App
+over_cut name = with_rule (with_rule (over_event name) limit) threshold
+
+-- over the calls that have one side at a function
+abbrev pub over_calls : Text → App
+over_calls name = with_rule (with_rule (over_event name) object) (operand (codes "FUNCTION"))
+
+-- over two selections
+abbrev pub over_less : Text → App
+over_less name = with_rule (with_rule (over_selection name) (run_option (codes "less-run"))) (option (codes "less-group"))
+
 abbrev pub total : App
 total = with_rule (new_app (codes "total")) (operand (codes "FILE"))
 
@@ -78,18 +94,10 @@ abbrev pub group : App
 group = with_rule (with_rule (over_database (codes "group")) (flag (codes "drop"))) (operand (codes "NAME"))
 
 abbrev pub by : ValueParser → App
-by keys = with_rule (with_rule (with_rule (with_rule (over_selection (codes "by")) event) limit) threshold) (key keys)
+by keys = with_rule (over_cut (codes "by")) (key keys)
 
 abbrev pub inclusive : App
-inclusive = with_rule (over_selection (codes "inclusive")) event
-
--- a report of the calls that have one side at a function
-abbrev pub over_calls : Text → App
-over_calls name = with_rule (with_rule (with_rule (over_selection name) event) object) (operand (codes "FUNCTION"))
-
--- over two selections
-abbrev pub over_less : Text → App
-over_less name = with_rule (with_rule (over_selection name) (run_option (codes "less-run"))) (option (codes "less-group"))
+inclusive = over_event (codes "inclusive")
 
 abbrev pub subtract : ValueParser → App
 subtract keys = with_rule (with_rule (over_less (codes "subtract")) event) (key keys)

@@ -194,6 +194,64 @@ fn over_selection<'a>(
         .arg(group_option(alloc, "group", "Only the runs of this group"))
 }
 
+/// A subcommand on an event of runs that may be selected.
+fn over_event<'a>(
+    alloc: Global,
+    name: &'a str,
+    about: &'a str,
+    example: &'a str,
+) -> Result<Command<'a>, AllocError>
+    ensures app { IfOk result (λ command. app_of command ≡ line.over_event name.entry.now) }
+    ensures local { IfOk result (λ command. (fields_of command).has_globals ≡ false) }
+{
+    over_selection(alloc, name, about, example)?.arg(event(alloc))
+}
+
+/// A subcommand on an event, of which some rows are shown.
+fn over_cut<'a>(
+    alloc: Global,
+    name: &'a str,
+    about: &'a str,
+    example: &'a str,
+) -> Result<Command<'a>, AllocError>
+    ensures app { IfOk result (λ command. app_of command ≡ line.over_cut name.entry.now) }
+    ensures local { IfOk result (λ command. (fields_of command).has_globals ≡ false) }
+{
+    over_event(alloc, name, about, example)?
+        .arg(limit(alloc))?
+        .arg(threshold(alloc))
+}
+
+/// A subcommand on the calls that have one side at a function.
+fn over_calls<'a>(
+    alloc: Global,
+    name: &'a str,
+    about: &'a str,
+    example: &'a str,
+) -> Result<Command<'a>, AllocError>
+    ensures app { IfOk result (λ command. app_of command ≡ line.over_calls name.entry.now) }
+    ensures local { IfOk result (λ command. (fields_of command).has_globals ≡ false) }
+{
+    over_event(alloc, name, about, example)?
+        .arg(object(alloc))?
+        .arg(operand(alloc, "FUNCTION", "The name of the function"))
+}
+
+/// A subcommand over runs that may be selected, less others that may be.
+fn over_less<'a>(
+    alloc: Global,
+    name: &'a str,
+    about: &'a str,
+    example: &'a str,
+) -> Result<Command<'a>, AllocError>
+    ensures app { IfOk result (λ command. app_of command ≡ line.over_less name.entry.now) }
+    ensures local { IfOk result (λ command. (fields_of command).has_globals ≡ false) }
+{
+    over_selection(alloc, name, about, example)?
+        .arg(run_option(alloc, "less-run", "Take off the costs of this run"))?
+        .arg(group_option(alloc, "less-group", "Take off the costs of this group"))
+}
+
 fn total<'a>(alloc: Global) -> Result<Command<'a>, AllocError>
     ensures app { IfOk result (λ command. app_of command ≡ line.total) }
     ensures local { IfOk result (λ command. (fields_of command).has_globals ≡ false) }
@@ -252,60 +310,13 @@ fn by<'a>(alloc: Global, keys: &'a [&'a str]) -> Result<Command<'a>, AllocError>
     ensures app { IfOk result (λ command. app_of command ≡ line.by (Names keys.entry)) }
     ensures local { IfOk result (λ command. (fields_of command).has_globals ≡ false) }
 {
-    over_selection(
+    over_cut(
         alloc,
         "by",
         "Report costs by object, file, function or line",
         "Example: profhouse by --db s.db --event Ir function",
     )?
-    .arg(event(alloc))?
-    .arg(limit(alloc))?
-    .arg(threshold(alloc))?
     .arg(key(alloc, keys))
-}
-
-fn inclusive<'a>(alloc: Global) -> Result<Command<'a>, AllocError>
-    ensures app { IfOk result (λ command. app_of command ≡ line.inclusive) }
-    ensures local { IfOk result (λ command. (fields_of command).has_globals ≡ false) }
-{
-    over_selection(
-        alloc,
-        "inclusive",
-        "Report what functions cost with all that they call",
-        "Example: profhouse inclusive --db s.db --event Ir",
-    )?
-    .arg(event(alloc))
-}
-
-/// A subcommand on the calls that have one side at a function.
-fn over_calls<'a>(
-    alloc: Global,
-    name: &'a str,
-    about: &'a str,
-    example: &'a str,
-) -> Result<Command<'a>, AllocError>
-    ensures app { IfOk result (λ command. app_of command ≡ line.over_calls name.entry.now) }
-    ensures local { IfOk result (λ command. (fields_of command).has_globals ≡ false) }
-{
-    over_selection(alloc, name, about, example)?
-        .arg(event(alloc))?
-        .arg(object(alloc))?
-        .arg(operand(alloc, "FUNCTION", "The name of the function"))
-}
-
-/// A subcommand over runs that may be selected, less others that may be.
-fn over_less<'a>(
-    alloc: Global,
-    name: &'a str,
-    about: &'a str,
-    example: &'a str,
-) -> Result<Command<'a>, AllocError>
-    ensures app { IfOk result (λ command. app_of command ≡ line.over_less name.entry.now) }
-    ensures local { IfOk result (λ command. (fields_of command).has_globals ≡ false) }
-{
-    over_selection(alloc, name, about, example)?
-        .arg(run_option(alloc, "less-run", "Take off the costs of this run"))?
-        .arg(group_option(alloc, "less-group", "Take off the costs of this group"))
 }
 
 fn subtract<'a>(alloc: Global, keys: &'a [&'a str]) -> Result<Command<'a>, AllocError>
@@ -416,7 +427,13 @@ fn with_costs<'a>(
     ensures local { IfOk result (λ more. (fields_of more).has_globals ≡ false) }
 {
     let command = with(command, by(alloc, keys))?;
-    with(command, inclusive(alloc))
+    let inclusive = over_event(
+        alloc,
+        "inclusive",
+        "Report what functions cost with all that they call",
+        "Example: profhouse inclusive --db s.db --event Ir",
+    );
+    with(command, inclusive)
 }
 
 /// With the reports of calls.

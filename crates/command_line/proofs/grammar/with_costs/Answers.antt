@@ -10,4 +10,4 @@ returns-clause-app c =
     let before = app_of c.args.command in
     let first : App = with_subcommand before (line.by (Names c.args.keys)).top in
     let one : app_of c.in_ok-command.command ≡ first = has_got c.by.result _ before (line.by (Names c.args.keys)) c.in_ok-command.ensures.app c.by.ensures.app in
-    got_last c.with-2.result c.inclusive.result _ first (line.inclusive) c.with-2.ensures.app one c.inclusive.ensures.app
+    got_last c.with-2.result c.over_event-inclusive.result _ first (line.inclusive) c.with-2.ensures.app one c.over_event-inclusive.ensures.app
