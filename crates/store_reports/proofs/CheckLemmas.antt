@@ -1,10 +1,9 @@
 -- The lines of runs that are checked are those of the files of a selection.
-use Rattle.std.proofs.Common.{◌≡◌, ℕ, suc, ◌+◌, ◌<◌, List, [], ◌∷◌, ◌++◌, map, flat_map, length, get_or, take, Result, Ok, Err, append_assoc, append-nil, refl, sym, ap, ap₂, subst, ◌∙◌}
+use Rattle.std.proofs.Common.{◌≡◌, ℕ, suc, ◌+◌, ◌<◌, List, [], ◌∷◌, ◌++◌, map, length, get_or, take, Ok, Err, append_assoc, append-nil, refl, sym, ap, ap₂, subst, ◌∙◌}
 use Rattle.std.specs.List.{AllByRecursion}
 use Rattle.std.proofs.lemmas.List.{take_more}
 use Rattle.sqlite_rules.specs.Lists.{Has}
 use Rattle.cost_reports.specs.Verifying.{verified, verify_text}
-use Rattle.prof_books.specs.Book.{run_held}
 use Rattle.prof_tables.specs.Tables.{Tables, EventLine}
 use Rattle.held_runs.specs.OwnSums.{AreOwnSums, IsByPlace, events_of_run}
 use Rattle.held_runs.proofs.OwnSumLists.{own_sums_by_place}

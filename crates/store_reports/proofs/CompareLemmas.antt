@@ -1,18 +1,17 @@
 -- Selections that are compared, and the answers over them.
-use Rattle.std.proofs.Common.{◌≡◌, ◌⊎◌, ℕ, Bool, true, false, not, ◌||◌, if◌then◌else◌, List, [], ◌∷◌, ◌++◌, map, Option, Some, None, option_map, Result, Ok, Err, inl, inr, refl, sym, ap, ap₂, subst, ◌∙◌}
+use Rattle.std.proofs.Common.{◌≡◌, ◌⊎◌, ℕ, Bool, true, false, not, ◌||◌, if◌then◌else◌, List, [], ◌∷◌, ◌++◌, Option, Some, None, option_map, Result, Ok, Err, inl, inr, refl, sym, ap, ap₂, subst, ◌∙◌}
 use Rattle.std.specs.List.{list_any}
 use Rattle.std.specs.Str.{bytes_eq}
 use Rattle.sqlite_rules.specs.Lists.{Has}
-use Rattle.cost_rows.specs.Sums.{Spot}
 use Rattle.cost_rows.specs.declared.keys.Key.{Key}
 use Rattle.cost_reports.specs.Differences.{difference_of, difference_text}
 use Rattle.prof_tables.specs.Changes as tables
 use Rattle.prof_tables.specs.Labels.{IsGroupName}
-use Rattle.prof_tables.specs.Tables.{Tables, GroupLine}
+use Rattle.prof_tables.specs.Tables.{Tables}
 use Rattle.held_runs.specs.Lookups.{IsBaselineOf}
 use Rattle.histories.specs.History.{History, File, baseline}
 use Rattle.histories.specs.Legal.{compared, expected_of_query, files_of, first_or, no_event, no_second, no_selection, when}
-use Rattle.histories.specs.Reports.{costs_of_files, has_event, subtract_text}
+use Rattle.histories.specs.Reports.{has_event, subtract_text}
 use Rattle.histories.specs.Selections.{numbers_of, selected}
 use Rattle.histories.specs.Stands.{TablesTell}
 use Rattle.histories.specs.declared.answers.Answer.{Answer}
@@ -24,10 +23,9 @@ use Rattle.histories.specs.declared.answers.Selection.{Selection}
 use Rattle.histories.specs.declared.answers.Selection.TheVariants as selections
 use Rattle.histories.proofs.Runs.{tells_group_of}
 use Rattle.histories.proofs.Tests.{any-append, bytes-self}
-use Rattle.store_reports.specs.Compared.{AnswersDifference, AreCompared, costs_over}
+use Rattle.store_reports.specs.Compared.{AnswersDifference, AreCompared}
 use Rattle.store_reports.specs.Counted.{AreCounted, has_counts}
 use Rattle.store_reports.specs.Selected.{AreSelected}
-use Rattle.store_reports.specs.declared.counting.Counted.{Counted}
 use Rattle.store_reports.proofs.ReportLemmas.{runs_cost, runs_have_event}
 use Rattle.store_reports.proofs.SelectLemmas.{group_there}
 

@@ -1,5 +1,5 @@
 -- Runs that are counted one after another.
-use Rattle.std.proofs.Common.{◌≡◌, ℕ, ◌+◌, ◌<◌, List, [], ◌∷◌, ◌++◌, length, get_or, take, sym, ap, subst}
+use Rattle.std.proofs.Common.{◌≡◌, ℕ, ◌+◌, ◌<◌, List, [], ◌∷◌, ◌++◌, length, get_or, take, sym, subst}
 use Rattle.std.proofs.lemmas.List.{take_more}
 use Rattle.prof_tables.specs.Tables.{Tables}
 use Rattle.store_reports.specs.Counted.{AreCounted, IsCounted}

@@ -1,5 +1,5 @@
 -- Runs that an event is asked of, and the answers over them.
-use Rattle.std.proofs.Common.{◌≡◌, ℕ, Bool, true, false, not, ◌||◌, if◌then◌else◌, List, [], ◌∷◌, ◌++◌, map, Option, Some, None, Result, Ok, Err, refl, sym, ap, ap₂, subst, ◌∙◌}
+use Rattle.std.proofs.Common.{◌≡◌, ℕ, Bool, true, false, not, List, [], ◌∷◌, Option, Ok, Err, sym, ap, ap₂, subst, ◌∙◌}
 use Rattle.std.specs.List.{list_any}
 use Rattle.cost_rows.specs.declared.keys.Key.{Key}
 use Rattle.cost_reports.specs.KeyReports.{report_of}
@@ -8,8 +8,8 @@ use Rattle.cost_reports.specs.declared.cuts.Cut.{Cut}
 use Rattle.prof_tables.specs.Tables.{Tables}
 use Rattle.histories.specs.History.{History}
 use Rattle.histories.specs.Legal.{expected_of_query, first_or, no_event, no_selection, when}
-use Rattle.histories.specs.Reports.{by_text, has_event}
-use Rattle.histories.specs.Selections.{numbers_of, selected}
+use Rattle.histories.specs.Reports.{by_text}
+use Rattle.histories.specs.Selections.{selected}
 use Rattle.histories.specs.Stands.{TablesTell}
 use Rattle.histories.specs.declared.answers.Answer.{Answer}
 use Rattle.histories.specs.declared.answers.Answer.TheVariants.{Text, Refused}

@@ -1,5 +1,5 @@
 -- The calls of a function over runs are those of the files of a selection, and so is whether it is known.
-use Rattle.std.proofs.Common.{◌≡◌, ℕ, zero, suc, ◌+◌, ◌<◌, ◌≤◌, Bool, true, false, not, ◌&&◌, ◌||◌, ◌==◌, nat_lt, if◌then◌else◌, List, [], ◌∷◌, ◌++◌, map, fold, length, get_or, take, slice_index, Option, Some, None, Result, Ok, Err, inl, inr, refl, sym, ap, ap₂, subst, ◌∙◌, arith}
+use Rattle.std.proofs.Common.{◌≡◌, ℕ, zero, suc, ◌+◌, ◌<◌, Bool, true, false, not, ◌&&◌, ◌||◌, ◌==◌, nat_lt, if◌then◌else◌, List, [], ◌∷◌, ◌++◌, map, fold, length, get_or, take, slice_index, Option, Some, None, Ok, Err, refl, sym, ap, ap₂, subst, ◌∙◌, arith}
 use Rattle.std.specs.Prelude.{unwrap_or}
 use Rattle.std.specs.List.{list_any, AllByRecursion}
 use Rattle.std.proofs.lemmas.Bool.Decides.{nat_tests}
@@ -14,7 +14,7 @@ use Rattle.cost_rows.specs.Walks.{HaveCosts, HaveCounts}
 use Rattle.cost_rows.specs.declared.rows.ArcRow.{ArcRow}
 use Rattle.cost_rows.specs.declared.rows.CellRow.{CellRow}
 use Rattle.cost_rows.specs.declared.rows.StackRow.{StackRow}
-use Rattle.cost_reports.specs.Calls.{Calls, CallsOfFunction, CallsStandForEach, EventArcs, all_arcs, all_calls, call_report_of, call_report_text, calls_by, weighted_calls, with_calls}
+use Rattle.cost_reports.specs.Calls.{Calls, CallsStandForEach, EventArcs, all_arcs, all_calls, call_report_of, call_report_text, calls_by, weighted_calls, with_calls}
 use Rattle.cost_reports.specs.Functions.{function_spot, is_one_function}
 use Rattle.cost_reports.specs.Inclusive.{is_frame}
 use Rattle.cost_reports.specs.declared.call_sides.CallSide.{CallSide}
@@ -31,7 +31,7 @@ use Rattle.histories.specs.Legal.{expected_of_query, first_or, no_name, when}
 use Rattle.histories.specs.Reports.{calls_text, event_records, is_seen_in, knows, tells_of}
 use Rattle.histories.specs.Selections.{selected}
 use Rattle.histories.specs.Stands.{TablesTell}
-use Rattle.histories.specs.Told.{CallsCome, TellsRows}
+use Rattle.histories.specs.Told.{CallsCome}
 use Rattle.histories.specs.declared.answers.Answer.{Answer}
 use Rattle.histories.specs.declared.answers.Answer.TheVariants.{Text, Refused}
 use Rattle.histories.specs.declared.answers.Query.TheVariants as queries
@@ -41,10 +41,10 @@ use Rattle.histories.specs.declared.answers.Selection.{Selection}
 use Rattle.histories.proofs.Runs.{tells_rows}
 use Rattle.histories.proofs.Tests.{any-append}
 use Rattle.store_reports.specs.EventRuns.{AreEventRuns}
-use Rattle.store_reports.specs.FunctionCalls.{AreArcsOf, AreTakenFrom, IsCallsText, IsTakenFrom, Taken, calls_text_over, is_in_cells, is_in_rows, is_in_stacks, not_taken, touches, with_call, with_cell_sought, with_row_of_calls, with_stack_sought}
+use Rattle.store_reports.specs.FunctionCalls.{AreArcsOf, AreTakenFrom, IsCallsText, IsTakenFrom, Taken, is_in_cells, is_in_rows, is_in_stacks, not_taken, touches, with_call, with_cell_sought, with_row_of_calls, with_stack_sought}
 use Rattle.store_reports.specs.declared.counting.Counted.{Counted}
 use Rattle.store_reports.proofs.EventLemmas.{both_held}
-use Rattle.store_reports.proofs.ReportLemmas.{AreRunsOf, IsRunOf, are_runs, selected_held}
+use Rattle.store_reports.proofs.ReportLemmas.{AreRunsOf, are_runs, selected_held}
 
 -- ---- rows, taken one after another
 

@@ -1,7 +1,6 @@
 -- The kind that the tables tell of a run is that of its file.
-use Rattle.std.proofs.Common.{◌≡◌, ℕ, Bool, true, false, ◌==◌, eqb, List, [], ◌∷◌, map, filter, inl, inr, refl, sym, ap, subst, ◌∙◌, arith}
+use Rattle.std.proofs.Common.{◌≡◌, ℕ, Bool, true, ◌==◌, List, [], ◌∷◌, map, inl, inr, refl, sym, ap, subst, ◌∙◌, arith}
 use Rattle.std.proofs.lemmas.Bool.Decides.{nat_tests}
-use Rattle.std.specs.List.{list_any}
 use Rattle.sqlite_rules.specs.Lists.{Has}
 use Rattle.sql_tables.proofs.Queries.{kept_has}
 use Rattle.prof_books.specs.Book.{run_held}
@@ -11,10 +10,7 @@ use Rattle.profile_records.specs.declared.kinds.Kind.{Kind}
 use Rattle.profile_records.specs.declared.kinds.Kind.TheVariants.{Callgrind, Folded}
 use Rattle.held_runs.specs.Lookups.{IsKindOf}
 use Rattle.histories.specs.History.{History, File, held}
-use Rattle.histories.specs.Legal.{has_run}
-use Rattle.histories.specs.Selections.{selected}
 use Rattle.histories.specs.Stands.{AreBooksOf, IsBookOf, TablesTell}
-use Rattle.histories.specs.declared.answers.Selection.TheVariants as selections
 use Rattle.histories.proofs.Selections.{are_selected}
 use Rattle.store_reports.proofs.CompareLemmas.{any_of}
 

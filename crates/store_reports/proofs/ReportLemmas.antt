@@ -1,5 +1,5 @@
 -- From the runs of the tables to the files of a history.
-use Rattle.std.proofs.Common.{◌≡◌, ℕ, Bool, true, false, not, ◌&&◌, ◌||◌, if◌then◌else◌, List, [], ◌∷◌, map, Option, Some, None, Result, Ok, Err, IfOk, filter, inl, inr, refl, sym, ap, ap₂, subst, ◌∙◌}
+use Rattle.std.proofs.Common.{◌≡◌, ℕ, Bool, ◌||◌, List, [], ◌∷◌, map, filter, inl, inr, refl, ap, ap₂, ◌∙◌}
 use Rattle.std.specs.Prelude.{unwrap_or}
 use Rattle.std.specs.List.{AllByRecursion, list_any}
 use Rattle.std.specs.Option.{is_some}
@@ -14,7 +14,6 @@ use Rattle.cost_reports.proofs.CostLemmas.{cells_are_records}
 use Rattle.cost_rows.specs.WalkSums.{rows_cost}
 use Rattle.prof_books.specs.Book.{cells_held}
 use Rattle.prof_tables.specs.Tables.{Tables}
-use Rattle.held_runs.specs.HeldHeads.{IsHeadIn}
 use Rattle.histories.specs.History.{History, File, held}
 use Rattle.histories.specs.Reports.{counts_of, event_records, has_event}
 use Rattle.histories.specs.Selections.{numbers_of, selected, selects}

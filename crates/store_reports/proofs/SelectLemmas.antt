@@ -1,6 +1,5 @@
 -- The numbers that tables tell of a selection are those of its files.
-use Rattle.std.proofs.Common.{◌≡◌, ◌⊎◌, ℕ, Bool, true, false, not, List, [], ◌∷◌, map, filter, Option, Some, None, Result, Ok, Err, inl, inr, refl, sym, ap, ap₂, subst, ◌∙◌, cond, arith}
-use Rattle.sqlite_rules.specs.Lists.{Has}
+use Rattle.std.proofs.Common.{◌≡◌, ◌⊎◌, ℕ, true, false, not, List, [], ◌∷◌, map, filter, Ok, Err, inl, inr, refl, sym, ap, ap₂, subst, ◌∙◌, arith}
 use Rattle.sql_tables.proofs.Rows.{filter_same_on}
 use Rattle.prof_tables.specs.Changes as tables
 use Rattle.prof_tables.specs.Labels.{IsGroupName}
@@ -8,8 +7,8 @@ use Rattle.prof_tables.specs.Tables.{Tables, RunLine}
 use Rattle.prof_books.specs.Book.{run_held}
 use Rattle.held_runs.specs.RunNumbers.{members_in_tables, numbers_in_tables}
 use Rattle.histories.specs.History.{History, File, held, is_member}
-use Rattle.histories.specs.Legal.{has_group, has_run, no_group, no_run, when}
-use Rattle.histories.specs.Selections.{numbers_of, selected}
+use Rattle.histories.specs.Legal.{has_group, has_run, when}
+use Rattle.histories.specs.Selections.{numbers_of}
 use Rattle.histories.specs.Stands.{AreBooksOf, TablesTell}
 use Rattle.histories.specs.declared.answers.Answer.TheVariants.{Refused}
 use Rattle.histories.specs.declared.answers.Refusal.TheVariants.{NoSuchGroup, NoSuchRun}

@@ -3,7 +3,6 @@ use Rattle.std.specs.Prelude.{◌≡◌, ℕ, List, Some, None, Result, Ok, Err,
 use Rattle.sqlite_trees.specs.declared.store.Store.{Ghosts}
 use Rattle.prof_store.specs.Shown.{IsFaithful}
 use Rattle.prof_store.specs.declared.store.Store.{Store}
-use Rattle.store_columns.specs.declared.errors.StoreError.{StoreError}
 use Rattle.histories.specs.History.{History}
 use Rattle.histories.specs.Legal.{no_selection}
 use Rattle.histories.specs.Selections.{numbers_of, selected}

@@ -1,5 +1,4 @@
-use Rattle.std.proofs.Common.{◌≡◌, fold, map, sym, ap, ◌∙◌}
-use Rattle.std.specs.Prelude.{unwrap_or}
+use Rattle.std.proofs.Common.{fold, map, ap, ◌∙◌}
 use Rattle.cost_reports.specs.Calls.{weighted_calls}
 use Rattle.store_reports.specs.FunctionCalls.{taken_of, with_call}
 use Rattle.store_reports.proofs.FunctionLemmas.{calls_taken}

@@ -1,10 +1,10 @@
-use Rattle.std.proofs.Common.{◌≡◌, Some, ap, subst, ◌∙◌}
+use Rattle.std.proofs.Common.{Some, ap, subst, ◌∙◌}
 use Rattle.sql_tables.proofs.Calls.{asked_rests, asked_rests_yet}
 use Rattle.cost_reports.specs.Calls.{call_report_text}
 use Rattle.cost_reports.specs.Functions.{function_spot}
 use Rattle.prof_tables.specs.Schema.{schema_one}
 use Rattle.prof_tables.specs.Tables.{Holds}
-use Rattle.store_reports.specs.FunctionCalls.{AreTakenFrom, IsCallsText, taken_of}
+use Rattle.store_reports.specs.FunctionCalls.{AreTakenFrom, taken_of}
 use Rattle.store_reports.proofs.FunctionLemmas.{text_found, text_missing}
 use Rattle.store_reports.proofs.calling.calls_text.Goals as goal
 

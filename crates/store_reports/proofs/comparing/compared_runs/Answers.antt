@@ -1,6 +1,5 @@
-use Rattle.std.proofs.Common.{Option, Some, subst, sym}
+use Rattle.std.proofs.Common.{subst, sym}
 use Rattle.histories.specs.Legal.{compared}
-use Rattle.histories.specs.declared.answers.Selection.{Selection}
 use Rattle.store_reports.specs.Compared.{AreCompared}
 use Rattle.store_reports.proofs.AskLemmas.{if_ok_so}
 use Rattle.store_reports.proofs.CompareLemmas.{compared_with}

@@ -1,7 +1,6 @@
-use Rattle.std.proofs.Common.{◌≡◌, Ok, Err, refl, subst, subst₂, rules}
+use Rattle.std.proofs.Common.{◌≡◌, refl, subst, subst₂, rules}
 use Rattle.std.specs.Result.{is_ok}
 use Rattle.sql_tables.proofs.Calls.{asked_rests, asked_rests_yet}
-use Rattle.held_runs.proofs.Asking.{asked_open_then}
 use Rattle.prof_tables.specs.Schema.{schema_one}
 use Rattle.prof_tables.specs.Tables.{Holds}
 use Rattle.store_reports.specs.Compared.{AnswersDifference}

@@ -1,9 +1,7 @@
-use Rattle.std.proofs.Common.{◌≡◌, ◌<◌, [], ◌∷◌, ◌++◌, length, get_or, take, sym, ap₂, subst, arith, rules}
-use Rattle.std.proofs.lemmas.List.{take_more}
+use Rattle.std.proofs.Common.{◌≡◌, ◌<◌, [], ◌∷◌, ◌++◌, length, arith, rules}
 use Rattle.sql_tables.proofs.Calls.{asked_more, asked_rests_yet}
 use Rattle.prof_tables.specs.Schema.{schema_one}
 use Rattle.prof_tables.specs.Tables.{Holds}
-use Rattle.store_reports.specs.Counted.{AreCounted}
 use Rattle.store_reports.proofs.CountedLemmas.{counted_so_far}
 use Rattle.store_reports.proofs.counting.count_runs.Goals as goal
 

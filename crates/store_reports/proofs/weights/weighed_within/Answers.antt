@@ -1,4 +1,4 @@
-use Rattle.std.proofs.Common.{rules, ◌≡◌, ◌+◌, ◌*◌, ◌<◌, get_or, length, slice_index, sym, ap₂, ◌∙◌, arith}
+use Rattle.std.proofs.Common.{rules, ◌≡◌, ◌+◌, ◌*◌, ◌<◌, get_or, length, slice_index, sym, ap₂, ◌∙◌}
 use Rattle.store_reports.proofs.WeightLemmas.{weighed_more}
 use Rattle.store_reports.proofs.weights.weighed_within.Goals as goal
 
