@@ -13,7 +13,7 @@ use Rattle.sql_tables.proofs.Orders.{all_shown, same_permuted}
 use Rattle.sql_tables.proofs.Selects.{selected}
 use Rattle.prof_tables.specs.Schema.{schema_one, name_at}
 use Rattle.prof_tables.specs.Tables.{Tables, Holds, NameLine, name_columns, contents_of}
-use Rattle.prof_tables.specs.Texts.{names_text}
+use Rattle.prof_tables.specs.Texts.{names_sql}
 use Rattle.prof_tables.proofs.Means.{names_shown, names_order, names_means, names_plain, names_unlisted}
 use Rattle.prof_books.specs.Book.{name_of, IsHeld}
 use Rattle.held_runs.specs.NameLines.{name_line, name_seen, name_shown, has_number}
@@ -21,9 +21,9 @@ use Rattle.held_runs.specs.declared.held_names.HeldName.{HeldName}
 
 -- ---- the query
 
-pub names_listed : (old new : State) (rows : List Row) → old.now.schema ≡ schema_one → Shown names_text [] old new rows → IsPermutation (map name_seen (old.now.trees 11)) rows
+pub names_listed : (old new : State) (rows : List Row) → old.now.schema ≡ schema_one → Shown names_sql [] old new rows → IsPermutation (map name_seen (old.now.trees 11)) rows
 names_listed old new rows has h =
-    all_shown 11 names_shown names_order (old.now.trees 11) [] rows (selected schema_one names_text 11 [] names_shown names_order _ names_means names_plain names_unlisted old new has refl [] rows h)
+    all_shown 11 names_shown names_order (old.now.trees 11) [] rows (selected schema_one names_sql 11 [] names_shown names_order _ names_means names_plain names_unlisted old new has refl [] rows h)
 
 -- the names stand in the order of their numbers, and so does an answer whose rows rise
 pub names_in_order : (t : Tables) (db : Trees) → Holds t db → (answer : List Row) → IsTable answer → IsPermutation (map name_seen (db 11)) answer → answer ≡ map name_shown t.names

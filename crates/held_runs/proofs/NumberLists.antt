@@ -37,22 +37,22 @@ use Rattle.prof_tables.proofs.Finds.{run_row}
 use Rattle.prof_tables.proofs.Lists.{numbered_table}
 use Rattle.prof_store.proofs.Listing.{map_injective}
 use Rattle.held_runs.specs.RunNumbers.{first_one, number_shown, numbers_in_tables, numbers_in_rows, members_in_tables, members_in_rows}
-use Rattle.held_runs.specs.RunTexts.{run_numbers_text, members_of_text}
+use Rattle.held_runs.specs.RunTexts.{run_numbers_sql, members_of_sql}
 use Rattle.held_runs.proofs.RunTexts.{run_numbers_shown, run_numbers_order, run_numbers_means, run_numbers_plain, run_numbers_unlisted, members_of_terms, members_of_shown, members_of_order, members_of_means, members_of_plain, members_of_unlisted}
 
 -- ---- the queries
 
 module _ (old new : State) (rows : List Row) (has : old.now.schema ≡ schema_one) where
-  pub numbers_listed : Shown run_numbers_text [] old new rows → IsPermutation (numbers_in_rows old.now.trees) rows
+  pub numbers_listed : Shown run_numbers_sql [] old new rows → IsPermutation (numbers_in_rows old.now.trees) rows
   numbers_listed h =
       all_shown 1 run_numbers_shown run_numbers_order (old.now.trees 1) [] rows
-      (selected schema_one run_numbers_text 1 [] run_numbers_shown run_numbers_order _ run_numbers_means run_numbers_plain run_numbers_unlisted old new has refl [] rows h)
+      (selected schema_one run_numbers_sql 1 [] run_numbers_shown run_numbers_order _ run_numbers_means run_numbers_plain run_numbers_unlisted old new has refl [] rows h)
 
-  pub members_listed : (name : List ℕ) → Shown members_of_text (Text name ∷ []) old new rows → IsPermutation (members_in_rows name old.now.trees) rows
+  pub members_listed : (name : List ℕ) → Shown members_of_sql (Text name ∷ []) old new rows → IsPermutation (members_in_rows name old.now.trees) rows
   members_listed name h =
       subst (λ l. IsPermutation (map run_of_member_seen l) rows) (filter_same_on (passes (Text name ∷ []) members_of_terms) (is_at 1 (Text name)) (old.now.trees 21) (λ r there. and_true _))
       (answer_permutes 21 members_of_terms members_of_shown members_of_order (old.now.trees 21) (Text name ∷ []) rows
-      (selected schema_one members_of_text 21 members_of_terms members_of_shown members_of_order _ members_of_means members_of_plain members_of_unlisted old new has refl (Text name ∷ []) rows h))
+      (selected schema_one members_of_sql 21 members_of_terms members_of_shown members_of_order _ members_of_means members_of_plain members_of_unlisted old new has refl (Text name ∷ []) rows h))
 
 -- ---- numbers as rows
 

@@ -17,16 +17,16 @@ use Rattle.prof_tables.proofs.Values.{number_below}
 use Rattle.prof_store.proofs.Listing.{read_on, read_permutes}
 use Rattle.held_runs.specs.HeadLines.{first_two}
 use Rattle.held_runs.specs.OwnSums.{own_seen, own_shown, sums_from, events_of_run, AreOwnSums, IsByPlace}
-use Rattle.held_runs.specs.RunTexts.{own_sums_text}
+use Rattle.held_runs.specs.RunTexts.{own_sums_sql}
 use Rattle.held_runs.proofs.RunTexts.{own_sums_terms, own_sums_shown, own_sums_order, own_sums_means, own_sums_plain, own_sums_unlisted}
 
 -- ---- the query
 
-pub sums_listed : (n : ℕ) (old new : State) (rows : List Row) → old.now.schema ≡ schema_one → Shown own_sums_text (number n ∷ []) old new rows → IsPermutation (map own_seen (filter (is_at 1 (number n)) (old.now.trees 3))) rows
+pub sums_listed : (n : ℕ) (old new : State) (rows : List Row) → old.now.schema ≡ schema_one → Shown own_sums_sql (number n ∷ []) old new rows → IsPermutation (map own_seen (filter (is_at 1 (number n)) (old.now.trees 3))) rows
 sums_listed n old new rows has h =
     subst (λ l. IsPermutation (map own_seen l) rows) (filter_same_on (passes (number n ∷ []) own_sums_terms) (is_at 1 (number n)) (old.now.trees 3) (λ r there. and_true _))
     (answer_permutes 3 own_sums_terms own_sums_shown own_sums_order (old.now.trees 3) (number n ∷ []) rows
-    (selected schema_one own_sums_text 3 own_sums_terms own_sums_shown own_sums_order _ own_sums_means own_sums_plain own_sums_unlisted old new has refl (number n ∷ []) rows h))
+    (selected schema_one own_sums_sql 3 own_sums_terms own_sums_shown own_sums_order _ own_sums_means own_sums_plain own_sums_unlisted old new has refl (number n ∷ []) rows h))
 
 pub sums_are : (t : Tables) (db : Trees) → Holds t db → (n : ℕ) → map own_seen (filter (is_at 1 (number n)) (db 3)) ≡ map own_shown (events_of_run n t)
 sums_are t db was n =

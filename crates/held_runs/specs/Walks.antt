@@ -8,7 +8,7 @@ use Rattle.sqlite_trees.specs.declared.store.Shape.TheVariants as shape
 use Rattle.sqlite.specs.State.{State}
 use Rattle.sql_tables.specs.Walks.{Asked, Reads, HasReadAll, in_page, in_window}
 use Rattle.prof_tables.specs.Schema.{schema_one, cell_at, arc_at, stack_at}
-use Rattle.prof_tables.specs.WalkTexts.{cell_window_text, cell_ends_text, cells_of, arc_window_text, arc_ends_text, arcs_of, stack_window_text, stack_ends_text, stacks_of}
+use Rattle.prof_tables.specs.WalkTexts.{cell_window_sql, cell_ends_sql, cells_of, arc_window_sql, arc_ends_sql, arcs_of, stack_window_sql, stack_ends_sql, stacks_of}
 use Rattle.prof_store.specs.declared.store.Store.{Store}
 use Rattle.store_columns.specs.declared.errors.StoreError.{StoreError}
 use Rattle.held_runs.specs.declared.walks.Listed.{Listed}
@@ -22,15 +22,15 @@ tree_of Cells = cell_at.tree
 tree_of Arcs = arc_at.tree
 tree_of Stacks = stack_at.tree
 
-abbrev pub window_text_of : Listed → List ℕ
-window_text_of Cells = cell_window_text
-window_text_of Arcs = arc_window_text
-window_text_of Stacks = stack_window_text
+abbrev pub window_sql_of : Listed → List ℕ
+window_sql_of Cells = cell_window_sql
+window_sql_of Arcs = arc_window_sql
+window_sql_of Stacks = stack_window_sql
 
-abbrev pub ends_text_of : Listed → List ℕ
-ends_text_of Cells = cell_ends_text
-ends_text_of Arcs = arc_ends_text
-ends_text_of Stacks = stack_ends_text
+abbrev pub ends_sql_of : Listed → List ℕ
+ends_sql_of Cells = cell_ends_sql
+ends_sql_of Arcs = arc_ends_sql
+ends_sql_of Stacks = stack_ends_sql
 
 -- the rows of a run, and of each its columns
 abbrev pub asked : Listed → ℕ → Asked

@@ -4,7 +4,7 @@ ghost use Rattle.std.specs.Result.{is_ok};
 ghost use Rattle.sqlite_trees.specs.Tree.{IsTable};
 ghost use Rattle.prof_store.specs.Shown.{Asks};
 ghost use Rattle.sql_tables.specs.Walks.{Lie};
-ghost use Rattle.held_runs.specs.Walks.{window_text_of, ends_text_of, asked, page_of, rows_of, IsSpanIn, IsRead, OfReady, AsksIfOpen, Moves, WalksOn, Walks};
+ghost use Rattle.held_runs.specs.Walks.{window_sql_of, ends_sql_of, asked, page_of, rows_of, IsSpanIn, IsRead, OfReady, AsksIfOpen, Moves, WalksOn, Walks};
 
 use prof_store::{Store, select, select_row};
 use sqlite::{Alter, Row, params};
@@ -59,7 +59,7 @@ impl Walk {
 const WINDOW: u32 = 512;
 
 fn window_sql(table: Listed) -> &'static str
-    ensures { result.now ≡ window_text_of table }
+    ensures { result.now ≡ window_sql_of table }
 {
     match table {
         Listed::Cells => {
@@ -75,7 +75,7 @@ fn window_sql(table: Listed) -> &'static str
 }
 
 fn ends_sql(table: Listed) -> &'static str
-    ensures { result.now ≡ ends_text_of table }
+    ensures { result.now ≡ ends_sql_of table }
 {
     match table {
         Listed::Cells => "SELECT min(rowid), max(rowid) FROM cell WHERE run = ?1",

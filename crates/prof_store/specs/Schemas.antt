@@ -9,7 +9,7 @@ use Rattle.sql_tables.specs.Calls.{Asked}
 use Rattle.sql_tables.specs.States.{Rests}
 use Rattle.prof_tables.specs.Schema.{schema_one}
 use Rattle.prof_tables.specs.Tables.{Tables, Holds}
-use Rattle.prof_tables.specs.Texts.{schema_text}
+use Rattle.prof_tables.specs.Texts.{schema_sql}
 
 -- a store stands between calls: its tables hold some lines
 abbrev pub IsStore : State → Type 0
@@ -26,5 +26,5 @@ AsksAny answered old new = HasCleanDisk new → Asked old.now.schema answered ol
 -- the first row that the query for it shows, in tables of any schema, has this number
 pub record Reads (old new : State) (n : ℕ) : Type 0 where
   pub row : Row
-  pub shown : QueriesRow schema_text [] old new (Ok row)
+  pub shown : QueriesRow schema_sql [] old new (Ok row)
   pub is : column row 0 ≡ Int (pos n)

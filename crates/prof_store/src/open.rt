@@ -6,7 +6,7 @@ ghost use Rattle.sqlite.specs.State.{HasCleanDisk, Survives, QueriesRow, Commits
 ghost use Rattle.sqlite_value.specs.declared.value.Value.TheVariants.{Int};
 ghost use Rattle.sqlite_value.specs.Order.{column};
 ghost use Rattle.prof_tables.specs.Schema.{schema_one};
-ghost use Rattle.prof_tables.specs.Texts.{schema_text};
+ghost use Rattle.prof_tables.specs.Texts.{schema_sql};
 ghost use Rattle.prof_store.specs.Schemas.{AsksAny, IsStore, Reads, SaysSchema};
 ghost use Rattle.prof_store.specs.Shown.{shown, IsFaithful};
 ghost use Rattle.sqlite.specs.declared.error.Error.TheVariants as errors;
@@ -18,8 +18,8 @@ use std::alloc::Global;
 use store_columns::{OpenError, error_of, number_at};
 
 fn select_schema<S: Alter>(conn: &mut Connection<S>) -> Result<Row, Error>
-    ensures row { HasCleanDisk (state S.Store conn.new) → QueriesRow schema_text [] (state S.Store conn.old) (state S.Store conn.new) result }
-    ensures survives { Survives (state S.Store conn.old) (state S.Store conn.new) (CommitsShowing schema_text [] (state S.Store conn.old)) }
+    ensures row { HasCleanDisk (state S.Store conn.new) → QueriesRow schema_sql [] (state S.Store conn.old) (state S.Store conn.new) result }
+    ensures survives { Survives (state S.Store conn.old) (state S.Store conn.new) (CommitsShowing schema_sql [] (state S.Store conn.old)) }
 {
     conn.query_row("SELECT schema FROM meta", &[])
 }

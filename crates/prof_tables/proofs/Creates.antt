@@ -6,49 +6,49 @@ use Rattle.sqlite.specs.State.{State, ExecutesInside}
 use Rattle.sql_tables.specs.Contents.{Contain, no_rows}
 use Rattle.sql_tables.specs.States.{Begins, Works}
 use Rattle.sql_tables.proofs.Creates.{creates}
-use Rattle.prof_tables.specs.Schema.{empty_schema, schema_one, meta_text, meta_table, run_text, run_table, run_event_text, run_event_table, derived_text, derived_table, coef_text, coef_table, name_text, name_table, cell_text, cell_table, arc_text, arc_table, stack_text, stack_table, grp_text, grp_table, member_text, member_table, schema_to_meta, schema_to_run, schema_to_run_event, schema_to_derived, schema_to_coef, schema_to_name, schema_to_cell, schema_to_arc, schema_to_stack, schema_to_grp}
+use Rattle.prof_tables.specs.Schema.{empty_schema, schema_one, meta_sql, meta_table, run_sql, run_table, run_event_sql, run_event_table, derived_sql, derived_table, coef_sql, coef_table, name_sql, name_table, cell_sql, cell_table, arc_sql, arc_table, stack_sql, stack_table, grp_sql, grp_table, member_sql, member_table, schema_to_meta, schema_to_run, schema_to_run_event, schema_to_derived, schema_to_coef, schema_to_name, schema_to_cell, schema_to_arc, schema_to_stack, schema_to_grp}
 use Rattle.prof_tables.proofs.Defines.{meta_is, run_is, run_event_is, derived_is, coef_is, name_is, cell_is, arc_is, stack_is, grp_is, member_is}
 
-pub makes_meta : (old new : State) (count : ℕ) → Begins empty_schema old → ExecutesInside 0 meta_text [] old new (Ok count) → Works schema_to_meta (Contain schema_to_meta (no_rows schema_to_meta.tables)) new
+pub makes_meta : (old new : State) (count : ℕ) → Begins empty_schema old → ExecutesInside 0 meta_sql [] old new (Ok count) → Works schema_to_meta (Contain schema_to_meta (no_rows schema_to_meta.tables)) new
 unfolding understood everything
-makes_meta = creates empty_schema meta_text meta_table refl refl (refl, refl) meta_is refl
+makes_meta = creates empty_schema meta_sql meta_table refl refl (refl, refl) meta_is refl
 
-pub makes_run : (old new : State) (count : ℕ) → Begins schema_to_meta old → ExecutesInside 0 run_text [] old new (Ok count) → Works schema_to_run (Contain schema_to_run (no_rows schema_to_run.tables)) new
+pub makes_run : (old new : State) (count : ℕ) → Begins schema_to_meta old → ExecutesInside 0 run_sql [] old new (Ok count) → Works schema_to_run (Contain schema_to_run (no_rows schema_to_run.tables)) new
 unfolding understood everything
-makes_run = creates schema_to_meta run_text run_table refl refl (refl, refl) run_is refl
+makes_run = creates schema_to_meta run_sql run_table refl refl (refl, refl) run_is refl
 
-pub makes_run_event : (old new : State) (count : ℕ) → Begins schema_to_run old → ExecutesInside 0 run_event_text [] old new (Ok count) → Works schema_to_run_event (Contain schema_to_run_event (no_rows schema_to_run_event.tables)) new
+pub makes_run_event : (old new : State) (count : ℕ) → Begins schema_to_run old → ExecutesInside 0 run_event_sql [] old new (Ok count) → Works schema_to_run_event (Contain schema_to_run_event (no_rows schema_to_run_event.tables)) new
 unfolding understood everything
-makes_run_event = creates schema_to_run run_event_text run_event_table refl refl (refl, refl) run_event_is refl
+makes_run_event = creates schema_to_run run_event_sql run_event_table refl refl (refl, refl) run_event_is refl
 
-pub makes_derived : (old new : State) (count : ℕ) → Begins schema_to_run_event old → ExecutesInside 0 derived_text [] old new (Ok count) → Works schema_to_derived (Contain schema_to_derived (no_rows schema_to_derived.tables)) new
+pub makes_derived : (old new : State) (count : ℕ) → Begins schema_to_run_event old → ExecutesInside 0 derived_sql [] old new (Ok count) → Works schema_to_derived (Contain schema_to_derived (no_rows schema_to_derived.tables)) new
 unfolding understood everything
-makes_derived = creates schema_to_run_event derived_text derived_table refl refl (refl, refl) derived_is refl
+makes_derived = creates schema_to_run_event derived_sql derived_table refl refl (refl, refl) derived_is refl
 
-pub makes_coef : (old new : State) (count : ℕ) → Begins schema_to_derived old → ExecutesInside 0 coef_text [] old new (Ok count) → Works schema_to_coef (Contain schema_to_coef (no_rows schema_to_coef.tables)) new
+pub makes_coef : (old new : State) (count : ℕ) → Begins schema_to_derived old → ExecutesInside 0 coef_sql [] old new (Ok count) → Works schema_to_coef (Contain schema_to_coef (no_rows schema_to_coef.tables)) new
 unfolding understood everything
-makes_coef = creates schema_to_derived coef_text coef_table refl refl (refl, refl) coef_is refl
+makes_coef = creates schema_to_derived coef_sql coef_table refl refl (refl, refl) coef_is refl
 
-pub makes_name : (old new : State) (count : ℕ) → Begins schema_to_coef old → ExecutesInside 0 name_text [] old new (Ok count) → Works schema_to_name (Contain schema_to_name (no_rows schema_to_name.tables)) new
+pub makes_name : (old new : State) (count : ℕ) → Begins schema_to_coef old → ExecutesInside 0 name_sql [] old new (Ok count) → Works schema_to_name (Contain schema_to_name (no_rows schema_to_name.tables)) new
 unfolding understood everything
-makes_name = creates schema_to_coef name_text name_table refl refl (refl, refl) name_is refl
+makes_name = creates schema_to_coef name_sql name_table refl refl (refl, refl) name_is refl
 
-pub makes_cell : (old new : State) (count : ℕ) → Begins schema_to_name old → ExecutesInside 0 cell_text [] old new (Ok count) → Works schema_to_cell (Contain schema_to_cell (no_rows schema_to_cell.tables)) new
+pub makes_cell : (old new : State) (count : ℕ) → Begins schema_to_name old → ExecutesInside 0 cell_sql [] old new (Ok count) → Works schema_to_cell (Contain schema_to_cell (no_rows schema_to_cell.tables)) new
 unfolding understood everything
-makes_cell = creates schema_to_name cell_text cell_table refl refl (refl, refl) cell_is refl
+makes_cell = creates schema_to_name cell_sql cell_table refl refl (refl, refl) cell_is refl
 
-pub makes_arc : (old new : State) (count : ℕ) → Begins schema_to_cell old → ExecutesInside 0 arc_text [] old new (Ok count) → Works schema_to_arc (Contain schema_to_arc (no_rows schema_to_arc.tables)) new
+pub makes_arc : (old new : State) (count : ℕ) → Begins schema_to_cell old → ExecutesInside 0 arc_sql [] old new (Ok count) → Works schema_to_arc (Contain schema_to_arc (no_rows schema_to_arc.tables)) new
 unfolding understood everything
-makes_arc = creates schema_to_cell arc_text arc_table refl refl (refl, refl) arc_is refl
+makes_arc = creates schema_to_cell arc_sql arc_table refl refl (refl, refl) arc_is refl
 
-pub makes_stack : (old new : State) (count : ℕ) → Begins schema_to_arc old → ExecutesInside 0 stack_text [] old new (Ok count) → Works schema_to_stack (Contain schema_to_stack (no_rows schema_to_stack.tables)) new
+pub makes_stack : (old new : State) (count : ℕ) → Begins schema_to_arc old → ExecutesInside 0 stack_sql [] old new (Ok count) → Works schema_to_stack (Contain schema_to_stack (no_rows schema_to_stack.tables)) new
 unfolding understood everything
-makes_stack = creates schema_to_arc stack_text stack_table refl refl (refl, refl) stack_is refl
+makes_stack = creates schema_to_arc stack_sql stack_table refl refl (refl, refl) stack_is refl
 
-pub makes_grp : (old new : State) (count : ℕ) → Begins schema_to_stack old → ExecutesInside 0 grp_text [] old new (Ok count) → Works schema_to_grp (Contain schema_to_grp (no_rows schema_to_grp.tables)) new
+pub makes_grp : (old new : State) (count : ℕ) → Begins schema_to_stack old → ExecutesInside 0 grp_sql [] old new (Ok count) → Works schema_to_grp (Contain schema_to_grp (no_rows schema_to_grp.tables)) new
 unfolding understood everything
-makes_grp = creates schema_to_stack grp_text grp_table refl refl (refl, refl) grp_is refl
+makes_grp = creates schema_to_stack grp_sql grp_table refl refl (refl, refl) grp_is refl
 
-pub makes_member : (old new : State) (count : ℕ) → Begins schema_to_grp old → ExecutesInside 0 member_text [] old new (Ok count) → Works schema_one (Contain schema_one (no_rows schema_one.tables)) new
+pub makes_member : (old new : State) (count : ℕ) → Begins schema_to_grp old → ExecutesInside 0 member_sql [] old new (Ok count) → Works schema_one (Contain schema_one (no_rows schema_one.tables)) new
 unfolding understood everything
-makes_member = creates schema_to_grp member_text member_table refl refl (refl, refl) member_is refl
+makes_member = creates schema_to_grp member_sql member_table refl refl (refl, refl) member_is refl

@@ -20,31 +20,31 @@ use Rattle.sql_tables.proofs.Rows.{map-append}
 use Rattle.sql_tables.proofs.Statements.{plain_mode}
 use Rattle.prof_tables.specs.Schema.{schema_one, cell_at, arc_at, stack_at}
 use Rattle.prof_tables.specs.Tables.{Tables, Holds, contents_of, CellLine, ArcLine, StackLine, cell_columns, arc_columns, stack_columns}
-use Rattle.prof_tables.specs.ManyTexts.{put_cells_text, put_arcs_text, put_stacks_text}
+use Rattle.prof_tables.specs.ManyTexts.{put_cells_sql, put_arcs_sql, put_stacks_sql}
 use Rattle.prof_tables.specs.Changes.{with_cells, with_arcs, with_stacks}
 use Rattle.prof_tables.proofs.Values.{cast_null, cast_number}
 
-pub put_cells_means : command_of (understood schema_one put_cells_text) ≡ Insert 6 (Values (rows_from 7 0 50) 8)
+pub put_cells_means : command_of (understood schema_one put_cells_sql) ≡ Insert 6 (Values (rows_from 7 0 50) 8)
 unfolding understood everything
 put_cells_means = refl
 
-pub put_cells_plain : IsPlain (understood schema_one put_cells_text)
+pub put_cells_plain : IsPlain (understood schema_one put_cells_sql)
 unfolding understood everything
 put_cells_plain = (refl, refl)
 
-pub put_arcs_means : command_of (understood schema_one put_arcs_text) ≡ Insert 7 (Values (rows_from 10 0 50) 11)
+pub put_arcs_means : command_of (understood schema_one put_arcs_sql) ≡ Insert 7 (Values (rows_from 10 0 50) 11)
 unfolding understood everything
 put_arcs_means = refl
 
-pub put_arcs_plain : IsPlain (understood schema_one put_arcs_text)
+pub put_arcs_plain : IsPlain (understood schema_one put_arcs_sql)
 unfolding understood everything
 put_arcs_plain = (refl, refl)
 
-pub put_stacks_means : command_of (understood schema_one put_stacks_text) ≡ Insert 8 (Values (rows_from 3 0 50) 4)
+pub put_stacks_means : command_of (understood schema_one put_stacks_sql) ≡ Insert 8 (Values (rows_from 3 0 50) 4)
 unfolding understood everything
 put_stacks_means = refl
 
-pub put_stacks_plain : IsPlain (understood schema_one put_stacks_text)
+pub put_stacks_plain : IsPlain (understood schema_one put_stacks_sql)
 unfolding understood everything
 put_stacks_plain = (refl, refl)
 

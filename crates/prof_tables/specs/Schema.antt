@@ -21,8 +21,8 @@ column_of name kind not_null = record { name = name; kind = kind; is_strict = tr
 abbrev pub to : List ℕ → ℕ → Reference
 to parent place = record { columns = place ∷ []; parent = parent; parent_columns = []; on_delete = Cascade; on_update = NoAction; is_deferred = false }
 
-abbrev pub meta_text : List ℕ
-meta_text = codes "CREATE TABLE meta (id INTEGER PRIMARY KEY CHECK (id = 1), schema INTEGER NOT NULL, next_run INTEGER NOT NULL) STRICT"
+abbrev pub meta_sql : List ℕ
+meta_sql = codes "CREATE TABLE meta (id INTEGER PRIMARY KEY CHECK (id = 1), schema INTEGER NOT NULL, next_run INTEGER NOT NULL) STRICT"
 
 abbrev pub meta_table : Table
 meta_table = record {
@@ -40,8 +40,8 @@ meta_table = record {
   is_counted = false;
 }
 
-abbrev pub run_text : List ℕ
-run_text = codes "CREATE TABLE run (run INTEGER PRIMARY KEY, kind INTEGER NOT NULL, digest BLOB NOT NULL UNIQUE, label TEXT NOT NULL, call_count INTEGER NOT NULL) STRICT"
+abbrev pub run_sql : List ℕ
+run_sql = codes "CREATE TABLE run (run INTEGER PRIMARY KEY, kind INTEGER NOT NULL, digest BLOB NOT NULL UNIQUE, label TEXT NOT NULL, call_count INTEGER NOT NULL) STRICT"
 
 abbrev pub run_table : Table
 run_table = record {
@@ -59,8 +59,8 @@ run_table = record {
   is_counted = false;
 }
 
-abbrev pub run_event_text : List ℕ
-run_event_text = codes "CREATE TABLE run_event (run INTEGER NOT NULL REFERENCES run ON DELETE CASCADE, pos INTEGER NOT NULL, name BLOB NOT NULL, self_cost INTEGER NOT NULL, call_cost INTEGER NOT NULL, stated TEXT, PRIMARY KEY (run, pos), UNIQUE (run, name)) STRICT"
+abbrev pub run_event_sql : List ℕ
+run_event_sql = codes "CREATE TABLE run_event (run INTEGER NOT NULL REFERENCES run ON DELETE CASCADE, pos INTEGER NOT NULL, name BLOB NOT NULL, self_cost INTEGER NOT NULL, call_cost INTEGER NOT NULL, stated TEXT, PRIMARY KEY (run, pos), UNIQUE (run, name)) STRICT"
 
 abbrev pub run_event_table : Table
 run_event_table = record {
@@ -78,8 +78,8 @@ run_event_table = record {
   is_counted = false;
 }
 
-abbrev pub derived_text : List ℕ
-derived_text = codes "CREATE TABLE derived (run INTEGER NOT NULL REFERENCES run ON DELETE CASCADE, pos INTEGER NOT NULL, name BLOB NOT NULL, PRIMARY KEY (run, pos), UNIQUE (run, name)) STRICT"
+abbrev pub derived_sql : List ℕ
+derived_sql = codes "CREATE TABLE derived (run INTEGER NOT NULL REFERENCES run ON DELETE CASCADE, pos INTEGER NOT NULL, name BLOB NOT NULL, PRIMARY KEY (run, pos), UNIQUE (run, name)) STRICT"
 
 abbrev pub derived_table : Table
 derived_table = record {
@@ -97,8 +97,8 @@ derived_table = record {
   is_counted = false;
 }
 
-abbrev pub coef_text : List ℕ
-coef_text = codes "CREATE TABLE coef (run INTEGER NOT NULL REFERENCES run ON DELETE CASCADE, pos INTEGER NOT NULL, event INTEGER NOT NULL, n INTEGER NOT NULL, PRIMARY KEY (run, pos, event)) STRICT"
+abbrev pub coef_sql : List ℕ
+coef_sql = codes "CREATE TABLE coef (run INTEGER NOT NULL REFERENCES run ON DELETE CASCADE, pos INTEGER NOT NULL, event INTEGER NOT NULL, n INTEGER NOT NULL, PRIMARY KEY (run, pos, event)) STRICT"
 
 abbrev pub coef_table : Table
 coef_table = record {
@@ -116,8 +116,8 @@ coef_table = record {
   is_counted = false;
 }
 
-abbrev pub name_text : List ℕ
-name_text = codes "CREATE TABLE name (id INTEGER PRIMARY KEY, bytes BLOB NOT NULL UNIQUE) STRICT"
+abbrev pub name_sql : List ℕ
+name_sql = codes "CREATE TABLE name (id INTEGER PRIMARY KEY, bytes BLOB NOT NULL UNIQUE) STRICT"
 
 abbrev pub name_table : Table
 name_table = record {
@@ -135,8 +135,8 @@ name_table = record {
   is_counted = false;
 }
 
-abbrev pub cell_text : List ℕ
-cell_text = codes "CREATE TABLE cell (run INTEGER NOT NULL REFERENCES run ON DELETE CASCADE, ob INTEGER NOT NULL, fl INTEGER NOT NULL, fn INTEGER NOT NULL, line INTEGER NOT NULL, event INTEGER NOT NULL, cost INTEGER NOT NULL, PRIMARY KEY (run, ob, fl, fn, line, event)) STRICT"
+abbrev pub cell_sql : List ℕ
+cell_sql = codes "CREATE TABLE cell (run INTEGER NOT NULL REFERENCES run ON DELETE CASCADE, ob INTEGER NOT NULL, fl INTEGER NOT NULL, fn INTEGER NOT NULL, line INTEGER NOT NULL, event INTEGER NOT NULL, cost INTEGER NOT NULL, PRIMARY KEY (run, ob, fl, fn, line, event)) STRICT"
 
 abbrev pub cell_table : Table
 cell_table = record {
@@ -154,8 +154,8 @@ cell_table = record {
   is_counted = false;
 }
 
-abbrev pub arc_text : List ℕ
-arc_text = codes "CREATE TABLE arc (run INTEGER NOT NULL REFERENCES run ON DELETE CASCADE, ob INTEGER NOT NULL, fl INTEGER NOT NULL, fn INTEGER NOT NULL, line INTEGER NOT NULL, cob INTEGER NOT NULL, cfl INTEGER NOT NULL, cfn INTEGER NOT NULL, part INTEGER NOT NULL, n INTEGER NOT NULL, PRIMARY KEY (run, ob, fl, fn, line, cob, cfl, cfn, part)) STRICT"
+abbrev pub arc_sql : List ℕ
+arc_sql = codes "CREATE TABLE arc (run INTEGER NOT NULL REFERENCES run ON DELETE CASCADE, ob INTEGER NOT NULL, fl INTEGER NOT NULL, fn INTEGER NOT NULL, line INTEGER NOT NULL, cob INTEGER NOT NULL, cfl INTEGER NOT NULL, cfn INTEGER NOT NULL, part INTEGER NOT NULL, n INTEGER NOT NULL, PRIMARY KEY (run, ob, fl, fn, line, cob, cfl, cfn, part)) STRICT"
 
 abbrev pub arc_table : Table
 arc_table = record {
@@ -173,8 +173,8 @@ arc_table = record {
   is_counted = false;
 }
 
-abbrev pub stack_text : List ℕ
-stack_text = codes "CREATE TABLE stack (run INTEGER NOT NULL REFERENCES run ON DELETE CASCADE, frames BLOB NOT NULL, n INTEGER NOT NULL, PRIMARY KEY (run, frames)) STRICT"
+abbrev pub stack_sql : List ℕ
+stack_sql = codes "CREATE TABLE stack (run INTEGER NOT NULL REFERENCES run ON DELETE CASCADE, frames BLOB NOT NULL, n INTEGER NOT NULL, PRIMARY KEY (run, frames)) STRICT"
 
 abbrev pub stack_table : Table
 stack_table = record {
@@ -192,8 +192,8 @@ stack_table = record {
   is_counted = false;
 }
 
-abbrev pub grp_text : List ℕ
-grp_text = codes "CREATE TABLE grp (name TEXT NOT NULL PRIMARY KEY, baseline INTEGER REFERENCES run ON DELETE SET NULL) STRICT"
+abbrev pub grp_sql : List ℕ
+grp_sql = codes "CREATE TABLE grp (name TEXT NOT NULL PRIMARY KEY, baseline INTEGER REFERENCES run ON DELETE SET NULL) STRICT"
 
 abbrev pub grp_table : Table
 grp_table = record {
@@ -211,8 +211,8 @@ grp_table = record {
   is_counted = false;
 }
 
-abbrev pub member_text : List ℕ
-member_text = codes "CREATE TABLE member (grp TEXT NOT NULL REFERENCES grp ON DELETE CASCADE, run INTEGER NOT NULL REFERENCES run ON DELETE CASCADE, PRIMARY KEY (grp, run)) STRICT"
+abbrev pub member_sql : List ℕ
+member_sql = codes "CREATE TABLE member (grp TEXT NOT NULL REFERENCES grp ON DELETE CASCADE, run INTEGER NOT NULL REFERENCES run ON DELETE CASCADE, PRIMARY KEY (grp, run)) STRICT"
 
 abbrev pub member_table : Table
 member_table = record {

@@ -1,7 +1,7 @@
 -- What the statements on a run's own line and on the next number make of the tables.
 use Rattle.std.proofs.Common.{[], ◌∷◌, ℕ, pos}
 use Rattle.sqlite_value.specs.declared.value.Value.TheVariants.{Int, Text, Blob}
-use Rattle.prof_tables.specs.Texts.{raise_text, put_run_text}
+use Rattle.prof_tables.specs.Texts.{raise_sql, put_run_sql}
 use Rattle.prof_tables.specs.Changes.{with_next, with_run}
 use Rattle.prof_tables.specs.Tables.{RunLine}
 use Rattle.prof_tables.proofs.Groups.{raises}
@@ -10,8 +10,8 @@ use Rattle.prof_tables.proofs.Rows.{puts_run}
 use Rattle.store_columns.specs.Steps.{IsAbove, IsNext}
 use Rattle.store_columns.specs.Within.{TextMakes}
 
-pub next_raised : (next : ℕ) → TextMakes raise_text (Int (pos next) ∷ []) (IsAbove next) (with_next next)
+pub next_raised : (next : ℕ) → TextMakes raise_sql (Int (pos next) ∷ []) (IsAbove next) (with_next next)
 next_raised next = record { command = _; means = raise_means; plain = raise_plain; writes = tt; effect = λ t is limit trees text tally after was sound. raises t limit trees text tally after was sound next is }
 
-pub run_puts : (r : RunLine) → TextMakes put_run_text (Int (pos r.number) ∷ Int (pos r.kind) ∷ Blob r.digest ∷ Text r.label ∷ Int (pos r.call_count) ∷ []) (IsNext r.number) (with_run r)
+pub run_puts : (r : RunLine) → TextMakes put_run_sql (Int (pos r.number) ∷ Int (pos r.kind) ∷ Blob r.digest ∷ Text r.label ∷ Int (pos r.call_count) ∷ []) (IsNext r.number) (with_run r)
 run_puts r = record { command = _; means = put_run_means; plain = put_run_plain; writes = tt; effect = λ t is limit trees text tally after was sound. puts_run t limit trees text tally after was sound r is.0 is.1 }

@@ -4,8 +4,8 @@ use Rattle.std.specs.Bool.{⊤}
 use Rattle.std.proofs.lemmas.List.{append_assoc}
 use Rattle.sqlite_value.specs.declared.value.Value.TheVariants.{Blob}
 use Rattle.sql_tables.proofs.Many.{all_values}
-use Rattle.prof_tables.specs.Texts.{put_event_text, put_derived_text, put_coef_text, put_name_text, put_cell_text, put_arc_text, put_stack_text}
-use Rattle.prof_tables.specs.ManyTexts.{put_cells_text, put_arcs_text, put_stacks_text}
+use Rattle.prof_tables.specs.Texts.{put_event_sql, put_derived_sql, put_coef_sql, put_name_sql, put_cell_sql, put_arc_sql, put_stack_sql}
+use Rattle.prof_tables.specs.ManyTexts.{put_cells_sql, put_arcs_sql, put_stacks_sql}
 use Rattle.prof_tables.specs.Changes.{with_events, with_derived, with_coefs, with_cells, with_arcs, with_stacks, with_new_name}
 use Rattle.prof_tables.specs.Tables.{Tables, EventLine, DerivedLine, CoefLine, CellLine, ArcLine, StackLine, event_columns, derived_columns, coef_columns, cell_columns, arc_columns, stack_columns}
 use Rattle.prof_tables.proofs.Means.{put_event_means, put_event_plain, put_derived_means, put_derived_plain, put_coef_means, put_coef_plain, put_cell_means, put_cell_plain, put_arc_means, put_arc_plain, put_name_means, put_name_plain, put_stack_means, put_stack_plain}
@@ -19,38 +19,38 @@ mapped_length columns (x ∷ xs) = ap suc (mapped_length columns xs)
 
 -- ---- one line
 
-pub event_puts : (line : EventLine) → TextMakes put_event_text (event_columns line) (λ _. ⊤) (with_events (line ∷ []))
+pub event_puts : (line : EventLine) → TextMakes put_event_sql (event_columns line) (λ _. ⊤) (with_events (line ∷ []))
 event_puts line = record { command = _; means = put_event_means; plain = put_event_plain; writes = tt; effect = λ t _ limit trees text tally after was sound. puts_event t limit trees text tally after was sound line }
 
-pub derived_puts : (line : DerivedLine) → TextMakes put_derived_text (derived_columns line) (λ _. ⊤) (with_derived (line ∷ []))
+pub derived_puts : (line : DerivedLine) → TextMakes put_derived_sql (derived_columns line) (λ _. ⊤) (with_derived (line ∷ []))
 derived_puts line = record { command = _; means = put_derived_means; plain = put_derived_plain; writes = tt; effect = λ t _ limit trees text tally after was sound. puts_derived t limit trees text tally after was sound line }
 
-pub coef_puts : (line : CoefLine) → TextMakes put_coef_text (coef_columns line) (λ _. ⊤) (with_coefs (line ∷ []))
+pub coef_puts : (line : CoefLine) → TextMakes put_coef_sql (coef_columns line) (λ _. ⊤) (with_coefs (line ∷ []))
 coef_puts line = record { command = _; means = put_coef_means; plain = put_coef_plain; writes = tt; effect = λ t _ limit trees text tally after was sound. puts_coef t limit trees text tally after was sound line }
 
-pub cell_puts : (line : CellLine) → TextMakes put_cell_text (cell_columns line) (λ _. ⊤) (with_cells (line ∷ []))
+pub cell_puts : (line : CellLine) → TextMakes put_cell_sql (cell_columns line) (λ _. ⊤) (with_cells (line ∷ []))
 cell_puts line = record { command = _; means = put_cell_means; plain = put_cell_plain; writes = tt; effect = λ t _ limit trees text tally after was sound. puts_cell t limit trees text tally after was sound line }
 
-pub arc_puts : (line : ArcLine) → TextMakes put_arc_text (arc_columns line) (λ _. ⊤) (with_arcs (line ∷ []))
+pub arc_puts : (line : ArcLine) → TextMakes put_arc_sql (arc_columns line) (λ _. ⊤) (with_arcs (line ∷ []))
 arc_puts line = record { command = _; means = put_arc_means; plain = put_arc_plain; writes = tt; effect = λ t _ limit trees text tally after was sound. puts_arc t limit trees text tally after was sound line }
 
-pub stack_puts : (line : StackLine) → TextMakes put_stack_text (stack_columns line) (λ _. ⊤) (with_stacks (line ∷ []))
+pub stack_puts : (line : StackLine) → TextMakes put_stack_sql (stack_columns line) (λ _. ⊤) (with_stacks (line ∷ []))
 stack_puts line = record { command = _; means = put_stack_means; plain = put_stack_plain; writes = tt; effect = λ t _ limit trees text tally after was sound. puts_stack t limit trees text tally after was sound line }
 
 -- ---- a name
 
-pub name_puts : (name : List ℕ) → TextMakes put_name_text (Blob name ∷ []) (λ _. ⊤) (with_new_name name)
+pub name_puts : (name : List ℕ) → TextMakes put_name_sql (Blob name ∷ []) (λ _. ⊤) (with_new_name name)
 name_puts name = record { command = _; means = put_name_means; plain = put_name_plain; writes = tt; effect = λ t _ limit trees text tally after was sound. puts_name t limit trees text tally after was sound name }
 
 -- ---- fifty
 
-pub cells_put : (lines : List CellLine) → length lines ≡ 50 → TextMakes put_cells_text (all_values (map cell_columns lines)) (λ _. ⊤) (with_cells lines)
+pub cells_put : (lines : List CellLine) → length lines ≡ 50 → TextMakes put_cells_sql (all_values (map cell_columns lines)) (λ _. ⊤) (with_cells lines)
 cells_put lines fifty = record { command = _; means = put_cells_means; plain = put_cells_plain; writes = tt; effect = λ t _ limit trees text tally after was sound. puts_cells t limit trees text tally after was sound lines (mapped_length cell_columns lines ∙ fifty) }
 
-pub arcs_put : (lines : List ArcLine) → length lines ≡ 50 → TextMakes put_arcs_text (all_values (map arc_columns lines)) (λ _. ⊤) (with_arcs lines)
+pub arcs_put : (lines : List ArcLine) → length lines ≡ 50 → TextMakes put_arcs_sql (all_values (map arc_columns lines)) (λ _. ⊤) (with_arcs lines)
 arcs_put lines fifty = record { command = _; means = put_arcs_means; plain = put_arcs_plain; writes = tt; effect = λ t _ limit trees text tally after was sound. puts_arcs t limit trees text tally after was sound lines (mapped_length arc_columns lines ∙ fifty) }
 
-pub stacks_put : (lines : List StackLine) → length lines ≡ 50 → TextMakes put_stacks_text (all_values (map stack_columns lines)) (λ _. ⊤) (with_stacks lines)
+pub stacks_put : (lines : List StackLine) → length lines ≡ 50 → TextMakes put_stacks_sql (all_values (map stack_columns lines)) (λ _. ⊤) (with_stacks lines)
 stacks_put lines fifty = record { command = _; means = put_stacks_means; plain = put_stacks_plain; writes = tt; effect = λ t _ limit trees text tally after was sound. puts_stacks t limit trees text tally after was sound lines (mapped_length stack_columns lines ∙ fifty) }
 
 -- ---- no lines, and lines behind lines

@@ -10,7 +10,7 @@ use store_columns::{CoefLine, DerivedLine, EventLine};
 impl Line for EventLine<'_> {
     ghost use Rattle.prof_tables.specs.Changes.{with_events};
     ghost use Rattle.prof_tables.specs.Tables as tables;
-    ghost use Rattle.prof_tables.specs.Texts.{put_event_text};
+    ghost use Rattle.prof_tables.specs.Texts.{put_event_sql};
     ghost use Rattle.run_rows.specs.LinePuts.{event_puts, no_events, more_events};
     ghost use Rattle.store_columns.specs.Lines.{event_line};
 
@@ -22,10 +22,10 @@ impl Line for EventLine<'_> {
 
     ghost with_lines = { with_events };
 
-    ghost text_of_one = { put_event_text };
+    ghost text_of_one = { put_event_sql };
 
     fn insert_sql() -> &'static str
-        ensures { result.now ≡ put_event_text }
+        ensures { result.now ≡ put_event_sql }
     {
         "INSERT INTO run_event (run, pos, name, self_cost, call_cost, stated) VALUES (?1, ?2, ?3, ?4, ?5, ?6)"
     }
@@ -54,7 +54,7 @@ impl Line for EventLine<'_> {
 impl Line for DerivedLine<'_> {
     ghost use Rattle.prof_tables.specs.Changes.{with_derived};
     ghost use Rattle.prof_tables.specs.Tables as tables;
-    ghost use Rattle.prof_tables.specs.Texts.{put_derived_text};
+    ghost use Rattle.prof_tables.specs.Texts.{put_derived_sql};
     ghost use Rattle.run_rows.specs.LinePuts.{derived_puts, no_derived, more_derived};
     ghost use Rattle.store_columns.specs.Lines.{derived_line};
 
@@ -66,10 +66,10 @@ impl Line for DerivedLine<'_> {
 
     ghost with_lines = { with_derived };
 
-    ghost text_of_one = { put_derived_text };
+    ghost text_of_one = { put_derived_sql };
 
     fn insert_sql() -> &'static str
-        ensures { result.now ≡ put_derived_text }
+        ensures { result.now ≡ put_derived_sql }
     {
         "INSERT INTO derived (run, pos, name) VALUES (?1, ?2, ?3)"
     }
@@ -91,7 +91,7 @@ impl Line for DerivedLine<'_> {
 impl Line for CoefLine {
     ghost use Rattle.prof_tables.specs.Changes.{with_coefs};
     ghost use Rattle.prof_tables.specs.Tables as tables;
-    ghost use Rattle.prof_tables.specs.Texts.{put_coef_text};
+    ghost use Rattle.prof_tables.specs.Texts.{put_coef_sql};
     ghost use Rattle.run_rows.specs.LinePuts.{coef_puts, no_coefs, more_coefs};
     ghost use Rattle.store_columns.specs.Lines.{coef_line};
 
@@ -103,7 +103,7 @@ impl Line for CoefLine {
 
     ghost with_lines = { with_coefs };
 
-    ghost text_of_one = { put_coef_text };
+    ghost text_of_one = { put_coef_sql };
 
     fn insert_sql() -> &'static str {
         "INSERT INTO coef (run, pos, event, n) VALUES (?1, ?2, ?3, ?4)"

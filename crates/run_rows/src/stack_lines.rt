@@ -10,7 +10,7 @@ use store_columns::StackLine;
 impl Line for StackLine<'_> {
     ghost use Rattle.prof_tables.specs.Changes.{with_stacks};
     ghost use Rattle.prof_tables.specs.Tables as tables;
-    ghost use Rattle.prof_tables.specs.Texts.{put_stack_text};
+    ghost use Rattle.prof_tables.specs.Texts.{put_stack_sql};
     ghost use Rattle.run_rows.specs.LinePuts.{stack_puts, no_stacks, more_stacks};
     ghost use Rattle.store_columns.specs.Lines.{stack_line};
 
@@ -22,10 +22,10 @@ impl Line for StackLine<'_> {
 
     ghost with_lines = { with_stacks };
 
-    ghost text_of_one = { put_stack_text };
+    ghost text_of_one = { put_stack_sql };
 
     fn insert_sql() -> &'static str
-        ensures { result.now ≡ put_stack_text }
+        ensures { result.now ≡ put_stack_sql }
     {
         "INSERT INTO stack (run, frames, n) VALUES (?1, ?2, ?3)"
     }
@@ -45,13 +45,13 @@ impl Line for StackLine<'_> {
 }
 
 impl LineOfMany for StackLine<'_> {
-    ghost use Rattle.prof_tables.specs.ManyTexts.{put_stacks_text};
+    ghost use Rattle.prof_tables.specs.ManyTexts.{put_stacks_sql};
     ghost use Rattle.run_rows.specs.LinePuts.{stacks_put};
 
-    ghost text_of_fifty = { put_stacks_text };
+    ghost text_of_fifty = { put_stacks_sql };
 
     fn insert_fifty_sql() -> &'static str
-        ensures { result.now ≡ put_stacks_text }
+        ensures { result.now ≡ put_stacks_sql }
     {
         "INSERT INTO stack (run, frames, n) VALUES (?1, ?2, ?3), (?4, ?5, ?6), (?7, ?8, ?9), (?10, ?11, ?12), (?13, ?14, ?15), (?16, ?17, ?18), (?19, ?20, ?21), (?22, ?23, ?24), (?25, ?26, ?27), (?28, ?29, ?30), (?31, ?32, ?33), (?34, ?35, ?36), (?37, ?38, ?39), (?40, ?41, ?42), (?43, ?44, ?45), (?46, ?47, ?48), (?49, ?50, ?51), (?52, ?53, ?54), (?55, ?56, ?57), (?58, ?59, ?60), (?61, ?62, ?63), (?64, ?65, ?66), (?67, ?68, ?69), (?70, ?71, ?72), (?73, ?74, ?75), (?76, ?77, ?78), (?79, ?80, ?81), (?82, ?83, ?84), (?85, ?86, ?87), (?88, ?89, ?90), (?91, ?92, ?93), (?94, ?95, ?96), (?97, ?98, ?99), (?100, ?101, ?102), (?103, ?104, ?105), (?106, ?107, ?108), (?109, ?110, ?111), (?112, ?113, ?114), (?115, ?116, ?117), (?118, ?119, ?120), (?121, ?122, ?123), (?124, ?125, ?126), (?127, ?128, ?129), (?130, ?131, ?132), (?133, ?134, ?135), (?136, ?137, ?138), (?139, ?140, ?141), (?142, ?143, ?144), (?145, ?146, ?147), (?148, ?149, ?150)"
     }

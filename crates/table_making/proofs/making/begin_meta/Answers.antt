@@ -4,7 +4,7 @@ use Rattle.sql_tables.specs.States.{Works}
 use Rattle.sql_tables.proofs.Statements.{inside_done}
 use Rattle.prof_tables.specs.Schema.{schema_one}
 use Rattle.prof_tables.specs.Tables.{Holds, new_tables}
-use Rattle.prof_tables.specs.Texts.{begin_text}
+use Rattle.prof_tables.specs.Texts.{begin_sql}
 use Rattle.prof_tables.proofs.Means.{begin_means, begin_plain}
 use Rattle.prof_tables.proofs.Rows.{begins}
 use Rattle.table_making.specs.Making.{AreEmpty}
@@ -12,5 +12,5 @@ use Rattle.table_making.proofs.Parts.{statement_makes}
 use Rattle.table_making.proofs.making.begin_meta.Goals as goal
 
 pub returns : goal.returns
-returns g c = statement_makes g.S.Store begin_text (Works schema_one (AreEmpty schema_one)) (Works schema_one (Holds new_tables)) (λ s was. was.running)
-    (λ old new count was h. inside_done schema_one begin_text [] _ begin_means begin_plain tt (AreEmpty schema_one) (Holds new_tables) begins old new count was h) _ _ _ c.write_inside.ensures
+returns g c = statement_makes g.S.Store begin_sql (Works schema_one (AreEmpty schema_one)) (Works schema_one (Holds new_tables)) (λ s was. was.running)
+    (λ old new count was h. inside_done schema_one begin_sql [] _ begin_means begin_plain tt (AreEmpty schema_one) (Holds new_tables) begins old new count was h) _ _ _ c.write_inside.ensures

@@ -1,7 +1,7 @@
 use Rattle.std.proofs.Common.{[], ◌∷◌, pos}
 use Rattle.sqlite_value.specs.declared.value.Value.TheVariants.{Int, Text}
 use Rattle.prof_tables.specs.Tables.{Holds}
-use Rattle.prof_tables.specs.Texts.{leave_text}
+use Rattle.prof_tables.specs.Texts.{leave_sql}
 use Rattle.prof_tables.specs.Changes.{without_member}
 use Rattle.prof_tables.proofs.Means.{leave_means, leave_plain}
 use Rattle.prof_tables.proofs.Groups.{leaves}
@@ -15,7 +15,7 @@ returns g c = record {
   changes = λ clean.
       let name = c.args.name.now in
       let run = c.args.run in
-      write_changes schema_one leave_text (Text name ∷ Int (pos run) ∷ []) _ leave_means leave_plain tt Holds (λ t. Holds (without_member name run t)) (λ t limit trees text tally after was sound. leaves t limit trees text tally after was sound name run) _ _ clean (rw (c.params-to_sql.ensures, c.params-to_sql-2.ensures) at c.write.ensures.survives) _ leave_writes ((rw (c.params-to_sql.ensures, c.params-to_sql-2.ensures) at c.in_ok-write.ensures.ran) clean);
+      write_changes schema_one leave_sql (Text name ∷ Int (pos run) ∷ []) _ leave_means leave_plain tt Holds (λ t. Holds (without_member name run t)) (λ t limit trees text tally after was sound. leaves t limit trees text tally after was sound name run) _ _ clean (rw (c.params-to_sql.ensures, c.params-to_sql-2.ensures) at c.write.ensures.survives) _ leave_writes ((rw (c.params-to_sql.ensures, c.params-to_sql-2.ensures) at c.in_ok-write.ensures.ran) clean);
 }
 
 pub returns-in_err-write : goal.returns-in_err-write
@@ -24,5 +24,5 @@ returns-in_err-write g c = record {
       let name = c.args.name.now in
       let run = c.args.run in
       let it = (rw (c.params-to_sql.ensures, c.params-to_sql-2.ensures) at c.in_err-write.ensures.ran) clean in
-      changed_err schema_one Holds (λ t. Holds (without_member name run t)) c.from_residual.result _ _ c.from_residual.ensures.0 (write_refused schema_one leave_text (Text name ∷ Int (pos run) ∷ []) _ leave_means leave_plain tt Holds (λ t. Holds (without_member name run t)) (λ t limit trees text tally after was sound. leaves t limit trees text tally after was sound name run) _ _ clean (rw (c.params-to_sql.ensures, c.params-to_sql-2.ensures) at c.write.ensures.survives) it.0 it.1);
+      changed_err schema_one Holds (λ t. Holds (without_member name run t)) c.from_residual.result _ _ c.from_residual.ensures.0 (write_refused schema_one leave_sql (Text name ∷ Int (pos run) ∷ []) _ leave_means leave_plain tt Holds (λ t. Holds (without_member name run t)) (λ t limit trees text tally after was sound. leaves t limit trees text tally after was sound name run) _ _ clean (rw (c.params-to_sql.ensures, c.params-to_sql-2.ensures) at c.write.ensures.survives) it.0 it.1);
 }

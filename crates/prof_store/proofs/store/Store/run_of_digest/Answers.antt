@@ -8,7 +8,7 @@ use Rattle.prof_store.specs.Shown.{shown}
 use Rattle.sql_tables.proofs.Failures.{none_there}
 use Rattle.prof_tables.proofs.Finds.{digest_found, digest_absent, no_run_of, run_of}
 use Rattle.prof_tables.specs.Schema.{schema_one}
-use Rattle.prof_tables.specs.Texts.{by_digest_text}
+use Rattle.prof_tables.specs.Texts.{by_digest_sql}
 use Rattle.prof_tables.proofs.Means.{by_digest_means, by_digest_plain}
 use Rattle.prof_store.specs.Statements.{row_or_none}
 use Rattle.sql_tables.proofs.Calls.{asked_err, asked_if}
@@ -22,9 +22,9 @@ returns-clause-told g c clean t was =
     let new = state g.S.Store c.select_first.new.conn in
     let row = rw c.params-to_sql.ensures at (c.in_ok-row.ensures.row clean) in
     if_ok_then c.number_in.result c.number_in.ensures.read (λ found is. either_found found is
-    (λ none. no_run_of t _ digest was.holds (digest_absent digest old new was.schema_is (none_there schema_one by_digest_text _ _ by_digest_means by_digest_plain (Blob digest ∷ []) old new was.schema_is (subst (λ r. QueriesRow by_digest_text (Blob digest ∷ []) old new (row_or_none r)) none row))))
+    (λ none. no_run_of t _ digest was.holds (digest_absent digest old new was.schema_is (none_there schema_one by_digest_sql _ _ by_digest_means by_digest_plain (Blob digest ∷ []) old new was.schema_is (subst (λ r. QueriesRow by_digest_sql (Blob digest ∷ []) old new (row_or_none r)) none row))))
     (λ n some.
-    let it = digest_found digest old new was.schema_is some.0 (subst (λ r. QueriesRow by_digest_text (Blob digest ∷ []) old new (row_or_none r)) some.1 row) in
+    let it = digest_found digest old new was.schema_is some.0 (subst (λ r. QueriesRow by_digest_sql (Blob digest ∷ []) old new (row_or_none r)) some.1 row) in
     run_of t _ digest n was.holds it.0 it.1 it.2 (sym it.3 ∙ some.2)))
 
 pub returns-clause-found : goal.returns-clause-found
@@ -34,9 +34,9 @@ returns-clause-found g c clean has =
     let new = state g.S.Store c.select_first.new.conn in
     let row = rw c.params-to_sql.ensures at (c.in_ok-row.ensures.row clean) in
     if_ok_then c.number_in.result c.number_in.ensures.read (λ found is. either_found found is
-    (λ none. digest_absent digest old new has (none_there schema_one by_digest_text _ _ by_digest_means by_digest_plain (Blob digest ∷ []) old new has (subst (λ r. QueriesRow by_digest_text (Blob digest ∷ []) old new (row_or_none r)) none row)))
+    (λ none. digest_absent digest old new has (none_there schema_one by_digest_sql _ _ by_digest_means by_digest_plain (Blob digest ∷ []) old new has (subst (λ r. QueriesRow by_digest_sql (Blob digest ∷ []) old new (row_or_none r)) none row)))
     (λ n some.
-    let it = digest_found digest old new has some.0 (subst (λ r. QueriesRow by_digest_text (Blob digest ∷ []) old new (row_or_none r)) some.1 row) in
+    let it = digest_found digest old new has some.0 (subst (λ r. QueriesRow by_digest_sql (Blob digest ∷ []) old new (row_or_none r)) some.1 row) in
     (it.0, it.1, it.2, sym it.3 ∙ some.2)))
 
 pub returns-clause-asks : goal.returns-clause-asks
