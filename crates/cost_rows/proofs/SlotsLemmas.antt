@@ -267,7 +267,7 @@ put-keeps es new part slot absent put q n found = elim (cases_Bool (is_eq (named
 pub leads-kept : (near : List (ℕ × ℕ)) (part : Spot) (old new : List (Spot × ℕ)) → KeepsSlots old new → LeadTo near part old → LeadTo near part new
 leads-kept near part old new keeps leads line slot found = keeps (at_line part line) slot (leads line slot found)
 
--- with one more line, or none for want of memory
+-- with one more line, or none where memory is out
 pub leads-more : {E : Type 0} (r : Result (Option ℕ) E) (near new : List (ℕ × ℕ)) (part : Spot) (slots : List (Spot × ℕ)) (slot : ℕ) → LeadTo near part slots → slot_of part slots ≡ Some slot
     → OnOk r ((q : ℕ) → lookup (is_at (nat_cmp q)) new ≡ cond (is_at (nat_cmp part.line) q) (Some slot) (lookup (is_at (nat_cmp q)) near)) → OnErr r (new ≡ near) → LeadTo new part slots
 leads-more (Err e) near new part slots slot leads is put same line n found = leads line n (ap (lookup (is_at (nat_cmp line))) (sym same) ∙ found)

@@ -35,7 +35,7 @@ was_due limits h said answer is legal = elim legal [
     form.0,
     elim form.1 [
       | inl same ↦ same
-      | inr want ↦ elim want [ inl memory ↦ absurd (refused_not answer reasons.Memory is memory) | inr store ↦ absurd (refused_not answer reasons.Store is store) ]
+      | inr failure ↦ elim failure [ inl memory ↦ absurd (refused_not answer reasons.Memory is memory) | inr store ↦ absurd (refused_not answer reasons.Store is store) ]
     ],
   )
   | inr bad ↦ absurd (refused_not answer reasons.BadName is bad.2)

@@ -152,13 +152,13 @@ expected_answer limits h (SetBaseline name n) = Some (first_or (no_group h name 
 expected_answer limits h (Ask query) = Some (expected_of_query h query)
 
 -- out of memory, or a database call that failed
-abbrev pub IsWant : Answer → Type 0
-IsWant answer = (answer ≡ Refused reasons.Memory) ⊎ (answer ≡ Refused reasons.Store)
+abbrev pub IsFailure : Answer → Type 0
+IsFailure answer = (answer ≡ Refused reasons.Memory) ⊎ (answer ≡ Refused reasons.Store)
 
--- a command in form is answered what is due, or want, at any moment; one out of form is refused as such, and no source is read
+-- a command in form is answered what is due, or a failure, at any moment; one out of form is refused as such, and no source is read
 abbrev pub IsLegal : Limits → History → Said → Answer → Type 0
 IsLegal limits h said answer =
-    (IsInForm said × ((expected_answer limits h said ≡ Some answer) ⊎ IsWant answer))
+    (IsInForm said × ((expected_answer limits h said ≡ Some answer) ⊎ IsFailure answer))
     ⊎ ((IsInForm said → ⊥) × IsUnread said × (answer ≡ Refused reasons.BadName))
 
 -- ---- lists of commands

@@ -92,7 +92,7 @@ fn a_file_has_at_most_so_many_bytes(rt: HostRuntime) -> Result<(), Fail> {
     Ok(())
 }
 
-/// A fault and a sum that does not fit are found before the want of room; what is held is no new run.
+/// A fault and a sum that does not fit are found before a lack of room; what is held is no new run.
 #[test]
 fn limits_made_small(rt: HostRuntime) -> Result<(), Fail> {
     let alloc = rt.alloc();

@@ -16,7 +16,7 @@ use Rattle.sqlite.specs.Listing.{understood}
 use Rattle.sqlite.specs.State.{State, FailsToQuery, QueriesRow, Shown, IsNotRun, store_error}
 use Rattle.sqlite.proofs.Callers.{IsPlain, command_of}
 
--- an error that blames neither the text nor a want of rows
+-- an error that blames neither the text nor a lack of rows
 abbrev pub IsFailure : Error → Type 0
 IsFailure (SqlInputError fault) = ⊥
 IsFailure QueryReturnedNoRows = ⊥

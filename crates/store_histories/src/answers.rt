@@ -1,4 +1,4 @@
-// Answers of want.
+// Answers of calls that fail.
 ghost use Rattle.std.specs.Prelude.{◌≡◌};
 ghost use Rattle.store_histories.specs.Answered.{answer_for};
 
