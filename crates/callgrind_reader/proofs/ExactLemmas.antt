@@ -12,13 +12,13 @@ use Rattle.profile_records.specs.Records.{Record}
 use Rattle.callgrind_reader.specs.Calls.{number_after, awaiting}
 use Rattle.callgrind_reader.specs.Lines.{fault_at, record_of}
 use Rattle.callgrind_reader.specs.Files.{cost_follows, call_fault, numbered_or, first_fault, unless_fault, sound_records, formulas_fault, fault_in}
-use Rattle.callgrind_reader.specs.Accept.{breaks, broken, seen, line_fault_after, fault_after, held, adds}
+use Rattle.callgrind_reader.specs.Accept.{breaks, broken, seen, line_fault_after, fault_after, handed_on, adds}
 use Rattle.callgrind_reader.proofs.SeenLemmas.{seen-later, seen-broken, seen-own, seen-none}
 
 -- after these lines and those ahead, this is the first fault, and these are the records that the lines ahead add
 pub record Exact (back ahead : List Reading) (fault : Option (Fault × ℕ)) (more : List Record) : Type 0 where
   pub fault_is : line_fault_after (onto ahead back) ≡ fault
-  pub held_is : held (onto ahead back) ≡ held back ++ more
+  pub held_is : handed_on (onto ahead back) ≡ handed_on back ++ more
 
 option_cases : {A : Type 0} (o : Option A) → (o ≡ None) ⊎ ((x : A) × (o ≡ Some x))
 option_cases None = inl refl
@@ -28,17 +28,17 @@ option_cases (Some x) = inr (x, refl)
 one_more : (r : Reading) (back ahead : List Reading) (fault : Option (Fault × ℕ)) (here more : List Record) → adds r back ≡ here → Exact (r ∷ back) ahead fault more → Exact back (r ∷ ahead) fault (here ++ more)
 one_more r back ahead fault here more e x = record {
   fault_is = x.fault_is;
-  held_is = x.held_is ∙ append_assoc (held back) (adds r back) more ∙ ap (λ xs. held back ++ (xs ++ more)) e;
+  held_is = x.held_is ∙ append_assoc (handed_on back) (adds r back) more ∙ ap (λ xs. handed_on back ++ (xs ++ more)) e;
 }
 
 -- once a fault is shown it stays, and nothing is added
 stuck : (ahead back : List Reading) (x : Fault × ℕ) → seen back ≡ Some x → Exact back ahead (Some x) []
-stuck [] back x h = record { fault_is = rw h refl; held_is = sym (append-nil (held back)) }
+stuck [] back x h = record { fault_is = rw h refl; held_is = sym (append-nil (handed_on back)) }
 stuck (r ∷ ahead) back x h = let later = seen-later r back x h in one_more r back ahead (Some x) [] [] later.1 (stuck ahead (r ∷ back) x later.0)
 
 -- a call whose cost line does not come
 waits : (ahead back : List Reading) (call : ℕ × ℕ) → seen back ≡ None → awaiting back ≡ Some call → cost_follows ahead ≡ false → Exact back ahead (Some (CallWithoutCost, call.0)) []
-waits [] back call none e h = record { fault_is = rw (none, e) refl; held_is = sym (append-nil (held back)) }
+waits [] back call none e h = record { fault_is = rw (none, e) refl; held_is = sym (append-nil (handed_on back)) }
 waits (Ok Nothing ∷ ahead) back call none e h =
     let s = seen-none (Ok Nothing) back none (rw e refl) refl in
     one_more (Ok Nothing) back ahead _ [] [] s.1 (waits ahead (Ok Nothing ∷ back) call s.0 e h)
@@ -87,7 +87,7 @@ clean r ahead back claim none ready w own =
     one_more r back ahead _ (record_of r back) _ s.1 (claim (r ∷ back) s.0 (inl refl))
 
 pub exact : (ahead : List Reading) → Claim ahead
-exact [] back none (inl e) = record { fault_is = rw (none, e) refl; held_is = sym (append-nil (held back)) }
+exact [] back none (inl e) = record { fault_is = rw (none, e) refl; held_is = sym (append-nil (handed_on back)) }
 exact [] back none (inr h) = cc
 exact (r ∷ ahead) back none ready =
     let w = whole r ahead back ready in
@@ -105,5 +105,5 @@ exact-line_fault rs = sym (exact rs [] refl (inl refl)).fault_is
 pub exact-fault : (rs : List Reading) → fault_in rs ≡ fault_after (onto rs [])
 exact-fault rs = ap (λ found. earlier_or found (formulas_fault (onto rs []))) (exact-line_fault rs)
 
-pub exact-records : (rs : List Reading) → sound_records [] rs ≡ held (onto rs [])
+pub exact-records : (rs : List Reading) → sound_records [] rs ≡ handed_on (onto rs [])
 exact-records rs = sym (exact rs [] refl (inl refl)).held_is

@@ -61,5 +61,5 @@ abbrev pub adds : Reading → List Reading → List Record
 adds r back = unless_seen (seen (r ∷ back)) (record_of r back)
 
 -- the records of the lines so far, up to the first fault that they show
-abbrev pub held : List Reading → List Record
-held = pieces.held adds
+abbrev pub handed_on : List Reading → List Record
+handed_on = pieces.handed_on adds

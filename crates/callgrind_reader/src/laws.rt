@@ -5,7 +5,7 @@ ghost use Rattle.text_pieces.specs.Backwards.{onto, IsPrefix};
 ghost use Rattle.callgrind_reader.specs.declared.reader.Reader.{Reader};
 ghost use Rattle.profile_records.specs.Records.{Record};
 ghost use Rattle.callgrind_reader.specs.Files.{first_fault, fault_in, sound_records, records_of_file};
-ghost use Rattle.callgrind_reader.specs.Accept.{line_fault_after, fault_after, held};
+ghost use Rattle.callgrind_reader.specs.Accept.{line_fault_after, fault_after, handed_on};
 ghost use Rattle.callgrind_reader.specs.Cut.{records_so_far};
 ghost use Rattle.callgrind_reader.specs.Reads.{Reads};
 
@@ -15,7 +15,7 @@ ghost use Rattle.callgrind_reader.specs.Reads.{Reads};
 pub fn looking_back_is_exact()
     ensures line_fault { (rs : List Reading) → first_fault [] rs ≡ line_fault_after (onto rs []) }
     ensures fault { (rs : List Reading) → fault_in rs ≡ fault_after (onto rs []) }
-    ensures records { (rs : List Reading) → sound_records [] rs ≡ held (onto rs []) }
+    ensures records { (rs : List Reading) → sound_records [] rs ≡ handed_on (onto rs []) }
 {}
 
 /// What a reader has handed on at any moment are exactly the records of the lines that end in a

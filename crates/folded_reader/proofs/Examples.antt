@@ -5,7 +5,7 @@ use Rattle.profile_records.specs.Frames.{functions_of, leaf_of}
 use Rattle.folded_reader.specs.Files.{fault_from, stacks_of_file, fault_of_file, samples_of_file}
 use Rattle.folded_reader.specs.Looking.{seen, adds}
 use Rattle.folded_reader.specs.Reads.{stacks_so_far}
-use Rattle.text_pieces.specs.Backwards.{end_of, held}
+use Rattle.text_pieces.specs.Backwards.{end_of, handed_on}
 use Rattle.cg_text.specs.declared.faults.Fault.TheVariants.{LineTooLong, FoldedLine, NumberTooLarge}
 
 line-two : reading_of (codes "a;b;a 3") ≡ Ok (Some (record { frames = codes "a;b;a"; count = 3 }))
@@ -129,7 +129,7 @@ seen-first : seen (end_of reading_of (codes "a 1\n\nb\n3")) ≡ Some (FoldedLine
 unfolding reading_of
 seen-first = refl
 
-held-before_a_fault : held adds (end_of reading_of (codes "a;b 1\n\nb 2\n3\nc 4")) ≡ stacks_of_file (codes "a;b 1\n\nb 2\n")
+held-before_a_fault : handed_on adds (end_of reading_of (codes "a;b 1\n\nb 2\n3\nc 4")) ≡ stacks_of_file (codes "a;b 1\n\nb 2\n")
 unfolding reading_of
 held-before_a_fault = refl
 

@@ -1,6 +1,6 @@
 // Laws of the definitions, each the contract of a function that does nothing.
 ghost use Rattle.std.specs.Prelude.{◌≡◌, ℕ, List, [], ◌∷◌, ◌++◌};
-ghost use Rattle.text_pieces.specs.Backwards.{onto, held, IsPrefix};
+ghost use Rattle.text_pieces.specs.Backwards.{onto, handed_on, IsPrefix};
 ghost use Rattle.folded_reader.specs.declared.reader.FoldedReader.{FoldedReader};
 ghost use Rattle.folded_reader.specs.Lines.{Reading};
 ghost use Rattle.profile_records.specs.Frames.{functions_of, leaf_of};
@@ -13,7 +13,7 @@ ghost use Rattle.folded_reader.specs.Reads.{Reads, stacks_so_far};
 /// the first fault, and the stacks before it.
 pub fn looking_back_is_exact()
     ensures fault { (rs : List Reading) → fault_from 1 rs ≡ seen (onto rs []) }
-    ensures stacks { (rs : List Reading) → stacks_from 1 rs ≡ held adds (onto rs []) }
+    ensures stacks { (rs : List Reading) → stacks_from 1 rs ≡ handed_on adds (onto rs []) }
 {}
 
 /// What a reader has handed on at any moment are exactly the stacks of the lines that end in a line

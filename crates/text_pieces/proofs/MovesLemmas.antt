@@ -4,7 +4,7 @@ use Rattle.std.specs.List.{AllByRecursion}
 use Rattle.std.proofs.lemmas.List.{append-nil, append_assoc, length-append}
 use Rattle.std.proofs.lemmas.Grind.{fold-append}
 use Rattle.text_pieces.specs.Cut.{cut}
-use Rattle.text_pieces.specs.Backwards.{back_of, held}
+use Rattle.text_pieces.specs.Backwards.{back_of, handed_on}
 use Rattle.text_pieces.specs.Kept.{Keeps, taken_of, IsSpent}
 use Rattle.text_pieces.specs.LineIs.{IsLine}
 use Rattle.text_pieces.specs.Moves.{Moment, at, Took, Ready, Told, Moves, Refused, Stops, TakesLine, TakesBytes, Ends}
@@ -18,12 +18,12 @@ module _ {T S : Type 0} (t : Ghosts T S) where
   -- ---- what was told
 
   told_none : (k : S) (back : List t.Reading) → Told t k k back back
-  told_none k back = record { more = []; adds = sym (append-nil (held t.adds back)); means = refl }
+  told_none k back = record { more = []; adds = sym (append-nil (handed_on t.adds back)); means = refl }
 
   told_then : (k l m : S) (a b c : List t.Reading) → Told t k l a b → Told t l m b c → Told t k m a c
   told_then k l m a b c one two = record {
     more = one.more ++ two.more;
-    adds = two.adds ∙ ap (λ xs. xs ++ two.more) one.adds ∙ append_assoc (held t.adds a) one.more two.more;
+    adds = two.adds ∙ ap (λ xs. xs ++ two.more) one.adds ∙ append_assoc (handed_on t.adds a) one.more two.more;
     means = two.means ∙ ap (λ x. fold t.step x two.more) one.means ∙ sym (fold-append t.step (t.meaning k) one.more two.more);
   }
 
@@ -96,7 +96,7 @@ module _ {T S : Type 0} (t : Ghosts T S) where
       told = λ text took.
           let end = ends text took.keeps in
           let back = back_of t.reading_of text in
-          record { more = t.adds (t.reading_of end.said) back; adds = ap (held t.adds) end.nearest; means = told end.said back end.is_line took.stands };
+          record { more = t.adds (t.reading_of end.said) back; adds = ap (handed_on t.adds) end.nearest; means = told end.said back end.is_line took.stands };
       taken = taken;
       lines = omega (arith, taken, some, few, lines);
       fits = fits;
@@ -176,6 +176,6 @@ module _ {T S : Type 0} (t : Ghosts T S) where
     told = λ text took.
         let said = (cut text).rest in
         let back = back_of t.reading_of text in
-        record { more = t.adds (t.reading_of said) back; adds = ap (held t.adds) (end-some t.reading_of text (some text took.keeps)); means = told said back (is_line text took.keeps) took.stands };
+        record { more = t.adds (t.reading_of said) back; adds = ap (handed_on t.adds) (end-some t.reading_of text (some text took.keeps)); means = told said back (is_line text took.keeps) took.stands };
   }
   ends_line (Err e) line p s s' k k' is_line some stands told = tt

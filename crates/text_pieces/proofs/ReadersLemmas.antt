@@ -3,7 +3,7 @@ use Rattle.std.proofs.Common.{◌≡◌, ℕ, List, [], ◌++◌, fold, map, Res
 use Rattle.std.proofs.lemmas.List.{append-nil}
 use Rattle.cg_text.specs.Lines.{lines_of}
 use Rattle.text_pieces.specs.Cut.{cut}
-use Rattle.text_pieces.specs.Backwards.{back_of, end_of, held, so_far, in_all, Agrees, IsPrefix}
+use Rattle.text_pieces.specs.Backwards.{back_of, end_of, handed_on, so_far, in_all, Agrees, IsPrefix}
 use Rattle.text_pieces.specs.Moves.{at, Took, TakesBytes, Ends}
 use Rattle.text_pieces.specs.Readers.{StandsFor, HandsAll, HandsPart}
 use Rattle.text_pieces.specs.declared.pieces.Pieces.{Pieces}
@@ -13,10 +13,10 @@ use Rattle.text_pieces.proofs.PrefixLemmas.{text_prefix, file_prefix}
 -- ---- a format that is told from the first line on as looking back
 
 module _ {A B : Type 0} (says : List ℕ → A) (tells : List A → List B) (adds : A → List A → List B) (agrees : Agrees tells adds) where
-  pub so_far_is : (text : List ℕ) → so_far says tells text ≡ held adds (back_of says text)
+  pub so_far_is : (text : List ℕ) → so_far says tells text ≡ handed_on adds (back_of says text)
   so_far_is text = agrees (map says (cut text).lines)
 
-  pub in_all_is : (text : List ℕ) → in_all says tells text ≡ held adds (end_of says text)
+  pub in_all_is : (text : List ℕ) → in_all says tells text ≡ handed_on adds (end_of says text)
   in_all_is text = agrees (map says (lines_of text))
 
   -- what was handed on comes first among what a text hands on that goes on
@@ -35,7 +35,7 @@ module _ {A B : Type 0} (says : List ℕ → A) (tells : List A → List B) (add
   part_none step text told before after handed same = ([], subst (λ xs. IsPrefix xs (in_all says tells text)) (sym (append-nil told)) (handed_now text told handed), same)
 
   -- with what comes it is all
-  pub all_on : (text : List ℕ) (told more : List B) → told ≡ so_far says tells text → held adds (end_of says text) ≡ held adds (back_of says text) ++ more → in_all says tells text ≡ told ++ more
+  pub all_on : (text : List ℕ) (told more : List B) → told ≡ so_far says tells text → handed_on adds (end_of says text) ≡ handed_on adds (back_of says text) ++ more → in_all says tells text ≡ told ++ more
   all_on text told more handed is = in_all_is text ∙ is ∙ ap (λ xs. xs ++ more) (sym (handed ∙ so_far_is text))
 
 -- ---- calls of the pieces, as those of a reader

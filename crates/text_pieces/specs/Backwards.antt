@@ -17,9 +17,9 @@ abbrev pub end_of : {A : Type 0} → (List ℕ → A) → List ℕ → List A
 end_of says text = onto (map says (lines_of text)) []
 
 -- what lines hand on, where each adds something to those before
-abbrev pub held : {A B : Type 0} → (A → List A → List B) → List A → List B
-held adds [] = []
-held adds (x ∷ back) = held adds back ++ adds x back
+abbrev pub handed_on : {A B : Type 0} → (A → List A → List B) → List A → List B
+handed_on adds [] = []
+handed_on adds (x ∷ back) = handed_on adds back ++ adds x back
 
 -- some things come first among others
 abbrev pub IsPrefix : {B : Type 0} → List B → List B → Type 0
@@ -37,4 +37,4 @@ in_all says tells text = tells (map says (lines_of text))
 
 -- either way the same is told
 abbrev pub Agrees : {A B : Type 0} → (List A → List B) → (A → List A → List B) → Type 0
-Agrees tells adds = (lines : List _) → tells lines ≡ held adds (onto lines [])
+Agrees tells adds = (lines : List _) → tells lines ≡ handed_on adds (onto lines [])

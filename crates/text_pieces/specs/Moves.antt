@@ -1,6 +1,6 @@
 -- What a call does to a text that comes in pieces, to what takes its lines, and to the sink of what these hand on.
 use Rattle.std.specs.Prelude.{◌≡◌, ℕ, ◌+◌, ◌≤◌, List, ◌++◌, fold, length, Result, OnOk, OnErr}
-use Rattle.text_pieces.specs.Backwards.{back_of, end_of, held, IsPrefix}
+use Rattle.text_pieces.specs.Backwards.{back_of, end_of, handed_on, IsPrefix}
 use Rattle.text_pieces.specs.Kept.{Keeps, taken_of, IsSpent}
 use Rattle.text_pieces.specs.declared.pieces.Pieces.{Pieces}
 use Rattle.text_pieces.specs.declared.takes.TakesLines.{Ghosts}
@@ -30,7 +30,7 @@ module _ {T S : Type 0} (t : Ghosts T S) where
   -- the sink was told what the later lines add to the earlier ones
   pub record Told (old new : S) (earlier later : List t.Reading) : Type 0 where
     pub more : List t.Record
-    pub adds : held t.adds later ≡ held t.adds earlier ++ more
+    pub adds : handed_on t.adds later ≡ handed_on t.adds earlier ++ more
     pub means : t.meaning new ≡ fold t.step (t.meaning old) more
 
   -- bytes were taken: they go on the text, the state stands for its whole lines, and the sink was told what these add
@@ -51,7 +51,7 @@ module _ {T S : Type 0} (t : Ghosts T S) where
   -- a line of the bytes was refused: the sink was told what comes first among what all lines add
   pub record ToldPart (old new : S) (earlier all : List t.Reading) : Type 0 where
     pub more : List t.Record
-    pub first : IsPrefix (held t.adds earlier ++ more) (held t.adds all)
+    pub first : IsPrefix (handed_on t.adds earlier ++ more) (handed_on t.adds all)
     pub means : t.meaning new ≡ fold t.step (t.meaning old) more
 
   pub record Stops (old : Moment T S) (bytes : List ℕ) (new : Moment T S) : Type 0 where
