@@ -1,4 +1,3 @@
-use Rattle.std.proofs.Common.{arith}
 use Rattle.file_totals.proofs.SumsLemmas.{small-added}
 use Rattle.file_totals.proofs.sums.CostSumsSink.self_cost.Goals as goal
 
