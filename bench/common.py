@@ -55,7 +55,7 @@ def import_twin():
 
 
 def report_twin():
-    """Builds the C program that prints a report by key by libsqlite3."""
+    """Builds the C program that prints reports by libsqlite3."""
     return c_twin("reports", "reports.c", "import_rows.c")
 
 

@@ -1,11 +1,18 @@
-/* The plain counterpart of a report: C over libsqlite3, without proofs. It prints what
-   `profhouse by --db DATABASE --event EVENT KEY` prints of all runs of a store: it reads the cells of
-   each run that has the event, in the order of their keys, adds each up as often as its column counts
-   in the event, in a hash map by the numbers of names (import_rows.c has it), reads the names, sorts the
-   sums and writes a line for each.
+/* The plain counterpart of reports: C over libsqlite3, without proofs. It prints what profhouse prints of
+   all runs of a store for
 
-   Left out are selections, limits and thresholds, and sums of 2^64 or more, which end the program. It
-   believes what the tables hold. */
+     by --db DATABASE --event EVENT KEY
+     inclusive --db DATABASE --event EVENT
+     callers --db DATABASE --event EVENT --object OBJECT FUNCTION
+     subtract --db DATABASE --less-run RUN --event EVENT KEY
+
+   It reads the cells or the calls of each run in the order of their keys, adds each up as often as its
+   column counts in the event, in a hash map by the numbers of names (import_rows.c has it), reads the
+   names, sorts the sums and writes a line for each.
+
+   Left out are other selections, limits and thresholds, folded stacks in `inclusive`, and sums of 2^64 or
+   more; the last two end the program. It believes what the tables hold, that they hold the run that is
+   taken off, and that a function whose names they hold is one of a run. */
 
 #include "import.h"
 #include <sqlite3.h>
@@ -13,20 +20,31 @@
 #include <stdlib.h>
 #include <string.h>
 
+enum question { BY, INCLUSIVE, CALLERS, SUBTRACT, QUESTIONS };
 enum key { OBJECT, SOURCE, FUNCTION, LINE, KEYS };
 
+static const char *const QUESTION_NAMES[QUESTIONS] = {"by", "inclusive", "callers", "subtract"};
+static const int WORDS_BEHIND[QUESTIONS] = {1, 0, 2, 2};
 static const char *const KEY_NAMES[KEYS] = {"object", "file", "function", "line"};
 
 static const char CELLS[] = "SELECT ob, fl, fn, line, event, cost FROM cell WHERE run = ?"
                             " ORDER BY ob, fl, fn, line, event";
+static const char CALLS[] = "SELECT ob, fl, fn, line, cob, cfl, cfn, part, n FROM arc WHERE run = ?"
+                            " ORDER BY ob, fl, fn, line, cob, cfl, cfn, part";
 
 static sqlite3 *db;
-static enum key key;
+static enum question question;
+static enum key key = FUNCTION;
 static struct text event;
+static uint64_t called[2]; /* the function whose callers are asked */
 static struct text *names; /* by their numbers */
 static uint64_t counts[EVENTS];
-static struct rows sums = {.key = 2, .width = 3};
-static uint64_t total;
+static struct rows sums = {.key = 2};
+
+/* Which of the sums of a key its costs are added to, and the totals of these sums. Of two sums the second
+   is the number of calls, or the costs that are taken off. */
+static int side;
+static uint64_t totals[2];
 
 /* Ends the program unless a call gave what it should. */
 static void must(int got, int want)
@@ -106,37 +124,116 @@ static void add_to(uint64_t *sum, uint64_t cost)
         fail("a sum of 2^64 or more");
 }
 
-static void add_cells(uint64_t run)
+/* The cost in a column, as often as it counts in the event. */
+static uint64_t weighed(uint64_t place, uint64_t cost)
 {
-    sqlite3_stmt *cells = prepared(CELLS);
-    must(sqlite3_bind_int64(cells, 1, (int64_t)run), SQLITE_OK);
-    while (has_row(cells)) {
-        uint64_t parts[2], cost;
-        if (__builtin_mul_overflow(number_in(cells, 5), counts[number_in(cells, 4) % EVENTS], &cost))
-            fail("a cost of 2^64 or more");
-        if (cost == 0)
-            continue;
-        key_of(cells, parts);
-        add_to(sums_of(&sums, parts), cost);
-        add_to(&total, cost);
-    }
-    sqlite3_finalize(cells);
+    if (__builtin_mul_overflow(cost, counts[place % EVENTS], &cost))
+        fail("a cost of 2^64 or more");
+    return cost;
+}
+
+static void add_cell(sqlite3_stmt *cell)
+{
+    uint64_t parts[2], cost = weighed(number_in(cell, 4), number_in(cell, 5));
+    if (cost == 0)
+        return;
+    key_of(cell, parts);
+    add_to(sums_of(&sums, parts) + side, cost);
+    add_to(&totals[side], cost);
+}
+
+/* Adds a cost of calls to their caller, unless it calls itself. */
+static void add_outward(sqlite3_stmt *calls)
+{
+    uint64_t caller[2] = {number_in(calls, 0), number_in(calls, 2)}, part = number_in(calls, 7);
+    if (part == 0 || (caller[0] == number_in(calls, 4) && caller[1] == number_in(calls, 6)))
+        return;
+    uint64_t cost = weighed(part - 1, number_in(calls, 8));
+    if (cost > 0)
+        add_to(sums_of(&sums, caller), cost);
+}
+
+/* Adds a cost or the number of calls to their caller, if they are of the function that is asked. */
+static void add_caller(sqlite3_stmt *calls)
+{
+    if (number_in(calls, 4) != called[0] || number_in(calls, 6) != called[1])
+        return;
+    uint64_t caller[2] = {number_in(calls, 0), number_in(calls, 2)}, part = number_in(calls, 7);
+    uint64_t amount = number_in(calls, 8);
+    if (part > 0)
+        amount = weighed(part - 1, amount);
+    add_to(sums_of(&sums, caller) + (part == 0), amount);
+    add_to(&totals[part == 0], amount);
+}
+
+/* Gives the rows of a run that a statement reads to what takes them, one by one. */
+static void each_row(const char *text, uint64_t run, void (*take)(sqlite3_stmt *row))
+{
+    sqlite3_stmt *rows = prepared(text);
+    must(sqlite3_bind_int64(rows, 1, (int64_t)run), SQLITE_OK);
+    while (has_row(rows))
+        take(rows);
+    sqlite3_finalize(rows);
+}
+
+/* Adds up a run. Answers whether it has the event; one without it adds no more than the number of its
+   calls. */
+static int add_run(uint64_t run)
+{
+    int has_event = read_counts(run);
+    if (question == CALLERS)
+        each_row(CALLS, run, add_caller);
+    else if (has_event)
+        each_row(CELLS, run, add_cell);
+    if (question == INCLUSIVE && has_event)
+        each_row(CALLS, run, add_outward);
+    return has_event;
 }
 
 /* Adds up all runs. Answers whether one has the event. */
 static int add_runs(void)
 {
     int has_event = 0;
-    sqlite3_stmt *runs = prepared("SELECT run FROM run ORDER BY run");
+    sqlite3_stmt *runs = prepared("SELECT run, kind FROM run ORDER BY run");
     while (has_row(runs)) {
-        uint64_t run = number_in(runs, 0);
-        if (read_counts(run)) {
-            has_event = 1;
-            add_cells(run);
-        }
+        if (question == INCLUSIVE && number_in(runs, 1) != 1)
+            fail("folded stacks");
+        has_event |= add_run(number_in(runs, 0));
     }
     sqlite3_finalize(runs);
     return has_event;
+}
+
+/* The number of a name, or 0. */
+static uint64_t number_of_name(const char *name)
+{
+    sqlite3_stmt *find = prepared("SELECT id FROM name WHERE bytes = ?");
+    must(sqlite3_bind_blob64(find, 1, name, strlen(name), SQLITE_STATIC), SQLITE_OK);
+    uint64_t number = has_row(find) ? number_in(find, 0) : 0;
+    sqlite3_finalize(find);
+    return number;
+}
+
+/* Makes of two sums how far they are apart, and whether the first is below the second. */
+static void subtract(uint64_t pair[2])
+{
+    int below = pair[0] < pair[1];
+    pair[0] = below ? pair[1] - pair[0] : pair[0] - pair[1];
+    pair[1] = (uint64_t)below;
+}
+
+/* Leaves the differences of the keys whose two sums differ, and that of the totals. */
+static void subtract_sums(void)
+{
+    size_t left = 0;
+    for (size_t k = 0; k < sums.count; k++) {
+        uint64_t *row = sums.words + k * sums.width;
+        subtract(row + sums.key);
+        if (row[sums.key] > 0)
+            memmove(sums.words + left++ * sums.width, row, sums.width * sizeof *row);
+    }
+    sums.count = left;
+    subtract(totals);
 }
 
 static void read_names(void)
@@ -188,57 +285,119 @@ static void print_name(struct text name)
     }
 }
 
-/* A cost, and its part of the total in percent. */
-static void print_cost(uint64_t cost)
+static void print_key(const uint64_t parts[2])
 {
-    unsigned __int128 scaled = (unsigned __int128)10000 * cost;
-    uint64_t part = total > 0 ? (uint64_t)(scaled / total) : 0;
-    printf("%llu %llu.%02llu%% ", (unsigned long long)cost, (unsigned long long)(part / 100),
-           (unsigned long long)(part % 100));
-}
-
-static void print_row(const uint64_t *row)
-{
-    print_cost(row[2]);
-    print_name(names[row[0]]);
+    print_name(names[parts[0]]);
     if (key == LINE)
-        printf(":%llu", (unsigned long long)row[1]);
+        printf(":%llu", (unsigned long long)parts[1]);
     if (key == FUNCTION) {
         putc_unlocked(':', stdout);
-        print_name(names[row[1]]);
+        print_name(names[parts[1]]);
+    }
+}
+
+/* A cost, and its part of the total in percent; or the number of its calls; or a difference. */
+static void print_figures(const uint64_t *figures)
+{
+    unsigned long long cost = figures[0];
+    if (question == CALLERS) {
+        printf("%llu %llu ", cost, (unsigned long long)figures[1]);
+    } else if (question == SUBTRACT) {
+        printf("%s%llu ", figures[1] ? "-" : "", cost);
+    } else {
+        unsigned __int128 scaled = (unsigned __int128)10000 * cost;
+        unsigned long long part = totals[0] > 0 ? (unsigned long long)(scaled / totals[0]) : 0;
+        printf("%llu %llu.%02llu%% ", cost, part / 100, part % 100);
+    }
+}
+
+static void print_head(void)
+{
+    printf("%s ", QUESTION_NAMES[question]);
+    if (question == BY || question == SUBTRACT)
+        printf("%s ", KEY_NAMES[key]);
+    print_name(event);
+    if (question == CALLERS) {
+        putc_unlocked(' ', stdout);
+        print_key(called);
     }
     putc_unlocked('\n', stdout);
+    print_figures(totals);
+    puts("total");
 }
 
 static void print_report(void)
 {
-    uint64_t rest = total;
+    uint64_t rest = totals[0];
     qsort(sums.words, sums.count, sums.width * sizeof *sums.words, row_order);
-    printf("by %s ", KEY_NAMES[key]);
-    print_name(event);
-    putc_unlocked('\n', stdout);
-    print_cost(total);
-    puts("total");
+    print_head();
     for (size_t k = 0; k < sums.count; k++) {
-        print_row(sums.words + k * sums.width);
-        rest -= sums.words[k * sums.width + 2];
+        const uint64_t *row = sums.words + k * sums.width;
+        print_figures(row + sums.key);
+        print_key(row);
+        putc_unlocked('\n', stdout);
+        rest -= row[sums.key];
     }
-    print_cost(rest);
-    puts("(rest)");
+    if (question == BY) {
+        print_figures(&rest);
+        puts("(rest)");
+    }
+}
+
+/* The place of a word among others, or their number. */
+static int place_of(const char *word, const char *const *words, int count)
+{
+    int place = 0;
+    while (place < count && strcmp(word, words[place]) != 0)
+        place++;
+    return place;
+}
+
+/* Reads the words of a question. Answers whether they are of one. */
+static int read_words(int argc, char **argv)
+{
+    if (argc < 4)
+        return 0;
+    event = (struct text){argv[2], strlen(argv[2])};
+    question = place_of(argv[3], QUESTION_NAMES, QUESTIONS);
+    if (question == QUESTIONS || argc != 4 + WORDS_BEHIND[question])
+        return 0;
+    sums.width = question == CALLERS || question == SUBTRACT ? 4 : 3;
+    if (question == BY || question == SUBTRACT)
+        key = place_of(argv[4], KEY_NAMES, KEYS);
+    return key < KEYS;
+}
+
+/* Adds up all that a question asks of. Answers whether a run has the event. */
+static int add_all(char **words)
+{
+    if (question == CALLERS) {
+        called[0] = number_of_name(words[0]);
+        called[1] = number_of_name(words[1]);
+    }
+    int has_event = add_runs();
+    if (question == SUBTRACT) {
+        side = 1;
+        has_event |= add_run(strtoull(words[1], NULL, 10));
+        subtract_sums();
+    }
+    return has_event;
 }
 
 int main(int argc, char **argv)
 {
-    while (argc == 4 && key < KEYS && strcmp(argv[3], KEY_NAMES[key]) != 0)
-        key++;
-    if (argc != 4 || key == KEYS) {
-        fprintf(stderr, "usage: reports DATABASE EVENT object|file|function|line\n");
+    if (!read_words(argc, argv)) {
+        fprintf(stderr, "usage: reports DATABASE EVENT by KEY | inclusive | callers OBJECT FUNCTION"
+                        " | subtract KEY RUN; a KEY is object, file, function or line\n");
         return 2;
     }
-    event = (struct text){argv[2], strlen(argv[2])};
     must(sqlite3_open_v2(argv[1], &db, SQLITE_OPEN_READWRITE, NULL), SQLITE_OK);
-    if (!add_runs()) {
+    if (!add_all(argv + 4)) {
         puts("refused: no such event");
+        return 1;
+    }
+    if (question == CALLERS && (called[0] == 0 || called[1] == 0)) {
+        puts("refused: no such name");
         return 1;
     }
     read_names();
