@@ -4,7 +4,6 @@ pub mod NumberedLemmas
 pub mod AdmitLemmas
 pub mod MergeLemmas
 pub mod Examples
-pub mod ColumnsLemmas
 pub mod PlacesLemmas
 pub mod StacksLemmas
 pub mod GrowingLemmas

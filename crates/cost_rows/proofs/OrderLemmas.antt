@@ -5,7 +5,7 @@ use Rattle.cg_text.specs.Distinct.{are_distinct}
 use Rattle.profile_records.specs.Records.{Cost, Callee, Record, Own, Called}
 use Rattle.profile_records.specs.Stacks.{Seen}
 use Rattle.cost_rows.specs.Calls.{calls_added}
-use Rattle.cost_rows.specs.Columns.{added}
+use Rattle.profile_records.specs.Columns.{added}
 use Rattle.cost_rows.specs.Content.{Content, empty, with_three, names_with_cost, names_with_callee, cell_of, call_of, calls_of, leaf_cost, with_cost, with_call, with_record, with_stack}
 use Rattle.cost_rows.specs.Naming.{with_name}
 use Rattle.cost_rows.specs.Stacks.{counts_added}

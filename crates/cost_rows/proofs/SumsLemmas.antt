@@ -7,7 +7,7 @@ use Rattle.std.specs.List.{AllByRecursion, list_any, slice_get}
 use Rattle.std.specs.Map.{keys_of}
 use Rattle.profile_records.specs.Records.{Cost, Callee, Record, Own, Called}
 use Rattle.cost_rows.specs.Naming.{place_of, with_name}
-use Rattle.cost_rows.specs.Columns.{added}
+use Rattle.profile_records.specs.Columns.{added}
 use Rattle.cost_rows.specs.Calls.{calls_added}
 use Rattle.cost_rows.specs.Growing.{Grows}
 use Rattle.cost_rows.specs.Held.{IsHeld, CellHeld, CallHeld, AreHeld}
@@ -19,7 +19,7 @@ use Rattle.cost_rows.specs.declared.places.CellPlace.{CellPlace}
 use Rattle.cost_rows.specs.declared.places.Call.{Call}
 use Rattle.cost_rows.specs.declared.calls.Calls.{Calls}
 use Rattle.cost_rows.proofs.NamingLemmas.{at_place}
-use Rattle.cost_rows.proofs.ColumnsLemmas.{slice_index-added}
+use Rattle.profile_records.proofs.ColumnsLemmas.{slice_index-added}
 use Rattle.cost_rows.proofs.GrowingLemmas.{grows-more, grows-with, kept-by_three, held-three}
 use Rattle.cost_rows.proofs.MergeLemmas.{sum-merge, keys-merge}
 use Rattle.cost_rows.proofs.PlacesLemmas.{cell_cmp-apart, call_cmp-apart}

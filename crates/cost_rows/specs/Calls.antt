@@ -1,6 +1,6 @@
 -- Calls: how many there were, and what they cost by column.
 use Rattle.std.specs.Prelude.{◌+◌, ◌<◌, ◌^◌}
-use Rattle.cost_rows.specs.Columns.{added, HaveRoom}
+use Rattle.profile_records.specs.Columns.{added, HaveRoom}
 use Rattle.cost_rows.specs.declared.calls.Calls.{Calls}
 
 -- calls and more calls

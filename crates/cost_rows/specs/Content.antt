@@ -5,7 +5,7 @@ use Rattle.profile_records.specs.Records.{Cost, Callee, Record, Own, Called}
 use Rattle.profile_records.specs.Stacks.{Seen}
 use Rattle.profile_records.specs.Frames.{leaf_of}
 use Rattle.cost_rows.specs.Naming.{place_of, with_name}
-use Rattle.cost_rows.specs.Columns.{added}
+use Rattle.profile_records.specs.Columns.{added}
 use Rattle.cost_rows.specs.Calls.{calls_added}
 use Rattle.cost_rows.specs.Merging.{merge}
 use Rattle.cost_rows.specs.Places.{cell_cmp, call_cmp}

@@ -4,7 +4,6 @@ pub mod Numbered
 pub mod Admit
 pub mod Merging
 pub mod Places
-pub mod Columns
 pub mod Calls
 pub mod Stacks
 pub mod Content

@@ -1,6 +1,6 @@
 // Sums of calls.
 ghost use Rattle.std.specs.Prelude.{◌≡◌, ◌+◌};
-ghost use Rattle.cost_rows.specs.Columns.{added};
+ghost use Rattle.profile_records.specs.Columns.{added};
 
 use crate::costs::Costs;
 use crate::sums::Sums;
@@ -23,7 +23,7 @@ pub(crate) struct CallsOfRecord<'a> {
 
 impl<'a> Sums<CallsOfRecord<'a>> for Calls {
     ghost use Rattle.cost_rows.specs.Calls.{calls_added, AreSmall};
-    ghost use Rattle.cost_rows.specs.Columns.{AreLow};
+    ghost use Rattle.profile_records.specs.Columns.{AreLow};
 
     ghost of_one = { λ calls. record { count = calls.count; costs = calls.costs.now } };
 

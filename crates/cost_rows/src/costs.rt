@@ -1,9 +1,9 @@
 // Sums of costs by column.
-ghost use Rattle.std.specs.Prelude.{◌≡◌, ◌++◌, ◌≤◌, OnOk, OnErr, length, vec_len};
-ghost use Rattle.cost_rows.specs.Columns.{added, AreLow, HaveRoom};
+ghost use Rattle.std.specs.Prelude.{◌≡◌, ◌++◌, OnOk};
 
 use crate::sums::Sums;
 use crate::totals::ByColumn;
+use profile_records::add_costs;
 use std::alloc::{AllocError, Global};
 use std::marker::Model;
 
@@ -21,31 +21,6 @@ impl Model for Costs {
     ghost view = { λ a. a.sums.items };
 }
 
-/// Gives each cost a sum: the columns that have none yet begin with 0.
-fn widen(sums: &mut Vec<u128>, costs: &[u64]) -> Result<(), AllocError>
-    ensures wide { OnOk result (length costs.now ≤ vec_len sums.new) }
-    ensures sums { OnOk result (added sums.new.items costs.now ≡ added sums.old.items costs.now) }
-    ensures small { HaveRoom sums.old.items → HaveRoom sums.new.items }
-    ensures err { OnErr result (sums.new.items ≡ sums.old.items) }
-{
-    if sums.len() < costs.len() {
-        sums.resize(costs.len(), 0)?;
-    }
-    Ok(())
-}
-
-/// Adds a row of costs to the sums of its columns.
-fn add_costs(sums: &mut [u128], costs: &[u64])
-    requires wide { length costs.now ≤ length sums.old }
-    requires small { HaveRoom sums.old }
-    requires low { AreLow costs.now }
-    ensures { sums.new ≡ added sums.old costs.now }
-{
-    for (k, cost) in costs.iter().enumerate() {
-        sums[k] += u128::from(*cost);
-    }
-}
-
 /// A row of costs as sums.
 fn push_costs(sums: &mut Vec<u128>, costs: &[u64]) -> Result<(), AllocError>
     ensures { OnOk result (sums.new.items ≡ sums.old.items ++ costs.now) }
@@ -57,7 +32,7 @@ fn push_costs(sums: &mut Vec<u128>, costs: &[u64]) -> Result<(), AllocError>
 }
 
 impl<'a> Sums<&'a [u64]> for Costs {
-    ghost use Rattle.cost_rows.specs.Columns.{added, AreLow, HaveRoom};
+    ghost use Rattle.profile_records.specs.Columns.{added, AreLow, HaveRoom};
 
     ghost of_one = { λ costs. costs.now };
 
@@ -74,9 +49,7 @@ impl<'a> Sums<&'a [u64]> for Costs {
     }
 
     fn add(&mut self, amount: &'a [u64]) -> Result<(), AllocError> {
-        widen(&mut self.sums, amount)?;
-        add_costs(&mut self.sums, amount);
-        Ok(())
+        add_costs(&mut self.sums, amount)
     }
 }
 

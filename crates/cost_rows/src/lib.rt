@@ -3,7 +3,7 @@
 
 // How many calls there were, and their sums.
 mod calls;
-// The sums of a place, by column (specs/Columns.antt).
+// The sums of a place, by column.
 mod costs;
 // The rows of one file: a sink of records and of stacks (specs/Content.antt, Rows.antt).
 mod file_rows;

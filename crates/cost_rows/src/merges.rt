@@ -3,7 +3,7 @@ ghost use Rattle.std.specs.Prelude.{◌≡◌, OnOk, OnErr};
 ghost use Rattle.std.specs.Map.{keys_of};
 ghost use Rattle.std.specs.List.Sorted.{IsStrictlySortedBy};
 ghost use Rattle.std.specs.BTreeMap.{values};
-ghost use Rattle.cost_rows.specs.Columns.{HaveRoom};
+ghost use Rattle.profile_records.specs.Columns.{HaveRoom};
 ghost use Rattle.cost_rows.specs.Content.{stacks_with};
 ghost use Rattle.cost_rows.specs.Stacks.{bytes_cmp, by_bytes, counted, counted_again};
 

@@ -2,7 +2,7 @@
 ghost use Rattle.std.specs.Prelude.{◌≡◌, OnOk, OnErr, All};
 ghost use Rattle.std.specs.BTreeMap.{values};
 ghost use Rattle.cost_rows.specs.Calls.{AreSmall};
-ghost use Rattle.cost_rows.specs.Columns.{AreLow, HaveRoom};
+ghost use Rattle.profile_records.specs.Columns.{AreLow, HaveRoom};
 ghost use Rattle.cost_rows.specs.Content.{arcs_with, cells_with, names_with_callee, names_with_cost};
 ghost use Rattle.cost_rows.specs.Growing.{Grows};
 ghost use Rattle.cost_rows.specs.Lent.{callee_of, cost_of, own_cost};

@@ -8,15 +8,15 @@ use Rattle.cg_text.specs.Names.{name_of}
 use Rattle.cg_text.specs.Numbers.{number_of, amount_of}
 use Rattle.cg_text.specs.Readings.{reading_of}
 use Rattle.cg_text.specs.Subpositions.{subpos_of}
-use Rattle.file_totals.specs.Sums.{add_costs}
+use Rattle.profile_records.specs.Columns.{added}
 use Rattle.file_totals.specs.Totals.{total_of_file}
 
 -- ---- sums
 
-costs-widened : add_costs (1 ∷ []) (2 ∷ 3 ∷ []) ≡ 3 ∷ 3 ∷ []
+costs-widened : added (1 ∷ []) (2 ∷ 3 ∷ []) ≡ 3 ∷ 3 ∷ []
 costs-widened = refl
 
-costs-missing : add_costs (1 ∷ 4 ∷ []) (2 ∷ []) ≡ 3 ∷ 4 ∷ []
+costs-missing : added (1 ∷ 4 ∷ []) (2 ∷ []) ≡ 3 ∷ 4 ∷ []
 costs-missing = refl
 
 -- ---- files

@@ -1,1 +1,2 @@
 pub mod LastLemmas
+pub mod ColumnsLemmas

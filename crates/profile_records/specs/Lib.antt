@@ -3,3 +3,4 @@ pub mod Lent
 pub mod Stacks
 pub mod Frames
 pub mod Kinds
+pub mod Columns

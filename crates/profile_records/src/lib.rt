@@ -1,7 +1,9 @@
 //! What a reader hands on of a profile: records of costs, stacks with their counts, and what takes them;
-//! and of which kind a profile is.
+//! how costs are added up, and of which kind a profile is.
 #![tactic(auto)]
 
+// Rows of costs are added up, column by column (specs/Columns.antt).
+mod columns;
 // Finds the function that was running.
 mod frames;
 // The kinds of profiles.
@@ -11,6 +13,7 @@ mod sink;
 // The trait of what takes stacks (specs/Stacks.antt).
 mod stack_sink;
 
+pub use columns::add_costs;
 pub use frames::leaf;
 pub use kinds::Kind;
 pub use sink::{CallCost, SelfCost, Sink};

@@ -57,5 +57,6 @@ pub(crate) trait LineOfMany: Line {
         ensures { result.now ≡ text_of_fifty };
 
     /// The statement writes the lines.
-    ghost puts_fifty: { (lines : List Self.Plain) → length lines ≡ 50 → TextMakes text_of_fifty (all_values (map Self.columns lines)) (λ _. ⊤) (Self.with_lines lines) };
+    ghost puts_fifty: { (lines : List Self.Plain) → length lines ≡ 50
+        → TextMakes text_of_fifty (all_values (map Self.columns lines)) (λ _. ⊤) (Self.with_lines lines) };
 }

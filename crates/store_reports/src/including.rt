@@ -30,7 +30,8 @@ fn add_callgrind<S: Alter>(
     counts: &[u64],
     sums: InclusiveSums,
 ) -> Result<InclusiveSums, StoreError>
-    ensures told { Told S.Store result store.old store.new (λ t all. names.now ≡ t.names → Adds (AreRowsOfKind Callgrind t run.now.number counts.now) sums all) }
+    ensures told { Told S.Store result store.old store.new (λ t all. names.now ≡ t.names
+        → Adds (AreRowsOfKind Callgrind t run.now.number counts.now) sums all) }
     ensures asks { AsksIfOpen S.Store (is_ok result) store.old store.new }
 {
     let mut rows = InclusiveRows { counts, sums };

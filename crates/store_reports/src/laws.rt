@@ -37,7 +37,8 @@ pub fn runs_cost_what_files_cost()
     ensures event { (h : History) (t : Tables) (s : Selection) (event : List ℕ) (runs : List Counted) → TablesTell h t
         → AreCounted t event (numbers_of (selected h s)) runs → list_any has_counts runs ≡ list_any (has_event event) (selected h s) }
     ensures costs { (h : History) (t : Tables) (s : Selection) (key : Key) (event : List ℕ) (runs : List Counted) → TablesTell h t
-        → AreCounted t event (numbers_of (selected h s)) runs → sums_by key (all_rows (map (event_cells t) runs)) ≡ costs_by key (map (event_records event) (selected h s)) }
+        → AreCounted t event (numbers_of (selected h s)) runs
+        → sums_by key (all_rows (map (event_cells t) runs)) ≡ costs_by key (map (event_records event) (selected h s)) }
 {}
 
 /// What a report shows, and what is left, come to what the self records of the selected files cost in the

@@ -1,5 +1,5 @@
 use Rattle.std.proofs.Common.{◌≡◌, ◌<◌, ◌^◌, All, List, [], ◌∷◌, ℕ, take, sym, ap, ◌∙◌, subst, arith}
-use Rattle.cost_rows.specs.Columns.{added}
+use Rattle.profile_records.specs.Columns.{added}
 use Rattle.cost_rows.specs.Content.{place_in}
 use Rattle.cost_rows.specs.Merging.{merge}
 use Rattle.cost_rows.specs.Places.{cell_cmp}

@@ -1,6 +1,6 @@
 use Rattle.std.proofs.Common.{arith}
-use Rattle.cost_rows.proofs.ColumnsLemmas.{added-by_column}
-use Rattle.cost_rows.proofs.costs.add_costs.Goals as goal
+use Rattle.profile_records.proofs.ColumnsLemmas.{added-by_column}
+use Rattle.profile_records.proofs.columns.add_to_columns.Goals as goal
 
 pub returns : goal.returns
 returns c =

@@ -2,7 +2,7 @@
 use Rattle.std.proofs.Common.{◌≡◌, ℕ, ◌+◌, ◌<◌, ◌≤◌, zero, suc, List, [], ◌∷◌, ◌++◌, length, replicate, slice_index, sym, ◌∙◌, ap, refl, inl, inr, arith, add-zero, zero-add}
 use Rattle.std.proofs.lemmas.List.{ext_get_or, get_or_past}
 use Rattle.std.proofs.lemmas.Bool.{cases_lt}
-use Rattle.cost_rows.specs.Columns.{added}
+use Rattle.profile_records.specs.Columns.{added}
 
 pub slice_index-added : (sums costs : List ℕ) (k : ℕ) → slice_index (added sums costs) k ≡ slice_index sums k + slice_index costs k
 slice_index-added [] costs k = sym (zero-add (slice_index costs k))

@@ -1,8 +1,8 @@
 use Rattle.std.proofs.Common.{◌≡◌, ◌-◌, ◌∙◌, ◌++◌, replicate, length, vec_len, ap, take, arith}
 use Rattle.std.proofs.lemmas.List.{take_all}
-use Rattle.cost_rows.specs.Columns.{added}
-use Rattle.cost_rows.proofs.ColumnsLemmas.{added-widened}
-use Rattle.cost_rows.proofs.costs.widen.Goals as goal
+use Rattle.profile_records.specs.Columns.{added}
+use Rattle.profile_records.proofs.ColumnsLemmas.{added-widened}
+use Rattle.profile_records.proofs.columns.widen.Goals as goal
 
 pub returns-in_ok-resize-clause-sums : goal.returns-in_ok-resize-clause-sums
 returns-in_ok-resize-clause-sums c =

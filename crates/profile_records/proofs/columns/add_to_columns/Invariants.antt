@@ -1,5 +1,5 @@
 use Rattle.std.proofs.Common.{◌≡◌, ℕ, ◌+◌, ◌<◌, ◌≤◌, slice_index}
-use Rattle.cost_rows.proofs.costs.add_costs.Given as goal
+use Rattle.profile_records.proofs.columns.add_to_columns.Given as goal
 
 -- the columns before k have their costs, and the others are as they were
 abbrev pub invariant-loop-k : goal.invariant-loop-k
