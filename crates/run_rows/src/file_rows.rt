@@ -48,10 +48,7 @@ pub fn put_cells<S: Alter>(
 {
     let mut cells = Vec::new(alloc);
     'rows: for row in rows.numbered_cells() {
-        match cell_of(run, numbers, &row) {
-            Some(line) => queue(tx, alloc, &mut cells, line)?,
-            None => return Err(StoreError::Store),
-        }
+        queue(tx, alloc, &mut cells, cell_of(run, numbers, &row))?;
     }
     put_lines(tx, alloc, &cells)
 }
@@ -69,10 +66,7 @@ fn put_part<S: Alter>(
 ) -> Result<(), StoreError>
     ensures { QueuesArcs S.Store (is_ok result) waiting.old.items (part_line run numbers.now row.now part sum ∷ []) waiting.new.items tx.old tx.new }
 {
-    match arc_of(run, numbers, row, part, sum) {
-        Some(line) => queue(tx, alloc, waiting, line),
-        None => Err(StoreError::Store),
-    }
+    queue(tx, alloc, waiting, arc_of(run, numbers, row, part, sum))
 }
 
 /// Takes up a cost of the calls of a row, unless it is 0.
@@ -142,10 +136,7 @@ pub fn put_stacks<S: Alter>(
 {
     let mut stacks = Vec::new(alloc);
     'rows: for row in rows.stacks() {
-        match stack_of(run, &row) {
-            Some(line) => queue(tx, alloc, &mut stacks, line)?,
-            None => return Err(StoreError::Store),
-        }
+        queue(tx, alloc, &mut stacks, stack_of(run, &row))?;
     }
     put_lines(tx, alloc, &stacks)
 }

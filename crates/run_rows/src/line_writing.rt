@@ -1,5 +1,5 @@
 // Lines are written, each by a statement or fifty by one.
-ghost use Rattle.std.specs.Prelude.{◌≡◌, ◌∷◌, [], length, map, IfOk};
+ghost use Rattle.std.specs.Prelude.{◌≡◌, ◌∷◌, [], length, map, IfOk, IfSome};
 ghost use Rattle.std.specs.Result.{is_ok};
 ghost use Rattle.sqlite.specs.Values.{bound};
 ghost use Rattle.sql_tables.proofs.Many.{all_values};
@@ -64,15 +64,20 @@ fn put_fifty<S: Alter, L: LineOfMany>(
     write_inside(tx, L::insert_fifty_sql(), &values)
 }
 
-/// Takes up a line, and writes those that wait once they are fifty.
+/// Takes up a line, and writes those that wait once they are fifty. There is none where a number is too
+/// great for its column: that is refused.
 pub(crate) fn queue<S: Alter, L: LineOfMany + Drop>(
     tx: &mut Transaction<'_, S>,
     alloc: Global,
     waiting: &mut Vec<L>,
-    line: L,
+    line: Option<L>,
 ) -> Result<(), StoreError>
-    ensures { Queues S.Store L.plain L.with_lines (is_ok result) waiting.old.items (L.plain line ∷ []) waiting.new.items tx.old tx.new }
+    ensures { (taken : L.Plain) → IfSome line (λ l. L.plain l ≡ taken)
+        → Queues S.Store L.plain L.with_lines (is_ok result) waiting.old.items (taken ∷ []) waiting.new.items tx.old tx.new }
 {
+    let Some(line) = line else {
+        return Err(StoreError::Store);
+    };
     if waiting.push(line).is_err() {
         return Err(StoreError::Memory);
     }

@@ -26,15 +26,15 @@ rows-preserved g c =
     let row = c.in-Some.row in
     let waited = c.rows.cells.items in
     let waits = c.queue.new.waiting.items in
-    let one = subst (λ l. Queues g.S.Store cell_line with_cells true waited (l ∷ []) waits c.rows.tx c.queue.new.tx) c.in-Some-cell_of.ensures c.in_ok-queue-in-Some-cell_of.ensures in
+    let one = c.in_ok-queue.ensures (line row) c.cell_of.ensures in
     record {
       made = subst (λ l. Queues g.S.Store cell_line with_cells true [] l waits c.args.tx.now c.queue.new.tx) (sym (map-append line c.rows.yielded (row ∷ [])))
           (queues_then g.S.Store with_cells cell_line more_cells true [] (map line c.rows.yielded) waited (line row ∷ []) waits c.args.tx.now c.rows.tx c.queue.new.tx was.made one);
       rest = append_assoc c.rows.yielded (row ∷ []) c.next.new.self ∙ ap (λ l. c.rows.yielded ++ l) (sym c.in-Some.ensures.steps) ∙ was.rest;
     }
 
-pub returns-in_err-queue-in-Some-cell_of : goal.returns-in_err-queue-in-Some-cell_of
-returns-in_err-queue-in-Some-cell_of g c = then_err g.S.Store c.from_residual.result c.from_residual.ensures.0 c.rows.invariant.made.writes c.in_err-queue-in-Some-cell_of.ensures.writes
+pub returns-in_err-queue : goal.returns-in_err-queue
+returns-in_err-queue g c = then_err g.S.Store c.from_residual.result c.from_residual.ensures.0 c.rows.invariant.made.writes (c.in_err-queue.ensures _ c.cell_of.ensures).writes
 
 pub returns : goal.returns
 returns g c =

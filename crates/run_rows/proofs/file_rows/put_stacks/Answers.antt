@@ -29,15 +29,15 @@ rows-preserved g c =
     let then = map-append plain_stack c.rows.yielded (c.in-Some.row ∷ []) in
     let waited = c.rows.stacks.items in
     let waits = c.queue.new.waiting.items in
-    let one = subst (λ l. Queues g.S.Store stack_line with_stacks true waited (l ∷ []) waits c.rows.tx c.queue.new.tx) c.in-Some-stack_of.ensures c.in_ok-queue-in-Some-stack_of.ensures in
+    let one = c.in_ok-queue.ensures (line row) c.stack_of.ensures in
     record {
       made = subst (λ l. Queues g.S.Store stack_line with_stacks true [] l waits c.args.tx.now c.queue.new.tx) (sym (ap (map line) then ∙ map-append line seen (row ∷ [])))
           (queues_then g.S.Store with_stacks stack_line more_stacks true [] (map line seen) waited (line row ∷ []) waits c.args.tx.now c.rows.tx c.queue.new.tx was.made one);
       rest = ap (λ l. l ++ c.next.new.self) then ∙ append_assoc seen (row ∷ []) c.next.new.self ∙ ap (λ l. seen ++ l) (sym c.in-Some.ensures.steps) ∙ was.rest;
     }
 
-pub returns-in_err-queue-in-Some-stack_of : goal.returns-in_err-queue-in-Some-stack_of
-returns-in_err-queue-in-Some-stack_of g c = then_err g.S.Store c.from_residual.result c.from_residual.ensures.0 c.rows.invariant.made.writes c.in_err-queue-in-Some-stack_of.ensures.writes
+pub returns-in_err-queue : goal.returns-in_err-queue
+returns-in_err-queue g c = then_err g.S.Store c.from_residual.result c.from_residual.ensures.0 c.rows.invariant.made.writes (c.in_err-queue.ensures _ c.stack_of.ensures).writes
 
 pub returns : goal.returns
 returns g c =
