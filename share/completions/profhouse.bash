@@ -3,7 +3,7 @@
 _profhouse()
 {
     local word=${COMP_WORDS[COMP_CWORD]} before=${COMP_WORDS[COMP_CWORD - 1]}
-    local commands="total import remove runs groups group join leave baseline by inclusive callers callees subtract verify help"
+    local commands="total import remove runs groups group join leave baseline by inclusive callers callees subtract verify annotate csv folded help"
     local options="--db --help" operands=
     COMPREPLY=()
 
@@ -28,14 +28,15 @@ _profhouse()
         inclusive) options+=" --run --group --event" ;;
         callers | callees) options+=" --run --group --event --object" ;;
         subtract) options+=" --run --group --less-run --less-group --event" operands="object file function line" ;;
-        verify) options+=" --run --group" ;;
+        verify | csv | folded) options+=" --run --group" ;;
+        annotate) options+=" --run --group --event --file" operands=files ;;
         help) options= operands=$commands ;;
         *) return ;;
     esac
 
     case $before in
         --db) options= operands=files ;;
-        --run | --group | --less-run | --less-group | --event | --limit | --threshold | --object) return ;;
+        --run | --group | --less-run | --less-group | --event | --limit | --threshold | --object | --file) return ;;
     esac
 
     if [[ $options && $word == -* ]]; then

@@ -50,6 +50,10 @@ threshold = record (option (codes "threshold")) { parser = Some (Signed (pos 0) 
 abbrev pub object : Rule
 object = record (option (codes "object")) { defaults = codes "???" ∷ [] }
 
+-- the file whose lines are annotated
+abbrev pub annotated : Rule
+annotated = record (option (codes "file")) { required = true }
+
 -- one of the words that a parser takes
 abbrev pub key : ValueParser → Rule
 key keys = record (operand (codes "KEY")) { parser = Some keys }
@@ -105,6 +109,15 @@ subtract keys = with_rule (with_rule (over_less (codes "subtract")) event) (key 
 abbrev pub verify : App
 verify = over_selection (codes "verify")
 
+abbrev pub annotate : App
+annotate = with_rule (with_rule (over_event (codes "annotate")) annotated) (operand (codes "SOURCE"))
+
+abbrev pub csv : App
+csv = over_selection (codes "csv")
+
+abbrev pub folded : App
+folded = over_selection (codes "folded")
+
 -- ---- the program
 
 abbrev pub program : App
@@ -130,8 +143,11 @@ with_calls a = with_subcommand (with_subcommand a (over_calls (codes "callers"))
 abbrev pub with_comparisons : ValueParser → App → App
 with_comparisons keys a = with_subcommand (with_subcommand a (subtract keys).top) verify.top
 
+abbrev pub with_exports : App → App
+with_exports a = with_subcommand (with_subcommand (with_subcommand a annotate.top) csv.top) folded.top
+
 abbrev pub with_reports : ValueParser → App → App
-with_reports keys a = with_comparisons keys (with_calls (with_costs keys a))
+with_reports keys a = with_exports (with_comparisons keys (with_calls (with_costs keys a)))
 
 abbrev pub command_line : ValueParser → App
 command_line keys = with_reports keys (with_members (with_lists (with_files program)))

@@ -18,6 +18,7 @@ use Rattle.command_line.specs.declared.plans.PlanError.{PlanError}
 use Rattle.command_line.specs.declared.plans.PlanError.TheVariants.{Memory, RunAndGroup, LessRunAndLessGroup, Clap}
 use Rattle.command_line.specs.declared.plans.Plan.TheVariants.{Total, Import, Remove, Runs, Group, Join, Leave, Baseline, Groups}
 use Rattle.command_line.specs.declared.plans.Plan.TheVariants.{By, Inclusive, Callers, Callees, Subtract, Verify}
+use Rattle.command_line.specs.declared.plans.Plan.TheVariants as plans
 use Rattle.command_line.specs.declared.plans.Selected.{Selected}
 use Rattle.command_line.specs.declared.plans.Selected.TheVariants as selected
 use Rattle.command_line.specs.Grammar.{IsCommandLine}
@@ -55,6 +56,9 @@ IsSound (Callers db runs event object function) = IsSoundSelection runs
 IsSound (Callees db runs event object function) = IsSoundSelection runs
 IsSound (Subtract db runs less event key) = IsSoundSelection runs × IfSome less IsSoundSelection
 IsSound (Verify db runs) = IsSoundSelection runs
+IsSound (plans.Annotate db runs event file source) = IsSoundSelection runs
+IsSound (plans.Csv db runs) = IsSoundSelection runs
+IsSound (plans.Folded db runs) = IsSoundSelection runs
 IsSound plan = Unit {0}
 
 -- ---- where a plan has its parts from
@@ -141,6 +145,11 @@ IsPlanOf name rows (Subtract db runs less event key) =
     (name ≡ codes "subtract") × HasWord rows (codes "db") db.now × HasSelection rows runs × HasLess rows less
     × HasWord rows (codes "event") event.now × HasWord rows (codes "KEY") (key_word key)
 IsPlanOf name rows (Verify db runs) = (name ≡ codes "verify") × HasWord rows (codes "db") db.now × HasSelection rows runs
+IsPlanOf name rows (plans.Annotate db runs event file source) =
+    (name ≡ codes "annotate") × HasWord rows (codes "db") db.now × HasSelection rows runs × HasWord rows (codes "event") event.now
+    × HasWord rows (codes "file") file.now × HasWord rows (codes "SOURCE") source.now
+IsPlanOf name rows (plans.Csv db runs) = (name ≡ codes "csv") × HasWord rows (codes "db") db.now × HasSelection rows runs
+IsPlanOf name rows (plans.Folded db runs) = (name ≡ codes "folded") × HasWord rows (codes "db") db.now × HasSelection rows runs
 
 -- what is said of a plan for a subcommand
 pub record IsPlanned (name : Text) (rows : List Row) (plan : Plan) : Type 0 where

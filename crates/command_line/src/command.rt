@@ -171,6 +171,55 @@ fn verify<'a>(db: &'a str, words: &ArgMatches<'a>) -> Option<Plan<'a>>
     Some(Plan::Verify { db, selected })
 }
 
+/// A source that is annotated.
+fn annotate<'a>(db: &'a str, words: &ArgMatches<'a>) -> Option<Plan<'a>>
+    requires { HasWord (rows_of (found_of words.now)) (codes "db") db.now }
+    ensures { IfSome result (IsPlanned (codes "annotate") (rows_of (found_of words.now))) }
+{
+    let selected = selected(words)?;
+    let event = word(words, "event")?;
+    let file = word(words, "file")?;
+    let source = word(words, "SOURCE")?;
+    Some(Plan::Annotate {
+        db,
+        selected,
+        event,
+        file,
+        source,
+    })
+}
+
+/// An export of self costs.
+fn csv<'a>(db: &'a str, words: &ArgMatches<'a>) -> Option<Plan<'a>>
+    requires { HasWord (rows_of (found_of words.now)) (codes "db") db.now }
+    ensures { IfSome result (IsPlanned (codes "csv") (rows_of (found_of words.now))) }
+{
+    let selected = selected(words)?;
+    Some(Plan::Csv { db, selected })
+}
+
+/// An export of stacks.
+fn folded<'a>(db: &'a str, words: &ArgMatches<'a>) -> Option<Plan<'a>>
+    requires { HasWord (rows_of (found_of words.now)) (codes "db") db.now }
+    ensures { IfSome result (IsPlanned (codes "folded") (rows_of (found_of words.now))) }
+{
+    let selected = selected(words)?;
+    Some(Plan::Folded { db, selected })
+}
+
+/// The plan for an annotation or an export.
+fn export<'a>(name: &str, db: &'a str, words: &ArgMatches<'a>) -> Option<Plan<'a>>
+    requires { HasWord (rows_of (found_of words.now)) (codes "db") db.now }
+    ensures { IfSome result (IsPlanned name.now (rows_of (found_of words.now))) }
+{
+    match name {
+        "annotate" => annotate(db, words),
+        "csv" => csv(db, words),
+        "folded" => folded(db, words),
+        _ => calls(name, db, words),
+    }
+}
+
 /// The plan for a report.
 fn report<'a>(name: &str, db: &'a str, words: &ArgMatches<'a>) -> Option<Plan<'a>>
     requires { HasWord (rows_of (found_of words.now)) (codes "db") db.now }
@@ -181,7 +230,7 @@ fn report<'a>(name: &str, db: &'a str, words: &ArgMatches<'a>) -> Option<Plan<'a
         "inclusive" => inclusive(db, words),
         "subtract" => subtract(db, words),
         "verify" => verify(db, words),
-        _ => calls(name, db, words),
+        _ => export(name, db, words),
     }
 }
 

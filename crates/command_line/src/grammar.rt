@@ -135,6 +135,14 @@ fn object<'a>(alloc: Global) -> Arg<'a>
     option(alloc, "object", "O", "The object of the function").default_value("???")
 }
 
+/// The option that names the file whose lines are annotated.
+fn annotated<'a>(alloc: Global) -> Arg<'a>
+    ensures rule { rule_of result ≡ line.annotated }
+    ensures local { result.global ≡ false }
+{
+    option(alloc, "file", "NAME", "The name of the file in the profiles").required(true)
+}
+
 /// The word of a key.
 fn key<'a>(alloc: Global, words: &'a [&'a str]) -> Arg<'a>
     ensures rule { rule_of result ≡ line.key (Names words.entry) }
@@ -333,6 +341,20 @@ fn subtract<'a>(alloc: Global, keys: &'a [&'a str]) -> Result<Command<'a>, Alloc
     .arg(key(alloc, keys))
 }
 
+fn annotate<'a>(alloc: Global) -> Result<Command<'a>, AllocError>
+    ensures app { IfOk result (λ command. app_of command ≡ line.annotate) }
+    ensures local { IfOk result (λ command. (fields_of command).has_globals ≡ false) }
+{
+    over_event(
+        alloc,
+        "annotate",
+        "Show a source with the cost of each of its lines",
+        "Example: profhouse annotate --db s.db --event Ir --file main.c src/main.c",
+    )?
+    .arg(annotated(alloc))?
+    .arg(operand(alloc, "SOURCE", "The path of the source"))
+}
+
 /// A command with one more subcommand, where there was memory to make that. What was made of it is
 /// handed on, so that no caller holds a command while another is made: each `?` where one has to be
 /// let go costs a proof of its own.
@@ -478,6 +500,29 @@ fn with_comparisons<'a>(
     with(command, verify)
 }
 
+/// With annotated sources and exports.
+fn with_exports<'a>(alloc: Global, command: Command<'a>) -> Result<Command<'a>, AllocError>
+    requires { (fields_of command).has_globals ≡ false }
+    ensures app { IfOk result (λ more. app_of more ≡ line.with_exports (app_of command.entry)) }
+    ensures local { IfOk result (λ more. (fields_of more).has_globals ≡ false) }
+{
+    let command = with(command, annotate(alloc))?;
+    let csv = over_selection(
+        alloc,
+        "csv",
+        "Write self costs by object, file, function, line and event as CSV",
+        "Example: profhouse csv --db s.db --run 1",
+    );
+    let command = with(command, csv)?;
+    let folded = over_selection(
+        alloc,
+        "folded",
+        "Write the stacks of folded runs with their counts",
+        "Example: profhouse folded --db s.db --group nightly",
+    );
+    with(command, folded)
+}
+
 /// With the reports.
 fn with_reports<'a>(
     alloc: Global,
@@ -490,7 +535,8 @@ fn with_reports<'a>(
 {
     let command = with_costs(alloc, command, keys)?;
     let command = with_calls(alloc, command)?;
-    with_comparisons(alloc, command, keys)
+    let command = with_comparisons(alloc, command, keys)?;
+    with_exports(alloc, command)
 }
 
 /// The program's own command, with no subcommand yet.

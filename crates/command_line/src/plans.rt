@@ -111,6 +111,24 @@ pub enum Plan<'a> {
         db: &'a str,
         selected: Selected<'a>,
     },
+    /// Show the source at a path with the cost of each line, by the name of the file in the runs.
+    Annotate {
+        db: &'a str,
+        selected: Selected<'a>,
+        event: &'a str,
+        file: &'a str,
+        source: &'a str,
+    },
+    /// Write the self costs of all events as CSV.
+    Csv {
+        db: &'a str,
+        selected: Selected<'a>,
+    },
+    /// Write the stacks of folded runs.
+    Folded {
+        db: &'a str,
+        selected: Selected<'a>,
+    },
 }
 
 /// Why there is no plan.

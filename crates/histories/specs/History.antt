@@ -6,8 +6,9 @@ use Rattle.sources.specs.Outcomes.{Outcome, bytes_of}
 use Rattle.histories.specs.declared.answers.Answer.{Answer}
 use Rattle.histories.specs.declared.answers.Answer.TheVariants.{Run, Done}
 use Rattle.histories.specs.declared.answers.Query.{Query}
+use Rattle.histories.specs.declared.answers.Selection.{Selection}
 
--- a command; an import with what the reads of its source came to
+-- a command; an import, and the annotation of a source by an event and the name of a file, with what the reads of the source came to
 pub data Said : Type 0 where
   Import : Kind → List ℕ → List Outcome → Said
   Remove : ℕ → Said
@@ -17,6 +18,7 @@ pub data Said : Type 0 where
   Leave : List ℕ → ℕ → Said
   SetBaseline : List ℕ → ℕ → Said
   Ask : Query → Said
+  Annotate : Selection → List ℕ → List ℕ → List Outcome → Said
 
 -- a command and its answer
 pub record Turn : Type 0 where

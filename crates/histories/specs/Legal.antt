@@ -10,8 +10,9 @@ use Rattle.prof_tables.specs.Labels.{IsLabel, IsGroupName}
 use Rattle.profile_records.specs.declared.kinds.Kind.{Kind}
 use Rattle.histories.specs.Files.{fault_of}
 use Rattle.sources.specs.Outcomes.{Outcome, bytes_of, is_failed, is_end}
-use Rattle.histories.specs.History.{Said, Import, Remove, MakeGroup, DropGroup, Join, Leave, SetBaseline, Ask, History, File, held, next, groups, is_member, baseline}
+use Rattle.histories.specs.History.{Said, Import, Remove, MakeGroup, DropGroup, Join, Leave, SetBaseline, Ask, Annotate, History, File, held, next, groups, is_member, baseline}
 use Rattle.histories.specs.Sums.{excess_of}
+use Rattle.histories.specs.Exports.{annotated_text, csv_of_files, folded_of_files, knows_source}
 use Rattle.histories.specs.Reports.{by_text, calls_text, has_event, inclusive_of_files, knows, subtract_text, verified_text}
 use Rattle.histories.specs.Selections.{selected}
 use Rattle.histories.specs.Texts.{groups_text, runs_text}
@@ -48,6 +49,20 @@ first_or [] last = last
 first_or (Some answer ∷ later) last = answer
 first_or (None ∷ later) last = first_or later last
 
+-- ---- sources
+
+-- what is due by what the reads of a source came to: more than the limit is refused, and then a failed read; nothing is due while the source goes on
+abbrev pub once_read : ℕ → List Outcome → Answer → Option Answer
+once_read limit outcomes due =
+    if nat_lt limit (length (bytes_of outcomes)) then Some (Refused reasons.TooLong)
+    else if list_any is_failed outcomes then Some (Refused reasons.ReadFault)
+    else if list_any is_end outcomes then Some due
+    else None
+
+-- the most bytes of a source that is annotated
+abbrev pub most_of_source : ℕ
+most_of_source = 16777216
+
 -- ---- imports
 
 -- the number of the file with this digest
@@ -69,13 +84,8 @@ file_due limits h kind bytes = first_or
     ∷ [])
     (Run (next h))
 
--- none is due while the source goes on
 abbrev pub expected_of_import : Limits → History → Kind → List Outcome → Option Answer
-expected_of_import limits h kind outcomes =
-    if nat_lt limits.bytes (length (bytes_of outcomes)) then Some (Refused reasons.TooLong)
-    else if list_any is_failed outcomes then Some (Refused reasons.ReadFault)
-    else if list_any is_end outcomes then Some (file_due limits h kind (bytes_of outcomes))
-    else None
+expected_of_import limits h kind outcomes = once_read limits.bytes outcomes (file_due limits h kind (bytes_of outcomes))
 
 -- ---- all commands
 
@@ -105,6 +115,10 @@ no_event event files = when (not (list_any (has_event event) files)) (Refused re
 -- a function that no file tells of
 abbrev pub no_name : Spot → List File → Option Answer
 no_name f files = when (not (list_any (knows f) files)) (Refused reasons.NoSuchName)
+
+-- a source file whose lines cost nothing in any file
+abbrev pub no_source : List ℕ → List File → Option Answer
+no_source name files = when (not (list_any (knows_source name) files)) (Refused reasons.NoSuchName)
 
 -- what a selection is compared with: what is given, or else the baseline of the group that it is
 abbrev pub compared : History → Selection → Option Selection → Option Selection
@@ -136,6 +150,11 @@ expected_of_query h (queries.Subtract first second key event) =
     let firsts = selected h first in
     let seconds = files_of h (compared h first second) in
     first_or (no_selection h first ∷ no_second h (compared h first second) ∷ no_event event (firsts ++ seconds) ∷ []) (Text (subtract_text key event firsts seconds))
+expected_of_query h (queries.Annotate selection event name source) =
+    let files = selected h selection in
+    first_or (no_selection h selection ∷ no_event event files ∷ no_source name files ∷ []) (Text (annotated_text event name source files))
+expected_of_query h (queries.Csv selection) = first_or (no_selection h selection ∷ []) (Text (csv_of_files (selected h selection)))
+expected_of_query h (queries.Folded selection) = first_or (no_selection h selection ∷ []) (Text (folded_of_files (selected h selection)))
 
 -- ---- each command
 
@@ -150,6 +169,8 @@ expected_answer limits h (Join name n) = Some (first_or (no_group h name ∷ no_
 expected_answer limits h (Leave name n) = Some (first_or (no_group h name ∷ no_run h n ∷ []) Done)
 expected_answer limits h (SetBaseline name n) = Some (first_or (no_group h name ∷ no_run h n ∷ []) Done)
 expected_answer limits h (Ask query) = Some (expected_of_query h query)
+expected_answer limits h (Annotate selection event file outcomes) =
+    once_read most_of_source outcomes (expected_of_query h (queries.Annotate selection event file (bytes_of outcomes)))
 
 -- out of memory, or a database call that failed
 abbrev pub IsFailure : Answer → Type 0

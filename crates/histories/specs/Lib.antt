@@ -1,4 +1,5 @@
 pub mod Entries
+pub mod Exports
 pub mod Files
 pub mod History
 pub mod Legal

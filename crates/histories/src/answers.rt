@@ -44,7 +44,7 @@ pub enum Refusal {
     /// No file of those that were selected has this event.
     NoSuchEvent,
     /// No file of those that were selected knows this function: none of its lines costs anything, it
-    /// neither calls nor is called, and it is in no stack.
+    /// neither calls nor is called, and it is in no stack. Or no line of this source file costs anything.
     NoSuchName,
     /// There is nothing to compare with: no second selection was given, and the first is no group with
     /// a baseline.
@@ -97,6 +97,17 @@ pub enum Query {
         key: Key,
         event: ListVec<u8>,
     },
+    /// What each line of a source costs, by the name of its file in the runs.
+    Annotate {
+        selection: Selection,
+        event: ListVec<u8>,
+        file: ListVec<u8>,
+        source: ListVec<u8>,
+    },
+    /// The self costs of all events, as CSV.
+    Csv(Selection),
+    /// The stacks of folded runs, with their counts.
+    Folded(Selection),
 }
 
 /// What a command is answered.

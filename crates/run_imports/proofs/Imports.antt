@@ -67,7 +67,7 @@ module _ (limits : Limits) (h : History) (kind : Kind) (label : List ℕ) (outco
   bytes = bytes_of outcomes
 
   pub ended_due : expected_answer limits h (Import kind label outcomes) ≡ Some (file_due limits h kind bytes)
-  ended_due = by_reads.ended_due limits h kind outcomes ended.reads.within ended.reads.unfailed ended.ended
+  ended_due = by_reads.ended_due limits.bytes outcomes (file_due limits h kind bytes) ended.reads.within ended.reads.unfailed ended.ended
 
   abbrev by_answers : Option ℕ → Option (faults.Fault × ℕ) → Answer
   by_answers found fault = first_or

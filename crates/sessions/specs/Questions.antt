@@ -22,3 +22,5 @@ query_said (questions.Verify selected) = queries.Verify (selection_said selected
 query_said (questions.Inclusive selected event) = queries.Inclusive (selection_said selected) event.now
 query_said (questions.Calls selected side event object function) = queries.Calls (selection_said selected) side event.now object.now function.now
 query_said (questions.Subtract selected less key event) = queries.Subtract (selection_said selected) (option_map selection_said less) key event.now
+query_said (questions.Csv selected) = queries.Csv (selection_said selected)
+query_said (questions.Folded selected) = queries.Folded (selection_said selected)

@@ -15,7 +15,8 @@ use Rattle.store_histories.specs.Answered.{HasHistory, Links}
 use Rattle.program_files.specs.Imported.{WereRead}
 use Rattle.store_commands.specs.Changes.{change_said}
 use Rattle.answer_lines.specs.Answers.{is_refused, line_text}
-use Rattle.sessions.specs.Questions.{query_said}
+use Rattle.histories.specs.declared.answers.Selection.{Selection}
+use Rattle.sessions.specs.Questions.{query_said, selection_said}
 use Rattle.sessions.specs.declared.session.Session.{Session}
 use Rattle.sessions.specs.declared.session.Work.{Work}
 use Rattle.sessions.specs.declared.session.Work.TheVariants as works
@@ -28,11 +29,16 @@ AreImports reads kind [] [] = Unit {0}
 AreImports reads kind (path ∷ paths) (said ∷ later) = (outcomes : List Outcome) × reads outcomes × (said ≡ history.Import kind path outcomes) × AreImports reads kind paths later
 AreImports reads kind paths list = ⊥
 
+-- the annotation of a source, with reads of a file
+abbrev pub IsAnnotation : (List Outcome → Type 0) → Selection → List ℕ → List ℕ → List Said → Type 0
+IsAnnotation reads selection event file list = (outcomes : List Outcome) × reads outcomes × (list ≡ history.Annotate selection event file outcomes ∷ [])
+
 abbrev pub AreOf : (List Outcome → Type 0) → Work → List Said → Type 0
 AreOf reads (works.Import kind paths) list = AreImports reads kind (map (λ path. path.now) paths) list
 AreOf reads (works.Remove numbers) list = list ≡ map history.Remove numbers
 AreOf reads (works.Group name change) list = list ≡ change_said change name.now ∷ []
 AreOf reads (works.Ask question) list = list ≡ history.Ask (query_said question) ∷ []
+AreOf reads (works.Annotate selected event file source) list = IsAnnotation reads (selection_said selected) event.now file.now list
 
 -- the same, where the reads are those of files
 abbrev pub Wants : {F : Type 0} → (F → Option (List ℕ)) → Work → List Said → Type 0

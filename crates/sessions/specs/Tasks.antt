@@ -3,12 +3,12 @@ use Rattle.std.specs.Prelude.{◌≡◌, ℕ, Bool, IsTrue, true, false, List, [
 use Rattle.command_line.specs.declared.plans.Plan.{Plan}
 use Rattle.command_line.specs.declared.plans.Plan.TheVariants as plans
 use Rattle.histories.specs.History.{Said, Remove, MakeGroup, DropGroup, Join, Leave, SetBaseline, Ask}
-use Rattle.histories.specs.declared.answers.Query.TheVariants.{Runs, Groups, By, Verify, Inclusive, Calls, Subtract}
+use Rattle.histories.specs.declared.answers.Query.TheVariants.{Runs, Groups, By, Verify, Inclusive, Calls, Subtract, Csv, Folded}
 use Rattle.cost_reports.specs.declared.call_sides.CallSide.TheVariants as sides
 use Rattle.cost_reports.specs.declared.cuts.Cut.{Cut}
 use Rattle.sources.specs.Outcomes.{Outcome}
 use Rattle.sessions.specs.Questions.{selection_said}
-use Rattle.sessions.specs.Sessions.{AreImports, AreOf}
+use Rattle.sessions.specs.Sessions.{AreImports, AreOf, IsAnnotation}
 use Rattle.sessions.specs.declared.tasks.Task.{Task}
 use Rattle.sessions.specs.declared.tasks.Task.TheVariants as tasks
 
@@ -38,8 +38,18 @@ AreSaidBy reads (plans.Callees db selected event object function) store list =
 AreSaidBy reads (plans.Subtract db selected less event key) store list =
     (store ≡ db.now) × (list ≡ Ask (Subtract (selection_said selected) (option_map selection_said less) key event.now) ∷ [])
 AreSaidBy reads (plans.Verify db selected) store list = (store ≡ db.now) × (list ≡ Ask (Verify (selection_said selected)) ∷ [])
+AreSaidBy reads (plans.Annotate db selected event file source) store list = (store ≡ db.now) × IsAnnotation reads (selection_said selected) event.now file.now list
+AreSaidBy reads (plans.Csv db selected) store list = (store ≡ db.now) × (list ≡ Ask (Csv (selection_said selected)) ∷ [])
+AreSaidBy reads (plans.Folded db selected) store list = (store ≡ db.now) × (list ≡ Ask (Folded (selection_said selected)) ∷ [])
 
--- the plans that ask for a report
+-- the plans that ask for an annotated source or an export
+abbrev pub Exports : Plan → Type 0
+Exports (plans.Annotate db selected event file source) = Unit {0}
+Exports (plans.Csv db selected) = Unit {0}
+Exports (plans.Folded db selected) = Unit {0}
+Exports plan = ⊥
+
+-- the plans that ask for a report, an annotated source or an export
 abbrev pub Asks : Plan → Type 0
 Asks (plans.By db selected event limit threshold key) = Unit {0}
 Asks (plans.Inclusive db selected event) = Unit {0}
@@ -47,6 +57,9 @@ Asks (plans.Callers db selected event object function) = Unit {0}
 Asks (plans.Callees db selected event object function) = Unit {0}
 Asks (plans.Subtract db selected less event key) = Unit {0}
 Asks (plans.Verify db selected) = Unit {0}
+Asks (plans.Annotate db selected event file source) = Unit {0}
+Asks (plans.Csv db selected) = Unit {0}
+Asks (plans.Folded db selected) = Unit {0}
 Asks plan = ⊥
 
 -- a task does what a plan says: a total for a total, and over the store of the plan commands that it says, whatever is asked of the reads of files

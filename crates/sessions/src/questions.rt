@@ -46,17 +46,21 @@ pub enum Question<'a> {
         key: Key,
         event: &'a str,
     },
+    /// The self costs of all events, as CSV.
+    Csv(Selected<'a>),
+    /// The stacks of folded runs.
+    Folded(Selected<'a>),
 }
 
 /// The bytes of a name.
-fn bytes_of(alloc: Global, name: &str) -> Result<ListVec<u8>, AllocError>
+pub(crate) fn bytes_of(alloc: Global, name: &str) -> Result<ListVec<u8>, AllocError>
     ensures { IfOk result (λ bytes. bytes ≡ name.now) }
 {
     Ok(ListVec::from_vec(Vec::from_slice(alloc, name.as_bytes())?))
 }
 
 /// The selection of the runs that are selected.
-fn selection_of(alloc: Global, selected: Selected<'_>) -> Result<Selection, AllocError>
+pub(crate) fn selection_of(alloc: Global, selected: Selected<'_>) -> Result<Selection, AllocError>
     ensures { IfOk result (λ selection. selection ≡ selection_said selected.entry) }
 {
     match selected {
@@ -178,5 +182,7 @@ pub(crate) fn query_of(alloc: Global, question: Question<'_>) -> Result<Query, A
             key,
             event,
         } => subtract_query(alloc, selected, less, key, event),
+        Question::Csv(selected) => Ok(Query::Csv(selection_of(alloc, selected)?)),
+        Question::Folded(selected) => Ok(Query::Folded(selection_of(alloc, selected)?)),
     }
 }

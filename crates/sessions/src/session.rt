@@ -1,21 +1,22 @@
 // Commands over an opened store, each with its answer printed as it is there.
-ghost use Rattle.std.specs.Prelude.{◌≡◌, ◌↔◌, IsTrue, List, [], ◌∷◌, map};
+ghost use Rattle.std.specs.Prelude.{◌≡◌, ◌↔◌, IfOk, IsTrue, List, [], ◌∷◌, map};
 ghost use Rattle.prof_store.specs.Shown.{IsFaithful, IsUsable};
 ghost use Rattle.sources.specs.Outcomes.{Outcome};
-ghost use Rattle.histories.specs.History.{History, Said, Ask, Import, Remove};
+ghost use Rattle.histories.specs.History.{History, Said, Annotate, Ask, Import, Remove};
 ghost use Rattle.histories.specs.Legal.{IsInForm, IsLegal};
 ghost use Rattle.histories.specs.declared.answers.Answer.TheVariants as answers;
 ghost use Rattle.store_histories.specs.Answered.{HasHistory};
 ghost use Rattle.warehouse.specs.Answered.{Says};
 ghost use Rattle.program_files.specs.Imported.{FileReads, WereRead};
-ghost use Rattle.sessions.specs.Questions.{query_said};
+ghost use Rattle.sessions.specs.Questions.{query_said, selection_said};
 ghost use Rattle.store_commands.specs.Changes.{change_said};
 ghost use Rattle.sessions.specs.Sessions.{AreImports, Prints, Wants, WasRun, WasTold, status_after};
 
-use crate::questions::{Question, query_of};
+use crate::questions::{Question, bytes_of, query_of, selection_of};
 use answer_lines::{is_refused, line_of};
 use cg_text::ListVec;
-use histories::{Answer, Refusal};
+use command_line::Selected;
+use histories::{Answer, Refusal, Selection};
 use prof_store::is_group_name;
 use profile_records::Kind;
 use program_files::FileSource;
@@ -38,12 +39,50 @@ pub enum Work<'a> {
     Group(&'a str, GroupChange),
     /// Ask a question.
     Ask(Question<'a>),
+    /// Annotate the source at a path, by the name of its file in the runs.
+    Annotate {
+        selected: Selected<'a>,
+        event: &'a str,
+        file: &'a str,
+        source: &'a str,
+    },
 }
 
-/// Prints an answer. Where there is no memory for its line, it says so, and the command stands.
+/// What is asked of a source: of which runs, in which event, and by the name of which file.
+#[derive(Drop)]
+struct Asked {
+    selection: Selection,
+    event: ListVec<u8>,
+    file: ListVec<u8>,
+}
+
+/// What is asked of a source, from the words of a command line.
+fn asked_of(
+    alloc: Global,
+    selected: Selected<'_>,
+    event: &str,
+    file: &str,
+) -> Result<Asked, AllocError>
+    ensures { IfOk result (λ asked. asked ≡ record { selection = selection_said selected.entry; event = event.now; file = file.now }) }
+{
+    let selection = selection_of(alloc, selected)?;
+    let event = bytes_of(alloc, event)?;
+    let file = bytes_of(alloc, file)?;
+    Ok(Asked {
+        selection,
+        event,
+        file,
+    })
+}
+
+/// Prints an answer: a text from where it lies, since it may be long. Where there is no memory for a line,
+/// it says so, and the command stands.
 fn print_answer<W: Write>(out: &mut W, alloc: Global, answer: &Answer) -> io::Result<()>
     ensures { Prints result (answer.now ∷ []) (W.contents out.old) (W.contents out.new) }
 {
+    if let Answer::Text(text) = answer {
+        return write_text(out, text.as_slice());
+    }
     match line_of(alloc, answer) {
         Ok(line) => write_text(out, line.as_slice()),
         Err(AllocError) => write_text(out, b"refused: out of memory\n"),
@@ -197,6 +236,29 @@ impl<'a, R: Files + AllocGlobal, W: Write + Drop, S: Alter> Session<'a, R, W, S>
         }
     }
 
+    /// Annotates the source at a path.
+    fn annotate(
+        &mut self,
+        selected: Selected<'a>,
+        event: &'a str,
+        file: &'a str,
+        path: &'a str,
+    ) -> io::Result<()>
+        ensures limits { self.new.warehouse.limits ≡ self.old.warehouse.limits }
+        ensures answered { IsFaithful S.Store self.new.warehouse.store → (outcomes : List Outcome) × WereRead R.File.remaining outcomes
+            × WasTold S.Store W.contents (Annotate (selection_said selected.entry) event.now file.now outcomes) result self.old self.new }
+    {
+        let alloc = self.rt.alloc();
+        let Ok(asked) = asked_of(alloc, selected, event, file) else {
+            return self.refuse(Refusal::Memory);
+        };
+        let mut source = FileSource::new(self.rt, path);
+        let answer =
+            self.warehouse
+                .annotate(alloc, asked.selection, asked.event, asked.file, &mut source);
+        self.tell(answer)
+    }
+
     /// Runs the commands that a work comes to, and prints their answers. It stops where printing fails.
     pub fn run(&mut self, work: Work<'a>) -> io::Result<()>
         ensures limits { self.new.warehouse.limits ≡ self.old.warehouse.limits }
@@ -207,6 +269,12 @@ impl<'a, R: Files + AllocGlobal, W: Write + Drop, S: Alter> Session<'a, R, W, S>
             Work::Remove(numbers) => self.remove(numbers.as_slice()),
             Work::Group(name, change) => self.change_group(name, change),
             Work::Ask(question) => self.ask(question),
+            Work::Annotate {
+                selected,
+                event,
+                file,
+                source,
+            } => self.annotate(selected, event, file, source),
         }
     }
 }

@@ -1,6 +1,6 @@
 // What is to be done for a plan.
 ghost use Rattle.std.specs.Prelude.{◌≡◌};
-ghost use Rattle.sessions.specs.Tasks.{Asks, IsTaskOf, cut_said};
+ghost use Rattle.sessions.specs.Tasks.{Asks, Exports, IsTaskOf, cut_said};
 ghost use Rattle.sessions.specs.declared.questions.Question.TheVariants.{By, Calls, Subtract};
 ghost use Rattle.sessions.specs.declared.session.Work.TheVariants.{Ask};
 ghost use Rattle.sessions.specs.declared.tasks.Task.TheVariants.{Over};
@@ -81,6 +81,33 @@ fn ask_to_subtract<'a>(
     })
 }
 
+/// The task of a plan that asks for an annotated source or an export.
+fn export_task<'a>(plan: Plan<'a>) -> Task<'a>
+    requires { Exports plan }
+    ensures { IsTaskOf plan.entry result }
+{
+    match plan {
+        Plan::Annotate {
+            db,
+            selected,
+            event,
+            file,
+            source,
+        } => Task::Over(
+            db,
+            Work::Annotate {
+                selected,
+                event,
+                file,
+                source,
+            },
+        ),
+        Plan::Csv { db, selected } => Task::Over(db, Work::Ask(Question::Csv(selected))),
+        Plan::Folded { db, selected } => Task::Over(db, Work::Ask(Question::Folded(selected))),
+        _ => unreachable!(),
+    }
+}
+
 /// The task of a plan that asks for a report.
 fn report_task<'a>(plan: Plan<'a>) -> Task<'a>
     requires { Asks plan }
@@ -122,7 +149,7 @@ fn report_task<'a>(plan: Plan<'a>) -> Task<'a>
             key,
         } => Task::Over(db, ask_to_subtract(selected, less, key, event)),
         Plan::Verify { db, selected } => Task::Over(db, Work::Ask(Question::Verify(selected))),
-        _ => unreachable!(),
+        export => export_task(export),
     }
 }
 

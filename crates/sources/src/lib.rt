@@ -9,8 +9,11 @@ mod reading;
 mod source;
 // The trait of what takes bytes.
 mod takes;
+// Keeps the bytes of a source.
+mod whole;
 
 pub use opened::Opened;
 pub use reading::{Unread, read_all};
 pub use source::{ReadFault, Source};
 pub use takes::TakesBytes;
+pub use whole::read_whole;

@@ -19,9 +19,9 @@ use Rattle.histories.specs.declared.answers.Query.TheVariants.{Verify}
 use Rattle.histories.specs.declared.answers.Refusal.{Refusal}
 use Rattle.histories.specs.declared.answers.Selection.{Selection}
 use Rattle.store_reports.specs.Checked.{IsChecked, IsRunChecked, AreChecked}
-use Rattle.store_reports.specs.Selected.{AreSelected}
-use Rattle.store_reports.proofs.HeadLemmas.{held_head_told, line_of, verified_told}
-use Rattle.store_reports.proofs.ReportLemmas.{selected_held}
+use Rattle.selected_runs.specs.Selected.{AreSelected}
+use Rattle.selected_runs.proofs.HeadLemmas.{held_head_told, line_of, verified_told}
+use Rattle.selected_runs.proofs.RunLemmas.{selected_held}
 
 -- ---- one after another
 

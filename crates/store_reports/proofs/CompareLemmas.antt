@@ -24,10 +24,10 @@ use Rattle.histories.specs.declared.answers.Selection.TheVariants as selections
 use Rattle.histories.proofs.Runs.{tells_group_of}
 use Rattle.histories.proofs.Tests.{any-append, bytes-self}
 use Rattle.store_reports.specs.Compared.{AnswersDifference, AreCompared}
-use Rattle.store_reports.specs.Counted.{AreCounted, has_counts}
-use Rattle.store_reports.specs.Selected.{AreSelected}
-use Rattle.store_reports.proofs.ReportLemmas.{runs_cost, runs_have_event}
-use Rattle.store_reports.proofs.SelectLemmas.{group_there}
+use Rattle.selected_runs.specs.Counted.{AreCounted, has_counts}
+use Rattle.selected_runs.specs.Selected.{AreSelected}
+use Rattle.selected_runs.proofs.RunLemmas.{runs_cost, runs_have_event}
+use Rattle.selected_runs.proofs.SelectLemmas.{group_there}
 
 -- ---- the baseline of a group
 

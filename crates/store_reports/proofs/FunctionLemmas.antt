@@ -40,11 +40,11 @@ use Rattle.histories.specs.declared.answers.Refusal.TheVariants.{NoSuchName}
 use Rattle.histories.specs.declared.answers.Selection.{Selection}
 use Rattle.histories.proofs.Runs.{tells_rows}
 use Rattle.histories.proofs.Tests.{any-append}
-use Rattle.store_reports.specs.EventRuns.{AreEventRuns}
+use Rattle.selected_runs.specs.EventRuns.{AreEventRuns}
 use Rattle.store_reports.specs.FunctionCalls.{AreArcsOf, AreTakenFrom, IsCallsText, IsTakenFrom, Taken, is_in_cells, is_in_rows, is_in_stacks, not_taken, touches, with_call, with_cell_sought, with_row_of_calls, with_stack_sought}
-use Rattle.store_reports.specs.declared.counting.Counted.{Counted}
-use Rattle.store_reports.proofs.EventLemmas.{both_held}
-use Rattle.store_reports.proofs.ReportLemmas.{AreRunsOf, are_runs, selected_held}
+use Rattle.selected_runs.specs.declared.counting.Counted.{Counted}
+use Rattle.selected_runs.proofs.EventLemmas.{both_held}
+use Rattle.selected_runs.proofs.RunLemmas.{AreRunsOf, are_runs, selected_held}
 
 -- ---- rows, taken one after another
 

@@ -39,12 +39,12 @@ use Rattle.histories.specs.declared.answers.Refusal.{Refusal}
 use Rattle.histories.specs.declared.answers.Selection.{Selection}
 use Rattle.histories.proofs.Runs.{tells_rows}
 use Rattle.std.specs.Prelude.{Ok, Err}
-use Rattle.store_reports.specs.EventRuns.{AreEventRuns}
+use Rattle.selected_runs.specs.EventRuns.{AreEventRuns}
 use Rattle.store_reports.specs.InclusiveRuns.{Adds, AreRowsOf, AreRowsOfKind, AreRowsOfRuns, IsInclusiveText, call_rows, own_rows, with_call_row, with_own_row, with_stack_row}
-use Rattle.store_reports.specs.declared.counting.Counted.{Counted}
-use Rattle.store_reports.proofs.EventLemmas.{both_held}
+use Rattle.selected_runs.specs.declared.counting.Counted.{Counted}
+use Rattle.selected_runs.proofs.EventLemmas.{both_held}
 use Rattle.store_reports.proofs.KindLemmas.{kind_told}
-use Rattle.store_reports.proofs.ReportLemmas.{AreRunsOf, IsRunOf, are_runs, selected_held}
+use Rattle.selected_runs.proofs.RunLemmas.{AreRunsOf, IsRunOf, are_runs, selected_held}
 
 -- ---- rows of one kind, taken one after another
 

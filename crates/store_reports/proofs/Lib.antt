@@ -1,15 +1,8 @@
-mod AskLemmas
+mod ByLemmas
 mod CheckLemmas
 mod CompareLemmas
-mod CountedLemmas
-mod EventLemmas
 mod FunctionLemmas
-mod HeadLemmas
 mod InclusiveLemmas
 mod KindLemmas
 mod MergeLemmas
-mod ReportLemmas
-mod SelectLemmas
-mod ShortLemmas
-mod StatedLemmas
 mod WeightLemmas

@@ -14,9 +14,9 @@ use Rattle.cost_reports.specs.declared.cuts.Cut.{Cut}
 use Rattle.prof_books.specs.Book.{cells_held}
 use Rattle.prof_tables.specs.Tables.{Tables}
 use Rattle.store_reports.specs.Compared.{costs_over}
-use Rattle.store_reports.specs.Counted.{event_cells}
+use Rattle.selected_runs.specs.Counted.{event_cells}
 use Rattle.store_reports.specs.Reported.{merged_from, report_over}
-use Rattle.store_reports.specs.declared.counting.Counted.{Counted}
+use Rattle.selected_runs.specs.declared.counting.Counted.{Counted}
 
 -- ---- the cells of one run
 

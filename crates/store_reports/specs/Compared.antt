@@ -15,8 +15,8 @@ use Rattle.histories.specs.declared.answers.Answer.TheVariants.{Text, Refused}
 use Rattle.histories.specs.declared.answers.Refusal.{Refusal}
 use Rattle.histories.specs.declared.answers.Refusal.TheVariants.{NoSuchEvent}
 use Rattle.histories.specs.declared.answers.Selection.{Selection}
-use Rattle.store_reports.specs.Counted.{AreCounted, event_cells, has_counts}
-use Rattle.store_reports.specs.declared.counting.Counted.{Counted}
+use Rattle.selected_runs.specs.Counted.{AreCounted, event_cells, has_counts}
+use Rattle.selected_runs.specs.declared.counting.Counted.{Counted}
 
 -- the numbers of the files of a selection that another is compared with, if there is one; or why there are none
 abbrev pub AreCompared : History → Option Selection → Result (List ℕ) Refusal → Type 0

@@ -13,7 +13,7 @@ use Rattle.cost_reports.specs.declared.call_sides.CallSide.{CallSide}
 use Rattle.prof_books.specs.Book.{cells_held, stacks_held}
 use Rattle.prof_tables.specs.Tables.{Tables}
 use Rattle.held_runs.specs.HandedCalls.{AreCallsOf}
-use Rattle.store_reports.specs.declared.counting.Counted.{Counted}
+use Rattle.selected_runs.specs.declared.counting.Counted.{Counted}
 use Rattle.store_reports.specs.declared.function_calls.FunctionCalls.{FunctionCalls}
 
 -- a row of calls that cost so much in the event

@@ -13,7 +13,7 @@ use Rattle.profile_records.specs.declared.kinds.Kind.{Kind}
 use Rattle.profile_records.specs.declared.kinds.Kind.TheVariants.{Callgrind, Folded}
 use Rattle.held_runs.specs.HandedCalls.{AreCallsOf}
 use Rattle.held_runs.specs.Lookups.{IsKindOf}
-use Rattle.store_reports.specs.declared.counting.Counted.{Counted}
+use Rattle.selected_runs.specs.declared.counting.Counted.{Counted}
 
 -- ---- one row, of a run whose columns count so often
 

@@ -1,9 +1,5 @@
 pub mod Checked
 pub mod Compared
-pub mod Counted
-pub mod EventRuns
 pub mod FunctionCalls
-pub mod Heads
 pub mod InclusiveRuns
 pub mod Reported
-pub mod Selected

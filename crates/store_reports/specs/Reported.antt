@@ -8,8 +8,8 @@ use Rattle.cost_reports.specs.KeyTexts.{key_report_text}
 use Rattle.cost_reports.specs.declared.cuts.Cut.{Cut}
 use Rattle.prof_books.specs.Book.{cells_held}
 use Rattle.prof_tables.specs.Tables.{Tables}
-use Rattle.store_reports.specs.Counted.{event_cells}
-use Rattle.store_reports.specs.declared.counting.Counted.{Counted}
+use Rattle.selected_runs.specs.Counted.{event_cells}
+use Rattle.selected_runs.specs.declared.counting.Counted.{Counted}
 
 -- the cells of a run are added, each as often as its column counts
 abbrev pub merged_with : Tables → ℕ → List ℕ → Sums → Sums

@@ -9,8 +9,6 @@ ghost use Rattle.histories.specs.declared.answers.Query.TheVariants.{Calls};
 ghost use Rattle.store_histories.specs.Answered.{Asks as AnswersAsked};
 ghost use Rattle.store_reports.specs.FunctionCalls.{AreTakenFrom, IsCallsText, IsTakenFrom, is_in_rows, not_taken, taken_of};
 
-use crate::counting::Counted;
-use crate::event_runs::event_runs;
 use crate::function_calls::{CallRows, FunctionCalls};
 use crate::known_names::is_in_runs;
 use cg_text::ListVec;
@@ -18,6 +16,7 @@ use cost_reports::{CallSide, CallSums, calls};
 use held_runs::{HeldNames, each_call, names_of};
 use histories::{Answer, Refusal, Selection};
 use prof_store::{Store, StoreError};
+use selected_runs::{Counted, event_runs};
 use sqlite::Alter;
 use std::alloc::Global;
 

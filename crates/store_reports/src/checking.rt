@@ -7,12 +7,12 @@ ghost use Rattle.histories.specs.declared.answers.Query.TheVariants.{Verify};
 ghost use Rattle.store_histories.specs.Answered.{Asks as AnswersAsked};
 ghost use Rattle.store_reports.specs.Checked.{IsChecked, AreChecked};
 
-use crate::selecting::select_runs;
 use cg_text::ListVec;
 use cost_reports::verify;
 use held_runs::{head_of, sums_of};
 use histories::{Answer, Selection};
 use prof_store::{Store, StoreError};
+use selected_runs::select_runs;
 use sqlite::Alter;
 use std::alloc::Global;
 

@@ -8,18 +8,16 @@ ghost use Rattle.histories.specs.declared.answers.Query.TheVariants.{Subtract};
 ghost use Rattle.histories.specs.declared.answers.Selection.TheVariants as selections;
 ghost use Rattle.store_histories.specs.Answered.{Asks as AnswersAsked, has_changed};
 ghost use Rattle.store_reports.specs.Compared.{AnswersDifference, AreCompared, difference_over};
-ghost use Rattle.store_reports.specs.Selected.{ToldOf};
+ghost use Rattle.selected_runs.specs.Selected.{ToldOf};
 
-use crate::counting::{Counted, count_runs};
-use crate::event_runs::have_event;
 use crate::merging::merge_runs;
-use crate::selecting::{Numbers, name_text, one_run, select_runs};
 use cg_text::ListVec;
 use cost_reports::subtract;
 use cost_rows::Key;
 use held_runs::{baseline_of, names_of};
 use histories::{Answer, Refusal, Selection};
 use prof_store::{Store, StoreError};
+use selected_runs::{Counted, Numbers, count_runs, have_event, name_text, one_run, select_runs};
 use sqlite::Alter;
 use std::alloc::Global;
 

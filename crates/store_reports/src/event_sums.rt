@@ -1,8 +1,8 @@
 // The cells of runs, added up by key in the event that is asked.
-use crate::weights::{cost_within, times_of};
 use cost_rows::{CellRow, Merged};
 use held_runs::TakesCells;
 use prof_store::StoreError;
+use selected_runs::{cost_within, times_of};
 
 /// Sums by key, and how often each column of the run that is read counts in the event.
 #[derive(Drop)]

@@ -4,12 +4,13 @@ ghost use Rattle.cost_reports.specs.Calls.{calls_of_row};
 ghost use Rattle.cost_reports.specs.Functions.{function_spot};
 ghost use Rattle.store_reports.specs.FunctionCalls.{taken_of, touches, with_call};
 
-use crate::weights::{is_within, weighed_within, with_cost};
+use crate::weights::{weighed_within, with_cost};
 use cg_text::ListVec;
 use cost_reports::CallSums;
 use cost_rows::ArcRow;
 use held_runs::TakesCalls;
 use prof_store::StoreError;
+use selected_runs::is_within;
 
 /// The calls of a function that are asked, and whether any call was from it or to it.
 #[derive(Drop)]

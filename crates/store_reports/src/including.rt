@@ -9,8 +9,6 @@ ghost use Rattle.histories.specs.declared.answers.Query.TheVariants.{Inclusive};
 ghost use Rattle.store_histories.specs.Answered.{Asks as AnswersAsked};
 ghost use Rattle.store_reports.specs.InclusiveRuns.{Adds, AreRowsCounted, AreRowsOf, AreRowsOfKind, AreRowsOfRuns, IsInclusiveText};
 
-use crate::counting::Counted;
-use crate::event_runs::event_runs;
 use crate::inclusive_sums::InclusiveRows;
 use cg_text::ListVec;
 use cost_reports::{InclusiveSums, inclusive};
@@ -18,6 +16,7 @@ use held_runs::{HeldNames, each_call, each_cell, each_stack, kind_of, names_of};
 use histories::{Answer, Selection};
 use prof_store::{Store, StoreError};
 use profile_records::Kind;
+use selected_runs::{Counted, event_runs};
 use sqlite::Alter;
 use std::alloc::Global;
 

@@ -1,10 +1,11 @@
 // The rows of runs, added up to what functions cost with all that they call.
-use crate::weights::{cost_within, is_within, most_of, times_of, weighed_within, with_cost};
+use crate::weights::{most_of, weighed_within, with_cost};
 use cg_text::ListVec;
 use cost_reports::InclusiveSums;
 use cost_rows::{ArcRow, CellRow, StackRow};
 use held_runs::{TakesCalls, TakesCells, TakesStacks};
 use prof_store::StoreError;
+use selected_runs::{cost_within, is_within, times_of};
 
 /// Inclusive costs, and how often each column of the run that is read counts in the event.
 #[derive(Drop)]

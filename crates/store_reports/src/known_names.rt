@@ -7,11 +7,11 @@ ghost use Rattle.prof_store.specs.Shown.{Told};
 ghost use Rattle.held_runs.specs.Walks.{AsksIfOpen};
 ghost use Rattle.store_reports.specs.FunctionCalls.{is_in_rows};
 
-use crate::counting::Counted;
 use cost_reports::is_frame;
 use cost_rows::{CellRow, StackRow};
 use held_runs::{HeldNames, TakesCells, TakesStacks, each_cell, each_stack};
 use prof_store::{Store, StoreError};
+use selected_runs::Counted;
 use sqlite::Alter;
 
 /// A function, and whether it was found.

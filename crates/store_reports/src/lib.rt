@@ -1,5 +1,5 @@
-//! Reports over a store: which runs a selection names, how often their events count in the one that is
-//! asked, and the answers, which are those of the files: the cells of these runs come to their records.
+//! Reports over a store: questions of costs, calls and differences, answered over the runs that a selection
+//! names. The answers are those of the files: the rows of these runs come to their records.
 #![tactic(auto)]
 
 // Answers `callers` and `callees` (specs/FunctionCalls.antt).
@@ -8,10 +8,6 @@ mod calling;
 mod checking;
 // Answers `subtract` (specs/Compared.antt).
 mod comparing;
-// How often the columns of runs count in the event (specs/Counted.antt).
-mod counting;
-// The runs of a selection that an event is asked of.
-mod event_runs;
 // The cells of runs, added up by key.
 mod event_sums;
 // The calls of a function, row by row.
@@ -22,22 +18,18 @@ mod including;
 mod inclusive_sums;
 // Looks for a function in the rows of runs.
 mod known_names;
-// Laws: what runs that are held tell of their files.
+// Laws: what reports come to.
 mod laws;
 // The sums of runs, by key.
 mod merging;
 // Answers `by` (specs/Reported.antt).
 mod reporting;
-// Finds the runs of a selection (specs/Selected.antt).
-mod selecting;
 // What rows cost in the event, within bounds.
 mod weights;
 
 pub use calling::calls_answer;
 pub use checking::verify_answer;
 pub use comparing::subtract_answer;
-pub use counting::{Counted, count_runs};
 pub use including::inclusive_answer;
-pub use laws::{heads_are_told, reports_sum_to_the_records, runs_cost_what_files_cost};
+pub use laws::reports_sum_to_the_records;
 pub use reporting::by_answer;
-pub use selecting::{Numbers, select_runs};

@@ -6,11 +6,11 @@ ghost use Rattle.prof_store.specs.Shown.{Told};
 ghost use Rattle.held_runs.specs.Walks.{AsksIfOpen};
 ghost use Rattle.store_reports.specs.Reported.{merged_with, merged_from};
 
-use crate::counting::Counted;
 use crate::event_sums::EventSums;
 use cost_rows::{Key, Merged};
 use held_runs::{HeldNames, each_cell};
 use prof_store::{Store, StoreError};
+use selected_runs::Counted;
 use sqlite::Alter;
 use std::alloc::Global;
 

@@ -7,8 +7,6 @@ ghost use Rattle.histories.specs.declared.answers.Query.TheVariants.{By};
 ghost use Rattle.store_histories.specs.Answered.{Asks as AnswersAsked};
 ghost use Rattle.store_reports.specs.Reported.{report_over};
 
-use crate::counting::Counted;
-use crate::event_runs::event_runs;
 use crate::merging::merge_runs;
 use cg_text::ListVec;
 use cost_reports::{Cut, by};
@@ -16,6 +14,7 @@ use cost_rows::Key;
 use held_runs::names_of;
 use histories::{Answer, Selection};
 use prof_store::{Store, StoreError};
+use selected_runs::{Counted, event_runs};
 use sqlite::Alter;
 use std::alloc::Global;
 

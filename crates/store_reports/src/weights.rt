@@ -1,6 +1,5 @@
-// What rows cost in the event that is asked. Tables that another program filled may say anything, so each
-// sum is compared with its bound.
-ghost use Rattle.std.specs.Prelude.{◌≡◌, ◌+◌, ◌*◌, ◌<◌, ◌^◌, IfSome, IsTrue, slice_index};
+// What rows of calls and stacks cost in the event that is asked, within the bound of sums.
+ghost use Rattle.std.specs.Prelude.{◌≡◌, ◌+◌, ◌*◌, ◌<◌, ◌^◌, IfSome, slice_index};
 ghost use Rattle.cg_formulas.specs.Formulas.{weighed};
 ghost use Rattle.cost_reports.specs.Calls.{calls_of_row};
 ghost use Rattle.held_runs.specs.HeldArcs.{plain_given};
@@ -8,35 +7,7 @@ ghost use Rattle.store_reports.specs.FunctionCalls.{calls_costing};
 
 use cg_text::ListVec;
 use cost_rows::ArcRow;
-
-/// The greatest sum of a report, and one more.
-const TOO_MUCH: u128 = 1 << 112;
-
-/// Whether what is there and more of it stay within the bound.
-pub(crate) fn is_within(before: u128, more: u128) -> bool
-    ensures { IsTrue result → before + more < 2 ^ 112 }
-{
-    match before.checked_add(more) {
-        Some(total) => total < TOO_MUCH,
-        None => false,
-    }
-}
-
-/// What a row costs that counts so often, where that and the costs before it stay within the bound.
-pub(crate) fn cost_within(before: u128, times: u64, cost: u128) -> Option<u128>
-    ensures { IfSome result (λ n. (n ≡ times * cost) × (before + n < 2 ^ 112)) }
-{
-    let cost = u128::from(times).checked_mul(cost)?;
-    let total = before.checked_add(cost)?;
-    if total < TOO_MUCH { Some(cost) } else { None }
-}
-
-/// How often a column counts.
-pub(crate) fn times_of(counts: &[u64], column: usize) -> u64
-    ensures { result ≡ slice_index counts.now column }
-{
-    counts.get(column).copied().unwrap_or(0)
-}
+use selected_runs::cost_within;
 
 /// The cost of a column: past the last one there is none.
 fn cost_of(costs: &[u128], column: usize) -> u128

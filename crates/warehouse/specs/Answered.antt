@@ -3,7 +3,7 @@ use Rattle.std.specs.Prelude.{◌≡◌, map, List, [], ◌∷◌, ◌++◌}
 use Rattle.sqlite_trees.specs.declared.store.Store.{Ghosts}
 use Rattle.prof_store.specs.declared.store.Store.{Store}
 use Rattle.sources.specs.Outcomes.{Outcome}
-use Rattle.histories.specs.History.{History, Said, Turn, Import, Remove, Ask}
+use Rattle.histories.specs.History.{History, Said, Turn, Import, Remove, Ask, Annotate}
 use Rattle.histories.specs.Legal.{AreLegal}
 use Rattle.histories.specs.declared.answers.Answer.{Answer}
 use Rattle.histories.specs.declared.answers.Answer.TheVariants as answers
@@ -20,12 +20,13 @@ use Rattle.warehouse.specs.declared.command.Command.TheVariants as command
 -- ---- what a command says
 
 module _ {R : Type 0} (reads : R → Outcome → R → Type 0) where
-  -- an import, with what the reads of its source came to
+  -- an import or an annotation, with what the reads of its source came to
   abbrev pub Says : commands.Command R → Said → Type 0
   Says (command.Import kind label source) said = (outcomes : List Outcome) × (to : R) × Reads reads source outcomes to × (said ≡ Import kind label.items outcomes)
   Says (command.Remove n) said = said ≡ Remove n
   Says (command.Group name change) said = said ≡ change_said change name.items
   Says (command.Ask query) said = said ≡ Ask query
+  Says (command.Annotate selection event file source) said = (outcomes : List Outcome) × (to : R) × Reads reads source outcomes to × (said ≡ Annotate selection event file outcomes)
 
   abbrev pub AreSaid : List (commands.Command R) → History → Type 0
   AreSaid [] [] = Unit {0}

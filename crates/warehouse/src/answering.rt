@@ -1,24 +1,29 @@
-// Files are imported, each with its answer.
+// Files are imported and sources annotated, each with its answer.
 ghost use Rattle.std.specs.Prelude.{List};
 ghost use Rattle.prof_tables.specs.Labels.{IsLabel};
 ghost use Rattle.prof_store.specs.Shown.{IsFaithful};
 ghost use Rattle.sources.specs.Outcomes.{Outcome};
-ghost use Rattle.histories.specs.History.{Ask, Import};
+ghost use Rattle.histories.specs.History.{Annotate, Ask, Import};
 ghost use Rattle.store_histories.specs.Answered.{Answers, Asks};
 ghost use Rattle.sources.specs.Reads.{Reads};
 
 use crate::refusals::unread_answer;
+use cg_text::ListVec;
 use file_intake::take_file;
-use histories::{Answer, Limits, Query, Refusal};
+use histories::{Answer, Limits, Query, Refusal, Selection};
 use prof_store::{Store, StoreError};
 use profile_records::Kind;
 use run_imports::{label_of, take_in};
-use sources::Source;
+use sources::{Source, read_whole};
 use sqlite::Alter;
 use std::alloc::Global;
 use store_commands::{groups_answer, runs_answer};
+use store_exports::{annotate_answer, csv_answer, folded_answer};
 use store_histories::answer_of;
 use store_reports::{by_answer, calls_answer, inclusive_answer, subtract_answer, verify_answer};
+
+/// How many bytes a source that is annotated may have.
+const SOURCE_BYTES: u64 = 16_777_216;
 
 /// Imports the file that a source gives, under a label in form.
 fn import_labelled<S: Alter, R: Source>(
@@ -85,6 +90,14 @@ fn answer<S: Alter>(store: &mut Store<S>, alloc: Global, query: Query) -> Result
             key,
             event,
         } => subtract_answer(store, alloc, &first, &second, key, &event),
+        Query::Annotate {
+            selection,
+            event,
+            file,
+            source,
+        } => annotate_answer(store, alloc, &selection, &event, &file, &source),
+        Query::Csv(selection) => csv_answer(store, alloc, &selection),
+        Query::Folded(selection) => folded_answer(store, alloc, &selection),
     }
 }
 
@@ -93,4 +106,25 @@ pub(crate) fn ask_in<S: Alter>(store: &mut Store<S>, alloc: Global, query: Query
     ensures answered { (limits : _) → IsFaithful S.Store store.new → Answers S.Store limits (Ask query) result store.old store.new }
 {
     answer_of(answer(store, alloc, query))
+}
+
+/// Shows what each line of a source costs. It is read first.
+pub(crate) fn annotate_in<S: Alter, R: Source>(
+    store: &mut Store<S>,
+    alloc: Global,
+    selection: Selection,
+    event: ListVec<u8>,
+    file: ListVec<u8>,
+    source: &mut R,
+) -> Answer
+    ensures answered { (limits : _) → IsFaithful S.Store store.new → (outcomes : List Outcome) × Reads R.reads source.old outcomes source.new
+        × Answers S.Store limits (Annotate selection event file outcomes) result store.old store.new }
+{
+    match read_whole(alloc, SOURCE_BYTES, source) {
+        Ok(text) => {
+            let text = ListVec::from_vec(text);
+            answer_of(annotate_answer(store, alloc, &selection, &event, &file, &text))
+        }
+        Err(unread) => unread_answer(unread),
+    }
 }

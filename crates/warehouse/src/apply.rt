@@ -2,15 +2,16 @@
 ghost use Rattle.std.specs.Prelude.{◌≡◌, List, IfOk, OnErr};
 ghost use Rattle.prof_store.specs.Shown.{IsFaithful};
 ghost use Rattle.sources.specs.Outcomes.{Outcome};
-ghost use Rattle.histories.specs.History.{Import};
+ghost use Rattle.histories.specs.History.{Annotate, Import};
 ghost use Rattle.store_histories.specs.Answered.{Answers};
 ghost use Rattle.warehouse.specs.Answered.{WasAnswered, WasRun};
 ghost use Rattle.sources.specs.Reads.{Reads};
 
-use crate::answering::{ask_in, import_in};
+use crate::answering::{annotate_in, ask_in, import_in};
 use crate::command::Command;
 use crate::warehouse::Warehouse;
-use histories::Answer;
+use cg_text::ListVec;
+use histories::{Answer, Selection};
 use profile_records::Kind;
 use sources::Source;
 use sqlite::Alter;
@@ -36,6 +37,31 @@ impl<S: Alter> Warehouse<S> {
         import_in(&mut self.store, alloc, self.limits, kind, label, source)
     }
 
+    /// Shows what each line of a source costs in an event, by the name of its file in the runs of a
+    /// selection. The source is read first, a piece at a time and to its end, unless a read fails, memory
+    /// is refused or it is longer than 16,777,216 bytes.
+    pub fn annotate<R: Source>(
+        &mut self,
+        alloc: Global,
+        selection: Selection,
+        event: ListVec<u8>,
+        file: ListVec<u8>,
+        source: &mut R,
+    ) -> Answer
+        ensures limits { self.new.limits ≡ self.old.limits }
+        ensures answered { IsFaithful S.Store self.new.store → (outcomes : List Outcome) × Reads R.reads source.old outcomes source.new
+            × Answers S.Store self.old.limits (Annotate selection event file outcomes) result self.old.store self.new.store }
+    {
+        annotate_in(
+            &mut self.store,
+            alloc,
+            selection,
+            event,
+            file,
+            source,
+        )
+    }
+
     /// Does what a command says, and answers it. A refused command changes nothing.
     pub fn apply<R: Source + Drop>(&mut self, alloc: Global, command: Command<R>) -> Answer
         ensures limits { self.new.limits ≡ self.old.limits }
@@ -58,6 +84,19 @@ impl<S: Alter> Warehouse<S> {
             Command::Remove(number) => remove_in(store, number),
             Command::Group(name, change) => change_in(store, self.limits, name.as_slice(), change),
             Command::Ask(query) => ask_in(store, alloc, query),
+            Command::Annotate {
+                selection,
+                event,
+                file,
+                mut source,
+            } => annotate_in(
+                store,
+                alloc,
+                selection,
+                event,
+                file,
+                &mut source,
+            ),
         }
     }
 

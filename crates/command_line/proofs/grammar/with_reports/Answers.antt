@@ -10,4 +10,6 @@ returns-clause-app c =
     let keys = Names c.args.keys in
     let costs : app_of c.in_ok-command.command ≡ line.with_costs keys (app_of c.args.command) = c.in_ok-command.ensures.app in
     let calls : app_of c.in_ok-command-2.command ≡ line.with_calls (line.with_costs keys (app_of c.args.command)) = c.in_ok-command-2.ensures.app ∙ ap (λ (a : App). line.with_calls a) costs in
-    last_by c.with_comparisons.result (line.with_comparisons keys) (app_of c.in_ok-command-2.command) _ calls c.with_comparisons.ensures.app
+    let comparisons : app_of c.in_ok-command-3.command ≡ line.with_comparisons keys (line.with_calls (line.with_costs keys (app_of c.args.command))) =
+    c.in_ok-command-3.ensures.app ∙ ap (λ (a : App). line.with_comparisons keys a) calls in
+    last_by c.with_exports.result line.with_exports (app_of c.in_ok-command-3.command) _ comparisons c.with_exports.ensures.app

@@ -3,9 +3,9 @@ use Rattle.sql_tables.proofs.Calls.{asked_rests}
 use Rattle.cost_reports.specs.Functions.{function_spot}
 use Rattle.prof_tables.specs.Schema.{schema_one}
 use Rattle.prof_tables.specs.Tables.{Holds}
-use Rattle.store_reports.specs.EventRuns.{AreEventRuns}
+use Rattle.selected_runs.specs.EventRuns.{AreEventRuns}
 use Rattle.store_reports.specs.FunctionCalls.{IsCallsText}
-use Rattle.store_reports.proofs.AskLemmas.{asked_of_open}
+use Rattle.selected_runs.proofs.AskLemmas.{asked_of_open}
 use Rattle.store_reports.proofs.FunctionLemmas.{calls_are_due, calls_are_refused}
 use Rattle.store_reports.proofs.calling.calls_answer.Goals as goal
 

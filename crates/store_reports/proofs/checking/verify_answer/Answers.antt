@@ -3,7 +3,7 @@ use Rattle.sql_tables.proofs.Calls.{asked_rests}
 use Rattle.prof_tables.specs.Schema.{schema_one}
 use Rattle.prof_tables.specs.Tables.{Holds}
 use Rattle.store_reports.specs.Checked.{AreChecked}
-use Rattle.store_reports.proofs.AskLemmas.{asked_of_open}
+use Rattle.selected_runs.proofs.AskLemmas.{asked_of_open}
 use Rattle.store_reports.proofs.CheckLemmas.{verify_is_due, verify_is_refused}
 use Rattle.store_reports.proofs.checking.verify_answer.Goals as goal
 

@@ -1,7 +1,7 @@
 use Rattle.sql_tables.proofs.Calls.{asked_rests}
 use Rattle.prof_tables.specs.Schema.{schema_one}
 use Rattle.prof_tables.specs.Tables.{Holds}
-use Rattle.store_reports.proofs.AskLemmas.{if_ok_so}
+use Rattle.selected_runs.proofs.AskLemmas.{if_ok_so}
 use Rattle.store_reports.proofs.CompareLemmas.{baseline_found, no_baseline_found}
 use Rattle.store_reports.proofs.comparing.baseline_run.Goals as goal
 

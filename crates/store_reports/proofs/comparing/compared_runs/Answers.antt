@@ -1,7 +1,7 @@
 use Rattle.std.proofs.Common.{subst, sym}
 use Rattle.histories.specs.Legal.{compared}
 use Rattle.store_reports.specs.Compared.{AreCompared}
-use Rattle.store_reports.proofs.AskLemmas.{if_ok_so}
+use Rattle.selected_runs.proofs.AskLemmas.{if_ok_so}
 use Rattle.store_reports.proofs.CompareLemmas.{compared_with}
 use Rattle.store_reports.proofs.comparing.compared_runs.Goals as goal
 

@@ -4,7 +4,7 @@ use Rattle.sql_tables.proofs.Calls.{asked_rests, asked_rests_yet}
 use Rattle.prof_tables.specs.Schema.{schema_one}
 use Rattle.prof_tables.specs.Tables.{Holds}
 use Rattle.store_reports.specs.Compared.{AnswersDifference}
-use Rattle.store_reports.proofs.AskLemmas.{asked_of_open, if_ok_so}
+use Rattle.selected_runs.proofs.AskLemmas.{asked_of_open, if_ok_so}
 use Rattle.store_reports.proofs.CompareLemmas.{first_is_refused, second_is_refused, subtract_is_due}
 use Rattle.store_reports.proofs.comparing.subtract_answer.Goals as goal
 

@@ -2,9 +2,9 @@ use Rattle.std.proofs.Common.{◌≡◌, true, Ok, Err, refl, subst, subst₂, r
 use Rattle.sql_tables.proofs.Calls.{asked_rests}
 use Rattle.prof_tables.specs.Schema.{schema_one}
 use Rattle.prof_tables.specs.Tables.{Holds}
-use Rattle.store_reports.specs.EventRuns.{AreEventRuns}
+use Rattle.selected_runs.specs.EventRuns.{AreEventRuns}
 use Rattle.store_reports.specs.InclusiveRuns.{IsInclusiveText}
-use Rattle.store_reports.proofs.AskLemmas.{asked_of_open}
+use Rattle.selected_runs.proofs.AskLemmas.{asked_of_open}
 use Rattle.store_reports.proofs.InclusiveLemmas.{inclusive_is_due, inclusive_is_refused}
 use Rattle.store_reports.proofs.including.inclusive_answer.Goals as goal
 

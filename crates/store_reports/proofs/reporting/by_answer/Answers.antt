@@ -2,10 +2,10 @@ use Rattle.std.proofs.Common.{◌≡◌, true, Ok, Err, refl, subst, subst₂, r
 use Rattle.sql_tables.proofs.Calls.{asked_rests}
 use Rattle.prof_tables.specs.Schema.{schema_one}
 use Rattle.prof_tables.specs.Tables.{Holds}
-use Rattle.store_reports.specs.EventRuns.{AreEventRuns}
+use Rattle.selected_runs.specs.EventRuns.{AreEventRuns}
 use Rattle.store_reports.specs.Reported.{report_over}
-use Rattle.store_reports.proofs.AskLemmas.{asked_of_open}
-use Rattle.store_reports.proofs.EventLemmas.{by_is_due, by_is_refused}
+use Rattle.selected_runs.proofs.AskLemmas.{asked_of_open}
+use Rattle.store_reports.proofs.ByLemmas.{by_is_due, by_is_refused}
 use Rattle.store_reports.proofs.reporting.by_answer.Goals as goal
 
 pub returns-in-Err : goal.returns-in-Err

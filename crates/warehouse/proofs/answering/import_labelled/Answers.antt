@@ -1,4 +1,6 @@
-use Rattle.std.proofs.Common.{sym, subst}
+use Rattle.std.proofs.Common.{refl, sym, subst}
+use Rattle.sources.specs.Outcomes.{bytes_of}
+use Rattle.histories.specs.Legal.{file_due}
 use Rattle.histories.specs.History.{Import}
 use Rattle.store_histories.specs.Answered.{Answers}
 use Rattle.store_histories.proofs.Settled.{settled, turns_answer}
@@ -29,6 +31,6 @@ returns-in-Err g c = record {
       let said = Import c.args.kind c.args.label.now read.outcomes in (
         read.outcomes,
         read.came,
-        subst (λ a. Answers g.S.Store limits said a c.args.store.now c.args.store.now) (sym c.unread_answer.ensures) (unread_answered g.S.Store limits c.args.kind c.args.label.now read.outcomes c.args.store.now clean (c.utf8.label, c.requires) c.in-Err.unread read.read),
+        subst (λ a. Answers g.S.Store limits said a c.args.store.now c.args.store.now) (sym c.unread_answer.ensures) (unread_answered limits said (c.utf8.label, c.requires) limits.bytes read.outcomes (λ h. file_due limits h c.args.kind (bytes_of read.outcomes)) (λ h. refl) g.S.Store c.args.store.now clean c.in-Err.unread read.read),
       );
 }

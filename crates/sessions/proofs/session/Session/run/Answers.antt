@@ -1,7 +1,7 @@
 use Rattle.std.proofs.Common.{◌≡◌, [], ◌∷◌, map, refl, sym, ap, subst, rules}
-use Rattle.histories.specs.History.{Ask, Remove}
+use Rattle.histories.specs.History.{Annotate, Ask, Remove}
 use Rattle.program_files.specs.Imported.{WereRead}
-use Rattle.sessions.specs.Questions.{query_said}
+use Rattle.sessions.specs.Questions.{query_said, selection_said}
 use Rattle.store_commands.specs.Changes.{change_said}
 use Rattle.sessions.specs.Sessions.{AreImports, Wants, WasRun}
 use Rattle.sessions.proofs.SessionLemmas.{run_one}
@@ -28,3 +28,10 @@ pub returns-in-Ask-clause-done : goal.returns-in-Ask-clause-done
 returns-in-Ask-clause-done g c clean =
     let said = Ask (query_said c.in-Ask.question) in
     run_one g.S.Store g.W.Write.contents said (Wants g.R.File.Read.remaining c.args.work) c.ask.result c.args.self.now c.ask.new.self (subst (λ work. Wants g.R.File.Read.remaining work (said ∷ [])) (sym c.in-Ask.is) refl) (c.ask.ensures.answered clean)
+
+pub returns-in-Annotate-clause-done : goal.returns-in-Annotate-clause-done
+returns-in-Annotate-clause-done g c clean =
+    let it = c.annotate.ensures.answered clean in
+    let said = Annotate (selection_said c.in-Annotate.selected) c.in-Annotate.event.now c.in-Annotate.file.now it.0 in
+    run_one g.S.Store g.W.Write.contents said (Wants g.R.File.Read.remaining c.args.work) c.annotate.result c.args.self.now c.annotate.new.self
+    (subst (λ work. Wants g.R.File.Read.remaining work (said ∷ [])) (sym c.in-Annotate.is) (it.0, it.1, refl)) it.2

@@ -1,5 +1,5 @@
 use Rattle.std.proofs.Common.{refl, sym, ap, subst}
-use Rattle.histories.specs.History.{Import, Remove, Ask}
+use Rattle.histories.specs.History.{Annotate, Import, Remove, Ask}
 use Rattle.store_commands.specs.Changes.{change_said}
 use Rattle.warehouse.specs.Answered.{Says}
 use Rattle.warehouse.proofs.warehouse.Warehouse.apply.Goals as goal
@@ -31,3 +31,9 @@ returns-in-Ask-clause-answered g c clean = record {
   says = subst (λ k. Says g.R.Source.reads k (Ask c.in-Ask.query)) (sym c.in-Ask.is) refl;
   answers = c.ask_in.ensures.answered c.args.self.now.limits clean;
 }
+
+pub returns-in-Annotate-clause-answered : goal.returns-in-Annotate-clause-answered
+returns-in-Annotate-clause-answered g c clean =
+    let it = c.annotate_in.ensures.answered c.args.self.now.limits clean in
+    let said = Annotate c.in-Annotate.selection c.in-Annotate.event c.in-Annotate.file it.0 in
+    record { said = said; says = subst (λ k. Says g.R.Source.reads k said) (sym c.in-Annotate.is) (it.0, c.annotate_in.new.source, it.1, refl); answers = it.2 }

@@ -1,0 +1,43 @@
+-- Runs that an event is asked of.
+use Rattle.std.proofs.Common.{◌≡◌, ℕ, Bool, true, false, not, List, [], ◌∷◌, Option, Ok, Err, sym, ap, ap₂, subst, ◌∙◌}
+use Rattle.std.specs.List.{list_any}
+use Rattle.prof_tables.specs.Tables.{Tables}
+use Rattle.histories.specs.History.{History}
+use Rattle.histories.specs.Legal.{first_or, no_event, no_selection, when}
+use Rattle.histories.specs.Selections.{selected}
+use Rattle.histories.specs.Stands.{TablesTell}
+use Rattle.histories.specs.declared.answers.Answer.{Answer}
+use Rattle.histories.specs.declared.answers.Answer.TheVariants.{Refused}
+use Rattle.histories.specs.declared.answers.Refusal.{Refusal}
+use Rattle.histories.specs.declared.answers.Refusal.TheVariants.{NoSuchEvent}
+use Rattle.histories.specs.declared.answers.Selection.{Selection}
+use Rattle.selected_runs.specs.Counted.{AreCounted, has_counts}
+use Rattle.selected_runs.specs.EventRuns.{AreEventRuns}
+use Rattle.selected_runs.specs.Selected.{AreSelected}
+use Rattle.selected_runs.specs.declared.counting.Counted.{Counted}
+use Rattle.selected_runs.proofs.RunLemmas.{runs_have_event}
+
+-- ---- the runs
+
+event_of : (h : History) (t : Tables) (s : Selection) (event numbers : List ℕ) (runs : List Counted) (b : Bool) → TablesTell h t → AreSelected h s (Ok numbers) → AreCounted t event numbers runs
+    → list_any has_counts runs ≡ b → no_event event (selected h s) ≡ when (not b) (Refused NoSuchEvent)
+event_of h t s event numbers runs b tell found counted is =
+    ap (λ b. when (not b) (Refused NoSuchEvent)) (sym (runs_have_event h t s event runs tell (subst (λ ns. AreCounted t event ns runs) found.1 counted)) ∙ is)
+
+pub event_found : (h : History) (t : Tables) (s : Selection) (event numbers : List ℕ) (runs : List Counted) → TablesTell h t → AreSelected h s (Ok numbers) → AreCounted t event numbers runs
+    → list_any has_counts runs ≡ true → AreEventRuns h t s event (Ok runs)
+event_found h t s event numbers runs tell found counted has =
+    (found.0, event_of h t s event numbers runs true tell found counted has, subst (λ ns. AreCounted t event ns runs) found.1 counted)
+
+pub event_missing : (h : History) (t : Tables) (s : Selection) (event numbers : List ℕ) (runs : List Counted) → TablesTell h t → AreSelected h s (Ok numbers) → AreCounted t event numbers runs
+    → list_any has_counts runs ≡ false → AreEventRuns h t s event (Err NoSuchEvent)
+event_missing h t s event numbers runs tell found counted none =
+    λ later text. ap₂ (λ a b. first_or (a ∷ b ∷ later) text) found.0 (event_of h t s event numbers runs false tell found counted none)
+
+pub selection_missing : (h : History) (t : Tables) (s : Selection) (event : List ℕ) (refusal : Refusal) → AreSelected h s (Err refusal) → AreEventRuns h t s event (Err refusal)
+selection_missing h t s event refusal found = λ later text. ap (λ a. first_or (a ∷ no_event event (selected h s) ∷ later) text) found
+
+-- neither is refused
+pub both_held : (h : History) (t : Tables) (s : Selection) (event : List ℕ) (runs : List Counted) → AreEventRuns h t s event (Ok runs) → (later : List (Option Answer)) (text : Answer)
+    → first_or later text ≡ first_or (no_selection h s ∷ no_event event (selected h s) ∷ later) text
+both_held h t s event runs found later text = ap₂ (λ a b. first_or (a ∷ b ∷ later) text) (sym found.0) (sym found.1)

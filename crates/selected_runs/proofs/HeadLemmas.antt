@@ -1,0 +1,421 @@
+-- The head of a run that is held is what its file says.
+use Rattle.std.proofs.Common.{◌≡◌, ℕ, zero, suc, ◌+◌, ◌<◌, ◌≤◌, ℤ, pos, Bool, true, false, ◌&&◌, ◌==◌, nat_lt, if◌then◌else◌, List, [], ◌∷◌, ◌++◌, map, length, slice_get, slice_index, sum_by, Option, Some, None, option_map, IfSome, refl, sym, ap, ap₂, subst, ◌∙◌, arith, inl, inr, IsPermutation}
+use Rattle.std.specs.Prelude.{unwrap_or}
+use Rattle.std.specs.Fmt.{decimal}
+use Rattle.std.specs.List.{AllByRecursion}
+use Rattle.std.proofs.lemmas.Bool.Decides.{nat_tests}
+use Rattle.std.proofs.lemmas.List.{length-map}
+use Rattle.std.proofs.lemmas.List.Elements.{All-from_recursion, recursion_from_All}
+use Rattle.std.proofs.lemmas.List.Sorted.{All-permutation, IsPermutation-map, length_permutation, sum_by-IsPermutation}
+use Rattle.std.proofs.lemmas.List.Sums.{sum_by-append, sum_by-cons}
+use Rattle.sqlite_rules.specs.Lists.{Has}
+use Rattle.sqlite_value.specs.Order.{Row, column}
+use Rattle.sqlite_value.specs.declared.value.Value.{Value}
+use Rattle.sqlite_value.specs.declared.value.Value.TheVariants.{Int, Text, Blob}
+use Rattle.sql_tables.proofs.Rows.{map-append}
+use Rattle.cg_formulas.specs.Formulas.{coefficient, derived_names}
+use Rattle.cg_formulas.specs.declared.heads.FileHead.{FileHead}
+use Rattle.callgrind_reader.specs.Files.{definitions_of_file, events_of_file}
+use Rattle.cost_reports.specs.Verifying.{verified}
+use Rattle.cost_rows.proofs.WalkSumsLemmas.{column_from, column-at, is_above, none_more, nothing_each_way, one_more}
+use Rattle.profile_records.specs.declared.kinds.Kind.{Kind}
+use Rattle.profile_records.specs.declared.kinds.Kind.TheVariants.{Callgrind, Folded}
+use Rattle.prof_tables.specs.Seen.{coef_shown, derived_shown, event_shown}
+use Rattle.prof_tables.specs.Tables.{Tables, RunLine, text_or_null}
+use Rattle.prof_books.specs.Book.{run_held}
+use Rattle.prof_books.specs.Heads.{coef_lines_at, coef_lines_from, derived_lines_from, stated_at}
+use Rattle.histories.specs.Files.{derived_of, events_of, stated_of}
+use Rattle.histories.specs.History.{History, File, held}
+use Rattle.histories.specs.Stands.{AreBooksOf, IsBookOf, TablesTell, event_lines_from}
+use Rattle.histories.proofs.Tests.{all_map, all_on}
+use Rattle.held_runs.specs.HeldHeads.{CoefSaid, EventSaid, IsHeadIn, PlacedName, coefs_at, coefs_from, derived_said, events_from, events_said, name_columns, placed, said_columns, times_columns}
+use Rattle.selected_runs.specs.Heads.{TellsHead}
+use Rattle.selected_runs.proofs.ShortLemmas.{IsShort, held_short, one_of_all}
+use Rattle.selected_runs.proofs.StatedLemmas.{AreTotalsFor, IsSmall, file_totals, same_number}
+
+-- ---- two orders of one list, both with places that count up, are the same
+
+all_of_itself : {X : Type 0} (xs : List X) → AllByRecursion (Has xs) xs
+all_of_itself [] = tt
+all_of_itself (x ∷ xs) = (inl refl, all_on (Has xs) (Has (x ∷ xs)) xs (λ y there. inr there) (all_of_itself xs))
+
+-- what one of them has, the other has
+has_moved : {X : Type 0} (xs ys : List X) (y : X) → IsPermutation xs ys → Has ys y → Has xs y
+has_moved xs ys y mixed there =
+    one_of_all (Has xs) ys y (recursion_from_All (Has xs) ys (All-permutation (Has xs) xs ys mixed (All-from_recursion (Has xs) xs (all_of_itself xs)))) there
+
+module _ {X : Type 0} (place : X → ℕ) where
+  -- the places count up from one on
+  abbrev Count : ℕ → List X → Type 0
+  Count n [] = Unit {0}
+  Count n (x ∷ xs) = (place x ≡ n) × Count (suc n) xs
+
+  from_on : (n : ℕ) (xs : List X) (x : X) → Count n xs → Has xs x → n ≤ place x
+  from_on n [] x up there = absurd there
+  from_on n (y ∷ ys) x up (inl same) = let e : place x ≡ n = ap place same ∙ up.0 in omega (arith, e)
+  from_on n (y ∷ ys) x up (inr later) = let low : suc n ≤ place x = from_on (suc n) ys x up.1 later in omega (arith, low)
+
+  -- one whose place is the first is not a later one
+  is_first : (n : ℕ) (x y : X) (ys : List X) → place x ≡ n → Count n (y ∷ ys) → Has (y ∷ ys) x → x ≡ y
+  is_first n x y ys first up (inl same) = same
+  is_first n x y ys first up (inr later) = absurd (let low : suc n ≤ place x = from_on (suc n) ys x up.1 later in omega (arith, low, first))
+
+  is_later : (n : ℕ) (x y : X) (ys : List X) → suc n ≤ place x → Count n (y ∷ ys) → Has (y ∷ ys) x → Has ys x
+  is_later n x y ys low up (inl same) = absurd (let e : place x ≡ n = ap place same ∙ up.0 in omega (arith, low, e))
+  is_later n x y ys low up (inr later) = later
+
+  same_counted : (n : ℕ) (xs ys : List X) → Count n xs → Count n ys → length xs ≡ length ys → ((x : X) → Has xs x → Has ys x) → xs ≡ ys
+  same_counted n [] [] up_x up_y long has = refl
+  same_counted n [] (y ∷ ys) up_x up_y long has = absurd (omega (arith, long))
+  same_counted n (x ∷ xs) [] up_x up_y long has = absurd (omega (arith, long))
+  same_counted n (x ∷ xs) (y ∷ ys) up_x up_y long has =
+      let rest : length xs ≡ length ys = omega (arith, long) in
+      ap₂ ◌∷◌ (is_first n x y ys up_x.0 up_y (has x (inl refl)))
+      (same_counted (suc n) xs ys up_x.1 up_y.1 rest (λ z there. is_later n z y ys (from_on (suc n) xs z up_x.1 there) up_y (has z (inr there))))
+
+  same_order : (n : ℕ) (xs ys : List X) → Count n xs → Count n ys → IsPermutation xs ys → xs ≡ ys
+  same_order n xs ys up_x up_y mixed = sym (same_counted n ys xs up_y up_x (length_permutation xs ys mixed) (λ y there. has_moved xs ys y mixed there))
+
+-- ---- what rows say
+
+natural : ℤ → ℕ
+natural (pos n) = n
+natural z = 0
+
+abbrev number_in : Value → ℕ
+number_in (Int z) = natural z
+number_in v = 0
+
+abbrev bytes_in : Value → List ℕ
+bytes_in (Blob bytes) = bytes
+bytes_in v = []
+
+abbrev text_in : Value → Option (List ℕ)
+text_in (Text text) = Some text
+text_in v = None
+
+text_back : (o : Option (List ℕ)) → text_in (text_or_null o) ≡ o
+text_back (Some text) = refl
+text_back None = refl
+
+-- rows of two lists in another order are those of lists in another order
+unshown : {X : Type 0} (said : Row → X) (rows others : List Row) (xs ys : List X) → map said rows ≡ xs → map said others ≡ ys → IsPermutation rows others → IsPermutation xs ys
+unshown said rows others xs ys x y mixed = subst (λ l. IsPermutation l ys) x (subst (λ l. IsPermutation (map said rows) l) y (IsPermutation-map said rows others mixed))
+
+-- ---- events
+
+abbrev event_in : Row → EventSaid
+event_in r = record { place = number_in (column r 0); name = bytes_in (column r 1); stated = text_in (column r 2) }
+
+-- what the lines of a file say, where its totals are stated so
+abbrev file_events : (ℕ → Option (List ℕ)) → ℕ → List (List ℕ) → List EventSaid
+file_events stated place [] = []
+file_events stated place (name ∷ names) = record { place = place; name = name; stated = stated place } ∷ file_events stated (suc place) names
+
+lines_say : (f : File) (place : ℕ) (names : List (List ℕ)) → map event_in (map event_shown (event_lines_from f place names)) ≡ file_events (stated_at (stated_of f.kind f.bytes)) place names
+unfolding natural
+lines_say f place [] = refl
+lines_say f place (name ∷ names) =
+    ap₂ ◌∷◌ (ap (λ o. let e : EventSaid = record { place = place; name = name; stated = o } in e) (text_back (stated_at (stated_of f.kind f.bytes) place))) (lines_say f (suc place) names)
+
+said_back : (said : List EventSaid) → map event_in (map said_columns said) ≡ said
+unfolding natural
+said_back [] = refl
+said_back (e ∷ said) = ap₂ ◌∷◌ (ap (λ o. let s : EventSaid = record { place = e.place; name = e.name; stated = o } in s) (text_back e.stated)) (said_back said)
+
+abbrev at_place : EventSaid → ℕ
+at_place e = e.place
+
+file_counts : (stated : ℕ → Option (List ℕ)) (place : ℕ) (names : List (List ℕ)) → Count at_place place (file_events stated place names)
+file_counts stated place [] = tt
+file_counts stated place (name ∷ names) = (refl, file_counts stated (suc place) names)
+
+said_counts : (place : ℕ) (names : List (List ℕ)) (sums : List ℕ) → Count at_place place (events_from place names sums)
+said_counts place [] sums = tt
+said_counts place (name ∷ names) [] = (refl, said_counts (suc place) names [])
+said_counts place (name ∷ names) (sum ∷ sums) = (refl, said_counts (suc place) names sums)
+
+abbrev names_said : List EventSaid → List (List ℕ)
+names_said said = map (λ (e : EventSaid). e.name) said
+
+file_names : (stated : ℕ → Option (List ℕ)) (place : ℕ) (names : List (List ℕ)) → names_said (file_events stated place names) ≡ names
+file_names stated place [] = refl
+file_names stated place (name ∷ names) = ap (λ l. name ∷ l) (file_names stated (suc place) names)
+
+said_names : (place : ℕ) (names : List (List ℕ)) (sums : List ℕ) → names_said (events_from place names sums) ≡ names
+said_names place [] sums = refl
+said_names place (name ∷ names) [] = ap (λ l. name ∷ l) (said_names (suc place) names [])
+said_names place (name ∷ names) (sum ∷ sums) = ap (λ l. name ∷ l) (said_names (suc place) names sums)
+
+-- ---- the totals that are stated
+
+-- the first total that is said, in decimal
+abbrev first_said : List EventSaid → Option (List ℕ)
+first_said [] = None
+first_said (e ∷ said) = e.stated
+
+abbrev rest_said : List EventSaid → List EventSaid
+rest_said [] = []
+rest_said (e ∷ said) = said
+
+same_totals : (stated : ℕ → Option (List ℕ)) (place : ℕ) (names events : List (List ℕ)) (totals sums : List ℕ)
+    → ((i j : ℕ) → place + i ≡ j → stated j ≡ option_map decimal (slice_get totals i))
+    → length totals ≡ length names → length sums ≡ length events → AllByRecursion IsSmall totals → file_events stated place names ≡ events_from place events sums → sums ≡ totals
+same_totals stated place [] [] [] [] each many few small same = refl
+same_totals stated place (name ∷ names) (event ∷ events) (total ∷ totals) (sum ∷ sums) each many few small same =
+    let text : Some (decimal sum) ≡ Some (decimal total) = sym (ap first_said same) ∙ each 0 place (omega arith) in
+    let told : decimal sum ≡ decimal total = cc in
+    let many_left : length totals ≡ length names = omega (arith, many) in
+    let few_left : length sums ≡ length events = omega (arith, few) in
+    ap₂ ◌∷◌ (same_number sum total small.0 told) (same_totals stated (suc place) names events totals sums (λ i j is. each (suc i) j (omega (arith, is))) many_left few_left small.1 (ap rest_said same))
+same_totals stated place [] (event ∷ events) totals [] each many few small same = absurd (omega (arith, few))
+same_totals stated place [] (event ∷ events) totals (sum ∷ sums) each many few small same = absurd cc
+same_totals stated place (name ∷ names) [] totals (sum ∷ sums) each many few small same = absurd (omega (arith, few))
+same_totals stated place (name ∷ names) [] totals [] each many few small same = absurd (no_event same)
+  where
+    no_event : file_events stated place (name ∷ names) ≡ [] → ⊥
+    no_event none = cc
+same_totals stated place [] [] (total ∷ totals) sums each many few small same = absurd (omega (arith, many))
+same_totals stated place [] [] [] (sum ∷ sums) each many few small same = absurd (omega (arith, few))
+same_totals stated place (name ∷ names) (event ∷ events) [] sums each many few small same = absurd (omega (arith, many))
+same_totals stated place (name ∷ names) (event ∷ events) (total ∷ totals) [] each many few small same = absurd (omega (arith, few))
+
+told_stated : (names events : List (List ℕ)) (file head : Option (List ℕ)) → 0 < length events → AreTotalsFor names file → IfSome head (λ sums. length sums ≡ length events)
+    → file_events (stated_at file) 0 names ≡ events_from 0 events (unwrap_or head []) → head ≡ file
+told_stated names events None None some totals sums same = refl
+told_stated names [] file head some totals sums same = absurd (omega (arith, some))
+told_stated [] (event ∷ events) None (Some []) some totals sums same = absurd (omega (arith, sums))
+told_stated [] (event ∷ events) None (Some (sum ∷ more)) some totals sums same = absurd cc
+told_stated (name ∷ names) (event ∷ events) None (Some []) some totals sums same = absurd (omega (arith, sums))
+told_stated (name ∷ names) (event ∷ events) None (Some (sum ∷ more)) some totals sums same = absurd (let none : None ≡ Some (decimal sum) = ap first_said same in cc)
+told_stated [] (event ∷ events) (Some list) None some totals sums same = absurd cc
+told_stated (name ∷ names) (event ∷ events) (Some []) None some totals sums same = absurd (let none : 0 ≡ suc (length names) = totals.0 in omega (arith, none))
+told_stated (name ∷ names) (event ∷ events) (Some (total ∷ list)) None some totals sums same = absurd (let none : Some (decimal total) ≡ None = ap first_said same in cc)
+told_stated names (event ∷ events) (Some list) (Some more) some totals sums same =
+    ap Some (same_totals (stated_at (Some list)) 0 names (event ∷ events) list more (λ i j is. ap (λ k. option_map decimal (slice_get list k)) (let e : j ≡ i = omega (arith, is) in e)) totals.0 sums totals.1 same)
+
+-- ---- derived events
+
+abbrev Derived : Type 0
+Derived = List ℕ × List ℕ
+
+abbrev names_of : List Derived → List (List ℕ)
+names_of ds = map (λ (d : Derived). d.0) ds
+
+abbrev rows_of : List Derived → List (List ℕ)
+rows_of ds = map (λ (d : Derived). d.1) ds
+
+abbrev derived_in : Row → PlacedName
+derived_in r = record { place = number_in (column r 0); name = bytes_in (column r 1) }
+
+derived_lines_say : (run place : ℕ) (ds : List Derived) → map derived_in (map derived_shown (derived_lines_from run place ds)) ≡ placed place (names_of ds)
+unfolding natural
+derived_lines_say run place [] = refl
+derived_lines_say run place (d ∷ ds) = ap (λ l. let p : PlacedName = record { place = place; name = d.0 } in p ∷ l) (derived_lines_say run (suc place) ds)
+
+placed_back : (ps : List PlacedName) → map derived_in (map name_columns ps) ≡ ps
+unfolding natural
+placed_back [] = refl
+placed_back (p ∷ ps) = ap (λ l. p ∷ l) (placed_back ps)
+
+abbrev name_at : PlacedName → ℕ
+name_at p = p.place
+
+placed_counts : (place : ℕ) (names : List (List ℕ)) → Count name_at place (placed place names)
+placed_counts place [] = tt
+placed_counts place (name ∷ names) = (refl, placed_counts (suc place) names)
+
+placed_names : (place : ℕ) (names : List (List ℕ)) → map (λ (p : PlacedName). p.name) (placed place names) ≡ names
+placed_names place [] = refl
+placed_names place (name ∷ names) = ap (λ l. name ∷ l) (placed_names (suc place) names)
+
+same_names : (xs ys : List (List ℕ)) → placed 0 xs ≡ placed 0 ys → xs ≡ ys
+same_names xs ys same = sym (placed_names 0 xs) ∙ ap (map (λ (p : PlacedName). p.name)) same ∙ placed_names 0 ys
+
+-- ---- coefficients
+
+abbrev coef_in : Row → CoefSaid
+coef_in r = record { place = number_in (column r 0); event = number_in (column r 1); times = number_in (column r 2) }
+
+coefs_back : (cs : List CoefSaid) → map coef_in (map times_columns cs) ≡ cs
+unfolding natural
+coefs_back [] = refl
+coefs_back (c ∷ cs) = ap (λ l. c ∷ l) (coefs_back cs)
+
+-- the lines of a file say them in the same way
+row_shown : (run place event : ℕ) (row : List ℕ) → map coef_shown (coef_lines_at run place event row) ≡ map times_columns (coefs_at place event row)
+row_shown run place event [] = refl
+row_shown run place event (times ∷ row) = go (nat_lt 0 times) (row_shown run place (suc event) row)
+  where
+    go : (b : Bool) → map coef_shown (coef_lines_at run place (suc event) row) ≡ map times_columns (coefs_at place (suc event) row)
+        → map coef_shown (if b then record { run = run; place = place; event = event; times = times } ∷ coef_lines_at run place (suc event) row else coef_lines_at run place (suc event) row)
+        ≡ map times_columns (if b then record { place = place; event = event; times = times } ∷ coefs_at place (suc event) row else coefs_at place (suc event) row)
+    go true rest = ap₂ ◌∷◌ refl rest
+    go false rest = rest
+
+coefs_shown : (run place : ℕ) (ds : List Derived) → map coef_shown (coef_lines_from run place ds) ≡ map times_columns (coefs_from place (rows_of ds))
+coefs_shown run place [] = refl
+coefs_shown run place (d ∷ ds) =
+    map-append coef_shown (coef_lines_at run place 0 d.1) (coef_lines_from run (suc place) ds)
+    ∙ ap₂ ◌++◌ (row_shown run place 0 d.1) (coefs_shown run (suc place) ds)
+    ∙ sym (map-append times_columns (coefs_at place 0 d.1) (coefs_from (suc place) (rows_of ds)))
+
+-- how often they count an event at a place
+abbrev times_of : ℕ → ℕ → CoefSaid → ℕ
+times_of p e c = if (c.place == p) && (c.event == e) then c.times else 0
+
+abbrev times_said : ℕ → ℕ → List CoefSaid → ℕ
+times_said p e cs = sum_by (times_of p e) cs
+
+-- how often rows do
+abbrev times_at : List (List ℕ) → ℕ → ℕ → ℕ → ℕ
+times_at [] place p e = 0
+times_at (row ∷ rows) place p e = (if place == p then slice_index row e else 0) + times_at rows (suc place) p e
+
+row_times : (place p e k : ℕ) (row : List ℕ) → times_said p e (coefs_at place k row) ≡ (if place == p then column_from k e row else 0)
+row_times place p e k [] = nothing_each_way (place == p)
+row_times place p e k (zero ∷ row) = row_times place p e (suc k) row ∙ none_more (place == p) (k == e) (column_from (suc k) e row)
+row_times place p e k (suc n ∷ row) =
+    ap (λ b. times_said p e (if b then record { place = place; event = k; times = suc n } ∷ coefs_at place (suc k) row else coefs_at place (suc k) row)) (is_above n)
+    ∙ sum_by-cons (times_of p e) (record { place = place; event = k; times = suc n }) (coefs_at place (suc k) row)
+    ∙ ap (λ m. (if (place == p) && (k == e) then suc n else 0) + m) (row_times place p e (suc k) row)
+    ∙ one_more (place == p) (k == e) (suc n) (column_from (suc k) e row)
+
+all_times : (place p e : ℕ) (rows : List (List ℕ)) → times_said p e (coefs_from place rows) ≡ times_at rows place p e
+all_times place p e [] = refl
+all_times place p e (row ∷ rows) =
+    sum_by-append (times_of p e) (coefs_at place 0 row) (coefs_from (suc place) rows)
+    ∙ ap₂ ◌+◌ (row_times place p e 0 row ∙ ap (λ n. if place == p then n else 0) (column-at 0 e e row (omega arith))) (all_times (suc place) p e rows)
+
+not_there : (place p n : ℕ) → p < place → (if place == p then n else 0) ≡ 0
+not_there place p n low = grind (arith, nat_tests)
+
+is_there : (place n : ℕ) → (if place == place then n else 0) ≡ n
+is_there place n = grind (arith, nat_tests)
+
+none_before : (rows : List (List ℕ)) (place p e : ℕ) → p < place → times_at rows place p e ≡ 0
+none_before [] place p e low = refl
+none_before (row ∷ rows) place p e low =
+    let first : (if place == p then slice_index row e else 0) ≡ 0 = not_there place p (slice_index row e) low in
+    let rest : times_at rows (suc place) p e ≡ 0 = none_before rows (suc place) p e (omega arith) in
+    omega (arith, first, rest)
+
+first_times : (row : List ℕ) (rows : List (List ℕ)) (place e : ℕ) → times_at (row ∷ rows) place place e ≡ slice_index row e
+first_times row rows place e =
+    let first : (if place == place then slice_index row e else 0) ≡ slice_index row e = is_there place (slice_index row e) in
+    let rest : times_at rows (suc place) place e ≡ 0 = none_before rows (suc place) place e (omega arith) in
+    omega (arith, first, rest)
+
+same_row : (xs ys : List ℕ) → length xs ≡ length ys → ((e : ℕ) → slice_index xs e ≡ slice_index ys e) → xs ≡ ys
+same_row [] [] long same = refl
+same_row [] (y ∷ ys) long same = absurd (omega (arith, long))
+same_row (x ∷ xs) [] long same = absurd (omega (arith, long))
+same_row (x ∷ xs) (y ∷ ys) long same = ap₂ ◌∷◌ (same 0) (same_row xs ys (let e : suc (length xs) ≡ suc (length ys) = long in omega (arith, e)) (λ e. same (suc e)))
+
+-- each row has so many
+abbrev AreWide : ℕ → List (List ℕ) → Type 0
+AreWide n rows = AllByRecursion (λ (row : List ℕ). length row ≡ n) rows
+
+left : (a b x y : ℕ) → a ≡ b → a + x ≡ b + y → x ≡ y
+left a b x y is sums = omega (arith, is, sums)
+
+same_rows : (n place : ℕ) (xs ys : List (List ℕ)) → length xs ≡ length ys → AreWide n xs → AreWide n ys → ((p e : ℕ) → times_at xs place p e ≡ times_at ys place p e) → xs ≡ ys
+same_rows n place [] [] long wide_x wide_y same = refl
+same_rows n place [] (y ∷ ys) long wide_x wide_y same = absurd (omega (arith, long))
+same_rows n place (x ∷ xs) [] long wide_x wide_y same = absurd (omega (arith, long))
+same_rows n place (x ∷ xs) (y ∷ ys) long wide_x wide_y same =
+    let row : x ≡ y = same_row x y (wide_x.0 ∙ sym wide_y.0) (λ e. sym (first_times x xs place e) ∙ same place e ∙ first_times y ys place e) in
+    let rest : length xs ≡ length ys = omega (arith, long) in
+    ap₂ ◌∷◌ row
+    (same_rows n (suc place) xs ys rest wide_x.1 wide_y.1
+    (λ p e. left (if place == p then slice_index x e else 0) (if place == p then slice_index y e else 0) (times_at xs (suc place) p e) (times_at ys (suc place) p e) (ap (λ r. if place == p then slice_index r e else 0) row) (same p e)))
+
+same_pair : (d e : Derived) → d.0 ≡ e.0 → d.1 ≡ e.1 → d ≡ e
+same_pair d e name row = let one : (d.0, d.1) ≡ (e.0, e.1) = ap₂ (λ a b. let p : Derived = (a, b) in p) name row in one
+
+same_pairs : (ds es : List Derived) → names_of ds ≡ names_of es → rows_of ds ≡ rows_of es → ds ≡ es
+same_pairs [] [] names rows = refl
+same_pairs [] (e ∷ es) names rows = absurd cc
+same_pairs (d ∷ ds) [] names rows = absurd cc
+same_pairs (d ∷ ds) (e ∷ es) names rows =
+    let name : d.0 ≡ e.0 = cc in
+    let row : d.1 ≡ e.1 = cc in
+    let later_names : names_of ds ≡ names_of es = cc in
+    let later_rows : rows_of ds ≡ rows_of es = cc in
+    go (same_pair d e name row) (same_pairs ds es later_names later_rows)
+  where
+    go : d ≡ e → ds ≡ es → d ∷ ds ≡ e ∷ es
+    go first later = ap₂ ◌∷◌ first later
+
+many_rows : (ds : List Derived) → length (rows_of ds) ≡ length (names_of ds)
+many_rows ds = length-map ds (λ (d : Derived). d.1) ∙ sym (length-map ds (λ (d : Derived). d.0))
+
+-- a file's derived events count each of its events
+rows_wide : (events names : List (List ℕ)) (row : List ℕ → List ℕ) → ((name : List ℕ) → length (row name) ≡ length events) → AreWide (length events) (rows_of (map (λ name. let d : Derived = (name, row name) in d) names))
+rows_wide events [] row wide = tt
+rows_wide events (name ∷ names) row wide = (wide name, rows_wide events names row wide)
+
+file_wide : (kind : Kind) (bytes : List ℕ) → AreWide (length (events_of kind bytes)) (rows_of (derived_of kind bytes))
+file_wide Callgrind bytes =
+    rows_wide (events_of_file bytes) (derived_names (definitions_of_file bytes)) (λ name. map (λ event. coefficient event name (definitions_of_file bytes)) (events_of_file bytes))
+    (λ name. length-map (events_of_file bytes) (λ event. coefficient event name (definitions_of_file bytes)))
+file_wide Folded bytes = tt
+
+-- ---- the head
+
+pub head_told : (f : File) (t : Tables) (line : RunLine) (head : FileHead) → IsShort f → IsBookOf f (run_held t line) → IsHeadIn line.number t head → TellsHead f head
+head_told f t line head short book is =
+    let sound = is.1.sound in
+    let stated : ℕ → Option (List ℕ) = stated_at (stated_of f.kind f.bytes) in
+    let names : List (List ℕ) = events_of f.kind f.bytes in
+    let ds : List Derived = derived_of f.kind f.bytes in
+    let es : List Derived = head.derived.derived in
+    let said : file_events stated 0 names ≡ events_said head =
+    same_order at_place 0 (file_events stated 0 names) (events_said head) (file_counts stated 0 names) (said_counts 0 head.events (unwrap_or head.stated []))
+    (unshown event_in (map event_shown (event_lines_from f 0 names)) (map said_columns (events_said head)) (file_events stated 0 names) (events_said head) (lines_say f 0 names) (said_back (events_said head))
+    (subst (λ lines. IsPermutation (map event_shown lines) (map said_columns (events_said head))) book.events is.1.events_are)) in
+    let events : head.events ≡ names = sym (said_names 0 head.events (unwrap_or head.stated [])) ∙ ap names_said (sym said) ∙ file_names stated 0 names in
+    let derived_names_are : names_of ds ≡ names_of es =
+    same_names (names_of ds) (names_of es)
+    (same_order name_at 0 (placed 0 (names_of ds)) (derived_said head) (placed_counts 0 (names_of ds)) (placed_counts 0 (names_of es))
+    (unshown derived_in (map derived_shown (derived_lines_from f.number 0 ds)) (map name_columns (derived_said head)) (placed 0 (names_of ds)) (derived_said head) (derived_lines_say f.number 0 ds) (placed_back (derived_said head))
+    (subst (λ lines. IsPermutation (map derived_shown lines) (map name_columns (derived_said head))) book.derived is.1.derived_are))) in
+    let coefs : IsPermutation (coefs_from 0 (rows_of ds)) (coefs_from 0 (rows_of es)) =
+    unshown coef_in (map coef_shown (coef_lines_from f.number 0 ds)) (map times_columns (coefs_from 0 (rows_of es))) (coefs_from 0 (rows_of ds)) (coefs_from 0 (rows_of es))
+    (ap (map coef_in) (coefs_shown f.number 0 ds) ∙ coefs_back (coefs_from 0 (rows_of ds))) (coefs_back (coefs_from 0 (rows_of es)))
+    (subst (λ lines. IsPermutation (map coef_shown lines) (map times_columns (coefs_from 0 (rows_of es)))) book.coefs is.1.coefs_are) in
+    let wide : AreWide (length head.derived.events) (rows_of es) =
+    all_map (λ (d : Derived). length d.1 ≡ length head.derived.events) (λ (row : List ℕ). length row ≡ length head.derived.events) (λ (d : Derived). d.1) es (λ d is_wide. is_wide)
+    (recursion_from_All (λ (d : Derived). length d.1 ≡ length head.derived.events) es head.derived.shape) in
+    let rows : rows_of ds ≡ rows_of es =
+    same_rows (length names) 0 (rows_of ds) (rows_of es) (many_rows ds ∙ ap length derived_names_are ∙ sym (many_rows es)) (file_wide f.kind f.bytes)
+    (subst (λ n. AreWide n (rows_of es)) (ap length (sound.events_same ∙ events)) wide)
+    (λ p e. sym (all_times 0 p e (rows_of ds)) ∙ sym (sum_by-IsPermutation (times_of p e) (coefs_from 0 (rows_of ds)) (coefs_from 0 (rows_of es)) coefs) ∙ all_times 0 p e (rows_of es)) in
+    record {
+      events = events;
+      wide = sound.events_same;
+      derived = sym (same_pairs ds es derived_names_are rows);
+      stated = λ some. told_stated names head.events (stated_of f.kind f.bytes) head.stated some (file_totals f.kind f.bytes short) sound.stated_all said;
+    }
+
+-- ---- of a file that a history holds
+
+-- the run of the book that tells of a file
+pub line_of : (t : Tables) (lines : List RunLine) (files : List File) (f : File) → AreBooksOf files (map (run_held t) lines) → Has files f → (line : RunLine) × IsBookOf f (run_held t line)
+line_of t lines [] f all there = absurd there
+line_of t [] (g ∷ files) f all there = absurd all
+line_of t (line ∷ lines) (g ∷ files) f all (inl same) = (line, subst (λ k. IsBookOf k (run_held t line)) (sym same) all.0)
+line_of t (line ∷ lines) (g ∷ files) f all (inr later) = line_of t lines files f all.1 later
+
+pub held_head_told : (h : History) (t : Tables) (f : File) (head : FileHead) → TablesTell h t → Has (held h) f → IsHeadIn f.number t head → TellsHead f head
+held_head_told h t f head tell there is =
+    let run = line_of t t.runs (held h) f tell.runs there in
+    head_told f t run.0 head (one_of_all IsShort (held h) f (held_short h tell.legal) there) run.1 (subst (λ n. IsHeadIn n t head) (sym run.1.number) is)
+
+-- what is verified by a head is what is verified by the file, which states nothing where it has no event
+pub verified_told : (f : File) (head : FileHead) (run : ℕ) (sums : List ℕ) → TellsHead f head → verified run head.events sums head.stated ≡ verified run (events_of f.kind f.bytes) sums (stated_of f.kind f.bytes)
+verified_told f head run sums told = ap (λ events. verified run events sums head.stated) told.events ∙ go (events_of f.kind f.bytes) (λ some. told.stated (subst (λ events. 0 < length events) (sym told.events) some))
+  where
+    go : (events : List (List ℕ)) → (0 < length events → head.stated ≡ stated_of f.kind f.bytes) → verified run events sums head.stated ≡ verified run events sums (stated_of f.kind f.bytes)
+    go [] stated = refl
+    go (event ∷ events) stated = ap (verified run (event ∷ events) sums) (stated (omega arith))

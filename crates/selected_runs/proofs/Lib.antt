@@ -1,0 +1,8 @@
+pub mod AskLemmas
+mod CountedLemmas
+pub mod EventLemmas
+pub mod HeadLemmas
+pub mod RunLemmas
+pub mod SelectLemmas
+mod ShortLemmas
+mod StatedLemmas

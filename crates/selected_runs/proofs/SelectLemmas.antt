@@ -1,0 +1,73 @@
+-- The numbers that tables tell of a selection are those of its files.
+use Rattle.std.proofs.Common.{◌≡◌, ◌⊎◌, ℕ, true, false, not, List, [], ◌∷◌, map, filter, Ok, Err, inl, inr, refl, sym, ap, ap₂, subst, ◌∙◌, arith}
+use Rattle.sql_tables.proofs.Rows.{filter_same_on}
+use Rattle.prof_tables.specs.Changes as tables
+use Rattle.prof_tables.specs.Labels.{IsGroupName}
+use Rattle.prof_tables.specs.Tables.{Tables, RunLine}
+use Rattle.prof_books.specs.Book.{run_held}
+use Rattle.held_runs.specs.RunNumbers.{members_in_tables, numbers_in_tables}
+use Rattle.histories.specs.History.{History, File, held, is_member}
+use Rattle.histories.specs.Legal.{has_group, has_run, when}
+use Rattle.histories.specs.Selections.{numbers_of}
+use Rattle.histories.specs.Stands.{AreBooksOf, TablesTell}
+use Rattle.histories.specs.declared.answers.Answer.TheVariants.{Refused}
+use Rattle.histories.specs.declared.answers.Refusal.TheVariants.{NoSuchGroup, NoSuchRun}
+use Rattle.histories.specs.declared.answers.Selection.TheVariants as selections
+use Rattle.histories.proofs.Selections.{are_selected}
+use Rattle.histories.proofs.Tells.{tells_group, tells_run}
+use Rattle.store_histories.proofs.Settled.{no_group_named}
+use Rattle.selected_runs.specs.Selected.{AreSelected}
+
+numbers_of_books : (t : Tables) (files : List File) (lines : List RunLine) → AreBooksOf files (map (run_held t) lines) → map (λ (r : RunLine). r.number) lines ≡ numbers_of files
+numbers_of_books t [] [] all = refl
+numbers_of_books t [] (r ∷ lines) all = absurd all
+numbers_of_books t (f ∷ files) [] all = absurd all
+numbers_of_books t (f ∷ files) (r ∷ lines) all = ap₂ ◌∷◌ all.0.number (numbers_of_books t files lines all.1)
+
+numbers_held : (h : History) (t : Tables) → TablesTell h t → numbers_in_tables t ≡ numbers_of (held h)
+numbers_held h t tell = numbers_of_books t (held h) t.runs tell.runs
+
+pub all_selected : (h : History) (t : Tables) (numbers : List ℕ) → TablesTell h t → numbers ≡ numbers_in_tables t → AreSelected h selections.All (Ok numbers)
+all_selected h t numbers tell is = (refl, is ∙ numbers_held h t tell ∙ sym (ap numbers_of (are_selected h tell.legal).all))
+
+-- ---- one run
+
+pub run_missing : (h : History) (t : Tables) (n : ℕ) → TablesTell h t → tables.has_run t n ≡ false → AreSelected h (selections.Run n) (Err NoSuchRun)
+run_missing h t n tell none = ap (λ b. when (not b) (Refused NoSuchRun)) (sym (tells_run h t tell n) ∙ none)
+
+pub run_selected : (h : History) (t : Tables) (n : ℕ) → TablesTell h t → tables.has_run t n ≡ true → AreSelected h (selections.Run n) (Ok (n ∷ []))
+run_selected h t n tell some =
+    let there : has_run h n ≡ true = sym (tells_run h t tell n) ∙ some in
+    let one = (are_selected h tell.legal).one n there in
+    (ap (λ b. when (not b) (Refused NoSuchRun)) there, ap (λ m. m ∷ []) (sym one.2) ∙ sym (ap numbers_of one.1))
+
+-- ---- a group
+
+no_empty_name : IsGroupName [] → ⊥
+no_empty_name named = omega (arith, named.0)
+
+-- the name that stands for bytes is theirs, where a group has it
+pub group_there : (h : History) (t : Tables) (name text : List ℕ) → TablesTell h t → (IsGroupName name → text ≡ name) → (text ≡ name) ⊎ (text ≡ []) → tables.has_group t text ≡ true → text ≡ name
+group_there h t name text tell named (inl same) some = same
+group_there h t name text tell named (inr empty) some =
+    let none : has_group h [] ≡ false = no_group_named h [] tell.legal no_empty_name in
+    let there : has_group h [] ≡ true = sym (tells_group h t tell []) ∙ ap (tables.has_group t) (sym empty) ∙ some in
+    absurd (let b : true ≡ false = sym there ∙ none in cc)
+
+pub group_selected : (h : History) (t : Tables) (name text : List ℕ) (numbers : List ℕ) → TablesTell h t → (IsGroupName name → text ≡ name) → (text ≡ name) ⊎ (text ≡ []) → tables.has_group t text ≡ true
+    → numbers ≡ members_in_tables text t → AreSelected h (selections.Group name) (Ok numbers)
+group_selected h t name text numbers tell named other some is =
+    let same = group_there h t name text tell named other some in
+    let there : has_group h name ≡ true = sym (tells_group h t tell name) ∙ ap (tables.has_group t) (sym same) ∙ some in
+    let members : members_in_tables text t ≡ filter (is_member h name) (numbers_of (held h)) =
+    ap (λ x. members_in_tables x t) same ∙ filter_same_on (tables.has_member t name) (is_member h name) (numbers_in_tables t) (λ n is. tell.members name n) ∙ ap (filter (is_member h name)) (numbers_held h t tell) in
+    (ap (λ b. when (not b) (Refused NoSuchGroup)) there, is ∙ members ∙ sym ((are_selected h tell.legal).group name))
+
+missing_group : (h : History) (t : Tables) (name text : List ℕ) → TablesTell h t → (IsGroupName name → text ≡ name) → (text ≡ name) ⊎ (text ≡ []) → tables.has_group t text ≡ false → has_group h name ≡ false
+missing_group h t name text tell named (inl same) none = sym (tells_group h t tell name) ∙ ap (tables.has_group t) (sym same) ∙ none
+missing_group h t name text tell named (inr empty) none =
+    no_group_named h name tell.legal (λ form. no_empty_name (subst IsGroupName (sym (named form) ∙ empty) form))
+
+pub group_missing : (h : History) (t : Tables) (name text : List ℕ) → TablesTell h t → (IsGroupName name → text ≡ name) → (text ≡ name) ⊎ (text ≡ []) → tables.has_group t text ≡ false
+    → AreSelected h (selections.Group name) (Err NoSuchGroup)
+group_missing h t name text tell named other none = ap (λ b. when (not b) (Refused NoSuchGroup)) (missing_group h t name text tell named other none)

@@ -1,0 +1,4 @@
+pub mod Counted
+pub mod EventRuns
+pub mod Heads
+pub mod Selected

@@ -1,0 +1,46 @@
+// The runs of a selection that an event is asked of.
+ghost use Rattle.std.specs.Prelude.{◌≡◌};
+ghost use Rattle.std.specs.List.{list_any};
+ghost use Rattle.std.specs.Result.{is_ok};
+ghost use Rattle.prof_store.specs.Shown.{Asks};
+ghost use Rattle.selected_runs.specs.Counted.{has_counts};
+ghost use Rattle.selected_runs.specs.EventRuns.{AreEventRuns, ToldIn};
+
+use crate::counting::{Counted, count_runs};
+use crate::selecting::select_runs;
+use cg_text::ListVec;
+use histories::{Refusal, Selection};
+use prof_store::{Store, StoreError};
+use sqlite::Alter;
+use std::alloc::Global;
+
+/// Runs, of which one has the event that is asked, or why there are none.
+pub type EventRuns = Result<ListVec<Counted>, Refusal>;
+
+/// Whether one of some runs has the event.
+pub fn have_event(runs: &[Counted]) -> bool
+    ensures { result ≡ list_any has_counts runs.now }
+{
+    runs.iter().any(|run| run.counts.is_some())
+}
+
+/// The runs of a selection, with how often their events count in the one that is asked.
+pub fn event_runs<S: Alter>(
+    store: &mut Store<S>,
+    alloc: Global,
+    selection: &Selection,
+    event: &[u8],
+) -> Result<EventRuns, StoreError>
+    ensures told { ToldIn S.Store result store.old store.new (λ h t found. AreEventRuns h t selection.now event.now found) }
+    ensures asks { Asks S.Store (is_ok result) store.old store.new }
+{
+    let numbers = match select_runs(store, alloc, selection)? {
+        Ok(numbers) => numbers,
+        Err(refusal) => return Ok(Err(refusal)),
+    };
+    let runs = count_runs(store, alloc, numbers.as_slice(), event)?;
+    if !have_event(&runs) {
+        return Ok(Err(Refusal::NoSuchEvent));
+    }
+    Ok(Ok(ListVec::from_vec(runs)))
+}

@@ -1,0 +1,41 @@
+// What runs that are held tell of their files: laws of the definitions, each the contract of
+// a function that does nothing.
+ghost use Rattle.std.specs.Prelude.{◌≡◌, ℕ, List, map};
+ghost use Rattle.std.specs.List.{list_any};
+ghost use Rattle.sqlite_rules.specs.Lists.{Has};
+ghost use Rattle.cg_formulas.specs.declared.heads.FileHead.{FileHead};
+ghost use Rattle.cost_rows.specs.KeySums.{sums_by};
+ghost use Rattle.cost_rows.specs.declared.keys.Key.{Key};
+ghost use Rattle.cost_reports.specs.Costs.{all_rows, costs_by};
+ghost use Rattle.cost_reports.specs.Verifying.{verified};
+ghost use Rattle.prof_tables.specs.Tables.{Tables};
+ghost use Rattle.histories.specs.Files.{events_of, stated_of};
+ghost use Rattle.histories.specs.History.{History, File, held};
+ghost use Rattle.histories.specs.Reports.{event_records, has_event};
+ghost use Rattle.histories.specs.Selections.{numbers_of, selected};
+ghost use Rattle.histories.specs.Stands.{TablesTell};
+ghost use Rattle.histories.specs.declared.answers.Selection.{Selection};
+ghost use Rattle.held_runs.specs.HeldHeads.{IsHeadIn};
+ghost use Rattle.selected_runs.specs.Counted.{AreCounted, event_cells, has_counts};
+ghost use Rattle.selected_runs.specs.Heads.{TellsHead};
+ghost use Rattle.selected_runs.specs.declared.counting.Counted.{Counted};
+
+/// In tables that stand for a history, the head that the lines of a run say is what its file says: its
+/// events, its derived events with their coefficients, and the totals that it states. What is verified
+/// by such a head is what is verified by the file.
+pub fn heads_are_told()
+    ensures told { (h : History) (t : Tables) (f : File) (head : FileHead) → TablesTell h t → Has (held h) f → IsHeadIn f.number t head → TellsHead f head }
+    ensures verified { (f : File) (head : FileHead) (run : ℕ) (sums : List ℕ)
+        → TellsHead f head → verified run head.events sums head.stated ≡ verified run (events_of f.kind f.bytes) sums (stated_of f.kind f.bytes) }
+{}
+
+/// Runs that are counted by their heads, those of a selection: one of them has the event where a file that
+/// is selected has it; and their cells, each as often as its column counts, come by every key to what the
+/// self records of these files cost in the event.
+pub fn runs_cost_what_files_cost()
+    ensures event { (h : History) (t : Tables) (s : Selection) (event : List ℕ) (runs : List Counted) → TablesTell h t
+        → AreCounted t event (numbers_of (selected h s)) runs → list_any has_counts runs ≡ list_any (has_event event) (selected h s) }
+    ensures costs { (h : History) (t : Tables) (s : Selection) (key : Key) (event : List ℕ) (runs : List Counted) → TablesTell h t
+        → AreCounted t event (numbers_of (selected h s)) runs
+        → sums_by key (all_rows (map (event_cells t) runs)) ≡ costs_by key (map (event_records event) (selected h s)) }
+{}

@@ -1,0 +1,88 @@
+// The runs that a selection names.
+ghost use Rattle.std.specs.Prelude.{◌≡◌, ◌⊎◌, [], IfOk};
+ghost use Rattle.std.specs.Result.{is_ok};
+ghost use Rattle.prof_tables.specs.Labels.{IsGroupName};
+ghost use Rattle.prof_store.specs.Shown.{Asks};
+ghost use Rattle.histories.specs.declared.answers.Selection.TheVariants as selections;
+ghost use Rattle.selected_runs.specs.Selected.{AreSelected, ToldOf};
+
+use cg_text::ListVec;
+use held_runs::{members_of, run_numbers};
+use histories::{Refusal, Selection};
+use prof_store::{Store, StoreError};
+use sqlite::Alter;
+use std::alloc::Global;
+
+/// Numbers of runs, or why there are none.
+pub type Numbers = Result<ListVec<u32>, Refusal>;
+
+/// All runs.
+fn all_runs<S: Alter>(store: &mut Store<S>, alloc: Global) -> Result<Numbers, StoreError>
+    ensures told { ToldOf S.Store result store.old store.new (λ h found. AreSelected h selections.All found) }
+    ensures asks { Asks S.Store (is_ok result) store.old store.new }
+{
+    let numbers = run_numbers(store, alloc)?;
+    Ok(Ok(numbers))
+}
+
+/// A run, if it is held.
+pub fn one_run<S: Alter>(
+    store: &mut Store<S>,
+    alloc: Global,
+    number: u32,
+) -> Result<Numbers, StoreError>
+    ensures told { ToldOf S.Store result store.old store.new (λ h found. AreSelected h (selections.Run number) found) }
+    ensures asks { Asks S.Store (is_ok result) store.old store.new }
+{
+    if !store.has_run(number)? {
+        return Ok(Err(Refusal::NoSuchRun));
+    }
+    let mut numbers = ListVec::new(alloc);
+    numbers.push(number)?;
+    Ok(Ok(numbers))
+}
+
+/// The text of a group's name. Bytes that are no text are no group's name, and neither is the empty
+/// text, which stands for them.
+pub fn name_text(name: &[u8]) -> &str
+    ensures named { IsGroupName name.now → result.now ≡ name.now }
+    ensures other { (result.now ≡ name.now) ⊎ (result.now ≡ []) }
+{
+    match str::from_utf8(name) {
+        Ok(text) => text,
+        Err(_) => "",
+    }
+}
+
+/// The members of a group, if it is there.
+fn of_group<S: Alter>(
+    store: &mut Store<S>,
+    alloc: Global,
+    name: &[u8],
+) -> Result<Numbers, StoreError>
+    ensures told { ToldOf S.Store result store.old store.new (λ h found. AreSelected h (selections.Group name.now) found) }
+    ensures asks { Asks S.Store (is_ok result) store.old store.new }
+{
+    let name = name_text(name);
+    if !store.has_group(name)? {
+        return Ok(Err(Refusal::NoSuchGroup));
+    }
+    let numbers = members_of(store, alloc, name)?;
+    Ok(Ok(numbers))
+}
+
+/// The runs that a selection names.
+pub fn select_runs<S: Alter>(
+    store: &mut Store<S>,
+    alloc: Global,
+    selection: &Selection,
+) -> Result<Numbers, StoreError>
+    ensures told { ToldOf S.Store result store.old store.new (λ h found. AreSelected h selection.now found) }
+    ensures asks { Asks S.Store (is_ok result) store.old store.new }
+{
+    match selection {
+        Selection::All => all_runs(store, alloc),
+        Selection::Run(number) => one_run(store, alloc, *number),
+        Selection::Group(name) => of_group(store, alloc, name.as_slice()),
+    }
+}

@@ -1,0 +1,32 @@
+use Rattle.std.proofs.Common.{◌≡◌, [], ap, sym, subst, inl, inr, refl}
+use Rattle.histories.specs.History.{Annotate}
+use Rattle.prof_store.specs.Shown.{IsFaithful}
+use Rattle.sessions.specs.Questions.{selection_said}
+use Rattle.sessions.specs.Sessions.{WasTold}
+use Rattle.sessions.proofs.SessionLemmas.{none_read, told, were_read}
+use Rattle.store_histories.specs.Answered.{Answers}
+use Rattle.sessions.proofs.session.Session.annotate.Goals as goal
+
+pub returns-in-Err-clause-answered : goal.returns-in-Err-clause-answered
+returns-in-Err-clause-answered g c clean = (
+  [],
+  none_read g.R.File.Read.remaining,
+  c.refuse.ensures.answered clean (Annotate (selection_said c.args.selected) c.args.event.now c.args.file.now []) (λ h. inl (tt, inr (inl refl))),
+)
+
+pub returns-clause-answered : goal.returns-clause-answered
+returns-clause-answered g c clean =
+    let old = c.args.self.now in
+    let new = c.tell.new.self in
+    let same = c.tell.ensures.warehouse in
+    let early = subst (λ w. IsFaithful g.S.Store w.store) same clean in
+    let it = c.annotate-answer.ensures.answered early in
+    let outcomes = it.0 in
+    let asked = c.in-Ok.asked in
+    let said = Annotate asked.selection asked.event asked.file outcomes in (
+      outcomes,
+      were_read g.R.File.Read.remaining _ _ outcomes c.new-source.ensures it.1,
+      subst (λ a. WasTold g.S.Store g.W.Write.contents (Annotate a.selection a.event a.file outcomes) c.tell.result old new) c.in-Ok.ensures
+          (told g.S.Store g.W.Write.contents said c.annotate-answer.result c.tell.result old new
+          (subst (λ w. Answers g.S.Store old.warehouse.limits said c.annotate-answer.result old.warehouse.store w.store) (sym same) it.2) c.tell.ensures.status c.tell.ensures.printed),
+    )

@@ -1,0 +1,23 @@
+-- A source with what its lines cost over runs of the tables.
+use Rattle.std.specs.Prelude.{ℕ, if◌then◌else◌, List, [], map, fold, Option, Some, None, unwrap_or}
+use Rattle.cost_exports.specs.Annotations.{FileCosts, annotation_of, annotation_text, no_lines, with_line}
+use Rattle.cost_reports.specs.Costs.{all_rows, weighted}
+use Rattle.prof_books.specs.Book.{cells_held}
+use Rattle.prof_tables.specs.Tables.{Tables}
+use Rattle.selected_runs.specs.Counted.{event_cells}
+use Rattle.selected_runs.specs.declared.counting.Counted.{Counted}
+
+-- the cells of a run are added; in a run without the event they cost nothing
+abbrev pub lines_from : Tables → FileCosts → Counted → FileCosts
+lines_from t costs run = fold with_line costs (map (weighted (unwrap_or run.counts [])) (cells_held run.number t))
+
+-- what the lines of a file cost over runs
+abbrev pub lines_over : Tables → List Counted → List ℕ → FileCosts
+lines_over t runs name = fold with_line (no_lines name) (all_rows (map (event_cells t) runs))
+
+-- the text, if one of the runs knows the file
+abbrev pub annotated_if_known : List ℕ → List ℕ → FileCosts → Option (List ℕ)
+annotated_if_known event source costs = if costs.known then Some (annotation_text event (annotation_of costs.file source costs.costs)) else None
+
+abbrev pub annotated_over : Tables → List Counted → List ℕ → List ℕ → List ℕ → Option (List ℕ)
+annotated_over t runs event name source = annotated_if_known event source (lines_over t runs name)

@@ -1,0 +1,13 @@
+-- Stacks with their counts over runs of the tables.
+use Rattle.std.specs.Prelude.{ℕ, List, flat_map}
+use Rattle.cost_exports.specs.Folded.{folded_of_rows, folded_text}
+use Rattle.cost_rows.specs.declared.rows.StackRow.{StackRow}
+use Rattle.prof_books.specs.Book.{stacks_held}
+use Rattle.prof_tables.specs.Tables.{Tables}
+
+-- the stacks of runs, one run after another
+abbrev pub stacks_over : Tables → List ℕ → List (StackRow (List ℕ))
+stacks_over t numbers = flat_map (λ n. stacks_held n t) numbers
+
+abbrev pub folded_over : Tables → List ℕ → List ℕ
+folded_over t numbers = folded_text (folded_of_rows (stacks_over t numbers))

@@ -1,0 +1,3 @@
+pub mod Annotated
+pub mod CsvRuns
+pub mod FoldedRuns

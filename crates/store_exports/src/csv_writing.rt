@@ -1,0 +1,87 @@
+// The answers to questions of self costs as CSV.
+ghost use Rattle.std.specs.Prelude.{◌≡◌};
+ghost use Rattle.std.specs.Result.{is_ok};
+ghost use Rattle.prof_store.specs.Shown.{Told};
+ghost use Rattle.held_runs.specs.Walks.{AsksIfOpen};
+ghost use Rattle.histories.specs.declared.answers.Query.TheVariants.{Csv};
+ghost use Rattle.store_histories.specs.Answered.{Asks as AnswersAsked};
+ghost use Rattle.store_exports.specs.CsvRuns.{AddsRun, AreSums, IsCsvText};
+
+use crate::takers::NamedRows;
+use cg_text::ListVec;
+use cost_exports::{CellSums, csv_text};
+use held_runs::{HeldNames, each_cell, head_of, names_of};
+use histories::{Answer, Selection};
+use prof_store::{Store, StoreError};
+use selected_runs::select_runs;
+use sqlite::Alter;
+use std::alloc::Global;
+
+/// Adds the cells of a run, by the names of its events.
+fn add_run<S: Alter>(
+    store: &mut Store<S>,
+    alloc: Global,
+    names: &HeldNames,
+    number: u32,
+    sums: CellSums,
+) -> Result<CellSums, StoreError>
+    ensures told { Told S.Store result store.old store.new (λ t all. names.now ≡ t.names → AddsRun t number sums all) }
+    ensures asks { AsksIfOpen S.Store (is_ok result) store.old store.new }
+{
+    let head = head_of(store, alloc, number)?;
+    let events = head.events.as_slice();
+    let mut rows = NamedRows { events, sums };
+    each_cell(store, number, names, events.len(), &mut rows)?;
+    let NamedRows { events: _, sums } = rows;
+    Ok(sums)
+}
+
+/// What places cost by the names of events, one run after another.
+fn add_runs<S: Alter>(
+    store: &mut Store<S>,
+    alloc: Global,
+    names: &HeldNames,
+    numbers: &[u32],
+) -> Result<CellSums, StoreError>
+    ensures told { Told S.Store result store.old store.new (λ t all. names.now ≡ t.names → AreSums t numbers.now all) }
+    ensures asks { AsksIfOpen S.Store (is_ok result) store.old store.new }
+{
+    let mut sums = CellSums::new(alloc);
+    for number in numbers {
+        sums = add_run(store, alloc, names, *number, sums)?;
+    }
+    Ok(sums)
+}
+
+/// The self costs of some runs as CSV.
+fn text_of_runs<S: Alter>(
+    store: &mut Store<S>,
+    alloc: Global,
+    numbers: &[u32],
+) -> Result<ListVec<u8>, StoreError>
+    ensures told { Told S.Store result store.old store.new (λ t text. IsCsvText t numbers.now text) }
+    ensures asks { AsksIfOpen S.Store (is_ok result) store.old store.new }
+{
+    let names = names_of(store, alloc)?;
+    let sums = add_runs(store, alloc, &names, numbers)?;
+    Ok(csv_text(alloc, &sums)?)
+}
+
+/// Answers the self costs above 0 by object, file, function, line and event, over the runs of a selection:
+/// a text of CSV, or the refusal of a run or a group that is not held. Errors: `Memory`; and `Store` for a
+/// call of the database that fails, for rows out of form and for sums of 2^112 or more, which no files that
+/// are held come to.
+pub fn csv_answer<S: Alter>(
+    store: &mut Store<S>,
+    alloc: Global,
+    selection: &Selection,
+) -> Result<Answer, StoreError>
+    ensures { AnswersAsked S.Store (Csv selection.now) result store.old store.new }
+{
+    let numbers = match select_runs(store, alloc, selection)? {
+        Ok(numbers) => numbers,
+        Err(refusal) => return Ok(Answer::Refused(refusal)),
+    };
+    let text = text_of_runs(store, alloc, numbers.as_slice())?;
+    Ok(Answer::Text(text))
+}

@@ -1,0 +1,40 @@
+use Rattle.std.proofs.Common.{◌≡◌, refl, sym, ap, subst, ◌∙◌, Some}
+use Rattle.sources.specs.Outcomes.{bytes_of}
+use Rattle.histories.specs.History.{Annotate}
+use Rattle.histories.specs.Legal.{expected_answer, expected_of_query, most_of_source}
+use Rattle.histories.specs.declared.answers.Query.TheVariants as queries
+use Rattle.histories.proofs.ReadsDue.{ended_due}
+use Rattle.store_histories.specs.Answered.{Answers}
+use Rattle.store_histories.proofs.Questions.{answered_as}
+use Rattle.warehouse.proofs.Unread.{unread_answered}
+use Rattle.warehouse.proofs.answering.annotate_in.Goals as goal
+
+pub returns-in-Ok : goal.returns-in-Ok
+returns-in-Ok g c = record {
+  answered = λ limits clean.
+      let read = c.in-Ok.ensures in
+      let bytes = bytes_of read.outcomes in
+      let ended = read.read.0 in
+      let s = c.args.selection in
+      let said = Annotate s c.args.event c.args.file read.outcomes in
+      let query = queries.Annotate s c.args.event c.args.file bytes in (
+        read.outcomes,
+        read.came,
+        subst (λ a. Answers g.S.Store limits said a c.args.store.now c.annotate_answer.new.store) (sym c.answer_of.ensures)
+        (answered_as g.S.Store limits query said tt (λ h. ended_due most_of_source read.outcomes (expected_of_query h query) ended.reads.within ended.reads.unfailed ended.ended)
+        c.args.store.now c.annotate_answer.new.store c.annotate_answer.result (c.annotate_answer.ensures clean)),
+      );
+}
+
+pub returns-in-Err : goal.returns-in-Err
+returns-in-Err g c = record {
+  answered = λ limits clean.
+      let read = c.in-Err.ensures in
+      let s = c.args.selection in
+      let said = Annotate s c.args.event c.args.file read.outcomes in (
+        read.outcomes,
+        read.came,
+        subst (λ a. Answers g.S.Store limits said a c.args.store.now c.args.store.now) (sym c.unread_answer.ensures)
+        (unread_answered limits said tt most_of_source read.outcomes (λ h. expected_of_query h (queries.Annotate s c.args.event c.args.file (bytes_of read.outcomes))) (λ h. refl) g.S.Store c.args.store.now clean c.in-Err.unread read.read),
+      );
+}
