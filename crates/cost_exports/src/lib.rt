@@ -1,0 +1,34 @@
+//! Annotated sources and exports: what the lines of a file cost beside its source, what places cost as
+//! comma-separated values, and stacks as folded text. Rows are handed in one at a time, and added up by
+//! key: nothing here knows where they are kept.
+#![tactic(auto)]
+
+// The text of a source with what its lines cost (specs/Annotations.antt).
+mod annotations;
+// The keys of the sums of cells (specs/Views.antt).
+mod cells;
+// What places cost by the names of events (specs/Csv.antt).
+mod cell_sums;
+// The text of these sums (specs/Csv.antt).
+mod csv_texts;
+// The text of stacks (specs/Folded.antt).
+mod folded_texts;
+// Laws: what exports come to, from rows to records, and that the folded one reads back.
+mod laws;
+// What the lines of one file cost (specs/Annotations.antt).
+mod line_sums;
+// What is printed of a number.
+mod numbers;
+// Stacks with their counts (specs/Folded.antt).
+mod stack_sums;
+
+pub use annotations::annotate;
+pub use cell_sums::CellSums;
+pub use csv_texts::csv_text;
+pub use folded_texts::folded_text;
+pub use laws::{
+    annotations_come_to_the_records, csv_rows_come_to_the_records, files_are_known_by_their_rows,
+    folded_stacks_come_to_the_stacks, folded_texts_read_back, shown_and_outside_are_the_total,
+};
+pub use line_sums::LineSums;
+pub use stack_sums::StackSums;
