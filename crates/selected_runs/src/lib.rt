@@ -5,15 +5,15 @@
 mod bounds;
 // How often the columns of runs count in the event (specs/Counted.antt).
 mod counting;
-// The runs of a selection that an event is asked of (specs/EventRuns.antt).
-mod event_runs;
 // Laws: what runs that are held tell of their files (specs/Heads.antt).
 mod laws;
+// The runs of a selection that an event is asked of (specs/EventRuns.antt).
+mod runs_asked;
 // Finds the runs of a selection (specs/Selected.antt).
 mod selecting;
 
 pub use bounds::{cost_within, is_within, times_of};
 pub use counting::{Counted, count_runs};
-pub use event_runs::{EventRuns, event_runs, have_event};
 pub use laws::{heads_are_told, runs_cost_what_files_cost};
+pub use runs_asked::{EventRuns, event_runs, have_event};
 pub use selecting::{Numbers, name_text, one_run, select_runs};

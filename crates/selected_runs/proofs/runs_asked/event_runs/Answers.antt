@@ -5,7 +5,7 @@ use Rattle.prof_tables.specs.Tables.{Holds}
 use Rattle.selected_runs.specs.Counted.{AreCounted}
 use Rattle.selected_runs.specs.EventRuns.{AreEventRuns}
 use Rattle.selected_runs.proofs.EventLemmas.{event_found, event_missing, selection_missing}
-use Rattle.selected_runs.proofs.event_runs.event_runs.Goals as goal
+use Rattle.selected_runs.proofs.runs_asked.event_runs.Goals as goal
 
 pub returns-in-Err-clause-told : goal.returns-in-Err-clause-told
 returns-in-Err-clause-told g c clean h s =
