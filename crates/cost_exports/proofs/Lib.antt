@@ -1,1 +1,4 @@
+pub mod AmountLemmas
+pub mod LineLemmas
+pub mod StackLemmas
 mod Examples
