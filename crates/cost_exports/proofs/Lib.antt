@@ -1,4 +1,5 @@
 pub mod AmountLemmas
 pub mod LineLemmas
+pub mod SpreadLemmas
 pub mod StackLemmas
 mod Examples
