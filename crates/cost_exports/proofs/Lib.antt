@@ -1,4 +1,6 @@
 pub mod AmountLemmas
+pub mod ColumnLemmas
+pub mod KnownLemmas
 pub mod LineLemmas
 pub mod SpreadLemmas
 pub mod StackLemmas
