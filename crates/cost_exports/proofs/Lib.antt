@@ -1,1 +1,7 @@
+pub mod AmountLemmas
+pub mod ColumnLemmas
+pub mod KnownLemmas
+pub mod LineLemmas
+pub mod SpreadLemmas
+pub mod StackLemmas
 mod Examples

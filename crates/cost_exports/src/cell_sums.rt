@@ -77,15 +77,15 @@ fn add_at(
     ensures err { OnErr result (spread (held_places places.new.entries) ≡ spread (held_places places.old.entries)) }
 {
     match places.get_mut(names) {
-        Some(lines) => lines.add(alloc, line, cost),
+        Some(lines) => lines.add(alloc, line, cost)?,
         None => {
             let mut lines = LineCosts::new(alloc);
             lines.add(alloc, line, cost)?;
             let names = names.copy(alloc)?;
             places.insert(names, lines)?;
-            Ok(())
         }
     }
+    Ok(())
 }
 
 /// What places cost by the names of events, added up cell by cell: contracts see a cost above 0 for each
