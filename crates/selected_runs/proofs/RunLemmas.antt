@@ -92,8 +92,12 @@ pub runs_have_event : (h : History) (t : Tables) (s : Selection) (event : List �
     → list_any has_counts runs ≡ list_any (has_event event) (selected h s)
 runs_have_event h t s event runs tell counted = any_has event (selected h s) runs (are_runs h t event tell (selected h s) runs (selected_held h s) counted)
 
+pub runs_stand : (h : History) (t : Tables) (s : Selection) (event : List ℕ) (runs : List Counted) → TablesTell h t → AreCounted t event (numbers_of (selected h s)) runs
+    → StandForEach (map (event_records event) (selected h s)) (map (event_cells t) runs)
+runs_stand h t s event runs tell counted =
+    let all = selected_held h s in
+    stand_for_each h t event tell (selected h s) runs all (are_runs h t event tell (selected h s) runs all counted)
+
 pub runs_cost : (h : History) (t : Tables) (s : Selection) (key : Key) (event : List ℕ) (runs : List Counted) → TablesTell h t → AreCounted t event (numbers_of (selected h s)) runs
     → sums_by key (all_rows (map (event_cells t) runs)) ≡ costs_by key (map (event_records event) (selected h s))
-runs_cost h t s key event runs tell counted =
-    let all = selected_held h s in
-    cells_are_records key _ _ (stand_for_each h t event tell (selected h s) runs all (are_runs h t event tell (selected h s) runs all counted))
+runs_cost h t s key event runs tell counted = cells_are_records key _ _ (runs_stand h t s event runs tell counted)

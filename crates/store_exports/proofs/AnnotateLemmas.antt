@@ -1,0 +1,125 @@
+-- What the lines of a file cost over runs, and what is answered of it.
+use Rattle.std.proofs.Common.{◌≡◌, ℕ, ◌+◌, ◌<◌, Bool, true, false, not, ◌||◌, if◌then◌else◌, List, [], ◌∷◌, map, fold, length, get_or, take, Option, Some, None, Ok, Err, bytes_eq, refl, sym, ap, ap₂, subst, ◌∙◌}
+use Rattle.std.specs.Prelude.{unwrap_or}
+use Rattle.std.specs.List.{AllByRecursion, list_any}
+use Rattle.std.specs.Ordering.{nat_cmp}
+use Rattle.std.proofs.lemmas.Grind.{fold-append}
+use Rattle.std.proofs.lemmas.List.{take_more}
+use Rattle.sqlite_rules.specs.Lists.{Has}
+use Rattle.cost_exports.specs.Amounts.{with_amount}
+use Rattle.cost_exports.specs.Annotations.{FileCosts, HaveCostsEach, annotation_of, annotation_text, know_file, no_lines, with_line}
+use Rattle.cost_exports.proofs.KnownLemmas.{known-records}
+use Rattle.cost_exports.proofs.LineLemmas.{annotation-records}
+use Rattle.cost_reports.specs.Costs.{all_rows, weighted}
+use Rattle.cost_rows.specs.Walks.{HaveCosts}
+use Rattle.cost_rows.specs.declared.rows.CellRow.{CellRow}
+use Rattle.prof_books.specs.Book.{cells_held}
+use Rattle.prof_tables.specs.Tables.{Tables}
+use Rattle.histories.specs.Exports.{annotated_text, knows_source}
+use Rattle.histories.specs.History.{History, File, held}
+use Rattle.histories.specs.Legal.{expected_of_query, first_or, no_source, when}
+use Rattle.histories.specs.Reports.{event_records}
+use Rattle.histories.specs.Selections.{selected}
+use Rattle.histories.specs.Stands.{TablesTell}
+use Rattle.histories.specs.declared.answers.Answer.{Answer}
+use Rattle.histories.specs.declared.answers.Answer.TheVariants.{Text, Refused}
+use Rattle.histories.specs.declared.answers.Query.TheVariants as queries
+use Rattle.histories.specs.declared.answers.Refusal.{Refusal}
+use Rattle.histories.specs.declared.answers.Refusal.TheVariants.{NoSuchName}
+use Rattle.histories.specs.declared.answers.Selection.{Selection}
+use Rattle.histories.proofs.Runs.{tells_rows}
+use Rattle.selected_runs.specs.Counted.{event_cells}
+use Rattle.selected_runs.specs.EventRuns.{AreEventRuns}
+use Rattle.selected_runs.specs.declared.counting.Counted.{Counted}
+use Rattle.selected_runs.proofs.EventLemmas.{both_held}
+use Rattle.selected_runs.proofs.RunLemmas.{AreRunsOf, are_runs, runs_stand, selected_held}
+use Rattle.store_exports.specs.Annotated.{annotated_if_known, annotated_over, lines_from, lines_over}
+
+-- ---- cells that are added
+
+abbrev pub taken : List ℕ × FileCosts → CellRow (List ℕ) → List ℕ × FileCosts
+taken m row = (m.0, with_line m.1 (weighted m.0 row))
+
+pub lines_taken : (counts : List ℕ) (costs : FileCosts) (cells : List (CellRow (List ℕ))) → fold taken (counts, costs) cells ≡ (counts, fold with_line costs (map (weighted counts) cells))
+lines_taken counts costs [] = refl
+lines_taken counts costs (cell ∷ cells) = lines_taken counts (with_line costs (weighted counts cell)) cells
+
+runs_added : (t : Tables) (start : FileCosts) (runs : List Counted) → fold (lines_from t) start runs ≡ fold with_line start (all_rows (map (event_cells t) runs))
+runs_added t start [] = refl
+runs_added t start (run ∷ runs) =
+    runs_added t (lines_from t start run) runs ∙ sym (fold-append with_line start (map (weighted (unwrap_or run.counts [])) (cells_held run.number t)) (all_rows (map (event_cells t) runs)))
+
+pub run_added : (t : Tables) (start : FileCosts) (runs : List Counted) (at : ℕ) (d : Counted) (before : FileCosts) → at < length runs → before ≡ fold (lines_from t) start (take at runs)
+    → lines_from t before (get_or runs at d) ≡ fold (lines_from t) start (take (at + 1) runs)
+run_added t start runs at d before low was =
+    ap (λ c. lines_from t c (get_or runs at d)) was ∙ sym (fold-append (lines_from t) start (take at runs) (get_or runs at d ∷ [])) ∙ ap (fold (lines_from t) start) (sym (take_more runs at d low))
+
+-- ---- the text over runs
+
+lines_are : (t : Tables) (name : List ℕ) (runs : List Counted) (costs : FileCosts) → costs ≡ fold (lines_from t) (no_lines name) runs → costs ≡ lines_over t runs name
+lines_are t name runs costs is = is ∙ runs_added t (no_lines name) runs
+
+pub text_missing : (t : Tables) (event name source : List ℕ) (runs : List Counted) (costs : FileCosts) → costs ≡ fold (lines_from t) (no_lines name) runs → costs.known ≡ false
+    → None ≡ annotated_over t runs event name source
+text_missing t event name source runs costs is unknown =
+    sym (ap (λ b. if b then Some (annotation_text event (annotation_of costs.file source costs.costs)) else None) unknown) ∙ ap (annotated_if_known event source) (lines_are t name runs costs is)
+
+pub text_found : (t : Tables) (event name source : List ℕ) (runs : List Counted) (costs : FileCosts) (text : List ℕ) → costs ≡ fold (lines_from t) (no_lines name) runs → costs.known ≡ true
+    → text ≡ annotation_text event (annotation_of costs.file source costs.costs) → Some text ≡ annotated_over t runs event name source
+text_found t event name source runs costs text is known are =
+    ap (λ x. Some x) are ∙ sym (ap (λ b. if b then Some (annotation_text event (annotation_of costs.file source costs.costs)) else None) known) ∙ ap (annotated_if_known event source) (lines_are t name runs costs is)
+
+-- ---- from runs to files
+
+costs_each : (h : History) (t : Tables) (event : List ℕ) → TablesTell h t → (files : List File) (runs : List Counted) → AllByRecursion (Has (held h)) files → AreRunsOf event files runs → HaveCostsEach (map (event_cells t) runs)
+costs_each h t event tell [] [] all are = tt
+costs_each h t event tell [] (run ∷ runs) all are = absurd are
+costs_each h t event tell (f ∷ files) [] all are = absurd are
+costs_each h t event tell (f ∷ files) (run ∷ runs) all are =
+    let above : HaveCosts (cells_held f.number t) = (tells_rows h t tell f all.0).cells_above in
+    (subst (λ n. HaveCosts (cells_held n t)) (sym are.0.number) above, costs_each h t event tell files runs all.1 are.1)
+
+known_by_files : (event name : List ℕ) (files : List File) → know_file name (map (event_records event) files) ≡ list_any (knows_source name) files
+known_by_files event name [] = refl
+known_by_files event name (f ∷ files) = ap (λ b. knows_source name f || b) (known_by_files event name files)
+
+file_stays : (costs : FileCosts) (rows : List (CellRow (List ℕ))) → (fold with_line costs rows).file ≡ costs.file
+file_stays costs [] = refl
+file_stays costs (row ∷ rows) = file_stays (with_line costs row) rows ∙ one (bytes_eq row.file costs.file)
+  where
+    one : (b : Bool) → (if b then record { file = costs.file; known = true; costs = with_amount nat_cmp costs.costs row.line row.cost } else costs).file ≡ costs.file
+    one true = refl
+    one false = refl
+
+-- ---- the answers
+
+abbrev answer_for : Option (List ℕ) → Answer
+answer_for (Some text) = Text text
+answer_for None = Refused NoSuchName
+
+pub annotation_is_due : (h : History) (t : Tables) (s : Selection) (event name source : List ℕ) (runs : List Counted) (text : Option (List ℕ)) → TablesTell h t → AreEventRuns h t s event (Ok runs)
+    → text ≡ annotated_over t runs event name source → answer_for text ≡ expected_of_query h (queries.Annotate s event name source)
+annotation_is_due h t s event name source runs text tell found is =
+    let files = selected h s in
+    let records = map (event_records event) files in
+    let cells = map (event_cells t) runs in
+    let all = selected_held h s in
+    let stand = runs_stand h t s event runs tell found.2 in
+    let above = costs_each h t event tell files runs all (are_runs h t event tell files runs all found.2) in
+    let lines = lines_over t runs name in
+    let known : lines.known ≡ list_any (knows_source name) files = known-records name records cells stand above ∙ known_by_files event name files in
+    let shown : annotation_text event (annotation_of lines.file source lines.costs) ≡ annotated_text event name source files =
+    ap (λ file. annotation_text event (annotation_of file source lines.costs)) (file_stays (no_lines name) (all_rows cells)) ∙ ap (annotation_text event) (annotation-records name source records cells stand) in
+    ap answer_for is
+    ∙ ap₂ (λ b x. answer_for (if b then Some x else None)) known shown
+    ∙ go (list_any (knows_source name) files) (annotated_text event name source files)
+    ∙ both_held h t s event runs found (no_source name files ∷ []) (Text (annotated_text event name source files))
+  where
+    go : (b : Bool) (text : List ℕ) → answer_for (if b then Some text else None) ≡ first_or (when (not b) (Refused NoSuchName) ∷ []) (Text text)
+    go true text = refl
+    go false text = refl
+
+pub annotation_is_refused : (h : History) (t : Tables) (s : Selection) (event name source : List ℕ) (refusal : Refusal) → AreEventRuns h t s event (Err refusal)
+    → Refused refusal ≡ expected_of_query h (queries.Annotate s event name source)
+annotation_is_refused h t s event name source refusal found =
+    sym (found (no_source name (selected h s) ∷ []) (Text (annotated_text event name source (selected h s))))

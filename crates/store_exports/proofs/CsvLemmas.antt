@@ -1,0 +1,82 @@
+-- What places cost by the names of events over runs, and what is answered of it.
+use Rattle.std.proofs.Common.{◌≡◌, ℕ, ◌+◌, ◌<◌, List, [], ◌∷◌, ◌++◌, map, fold, length, get_or, take, Ok, Err, refl, sym, ap, subst, ◌∙◌}
+use Rattle.std.specs.List.{AllByRecursion}
+use Rattle.std.proofs.lemmas.Grind.{fold-append}
+use Rattle.std.proofs.lemmas.List.{take_more}
+use Rattle.sqlite_rules.specs.Lists.{Has}
+use Rattle.cost_exports.specs.Csv.{EventSpot, NamedCells, NamesStandForEach, csv_of_cells, csv_text, with_cell_in, with_cells}
+use Rattle.cost_exports.proofs.ColumnLemmas.{csv-records}
+use Rattle.cost_rows.specs.Sums.{Spot}
+use Rattle.cost_rows.specs.WalkSums.{rows_cost}
+use Rattle.cost_rows.specs.declared.rows.CellRow.{CellRow}
+use Rattle.prof_books.specs.Book.{cells_held}
+use Rattle.prof_tables.specs.Tables.{Tables}
+use Rattle.histories.specs.Exports.{csv_of_files, named_records}
+use Rattle.histories.specs.History.{History, File, held}
+use Rattle.histories.specs.Legal.{expected_of_query, first_or}
+use Rattle.histories.specs.Selections.{numbers_of, selected}
+use Rattle.histories.specs.Stands.{TablesTell}
+use Rattle.histories.specs.declared.answers.Answer.TheVariants.{Text, Refused}
+use Rattle.histories.specs.declared.answers.Query.TheVariants as queries
+use Rattle.histories.specs.declared.answers.Refusal.{Refusal}
+use Rattle.histories.specs.declared.answers.Selection.{Selection}
+use Rattle.histories.proofs.Runs.{tells_rows}
+use Rattle.selected_runs.specs.Selected.{AreSelected}
+use Rattle.selected_runs.proofs.HeadLemmas.{held_head_told}
+use Rattle.selected_runs.proofs.RunLemmas.{selected_held}
+use Rattle.store_exports.specs.CsvRuns.{AddsRun, AreNamedCells, AreNamedRuns, AreSums, IsCsvText}
+
+-- ---- cells that are added
+
+abbrev pub taken : List (List ℕ) × List (EventSpot × ℕ) → CellRow (List ℕ) → List (List ℕ) × List (EventSpot × ℕ)
+taken m row = (m.0, with_cell_in m.0 m.1 row)
+
+pub cells_taken : (events : List (List ℕ)) (sums : List (EventSpot × ℕ)) (cells : List (CellRow (List ℕ))) → fold taken (events, sums) cells ≡ (events, fold (with_cell_in events) sums cells)
+cells_taken events sums [] = refl
+cells_taken events sums (cell ∷ cells) = cells_taken events (with_cell_in events sums cell) cells
+
+named_more : (t : Tables) (numbers : List ℕ) (runs : List NamedCells) (number : ℕ) (r : NamedCells) → AreNamedRuns t numbers runs → AreNamedCells t number r → AreNamedRuns t (numbers ++ number ∷ []) (runs ++ r ∷ [])
+named_more t [] [] number r all one = (one, tt)
+named_more t [] (q ∷ runs) number r all one = absurd all
+named_more t (n ∷ numbers) [] number r all one = absurd all
+named_more t (n ∷ numbers) (q ∷ runs) number r all one = (all.0, named_more t numbers runs number r all.1 one)
+
+pub sums_none : (t : Tables) → AreSums t [] []
+sums_none t = ([], tt, refl)
+
+pub sums_so_far : (t : Tables) (numbers : List ℕ) (at : ℕ) (sums more : List (EventSpot × ℕ)) → at < length numbers → AreSums t (take at numbers) sums → AddsRun t (get_or numbers at 0) sums more → AreSums t (take (at + 1) numbers) more
+sums_so_far t numbers at sums more low all one =
+    let runs = all.0 in
+    let r = one.0 in (
+      runs ++ r ∷ [],
+      subst (λ ns. AreNamedRuns t ns (runs ++ r ∷ [])) (sym (take_more numbers at 0 low)) (named_more t (take at numbers) runs (get_or numbers at 0) r all.1 one.1),
+      one.2 ∙ ap (λ s. with_cells s r) all.2 ∙ sym (fold-append with_cells [] runs (r ∷ [])),
+    )
+
+-- ---- from runs to files
+
+runs_named : (h : History) (t : Tables) → TablesTell h t → (files : List File) (runs : List NamedCells) → AllByRecursion (Has (held h)) files → AreNamedRuns t (numbers_of files) runs → NamesStandForEach (map named_records files) runs
+runs_named h t tell [] [] all are = tt
+runs_named h t tell [] (r ∷ runs) all are = absurd are
+runs_named h t tell (f ∷ files) [] all are = absurd are
+runs_named h t tell (f ∷ files) (r ∷ runs) all are =
+    let one = are.0 in (
+      record {
+        events = one.events_are ∙ (held_head_told h t f one.head tell all.0 one.head_is).events;
+        cells = λ passes k. ap (rows_cost passes k) one.cells_are ∙ (tells_rows h t tell f all.0).cells passes k;
+      },
+      runs_named h t tell files runs all.1 are.1,
+    )
+
+-- ---- the answers
+
+pub csv_is_due : (h : History) (t : Tables) (s : Selection) (numbers text : List ℕ) → TablesTell h t → AreSelected h s (Ok numbers) → IsCsvText t numbers text → Text text ≡ expected_of_query h (queries.Csv s)
+csv_is_due h t s numbers text tell found is =
+    let files = selected h s in
+    let sums = is.1 in
+    let stand = runs_named h t tell files sums.0 (selected_held h s) (subst (λ ns. AreNamedRuns t ns sums.0) found.1 sums.1) in
+    ap Text (is.2 ∙ ap csv_text (sums.2 ∙ csv-records (map named_records files) sums.0 stand))
+    ∙ ap (λ missing. first_or (missing ∷ []) (Text (csv_of_files files))) (sym found.0)
+
+pub csv_is_refused : (h : History) (s : Selection) (refusal : Refusal) → AreSelected h s (Err refusal) → Refused refusal ≡ expected_of_query h (queries.Csv s)
+csv_is_refused h s refusal found = ap (λ missing. first_or (missing ∷ []) (Text (csv_of_files (selected h s)))) (sym found)

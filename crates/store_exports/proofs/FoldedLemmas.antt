@@ -1,0 +1,74 @@
+-- Stacks with their counts over runs, and what is answered of them.
+use Rattle.std.proofs.Common.{◌≡◌, ℕ, ◌+◌, ◌<◌, List, [], ◌∷◌, ◌++◌, fold, length, get_or, take, Ok, Err, append_assoc, append-nil, Bool, refl, sym, ap, ap₂, subst, ◌∙◌, arith}
+use Rattle.std.specs.Prelude.{flat_map}
+use Rattle.std.specs.List.{AllByRecursion}
+use Rattle.std.proofs.lemmas.Grind.{fold-append}
+use Rattle.std.proofs.lemmas.List.{take_more}
+use Rattle.sqlite_rules.specs.Lists.{Has}
+use Rattle.cost_exports.specs.Folded.{folded_of_rows, folded_text, with_stack}
+use Rattle.cost_exports.proofs.StackLemmas.{same_folded}
+use Rattle.cost_reports.specs.Inclusive.{SameStacks}
+use Rattle.cost_rows.specs.StackSums.{frames_sum}
+use Rattle.cost_rows.specs.WalkSums.{stacks_count}
+use Rattle.cost_rows.specs.declared.rows.StackRow.{StackRow}
+use Rattle.prof_books.specs.Book.{stacks_held}
+use Rattle.prof_tables.specs.Tables.{Tables}
+use Rattle.profile_records.specs.Stacks.{Seen}
+use Rattle.histories.specs.Exports.{file_stacks, folded_of_files}
+use Rattle.histories.specs.History.{History, File, held}
+use Rattle.histories.specs.Legal.{expected_of_query, first_or}
+use Rattle.histories.specs.Selections.{numbers_of, selected}
+use Rattle.histories.specs.Stands.{TablesTell}
+use Rattle.histories.specs.declared.answers.Answer.TheVariants.{Text, Refused}
+use Rattle.histories.specs.declared.answers.Query.TheVariants as queries
+use Rattle.histories.specs.declared.answers.Refusal.{Refusal}
+use Rattle.histories.specs.declared.answers.Selection.{Selection}
+use Rattle.histories.proofs.Runs.{tells_rows}
+use Rattle.selected_runs.specs.Selected.{AreSelected}
+use Rattle.selected_runs.proofs.RunLemmas.{selected_held}
+use Rattle.store_exports.specs.FoldedRuns.{folded_over, stacks_over}
+
+-- ---- the stacks of one run more
+
+over_more : (t : Tables) (numbers : List ℕ) (number : ℕ) → stacks_over t (numbers ++ number ∷ []) ≡ stacks_over t numbers ++ stacks_held number t
+over_more t [] number = append-nil (stacks_held number t)
+over_more t (n ∷ numbers) number = ap (λ l. stacks_held n t ++ l) (over_more t numbers number) ∙ sym (append_assoc (stacks_held n t) (stacks_over t numbers) (stacks_held number t))
+
+pub stacks_so_far : (t : Tables) (numbers : List ℕ) (at : ℕ) (sums more : List (List ℕ × ℕ)) → at < length numbers → sums ≡ folded_of_rows (stacks_over t (take at numbers))
+    → more ≡ fold with_stack sums (stacks_held (get_or numbers at 0) t) → more ≡ folded_of_rows (stacks_over t (take (at + 1) numbers))
+stacks_so_far t numbers at sums more low was is =
+    let number = get_or numbers at 0 in
+    is ∙ ap (λ s. fold with_stack s (stacks_held number t)) was
+    ∙ sym (fold-append with_stack [] (stacks_over t (take at numbers)) (stacks_held number t))
+    ∙ ap folded_of_rows (sym (over_more t (take at numbers) number))
+    ∙ ap (λ ns. folded_of_rows (stacks_over t ns)) (sym (take_more numbers at 0 low))
+
+-- ---- from runs to files
+
+count_append : (test : List ℕ → Bool) (xs ys : List (StackRow (List ℕ))) → stacks_count test (xs ++ ys) ≡ stacks_count test xs + stacks_count test ys
+count_append test [] ys = let n : ℕ = stacks_count test ys in let e : n ≡ 0 + n = omega arith in e
+count_append test (x ∷ xs) ys = let rest = count_append test xs ys in omega (arith, rest)
+
+frames_append : (test : List ℕ → Bool) (xs ys : List Seen) → frames_sum test (xs ++ ys) ≡ frames_sum test xs + frames_sum test ys
+frames_append test [] ys = let n : ℕ = frames_sum test ys in let e : n ≡ 0 + n = omega arith in e
+frames_append test (x ∷ xs) ys = let rest = frames_append test xs ys in omega (arith, rest)
+
+same_stacks : (h : History) (t : Tables) → TablesTell h t → (files : List File) → AllByRecursion (Has (held h)) files → SameStacks (stacks_over t (numbers_of files)) (flat_map file_stacks files)
+same_stacks h t tell [] all = λ test. refl
+same_stacks h t tell (f ∷ files) all = λ test.
+    count_append test (stacks_held f.number t) (stacks_over t (numbers_of files))
+    ∙ ap₂ ◌+◌ ((tells_rows h t tell f all.0).stacks test) (same_stacks h t tell files all.1 test)
+    ∙ sym (frames_append test (file_stacks f) (flat_map file_stacks files))
+
+-- ---- the answers
+
+pub folded_is_due : (h : History) (t : Tables) (s : Selection) (numbers text : List ℕ) → TablesTell h t → AreSelected h s (Ok numbers) → text ≡ folded_over t numbers → Text text ≡ expected_of_query h (queries.Folded s)
+folded_is_due h t s numbers text tell found is =
+    let files = selected h s in
+    let stacks : folded_of_rows (stacks_over t numbers) ≡ _ =
+    ap (λ ns. folded_of_rows (stacks_over t ns)) found.1 ∙ same_folded (stacks_over t (numbers_of files)) (flat_map file_stacks files) (same_stacks h t tell files (selected_held h s)) in
+    ap Text (is ∙ ap folded_text stacks)
+    ∙ ap (λ missing. first_or (missing ∷ []) (Text (folded_of_files files))) (sym found.0)
+
+pub folded_is_refused : (h : History) (s : Selection) (refusal : Refusal) → AreSelected h s (Err refusal) → Refused refusal ≡ expected_of_query h (queries.Folded s)
+folded_is_refused h s refusal found = ap (λ missing. first_or (missing ∷ []) (Text (folded_of_files (selected h s)))) (sym found)

@@ -1,0 +1,3 @@
+mod AnnotateLemmas
+mod CsvLemmas
+mod FoldedLemmas
