@@ -1,7 +1,7 @@
 -- The folded text of stacks is read as these stacks.
-use Rattle.std.proofs.Common.{zero, suc, ◌≡◌, ◌≢◌, ℕ, ◌+◌, ◌-◌, ◌*◌, ◌/◌, ◌%◌, ◌<◌, ◌≤◌, ◌^◌, Bool, true, false, not, ◌&&◌, ◌==◌, nat_le, nat_lt, if◌then◌else◌, List, [], ◌∷◌, ◌++◌, length, map, take, drop, fold, get_or, Option, Some, None, Result, Ok, Err, refl, sym, ap, ap₂, subst, ◌∙◌, arith, length-append}
+use Rattle.std.proofs.Common.{zero, suc, ◌≡◌, ◌≢◌, ℕ, ◌+◌, ◌-◌, ◌*◌, ◌/◌, ◌%◌, ◌<◌, ◌≤◌, ◌^◌, Bool, true, false, not, ◌&&◌, ◌==◌, nat_le, nat_lt, if◌then◌else◌, List, [], ◌∷◌, ◌++◌, length, map, take, drop, get_or, Some, None, Ok, Err, refl, sym, ap, ap₂, ◌∙◌, arith, length-append}
 use Rattle.std.specs.Fmt.{decimal}
-use Rattle.std.specs.List.{AllByRecursion, list_all, suffix_len}
+use Rattle.std.specs.List.{list_all}
 use Rattle.std.specs.Str.Lines.{strip_carriage_return}
 use Rattle.std.proofs.Math.Seq.{drop-append_seam, get_or-append_seam, take-append_seam}
 use Rattle.std.proofs.lemmas.Bool.{and_parts, lt-ltb}
@@ -13,13 +13,11 @@ use Rattle.std.proofs.lemmas.List.Sums.{fold-append, suffix_len_is}
 use Rattle.std.proofs.lemmas.Nat.{div-add-mod'}
 use Rattle.cg_text.specs.Fields.{is_blank}
 use Rattle.cg_text.specs.Lines.{is_line_feed, is_one_line, joined, lines_of}
-use Rattle.cg_text.specs.Numbers.{below, digit_value, digits_in, is_digit, value_in}
+use Rattle.cg_text.specs.Numbers.{below, digit_value, is_digit, value_in}
 use Rattle.cg_text.specs.Readings.{line_limit}
-use Rattle.cg_text.specs.declared.faults.Fault.{Fault}
 use Rattle.cg_text.specs.declared.faults.Fault.TheVariants.{FoldedLine, LineTooLong}
 use Rattle.cg_text.proofs.JoinedLemmas.{lines_of-joined}
-use Rattle.profile_records.specs.Stacks.{Seen, Stack}
-use Rattle.folded_reader.specs.Files.{fault_from, fault_of_file, readings_of, stacks_from, stacks_of_file}
+use Rattle.folded_reader.specs.Files.{fault_from, readings_of, stacks_from}
 use Rattle.folded_reader.specs.Lines.{Reading, behind_blank, count_of, counted, cut_at, reading_of, some_stack, stack_of, text_says}
 use Rattle.cost_exports.specs.Folded.{counts_of, folded_text, stack_line, stack_text}
 use Rattle.cost_exports.specs.ReadBack.{AreReadable, IsReadable, ReadsAs}
