@@ -2,6 +2,7 @@ pub mod AmountLemmas
 pub mod ColumnLemmas
 pub mod KnownLemmas
 pub mod LineLemmas
+pub mod ReadBackLemmas
 pub mod SpreadLemmas
 pub mod StackLemmas
 mod Examples

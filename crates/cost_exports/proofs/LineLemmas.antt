@@ -1,10 +1,10 @@
 -- Costs by line: what is found at a line, and what is outside.
-use Rattle.std.proofs.Common.{zero, suc, inl, inr, ◌≡◌, ℕ, ◌+◌, ◌-◌, ◌<◌, ◌≤◌, Bool, true, false, ◌&&◌, ◌||◌, ◌==◌, nat_eq, nat_lt, bytes_eq, cond, if◌then◌else◌, List, [], ◌∷◌, ◌++◌, length, fold, map, Option, Some, None, unwrap_or, refl, sym, ap, ap₂, ◌∙◌, arith}
+use Rattle.std.proofs.Common.{inl, inr, ◌≡◌, ℕ, ◌+◌, Bool, true, false, ◌&&◌, ◌||◌, ◌==◌, bytes_eq, cond, if◌then◌else◌, List, [], ◌∷◌, length, fold, Some, unwrap_or, refl, sym, ap, ap₂, ◌∙◌, arith}
 use Rattle.std.specs.declared.cmp.Ordering.{Ordering}
 use Rattle.std.specs.declared.cmp.Ordering.TheVariants.{Less, Equal, Greater}
 use Rattle.std.specs.Cmp.{nat_cmp_total}
 use Rattle.std.specs.BTreeMap.{is_at}
-use Rattle.std.specs.List.{AllByRecursion, list_any}
+use Rattle.std.specs.List.{AllByRecursion}
 use Rattle.std.specs.List.Sorted.{IsStrictlySortedBy}
 use Rattle.std.specs.Map.{lookup, keys_of}
 use Rattle.std.specs.Ordering.{nat_cmp, is_eq}
@@ -16,7 +16,6 @@ use Rattle.std.proofs.lemmas.Map.Keys.{sorted_head, sorted_tail}
 use Rattle.std.proofs.lemmas.Map.Lookups.{exact_unsigned}
 use Rattle.cg_text.specs.Lines.{lines_of, numbered}
 use Rattle.cost_rows.specs.KeySums.{cost_where, rows_of}
-use Rattle.cost_rows.specs.Keys.{part_of, place_of_row}
 use Rattle.cost_rows.specs.Merging.{sum_where, TellsApart}
 use Rattle.cost_rows.specs.Sums.{Spot}
 use Rattle.cost_rows.specs.declared.keys.Key.TheVariants.{Line}
@@ -24,7 +23,7 @@ use Rattle.cost_rows.specs.declared.rows.CellRow.{CellRow}
 use Rattle.cost_reports.specs.Costs.{EventCells, EventRecords, StandForEach, all_costs, all_rows}
 use Rattle.cost_reports.proofs.CostLemmas.{same_costs}
 use Rattle.cost_exports.specs.Amounts.{amount_of, with_amount}
-use Rattle.cost_exports.specs.Annotations.{Annotation, FileCosts, SourceLine, annotation_of, annotation_of_records, cost_at, cost_of_lines, costs_in, is_outside, no_lines, outside_cost, source_line, source_lines, with_line}
+use Rattle.cost_exports.specs.Annotations.{Annotation, FileCosts, SourceLine, annotation_of, annotation_of_records, cost_at, cost_of_lines, costs_in, is_outside, no_lines, outside_cost, source_lines, with_line}
 use Rattle.cost_exports.proofs.AmountLemmas.{no_more, none_before, sum-with}
 
 pub nat_apart : TellsApart nat_cmp
@@ -166,8 +165,8 @@ pub annotation-records : (file source : List ℕ) (files : List EventRecords) (r
 annotation-records file source files runs stand =
     same_annotation (fold with_line (no_lines file) (all_rows runs)).costs (costs_in file (all_costs files))
     (λ passes.
-        rows-where file passes (all_rows runs) (no_lines file) refl
-        ∙ none_before (cost_where Line (there file passes) (all_rows runs))
-        ∙ same_costs Line (there file passes) files runs stand
-        ∙ sym (records-where file passes (all_costs files)))
+    rows-where file passes (all_rows runs) (no_lines file) refl
+    ∙ none_before (cost_where Line (there file passes) (all_rows runs))
+    ∙ same_costs Line (there file passes) files runs stand
+    ∙ sym (records-where file passes (all_costs files)))
     file source

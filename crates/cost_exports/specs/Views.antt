@@ -1,11 +1,11 @@
 -- Sums as the code holds them: by the names of places, and under these by line and event.
-use Rattle.std.specs.Prelude.{◌≡◌, ℕ, false, List, [], ◌∷◌, ◌++◌, Option, Some}
+use Rattle.std.specs.Prelude.{◌≡◌, ℕ, false, List, [], ◌∷◌, ◌++◌, Some}
 use Rattle.std.specs.declared.cmp.Ordering.{Ordering}
 use Rattle.std.specs.Ordering.{nat_cmp, ordering_then}
 use Rattle.std.specs.declared.vec.Vec.{Vec}
 use Rattle.csv.specs.Writing.{default_writer, fields_written, has_written, text_written, writer_setup}
 use Rattle.csv.specs.declared.writer.Writer.{Writer}
-use Rattle.cost_rows.specs.Merging.{merge, merge_all, seen}
+use Rattle.cost_rows.specs.Merging.{merge_all, seen}
 use Rattle.cost_rows.specs.Stacks.{bytes_cmp, counts_added}
 use Rattle.cost_rows.specs.declared.rows.CellRow.{CellRow}
 use Rattle.cost_exports.specs.Csv.{EventSpot}
