@@ -48,8 +48,8 @@ StillIs s (Called count) text = StillPlain s.called count text
 StillIs s Unnamed text = text ≡ unknown
 
 -- all that is known of marks
-abbrev pub KnownHolds : Names → (Namespace → Mark → Option (List ℕ)) → Type 0
-KnownHolds n known = (space : Namespace) (mark : Mark) (text : List ℕ) → known space mark ≡ Some text → StillIs (space_of n space) mark text
+pub record KnownHolds (n : Names) (known : Namespace → Mark → Option (List ℕ)) : Type 0 where
+  pub still : (space : Namespace) (mark : Mark) (text : List ℕ) → known space mark ≡ Some text → StillIs (space_of n space) mark text
 
 -- and it holds on, in a name space
 abbrev pub SpaceStays : Space → Space → Type 0

@@ -195,6 +195,7 @@ impl State {
     }
 
     /// Reads a line of a kind that no fault comes before, and answers its fault.
+    #[tactic(auto, using(crate::proofs::MarksLemmas::marks_rules))]
     fn apply<S: Sink>(
         &mut self,
         kind: LineKind<'_>,
