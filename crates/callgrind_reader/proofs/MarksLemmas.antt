@@ -1,5 +1,5 @@
 -- Marks of names, and what was told of them.
-use Rattle.std.proofs.Common.{◌≡◌, ◌⊎◌, inl, inr, ℕ, ◌≤◌, List, Option, Some, unwrap_or, sym, subst, ap, ◌∙◌, refl, arith}
+use Rattle.std.proofs.Common.{◌≡◌, ◌⊎◌, inl, inr, ℕ, List, Option, Some, unwrap_or, sym, subst, ap, ◌∙◌, arith}
 use Rattle.cg_text.specs.Names.{unknown}
 use Rattle.cg_text.specs.Readings.{Reading}
 use Rattle.cg_text.specs.declared.words.Namespace.{Namespace}
@@ -14,7 +14,7 @@ use Rattle.callgrind_reader.specs.Calls.{number_after, called, callee_of}
 use Rattle.callgrind_reader.specs.Lines.{cost_of}
 use Rattle.callgrind_reader.specs.Names.{in_force}
 use Rattle.callgrind_reader.specs.Stands.{NamesAre}
-use Rattle.callgrind_reader.specs.Marks.{AreLent, AreOwn, AreCalled, own_text, IsLent, StillIs, KnownHolds, MarksStay, SpaceStays, space_of}
+use Rattle.callgrind_reader.specs.Marks.{AreLent, AreOwn, AreCalled, own_text, IsLent, StillIs, KnownHolds, MarksStay, space_of}
 use Rattle.callgrind_reader.specs.declared.names.Names.{Names}
 use Rattle.callgrind_reader.specs.declared.spaces.Space.{Space}
 

@@ -47,13 +47,14 @@ impl Names {
         ensures texts { AreCalled self.now result }
         ensures lent { AreLent self.now result }
     {
+        let unnamed = LentName {
+            text: b"???",
+            mark: Mark::Unnamed,
+        };
         LentNames {
             object: self.objects.called_or(self.objects.own()),
             file: self.files.called_or(self.files.own()),
-            function: self.functions.called_or(LentName {
-                text: b"???",
-                mark: Mark::Unnamed,
-            }),
+            function: self.functions.called_or(unnamed),
         }
     }
 

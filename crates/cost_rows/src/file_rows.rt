@@ -8,6 +8,7 @@ ghost use Rattle.cost_rows.specs.Totals.{AreWithin, AreTotals};
 use crate::calls::Calls;
 use crate::costs::Costs;
 use crate::guesses::{Guesses, NO_CELL};
+use crate::lent_names::take_back;
 use crate::marks::Marks;
 use crate::names::Names;
 use crate::numbered::{NumberedArcs, NumberedCells};
@@ -166,8 +167,7 @@ impl Sink for FileRows {
             &mut self.cells,
             r,
         ) {
-            self.names.truncate(held);
-            self.marks.forget();
+            take_back(&mut self.names, &mut self.marks, held);
             return Err(refused);
         }
         self.last = r.at;
@@ -184,8 +184,7 @@ impl Sink for FileRows {
             &mut self.arcs,
             r,
         ) {
-            self.names.truncate(held);
-            self.marks.forget();
+            take_back(&mut self.names, &mut self.marks, held);
             return Err(refused);
         }
         self.last = r.at;

@@ -1,9 +1,11 @@
 // The numbers of the names that a record is lent with.
-ghost use Rattle.std.specs.Prelude.{◌≡◌, List, ℕ, IfOk, OnOk, Some};
+ghost use Rattle.std.specs.Prelude.{◌≡◌, List, ℕ, IfOk, OnOk, Some, None, take};
+ghost use Rattle.cg_text.specs.declared.words.Namespace.{Namespace};
 ghost use Rattle.profile_records.specs.Marks.{Agrees, names_tell};
+ghost use Rattle.profile_records.specs.declared.marks.Mark.{Mark};
 ghost use Rattle.cost_rows.specs.Content.{with_three, place_in};
 ghost use Rattle.cost_rows.specs.Growing.{Grows};
-ghost use Rattle.cost_rows.specs.Marks.{AreNamed, HaveNames, known_at, known_by, LearnsName, LearnsNames};
+ghost use Rattle.cost_rows.specs.Marks.{AreNamed, HaveNames, known_at, known_by, LearnsName, LearnsNames, marks_in, number_at};
 ghost use Rattle.cost_rows.specs.Naming.{place_of, with_name};
 
 use crate::marks::{Marks, SpaceMarks};
@@ -58,4 +60,14 @@ pub(crate) fn place_lent(
         function,
         line,
     })
+}
+
+/// Takes back the names after the first so many, those of a record that was refused. No mark is known
+/// then.
+pub(crate) fn take_back(names: &mut Names, marks: &mut Marks, count: usize)
+    ensures names { names.new ≡ take count names.old }
+    ensures marks { (space : Namespace) (mark : Mark) → number_at (marks_in marks.new space) mark ≡ None }
+{
+    names.truncate(count);
+    marks.forget();
 }

@@ -1,4 +1,4 @@
-use Rattle.std.proofs.Common.{arith, rules}
+use Rattle.std.proofs.Common.{arith}
 use Rattle.callgrind_reader.proofs.reader.Reader.new.Goals as goal
 
 pub returns-clause-takes : goal.returns-clause-takes

@@ -21,8 +21,8 @@ returns g c = record {
   told = λ back live at. search rules;
   fits = (
     let last = c.in_ok-hand_record.ensures.hands.last in
-    let same = c.in_ok-hand_record.ensures.same.lines in
-    omega (arith, last, same),
+        let same = c.in_ok-hand_record.ensures.same.lines in
+        omega (arith, last, same),
     search rules,
     known-stays c.args.self.now.names c.hand_record.new.self.names (g.S.Sink.known c.hand_record.new.sink) c.hand_record.ensures.marks c.hand_record.ensures.hands.known,
   );
