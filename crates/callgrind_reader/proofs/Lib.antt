@@ -7,3 +7,4 @@ pub mod ExactLemmas
 pub mod EndsLemmas
 pub mod TotalsLemmas
 pub mod TableLemmas
+pub mod MarksLemmas

@@ -1,6 +1,8 @@
 -- Names that name lines give, and names in force.
-use Rattle.std.specs.Prelude.{◌≡◌, ℕ, List, Result, IfOk, OnOk, Option, Some, None}
+use Rattle.std.specs.Prelude.{◌≡◌, ℕ, ◌<◌, List, Result, IfOk, OnOk, Option, Some, None}
 use Rattle.cg_text.specs.Names.{Spec}
+use Rattle.profile_records.specs.declared.marks.Mark.{Mark}
+use Rattle.profile_records.specs.declared.marks.Mark.TheVariants as marks
 use Rattle.cg_text.specs.declared.faults.Fault.{Fault}
 use Rattle.callgrind_reader.specs.Faulty.{err_of}
 use Rattle.callgrind_reader.specs.Inside.{IsInside}
@@ -27,10 +29,20 @@ text_among t (Some place) plain = name_at t (Some place)
 abbrev pub text_of : NameTable → Current → Option (List ℕ)
 text_of t c = text_among t c.place c.plain.items
 
+-- how a name in force is marked: by the place of one that is held, or as one without an identifier
+abbrev pub mark_of : Option ℕ → Mark → Mark
+mark_of None plain_mark = plain_mark
+mark_of (Some place) plain_mark = marks.Held place
+
+-- a name was given: one without an identifier is counted, and else the last such is as before
+abbrev pub CountsPlain : Given → Current → Current → Type 0
+CountsPlain (Held place) old new = (new.count ≡ old.count) × (new.plain.items ≡ old.plain.items)
+CountsPlain (Plain text) old new = old.count < new.count
+
 -- a name line was taken: its fault, or the name that it gives and what identifiers mean after it
 pub record Gives (spec : Result Spec Fault) (old new : NameTable) (given : Result Given Fault) : Type 0 where
   pub fault_is : err_of given ≡ name_fault spec (text_at old)
   pub means : OnOk given ((q : ℕ) → text_at new q ≡ meaning_after spec q (text_at old q))
   pub name : IfOk given (λ g. given_text new g ≡ Some (named spec (text_at old)))
   pub inside : IfOk given (λ g. IsInside (names_in new) (place_given g))
-  pub keeps : OnOk given (Keeps old new)
+  pub keeps : Keeps old new

@@ -12,6 +12,7 @@ pub mod Inside
 pub mod Table
 pub mod Current
 pub mod Space
+pub mod Marks
 pub mod Columns
 pub mod Places
 pub mod Parts

@@ -6,18 +6,21 @@ use Rattle.cg_text.specs.declared.faults.ReadError.{ReadError}
 use Rattle.cg_text.specs.declared.faults.ReadError.TheVariants as ends
 use Rattle.callgrind_reader.specs.declared.reader.Reader.{Reader}
 use Rattle.profile_records.specs.Records.{Record}
+use Rattle.profile_records.specs.declared.marks.Mark.{Mark}
+use Rattle.cg_text.specs.declared.words.Namespace.{Namespace}
 use Rattle.callgrind_reader.specs.Files.{records_of_file, sound_records, fault_of_file, events_of_file, derived_of_file, stated_of_file}
 use Rattle.text_pieces.specs.Kept as pieces
 use Rattle.text_pieces.specs.Readers.{StandsFor, HandsAll, HandsPart}
+use Rattle.callgrind_reader.specs.Marks.{KnownHolds}
 use Rattle.callgrind_reader.specs.Stands.{StandsAfter, count_of}
 
 -- the reader stands for the text so far, and has handed out these records
 abbrev pub Reads : Reader → List ℕ → List Record → Type 0
 Reads r = StandsFor reading_of (sound_records []) StandsAfter r.pieces r.state
 
--- a sink with this last line and this width of records would take the next record
-abbrev pub Takes : Reader → ℕ → Option ℕ → Type 0
-Takes r last width = (last ≤ r.state.lines) × IfSome width (λ n. count_of r.state.header.events.names ≡ Some n)
+-- a sink with this last line and this width of records, which knows this of marks, would take the next record
+abbrev pub Takes : Reader → ℕ → Option ℕ → (Namespace → Mark → Option (List ℕ)) → Type 0
+Takes r last width known = (last ≤ r.state.lines) × IfSome width (λ n. count_of r.state.header.events.names ≡ Some n) × KnownHolds r.state.names known
 
 module _ {M : Type 0} (step : M → Record → M) where
   -- bytes were refused: the sink was told a part of what was still to be handed on
@@ -32,9 +35,9 @@ room_of r = pieces.room_of r.pieces
 abbrev pub IsSpent : Reader → Type 0
 IsSpent r = pieces.IsSpent r.pieces
 
--- the reader takes so many bytes less, a sink with this last line and this width would take the next record, and memory did not run out
-pub record StaysOpen (old : Reader) (count : ℕ) (new : Reader) (last : ℕ) (width : Option ℕ) : Type 0 where
-  pub takes : Takes new last width
+-- the reader takes so many bytes less, a sink that is so would take the next record, and memory did not run out
+pub record StaysOpen (old : Reader) (count : ℕ) (new : Reader) (last : ℕ) (width : Option ℕ) (known : Namespace → Mark → Option (List ℕ)) : Type 0 where
+  pub takes : Takes new last width known
   pub room : room_of new + count ≡ room_of old
   pub fresh : IsSpent new → ⊥
 

@@ -1,8 +1,7 @@
 -- A table of identifiers, as a function from them.
-use Rattle.std.specs.Prelude.{◌≡◌, ◌==◌, ℕ, ◌<◌, ◌≤◌, List, Option, Some, None, slice_get, vec_len, if◌then◌else◌, unwrap_or}
+use Rattle.std.specs.Prelude.{◌≡◌, ◌==◌, ℕ, ◌<◌, List, Option, Some, None, slice_get, vec_len, if◌then◌else◌}
 use Rattle.std.specs.Ordering.{nat_cmp}
 use Rattle.std.specs.BTreeMap.{get}
-use Rattle.cg_text.specs.Names.{unknown}
 use Rattle.callgrind_reader.specs.declared.tables.NameTable.{NameTable}
 
 -- the name at a place, if there is one

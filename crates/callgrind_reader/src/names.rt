@@ -1,8 +1,9 @@
 // The names of all three name spaces.
-ghost use Rattle.std.specs.Prelude.{[], IfOk};
+ghost use Rattle.std.specs.Prelude.{[], IfOk, OnOk};
 
 use crate::spaces::Space;
 use cg_text::{Fault, NameWord, Namespace};
+use profile_records::{LentName, LentNames, Mark};
 use std::alloc::{AllocError, Global};
 
 /// What is kept of the names of objects, files and functions.
@@ -15,6 +16,7 @@ pub struct Names {
 
 impl Names {
     ghost use Rattle.callgrind_reader.specs.Stands.{NamesAre, TakesWord, ForgetsCalled};
+    ghost use Rattle.callgrind_reader.specs.Marks.{AreOwn, AreCalled, AreLent, MarksStay};
 
     /// Nothing is named yet.
     pub fn new(alloc: Global) -> Result<Names, AllocError>
@@ -27,9 +29,39 @@ impl Names {
         })
     }
 
+    /// The names in force.
+    pub fn own(&self) -> LentNames<'_>
+        ensures texts { AreOwn self.now result }
+        ensures lent { AreLent self.now result }
+    {
+        LentNames {
+            object: self.objects.own(),
+            file: self.files.own(),
+            function: self.functions.own(),
+        }
+    }
+
+    /// The names of what is called: of an object or a file that was not given, the one in force, and of
+    /// a function `???`.
+    pub fn called(&self) -> LentNames<'_>
+        ensures texts { AreCalled self.now result }
+        ensures lent { AreLent self.now result }
+    {
+        let unnamed = LentName {
+            text: b"???",
+            mark: Mark::Unnamed,
+        };
+        LentNames {
+            object: self.objects.called_or(self.objects.own()),
+            file: self.files.called_or(self.files.own()),
+            function: self.functions.called_or(unnamed),
+        }
+    }
+
     /// Takes a name line, and answers its fault.
     pub fn take(&mut self, word: NameWord, value: &[u8]) -> Result<Option<Fault>, AllocError>
-        ensures { IfOk result (TakesWord word value.now self.old self.new) }
+        ensures takes { IfOk result (TakesWord word value.now self.old self.new) }
+        ensures marks { OnOk result (MarksStay self.old self.new) }
     {
         match word.namespace() {
             Namespace::Object => self.objects.take(word.role(), value),
@@ -40,7 +72,8 @@ impl Names {
 
     /// Forgets the called names, after the cost line of a call.
     pub fn forget_called(&mut self)
-        ensures { ForgetsCalled self.old self.new }
+        ensures forgets { ForgetsCalled self.old self.new }
+        ensures marks { MarksStay self.old self.new }
     {
         self.objects.forget_called();
         self.files.forget_called();

@@ -1,8 +1,11 @@
 // Reads a file in pieces.
-ghost use Rattle.std.specs.Prelude.{◌≡◌, ℕ, ◌≤◌, OnOk, OnErr, IfOk, IsErr, None, Err, List, [], length};
+ghost use Rattle.std.specs.Prelude.{◌≡◌, ℕ, ◌≤◌, OnOk, OnErr, IfOk, IsErr, Option, None, Err, List, [], length};
 ghost use Rattle.text_pieces.specs.Kept.{taken_of};
 ghost use Rattle.text_pieces.specs.Readers.{GoesOn};
 ghost use Rattle.profile_records.specs.Records.{Record};
+ghost use Rattle.profile_records.specs.Marks.{KnowsNothing};
+ghost use Rattle.profile_records.specs.declared.marks.Mark.{Mark};
+ghost use Rattle.cg_text.specs.declared.words.Namespace.{Namespace};
 ghost use Rattle.cg_text.specs.declared.faults.ReadError.TheVariants.{Memory};
 
 use crate::state::State;
@@ -27,7 +30,7 @@ impl Reader {
     /// Nothing was read.
     pub fn new(alloc: Global) -> Result<Reader, AllocError>
         ensures reads { IfOk result (λ r. Reads r [] []) }
-        ensures takes { IfOk result (λ r. (last : ℕ) → last ≡ 0 → Takes r last None) }
+        ensures takes { IfOk result (λ r. (last : ℕ) (known : Namespace → Mark → Option (List ℕ)) → last ≡ 0 → KnowsNothing known → Takes r last None known) }
         ensures room { IfOk result (λ r. room_of r ≡ 1073741824) }
         ensures fresh { IfOk result (λ r. IsSpent r → ⊥) }
     {
@@ -49,9 +52,9 @@ impl Reader {
     /// again, and nothing is handed on.
     pub fn feed<S: Sink>(&mut self, piece: &[u8], sink: &mut S) -> Result<(), AllocError>
         requires room { length piece.now ≤ room_of self.old }
-        requires takes { (IsSpent self.old → ⊥) → Takes self.old (S.last sink.old) (S.width sink.old) }
+        requires takes { (IsSpent self.old → ⊥) → Takes self.old (S.last sink.old) (S.width sink.old) (S.known sink.old) }
         ensures reads { OnOk result (GoesOn Reads S.step self.old (S.meaning sink.old) piece.now self.new (S.meaning sink.new)) }
-        ensures stays { OnOk result (StaysOpen self.old (length piece.now) self.new (S.last sink.new) (S.width sink.new)) }
+        ensures stays { OnOk result (StaysOpen self.old (length piece.now) self.new (S.last sink.new) (S.width sink.new) (S.known sink.new)) }
         ensures prefix { OnErr result (BreaksOff S.step self.old (S.meaning sink.old) piece.now (S.meaning sink.new)) }
         ensures spent { IsSpent self.old → IsErr result }
         ensures err { OnErr result (IsSpent self.new) }
@@ -63,7 +66,7 @@ impl Reader {
     /// Ends the file: hands on the record of its last line, if that has no end, and answers the
     /// file's head or its first fault.
     pub fn finish<S: Sink>(self, sink: &mut S) -> Result<FileHead, ReadError>
-        requires { (IsSpent self → ⊥) → Takes self (S.last sink.old) (S.width sink.old) }
+        requires { (IsSpent self → ⊥) → Takes self (S.last sink.old) (S.width sink.old) (S.known sink.old) }
         ensures ended { (text : List ℕ) (told : List Record) → Reads self text told → Ended result text }
         ensures told { HandsOver S.step self (S.meaning sink.old) result (S.meaning sink.new) }
         ensures few { IfOk result (λ head. length head.events ≤ 64) }

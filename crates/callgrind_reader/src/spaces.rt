@@ -3,11 +3,12 @@ ghost use Rattle.std.specs.Prelude.{◌≡◌, ℕ, ◌<◌, ◌≤◌, IfOk, On
 ghost use Rattle.cg_text.specs.Names.{name_of};
 ghost use Rattle.callgrind_reader.specs.Inside.{IsInside};
 ghost use Rattle.callgrind_reader.specs.Table.{names_in};
-ghost use Rattle.callgrind_reader.specs.Current.{given_text, place_given, text_of, Gives};
+ghost use Rattle.callgrind_reader.specs.Current.{given_text, place_given, text_of, Gives, CountsPlain, mark_of};
 ghost use Rattle.callgrind_reader.specs.declared.tables.NameTable.{NameTable};
 
 use crate::tables::NameTable;
 use cg_text::{Fault, Role, name_spec};
+use profile_records::{LentName, Mark};
 use std::alloc::{AllocError, Global};
 
 /// What a name line gives: the place of a name in the table, or a name that has no identifier.
@@ -46,39 +47,53 @@ fn resolve<'a>(
     }
 }
 
-/// A name in force: that of a place in the table, or else one that had no identifier.
+/// A name in force: that of a place in the table, or else the last one that had no identifier, of
+/// which so many were given.
 #[derive(Drop)]
 pub(crate) struct Current {
     place: Option<usize>,
     plain: Vec<u8>,
+    count: u64,
 }
 
 impl Current {
-    /// The name that was given.
+    /// The name that was given. After 2^64 - 1 names without an identifier, one more is refused.
     fn set(&mut self, given: Given<'_>) -> Result<(), AllocError>
         ensures text { OnOk result ((table : NameTable) → text_of table self.new ≡ given_text table given.entry) }
         ensures place { OnOk result (self.new.place ≡ place_given given.entry) }
+        ensures counts { OnOk result (CountsPlain given.entry self.old self.new) }
         ensures err { OnErr result (self.new.place ≡ self.old.place) }
     {
         match given {
             Given::Held(place) => self.place = Some(place),
             Given::Plain(text) => {
+                let Some(count) = self.count.checked_add(1) else {
+                    return Err(AllocError);
+                };
                 self.plain.clear();
                 self.plain.extend_from_slice(text)?;
+                self.count = count;
                 self.place = None;
             }
         }
         Ok(())
     }
 
-    /// Its bytes.
-    fn text<'a>(&'a self, table: &'a NameTable) -> &'a [u8]
+    /// The name, with its place as its mark, or else with the mark of names without an identifier.
+    fn lent<'a>(&'a self, table: &'a NameTable, plain_mark: Mark) -> LentName<'a>
         requires { IsInside (names_in table.now) self.now.place }
-        ensures { text_of table.now self.now ≡ Some result.now }
+        ensures text { text_of table.now self.now ≡ Some result.text.now }
+        ensures mark { result.mark ≡ mark_of self.now.place plain_mark }
     {
         match self.place {
-            Some(place) => table.name(place),
-            None => self.plain.as_slice(),
+            Some(place) => LentName {
+                text: table.name(place),
+                mark: Mark::Held(place),
+            },
+            None => LentName {
+                text: self.plain.as_slice(),
+                mark: plain_mark,
+            },
         }
     }
 }
@@ -98,6 +113,7 @@ impl Space {
     ghost use Rattle.std.specs.Prelude.{List, []};
     ghost use Rattle.cg_text.specs.declared.words.Namespace.{Namespace};
     ghost use Rattle.callgrind_reader.specs.Space.{SpaceIs, TakesName, called_name};
+    ghost use Rattle.callgrind_reader.specs.Marks.{IsLent, SpaceStays};
 
     /// Nothing is named yet.
     pub fn new(alloc: Global) -> Result<Space, AllocError>
@@ -108,28 +124,33 @@ impl Space {
             own: Current {
                 place: None,
                 plain: b"???".to_vec(alloc)?,
+                count: 0,
             },
             called: Current {
                 place: None,
                 plain: Vec::new(alloc),
+                count: 0,
             },
             is_called: false,
         })
     }
 
     /// The name in force.
-    pub fn own(&self) -> &[u8]
-        ensures { text_of self.now.table self.now.own ≡ Some result.now }
+    pub fn own(&self) -> LentName<'_>
+        ensures text { text_of self.now.table self.now.own ≡ Some result.text.now }
+        ensures lent { IsLent self.now result.mark result.text.now }
     {
-        self.own.text(&self.table)
+        self.own.lent(&self.table, Mark::Own(self.own.count))
     }
 
     /// The name of what is called: the called name, or else another.
-    pub fn called_or<'a>(&'a self, other: &'a [u8]) -> &'a [u8]
-        ensures { result.now ≡ unwrap_or (called_name self.now) other.now }
+    pub fn called_or<'a>(&'a self, other: LentName<'a>) -> LentName<'a>
+        ensures text { result.text.now ≡ unwrap_or (called_name self.now) other.entry.text.now }
+        ensures lent { IsLent self.now other.entry.mark other.entry.text.now → IsLent self.now result.mark result.text.now }
     {
         if self.is_called {
-            self.called.text(&self.table)
+            self.called
+                .lent(&self.table, Mark::Called(self.called.count))
         } else {
             other
         }
@@ -139,6 +160,7 @@ impl Space {
     pub fn forget_called(&mut self)
         ensures table { self.new.table ≡ self.old.table }
         ensures own { self.new.own ≡ self.old.own }
+        ensures kept { self.new.called ≡ self.old.called }
         ensures called { called_name self.new ≡ None }
     {
         self.is_called = false;
@@ -146,7 +168,8 @@ impl Space {
 
     /// Takes the value of a name line of this space, and answers its fault.
     pub fn take(&mut self, role: Role, value: &[u8]) -> Result<Option<Fault>, AllocError>
-        ensures { IfOk result (TakesName role (name_of value.now) self.old self.new) }
+        ensures takes { IfOk result (TakesName role (name_of value.now) self.old self.new) }
+        ensures marks { OnOk result (SpaceStays self.old self.new) }
     {
         let given = match resolve(&mut self.table, value)? {
             Ok(given) => given,

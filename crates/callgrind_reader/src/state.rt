@@ -60,6 +60,7 @@ impl State {
     ghost use Rattle.callgrind_reader.specs.Stands.{NamesAre, Live, StandsAfter};
     ghost use Rattle.callgrind_reader.specs.Steps.{IsCounted, SameLine, Takes, Fits, FitsNow, FitsRow, Hands, ReadsLine, ReadsOn};
     ghost use Rattle.callgrind_reader.specs.Ends.{Comes};
+    ghost use Rattle.callgrind_reader.specs.Marks.{MarksStay};
 
     /// No line was read.
     pub fn new(alloc: Global) -> Result<State, AllocError>
@@ -128,17 +129,11 @@ impl State {
         requires count { count < 2 ^ 63 }
         ensures { Hands S.Sink self.now (λ back. Called (callee_of count back) (cost_of line self.now.row.items back)) result sink.old sink.new }
     {
-        let object = self.names.objects.own();
-        let file = self.names.files.own();
         sink.call(CallCost {
             at: self.lines,
-            object,
-            file,
-            function: self.names.functions.own(),
+            names: self.names.own(),
             line,
-            called_object: self.names.objects.called_or(object),
-            called_file: self.names.files.called_or(file),
-            called_function: self.names.functions.called_or(b"???"),
+            called: self.names.called(),
             count,
             costs: &self.row,
         })
@@ -151,9 +146,7 @@ impl State {
     {
         sink.self_cost(SelfCost {
             at: self.lines,
-            object: self.names.objects.own(),
-            file: self.names.files.own(),
-            function: self.names.functions.own(),
+            names: self.names.own(),
             line,
             costs: &self.row,
         })
@@ -165,6 +158,7 @@ impl State {
         requires { FitsRow S.Sink self.old sink.old }
         ensures hands { Hands S.Sink self.old (λ back. record_with self.old.call (cost_of line self.old.row.items back) back) result sink.old sink.new }
         ensures names { OnOk result ((back : List Reading) (text : List ℕ) → Live self.old back → NamesAre self.new.names (Ok (kinds.Cost text) ∷ back)) }
+        ensures marks { MarksStay self.old.names self.new.names }
         ensures same { SameLine self.old self.new }
         ensures header { self.new.header ≡ self.old.header }
         ensures places { self.new.places ≡ self.old.places }
@@ -201,6 +195,7 @@ impl State {
     }
 
     /// Reads a line of a kind that no fault comes before, and answers its fault.
+    #[tactic(auto, using(crate::proofs::MarksLemmas::marks_rules))]
     fn apply<S: Sink>(
         &mut self,
         kind: LineKind<'_>,

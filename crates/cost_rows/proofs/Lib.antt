@@ -1,5 +1,6 @@
 pub mod AboveLemmas
 pub mod NamingLemmas
+pub mod MarksLemmas
 pub mod NumberedLemmas
 pub mod AdmitLemmas
 pub mod MergeLemmas

@@ -7,6 +7,7 @@ pub mod Places
 pub mod Calls
 pub mod Stacks
 pub mod Content
+pub mod Marks
 pub mod Growing
 pub mod Totals
 pub mod Rows

@@ -1,11 +1,15 @@
 // The rows of one file.
 ghost use Rattle.std.specs.Prelude.{◌≡◌, None, IfOk};
+ghost use Rattle.profile_records.specs.Marks.{KnowsNothing};
+ghost use Rattle.cost_rows.specs.Marks.{HaveNames};
 ghost use Rattle.cost_rows.specs.Stacks.{by_bytes};
 ghost use Rattle.cost_rows.specs.Totals.{AreWithin, AreTotals};
 
 use crate::calls::Calls;
 use crate::costs::Costs;
 use crate::guesses::{Guesses, NO_CELL};
+use crate::lent_names::take_back;
+use crate::marks::Marks;
 use crate::names::Names;
 use crate::numbered::{NumberedArcs, NumberedCells};
 use crate::places::{Call, CellPlace};
@@ -28,16 +32,17 @@ pub struct FileRows {
     pub(crate) cells: BTreeMap<CellPlace, Costs>,
     pub(crate) arcs: BTreeMap<Call, Calls>,
     pub(crate) stacks: BTreeMap<Vec<u8>, u128>,
+    marks: Marks,
     pub(crate) guesses: Guesses,
-    called_guesses: Guesses,
     pub(crate) last: u64,
     width: Option<u64>,
     ghost within: { AreWithin cells.entries arcs.entries (by_bytes stacks.entries) last },
+    ghost named: { HaveNames names marks },
 }
 
 impl FileRows {
     ghost use Rattle.cost_rows.specs.Content.{empty};
-    ghost use Rattle.cost_rows.specs.Rows.{content_of};
+    ghost use Rattle.cost_rows.specs.Rows.{content_of, known_of};
     ghost use Rattle.cost_rows.specs.ByNumber.{numbered_cells, numbered_arcs};
     ghost use Rattle.cost_rows.specs.Walks.{cell_rows, arc_rows, stack_rows};
 
@@ -46,6 +51,7 @@ impl FileRows {
         ensures content { content_of result ≡ empty }
         ensures last { result.last ≡ 0 }
         ensures width { result.width ≡ None }
+        ensures known { KnowsNothing (known_of result) }
     {
         FileRows {
             alloc,
@@ -53,8 +59,8 @@ impl FileRows {
             cells: BTreeMap::new(alloc),
             arcs: BTreeMap::new(alloc),
             stacks: BTreeMap::new(alloc),
+            marks: Marks::new(alloc),
             guesses: Guesses::new(alloc),
-            called_guesses: Guesses::new(alloc),
             last: 0,
             width: None,
         }
@@ -138,7 +144,7 @@ impl FileRows {
 
 impl Sink for FileRows {
     ghost use Rattle.cost_rows.specs.Content.{Content, with_record};
-    ghost use Rattle.cost_rows.specs.Rows.{content_of};
+    ghost use Rattle.cost_rows.specs.Rows.{content_of, known_of};
 
     ghost Meaning = { Content };
 
@@ -150,16 +156,18 @@ impl Sink for FileRows {
 
     ghost width = { λ r. r.width };
 
+    ghost known = { known_of };
+
     fn self_cost(&mut self, r: SelfCost<'_>) -> Result<(), AllocError> {
         let held = self.names.len();
         if let Err(refused) = merge_own(
             self.alloc,
             &mut self.names,
-            &mut self.guesses,
+            &mut self.marks,
             &mut self.cells,
             r,
         ) {
-            self.names.truncate(held);
+            take_back(&mut self.names, &mut self.marks, held);
             return Err(refused);
         }
         self.last = r.at;
@@ -172,12 +180,11 @@ impl Sink for FileRows {
         if let Err(refused) = merge_call(
             self.alloc,
             &mut self.names,
-            &mut self.guesses,
-            &mut self.called_guesses,
+            &mut self.marks,
             &mut self.arcs,
             r,
         ) {
-            self.names.truncate(held);
+            take_back(&mut self.names, &mut self.marks, held);
             return Err(refused);
         }
         self.last = r.at;

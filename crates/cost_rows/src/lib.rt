@@ -7,14 +7,18 @@ mod calls;
 mod costs;
 // The rows of one file: a sink of records and of stacks (specs/Content.antt, Rows.antt).
 mod file_rows;
-// Which numbers the names of the records before had.
+// Which numbers the names of the stacks before had.
 mod guesses;
 // What reports add costs up by: object, file, function or line.
 mod keys;
 // Laws: what rows come to is what the records come to.
 mod laws;
+// The numbers of the names that a record is lent with: one whose mark is known costs no comparison.
+mod lent_names;
 // Whether a file's sums fit beside those that are held (specs/Admit.antt).
 mod limits;
+// The numbers of names, by the marks that they came with (specs/Marks.antt).
+mod marks;
 // Rows of many files, added up by key (specs/KeySums.antt).
 mod merged;
 // One more count in a map of stacks (specs/Stacks.antt).
@@ -23,7 +27,7 @@ mod merges;
 mod names;
 // A file's rows with names by number (specs/ByNumber.antt).
 mod numbered;
-// The numbers of a record's names (specs/Numbered.antt). A name as in the record before costs a comparison.
+// The numbers of a stack's names (specs/Numbered.antt). A name as in the stack before costs a comparison.
 mod numbering;
 // What sums belong to, with names by number.
 mod places;

@@ -2,14 +2,21 @@
 ghost use Rattle.std.specs.Prelude.{◌≡◌, OnOk, OnErr, All};
 ghost use Rattle.std.specs.BTreeMap.{values};
 ghost use Rattle.cost_rows.specs.Calls.{AreSmall};
-ghost use Rattle.profile_records.specs.Columns.{AreLow, HaveRoom};
-ghost use Rattle.cost_rows.specs.Content.{arcs_with, cells_with, names_with_callee, names_with_cost};
+ghost use Rattle.cg_text.specs.Names.{unknown};
+ghost use Rattle.profile_records.specs.Columns.{added, AreLow, HaveRoom};
+ghost use Rattle.profile_records.specs.Marks.{Agrees, names_tell, call_tells};
+ghost use Rattle.cost_rows.specs.Content.{arcs_with, cells_with, names_with_callee, names_with_cost, with_three};
 ghost use Rattle.cost_rows.specs.Growing.{Grows};
-ghost use Rattle.cost_rows.specs.Lent.{callee_of, cost_of, own_cost};
+ghost use Rattle.cost_rows.specs.Lent.{callee_of, cost_of, own_cost, leaf_cell};
+ghost use Rattle.cost_rows.specs.Marks.{HaveNames, known_by, LearnsNames};
+ghost use Rattle.cost_rows.specs.Merging.{merge};
+ghost use Rattle.cost_rows.specs.Places.{cell_cmp};
 
 use crate::calls::{Calls, CallsOfRecord};
 use crate::costs::Costs;
 use crate::guesses::Guesses;
+use crate::lent_names::place_lent;
+use crate::marks::Marks;
 use crate::names::Names;
 use crate::numbering::number_place;
 use crate::places::{Call, CellPlace};
@@ -18,56 +25,50 @@ use profile_records::{CallCost, SelfCost};
 use std::alloc::{AllocError, Global};
 use std::collections::BTreeMap;
 
-/// Merges a self record. A refusal leaves the cells as they were, and may leave names of the record.
+/// Merges a self record. A refusal leaves the cells as they were, and may leave names of the record
+/// and their marks.
 pub(crate) fn merge_own(
     alloc: Global,
     names: &mut Names,
-    guesses: &mut Guesses,
+    marks: &mut Marks,
     cells: &mut BTreeMap<CellPlace, Costs>,
     r: SelfCost<'_>,
 ) -> Result<(), AllocError>
     requires small { All HaveRoom (values cells.old) }
     requires low { AreLow r.costs.now }
+    requires named { HaveNames names.old marks.old }
+    requires agrees { Agrees (known_by names.old marks.old) (names_tell r.names) }
     ensures names { OnOk result (names.new ≡ names_with_cost (own_cost r.entry) names.old) }
     ensures cells { OnOk result (cells.new.entries ≡ cells_with names.new (own_cost r.entry) cells.old.entries) }
+    ensures learns { OnOk result (LearnsNames names.old marks.old (names_tell r.entry.names) names.new marks.new) }
     ensures grows { Grows names.old names.new }
     ensures err { OnErr result (cells.new.entries ≡ cells.old.entries) }
 {
-    let guess = guesses.guess(names, r.function);
-    let place = number_place(names, guess, r.object, r.file, r.function, r.line)?;
-    guesses.keep(place)?;
+    let place = place_lent(names, marks, r.names, r.line)?;
     merge_sums(alloc, cells, CellPlace { place }, r.costs)
 }
 
-/// Merges a call record. A refusal leaves the calls as they were, and may leave names of the record.
+/// Merges a call record. A refusal leaves the calls as they were, and may leave names of the record
+/// and their marks.
 pub(crate) fn merge_call(
     alloc: Global,
     names: &mut Names,
-    guesses: &mut Guesses,
-    called_guesses: &mut Guesses,
+    marks: &mut Marks,
     arcs: &mut BTreeMap<Call, Calls>,
     r: CallCost<'_>,
 ) -> Result<(), AllocError>
     requires small { All AreSmall (values arcs.old) }
     requires low { AreLow r.costs.now }
+    requires named { HaveNames names.old marks.old }
+    requires agrees { Agrees (known_by names.old marks.old) (call_tells r) }
     ensures names { OnOk result (names.new ≡ names_with_callee (callee_of r.entry) (names_with_cost (cost_of r.entry) names.old)) }
     ensures arcs { OnOk result (arcs.new.entries ≡ arcs_with names.new (callee_of r.entry) (cost_of r.entry) arcs.old.entries) }
+    ensures learns { OnOk result (LearnsNames names.old marks.old (call_tells r.entry) names.new marks.new) }
     ensures grows { Grows names.old names.new }
     ensures err { OnErr result (arcs.new.entries ≡ arcs.old.entries) }
 {
-    let guess = guesses.guess(names, r.function);
-    let place = number_place(names, guess, r.object, r.file, r.function, r.line)?;
-    guesses.keep(place)?;
-    let called_guess = called_guesses.guess(names, r.called_function);
-    let called = number_place(
-        names,
-        called_guess,
-        r.called_object,
-        r.called_file,
-        r.called_function,
-        0,
-    )?;
-    called_guesses.keep(called)?;
+    let place = place_lent(names, marks, r.names, r.line)?;
+    let called = place_lent(names, marks, r.called, 0)?;
     let call = Call {
         place,
         object: called.object,
@@ -79,4 +80,27 @@ pub(crate) fn merge_call(
         costs: r.costs,
     };
     merge_sums(alloc, arcs, call, calls)
+}
+
+/// Merges the costs of a stack into those of the function that was running. A refusal leaves the
+/// cells as they were, and may leave names.
+pub(crate) fn merge_leaf(
+    alloc: Global,
+    names: &mut Names,
+    guesses: &mut Guesses,
+    cells: &mut BTreeMap<CellPlace, Costs>,
+    function: &[u8],
+    costs: &[u64],
+) -> Result<(), AllocError>
+    requires small { All HaveRoom (values cells.old) }
+    requires low { AreLow costs.now }
+    ensures names { OnOk result (names.new ≡ with_three unknown unknown function.now names.old) }
+    ensures cells { OnOk result (cells.new.entries ≡ merge cell_cmp added cells.old.entries (leaf_cell names.new function.now) costs.now) }
+    ensures grows { Grows names.old names.new }
+    ensures err { OnErr result (cells.new.entries ≡ cells.old.entries) }
+{
+    let guess = guesses.guess(names, function);
+    let place = number_place(names, guess, b"???", b"???", function, 0)?;
+    guesses.keep(place)?;
+    merge_sums(alloc, cells, CellPlace { place }, costs)
 }

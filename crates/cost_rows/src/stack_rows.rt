@@ -1,8 +1,8 @@
 // The rows of a folded file.
 use crate::file_rows::FileRows;
 use crate::merges::{count_of, merge_stack, put_back};
-use crate::records::merge_own;
-use profile_records::{SelfCost, StackSink, leaf};
+use crate::records::merge_leaf;
+use profile_records::{StackSink, leaf};
 use std::alloc::AllocError;
 
 impl StackSink for FileRows {
@@ -21,21 +21,13 @@ impl StackSink for FileRows {
         let held = self.names.len();
         let before = count_of(&self.stacks, stack);
         merge_stack(self.alloc, &mut self.stacks, stack, count)?;
-        let costs = [count];
-        let cost = SelfCost {
-            at,
-            object: b"???",
-            file: b"???",
-            function: leaf(stack),
-            line: 0,
-            costs: &costs,
-        };
-        if let Err(refused) = merge_own(
+        if let Err(refused) = merge_leaf(
             self.alloc,
             &mut self.names,
             &mut self.guesses,
             &mut self.cells,
-            cost,
+            leaf(stack),
+            &[count],
         ) {
             put_back(&mut self.stacks, stack, before);
             self.names.truncate(held);

@@ -16,7 +16,7 @@ use Rattle.profile_records.specs.Stacks.{Seen}
 use Rattle.folded_reader.specs.Reads as stacks
 use Rattle.folded_reader.specs.declared.reader.FoldedReader.{FoldedReader}
 use Rattle.cost_rows.specs.Content.{Content, empty, with_record, with_stack}
-use Rattle.cost_rows.specs.Rows.{content_of}
+use Rattle.cost_rows.specs.Rows.{content_of, known_of}
 use Rattle.text_rows.specs.Texts.{content_of_text, content_of_folded}
 use Rattle.cost_rows.specs.declared.file_rows.FileRows.{FileRows}
 use Rattle.profile_records.specs.declared.kinds.Kind.{Kind}
@@ -34,7 +34,7 @@ less_room now before piece bytes e h = let joined = length-append bytes piece in
 
 module _ (r r' : Reader) (rows rows' : FileRows) (self : FileReader) (is : self ≡ readers.Callgrind r) where
   pub fed_records : (piece : List ℕ) (result : Result Unit AllocError)
-      → OnOk result (GoesOn records.Reads with_record r (content_of rows) piece r' (content_of rows')) → OnOk result (records.StaysOpen r (length piece) r' rows'.last rows'.width)
+      → OnOk result (GoesOn records.Reads with_record r (content_of rows) piece r' (content_of rows')) → OnOk result (records.StaysOpen r (length piece) r' rows'.last rows'.width (known_of rows'))
       → OnOk result ((kind : Kind) (bytes : List ℕ) → Stands self rows kind bytes → Stands (readers.Callgrind r') rows' kind (bytes ++ piece))
   fed_records piece (Ok x) reads stays = λ kind bytes s. go kind bytes (subst (λ f. Stands f rows kind bytes) is s)
     where

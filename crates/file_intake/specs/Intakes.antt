@@ -11,7 +11,7 @@ use Rattle.profile_records.specs.Stacks.{Seen}
 use Rattle.folded_reader.specs.Reads as stacks
 use Rattle.folded_reader.specs.declared.reader.FoldedReader.{FoldedReader}
 use Rattle.cost_rows.specs.Content.{empty, with_record, with_stack}
-use Rattle.cost_rows.specs.Rows.{content_of}
+use Rattle.cost_rows.specs.Rows.{content_of, known_of}
 use Rattle.cost_rows.specs.declared.file_rows.FileRows.{FileRows}
 use Rattle.sha2.specs.Hashers.{Holds256}
 use Rattle.sha2.specs.Sha256.{sha256}
@@ -29,7 +29,7 @@ pub record ReadsRecords (r : Reader) (rows : FileRows) (bytes : List ℕ) : Type
   pub told : List Record
   pub reads : records.Reads r bytes told
   pub rows_are : content_of rows ≡ fold with_record empty told
-  pub takes : records.Takes r rows.last rows.width
+  pub takes : records.Takes r rows.last rows.width (known_of rows)
   pub room : records.room_of r + length bytes ≡ 1073741824
 
 pub record ReadsStacks (r : FoldedReader) (rows : FileRows) (bytes : List ℕ) : Type 0 where

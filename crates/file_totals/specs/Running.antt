@@ -2,12 +2,12 @@
 use Rattle.std.specs.Prelude.{◌≡◌, ℕ, ◌+◌, List, [], fold, length}
 use Rattle.profile_records.specs.Records.{Record}
 use Rattle.callgrind_reader.specs.Reads.{Reads, Takes, room_of}
-use Rattle.file_totals.specs.Sums.{add_record}
+use Rattle.file_totals.specs.Sums.{add_record, knows_none}
 use Rattle.file_totals.specs.declared.total.Total.{Total}
 
 -- its sums take the reader's next record
 abbrev pub IsReady : Total → Type 0
-IsReady t = Takes t.reader t.sums.last t.sums.width
+IsReady t = Takes t.reader t.sums.last t.sums.width (knows_none t.sums)
 
 -- it has read this text so far, and has the sums of the records that were handed on
 abbrev pub SumsUp : Total → List ℕ → Type 0

@@ -1,5 +1,8 @@
 -- The sums of the self costs, by column.
-use Rattle.std.specs.Prelude.{ℕ, ◌+◌, List, [], ◌∷◌, slice_index}
+use Rattle.std.specs.Prelude.{ℕ, ◌+◌, List, [], ◌∷◌, Option, None, slice_index}
+use Rattle.cg_text.specs.declared.words.Namespace.{Namespace}
+use Rattle.profile_records.specs.declared.marks.Mark.{Mark}
+use Rattle.file_totals.specs.declared.sums.CostSums.{CostSums}
 use Rattle.profile_records.specs.Columns.{added}
 use Rattle.profile_records.specs.Records.{Record, Own, Called}
 
@@ -13,3 +16,7 @@ self_sum k (Called callee cost ∷ records) = self_sum k records
 abbrev pub add_record : List ℕ → Record → List ℕ
 add_record sums (Own cost) = added sums cost.costs
 add_record sums (Called callee cost) = sums
+
+-- names are not looked at, and nothing of them is remembered
+abbrev pub knows_none : CostSums → Namespace → Mark → Option (List ℕ)
+knows_none sums space mark = None

@@ -37,7 +37,7 @@ impl CostSums {
 
 impl Sink for CostSums {
     ghost use Rattle.std.specs.Prelude.{ℕ, List};
-    ghost use Rattle.file_totals.specs.Sums.{add_record};
+    ghost use Rattle.file_totals.specs.Sums.{add_record, knows_none};
 
     ghost Meaning = { List ℕ };
 
@@ -48,6 +48,8 @@ impl Sink for CostSums {
     ghost last = { λ s. s.last };
 
     ghost width = { λ s. s.width };
+
+    ghost known = { knows_none };
 
     fn self_cost(&mut self, r: SelfCost<'_>) -> Result<(), AllocError> {
         add_costs(&mut self.sums, r.costs)?;

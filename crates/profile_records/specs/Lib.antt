@@ -1,5 +1,6 @@
 pub mod Records
 pub mod Lent
+pub mod Marks
 pub mod Stacks
 pub mod Frames
 pub mod Kinds

@@ -8,6 +8,8 @@ mod columns;
 mod frames;
 // The kinds of profiles.
 mod kinds;
+// The names of records as they are lent, each with a mark (specs/Marks.antt).
+mod marks;
 // The trait of what takes records, and the records as they are lent (specs/Records.antt, Lent.antt).
 mod sink;
 // The trait of what takes stacks (specs/Stacks.antt).
@@ -16,5 +18,6 @@ mod stack_sink;
 pub use columns::add_costs;
 pub use frames::leaf;
 pub use kinds::Kind;
+pub use marks::{LentName, LentNames, Mark};
 pub use sink::{CallCost, SelfCost, Sink};
 pub use stack_sink::StackSink;

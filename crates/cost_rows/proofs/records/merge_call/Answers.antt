@@ -2,16 +2,36 @@ use Rattle.std.proofs.Common.{◌∙◌, ap}
 use Rattle.std.proofs.lemmas.Result.{on_ok_weaker}
 use Rattle.cost_rows.specs.Calls.{calls_added}
 use Rattle.cost_rows.specs.Lent.{callee_of, cost_of}
+use Rattle.cost_rows.specs.Marks.{known_by}
 use Rattle.cost_rows.specs.Merging.{merge}
 use Rattle.cost_rows.specs.Places.{call_cmp}
 use Rattle.cost_rows.proofs.GrowingLemmas.{call-numbered}
+use Rattle.cost_rows.proofs.MarksLemmas.{agrees-own, agrees-called, learns-both}
 use Rattle.cost_rows.proofs.records.merge_call.Goals as goal
+
+pub place_lent-requires-clause-agrees : goal.place_lent-requires-clause-agrees
+place_lent-requires-clause-agrees c = agrees-own (known_by c.args.names.now c.args.marks.now) c.args.r.names c.args.r.called c.requires.agrees
+
+pub place_lent-requires-2-clause-agrees : goal.place_lent-requires-2-clause-agrees
+place_lent-requires-2-clause-agrees c =
+    agrees-called (known_by c.args.names.now c.args.marks.now) (known_by c.place_lent.new.names c.place_lent.new.marks) c.args.r.names c.args.r.called
+    c.requires.agrees c.in_ok-place.ensures.learns.learns
 
 pub returns-clause-arcs : goal.returns-clause-arcs
 returns-clause-arcs c =
     on_ok_weaker c.merge_sums.result
     (λ merged. merged
     ∙ ap (λ call. merge call_cmp calls_added c.args.arcs.now.entries call (record { count = c.args.r.count; costs = c.args.r.costs.now }))
-    (call-numbered c.args.names.now c.number_place.new.names c.number_place-2.new.names (callee_of c.args.r) (cost_of c.args.r) c.in_ok-place.place c.in_ok-called.called
+    (call-numbered c.args.names.now c.place_lent.new.names c.place_lent-2.new.names (callee_of c.args.r) (cost_of c.args.r) c.in_ok-place.place c.in_ok-called.called
     c.in_ok-place.ensures.names c.in_ok-place.ensures.place c.in_ok-called.ensures.names c.in_ok-called.ensures.place))
+    c.merge_sums.ensures.ok
+
+pub returns-clause-learns : goal.returns-clause-learns
+returns-clause-learns c =
+    on_ok_weaker c.merge_sums.result
+    (λ merged. record {
+      named = c.in_ok-called.ensures.learns.named;
+      learns = learns-both (known_by c.args.names.now c.args.marks.now) (known_by c.place_lent.new.names c.place_lent.new.marks) (known_by c.place_lent-2.new.names c.place_lent-2.new.marks)
+          c.args.r.names c.args.r.called c.in_ok-place.ensures.learns.learns c.in_ok-called.ensures.learns.learns;
+    })
     c.merge_sums.ensures.ok

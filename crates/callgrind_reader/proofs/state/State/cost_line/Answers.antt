@@ -1,6 +1,7 @@
-use Rattle.std.proofs.Common.{◌≡◌, refl, sym, subst, ◌∙◌, ap, rules}
+use Rattle.std.proofs.Common.{◌≡◌, refl, sym, subst, ◌∙◌, ap, rules, arith}
 use Rattle.callgrind_reader.specs.Positions.{or_line, layout_of, offsets_at}
 use Rattle.callgrind_reader.specs.Stands.{HeaderIs}
+use Rattle.callgrind_reader.proofs.MarksLemmas.{known-stays}
 use Rattle.callgrind_reader.proofs.state.State.cost_line.Goals as goal
 
 pub returns : goal.returns
@@ -18,7 +19,13 @@ returns g c = record {
         };
       };
   told = λ back live at. search rules;
-  fits = search rules;
+  fits = (
+    let last = c.in_ok-hand_record.ensures.hands.last in
+        let same = c.in_ok-hand_record.ensures.same.lines in
+        omega (arith, last, same),
+    search rules,
+    known-stays c.args.self.now.names c.hand_record.new.self.names (g.S.Sink.known c.hand_record.new.sink) c.hand_record.ensures.marks c.hand_record.ensures.hands.known,
+  );
   refused = tt;
   same = search rules;
 }

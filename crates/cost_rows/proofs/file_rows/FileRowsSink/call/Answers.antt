@@ -18,4 +18,5 @@ invariant_of-self-2 c = record {
       subst P (sym c.in_default.ensures.arcs)
       (within-call c.args.self.now.cells.entries c.args.self.now.arcs.entries (by_bytes c.args.self.now.stacks.entries) c.args.self.now.last c.args.r.at _ (record { count = c.args.r.count; costs = c.args.r.costs.now })
       c.args.self.now.within c.requires.rises c.requires.count c.requires.small);
+  named = c.in_default.ensures.learns.named;
 }

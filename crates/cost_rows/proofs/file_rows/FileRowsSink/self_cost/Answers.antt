@@ -17,4 +17,5 @@ invariant_of-self-2 c = record {
       subst P (sym c.in_default.ensures.cells)
       (within-own c.args.self.now.cells.entries c.args.self.now.arcs.entries (by_bytes c.args.self.now.stacks.entries) c.args.self.now.last c.args.r.at _ c.args.r.costs.now
       c.args.self.now.within c.requires.rises c.requires.small);
+  named = c.in_default.ensures.learns.named;
 }
