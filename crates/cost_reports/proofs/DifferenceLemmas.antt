@@ -14,7 +14,7 @@ use Rattle.cost_rows.specs.Sums.{Spot}
 use Rattle.cost_rows.specs.declared.keys.Key.{Key}
 use Rattle.cost_rows.proofs.KeysLemmas.{named_cmp-total, named_cmp-apart}
 use Rattle.cost_reports.specs.Differences.{less, beside, differing, difference_cmp, difference_of, gains_of, losses_of, negated, negated_row, negative, on_side}
-use Rattle.cost_reports.specs.Pairs.{firsts_of, pairs_by, seconds_of}
+use Rattle.cost_reports.specs.Pairs.{firsts_of, seconds_of}
 use Rattle.cost_reports.specs.Ranking.{placed, among, ranked}
 use Rattle.cost_reports.specs.declared.differences.Side.TheVariants.{First, Second}
 use Rattle.cost_reports.specs.declared.pairs.Pair.{Pair}
@@ -61,22 +61,6 @@ keys_where : (passes : Spot → Bool) (firsts seconds : List (Spot × ℕ)) → 
 keys_where passes [] seconds = keys_alone passes seconds
 keys_where passes (e ∷ firsts) seconds =
     ap (λ b. passes e.0 || b) (keys_where passes firsts seconds) ∙ or_or (passes e.0) (list_any passes (keys_of firsts)) (list_any passes (keys_of seconds))
-
--- ---- one side alone
-
-firsts_alone : (firsts : List (Spot × ℕ)) → firsts_of (map (on_side First) firsts) ≡ total_of firsts
-firsts_alone [] = refl
-firsts_alone (e ∷ firsts) = ap (λ n. e.1 + n) (firsts_alone firsts)
-
-pub first_total : (firsts : List (Spot × ℕ)) → firsts_of (pairs_by (map (on_side First) firsts)) ≡ total_of firsts
-first_total firsts = firsts_by (λ _. true) (map (on_side First) firsts) ∙ firsts_alone firsts
-
-no_seconds : (firsts : List (Spot × ℕ)) → seconds_of (map (on_side First) firsts) ≡ 0
-no_seconds [] = refl
-no_seconds (e ∷ firsts) = let rest = no_seconds firsts in omega (arith, rest)
-
-pub second_total : (firsts : List (Spot × ℕ)) → seconds_of (pairs_by (map (on_side First) firsts)) ≡ 0
-second_total firsts = seconds_by (λ _. true) (map (on_side First) firsts) ∙ no_seconds firsts
 
 -- ---- the sides exchanged
 

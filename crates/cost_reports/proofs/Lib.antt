@@ -12,6 +12,7 @@ pub mod PairLemmas
 pub mod RankLemmas
 pub mod RowLemmas
 pub mod SameSums
+mod StepLemmas
 mod CallExamples
 mod DifferenceExamples
 mod Examples

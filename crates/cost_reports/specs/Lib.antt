@@ -2,6 +2,7 @@ pub mod Calls
 pub mod Costs
 pub mod Differences
 pub mod Functions
+pub mod InStep
 pub mod Inclusive
 pub mod KeyReports
 pub mod KeyTexts

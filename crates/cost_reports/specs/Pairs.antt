@@ -3,10 +3,8 @@ use Rattle.std.specs.Prelude.{ℕ, ◌+◌, ◌<◌, ◌^◌, true, List, []}
 use Rattle.cost_rows.specs.Keys.{named_cmp}
 use Rattle.cost_rows.specs.Merging.{merge, merge_all, seen, sum_where}
 use Rattle.cost_rows.specs.Sums.{Spot}
-use Rattle.cost_reports.specs.Rows.{lent_place}
 use Rattle.cost_reports.specs.declared.pairs.Pair.{Pair}
 use Rattle.cost_reports.specs.declared.places.HeldPlace.{HeldPlace}
-use Rattle.cost_reports.specs.declared.places.LentPlace.{LentPlace}
 
 abbrev pub pairs_added : Pair → Pair → Pair
 pairs_added held more = record { first = held.first + more.first; second = held.second + more.second }
@@ -40,6 +38,3 @@ held_place p = record { object = p.object.items; file = p.file.items; function =
 
 abbrev pub held_pairs : List (HeldPlace × Pair) → List (Spot × Pair)
 held_pairs = seen held_place
-
-abbrev pub lent_pairs : List (LentPlace × Pair) → List (Spot × Pair)
-lent_pairs = seen lent_place

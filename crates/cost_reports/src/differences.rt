@@ -1,21 +1,19 @@
 // What rows cost less what other rows cost, by key.
-ghost use Rattle.std.specs.Prelude.{◌≡◌, ◌+◌, ◌<◌, ◌≤◌, ◌^◌, OnOk, IfOk, map};
-ghost use Rattle.cost_rows.specs.KeySums.{total_of};
-ghost use Rattle.cost_rows.specs.Merging.{merge_all};
-ghost use Rattle.cost_rows.specs.Keys.{named_cmp};
-ghost use Rattle.cost_reports.specs.Differences.{beside, difference_of, differing, difference_cmp, on_side, pair_on};
-ghost use Rattle.cost_reports.specs.Pairs.{pairs_added, pairs_with, pair_total, firsts_of, seconds_of, lent_pairs, AreBelow};
+ghost use Rattle.std.specs.Prelude.{◌≡◌, ◌++◌, ◌∷◌, [], ℕ, List, OnOk, IfOk, map};
+ghost use Rattle.cost_rows.specs.Sums.{Spot};
+ghost use Rattle.cost_reports.specs.Differences.{beside, difference_of, differing, difference_cmp, pair_on};
+ghost use Rattle.cost_reports.specs.InStep.{from_row, ComesNext, IsAlone, IsInOrder};
 ghost use Rattle.cost_reports.specs.Ranking.{ranked};
-ghost use Rattle.cost_reports.specs.Rows.{lent_place, plain_differences};
+ghost use Rattle.cost_reports.specs.Rows.{lent_place, plain_differences, sum_of_row};
 
 use crate::pairs::Pair;
-use crate::places::{LentPlace, place_of_row};
-use crate::rows::DifferenceRow;
+use crate::places::LentPlace;
+use crate::ranks::row_of;
+use crate::rows::{DifferenceRow, Row};
 use crate::signed::{Signed, less};
-use cost_rows::{Key, Merged};
+use cost_rows::{Key, Merged, SumRows};
 use std::alloc::{AllocError, Global};
-use std::cmp::Reverse;
-use std::collections::BTreeMap;
+use std::cmp::{Ordering, Reverse};
 use std::marker::Model;
 
 /// The first rows less the second, by key: rows of the differences, and the difference of all. The
@@ -45,9 +43,7 @@ pub(crate) enum Side {
 
 /// A cost on one side, and none on the other.
 fn pair_on(side: Side, cost: u128) -> Pair
-    ensures value { result ≡ pair_on side cost }
-    ensures first { result.first ≤ cost }
-    ensures second { result.second ≤ cost }
+    ensures { result ≡ pair_on side cost }
 {
     match side {
         Side::First => Pair {
@@ -61,74 +57,100 @@ fn pair_on(side: Side, cost: u128) -> Pair
     }
 }
 
-/// Merges a pair into the sums of its place.
-fn merge_lent<'a>(
-    sums: &mut BTreeMap<LentPlace<'a>, Pair>,
+/// What comes next of two lists of sums: a place, what it has on both sides, and which of them it is of.
+#[derive(Clone, Copy)]
+struct Next<'a> {
+    place: LentPlace<'a>,
+    pair: Pair,
+    of_first: bool,
+    of_second: bool,
+}
+
+/// A row of one side, at a place that the other side does not have.
+fn alone<'a>(side: Side, row: Row<'a>) -> Next<'a>
+    ensures { IsAlone side row.entry result }
+{
+    Next {
+        place: row.place,
+        pair: pair_on(side, row.cost.0),
+        of_first: matches!(side, Side::First),
+        of_second: matches!(side, Side::Second),
+    }
+}
+
+/// What comes next, of the next rows of both sides.
+fn next_of<'a>(first: Option<Row<'a>>, second: Option<Row<'a>>) -> Option<Next<'a>>
+    ensures { (firsts : List (Spot × ℕ)) (seconds : List (Spot × ℕ)) → IsInOrder (from_row first.entry firsts) → IsInOrder (from_row second.entry seconds)
+        → ComesNext first.entry firsts second.entry seconds result }
+{
+    match (first, second) {
+        (Some(first), Some(second)) => match first.place.cmp(&second.place) {
+            Ordering::Less => Some(alone(Side::First, first)),
+            Ordering::Greater => Some(alone(Side::Second, second)),
+            Ordering::Equal => Some(Next {
+                place: first.place,
+                pair: Pair {
+                    first: first.cost.0,
+                    second: second.cost.0,
+                },
+                of_first: true,
+                of_second: true,
+            }),
+        },
+        (Some(first), None) => Some(alone(Side::First, first)),
+        (None, Some(second)) => Some(alone(Side::Second, second)),
+        (None, None) => None,
+    }
+}
+
+/// The next row of sums.
+fn next_row<'a>(sums: &mut SumRows<'a>) -> Option<Row<'a>>
+    ensures { map sum_of_row sums.old ≡ from_row result (map sum_of_row sums.new) }
+{
+    let row = sums.next()?;
+    Some(row_of(&row))
+}
+
+/// Adds what a place has on the first side less what it has on the second, where they differ.
+fn push_differing<'a>(
+    rows: &mut Vec<DifferenceRow<'a>>,
     place: LentPlace<'a>,
     pair: Pair,
 ) -> Result<(), AllocError>
-    requires first { firsts_of (lent_pairs sums.old.entries) + pair.first < 2 ^ 128 }
-    requires second { seconds_of (lent_pairs sums.old.entries) + pair.second < 2 ^ 128 }
-    ensures sums { OnOk result (lent_pairs sums.new.entries ≡ pairs_with (lent_place place.entry) pair (lent_pairs sums.old.entries)) }
-    ensures total { OnOk result (pair_total (lent_pairs sums.new.entries) ≡ pairs_added (pair_total (lent_pairs sums.old.entries)) pair) }
+    ensures { OnOk result (plain_differences rows.new.items ≡ plain_differences rows.old.items ++ differing ((lent_place place.entry, pair) ∷ [])) }
 {
-    match sums.get_mut(&place) {
-        Some(sum) => *sum = sum.plus(pair),
-        None => {
-            sums.insert(place, pair)?;
-        }
+    if pair.first != pair.second {
+        let difference = less(pair.first, pair.second);
+        rows.push(DifferenceRow {
+            size: Reverse(difference.size),
+            place,
+            below: difference.below,
+        })?;
     }
     Ok(())
 }
 
-/// Adds costs to one side.
-fn add_costs<'a>(
-    sums: &mut BTreeMap<LentPlace<'a>, Pair>,
-    merged: &'a Merged,
-    side: Side,
-) -> Result<(), AllocError>
-    requires small { AreBelow (firsts_of (lent_pairs sums.old.entries)) (seconds_of (lent_pairs sums.old.entries)) }
-    ensures sums { OnOk result (lent_pairs sums.new.entries
-        ≡ merge_all named_cmp pairs_added (lent_pairs sums.old.entries) (map (on_side side) merged.now.sums)) }
-{
-    let _small = merged.total();
-    for row in merged.rows() {
-        merge_lent(sums, place_of_row(&row), pair_on(side, row.cost))?;
-    }
-    Ok(())
-}
-
-/// What both cost, side by side.
-fn sums_beside<'a>(
+/// The places whose sums on the two sides differ, in their order. Both sides come in this order, so one
+/// walk in step finds them.
+fn differing_rows<'a>(
     alloc: Global,
     first: &'a Merged,
     second: &'a Merged,
-) -> Result<BTreeMap<LentPlace<'a>, Pair>, AllocError>
-    ensures { IfOk result (λ sums. lent_pairs sums.entries ≡ beside first.now.sums second.now.sums) }
-{
-    let _small = first.total();
-    let mut sums = BTreeMap::new(alloc);
-    add_costs(&mut sums, first, Side::First)?;
-    add_costs(&mut sums, second, Side::Second)?;
-    Ok(sums)
-}
-
-/// The places whose two sums differ, in their order.
-fn differing_rows<'a>(
-    alloc: Global,
-    sums: &BTreeMap<LentPlace<'a>, Pair>,
 ) -> Result<Vec<DifferenceRow<'a>>, AllocError>
-    ensures { IfOk result (λ rows. plain_differences rows.items ≡ differing (lent_pairs sums.now.entries)) }
+    ensures { IfOk result (λ rows. plain_differences rows.items ≡ differing (beside first.entry.now.sums second.entry.now.sums)) }
 {
     let mut rows = Vec::new(alloc);
-    for (place, pair) in sums.iter() {
-        if pair.first != pair.second {
-            let difference = less(pair.first, pair.second);
-            rows.push(DifferenceRow {
-                size: Reverse(difference.size),
-                place: *place,
-                below: difference.below,
-            })?;
+    let mut firsts = first.rows();
+    let mut seconds = second.rows();
+    let mut left = next_row(&mut firsts);
+    let mut right = next_row(&mut seconds);
+    'places: while let Some(next) = next_of(left, right) {
+        push_differing(&mut rows, next.place, next.pair)?;
+        if next.of_first {
+            left = next_row(&mut firsts);
+        }
+        if next.of_second {
+            right = next_row(&mut seconds);
         }
     }
     Ok(rows)
@@ -150,8 +172,7 @@ pub fn subtract<'a>(
 ) -> Result<Difference<'a>, AllocError>
     ensures { IfOk result (λ difference. difference ≡ difference_of first.now.key first.now.sums second.now.sums) }
 {
-    let sums = sums_beside(alloc, first, second)?;
-    let mut rows = differing_rows(alloc, &sums)?;
+    let mut rows = differing_rows(alloc, first, second)?;
     rank(&mut rows);
     Ok(Difference {
         key: first.key(),

@@ -3,14 +3,25 @@ ghost use Rattle.std.specs.Prelude.{◌≡◌, ◌*◌, ◌≤◌, ◌<◌, ◌^
 ghost use Rattle.cost_rows.specs.KeySums.{total_of};
 ghost use Rattle.cost_reports.specs.KeyReports.{rank_cmp, reaching, limited, shown};
 ghost use Rattle.cost_reports.specs.Ranking.{ranked};
-ghost use Rattle.cost_reports.specs.Rows.{plain_rows};
+ghost use Rattle.cost_rows.specs.Plain.{plain_cell};
+ghost use Rattle.cost_reports.specs.Rows.{plain_row, plain_rows, sum_of_row};
 
 use crate::cuts::Cut;
 use crate::places::place_of_row;
 use crate::rows::Row;
-use cost_rows::Merged;
+use cost_rows::{CellRow, Merged};
 use std::alloc::{AllocError, Global};
 use std::cmp::Reverse;
+
+/// A sum as a row.
+pub(crate) fn row_of<'a>(row: &CellRow<&'a [u8]>) -> Row<'a>
+    ensures { plain_row result ≡ sum_of_row (plain_cell row.now) }
+{
+    Row {
+        cost: Reverse(row.cost),
+        place: place_of_row(row),
+    }
+}
 
 /// The sums as rows, in their order.
 fn rows_of<'a>(alloc: Global, merged: &'a Merged) -> Result<Vec<Row<'a>>, AllocError>
@@ -18,10 +29,7 @@ fn rows_of<'a>(alloc: Global, merged: &'a Merged) -> Result<Vec<Row<'a>>, AllocE
 {
     let mut rows = Vec::with_capacity(alloc, merged.len())?;
     for row in merged.rows() {
-        rows.push(Row {
-            cost: Reverse(row.cost),
-            place: place_of_row(&row),
-        })?;
+        rows.push(row_of(&row))?;
     }
     Ok(rows)
 }

@@ -31,6 +31,10 @@ module _ {K : Type 0} where
   keys-with_sums sums [] = refl
   keys-with_sums sums (e ∷ es) = ap (λ ks. e.0 ∷ ks) (keys-with_sums sums es)
 
+  -- parts in order have their sums in that order
+  pub sums-rise : (cmp : K → K → Ordering) (sums : List ℕ) (es : List (K × ℕ)) → IsStrictlySortedBy cmp (keys_of es) → IsStrictlySortedBy cmp (keys_of (with_sums sums es))
+  sums-rise cmp sums es up = subst (IsStrictlySortedBy cmp) (sym (keys-with_sums sums es)) up
+
   -- the sum of a part is the one in its slot
   lookup-with_sums : (test : K → Bool) (sums : List ℕ) (es : List (K × ℕ)) (slot : ℕ) → lookup test es ≡ Some slot → lookup test (with_sums sums es) ≡ Some (slice_index sums slot)
   lookup-with_sums test sums [] slot found = absurd (cc)

@@ -1,6 +1,8 @@
 // Rows of many files, added up by key.
 ghost use Rattle.std.specs.Prelude.{◌≡◌, ℕ, ◌+◌, ◌<◌, ◌^◌, List, OnOk, OnErr, [], length};
-ghost use Rattle.cost_rows.specs.Keys.{plain_part, plain_place};
+ghost use Rattle.std.specs.List.Sorted.{IsStrictlySortedBy};
+ghost use Rattle.std.specs.Map.{keys_of};
+ghost use Rattle.cost_rows.specs.Keys.{named_cmp, plain_part, plain_place};
 ghost use Rattle.cost_rows.specs.KeySums.{sums_with, with_row, total_of, rows_of};
 ghost use Rattle.cost_rows.specs.Plain.{plain_cell};
 ghost use Rattle.cost_rows.specs.Slots.{sums_in, LeadTo};
@@ -149,10 +151,11 @@ impl Merged {
         Ok(())
     }
 
-    /// The sums as rows of event 0, by key: the parts outside the key are `???` and line 0. Takes
-    /// no memory.
+    /// The sums as rows of event 0, by key, in the order of their parts: the parts outside the key are
+    /// `???` and line 0. Takes no memory.
     pub fn rows(&self) -> SumRows<'_>
-        ensures { result ≡ rows_of self.now.sums }
+        ensures rows { result ≡ rows_of self.now.sums }
+        ensures order { IsStrictlySortedBy named_cmp (keys_of self.now.sums) }
     {
         self.slots.rows()
     }

@@ -1,6 +1,8 @@
 // Sums in slots, found by part.
 ghost use Rattle.std.specs.Prelude.{◌≡◌, ◌+◌, ◌<◌, ◌^◌, ℕ, None, Some, [], length, slice_index, slice_set, OnOk, OnErr, IfOk};
-ghost use Rattle.cost_rows.specs.Keys.{plain_place};
+ghost use Rattle.std.specs.List.Sorted.{IsStrictlySortedBy};
+ghost use Rattle.std.specs.Map.{keys_of};
+ghost use Rattle.cost_rows.specs.Keys.{named_cmp, plain_place};
 ghost use Rattle.cost_rows.specs.KeySums.{rows_of, sums_with, total_of};
 ghost use Rattle.cost_rows.specs.Slots.{sums_in, slot_of, KeepsSlots};
 ghost use Rattle.cost_rows.specs.Sums.{Spot};
@@ -119,7 +121,8 @@ impl Slots {
 
     /// The parts with their sums as rows of event 0, in order. Takes no memory.
     pub(crate) fn rows(&self) -> SumRows<'_>
-        ensures { result ≡ rows_of (sums_in self.now) }
+        ensures rows { result ≡ rows_of (sums_in self.now) }
+        ensures order { IsStrictlySortedBy named_cmp (keys_of (sums_in self.now)) }
     {
         SumRows {
             entries: self.places.iter(),

@@ -1,8 +1,8 @@
 // The groups with their members.
-ghost use Rattle.std.specs.Prelude.{◌≡◌, ◌<◌, ◌≤◌, [], map, flat_map, length, take, IfOk, IsTrue, IsPermutation};
+ghost use Rattle.std.specs.Prelude.{◌≡◌, ◌≤◌, [], map, flat_map, length, take, IfOk, IsPermutation};
 ghost use Rattle.std.specs.List.{AllAdjacentBelow};
 ghost use Rattle.std.specs.Result.{is_ok};
-ghost use Rattle.prof_tables.specs.Tables.{group_columns, member_columns};
+ghost use Rattle.prof_tables.specs.Tables.{group_columns};
 ghost use Rattle.prof_store.specs.Groups.{first_two, AreGroups, AreGroupsIn, AreMembersIn, IsBefore, entry_group, entry_members, member_of, member_line};
 ghost use Rattle.prof_store.specs.Shown.{Asks, Found, Told};
 
@@ -13,7 +13,10 @@ use cg_text::ListVec;
 use sqlite::{Alter, Row};
 use std::alloc::Global;
 use std::cmp::Ordering;
-use store_columns::{StoreError, is_group_name, number_at, number_or_null_at, text_at};
+use store_columns::{
+    FromRow, Rises, StoreError, is_group_name, number_at, number_or_null_at, read_rows, rise,
+    text_at,
+};
 
 /// A run that is in a group.
 #[derive(Drop)]
@@ -22,18 +25,33 @@ pub(crate) struct Member {
     pub run: u32,
 }
 
-fn members_in(alloc: Global, rows: &[Row]) -> Result<Vec<Member>, StoreError>
-    ensures read { IfOk result (λ members. map (λ m. member_columns (member_line m)) members.items ≡ map first_two rows.now) }
-{
-    let mut members = Vec::new(alloc);
-    'rows: for row in rows {
+impl FromRow for Member {
+    ghost use Rattle.prof_tables.specs.Tables.{member_columns};
+    ghost use Rattle.prof_store.specs.Groups.{first_two, member_line};
+
+    ghost seen = { first_two };
+
+    ghost columns = { λ m. member_columns (member_line m) };
+
+    fn from_row(row: &Row) -> Result<Member, StoreError> {
         let group = text_at(row, 0)?;
         let run = number_at(row, 1)?;
-        if members.push(Member { group, run }).is_err() {
-            return Err(StoreError::Memory);
+        Ok(Member { group, run })
+    }
+}
+
+/// By the bytes of their names, of which none comes twice.
+impl Rises for GroupEntry {
+    ghost use Rattle.prof_store.specs.Groups.{IsBefore};
+
+    ghost Below = { IsBefore };
+
+    fn is_below(&self, other: &GroupEntry) -> bool {
+        match self.name.as_str().cmp(other.name.as_str()) {
+            Ordering::Less => true,
+            _ => false,
         }
     }
-    Ok(members)
 }
 
 /// The runs of the members at the front that are of one group.
@@ -51,31 +69,6 @@ fn runs_of(alloc: Global, name: &str, members: &[Member]) -> Result<ListVec<u32>
         }
     }
     Ok(runs)
-}
-
-/// Whether numbers rise.
-fn rise(numbers: &[u32]) -> bool
-    ensures { IsTrue result → AllAdjacentBelow (λ a b. a < b) numbers.now (length numbers.now) }
-{
-    for k in 1..numbers.len() {
-        if numbers[k] <= numbers[k - 1] {
-            return false;
-        }
-    }
-    true
-}
-
-/// Whether the names rise, by bytes.
-fn names_rise(entries: &[GroupEntry]) -> bool
-    ensures { IsTrue result → AllAdjacentBelow IsBefore entries.now (length entries.now) }
-{
-    for k in 1..entries.len() {
-        match entries[k - 1].name.as_str().cmp(entries[k].name.as_str()) {
-            Ordering::Less => {}
-            _ => return false,
-        }
-    }
-    true
 }
 
 /// A group whose name is in form and whose members rise.
@@ -127,7 +120,7 @@ fn groups_in(alloc: Global, rows: &[Row], members: &[Member]) -> Result<Vec<Grou
     ensures rising { IfOk result (λ entries. AllAdjacentBelow IsBefore entries.items (length entries.items)) }
 {
     let entries = joined(alloc, rows, members)?;
-    if names_rise(&entries) {
+    if rise(&entries) {
         Ok(entries)
     } else {
         Err(StoreError::Store)
@@ -146,7 +139,7 @@ impl<S: Alter> Store<S> {
             "SELECT grp, run FROM member ORDER BY grp, run",
             &[],
         )?;
-        members_in(alloc, &rows)
+        read_rows(alloc, &rows)
     }
 
     /// The groups with these members, by name.

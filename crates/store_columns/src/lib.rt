@@ -11,6 +11,8 @@ mod kinds;
 mod labels;
 // The lines of the tables.
 mod lines;
+// Rows, read into lists.
+mod row_lists;
 // Whole numbers that a column can hold.
 mod whole;
 // The call through which every statement within a transaction goes (specs/Within.antt, Steps.antt).
@@ -26,5 +28,6 @@ pub use labels::{digest_at, is_group_name, is_label, label_at};
 pub use lines::{
     ArcLine, CellLine, CoefLine, DerivedLine, EventLine, HeadLines, HeldStack, RunLine, StackLine,
 };
+pub use row_lists::{FromRow, Rises, read_rising, read_rows, rise};
 pub use whole::{Whole, small_of, whole_of};
 pub use writing::write_inside;

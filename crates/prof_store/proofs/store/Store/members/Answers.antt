@@ -16,19 +16,19 @@ use Rattle.prof_store.proofs.store.Store.members.Goals as goal
 pub returns-clause-told : goal.returns-clause-told
 returns-clause-told g c clean t was =
     let p = members_listed _ _ c.in_ok-rows.rows.items was.schema_is (c.in_ok-rows.ensures.rows clean) in
-    if_ok_then c.members_in.result c.members_in.ensures.read (λ members is.
+    if_ok_then c.read_rows.result c.read_rows.ensures (λ members is.
     let q = read_permutes member_seen first_two (λ (m : Member). member_columns (member_line m)) (λ r. refl) _ c.in_ok-rows.rows.items members.items p (is ∙ ap (map first_two) c.deref.ensures.value) in
     read_back member_columns member_back member_read t.members (map member_line members.items) (subst₂ IsPermutation (members_are t _ was.holds) (sym (map-map member_columns member_line members.items)) q))
 
 pub returns-clause-found : goal.returns-clause-found
 returns-clause-found g c clean has =
     let p = members_listed _ _ c.in_ok-rows.rows.items has (c.in_ok-rows.ensures.rows clean) in
-    if_ok_then c.members_in.result c.members_in.ensures.read (λ members is.
+    if_ok_then c.read_rows.result c.read_rows.ensures (λ members is.
     let q = read_permutes member_seen first_two (λ (m : Member). member_columns (member_line m)) (λ r. refl) _ c.in_ok-rows.rows.items members.items p (is ∙ ap (map first_two) c.deref.ensures.value) in
     subst (IsPermutation _) (sym (map-map member_columns member_line members.items)) q)
 
 pub returns-clause-asks : goal.returns-clause-asks
-returns-clause-asks g c clean = asked_if schema_one (is_ok c.members_in.result) _ _ (c.in_ok-rows.ensures.asked clean members_plain)
+returns-clause-asks g c clean = asked_if schema_one (is_ok c.read_rows.result) _ _ (c.in_ok-rows.ensures.asked clean members_plain)
 
 pub returns-in_err-rows-clause-asks : goal.returns-in_err-rows-clause-asks
 returns-in_err-rows-clause-asks g c clean = asked_err schema_one c.from_residual.result _ _ c.from_residual.ensures.0 (c.in_err-rows.ensures.asked clean members_plain)

@@ -26,7 +26,7 @@ same_held a b h =
 pub returns-clause-told : goal.returns-clause-told
 returns-clause-told g c clean t was =
     let p = runs_listed _ _ c.in_ok-rows.rows.items was.schema_is (c.in_ok-rows.ensures.rows clean) in
-    if_ok_then c.runs_in.result (both_ok _ _ c.runs_in.result c.runs_in.ensures.read c.runs_in.ensures.rising) (λ entries is.
+    if_ok_then c.read_rising.result (both_ok _ _ c.read_rising.result c.read_rising.ensures.read c.read_rising.ensures.rising) (λ entries is.
     let q = read_permutes run_seen first_four entry_columns (λ r. refl) _ c.in_ok-rows.rows.items entries.items p (is.0 ∙ ap (map first_four) c.deref.ensures.value) in
     let up = numbered_table entry_columns (λ (e : RunEntry). e.number) (λ e. refl) entries.items (rising (λ (e : RunEntry). e.number) entries.items is.1) in
     let same = runs_in_order t _ was.holds (map entry_columns entries.items) up q in
@@ -35,10 +35,10 @@ returns-clause-told g c clean t was =
 pub returns-clause-found : goal.returns-clause-found
 returns-clause-found g c clean has =
     let p = runs_listed _ _ c.in_ok-rows.rows.items has (c.in_ok-rows.ensures.rows clean) in
-    if_ok_then c.runs_in.result c.runs_in.ensures.read (λ entries is. read_permutes run_seen first_four entry_columns (λ r. refl) _ c.in_ok-rows.rows.items entries.items p (is ∙ ap (map first_four) c.deref.ensures.value))
+    if_ok_then c.read_rising.result c.read_rising.ensures.read (λ entries is. read_permutes run_seen first_four entry_columns (λ r. refl) _ c.in_ok-rows.rows.items entries.items p (is ∙ ap (map first_four) c.deref.ensures.value))
 
 pub returns-clause-asks : goal.returns-clause-asks
-returns-clause-asks g c clean = asked_if schema_one (is_ok c.runs_in.result) _ _ (c.in_ok-rows.ensures.asked clean runs_plain)
+returns-clause-asks g c clean = asked_if schema_one (is_ok c.read_rising.result) _ _ (c.in_ok-rows.ensures.asked clean runs_plain)
 
 pub returns-in_err-rows-clause-asks : goal.returns-in_err-rows-clause-asks
 returns-in_err-rows-clause-asks g c clean = asked_err schema_one c.from_residual.result _ _ c.from_residual.ensures.0 (c.in_err-rows.ensures.asked clean runs_plain)

@@ -1,6 +1,0 @@
-use Rattle.std.proofs.Common.{◌<◌}
-use Rattle.std.specs.List.{AllAdjacentBelow}
-use Rattle.prof_store.proofs.runs.rise.Given as goal
-
-abbrev pub invariant-loop-k : goal.invariant-loop-k
-invariant-loop-k l = AllAdjacentBelow (λ a b. a.number < b.number) l.entries l.k
