@@ -349,7 +349,7 @@ fn annotate<'a>(alloc: Global) -> Result<Command<'a>, AllocError>
         alloc,
         "annotate",
         "Show a source with the cost of each of its lines",
-        "Example: profhouse annotate --db s.db --event Ir --file main.c src/main.c",
+        "Example: profhouse annotate --db s.db --event Ir --file a.c src/a.c",
     )?
     .arg(annotated(alloc))?
     .arg(operand(alloc, "SOURCE", "The path of the source"))
