@@ -4,6 +4,7 @@ pub mod Cuts
 pub mod Distinct
 pub mod Due
 pub mod Examples
+pub mod ExportExamples
 pub mod Excesses
 pub mod Fits
 pub mod Groups
