@@ -1,25 +1,19 @@
--- A walk over the calls of a run, with names in place.
-use Rattle.std.proofs.Common.{◌≡◌, ℕ, suc, ◌+◌, ◌<◌, nat_lt, if◌then◌else◌, Bool, true, false, List, [], ◌∷◌, ◌++◌, map, length, Option, Some, None, refl, sym, ap, ap₂, subst, ◌∙◌, append-nil, append_assoc, add-zero, arith}
+-- Rows of calls and their lines, with names in place.
+use Rattle.std.proofs.Common.{◌≡◌, ◌≤◌, ℕ, suc, ◌+◌, ◌<◌, nat_lt, if◌then◌else◌, Bool, true, false, List, [], ◌∷◌, ◌++◌, map, fold, length, Some, None, refl, sym, ap, ap₂, subst, ◌∙◌, append-nil, append_assoc, add-zero, arith}
 use Rattle.std.specs.Borrow.{Bor}
 use Rattle.std.specs.List.{AllByRecursion}
 use Rattle.std.proofs.lemmas.Bool.Decides.{nat_tests}
-use Rattle.std.proofs.lemmas.Grind.{flat_map-append}
+use Rattle.std.proofs.lemmas.Grind.{flat_map-append, fold-append}
 use Rattle.std.proofs.lemmas.List.{map-append}
-use Rattle.sqlite_trees.specs.declared.store.Store.{Ghosts}
 use Rattle.cost_rows.specs.declared.rows.ArcRow.{ArcRow}
-use Rattle.prof_tables.specs.Tables.{Tables, NameLine, ArcLine as Arc, arc_columns}
 use Rattle.prof_tables.specs.RunLines.{arcs_in}
-use Rattle.prof_store.specs.declared.store.Store.{Store}
-use Rattle.held_runs.specs.declared.call_walks.CallWalk.{CallWalk}
+use Rattle.prof_tables.specs.Tables.{Tables, NameLine, ArcLine as Arc}
 use Rattle.prof_books.specs.Book.{part_held, part_of, parts_from, parts_of, ArcIsNamed}
-use Rattle.held_runs.specs.HeldArcs.{GivesArcs, HasUsedArcs, HasTakenArc, HasGivenArcs, HasGivenAllArcs, HasGivenArcsOn, IsSameArcs, TellsArcRows, lines_from, part_line, plain_given, row_of, waiting_line}
-use Rattle.prof_store.specs.Shown.{StandsFor}
-use Rattle.held_runs.specs.declared.walks.Listed.TheVariants as table
-use Rattle.held_runs.specs.Walks.{GivesOn}
+use Rattle.held_runs.specs.HandedCalls.{AreCallsOf}
+use Rattle.held_runs.specs.HeldArcs.{CallsCameTo, HasTakenCalls, lines_from, part_line, plain_given, row_of}
 use Rattle.store_columns.specs.declared.lines.ArcLine.{ArcLine}
 use Rattle.store_columns.specs.Lines.{arc_line}
 use Rattle.held_runs.proofs.LineLists.{all_append}
-use Rattle.held_runs.proofs.LineWalks.{arcs_begin, arcs_end, given_more}
 
 -- ---- costs and the lines of their parts
 
@@ -74,67 +68,69 @@ module _ (names : List NameLine) (first : Arc) where
       go true more = (named, more)
       go false more = more
 
--- ---- the walk
+-- ---- lines that are taken
 
--- two calls over the same walk
-pub same_then : (old mid new : CallWalk) → IsSameArcs old mid → IsSameArcs mid new → IsSameArcs old new
-same_then old mid new one two = record { run = two.run ∙ one.run; names = two.names ∙ one.names; events = two.events ∙ one.events }
+abbrev Rows : Type 0
+Rows = List (ArcRow (List ℕ) (List ℕ))
 
-module _ {S : Type 0} (g : Ghosts S) where
-  -- no line waits
-  pub used_none : (used : List Arc) (store : Store S) (c : CallWalk) → c.waiting ≡ None → GivesArcs g used store c → HasUsedArcs g used store c
-  used_none used store c none gives = record { gives = subst (λ w. GivesArcs g (used ++ waiting_line w) store c) (sym none) (subst (λ l. GivesArcs g l store c) (sym (append-nil used)) gives) }
+module _ {M : Type 0} (names : List NameLine) (events : ℕ) (step : M → ArcRow (List ℕ) (List ℕ) → M) (start : M) where
+  pub no_line : HasTakenCalls names events step start start None [] []
+  no_line = record { handed = []; came_to = record { rows = []; parts_are = refl; named = tt; long = tt; comes = refl }; waiting = []; are_waiting = (refl, refl); lines_are = refl }
 
-  pub gives_none : (used : List Arc) (store : Store S) (c : CallWalk) → c.waiting ≡ None → HasUsedArcs g used store c → GivesArcs g used store c
-  gives_none used store c none was = subst (λ l. GivesArcs g l store c) (append-nil used) (subst (λ w. GivesArcs g (used ++ waiting_line w) store c) none was.gives)
-
-  -- the next line is taken
-  pub next_taken : (used : List Arc) (store : Store S) (c : CallWalk) (line : Option ArcLine) → c.waiting ≡ None → GivesOn g table.Arcs (λ (a : ArcLine). arc_columns (arc_line a)) (map arc_columns used) store c.walk line → HasTakenArc g used store c line
-  next_taken used store c None none gives = (none, gives.0, gives.1)
-  next_taken used store c (Some line) none gives = (none, given_more g table.Arcs arc_columns used (arc_line line) store c.walk gives)
-
-  -- a row shows its lines
-  pub one_row : (given : List (ArcRow (List ℕ) (List ℕ))) (old store : Store S) (before c : CallWalk) (first : Arc) (costs : List ℕ) (row : ArcRow (Bor (List ℕ)) (List ℕ)) → c.names.now ≡ before.names.now → first.part ≡ 0 → (was : HasGivenArcs g given old before)
-      → HasUsedArcs g ((was.lines ++ first ∷ []) ++ lines_from first 1 costs) store c → plain_given row ≡ row_of before.names.now first costs → ArcIsNamed before.names.now first → HasGivenArcs g (given ++ plain_given row ∷ []) store c
-  one_row given old store before c first costs row names counts was used says named =
-      let more = first ∷ lines_from first 1 costs in
-      let same = append_assoc was.lines (first ∷ []) (lines_from first 1 costs) in
-      record {
-        lines = was.lines ++ more;
-        used = subst (λ l. HasUsedArcs g l store c) same used;
-        parts_are = ap (λ (n : List NameLine). map (part_held n) (was.lines ++ more)) names ∙ map-append (part_held before.names.now) was.lines more
-            ∙ ap₂ ◌++◌ was.parts_are (row_parts before.names.now first costs counts ∙ ap parts_of (sym says) ∙ sym (append-nil (parts_of (plain_given row)))) ∙ sym (flat_map-append parts_of given (plain_given row ∷ []));
-        named = subst (λ (n : List NameLine). AllByRecursion (ArcIsNamed n) (was.lines ++ more)) (sym names) (all_append _ was.lines more was.named (named, parts_are_named before.names.now first named 1 costs));
-      }
-
-  -- the lines given are all
-  pub no_row : (given : List (ArcRow (List ℕ) (List ℕ))) (old store : Store S) (before c : CallWalk) → c.names.now ≡ before.names.now → (was : HasGivenArcs g given old before) → HasTakenArc g was.lines store c None → HasGivenAllArcs g given store c
-  no_row given old store before c names was taken = record {
-    has = record {
-      lines = was.lines;
-      used = used_none was.lines store c taken.0 taken.1;
-      parts_are = ap (λ (n : List NameLine). map (part_held n) was.lines) names ∙ was.parts_are;
-      named = subst (λ (n : List NameLine). AllByRecursion (ArcIsNamed n) was.lines) (sym names) was.named;
-    };
-    none_waits = taken.0;
-    all = taken.2;
+  -- a part of the row that waits
+  pub part_taken : (came : M) (first line : ArcLine) (costs more : List ℕ) (lines : List Arc) → HasTakenCalls names events step start came (Some first) costs lines → arc_line line ≡ part_line (arc_line first) line.part line.sum
+      → lines_from (arc_line first) 1 more ≡ lines_from (arc_line first) 1 costs ++ part_line (arc_line first) line.part line.sum ∷ [] → length more ≤ events → HasTakenCalls names events step start came (Some first) more (lines ++ arc_line line ∷ [])
+  part_taken came first line costs more lines was same grown within = record {
+    handed = was.handed;
+    came_to = was.came_to;
+    waiting = was.waiting ++ arc_line line ∷ [];
+    are_waiting = (
+      was.are_waiting.0,
+      within,
+      ap (λ l. l ++ arc_line line ∷ []) was.are_waiting.2 ∙ ap (λ l. arc_line first ∷ l) (ap (λ p. lines_from (arc_line first) 1 costs ++ p ∷ []) same ∙ sym grown),
+    );
+    lines_are = ap (λ l. l ++ arc_line line ∷ []) was.lines_are ∙ append_assoc was.handed was.waiting (arc_line line ∷ []);
   }
 
-  -- in the words of the book
-  pub tells_arc_rows : (t : Tables) (store : Store S) (c : CallWalk) (given : List (ArcRow (List ℕ) (List ℕ))) (row : Option (ArcRow (Bor (List ℕ)) (List ℕ))) → c.names.now ≡ t.names → StandsFor g t store → HasGivenArcsOn g given store c row
-      → TellsArcRows c.walk.run t given row
-  tells_arc_rows t store c given None names was has =
-      let all = arcs_end g t store c.walk was has.has.lines (gives_none has.has.lines store c has.none_waits has.has.used) has.all in
-      ap₂ (λ (n : List NameLine) l. map (part_held n) l) (sym names) all ∙ has.has.parts_are
-  tells_arc_rows t store c given (Some row) names was has =
-      let begun = arcs_begin g t store c.walk was (has.lines ++ waiting_line c.waiting) has.used.gives in
-      let more = waiting_line c.waiting ++ begun.0 in (
-        map (part_held c.names.now) more,
-        ap₂ (λ (n : List NameLine) l. map (part_held n) l) (sym names) (begun.1 ∙ append_assoc has.lines (waiting_line c.waiting) begun.0) ∙ map-append (part_held c.names.now) has.lines more
-            ∙ ap (λ l. l ++ map (part_held c.names.now) more) has.parts_are,
-      )
+  -- the count of the next row, where none waits
+  pub row_begun : (came : M) (first : ArcLine) (costs : List ℕ) (lines : List Arc) → HasTakenCalls names events step start came None costs lines → first.part ≡ 0 → HasTakenCalls names events step start came (Some first) costs (lines ++ arc_line first ∷ [])
+  row_begun came first costs lines was counts =
+      let none : length costs ≤ events = subst (λ (l : List ℕ). length l ≤ events) (sym was.are_waiting.0) (omega arith) in
+      record {
+        handed = was.handed;
+        came_to = was.came_to;
+        waiting = arc_line first ∷ [];
+        are_waiting = (counts, none, ap (λ l. arc_line first ∷ lines_from (arc_line first) 1 l) (sym was.are_waiting.0));
+        lines_are = ap (λ l. l ++ arc_line first ∷ []) (was.lines_are ∙ ap (λ l. was.handed ++ l) was.are_waiting.1 ∙ append-nil was.handed);
+      }
 
-  -- and all names are held
-  pub arcs_are_named : (t : Tables) (store : Store S) (c : CallWalk) (given : List (ArcRow (List ℕ) (List ℕ))) → StandsFor g t store → HasGivenAllArcs g given store c → AllByRecursion (ArcIsNamed c.names.now) (arcs_in c.walk.run t)
-  arcs_are_named t store c given was has =
-      subst (AllByRecursion (ArcIsNamed c.names.now)) (sym (arcs_end g t store c.walk was has.has.lines (gives_none has.has.lines store c has.none_waits has.has.used) has.all)) has.has.named
+  -- the row that waits is handed on
+  pub row_handed : (came new : M) (first : ArcLine) (costs full : List ℕ) (row : ArcRow (Bor (List ℕ)) (List ℕ)) (lines : List Arc) → HasTakenCalls names events step start came (Some first) costs lines
+      → ((part : ℕ) → lines_from (arc_line first) part full ≡ lines_from (arc_line first) part costs) → (length costs ≤ events → length full ≡ events) → plain_given row ≡ row_of names (arc_line first) full → ArcIsNamed names (arc_line first) → new ≡ step came (plain_given row)
+      → HasTakenCalls names events step start new None [] lines
+  row_handed came new first costs full row lines was same long says named steps =
+      let more = arc_line first ∷ lines_from (arc_line first) 1 full in
+      let is_more : was.waiting ≡ more = was.are_waiting.2 ∙ ap (λ l. arc_line first ∷ l) (sym (same 1)) in
+      let r = plain_given row in
+      record {
+        handed = was.handed ++ more;
+        came_to = record {
+          rows = was.came_to.rows ++ r ∷ [];
+          parts_are = map-append (part_held names) was.handed more ∙ ap₂ ◌++◌ was.came_to.parts_are (row_parts names (arc_line first) full was.are_waiting.0 ∙ ap parts_of (sym says) ∙ sym (append-nil (parts_of r)))
+              ∙ sym (flat_map-append parts_of was.came_to.rows (r ∷ []));
+          named = all_append _ was.handed more was.came_to.named (named, parts_are_named names (arc_line first) named 1 full);
+          long = all_append _ was.came_to.rows (r ∷ []) was.came_to.long (ap (λ (x : ArcRow (List ℕ) (List ℕ)). length x.costs) says ∙ long was.are_waiting.1, tt);
+          comes = steps ∙ ap (λ m. step m r) was.came_to.comes ∙ sym (fold-append step start was.came_to.rows (r ∷ []));
+        };
+        waiting = [];
+        are_waiting = (refl, refl);
+        lines_are = was.lines_are ∙ ap (λ l. was.handed ++ l) is_more ∙ sym (append-nil (was.handed ++ more));
+      }
+
+  -- none waits: all rows were handed on
+  pub all_handed : (came : M) (costs : List ℕ) (lines : List Arc) → HasTakenCalls names events step start came None costs lines → CallsCameTo names events step start came lines
+  all_handed came costs lines was = subst (CallsCameTo names events step start came) (sym (was.lines_are ∙ ap (λ l. was.handed ++ l) was.are_waiting.1 ∙ append-nil was.handed)) was.came_to
+
+  -- in the words of the book
+  pub calls_come : (run : ℕ) (t : Tables) (came : M) → CallsCameTo names events step start came (arcs_in run t) → names ≡ t.names → (rows : Rows) × AreCallsOf run t rows × (came ≡ fold step start rows)
+  calls_come run t came was same = (was.rows, ap (λ (n : List NameLine). map (part_held n) (arcs_in run t)) (sym same) ∙ was.parts_are, was.comes)

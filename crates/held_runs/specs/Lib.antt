@@ -4,7 +4,6 @@ pub mod HeldArcs
 pub mod HeldCells
 pub mod HeldHeads
 pub mod HeldStacks
-pub mod LineWalks
 pub mod Lookups
 pub mod NameLines
 pub mod OwnSums

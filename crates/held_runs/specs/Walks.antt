@@ -1,5 +1,5 @@
 -- A walk over the rows of a run, in one of the tables whose rows are lines of runs.
-use Rattle.std.specs.Prelude.{◌≡◌, ◌≢◌, ◌&&◌, ℕ, ◌+◌, pos, Bool, false, List, [], ◌∷◌, ◌++◌, drop, filter, map, Option, Some, None, Result, IfOk}
+use Rattle.std.specs.Prelude.{◌≡◌, ◌≢◌, ◌&&◌, ℕ, ◌+◌, pos, Bool, true, false, List, [], ◌∷◌, ◌++◌, drop, filter, map, Result, IfOk}
 use Rattle.sqlite_value.specs.declared.value.Value.TheVariants.{Null, Int}
 use Rattle.sqlite_value.specs.Order.{Row, column}
 use Rattle.sqlite_trees.specs.View.{IsShaped}
@@ -42,6 +42,10 @@ asked Stacks = stacks_of
 abbrev pub page_of : Listed → ℕ → ℕ → ℕ → List Row → List Row
 page_of table run low high rows = map (in_page (asked table run)) (filter (in_window (asked table run) low high) rows)
 
+-- of these rows all that are of a run were read, as these lines
+abbrev pub AreAllRead : {L : Type 0} → Listed → (L → Row) → ℕ → List Row → List L → Type 0
+AreAllRead table columns run rows lines = HasReadAll (asked table run) rows (map columns lines)
+
 -- where the rows lie, by the row of the least and the greatest rowid, which has NULL where there are none
 abbrev pub IsSpanIn : Row → Span → Type 0
 IsSpanIn row span = column row 0 ≢ Null → (column row 0 ≡ Int (pos (span.low + 1))) × (column row 1 ≡ Int (pos span.top))
@@ -78,10 +82,10 @@ module _ {S : Type 0} (g : Ghosts S) where
     pub table_is : walk.table ≡ table
     pub walks : Walks given store walk
 
-  -- one more is given, which this line says, or those so far are all
-  abbrev pub GivesOn : {L : Type 0} → Listed → (L → Row) → List Row → Store S → Walk → Option L → Type 0
-  GivesOn table columns given store walk (Some line) = Gives table (given ++ columns line ∷ []) store walk
-  GivesOn table columns given store walk None = Gives table given store walk × HasWalked given store walk
+  -- one line more is given and taken, or those so far are all
+  abbrev pub HandsOn : {L : Type 0} → Listed → (L → Row) → (List L → Type 0) → List L → Store S → Walk → Bool → Type 0
+  HandsOn {L} table columns Taken lines store walk true = (line : L) × Gives table (map columns (lines ++ line ∷ [])) store walk × Taken (lines ++ line ∷ [])
+  HandsOn table columns Taken lines store walk false = Gives table (map columns lines) store walk × HasWalked (map columns lines) store walk × Taken lines
 
   -- ---- a call
 
@@ -93,9 +97,10 @@ module _ {S : Type 0} (g : Ghosts S) where
   abbrev pub Moves : Store S → Walk → Store S → (List Row → Type 0) → Type 0
   Moves old walk new P = IsFaithful g new → (given : List Row) → Walks given old walk → P given
 
-  -- what was given grows by the line that is answered
-  abbrev pub GivesLine : {L : Type 0} → Listed → (L → Row) → Store S → Walk → Store S → Walk → Result (Option L) StoreError → Type 0
-  GivesLine table columns old walk new next result = IsFaithful g new → (given : List Row) → Gives table given old walk → IfOk result (GivesOn table columns given new next)
+  -- the lines that were given and taken grow by one, or they are all
+  abbrev pub HandsLine : {L T : Type 0} → Listed → (L → Row) → (List L → T → Type 0) → T → T → Store S → Walk → Store S → Walk → Result Bool StoreError → Type 0
+  HandsLine {L} table columns Has before after old walk new next result =
+      IsFaithful g new → (lines : List L) → Gives table (map columns lines) old walk → Has lines before → IfOk result (HandsOn table columns (λ l. Has l after) lines new next)
 
   -- a call that asks where it has to: a page at hand is given without, so an answer tells nothing of a store that was not open
   abbrev pub AsksIfOpen : Bool → Store S → Store S → Type 0

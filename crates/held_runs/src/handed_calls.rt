@@ -1,63 +1,138 @@
-// The calls of a run, handed on row by row.
-ghost use Rattle.std.specs.Prelude.{◌≡◌};
+// The calls of a run, handed on row by row, with names in place.
+ghost use Rattle.std.specs.Prelude.{◌≡◌, List, None, OnOk, IfOk};
 ghost use Rattle.std.specs.Result.{is_ok};
+ghost use Rattle.prof_tables.specs.RunLines.{arcs_in};
+ghost use Rattle.prof_tables.specs.Tables.{ArcLine as Arc};
 ghost use Rattle.prof_store.specs.Shown.{Told};
-ghost use Rattle.held_runs.specs.HandedCalls.{CallsCameTo};
-ghost use Rattle.held_runs.specs.Walks.{AsksIfOpen};
+ghost use Rattle.held_runs.specs.HeldArcs.{CallsCameTo, CallsCameFrom, HasTakenCalls};
+ghost use Rattle.held_runs.specs.declared.walks.Listed.TheVariants.{Arcs};
+ghost use Rattle.held_runs.specs.Walks.{rows_of, AsksIfOpen, OfReady};
 
-use crate::call_walks::{begin_calls, next_call};
+use crate::arc_lines::read_arc;
+use crate::call_rows::{add_part, arc_row, filled, is_part_of};
 use crate::held_names::HeldNames;
+use crate::lines::{TakesLines, each_line};
+use crate::takers::TakesCalls;
+use crate::walks::Listed;
 use cg_text::ListVec;
-use cost_rows::ArcRow;
 use prof_store::Store;
-use sqlite::Alter;
+use sqlite::{Alter, Row};
 use std::alloc::Global;
-use store_columns::StoreError;
+use std::mem;
+use store_columns::{ArcLine, StoreError};
 
-/// Takes the calls of runs.
-pub trait TakesCalls {
-    ghost use Rattle.std.specs.Prelude.{◌≡◌, List, ℕ, OnOk};
-    ghost use Rattle.cost_rows.specs.declared.rows.ArcRow.{ArcRow};
-    ghost use Rattle.held_runs.specs.HeldArcs.{plain_given};
+/// Takes the lines of calls, and hands on a row once all its lines are taken.
+#[derive(Drop)]
+struct CallLines<'n, T> {
+    names: &'n HeldNames,
+    alloc: Global,
+    events: usize,
+    /// The line with the count of the row that is not handed on yet.
+    first: Option<ArcLine>,
+    /// Its costs.
+    costs: ListVec<u128>,
+    taker: T,
+}
 
-    /// What it can mean.
-    ghost Meaning: { Type 0 };
+impl<T: TakesCalls> CallLines<'_, T> {
+    /// Hands on the row that waits, if there is one.
+    fn hand_on(&mut self) -> Result<(), StoreError>
+        ensures same { (self.new.names.now ≡ self.old.names.now) × (self.new.events ≡ self.old.events) }
+        ensures none { OnOk result (self.new.first ≡ None) }
+        ensures taken { OnOk result ((start : T.Meaning) (lines : List Arc)
+            → HasTakenCalls self.old.names.now self.old.events T.step start (T.meaning self.old.taker) self.old.first self.old.costs lines
+            → HasTakenCalls self.old.names.now self.old.events T.step start (T.meaning self.new.taker) self.new.first self.new.costs lines) }
+    {
+        let Some(first) = self.first.take() else {
+            return Ok(());
+        };
+        let costs = mem::replace(&mut self.costs, ListVec::new(self.alloc));
+        let costs = filled(costs, self.events)?;
+        let row = arc_row(&first, self.names, costs)?;
+        self.taker.take(&row)
+    }
+}
 
-    /// What it means.
-    ghost meaning: { Self → Meaning };
+impl<T: TakesCalls> TakesLines for CallLines<'_, T> {
+    ghost use Rattle.std.specs.Prelude.{◌≡◌, ℕ, List};
+    ghost use Rattle.prof_tables.specs.RunLines.{arcs_in};
+    ghost use Rattle.prof_tables.specs.Tables.{NameLine, ArcLine as Arc, arc_columns};
+    ghost use Rattle.prof_tables.proofs.RunLines.{arcs_all};
+    ghost use Rattle.held_runs.specs.HeldArcs.{HasTakenCalls};
+    ghost use Rattle.held_runs.specs.declared.walks.Listed.TheVariants.{Arcs};
 
-    /// What a row of calls makes of a meaning.
-    ghost step: { Meaning → ArcRow (List ℕ) (List ℕ) → Meaning };
+    ghost listed = { Arcs };
 
-    /// Takes a row of calls. An error, out of memory or a sum that would pass its bound, ends the walk; of
-    /// what the taker means then nothing is said, so it is not to be asked any more.
-    fn take(&mut self, row: &ArcRow<&[u8], ListVec<u128>>) -> Result<(), StoreError>
-        ensures { OnOk result (meaning self.new ≡ step (meaning self.old) (plain_given row.now)) };
+    ghost Line = { Arc };
+
+    ghost columns = { arc_columns };
+
+    ghost lines_in = { arcs_in };
+
+    ghost Start = { List NameLine × ℕ × T.Meaning };
+
+    ghost Has = { λ start lines s. (s.names.now ≡ start.0) × (s.events ≡ start.1)
+        × HasTakenCalls start.0 start.1 T.step start.2 (T.meaning s.taker) s.first s.costs lines };
+
+    fn table() -> Listed
+        ensures { result ≡ Arcs }
+    {
+        Listed::Arcs
+    }
+
+    fn take(&mut self, run: u32, row: &Row) -> Result<(), StoreError> {
+        let line = read_arc(run, row)?;
+        if let Some(first) = &self.first
+            && is_part_of(first, &line)
+        {
+            return add_part(&mut self.costs, &line, self.events);
+        }
+        self.hand_on()?;
+        if line.part != 0 {
+            return Err(StoreError::Store);
+        }
+        self.first = Some(line);
+        Ok(())
+    }
+
+    ghost all_read = { arcs_all };
 }
 
 /// Hands on the calls of a run, row by row, with so many events and the names that `names` has: those of
-/// this store. Errors: `Memory`; `Store` for a call of the database that fails, for rows out of form (parts
-/// without their count, parts that do not rise, a cost of 0 or of none of the events) and for a name that is
-/// not held; and those of the taker.
-pub fn each_call<S: Alter, T: TakesCalls>(
+/// this store. What took them all is handed back. Errors: `Memory`; `Store` for a call of the database
+/// that fails, for rows out of form (parts without their count, parts that do not rise, a cost of 0 or of
+/// none of the events) and for a name that is not held; and those of the taker.
+pub fn each_call<S: Alter, T: TakesCalls + Drop>(
     store: &mut Store<S>,
     alloc: Global,
     run: u32,
     names: &HeldNames,
     events: usize,
-    taker: &mut T,
-) -> Result<(), StoreError>
-    ensures told { Told S.Store result store.old store.new (λ t _. names.now ≡ t.names
-        → CallsCameTo T.step run t (T.meaning taker.old) (T.meaning taker.new)) }
+    taker: T,
+) -> Result<T, StoreError>
+    ensures found { OfReady S.Store store.old store.new (IfOk result (λ taken.
+        CallsCameFrom (rows_of S.Store Arcs store.new) run names.now events T.step (T.meaning taker) (T.meaning taken))) }
+    ensures told { Told S.Store result store.old store.new (λ t taken.
+        CallsCameTo names.now events T.step (T.meaning taker) (T.meaning taken) (arcs_in run t)) }
     ensures asks { AsksIfOpen S.Store (is_ok result) store.old store.new }
 {
-    let mut calls = begin_calls(store, alloc, run, names, events);
-    'rows: for _ in 0..u64::MAX {
-        let row = next_call(store, &mut calls)?;
-        match row {
-            Some(row) => taker.take(&row)?,
-            None => return Ok(()),
-        }
-    }
-    Err(StoreError::Store)
+    let mut lines = CallLines {
+        names,
+        alloc,
+        events,
+        first: None,
+        costs: ListVec::new(alloc),
+        taker,
+    };
+    each_line(store, run, &mut lines)?;
+    lines.hand_on()?;
+    let CallLines {
+        names: _,
+        alloc: _,
+        events: _,
+        first: _,
+        costs: _,
+        taker,
+    } = lines;
+    Ok(taker)
 }

@@ -1,67 +1,123 @@
-// Every cell of a run, handed on one at a time.
-ghost use Rattle.std.specs.Prelude.{◌≡◌, OnOk, fold};
+// Every cell of a run, handed on one at a time, with names in place.
+ghost use Rattle.std.specs.Prelude.{◌≡◌, ◌<◌, IfOk, OnOk};
 ghost use Rattle.std.specs.Result.{is_ok};
-ghost use Rattle.sqlite_rules.specs.Lists.{Has};
 ghost use Rattle.cost_rows.specs.Plain.{plain_cell};
-ghost use Rattle.prof_books.specs.Book.{cells_held};
-ghost use Rattle.prof_store.specs.Shown.{shown, Told};
-ghost use Rattle.held_runs.specs.declared.walks.Listed.{Listed};
-ghost use Rattle.held_runs.specs.Walks.{IsReady, AsksIfOpen, Gives};
+ghost use Rattle.prof_books.specs.Book.{cell_held, CellIsNamed};
+ghost use Rattle.prof_tables.specs.RunLines.{cells_in};
+ghost use Rattle.store_columns.specs.Lines.{cell_line};
+ghost use Rattle.prof_store.specs.Shown.{Told};
+ghost use Rattle.held_runs.specs.HeldCells.{CellsCameTo, CellsCameFrom};
+ghost use Rattle.held_runs.specs.declared.walks.Listed.TheVariants.{Cells};
+ghost use Rattle.held_runs.specs.Walks.{rows_of, AsksIfOpen, OfReady};
 
-use crate::cells::cell_row;
+use crate::cell_lines::read_cell;
 use crate::held_names::HeldNames;
-use crate::lines::{begin, next_line};
+use crate::lines::{TakesLines, each_line};
+use crate::takers::TakesCells;
 use crate::walks::Listed;
 use cost_rows::CellRow;
 use prof_store::Store;
-use sqlite::Alter;
+use sqlite::{Alter, Row};
 use store_columns::{CellLine, StoreError};
 
-/// Takes the cells of runs.
-pub trait TakesCells {
-    ghost use Rattle.std.specs.Prelude.{◌≡◌, List, ℕ, OnOk};
-    ghost use Rattle.cost_rows.specs.Plain.{plain_cell};
-    ghost use Rattle.cost_rows.specs.declared.rows.CellRow.{CellRow};
+/// A cell with its names, which have to be held, of one of so many events.
+fn cell_row<'n>(
+    line: &CellLine,
+    names: &'n HeldNames,
+    events: usize,
+) -> Result<CellRow<&'n [u8]>, StoreError>
+    ensures row { IfOk result (λ row. plain_cell row ≡ cell_held names.now (cell_line line.now)) }
+    ensures named { OnOk result (CellIsNamed names.now (cell_line line.now)) }
+    ensures counted { IfOk result (λ row. row.event < events) }
+{
+    let event = line.event as usize;
+    if event >= events {
+        return Err(StoreError::Store);
+    }
+    let object = names.held(line.object)?;
+    let file = names.held(line.file)?;
+    let function = names.held(line.function)?;
+    Ok(CellRow {
+        object,
+        file,
+        function,
+        line: line.line.get(),
+        event,
+        cost: u128::from(line.cost.get()),
+    })
+}
 
-    /// What it can mean.
-    ghost Meaning: { Type 0 };
+/// Takes the lines of cells, and hands on their rows.
+#[derive(Drop)]
+struct CellLines<'n, T> {
+    names: &'n HeldNames,
+    events: usize,
+    taker: T,
+}
 
-    /// What it means.
-    ghost meaning: { Self → Meaning };
+impl<T: TakesCells> TakesLines for CellLines<'_, T> {
+    ghost use Rattle.std.specs.Prelude.{◌≡◌, ℕ, List};
+    ghost use Rattle.prof_tables.specs.RunLines.{cells_in};
+    ghost use Rattle.prof_tables.specs.Tables.{NameLine, CellLine, cell_columns};
+    ghost use Rattle.prof_tables.proofs.RunLines.{cells_all};
+    ghost use Rattle.held_runs.specs.HeldCells.{CellsCameTo};
+    ghost use Rattle.held_runs.specs.declared.walks.Listed.TheVariants.{Cells};
 
-    /// What a cell makes of a meaning.
-    ghost step: { Meaning → CellRow (List ℕ) → Meaning };
+    ghost listed = { Cells };
 
-    /// Takes a cell. An error, out of memory or a sum that would pass its bound, ends the walk; of what
-    /// the taker means then nothing is said, so it is not to be asked any more.
-    fn take(&mut self, row: &CellRow<&[u8]>) -> Result<(), StoreError>
-        ensures { OnOk result (meaning self.new ≡ step (meaning self.old) (plain_cell row.now)) };
+    ghost Line = { CellLine };
+
+    ghost columns = { cell_columns };
+
+    ghost lines_in = { cells_in };
+
+    ghost Start = { List NameLine × ℕ × T.Meaning };
+
+    ghost Has = { λ start lines s. (s.names.now ≡ start.0) × (s.events ≡ start.1)
+        × CellsCameTo start.0 start.1 T.step start.2 (T.meaning s.taker) lines };
+
+    fn table() -> Listed
+        ensures { result ≡ Cells }
+    {
+        Listed::Cells
+    }
+
+    fn take(&mut self, run: u32, row: &Row) -> Result<(), StoreError> {
+        let line = read_cell(run, row)?;
+        let row = cell_row(&line, self.names, self.events)?;
+        self.taker.take(&row)
+    }
+
+    ghost all_read = { cells_all };
 }
 
 /// Hands on the cells of a run, with so many events and the names that `names` has: those of this
-/// store. Errors: `Memory`; `Store` for a call of the database that fails, for rows out of form, for a
-/// name that is not held and for a cell of none of the events; and those of the taker.
-pub fn each_cell<S: Alter, T: TakesCells>(
+/// store. What took them all is handed back. Errors: `Memory`; `Store` for a call of the database that
+/// fails, for rows out of form, for a name that is not held and for a cell of none of the events; and
+/// those of the taker.
+pub fn each_cell<S: Alter, T: TakesCells + Drop>(
     store: &mut Store<S>,
     run: u32,
     names: &HeldNames,
     events: usize,
-    taker: &mut T,
-) -> Result<(), StoreError>
-    ensures told { Told S.Store result store.old store.new (λ t _. names.now ≡ t.names
-        → T.meaning taker.new ≡ fold T.step (T.meaning taker.old) (cells_held run t)) }
+    taker: T,
+) -> Result<T, StoreError>
+    ensures found { OfReady S.Store store.old store.new (IfOk result (λ taken.
+        CellsCameFrom (rows_of S.Store Cells store.new) run names.now events T.step (T.meaning taker) (T.meaning taken))) }
+    ensures told { Told S.Store result store.old store.new (λ t taken.
+        CellsCameTo names.now events T.step (T.meaning taker) (T.meaning taken) (cells_in run t)) }
     ensures asks { AsksIfOpen S.Store (is_ok result) store.old store.new }
 {
-    let mut walk = begin(store, Listed::Cells, run);
-    'cells: for _ in 0..u64::MAX {
-        let line: Option<CellLine> = next_line(store, &mut walk)?;
-        match line {
-            Some(line) => {
-                let row = cell_row(&line, names, events)?;
-                taker.take(&row)?;
-            }
-            None => return Ok(()),
-        }
-    }
-    Err(StoreError::Store)
+    let mut lines = CellLines {
+        names,
+        events,
+        taker,
+    };
+    each_line(store, run, &mut lines)?;
+    let CellLines {
+        names: _,
+        events: _,
+        taker,
+    } = lines;
+    Ok(taker)
 }

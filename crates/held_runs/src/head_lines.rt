@@ -1,7 +1,7 @@
 // The lines of a run that its head is made of.
-ghost use Rattle.std.specs.Prelude.{◌≡◌, map, IfOk, IsPermutation};
+ghost use Rattle.std.specs.Prelude.{map, IsPermutation};
 ghost use Rattle.std.specs.Result.{is_ok};
-ghost use Rattle.held_runs.specs.HeadLines.{first_two, first_three, event_columns, derived_columns, coef_columns};
+ghost use Rattle.held_runs.specs.HeadLines.{event_columns, derived_columns, coef_columns};
 ghost use Rattle.held_runs.specs.HeadLines.{events_in_tables, derived_in_tables, coefs_in_tables, events_in_rows, derived_in_rows, coefs_in_rows};
 ghost use Rattle.prof_store.specs.Shown.{Told, Found};
 ghost use Rattle.prof_store.specs.Shown.{Asks};
@@ -9,7 +9,7 @@ ghost use Rattle.prof_store.specs.Shown.{Asks};
 use prof_store::{Store, select};
 use sqlite::{Alter, Row, params};
 use std::alloc::Global;
-use store_columns::{StoreError, bytes_at, number_at, sum_at, text_or_null_at};
+use store_columns::{FromRow, StoreError, bytes_at, number_at, read_rows, sum_at, text_or_null_at};
 
 /// An event of a run: its place, its name, and the total that the file states, in decimal.
 #[derive(Drop)]
@@ -34,59 +34,56 @@ pub(crate) struct HeadCoef {
     pub times: u64,
 }
 
-fn events_in(alloc: Global, rows: &[Row]) -> Result<Vec<HeadEvent>, StoreError>
-    ensures read { IfOk result (λ lines. map event_columns lines.items ≡ map first_three rows.now) }
-{
-    let mut lines = Vec::new(alloc);
-    'rows: for row in rows {
+impl FromRow for HeadEvent {
+    ghost use Rattle.held_runs.specs.HeadLines.{first_three, event_columns};
+
+    ghost seen = { first_three };
+
+    ghost columns = { event_columns };
+
+    fn from_row(row: &Row) -> Result<HeadEvent, StoreError> {
         let place = number_at(row, 0)?;
         let name = bytes_at(row, 1)?;
         let stated = text_or_null_at(row, 2)?;
-        let line = HeadEvent {
+        Ok(HeadEvent {
             place,
             name,
             stated,
-        };
-        if lines.push(line).is_err() {
-            return Err(StoreError::Memory);
-        }
+        })
     }
-    Ok(lines)
 }
 
-fn derived_in(alloc: Global, rows: &[Row]) -> Result<Vec<HeadDerived>, StoreError>
-    ensures read { IfOk result (λ lines. map derived_columns lines.items ≡ map first_two rows.now) }
-{
-    let mut lines = Vec::new(alloc);
-    'rows: for row in rows {
+impl FromRow for HeadDerived {
+    ghost use Rattle.held_runs.specs.HeadLines.{first_two, derived_columns};
+
+    ghost seen = { first_two };
+
+    ghost columns = { derived_columns };
+
+    fn from_row(row: &Row) -> Result<HeadDerived, StoreError> {
         let place = number_at(row, 0)?;
         let name = bytes_at(row, 1)?;
-        let line = HeadDerived { place, name };
-        if lines.push(line).is_err() {
-            return Err(StoreError::Memory);
-        }
+        Ok(HeadDerived { place, name })
     }
-    Ok(lines)
 }
 
-fn coefs_in(alloc: Global, rows: &[Row]) -> Result<Vec<HeadCoef>, StoreError>
-    ensures read { IfOk result (λ lines. map coef_columns lines.items ≡ map first_three rows.now) }
-{
-    let mut lines = Vec::new(alloc);
-    'rows: for row in rows {
+impl FromRow for HeadCoef {
+    ghost use Rattle.held_runs.specs.HeadLines.{first_three, coef_columns};
+
+    ghost seen = { first_three };
+
+    ghost columns = { coef_columns };
+
+    fn from_row(row: &Row) -> Result<HeadCoef, StoreError> {
         let place = number_at(row, 0)?;
         let event = number_at(row, 1)?;
         let times = sum_at(row, 2)?;
-        let line = HeadCoef {
+        Ok(HeadCoef {
             place,
             event,
             times,
-        };
-        if lines.push(line).is_err() {
-            return Err(StoreError::Memory);
-        }
+        })
     }
-    Ok(lines)
 }
 
 /// The events of a run.
@@ -104,7 +101,7 @@ pub(crate) fn events_of<S: Alter>(
         "SELECT pos, name, stated FROM run_event WHERE run = ?1 ORDER BY pos",
         params![run],
     )?;
-    events_in(alloc, &rows)
+    read_rows(alloc, &rows)
 }
 
 /// The derived events of a run.
@@ -122,7 +119,7 @@ pub(crate) fn derived_of<S: Alter>(
         "SELECT pos, name FROM derived WHERE run = ?1 ORDER BY pos",
         params![run],
     )?;
-    derived_in(alloc, &rows)
+    read_rows(alloc, &rows)
 }
 
 /// The coefficients of the derived events of a run.
@@ -140,5 +137,5 @@ pub(crate) fn coefs_of<S: Alter>(
         "SELECT pos, event, n FROM coef WHERE run = ?1 ORDER BY pos, event",
         params![run],
     )?;
-    coefs_in(alloc, &rows)
+    read_rows(alloc, &rows)
 }

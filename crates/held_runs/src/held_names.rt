@@ -1,6 +1,5 @@
 // The names that are held, with their numbers.
-ghost use Rattle.std.specs.Prelude.{◌≡◌, ◌≢◌, ◌<◌, false, None, [], map, length, get_or, IfOk, IsTrue, IsPermutation, IfSome};
-ghost use Rattle.std.specs.List.{AllAdjacentBelow};
+ghost use Rattle.std.specs.Prelude.{◌≡◌, ◌≢◌, ◌<◌, false, None, [], map, length, get_or, IfOk, IsPermutation, IfSome};
 ghost use Rattle.std.specs.Result.{is_ok};
 ghost use Rattle.sqlite_trees.specs.Tree.{IsAscending};
 ghost use Rattle.prof_books.specs.Book.{name_of, IsHeld};
@@ -13,7 +12,7 @@ use prof_store::{Store, select};
 use sqlite::{Alter, Row};
 use std::alloc::Global;
 use std::marker::Model;
-use store_columns::{StoreError, bytes_at, number_at};
+use store_columns::{FromRow, Rises, StoreError, bytes_at, number_at, read_rising};
 
 /// A name and its number.
 #[derive(Drop)]
@@ -42,37 +41,29 @@ impl Model for HeldNames {
     ghost invariant = { λ h. IsAscending (λ a b. a.number < b.number) h.names.items };
 }
 
-fn read_name(row: &Row) -> Result<HeldName, StoreError>
-    ensures { IfOk result (λ name. name_shown (name_line name) ≡ first_two row.now) }
-{
-    let number = number_at(row, 0)?;
-    let bytes = bytes_at(row, 1)?;
-    Ok(HeldName { number, bytes })
+impl FromRow for HeldName {
+    ghost use Rattle.held_runs.specs.HeadLines.{first_two};
+    ghost use Rattle.held_runs.specs.NameLines.{name_line, name_shown};
+
+    ghost seen = { first_two };
+
+    ghost columns = { λ n. name_shown (name_line n) };
+
+    fn from_row(row: &Row) -> Result<HeldName, StoreError> {
+        let number = number_at(row, 0)?;
+        let bytes = bytes_at(row, 1)?;
+        Ok(HeldName { number, bytes })
+    }
 }
 
-fn read_names(alloc: Global, rows: &[Row]) -> Result<Vec<HeldName>, StoreError>
-    ensures { IfOk result (λ names. map (λ n. name_shown (name_line n)) names.items ≡ map first_two rows.now) }
-{
-    let mut names = Vec::new(alloc);
-    'rows: for row in rows {
-        let name = read_name(row)?;
-        if names.push(name).is_err() {
-            return Err(StoreError::Memory);
-        }
-    }
-    Ok(names)
-}
+impl Rises for HeldName {
+    ghost use Rattle.std.specs.Prelude.{◌<◌};
 
-/// Whether the numbers rise.
-fn rise(names: &[HeldName]) -> bool
-    ensures { IsTrue result → AllAdjacentBelow (λ a b. a.number < b.number) names.now (length names.now) }
-{
-    for k in 1..names.len() {
-        if names[k].number <= names[k - 1].number {
-            return false;
-        }
+    ghost Below = { λ a b. a.number < b.number };
+
+    fn is_below(&self, other: &HeldName) -> bool {
+        self.number < other.number
     }
-    true
 }
 
 /// The names in rows, whose numbers rise.
@@ -80,12 +71,8 @@ fn names_in(alloc: Global, rows: &[Row]) -> Result<HeldNames, StoreError>
     ensures read { IfOk result (λ names. map name_shown names ≡ map first_two rows.now) }
     ensures rising { IfOk result (IsAscending (λ a b. a.number < b.number)) }
 {
-    let names = read_names(alloc, rows)?;
-    if rise(&names) {
-        Ok(HeldNames { names })
-    } else {
-        Err(StoreError::Store)
-    }
+    let names = read_rising(alloc, rows)?;
+    Ok(HeldNames { names })
 }
 
 /// The name at a place, if it has the number.

@@ -4,19 +4,15 @@
 
 // The calls of a run, as they lie in the table (specs/NameLines.antt).
 mod arc_lines;
-// The calls of a run, with names in place (specs/HeldArcs.antt).
-mod arcs;
-// How far a walk over the calls of a run has come, and its next row (specs/HeldArcs.antt).
-mod call_walks;
+// The rows of a run's calls, made of their lines (specs/HeldArcs.antt).
+mod call_rows;
 // The cells of a run, as they lie in the table (specs/NameLines.antt).
 mod cell_lines;
-// The cells of a run, with names in place (specs/HeldCells.antt).
-mod cells;
-// Hands on the calls of a run (specs/HandedCalls.antt).
+// Hands on the calls of a run (specs/HandedCalls.antt, HeldArcs.antt).
 mod handed_calls;
-// Hands on each cell of a run.
+// Hands on each cell of a run (specs/HeldCells.antt).
 mod handed_cells;
-// Hands on each stack of a run.
+// Hands on each stack of a run (specs/HeldStacks.antt).
 mod handed_stacks;
 // The lines of the head of a run.
 mod head_lines;
@@ -26,7 +22,7 @@ mod heads;
 mod heads_held;
 // Names and their numbers (specs/NameLines.antt).
 mod held_names;
-// The lines of a run in one of its tables, one at a time (specs/LineWalks.antt).
+// The lines of a run in one of its tables, one at a time (specs/Walks.antt).
 mod lines;
 // The kind of a run, the baseline of a group.
 mod lookups;
@@ -36,19 +32,17 @@ mod numbers;
 mod own_sums;
 // The stacks of a run, as they lie in the table (specs/NameLines.antt).
 mod stack_lines;
-// The stacks of a run, one at a time (specs/HeldStacks.antt).
-mod stacks;
+// What takes the rows of runs.
+mod takers;
 // Walks over windows of rowids.
 mod walks;
 
-pub use arcs::{Arcs, arcs_of};
-pub use cells::{Cells, cells_of};
-pub use handed_calls::{TakesCalls, each_call};
-pub use handed_cells::{TakesCells, each_cell};
-pub use handed_stacks::{TakesStacks, each_stack};
+pub use handed_calls::each_call;
+pub use handed_cells::each_cell;
+pub use handed_stacks::each_stack;
 pub use heads::head_of;
 pub use held_names::{HeldNames, names_of};
 pub use lookups::{baseline_of, kind_of};
 pub use numbers::{members_of, run_numbers};
 pub use own_sums::sums_of;
-pub use stacks::{Stacks, stacks_of};
+pub use takers::{TakesCalls, TakesCells, TakesStacks};

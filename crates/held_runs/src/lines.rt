@@ -1,39 +1,58 @@
-// The lines of a run in one of its tables, one at a time.
-ghost use Rattle.std.specs.Prelude.{◌≡◌, [], Some, None, IfOk};
+// The lines of a run in one of its tables, handed on one at a time: the one loop that reads rows of runs.
+ghost use Rattle.std.specs.Prelude.{◌≡◌, [], List, OnOk, IfOk};
 ghost use Rattle.std.specs.Result.{is_ok};
-ghost use Rattle.sql_tables.specs.Walks.{read_from};
-ghost use Rattle.prof_store.specs.Shown.{shown};
-ghost use Rattle.held_runs.specs.LineWalks.{IsSameWalk, KeepsError, AnswersAgain};
-ghost use Rattle.held_runs.specs.Walks.{asked, IsReady, AsksIfOpen, Gives, GivesLine};
+ghost use Rattle.prof_store.specs.Shown.{shown, Told};
+ghost use Rattle.held_runs.specs.Walks.{rows_of, IsReady, AreAllRead, AsksIfOpen, Gives, HandsLine, OfReady};
 
 use crate::walks::{Listed, Walk, has_row};
 use prof_store::Store;
 use sqlite::{Alter, Row};
-use std::marker::PhantomData;
 use store_columns::StoreError;
 
-/// What a row is read as, in one of the tables whose rows are lines of runs.
-pub(crate) trait Line: Sized {
+/// Takes the lines of runs in one of the tables whose rows are lines of runs, one at a time.
+pub(crate) trait TakesLines {
+    ghost use Rattle.std.specs.Prelude.{◌≡◌, ◌++◌, ◌∷◌, [], ℕ, List, OnOk};
     ghost use Rattle.sqlite_value.specs.Order.{Row};
+    ghost use Rattle.sqlite_trees.specs.Tree.{Trees};
+    ghost use Rattle.sql_tables.specs.Walks.{read_from};
+    ghost use Rattle.prof_tables.specs.Tables.{Tables, Holds};
     ghost use Rattle.held_runs.specs.declared.walks.Listed.{Listed};
+    ghost use Rattle.held_runs.specs.Walks.{asked, tree_of, AreAllRead};
 
     /// The table that the rows stand in.
     ghost listed: { Listed };
 
+    /// A line of the table.
+    ghost Line: { Type 0 };
+
     /// The columns of a row that says this.
-    ghost columns: { Self → Row };
+    ghost columns: { Line → Row };
+
+    /// The lines of a run in the tables.
+    ghost lines_in: { ℕ → Tables → List Line };
+
+    /// What it can begin with.
+    ghost Start: { Type 0 };
+
+    /// It began with this, and has taken these lines.
+    ghost Has: { Start → List Line → Self → Type 0 };
 
     /// The table that the rows stand in.
     fn table() -> Listed
         ensures { result ≡ listed };
 
-    /// Reads a row of a page, behind its rowid.
-    fn read(run: u32, row: &Row) -> Result<Self, StoreError>
-        ensures { IfOk result (λ line. columns line ≡ read_from (asked listed run) row.now) };
+    /// Takes the line that a row of a page says, behind its rowid. An error ends the walk.
+    fn take(&mut self, run: u32, row: &Row) -> Result<(), StoreError>
+        ensures { OnOk result ((start : Start) (lines : List Line) → Has start lines self.old
+            → (line : Line) × (columns line ≡ read_from (asked listed run) row.now) × Has start (lines ++ line ∷ []) self.new) };
+
+    /// All lines that were read of a run are those in the tables.
+    ghost all_read: { (run : ℕ) (t : Tables) (db : Trees) → Holds t db → (lines : List Line)
+        → AreAllRead listed columns run (db (tree_of listed)) lines → lines_in run t ≡ lines };
 }
 
 /// A walk over the lines of a run in a table, which has given nothing.
-pub(crate) fn begin<S: Alter>(store: &mut Store<S>, table: Listed, run: u32) -> Walk
+fn begin<S: Alter>(store: &mut Store<S>, table: Listed, run: u32) -> Walk
     ensures run { result.run ≡ run }
     ensures ready { IsReady (shown S.Store store.old) → Gives S.Store table [] store.new result }
     ensures untouched { store.new.conn ≡ store.old.conn }
@@ -42,82 +61,46 @@ pub(crate) fn begin<S: Alter>(store: &mut Store<S>, table: Listed, run: u32) -> 
     Walk::over(table, run)
 }
 
-/// The next line of a walk.
-pub(crate) fn next_line<S: Alter, L: Line>(
+/// Hands on the next line, if there is one.
+fn hand_line<S: Alter, T: TakesLines>(
     store: &mut Store<S>,
     walk: &mut Walk,
-) -> Result<Option<L>, StoreError>
+    taker: &mut T,
+) -> Result<bool, StoreError>
     ensures run { walk.new.run ≡ walk.old.run }
-    ensures given { GivesLine S.Store L.listed L.columns store.old walk.old store.new walk.new result }
+    ensures handed { (start : T.Start) → HandsLine S.Store T.listed T.columns (T.Has start) taker.old taker.new store.old walk.old store.new walk.new result }
     ensures asks { AsksIfOpen S.Store (is_ok result) store.old store.new }
 {
     if !has_row(store, walk)? {
-        return Ok(None);
+        return Ok(false);
     }
     match store.page.get(walk.at) {
         Some(row) => {
-            let line = L::read(walk.run, row)?;
+            taker.take(walk.run, row)?;
             walk.at += 1;
-            Ok(Some(line))
+            Ok(true)
         }
         None => Err(StoreError::Store),
     }
 }
 
-/// The lines of a run, read one at a time. An error ends the walk, and is answered again at each
-/// later call.
-pub(crate) struct Lines<'a, S: Alter, L: Line> {
-    pub store: &'a mut Store<S>,
-    pub walk: Walk,
-    /// The error that ended the walk.
-    pub failed: Option<StoreError>,
-    /// What a row is read as.
-    pub of: PhantomData<L>,
-}
-
-impl<'a, S: Alter, L: Line> Lines<'a, S, L> {
-    /// The lines of a run. The value borrows the store until it is dropped.
-    pub fn of_run(store: &'a mut Store<S>, run: u32) -> Lines<'a, S, L>
-        ensures same_reference { result.store.ghost_name ≡ store.entry.ghost_name }
-        ensures run { result.walk.run ≡ run }
-        ensures ready { IsReady (shown S.Store store.old) → Gives S.Store L.listed [] result.store.now result.walk }
-        ensures failed { result.failed ≡ None }
-        ensures untouched { result.store.now.conn ≡ store.old.conn }
-    {
-        let walk = begin(store, L::table(), run);
-        Lines {
-            store,
-            walk,
-            failed: None,
-            of: PhantomData,
+/// Hands on the lines of a run, in the order of their rows.
+pub(crate) fn each_line<S: Alter, T: TakesLines>(
+    store: &mut Store<S>,
+    run: u32,
+    taker: &mut T,
+) -> Result<(), StoreError>
+    ensures found { OfReady S.Store store.old store.new (OnOk result ((start : T.Start) → T.Has start [] taker.old
+        → (lines : List T.Line) × AreAllRead T.listed T.columns run (rows_of S.Store T.listed store.new) lines × T.Has start lines taker.new)) }
+    ensures told { Told S.Store result store.old store.new (λ t _. (start : T.Start) → T.Has start [] taker.old
+        → T.Has start (T.lines_in run t) taker.new) }
+    ensures asks { AsksIfOpen S.Store (is_ok result) store.old store.new }
+{
+    let mut walk = begin(store, T::table(), run);
+    'lines: for _ in 0..u64::MAX {
+        if !hand_line(store, &mut walk, taker)? {
+            return Ok(());
         }
     }
-
-    /// The next line, or `None` behind the last one.
-    pub fn next(&mut self) -> Result<Option<L>, StoreError>
-        ensures same { IsSameWalk self.old self.new }
-        ensures failed { KeepsError self.old.failed self.new.failed result }
-        ensures again { AnswersAgain self.old.failed self.old.store.now self.new.store.now result }
-        ensures given { GivesLine S.Store L.listed L.columns self.old.store.now self.old.walk self.new.store.now self.new.walk result }
-        ensures asks { AsksIfOpen S.Store (is_ok result) self.old.store.now self.new.store.now }
-    {
-        if let Some(end) = self.failed {
-            return Err(end);
-        }
-        match next_line(self.store, &mut self.walk) {
-            Ok(line) => Ok(line),
-            Err(end) => Err(self.end(end)),
-        }
-    }
-
-    /// Ends the walk with this error, which what reads the lines may meet too.
-    pub fn end(&mut self, end: StoreError) -> StoreError
-        ensures end { result ≡ end }
-        ensures failed { self.new.failed ≡ Some end }
-        ensures store { self.new.store ≡ self.old.store }
-        ensures walk { self.new.walk ≡ self.old.walk }
-    {
-        self.failed = Some(end);
-        end
-    }
+    Err(StoreError::Store)
 }

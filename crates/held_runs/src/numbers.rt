@@ -1,6 +1,5 @@
 // The numbers of runs: of all, and of the members of a group.
-ghost use Rattle.std.specs.Prelude.{◌≡◌, ◌<◌, [], map, length, IfOk, IsTrue, IsPermutation};
-ghost use Rattle.std.specs.List.{AllAdjacentBelow};
+ghost use Rattle.std.specs.Prelude.{◌≡◌, ◌<◌, [], map, IfOk, IsPermutation};
 ghost use Rattle.std.specs.Result.{is_ok};
 ghost use Rattle.sqlite_trees.specs.Tree.{IsAscending};
 ghost use Rattle.held_runs.specs.RunNumbers.{first_one, number_shown, numbers_in_tables, numbers_in_rows, members_in_tables, members_in_rows};
@@ -11,44 +10,15 @@ use cg_text::ListVec;
 use prof_store::{Store, select};
 use sqlite::{Alter, Row, params};
 use std::alloc::Global;
-use store_columns::{StoreError, number_at};
-
-fn read_numbers(alloc: Global, rows: &[Row]) -> Result<ListVec<u32>, StoreError>
-    ensures read { IfOk result (λ numbers. map number_shown numbers ≡ map first_one rows.now) }
-{
-    let mut numbers = ListVec::new(alloc);
-    'rows: for row in rows {
-        let number = number_at(row, 0)?;
-        if numbers.push(number).is_err() {
-            return Err(StoreError::Memory);
-        }
-    }
-    Ok(numbers)
-}
-
-/// Whether numbers rise.
-fn rise(numbers: &[u32]) -> bool
-    ensures { IsTrue result → AllAdjacentBelow (λ a b. a < b) numbers.now (length numbers.now) }
-{
-    for k in 1..numbers.len() {
-        if numbers[k] <= numbers[k - 1] {
-            return false;
-        }
-    }
-    true
-}
+use store_columns::{StoreError, read_rising};
 
 /// The numbers in rows, of which none comes twice.
 fn numbers_in(alloc: Global, rows: &[Row]) -> Result<ListVec<u32>, StoreError>
     ensures read { IfOk result (λ numbers. map number_shown numbers ≡ map first_one rows.now) }
     ensures rising { IfOk result (IsAscending (λ a b. a < b)) }
 {
-    let numbers = read_numbers(alloc, rows)?;
-    if rise(numbers.as_slice()) {
-        Ok(numbers)
-    } else {
-        Err(StoreError::Store)
-    }
+    let numbers = read_rising(alloc, rows)?;
+    Ok(ListVec::from_vec(numbers))
 }
 
 /// The numbers of all runs, rising.

@@ -1,26 +1,18 @@
 // The stacks of a run, as they lie in the table.
+ghost use Rattle.std.specs.Prelude.{◌≡◌, IfOk};
+ghost use Rattle.sql_tables.specs.Walks.{read_from};
+ghost use Rattle.prof_tables.specs.Tables.{stack_columns};
+ghost use Rattle.prof_tables.specs.WalkTexts.{stacks_of};
+ghost use Rattle.store_columns.specs.Lines.{held_stack};
 
-use crate::lines::Line;
-use crate::walks::Listed;
 use sqlite::Row;
 use store_columns::{HeldStack, StoreError, bytes_at, whole_at};
 
-impl Line for HeldStack {
-    ghost use Rattle.prof_tables.specs.Tables.{stack_columns};
-    ghost use Rattle.store_columns.specs.Lines.{held_stack};
-    ghost use Rattle.held_runs.specs.declared.walks.Listed.TheVariants.{Stacks};
-
-    ghost listed = { Stacks };
-
-    ghost columns = { λ line. stack_columns (held_stack line) };
-
-    fn table() -> Listed {
-        Listed::Stacks
-    }
-
-    fn read(run: u32, row: &Row) -> Result<HeldStack, StoreError> {
-        let frames = bytes_at(row, 1)?;
-        let count = whole_at(row, 2)?;
-        Ok(HeldStack { run, frames, count })
-    }
+/// Reads a row of a page, behind its rowid.
+pub(crate) fn read_stack(run: u32, row: &Row) -> Result<HeldStack, StoreError>
+    ensures { IfOk result (λ line. stack_columns (held_stack line) ≡ read_from (stacks_of run) row.now) }
+{
+    let frames = bytes_at(row, 1)?;
+    let count = whole_at(row, 2)?;
+    Ok(HeldStack { run, frames, count })
 }

@@ -42,9 +42,9 @@ fn add_run<'n, S: Alter>(
     ensures asks { AsksIfOpen S.Store (is_ok result) store.old store.new }
 {
     let counts = counts_of(run);
-    let mut rows = CallRows { counts, calls };
-    each_call(store, alloc, run.number, names, run.events, &mut rows)?;
-    let CallRows { counts: _, calls } = rows;
+    let rows = CallRows { counts, calls };
+    let all = each_call(store, alloc, run.number, names, run.events, rows)?;
+    let CallRows { counts: _, calls } = all;
     Ok(calls)
 }
 

@@ -33,10 +33,10 @@ fn add_callgrind<S: Alter>(
         → Adds (AreRowsOfKind Callgrind t run.now.number counts.now) sums all) }
     ensures asks { AsksIfOpen S.Store (is_ok result) store.old store.new }
 {
-    let mut rows = InclusiveRows { counts, sums };
-    each_cell(store, run.number, names, run.events, &mut rows)?;
-    each_call(store, alloc, run.number, names, run.events, &mut rows)?;
-    let InclusiveRows { counts: _, sums } = rows;
+    let rows = InclusiveRows { counts, sums };
+    let own = each_cell(store, run.number, names, run.events, rows)?;
+    let all = each_call(store, alloc, run.number, names, run.events, own)?;
+    let InclusiveRows { counts: _, sums } = all;
     Ok(sums)
 }
 
@@ -50,9 +50,9 @@ fn add_folded<S: Alter>(
     ensures told { Told S.Store result store.old store.new (λ t all. Adds (AreRowsOfKind Folded t run.now.number counts.now) sums all) }
     ensures asks { AsksIfOpen S.Store (is_ok result) store.old store.new }
 {
-    let mut rows = InclusiveRows { counts, sums };
-    each_stack(store, run.number, &mut rows)?;
-    let InclusiveRows { counts: _, sums } = rows;
+    let rows = InclusiveRows { counts, sums };
+    let all = each_stack(store, run.number, rows)?;
+    let InclusiveRows { counts: _, sums } = all;
     Ok(sums)
 }
 

@@ -69,14 +69,14 @@ fn is_in_run<S: Alter>(
     ensures told { Told S.Store result store.old store.new (λ t found. names.now ≡ t.names → found ≡ is_in_rows t (function_spot object.now name.now) run.now) }
     ensures asks { AsksIfOpen S.Store (is_ok result) store.old store.new }
 {
-    let mut sought = Sought {
+    let sought = Sought {
         object,
         name,
         found: false,
     };
-    each_cell(store, run.number, names, run.events, &mut sought)?;
-    each_stack(store, run.number, &mut sought)?;
-    Ok(sought.found)
+    let cells = each_cell(store, run.number, names, run.events, sought)?;
+    let all = each_stack(store, run.number, cells)?;
+    Ok(all.found)
 }
 
 /// Whether a function has own costs in one of some runs, or a frame in a stack.

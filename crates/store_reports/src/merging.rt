@@ -25,8 +25,8 @@ fn add_cells<S: Alter>(
     ensures told { Told S.Store result store.old store.new (λ t sums. names.now ≡ t.names → sums ≡ merged_with t number counts.now merged) }
     ensures asks { AsksIfOpen S.Store (is_ok result) store.old store.new }
 {
-    let mut sums = EventSums { counts, merged };
-    each_cell(store, number, names, counts.len(), &mut sums)?;
+    let sums = EventSums { counts, merged };
+    let sums = each_cell(store, number, names, counts.len(), sums)?;
     let EventSums { counts: _, merged } = sums;
     Ok(merged)
 }

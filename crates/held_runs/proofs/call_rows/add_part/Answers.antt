@@ -1,7 +1,7 @@
 use Rattle.std.proofs.Common.{◌≡◌, ◌≤◌, ◌-◌, ◌∙◌, length, ap, arith}
 use Rattle.held_runs.specs.HeldArcs.{lines_from}
 use Rattle.held_runs.proofs.ArcRows.{part_more}
-use Rattle.held_runs.proofs.call_walks.add_part.Goals as goal
+use Rattle.held_runs.proofs.call_rows.add_part.Goals as goal
 
 pub returns-in-Ok-clause-lines : goal.returns-in-Ok-clause-lines
 returns-in-Ok-clause-lines c first =

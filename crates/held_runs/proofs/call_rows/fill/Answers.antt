@@ -2,7 +2,7 @@ use Rattle.std.proofs.Common.{◌≡◌, ◌∙◌, ◌+◌, [], ◌∷◌, fals
 use Rattle.std.specs.Result.{is_err}
 use Rattle.held_runs.specs.HeldArcs.{lines_from}
 use Rattle.held_runs.proofs.ArcRows.{zero_more}
-use Rattle.held_runs.proofs.call_walks.fill.Goals as goal
+use Rattle.held_runs.proofs.call_rows.fill.Goals as goal
 
 no_err : {T E : Type 0} {P : Type 0} (r : Result T E) → is_err r ≡ false → OnOk r P → P
 no_err (Ok x) is p = p

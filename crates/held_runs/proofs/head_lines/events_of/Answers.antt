@@ -13,16 +13,16 @@ use Rattle.held_runs.proofs.head_lines.events_of.Goals as goal
 pub returns-clause-told : goal.returns-clause-told
 returns-clause-told g c clean t was =
     let p = events_listed c.args.run _ _ c.in_ok-rows.rows.items was.schema_is (rw c.params-to_sql.ensures at (c.in_ok-rows.ensures.rows clean)) in
-    if_ok_then c.events_in.result c.events_in.ensures.read (λ lines is.
+    if_ok_then c.read_rows.result c.read_rows.ensures (λ lines is.
     subst (λ l. IsPermutation l (map event_columns lines.items)) (events_are t _ was.holds c.args.run) (read_permutes event_seen first_three event_columns (λ r. refl) _ c.in_ok-rows.rows.items lines.items p (is ∙ ap (map first_three) c.deref.ensures.value)))
 
 pub returns-clause-found : goal.returns-clause-found
 returns-clause-found g c clean has =
     let p = events_listed c.args.run _ _ c.in_ok-rows.rows.items has (rw c.params-to_sql.ensures at (c.in_ok-rows.ensures.rows clean)) in
-    if_ok_then c.events_in.result c.events_in.ensures.read (λ lines is. read_permutes event_seen first_three event_columns (λ r. refl) _ c.in_ok-rows.rows.items lines.items p (is ∙ ap (map first_three) c.deref.ensures.value))
+    if_ok_then c.read_rows.result c.read_rows.ensures (λ lines is. read_permutes event_seen first_three event_columns (λ r. refl) _ c.in_ok-rows.rows.items lines.items p (is ∙ ap (map first_three) c.deref.ensures.value))
 
 pub returns-clause-asks : goal.returns-clause-asks
-returns-clause-asks g c clean = asked_if schema_one (is_ok c.events_in.result) _ _ (c.in_ok-rows.ensures.asked clean events_of_plain)
+returns-clause-asks g c clean = asked_if schema_one (is_ok c.read_rows.result) _ _ (c.in_ok-rows.ensures.asked clean events_of_plain)
 
 pub returns-in_err-rows-clause-asks : goal.returns-in_err-rows-clause-asks
 returns-in_err-rows-clause-asks g c clean = asked_err schema_one c.from_residual.result _ _ c.from_residual.ensures.0 (c.in_err-rows.ensures.asked clean events_of_plain)

@@ -7,4 +7,4 @@ use Rattle.store_reports.proofs.including.add_folded.Goals as goal
 pub returns-clause-told : goal.returns-clause-told
 returns-clause-told g c clean t stands =
     let stacks = stacks_held c.args.run.now.number t in
-    (map OfStack stacks, refl, ap (λ m. m.1) (c.in_ok-each_stack.ensures.told clean t stands ∙ stacks_taken c.args.counts.now c.args.sums stacks))
+    (map OfStack stacks, refl, ap (λ m. m.1) (c.in_ok-all.ensures.told clean t stands ∙ stacks_taken c.args.counts.now c.args.sums stacks))

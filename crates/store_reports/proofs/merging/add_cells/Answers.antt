@@ -1,7 +1,10 @@
 use Rattle.std.proofs.Common.{ap, ◌∙◌}
+use Rattle.held_runs.proofs.RowSteps.{cells_come}
 use Rattle.prof_books.specs.Book.{cells_held}
 use Rattle.store_reports.proofs.MergeLemmas.{cells_taken}
 use Rattle.store_reports.proofs.merging.add_cells.Goals as goal
 
 pub returns-clause-told : goal.returns-clause-told
-returns-clause-told g c clean t stands named = ap (λ m. m.1) (c.in_ok-each_cell.ensures.told clean t stands named ∙ cells_taken c.args.counts.now c.args.merged (cells_held c.args.number t))
+returns-clause-told g c clean t stands named =
+    let number = c.args.number in
+    ap (λ m. m.1) (cells_come _ _ _ _ number t _ (c.in_ok-sums.ensures.told clean t stands) named ∙ cells_taken c.args.counts.now c.args.merged (cells_held number t))
