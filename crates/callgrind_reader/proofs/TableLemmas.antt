@@ -1,10 +1,11 @@
 -- A table of names that goes on by one.
-use Rattle.std.proofs.Common.{◌≡◌, rules, ℕ, ◌<◌, ◌≤◌, zero, suc, ◌==◌, Bool, true, false, cond, if◌then◌else◌, List, [], ◌∷◌, ◌++◌, length, Option, Some, None, Result, Ok, Err, OnOk, OnErr, unwrap_or, refl, sym, ap, ◌∙◌, arith}
+use Rattle.std.proofs.Common.{◌≡◌, ◌⊎◌, inl, inr, rules, ℕ, ◌+◌, ◌<◌, ◌≤◌, nat_lt, zero, suc, ◌==◌, Bool, true, false, cond, if◌then◌else◌, List, [], ◌∷◌, ◌++◌, length, Option, Some, None, Result, Ok, Err, OnOk, OnErr, unwrap_or, refl, sym, ap, ◌∙◌, arith}
 use Rattle.std.specs.List.{slice_get}
 use Rattle.std.specs.Ordering.{nat_cmp, is_eq}
 use Rattle.std.specs.BTreeMap.{BTreeMap, IsUnchanged, Updates, get, is_at}
 use Rattle.callgrind_reader.specs.Inside.{AreInside, IsInside}
-use Rattle.callgrind_reader.specs.Table.{name_among}
+use Rattle.callgrind_reader.specs.Table.{name_among, place_among}
+use Rattle.std.proofs.lemmas.Bool.{cases_Bool, cases_order, cond-true, cond-false, ltb-true, lt-ltb, le-ltb, eq-eqb, ne_eqb}
 
 -- ---- lists
 
@@ -55,3 +56,73 @@ pub means-after : (old new : BTreeMap ℕ ℕ) (names : List (List ℕ)) (name :
 means-after old new names name id place q inside last updates =
     ap (name_among (names ++ name ∷ [])) (updates.0 q ∙ ap (λ b. cond b (Some place) (get nat_cmp old q)) (same-id id q))
     ∙ among-cond (id == q) names name place (get nat_cmp old q) last (inside q)
+
+-- ---- identifiers in a row
+
+pub place-inside : (in_row count : ℕ) (others : ℕ → Option ℕ) (q : ℕ) → in_row ≤ count → AreInside others count → IsInside count (place_among in_row others q)
+place-inside in_row count others zero few inside = inside zero
+place-inside in_row count others (suc before) few inside = elim (cases_Bool (nat_lt before in_row)) [
+  | inl here ↦ λ at is. let same : before ≡ at = ap (λ o. unwrap_or o 0) (sym (cond-true (nat_lt before in_row) (Some before) (others (suc before)) here) ∙ is) in let below = ltb-true before in_row here in omega arith
+  | inr further ↦ λ at is. inside (suc before) at (sym (cond-false (nat_lt before in_row) (Some before) (others (suc before)) further) ∙ is)
+]
+
+-- one that is in the row
+pub place-in_row : (in_row before id : ℕ) (others : ℕ → Option ℕ) → id ≡ before + 1 → before < in_row → place_among in_row others id ≡ Some before
+place-in_row in_row before zero others e below = absurd (omega arith)
+place-in_row in_row before (suc k) others e below = let same : k ≡ before = omega arith in cond-true (nat_lt k in_row) (Some k) (others (suc k)) (lt-ltb k in_row (omega arith)) ∙ ap Some same
+
+-- one that is not
+pub place-other : (in_row id : ℕ) (others : ℕ → Option ℕ) → ((before : ℕ) → id ≡ before + 1 → in_row ≤ before) → place_among in_row others id ≡ others id
+place-other in_row zero others further = refl
+place-other in_row (suc k) others further = cond-false (nat_lt k in_row) (Some k) (others (suc k)) (le-ltb k in_row (further k (omega arith)))
+
+-- the next of the row comes to stand at the end
+pub means-next : (in_row id q : ℕ) (others : ℕ → Option ℕ) (names : List (List ℕ)) (name : List ℕ) → in_row ≡ length names → id ≡ in_row + 1 → AreInside others (length names)
+    → name_among (names ++ name ∷ []) (place_among id others q) ≡ (if id == q then Some name else name_among names (place_among in_row others q))
+means-next in_row id q others names name full next inside = elim (cases_order id q) [
+  | inl same ↦
+      ap (name_among (names ++ name ∷ [])) (place-in_row id in_row q others (omega arith) (omega arith)) ∙ get-last names name in_row full
+      ∙ sym (cond-true (id == q) (Some name) (name_among names (place_among in_row others q)) (eq-eqb id q same))
+  | inr other ↦
+      ap (name_among (names ++ name ∷ [])) (as_before q other)
+      ∙ among-front names name (place_among in_row others q) (place-inside in_row (length names) others q (omega arith) inside)
+      ∙ sym (cond-false (id == q) (Some name) (name_among names (place_among in_row others q)) (ne_eqb id q (λ e. apart other e)))
+]
+  where
+    apart : {k : ℕ} → ((id < k) ⊎ (k < id)) → id ≡ k → ⊥
+    apart other e = elim other [ inl below ↦ absurd (omega arith) | inr above ↦ absurd (omega arith) ]
+
+    as_before : (q : ℕ) → ((id < q) ⊎ (q < id)) → place_among id others q ≡ place_among in_row others q
+    as_before zero other = refl
+    as_before (suc k) other = elim other [
+      | inl below ↦ cond-false (nat_lt k id) (Some k) (others (suc k)) (le-ltb k id (omega arith)) ∙ sym (cond-false (nat_lt k in_row) (Some k) (others (suc k)) (le-ltb k in_row (omega arith)))
+      | inr above ↦ cond-true (nat_lt k id) (Some k) (others (suc k)) (lt-ltb k id (omega arith)) ∙ sym (cond-true (nat_lt k in_row) (Some k) (others (suc k)) (lt-ltb k in_row (omega arith)))
+    ]
+
+-- and any other identifier without a name is put among the others
+pub means-other : (in_row id place q : ℕ) (old new : BTreeMap ℕ ℕ) (names : List (List ℕ)) (name : List ℕ) → in_row ≤ length names → place ≡ length names → AreInside (get nat_cmp old) (length names)
+    → name_among names (place_among in_row (get nat_cmp old) id) ≡ None → Updates nat_cmp old new id (Some place)
+    → name_among (names ++ name ∷ []) (place_among in_row (get nat_cmp new) q) ≡ (if id == q then Some name else name_among names (place_among in_row (get nat_cmp old) q))
+means-other in_row id place zero old new names name few last inside none updates = means-after old new names name id place zero inside last updates
+means-other in_row id place (suc k) old new names name few last inside none updates = elim (cases_Bool (nat_lt k in_row)) [
+  | inl here ↦
+      let below = ltb-true k in_row here in
+      ap (name_among (names ++ name ∷ [])) (cond-true (nat_lt k in_row) (Some k) (get nat_cmp new (suc k)) here)
+      ∙ get-front names (name ∷ []) k (omega arith)
+      ∙ ap (name_among names) (sym (cond-true (nat_lt k in_row) (Some k) (get nat_cmp old (suc k)) here))
+      ∙ sym (cond-false (id == suc k) (Some name) (name_among names (place_among in_row (get nat_cmp old) (suc k))) (ne_eqb id (suc k) (λ e. named k here (sym (ap (λ i. name_among names (place_among in_row (get nat_cmp old) i)) e) ∙ none))))
+  | inr further ↦
+      ap (name_among (names ++ name ∷ [])) (cond-false (nat_lt k in_row) (Some k) (get nat_cmp new (suc k)) further)
+      ∙ means-after old new names name id place (suc k) inside last updates
+      ∙ ap (λ o. if id == suc k then Some name else name_among names o) (sym (cond-false (nat_lt k in_row) (Some k) (get nat_cmp old (suc k)) further))
+]
+  where
+    there : (names : List (List ℕ)) (n : ℕ) → n < length names → slice_get names n ≡ None → ⊥
+    there [] n below is = absurd (omega arith)
+    there (first ∷ names) zero below is = absurd (cc)
+    there (first ∷ names) (suc n) below is = there names n (omega arith) is
+
+    named : (k : ℕ) → nat_lt k in_row ≡ true → name_among names (place_among in_row (get nat_cmp old) (suc k)) ≡ None → ⊥
+    named k here is =
+        let below = ltb-true k in_row here in
+        there names k (omega arith) (ap (name_among names) (sym (cond-true (nat_lt k in_row) (Some k) (get nat_cmp old (suc k)) here)) ∙ is)

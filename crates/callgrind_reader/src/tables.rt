@@ -8,14 +8,17 @@ use cg_text::ListVec;
 use std::alloc::{AllocError, Global};
 use std::collections::BTreeMap;
 
-/// The names that identifiers mean, each held once: a name is known by its place among them. An
-/// ordered map finds the places: no file can choose identifiers that collide.
+/// The names that identifiers mean, each held once: a name is known by its place among them. The first
+/// so many have the identifiers 1, 2 and so on, as Callgrind numbers them, and need no search. An
+/// ordered map finds the places of the others: no file can choose identifiers that collide.
 #[derive(Drop)]
 pub struct NameTable {
     alloc: Global,
+    in_row: u64,
     places: BTreeMap<u64, usize>,
     names: Vec<ListVec<u8>>,
     ghost inside: { AreInside (get nat_cmp places) (vec_len names) },
+    ghost row: { in_row ≤ vec_len names },
 }
 
 impl NameTable {
@@ -27,6 +30,7 @@ impl NameTable {
     {
         NameTable {
             alloc,
+            in_row: 0,
             places: BTreeMap::new(alloc),
             names: Vec::new(alloc),
         }
@@ -37,7 +41,10 @@ impl NameTable {
         ensures name { name_at self.now result ≡ text_at self.now id }
         ensures inside { IsInside (names_in self.now) result }
     {
-        self.places.get(&id).copied()
+        match id.checked_sub(1) {
+            Some(before) if before < self.in_row => Some(before as usize),
+            _ => self.places.get(&id).copied(),
+        }
     }
 
     /// The name at a place.
@@ -50,12 +57,17 @@ impl NameTable {
 
     /// Gives a name to an identifier that has none, and answers its place.
     pub fn define(&mut self, id: u64, text: &[u8]) -> Result<usize, AllocError>
+        requires { text_at self.old id ≡ None }
         ensures defines { IfOk result (Defines id text.now self.old self.new) }
         ensures grows { names_in self.old ≤ names_in self.new }
     {
         let text = text.to_vec(self.alloc)?;
         let place = self.names.len();
         self.names.push(ListVec::from_vec(text))?;
+        if self.in_row == place as u64 && id == self.in_row + 1 {
+            self.in_row = id;
+            return Ok(place);
+        }
         self.places.insert(id, place)?;
         Ok(place)
     }
