@@ -29,7 +29,7 @@ use Rattle.histories.specs.declared.limits.Limits.{Limits}
 
 -- ---- files and commands
 
-abbrev standard : Limits
+abbrev pub standard : Limits
 standard = record {
   bytes = 2 ^ 30;
   runs = 1000000;

@@ -19,7 +19,7 @@ use Rattle.histories.specs.declared.answers.Answer.TheVariants.{Run, Text, Refus
 use Rattle.histories.specs.declared.answers.Query.TheVariants as queries
 use Rattle.histories.specs.declared.answers.Refusal.TheVariants as reasons
 use Rattle.histories.specs.declared.answers.Selection.TheVariants as selections
-use Rattle.histories.specs.declared.limits.Limits.{Limits}
+use Rattle.histories.proofs.Examples.{standard}
 
 abbrev imported : ℕ → Kind → List ℕ → Turn
 imported n kind bytes = record { said = Import kind (codes "a") (Gave bytes ∷ Gave [] ∷ []); answer = Run n }
@@ -52,9 +52,6 @@ unfolding digits reading_of line_text kind_of name_of number_of amount_of subpos
 no_source_of_this_name = refl
 
 -- by what the reads of the source came to
-abbrev standard : Limits
-standard = record { bytes = 1073741824; runs = 1000000; groups = 100000; numbers = 2147483648 }
-
 source_that_has_ended : expected_answer standard (imported 1 Callgrind line_zero ∷ []) (Annotate selections.All (codes "Ir") (codes "a.c") (Gave (codes "int") ∷ Gave (codes " x;") ∷ Gave [] ∷ []))
     ≡ Some (Text (codes "annotate a.c Ir\n7 total\n2 1: int x;\n5 (outside)\n"))
 unfolding digits reading_of line_text kind_of name_of number_of amount_of subpos_of

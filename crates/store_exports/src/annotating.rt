@@ -38,12 +38,12 @@ fn add_run<S: Alter>(
     ensures told { Told S.Store result store.old store.new (λ t all. names.now ≡ t.names → all ≡ lines_from t sums run.now) }
     ensures asks { AsksIfOpen S.Store (is_ok result) store.old store.new }
 {
-    let mut rows = LineRows {
+    let rows = LineRows {
         counts: counts_of(run),
         sums,
     };
-    each_cell(store, run.number, names, run.events, &mut rows)?;
-    let LineRows { counts: _, sums } = rows;
+    let all = each_cell(store, run.number, names, run.events, rows)?;
+    let LineRows { counts: _, sums } = all;
     Ok(sums)
 }
 

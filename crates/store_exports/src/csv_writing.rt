@@ -30,9 +30,9 @@ fn add_run<S: Alter>(
 {
     let head = head_of(store, alloc, number)?;
     let events = head.events.as_slice();
-    let mut rows = NamedRows { events, sums };
-    each_cell(store, number, names, events.len(), &mut rows)?;
-    let NamedRows { events: _, sums } = rows;
+    let rows = NamedRows { events, sums };
+    let all = each_cell(store, number, names, events.len(), rows)?;
+    let NamedRows { events: _, sums } = all;
     Ok(sums)
 }
 

@@ -31,7 +31,7 @@ fn add_runs<S: Alter>(
         sums: StackSums::new(alloc),
     };
     for number in numbers {
-        each_stack(store, *number, &mut rows)?;
+        rows = each_stack(store, *number, rows)?;
     }
     Ok(rows.sums)
 }

@@ -1,12 +1,14 @@
 use Rattle.std.proofs.Common.{map, fold, ap, ◌∙◌}
 use Rattle.cost_exports.specs.Annotations.{with_line}
 use Rattle.cost_reports.specs.Costs.{weighted}
+use Rattle.held_runs.proofs.RowSteps.{cells_come}
 use Rattle.prof_books.specs.Book.{cells_held}
 use Rattle.store_exports.proofs.AnnotateLemmas.{lines_taken}
 use Rattle.store_exports.proofs.annotating.add_run.Goals as goal
 
 pub returns-clause-told : goal.returns-clause-told
 returns-clause-told g c clean t stands named =
-    let cells = cells_held c.args.run.now.number t in
-    ap (λ m. m.1) (c.in_ok-each_cell.ensures.told clean t stands named ∙ lines_taken c.counts_of.result.now c.args.sums cells)
+    let number = c.args.run.now.number in
+    let cells = cells_held number t in
+    ap (λ m. m.1) (cells_come _ _ _ _ number t _ (c.in_ok-all.ensures.told clean t stands) named ∙ lines_taken c.counts_of.result.now c.args.sums cells)
     ∙ ap (λ counts. fold with_line c.args.sums (map (weighted counts) cells)) c.counts_of.ensures

@@ -3,6 +3,7 @@ use Rattle.sql_tables.proofs.Calls.{asked_rests}
 use Rattle.prof_tables.specs.Schema.{schema_one}
 use Rattle.prof_tables.specs.Tables.{Holds}
 use Rattle.cost_exports.specs.Csv.{with_cell_in}
+use Rattle.held_runs.proofs.RowSteps.{cells_come}
 use Rattle.prof_books.specs.Book.{cells_held}
 use Rattle.store_exports.proofs.CsvLemmas.{cells_taken}
 use Rattle.store_exports.proofs.csv_writing.add_run.Goals as goal
@@ -11,11 +12,11 @@ pub returns-clause-told : goal.returns-clause-told
 returns-clause-told g c clean t stands named =
     let number = c.args.number in
     let head = c.in_ok-head.head in
-    let early = (c.in_ok-each_cell.ensures.asks clean).stays.was_clean in
+    let early = (c.in_ok-all.ensures.asks clean).stays.was_clean in
     let mid = asked_rests schema_one (Holds t) _ _ (c.in_ok-head.ensures.asks early) stands in
     let cells = cells_held number t in
     let same : c.as_slice-events.result.now ≡ head.events = search rules in (
       record { events = head.events; cells = cells },
       record { head = head; head_is = c.in_ok-head.ensures.told early t stands; events_are = refl; cells_are = refl },
-      ap (λ m. m.1) (c.in_ok-each_cell.ensures.told clean t mid named ∙ cells_taken c.as_slice-events.result.now c.args.sums cells) ∙ ap (λ events. fold (with_cell_in events) c.args.sums cells) same,
+      ap (λ m. m.1) (cells_come _ _ _ _ number t _ (c.in_ok-all.ensures.told clean t mid) named ∙ cells_taken c.as_slice-events.result.now c.args.sums cells) ∙ ap (λ events. fold (with_cell_in events) c.args.sums cells) same,
     )

@@ -12,7 +12,7 @@ loop-number-preserved g c =
     let numbers = c.args.numbers.now in
     let at = c.loop-number.number-index in
     let low : at < length numbers = omega arith in
-    let one = c.in_ok-each_stack.ensures in
+    let one = c.in_ok-rows.ensures in
     record {
       asked = λ clean. let asks = one.asks clean in asked_open_then schema_one true _ _ _ (i.asked asks.stays.was_clean) asks;
       told = λ clean t stands.
