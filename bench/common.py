@@ -122,6 +122,14 @@ def asked(name, *questions):
     return [value for answer in answers for value in answer]
 
 
+def asked_all(path, question):
+    """All rows that a question finds in a database, by SQLite's own library."""
+    base = sqlite3.connect(path)
+    rows = base.execute(question).fetchall()
+    base.close()
+    return rows
+
+
 def one_line():
     """The path of a file of one line."""
     return made("one.cg", lambda file: file.write("events: Ir\n"))

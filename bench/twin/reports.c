@@ -5,26 +5,29 @@
      inclusive --db DATABASE --event EVENT
      callers --db DATABASE --event EVENT --object OBJECT FUNCTION
      subtract --db DATABASE --less-run RUN --event EVENT KEY
+     csv --db DATABASE
 
    It reads the cells or the calls of each run in the order of their keys, adds each up as often as its
    column counts in the event, in a hash map by the numbers of names (import_rows.c has it), reads the
-   names, sorts the sums and writes a line for each.
+   names, sorts the sums and writes a line for each. For csv the numbers of a place and of the event's name
+   are the key.
 
-   Left out are other selections, limits and thresholds, folded stacks in `inclusive`, and sums of 2^64 or
+   Left out are other selections, limits and thresholds, folded stacks in `inclusive` and `csv`, and sums of 2^64 or
    more; the last two end the program. It believes what the tables hold, that they hold the run that is
    taken off, and that a function whose names they hold is one of a run. */
 
+#define _GNU_SOURCE
 #include "import.h"
 #include <sqlite3.h>
 #include <stdio.h>
 #include <stdlib.h>
 #include <string.h>
 
-enum question { BY, INCLUSIVE, CALLERS, SUBTRACT, QUESTIONS };
+enum question { BY, INCLUSIVE, CALLERS, SUBTRACT, CSV, QUESTIONS };
 enum key { OBJECT, SOURCE, FUNCTION, LINE, KEYS };
 
-static const char *const QUESTION_NAMES[QUESTIONS] = {"by", "inclusive", "callers", "subtract"};
-static const int WORDS_BEHIND[QUESTIONS] = {1, 0, 2, 2};
+static const char *const QUESTION_NAMES[QUESTIONS] = {"by", "inclusive", "callers", "subtract", "csv"};
+static const int WORDS_BEHIND[QUESTIONS] = {1, 0, 2, 2, 0};
 static const char *const KEY_NAMES[KEYS] = {"object", "file", "function", "line"};
 
 static const char CELLS[] = "SELECT ob, fl, fn, line, event, cost FROM cell WHERE run = ?"
@@ -40,6 +43,11 @@ static uint64_t called[2]; /* the function whose callers are asked */
 static struct text *names; /* by their numbers */
 static uint64_t counts[EVENTS];
 static struct rows sums = {.key = 2};
+
+/* The names of all runs' events, and the place of each of a run's events among them. */
+static struct text *events;
+static size_t event_count;
+static size_t event_places[EVENTS];
 
 /* Which of the sums of a key its costs are added to, and the totals of these sums. Of two sums the second
    is the number of calls, or the costs that are taken off. */
@@ -111,6 +119,31 @@ static int read_counts(uint64_t run)
     return place >= 0;
 }
 
+/* The place of an event's name, which is new or not. */
+static size_t event_place(sqlite3_stmt *event)
+{
+    size_t length = (size_t)sqlite3_column_bytes(event, 1), k = 0;
+    while (k < event_count
+           && (events[k].length != length || memcmp(events[k].at, sqlite3_column_blob(event, 1), length) != 0))
+        k++;
+    if (k == event_count) {
+        char *bytes = resized(NULL, length + 1, 1);
+        memcpy(bytes, sqlite3_column_blob(event, 1), length);
+        events = resized(events, ++event_count, sizeof *events);
+        events[k] = (struct text){bytes, length};
+    }
+    return k;
+}
+
+static void read_event_places(uint64_t run)
+{
+    sqlite3_stmt *found = prepared("SELECT pos, name FROM run_event WHERE run = ?");
+    must(sqlite3_bind_int64(found, 1, (int64_t)run), SQLITE_OK);
+    while (has_row(found))
+        event_places[number_in(found, 0) % EVENTS] = event_place(found);
+    sqlite3_finalize(found);
+}
+
 /* The parts of a cell's place that the key tells. */
 static void key_of(sqlite3_stmt *cells, uint64_t parts[2])
 {
@@ -140,6 +173,15 @@ static void add_cell(sqlite3_stmt *cell)
     key_of(cell, parts);
     add_to(sums_of(&sums, parts) + side, cost);
     add_to(&totals[side], cost);
+}
+
+static void add_cell_of_event(sqlite3_stmt *cell)
+{
+    uint64_t parts[5] = {number_in(cell, 0), number_in(cell, 1), number_in(cell, 2), number_in(cell, 3),
+                         event_places[number_in(cell, 4) % EVENTS]};
+    uint64_t cost = number_in(cell, 5);
+    if (cost > 0)
+        add_to(sums_of(&sums, parts), cost);
 }
 
 /* Adds a cost of calls to their caller, unless it calls itself. */
@@ -180,6 +222,11 @@ static void each_row(const char *text, uint64_t run, void (*take)(sqlite3_stmt *
    calls. */
 static int add_run(uint64_t run)
 {
+    if (question == CSV) {
+        read_event_places(run);
+        each_row(CELLS, run, add_cell_of_event);
+        return 1;
+    }
     int has_event = read_counts(run);
     if (question == CALLERS)
         each_row(CALLS, run, add_caller);
@@ -196,7 +243,7 @@ static int add_runs(void)
     int has_event = 0;
     sqlite3_stmt *runs = prepared("SELECT run, kind FROM run ORDER BY run");
     while (has_row(runs)) {
-        if (question == INCLUSIVE && number_in(runs, 1) != 1)
+        if ((question == INCLUSIVE || question == CSV) && number_in(runs, 1) != 1)
             fail("folded stacks");
         has_event |= add_run(number_in(runs, 0));
     }
@@ -270,6 +317,58 @@ static int row_order(const void *first, const void *second)
     if (order != 0 || key == OBJECT || key == SOURCE)
         return order;
     return key == FUNCTION ? name_order(names[a[1]], names[b[1]]) : (a[1] > b[1]) - (a[1] < b[1]);
+}
+
+/* By the names of the place, its line, and the name of the event. */
+static int place_order(const void *first, const void *second)
+{
+    const uint64_t *a = first, *b = second;
+    for (int k = 0; k < 3; k++) {
+        int order = a[k] == b[k] ? 0 : name_order(names[a[k]], names[b[k]]);
+        if (order != 0)
+            return order;
+    }
+    return a[3] != b[3] ? (a[3] > b[3]) - (a[3] < b[3]) : name_order(events[a[4]], events[b[4]]);
+}
+
+static int needs_quotes(struct text field)
+{
+    size_t k = 0;
+    while (k < field.length && memchr("\",\r\n", field.at[k], 4) == NULL)
+        k++;
+    return k < field.length;
+}
+
+/* A field of RFC 4180: in quotes where it must be. */
+static void print_field(struct text field)
+{
+    if (!needs_quotes(field)) {
+        fwrite_unlocked(field.at, 1, field.length, stdout);
+        return;
+    }
+    putc_unlocked('"', stdout);
+    for (size_t k = 0; k < field.length; k++) {
+        if (field.at[k] == '"')
+            putc_unlocked('"', stdout);
+        putc_unlocked(field.at[k], stdout);
+    }
+    putc_unlocked('"', stdout);
+}
+
+static void print_csv(void)
+{
+    qsort(sums.words, sums.count, sums.width * sizeof *sums.words, place_order);
+    puts("object,file,function,line,event,cost");
+    for (size_t k = 0; k < sums.count; k++) {
+        const uint64_t *row = sums.words + k * sums.width;
+        for (int part = 0; part < 3; part++) {
+            print_field(names[row[part]]);
+            putc_unlocked(',', stdout);
+        }
+        printf("%llu,", (unsigned long long)row[3]);
+        print_field(events[row[4]]);
+        printf(",%llu\n", (unsigned long long)row[5]);
+    }
 }
 
 static void print_name(struct text name)
@@ -362,7 +461,8 @@ static int read_words(int argc, char **argv)
     question = place_of(argv[3], QUESTION_NAMES, QUESTIONS);
     if (question == QUESTIONS || argc != 4 + WORDS_BEHIND[question])
         return 0;
-    sums.width = question == CALLERS || question == SUBTRACT ? 4 : 3;
+    sums.key = question == CSV ? 5 : 2;
+    sums.width = question == CALLERS || question == SUBTRACT ? 4 : sums.key + 1;
     if (question == BY || question == SUBTRACT)
         key = place_of(argv[4], KEY_NAMES, KEYS);
     return key < KEYS;
@@ -388,7 +488,7 @@ int main(int argc, char **argv)
 {
     if (!read_words(argc, argv)) {
         fprintf(stderr, "usage: reports DATABASE EVENT by KEY | inclusive | callers OBJECT FUNCTION"
-                        " | subtract KEY RUN; a KEY is object, file, function or line\n");
+                        " | subtract KEY RUN | csv; a KEY is object, file, function or line\n");
         return 2;
     }
     must(sqlite3_open_v2(argv[1], &db, SQLITE_OPEN_READWRITE, NULL), SQLITE_OK);
@@ -401,7 +501,10 @@ int main(int argc, char **argv)
         return 1;
     }
     read_names();
-    print_report();
+    if (question == CSV)
+        print_csv();
+    else
+        print_report();
     must(sqlite3_close(db), SQLITE_OK);
     return 0;
 }
