@@ -4,7 +4,7 @@ use Rattle.histories.specs.History.{Annotate}
 use Rattle.histories.specs.Legal.{expected_answer, expected_of_query, most_of_source}
 use Rattle.histories.specs.declared.answers.Query.TheVariants as queries
 use Rattle.histories.proofs.ReadsDue.{ended_due}
-use Rattle.store_histories.specs.Answered.{Answers}
+use Rattle.store_histories.specs.Answered.{Answers, WasAsked}
 use Rattle.store_histories.proofs.Questions.{answered_as}
 use Rattle.warehouse.proofs.Unread.{unread_answered}
 use Rattle.warehouse.proofs.answering.annotate_in.Goals as goal
@@ -17,17 +17,19 @@ returns-in-Ok g c = record {
       let ended = read.read.0 in
       let s = c.args.selection in
       let said = Annotate s c.args.event c.args.file read.outcomes in
-      let query = queries.Annotate s c.args.event c.args.file bytes in (
+      let query = queries.Annotate s c.args.event c.args.file bytes in
+      let text : c.from_vec-text.result ≡ bytes = c.from_vec-text.ensures ∙ read.read.1 in
+      let asked = subst (λ t. WasAsked g.S.Store (queries.Annotate s c.args.event c.args.file t) c.annotate_answer.result c.args.store.now c.annotate_answer.new.store) text (c.annotate_answer.ensures clean) in (
         read.outcomes,
         read.came,
         subst (λ a. Answers g.S.Store limits said a c.args.store.now c.annotate_answer.new.store) (sym c.answer_of.ensures)
         (answered_as g.S.Store limits query said tt (λ h. ended_due most_of_source read.outcomes (expected_of_query h query) ended.reads.within ended.reads.unfailed ended.ended)
-        c.args.store.now c.annotate_answer.new.store c.annotate_answer.result (c.annotate_answer.ensures clean)),
+        c.args.store.now c.annotate_answer.new.store c.annotate_answer.result asked),
       );
 }
 
-pub returns-in-Err : goal.returns-in-Err
-returns-in-Err g c = record {
+pub returns : goal.returns
+returns g c = record {
   answered = λ limits clean.
       let read = c.in-Err.ensures in
       let s = c.args.selection in
