@@ -1,4 +1,4 @@
-use Rattle.std.proofs.Common.{◌≡◌, List}
+use Rattle.std.proofs.Common.{List}
 use Rattle.sqlite_value.specs.Order.{Row}
 use Rattle.sql_tables.specs.Calls.{Asked}
 use Rattle.prof_tables.specs.Schema.{schema_one}
