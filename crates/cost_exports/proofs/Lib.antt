@@ -3,6 +3,7 @@ pub mod ColumnLemmas
 pub mod KnownLemmas
 pub mod LineLemmas
 pub mod ReadBackLemmas
+pub mod SlotLemmas
 pub mod SpreadLemmas
 pub mod StackLemmas
 mod Examples

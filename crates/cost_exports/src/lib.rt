@@ -15,10 +15,14 @@ mod csv_texts;
 mod folded_texts;
 // Laws: what exports come to, from rows to records, and that the folded one reads back.
 mod laws;
+// What the lines of a place cost by the names of events (specs/Views.antt).
+mod line_costs;
 // What the lines of one file cost (specs/Annotations.antt).
 mod line_sums;
 // What is printed of a number.
 mod numbers;
+// The lines of places, found by the names of the place (specs/Views.antt).
+mod places;
 // Stacks with their counts (specs/Folded.antt).
 mod stack_sums;
 
