@@ -1,5 +1,6 @@
 pub mod AmountLemmas
 pub mod ColumnLemmas
+pub mod CsvReadLemmas
 pub mod KnownLemmas
 pub mod LineLemmas
 pub mod ReadBackLemmas

@@ -31,8 +31,9 @@ pub use cell_sums::CellSums;
 pub use csv_texts::csv_text;
 pub use folded_texts::folded_text;
 pub use laws::{
-    annotations_come_to_the_records, csv_rows_come_to_the_records, files_are_known_by_their_rows,
-    folded_stacks_come_to_the_stacks, folded_texts_read_back, shown_and_outside_are_the_total,
+    annotations_come_to_the_records, csv_rows_come_to_the_records, csv_texts_read_back,
+    files_are_known_by_their_rows, folded_stacks_come_to_the_stacks, folded_texts_read_back,
+    shown_and_outside_are_the_total,
 };
 pub use line_sums::LineSums;
 pub use stack_sums::StackSums;
