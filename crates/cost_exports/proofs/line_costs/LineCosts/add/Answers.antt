@@ -6,7 +6,7 @@ use Rattle.cost_rows.proofs.SeenLemmas.{held-least, key_cmp, seen-lookup, seen-n
 use Rattle.cost_exports.specs.Amounts.{amount_of}
 use Rattle.cost_exports.specs.Views.{LineEvent, held_line, held_lines, line_cmp}
 use Rattle.cost_exports.proofs.SpreadLemmas.{line-total}
-use Rattle.cost_exports.proofs.cell_sums.LineCosts.add.Goals as goal
+use Rattle.cost_exports.proofs.line_costs.LineCosts.add.Goals as goal
 
 pub overflow_add-held : goal.overflow_add-held
 overflow_add-held c =
