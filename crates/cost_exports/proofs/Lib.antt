@@ -1,8 +1,10 @@
 pub mod AmountLemmas
 pub mod ColumnLemmas
+pub mod CsvReadLemmas
 pub mod KnownLemmas
 pub mod LineLemmas
 pub mod ReadBackLemmas
+pub mod SlotLemmas
 pub mod SpreadLemmas
 pub mod StackLemmas
 mod Examples

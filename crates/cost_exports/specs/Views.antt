@@ -1,11 +1,16 @@
 -- Sums as the code holds them: by the names of places, and under these by line and event.
-use Rattle.std.specs.Prelude.{◌≡◌, ℕ, false, List, [], ◌∷◌, ◌++◌, Some}
+use Rattle.std.specs.Prelude.{◌≡◌, ℕ, ◌<◌, false, List, [], ◌∷◌, ◌++◌, slice_index_or, Option, Some}
 use Rattle.std.specs.declared.cmp.Ordering.{Ordering}
+use Rattle.std.specs.BTreeMap.{is_at}
+use Rattle.std.specs.List.{AllByRecursion}
+use Rattle.std.specs.List.Sorted.{IsStrictlySortedBy}
+use Rattle.std.specs.Map.{lookup, keys_of, values_of}
 use Rattle.std.specs.Ordering.{nat_cmp, ordering_then}
 use Rattle.std.specs.declared.vec.Vec.{Vec}
 use Rattle.csv.specs.Writing.{default_writer, fields_written, has_written, text_written, writer_setup}
 use Rattle.csv.specs.declared.writer.Writer.{Writer}
 use Rattle.cost_rows.specs.Merging.{merge_all, seen}
+use Rattle.cost_rows.specs.Slots.{AreApart}
 use Rattle.cost_rows.specs.Stacks.{bytes_cmp, counts_added}
 use Rattle.cost_rows.specs.declared.rows.CellRow.{CellRow}
 use Rattle.cost_exports.specs.Csv.{EventSpot}
@@ -49,6 +54,32 @@ spread (g ∷ places) = placed g.0 g.1 ++ spread places
 abbrev pub lines_added : List (LineEvent × ℕ) → List (LineEvent × ℕ) → List (LineEvent × ℕ)
 lines_added held more = merge_all line_cmp counts_added held more
 
+-- ---- places in slots
+
+-- the slot of the names of each place, and the lines in each slot
+pub record Slotted : Type 0 where
+  pub slots : List (PlaceNames × ℕ)
+  pub lines : List (List (LineEvent × ℕ))
+
+-- what leads to slots, with the lines in them
+abbrev pub with_lines : List (List (LineEvent × ℕ)) → List (PlaceNames × ℕ) → List (PlaceNames × List (LineEvent × ℕ))
+with_lines lines [] = []
+with_lines lines (e ∷ slots) = (e.0, slice_index_or lines e.1 []) ∷ with_lines lines slots
+
+-- each place and event with its cost
+abbrev pub sums_in : Slotted → List (EventSpot × ℕ)
+sums_in s = spread (with_lines s.lines s.slots)
+
+-- the slot of some names
+abbrev pub slot_of : PlaceNames → List (PlaceNames × ℕ) → Option ℕ
+slot_of names slots = lookup (is_at (names_cmp names)) slots
+
+-- the names stand in order, each with a slot of its own, and there are so many slots
+pub record AreSlots (slots : List (PlaceNames × ℕ)) (count : ℕ) : Type 0 where
+  pub order : IsStrictlySortedBy names_cmp (keys_of slots)
+  pub below : AllByRecursion (λ n. n < count) (values_of slots)
+  pub apart : AreApart slots
+
 -- ---- as the code holds them
 
 abbrev pub held_names : HeldNames → PlaceNames
@@ -60,8 +91,8 @@ held_line l = record { line = l.line; event = l.event.items }
 abbrev pub held_lines : List (HeldLine × ℕ) → List (LineEvent × ℕ)
 held_lines = seen held_line
 
-abbrev pub held_places : List (HeldNames × List (LineEvent × ℕ)) → List (PlaceNames × List (LineEvent × ℕ))
-held_places = seen held_names
+abbrev pub held_slots : List (HeldNames × ℕ) → List (PlaceNames × ℕ)
+held_slots = seen held_names
 
 -- ---- a writer of rows
 

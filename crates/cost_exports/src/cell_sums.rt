@@ -1,117 +1,70 @@
 // What places cost by the names of events.
-ghost use Rattle.std.specs.Prelude.{◌≡◌, ◌∷◌, ◌+◌, ◌<◌, ◌^◌, [], OnOk, OnErr};
-ghost use Rattle.cost_rows.specs.Merging.{merge};
+ghost use Rattle.std.specs.Prelude.{◌≡◌, ◌+◌, ◌<◌, ◌^◌, Some, [], OnOk, OnErr, IfOk, IfSome};
 ghost use Rattle.cost_rows.specs.Plain.{plain_cell};
-ghost use Rattle.cost_rows.specs.Stacks.{counts_added};
 ghost use Rattle.cost_exports.specs.Amounts.{amount_of};
-ghost use Rattle.cost_exports.specs.Csv.{event_spot_cmp, with_cell};
-ghost use Rattle.cost_exports.specs.Views.{held_line, held_lines, held_names, held_places, line_cmp, spot_with, spread};
+ghost use Rattle.cost_exports.specs.Csv.{with_cell};
+ghost use Rattle.cost_exports.specs.Views.{held_names, names_of_row, slot_of, sums_in};
 
 use crate::cells::{HeldLine, HeldNames};
+use crate::places::Places;
 use cost_rows::CellRow;
 use std::alloc::{AllocError, Global};
-use std::collections::BTreeMap;
-use std::collections::btree_map::Iter;
 use std::marker::Model;
 
-/// What the lines of some names cost by events: contracts see a cost for each line and event, in order.
-#[derive(Drop)]
-pub(crate) struct LineCosts {
-    costs: BTreeMap<HeldLine, u128>,
-}
-
-impl Model for LineCosts {
-    ghost use Rattle.std.specs.Prelude.{ℕ, List};
-    ghost use Rattle.cost_exports.specs.Views.{LineEvent, held_lines};
-
-    ghost Value = { List (LineEvent × ℕ) };
-
-    ghost view = { λ a. held_lines a.costs.entries };
-}
-
-impl LineCosts {
-    /// No line costs anything. Takes no memory.
-    fn new(alloc: Global) -> LineCosts
-        ensures { result ≡ [] }
-    {
-        LineCosts {
-            costs: BTreeMap::new(alloc),
-        }
-    }
-
-    /// Adds a cost to that of a line and an event. A refusal leaves the costs as they were.
-    fn add(&mut self, alloc: Global, line: &HeldLine, cost: u128) -> Result<(), AllocError>
-        requires small { amount_of self.old + cost < 2 ^ 128 }
-        ensures ok { OnOk result (self.new ≡ merge line_cmp counts_added self.old (held_line line.now) cost) }
-        ensures err { OnErr result (self.new ≡ self.old) }
-    {
-        match self.costs.get_mut(line) {
-            Some(held) => *held += cost,
-            None => {
-                let line = line.copy(alloc)?;
-                self.costs.insert(line, cost)?;
-            }
-        }
-        Ok(())
-    }
-
-    /// The costs, in order. Takes no memory.
-    pub(crate) fn iter(&self) -> Iter<'_, HeldLine, u128>
-        ensures { held_lines result ≡ self.now }
-    {
-        self.costs.iter()
-    }
-}
-
-/// Adds a cost to that of a line and an event of some names. A refusal leaves the sums as they were.
-fn add_at(
+/// The slot of a row's names. Unless they are those of the row before, whose slot is known, it is searched
+/// for. The sums stay as they are.
+fn slot_of_row(
     alloc: Global,
-    places: &mut BTreeMap<HeldNames, LineCosts>,
-    names: &HeldNames,
-    line: &HeldLine,
-    cost: u128,
-) -> Result<(), AllocError>
-    requires small { amount_of (spread (held_places places.old.entries)) + cost < 2 ^ 128 }
-    ensures ok { OnOk result (spread (held_places places.new.entries)
-        ≡ merge event_spot_cmp counts_added (spread (held_places places.old.entries)) (spot_with (held_names names.now) (held_line line.now)) cost) }
-    ensures err { OnErr result (spread (held_places places.new.entries) ≡ spread (held_places places.old.entries)) }
+    names: &mut HeldNames,
+    recent: &mut Option<usize>,
+    places: &mut Places,
+    row: &CellRow<&[u8]>,
+) -> Result<usize, AllocError>
+    requires recent { IfSome recent.old (λ slot. slot_of (held_names names.old) places.old.slots ≡ Some slot) }
+    ensures recent { IfSome recent.new (λ slot. slot_of (held_names names.new) places.new.slots ≡ Some slot) }
+    ensures slot { IfOk result (λ slot. slot_of (names_of_row (plain_cell row.now)) places.new.slots ≡ Some slot) }
+    ensures sums { sums_in places.new ≡ sums_in places.old }
 {
-    match places.get_mut(names) {
-        Some(lines) => lines.add(alloc, line, cost)?,
-        None => {
-            let mut lines = LineCosts::new(alloc);
-            lines.add(alloc, line, cost)?;
-            let names = names.copy(alloc)?;
-            places.insert(names, lines)?;
+    if let Some(slot) = *recent {
+        if names.are_of(row) {
+            return Ok(slot);
         }
     }
-    Ok(())
+    *recent = None;
+    names.set(row)?;
+    let slot = places.slot(alloc, names)?;
+    *recent = Some(slot);
+    Ok(slot)
 }
 
 /// What places cost by the names of events, added up cell by cell: contracts see a cost above 0 for each
 /// place and event, texts in the order of their bytes and lines by number. The names of a place are kept
-/// once, and under them a line and an event's name for each cost. Ordered maps hold them: no file can
-/// choose names that collide.
+/// once, and under them a line and an event's name for each cost. Rows come by their places, so mostly with
+/// the names of the row before: these need no search.
 #[derive(Drop)]
 pub struct CellSums {
     alloc: Global,
     /// The names of the row before.
     names: HeldNames,
+    /// Their slot, once it is known.
+    recent: Option<usize>,
     line: HeldLine,
-    places: BTreeMap<HeldNames, LineCosts>,
+    places: Places,
     total: u128,
-    ghost is_total: { total ≡ amount_of (spread (held_places places.entries)) },
+    ghost is_total: { total ≡ amount_of (sums_in places) },
     ghost small: { total < 2 ^ 112 },
 }
 
 impl Model for CellSums {
-    ghost use Rattle.std.specs.Prelude.{ℕ, List};
+    ghost use Rattle.std.specs.Prelude.{◌≡◌, ℕ, List, Some, IfSome};
     ghost use Rattle.cost_exports.specs.Csv.{EventSpot};
-    ghost use Rattle.cost_exports.specs.Views.{held_places, spread};
+    ghost use Rattle.cost_exports.specs.Views.{held_names, slot_of, sums_in};
 
     ghost Value = { List (EventSpot × ℕ) };
 
-    ghost view = { λ a. spread (held_places a.places.entries) };
+    ghost view = { λ a. sums_in a.places };
+
+    ghost invariant = { λ a. IfSome a.recent (λ slot. slot_of (held_names a.names) a.places.slots ≡ Some slot) };
 }
 
 impl CellSums {
@@ -122,8 +75,9 @@ impl CellSums {
         CellSums {
             alloc,
             names: HeldNames::new(alloc),
+            recent: None,
             line: HeldLine::new(alloc),
-            places: BTreeMap::new(alloc),
+            places: Places::new(alloc),
             total: 0,
         }
     }
@@ -146,23 +100,23 @@ impl CellSums {
         if row.cost == 0 {
             return Ok(());
         }
-        self.names.set(row)?;
-        self.line.set(row.line, event)?;
-        add_at(
+        let slot = slot_of_row(
             self.alloc,
+            &mut self.names,
+            &mut self.recent,
             &mut self.places,
-            &self.names,
-            &self.line,
-            row.cost,
+            row,
         )?;
+        self.line.set(row.line, event)?;
+        self.places.add(self.alloc, slot, &self.line, row.cost)?;
         self.total += row.cost;
         Ok(())
     }
 
-    /// The names of places, in order, each with what its lines cost. Takes no memory.
-    pub(crate) fn iter(&self) -> Iter<'_, HeldNames, LineCosts>
-        ensures { spread (held_places result) ≡ self.now }
+    /// The places, with what their lines cost.
+    pub(crate) fn places(&self) -> &Places
+        ensures { sums_in result.now ≡ self.now }
     {
-        self.places.iter()
+        &self.places
     }
 }

@@ -34,7 +34,7 @@ impl HeldNames {
     }
 
     /// Whether these are the names of a row. Most rows that differ do so in the function.
-    fn are_of(&self, row: &CellRow<&[u8]>) -> bool
+    pub(crate) fn are_of(&self, row: &CellRow<&[u8]>) -> bool
         ensures { IsTrue result → held_names self.now ≡ names_of_row (plain_cell row.now) }
     {
         self.function.as_slice() == row.function
@@ -46,9 +46,6 @@ impl HeldNames {
     pub(crate) fn set(&mut self, row: &CellRow<&[u8]>) -> Result<(), AllocError>
         ensures { OnOk result (held_names self.new ≡ names_of_row (plain_cell row.now)) }
     {
-        if self.are_of(row) {
-            return Ok(());
-        }
         replace(&mut self.object, row.object)?;
         replace(&mut self.file, row.file)?;
         replace(&mut self.function, row.function)?;

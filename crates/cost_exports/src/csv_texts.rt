@@ -1,11 +1,13 @@
 // The text of what places cost by the names of events.
 ghost use Rattle.std.specs.Prelude.{◌≡◌, ◌++◌, ℕ, List, OnOk, IfOk, map};
 ghost use Rattle.csv.specs.Writing.{default_writer, row_text};
-ghost use Rattle.cost_exports.specs.Csv.{csv_row, csv_rows, csv_text};
-ghost use Rattle.cost_exports.specs.Views.{HasWritten, held_line, held_names, placed, spot_with};
+ghost use Rattle.cost_exports.specs.Csv.{csv_header, csv_row, csv_rows, csv_text};
+ghost use Rattle.cost_exports.specs.Views.{HasWritten, held_line, held_names, placed, spot_with, sums_in};
 
-use crate::cell_sums::{CellSums, LineCosts};
+use crate::cell_sums::CellSums;
 use crate::cells::{HeldLine, HeldNames};
+use crate::line_costs::LineCosts;
+use crate::places::Places;
 use cg_text::ListVec;
 use csv::{Writer, WriterBuilder};
 use itoa::Buffer;
@@ -20,6 +22,22 @@ fn write_fields(writer: &mut Writer<Vec<u8>>, fields: &[&[u8]]) -> Result<(), Al
         Ok(()) => Ok(()),
         Err(_) => Err(AllocError),
     }
+}
+
+/// Writes the names of the fields.
+fn write_header(writer: &mut Writer<Vec<u8>>) -> Result<(), AllocError>
+    ensures { (text : List ℕ) → HasWritten writer.old text → OnOk result (HasWritten writer.new (text ++ row_text default_writer csv_header)) }
+{
+    let header = [
+        b"object".as_slice(),
+        b"file".as_slice(),
+        b"function".as_slice(),
+        b"line".as_slice(),
+        b"event".as_slice(),
+        b"cost".as_slice(),
+    ];
+    write_fields(writer, &header)?;
+    Ok(())
 }
 
 /// Writes what a line of a place cost in an event.
@@ -62,24 +80,26 @@ fn write_lines(
     Ok(())
 }
 
+/// Writes what the lines of all places cost.
+fn write_places(writer: &mut Writer<Vec<u8>>, places: &Places) -> Result<(), AllocError>
+    ensures { (text : List ℕ) → HasWritten writer.old text → OnOk result (HasWritten writer.new (text ++ csv_rows (sums_in places.now))) }
+{
+    for (names, slot) in places.iter() {
+        if let Some(lines) = places.lines(*slot) {
+            write_lines(writer, names, lines)?;
+        }
+    }
+    Ok(())
+}
+
 /// A header, and a row for each place and event with its cost, as comma-separated values with the line
 /// end LF: names as they are, with quotes where they need them. Memory is the only refusal.
 pub fn csv_text(alloc: Global, sums: &CellSums) -> Result<ListVec<u8>, AllocError>
     ensures { IfOk result (λ text. text ≡ csv_text sums.now) }
 {
     let mut writer = WriterBuilder::new().from_writer(Vec::new(alloc));
-    let header = [
-        b"object".as_slice(),
-        b"file".as_slice(),
-        b"function".as_slice(),
-        b"line".as_slice(),
-        b"event".as_slice(),
-        b"cost".as_slice(),
-    ];
-    write_fields(&mut writer, &header)?;
-    for (names, lines) in sums.iter() {
-        write_lines(&mut writer, names, lines)?;
-    }
+    write_header(&mut writer)?;
+    write_places(&mut writer, sums.places())?;
     match writer.into_inner() {
         Ok(text) => Ok(ListVec::from_vec(text)),
         Err(_) => Err(AllocError),

@@ -1,11 +1,12 @@
 // Laws of the definitions, each the contract of a function that does nothing.
-ghost use Rattle.std.specs.Prelude.{◌≡◌, ℕ, ◌+◌, List, [], fold};
+ghost use Rattle.std.specs.Prelude.{◌≡◌, ℕ, ◌+◌, List, [], ◌∷◌, fold, map};
+ghost use Rattle.csv.specs.Reading.{default_config, records};
 ghost use Rattle.cost_rows.specs.declared.rows.StackRow.{StackRow};
 ghost use Rattle.cost_reports.specs.Costs.{EventCells, EventRecords, StandForEach, all_rows};
 ghost use Rattle.cost_reports.specs.Inclusive.{SameStacks};
 ghost use Rattle.profile_records.specs.Stacks.{Seen};
 ghost use Rattle.cost_exports.specs.Annotations.{HaveCostsEach, annotation_of, annotation_of_records, cost_of_lines, know_file, no_lines, with_line};
-ghost use Rattle.cost_exports.specs.Csv.{NamedCells, NamedRecords, NamesStandForEach, csv_of_cells, csv_of_records};
+ghost use Rattle.cost_exports.specs.Csv.{EventSpot, NamedCells, NamedRecords, NamesStandForEach, csv_fields, csv_header, csv_of_cells, csv_of_records, csv_text};
 ghost use Rattle.cost_exports.specs.Folded.{folded_of_rows, folded_of_stacks, folded_text};
 ghost use Rattle.cost_exports.specs.ReadBack.{AreReadable, ReadsAs};
 
@@ -32,6 +33,12 @@ pub fn files_are_known_by_their_rows()
 /// events is by the cells what it is by the records, whatever the columns.
 pub fn csv_rows_come_to_the_records()
     ensures { (files : List NamedRecords) (runs : List NamedCells) → NamesStandForEach files runs → csv_of_cells runs ≡ csv_of_records files }
+{}
+
+/// The text of what places cost is read by the crate `csv`, with its defaults, as the header and these rows
+/// with their fields, whatever bytes the names have.
+pub fn csv_texts_read_back()
+    ensures { (sums : List (EventSpot × ℕ)) → records default_config (csv_text sums) ≡ csv_header ∷ map csv_fields sums }
 {}
 
 /// Where rows of stacks come to the stacks that were seen, for every test of their frames, they are the

@@ -15,10 +15,14 @@ mod csv_texts;
 mod folded_texts;
 // Laws: what exports come to, from rows to records, and that the folded one reads back.
 mod laws;
+// What the lines of a place cost by the names of events (specs/Views.antt).
+mod line_costs;
 // What the lines of one file cost (specs/Annotations.antt).
 mod line_sums;
 // What is printed of a number.
 mod numbers;
+// The lines of places, found by the names of the place (specs/Views.antt).
+mod places;
 // Stacks with their counts (specs/Folded.antt).
 mod stack_sums;
 
@@ -27,8 +31,9 @@ pub use cell_sums::CellSums;
 pub use csv_texts::csv_text;
 pub use folded_texts::folded_text;
 pub use laws::{
-    annotations_come_to_the_records, csv_rows_come_to_the_records, files_are_known_by_their_rows,
-    folded_stacks_come_to_the_stacks, folded_texts_read_back, shown_and_outside_are_the_total,
+    annotations_come_to_the_records, csv_rows_come_to_the_records, csv_texts_read_back,
+    files_are_known_by_their_rows, folded_stacks_come_to_the_stacks, folded_texts_read_back,
+    shown_and_outside_are_the_total,
 };
 pub use line_sums::LineSums;
 pub use stack_sums::StackSums;

@@ -1,5 +1,5 @@
 -- When a file that is being read stands for the bytes so far, and what it comes to.
-use Rattle.std.specs.Prelude.{◌≡◌, ℕ, ◌+◌, List, length, fold, Result, Ok, Err, None, Some}
+use Rattle.std.specs.Prelude.{◌≡◌, ℕ, ◌+◌, List, [], length, fold, Result, Ok, Err, None, Some}
 use Rattle.cg_text.specs.declared.faults.Fault as faults
 use Rattle.cg_text.specs.declared.faults.ReadError.{ReadError}
 use Rattle.cg_text.specs.declared.faults.ReadError.TheVariants as ends
@@ -7,6 +7,7 @@ use Rattle.cg_formulas.specs.declared.heads.FileHead.{FileHead}
 use Rattle.callgrind_reader.specs.Reads as records
 use Rattle.profile_records.specs.Records.{Record}
 use Rattle.callgrind_reader.specs.declared.reader.Reader.{Reader}
+use Rattle.profile_records.specs.Marks.{KnowsNothing}
 use Rattle.profile_records.specs.Stacks.{Seen}
 use Rattle.folded_reader.specs.Reads as stacks
 use Rattle.folded_reader.specs.declared.reader.FoldedReader.{FoldedReader}
@@ -43,6 +44,10 @@ abbrev pub Stands : FileReader → FileRows → Kind → List ℕ → Type 0
 Stands (readers.Callgrind r) rows kinds.Callgrind bytes = ReadsRecords r rows bytes
 Stands (readers.Folded r) rows kinds.Folded bytes = ReadsStacks r rows bytes
 Stands r rows kind bytes = ⊥
+
+-- a reader that has read nothing stands with rows to which nothing was added
+abbrev pub StandsAtFirst : FileReader → Kind → Type 0
+StandsAtFirst r kind = (rows : FileRows) → content_of rows ≡ empty → rows.last ≡ 0 → rows.width ≡ None → KnowsNothing (known_of rows) → Stands r rows kind []
 
 -- and the digest is that of the bytes
 pub record HasTaken (i : Intake) (kind : Kind) (bytes : List ℕ) : Type 0 where

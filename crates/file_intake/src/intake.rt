@@ -1,12 +1,8 @@
 // A file of either kind while it is read.
-ghost use Rattle.std.specs.Prelude.{◌≡◌, ℕ, ◌+◌, ◌≤◌, List, [], ◌++◌, length, None, IfOk, OnOk};
-ghost use Rattle.cost_rows.specs.Content.{empty};
-ghost use Rattle.cost_rows.specs.Rows.{content_of, known_of};
-ghost use Rattle.profile_records.specs.Marks.{KnowsNothing};
+ghost use Rattle.std.specs.Prelude.{◌≡◌, ℕ, ◌+◌, ◌≤◌, List, [], ◌++◌, length, IfOk, OnOk};
 ghost use Rattle.histories.specs.Files.{rows_of};
 ghost use Rattle.profile_records.specs.declared.kinds.Kind.{Kind};
-ghost use Rattle.cost_rows.specs.declared.file_rows.FileRows.{FileRows};
-ghost use Rattle.file_intake.specs.Intakes.{Stands, HasTaken, IsTakenOf, HasEndedAs};
+ghost use Rattle.file_intake.specs.Intakes.{Stands, StandsAtFirst, HasTaken, IsTakenOf, HasEndedAs};
 
 use callgrind_reader::Reader;
 use cg_formulas::FileHead;
@@ -44,7 +40,7 @@ pub struct Taken {
 impl FileReader {
     /// Nothing was read.
     fn new(alloc: Global, kind: Kind) -> Result<FileReader, AllocError>
-        ensures { IfOk result (λ r. (rows : FileRows) → content_of rows ≡ empty → rows.last ≡ 0 → rows.width ≡ None → KnowsNothing (known_of rows) → Stands r rows kind []) }
+        ensures { IfOk result (λ r. StandsAtFirst r kind) }
     {
         match kind {
             Kind::Callgrind => Ok(FileReader::Callgrind(Reader::new(alloc)?)),

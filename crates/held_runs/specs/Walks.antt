@@ -50,6 +50,11 @@ AreAllRead table columns run rows lines = HasReadAll (asked table run) rows (map
 abbrev pub IsSpanIn : Row → Span → Type 0
 IsSpanIn row span = column row 0 ≢ Null → (column row 0 ≡ Int (pos (span.low + 1))) × (column row 1 ≡ Int (pos span.top))
 
+-- over the same table, for the same run
+pub record IsSameWalk (old new : Walk) : Type 0 where
+  pub table : new.table ≡ old.table
+  pub run : new.run ≡ old.run
+
 -- no row of the page is left
 abbrev pub IsRead : {S : Type 0} → Store S → Walk → Type 0
 IsRead store walk = drop walk.at store.page.items ≡ []

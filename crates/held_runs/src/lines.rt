@@ -2,7 +2,7 @@
 ghost use Rattle.std.specs.Prelude.{◌≡◌, [], List, OnOk, IfOk};
 ghost use Rattle.std.specs.Result.{is_ok};
 ghost use Rattle.prof_store.specs.Shown.{shown, Told};
-ghost use Rattle.held_runs.specs.Walks.{rows_of, IsReady, AreAllRead, AsksIfOpen, Gives, HandsLine, OfReady};
+ghost use Rattle.held_runs.specs.Walks.{rows_of, IsReady, AreAllRead, AsksIfOpen, Gives, HandsLine, IsSameWalk, OfReady};
 
 use crate::walks::{Listed, Walk, has_row};
 use prof_store::Store;
@@ -67,7 +67,7 @@ fn hand_line<S: Alter, T: TakesLines>(
     walk: &mut Walk,
     taker: &mut T,
 ) -> Result<bool, StoreError>
-    ensures run { walk.new.run ≡ walk.old.run }
+    ensures same { IsSameWalk walk.old walk.new }
     ensures handed { (start : T.Start) → HandsLine S.Store T.listed T.columns (T.Has start) taker.old taker.new store.old walk.old store.new walk.new result }
     ensures asks { AsksIfOpen S.Store (is_ok result) store.old store.new }
 {

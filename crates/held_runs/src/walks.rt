@@ -4,7 +4,7 @@ ghost use Rattle.std.specs.Result.{is_ok};
 ghost use Rattle.sqlite_trees.specs.Tree.{IsTable};
 ghost use Rattle.prof_store.specs.Shown.{Asks};
 ghost use Rattle.sql_tables.specs.Walks.{Lie};
-ghost use Rattle.held_runs.specs.Walks.{window_sql_of, ends_sql_of, asked, page_of, rows_of, IsSpanIn, IsRead, OfReady, AsksIfOpen, Moves, WalksOn, Walks};
+ghost use Rattle.held_runs.specs.Walks.{window_sql_of, ends_sql_of, asked, page_of, rows_of, IsSpanIn, IsRead, IsSameWalk, OfReady, AsksIfOpen, Moves, WalksOn, Walks};
 
 use prof_store::{Store, select, select_row};
 use sqlite::{Alter, Row, params};
@@ -144,8 +144,7 @@ fn load<S: Alter>(
 
 /// Finds out where the rows of the walk lie.
 fn place<S: Alter>(store: &mut Store<S>, walk: &mut Walk) -> Result<(), StoreError>
-    ensures table { walk.new.table ≡ walk.old.table }
-    ensures run { walk.new.run ≡ walk.old.run }
+    ensures same { IsSameWalk walk.old walk.new }
     ensures page { store.new.page ≡ store.old.page }
     ensures at { walk.new.at ≡ walk.old.at }
     ensures placed { OnOk result (walk.new.placed ≡ true) }
@@ -163,8 +162,7 @@ fn place<S: Alter>(store: &mut Store<S>, walk: &mut Walk) -> Result<(), StoreErr
 
 /// Turns to the next page. `false`: there is none.
 fn turn<S: Alter>(store: &mut Store<S>, walk: &mut Walk) -> Result<bool, StoreError>
-    ensures table { walk.new.table ≡ walk.old.table }
-    ensures run { walk.new.run ≡ walk.old.run }
+    ensures same { IsSameWalk walk.old walk.new }
     ensures moved { Moves S.Store store.old walk.old store.new (λ given. IsRead store.old walk.old → IfOk result (WalksOn S.Store given store.new walk.new)) }
     ensures asks { AsksIfOpen S.Store (is_ok result) store.old store.new }
 {
@@ -185,8 +183,7 @@ fn turn<S: Alter>(store: &mut Store<S>, walk: &mut Walk) -> Result<bool, StoreEr
 
 /// Whether a row is at hand, after as many turns as it takes.
 pub(crate) fn has_row<S: Alter>(store: &mut Store<S>, walk: &mut Walk) -> Result<bool, StoreError>
-    ensures table { walk.new.table ≡ walk.old.table }
-    ensures run { walk.new.run ≡ walk.old.run }
+    ensures same { IsSameWalk walk.old walk.new }
     ensures moved { Moves S.Store store.old walk.old store.new (λ given. IfOk result (WalksOn S.Store given store.new walk.new)) }
     ensures asks { AsksIfOpen S.Store (is_ok result) store.old store.new }
 {

@@ -1,52 +1,129 @@
-// Names, heads and walks over the rows of a run, over rows that are written by hand.
+// Names, heads and the rows of a run, over rows that are written by hand.
 use crate::stores::filled;
 use cg_formulas::FileHead;
-use held_runs::{arcs_of, cells_of, head_of, names_of, stacks_of};
+use cg_text::ListVec;
+use cost_rows::{ArcRow, CellRow, StackRow};
+use held_runs::{
+    TakesCalls, TakesCells, TakesStacks, each_call, each_cell, each_stack, head_of, names_of,
+};
 use prof_store::{Store, StoreError};
 use sqlite::MemStore;
 use std::alloc::Global;
 use std::test::Fail;
 
-/// What a walk over the cells of run 1 comes to: the costs of those of the objects `a` and `g`, and the
-/// lines of all.
-fn cells(store: &mut Store<MemStore>, alloc: Global) -> Result<(u128, u128, u64), StoreError> {
-    let names = names_of(store, alloc)?;
-    let mut walk = cells_of(store, 1, &names, 2);
-    let (mut of_a, mut of_g, mut lines) = (0u128, 0u128, 0u64);
-    for _ in 0..1000 {
-        let Some(cell) = walk.next()? else {
-            break;
-        };
-        if cell.object == b"a".as_slice() && cell.file == b"b".as_slice() {
-            of_a = of_a.saturating_add(cell.cost);
-        }
-        if cell.object == b"g".as_slice() && cell.function == b"c".as_slice() && cell.event == 1 {
-            of_g = of_g.saturating_add(cell.cost);
-        }
-        lines = lines.saturating_add(cell.line);
-    }
-    Ok((of_a, of_g, lines))
+/// What some cells come to: the costs of those of the objects `a` and `g`, and the lines of all. Nothing is
+/// said of it: the tests look at it.
+#[derive(Drop)]
+struct CellSums {
+    of_a: u128,
+    of_g: u128,
+    lines: u64,
 }
 
-/// What a walk over the calls of run 1 comes to, of those to the function `b` in `c` of `g`: how many they
-/// are, and what they cost of the second event.
-fn calls(store: &mut Store<MemStore>, alloc: Global) -> Result<(u128, u128), StoreError> {
+impl TakesCells for CellSums {
+    ghost use Rattle.std.specs.Prelude.{⊤};
+
+    ghost Meaning = { ⊤ };
+
+    ghost meaning = { λ _. tt };
+
+    ghost step = { λ _ _. tt };
+
+    fn take(&mut self, cell: &CellRow<&[u8]>) -> Result<(), StoreError> {
+        if cell.object == b"a".as_slice() && cell.file == b"b".as_slice() {
+            self.of_a = self.of_a.saturating_add(cell.cost);
+        }
+        if cell.object == b"g".as_slice() && cell.function == b"c".as_slice() && cell.event == 1 {
+            self.of_g = self.of_g.saturating_add(cell.cost);
+        }
+        self.lines = self.lines.saturating_add(cell.line);
+        Ok(())
+    }
+}
+
+/// What the cells of run 1 come to, of two events.
+fn cells(store: &mut Store<MemStore>, alloc: Global) -> Result<(u128, u128, u64), StoreError> {
     let names = names_of(store, alloc)?;
-    let mut walk = arcs_of(store, alloc, 1, &names, 2);
-    let (mut count, mut costs) = (0u128, 0u128);
-    for _ in 0..1000 {
-        let Some(call) = walk.next()? else {
-            break;
-        };
+    let none = CellSums {
+        of_a: 0,
+        of_g: 0,
+        lines: 0,
+    };
+    let sums = each_cell(store, 1, &names, 2, none)?;
+    Ok((sums.of_a, sums.of_g, sums.lines))
+}
+
+/// What some calls come to, of those to the function `b` in `c` of `g`: how many they are; and what all cost
+/// of the second event, where they cost nothing of the first.
+#[derive(Drop)]
+struct CallSums {
+    count: u128,
+    costs: u128,
+}
+
+impl TakesCalls for CallSums {
+    ghost use Rattle.std.specs.Prelude.{⊤};
+
+    ghost Meaning = { ⊤ };
+
+    ghost meaning = { λ _. tt };
+
+    ghost step = { λ _ _. tt };
+
+    fn take(&mut self, call: &ArcRow<&[u8], ListVec<u128>>) -> Result<(), StoreError> {
         let (object, file, function) = (call.called_object, call.called_file, call.called_function);
         if object == b"g".as_slice() && file == b"c".as_slice() && function == b"b".as_slice() {
-            count = count.saturating_add(call.count);
+            self.count = self.count.saturating_add(call.count);
         }
         if let [0, cost] = call.costs.as_slice() {
-            costs = costs.saturating_add(*cost);
+            self.costs = self.costs.saturating_add(*cost);
         }
+        Ok(())
     }
-    Ok((count, costs))
+}
+
+/// What the calls of run 1 come to, of two events.
+fn calls(store: &mut Store<MemStore>, alloc: Global) -> Result<(u128, u128), StoreError> {
+    let names = names_of(store, alloc)?;
+    let none = CallSums { count: 0, costs: 0 };
+    let sums = each_call(store, alloc, 1, &names, 2, none)?;
+    Ok((sums.count, sums.costs))
+}
+
+/// The stacks of a run: their frames, each behind a line feed, and what they count.
+#[derive(Drop)]
+struct StackList {
+    frames: Vec<u8>,
+    count: u128,
+}
+
+impl TakesStacks for StackList {
+    ghost use Rattle.std.specs.Prelude.{⊤};
+
+    ghost Meaning = { ⊤ };
+
+    ghost meaning = { λ _. tt };
+
+    ghost step = { λ _ _. tt };
+
+    fn take(&mut self, stack: &StackRow<&[u8]>) -> Result<(), StoreError> {
+        if self.frames.push(b'\n').is_err() {
+            return Err(StoreError::Memory);
+        }
+        self.frames.extend_from_slice(stack.stack)?;
+        self.count = self.count.saturating_mul(10).saturating_add(stack.count);
+        Ok(())
+    }
+}
+
+/// The stacks of run 1: their frames, and their counts as the digits of one number.
+fn stacks(store: &mut Store<MemStore>, alloc: Global) -> Result<(Vec<u8>, u128), StoreError> {
+    let none = StackList {
+        frames: Vec::new(alloc),
+        count: 0,
+    };
+    let StackList { frames, count } = each_stack(store, 1, none)?;
+    Ok((frames, count))
 }
 
 /// There are 601 cells, of which a page has 512.
@@ -76,14 +153,8 @@ fn calls_are_walked(rt: HostRuntime) -> Result<(), Fail> {
 fn stacks_are_walked(rt: HostRuntime) -> Result<(), Fail> {
     let text = "INSERT INTO stack VALUES (1, x'613b62', 3), (1, x'62', 5)";
     let mut store = filled(rt.alloc(), text, 0)?;
-    let mut stacks = stacks_of(&mut store, 1);
-    for (frames, count) in [(b"a;b".as_slice(), 3), (b"b", 5)] {
-        let Some(stack) = stacks.next()? else {
-            return Err(Fail::from("no stack"));
-        };
-        assert!(rt; stack.stack.as_slice() == frames && stack.count == count);
-    }
-    assert!(rt; stacks.next()?.is_none());
+    let (frames, counts) = stacks(&mut store, rt.alloc())?;
+    assert!(rt; frames.as_slice() == b"\na;b\nb".as_slice() && counts == 35);
     Ok(())
 }
 
@@ -116,18 +187,15 @@ fn mark<T: Drop>(told: Result<T, StoreError>, number: u8) -> u8 {
     }
 }
 
-/// Which of these refuse the rows of run 1, of two events: the head (1), a walk over its cells (2; 4 when
-/// it is asked again), one over its calls (8), one over its stacks (16).
+/// Which of these refuse the rows of run 1, of two events: the head (1), and what hands on its cells (2), its
+/// calls (4) and its stacks (8).
 fn refusals(alloc: Global, text: &str) -> Result<u8, StoreError> {
     let mut store = filled(alloc, text, 1)?;
     let head = mark(head_of(&mut store, alloc, 1), 1);
-    let stacks = mark(stacks_of(&mut store, 1).next(), 16);
-    let names = names_of(&mut store, alloc)?;
-    let calls = mark(arcs_of(&mut store, alloc, 1, &names, 2).next(), 8);
-    let mut cells = cells_of(&mut store, 1, &names, 2);
-    let first = mark(cells.next(), 2);
-    let again = mark(cells.next(), 4);
-    Ok(head | first | again | calls | stacks)
+    let cells = mark(cells(&mut store, alloc), 2);
+    let calls = mark(calls(&mut store, alloc), 4);
+    let stacks = mark(stacks(&mut store, alloc), 8);
+    Ok(head | cells | calls | stacks)
 }
 
 #[test]
@@ -135,10 +203,10 @@ fn rows_out_of_form_are_refused(rt: HostRuntime) -> Result<(), Fail> {
     for (text, wanted) in [
         ("INSERT INTO run_event VALUES (1, 1, x'41', 5, 0, NULL)", 1),
         ("INSERT INTO run_event VALUES (1, 0, x'41', 5, 0, '07')", 1),
-        ("INSERT INTO cell VALUES (1, 4, 2, 3, 9, 0, 1)", 6),
-        ("INSERT INTO cell VALUES (1, 1, 2, 3, 9, 2, 1)", 6),
-        ("INSERT INTO arc VALUES (1, 1, 2, 3, 4, 7, 3, 2, 1, 5)", 8),
-        ("INSERT INTO stack VALUES (1, x'61', -1)", 16),
+        ("INSERT INTO cell VALUES (1, 4, 2, 3, 9, 0, 1)", 2),
+        ("INSERT INTO cell VALUES (1, 1, 2, 3, 9, 2, 1)", 2),
+        ("INSERT INTO arc VALUES (1, 1, 2, 3, 4, 7, 3, 2, 1, 5)", 4),
+        ("INSERT INTO stack VALUES (1, x'61', -1)", 8),
         ("INSERT INTO stack VALUES (1, x'61', 1)", 0),
     ] {
         assert_eq!(rt; refusals(rt.alloc(), text)?, wanted, "{text}");
@@ -146,7 +214,7 @@ fn rows_out_of_form_are_refused(rt: HostRuntime) -> Result<(), Fail> {
     Ok(())
 }
 
-/// With one allocation refused (`tests/refuse_each`), the walk that meets it says so, and the next is whole.
+/// With one allocation refused (`tests/refuse_each`), the call that meets it says so, and the next is whole.
 #[test]
 fn memory_refused_to_walk(rt: HostRuntime) -> Result<(), Fail> {
     let alloc = rt.alloc();

@@ -1,5 +1,5 @@
 // Rows, read into lists.
-ghost use Rattle.std.specs.Prelude.{◌≡◌, ◌<◌, length, map, IfOk, IsTrue};
+ghost use Rattle.std.specs.Prelude.{◌≡◌, ◌↔◌, length, map, IfOk, IsTrue};
 ghost use Rattle.std.specs.List.{AllAdjacentBelow};
 
 use crate::columns::number_at;
@@ -25,14 +25,14 @@ pub trait FromRow: Sized {
 
 /// What rises, line by line.
 pub trait Rises {
-    ghost use Rattle.std.specs.Prelude.{IsTrue};
+    ghost use Rattle.std.specs.Prelude.{◌↔◌, IsTrue};
 
     /// That a line stands below another.
     ghost Below: { Self → Self → Type 0 };
 
     /// Whether it stands below another.
     fn is_below(&self, other: &Self) -> bool
-        ensures { IsTrue result → Below self.now other.now };
+        ensures { IsTrue result ↔ Below self.now other.now };
 }
 
 /// Reads rows, one after another. `Store` where one is out of form.
@@ -51,7 +51,7 @@ pub fn read_rows<L: FromRow + Drop>(alloc: Global, rows: &[Row]) -> Result<Vec<L
 
 /// Whether lines rise, one after another.
 pub fn rise<L: Rises>(lines: &[L]) -> bool
-    ensures { IsTrue result → AllAdjacentBelow L.Below lines.now (length lines.now) }
+    ensures { IsTrue result ↔ AllAdjacentBelow L.Below lines.now (length lines.now) }
 {
     for k in 1..lines.len() {
         if !lines[k - 1].is_below(&lines[k]) {

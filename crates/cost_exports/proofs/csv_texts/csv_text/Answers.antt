@@ -1,19 +1,18 @@
-use Rattle.std.proofs.Common.{◌++◌, sym, ap, ◌∙◌}
-use Rattle.std.proofs.lemmas.Grind.{flat_map-append}
-use Rattle.std.proofs.lemmas.List.{append_assoc}
-use Rattle.cost_exports.specs.Csv.{csv_row, csv_rows}
-use Rattle.cost_exports.specs.Views.{held_names, held_places, placed, spread}
+use Rattle.std.proofs.Common.{◌++◌, [], List, ℕ, unwrap_or, refl, ap, ◌∙◌}
+use Rattle.csv.specs.Writing.{default_writer, row_text}
+use Rattle.cost_exports.specs.Csv.{EventSpot, csv_header, csv_rows}
+use Rattle.cost_exports.specs.Views.{HasWritten}
 use Rattle.cost_exports.proofs.csv_texts.csv_text.Goals as goal
 
-pub loop-names-preserved : goal.loop-names-preserved
-loop-names-preserved c =
-    let rows = placed (held_names c.in-Some.names.now) c.in-Some.lines.now in
-    let more = spread (held_places c.next.new.self) in
-    let was = c.loop-names.invariant in (
-      was.0 ++ csv_rows rows,
-      c.in_ok-write_lines.ensures was.0 was.1,
-      append_assoc was.0 (csv_rows rows) (csv_rows more)
-          ∙ ap (λ bytes. was.0 ++ bytes) (sym (flat_map-append csv_row rows more))
-          ∙ ap (λ places. was.0 ++ csv_rows (spread (held_places places))) (sym c.in-Some.ensures.steps)
-          ∙ was.2,
-    )
+pub returns-in-Ok : goal.returns-in-Ok
+returns-in-Ok c =
+    let from = c.from_writer-writer.ensures in
+    let none : HasWritten c.from_writer-writer.result [] = record {
+      setup = from.cfg ∙ c.new.ensures;
+      text = rw (from.wtr, from.empty, c.new-2.ensures.items) refl;
+      fields = from.fields;
+      clean = from.wrote;
+    } in
+    let header = c.in_ok-write_header.ensures [] none in
+    let rows = c.in_ok-write_places.ensures (row_text default_writer csv_header) header in
+    c.from_vec.ensures ∙ c.in-Ok.ensures.ok ∙ ap (λ o. unwrap_or o []) rows.text ∙ ap (λ (sums : List (EventSpot × ℕ)). row_text default_writer csv_header ++ csv_rows sums) c.places.ensures

@@ -14,7 +14,7 @@ lines-preserved g c =
     let i = c.lines.invariant in
     let t = g.T.TakesLines in
     record {
-      run = n.run ∙ i.run;
+      run = n.same.run ∙ i.run;
       asked = λ clean. let one = n.asks clean in asked_open_then schema_one true _ _ _ (i.asked one.stays.was_clean) one;
       taken = λ clean ready start was.
           let h = i.taken (n.asks clean).stays.was_clean ready start was in
@@ -32,7 +32,7 @@ returns-then-not-branch-clause-found g c clean ready start was =
     let h = i.taken (n.asks clean).stays.was_clean ready start was in
     let ended = subst (HandsOn g.S.Store t.listed t.columns (λ l. t.Has start l c.hand_line.new.taker) h.0 store walk) c.if-not-branch.true (n.handed start clean h.0 h.1 h.2) in
     let all = all_given g.S.Store t.listed t.columns h.0 store walk ended.0 ended.1 in
-    (h.0, subst (λ run. AreAllRead t.listed t.columns run (rows_of g.S.Store t.listed store) h.0) (n.run ∙ i.run) all, ended.2)
+    (h.0, subst (λ run. AreAllRead t.listed t.columns run (rows_of g.S.Store t.listed store) h.0) (n.same.run ∙ i.run) all, ended.2)
 
 pub returns-then-not-branch-clause-told : goal.returns-then-not-branch-clause-told
 returns-then-not-branch-clause-told g c clean t stands start was =

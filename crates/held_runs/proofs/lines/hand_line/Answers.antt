@@ -9,7 +9,7 @@ pub returns-then-not-branch-clause-handed : goal.returns-then-not-branch-clause-
 returns-then-not-branch-clause-handed g c start clean lines was has =
     let e = c.in_ok-has_row.ensures in
     let moved = e.moved clean (map g.T.TakesLines.columns lines) was.walks in
-    (record { table_is = e.table ∙ was.table_is; walks = moved.0 }, moved.1 c.if-not-branch.true, has)
+    (record { table_is = e.same.table ∙ was.table_is; walks = moved.0 }, moved.1 c.if-not-branch.true, has)
 
 pub returns-in_ok-take-in-Some-clause-handed : goal.returns-in_ok-take-in-Some-clause-handed
 returns-in_ok-take-in-Some-clause-handed g c start clean lines was has =
@@ -18,7 +18,7 @@ returns-in_ok-take-in-Some-clause-handed g c start clean lines was has =
     let walk = c.has_row.new.walk in
     let x = c.in-Some.row.now in
     let moved = e.moved clean (map t.columns lines) was.walks in
-    let table_is = e.table ∙ was.table_is in
+    let table_is = e.same.table ∙ was.table_is in
     let look = c.in-Some.ensures.lookup in
     let there = subst (λ l. (walk.at < length l) × (x ≡ get_or l walk.at x)) c.deref.ensures.value (look.3.0, look.1) in
     let taken = c.in_ok-take-in-Some.ensures start lines has in

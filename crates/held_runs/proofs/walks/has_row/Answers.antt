@@ -18,8 +18,7 @@ pages-preserved g c =
     let t = c.in_ok-turn.ensures in
     let i = c.pages.invariant in
     let none : drop c.pages.walk.at c.pages.store.page.items ≡ [] = search (rules, drop_all) in record {
-      table = t.table ∙ i.table;
-      run = t.run ∙ i.run;
+      same = record { table = t.same.table ∙ i.same.table; run = t.same.run ∙ i.same.run };
       asked = λ clean. let one = t.asks clean in asked_open_then schema_one true _ _ _ (i.asked one.stays.was_clean) one;
       moved = λ clean given was. (t.moved clean given (i.moved (t.asks clean).stays.was_clean given was) none).0;
     }
