@@ -140,7 +140,13 @@ fn annotated<'a>(alloc: Global) -> Arg<'a>
     ensures rule { rule_of result ≡ line.annotated }
     ensures local { result.global ≡ false }
 {
-    option(alloc, "file", "NAME", "The name of the file in the profiles").required(true)
+    option(
+        alloc,
+        "file",
+        "NAME",
+        "The name of the file in the profiles",
+    )
+    .required(true)
 }
 
 /// The word of a key.

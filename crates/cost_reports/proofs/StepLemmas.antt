@@ -132,21 +132,21 @@ module _ (a : Row) (firsts seconds : List (Spot × ℕ)) (next : Next) where
   as_first : (second : Option Row) → IsAlone First a next → IsInOrder (from_row (Some a) firsts) → IsInOrder (from_row second seconds)
       → beside (from_row (Some a) firsts) (from_row second seconds) ≡ on_side First (plain_row a) ∷ beside firsts (from_row second seconds) → ComesNext (Some a) firsts second seconds (Some next)
   as_first second alone one two is = (
-      is
-      ∙ ap₂ (λ p (q : Pair). (p, q) ∷ beside firsts (from_row second seconds)) (sym alone.0) (sym alone.1)
-      ∙ ap₂ (λ f s. (lent_place next.place, next.pair) ∷ beside (left_of f (Some a) firsts) (left_of s second seconds)) (sym alone.2) (sym alone.3),
-      subst (λ f. IsInOrder (left_of f (Some a) firsts)) (sym alone.2) (rest_in_order a firsts one),
-      subst (λ s. IsInOrder (left_of s second seconds)) (sym alone.3) two,
+    is
+        ∙ ap₂ (λ p (q : Pair). (p, q) ∷ beside firsts (from_row second seconds)) (sym alone.0) (sym alone.1)
+        ∙ ap₂ (λ f s. (lent_place next.place, next.pair) ∷ beside (left_of f (Some a) firsts) (left_of s second seconds)) (sym alone.2) (sym alone.3),
+    subst (λ f. IsInOrder (left_of f (Some a) firsts)) (sym alone.2) (rest_in_order a firsts one),
+    subst (λ s. IsInOrder (left_of s second seconds)) (sym alone.3) two,
   )
 
   as_second : (first : Option Row) → IsAlone Second a next → IsInOrder (from_row first firsts) → IsInOrder (from_row (Some a) seconds)
       → beside (from_row first firsts) (from_row (Some a) seconds) ≡ on_side Second (plain_row a) ∷ beside (from_row first firsts) seconds → ComesNext first firsts (Some a) seconds (Some next)
   as_second first alone one two is = (
-      is
-      ∙ ap₂ (λ p (q : Pair). (p, q) ∷ beside (from_row first firsts) seconds) (sym alone.0) (sym alone.1)
-      ∙ ap₂ (λ f s. (lent_place next.place, next.pair) ∷ beside (left_of f first firsts) (left_of s (Some a) seconds)) (sym alone.2) (sym alone.3),
-      subst (λ f. IsInOrder (left_of f first firsts)) (sym alone.2) one,
-      subst (λ s. IsInOrder (left_of s (Some a) seconds)) (sym alone.3) (rest_in_order a seconds two),
+    is
+        ∙ ap₂ (λ p (q : Pair). (p, q) ∷ beside (from_row first firsts) seconds) (sym alone.0) (sym alone.1)
+        ∙ ap₂ (λ f s. (lent_place next.place, next.pair) ∷ beside (left_of f first firsts) (left_of s (Some a) seconds)) (sym alone.2) (sym alone.3),
+    subst (λ f. IsInOrder (left_of f first firsts)) (sym alone.2) one,
+    subst (λ s. IsInOrder (left_of s (Some a) seconds)) (sym alone.3) (rest_in_order a seconds two),
   )
 
 module _ (first second : Option Row) (firsts seconds : List (Spot × ℕ)) (one : IsInOrder (from_row first firsts)) (two : IsInOrder (from_row second seconds)) where

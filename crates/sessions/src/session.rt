@@ -253,9 +253,13 @@ impl<'a, R: Files + AllocGlobal, W: Write + Drop, S: Alter> Session<'a, R, W, S>
             return self.refuse(Refusal::Memory);
         };
         let mut source = FileSource::new(self.rt, path);
-        let answer =
-            self.warehouse
-                .annotate(alloc, asked.selection, asked.event, asked.file, &mut source);
+        let answer = self.warehouse.annotate(
+            alloc,
+            asked.selection,
+            asked.event,
+            asked.file,
+            &mut source,
+        );
         self.tell(answer)
     }
 

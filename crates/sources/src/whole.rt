@@ -28,11 +28,7 @@ impl TakesBytes for Gathered {
 
 /// The bytes that a source gives to its end, or until that is more than `limit` bytes. Every error of a
 /// read is a failed read, an interrupted one too.
-pub fn read_whole<S: Source>(
-    alloc: Global,
-    limit: u64,
-    source: &mut S,
-) -> Result<Vec<u8>, Unread>
+pub fn read_whole<S: Source>(alloc: Global, limit: u64, source: &mut S) -> Result<Vec<u8>, Unread>
     requires { limit ≤ 1073741824 }
     ensures { WasRead S.reads limit source.old source.new result (λ bytes whole. whole.items ≡ bytes) }
 {

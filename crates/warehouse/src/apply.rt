@@ -52,14 +52,7 @@ impl<S: Alter> Warehouse<S> {
         ensures answered { IsFaithful S.Store self.new.store → (outcomes : List Outcome) × Reads R.reads source.old outcomes source.new
             × Answers S.Store self.old.limits (Annotate selection event file outcomes) result self.old.store self.new.store }
     {
-        annotate_in(
-            &mut self.store,
-            alloc,
-            selection,
-            event,
-            file,
-            source,
-        )
+        annotate_in(&mut self.store, alloc, selection, event, file, source)
     }
 
     /// Does what a command says, and answers it. A refused command changes nothing.
@@ -89,14 +82,7 @@ impl<S: Alter> Warehouse<S> {
                 event,
                 file,
                 mut source,
-            } => annotate_in(
-                store,
-                alloc,
-                selection,
-                event,
-                file,
-                &mut source,
-            ),
+            } => annotate_in(store, alloc, selection, event, file, &mut source),
         }
     }
 

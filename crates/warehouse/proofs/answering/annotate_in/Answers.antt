@@ -23,8 +23,8 @@ returns-in-Ok g c = record {
         read.outcomes,
         read.came,
         subst (λ a. Answers g.S.Store limits said a c.args.store.now c.annotate_answer.new.store) (sym c.answer_of.ensures)
-        (answered_as g.S.Store limits query said tt (λ h. ended_due most_of_source read.outcomes (expected_of_query h query) ended.reads.within ended.reads.unfailed ended.ended)
-        c.args.store.now c.annotate_answer.new.store c.annotate_answer.result asked),
+            (answered_as g.S.Store limits query said tt (λ h. ended_due most_of_source read.outcomes (expected_of_query h query) ended.reads.within ended.reads.unfailed ended.ended)
+            c.args.store.now c.annotate_answer.new.store c.annotate_answer.result asked),
       );
 }
 
@@ -37,6 +37,6 @@ returns g c = record {
         read.outcomes,
         read.came,
         subst (λ a. Answers g.S.Store limits said a c.args.store.now c.args.store.now) (sym c.unread_answer.ensures)
-        (unread_answered limits said tt most_of_source read.outcomes (λ h. expected_of_query h (queries.Annotate s c.args.event c.args.file (bytes_of read.outcomes))) (λ h. refl) g.S.Store c.args.store.now clean c.in-Err.unread read.read),
+            (unread_answered limits said tt most_of_source read.outcomes (λ h. expected_of_query h (queries.Annotate s c.args.event c.args.file (bytes_of read.outcomes))) (λ h. refl) g.S.Store c.args.store.now clean c.in-Err.unread read.read),
       );
 }

@@ -19,6 +19,6 @@ returns g c =
         was.0,
         was.1,
         one_cell start.0 start.1 g.T.TakesCells.step start.2 _ _ lines line row was.2 (subst (λ (n : List NameLine). plain_cell row ≡ cell_held n line) was.0 r.row) (subst (λ (n : List NameLine). CellIsNamed n line) was.0 r.named)
-        (subst (λ n. row.event < n) was.1 r.counted) steps,
+            (subst (λ n. row.event < n) was.1 r.counted) steps,
       ),
     ))
