@@ -1,12 +1,11 @@
 -- What a work over a store comes to.
-use Rattle.std.specs.Prelude.{◌≡◌, ℕ, ◌^◌, Bool, not, if◌then◌else◌, List, [], ◌++◌, codes, Option, take, Result, Ok, Err, MatchResult}
+use Rattle.std.specs.Prelude.{◌≡◌, ℕ, ◌^◌, Bool, if◌then◌else◌, List, [], ◌++◌, codes, Option, take, Result, Ok, Err, MatchResult}
 use Rattle.std.specs.Io.KnownBytes.{Appends}
 use Rattle.std.specs.declared.alloc.AllocError.{AllocError}
 use Rattle.sqlite_trees.specs.declared.store.Store.{Ghosts}
 use Rattle.sqlite.specs.Held.{state}
-use Rattle.sqlite.specs.State.{HasCleanDisk}
 use Rattle.sqlite.specs.declared.connection.Connection.{Connection}
-use Rattle.prof_store.specs.Shown.{shown, IsFaithful}
+use Rattle.prof_store.specs.Shown.{shown}
 use Rattle.prof_store.specs.declared.store.Store.{Store}
 use Rattle.file_totals.specs.declared.total.TotalText.{TotalText}
 use Rattle.histories.specs.History.{History, Said}

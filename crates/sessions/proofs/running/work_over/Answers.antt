@@ -1,4 +1,4 @@
-use Rattle.std.proofs.Common.{◌≡◌, ◌∙◌, sym, ap, subst}
+use Rattle.std.proofs.Common.{◌∙◌, sym, ap, subst}
 use Rattle.prof_store.specs.Shown.{IsFaithful}
 use Rattle.warehouse.specs.declared.warehouse.Warehouse.{Warehouse}
 use Rattle.sessions.specs.Sessions.{Wants}

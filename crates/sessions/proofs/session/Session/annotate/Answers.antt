@@ -1,4 +1,4 @@
-use Rattle.std.proofs.Common.{◌≡◌, [], ap, sym, subst, inl, inr, refl}
+use Rattle.std.proofs.Common.{[], sym, subst, inl, inr, refl}
 use Rattle.histories.specs.History.{Annotate}
 use Rattle.prof_store.specs.Shown.{IsFaithful}
 use Rattle.sessions.specs.Questions.{selection_said}
@@ -7,8 +7,8 @@ use Rattle.sessions.proofs.SessionLemmas.{none_read, told, were_read}
 use Rattle.store_histories.specs.Answered.{Answers}
 use Rattle.sessions.proofs.session.Session.annotate.Goals as goal
 
-pub returns-in-Err-clause-answered : goal.returns-in-Err-clause-answered
-returns-in-Err-clause-answered g c clean = (
+pub returns-in_default-clause-answered : goal.returns-in_default-clause-answered
+returns-in_default-clause-answered g c clean = (
   [],
   none_read g.R.File.Read.remaining,
   c.refuse.ensures.answered clean (Annotate (selection_said c.args.selected) c.args.event.now c.args.file.now []) (λ h. inl (tt, inr (inl refl))),

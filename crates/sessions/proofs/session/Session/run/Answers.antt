@@ -1,4 +1,4 @@
-use Rattle.std.proofs.Common.{◌≡◌, [], ◌∷◌, map, refl, sym, ap, subst, rules}
+use Rattle.std.proofs.Common.{◌≡◌, [], ◌∷◌, map, refl, sym, subst, rules}
 use Rattle.histories.specs.History.{Annotate, Ask, Remove}
 use Rattle.program_files.specs.Imported.{WereRead}
 use Rattle.sessions.specs.Questions.{query_said, selection_said}
