@@ -1,0 +1,14 @@
+//! One HTTP exchange, without a store: from the bytes of a request's head to what is asked, and from an
+//! answer to the bytes of a response.
+#![tactic(auto)]
+
+// The head of a request, in the bytes that came so far (specs/Heads.antt).
+mod heads;
+// The bytes of a response (specs/Responses.antt).
+mod responses;
+// The statuses of responses (specs/Responses.antt).
+mod statuses;
+
+pub use heads::{FIELD_LIMIT, HEAD_LIMIT, Head, find_head};
+pub use responses::{RESPONSE_HEAD_ROOM, put_head};
+pub use statuses::Status;
