@@ -1,2 +1,4 @@
 pub mod Heads
+pub mod Places
 pub mod Responses
+pub mod Routes

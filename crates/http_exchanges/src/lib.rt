@@ -4,11 +4,17 @@
 
 // The head of a request, in the bytes that came so far (specs/Heads.antt).
 mod heads;
+// The paths of the table of routes, and their methods (specs/Places.antt).
+mod places;
 // The bytes of a response (specs/Responses.antt).
 mod responses;
+// The routes, as `matchit` keeps them (specs/Routes.antt).
+mod routing;
 // The statuses of responses (specs/Responses.antt).
 mod statuses;
 
 pub use heads::{FIELD_LIMIT, HEAD_LIMIT, Head, find_head};
+pub use places::{Method, Place};
 pub use responses::{RESPONSE_HEAD_ROOM, put_head};
+pub use routing::routes;
 pub use statuses::Status;
