@@ -1,0 +1,2 @@
+pub mod MetLemmas
+pub mod TextsLemmas

@@ -1,4 +1,10 @@
+pub mod Asked
+pub mod Failings
 pub mod Heads
+pub mod Lengths
+pub mod Numbers
+pub mod Parameters
 pub mod Places
 pub mod Responses
 pub mod Routes
+pub mod Texts
