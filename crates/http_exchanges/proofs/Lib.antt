@@ -1,2 +1,3 @@
+mod Examples
 pub mod MetLemmas
 pub mod TextsLemmas

@@ -5,6 +5,7 @@ pub mod Lengths
 pub mod Numbers
 pub mod Parameters
 pub mod Places
+pub mod Requests
 pub mod Responses
 pub mod Routes
 pub mod Texts

@@ -18,6 +18,8 @@ mod numbers;
 mod parameters;
 // The paths of the table of routes, and their methods (specs/Places.antt).
 mod places;
+// From a head to what is asked, by the checks in their order (specs/Requests.antt).
+mod requests;
 // The bytes of a response (specs/Responses.antt).
 mod responses;
 // The routes, as `matchit` keeps them (specs/Routes.antt).
@@ -31,6 +33,7 @@ pub use asked::{Asked, Selected};
 pub use failings::Failing;
 pub use heads::{FIELD_LIMIT, HEAD_LIMIT, Head, find_head};
 pub use places::{Method, Place};
+pub use requests::{Request, SOURCE_LIMIT, read_request};
 pub use responses::{RESPONSE_HEAD_ROOM, put_head};
 pub use routing::routes;
 pub use statuses::Status;
