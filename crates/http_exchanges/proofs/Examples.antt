@@ -1,5 +1,5 @@
 -- The definitions, computed on examples: each route, each failing check, each status.
-use Rattle.std.proofs.Common.{◌≡◌, ℕ, List, [], ◌∷◌, ◌++◌, Some, None, Result, Ok, Err, refl, codes, length}
+use Rattle.std.proofs.Common.{◌≡◌, ℕ, List, [], ◌∷◌, Some, None, Result, Ok, Err, refl, codes}
 use Rattle.std.specs.Fmt.{digits}
 use Rattle.matchit.proofs.OnLiterals.{matchit_on_literals}
 use Rattle.httparse.specs.Grammar.{RequestHead, Field, crlf, trim_ows}
@@ -10,7 +10,7 @@ use Rattle.http_exchanges.specs.Texts.{parts_of}
 use Rattle.http_exchanges.specs.Places.{methods_of, joined}
 use Rattle.http_exchanges.specs.Routes.{routes, place_of}
 use Rattle.http_exchanges.specs.Failings.{failing_text}
-use Rattle.http_exchanges.specs.Responses.{head_text, response_text, code_of}
+use Rattle.http_exchanges.specs.Responses.{head_text, response_text}
 use Rattle.http_exchanges.specs.Requests.{request_of}
 use Rattle.http_exchanges.specs.declared.statuses.Status.TheVariants as status
 use Rattle.http_exchanges.specs.declared.failings.Failing.{Failing}

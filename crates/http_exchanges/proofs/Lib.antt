@@ -1,3 +1,2 @@
 mod Examples
-pub mod MetLemmas
 pub mod TextsLemmas

@@ -1,5 +1,5 @@
 -- Texts cut at a byte.
-use Rattle.std.proofs.Common.{◌≡◌, ℕ, suc, ◌+◌, ◌-◌, ◌<◌, ◌==◌, not, Bool, true, false, cond, List, [], ◌∷◌, length, take, drop, get_or, Option, Some, None, refl, sym, ap, ◌∙◌, arith}
+use Rattle.std.proofs.Common.{◌≡◌, ℕ, suc, ◌+◌, ◌<◌, ◌==◌, not, Bool, true, false, cond, List, [], ◌∷◌, length, take, drop, Option, Some, None, refl, ap, arith}
 use Rattle.std.specs.List.{position_or_len, before_first, after_first}
 use Rattle.http_exchanges.specs.Texts.{front_of, rest_of, cut_on, parts_of, parts_after}
 
@@ -29,7 +29,7 @@ present : (found : Bool) (mark b n : ℕ) (text : List ℕ) → (n < length text
     → cond (not found) (1 + n) 0 < suc (length text)
     → (cond found [] (b ∷ front_of mark text) ≡ take (cond (not found) (1 + n) 0) (b ∷ text)) × (cond found (Some text) (rest_of mark text) ≡ Some (drop (cond (not found) (1 + n) 0 + 1) (b ∷ text)))
 present true mark b n text rest e = (refl, refl)
-present false mark b n text rest e = 
+present false mark b n text rest e =
     let is = rest (omega (arith, e)) in
     let one : 1 + n ≡ suc n = omega arith in
     let next : (1 + n) + 1 ≡ suc (n + 1) = omega arith in (rw one (ap (λ l. b ∷ l) is.0), rw next is.1)

@@ -39,7 +39,9 @@ allow_line (b ∷ text) = codes "Allow: " ++ ((b ∷ text) ++ codes "\r\n")
 -- the head of a response, its empty line with it, for a body of so many bytes
 unfoldable pub head_text : Status → List ℕ → ℕ → List ℕ
 head_text status allow size =
-    codes "HTTP/1.1 " ++ (status_text status ++ (codes "\r\nContent-Type: text/plain\r\nContent-Length: " ++ (decimal size ++ (codes "\r\n" ++ (allow_line allow ++ codes "Connection: close\r\n\r\n")))))
+    codes "HTTP/1.1 " ++ (status_text status
+    ++ (codes "\r\nContent-Type: text/plain\r\nContent-Length: " ++ (decimal size
+    ++ (codes "\r\n" ++ (allow_line allow ++ codes "Connection: close\r\n\r\n")))))
 
 -- a response
 abbrev pub response_text : Status → List ℕ → List ℕ → List ℕ

@@ -21,10 +21,7 @@ fn is_named(bytes: &[u8], field: HeaderSpan, name: &str) -> bool
     requires { IsHeaderWithin (length bytes.now) field }
     ensures { result ≡ spec.same_name (span_bytes bytes.now field.name) name.now }
 {
-    field
-        .name
-        .of(bytes)
-        .eq_ignore_ascii_case(name.as_bytes())
+    field.name.of(bytes).eq_ignore_ascii_case(name.as_bytes())
 }
 
 /// The values of the fields of a name, which is told without regard to ASCII case.

@@ -80,12 +80,7 @@ fn asked_by(
 }
 
 /// The length of the body that is read at a place, where files have at most `limit` bytes.
-fn length_at(
-    limit: u64,
-    place: Place,
-    bytes: &[u8],
-    fields: &[HeaderSpan],
-) -> Result<u64, Failing>
+fn length_at(limit: u64, place: Place, bytes: &[u8], fields: &[HeaderSpan]) -> Result<u64, Failing>
     requires { All (IsHeaderWithin (length bytes.now)) fields.now }
     ensures { result ≡ spec.length_at limit place (map (header_bytes bytes.now) fields.now) }
 {

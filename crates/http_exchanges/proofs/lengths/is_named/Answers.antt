@@ -1,5 +1,4 @@
-use Rattle.std.proofs.Common.{◌≡◌, ◌↔◌, ℕ, List, Bool, true, false, IsTrue, map, bytes_eq, refl, rules, sym, ap, ◌∙◌}
-use Rattle.std.specs.Char.{to_ascii_lowercase}
+use Rattle.std.proofs.Common.{◌≡◌, ◌↔◌, ℕ, List, Bool, true, false, IsTrue, bytes_eq, refl, rules, sym, ap, ◌∙◌}
 use Rattle.cost_rows.proofs.NamingLemmas.{bytes-same, same_bytes}
 use Rattle.http_exchanges.specs.Lengths.{same_name}
 use Rattle.http_exchanges.proofs.lengths.is_named.Goals as goal

@@ -1,4 +1,4 @@
-use Rattle.std.proofs.Common.{◌≡◌, List, [], ◌∷◌, ◌++◌, ℕ, map, drop}
+use Rattle.std.proofs.Common.{◌≡◌, List, ◌∷◌, ℕ, map, drop}
 use Rattle.httparse.specs.Spans.{header_bytes}
 use Rattle.http_exchanges.specs.Lengths.{values_named}
 use Rattle.http_exchanges.specs.declared.lengths.Values.{Values}

@@ -1,5 +1,5 @@
 use Rattle.std.proofs.Common.{◌≡◌, ℕ, ◌+◌, ◌<◌, List, [], ◌∷◌, length, Option, Some, None, IfSome, refl, sym, ap, ◌∙◌, arith, Bor}
-use Rattle.http_exchanges.specs.Texts.{front_of, rest_of, parts_of, parts_after, shown}
+use Rattle.http_exchanges.specs.Texts.{front_of, rest_of, parts_after, shown}
 use Rattle.http_exchanges.specs.Parameters.{Given, with_part, with_parts}
 use Rattle.http_exchanges.specs.declared.names.Name.{Name}
 use Rattle.http_exchanges.proofs.TextsLemmas.{parts_cut}

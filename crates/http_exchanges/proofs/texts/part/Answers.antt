@@ -1,4 +1,4 @@
-use Rattle.std.proofs.Common.{◌≡◌, ℕ, zero, suc, ◌+◌, ◌-◌, ◌<◌, List, [], ◌∷◌, get_or, Option, Some, None, sym, ap, ◌∙◌, refl, arith}
+use Rattle.std.proofs.Common.{◌≡◌, ℕ, suc, ◌+◌, ◌-◌, ◌<◌, List, [], get_or, Option, sym, ap, ◌∙◌, refl, arith}
 use Rattle.http_exchanges.specs.Texts.{front_of, rest_of, parts_of, parts_after, shown}
 use Rattle.http_exchanges.proofs.TextsLemmas.{parts_cut}
 use Rattle.http_exchanges.proofs.texts.part.Goals as goal

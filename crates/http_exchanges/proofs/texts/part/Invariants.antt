@@ -1,4 +1,4 @@
-use Rattle.std.proofs.Common.{◌≡◌, ◌-◌, ◌≤◌, get_or, []}
+use Rattle.std.proofs.Common.{◌≡◌, ◌-◌, get_or, []}
 use Rattle.http_exchanges.specs.Texts.{parts_of}
 use Rattle.http_exchanges.proofs.texts.part.Given as goal
 

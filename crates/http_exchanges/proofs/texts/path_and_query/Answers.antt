@@ -1,4 +1,4 @@
-use Rattle.std.proofs.Common.{◌≡◌, sym, ◌∙◌, arith}
+use Rattle.std.proofs.Common.{sym, ◌∙◌, arith}
 use Rattle.http_exchanges.proofs.TextsLemmas.{cut_present, cut_absent}
 use Rattle.http_exchanges.proofs.texts.path_and_query.Goals as goal
 

@@ -1,4 +1,4 @@
-use Rattle.std.proofs.Common.{◌≡◌, None, sym}
+use Rattle.std.proofs.Common.{None, sym}
 use Rattle.std.proofs.Math.ListN.{get_or-map}
 use Rattle.http_exchanges.specs.Texts.{shown}
 use Rattle.http_exchanges.proofs.parameters.Given.value.Goals as goal
