@@ -1,0 +1,11 @@
+pub mod Asked
+pub mod Failings
+pub mod Heads
+pub mod Lengths
+pub mod Numbers
+pub mod Parameters
+pub mod Places
+pub mod Requests
+pub mod Responses
+pub mod Routes
+pub mod Texts
