@@ -1,5 +1,5 @@
 -- The definitions, computed on whole files: the worked ones of examples/, and one for each fault.
-use Rattle.std.proofs.Common.{◌≡◌, [], ◌∷◌, codes, refl, Some, None}
+use Rattle.std.proofs.Common.{◌≡◌, ℕ, List, Option, [], ◌∷◌, codes, refl, Some, None}
 use Rattle.cg_text.specs.Fields.{line_text}
 use Rattle.cg_text.specs.Kinds.{kind_of}
 use Rattle.cg_text.specs.Names.{name_of}
@@ -8,6 +8,7 @@ use Rattle.cg_text.specs.Readings.{reading_of}
 use Rattle.cg_text.specs.Subpositions.{subpos_of}
 use Rattle.cg_text.specs.declared.faults.Fault.TheVariants.{BadNumber, CallWithoutCost, EventTwice, EventsChanged, IdRedefined, NoEvents, NumberTooLarge, PositionRange, PositionsForm, ShortLine, TooManyCosts, UnknownId, UnknownLine, Version}
 use Rattle.profile_records.specs.Records.{Own, Called}
+use Rattle.callgrind_reader.specs.IdPlaces.{place_near, place_or}
 use Rattle.callgrind_reader.specs.Files.{records_of_file, fault_of_file, events_of_file, stated_of_file}
 
 -- ---- the worked files: their records, and that they are accepted
@@ -202,6 +203,27 @@ stated-totals_short = refl
 events-totals_short : events_of_file (codes "events: Ir Dr\ntotals: 7\n") ≡ codes "Ir" ∷ codes "Dr" ∷ []
 unfolding reading_of line_text kind_of name_of number_of amount_of subpos_of
 events-totals_short = refl
+
+-- ---- places of identifiers
+
+-- identifiers 0 to 3, of which 1 and 3 have places
+abbrev near : List (Option ℕ)
+near = None ∷ Some 1 ∷ None ∷ Some 0 ∷ []
+
+place-near : place_near near 3 ≡ Some 0
+place-near = refl
+
+place-left_out : place_near near 2 ≡ None
+place-left_out = refl
+
+place-far : place_near near 70000 ≡ None
+place-far = refl
+
+place-in_the_list : place_or (place_near near 1) (Some 7) ≡ Some 1
+place-in_the_list = refl
+
+place-in_the_map : place_or (place_near near 70000) (Some 7) ≡ Some 7
+place-in_the_map = refl
 
 -- ---- calls
 

@@ -1,7 +1,6 @@
 -- A table of identifiers, as a function from them.
-use Rattle.std.specs.Prelude.{◌≡◌, ◌==◌, ℕ, zero, suc, ◌<◌, nat_lt, List, Option, Some, None, slice_get, vec_len, if◌then◌else◌}
-use Rattle.std.specs.Ordering.{nat_cmp}
-use Rattle.std.specs.BTreeMap.{get}
+use Rattle.std.specs.Prelude.{◌≡◌, ◌==◌, ℕ, ◌<◌, List, Option, Some, None, slice_get, vec_len, if◌then◌else◌}
+use Rattle.callgrind_reader.specs.IdPlaces.{place_at}
 use Rattle.callgrind_reader.specs.declared.tables.NameTable.{NameTable}
 
 -- the name at a place, if there is one
@@ -16,14 +15,9 @@ name_at t place = name_among t.names.items place
 abbrev pub names_in : NameTable → ℕ
 names_in t = vec_len t.names
 
--- the place of an identifier: the first so many of 1, 2 and so on stand in their order, and others where they were put
-abbrev pub place_among : ℕ → (ℕ → Option ℕ) → ℕ → Option ℕ
-place_among in_row others zero = others zero
-place_among in_row others (suc before) = if nat_lt before in_row then Some before else others (suc before)
-
 -- what an identifier means
 abbrev pub text_at : NameTable → ℕ → Option (List ℕ)
-text_at t q = name_at t (place_among t.in_row (get nat_cmp t.places) q)
+text_at t q = name_at t (place_at t.places q)
 
 -- names that are held keep their places
 abbrev pub Keeps : NameTable → NameTable → Type 0

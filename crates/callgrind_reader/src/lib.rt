@@ -15,6 +15,8 @@ mod events;
 mod header;
 // Header lines with values of a fixed form.
 mod headers;
+// The places that identifiers have: a list of small ones, and a `BTreeMap` (specs/IdPlaces.antt).
+mod id_places;
 // Laws: looking back over the lines says what reading them one by one does.
 mod laws;
 // Which positions a cost line begins with: the `positions:` line.
@@ -33,7 +35,7 @@ mod spaces;
 mod state;
 // The totals that a file states, by their key.
 mod stated;
-// What identifiers mean, in a `BTreeMap`.
+// What identifiers mean.
 mod tables;
 // Sums of stated totals, by column.
 mod totals;

@@ -1,6 +1,7 @@
 -- The definitions, computed on examples.
-use Rattle.std.proofs.Common.{◌≡◌, ℕ, ◌+◌, ◌-◌, ◌^◌, true, nat_lt, ◌==◌, map, fold, List, [], ◌∷◌, codes, Some, None, refl}
+use Rattle.std.proofs.Common.{◌≡◌, ℕ, ◌+◌, ◌-◌, ◌^◌, true, nat_lt, ◌==◌, map, fold, List, [], ◌∷◌, codes, Option, Some, None, refl}
 use Rattle.std.specs.Ordering.{nat_cmp}
+use Rattle.cost_rows.specs.Marks.{name_numbered, number_counted, number_held}
 use Rattle.cost_rows.specs.Naming.{place_of, with_name, names_among}
 use Rattle.profile_records.specs.Records.{Record, Own, Called}
 use Rattle.profile_records.specs.Stacks.{Seen}
@@ -41,6 +42,35 @@ with-new_name = refl
 
 with-known_name : with_name (codes "f") (codes "main" ∷ codes "f" ∷ []) ≡ codes "main" ∷ codes "f" ∷ []
 with-known_name = refl
+
+-- ---- marks
+
+-- the first place has number 3, and the second none
+abbrev held : List (Option ℕ)
+held = Some 3 ∷ None ∷ []
+
+number-of_a_place : number_held held 0 ≡ Some 3
+number-of_a_place = refl
+
+number-of_a_place_without_one : number_held held 1 ≡ None
+number-of_a_place_without_one = refl
+
+number-of_a_place_behind : number_held held 2 ≡ None
+number-of_a_place_behind = refl
+
+-- the second name without an identifier has number 5
+number-of_the_last_plain_name : number_counted (Some (record { count = 2; number = 5 })) 2 ≡ Some 5
+number-of_the_last_plain_name = refl
+
+-- what came before it is past
+number-of_an_earlier_plain_name : number_counted (Some (record { count = 2; number = 5 })) 1 ≡ None
+number-of_an_earlier_plain_name = refl
+
+known-name : name_numbered (codes "main" ∷ codes "f" ∷ []) (number_held (Some 1 ∷ []) 0) ≡ Some (codes "f")
+known-name = refl
+
+unknown-name : name_numbered (codes "main" ∷ codes "f" ∷ []) (number_held (Some 1 ∷ []) 7) ≡ None
+unknown-name = refl
 
 -- ---- what fits
 

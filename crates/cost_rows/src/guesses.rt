@@ -1,10 +1,10 @@
-// The numbers that a record's names are thought to have.
+// The numbers that a stack's names are thought to have.
 
 use crate::names::Names;
 use crate::places::{CellPlace, Place};
 use std::alloc::{AllocError, Global};
 
-/// The place of no record.
+/// The place of no stack.
 const NOWHERE: Place = Place {
     object: 0,
     file: 0,
@@ -12,11 +12,12 @@ const NOWHERE: Place = Place {
     line: 0,
 };
 
-/// The cell of no record.
+/// The cell of no place.
 pub(crate) const NO_CELL: CellPlace = CellPlace { place: NOWHERE };
 
-/// The place of the last record, and that of the last record of each function, by the number of its
-/// name. No guarantee speaks of them: whoever takes a guess compares it with the record's names first.
+/// The place of the last stack, and that of the last stack of each function that was running, by the
+/// number of its name. No guarantee speaks of them: whoever takes a guess compares it with the stack's
+/// names first.
 #[derive(Drop)]
 pub(crate) struct Guesses {
     recent: Place,
@@ -32,7 +33,7 @@ impl Guesses {
         }
     }
 
-    /// The place that a record of a function is thought to have. No guarantee: a wrong one costs time.
+    /// The place that a stack of a function is thought to have. No guarantee: a wrong one costs time.
     pub(crate) fn guess(&self, names: &Names, function: &[u8]) -> Place {
         let recent = self.recent;
         if (recent.function as usize) < names.len() && names.name(recent.function) == function {
@@ -48,7 +49,7 @@ impl Guesses {
         }
     }
 
-    /// Keeps the place of a record. No guarantee: a guess may be any place.
+    /// Keeps the place of a stack. No guarantee: a guess may be any place.
     pub(crate) fn keep(&mut self, place: Place) -> Result<(), AllocError> {
         let function = place.function as usize;
         if self.by_function.len() <= function {

@@ -1,4 +1,4 @@
-// The numbers of the names of a record.
+// The numbers of the names of a stack.
 ghost use Rattle.std.specs.Prelude.{◌≡◌, IfOk};
 ghost use Rattle.cost_rows.specs.Content.{with_three, place_in};
 ghost use Rattle.cost_rows.specs.Growing.{Grows};
@@ -19,7 +19,7 @@ pub(crate) fn number(names: &mut Names, guess: u32, name: &[u8]) -> Result<u32, 
     names.id_of(name)
 }
 
-/// The place of a record, whose names are held from now on; a refusal may leave some of them.
+/// The place of a stack, whose names are held from now on; a refusal may leave some of them.
 pub(crate) fn number_place(
     names: &mut Names,
     guess: Place,
