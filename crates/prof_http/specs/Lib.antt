@@ -1,0 +1,3 @@
+pub mod Exchanges
+pub mod Replies
+pub mod Tasks
