@@ -3,6 +3,7 @@ use Rattle.std.specs.Prelude.{◌≡◌, ◌⊎◌, ℕ, ◌<◌, ◌≤◌, Lis
 use Rattle.httparse.specs.Grammar.{RequestHead, ReadsRequest, MayBecomeRequest, print_request}
 use Rattle.httparse.specs.Spans.{RequestOverflows, IsRequestAt, IsRequestWithin}
 use Rattle.httparse.specs.declared.spans.HeaderSpan.{HeaderSpan}
+use Rattle.httparse.specs.declared.spans.RequestSpans.{RequestSpans}
 use Rattle.http_exchanges.specs.declared.heads.Head.{Head}
 use Rattle.http_exchanges.specs.declared.heads.Head.TheVariants.{Complete, Unfinished, Malformed}
 
@@ -23,7 +24,7 @@ abbrev pub HasNoHead : List ℕ → Type 0
 HasNoHead bytes = (head : RequestHead) (rest : List ℕ) → BeginsWith bytes head rest → ⊥
 
 -- the spans are those of a head within the limits
-pub record IsHeadAt (bytes : List ℕ) (fields : List HeaderSpan) (spans : _) (head : RequestHead) : Type 0 where
+pub record IsHeadAt (bytes : List ℕ) (fields : List HeaderSpan) (spans : RequestSpans) (head : RequestHead) : Type 0 where
   pub at : IsRequestAt bytes fields spans head
   pub few : length head.fields ≤ field_limit
 

@@ -1,0 +1,3 @@
+pub mod Bodies
+pub mod Received
+pub mod Streams

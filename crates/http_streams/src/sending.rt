@@ -1,0 +1,53 @@
+// Responses, as they are written.
+ghost use Rattle.std.specs.Prelude.{◌≡◌, ◌≤◌, ◌++◌, List, length};
+ghost use Rattle.http_exchanges.specs.Responses.{response_text};
+ghost use Rattle.http_streams.specs.Streams.{Written, Writes, WentAs};
+
+use crate::streams::Stream;
+use http_exchanges::{Status, put_head};
+
+/// Room for the head of a response, and for the front of its body; most responses are written at once.
+const ROOM: usize = 4096;
+
+/// Writes these bytes, and says whether they all went.
+pub fn write_all<T: Stream>(stream: &mut T, bytes: &[u8]) -> bool
+    ensures { (writes : List Written) × Writes T.writes stream.old writes stream.new × WentAs result bytes.now writes }
+{
+    let mut at = 0usize;
+    'writes: while at < bytes.len() {
+        match stream.write(&bytes[at..]) {
+            Ok(count) => {
+                if count == 0 {
+                    return false;
+                }
+                at += count;
+            }
+            Err(_) => return false,
+        }
+    }
+    true
+}
+
+/// The same of two texts, one after the other.
+fn write_two<T: Stream>(stream: &mut T, first: &[u8], second: &[u8]) -> bool
+    ensures { (writes : List Written) × Writes T.writes stream.old writes stream.new × WentAs result (first.now ++ second.now) writes }
+{
+    if !write_all(stream, first) {
+        return false;
+    }
+    write_all(stream, second)
+}
+
+/// Writes a response, and says whether all of it went; `allow` is the text of the field Allow, empty
+/// where there is none. Takes no memory.
+pub fn send<T: Stream>(stream: &mut T, status: Status, allow: &str, body: &[u8]) -> bool
+    requires { length allow.now ≤ 32 }
+    ensures { (writes : List Written) × Writes T.writes stream.old writes stream.new × WentAs result (response_text status allow.now body.now) writes }
+{
+    let mut room = [0u8; ROOM];
+    let at = put_head(&mut room, status, allow, body.len());
+    let first = body.len().min(ROOM - at);
+    let end = at + first;
+    room[at..end].copy_from_slice(&body[..first]);
+    write_two(stream, &room[..end], &body[first..])
+}
