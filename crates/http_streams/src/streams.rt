@@ -18,6 +18,9 @@ pub trait Stream {
     /// The same of a write.
     ghost writes: { Self → Written → Self → Type 0 };
 
+    /// What it is after it heard that the head of a request has come.
+    ghost hears: { Self → Self → Type 0 };
+
     /// Reads into the front of `buf`, and answers how many bytes; 0 says that no more will come.
     fn read(&mut self, buf: &mut [u8]) -> Result<usize, StreamFault>
         requires { 0 < length buf.old }
@@ -29,4 +32,9 @@ pub trait Stream {
         requires { 0 < length bytes.now }
         ensures within { IfOk result (λ n. n ≤ length bytes.now) }
         ensures went { MatchResult result (λ n. writes self.old (Took (take n bytes.now)) self.new) (λ _. writes self.old Broke self.new) };
+
+    /// Hears that the head of a request has come: from now on it may wait longer for bytes. None comes or
+    /// goes.
+    fn head_came(&mut self)
+        ensures { hears self.old self.new };
 }

@@ -1,8 +1,9 @@
--- One exchange: a request is read, its command is done, and the response is sent.
-use Rattle.std.specs.Prelude.{◌≡◌, ◌⊎◌, List, [], ◌++◌, ℕ, Result, Ok, Err}
+-- One exchange over a stream: a request is read, its command is done, and the response is sent.
+use Rattle.std.specs.Prelude.{◌≡◌, ◌⊎◌, ℕ, List, [], Result, Ok, Err}
 use Rattle.sqlite_trees.specs.declared.store.Store.{Ghosts}
 use Rattle.prof_store.specs.declared.store.Store.{Store}
 use Rattle.sources.specs.Outcomes.{Outcome, bytes_of}
+use Rattle.sources.specs.Reads.{Reads}
 use Rattle.histories.specs.declared.answers.Answer.{Answer}
 use Rattle.histories.specs.declared.limits.Limits.{Limits}
 use Rattle.store_histories.specs.Answered.{Answers}
@@ -12,8 +13,8 @@ use Rattle.http_exchanges.specs.Requests.{request_of}
 use Rattle.http_exchanges.specs.declared.failings.Failing.{Failing}
 use Rattle.http_exchanges.specs.declared.failings.Failing.TheVariants.{BadRequest, NoMemory}
 use Rattle.http_exchanges.specs.declared.requests.Request.{Request}
-use Rattle.http_streams.specs.Streams.{Written}
-use Rattle.http_streams.specs.Received.{IsBadHead, IsCutOff}
+use Rattle.http_streams.specs.Streams.{Written, Writes}
+use Rattle.http_streams.specs.Received.{IsBadHead, IsCutOff, WereAwaited}
 use Rattle.http_streams.specs.Bodies.{IsBodyOf}
 use Rattle.prof_http.specs.Replies.{IsFailingSent, IsReplySent}
 use Rattle.prof_http.specs.Tasks.{said_of}
@@ -42,31 +43,50 @@ module _ {S : Type 0} (g : Ghosts S) (limits : Limits) where
   IsReplied wanted after reads (replies.Answered answer) old new = IsDone wanted after reads answer old new
   IsReplied wanted after reads (replies.Failed failing) old new = IsTurnedAway wanted reads failing old new
 
-  -- a head came, and its request was replied to
-  pub record IsServed (exchange : Exchange) (reads : List Outcome) (writes : List Written) (old new : Store S) : Type 0 where
-    pub head_reads : List Outcome
-    pub body_reads : List Outcome
-    pub parts : reads ≡ head_reads ++ body_reads
-    pub head : RequestHead
-    pub after : List ℕ
-    pub begins : BeginsWith (bytes_of head_reads) head after
-    pub reply : Reply
-    pub replied : IsReplied (request_of limits.bytes head) after body_reads reply old new
-    pub sent : IsReplySent reply exchange writes
+  module _ {T : Type 0} (reads : T → Outcome → T → Type 0) (writes : T → Written → T → Type 0) (hears : T → T → Type 0) where
+    -- a request was replied to, over the body that came; and the response was sent
+    pub record IsResponded (wanted : Result Request Failing) (after : List ℕ) (exchange : Exchange) (from to : T) (old new : Store S) : Type 0 where
+      pub body_reads : List Outcome
+      pub bodied : T
+      pub body_came : Reads reads from body_reads bodied
+      pub reply : Reply
+      pub replied : IsReplied wanted after body_reads reply old new
+      pub written : List Written
+      pub went : Writes writes bodied written to
+      pub sent : IsReplySent reply exchange written
 
-  -- what came is no head, which is said
-  pub record IsRejected (exchange : Exchange) (reads : List Outcome) (writes : List Written) (old new : Store S) : Type 0 where
-    pub bad : IsBadHead reads
-    pub sent : IsFailingSent BadRequest exchange writes
-    pub same : new ≡ old
+    -- a head came, and nothing was read once it was there but the body; its request was responded to
+    pub record IsServed (exchange : Exchange) (from to : T) (old new : Store S) : Type 0 where
+      pub head_reads : List Outcome
+      pub headed : T
+      pub head_came : Reads reads from head_reads headed
+      pub awaited : WereAwaited head_reads
+      pub head : RequestHead
+      pub after : List ℕ
+      pub begins : BeginsWith (bytes_of head_reads) head after
+      pub told : T
+      pub heard : hears headed told
+      pub responded : IsResponded (request_of limits.bytes head) after exchange told to old new
 
-  -- a read failed before a head was there: nothing was written
-  pub record IsDropped (exchange : Exchange) (reads : List Outcome) (writes : List Written) (old new : Store S) : Type 0 where
-    pub cut : IsCutOff reads
-    pub exchange_is : exchange ≡ exchanges.ReadFault
-    pub unwritten : writes ≡ []
-    pub same : new ≡ old
+    -- what came is no head, which is said
+    pub record IsRejected (exchange : Exchange) (from to : T) (old new : Store S) : Type 0 where
+      pub head_reads : List Outcome
+      pub headed : T
+      pub head_came : Reads reads from head_reads headed
+      pub bad : IsBadHead head_reads
+      pub same : new ≡ old
+      pub written : List Written
+      pub went : Writes writes headed written to
+      pub sent : IsFailingSent BadRequest exchange written
 
-  abbrev pub IsExchange : Exchange → List Outcome → List Written → Store S → Store S → Type 0
-  IsExchange exchange reads writes old new =
-      IsServed exchange reads writes old new ⊎ (IsRejected exchange reads writes old new ⊎ IsDropped exchange reads writes old new)
+    -- a read failed before a head was there: nothing was written
+    pub record IsDropped (exchange : Exchange) (from to : T) (old new : Store S) : Type 0 where
+      pub head_reads : List Outcome
+      pub head_came : Reads reads from head_reads to
+      pub cut : IsCutOff head_reads
+      pub same : new ≡ old
+      pub exchange_is : exchange ≡ exchanges.ReadFault
+
+    abbrev pub WasExchanged : Exchange → T → T → Store S → Store S → Type 0
+    WasExchanged exchange from to old new =
+        IsServed exchange from to old new ⊎ (IsRejected exchange from to old new ⊎ IsDropped exchange from to old new)

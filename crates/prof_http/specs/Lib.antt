@@ -1,3 +1,4 @@
 pub mod Exchanges
+pub mod Performed
 pub mod Replies
 pub mod Tasks

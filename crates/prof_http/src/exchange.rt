@@ -1,25 +1,27 @@
 // The exchange (specs/Exchanges.antt).
-ghost use Rattle.std.specs.Prelude.{◌≡◌, ◌≤◌, length, drop, List};
+ghost use Rattle.std.specs.Prelude.{◌≡◌, drop, List};
 ghost use Rattle.httparse.specs.Grammar.{RequestHead};
 ghost use Rattle.httparse.specs.Spans.{IsRequestWithin};
 ghost use Rattle.prof_store.specs.Shown.{IsFaithful};
 ghost use Rattle.sources.specs.Outcomes.{Outcome};
 ghost use Rattle.sources.specs.Reads.{Reads};
+ghost use Rattle.histories.specs.History.{Annotate, Import};
 ghost use Rattle.store_histories.specs.Answered.{Answers};
+ghost use Rattle.warehouse.specs.Answered.{WasAnswered};
 ghost use Rattle.http_exchanges.specs.Heads.{IsHeadAt};
 ghost use Rattle.http_exchanges.specs.Requests.{request_of};
 ghost use Rattle.http_exchanges.specs.Routes as spec;
-ghost use Rattle.http_streams.specs.Bodies.{IsBodyOf};
-ghost use Rattle.prof_http.specs.Exchanges.{IsReplied, WasExchanged};
+ghost use Rattle.http_streams.specs.Bodies.{BodyRead};
+ghost use Rattle.prof_http.specs.Exchanges.{IsReplied, IsResponded, WasExchanged};
+ghost use Rattle.prof_http.specs.Performed.{HandsOn};
 ghost use Rattle.prof_http.specs.Tasks.{task_said};
-ghost use Rattle.warehouse.specs.Answered.{Says};
 
 use crate::replies::{Exchange, Reply, send_failing, send_reply};
 use crate::tasks::{Task, task_of};
 use cg_text::ListVec;
 use histories::{Answer, Selection};
 use http_exchanges::{FIELD_LIMIT, Failing, HEAD_LIMIT, Place, read_request};
-use http_streams::{Body, HeadEnd, Stream, read_head};
+use http_streams::{Body, HeadEnd, Stream, body_comes, read_head};
 use httparse::spans::{EMPTY_HEADER_SPAN, HeaderSpan, RequestSpans};
 use matchit::Router;
 use profile_records::Kind;
@@ -36,7 +38,7 @@ fn import<T: Stream + Drop, S: Alter>(
     body: Body<'_, T>,
 ) -> (Answer, T)
     ensures limits { warehouse.new.limits ≡ warehouse.old.limits }
-    ensures answered { IsFaithful S.Store warehouse.new.store → (outcomes : List Outcome) × WasRead T.reads body.entry outcomes result.1
+    ensures answered { IsFaithful S.Store warehouse.new.store → (outcomes : List Outcome) × HandsOn T.reads body.entry outcomes result.1
         × Answers S.Store warehouse.old.limits (Import kind label.now outcomes) result.0 warehouse.old.store warehouse.new.store }
 {
     let mut body = body;
@@ -55,7 +57,7 @@ fn annotate<T: Stream + Drop, S: Alter>(
     body: Body<'_, T>,
 ) -> (Answer, T)
     ensures limits { warehouse.new.limits ≡ warehouse.old.limits }
-    ensures answered { IsFaithful S.Store warehouse.new.store → (outcomes : List Outcome) × WasRead T.reads body.entry outcomes result.1
+    ensures answered { IsFaithful S.Store warehouse.new.store → (outcomes : List Outcome) × HandsOn T.reads body.entry outcomes result.1
         × Answers S.Store warehouse.old.limits (Annotate selection event file outcomes) result.0 warehouse.old.store warehouse.new.store }
 {
     let mut body = body;
@@ -72,7 +74,8 @@ fn apply<T: Stream + Drop, S: Alter>(
     body: Body<'_, T>,
 ) -> (Answer, T)
     ensures limits { warehouse.new.limits ≡ warehouse.old.limits }
-    ensures answered { IsFaithful S.Store warehouse.new.store → WasAnswered S.Store (BodyRead T.reads) warehouse.old.limits command.entry result.0 warehouse.old.store warehouse.new.store }
+    ensures answered { IsFaithful S.Store warehouse.new.store
+        → WasAnswered S.Store (BodyRead T.reads) warehouse.old.limits command.entry result.0 warehouse.old.store warehouse.new.store }
     ensures stream { result.1 ≡ body.entry.stream }
 {
     let answer = warehouse.apply(alloc, command);
@@ -88,7 +91,7 @@ fn perform<T: Stream + Drop, S: Alter>(
     body: Body<'_, T>,
 ) -> (Answer, T)
     ensures limits { warehouse.new.limits ≡ warehouse.old.limits }
-    ensures answered { IsFaithful S.Store warehouse.new.store → (outcomes : List Outcome) × WasRead T.reads body.entry outcomes result.1
+    ensures answered { IsFaithful S.Store warehouse.new.store → (outcomes : List Outcome) × HandsOn T.reads body.entry outcomes result.1
         × Answers S.Store warehouse.old.limits (task_said task outcomes) result.0 warehouse.old.store warehouse.new.store }
 {
     match task {
@@ -123,7 +126,8 @@ fn reply_to<T: Stream + Drop, S: Alter>(
     ensures limits { warehouse.new.limits ≡ warehouse.old.limits }
     ensures replied { IsFaithful S.Store warehouse.new.store → (head : RequestHead) → IsHeadAt bytes.now fields.now spans head
         → (reads : List Outcome) × Reads T.reads stream reads result.1
-        × IsReplied S.Store warehouse.old.limits (request_of warehouse.old.limits.bytes head) (drop spans.len bytes.now) reads result.0 warehouse.old.store warehouse.new.store }
+        × IsReplied S.Store warehouse.old.limits (request_of warehouse.old.limits.bytes head) (drop spans.len bytes.now) reads
+            result.0 warehouse.old.store warehouse.new.store }
 {
     let limit = warehouse.limits().bytes;
     match read_request(alloc, router, limit, bytes, fields, spans) {
@@ -150,6 +154,12 @@ fn serve<T: Stream + Drop, S: Alter>(
     spans: RequestSpans,
     stream: T,
 ) -> (Exchange, T)
+    requires router { router.now ≡ spec.routes }
+    requires within { IsRequestWithin bytes.now fields.now spans }
+    ensures limits { warehouse.new.limits ≡ warehouse.old.limits }
+    ensures responded { IsFaithful S.Store warehouse.new.store → (head : RequestHead) → IsHeadAt bytes.now fields.now spans head
+        → IsResponded S.Store warehouse.old.limits T.reads T.writes T.hears (request_of warehouse.old.limits.bytes head) (drop spans.len bytes.now)
+            result.0 stream result.1 warehouse.old.store warehouse.new.store }
 {
     let (reply, stream) = reply_to(alloc, router, warehouse, bytes, fields, spans, stream);
     let mut stream = stream;

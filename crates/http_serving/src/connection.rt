@@ -1,0 +1,155 @@
+// A socket as a stream. A read or write that comes too late fails, so a client that sends slowly, or goes
+// away, does not stop the others.
+ghost use Rattle.std.specs.Prelude.{◌≤◌, length};
+
+use http_streams::{Stream, StreamFault};
+use std::io;
+use std::io::{ErrorKind, Read, Write};
+use std::net::{Shutdown, TcpStream};
+use std::rt::HostRuntime;
+use std::time::{Duration, Instant};
+
+/// How long all of a head may take.
+const HEAD_TIME: Duration = Duration::from_secs(10);
+
+/// How long a piece of a body or of a response may take.
+const PIECE_TIME: Duration = Duration::from_secs(30);
+
+/// How long bytes that nobody asked for are read before a connection is closed.
+const DRAIN_TIME: Duration = Duration::from_secs(1);
+
+/// How many bytes are read at a time then, and how often.
+const DRAIN_PIECE: usize = 16_384;
+const DRAIN_PIECES: usize = 64;
+
+/// How many bytes of a request are kept to tell which one it was.
+const FIRST_BYTES: usize = 512;
+
+/// Until when bytes are waited for.
+#[derive(Clone, Copy)]
+enum Patience {
+    /// The head has to be there by then.
+    Until(Instant),
+    /// Each piece may take so long.
+    Each(Duration),
+}
+
+impl Patience {
+    /// How long the next read may take. No guarantee: of the clock the checker knows nothing.
+    fn left(self, rt: &HostRuntime) -> io::Result<Duration> {
+        match self {
+            Patience::Until(end) => Ok(end.saturating_duration_since(Instant::now(rt)?)),
+            Patience::Each(duration) => Ok(duration),
+        }
+    }
+}
+
+/// A time from now. No guarantee: of the clock the checker knows nothing.
+fn from_now(rt: &HostRuntime, duration: Duration) -> io::Result<Instant> {
+    match Instant::now(rt)?.checked_add(duration) {
+        Some(end) => Ok(end),
+        None => Err(io::Error::from(ErrorKind::TimedOut)),
+    }
+}
+
+/// A client that was accepted.
+#[derive(Drop)]
+pub(crate) struct Connection<'a> {
+    rt: &'a HostRuntime,
+    socket: TcpStream,
+    patience: Patience,
+    /// The first bytes that were read, and how many.
+    first: [u8; FIRST_BYTES],
+    kept: usize,
+}
+
+impl<'a> Connection<'a> {
+    /// The connection of a socket: its head has to come in time. No guarantee: of a socket the checker knows
+    /// nothing.
+    pub(crate) fn new(rt: &'a HostRuntime, socket: TcpStream) -> io::Result<Connection<'a>> {
+        socket.set_write_timeout(Some(PIECE_TIME))?;
+        let end = from_now(rt, HEAD_TIME)?;
+        Ok(Connection {
+            rt,
+            socket,
+            patience: Patience::Until(end),
+            first: [0u8; FIRST_BYTES],
+            kept: 0,
+        })
+    }
+
+    /// Reads as long as patience lasts. A wait of no time is an error of the system, as it is meant to be.
+    fn read_in_time(&mut self, buf: &mut [u8]) -> io::Result<usize>
+        ensures { ReadsAtMost result buf.new }
+    {
+        let left = self.patience.left(self.rt)?;
+        self.socket.set_read_timeout(Some(left))?;
+        self.socket.read(buf)
+    }
+
+    /// Keeps the first bytes that were read. No guarantee: they are for a person who reads the log.
+    fn keep(&mut self, bytes: &[u8]) {
+        for (place, byte) in self.first.iter_mut().skip(self.kept).zip(bytes) {
+            *place = *byte;
+        }
+        self.kept = FIRST_BYTES.min(self.kept.saturating_add(bytes.len()));
+    }
+
+    /// The first line of what was read, as far as it was kept. No guarantee: as `keep`.
+    pub(crate) fn first_line(&self) -> &[u8] {
+        let kept = self.first.get(..self.kept).unwrap_or(b"");
+        let end = kept.iter().position(|byte| *byte == b'\r' || *byte == b'\n');
+        kept.get(..end.unwrap_or(kept.len())).unwrap_or(b"")
+    }
+
+    /// Reads away what the client still sends, for a while, so that it sees the response and no reset. No
+    /// guarantee: of what a client sends the checker knows nothing.
+    fn drain(&mut self) -> io::Result<()> {
+        let end = from_now(self.rt, DRAIN_TIME)?;
+        self.patience = Patience::Until(end);
+        let mut piece = [0u8; DRAIN_PIECE];
+        for _ in 0..DRAIN_PIECES {
+            if self.read_in_time(&mut piece)? == 0 {
+                return Ok(());
+            }
+        }
+        Ok(())
+    }
+
+    /// Ends the connection. Where all of the request was wanted, only what is there already is read away.
+    /// No guarantee: as `drain`.
+    pub(crate) fn close(self, was_wanted: bool) -> io::Result<()> {
+        let mut connection = self;
+        connection.socket.shutdown(Shutdown::Write)?;
+        connection.socket.set_nonblocking(was_wanted)?;
+        connection.drain()
+    }
+}
+
+/// Of what comes over a socket and goes over it the checker knows counts alone.
+impl Stream for Connection<'_> {
+    ghost reads = { λ _ _ _. Unit {0} };
+    ghost writes = { λ _ _ _. Unit {0} };
+    ghost hears = { λ _ _. Unit {0} };
+
+    fn read(&mut self, buf: &mut [u8]) -> Result<usize, StreamFault> {
+        match self.read_in_time(buf) {
+            Ok(count) => {
+                self.keep(&buf[..count]);
+                Ok(count)
+            }
+            Err(_) => Err(StreamFault),
+        }
+    }
+
+    fn write(&mut self, bytes: &[u8]) -> Result<usize, StreamFault> {
+        match self.socket.write(bytes) {
+            Ok(count) => Ok(count),
+            Err(_) => Err(StreamFault),
+        }
+    }
+
+    fn head_came(&mut self) {
+        self.patience = Patience::Each(PIECE_TIME);
+    }
+}

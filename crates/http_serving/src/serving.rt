@@ -1,0 +1,108 @@
+// Clients are served, one after another (specs/Served.antt).
+ghost use Rattle.std.specs.Prelude.{◌≡◌};
+ghost use Rattle.prof_store.specs.Shown.{IsFaithful};
+ghost use Rattle.http_exchanges.specs.Routes as spec;
+ghost use Rattle.http_serving.specs.Served.{HasServed};
+
+use crate::connection::Connection;
+use crate::logging::log;
+use http_exchanges::{Place, routes};
+use matchit::Router;
+use prof_http::{Exchange, answer};
+use sqlite::Alter;
+use std::alloc::AllocError;
+use std::io;
+use std::net::{Ipv4Addr, SocketAddr, TcpListener, TcpStream};
+use std::rt::HostRuntime;
+use warehouse::Warehouse;
+
+/// How a warehouse is served.
+#[derive(Clone, Copy, Debug, PartialEq, Eq)]
+pub struct Service {
+    /// The port of 127.0.0.1; 0 is one that is free.
+    pub port: u16,
+    /// How many requests are answered.
+    pub requests: u32,
+    /// Whether each request is told on standard error.
+    pub log: bool,
+}
+
+/// Whether all of a request was wanted: its command was done.
+fn is_success(exchange: Exchange) -> bool
+    ensures { result ≡ is_success exchange }
+{
+    matches!(exchange, Exchange::Sent(200 | 201))
+}
+
+/// Serves one client, and ends the connection.
+fn serve_client<S: Alter>(
+    rt: &HostRuntime,
+    router: &Router<Place>,
+    warehouse: &mut Warehouse<S>,
+    socket: TcpStream,
+    client: SocketAddr,
+    is_logged: bool,
+)
+    requires router { router.now ≡ spec.routes }
+    ensures limits { warehouse.new.limits ≡ warehouse.old.limits }
+    ensures served { IsFaithful S.Store warehouse.new.store → HasServed S.Store warehouse.old.limits warehouse.old.store warehouse.new.store }
+{
+    let Ok(connection) = Connection::new(rt, socket) else {
+        return;
+    };
+    let (exchange, connection) = answer(rt.alloc(), router, connection, warehouse);
+    if is_logged {
+        // A log that cannot be written stops no service.
+        let _logged = log(rt, client, connection.first_line(), exchange);
+    }
+    let _closed = connection.close(is_success(exchange));
+}
+
+/// Answers so many clients, one after another. False where one could not be accepted.
+pub fn serve_on<S: Alter>(
+    rt: &HostRuntime,
+    listener: &TcpListener,
+    router: &Router<Place>,
+    warehouse: &mut Warehouse<S>,
+    requests: u32,
+    is_logged: bool,
+) -> bool
+    requires router { router.now ≡ spec.routes }
+    ensures limits { warehouse.new.limits ≡ warehouse.old.limits }
+    ensures served { IsFaithful S.Store warehouse.new.store → HasServed S.Store warehouse.old.limits warehouse.old.store warehouse.new.store }
+{
+    'clients: for _ in 0..requests {
+        let Ok((socket, client)) = listener.accept() else {
+            return false;
+        };
+        serve_client(rt, router, warehouse, socket, client, is_logged);
+    }
+    true
+}
+
+/// Serves a warehouse on a port of 127.0.0.1: prints which, answers so many requests, prints that, and
+/// answers the status. A port that is taken, and a client that cannot be accepted, are a failed read.
+pub fn serve<S: Alter>(
+    rt: &HostRuntime,
+    warehouse: &mut Warehouse<S>,
+    service: Service,
+) -> io::Result<u8>
+    ensures limits { warehouse.new.limits ≡ warehouse.old.limits }
+    ensures served { IsFaithful S.Store warehouse.new.store → HasServed S.Store warehouse.old.limits warehouse.old.store warehouse.new.store }
+{
+    let Ok(router) = routes(rt.alloc()) else {
+        println!(rt; "refused: out of memory")?;
+        return Ok(1);
+    };
+    let Ok(listener) = listener_at(rt, service.port) else {
+        println!(rt; "refused: read failed")?;
+        return Ok(1);
+    };
+    println!(rt; "listening {}", listener.local_addr()?)?;
+    if !serve_on(rt, &listener, &router, warehouse, service.requests, service.log) {
+        println!(rt; "refused: read failed")?;
+        return Ok(1);
+    }
+    println!(rt; "served {}", service.requests)?;
+    Ok(0)
+}

@@ -1,0 +1,32 @@
+-- An exchange is a turn of the store's history, or none.
+use Rattle.std.proofs.Common.{◌≡◌, ◌⊎◌, inl, inr, ℕ, List, [], ◌∷◌, Result, refl, sym}
+use Rattle.sqlite_trees.specs.declared.store.Store.{Ghosts}
+use Rattle.prof_store.specs.declared.store.Store.{Store}
+use Rattle.sources.specs.Outcomes.{Outcome}
+use Rattle.histories.specs.History.{History, Turn}
+use Rattle.histories.specs.declared.limits.Limits.{Limits}
+use Rattle.store_histories.specs.Answered.{Links}
+use Rattle.http_exchanges.specs.declared.failings.Failing.{Failing}
+use Rattle.http_exchanges.specs.declared.requests.Request.{Request}
+use Rattle.http_streams.specs.Streams.{Written}
+use Rattle.prof_http.specs.Exchanges.{IsReplied, WasExchanged}
+use Rattle.prof_http.specs.Tasks.{said_of}
+use Rattle.prof_http.specs.declared.replies.Exchange.{Exchange}
+use Rattle.prof_http.specs.declared.replies.Reply.{Reply}
+use Rattle.prof_http.specs.declared.replies.Reply.TheVariants as replies
+
+module _ {S : Type 0} (g : Ghosts S) (limits : Limits) where
+  -- turns that lead from one store to another
+  abbrev pub Turned : Store S → Store S → Type 0
+  Turned old new = (turns : History) × Links g limits turns old new
+
+  turned_by : (wanted : Result Request Failing) (after : List ℕ) (reads : List Outcome) (reply : Reply) (old new : Store S) → IsReplied g limits wanted after reads reply old new → Turned old new
+  turned_by wanted after reads (replies.Answered answer) old new done =
+      let turn : Turn = record { said = said_of done.request.asked done.outcomes; answer = answer } in (turn ∷ [], new, done.answers, refl)
+  turned_by wanted after reads (replies.Failed failing) old new away = ([], sym away.same)
+
+  pub exchange_turned : {T : Type 0} (reads : T → Outcome → T → Type 0) (writes : T → Written → T → Type 0) (hears : T → T → Type 0) (exchange : Exchange) (from to : T) (old new : Store S)
+      → WasExchanged g limits reads writes hears exchange from to old new → Turned old new
+  exchange_turned reads writes hears exchange from to old new (inl served) = turned_by _ served.after served.responded.body_reads served.responded.reply old new served.responded.replied
+  exchange_turned reads writes hears exchange from to old new (inr (inl rejected)) = ([], sym rejected.same)
+  exchange_turned reads writes hears exchange from to old new (inr (inr dropped)) = ([], sym dropped.same)
