@@ -3,7 +3,7 @@
 _profhouse()
 {
     local word=${COMP_WORDS[COMP_CWORD]} before=${COMP_WORDS[COMP_CWORD - 1]}
-    local commands="total import remove runs groups group join leave baseline by inclusive callers callees subtract verify annotate csv folded help"
+    local commands="total import remove runs groups group join leave baseline by inclusive callers callees subtract verify annotate csv folded serve help"
     local options="--db --help" operands=
     COMPREPLY=()
 
@@ -30,13 +30,14 @@ _profhouse()
         subtract) options+=" --run --group --less-run --less-group --event" operands="object file function line" ;;
         verify | csv | folded) options+=" --run --group" ;;
         annotate) options+=" --run --group --event --file" operands=files ;;
+        serve) options+=" --port --requests --log" ;;
         help) options= operands=$commands ;;
         *) return ;;
     esac
 
     case $before in
         --db) options= operands=files ;;
-        --run | --group | --less-run | --less-group | --event | --limit | --threshold | --object | --file) return ;;
+        --run | --group | --less-run | --less-group | --event | --limit | --threshold | --object | --file | --port | --requests) return ;;
     esac
 
     if [[ $options && $word == -* ]]; then

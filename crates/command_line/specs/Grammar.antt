@@ -54,6 +54,14 @@ object = record (option (codes "object")) { defaults = codes "???" ∷ [] }
 abbrev pub annotated : Rule
 annotated = record (option (codes "file")) { required = true }
 
+-- 8090 where it is not given
+abbrev pub port : Rule
+port = record (option (codes "port")) { parser = Some (Signed (pos 0) (pos 65535)); defaults = codes "8090" ∷ [] }
+
+-- after how many requests the program ends
+abbrev pub requests : Rule
+requests = record (option (codes "requests")) { parser = Some (Signed (pos 1) (pos 1000000)); required = true }
+
 -- one of the words that a parser takes
 abbrev pub key : ValueParser → Rule
 key keys = record (operand (codes "KEY")) { parser = Some keys }
@@ -118,6 +126,9 @@ csv = over_selection (codes "csv")
 abbrev pub folded : App
 folded = over_selection (codes "folded")
 
+abbrev pub serve : App
+serve = with_rule (with_rule (with_rule (over_database (codes "serve")) port) requests) (flag (codes "log"))
+
 -- ---- the program
 
 abbrev pub program : App
@@ -150,7 +161,7 @@ abbrev pub with_reports : ValueParser → App → App
 with_reports keys a = with_exports (with_comparisons keys (with_calls (with_costs keys a)))
 
 abbrev pub command_line : ValueParser → App
-command_line keys = with_reports keys (with_members (with_lists (with_files program)))
+command_line keys = with_subcommand (with_reports keys (with_members (with_lists (with_files program)))) serve.top
 
 -- ---- the words of keys
 

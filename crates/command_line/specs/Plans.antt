@@ -23,18 +23,30 @@ use Rattle.command_line.specs.declared.plans.Selected.{Selected}
 use Rattle.command_line.specs.declared.plans.Selected.TheVariants as selected
 use Rattle.command_line.specs.Grammar.{IsCommandLine}
 
--- ---- the numbers of runs
+-- ---- the numbers of runs and of requests
+
+-- a number from 1 to the greatest one
+abbrev pub IsUpTo : ℕ → ℕ → Type 0
+IsUpTo most n = (1 ≤ n) × (n ≤ most)
 
 abbrev pub IsRunNumber : ℕ → Type 0
-IsRunNumber n = (1 ≤ n) × (n ≤ 2147483647)
+IsRunNumber n = IsUpTo 2147483647 n
 
 -- the number that a text says; a plus may stand first
 abbrev pub number_of : Text → ℕ
 number_of text = digits_value 10 (without_leading_plus text)
 
--- decimal digits that say the number of a run
+-- how many requests may be answered before the program ends
+abbrev pub IsRequestCount : ℕ → Type 0
+IsRequestCount n = IsUpTo 1000000 n
+
+-- decimal digits that say such a number
+abbrev pub SaysUpTo : ℕ → Text → Type 0
+SaysUpTo most text = IsNumeral 10 (without_leading_plus text) × IsUpTo most (number_of text)
+
+-- those that say the number of a run
 abbrev pub SaysRun : Text → Type 0
-SaysRun text = IsNumeral 10 (without_leading_plus text) × IsRunNumber (number_of text)
+SaysRun text = SaysUpTo 2147483647 text
 
 -- ---- what is sure of a plan
 
@@ -43,7 +55,7 @@ IsSoundSelection selected.All = Unit {0}
 IsSoundSelection (selected.Run number) = IsRunNumber number
 IsSoundSelection (selected.Group name) = Unit {0}
 
--- numbers of runs are in their range, where a list is wanted it has one item at least, and a threshold is one in percent
+-- numbers of runs and of requests are in their range, where a list is wanted it has one item at least, and a threshold is one in percent
 abbrev pub IsSound : Plan → Type 0
 IsSound (Import db kind files) = files ≢ []
 IsSound (Remove db numbers) = (numbers ≢ []) × All IsRunNumber numbers
@@ -59,6 +71,7 @@ IsSound (Verify db runs) = IsSoundSelection runs
 IsSound (plans.Annotate db runs event file source) = IsSoundSelection runs
 IsSound (plans.Csv db runs) = IsSoundSelection runs
 IsSound (plans.Folded db runs) = IsSoundSelection runs
+IsSound (plans.Serve db port requests log) = IsRequestCount requests
 IsSound plan = Unit {0}
 
 -- ---- where a plan has its parts from
@@ -77,8 +90,11 @@ abbrev pub HasWord : List Row → Text → Text → Type 0
 HasWord rows id word = first_of id rows ≡ Some word
 
 -- the number that the word of an argument says
+abbrev pub SaysNumber : List Row → Text → ℕ → Type 0
+SaysNumber rows id number = option_map number_of (first_of id rows) ≡ Some number
+
 abbrev pub HasRun : List Row → ℕ → Type 0
-HasRun rows number = option_map number_of (first_of (codes "N") rows) ≡ Some number
+HasRun rows number = SaysNumber rows (codes "N") number
 
 -- the number of an option, where it has one
 abbrev pub HasNumber : List Row → Text → Option ℕ → Type 0
@@ -150,6 +166,9 @@ IsPlanOf name rows (plans.Annotate db runs event file source) =
     × HasWord rows (codes "file") file.now × HasWord rows (codes "SOURCE") source.now
 IsPlanOf name rows (plans.Csv db runs) = (name ≡ codes "csv") × HasWord rows (codes "db") db.now × HasSelection rows runs
 IsPlanOf name rows (plans.Folded db runs) = (name ≡ codes "folded") × HasWord rows (codes "db") db.now × HasSelection rows runs
+IsPlanOf name rows (plans.Serve db port requests log) =
+    (name ≡ codes "serve") × HasWord rows (codes "db") db.now × SaysNumber rows (codes "port") port
+    × SaysNumber rows (codes "requests") requests × IsFlag (one_of (codes "log") rows) log
 
 -- what is said of a plan for a subcommand
 pub record IsPlanned (name : Text) (rows : List Row) (plan : Plan) : Type 0 where

@@ -9,8 +9,8 @@ ghost use Rattle.command_line.specs.Plans.{AreApart, IsEndFound, IsEndFor};
 use crate::grammar::grammar;
 use crate::plans::{Plan, PlanError};
 use crate::words::{
-    files, is_given, key, less, less_run_and_less_group, limit, run, run_and_group, runs, selected,
-    threshold, word,
+    files, is_given, key, less, less_run_and_less_group, limit, port, requests, run, run_and_group,
+    runs, selected, threshold, word,
 };
 use clap::error::ErrorKind;
 use clap::{ArgMatches, Command};
@@ -207,6 +207,22 @@ fn folded<'a>(db: &'a str, words: &ArgMatches<'a>) -> Option<Plan<'a>>
     Some(Plan::Folded { db, selected })
 }
 
+/// Requests that are answered.
+fn serve<'a>(db: &'a str, words: &ArgMatches<'a>) -> Option<Plan<'a>>
+    requires { HasWord (rows_of (found_of words.now)) (codes "db") db.now }
+    ensures { IfSome result (IsPlanned (codes "serve") (rows_of (found_of words.now))) }
+{
+    let port = port(words)?;
+    let requests = requests(words)?;
+    let log = is_given(words, "log");
+    Some(Plan::Serve {
+        db,
+        port,
+        requests,
+        log,
+    })
+}
+
 /// The plan for an annotation or an export.
 fn export<'a>(name: &str, db: &'a str, words: &ArgMatches<'a>) -> Option<Plan<'a>>
     requires { HasWord (rows_of (found_of words.now)) (codes "db") db.now }
@@ -244,6 +260,7 @@ fn without_list<'a>(name: &str, db: &'a str, words: &ArgMatches<'a>) -> Option<P
         "group" => group(db, words),
         "groups" => Some(Plan::Groups { db }),
         "join" | "leave" | "baseline" => member(name, db, words),
+        "serve" => serve(db, words),
         _ => report(name, db, words),
     }
 }

@@ -15,6 +15,9 @@ const VERSION: &str = "0.1.0";
 /// The greatest number of a run.
 pub const LAST_RUN: u32 = 2_147_483_647;
 
+/// The most requests that are answered before the program ends.
+pub const MOST_REQUESTS: u32 = 1_000_000;
+
 /// What a threshold is a part of, in percent.
 pub const WHOLE: u8 = 100;
 
@@ -147,6 +150,32 @@ fn annotated<'a>(alloc: Global) -> Arg<'a>
         "The name of the file in the profiles",
     )
     .required(true)
+}
+
+/// The option that names the port.
+fn port<'a>(alloc: Global) -> Arg<'a>
+    ensures rule { rule_of result ≡ line.port }
+    ensures local { result.global ≡ false }
+{
+    option(
+        alloc,
+        "port",
+        "P",
+        "The port of 127.0.0.1; 0 takes a free one",
+    )
+    .value_parser(value_parser!(u16))
+    .default_value("8090")
+}
+
+/// The option that says after how many requests the program ends.
+fn requests<'a>(alloc: Global) -> Arg<'a>
+    ensures rule { rule_of result ≡ line.requests }
+    ensures local { result.global ≡ false }
+{
+    let counts = value_parser!(u32).range(1..=i64::from(MOST_REQUESTS));
+    option(alloc, "requests", "N", "End after this many requests")
+        .value_parser(counts)
+        .required(true)
 }
 
 /// The word of a key.
@@ -361,6 +390,25 @@ fn annotate<'a>(alloc: Global) -> Result<Command<'a>, AllocError>
     .arg(operand(alloc, "SOURCE", "The path of the source"))
 }
 
+fn serve<'a>(alloc: Global) -> Result<Command<'a>, AllocError>
+    ensures app { IfOk result (λ command. app_of command ≡ line.serve) }
+    ensures local { IfOk result (λ command. (fields_of command).has_globals ≡ false) }
+{
+    over_database(
+        alloc,
+        "serve",
+        "Answer requests over HTTP",
+        "Example: profhouse serve --db s.db --requests 100",
+    )?
+    .arg(port(alloc))?
+    .arg(requests(alloc))?
+    .arg(flag(
+        alloc,
+        "log",
+        "Write one line on standard error for each served request",
+    ))
+}
+
 /// A command with one more subcommand, where there was memory to make that. What was made of it is
 /// handed on, so that no caller holds a command while another is made: each `?` where one has to be
 /// let go costs a proof of its own.
@@ -564,7 +612,8 @@ fn grammar_of<'a>(alloc: Global, keys: &'a [&'a str]) -> Result<Command<'a>, All
     let command = with_files(alloc, program(alloc))?;
     let command = with_lists(alloc, command)?;
     let command = with_members(alloc, command)?;
-    with_reports(alloc, command, keys)
+    let command = with_reports(alloc, command, keys)?;
+    with(command, serve(alloc))
 }
 
 /// The words of keys, as a list.

@@ -129,6 +129,14 @@ pub enum Plan<'a> {
         db: &'a str,
         selected: Selected<'a>,
     },
+    /// Answer so many requests over HTTP at a port, each with a line on standard error where `log` is true.
+    /// Port 0 stands for any that is free.
+    Serve {
+        db: &'a str,
+        port: u16,
+        requests: u32,
+        log: bool,
+    },
 }
 
 /// Why there is no plan.

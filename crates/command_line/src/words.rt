@@ -1,11 +1,11 @@
 // What was found of the arguments of a subcommand.
 ghost use Rattle.std.specs.Prelude.{◌≡◌, ◌≢◌, ◌↔◌, ◌≤◌, true, [], All, map, codes, Some, None, IfOk, IfSome, IsSome};
 ghost use Rattle.clap.specs.Words.{all_of, first_of, found_of, one_of, rows_of};
-ghost use Rattle.command_line.specs.Plans.{IsRunNumber, IsSoundSelection, SaysRun, number_of, key_word};
-ghost use Rattle.command_line.specs.Plans.{HasWord, HasNumber, HasRun, HaveRuns, IsFlag, NamesBoth};
+ghost use Rattle.command_line.specs.Plans.{IsRequestCount, IsRunNumber, IsSoundSelection, SaysRun, SaysUpTo, number_of, key_word};
+ghost use Rattle.command_line.specs.Plans.{HasWord, HasNumber, HasRun, HaveRuns, IsFlag, NamesBoth, SaysNumber};
 ghost use Rattle.command_line.specs.Plans.{HasSelection, HasSelectionBy, HasLess};
 
-use crate::grammar::{LAST_RUN, WHOLE};
+use crate::grammar::{LAST_RUN, MOST_REQUESTS, WHOLE};
 use crate::plans::Selected;
 use cg_text::ListVec;
 use clap::ArgMatches;
@@ -53,15 +53,23 @@ pub fn files<'a>(
     }
 }
 
+/// The number from 1 to the greatest one, where a text is such.
+fn number_up_to(text: &str, most: u32) -> Option<u32>
+    ensures one { IsSome result ↔ SaysUpTo most text.now }
+    ensures value { IfSome result (λ number. number ≡ number_of text.now) }
+{
+    match text.parse::<u32>() {
+        Ok(number) if 1 <= number && number <= most => Some(number),
+        _ => None,
+    }
+}
+
 /// The number of a run, where a text is one.
 fn run_of(text: &str) -> Option<u32>
     ensures one { IsSome result ↔ SaysRun text.now }
     ensures value { IfSome result (λ number. number ≡ number_of text.now) }
 {
-    match text.parse::<u32>() {
-        Ok(number) if 1 <= number && number <= LAST_RUN => Some(number),
-        _ => None,
-    }
+    number_up_to(text, LAST_RUN)
 }
 
 /// The number of the run that was named.
@@ -169,6 +177,21 @@ pub fn threshold(words: &ArgMatches<'_>) -> Option<u8>
         Some(percent) if percent <= WHOLE => Some(percent),
         _ => None,
     }
+}
+
+/// The port that was named.
+pub fn port(words: &ArgMatches<'_>) -> Option<u16>
+    ensures { IfSome result (SaysNumber (rows_of (found_of words.now)) (codes "port")) }
+{
+    word(words, "port")?.parse::<u16>().ok()
+}
+
+/// How many requests are answered.
+pub fn requests(words: &ArgMatches<'_>) -> Option<u32>
+    ensures range { IfSome result IsRequestCount }
+    ensures number { IfSome result (SaysNumber (rows_of (found_of words.now)) (codes "requests")) }
+{
+    number_up_to(word(words, "requests")?, MOST_REQUESTS)
 }
 
 /// The key that was named.

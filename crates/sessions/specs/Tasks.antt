@@ -16,7 +16,7 @@ use Rattle.sessions.specs.declared.tasks.Task.TheVariants as tasks
 abbrev pub cut_said : Option ℕ → ℕ → Cut
 cut_said limit threshold = record { limit = limit; threshold = threshold }
 
--- the path of the store that a plan names, and the commands that it says; a total is none
+-- the path of the store that a plan names, and the commands that it says; a total is none, and a server has its commands from requests
 abbrev pub AreSaidBy : (List Outcome → Type 0) → Plan → List ℕ → List Said → Type 0
 AreSaidBy reads (plans.Total path) store list = ⊥
 AreSaidBy reads (plans.Import db kind files) store list = (store ≡ db.now) × AreImports reads kind (map (λ path. path.now) files) list
@@ -41,6 +41,7 @@ AreSaidBy reads (plans.Verify db selected) store list = (store ≡ db.now) × (l
 AreSaidBy reads (plans.Annotate db selected event file source) store list = (store ≡ db.now) × IsAnnotation reads (selection_said selected) event.now file.now list
 AreSaidBy reads (plans.Csv db selected) store list = (store ≡ db.now) × (list ≡ Ask (Csv (selection_said selected)) ∷ [])
 AreSaidBy reads (plans.Folded db selected) store list = (store ≡ db.now) × (list ≡ Ask (Folded (selection_said selected)) ∷ [])
+AreSaidBy reads (plans.Serve db port requests log) store list = ⊥
 
 -- the plans that ask for an annotated source or an export
 abbrev pub Exports : Plan → Type 0
@@ -62,7 +63,9 @@ Asks (plans.Csv db selected) = Unit {0}
 Asks (plans.Folded db selected) = Unit {0}
 Asks plan = ⊥
 
--- a task does what a plan says: a total for a total, and over the store of the plan commands that it says, whatever is asked of the reads of files
+-- a task does what a plan says: a total for a total, a server for a server, and over the store of the plan commands that it says,
+-- whatever is asked of the reads of files
 abbrev pub IsTaskOf : Plan → Task → Type 0
 IsTaskOf plan (tasks.Total path) = plan ≡ plans.Total path
+IsTaskOf plan (tasks.Serve db port requests log) = plan ≡ plans.Serve db port requests log
 IsTaskOf plan (tasks.Over db work) = (reads : List Outcome → Bool) (list : List Said) → AreOf (λ outcomes. IsTrue (reads outcomes)) work list → AreSaidBy (λ outcomes. IsTrue (reads outcomes)) plan db.now list

@@ -136,5 +136,7 @@ pub fn run_plan<'a>(rt: &'a HostRuntime, plan: Plan<'a>) -> io::Result<ExitCode>
             Ok(ExitCode::from(status))
         }
         Task::Over(db, work) => run_over(rt, db, work),
+        // To be replaced by the server.
+        Task::Serve { .. } => print_refused(rt, "read failed"),
     }
 }

@@ -19,6 +19,13 @@ pub(crate) enum Task<'a> {
     Total(&'a str),
     /// Do a work over the store at a path.
     Over(&'a str, Work<'a>),
+    /// Answer requests over HTTP from the store at a path.
+    Serve {
+        db: &'a str,
+        port: u16,
+        requests: u32,
+        log: bool,
+    },
 }
 
 /// How much of a report is shown.
@@ -182,6 +189,17 @@ pub(crate) fn task_of<'a>(plan: Plan<'a>) -> Task<'a>
             Task::Over(db, Work::Group(name, GroupChange::SetBaseline(number)))
         }
         Plan::Groups { db } => Task::Over(db, Work::Ask(Question::Groups)),
+        Plan::Serve {
+            db,
+            port,
+            requests,
+            log,
+        } => Task::Serve {
+            db,
+            port,
+            requests,
+            log,
+        },
         report => report_task(report),
     }
 }

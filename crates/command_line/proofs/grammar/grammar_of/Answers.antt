@@ -2,7 +2,7 @@ use Rattle.std.proofs.Common.{◌≡◌, ap, ◌∙◌}
 use Rattle.clap.specs.Words.{App, app_of}
 use Rattle.clap.specs.declared.builder.value_parser.ValueParser.TheVariants.{Names}
 use Rattle.command_line.specs.Grammar as line
-use Rattle.command_line.proofs.GrammarLemmas.{last_by}
+use Rattle.command_line.proofs.GrammarLemmas.{got_last}
 use Rattle.command_line.proofs.grammar.grammar_of.Goals as goal
 
 pub returns-clause-app : goal.returns-clause-app
@@ -10,4 +10,5 @@ returns-clause-app c =
     let files : app_of c.in_ok-command.command ≡ line.with_files line.program = c.in_ok-command.ensures.app ∙ ap (λ (a : App). line.with_files a) c.program.ensures.app in
     let lists : app_of c.in_ok-command-2.command ≡ line.with_lists (line.with_files line.program) = c.in_ok-command-2.ensures.app ∙ ap (λ (a : App). line.with_lists a) files in
     let members : app_of c.in_ok-command-3.command ≡ line.with_members (line.with_lists (line.with_files line.program)) = c.in_ok-command-3.ensures.app ∙ ap (λ (a : App). line.with_members a) lists in
-    last_by c.with_reports.result (line.with_reports (Names c.args.keys)) (app_of c.in_ok-command-3.command) _ members c.with_reports.ensures.app
+    let reports : app_of c.in_ok-command-4.command ≡ line.with_reports (Names c.args.keys) (line.with_members (line.with_lists (line.with_files line.program))) = c.in_ok-command-4.ensures.app ∙ ap (λ (a : App). line.with_reports (Names c.args.keys) a) members in
+    got_last c.with.result c.serve.result _ _ line.serve c.with.ensures.app reports c.serve.ensures.app
