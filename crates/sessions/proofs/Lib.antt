@@ -1,2 +1,3 @@
 pub mod SessionLemmas
 pub mod WorkLemmas
+pub mod ServedLemmas

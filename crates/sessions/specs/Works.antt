@@ -13,6 +13,7 @@ use Rattle.histories.specs.Legal.{AreLegal}
 use Rattle.histories.specs.declared.limits.Limits.{Limits}
 use Rattle.store_histories.specs.Answered.{HasHistory, Links}
 use Rattle.program_files.specs.Stores.{TakesUp, Refuses}
+use Rattle.http_serving.specs.Served.{HasServed}
 use Rattle.sessions.specs.Sessions.{ArePrinted, ArePrintedInPart, answers_of, commands_of, status_after}
 
 -- ---- a total
@@ -60,4 +61,19 @@ module _ {W S : Type 0} (g : Ghosts S) (contents : W → Option (List ℕ)) (wan
   abbrev pub WasWorked : {E F : Type 0} → Bool → Result (Result ℕ E) F → W → Connection S → Connection S → Type 0
   WasWorked is_new result from old new = MatchResult result
       (λ printed. (to : W) × (opened : Store S) × (closed : Store S) × (closed.conn ≡ new) × TakesUp is_new (state g old) (shown g opened) × CameTo printed from to opened closed)
+      (λ end. Refuses is_new (state g old) (state g new))
+
+-- ---- a server
+
+module _ {S : Type 0} (g : Ghosts S) where
+  -- under the standard limits requests were served
+  pub record CameToServed (old new : Store S) : Type 0 where
+    pub limits : Limits
+    pub standard : IsStandard limits
+    pub served : HasServed g limits old new
+
+  -- a store was made or found in a database, and served; or there was none to be had, and all is as it was
+  abbrev pub WasServed : {R F : Type 0} → Bool → Result R F → Connection S → Connection S → Type 0
+  WasServed is_new result old new = MatchResult result
+      (λ status. (opened : Store S) × (closed : Store S) × (closed.conn ≡ new) × TakesUp is_new (state g old) (shown g opened) × CameToServed opened closed)
       (λ end. Refuses is_new (state g old) (state g new))

@@ -6,6 +6,8 @@
 mod questions;
 // Does what a plan says.
 mod running;
+// A store is served over HTTP (specs/Works.antt).
+mod serving;
 // Runs commands over the store, and prints each answer as it is there (specs/Sessions.antt).
 mod session;
 // What is to be done for a plan.

@@ -5,11 +5,13 @@ ghost use Rattle.prof_store.specs.Shown.{IsFaithful};
 ghost use Rattle.sessions.specs.Sessions.{Wants};
 ghost use Rattle.sessions.specs.Works.{CameTo, TotalPrinted, WasWorked};
 
+use crate::serving::serve_in;
 use crate::session::{Session, Work};
 use crate::tasks::{Task, task_of};
 use command_line::Plan;
 use file_totals::{TotalText, total_file};
 use histories::Limits;
+use http_serving::Service;
 use prof_store::{OpenError, Store};
 use program_files::{StoreFile, database_at, error_line, is_new_at, store_in};
 use sqlite::{Alter, Connection};
@@ -85,43 +87,53 @@ fn print_unopened<R: Print>(rt: &R, end: OpenError) -> io::Result<ExitCode> {
     Ok(ExitCode::FAILURE)
 }
 
-/// Does a work over a database, as `work_in`, and prints to the standard output. No guarantee: nothing of
-/// it would reach the caller, who closes the database.
+/// What is done over the store at a path.
+#[derive(Drop)]
+enum Job<'a> {
+    Work(Work<'a>),
+    Serve(Service),
+}
+
+/// Does a job over a database, as `work_in` and `serve_in`, and prints to the standard output. No guarantee:
+/// nothing of it would reach the caller, who closes the database.
 fn work_on<'a, S: Alter>(
     rt: &'a HostRuntime,
     conn: Connection<S>,
     is_new: bool,
-    work: Work<'a>,
+    job: Job<'a>,
 ) -> (Result<io::Result<u8>, OpenError>, Connection<S>) {
-    work_in(rt, io::writer(rt), conn, is_new, work)
+    match job {
+        Job::Work(work) => work_in(rt, io::writer(rt), conn, is_new, work),
+        Job::Serve(service) => serve_in(rt, conn, is_new, service),
+    }
 }
 
-/// Does a work over a database in a file, and closes it: what was committed is copied from the log into
+/// Does a job over a database in a file, and closes it: what was committed is copied from the log into
 /// the file; where that fails, it stands in the log, and the next opening finds it there. No guarantee:
 /// nothing of the database comes back.
 fn work_and_close<'a>(
     rt: &'a HostRuntime,
     conn: Connection<StoreFile>,
     is_new: bool,
-    work: Work<'a>,
+    job: Job<'a>,
 ) -> Result<io::Result<u8>, OpenError> {
-    let (came_to, conn) = work_on(rt, conn, is_new, work);
+    let (came_to, conn) = work_on(rt, conn, is_new, job);
     let _closed = conn.close();
     came_to
 }
 
-/// Does a work over the store at a path. No guarantee: as `run_over`.
-fn work_at<'a>(rt: &'a HostRuntime, db: &str, work: Work<'a>) -> Result<io::Result<u8>, OpenError> {
+/// Does a job over the store at a path. No guarantee: as `run_over`.
+fn work_at<'a>(rt: &'a HostRuntime, db: &str, job: Job<'a>) -> Result<io::Result<u8>, OpenError> {
     let is_new = is_new_at(rt, db)?;
     let conn = database_at(rt, db)?;
-    work_and_close(rt, conn, is_new, work)
+    work_and_close(rt, conn, is_new, job)
 }
 
-/// Does a work over the store at a path, and prints why that was not opened. No guarantee: which history the
+/// Does a job over the store at a path, and prints why that was not opened. No guarantee: which history the
 /// store at a path has, the checker does not know; `Session::run` says what is done over a store of any
 /// history, and which status comes of it.
-fn run_over<'a>(rt: &'a HostRuntime, db: &str, work: Work<'a>) -> io::Result<ExitCode> {
-    match work_at(rt, db, work) {
+fn run_over<'a>(rt: &'a HostRuntime, db: &str, job: Job<'a>) -> io::Result<ExitCode> {
+    match work_at(rt, db, job) {
         Ok(status) => Ok(ExitCode::from(status?)),
         Err(end) => print_unopened(rt, end),
     }
@@ -135,8 +147,20 @@ pub fn run_plan<'a>(rt: &'a HostRuntime, plan: Plan<'a>) -> io::Result<ExitCode>
             let status = print_total(&mut io::writer(rt), total_file(rt, path))?;
             Ok(ExitCode::from(status))
         }
-        Task::Over(db, work) => run_over(rt, db, work),
-        // To be replaced by the server.
-        Task::Serve { .. } => print_refused(rt, "read failed"),
+        Task::Over(db, work) => run_over(rt, db, Job::Work(work)),
+        Task::Serve {
+            db,
+            port,
+            requests,
+            log,
+        } => run_over(
+            rt,
+            db,
+            Job::Serve(Service {
+                port,
+                requests,
+                log,
+            }),
+        ),
     }
 }

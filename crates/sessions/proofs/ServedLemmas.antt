@@ -1,0 +1,11 @@
+-- From requests that were served to what a server over a store comes to.
+use Rattle.sqlite_trees.specs.declared.store.Store.{Ghosts}
+use Rattle.prof_store.specs.Shown.{IsFaithful}
+use Rattle.prof_store.specs.declared.store.Store.{Store}
+use Rattle.http_serving.proofs.Served.{served_clean}
+use Rattle.sessions.specs.Works.{CameToServed}
+
+module _ {S : Type 0} (g : Ghosts S) where
+  -- the disk was faithful before
+  pub came_clean : (before after : Store S) → CameToServed g before after → IsFaithful g after → IsFaithful g before
+  came_clean before after it clean = served_clean g it.limits before after it.served clean
