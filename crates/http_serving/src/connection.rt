@@ -1,6 +1,6 @@
 // A socket as a stream. A read or write that comes too late fails, so a client that sends slowly, or goes
 // away, does not stop the others.
-ghost use Rattle.std.specs.Prelude.{◌≤◌, length};
+ghost use Rattle.std.specs.Io.{ReadsAtMost};
 
 use http_streams::{Stream, StreamFault};
 use std::io;
@@ -9,14 +9,14 @@ use std::net::{Shutdown, TcpStream};
 use std::rt::HostRuntime;
 use std::time::{Duration, Instant};
 
-/// How long all of a head may take.
-const HEAD_TIME: Duration = Duration::from_secs(10);
+/// How many seconds all of a head may take.
+const HEAD_SECONDS: u64 = 10;
 
-/// How long a piece of a body or of a response may take.
-const PIECE_TIME: Duration = Duration::from_secs(30);
+/// How many seconds a piece of a body or of a response may take.
+const PIECE_SECONDS: u64 = 30;
 
-/// How long bytes that nobody asked for are read before a connection is closed.
-const DRAIN_TIME: Duration = Duration::from_secs(1);
+/// How many seconds bytes that nobody asked for are read before a connection is closed.
+const DRAIN_SECONDS: u64 = 1;
 
 /// How many bytes are read at a time then, and how often.
 const DRAIN_PIECE: usize = 16_384;
@@ -30,8 +30,8 @@ const FIRST_BYTES: usize = 512;
 enum Patience {
     /// The head has to be there by then.
     Until(Instant),
-    /// Each piece may take so long.
-    Each(Duration),
+    /// A piece may take as long as a piece may.
+    Piece,
 }
 
 impl Patience {
@@ -39,14 +39,14 @@ impl Patience {
     fn left(self, rt: &HostRuntime) -> io::Result<Duration> {
         match self {
             Patience::Until(end) => Ok(end.saturating_duration_since(Instant::now(rt)?)),
-            Patience::Each(duration) => Ok(duration),
+            Patience::Piece => Ok(Duration::from_secs(PIECE_SECONDS)),
         }
     }
 }
 
-/// A time from now. No guarantee: of the clock the checker knows nothing.
-fn from_now(rt: &HostRuntime, duration: Duration) -> io::Result<Instant> {
-    match Instant::now(rt)?.checked_add(duration) {
+/// So many seconds from now. No guarantee: of the clock the checker knows nothing.
+fn from_now(rt: &HostRuntime, seconds: u64) -> io::Result<Instant> {
+    match Instant::now(rt)?.checked_add(Duration::from_secs(seconds)) {
         Some(end) => Ok(end),
         None => Err(io::Error::from(ErrorKind::TimedOut)),
     }
@@ -67,8 +67,8 @@ impl<'a> Connection<'a> {
     /// The connection of a socket: its head has to come in time. No guarantee: of a socket the checker knows
     /// nothing.
     pub(crate) fn new(rt: &'a HostRuntime, socket: TcpStream) -> io::Result<Connection<'a>> {
-        socket.set_write_timeout(Some(PIECE_TIME))?;
-        let end = from_now(rt, HEAD_TIME)?;
+        socket.set_write_timeout(Some(Duration::from_secs(PIECE_SECONDS)))?;
+        let end = from_now(rt, HEAD_SECONDS)?;
         Ok(Connection {
             rt,
             socket,
@@ -105,7 +105,7 @@ impl<'a> Connection<'a> {
     /// Reads away what the client still sends, for a while, so that it sees the response and no reset. No
     /// guarantee: of what a client sends the checker knows nothing.
     fn drain(&mut self) -> io::Result<()> {
-        let end = from_now(self.rt, DRAIN_TIME)?;
+        let end = from_now(self.rt, DRAIN_SECONDS)?;
         self.patience = Patience::Until(end);
         let mut piece = [0u8; DRAIN_PIECE];
         for _ in 0..DRAIN_PIECES {
@@ -150,6 +150,6 @@ impl Stream for Connection<'_> {
     }
 
     fn head_came(&mut self) {
-        self.patience = Patience::Each(PIECE_TIME);
+        self.patience = Patience::Piece;
     }
 }

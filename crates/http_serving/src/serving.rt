@@ -10,7 +10,6 @@ use http_exchanges::{Place, routes};
 use matchit::Router;
 use prof_http::{Exchange, answer};
 use sqlite::Alter;
-use std::alloc::AllocError;
 use std::io;
 use std::net::{Ipv4Addr, SocketAddr, TcpListener, TcpStream};
 use std::rt::HostRuntime;
@@ -25,13 +24,6 @@ pub struct Service {
     pub requests: u32,
     /// Whether each request is told on standard error.
     pub log: bool,
-}
-
-/// Whether all of a request was wanted: its command was done.
-fn is_success(exchange: Exchange) -> bool
-    ensures { result ≡ is_success exchange }
-{
-    matches!(exchange, Exchange::Sent(200 | 201))
 }
 
 /// Serves one client, and ends the connection.
@@ -55,7 +47,8 @@ fn serve_client<S: Alter>(
         // A log that cannot be written stops no service.
         let _logged = log(rt, client, connection.first_line(), exchange);
     }
-    let _closed = connection.close(is_success(exchange));
+    // A request that was refused may have a body that nobody read.
+    let _closed = connection.close(matches!(exchange, Exchange::Sent(200 | 201)));
 }
 
 /// Answers so many clients, one after another. False where one could not be accepted.
@@ -78,6 +71,11 @@ pub fn serve_on<S: Alter>(
         serve_client(rt, router, warehouse, socket, client, is_logged);
     }
     true
+}
+
+/// Listens at a port of 127.0.0.1. No guarantee: of the network the checker knows nothing.
+fn listener_at(rt: &HostRuntime, port: u16) -> io::Result<TcpListener> {
+    TcpListener::bind(rt, SocketAddr::from((Ipv4Addr::LOCALHOST, port)))
 }
 
 /// Serves a warehouse on a port of 127.0.0.1: prints which, answers so many requests, prints that, and
