@@ -3,19 +3,19 @@ use Rattle.std.proofs.Common.{◌≡◌, ◌⊎◌, inl, inr, ℕ, ◌+◌, ◌<
 use Rattle.std.proofs.lemmas.List.{length-append}
 use Rattle.std.proofs.Math.Seq.{take-append-add}
 use Rattle.std.specs.List.{list_any}
-use Rattle.sources.specs.Outcomes.{Outcome, Gave, Failed, bytes_of, is_failed, is_end}
+use Rattle.sources.specs.Outcomes.{Outcome, Gave, Failed, bytes_of, is_end}
 use Rattle.sources.specs.Reads.{Reads}
 use Rattle.http_streams.specs.Streams.{IsFront}
 use Rattle.http_streams.specs.Received.{is_short}
-use Rattle.http_streams.specs.Bodies.{held, IsOver, IsHeld, IsNew, IsMissing, BodyRead, IsBodyOf}
+use Rattle.http_streams.specs.Bodies.{held, BodyRead, IsBodyOf}
 use Rattle.http_streams.specs.declared.bodies.Body.{Body}
 
 -- a piece in front of what the later reads came to
 pub one_more : (n m : ℕ) (piece text : List ℕ) (bytes : List ℕ) → n ≡ length piece + m → IsFront bytes (take m text) → IsFront (piece ++ bytes) (take n (piece ++ text))
 one_more n m piece text bytes e front = (
-    front.0,
-    ap (λ k. take k (piece ++ text)) e ∙ take-append-add piece text m ∙ ap (λ l. piece ++ l) front.1 ∙ sym (append_assoc piece bytes front.0),
-  )
+  front.0,
+  ap (λ k. take k (piece ++ text)) e ∙ take-append-add piece text m ∙ ap (λ l. piece ++ l) front.1 ∙ sym (append_assoc piece bytes front.0),
+)
 
 whole_on : (n m : ℕ) (piece text : List ℕ) (bytes : List ℕ) → n ≡ length piece + m → (bytes ≡ take m text) × (m ≤ length text) → (piece ++ bytes ≡ take n (piece ++ text)) × (n ≤ length (piece ++ text))
 whole_on n m piece text bytes e whole =
@@ -85,31 +85,31 @@ module _ {T : Type 0} (reads : T → Outcome → T → Type 0) where
 
   none_comes : (old new : Body T) → old ≡ new → Comes old [] new
   none_comes old new e = (
-      [],
-      ap (λ (x : Body T). x.stream) e,
-      record { front = (take old.left (held old ++ []), refl); whole = λ h. cc; short = λ h. cc; within = inl refl },
-    )
+    [],
+    ap (λ (x : Body T). x.stream) e,
+    record { front = (take old.left (held old ++ []), refl); whole = λ h. cc; short = λ h. cc; within = inl refl },
+  )
 
   over_comes : (old new : Body T) (more : List Outcome) → old.left ≡ 0 → Comes old more new → Comes old (Gave [] ∷ more) new
   over_comes old new more none later = (
-      later.0,
-      later.1,
-      record {
-        front = later.2.front;
-        whole = λ _. (nothing old.left (held old ++ bytes_of later.0) (bytes_of more) none later.2.front, omega (arith, none));
-        short = later.2.short;
-        within = later.2.within;
-      },
-    )
+    later.0,
+    later.1,
+    record {
+      front = later.2.front;
+      whole = λ _. (nothing old.left (held old ++ bytes_of later.0) (bytes_of more) none later.2.front, omega (arith, none));
+      short = later.2.short;
+      within = later.2.within;
+    },
+  )
 
   held_comes : (old mid new : Body T) (more : List Outcome) (piece : List ℕ) → 0 < length piece → held old ≡ piece ++ held mid → old.left ≡ length piece + mid.left → mid.stream ≡ old.stream → Comes mid more new → Comes old (Gave piece ∷ more) new
   held_comes old mid new more piece some parts left same later = (
-      later.0,
-      subst (λ s. Reads reads s later.0 new.stream) same later.1,
-      with_piece old.left mid.left piece (held old) (held mid) later.0 later.0 more some left
+    later.0,
+    subst (λ s. Reads reads s later.0 new.stream) same later.1,
+    with_piece old.left mid.left piece (held old) (held mid) later.0 later.0 more some left
         (ap (λ l. l ++ bytes_of later.0) parts ∙ append_assoc piece (held mid) (bytes_of later.0)) (λ h. h)
         (held_within old.left mid.left piece (held old) (held mid) later.0 parts left later.2.within) later.2,
-    )
+  )
 
   new_comes : (old mid new : Body T) (more : List Outcome) (piece : List ℕ) → 0 < length piece → held old ≡ [] → held mid ≡ [] → old.left ≡ length piece + mid.left → reads old.stream (Gave piece) mid.stream → Comes mid more new → Comes old (Gave piece ∷ more) new
   new_comes old mid new more piece some none still left came later =
@@ -118,16 +118,16 @@ module _ {T : Type 0} (reads : T → Outcome → T → Type 0) where
         Gave piece ∷ later.0,
         (mid.stream, came, later.1),
         with_piece old.left mid.left piece (held old) (held mid) (Gave piece ∷ later.0) later.0 more some left text
-          (or_later (is_short (Gave piece)) (list_any is_short later.0))
-          (read_within old.left mid.left (held old) (held mid) (Gave piece) later.0 none (omega (arith, left, some)) size later.2.within) later.2,
+            (or_later (is_short (Gave piece)) (list_any is_short later.0))
+            (read_within old.left mid.left (held old) (held mid) (Gave piece) later.0 none (omega (arith, left, some)) size later.2.within) later.2,
       )
 
   short_comes : (old mid new : Body T) (more : List Outcome) (read : Outcome) → bytes_of (read ∷ []) ≡ [] → is_short read ≡ true → held old ≡ [] → held mid ≡ [] → 0 < old.left → old.left ≡ mid.left → reads old.stream read mid.stream → Comes mid more new → Comes old (Failed ∷ more) new
   short_comes old mid new more read no_byte short none still some left came later =
       let text : take mid.left (held mid ++ bytes_of later.0) ≡ take old.left (held old ++ bytes_of (read ∷ later.0)) =
-        ap (λ n. take n (held mid ++ bytes_of later.0)) (sym left) ∙ ap (λ l. take old.left (l ++ bytes_of later.0)) (still ∙ sym none) ∙ ap (λ l. take old.left (held old ++ l)) (nothing_read read later.0 no_byte) in
+      ap (λ n. take n (held mid ++ bytes_of later.0)) (sym left) ∙ ap (λ l. take old.left (l ++ bytes_of later.0)) (still ∙ sym none) ∙ ap (λ l. take old.left (held old ++ l)) (nothing_read read later.0 no_byte) in
       let long : length (held mid ++ bytes_of later.0) ≡ length (held old ++ bytes_of (read ∷ later.0)) =
-        ap (λ l. length (l ++ bytes_of later.0)) (still ∙ sym none) ∙ ap (λ l. length (held old ++ l)) (nothing_read read later.0 no_byte) in
+      ap (λ l. length (l ++ bytes_of later.0)) (still ∙ sym none) ∙ ap (λ l. length (held old ++ l)) (nothing_read read later.0 no_byte) in
       let size : old.left ≡ length (bytes_of (read ∷ [])) + mid.left = let none = ap length no_byte in omega (arith, left, none) in (
         read ∷ later.0,
         (mid.stream, came, later.1),

@@ -1,5 +1,5 @@
 -- What is known of a head after some reads.
-use Rattle.std.proofs.Common.{◌≡◌, ◌⊎◌, inl, inr, ℕ, ◌+◌, ◌<◌, ◌≤◌, Bool, true, false, ◌||◌, IsTrue, List, [], ◌∷◌, ◌++◌, length, refl, sym, ap, subst, ◌∙◌, arith, append-nil}
+use Rattle.std.proofs.Common.{◌≡◌, ◌⊎◌, inl, inr, ℕ, ◌<◌, false, ◌||◌, IsTrue, List, [], ◌∷◌, ◌++◌, length, refl, sym, ap, subst, ◌∙◌, arith, append-nil}
 use Rattle.std.proofs.lemmas.List.{length-append}
 use Rattle.std.proofs.lemmas.List.Elements.{All-nil, All-cons}
 use Rattle.std.proofs.lemmas.Str.{IsUtf8-from_ascii}
@@ -9,7 +9,7 @@ use Rattle.httparse.specs.Spans.{RequestOverflows}
 use Rattle.httparse.specs.declared.spans.HeaderSpan.{HeaderSpan}
 use Rattle.sources.specs.Outcomes.{Outcome, Gave, Failed, bytes_of}
 use Rattle.sources.proofs.Outcomes.{bytes_on, bytes_failed}
-use Rattle.http_exchanges.specs.Heads.{HasNoHead, BeginsWith, IsFoundIn, head_limit, field_limit}
+use Rattle.http_exchanges.specs.Heads.{HasNoHead, IsFoundIn, head_limit, field_limit}
 use Rattle.http_exchanges.specs.declared.heads.Head.TheVariants.{Unfinished, Malformed}
 use Rattle.http_streams.specs.Received.{is_short, IsAwaiting, EndWith, IsBadHead, IsCutOff}
 use Rattle.http_streams.proofs.Steps.{any_join}

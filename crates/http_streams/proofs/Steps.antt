@@ -1,12 +1,12 @@
 -- Reads and writes, one more at a time.
 use Rattle.std.proofs.Common.{◌≡◌, ℕ, ◌+◌, ◌-◌, ◌<◌, ◌≤◌, Bool, true, false, ◌||◌, List, [], ◌∷◌, ◌++◌, length, take, drop, refl, sym, ap, subst, ◌∙◌, arith, append_assoc, append-nil}
-use Rattle.std.proofs.lemmas.List.{length-take-le, length-drop, take-take, take-append-drop, take_rest}
+use Rattle.std.proofs.lemmas.List.{length-append, length-take-le, length-drop, take-take, take-append-drop}
 use Rattle.std.proofs.lemmas.List.Folds.{list_any-append}
 use Rattle.std.proofs.lemmas.Slice.{take-put_mid}
 use Rattle.std.proofs.Math.Seq.{take-append-add}
 use Rattle.std.specs.List.{list_any}
 use borrow.Rule.Slice.PartMut.{put_mid, mid_of, same_len_mid}
-use Rattle.http_streams.specs.Streams.{Written, Took, Broke, Writes, bytes_written, is_stopped, HaveTaken, HasBroken, IsFront, WentAs}
+use Rattle.http_streams.specs.Streams.{Written, Took, Broke, Writes, bytes_written, is_stopped, HaveTaken, HasBroken, WentAs}
 
 -- ---- tests of lists
 
@@ -41,15 +41,23 @@ has_taken [] some = absurd (omega (arith, some))
 has_taken (b ∷ piece) some = refl
 
 -- the writes so far took a front of the text, and the next stopped
-pub cut_at : (text : List ℕ) (at : ℕ) (writes : List Written) (last : Written) → bytes_written writes ≡ take at text → HaveTaken writes → bytes_written (last ∷ []) ≡ [] → is_stopped last ≡ true → WentAs false text (writes ++ last ∷ [])
-cut_at text at writes last are taken none stopped =
+pub cut_at : (text : List ℕ) (at : ℕ) (writes : List Written) (last : Written) → at < length text → bytes_written writes ≡ take at text → HaveTaken writes → bytes_written (last ∷ []) ≡ [] → is_stopped last ≡ true → WentAs false text (writes ++ last ∷ [])
+cut_at text at writes last less are taken none stopped =
     let all : bytes_written (writes ++ last ∷ []) ≡ take at text = written_join writes (last ∷ []) ∙ ap (λ l. bytes_written writes ++ l) none ∙ append-nil (bytes_written writes) ∙ are in
-    ((drop at text, sym (take-append-drop at text) ∙ ap (λ l. l ++ drop at text) (sym all)), record { before = writes; last = last; are = refl; taken = taken; stopped = stopped })
+    let many = ap length all ∙ length-take-le at text (omega (arith, less)) in (
+      (drop at text, sym (take-append-drop at text) ∙ ap (λ l. l ++ drop at text) (sym all)),
+      record { before = writes; last = last; are = refl; taken = taken; stopped = stopped },
+      omega (arith, many, less),
+    )
 
 -- ---- two texts
 
 pub cut_first : (first second : List ℕ) (writes : List Written) → WentAs false first writes → WentAs false (first ++ second) writes
-cut_first first second writes cut = ((cut.0.0 ++ second, ap (λ l. l ++ second) cut.0.1 ∙ append_assoc (bytes_written writes) cut.0.0 second), cut.1)
+cut_first first second writes cut = (
+  (cut.0.0 ++ second, ap (λ l. l ++ second) cut.0.1 ∙ append_assoc (bytes_written writes) cut.0.0 second),
+  cut.1,
+  let long = length-append first second in let less = cut.2 in omega (arith, long, less),
+)
 
 broken_join : (first second : List Written) → HaveTaken first → HasBroken second → HasBroken (first ++ second)
 broken_join first second taken broken = record {
@@ -62,13 +70,16 @@ broken_join first second taken broken = record {
 
 pub went_join : (went : Bool) (first second : List ℕ) (writes later : List Written) → WentAs true first writes → WentAs went second later → WentAs went (first ++ second) (writes ++ later)
 went_join true first second writes later one two = (
-    written_join writes later ∙ ap (λ l. l ++ bytes_written later) one.0 ∙ ap (λ l. first ++ l) two.0,
-    any_join is_stopped writes later one.1 two.1,
-  )
+  written_join writes later ∙ ap (λ l. l ++ bytes_written later) one.0 ∙ ap (λ l. first ++ l) two.0,
+  any_join is_stopped writes later one.1 two.1,
+)
 went_join false first second writes later one two = (
-    (two.0.0, ap (λ l. first ++ l) two.0.1 ∙ ap (λ l. l ++ (bytes_written later ++ two.0.0)) (sym one.0) ∙ sym (append_assoc (bytes_written writes) (bytes_written later) two.0.0) ∙ ap (λ l. l ++ two.0.0) (sym (written_join writes later))),
-    broken_join writes later one.1 two.1,
-  )
+  (two.0.0, ap (λ l. first ++ l) two.0.1 ∙ ap (λ l. l ++ (bytes_written later ++ two.0.0)) (sym one.0) ∙ sym (append_assoc (bytes_written writes) (bytes_written later) two.0.0) ∙ ap (λ l. l ++ two.0.0) (sym (written_join writes later))),
+  broken_join writes later one.1 two.1,
+  let long = length-append first second in
+      let went = ap length (written_join writes later ∙ ap (λ l. l ++ bytes_written later) one.0) ∙ length-append first (bytes_written later) in
+      let less = two.2 in omega (arith, long, went, less),
+)
 
 -- ---- what was read, in the buffer that it was read into
 

@@ -1,8 +1,8 @@
-use Rattle.std.proofs.Common.{◌≡◌, ◌+◌, ◌-◌, ◌<◌, ◌≤◌, List, [], ◌∷◌, ◌++◌, length, take, drop, refl, sym, ap, subst, ◌∙◌, arith}
+use Rattle.std.proofs.Common.{◌≡◌, ◌+◌, ◌-◌, ◌<◌, ◌≤◌, [], ◌∷◌, ◌++◌, length, take, refl, sym, ap, subst, ◌∙◌, arith}
 use Rattle.std.proofs.lemmas.List.{length-take-le}
-use Rattle.sources.specs.Outcomes.{Gave, Failed, bytes_of}
+use Rattle.sources.specs.Outcomes.{Gave, Failed}
 use Rattle.sources.proofs.Outcomes.{come_on, bytes_on}
-use Rattle.http_exchanges.specs.Heads.{IsFoundIn, head_limit, field_limit}
+use Rattle.http_exchanges.specs.Heads.{IsFoundIn}
 use Rattle.http_exchanges.specs.declared.heads.Head.TheVariants.{Complete}
 use Rattle.http_streams.proofs.Steps.{filled_on, same_room, room_left, left_len}
 use Rattle.http_streams.proofs.HeadLemmas.{await_first, cut_off, ended_early, await_on, bad_head}

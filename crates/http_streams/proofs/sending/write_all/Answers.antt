@@ -1,7 +1,7 @@
-use Rattle.std.proofs.Common.{◌≡◌, ◌+◌, ◌-◌, ◌<◌, ◌≤◌, List, [], ◌∷◌, ◌++◌, length, take, drop, refl, sym, ap, subst, ◌∙◌, arith}
+use Rattle.std.proofs.Common.{◌≡◌, ◌-◌, ◌<◌, [], ◌∷◌, ◌++◌, length, take, drop, refl, sym, ap, subst, ◌∙◌, arith}
 use Rattle.std.proofs.lemmas.List.{take_rest, length-drop, length-take-le}
 use Rattle.std.proofs.Math.Seq.{take-add}
-use Rattle.http_streams.specs.Streams.{Written, Took, Broke, is_stopped}
+use Rattle.http_streams.specs.Streams.{Took, Broke, is_stopped}
 use Rattle.http_streams.proofs.Steps.{wrote_on, written_on, any_join, has_taken, cut_at}
 use Rattle.http_streams.proofs.sending.write_all.Goals as goal
 
@@ -12,7 +12,7 @@ returns-then-count-eq0 g c =
     let none : take c.in-Ok.count part ≡ [] = ap (λ n. take n part) c.if-count-eq0.true in (
       was.0 ++ Took [] ∷ [],
       wrote_on g.T.Stream.writes c.args.stream.now c.writes.stream c.write.new.self was.0 (Took []) was.1 (subst (λ l. g.T.Stream.writes c.writes.stream (Took l) c.write.new.self) none c.in-Ok.ensures.went),
-      cut_at c.args.bytes.now c.writes.at was.0 (Took []) was.2 was.4 refl refl,
+      cut_at c.args.bytes.now c.writes.at was.0 (Took []) c.writes-test.true was.2 was.4 refl refl,
     )
 
 pub writes-preserved : goal.writes-preserved
@@ -36,5 +36,5 @@ returns-in-Err g c =
     let was = c.writes.invariant in (
       was.0 ++ Broke ∷ [],
       wrote_on g.T.Stream.writes c.args.stream.now c.writes.stream c.write.new.self was.0 Broke was.1 c.in-Err.ensures.went,
-      cut_at c.args.bytes.now c.writes.at was.0 Broke was.2 was.4 refl refl,
+      cut_at c.args.bytes.now c.writes.at was.0 Broke c.writes-test.true was.2 was.4 refl refl,
     )
