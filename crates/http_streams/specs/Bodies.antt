@@ -1,5 +1,5 @@
 -- The body of a request: the bytes behind its head, as many as its length says.
-use Rattle.std.specs.Prelude.{◌≡◌, ◌⊎◌, ℕ, ◌+◌, ◌<◌, ◌≤◌, IsTrue, List, [], ◌∷◌, ◌++◌, length, take}
+use Rattle.std.specs.Prelude.{◌≡◌, ◌⊎◌, ℕ, ◌+◌, ◌<◌, ◌≤◌, IsTrue, List, [], ◌++◌, length, take}
 use Rattle.std.specs.List.{list_any}
 use Rattle.sources.specs.Outcomes.{Outcome, Gave, Failed, bytes_of, is_failed, is_end}
 use Rattle.http_streams.specs.Streams.{IsFront}

@@ -1,5 +1,5 @@
 -- What the writes to a connection came to.
-use Rattle.std.specs.Prelude.{◌≡◌, ℕ, Bool, true, false, List, [], ◌∷◌, ◌++◌}
+use Rattle.std.specs.Prelude.{◌≡◌, ℕ, ◌<◌, Bool, true, false, List, [], ◌∷◌, ◌++◌, length}
 use Rattle.std.specs.List.{list_any}
 
 -- the bytes that a write took, or a failure
@@ -40,7 +40,7 @@ pub record HasBroken (writes : List Written) : Type 0 where
 abbrev pub IsFront : List ℕ → List ℕ → Type 0
 IsFront bytes text = (rest : List ℕ) × (text ≡ bytes ++ rest)
 
--- all of a text was written; or a front of it, up to a write that failed or took no byte
+-- all of a text was written; or less, a front of it, up to a write that failed or took no byte
 abbrev pub WentAs : Bool → List ℕ → List Written → Type 0
 WentAs true text writes = (bytes_written writes ≡ text) × HaveTaken writes
-WentAs false text writes = IsFront (bytes_written writes) text × HasBroken writes
+WentAs false text writes = IsFront (bytes_written writes) text × HasBroken writes × (length (bytes_written writes) < length text)

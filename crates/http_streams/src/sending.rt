@@ -1,5 +1,5 @@
 // Responses, as they are written.
-ghost use Rattle.std.specs.Prelude.{◌≡◌, ◌≤◌, ◌++◌, List, length};
+ghost use Rattle.std.specs.Prelude.{◌≡◌, ◌≤◌, ◌+◌, ◌-◌, ◌++◌, List, length, min, take};
 ghost use Rattle.http_exchanges.specs.Responses.{response_text};
 ghost use Rattle.http_streams.specs.Streams.{Written, Writes, WentAs};
 
@@ -38,6 +38,18 @@ fn write_two<T: Stream>(stream: &mut T, first: &[u8], second: &[u8]) -> bool
     write_all(stream, second)
 }
 
+/// Puts as much of a body behind the head as there is room for, and answers where it ends.
+fn put_body(room: &mut [u8], at: usize, body: &[u8]) -> usize
+    requires { at ≤ length room.old }
+    ensures end { result ≡ at + min (length body.now) (length room.old - at) }
+    ensures text { take result room.new ≡ take at room.old ++ take (result - at) body.now }
+{
+    let count = body.len().min(room.len() - at);
+    let end = at + count;
+    room[at..end].copy_from_slice(&body[..count]);
+    end
+}
+
 /// Writes a response, and says whether all of it went; `allow` is the text of the field Allow, empty
 /// where there is none. Takes no memory.
 pub fn send<T: Stream>(stream: &mut T, status: Status, allow: &str, body: &[u8]) -> bool
@@ -46,8 +58,6 @@ pub fn send<T: Stream>(stream: &mut T, status: Status, allow: &str, body: &[u8])
 {
     let mut room = [0u8; ROOM];
     let at = put_head(&mut room, status, allow, body.len());
-    let first = body.len().min(ROOM - at);
-    let end = at + first;
-    room[at..end].copy_from_slice(&body[..first]);
-    write_two(stream, &room[..end], &body[first..])
+    let end = put_body(&mut room, at, body);
+    write_two(stream, &room[..end], &body[end - at..])
 }

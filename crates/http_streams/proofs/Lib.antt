@@ -1,0 +1,3 @@
+pub mod BodyLemmas
+pub mod HeadLemmas
+pub mod Steps
