@@ -30,10 +30,6 @@ abbrev pub text_of : Option (List ℕ) → Result (List ℕ) Failing
 text_of (Some value) = Ok (percent_decode value)
 text_of None = Err BadRequest
 
-abbrev pub text_or : List ℕ → Option (List ℕ) → List ℕ
-text_or other (Some value) = percent_decode value
-text_or other None = other
-
 abbrev pub or_bad : Option ℕ → Result ℕ Failing
 or_bad (Some n) = Ok n
 or_bad None = Err BadRequest
