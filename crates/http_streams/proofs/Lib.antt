@@ -1,3 +1,4 @@
 pub mod BodyLemmas
+mod Examples
 pub mod HeadLemmas
 pub mod Steps
