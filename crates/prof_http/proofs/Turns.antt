@@ -22,7 +22,7 @@ module _ {S : Type 0} (g : Ghosts S) (limits : Limits) where
 
   turned_by : (wanted : Result Request Failing) (after : List ℕ) (reads : List Outcome) (reply : Reply) (old new : Store S) → IsReplied g limits wanted after reads reply old new → Turned old new
   turned_by wanted after reads (replies.Answered answer) old new done =
-      let turn : Turn = record { said = said_of done.request.asked done.outcomes; answer = answer } in (turn ∷ [], new, done.answers, refl)
+      let turn : Turn = record { said = said_of done.request.asked done.outcomes; answer = answer } in (turn ∷ [], (new, done.answers, refl))
   turned_by wanted after reads (replies.Failed failing) old new away = ([], sym away.same)
 
   pub exchange_turned : {T : Type 0} (reads : T → Outcome → T → Type 0) (writes : T → Written → T → Type 0) (hears : T → T → Type 0) (exchange : Exchange) (from to : T) (old new : Store S)

@@ -9,4 +9,4 @@ use Rattle.http_streams.specs.declared.bodies.Body.{Body}
 pub record HandsOn {T : Type 0} (reads : T → Outcome → T → Type 0) (body : Body T) (outcomes : List Outcome) (to : T) : Type 0 where
   pub stream_reads : List Outcome
   pub came : Reads reads body.stream stream_reads to
-  pub body : IsBodyOf body.left body.held.now stream_reads outcomes
+  pub made : IsBodyOf body.left body.held.now stream_reads outcomes
