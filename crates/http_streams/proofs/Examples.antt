@@ -1,7 +1,7 @@
 -- The definitions, on examples.
-use Rattle.std.proofs.Common.{◌≡◌, ◌⊎◌, inl, inr, ℕ, ◌+◌, ◌<◌, ◌≤◌, true, false, List, [], ◌∷◌, ◌++◌, length, refl, arith, codes}
-use Rattle.sources.specs.Outcomes.{Outcome, Gave, Failed}
-use Rattle.http_streams.specs.Streams.{Written, Took, Broke, WentAs}
+use Rattle.std.proofs.Common.{◌≡◌, ◌⊎◌, inl, inr, ◌+◌, ◌<◌, ◌≤◌, true, false, [], ◌∷◌, length, refl, arith, codes}
+use Rattle.sources.specs.Outcomes.{Gave, Failed}
+use Rattle.http_streams.specs.Streams.{Took, Broke, WentAs}
 use Rattle.http_streams.specs.Bodies.{IsBodyOf}
 
 -- ---- writes
