@@ -1,5 +1,5 @@
 // Clients are served, one after another (specs/Served.antt).
-ghost use Rattle.std.specs.Prelude.{◌≡◌};
+ghost use Rattle.std.specs.Prelude.{◌≡◌, IfOk, IfSome};
 ghost use Rattle.prof_store.specs.Shown.{IsFaithful};
 ghost use Rattle.http_exchanges.specs.Routes as spec;
 ghost use Rattle.http_serving.specs.Served.{HasServed};
@@ -78,6 +78,34 @@ fn listener_at(rt: &HostRuntime, port: u16) -> io::Result<TcpListener> {
     TcpListener::bind(rt, SocketAddr::from((Ipv4Addr::LOCALHOST, port)))
 }
 
+/// The routes, and what listens at a port of 127.0.0.1, and prints which; or prints why there is none: no
+/// memory, or a port that is taken, which is a failed read.
+fn listen(rt: &HostRuntime, port: u16) -> io::Result<Option<(Router<Place>, TcpListener)>>
+    ensures { IfOk result (λ found. IfSome found (λ at. at.0 ≡ spec.routes)) }
+{
+    let Ok(router) = routes(rt.alloc()) else {
+        println!(rt; "refused: out of memory")?;
+        return Ok(None);
+    };
+    let Ok(listener) = listener_at(rt, port) else {
+        println!(rt; "refused: read failed")?;
+        return Ok(None);
+    };
+    println!(rt; "listening {}", listener.local_addr()?)?;
+    Ok(Some((router, listener)))
+}
+
+/// Prints how a server ended, and answers the status. No guarantee: of what is printed the checker knows
+/// nothing.
+fn tell_end(rt: &HostRuntime, requests: u32, is_done: bool) -> io::Result<u8> {
+    if is_done {
+        println!(rt; "served {requests}")?;
+        return Ok(0);
+    }
+    println!(rt; "refused: read failed")?;
+    Ok(1)
+}
+
 /// Serves a warehouse on a port of 127.0.0.1: prints which, answers so many requests, prints that, and
 /// answers the status. A port that is taken, and a client that cannot be accepted, are a failed read.
 pub fn serve<S: Alter>(
@@ -88,19 +116,10 @@ pub fn serve<S: Alter>(
     ensures limits { warehouse.new.limits ≡ warehouse.old.limits }
     ensures served { IsFaithful S.Store warehouse.new.store → HasServed S.Store warehouse.old.limits warehouse.old.store warehouse.new.store }
 {
-    let Ok(router) = routes(rt.alloc()) else {
-        println!(rt; "refused: out of memory")?;
+    let Some((router, listener)) = listen(rt, service.port)? else {
         return Ok(1);
     };
-    let Ok(listener) = listener_at(rt, service.port) else {
-        println!(rt; "refused: read failed")?;
-        return Ok(1);
-    };
-    println!(rt; "listening {}", listener.local_addr()?)?;
-    if !serve_on(rt, &listener, &router, warehouse, service.requests, service.log) {
-        println!(rt; "refused: read failed")?;
-        return Ok(1);
-    }
-    println!(rt; "served {}", service.requests)?;
-    Ok(0)
+    let requests = service.requests;
+    let is_done = serve_on(rt, &listener, &router, warehouse, requests, service.log);
+    tell_end(rt, requests, is_done)
 }

@@ -1,0 +1,20 @@
+use Rattle.std.proofs.Common.{refl, subst, ◌∙◌}
+use Rattle.http_serving.specs.Served.{HasServed}
+use Rattle.http_serving.proofs.Served.{served_clean, served_none, served_on}
+use Rattle.http_serving.proofs.serving.serve_on.Goals as goal
+
+pub clients-init : goal.clients-init
+clients-init g c = (refl, λ clean. served_none g.S.Store c.args.warehouse.now.limits c.args.warehouse.now.store)
+
+pub clients-preserved : goal.clients-preserved
+clients-preserved g c =
+    let i = c.clients.invariant in
+    let limits = c.args.warehouse.now.limits in
+    let old = c.args.warehouse.now.store in
+    let mid = c.clients.warehouse.store in
+    let new = c.serve_client.new.warehouse.store in (
+      c.serve_client.ensures.limits ∙ i.0,
+      λ clean.
+          let one = subst (λ x. HasServed g.S.Store x mid new) i.0 (c.serve_client.ensures.served clean) in
+          served_on g.S.Store limits old mid new (i.1 (served_clean g.S.Store limits mid new one clean)) one,
+    )
