@@ -93,6 +93,10 @@ over_calls name = with_rule (with_rule (over_event name) object) (operand (codes
 abbrev pub over_less : Text → App
 over_less name = with_rule (with_rule (over_selection name) (run_option (codes "less-run"))) (option (codes "less-group"))
 
+-- over the requests that come at a port
+abbrev pub over_requests : Text → App
+over_requests name = with_rule (with_rule (over_database name) port) requests
+
 abbrev pub total : App
 total = with_rule (new_app (codes "total")) (operand (codes "FILE"))
 
@@ -127,7 +131,7 @@ abbrev pub folded : App
 folded = over_selection (codes "folded")
 
 abbrev pub serve : App
-serve = with_rule (with_rule (with_rule (over_database (codes "serve")) port) requests) (flag (codes "log"))
+serve = with_rule (over_requests (codes "serve")) (flag (codes "log"))
 
 -- ---- the program
 

@@ -295,6 +295,21 @@ fn over_less<'a>(
         .arg(group_option(alloc, "less-group", "Take off the costs of this group"))
 }
 
+/// A subcommand that answers requests at a port.
+fn over_requests<'a>(
+    alloc: Global,
+    name: &'a str,
+    about: &'a str,
+    example: &'a str,
+) -> Result<Command<'a>, AllocError>
+    ensures app { IfOk result (λ command. app_of command ≡ line.over_requests name.entry.now) }
+    ensures local { IfOk result (λ command. (fields_of command).has_globals ≡ false) }
+{
+    over_database(alloc, name, about, example)?
+        .arg(port(alloc))?
+        .arg(requests(alloc))
+}
+
 fn total<'a>(alloc: Global) -> Result<Command<'a>, AllocError>
     ensures app { IfOk result (λ command. app_of command ≡ line.total) }
     ensures local { IfOk result (λ command. (fields_of command).has_globals ≡ false) }
@@ -394,19 +409,14 @@ fn serve<'a>(alloc: Global) -> Result<Command<'a>, AllocError>
     ensures app { IfOk result (λ command. app_of command ≡ line.serve) }
     ensures local { IfOk result (λ command. (fields_of command).has_globals ≡ false) }
 {
-    over_database(
+    let help = "Write one line on standard error for each served request";
+    over_requests(
         alloc,
         "serve",
         "Answer requests over HTTP",
         "Example: profhouse serve --db s.db --requests 100",
     )?
-    .arg(port(alloc))?
-    .arg(requests(alloc))?
-    .arg(flag(
-        alloc,
-        "log",
-        "Write one line on standard error for each served request",
-    ))
+    .arg(flag(alloc, "log", help))
 }
 
 /// A command with one more subcommand, where there was memory to make that. What was made of it is
