@@ -6,7 +6,7 @@ use Rattle.run_rows.specs.LinePuts.{no_arcs}
 use Rattle.run_rows.specs.Queues.{Queues}
 use Rattle.store_columns.specs.Lines.{arc_line}
 use Rattle.run_rows.proofs.Queueing.{queues_none}
-use Rattle.run_rows.proofs.file_rows.put_cost.Goals as goal
+use Rattle.run_rows.proofs.row_lines.put_cost.Goals as goal
 
 pub returns-then-cost-gt0 : goal.returns-then-cost-gt0
 returns-then-cost-gt0 g c =
