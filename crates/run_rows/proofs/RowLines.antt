@@ -1,7 +1,6 @@
 -- The lines that a file's rows become, row by row.
-use Rattle.std.proofs.Common.{◌≡◌, ℕ, suc, ◌+◌, List, [], ◌∷◌, ◌++◌, map, flat_map, length, nat_lt, if◌then◌else◌, Bool, true, false, refl, sym, ap, ap₂, ◌∙◌, add-zero, arith, append-nil}
+use Rattle.std.proofs.Common.{◌≡◌, ℕ, suc, ◌+◌, List, [], ◌∷◌, ◌++◌, map, flat_map, length, nat_lt, if◌then◌else◌, Bool, true, false, refl, sym, ap, ap₂, ◌∙◌, add-zero, arith}
 use Rattle.std.specs.Borrow.{Bor}
-use Rattle.std.proofs.lemmas.List.{append_assoc}
 use Rattle.cost_rows.specs.declared.places.CellPlace.{CellPlace}
 use Rattle.cost_rows.specs.declared.places.Call.{Call}
 use Rattle.cost_rows.specs.declared.calls.Calls.{Calls}
@@ -12,7 +11,7 @@ use Rattle.cost_rows.specs.ByNumber.{numbered_at, numbered_cells, numbered_arcs,
 use Rattle.cost_rows.specs.Plain.{plain_stack}
 use Rattle.cost_rows.specs.Walks.{stack_rows}
 use Rattle.sql_tables.proofs.Rows.{map-append}
-use Rattle.prof_tables.specs.Tables.{CellLine, ArcLine, StackLine}
+use Rattle.prof_tables.specs.Tables.{ArcLine, StackLine}
 use Rattle.prof_books.specs.Files.{cell_line_of, cell_lines_at, cell_lines, arc_line_of, arc_lines_from, arc_lines_at, arc_lines, stack_lines}
 use Rattle.run_rows.specs.FromRows.{line_of_cell, line_of_stack, row_lines}
 

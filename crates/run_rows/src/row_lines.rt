@@ -1,7 +1,6 @@
 // The rows of a file, and the lines that each becomes.
-ghost use Rattle.std.specs.Prelude.{◌≡◌, ◌∷◌, []};
 ghost use Rattle.std.specs.Result.{is_ok};
-ghost use Rattle.run_rows.specs.FromRows.{part_line, cost_lines};
+ghost use Rattle.run_rows.specs.FromRows.{cost_lines};
 ghost use Rattle.run_rows.specs.Queues.{QueuesArcs};
 
 use crate::file_lines::{arc_of, cell_of, stack_of};
@@ -73,22 +72,6 @@ impl<'a> BecomesLines<StackLine<'a>> for StackRow<&'a [u8]> {
     }
 }
 
-/// Takes up a part of the calls of a row.
-fn put_part<S: Alter>(
-    tx: &mut Transaction<'_, S>,
-    alloc: Global,
-    waiting: &mut Vec<ArcLine>,
-    run: u32,
-    numbers: &[u32],
-    row: &ArcRow<u32, &[u128]>,
-    part: usize,
-    sum: u128,
-) -> Result<(), StoreError>
-    ensures { QueuesArcs S.Store (is_ok result) waiting.old.items (part_line run numbers.now row.now part sum ∷ []) waiting.new.items tx.old tx.new }
-{
-    queue(tx, alloc, waiting, arc_of(run, numbers, row, part, sum))
-}
-
 /// Takes up a cost of the calls of a row, unless it is 0.
 fn put_cost<S: Alter>(
     tx: &mut Transaction<'_, S>,
@@ -103,7 +86,7 @@ fn put_cost<S: Alter>(
     ensures { QueuesArcs S.Store (is_ok result) waiting.old.items (cost_lines run numbers.now row.now part cost) waiting.new.items tx.old tx.new }
 {
     if cost > 0 {
-        put_part(tx, alloc, waiting, run, numbers, row, part, cost)
+        queue(tx, alloc, waiting, arc_of(run, numbers, row, part, cost))
     } else {
         Ok(())
     }
@@ -124,7 +107,12 @@ impl BecomesLines<ArcLine> for ArcRow<u32, &[u128]> {
         run: u32,
         numbers: &[u32],
     ) -> Result<(), StoreError> {
-        put_part(tx, alloc, waiting, run, numbers, self, 0, self.count)?;
+        queue(
+            tx,
+            alloc,
+            waiting,
+            arc_of(run, numbers, self, 0, self.count),
+        )?;
         let costs = self.costs;
         'costs: for (column, cost) in costs.iter().enumerate() {
             put_cost(tx, alloc, waiting, run, numbers, self, column + 1, *cost)?;

@@ -34,8 +34,7 @@ returns g c =
     let ok = is_ok c.put_lines.result in
     let last = subst (λ l. Writes g.S.Store ok (with_lines (map g.L.Line.plain l)) c.rows.tx c.put_lines.new.tx) c.deref.ensures.value c.put_lines.ensures in
     let all = queues_end g.S.Store with_lines g.L.Line.plain g.met.L.Line.both ok was.lines c.rows.waiting.items c.args.tx.now c.rows.tx c.put_lines.new.tx was.made last in
-    let changed = g.R.BecomesLines.change c.args.run c.args.numbers.now in
-    (
+    let changed = g.R.BecomesLines.change c.args.run c.args.numbers.now in (
       c.rows.yielded,
       λ _. subst (λ it. Drains g.I.Iterator.next_gives it c.rows.yielded) c.into_iter-row-iterator.ensures.into_iter_gives (_, (_, c.rows.yielded_by, c.in-None.ensures.steps)),
       writes_same g.S.Store ok (λ _. ⊤) (with_lines was.lines) (λ t. fold (λ t row. changed row t) t c.rows.yielded) _ _ all (λ _ t _ _. was.change t),

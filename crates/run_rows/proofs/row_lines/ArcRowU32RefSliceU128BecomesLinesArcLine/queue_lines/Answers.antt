@@ -32,11 +32,11 @@ costs-preserved g c =
     subst (λ l. Queues g.S.Store arc_line with_arcs true waited (first ∷ l) waits c.args.tx.now c.put_cost.new.tx) (sym more)
     (queues_then g.S.Store with_arcs arc_line more_arcs true waited (first ∷ arc_lines_from run numbers called 1 (take at costs)) c.costs.waiting.items _ waits c.args.tx.now c.costs.tx c.put_cost.new.tx c.costs.invariant c.in_ok-put_cost.ensures)
 
-pub returns-in_err-put_part : goal.returns-in_err-put_part
-returns-in_err-put_part g c = (
+pub returns-in_err-queue : goal.returns-in_err-queue
+returns-in_err-queue g c = (
   row_lines c.args.run c.args.numbers.now c.args.self.now,
   refl,
-  queues_err g.S.Store with_arcs arc_line c.from_residual.result c.from_residual.ensures.0 c.in_err-put_part.ensures.writes,
+  queues_err g.S.Store with_arcs arc_line c.from_residual.result c.from_residual.ensures.0 (c.in_err-queue.ensures _ c.arc_of.ensures).writes,
 )
 
 pub returns-in_err-put_cost : goal.returns-in_err-put_cost
