@@ -4,3 +4,4 @@ mod HeldSums
 pub mod Listing
 mod Opening
 pub mod Reading
+mod Writing

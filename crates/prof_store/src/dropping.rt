@@ -19,7 +19,6 @@ impl<S: Alter> Store<S> {
             &mut self.conn,
             "DELETE FROM run WHERE run = ?1",
             params![run],
-        )?;
-        Ok(())
+        )
     }
 }

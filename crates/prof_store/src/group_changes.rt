@@ -20,8 +20,7 @@ impl<S: Alter> Store<S> {
             &mut self.conn,
             "INSERT INTO grp (name) VALUES (?1)",
             params![name],
-        )?;
-        Ok(())
+        )
     }
 
     /// Drops a group that is held, with its members; the runs stay.
@@ -32,8 +31,7 @@ impl<S: Alter> Store<S> {
             &mut self.conn,
             "DELETE FROM grp WHERE name = ?1",
             params![name],
-        )?;
-        Ok(())
+        )
     }
 
     /// Takes a run out of a group.
@@ -44,8 +42,7 @@ impl<S: Alter> Store<S> {
             &mut self.conn,
             "DELETE FROM member WHERE grp = ?1 AND run = ?2",
             params![name, run],
-        )?;
-        Ok(())
+        )
     }
 
     /// Makes a run the baseline of a group, in place of an older one.
@@ -56,7 +53,6 @@ impl<S: Alter> Store<S> {
             &mut self.conn,
             "UPDATE grp SET baseline = ?2 WHERE name = ?1",
             params![name, run],
-        )?;
-        Ok(())
+        )
     }
 }

@@ -34,8 +34,7 @@ impl<S: Alter> Store<S> {
             &mut self.conn,
             "INSERT INTO member (grp, run) VALUES (?1, ?2)",
             params![name, run],
-        )?;
-        Ok(())
+        )
     }
 
     /// Takes a run into a group, where it may be already.

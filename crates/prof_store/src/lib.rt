@@ -40,6 +40,6 @@ pub use entries::{GroupEntry, RunEntry};
 pub use laws::{what_is_left_is_taken_up, what_stands_survives};
 pub use profile_records::Kind;
 pub use sqlite::Alter;
-pub use statements::{select, select_first, select_row, write};
+pub use statements::{select, select_first, select_row};
 pub use store::Store;
 pub use store_columns::{OpenError, StoreError, is_group_name, is_label};

@@ -56,18 +56,18 @@ pub fn select_first<S: Alter>(
 }
 
 /// Runs a statement that writes, which is a transaction by itself.
-pub fn write<S: Alter>(
+pub(crate) fn write<S: Alter>(
     conn: &mut Connection<S>,
     sql: &str,
     params: &[ValueRef<'_>],
-) -> Result<usize, StoreError>
+) -> Result<(), StoreError>
     ensures ran { HasCleanDisk (state S.Store conn.new)
-        → Ran sql.now (bound params.now) (state S.Store conn.old) (state S.Store conn.new) result }
+        → Ran sql.now (bound params.now) (state S.Store conn.old) (state S.Store conn.new) (is_ok result) }
     ensures survives { Survives (state S.Store conn.old) (state S.Store conn.new)
         (CommitsBy sql.now (bound params.now) (state S.Store conn.old)) }
 {
     match conn.execute(sql, params) {
-        Ok(count) => Ok(count),
+        Ok(_) => Ok(()),
         Err(error) => Err(error_of(error)),
     }
 }

@@ -1,11 +1,9 @@
 // A run is written, within a transaction.
 ghost use Rattle.std.specs.Prelude.{◌≡◌, false};
 ghost use Rattle.std.specs.Result.{is_ok};
-ghost use Rattle.cost_rows.specs.Rows.{content_of};
-ghost use Rattle.prof_books.specs.Files.{with_rows};
 ghost use Rattle.run_putting.specs.Runs.{with_head_of, with_run_of, CommitsIf};
 ghost use Rattle.store_columns.specs.Steps.{IsAbove};
-ghost use Rattle.store_columns.specs.Within.{WritesIf, Writes};
+ghost use Rattle.store_columns.specs.Within.{WritesIf};
 
 use cost_rows::FileRows;
 use run_heads::{put_line_of_run, raise_next};
@@ -33,21 +31,6 @@ fn put_head<S: Alter>(
     put_lines(tx, alloc, &head.coefs)
 }
 
-/// Writes the rows of a run.
-fn put_rows<S: Alter>(
-    tx: &mut Transaction<'_, S>,
-    alloc: Global,
-    run: u32,
-    rows: &FileRows,
-) -> Result<(), StoreError>
-    ensures { Writes S.Store (is_ok result) (with_rows run (content_of rows.now)) tx.old tx.new }
-{
-    let numbers = number_names(tx, alloc, rows.names())?;
-    put_cells(tx, alloc, run, &numbers, rows)?;
-    put_arcs(tx, alloc, run, &numbers, rows)?;
-    put_stacks(tx, alloc, run, rows)
-}
-
 /// Writes a run whose number is the next one: what it says of itself, and its rows.
 fn fill_run<S: Alter>(
     tx: &mut Transaction<'_, S>,
@@ -59,7 +42,10 @@ fn fill_run<S: Alter>(
     ensures { WritesIf S.Store (is_ok result) (λ t. t.next ≡ run.now.number) (with_run_of run.now head.now rows.now) tx.old tx.new }
 {
     put_head(tx, alloc, run, head)?;
-    put_rows(tx, alloc, run.number, rows)
+    let numbers = number_names(tx, alloc, rows.names())?;
+    put_cells(tx, alloc, run.number, &numbers, rows)?;
+    put_arcs(tx, alloc, run.number, &numbers, rows)?;
+    put_stacks(tx, alloc, run.number, rows)
 }
 
 /// Writes a run in one transaction.

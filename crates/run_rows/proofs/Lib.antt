@@ -1,3 +1,4 @@
 pub mod Finding
 pub mod Queueing
 pub mod RowLines
+pub mod RowsWritten

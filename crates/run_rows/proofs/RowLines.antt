@@ -1,21 +1,19 @@
 -- The lines that a file's rows become, row by row.
-use Rattle.std.proofs.Common.{◌≡◌, ℕ, suc, ◌+◌, List, [], ◌∷◌, ◌++◌, map, length, nat_lt, if◌then◌else◌, Bool, true, false, refl, sym, ap, ap₂, ◌∙◌, add-zero, arith, append-nil}
-use Rattle.std.proofs.lemmas.List.{append_assoc}
+use Rattle.std.proofs.Common.{◌≡◌, ℕ, suc, ◌+◌, List, [], ◌∷◌, ◌++◌, map, flat_map, length, nat_lt, if◌then◌else◌, Bool, true, false, refl, sym, ap, ap₂, ◌∙◌, add-zero, arith}
+use Rattle.std.specs.Borrow.{Bor}
 use Rattle.cost_rows.specs.declared.places.CellPlace.{CellPlace}
 use Rattle.cost_rows.specs.declared.places.Call.{Call}
 use Rattle.cost_rows.specs.declared.calls.Calls.{Calls}
 use Rattle.cost_rows.specs.declared.rows.CellRow.{CellRow}
 use Rattle.cost_rows.specs.declared.rows.ArcRow.{ArcRow}
 use Rattle.cost_rows.specs.declared.rows.StackRow.{StackRow}
-use Rattle.cost_rows.specs.ByNumber.{numbered_at, numbered_cells, numbered_arcs}
+use Rattle.cost_rows.specs.ByNumber.{numbered_at, numbered_cells, numbered_arcs, plain_numbered}
+use Rattle.cost_rows.specs.Plain.{plain_stack}
 use Rattle.cost_rows.specs.Walks.{stack_rows}
 use Rattle.sql_tables.proofs.Rows.{map-append}
-use Rattle.prof_tables.specs.Tables.{CellLine, ArcLine, StackLine}
+use Rattle.prof_tables.specs.Tables.{ArcLine, StackLine}
 use Rattle.prof_books.specs.Files.{cell_line_of, cell_lines_at, cell_lines, arc_line_of, arc_lines_from, arc_lines_at, arc_lines, stack_lines}
-use Rattle.run_rows.specs.FromRows.{place_of_cell}
-
-abbrev pub line_of_cell : ℕ → List ℕ → CellRow ℕ → CellLine
-line_of_cell run numbers r = cell_line_of run numbers (place_of_cell r) r.event r.cost
+use Rattle.run_rows.specs.FromRows.{line_of_cell, line_of_stack, row_lines}
 
 cells_at : (run : ℕ) (numbers : List ℕ) (p : CellPlace) (event : ℕ) (costs : List ℕ) → map (line_of_cell run numbers) (numbered_at p event costs) ≡ cell_lines_at run numbers p event costs
 cells_at run numbers p event [] = refl
@@ -49,9 +47,9 @@ pub arcs_are : (run : ℕ) (numbers : List ℕ) (arcs : List (Call × Calls)) �
 arcs_are run numbers [] = refl
 arcs_are run numbers (e ∷ arcs) = ap (λ l. arc_lines_at run numbers e.0 e.1 ++ l) (arcs_are run numbers arcs)
 
-pub arcs_more : (run : ℕ) (numbers : List ℕ) (rows : List (ArcRow ℕ (List ℕ))) (r : ArcRow ℕ (List ℕ)) → lines_of_arcs run numbers (rows ++ r ∷ []) ≡ lines_of_arcs run numbers rows ++ lines_of_arc run numbers r
-arcs_more run numbers [] r = append-nil (lines_of_arc run numbers r)
-arcs_more run numbers (first ∷ rows) r = ap (λ l. lines_of_arc run numbers first ++ l) (arcs_more run numbers rows r) ∙ sym (append_assoc (lines_of_arc run numbers first) (lines_of_arcs run numbers rows) (lines_of_arc run numbers r))
+pub rows_of_arcs : (run : ℕ) (numbers : List ℕ) (rows : List (ArcRow ℕ (Bor (List ℕ)))) → flat_map (row_lines run numbers) rows ≡ lines_of_arcs run numbers (map plain_numbered rows)
+rows_of_arcs run numbers [] = refl
+rows_of_arcs run numbers (r ∷ rows) = ap (λ l. row_lines run numbers r ++ l) (rows_of_arcs run numbers rows)
 
 -- a part more
 pub parts_more : (run : ℕ) (numbers : List ℕ) (c : Call) (part : ℕ) (costs : List ℕ) (cost : ℕ)
@@ -82,3 +80,7 @@ stacks_are run (e ∷ stacks) = go (nat_lt 0 e.1) (stacks_are run stacks)
         ≡ (if b then record { run = run; frames = e.0; count = e.1 } ∷ stack_lines run stacks else stack_lines run stacks)
     go true more = ap (λ l. record { run = run; frames = e.0; count = e.1 } ∷ l) more
     go false more = more
+
+pub rows_of_stacks : (run : ℕ) (rows : List (StackRow (Bor (List ℕ)))) → flat_map (λ r. line_of_stack run r ∷ []) rows ≡ map (plain_line_of_stack run) (map plain_stack rows)
+rows_of_stacks run [] = refl
+rows_of_stacks run (r ∷ rows) = ap (λ l. line_of_stack run r ∷ l) (rows_of_stacks run rows)

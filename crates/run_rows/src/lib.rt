@@ -18,6 +18,8 @@ mod line_writing;
 mod lines;
 // The statements on names.
 mod name_texts;
+// The trait of a file's row: the lines that it becomes (specs/FromRows.antt).
+mod row_lines;
 // The statements that write stacks.
 mod stack_lines;
 // The values of many columns.

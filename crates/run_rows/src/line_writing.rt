@@ -1,15 +1,13 @@
 // Lines are written, each by a statement or fifty by one.
-ghost use Rattle.std.specs.Prelude.{◌≡◌, ◌∷◌, [], length, map, IfOk, IfSome};
+ghost use Rattle.std.specs.Prelude.{◌≡◌, ◌∷◌, [], length, map, IfSome};
 ghost use Rattle.std.specs.Result.{is_ok};
-ghost use Rattle.sqlite.specs.Values.{bound};
-ghost use Rattle.sql_tables.proofs.Many.{all_values};
 ghost use Rattle.store_columns.specs.Within.{Writes};
 ghost use Rattle.run_rows.specs.Queues.{Queues};
 
 use crate::lines::{Line, LineOfMany};
 use sqlite::types::ValueRef;
 use sqlite::{Alter, Transaction};
-use std::alloc::{AllocError, Global};
+use std::alloc::Global;
 use store_columns::{StoreError, write_inside};
 
 /// Writes a line. What `values` held is dropped: it serves the next line again.
@@ -40,17 +38,6 @@ pub fn put_lines<S: Alter, L: Line>(
     Ok(())
 }
 
-/// The values of lines, one line after another.
-fn values_of<L: Line>(alloc: Global, lines: &[L]) -> Result<Vec<ValueRef<'_>>, AllocError>
-    ensures { IfOk result (λ values. bound values.items ≡ all_values (map L.columns (map L.plain lines.now))) }
-{
-    let mut values = Vec::new(alloc);
-    'lines: for line in lines {
-        line.add_values(&mut values)?;
-    }
-    Ok(values)
-}
-
 /// Writes fifty lines by one statement.
 fn put_fifty<S: Alter, L: LineOfMany>(
     tx: &mut Transaction<'_, S>,
@@ -60,7 +47,10 @@ fn put_fifty<S: Alter, L: LineOfMany>(
     requires { length lines.now ≡ 50 }
     ensures { Writes S.Store (is_ok result) (L.with_lines (map L.plain lines.now)) tx.old tx.new }
 {
-    let values = values_of(alloc, lines)?;
+    let mut values = Vec::new(alloc);
+    'lines: for line in lines {
+        line.add_values(&mut values)?;
+    }
     write_inside(tx, L::insert_fifty_sql(), &values)
 }
 

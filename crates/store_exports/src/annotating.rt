@@ -1,8 +1,11 @@
 // The answers to questions of what the lines of a source cost.
 ghost use Rattle.std.specs.Prelude.{◌≡◌, [], fold, unwrap_or};
+ghost use Rattle.std.specs.List.{AllByRecursion};
 ghost use Rattle.std.specs.Result.{is_ok};
 ghost use Rattle.cost_exports.specs.Annotations.{no_lines, with_line};
+ghost use Rattle.prof_tables.specs.RunLines.{cells_in};
 ghost use Rattle.prof_store.specs.Shown.{Told};
+ghost use Rattle.held_runs.specs.HeldCells.{IsOfAnEvent};
 ghost use Rattle.held_runs.specs.Walks.{AsksIfOpen};
 ghost use Rattle.histories.specs.declared.answers.Query.TheVariants.{Annotate};
 ghost use Rattle.store_histories.specs.Answered.{Asks as AnswersAsked};
@@ -36,6 +39,7 @@ fn add_run<S: Alter>(
     sums: LineSums,
 ) -> Result<LineSums, StoreError>
     ensures told { Told S.Store result store.old store.new (λ t all. names.now ≡ t.names → all ≡ lines_from t sums run.now) }
+    ensures of_events { Told S.Store result store.old store.new (λ t _. AllByRecursion (IsOfAnEvent run.now.events) (cells_in run.now.number t)) }
     ensures asks { AsksIfOpen S.Store (is_ok result) store.old store.new }
 {
     let rows = LineRows {

@@ -1,7 +1,12 @@
 // The answers to questions of self costs as CSV.
-ghost use Rattle.std.specs.Prelude.{◌≡◌};
+ghost use Rattle.std.specs.Prelude.{◌≡◌, length};
+ghost use Rattle.std.specs.List.{AllByRecursion};
 ghost use Rattle.std.specs.Result.{is_ok};
+ghost use Rattle.cg_formulas.specs.declared.heads.FileHead.{FileHead};
+ghost use Rattle.prof_tables.specs.RunLines.{cells_in};
 ghost use Rattle.prof_store.specs.Shown.{Told};
+ghost use Rattle.held_runs.specs.HeldCells.{IsOfAnEvent};
+ghost use Rattle.held_runs.specs.HeldHeads.{IsHeadIn};
 ghost use Rattle.held_runs.specs.Walks.{AsksIfOpen};
 ghost use Rattle.histories.specs.declared.answers.Query.TheVariants.{Csv};
 ghost use Rattle.store_histories.specs.Answered.{Asks as AnswersAsked};
@@ -26,6 +31,8 @@ fn add_run<S: Alter>(
     sums: CellSums,
 ) -> Result<CellSums, StoreError>
     ensures told { Told S.Store result store.old store.new (λ t all. names.now ≡ t.names → AddsRun t number sums all) }
+    ensures of_events { Told S.Store result store.old store.new (λ t _. (head : FileHead) × IsHeadIn number t head
+        × AllByRecursion (IsOfAnEvent (length head.events)) (cells_in number t)) }
     ensures asks { AsksIfOpen S.Store (is_ok result) store.old store.new }
 {
     let head = head_of(store, alloc, number)?;

@@ -1,9 +1,12 @@
 // The answers to questions of what functions cost with all that they call.
 ghost use Rattle.std.specs.Prelude.{◌≡◌};
+ghost use Rattle.std.specs.List.{AllByRecursion};
 ghost use Rattle.std.specs.Result.{is_ok};
 ghost use Rattle.cost_reports.specs.Inclusive.{no_costs};
 ghost use Rattle.profile_records.specs.declared.kinds.Kind.TheVariants.{Callgrind, Folded};
+ghost use Rattle.prof_tables.specs.RunLines.{cells_in};
 ghost use Rattle.prof_store.specs.Shown.{Told};
+ghost use Rattle.held_runs.specs.HeldCells.{IsOfAnEvent};
 ghost use Rattle.held_runs.specs.Walks.{AsksIfOpen};
 ghost use Rattle.histories.specs.declared.answers.Query.TheVariants.{Inclusive};
 ghost use Rattle.store_histories.specs.Answered.{Asks as AnswersAsked};
@@ -31,6 +34,7 @@ fn add_callgrind<S: Alter>(
 ) -> Result<InclusiveSums, StoreError>
     ensures told { Told S.Store result store.old store.new (λ t all. names.now ≡ t.names
         → Adds (AreRowsOfKind Callgrind t run.now.number counts.now) sums all) }
+    ensures of_events { Told S.Store result store.old store.new (λ t _. AllByRecursion (IsOfAnEvent run.now.events) (cells_in run.now.number t)) }
     ensures asks { AsksIfOpen S.Store (is_ok result) store.old store.new }
 {
     let rows = InclusiveRows { counts, sums };

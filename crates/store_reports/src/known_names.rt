@@ -1,9 +1,11 @@
 // Looks for a function in the rows of runs.
 ghost use Rattle.std.specs.Prelude.{◌≡◌};
-ghost use Rattle.std.specs.List.{list_any};
+ghost use Rattle.std.specs.List.{list_any, AllByRecursion};
 ghost use Rattle.std.specs.Result.{is_ok};
 ghost use Rattle.cost_reports.specs.Functions.{function_spot};
+ghost use Rattle.prof_tables.specs.RunLines.{cells_in};
 ghost use Rattle.prof_store.specs.Shown.{Told};
+ghost use Rattle.held_runs.specs.HeldCells.{IsOfAnEvent};
 ghost use Rattle.held_runs.specs.Walks.{AsksIfOpen};
 ghost use Rattle.store_reports.specs.FunctionCalls.{is_in_rows};
 
@@ -67,6 +69,7 @@ fn is_in_run<S: Alter>(
     name: &[u8],
 ) -> Result<bool, StoreError>
     ensures told { Told S.Store result store.old store.new (λ t found. names.now ≡ t.names → found ≡ is_in_rows t (function_spot object.now name.now) run.now) }
+    ensures of_events { Told S.Store result store.old store.new (λ t _. AllByRecursion (IsOfAnEvent run.now.events) (cells_in run.now.number t)) }
     ensures asks { AsksIfOpen S.Store (is_ok result) store.old store.new }
 {
     let sought = Sought {

@@ -1,8 +1,11 @@
 // The sums of runs by key.
-ghost use Rattle.std.specs.Prelude.{◌≡◌, [], fold, IfOk};
+ghost use Rattle.std.specs.Prelude.{◌≡◌, [], fold, length, IfOk};
+ghost use Rattle.std.specs.List.{AllByRecursion};
 ghost use Rattle.std.specs.Result.{is_ok};
 ghost use Rattle.cost_rows.specs.KeySums.{with_row};
+ghost use Rattle.prof_tables.specs.RunLines.{cells_in};
 ghost use Rattle.prof_store.specs.Shown.{Told};
+ghost use Rattle.held_runs.specs.HeldCells.{IsOfAnEvent};
 ghost use Rattle.held_runs.specs.Walks.{AsksIfOpen};
 ghost use Rattle.store_reports.specs.Reported.{merged_with, merged_from};
 
@@ -23,6 +26,7 @@ fn add_cells<S: Alter>(
     merged: Merged,
 ) -> Result<Merged, StoreError>
     ensures told { Told S.Store result store.old store.new (λ t sums. names.now ≡ t.names → sums ≡ merged_with t number counts.now merged) }
+    ensures of_events { Told S.Store result store.old store.new (λ t _. AllByRecursion (IsOfAnEvent (length counts.now)) (cells_in number t)) }
     ensures asks { AsksIfOpen S.Store (is_ok result) store.old store.new }
 {
     let sums = EventSums { counts, merged };

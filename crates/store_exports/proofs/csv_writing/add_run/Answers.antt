@@ -1,8 +1,11 @@
-use Rattle.std.proofs.Common.{◌≡◌, fold, refl, ap, ◌∙◌, rules}
+use Rattle.std.proofs.Common.{◌≡◌, ℕ, List, fold, length, refl, ap, subst, ◌∙◌, rules}
+use Rattle.std.specs.List.{AllByRecursion}
 use Rattle.sql_tables.proofs.Calls.{asked_rests}
 use Rattle.prof_tables.specs.Schema.{schema_one}
+use Rattle.prof_tables.specs.RunLines.{cells_in}
 use Rattle.prof_tables.specs.Tables.{Holds}
 use Rattle.cost_exports.specs.Csv.{with_cell_in}
+use Rattle.held_runs.specs.HeldCells.{IsOfAnEvent}
 use Rattle.held_runs.proofs.RowSteps.{cells_come}
 use Rattle.prof_books.specs.Book.{cells_held}
 use Rattle.store_exports.proofs.CsvLemmas.{cells_taken}
@@ -20,3 +23,11 @@ returns-clause-told g c clean t stands named =
       record { head = head; head_is = c.in_ok-head.ensures.told early t stands; events_are = refl; cells_are = refl },
       ap (λ m. m.1) (cells_come _ _ _ _ number t _ (c.in_ok-all.ensures.told clean t mid) named ∙ cells_taken c.as_slice-events.result.now c.args.sums cells) ∙ ap (λ events. fold (with_cell_in events) c.args.sums cells) same,
     )
+
+pub returns-clause-of_events : goal.returns-clause-of_events
+returns-clause-of_events g c clean t stands =
+    let head = c.in_ok-head.head in
+    let early = (c.in_ok-all.ensures.asks clean).stays.was_clean in
+    let mid = asked_rests schema_one (Holds t) _ _ (c.in_ok-head.ensures.asks early) stands in
+    let same : c.as_slice-events.result.now ≡ head.events = search rules in
+    (head, c.in_ok-head.ensures.told early t stands, subst (λ (events : List (List ℕ)). AllByRecursion (IsOfAnEvent (length events)) (cells_in c.args.number t)) same (c.in_ok-all.ensures.told clean t mid).of_events)

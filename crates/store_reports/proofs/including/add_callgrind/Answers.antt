@@ -26,3 +26,6 @@ returns-clause-told g c clean t stands named =
       (calls.0, calls.1, refl),
       ap (λ m. m.1) (calls.2 ∙ ap (λ m. fold with_call_row m calls.0) own ∙ calls_taken counts (fold with_inclusive sums before) calls.0) ∙ sym (fold-append with_inclusive sums before after),
     )
+
+pub returns-clause-of_events : goal.returns-clause-of_events
+returns-clause-of_events g c clean t stands = (c.in_ok-own.ensures.told (c.in_ok-all.ensures.asks clean).stays.was_clean t stands).of_events

@@ -18,3 +18,6 @@ returns-clause-told g c clean t stands named =
     let found = cells_come _ _ _ _ c.args.run.now.number t _ (c.in_ok-cells.ensures.told early t stands) named ∙ cells_sought f false cells in
     let mid = asked_rests_yet schema_one (Holds t) _ _ (c.in_ok-cells.ensures.asks early) stands in
     ap (λ m. m.1) (c.in_ok-all.ensures.told clean t mid ∙ ap (λ m. fold with_stack_sought m stacks) found ∙ stacks_sought f (is_in_cells f cells) stacks)
+
+pub returns-clause-of_events : goal.returns-clause-of_events
+returns-clause-of_events g c clean t stands = (c.in_ok-cells.ensures.told (c.in_ok-all.ensures.asks clean).stays.was_clean t stands).of_events

@@ -8,3 +8,6 @@ pub returns-clause-told : goal.returns-clause-told
 returns-clause-told g c clean t stands named =
     let number = c.args.number in
     ap (λ m. m.1) (cells_come _ _ _ _ number t _ (c.in_ok-sums.ensures.told clean t stands) named ∙ cells_taken c.args.counts.now c.args.merged (cells_held number t))
+
+pub returns-clause-of_events : goal.returns-clause-of_events
+returns-clause-of_events g c clean t stands = (c.in_ok-sums.ensures.told clean t stands).of_events

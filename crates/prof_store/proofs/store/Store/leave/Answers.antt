@@ -1,3 +1,4 @@
+use Rattle.std.specs.Result.{is_ok}
 use Rattle.std.proofs.Common.{[], ◌∷◌, pos}
 use Rattle.sqlite_value.specs.declared.value.Value.TheVariants.{Int, Text}
 use Rattle.prof_tables.specs.Tables.{Holds}
@@ -6,8 +7,7 @@ use Rattle.prof_tables.specs.Changes.{without_member}
 use Rattle.prof_tables.proofs.Means.{leave_means, leave_plain}
 use Rattle.prof_tables.proofs.Groups.{leaves}
 use Rattle.prof_tables.proofs.Writes.{leave_writes}
-use Rattle.sql_tables.proofs.Calls.{changed_err, write_changes, write_refused}
-use Rattle.prof_tables.specs.Schema.{schema_one}
+use Rattle.prof_store.proofs.Writing.{wrote}
 use Rattle.prof_store.proofs.store.Store.leave.Goals as goal
 
 pub returns : goal.returns
@@ -15,14 +15,5 @@ returns g c = record {
   changes = λ clean.
       let name = c.args.name.now in
       let run = c.args.run in
-      write_changes schema_one leave_sql (Text name ∷ Int (pos run) ∷ []) _ leave_means leave_plain tt Holds (λ t. Holds (without_member name run t)) (λ t limit trees text tally after was sound. leaves t limit trees text tally after was sound name run) _ _ clean (rw (c.params-to_sql.ensures, c.params-to_sql-2.ensures) at c.write.ensures.survives) _ leave_writes ((rw (c.params-to_sql.ensures, c.params-to_sql-2.ensures) at c.in_ok-write.ensures.ran) clean);
-}
-
-pub returns-in_err-write : goal.returns-in_err-write
-returns-in_err-write g c = record {
-  changes = λ clean.
-      let name = c.args.name.now in
-      let run = c.args.run in
-      let it = (rw (c.params-to_sql.ensures, c.params-to_sql-2.ensures) at c.in_err-write.ensures.ran) clean in
-      changed_err schema_one Holds (λ t. Holds (without_member name run t)) c.from_residual.result _ _ c.from_residual.ensures.0 (write_refused schema_one leave_sql (Text name ∷ Int (pos run) ∷ []) _ leave_means leave_plain tt Holds (λ t. Holds (without_member name run t)) (λ t limit trees text tally after was sound. leaves t limit trees text tally after was sound name run) _ _ clean (rw (c.params-to_sql.ensures, c.params-to_sql-2.ensures) at c.write.ensures.survives) it.0 it.1);
+      wrote leave_sql (Text name ∷ Int (pos run) ∷ []) _ leave_means leave_plain tt leave_writes Holds (λ t. Holds (without_member name run t)) (λ t limit trees text tally after was sound. leaves t limit trees text tally after was sound name run) (is_ok c.write.result) _ _ clean (rw (c.params-to_sql.ensures, c.params-to_sql-2.ensures) at c.write.ensures.survives) ((rw (c.params-to_sql.ensures, c.params-to_sql-2.ensures) at c.write.ensures.ran) clean);
 }

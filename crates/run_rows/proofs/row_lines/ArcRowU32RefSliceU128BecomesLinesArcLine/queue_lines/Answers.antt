@@ -1,22 +1,22 @@
-use Rattle.std.proofs.Common.{◌≡◌, ℕ, true, ◌∷◌, ◌++◌, ◌+◌, ◌<◌, length, take, get_or, sym, ap, subst, ◌∙◌, rules, arith, length-take-le}
+use Rattle.std.proofs.Common.{◌≡◌, ℕ, true, ◌∷◌, ◌++◌, ◌+◌, ◌<◌, length, take, get_or, refl, sym, ap, subst, ◌∙◌, rules, arith, length-take-le}
 use Rattle.std.specs.Bool.{⊤}
 use Rattle.std.proofs.lemmas.List.{take_more}
 use Rattle.prof_tables.specs.Changes.{with_arcs}
 use Rattle.prof_books.specs.Files.{arc_lines_from}
-use Rattle.run_rows.specs.FromRows.{call_of_arc, part_line, cost_lines}
+use Rattle.run_rows.specs.FromRows.{call_of_arc, part_line, cost_lines, row_lines}
 use Rattle.run_rows.specs.LinePuts.{more_arcs}
 use Rattle.run_rows.specs.Queues.{Queues}
 use Rattle.store_columns.specs.Lines.{arc_line}
 use Rattle.store_columns.proofs.Within.{then_refused}
 use Rattle.run_rows.proofs.Queueing.{queues_then, queues_err}
 use Rattle.run_rows.proofs.RowLines.{parts_more}
-use Rattle.run_rows.proofs.file_rows.put_parts.Goals as goal
+use Rattle.run_rows.proofs.row_lines.ArcRowU32RefSliceU128BecomesLinesArcLine.queue_lines.Goals as goal
 
 pub costs-preserved : goal.costs-preserved
 costs-preserved g c =
     let run = c.args.run in
     let numbers = c.args.numbers.now in
-    let row = c.args.row.now in
+    let row = c.args.self.now in
     let called = call_of_arc row in
     let costs = row.costs.now in
     let at = c.costs.column in
@@ -32,9 +32,16 @@ costs-preserved g c =
     subst (λ l. Queues g.S.Store arc_line with_arcs true waited (first ∷ l) waits c.args.tx.now c.put_cost.new.tx) (sym more)
     (queues_then g.S.Store with_arcs arc_line more_arcs true waited (first ∷ arc_lines_from run numbers called 1 (take at costs)) c.costs.waiting.items _ waits c.args.tx.now c.costs.tx c.put_cost.new.tx c.costs.invariant c.in_ok-put_cost.ensures)
 
-pub returns-in_err-put_part : goal.returns-in_err-put_part
-returns-in_err-put_part g c = queues_err g.S.Store with_arcs arc_line c.from_residual.result c.from_residual.ensures.0 c.in_err-put_part.ensures.writes
+pub returns-in_err-queue : goal.returns-in_err-queue
+returns-in_err-queue g c = (
+  row_lines c.args.run c.args.numbers.now c.args.self.now,
+  refl,
+  queues_err g.S.Store with_arcs arc_line c.from_residual.result c.from_residual.ensures.0 (c.in_err-queue.ensures _ c.arc_of.ensures).writes,
+)
 
 pub returns-in_err-put_cost : goal.returns-in_err-put_cost
-returns-in_err-put_cost g c =
-    queues_err g.S.Store with_arcs arc_line {given = λ _. ⊤} {change = λ t. t} c.from_residual-in_err-put_cost.result c.from_residual-in_err-put_cost.ensures.0 (then_refused g.S.Store c.costs.invariant.writes c.in_err-put_cost.ensures.writes)
+returns-in_err-put_cost g c = (
+  row_lines c.args.run c.args.numbers.now c.args.self.now,
+  refl,
+  queues_err g.S.Store with_arcs arc_line {given = λ _. ⊤} {change = λ t. t} c.from_residual-in_err-put_cost.result c.from_residual-in_err-put_cost.ensures.0 (then_refused g.S.Store c.costs.invariant.writes c.in_err-put_cost.ensures.writes),
+)

@@ -6,12 +6,12 @@ use Rattle.run_rows.specs.LinePuts.{no_arcs}
 use Rattle.run_rows.specs.Queues.{Queues}
 use Rattle.store_columns.specs.Lines.{arc_line}
 use Rattle.run_rows.proofs.Queueing.{queues_none}
-use Rattle.run_rows.proofs.file_rows.put_cost.Goals as goal
+use Rattle.run_rows.proofs.row_lines.put_cost.Goals as goal
 
 pub returns-then-cost-gt0 : goal.returns-then-cost-gt0
 returns-then-cost-gt0 g c =
     let line = part_line c.args.run c.args.numbers.now c.args.row.now c.args.part c.args.cost in
-    subst (λ b. Queues g.S.Store arc_line with_arcs (is_ok c.put_part.result) c.args.waiting.now.items (if b then line ∷ [] else []) c.put_part.new.waiting.items c.args.tx.now c.put_part.new.tx) (sym (lt-ltb 0 c.args.cost c.if-cost-gt0.true)) c.put_part.ensures
+    subst (λ b. Queues g.S.Store arc_line with_arcs (is_ok c.queue.result) c.args.waiting.now.items (if b then line ∷ [] else []) c.queue.new.waiting.items c.args.tx.now c.queue.new.tx) (sym (lt-ltb 0 c.args.cost c.if-cost-gt0.true)) (c.queue.ensures line c.arc_of.ensures)
 
 pub returns-else-cost-gt0 : goal.returns-else-cost-gt0
 returns-else-cost-gt0 g c =
