@@ -41,7 +41,7 @@ use Rattle.histories.specs.declared.answers.Selection.{Selection}
 use Rattle.histories.proofs.Runs.{tells_rows}
 use Rattle.histories.proofs.Tests.{any-append}
 use Rattle.selected_runs.specs.EventRuns.{AreEventRuns}
-use Rattle.store_reports.specs.FunctionCalls.{AreArcsOf, AreTakenFrom, IsCallsText, IsTakenFrom, Taken, is_in_cells, is_in_rows, is_in_stacks, not_taken, touches, with_call, with_cell_sought, with_row_of_calls, with_stack_sought}
+use Rattle.store_reports.specs.FunctionCalls.{AreArcsOf, AreTakenFrom, IsCallsText, IsTakenFrom, Taken, is_in_cells, is_in_rows, is_in_stacks, not_taken, text_taken, touches, with_call, with_cell_sought, with_row_of_calls, with_stack_sought}
 use Rattle.selected_runs.specs.declared.counting.Counted.{Counted}
 use Rattle.selected_runs.proofs.EventLemmas.{both_held}
 use Rattle.selected_runs.proofs.RunLemmas.{AreRunsOf, are_runs, selected_held}
@@ -114,29 +114,24 @@ taken_calls : (m : Taken) (calls : List Calls) → (fold with_call m calls).call
 taken_calls m [] = refl
 taken_calls m (c ∷ calls) = taken_calls (with_call m c) calls
 
-module _ (t : Tables) (runs : List Counted) (side : CallSide) (f : Spot) (event : List ℕ) (all : Taken) (known : Bool) (from : AreTakenFrom t runs (not_taken side f) all)
-    (is : known ≡ all.known || list_any (is_in_rows t f) runs) where
-  known_is : known ≡ list_any (touches f) (all_arcs from.0) || list_any (is_in_rows t f) runs
-  known_is = is ∙ ap (λ b. b || list_any (is_in_rows t f) runs) (ap (λ (m : Taken). m.known) from.2 ∙ taken_known (not_taken side f) (all_arcs from.0))
+taken_function : (m : Taken) (calls : List Calls) → (fold with_call m calls).function ≡ m.function
+taken_function m [] = refl
+taken_function m (c ∷ calls) = taken_function (with_call m c) calls
 
-  calls_are : all.calls ≡ record { side = side; function = f; sums = calls_by side f (all_arcs from.0) }
-  calls_are = ap (λ (m : Taken). m.calls) from.2 ∙ taken_calls (not_taken side f) (all_arcs from.0) ∙ calls_come_to side f (all_arcs from.0)
-
-  -- the text, where the function is known
-  pub text_found : known ≡ true → IsCallsText t runs side f event (Some (call_report_text event (call_report_of all.calls)))
-  text_found is_true = (
-    from.0,
-    from.1,
-    ap (λ calls. Some (call_report_text event (call_report_of calls))) calls_are
-        ∙ ap (λ b. if b then Some (call_report_text event (call_report_of (record { side = side; function = f; sums = calls_by side f (all_arcs from.0) }))) else None) (sym is_true ∙ known_is),
-  )
-
-  pub text_missing : known ≡ false → IsCallsText t runs side f event None
-  text_missing is_false = (
-    from.0,
-    from.1,
-    ap (λ b. if b then Some (call_report_text event (call_report_of (record { side = side; function = f; sums = calls_by side f (all_arcs from.0) }))) else None) (sym is_false ∙ known_is),
-  )
+-- the text of what was taken is that of the calls
+pub text_of_taken : (t : Tables) (runs : List Counted) (side : CallSide) (f : Spot) (event : List ℕ) (all : Taken) (text : Option (List ℕ)) → AreTakenFrom t runs (not_taken side f) all
+    → text ≡ text_taken t runs event all → IsCallsText t runs side f event text
+text_of_taken t runs side f event all text from is =
+    let arcs = all_arcs from.0 in
+    let m = fold with_call (not_taken side f) arcs in (
+      from.0,
+      from.1,
+      is ∙ ap (text_taken t runs event) from.2
+          ∙ ap (λ g. if m.known || list_any (is_in_rows t g) runs then Some (call_report_text event (call_report_of m.calls)) else None) (taken_function (not_taken side f) arcs)
+          ∙ ap (λ b. if b || list_any (is_in_rows t f) runs then Some (call_report_text event (call_report_of m.calls)) else None) (taken_known (not_taken side f) arcs)
+          ∙ ap (λ calls. if list_any (touches f) arcs || list_any (is_in_rows t f) runs then Some (call_report_text event (call_report_of calls)) else None)
+          (taken_calls (not_taken side f) arcs ∙ calls_come_to side f arcs),
+    )
 
 -- ---- rows and records know the same functions
 

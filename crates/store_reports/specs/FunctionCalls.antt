@@ -82,6 +82,10 @@ with_stack_sought m row = (m.0, m.1 || is_frame m.0 row.stack)
 
 -- ---- the text
 
+-- of what was taken of runs, where one of them knows the function
+abbrev pub text_taken : Tables → List Counted → List ℕ → Taken → Option (List ℕ)
+text_taken t runs event m = if m.known || list_any (is_in_rows t m.function) runs then Some (call_report_text event (call_report_of m.calls)) else None
+
 -- of calls, where one of the runs knows the function
 abbrev pub calls_text_over : Tables → List Counted → CallSide → Spot → List ℕ → List EventArcs → Option (List ℕ)
 calls_text_over t runs side f event arcs =

@@ -2,12 +2,13 @@
 ghost use Rattle.std.specs.Prelude.{◌≡◌, ◌||◌, [], IfOk, unwrap_or};
 ghost use Rattle.std.specs.List.{list_any};
 ghost use Rattle.std.specs.Result.{is_ok};
+ghost use Rattle.cost_reports.specs.Calls.{call_report_of, call_report_text};
 ghost use Rattle.cost_reports.specs.Functions.{function_spot};
 ghost use Rattle.prof_store.specs.Shown.{Told};
 ghost use Rattle.held_runs.specs.Walks.{AsksIfOpen};
 ghost use Rattle.histories.specs.declared.answers.Query.TheVariants.{Calls};
 ghost use Rattle.store_histories.specs.Answered.{Asks as AnswersAsked};
-ghost use Rattle.store_reports.specs.FunctionCalls.{AreTakenFrom, IsCallsText, IsTakenFrom, is_in_rows, not_taken, taken_of};
+ghost use Rattle.store_reports.specs.FunctionCalls.{AreTakenFrom, IsCallsText, IsTakenFrom, is_in_rows, not_taken, taken_of, text_taken};
 
 use crate::function_calls::{CallRows, FunctionCalls};
 use crate::known_names::is_in_runs;
@@ -18,7 +19,7 @@ use histories::{Answer, Refusal, Selection};
 use prof_store::{Store, StoreError};
 use selected_runs::{Counted, event_runs};
 use sqlite::Alter;
-use std::alloc::Global;
+use std::alloc::{AllocError, Global};
 
 /// How often the columns of a run count in the event: none, where it does not have it.
 fn counts_of(run: &Counted) -> &[u64]
@@ -102,6 +103,33 @@ fn is_known<S: Alter>(
     is_in_runs(store, names, runs, object, name)
 }
 
+/// The text of what the calls of a function come to.
+fn text_of_sums(alloc: Global, sums: &CallSums, event: &[u8]) -> Result<ListVec<u8>, AllocError>
+    ensures { IfOk result (λ text. text ≡ call_report_text event.now (call_report_of sums.now)) }
+{
+    let report = calls(alloc, sums)?;
+    report.text(alloc, event)
+}
+
+/// The text of the calls that were taken of some runs, if one of them knows the function.
+fn text_if_known<S: Alter>(
+    store: &mut Store<S>,
+    alloc: Global,
+    names: &HeldNames,
+    runs: &[Counted],
+    calls: &FunctionCalls<'_>,
+    event: &[u8],
+) -> Result<Option<ListVec<u8>>, StoreError>
+    ensures told { Told S.Store result store.old store.new (λ t text. names.now ≡ t.names → text ≡ text_taken t runs.now event.now (taken_of calls.now)) }
+    ensures asks { AsksIfOpen S.Store (is_ok result) store.old store.new }
+{
+    if !is_known(store, names, runs, calls.known, calls.object, calls.name)? {
+        return Ok(None);
+    }
+    let text = text_of_sums(alloc, &calls.sums, event)?;
+    Ok(Some(text))
+}
+
 /// The text of the calls of a function over some runs, if one of them knows it.
 fn calls_text<S: Alter>(
     store: &mut Store<S>,
@@ -115,15 +143,10 @@ fn calls_text<S: Alter>(
     ensures told { Told S.Store result store.old store.new (λ t text. IsCallsText t runs.now side (function_spot object.now name.now) event.now text) }
     ensures asks { AsksIfOpen S.Store (is_ok result) store.old store.new }
 {
-    let names = names_of(store, alloc)?;
     let none = no_calls(alloc, side, object, name)?;
+    let names = names_of(store, alloc)?;
     let all = add_runs(store, alloc, &names, runs, none)?;
-    if !is_known(store, &names, runs, all.known, object, name)? {
-        return Ok(None);
-    }
-    let report = calls(alloc, &all.sums)?;
-    let text = report.text(alloc, event)?;
-    Ok(Some(text))
+    text_if_known(store, alloc, &names, runs, &all, event)
 }
 
 /// Answers who calls a function of an object, or whom it calls, over the runs of a selection: a text, or

@@ -1,12 +1,15 @@
 // The answers to questions of what files state.
 ghost use Rattle.std.specs.Prelude.{◌≡◌, ◌++◌, flat_map, OnOk};
 ghost use Rattle.std.specs.Result.{is_ok};
+ghost use Rattle.cost_reports.specs.Verifying.{verified, verify_text};
 ghost use Rattle.prof_store.specs.Shown.{Asks, Told};
+ghost use Rattle.held_runs.specs.HeldHeads.{IsHeadIn};
 ghost use Rattle.held_runs.specs.Walks.{AsksIfOpen};
 ghost use Rattle.histories.specs.declared.answers.Query.TheVariants.{Verify};
 ghost use Rattle.store_histories.specs.Answered.{Asks as AnswersAsked};
 ghost use Rattle.store_reports.specs.Checked.{IsChecked, AreChecked};
 
+use cg_formulas::FileHead;
 use cg_text::ListVec;
 use cost_reports::verify;
 use held_runs::{head_of, sums_of};
@@ -14,7 +17,37 @@ use histories::{Answer, Selection};
 use prof_store::{Store, StoreError};
 use selected_runs::select_runs;
 use sqlite::Alter;
-use std::alloc::Global;
+use std::alloc::{AllocError, Global};
+
+/// Adds the lines of a run: the sums of its events beside what its head states.
+fn push_lines(
+    text: &mut Vec<u8>,
+    alloc: Global,
+    number: u32,
+    head: &FileHead,
+    sums: &[u128],
+) -> Result<(), AllocError>
+    ensures { OnOk result (text.new.items ≡ text.old.items ++ verify_text (verified number head.now.events sums.now head.now.stated)) }
+{
+    let checks = verify(alloc, number, head, sums)?;
+    checks.push_text(text)
+}
+
+/// Adds the lines of a run of this head.
+fn push_sums<S: Alter>(
+    store: &mut Store<S>,
+    alloc: Global,
+    number: u32,
+    head: &FileHead,
+    text: &mut Vec<u8>,
+) -> Result<(), StoreError>
+    ensures told { Told S.Store result store.old store.new (λ t _. IsHeadIn number t head.now → IsChecked t number text.old.items text.new.items) }
+    ensures asks { Asks S.Store (is_ok result) store.old store.new }
+{
+    let sums = sums_of(store, alloc, number)?;
+    push_lines(text, alloc, number, head, sums.as_slice())?;
+    Ok(())
+}
 
 /// Adds the lines of a run: the sums of its events beside the totals that its file states.
 fn check_run<S: Alter>(
@@ -27,10 +60,7 @@ fn check_run<S: Alter>(
     ensures asks { Asks S.Store (is_ok result) store.old store.new }
 {
     let head = head_of(store, alloc, number)?;
-    let sums = sums_of(store, alloc, number)?;
-    let checks = verify(alloc, number, &head, sums.as_slice())?;
-    checks.push_text(text)?;
-    Ok(())
+    push_sums(store, alloc, number, &head, text)
 }
 
 /// The lines of runs.

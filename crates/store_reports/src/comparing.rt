@@ -1,25 +1,26 @@
 // The answers to questions of differences.
-ghost use Rattle.std.specs.Prelude.{◌≡◌, None, false};
+ghost use Rattle.std.specs.Prelude.{◌≡◌, None, false, IfOk};
 ghost use Rattle.std.specs.Result.{is_ok};
+ghost use Rattle.cost_reports.specs.Differences.{difference_of, difference_text};
 ghost use Rattle.prof_store.specs.Shown.{Asks, Told};
 ghost use Rattle.held_runs.specs.Walks.{AsksIfOpen};
 ghost use Rattle.histories.specs.Legal.{compared};
 ghost use Rattle.histories.specs.declared.answers.Query.TheVariants.{Subtract};
 ghost use Rattle.histories.specs.declared.answers.Selection.TheVariants as selections;
 ghost use Rattle.store_histories.specs.Answered.{Asks as AnswersAsked, has_changed};
-ghost use Rattle.store_reports.specs.Compared.{AnswersDifference, AreCompared, difference_over};
+ghost use Rattle.store_reports.specs.Compared.{AnswersDifference, AreCompared, costs_over, difference_over};
 ghost use Rattle.selected_runs.specs.Selected.{ToldOf};
 
 use crate::merging::merge_runs;
 use cg_text::ListVec;
 use cost_reports::subtract;
-use cost_rows::Key;
-use held_runs::{baseline_of, names_of};
+use cost_rows::{Key, Merged};
+use held_runs::{HeldNames, baseline_of, names_of};
 use histories::{Answer, Refusal, Selection};
 use prof_store::{Store, StoreError};
 use selected_runs::{Counted, Numbers, count_runs, have_event, name_text, one_run, select_runs};
 use sqlite::Alter;
-use std::alloc::Global;
+use std::alloc::{AllocError, Global};
 
 /// The baseline of a group, as a selection of one run.
 fn baseline_run<S: Alter>(
@@ -55,6 +56,36 @@ fn compared_runs<S: Alter>(
     }
 }
 
+/// The text of what some sums are less others.
+fn text_of_sums(
+    alloc: Global,
+    first: &Merged,
+    second: &Merged,
+    event: &[u8],
+) -> Result<ListVec<u8>, AllocError>
+    ensures { IfOk result (λ text. text ≡ difference_text event.now (difference_of first.now.key first.now.sums second.now.sums)) }
+{
+    let difference = subtract(alloc, first, second)?;
+    difference.text(alloc, event)
+}
+
+/// The text of what some sums are less those of runs, by the same key.
+fn text_less_runs<S: Alter>(
+    store: &mut Store<S>,
+    alloc: Global,
+    names: &HeldNames,
+    first: &Merged,
+    seconds: &[Counted],
+    event: &[u8],
+) -> Result<ListVec<u8>, StoreError>
+    ensures told { Told S.Store result store.old store.new (λ t text. names.now ≡ t.names
+        → text ≡ difference_text event.now (difference_of first.now.key first.now.sums (costs_over t first.now.key seconds.now))) }
+    ensures asks { AsksIfOpen S.Store (is_ok result) store.old store.new }
+{
+    let second = merge_runs(store, alloc, names, seconds, first.key())?;
+    Ok(text_of_sums(alloc, first, &second, event)?)
+}
+
 /// The text of the difference between some runs and others.
 fn difference_text<S: Alter>(
     store: &mut Store<S>,
@@ -69,9 +100,7 @@ fn difference_text<S: Alter>(
 {
     let names = names_of(store, alloc)?;
     let first = merge_runs(store, alloc, &names, firsts, key)?;
-    let second = merge_runs(store, alloc, &names, seconds, key)?;
-    let difference = subtract(alloc, &first, &second)?;
-    Ok(difference.text(alloc, event)?)
+    text_less_runs(store, alloc, &names, &first, seconds, event)
 }
 
 /// The answer over the runs of some numbers and those of others.

@@ -1,8 +1,8 @@
 // The answers to questions of what functions cost with all that they call.
-ghost use Rattle.std.specs.Prelude.{◌≡◌};
+ghost use Rattle.std.specs.Prelude.{◌≡◌, IfOk};
 ghost use Rattle.std.specs.List.{AllByRecursion};
 ghost use Rattle.std.specs.Result.{is_ok};
-ghost use Rattle.cost_reports.specs.Inclusive.{no_costs};
+ghost use Rattle.cost_reports.specs.Inclusive.{inclusive_report, inclusive_text, no_costs};
 ghost use Rattle.profile_records.specs.declared.kinds.Kind.TheVariants.{Callgrind, Folded};
 ghost use Rattle.prof_tables.specs.RunLines.{cells_in};
 ghost use Rattle.prof_store.specs.Shown.{Told};
@@ -21,7 +21,7 @@ use prof_store::{Store, StoreError};
 use profile_records::Kind;
 use selected_runs::{Counted, event_runs};
 use sqlite::Alter;
-use std::alloc::Global;
+use std::alloc::{AllocError, Global};
 
 /// Adds the own costs and the calls of a Callgrind run.
 fn add_callgrind<S: Alter>(
@@ -112,6 +112,18 @@ fn add_runs<S: Alter>(
     Ok(sums)
 }
 
+/// The text of some inclusive costs.
+fn text_of_sums(
+    alloc: Global,
+    sums: &InclusiveSums,
+    event: &[u8],
+) -> Result<ListVec<u8>, AllocError>
+    ensures { IfOk result (λ text. text ≡ inclusive_text event.now (inclusive_report sums.now)) }
+{
+    let report = inclusive(alloc, sums)?;
+    report.text(alloc, event)
+}
+
 /// The text of the inclusive costs of some runs.
 fn inclusive_text<S: Alter>(
     store: &mut Store<S>,
@@ -124,8 +136,7 @@ fn inclusive_text<S: Alter>(
 {
     let names = names_of(store, alloc)?;
     let sums = add_runs(store, alloc, &names, runs)?;
-    let report = inclusive(alloc, &sums)?;
-    Ok(report.text(alloc, event)?)
+    Ok(text_of_sums(alloc, &sums, event)?)
 }
 
 /// Answers what functions cost with all that they call, over the runs of a selection: a text, or the

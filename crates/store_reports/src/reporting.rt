@@ -1,6 +1,8 @@
 // The answers to questions by key.
-ghost use Rattle.std.specs.Prelude.{◌≡◌};
+ghost use Rattle.std.specs.Prelude.{◌≡◌, IfOk};
 ghost use Rattle.std.specs.Result.{is_ok};
+ghost use Rattle.cost_reports.specs.KeyReports.{report_of};
+ghost use Rattle.cost_reports.specs.KeyTexts.{key_report_text};
 ghost use Rattle.prof_store.specs.Shown.{Told};
 ghost use Rattle.held_runs.specs.Walks.{AsksIfOpen};
 ghost use Rattle.histories.specs.declared.answers.Query.TheVariants.{By};
@@ -10,13 +12,26 @@ ghost use Rattle.store_reports.specs.Reported.{report_over};
 use crate::merging::merge_runs;
 use cg_text::ListVec;
 use cost_reports::{Cut, by};
-use cost_rows::Key;
+use cost_rows::{Key, Merged};
 use held_runs::names_of;
 use histories::{Answer, Selection};
 use prof_store::{Store, StoreError};
 use selected_runs::{Counted, event_runs};
 use sqlite::Alter;
-use std::alloc::Global;
+use std::alloc::{AllocError, Global};
+
+/// The text of the report of some sums.
+fn text_of_sums(
+    alloc: Global,
+    merged: &Merged,
+    cut: Cut,
+    event: &[u8],
+) -> Result<ListVec<u8>, AllocError>
+    ensures { IfOk result (λ text. text ≡ key_report_text event.now (report_of merged.now.key cut merged.now.sums)) }
+{
+    let report = by(alloc, merged, cut)?;
+    report.text(alloc, event)
+}
 
 /// The text of the report over some runs.
 fn report_text<S: Alter>(
@@ -32,8 +47,7 @@ fn report_text<S: Alter>(
 {
     let names = names_of(store, alloc)?;
     let merged = merge_runs(store, alloc, &names, runs, key)?;
-    let report = by(alloc, &merged, cut)?;
-    Ok(report.text(alloc, event)?)
+    Ok(text_of_sums(alloc, &merged, cut, event)?)
 }
 
 /// Answers where the cost of an event went, by key, over the runs of a selection: a text, or the refusal

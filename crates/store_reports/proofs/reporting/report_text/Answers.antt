@@ -1,8 +1,7 @@
-use Rattle.std.proofs.Common.{ap, ◌∙◌}
+use Rattle.std.proofs.Common.{◌∙◌}
 use Rattle.sql_tables.proofs.Calls.{asked_rests}
 use Rattle.prof_tables.specs.Schema.{schema_one}
 use Rattle.prof_tables.specs.Tables.{Holds}
-use Rattle.cost_reports.specs.KeyTexts.{key_report_text}
 use Rattle.store_reports.proofs.MergeLemmas.{report_merged}
 use Rattle.store_reports.proofs.reporting.report_text.Goals as goal
 
@@ -12,4 +11,4 @@ returns-clause-told g c clean t stands =
     let early = (c.in_ok-merged.ensures.asks clean).stays.was_clean in
     let mid = asked_rests schema_one (Holds t) _ _ (c.in_ok-names.ensures.asks early) stands in
     let merged = c.in_ok-merged.ensures.told clean t mid (c.in_ok-names.ensures.told early t stands) in
-    c.in_ok-text.ensures ∙ ap (key_report_text event) c.in_ok-report.ensures ∙ report_merged t c.args.key event c.args.cut c.args.runs.now _ merged
+    c.in_ok-text_of_sums.ensures ∙ report_merged t c.args.key event c.args.cut c.args.runs.now _ merged
