@@ -1,13 +1,14 @@
-/* Faults for a program, by LD_PRELOAD: for tests/faults and tests/refuse_each. The variables:
+/* Faults for a program, by LD_PRELOAD: for tests/faults, tests/faults_http and tests/refuse_each. The variables:
 
    STORE, INPUTS   beginnings of paths: of the files of a store, and of files that are read
    FAULT           what is to fail: `allocation`, `read` (of a file of INPUTS), `change` (of a file of STORE:
-                   a write, a sync, a cut) or `look` (a read of a file of STORE)
+                   a write, a sync, a cut), `look` (a read of a file of STORE), `receive` (a read of a socket)
+                   or `send` (a write to one)
    AT              which of these, counted from 1
    ERROR           how it fails: a number of errno, or 0 to kill the program in its place
    TORN            the write before which the program is killed is made by half
-   SHORT           a read of a file of INPUTS gives at most so many bytes
-   COUNTS          a file into which the numbers of allocations, reads, changes and looks are written at the end
+   SHORT           a read of a file of INPUTS gives at most so many bytes, and a socket gives and takes at most so many
+   COUNTS          a file into which is written at the end how many there were of each thing that FAULT names, in turn
    LOG             a file into which each change of a file of STORE is written, and what is printed */
 #define _GNU_SOURCE
 #include <errno.h>
@@ -17,12 +18,13 @@
 #include <stdio.h>
 #include <stdlib.h>
 #include <string.h>
+#include <sys/socket.h>
 #include <sys/types.h>
 #include <unistd.h>
 
-enum kind { ALLOCATION, READ, CHANGE, LOOK, KINDS };
+enum kind { ALLOCATION, READ, CHANGE, LOOK, RECEIVE, SEND, KINDS };
 
-static const char *const names[KINDS] = {"allocation", "read", "change", "look"};
+static const char *const names[KINDS] = {"allocation", "read", "change", "look", "receive", "send"};
 static unsigned long counts[KINDS], at, most;
 static enum kind failing = KINDS;
 static int error, is_torn, log_file = -1;
@@ -64,8 +66,8 @@ __attribute__((destructor)) static void end(void)
     char text[200];
     int file = path ? open(path, O_WRONLY | O_CREAT | O_TRUNC, 0600) : -1;
     if (file >= 0) {
-        int length = snprintf(text, sizeof text, "%lu %lu %lu %lu\n", counts[ALLOCATION], counts[READ],
-                              counts[CHANGE], counts[LOOK]);
+        int length = snprintf(text, sizeof text, "%lu %lu %lu %lu %lu %lu\n", counts[ALLOCATION], counts[READ],
+                              counts[CHANGE], counts[LOOK], counts[RECEIVE], counts[SEND]);
         NEXT(write)(file, text, length);
         close(file);
     }
@@ -158,6 +160,20 @@ ssize_t read(int file, void *bytes, size_t length)
         return -1;
     }
     return NEXT(read)(file, bytes, length);
+}
+
+ssize_t recv(int socket, void *bytes, size_t length, int flags)
+{
+    if (fails(RECEIVE))
+        return -1;
+    return NEXT(recv)(socket, bytes, most && length > most ? most : length, flags);
+}
+
+ssize_t send(int socket, const void *bytes, size_t length, int flags)
+{
+    if (fails(SEND))
+        return -1;
+    return NEXT(send)(socket, bytes, most && length > most ? most : length, flags);
 }
 
 ssize_t pread64(int file, void *bytes, size_t length, off64_t place)
