@@ -1,6 +1,6 @@
 // A socket as a stream. A read or write that comes too late fails, so a client that sends slowly, or goes
 // away, does not stop the others.
-ghost use Rattle.std.specs.Io.{ReadsAtMost};
+ghost use Rattle.std.specs.Io.{ReadsAtMost, WritesAtMost};
 
 use http_streams::{Stream, StreamFault};
 use std::io;
@@ -12,36 +12,28 @@ use std::time::{Duration, Instant};
 /// How many seconds all of a head may take.
 const HEAD_SECONDS: u64 = 10;
 
-/// How many seconds a piece of a body or of a response may take.
+/// How many seconds a piece of a body or of a response may take, and how many bytes it has.
 const PIECE_SECONDS: u64 = 30;
+
+const PIECE: usize = 65_536;
 
 /// How many seconds bytes that nobody asked for are read before a connection is closed.
 const DRAIN_SECONDS: u64 = 1;
 
-/// How many bytes are read at a time then, and how often.
+/// How many bytes are read at a time then, and how often: as many as a file may have.
 const DRAIN_PIECE: usize = 16_384;
-const DRAIN_PIECES: usize = 64;
+
+const DRAIN_PIECES: usize = 65_536;
 
 /// How many bytes of a request are kept to tell which one it was.
 const FIRST_BYTES: usize = 512;
 
-/// Until when bytes are waited for.
-#[derive(Clone, Copy)]
-enum Patience {
-    /// The head has to be there by then.
-    Until(Instant),
-    /// A piece may take as long as a piece may.
-    Piece,
-}
-
-impl Patience {
-    /// How long the next read may take. No guarantee: of the clock the checker knows nothing.
-    fn left(self, rt: &HostRuntime) -> io::Result<Duration> {
-        match self {
-            Patience::Until(end) => Ok(end.saturating_duration_since(Instant::now(rt)?)),
-            Patience::Piece => Ok(Duration::from_secs(PIECE_SECONDS)),
-        }
-    }
+/// What is under way on a connection.
+#[derive(Clone, Copy, PartialEq, Eq)]
+enum Stage {
+    Head,
+    Body,
+    Response,
 }
 
 /// So many seconds from now. No guarantee: of the clock the checker knows nothing.
@@ -57,7 +49,10 @@ fn from_now(rt: &HostRuntime, seconds: u64) -> io::Result<Instant> {
 pub(crate) struct Connection<'a> {
     rt: &'a HostRuntime,
     socket: TcpStream,
-    patience: Patience,
+    stage: Stage,
+    /// Until when bytes are waited for, and how many came or went since that was last put off.
+    until: Instant,
+    moved: usize,
     /// The first bytes that were read, and how many.
     first: [u8; FIRST_BYTES],
     kept: usize,
@@ -67,24 +62,71 @@ impl<'a> Connection<'a> {
     /// The connection of a socket: its head has to come in time. No guarantee: of a socket the checker knows
     /// nothing.
     pub(crate) fn new(rt: &'a HostRuntime, socket: TcpStream) -> io::Result<Connection<'a>> {
-        socket.set_write_timeout(Some(Duration::from_secs(PIECE_SECONDS)))?;
-        let end = from_now(rt, HEAD_SECONDS)?;
+        let until = from_now(rt, HEAD_SECONDS)?;
         Ok(Connection {
             rt,
             socket,
-            patience: Patience::Until(end),
+            stage: Stage::Head,
+            until,
+            moved: 0,
             first: [0u8; FIRST_BYTES],
             kept: 0,
         })
     }
 
-    /// Reads as long as patience lasts. A wait of no time is an error of the system, as it is meant to be.
+    /// How long the next read or write may take. No guarantee: of the clock the checker knows nothing.
+    fn left(&self) -> io::Result<Duration> {
+        let now = Instant::now(self.rt)?;
+        Ok(self.until.saturating_duration_since(now))
+    }
+
+    /// Waits anew from now on. No guarantee: as `left`.
+    fn put_off(&mut self, seconds: u64) -> io::Result<()> {
+        self.until = from_now(self.rt, seconds)?;
+        self.moved = 0;
+        Ok(())
+    }
+
+    /// Counts bytes that came or went: once they are a piece, the next piece is waited for. So a client that
+    /// sends or takes a byte now and then is not waited for. No guarantee: as `left`.
+    fn count(&mut self, bytes: usize) -> io::Result<()> {
+        self.moved = self.moved.saturating_add(bytes);
+        if self.stage != Stage::Head && self.moved >= PIECE {
+            self.put_off(PIECE_SECONDS)?;
+        }
+        Ok(())
+    }
+
+    /// Enters a stage, whose first piece is waited for. No guarantee: as `left`.
+    fn enter(&mut self, stage: Stage) -> io::Result<()> {
+        if self.stage != stage {
+            self.stage = stage;
+            self.put_off(PIECE_SECONDS)?;
+        }
+        Ok(())
+    }
+
+    /// Reads while there is time. A wait of no time is an error of the system, as it is meant to be.
     fn read_in_time(&mut self, buf: &mut [u8]) -> io::Result<usize>
         ensures { ReadsAtMost result buf.new }
     {
-        let left = self.patience.left(self.rt)?;
+        let left = self.left()?;
         self.socket.set_read_timeout(Some(left))?;
-        self.socket.read(buf)
+        let count = self.socket.read(buf)?;
+        self.count(count)?;
+        Ok(count)
+    }
+
+    /// Writes while there is time. What the command took is not the client's time.
+    fn write_in_time(&mut self, bytes: &[u8]) -> io::Result<usize>
+        ensures { WritesAtMost result bytes.now }
+    {
+        self.enter(Stage::Response)?;
+        let left = self.left()?;
+        self.socket.set_write_timeout(Some(left))?;
+        let count = self.socket.write(bytes)?;
+        self.count(count)?;
+        Ok(count)
     }
 
     /// Keeps the first bytes that were read. No guarantee: they are for a person who reads the log.
@@ -98,15 +140,17 @@ impl<'a> Connection<'a> {
     /// The first line of what was read, as far as it was kept. No guarantee: as `keep`.
     pub(crate) fn first_line(&self) -> &[u8] {
         let kept = self.first.get(..self.kept).unwrap_or(b"");
-        let end = kept.iter().position(|byte| *byte == b'\r' || *byte == b'\n');
+        let end = kept
+            .iter()
+            .position(|byte| *byte == b'\r' || *byte == b'\n');
         kept.get(..end.unwrap_or(kept.len())).unwrap_or(b"")
     }
 
     /// Reads away what the client still sends, for a while, so that it sees the response and no reset. No
     /// guarantee: of what a client sends the checker knows nothing.
     fn drain(&mut self) -> io::Result<()> {
-        let end = from_now(self.rt, DRAIN_SECONDS)?;
-        self.patience = Patience::Until(end);
+        self.stage = Stage::Head;
+        self.put_off(DRAIN_SECONDS)?;
         let mut piece = [0u8; DRAIN_PIECE];
         for _ in 0..DRAIN_PIECES {
             if self.read_in_time(&mut piece)? == 0 {
@@ -129,7 +173,9 @@ impl<'a> Connection<'a> {
 /// Of what comes over a socket and goes over it the checker knows counts alone.
 impl Stream for Connection<'_> {
     ghost reads = { λ _ _ _. Unit {0} };
+
     ghost writes = { λ _ _ _. Unit {0} };
+
     ghost hears = { λ _ _. Unit {0} };
 
     fn read(&mut self, buf: &mut [u8]) -> Result<usize, StreamFault> {
@@ -143,13 +189,14 @@ impl Stream for Connection<'_> {
     }
 
     fn write(&mut self, bytes: &[u8]) -> Result<usize, StreamFault> {
-        match self.socket.write(bytes) {
+        match self.write_in_time(bytes) {
             Ok(count) => Ok(count),
             Err(_) => Err(StreamFault),
         }
     }
 
     fn head_came(&mut self) {
-        self.patience = Patience::Piece;
+        // A clock that fails now fails at the next read, too.
+        let _entered = self.enter(Stage::Body);
     }
 }

@@ -11,7 +11,8 @@ use matchit::Router;
 use prof_http::{Exchange, answer};
 use sqlite::Alter;
 use std::io;
-use std::net::{Ipv4Addr, SocketAddr, TcpListener, TcpStream};
+use std::io::ErrorKind;
+use std::net::{Ipv4Addr, SocketAddr, TcpListener};
 use std::rt::HostRuntime;
 use warehouse::Warehouse;
 
@@ -26,26 +27,41 @@ pub struct Service {
     pub log: bool,
 }
 
-/// Serves one client, and ends the connection.
-fn serve_client<S: Alter>(
-    rt: &HostRuntime,
+/// The next client, where it did not go away again while it waited. No guarantee: of the network the checker
+/// knows nothing.
+fn next_client<'a>(
+    rt: &'a HostRuntime,
+    listener: &TcpListener,
+) -> io::Result<Option<(Connection<'a>, SocketAddr)>> {
+    match listener.accept() {
+        Ok((socket, address)) => match Connection::new(rt, socket) {
+            Ok(connection) => Ok(Some((connection, address))),
+            Err(_) => Ok(None),
+        },
+        Err(error) if error.kind() == ErrorKind::ConnectionAborted => Ok(None),
+        Err(error) => Err(error),
+    }
+}
+
+/// Serves one client, and ends the connection. One that went away is one of those that were served.
+fn serve_client<'a, S: Alter>(
+    rt: &'a HostRuntime,
     router: &Router<Place>,
     warehouse: &mut Warehouse<S>,
-    socket: TcpStream,
-    client: SocketAddr,
+    client: Option<(Connection<'a>, SocketAddr)>,
     is_logged: bool,
 )
     requires router { router.now ≡ spec.routes }
     ensures limits { warehouse.new.limits ≡ warehouse.old.limits }
     ensures served { IsFaithful S.Store warehouse.new.store → HasServed S.Store warehouse.old.limits warehouse.old.store warehouse.new.store }
 {
-    let Ok(connection) = Connection::new(rt, socket) else {
+    let Some((connection, address)) = client else {
         return;
     };
     let (exchange, connection) = answer(rt.alloc(), router, connection, warehouse);
     if is_logged {
         // A log that cannot be written stops no service.
-        let _logged = log(rt, client, connection.first_line(), exchange);
+        let _logged = log(rt, address, connection.first_line(), exchange);
     }
     // A request that was refused may have a body that nobody read.
     let _closed = connection.close(matches!(exchange, Exchange::Sent(200 | 201)));
@@ -65,10 +81,10 @@ pub fn serve_on<S: Alter>(
     ensures served { IsFaithful S.Store warehouse.new.store → HasServed S.Store warehouse.old.limits warehouse.old.store warehouse.new.store }
 {
     'clients: for _ in 0..requests {
-        let Ok((socket, client)) = listener.accept() else {
+        let Ok(client) = next_client(rt, listener) else {
             return false;
         };
-        serve_client(rt, router, warehouse, socket, client, is_logged);
+        serve_client(rt, router, warehouse, client, is_logged);
     }
     true
 }
