@@ -124,6 +124,21 @@ fn text_of_sums(
     report.text(alloc, event)
 }
 
+/// The text of the inclusive costs of some runs, by the names that are held.
+fn text_of_runs<S: Alter>(
+    store: &mut Store<S>,
+    alloc: Global,
+    names: &HeldNames,
+    runs: &[Counted],
+    event: &[u8],
+) -> Result<ListVec<u8>, StoreError>
+    ensures told { Told S.Store result store.old store.new (λ t text. names.now ≡ t.names → IsInclusiveText t runs.now event.now text) }
+    ensures asks { AsksIfOpen S.Store (is_ok result) store.old store.new }
+{
+    let sums = add_runs(store, alloc, names, runs)?;
+    Ok(text_of_sums(alloc, &sums, event)?)
+}
+
 /// The text of the inclusive costs of some runs.
 fn inclusive_text<S: Alter>(
     store: &mut Store<S>,
@@ -135,8 +150,7 @@ fn inclusive_text<S: Alter>(
     ensures asks { AsksIfOpen S.Store (is_ok result) store.old store.new }
 {
     let names = names_of(store, alloc)?;
-    let sums = add_runs(store, alloc, &names, runs)?;
-    Ok(text_of_sums(alloc, &sums, event)?)
+    text_of_runs(store, alloc, &names, runs, event)
 }
 
 /// Answers what functions cost with all that they call, over the runs of a selection: a text, or the

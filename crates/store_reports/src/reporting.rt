@@ -13,7 +13,7 @@ use crate::merging::merge_runs;
 use cg_text::ListVec;
 use cost_reports::{Cut, by};
 use cost_rows::{Key, Merged};
-use held_runs::names_of;
+use held_runs::{HeldNames, names_of};
 use histories::{Answer, Selection};
 use prof_store::{Store, StoreError};
 use selected_runs::{Counted, event_runs};
@@ -33,6 +33,23 @@ fn text_of_sums(
     report.text(alloc, event)
 }
 
+/// The text of the report over some runs, by the names that are held.
+fn text_of_runs<S: Alter>(
+    store: &mut Store<S>,
+    alloc: Global,
+    names: &HeldNames,
+    runs: &[Counted],
+    key: Key,
+    event: &[u8],
+    cut: Cut,
+) -> Result<ListVec<u8>, StoreError>
+    ensures told { Told S.Store result store.old store.new (λ t text. names.now ≡ t.names → text ≡ report_over t runs.now key event.now cut) }
+    ensures asks { AsksIfOpen S.Store (is_ok result) store.old store.new }
+{
+    let merged = merge_runs(store, alloc, names, runs, key)?;
+    Ok(text_of_sums(alloc, &merged, cut, event)?)
+}
+
 /// The text of the report over some runs.
 fn report_text<S: Alter>(
     store: &mut Store<S>,
@@ -46,8 +63,7 @@ fn report_text<S: Alter>(
     ensures asks { AsksIfOpen S.Store (is_ok result) store.old store.new }
 {
     let names = names_of(store, alloc)?;
-    let merged = merge_runs(store, alloc, &names, runs, key)?;
-    Ok(text_of_sums(alloc, &merged, cut, event)?)
+    text_of_runs(store, alloc, &names, runs, key, event, cut)
 }
 
 /// Answers where the cost of an event went, by key, over the runs of a selection: a text, or the refusal
