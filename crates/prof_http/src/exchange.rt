@@ -127,7 +127,7 @@ fn reply_to<T: Stream + Drop, S: Alter>(
     ensures replied { IsFaithful S.Store warehouse.new.store → (head : RequestHead) → IsHeadAt bytes.now fields.now spans head
         → (reads : List Outcome) × Reads T.reads stream reads result.1
         × IsReplied S.Store warehouse.old.limits (request_of warehouse.old.limits.bytes head) (drop spans.len bytes.now) reads
-            result.0 warehouse.old.store warehouse.new.store }
+        result.0 warehouse.old.store warehouse.new.store }
 {
     let limit = warehouse.limits().bytes;
     match read_request(alloc, router, limit, bytes, fields, spans) {
@@ -159,7 +159,7 @@ fn serve<T: Stream + Drop, S: Alter>(
     ensures limits { warehouse.new.limits ≡ warehouse.old.limits }
     ensures responded { IsFaithful S.Store warehouse.new.store → (head : RequestHead) → IsHeadAt bytes.now fields.now spans head
         → IsResponded S.Store warehouse.old.limits T.reads T.writes T.hears (request_of warehouse.old.limits.bytes head) (drop spans.len bytes.now)
-            result.0 stream result.1 warehouse.old.store warehouse.new.store }
+        result.0 stream result.1 warehouse.old.store warehouse.new.store }
 {
     let (reply, stream) = reply_to(alloc, router, warehouse, bytes, fields, spans, stream);
     let mut stream = stream;
@@ -188,7 +188,15 @@ pub fn answer<T: Stream + Drop, S: Alter>(
     match read_head(&mut stream, &mut buffer, &mut fields) {
         Ok((spans, filled)) => {
             stream.head_came();
-            serve(alloc, router, warehouse, &buffer[..filled], &fields, spans, stream)
+            serve(
+                alloc,
+                router,
+                warehouse,
+                &buffer[..filled],
+                &fields,
+                spans,
+                stream,
+            )
         }
         Err(HeadEnd::Bad) => {
             let exchange = send_failing(&mut stream, Failing::BadRequest);
