@@ -1,3 +1,4 @@
+mod Examples
 pub mod Heads
 pub mod Turns
 pub mod Unread

@@ -1,6 +1,7 @@
 -- An exchange is a turn of the store's history, or none.
 use Rattle.std.proofs.Common.{◌≡◌, ◌⊎◌, inl, inr, ℕ, List, [], ◌∷◌, Result, refl, sym}
 use Rattle.sqlite_trees.specs.declared.store.Store.{Ghosts}
+use Rattle.prof_store.specs.Shown.{IsFaithful}
 use Rattle.prof_store.specs.declared.store.Store.{Store}
 use Rattle.sources.specs.Outcomes.{Outcome}
 use Rattle.histories.specs.History.{History, Turn}
@@ -20,13 +21,13 @@ module _ {S : Type 0} (g : Ghosts S) (limits : Limits) where
   abbrev pub Turned : Store S → Store S → Type 0
   Turned old new = (turns : History) × Links g limits turns old new
 
-  turned_by : (wanted : Result Request Failing) (after : List ℕ) (reads : List Outcome) (reply : Reply) (old new : Store S) → IsReplied g limits wanted after reads reply old new → Turned old new
-  turned_by wanted after reads (replies.Answered answer) old new done =
-      let turn : Turn = record { said = said_of done.request.asked done.outcomes; answer = answer } in (turn ∷ [], (new, done.answers, refl))
-  turned_by wanted after reads (replies.Failed failing) old new away = ([], sym away.same)
+  turned_by : (wanted : Result Request Failing) (after : List ℕ) (reads : List Outcome) (reply : Reply) (old new : Store S) → IsReplied g limits wanted after reads reply old new → IsFaithful g new → Turned old new
+  turned_by wanted after reads (replies.Answered answer) old new done clean =
+      let turn : Turn = record { said = said_of done.request.asked done.outcomes; answer = answer } in (turn ∷ [], (new, done.answers clean, refl))
+  turned_by wanted after reads (replies.Failed failing) old new away clean = ([], sym away.same)
 
   pub exchange_turned : {T : Type 0} (reads : T → Outcome → T → Type 0) (writes : T → Written → T → Type 0) (hears : T → T → Type 0) (exchange : Exchange) (from to : T) (old new : Store S)
-      → WasExchanged g limits reads writes hears exchange from to old new → Turned old new
-  exchange_turned reads writes hears exchange from to old new (inl served) = turned_by _ served.after served.responded.body_reads served.responded.reply old new served.responded.replied
-  exchange_turned reads writes hears exchange from to old new (inr (inl rejected)) = ([], sym rejected.same)
-  exchange_turned reads writes hears exchange from to old new (inr (inr dropped)) = ([], sym dropped.same)
+      → WasExchanged g limits reads writes hears exchange from to old new → IsFaithful g new → Turned old new
+  exchange_turned reads writes hears exchange from to old new (inl served) clean = turned_by _ served.after served.responded.body_reads served.responded.reply old new served.responded.replied clean
+  exchange_turned reads writes hears exchange from to old new (inr (inl rejected)) clean = ([], sym rejected.same)
+  exchange_turned reads writes hears exchange from to old new (inr (inr dropped)) clean = ([], sym dropped.same)

@@ -1,6 +1,7 @@
 -- One exchange over a stream: a request is read, its command is done, and the response is sent.
 use Rattle.std.specs.Prelude.{◌≡◌, ◌⊎◌, ℕ, List, [], Result, Ok, Err}
 use Rattle.sqlite_trees.specs.declared.store.Store.{Ghosts}
+use Rattle.prof_store.specs.Shown.{IsFaithful}
 use Rattle.prof_store.specs.declared.store.Store.{Store}
 use Rattle.sources.specs.Outcomes.{Outcome, bytes_of}
 use Rattle.sources.specs.Reads.{Reads}
@@ -24,13 +25,13 @@ use Rattle.prof_http.specs.declared.replies.Reply.{Reply}
 use Rattle.prof_http.specs.declared.replies.Reply.TheVariants as replies
 
 module _ {S : Type 0} (g : Ghosts S) (limits : Limits) where
-  -- a command was asked for, and answered; its body is made of the bytes behind the head and of these reads
+  -- a command was asked for, and answered; its body is made of the bytes behind the head and of these reads; where the disk returned what was written, the answer is one of the history
   pub record IsDone (wanted : Result Request Failing) (after : List ℕ) (reads : List Outcome) (answer : Answer) (old new : Store S) : Type 0 where
     pub request : Request
     pub is_wanted : wanted ≡ Ok request
     pub outcomes : List Outcome
     pub body : IsBodyOf request.length after reads outcomes
-    pub answers : Answers g limits (said_of request.asked outcomes) answer old new
+    pub answers : IsFaithful g new → Answers g limits (said_of request.asked outcomes) answer old new
 
   -- no command was run: a check failed, or there was no memory for the request; nothing more was read
   pub record IsTurnedAway (wanted : Result Request Failing) (reads : List Outcome) (failing : Failing) (old new : Store S) : Type 0 where

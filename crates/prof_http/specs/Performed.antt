@@ -1,7 +1,14 @@
--- A body that is handed on to a command.
+-- A command is done over a body that is handed on to it.
 use Rattle.std.specs.Prelude.{List}
+use Rattle.sqlite_trees.specs.declared.store.Store.{Ghosts}
+use Rattle.prof_store.specs.Shown.{IsFaithful}
+use Rattle.prof_store.specs.declared.store.Store.{Store}
 use Rattle.sources.specs.Outcomes.{Outcome}
 use Rattle.sources.specs.Reads.{Reads}
+use Rattle.histories.specs.History.{Said}
+use Rattle.histories.specs.declared.answers.Answer.{Answer}
+use Rattle.histories.specs.declared.limits.Limits.{Limits}
+use Rattle.store_histories.specs.Answered.{Answers}
 use Rattle.http_streams.specs.Bodies.{IsBodyOf}
 use Rattle.http_streams.specs.declared.bodies.Body.{Body}
 
@@ -10,3 +17,9 @@ pub record HandsOn {T : Type 0} (reads : T → Outcome → T → Type 0) (body :
   pub stream_reads : List Outcome
   pub came : Reads reads body.stream stream_reads to
   pub made : IsBodyOf body.left body.held.now stream_reads outcomes
+
+-- a command was done over a body, and answered; where the disk returned what was written, the answer is one of the history
+pub record IsDoneOver {S T : Type 0} (g : Ghosts S) (reads : T → Outcome → T → Type 0) (limits : Limits) (said : List Outcome → Said) (body : Body T) (answer : Answer) (to : T) (old new : Store S) : Type 0 where
+  pub outcomes : List Outcome
+  pub handed : HandsOn reads body outcomes to
+  pub answers : IsFaithful g new → Answers g limits (said outcomes) answer old new

@@ -2,18 +2,16 @@
 ghost use Rattle.std.specs.Prelude.{◌≡◌, drop, List};
 ghost use Rattle.httparse.specs.Grammar.{RequestHead};
 ghost use Rattle.httparse.specs.Spans.{IsRequestWithin};
-ghost use Rattle.prof_store.specs.Shown.{IsFaithful};
 ghost use Rattle.sources.specs.Outcomes.{Outcome};
 ghost use Rattle.sources.specs.Reads.{Reads};
 ghost use Rattle.histories.specs.History.{Annotate, Import};
-ghost use Rattle.store_histories.specs.Answered.{Answers};
 ghost use Rattle.warehouse.specs.Answered.{WasAnswered};
 ghost use Rattle.http_exchanges.specs.Heads.{IsHeadAt};
 ghost use Rattle.http_exchanges.specs.Requests.{request_of};
 ghost use Rattle.http_exchanges.specs.Routes as spec;
 ghost use Rattle.http_streams.specs.Bodies.{BodyRead};
 ghost use Rattle.prof_http.specs.Exchanges.{IsReplied, IsResponded, WasExchanged};
-ghost use Rattle.prof_http.specs.Performed.{HandsOn};
+ghost use Rattle.prof_http.specs.Performed.{IsDoneOver};
 ghost use Rattle.prof_http.specs.Tasks.{task_said};
 
 use crate::replies::{Exchange, Reply, send_failing, send_reply};
@@ -38,8 +36,8 @@ fn import<T: Stream + Drop, S: Alter>(
     body: Body<'_, T>,
 ) -> (Answer, T)
     ensures limits { warehouse.new.limits ≡ warehouse.old.limits }
-    ensures answered { IsFaithful S.Store warehouse.new.store → (outcomes : List Outcome) × HandsOn T.reads body.entry outcomes result.1
-        × Answers S.Store warehouse.old.limits (Import kind label.now outcomes) result.0 warehouse.old.store warehouse.new.store }
+    ensures done { IsDoneOver S.Store T.reads warehouse.old.limits (Import kind label.now) body.entry
+        result.0 result.1 warehouse.old.store warehouse.new.store }
 {
     let mut body = body;
     let answer = warehouse.import(alloc, kind, label, &mut body);
@@ -57,8 +55,8 @@ fn annotate<T: Stream + Drop, S: Alter>(
     body: Body<'_, T>,
 ) -> (Answer, T)
     ensures limits { warehouse.new.limits ≡ warehouse.old.limits }
-    ensures answered { IsFaithful S.Store warehouse.new.store → (outcomes : List Outcome) × HandsOn T.reads body.entry outcomes result.1
-        × Answers S.Store warehouse.old.limits (Annotate selection event file outcomes) result.0 warehouse.old.store warehouse.new.store }
+    ensures done { IsDoneOver S.Store T.reads warehouse.old.limits (Annotate selection event file) body.entry
+        result.0 result.1 warehouse.old.store warehouse.new.store }
 {
     let mut body = body;
     let answer = warehouse.annotate(alloc, selection, event, file, &mut body);
@@ -74,8 +72,8 @@ fn apply<T: Stream + Drop, S: Alter>(
     body: Body<'_, T>,
 ) -> (Answer, T)
     ensures limits { warehouse.new.limits ≡ warehouse.old.limits }
-    ensures answered { IsFaithful S.Store warehouse.new.store
-        → WasAnswered S.Store (BodyRead T.reads) warehouse.old.limits command.entry result.0 warehouse.old.store warehouse.new.store }
+    ensures answered { WasAnswered S.Store (BodyRead T.reads) warehouse.old.limits command.entry
+        result.0 warehouse.old.store warehouse.new.store }
     ensures stream { result.1 ≡ body.entry.stream }
 {
     let answer = warehouse.apply(alloc, command);
@@ -91,8 +89,8 @@ fn perform<T: Stream + Drop, S: Alter>(
     body: Body<'_, T>,
 ) -> (Answer, T)
     ensures limits { warehouse.new.limits ≡ warehouse.old.limits }
-    ensures answered { IsFaithful S.Store warehouse.new.store → (outcomes : List Outcome) × HandsOn T.reads body.entry outcomes result.1
-        × Answers S.Store warehouse.old.limits (task_said task outcomes) result.0 warehouse.old.store warehouse.new.store }
+    ensures done { IsDoneOver S.Store T.reads warehouse.old.limits (task_said task) body.entry
+        result.0 result.1 warehouse.old.store warehouse.new.store }
 {
     match task {
         Task::Import(kind, label) => import(alloc, warehouse, kind, label.as_slice(), body),
@@ -124,7 +122,7 @@ fn reply_to<T: Stream + Drop, S: Alter>(
     requires router { router.now ≡ spec.routes }
     requires within { IsRequestWithin bytes.now fields.now spans }
     ensures limits { warehouse.new.limits ≡ warehouse.old.limits }
-    ensures replied { IsFaithful S.Store warehouse.new.store → (head : RequestHead) → IsHeadAt bytes.now fields.now spans head
+    ensures replied { (head : RequestHead) → IsHeadAt bytes.now fields.now spans head
         → (reads : List Outcome) × Reads T.reads stream reads result.1
         × IsReplied S.Store warehouse.old.limits (request_of warehouse.old.limits.bytes head) (drop spans.len bytes.now) reads
         result.0 warehouse.old.store warehouse.new.store }
@@ -157,9 +155,9 @@ fn serve<T: Stream + Drop, S: Alter>(
     requires router { router.now ≡ spec.routes }
     requires within { IsRequestWithin bytes.now fields.now spans }
     ensures limits { warehouse.new.limits ≡ warehouse.old.limits }
-    ensures responded { IsFaithful S.Store warehouse.new.store → (head : RequestHead) → IsHeadAt bytes.now fields.now spans head
-        → IsResponded S.Store warehouse.old.limits T.reads T.writes T.hears (request_of warehouse.old.limits.bytes head) (drop spans.len bytes.now)
-        result.0 stream result.1 warehouse.old.store warehouse.new.store }
+    ensures responded { (head : RequestHead) → IsHeadAt bytes.now fields.now spans head
+        → IsResponded S.Store warehouse.old.limits T.reads T.writes T.hears (request_of warehouse.old.limits.bytes head)
+        (drop spans.len bytes.now) result.0 stream result.1 warehouse.old.store warehouse.new.store }
 {
     let (reply, stream) = reply_to(alloc, router, warehouse, bytes, fields, spans, stream);
     let mut stream = stream;
@@ -179,8 +177,8 @@ pub fn answer<T: Stream + Drop, S: Alter>(
 ) -> (Exchange, T)
     requires router { router.now ≡ spec.routes }
     ensures limits { warehouse.new.limits ≡ warehouse.old.limits }
-    ensures exchanged { IsFaithful S.Store warehouse.new.store
-        → WasExchanged S.Store warehouse.old.limits T.reads T.writes T.hears result.0 stream result.1 warehouse.old.store warehouse.new.store }
+    ensures exchanged { WasExchanged S.Store warehouse.old.limits T.reads T.writes T.hears
+        result.0 stream result.1 warehouse.old.store warehouse.new.store }
 {
     let mut stream = stream;
     let mut buffer = [0u8; HEAD_LIMIT];

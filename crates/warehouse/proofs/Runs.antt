@@ -2,6 +2,7 @@
 use Rattle.std.proofs.Common.{◌≡◌, List, [], ◌∷◌, ◌++◌, length, arith, refl, sym, ap, subst, ◌∙◌, append-nil}
 use Rattle.sqlite_trees.specs.declared.store.Store.{Ghosts}
 use Rattle.sql_tables.proofs.Rows.{map-append}
+use Rattle.prof_store.specs.Shown.{IsFaithful}
 use Rattle.prof_store.specs.declared.store.Store.{Store}
 use Rattle.sources.specs.Outcomes.{Outcome}
 use Rattle.histories.specs.History.{History, Turn}
@@ -23,11 +24,11 @@ module _ {S R : Type 0} (g : Ghosts S) (reads : R → Outcome → R → Type 0) 
   pub run_nothing : (store : Store S) → WasRun g reads limits [] [] store store
   run_nothing store = record { turns = []; said = tt; answered = refl; links = refl; legal = λ h has. tt; after = λ h has. subst (λ l. HasHistory g l store) (sym (append-nil h)) has }
 
-  pub run_on : (list : List (commands.Command R)) (given : List Answer) (old mid new : Store S) → WasRun g reads limits list given old mid → (one : commands.Command R) (answer : Answer) → WasAnswered g reads limits one answer mid new
+  pub run_on : (list : List (commands.Command R)) (given : List Answer) (old mid new : Store S) → WasRun g reads limits list given old mid → (one : commands.Command R) (answer : Answer) → WasAnswered g reads limits one answer mid new → IsFaithful g new
       → WasRun g reads limits (list ++ one ∷ []) (given ++ answer ∷ []) old new
-  run_on list given old mid new w one answer is =
+  run_on list given old mid new w one answer is clean =
       let turn : Turn = record { said = is.said; answer = answer } in
-      let links = links_on g limits w.turns turn old mid new w.links is.answers in record {
+      let links = links_on g limits w.turns turn old mid new w.links (is.answers clean) in record {
         turns = w.turns ++ turn ∷ [];
         said = said_on reads list w.turns one turn w.said is.says;
         answered = map-append (λ (t : Turn). t.answer) w.turns (turn ∷ []) ∙ ap (λ l. l ++ answer ∷ []) w.answered;

@@ -1,6 +1,7 @@
 -- What commands say, and what a list of them is answered and leaves.
 use Rattle.std.specs.Prelude.{◌≡◌, map, List, [], ◌∷◌, ◌++◌}
 use Rattle.sqlite_trees.specs.declared.store.Store.{Ghosts}
+use Rattle.prof_store.specs.Shown.{IsFaithful}
 use Rattle.prof_store.specs.declared.store.Store.{Store}
 use Rattle.sources.specs.Outcomes.{Outcome}
 use Rattle.histories.specs.History.{History, Said, Turn, Import, Remove, Ask, Annotate}
@@ -34,11 +35,17 @@ module _ {R : Type 0} (reads : R → Outcome → R → Type 0) where
   AreSaid more later = ⊥
 
 module _ {S R : Type 0} (g : Ghosts S) (reads : R → Outcome → R → Type 0) where
-  -- a command was answered, whatever its source came to
+  -- a command was answered, whatever its source came to; that holds over every disk, and where the disk returned what was written, the answer is one of the history
   pub record WasAnswered (limits : Limits) (one : commands.Command R) (answer : Answer) (old new : Store S) : Type 0 where
     pub said : Said
     pub says : Says reads one said
-    pub answers : Answers g limits said answer old new
+    pub answers : IsFaithful g new → Answers g limits said answer old new
+
+  -- the same of a command that reads a source: the reads came to these outcomes, and left the source so
+  pub record WasAnsweredOver (limits : Limits) (said : List Outcome → Said) (source to : R) (answer : Answer) (old new : Store S) : Type 0 where
+    pub outcomes : List Outcome
+    pub came : Reads reads source outcomes to
+    pub answers : IsFaithful g new → Answers g limits (said outcomes) answer old new
 
   -- commands were run: each is a turn from the store that the one before left, and is given its answer; after a history that the store has, each answer is legal, and the store has the history with all turns
   pub record WasRun (limits : Limits) (list : List (commands.Command R)) (given : List Answer) (old new : Store S) : Type 0 where

@@ -1,11 +1,9 @@
 // Files are imported and sources annotated, each with its answer.
-ghost use Rattle.std.specs.Prelude.{List};
 ghost use Rattle.prof_tables.specs.Labels.{IsLabel};
 ghost use Rattle.prof_store.specs.Shown.{IsFaithful};
-ghost use Rattle.sources.specs.Outcomes.{Outcome};
 ghost use Rattle.histories.specs.History.{Annotate, Ask, Import};
 ghost use Rattle.store_histories.specs.Answered.{Answers, Asks};
-ghost use Rattle.sources.specs.Reads.{Reads};
+ghost use Rattle.warehouse.specs.Answered.{WasAnsweredOver};
 
 use crate::refusals::unread_answer;
 use cg_text::ListVec;
@@ -35,8 +33,7 @@ fn import_labelled<S: Alter, R: Source>(
     source: &mut R,
 ) -> Answer
     requires { IsLabel label.now }
-    ensures answered { IsFaithful S.Store store.new → (outcomes : List Outcome) × Reads R.reads source.old outcomes source.new
-        × Answers S.Store limits (Import kind label.now outcomes) result store.old store.new }
+    ensures answered { WasAnsweredOver S.Store R.reads limits (Import kind label.now) source.old source.new result store.old store.new }
 {
     match take_file(alloc, kind, limits.bytes, source) {
         Ok(taken) => answer_of(take_in(store, alloc, limits, kind, label, &taken)),
@@ -53,8 +50,7 @@ pub(crate) fn import_in<S: Alter, R: Source>(
     label: &[u8],
     source: &mut R,
 ) -> Answer
-    ensures answered { IsFaithful S.Store store.new → (outcomes : List Outcome) × Reads R.reads source.old outcomes source.new
-        × Answers S.Store limits (Import kind label.now outcomes) result store.old store.new }
+    ensures answered { WasAnsweredOver S.Store R.reads limits (Import kind label.now) source.old source.new result store.old store.new }
 {
     match label_of(label) {
         Some(label) => import_labelled(store, alloc, limits, kind, label, source),
@@ -117,8 +113,8 @@ pub(crate) fn annotate_in<S: Alter, R: Source>(
     file: ListVec<u8>,
     source: &mut R,
 ) -> Answer
-    ensures answered { (limits : _) → IsFaithful S.Store store.new → (outcomes : List Outcome) × Reads R.reads source.old outcomes source.new
-        × Answers S.Store limits (Annotate selection event file outcomes) result store.old store.new }
+    ensures answered { (limits : _)
+        → WasAnsweredOver S.Store R.reads limits (Annotate selection event file) source.old source.new result store.old store.new }
 {
     match read_whole(alloc, SOURCE_BYTES, source) {
         Ok(text) => {

@@ -1,11 +1,8 @@
 // Commands, one by one and in lists.
-ghost use Rattle.std.specs.Prelude.{◌≡◌, List, IfOk, OnErr};
+ghost use Rattle.std.specs.Prelude.{◌≡◌, IfOk, OnErr};
 ghost use Rattle.prof_store.specs.Shown.{IsFaithful};
-ghost use Rattle.sources.specs.Outcomes.{Outcome};
 ghost use Rattle.histories.specs.History.{Annotate, Import};
-ghost use Rattle.store_histories.specs.Answered.{Answers};
-ghost use Rattle.warehouse.specs.Answered.{WasAnswered, WasRun};
-ghost use Rattle.sources.specs.Reads.{Reads};
+ghost use Rattle.warehouse.specs.Answered.{WasAnswered, WasAnsweredOver, WasRun};
 
 use crate::answering::{annotate_in, ask_in, import_in};
 use crate::command::Command;
@@ -31,8 +28,8 @@ impl<S: Alter> Warehouse<S> {
         source: &mut R,
     ) -> Answer
         ensures limits { self.new.limits ≡ self.old.limits }
-        ensures answered { IsFaithful S.Store self.new.store → (outcomes : List Outcome) × Reads R.reads source.old outcomes source.new
-            × Answers S.Store self.old.limits (Import kind label.now outcomes) result self.old.store self.new.store }
+        ensures answered { WasAnsweredOver S.Store R.reads self.old.limits (Import kind label.now) source.old source.new
+            result self.old.store self.new.store }
     {
         import_in(&mut self.store, alloc, self.limits, kind, label, source)
     }
@@ -49,8 +46,8 @@ impl<S: Alter> Warehouse<S> {
         source: &mut R,
     ) -> Answer
         ensures limits { self.new.limits ≡ self.old.limits }
-        ensures answered { IsFaithful S.Store self.new.store → (outcomes : List Outcome) × Reads R.reads source.old outcomes source.new
-            × Answers S.Store self.old.limits (Annotate selection event file outcomes) result self.old.store self.new.store }
+        ensures answered { WasAnsweredOver S.Store R.reads self.old.limits (Annotate selection event file) source.old source.new
+            result self.old.store self.new.store }
     {
         annotate_in(&mut self.store, alloc, selection, event, file, source)
     }
@@ -58,7 +55,7 @@ impl<S: Alter> Warehouse<S> {
     /// Does what a command says, and answers it. A refused command changes nothing.
     pub fn apply<R: Source + Drop>(&mut self, alloc: Global, command: Command<R>) -> Answer
         ensures limits { self.new.limits ≡ self.old.limits }
-        ensures answered { IsFaithful S.Store self.new.store → WasAnswered S.Store R.reads self.old.limits command result self.old.store self.new.store }
+        ensures answered { WasAnswered S.Store R.reads self.old.limits command result self.old.store self.new.store }
     {
         let store = &mut self.store;
         match command {

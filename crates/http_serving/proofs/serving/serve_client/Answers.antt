@@ -10,5 +10,5 @@ returns-clause-served g c clean =
     let limits = c.args.warehouse.now.limits in
     let old = c.args.warehouse.now.store in
     let new = c.answer-exchange.new.warehouse.store in
-    let turned = exchange_turned g.S.Store limits _ _ _ c.answer-exchange.result.0 _ _ old new (c.answer-exchange.ensures.exchanged clean) in
+    let turned = exchange_turned g.S.Store limits _ _ _ c.answer-exchange.result.0 _ _ old new c.answer-exchange.ensures.exchanged clean in
     served_by g.S.Store limits turned.0 old new turned.1

@@ -6,7 +6,7 @@ use Rattle.prof_http.proofs.Heads.{begins_at}
 use Rattle.prof_http.proofs.exchange.answer.Goals as goal
 
 pub returns-in-Ok-clause-exchanged : goal.returns-in-Ok-clause-exchanged
-returns-in-Ok-clause-exchanged g c clean =
+returns-in-Ok-clause-exchanged g c =
     let came = c.in-Ok.ensures in
     let got = came.2 in
     let spans = c.in-Ok.spans in
@@ -27,5 +27,5 @@ returns-in-Ok-clause-exchanged g c clean =
       begins = subst (λ b. BeginsWith b head (drop spans.len front)) (sym got.held) (begins_at front fields spans head short found.0 found.2);
       told = c.head_came.new.self;
       heard = c.head_came.ensures;
-      responded = c.serve.ensures.responded clean head found.2;
+      responded = c.serve.ensures.responded head found.2;
     })

@@ -11,7 +11,7 @@ use Rattle.warehouse.proofs.answering.annotate_in.Goals as goal
 
 pub returns-in-Ok : goal.returns-in-Ok
 returns-in-Ok g c = record {
-  answered = λ limits clean.
+  answered = λ limits.
       let read = c.in-Ok.ensures in
       let bytes = bytes_of read.outcomes in
       let ended = read.read.0 in
@@ -19,24 +19,27 @@ returns-in-Ok g c = record {
       let said = Annotate s c.args.event c.args.file read.outcomes in
       let query = queries.Annotate s c.args.event c.args.file bytes in
       let text : c.from_vec-text.result ≡ bytes = c.from_vec-text.ensures ∙ read.read.1 in
-      let asked = subst (λ t. WasAsked g.S.Store (queries.Annotate s c.args.event c.args.file t) c.annotate_answer.result c.args.store.now c.annotate_answer.new.store) text (c.annotate_answer.ensures clean) in (
-        read.outcomes,
-        read.came,
-        subst (λ a. Answers g.S.Store limits said a c.args.store.now c.annotate_answer.new.store) (sym c.answer_of.ensures)
-            (answered_as g.S.Store limits query said tt (λ h. ended_due most_of_source read.outcomes (expected_of_query h query) ended.reads.within ended.reads.unfailed ended.ended)
-            c.args.store.now c.annotate_answer.new.store c.annotate_answer.result asked),
-      );
+      record {
+        outcomes = read.outcomes;
+        came = read.came;
+        answers = λ clean.
+            let asked = subst (λ t. WasAsked g.S.Store (queries.Annotate s c.args.event c.args.file t) c.annotate_answer.result c.args.store.now c.annotate_answer.new.store) text (c.annotate_answer.ensures clean) in
+            subst (λ a. Answers g.S.Store limits said a c.args.store.now c.annotate_answer.new.store) (sym c.answer_of.ensures)
+                (answered_as g.S.Store limits query said tt (λ h. ended_due most_of_source read.outcomes (expected_of_query h query) ended.reads.within ended.reads.unfailed ended.ended)
+                c.args.store.now c.annotate_answer.new.store c.annotate_answer.result asked);
+      };
 }
 
 pub returns : goal.returns
 returns g c = record {
-  answered = λ limits clean.
+  answered = λ limits.
       let read = c.in-Err.ensures in
       let s = c.args.selection in
-      let said = Annotate s c.args.event c.args.file read.outcomes in (
-        read.outcomes,
-        read.came,
-        subst (λ a. Answers g.S.Store limits said a c.args.store.now c.args.store.now) (sym c.unread_answer.ensures)
-            (unread_answered limits said tt most_of_source read.outcomes (λ h. expected_of_query h (queries.Annotate s c.args.event c.args.file (bytes_of read.outcomes))) (λ h. refl) g.S.Store c.args.store.now clean c.in-Err.unread read.read),
-      );
+      let said = Annotate s c.args.event c.args.file read.outcomes in
+      record {
+        outcomes = read.outcomes;
+        came = read.came;
+        answers = λ clean. subst (λ a. Answers g.S.Store limits said a c.args.store.now c.args.store.now) (sym c.unread_answer.ensures)
+            (unread_answered limits said tt most_of_source read.outcomes (λ h. expected_of_query h (queries.Annotate s c.args.event c.args.file (bytes_of read.outcomes))) (λ h. refl) g.S.Store c.args.store.now clean c.in-Err.unread read.read);
+      };
 }

@@ -11,14 +11,15 @@ use Rattle.warehouse.proofs.answering.import_in.Goals as goal
 
 pub returns-in-None : goal.returns-in-None
 returns-in-None g c = record {
-  answered = λ clean.
+  answered =
       let limits = c.args.limits in
-      let said = Import c.args.kind c.args.label.now [] in (
-        [],
-        refl,
-        record {
+      let said = Import c.args.kind c.args.label.now [] in
+      record {
+        outcomes = [];
+        came = refl;
+        answers = λ clean. record {
           turned = changed_none schema_one TellsHistory (Follows limits said) (shown g.S.Store c.args.store.now) clean;
           answered = λ h has. untouched g.S.Store limits h said c.args.store.now has clean (Refused BadName) tt (bad_name limits h said c.in-None.ensures refl);
-        },
-      );
+        };
+      };
 }

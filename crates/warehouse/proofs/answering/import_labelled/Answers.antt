@@ -9,28 +9,31 @@ use Rattle.warehouse.proofs.answering.import_labelled.Goals as goal
 
 pub returns-in-Ok : goal.returns-in-Ok
 returns-in-Ok g c = record {
-  answered = λ clean.
+  answered =
       let limits = c.args.limits in
       let read = c.in-Ok.ensures in
       let said = Import c.args.kind c.args.label.now read.outcomes in
-      let turned = c.take_in.ensures.turns read.outcomes read.read.0 read.read.1 clean in (
-        read.outcomes,
-        read.came,
-        subst (λ a. Answers g.S.Store limits said a c.args.store.now c.take_in.new.store) (sym c.answer_of.ensures) (record {
-          turned = turns_answer limits said c.take_in.result _ _ turned;
-          answered = λ h has. settled g.S.Store limits h said c.args.store.now c.take_in.new.store has c.take_in.result (c.utf8.label, c.requires) (λ s. c.take_in.ensures.answered clean h read.outcomes s read.read.0 read.read.1) turned;
-        }),
-      );
+      record {
+        outcomes = read.outcomes;
+        came = read.came;
+        answers = λ clean.
+            let turned = c.take_in.ensures.turns read.outcomes read.read.0 read.read.1 clean in
+            subst (λ a. Answers g.S.Store limits said a c.args.store.now c.take_in.new.store) (sym c.answer_of.ensures) (record {
+              turned = turns_answer limits said c.take_in.result _ _ turned;
+              answered = λ h has. settled g.S.Store limits h said c.args.store.now c.take_in.new.store has c.take_in.result (c.utf8.label, c.requires) (λ s. c.take_in.ensures.answered clean h read.outcomes s read.read.0 read.read.1) turned;
+            });
+      };
 }
 
 pub returns-in-Err : goal.returns-in-Err
 returns-in-Err g c = record {
-  answered = λ clean.
+  answered =
       let limits = c.args.limits in
       let read = c.in-Err.ensures in
-      let said = Import c.args.kind c.args.label.now read.outcomes in (
-        read.outcomes,
-        read.came,
-        subst (λ a. Answers g.S.Store limits said a c.args.store.now c.args.store.now) (sym c.unread_answer.ensures) (unread_answered limits said (c.utf8.label, c.requires) limits.bytes read.outcomes (λ h. file_due limits h c.args.kind (bytes_of read.outcomes)) (λ h. refl) g.S.Store c.args.store.now clean c.in-Err.unread read.read),
-      );
+      let said = Import c.args.kind c.args.label.now read.outcomes in
+      record {
+        outcomes = read.outcomes;
+        came = read.came;
+        answers = λ clean. subst (λ a. Answers g.S.Store limits said a c.args.store.now c.args.store.now) (sym c.unread_answer.ensures) (unread_answered limits said (c.utf8.label, c.requires) limits.bytes read.outcomes (λ h. file_due limits h c.args.kind (bytes_of read.outcomes)) (λ h. refl) g.S.Store c.args.store.now clean c.in-Err.unread read.read);
+      };
 }

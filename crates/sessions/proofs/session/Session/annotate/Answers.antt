@@ -20,13 +20,13 @@ returns-clause-answered g c clean =
     let new = c.tell.new.self in
     let same = c.tell.ensures.warehouse in
     let early = subst (λ w. IsFaithful g.S.Store w.store) same clean in
-    let it = c.annotate-answer.ensures.answered early in
-    let outcomes = it.0 in
+    let it = c.annotate-answer.ensures.answered in
+    let outcomes = it.outcomes in
     let asked = c.in-Ok.asked in
     let said = Annotate asked.selection asked.event asked.file outcomes in (
       outcomes,
-      were_read g.R.File.Read.remaining _ _ outcomes c.new-source.ensures it.1,
+      were_read g.R.File.Read.remaining _ _ outcomes c.new-source.ensures it.came,
       subst (λ a. WasTold g.S.Store g.W.Write.contents (Annotate a.selection a.event a.file outcomes) c.tell.result old new) c.in-Ok.ensures
           (told g.S.Store g.W.Write.contents said c.annotate-answer.result c.tell.result old new
-          (subst (λ w. Answers g.S.Store old.warehouse.limits said c.annotate-answer.result old.warehouse.store w.store) (sym same) it.2) c.tell.ensures.status c.tell.ensures.printed),
+          (subst (λ w. Answers g.S.Store old.warehouse.limits said c.annotate-answer.result old.warehouse.store w.store) (sym same) (it.answers early)) c.tell.ensures.status c.tell.ensures.printed),
     )

@@ -10,9 +10,9 @@ returns-clause-answered g c clean =
     let new = c.tell.new.self in
     let same = c.tell.ensures.warehouse in
     let early = subst (λ w. IsFaithful g.S.Store w.store) same clean in
-    let it = c.apply-answer.ensures.answered early in (
+    let it = c.apply-answer.ensures.answered in (
       it.said,
       it.says,
       told g.S.Store g.W.Write.contents it.said c.apply-answer.result c.tell.result old new
-          (subst (λ w. Answers g.S.Store old.warehouse.limits it.said c.apply-answer.result old.warehouse.store w.store) (sym same) it.answers) c.tell.ensures.status c.tell.ensures.printed,
+          (subst (λ w. Answers g.S.Store old.warehouse.limits it.said c.apply-answer.result old.warehouse.store w.store) (sym same) (it.answers early)) c.tell.ensures.status c.tell.ensures.printed,
     )

@@ -5,35 +5,41 @@ use Rattle.warehouse.specs.Answered.{Says}
 use Rattle.warehouse.proofs.warehouse.Warehouse.apply.Goals as goal
 
 pub returns-in-Import-clause-answered : goal.returns-in-Import-clause-answered
-returns-in-Import-clause-answered g c clean =
-    let it = c.import_in.ensures.answered clean in
-    let said = Import c.in-Import.kind c.as_slice.result.now it.0 in
-    record { said = said; says = subst (λ k. Says g.R.Source.reads k said) (sym c.in-Import.is) (it.0, c.import_in.new.source, it.1, ap (λ l. Import c.in-Import.kind l it.0) c.as_slice.ensures.value); answers = it.2 }
+returns-in-Import-clause-answered g c =
+    let it = c.import_in.ensures.answered in
+    let said = Import c.in-Import.kind c.as_slice.result.now it.outcomes in record {
+      said = said;
+      says = subst (λ k. Says g.R.Source.reads k said) (sym c.in-Import.is) (it.outcomes, c.import_in.new.source, it.came, ap (λ l. Import c.in-Import.kind l it.outcomes) c.as_slice.ensures.value);
+      answers = it.answers;
+    }
 
 pub returns-in-Remove-clause-answered : goal.returns-in-Remove-clause-answered
-returns-in-Remove-clause-answered g c clean = record {
+returns-in-Remove-clause-answered g c = record {
   said = Remove c.in-Remove.number;
   says = subst (λ k. Says g.R.Source.reads k (Remove c.in-Remove.number)) (sym c.in-Remove.is) refl;
-  answers = c.remove_in.ensures.answered c.args.self.now.limits clean;
+  answers = c.remove_in.ensures.answered c.args.self.now.limits;
 }
 
 pub returns-in-Group-clause-answered : goal.returns-in-Group-clause-answered
-returns-in-Group-clause-answered g c clean =
+returns-in-Group-clause-answered g c =
     let said = change_said c.in-Group.change c.as_slice-in-Group.result.now in record {
       said = said;
       says = subst (λ k. Says g.R.Source.reads k said) (sym c.in-Group.is) (ap (change_said c.in-Group.change) c.as_slice-in-Group.ensures.value);
-      answers = c.change_in.ensures.answered clean;
+      answers = c.change_in.ensures.answered;
     }
 
 pub returns-in-Ask-clause-answered : goal.returns-in-Ask-clause-answered
-returns-in-Ask-clause-answered g c clean = record {
+returns-in-Ask-clause-answered g c = record {
   said = Ask c.in-Ask.query;
   says = subst (λ k. Says g.R.Source.reads k (Ask c.in-Ask.query)) (sym c.in-Ask.is) refl;
-  answers = c.ask_in.ensures.answered c.args.self.now.limits clean;
+  answers = c.ask_in.ensures.answered c.args.self.now.limits;
 }
 
 pub returns-in-Annotate-clause-answered : goal.returns-in-Annotate-clause-answered
-returns-in-Annotate-clause-answered g c clean =
-    let it = c.annotate_in.ensures.answered c.args.self.now.limits clean in
-    let said = Annotate c.in-Annotate.selection c.in-Annotate.event c.in-Annotate.file it.0 in
-    record { said = said; says = subst (λ k. Says g.R.Source.reads k said) (sym c.in-Annotate.is) (it.0, c.annotate_in.new.source, it.1, refl); answers = it.2 }
+returns-in-Annotate-clause-answered g c =
+    let it = c.annotate_in.ensures.answered c.args.self.now.limits in
+    let said = Annotate c.in-Annotate.selection c.in-Annotate.event c.in-Annotate.file it.outcomes in record {
+      said = said;
+      says = subst (λ k. Says g.R.Source.reads k said) (sym c.in-Annotate.is) (it.outcomes, c.annotate_in.new.source, it.came, refl);
+      answers = it.answers;
+    }

@@ -26,12 +26,12 @@ commands-preserved g c =
         front ++ one ∷ [],
         i.4.1 ∙ ap (λ l. front ++ l) c.in-Some.ensures.items ∙ sym (append_assoc front (one ∷ []) rest),
         λ clean.
-            let it = c.apply-answer.ensures.answered clean in
-            let w = i.4.2 it.answers.turned.stays.was_clean in
+            let it = c.apply-answer.ensures.answered in
+            let w = i.4.2 (it.answers clean).turned.stays.was_clean in
             let limits = c.args.self.now.limits in
             let answered = subst (λ x. WasAnswered g.S.Store g.R.Source.reads x one c.apply-answer.result c.commands.self.store c.apply-answer.new.self.store) i.0 it in
             subst (λ l. WasRun g.S.Store g.R.Source.reads limits (front ++ one ∷ []) l c.args.self.now.store c.apply-answer.new.self.store) (sym c.push_reserved.ensures.items)
-            (run_on g.S.Store g.R.Source.reads limits front c.commands.answers.items c.args.self.now.store c.commands.self.store c.apply-answer.new.self.store w one c.apply-answer.result answered),
+            (run_on g.S.Store g.R.Source.reads limits front c.commands.answers.items c.args.self.now.store c.commands.self.store c.apply-answer.new.self.store w one c.apply-answer.result answered clean),
       ),
     )
 
