@@ -26,19 +26,11 @@ use Rattle.histories.proofs.Tests.{any-append, bytes-self}
 use Rattle.store_reports.specs.Compared.{AnswersDifference, AreCompared}
 use Rattle.selected_runs.specs.Counted.{AreCounted, has_counts}
 use Rattle.selected_runs.specs.Selected.{AreSelected}
+use Rattle.selected_runs.proofs.AnyLemmas.{any_of}
 use Rattle.selected_runs.proofs.RunLemmas.{runs_cost, runs_have_event}
 use Rattle.selected_runs.proofs.SelectLemmas.{group_there}
 
 -- ---- the baseline of a group
-
-pub any_of : {X : Type 0} (p : X → Bool) (xs : List X) (x : X) → Has xs x → p x ≡ true → list_any p xs ≡ true
-any_of p [] x there is = absurd there
-any_of p (y ∷ xs) x (inl same) is = ap (λ z. p z || list_any p xs) (sym same) ∙ ap (λ b. b || list_any p xs) is
-any_of p (y ∷ xs) x (inr later) is = ap (λ b. p y || b) (any_of p xs x later is) ∙ or_true (p y)
-  where
-    or_true : (b : Bool) → b || true ≡ true
-    or_true true = refl
-    or_true false = refl
 
 -- the group of the text has the name, and its line tells the baseline
 group_baseline : (h : History) (t : Tables) (name text : List ℕ) (base : Option ℕ) → TablesTell h t → (IsGroupName name → text ≡ name) → (text ≡ name) ⊎ (text ≡ []) → IsBaselineOf text t base
