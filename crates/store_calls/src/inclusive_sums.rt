@@ -5,7 +5,7 @@ use cost_reports::InclusiveSums;
 use cost_rows::{ArcRow, CellRow, StackRow};
 use held_runs::{TakesCalls, TakesCells, TakesStacks};
 use prof_store::StoreError;
-use selected_runs::{cost_within, is_within, times_of};
+use selected_runs::{is_within, weighted_within};
 
 /// Inclusive costs, and how often each column of the run that is read counts in the event.
 #[derive(Drop)]
@@ -26,21 +26,13 @@ impl TakesCells for InclusiveRows<'_> {
     ghost step = { with_own_row };
 
     fn take(&mut self, row: &CellRow<&[u8]>) -> Result<(), StoreError> {
-        let times = times_of(self.counts, row.event);
-        let Some(cost) = cost_within(self.sums.sum(), times, row.cost) else {
+        let Some(cell) = weighted_within(self.sums.sum(), self.counts, row) else {
             return Err(StoreError::Store);
         };
-        if !is_within(self.sums.total(), cost) {
+        if !is_within(self.sums.total(), cell.cost) {
             return Err(StoreError::Store);
         }
-        self.sums.add_own(&CellRow {
-            object: row.object,
-            file: row.file,
-            function: row.function,
-            line: row.line,
-            event: 0,
-            cost,
-        })?;
+        self.sums.add_own(&cell)?;
         Ok(())
     }
 }
