@@ -1,3 +1,4 @@
+pub mod AnyLemmas
 pub mod AskLemmas
 mod CountedLemmas
 pub mod EventLemmas

@@ -1,6 +1,10 @@
 // What rows cost in the event that is asked. Tables that another program filled may say anything, so each
 // sum is compared with its bound.
 ghost use Rattle.std.specs.Prelude.{◌≡◌, ◌+◌, ◌*◌, ◌<◌, ◌^◌, IfSome, IsTrue, slice_index};
+ghost use Rattle.cost_rows.specs.Plain.{plain_cell};
+ghost use Rattle.cost_reports.specs.Costs.{weighted};
+
+use cost_rows::CellRow;
 
 /// The greatest sum of a report, and one more.
 const TOO_MUCH: u128 = 1 << 112;
@@ -25,8 +29,29 @@ pub fn cost_within(before: u128, times: u64, cost: u128) -> Option<u128>
 }
 
 /// How often a column counts.
-pub fn times_of(counts: &[u64], column: usize) -> u64
+fn times_of(counts: &[u64], column: usize) -> u64
     ensures { result ≡ slice_index counts.now column }
 {
     counts.get(column).copied().unwrap_or(0)
+}
+
+/// A row as it counts in the event, its cost as often as its column counts, where that and the costs before it
+/// stay within the bound.
+pub fn weighted_within<'a>(
+    before: u128,
+    counts: &[u64],
+    row: &CellRow<&'a [u8]>,
+) -> Option<CellRow<&'a [u8]>>
+    ensures row { IfSome result (λ cell. plain_cell cell ≡ weighted counts.now (plain_cell row.now)) }
+    ensures small { IfSome result (λ cell. before + cell.cost < 2 ^ 112) }
+{
+    let cost = cost_within(before, times_of(counts, row.event), row.cost)?;
+    Some(CellRow {
+        object: row.object,
+        file: row.file,
+        function: row.function,
+        line: row.line,
+        event: 0,
+        cost,
+    })
 }

@@ -12,7 +12,7 @@ mod runs_asked;
 // Finds the runs of a selection (specs/Selected.antt).
 mod selecting;
 
-pub use bounds::{cost_within, is_within, times_of};
+pub use bounds::{cost_within, is_within, weighted_within};
 pub use counting::{Counted, count_runs};
 pub use laws::{heads_are_told, runs_cost_what_files_cost};
 pub use runs_asked::{EventRuns, event_runs, have_event};

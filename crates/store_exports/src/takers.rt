@@ -5,7 +5,7 @@ use cost_exports::{CellSums, LineSums, StackSums};
 use cost_rows::{CellRow, StackRow};
 use held_runs::{TakesCells, TakesStacks};
 use prof_store::StoreError;
-use selected_runs::{cost_within, is_within, times_of};
+use selected_runs::{is_within, weighted_within};
 
 /// What the lines of a file cost, and how often each column of the run that is read counts in the event.
 #[derive(Drop)]
@@ -26,18 +26,10 @@ impl TakesCells for LineRows<'_> {
     ghost step = { λ m row. (m.0, with_line m.1 (weighted m.0 row)) };
 
     fn take(&mut self, row: &CellRow<&[u8]>) -> Result<(), StoreError> {
-        let times = times_of(self.counts, row.event);
-        let Some(cost) = cost_within(self.sums.total(), times, row.cost) else {
+        let Some(cell) = weighted_within(self.sums.total(), self.counts, row) else {
             return Err(StoreError::Store);
         };
-        self.sums.add(&CellRow {
-            object: row.object,
-            file: row.file,
-            function: row.function,
-            line: row.line,
-            event: 0,
-            cost,
-        })?;
+        self.sums.add(&cell)?;
         Ok(())
     }
 }

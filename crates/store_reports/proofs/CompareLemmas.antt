@@ -1,8 +1,7 @@
 -- Selections that are compared, and the answers over them.
-use Rattle.std.proofs.Common.{◌≡◌, ◌⊎◌, ℕ, Bool, true, false, not, ◌||◌, if◌then◌else◌, List, [], ◌∷◌, ◌++◌, Option, Some, None, option_map, Result, Ok, Err, inl, inr, refl, sym, ap, ap₂, subst, ◌∙◌}
+use Rattle.std.proofs.Common.{◌≡◌, ◌⊎◌, ℕ, Bool, true, false, not, ◌||◌, if◌then◌else◌, List, [], ◌∷◌, ◌++◌, Option, Some, None, option_map, Result, Ok, Err, refl, sym, ap, ap₂, subst, ◌∙◌}
 use Rattle.std.specs.List.{list_any}
 use Rattle.std.specs.Str.{bytes_eq}
-use Rattle.sqlite_rules.specs.Lists.{Has}
 use Rattle.cost_rows.specs.declared.keys.Key.{Key}
 use Rattle.cost_reports.specs.Differences.{difference_of, difference_text}
 use Rattle.prof_tables.specs.Changes as tables
@@ -26,19 +25,11 @@ use Rattle.histories.proofs.Tests.{any-append, bytes-self}
 use Rattle.store_reports.specs.Compared.{AnswersDifference, AreCompared}
 use Rattle.selected_runs.specs.Counted.{AreCounted, has_counts}
 use Rattle.selected_runs.specs.Selected.{AreSelected}
+use Rattle.selected_runs.proofs.AnyLemmas.{any_of}
 use Rattle.selected_runs.proofs.RunLemmas.{runs_cost, runs_have_event}
 use Rattle.selected_runs.proofs.SelectLemmas.{group_there}
 
 -- ---- the baseline of a group
-
-pub any_of : {X : Type 0} (p : X → Bool) (xs : List X) (x : X) → Has xs x → p x ≡ true → list_any p xs ≡ true
-any_of p [] x there is = absurd there
-any_of p (y ∷ xs) x (inl same) is = ap (λ z. p z || list_any p xs) (sym same) ∙ ap (λ b. b || list_any p xs) is
-any_of p (y ∷ xs) x (inr later) is = ap (λ b. p y || b) (any_of p xs x later is) ∙ or_true (p y)
-  where
-    or_true : (b : Bool) → b || true ≡ true
-    or_true true = refl
-    or_true false = refl
 
 -- the group of the text has the name, and its line tells the baseline
 group_baseline : (h : History) (t : Tables) (name text : List ℕ) (base : Option ℕ) → TablesTell h t → (IsGroupName name → text ≡ name) → (text ≡ name) ⊎ (text ≡ []) → IsBaselineOf text t base

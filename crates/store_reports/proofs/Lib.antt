@@ -1,8 +1,4 @@
 mod ByLemmas
 mod CheckLemmas
 mod CompareLemmas
-mod FunctionLemmas
-mod InclusiveLemmas
-mod KindLemmas
 mod MergeLemmas
-mod WeightLemmas

@@ -2,7 +2,7 @@
 use cost_rows::{CellRow, Merged};
 use held_runs::TakesCells;
 use prof_store::StoreError;
-use selected_runs::{cost_within, times_of};
+use selected_runs::weighted_within;
 
 /// Sums by key, and how often each column of the run that is read counts in the event.
 #[derive(Drop)]
@@ -23,18 +23,10 @@ impl TakesCells for EventSums<'_> {
     ghost step = { λ m row. (m.0, with_row m.1 (weighted m.0 row)) };
 
     fn take(&mut self, row: &CellRow<&[u8]>) -> Result<(), StoreError> {
-        let times = times_of(self.counts, row.event);
-        let Some(cost) = cost_within(self.merged.total(), times, row.cost) else {
+        let Some(cell) = weighted_within(self.merged.total(), self.counts, row) else {
             return Err(StoreError::Store);
         };
-        self.merged.add(&CellRow {
-            object: row.object,
-            file: row.file,
-            function: row.function,
-            line: row.line,
-            event: 0,
-            cost,
-        })?;
+        self.merged.add(&cell)?;
         Ok(())
     }
 }

@@ -15,10 +15,11 @@ use run_imports::{label_of, take_in};
 use sources::{Source, read_whole};
 use sqlite::Alter;
 use std::alloc::Global;
+use store_calls::{calls_answer, inclusive_answer};
 use store_commands::{groups_answer, runs_answer};
 use store_exports::{annotate_answer, csv_answer, folded_answer};
 use store_histories::answer_of;
-use store_reports::{by_answer, calls_answer, inclusive_answer, subtract_answer, verify_answer};
+use store_reports::{by_answer, subtract_answer, verify_answer};
 
 /// How many bytes a source that is annotated may have.
 const SOURCE_BYTES: u64 = 16_777_216;

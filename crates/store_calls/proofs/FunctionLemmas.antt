@@ -1,0 +1,395 @@
+-- The calls of a function over runs are those of the files of a selection, and so is whether it is known.
+use Rattle.std.proofs.Common.{◌≡◌, ℕ, zero, suc, ◌+◌, ◌<◌, Bool, true, false, not, ◌&&◌, ◌||◌, ◌==◌, nat_lt, if◌then◌else◌, List, [], ◌∷◌, ◌++◌, map, fold, length, get_or, take, slice_index, Option, Some, None, Ok, Err, refl, sym, ap, ap₂, subst, ◌∙◌, arith}
+use Rattle.std.specs.Prelude.{unwrap_or}
+use Rattle.std.specs.List.{list_any, AllByRecursion}
+use Rattle.std.proofs.lemmas.Bool.Decides.{nat_tests}
+use Rattle.std.proofs.lemmas.Grind.{fold-append}
+use Rattle.std.proofs.lemmas.List.{take_more}
+use Rattle.sqlite_rules.specs.Lists.{Has}
+use Rattle.cost_rows.specs.Keys.{place_of_row}
+use Rattle.cost_rows.specs.StackSums.{frames_sum}
+use Rattle.cost_rows.specs.Sums.{Spot, callee_spot, has_call, own_sum, spot_of}
+use Rattle.cost_rows.specs.WalkSums.{has_calls, rows_cost, stacks_count}
+use Rattle.cost_rows.specs.Walks.{HaveCosts, HaveCounts}
+use Rattle.cost_rows.specs.declared.rows.ArcRow.{ArcRow}
+use Rattle.cost_rows.specs.declared.rows.CellRow.{CellRow}
+use Rattle.cost_rows.specs.declared.rows.StackRow.{StackRow}
+use Rattle.cost_reports.specs.Calls.{Calls, CallsStandForEach, EventArcs, all_arcs, all_calls, call_report_of, call_report_text, calls_by, weighted_calls, with_calls}
+use Rattle.cost_reports.specs.Functions.{function_spot, is_one_function}
+use Rattle.cost_reports.specs.Inclusive.{is_frame}
+use Rattle.cost_reports.specs.declared.call_sides.CallSide.{CallSide}
+use Rattle.cost_reports.proofs.AddedLemmas.{calls_come_to}
+use Rattle.cost_reports.proofs.CallCostLemmas.{calls_are_records}
+use Rattle.prof_books.specs.Book.{cells_held, stacks_held}
+use Rattle.prof_tables.specs.Tables.{Tables}
+use Rattle.profile_records.specs.Records.{Record, Own, Called}
+use Rattle.profile_records.specs.Stacks.{Seen}
+use Rattle.held_runs.specs.HandedCalls.{AreCallsOf}
+use Rattle.histories.specs.Files.{records_of, stacks_of}
+use Rattle.histories.specs.History.{History, File, held}
+use Rattle.histories.specs.Legal.{expected_of_query, first_or, no_name, when}
+use Rattle.histories.specs.Reports.{calls_text, event_records, is_seen_in, knows, tells_of}
+use Rattle.histories.specs.Selections.{selected}
+use Rattle.histories.specs.Stands.{TablesTell}
+use Rattle.histories.specs.Told.{CallsCome}
+use Rattle.histories.specs.declared.answers.Answer.{Answer}
+use Rattle.histories.specs.declared.answers.Answer.TheVariants.{Text, Refused}
+use Rattle.histories.specs.declared.answers.Query.TheVariants as queries
+use Rattle.histories.specs.declared.answers.Refusal.{Refusal}
+use Rattle.histories.specs.declared.answers.Refusal.TheVariants.{NoSuchName}
+use Rattle.histories.specs.declared.answers.Selection.{Selection}
+use Rattle.histories.proofs.Runs.{tells_rows}
+use Rattle.histories.proofs.Tests.{any-append}
+use Rattle.selected_runs.specs.EventRuns.{AreEventRuns}
+use Rattle.store_calls.specs.FunctionCalls.{AreArcsOf, AreTakenFrom, IsCallsText, IsTakenFrom, Taken, is_in_cells, is_in_rows, is_in_stacks, not_taken, text_taken, touches, with_call, with_cell_sought, with_row_of_calls, with_stack_sought}
+use Rattle.selected_runs.specs.declared.counting.Counted.{Counted}
+use Rattle.selected_runs.proofs.EventLemmas.{both_held}
+use Rattle.selected_runs.proofs.RunLemmas.{AreRunsOf, are_runs, selected_held}
+
+-- ---- rows, taken one after another
+
+pub calls_taken : (counts : List ℕ) (m : Taken) (arcs : List (ArcRow (List ℕ) (List ℕ))) → fold with_row_of_calls (counts, m) arcs ≡ (counts, fold with_call m (map (weighted_calls counts) arcs))
+calls_taken counts m [] = refl
+calls_taken counts m (arc ∷ arcs) = calls_taken counts (with_call m (weighted_calls counts arc)) arcs
+
+or_then : (a b c : Bool) → (a || b) || c ≡ a || (b || c)
+or_then true b c = refl
+or_then false b c = refl
+
+or_none : (a : Bool) → a ≡ a || false
+or_none true = refl
+or_none false = refl
+
+pub cells_sought : (f : Spot) (b : Bool) (cells : List (CellRow (List ℕ))) → fold with_cell_sought (f, b) cells ≡ (f, b || is_in_cells f cells)
+cells_sought f b [] = ap (λ a. (f, a)) (or_none b)
+cells_sought f b (r ∷ cells) =
+    let here = is_one_function (place_of_row r) f in
+    cells_sought f (b || here) cells ∙ ap (λ a. (f, a)) (or_then b here (is_in_cells f cells))
+
+pub stacks_sought : (f : Spot) (b : Bool) (stacks : List (StackRow (List ℕ))) → fold with_stack_sought (f, b) stacks ≡ (f, b || is_in_stacks f stacks)
+stacks_sought f b [] = ap (λ a. (f, a)) (or_none b)
+stacks_sought f b (r ∷ stacks) =
+    let here = is_frame f r.stack in
+    stacks_sought f (b || here) stacks ∙ ap (λ a. (f, a)) (or_then b here (is_in_stacks f stacks))
+
+-- ---- runs, one after another
+
+arcs_more : (t : Tables) (runs : List Counted) (run : Counted) (rows : List EventArcs) (r : EventArcs) → AreArcsOf runs t rows → r.coefs ≡ unwrap_or run.counts [] → AreCallsOf run.number t r.arcs
+    → AreArcsOf (runs ++ run ∷ []) t (rows ++ r ∷ [])
+arcs_more t [] run [] r all coefs are = (coefs, are, tt)
+arcs_more t [] run (q ∷ rows) r all coefs are = absurd all
+arcs_more t (q ∷ runs) run [] r all coefs are = absurd all
+arcs_more t (q ∷ runs) run (x ∷ rows) r all coefs are = (all.0, all.1, arcs_more t runs run rows r all.2 coefs are)
+
+all_more : (rows : List EventArcs) (r : EventArcs) → all_arcs (rows ++ r ∷ []) ≡ all_arcs rows ++ map (weighted_calls r.coefs) r.arcs
+all_more [] r = last_nil (map (weighted_calls r.coefs) r.arcs)
+  where
+    last_nil : (xs : List Calls) → xs ++ [] ≡ xs
+    last_nil [] = refl
+    last_nil (x ∷ xs) = ap (λ l. x ∷ l) (last_nil xs)
+all_more (q ∷ rows) r = ap (λ l. map (weighted_calls q.coefs) q.arcs ++ l) (all_more rows r) ∙ assoc (map (weighted_calls q.coefs) q.arcs) (all_arcs rows) (map (weighted_calls r.coefs) r.arcs)
+  where
+    assoc : (xs ys zs : List Calls) → xs ++ (ys ++ zs) ≡ (xs ++ ys) ++ zs
+    assoc [] ys zs = refl
+    assoc (x ∷ xs) ys zs = ap (λ l. x ∷ l) (assoc xs ys zs)
+
+pub taken_so_far : (t : Tables) (runs : List Counted) (at : ℕ) (d : Counted) (old mid new : Taken) → at < length runs → AreTakenFrom t (take at runs) old mid → IsTakenFrom t (get_or runs at d) mid new
+    → AreTakenFrom t (take (at + 1) runs) old new
+taken_so_far t runs at d old mid new low all one =
+    let run = get_or runs at d in
+    let r : EventArcs = record { coefs = unwrap_or run.counts []; arcs = one.0 } in (
+      all.0 ++ r ∷ [],
+      subst (λ rs. AreArcsOf rs t (all.0 ++ r ∷ [])) (sym (take_more runs at d low)) (arcs_more t (take at runs) run all.0 r all.1 refl one.1),
+      one.2 ∙ ap (λ m. fold with_call m (map (weighted_calls r.coefs) r.arcs)) all.2 ∙ sym (fold-append with_call old (all_arcs all.0) (map (weighted_calls r.coefs) r.arcs))
+          ∙ ap (fold with_call old) (sym (all_more all.0 r)),
+    )
+
+-- ---- what was taken
+
+taken_known : (m : Taken) (calls : List Calls) → (fold with_call m calls).known ≡ m.known || list_any (touches m.function) calls
+taken_known m [] = or_none m.known
+taken_known m (c ∷ calls) = taken_known (with_call m c) calls ∙ or_then m.known (touches m.function c) (list_any (touches m.function) calls)
+
+taken_calls : (m : Taken) (calls : List Calls) → (fold with_call m calls).calls ≡ fold with_calls m.calls calls
+taken_calls m [] = refl
+taken_calls m (c ∷ calls) = taken_calls (with_call m c) calls
+
+taken_function : (m : Taken) (calls : List Calls) → (fold with_call m calls).function ≡ m.function
+taken_function m [] = refl
+taken_function m (c ∷ calls) = taken_function (with_call m c) calls
+
+-- the text of what was taken is that of the calls
+pub text_of_taken : (t : Tables) (runs : List Counted) (side : CallSide) (f : Spot) (event : List ℕ) (all : Taken) (text : Option (List ℕ)) → AreTakenFrom t runs (not_taken side f) all
+    → text ≡ text_taken t runs event all → IsCallsText t runs side f event text
+text_of_taken t runs side f event all text from is =
+    let arcs = all_arcs from.0 in
+    let m = fold with_call (not_taken side f) arcs in (
+      from.0,
+      from.1,
+      is ∙ ap (text_taken t runs event) from.2
+          ∙ ap (λ g. if m.known || list_any (is_in_rows t g) runs then Some (call_report_text event (call_report_of m.calls)) else None) (taken_function (not_taken side f) arcs)
+          ∙ ap (λ b. if b || list_any (is_in_rows t f) runs then Some (call_report_text event (call_report_of m.calls)) else None) (taken_known (not_taken side f) arcs)
+          ∙ ap (λ calls. if list_any (touches f) arcs || list_any (is_in_rows t f) runs then Some (call_report_text event (call_report_of calls)) else None)
+          (taken_calls (not_taken side f) arcs ∙ calls_come_to side f arcs),
+    )
+
+-- ---- rows and records know the same functions
+
+same_tests : (a b : Bool) → (a ≡ true → b ≡ true) → (b ≡ true → a ≡ true) → a ≡ b
+same_tests true b one two = sym (one refl)
+same_tests false true one two = two refl
+same_tests false false one two = refl
+
+or_first : (a b : Bool) → a ≡ true → a || b ≡ true
+or_first true b is = refl
+or_first false b is = absurd cc
+
+or_second : (a b : Bool) → b ≡ true → a || b ≡ true
+or_second true b is = refl
+or_second false b is = is
+
+above_is : (n : ℕ) → 0 < n → nat_lt 0 n ≡ true
+above_is n low = grind (arith, nat_tests)
+
+is_above : (n : ℕ) → nat_lt 0 n ≡ true → 0 < n
+is_above n is = grind (arith, nat_tests)
+
+same_number : (n : ℕ) → (n == n) ≡ true
+same_number n = grind (arith, nat_tests)
+
+both_true : (a b : Bool) → a ≡ true → b ≡ true → a && b ≡ true
+both_true true b one two = two
+both_true false b one two = absurd cc
+
+first_true : (a b : Bool) → a && b ≡ true → a ≡ true
+first_true true b is = refl
+first_true false b is = is
+
+second_true : (a b : Bool) → a && b ≡ true → b ≡ true
+second_true true b is = is
+second_true false b is = absurd cc
+
+-- a cost above 0, and its column
+some_cost : (costs : List ℕ) → list_any (nat_lt 0) costs ≡ true → (k : ℕ) × (0 < slice_index costs k)
+some_cost [] is = absurd cc
+some_cost (cost ∷ costs) is = go (nat_lt 0 cost) refl is (some_cost costs)
+  where
+    go : (b : Bool) → nat_lt 0 cost ≡ b → b || list_any (nat_lt 0) costs ≡ true → (list_any (nat_lt 0) costs ≡ true → (k : ℕ) × (0 < slice_index costs k)) → (k : ℕ) × (0 < slice_index (cost ∷ costs) k)
+    go true here any rest = (0, is_above cost here)
+    go false here any rest = let later = rest any in (suc later.0, later.1)
+
+cost_there : (costs : List ℕ) (k : ℕ) → 0 < slice_index costs k → list_any (nat_lt 0) costs ≡ true
+cost_there [] k low = absurd (let n : ℕ = 0 in omega (arith, low))
+cost_there (cost ∷ costs) zero low = or_first (nat_lt 0 cost) (list_any (nat_lt 0) costs) (above_is cost low)
+cost_there (cost ∷ costs) (suc k) low = or_second (nat_lt 0 cost) (list_any (nat_lt 0) costs) (cost_there costs k low)
+
+module _ (f : Spot) where
+  abbrev of_f : Spot → Bool
+  of_f p = is_one_function p f
+
+  -- own records, apart from calls
+  abbrev own_tells : Record → Bool
+  own_tells (Own cost) = is_one_function (spot_of cost) f && list_any (nat_lt 0) cost.costs
+  own_tells (Called callee cost) = false
+
+  abbrev either : Spot → Spot → Bool
+  either p q = is_one_function p f || is_one_function q f
+
+  or_swap : (a b c : Bool) → a || (b || c) ≡ b || (a || c)
+  or_swap true true c = refl
+  or_swap true false c = refl
+  or_swap false b c = refl
+
+  apart : (records : List Record) → list_any (tells_of f) records ≡ has_call either records || list_any own_tells records
+  apart [] = refl
+  apart (Own cost ∷ records) = ap (λ b. own_tells (Own cost) || b) (apart records) ∙ or_swap (own_tells (Own cost)) (has_call either records) (list_any own_tells records)
+  apart (Called callee cost ∷ records) =
+      ap (λ b. either (spot_of cost) (callee_spot callee) || b) (apart records) ∙ sym (or_then (either (spot_of cost) (callee_spot callee)) (has_call either records) (list_any own_tells records))
+
+  own_positive : (k : ℕ) (records : List Record) → 0 < own_sum of_f k records → list_any own_tells records ≡ true
+  own_positive k [] low = absurd (omega (arith, low))
+  own_positive k (Own cost ∷ records) low = go (of_f (spot_of cost)) (slice_index cost.costs k) refl (cost_there cost.costs k) low (own_positive k records)
+    where
+      go : (b : Bool) (n : ℕ) → of_f (spot_of cost) ≡ b → (0 < n → list_any (nat_lt 0) cost.costs ≡ true) → 0 < (if b then n else 0) + own_sum of_f k records
+          → (0 < own_sum of_f k records → list_any own_tells records ≡ true) → (of_f (spot_of cost) && list_any (nat_lt 0) cost.costs) || list_any own_tells records ≡ true
+      go true zero here any low rest = or_second _ _ (rest (omega (arith, low)))
+      go true (suc n) here any low rest = or_first _ _ (both_true _ _ here (any (omega arith)))
+      go false n here any low rest = or_second _ _ (rest (omega (arith, low)))
+  own_positive k (Called callee cost ∷ records) low = own_positive k records low
+
+  own_there : (records : List Record) → list_any own_tells records ≡ true → (k : ℕ) × (0 < own_sum of_f k records)
+  own_there [] is = absurd cc
+  own_there (Own cost ∷ records) is = go (own_tells (Own cost)) refl is (own_there records)
+    where
+      go : (b : Bool) → own_tells (Own cost) ≡ b → b || list_any own_tells records ≡ true → (list_any own_tells records ≡ true → (k : ℕ) × (0 < own_sum of_f k records))
+          → (k : ℕ) × (0 < own_sum of_f k (Own cost ∷ records))
+      go true here any rest =
+          let column = some_cost cost.costs (second_true (of_f (spot_of cost)) (list_any (nat_lt 0) cost.costs) here) in
+          let at = first_true (of_f (spot_of cost)) (list_any (nat_lt 0) cost.costs) here in
+          let low = column.1 in
+          (column.0, subst (λ b. 0 < (if b then slice_index cost.costs column.0 else 0) + own_sum of_f column.0 records) (sym at) (omega (arith, low)))
+      go false here any rest = let later = rest any in let low = later.1 in (later.0, omega (arith, low))
+  own_there (Called callee cost ∷ records) is = own_there records is
+
+  cells_positive : (k : ℕ) (cells : List (CellRow (List ℕ))) → 0 < rows_cost of_f k cells → is_in_cells f cells ≡ true
+  cells_positive k [] low = absurd (omega (arith, low))
+  cells_positive k (r ∷ cells) low = go (of_f (place_of_row r)) (r.event == k) refl low (cells_positive k cells)
+    where
+      go : (a b : Bool) → of_f (place_of_row r) ≡ a → 0 < (if a && b then r.cost else 0) + rows_cost of_f k cells → (0 < rows_cost of_f k cells → is_in_cells f cells ≡ true)
+          → of_f (place_of_row r) || is_in_cells f cells ≡ true
+      go true b here low rest = or_first _ _ here
+      go false b here low rest = or_second _ _ (rest (omega (arith, low)))
+
+  cell_there : (cells : List (CellRow (List ℕ))) → HaveCosts cells → is_in_cells f cells ≡ true → (k : ℕ) × (0 < rows_cost of_f k cells)
+  cell_there [] above is = absurd cc
+  cell_there (r ∷ cells) above is = go (of_f (place_of_row r)) refl is (cell_there cells above.1)
+    where
+      low : 0 < r.cost
+      low = above.0
+
+      go : (b : Bool) → of_f (place_of_row r) ≡ b → b || is_in_cells f cells ≡ true → (is_in_cells f cells ≡ true → (k : ℕ) × (0 < rows_cost of_f k cells)) → (k : ℕ) × (0 < rows_cost of_f k (r ∷ cells))
+      go true here any rest = (r.event, subst (λ b. 0 < (if b then r.cost else 0) + rows_cost of_f r.event cells) (sym (both_true _ _ here (same_number r.event))) (omega (arith, low)))
+      go false here any rest = let later = rest any in let some = later.1 in (later.0, omega (arith, some))
+
+  cells_know : (cells : List (CellRow (List ℕ))) (records : List Record) → HaveCosts cells → ((passes : Spot → Bool) (k : ℕ) → rows_cost passes k cells ≡ own_sum passes k records)
+      → is_in_cells f cells ≡ list_any own_tells records
+  cells_know cells records above same = same_tests _ _
+      (λ is. let there = cell_there cells above is in own_positive there.0 records (subst (λ n. 0 < n) (same of_f there.0) there.1))
+      (λ is. let there = own_there records is in cells_positive there.0 cells (subst (λ n. 0 < n) (sym (same of_f there.0)) there.1))
+
+  stacks_positive : (stacks : List (StackRow (List ℕ))) → 0 < stacks_count (is_frame f) stacks → is_in_stacks f stacks ≡ true
+  stacks_positive [] low = absurd (omega (arith, low))
+  stacks_positive (r ∷ stacks) low = go (is_frame f r.stack) refl low (stacks_positive stacks)
+    where
+      go : (b : Bool) → is_frame f r.stack ≡ b → 0 < (if b then r.count else 0) + stacks_count (is_frame f) stacks → (0 < stacks_count (is_frame f) stacks → is_in_stacks f stacks ≡ true)
+          → is_frame f r.stack || is_in_stacks f stacks ≡ true
+      go true here low rest = or_first _ _ here
+      go false here low rest = or_second _ _ (rest (omega (arith, low)))
+
+  stack_there : (stacks : List (StackRow (List ℕ))) → HaveCounts stacks → is_in_stacks f stacks ≡ true → 0 < stacks_count (is_frame f) stacks
+  stack_there [] above is = absurd cc
+  stack_there (r ∷ stacks) above is = go (is_frame f r.stack) is (stack_there stacks above.1)
+    where
+      low : 0 < r.count
+      low = above.0
+
+      go : (b : Bool) → b || is_in_stacks f stacks ≡ true → (is_in_stacks f stacks ≡ true → 0 < stacks_count (is_frame f) stacks) → 0 < (if b then r.count else 0) + stacks_count (is_frame f) stacks
+      go true any rest = omega (arith, low)
+      go false any rest = let some = rest any in omega (arith, some)
+
+  seen_positive : (seen : List Seen) → 0 < frames_sum (is_frame f) seen → list_any (is_seen_in f) seen ≡ true
+  seen_positive [] low = absurd (omega (arith, low))
+  seen_positive (s ∷ seen) low = go (is_frame f s.stack.frames) s.stack.count refl refl low (seen_positive seen)
+    where
+      go : (b : Bool) (n : ℕ) → is_frame f s.stack.frames ≡ b → s.stack.count ≡ n → 0 < (if b then n else 0) + frames_sum (is_frame f) seen → (0 < frames_sum (is_frame f) seen → list_any (is_seen_in f) seen ≡ true)
+          → (nat_lt 0 s.stack.count && is_frame f s.stack.frames) || list_any (is_seen_in f) seen ≡ true
+      go true zero here count low rest = or_second _ _ (rest (omega (arith, low)))
+      go true (suc n) here count low rest = or_first _ _ (both_true _ _ (above_is s.stack.count (omega (arith, count))) here)
+      go false n here count low rest = or_second _ _ (rest (omega (arith, low)))
+
+  seen_there : (seen : List Seen) → list_any (is_seen_in f) seen ≡ true → 0 < frames_sum (is_frame f) seen
+  seen_there [] is = absurd cc
+  seen_there (s ∷ seen) is = go (is_seen_in f s) refl is (seen_there seen)
+    where
+      go : (b : Bool) → is_seen_in f s ≡ b → b || list_any (is_seen_in f) seen ≡ true → (list_any (is_seen_in f) seen ≡ true → 0 < frames_sum (is_frame f) seen) → 0 < frames_sum (is_frame f) (s ∷ seen)
+      go true here any rest =
+          let low = is_above s.stack.count (first_true _ (is_frame f s.stack.frames) here) in
+          let at = second_true (nat_lt 0 s.stack.count) (is_frame f s.stack.frames) here in
+          subst (λ b. 0 < (if b then s.stack.count else 0) + frames_sum (is_frame f) seen) (sym at) (omega (arith, low))
+      go false here any rest = let some = rest any in omega (arith, some)
+
+  stacks_know : (stacks : List (StackRow (List ℕ))) (seen : List Seen) → HaveCounts stacks → ((test : List ℕ → Bool) → stacks_count test stacks ≡ frames_sum test seen)
+      → is_in_stacks f stacks ≡ list_any (is_seen_in f) seen
+  stacks_know stacks seen above same = same_tests _ _
+      (λ is. seen_positive seen (subst (λ n. 0 < n) (same (is_frame f)) (stack_there stacks above is)))
+      (λ is. stacks_positive stacks (subst (λ n. 0 < n) (sym (same (is_frame f))) (seen_there seen is)))
+
+  calls_touch : (coefs : List ℕ) (arcs : List (ArcRow (List ℕ) (List ℕ))) → list_any (touches f) (map (weighted_calls coefs) arcs) ≡ has_calls either arcs
+  calls_touch coefs [] = refl
+  calls_touch coefs (a ∷ arcs) = ap (λ b. touches f (weighted_calls coefs a) || b) (calls_touch coefs arcs)
+
+  -- of one file
+  file_knows : (h : History) (t : Tables) (file : File) (coefs : List ℕ) (arcs : List (ArcRow (List ℕ) (List ℕ))) → TablesTell h t → Has (held h) file → AreCallsOf file.number t arcs
+      → list_any (touches f) (map (weighted_calls coefs) arcs) || (is_in_cells f (cells_held file.number t) || is_in_stacks f (stacks_held file.number t)) ≡ knows f file
+  file_knows h t file coefs arcs tell there are =
+      let told = tells_rows h t tell file there in
+      let records = records_of file.kind file.bytes in
+      ap₂ (λ a b. a || b) (calls_touch coefs arcs ∙ (told.calls arcs are).called either)
+      (ap₂ (λ a b. a || b) (cells_know (cells_held file.number t) records told.cells_above told.cells) (stacks_know (stacks_held file.number t) (stacks_of file.kind file.bytes) told.stacks_above told.stacks))
+      ∙ sym (or_then (has_call either records) (list_any own_tells records) (list_any (is_seen_in f) (stacks_of file.kind file.bytes)))
+      ∙ ap (λ b. b || list_any (is_seen_in f) (stacks_of file.kind file.bytes)) (sym (apart records))
+
+  shuffled : (a b c d : Bool) → (a || b) || (c || d) ≡ (a || c) || (b || d)
+  shuffled true b c d = refl
+  shuffled false true true d = refl
+  shuffled false true false d = refl
+  shuffled false false c d = refl
+
+  runs_know : (h : History) (t : Tables) (event : List ℕ) → TablesTell h t → (files : List File) (runs : List Counted) (rows : List EventArcs) → AllByRecursion (Has (held h)) files → AreRunsOf event files runs
+      → AreArcsOf runs t rows → list_any (touches f) (all_arcs rows) || list_any (is_in_rows t f) runs ≡ list_any (knows f) files
+  runs_know h t event tell [] [] [] all are arcs = refl
+  runs_know h t event tell [] [] (r ∷ rows) all are arcs = absurd arcs
+  runs_know h t event tell [] (run ∷ runs) rows all are arcs = absurd are
+  runs_know h t event tell (file ∷ files) [] rows all are arcs = absurd are
+  runs_know h t event tell (file ∷ files) (run ∷ runs) [] all are arcs = absurd arcs
+  runs_know h t event tell (file ∷ files) (run ∷ runs) (r ∷ rows) all are arcs =
+      let here = map (weighted_calls r.coefs) r.arcs in
+      let number = are.0.number in
+      ap (λ a. a || (is_in_rows t f run || list_any (is_in_rows t f) runs)) (any-append (touches f) here (all_arcs rows))
+      ∙ shuffled (list_any (touches f) here) (list_any (touches f) (all_arcs rows)) (is_in_rows t f run) (list_any (is_in_rows t f) runs)
+      ∙ ap₂ (λ a b. a || b)
+      (ap (λ n. list_any (touches f) here || (is_in_cells f (cells_held n t) || is_in_stacks f (stacks_held n t))) number
+      ∙ file_knows h t file r.coefs r.arcs tell all.0 (subst (λ n. AreCallsOf n t r.arcs) number arcs.1))
+      (runs_know h t event tell files runs rows all.1 are.1 arcs.2)
+
+-- ---- the calls
+
+calls_stand : (h : History) (t : Tables) (event : List ℕ) → TablesTell h t → (files : List File) (runs : List Counted) (rows : List EventArcs) → AllByRecursion (Has (held h)) files → AreRunsOf event files runs
+    → AreArcsOf runs t rows → CallsStandForEach (map (event_records event) files) rows
+calls_stand h t event tell [] [] [] all are arcs = tt
+calls_stand h t event tell [] [] (r ∷ rows) all are arcs = absurd arcs
+calls_stand h t event tell [] (run ∷ runs) rows all are arcs = absurd are
+calls_stand h t event tell (f ∷ files) [] rows all are arcs = absurd are
+calls_stand h t event tell (f ∷ files) (run ∷ runs) [] all are arcs = absurd arcs
+calls_stand h t event tell (f ∷ files) (run ∷ runs) (r ∷ rows) all are arcs =
+    let come : CallsCome r.arcs (records_of f.kind f.bytes) = (tells_rows h t tell f all.0).calls r.arcs (subst (λ n. AreCallsOf n t r.arcs) are.0.number arcs.1) in (
+      record {
+        coefs = arcs.0 ∙ ap (λ counts. unwrap_or counts []) are.0.counts;
+        costs = come.costs;
+        counts = come.counts;
+        called = come.called;
+      },
+      calls_stand h t event tell files runs rows all.1 are.1 arcs.2,
+    )
+
+-- ---- the answers
+
+abbrev answer_for : Option (List ℕ) → Answer
+answer_for (Some text) = Text text
+answer_for None = Refused NoSuchName
+
+pub calls_are_due : (h : History) (t : Tables) (s : Selection) (side : CallSide) (event object name : List ℕ) (runs : List Counted) (text : Option (List ℕ)) → TablesTell h t → AreEventRuns h t s event (Ok runs)
+    → IsCallsText t runs side (function_spot object name) event text → answer_for text ≡ expected_of_query h (queries.Calls s side event object name)
+calls_are_due h t s side event object name runs text tell found is =
+    let f = function_spot object name in
+    let files = selected h s in
+    let all = selected_held h s in
+    let are = are_runs h t event tell files runs all found.2 in
+    let same : calls_by side f (all_arcs is.0) ≡ calls_by side f (all_calls (map (event_records event) files)) =
+    calls_are_records side f (map (event_records event) files) is.0 (calls_stand h t event tell files runs is.0 all are is.1) in
+    ap answer_for is.2
+    ∙ ap (λ sums. answer_for (if list_any (touches f) (all_arcs is.0) || list_any (is_in_rows t f) runs
+    then Some (call_report_text event (call_report_of (record { side = side; function = f; sums = sums }))) else None)) same
+    ∙ ap (λ b. answer_for (if b then Some (calls_text side f files event) else None)) (runs_know f h t event tell files runs is.0 all are is.1)
+    ∙ go (list_any (knows f) files) (calls_text side f files event)
+    ∙ both_held h t s event runs found (no_name f files ∷ []) (Text (calls_text side f files event))
+  where
+    go : (b : Bool) (text : List ℕ) → answer_for (if b then Some text else None) ≡ first_or (when (not b) (Refused NoSuchName) ∷ []) (Text text)
+    go true text = refl
+    go false text = refl
+
+pub calls_are_refused : (h : History) (t : Tables) (s : Selection) (side : CallSide) (event object name : List ℕ) (refusal : Refusal) → AreEventRuns h t s event (Err refusal)
+    → Refused refusal ≡ expected_of_query h (queries.Calls s side event object name)
+calls_are_refused h t s side event object name refusal found =
+    let f = function_spot object name in
+    sym (found (no_name f (selected h s) ∷ []) (Text (calls_text side f (selected h s) event)))

@@ -1,0 +1,391 @@
+-- The rows of runs that are added to inclusive costs come to the files of a selection.
+use Rattle.std.proofs.Common.{◌≡◌, ℕ, ◌+◌, ◌*◌, ◌<◌, Bool, true, false, if◌then◌else◌, List, [], ◌∷◌, ◌++◌, map, fold, flat_map, length, get_or, take, Option, Some, None, append-nil, append_assoc, refl, sym, ap, ap₂, subst, ◌∙◌, arith}
+use Rattle.std.specs.Prelude.{unwrap_or}
+use Rattle.std.specs.List.{AllByRecursion}
+use Rattle.std.specs.Option.{is_some, MatchOption}
+use Rattle.std.proofs.lemmas.Grind.{fold-append}
+use Rattle.std.proofs.lemmas.List.{take_more}
+use Rattle.sqlite_rules.specs.Lists.{Has}
+use Rattle.cost_rows.specs.KeySums.{rows_of, with_row}
+use Rattle.cost_rows.specs.StackSums.{frames_sum}
+use Rattle.cost_rows.specs.Sums.{call_sum, count_sum, has_call, own_sum}
+use Rattle.cost_rows.specs.WalkSums.{stacks_count}
+use Rattle.cost_rows.specs.declared.rows.ArcRow.{ArcRow}
+use Rattle.cost_rows.specs.declared.rows.CellRow.{CellRow}
+use Rattle.cost_rows.specs.declared.rows.StackRow.{StackRow}
+use Rattle.cost_reports.specs.Calls.{CallsStandFor, CallsStandForEach, EventArcs, all_arcs, weighted_calls}
+use Rattle.cost_reports.specs.Costs.{EventCells, StandForEach, StandsFor, all_rows, weighted}
+use Rattle.cost_reports.specs.Functions.{is_one_function}
+use Rattle.cost_reports.specs.Inclusive.{InclusiveCosts, InclusiveRow, OfOwn, OfCalls, OfStack, SameStacks, by_function, calls_in, inclusive_report, inclusive_rows, inclusive_text, no_costs, own_in, stacks_in, with_inclusive, with_outward, with_own}
+use Rattle.cost_reports.proofs.AddedLemmas.{inclusive_come_to}
+use Rattle.cost_reports.proofs.InclusiveLemmas.{inclusive_are_records}
+use Rattle.prof_books.specs.Book.{cells_held, stacks_held}
+use Rattle.prof_tables.specs.Tables.{Tables}
+use Rattle.profile_records.specs.Stacks.{Seen}
+use Rattle.profile_records.specs.declared.kinds.Kind.{Kind}
+use Rattle.profile_records.specs.declared.kinds.Kind.TheVariants.{Callgrind, Folded}
+use Rattle.held_runs.specs.HandedCalls.{AreCallsOf}
+use Rattle.held_runs.specs.Lookups.{IsKindOf}
+use Rattle.histories.specs.Files.{records_of, stacks_of}
+use Rattle.histories.specs.History.{History, File, held}
+use Rattle.histories.specs.Legal.{expected_of_query}
+use Rattle.histories.specs.Reports.{called_records, counts_of, event_stacks, has_event, inclusive_of, inclusive_of_files, inclusive_records}
+use Rattle.histories.specs.Selections.{selected}
+use Rattle.histories.specs.Stands.{TablesTell}
+use Rattle.histories.specs.Told.{CallsCome, TellsRows}
+use Rattle.histories.specs.declared.answers.Answer.TheVariants.{Text, Refused}
+use Rattle.histories.specs.declared.answers.Query.TheVariants.{Inclusive}
+use Rattle.histories.specs.declared.answers.Refusal.{Refusal}
+use Rattle.histories.specs.declared.answers.Selection.{Selection}
+use Rattle.histories.proofs.Runs.{tells_rows}
+use Rattle.std.specs.Prelude.{Ok, Err}
+use Rattle.selected_runs.specs.EventRuns.{AreEventRuns}
+use Rattle.store_calls.specs.InclusiveRuns.{Adds, AreRowsOf, AreRowsOfKind, AreRowsOfRuns, IsInclusiveText, call_rows, own_rows, with_call_row, with_own_row, with_stack_row}
+use Rattle.selected_runs.specs.declared.counting.Counted.{Counted}
+use Rattle.selected_runs.proofs.EventLemmas.{both_held}
+use Rattle.store_calls.proofs.KindLemmas.{kind_told}
+use Rattle.selected_runs.proofs.RunLemmas.{AreRunsOf, IsRunOf, are_runs, selected_held}
+
+-- ---- rows of one kind, taken one after another
+
+pub own_taken : (counts : List ℕ) (costs : InclusiveCosts) (cells : List (CellRow (List ℕ))) → fold with_own_row (counts, costs) cells ≡ (counts, fold with_inclusive costs (own_rows counts cells))
+own_taken counts costs [] = refl
+own_taken counts costs (cell ∷ cells) = own_taken counts (with_own costs (weighted counts cell)) cells
+
+pub calls_taken : (counts : List ℕ) (costs : InclusiveCosts) (arcs : List (ArcRow (List ℕ) (List ℕ))) → fold with_call_row (counts, costs) arcs ≡ (counts, fold with_inclusive costs (call_rows counts arcs))
+calls_taken counts costs [] = refl
+calls_taken counts costs (arc ∷ arcs) = calls_taken counts (with_outward costs (weighted_calls counts arc)) arcs
+
+pub stacks_taken : (counts : List ℕ) (costs : InclusiveCosts) (stacks : List (StackRow (List ℕ))) → fold with_stack_row (counts, costs) stacks ≡ (counts, fold with_inclusive costs (map OfStack stacks))
+stacks_taken counts costs [] = refl
+stacks_taken counts costs (stack ∷ stacks) = stacks_taken counts (with_inclusive costs (OfStack stack)) stacks
+
+-- ---- runs one after another
+
+rows_more : (t : Tables) (runs : List Counted) (run : Counted) (rows more : List InclusiveRow) → AreRowsOfRuns t runs rows → AreRowsOf t run more → AreRowsOfRuns t (runs ++ run ∷ []) (rows ++ more)
+rows_more t [] run rows more all one = (more, [], one, refl, ap (λ l. l ++ more) all ∙ sym (append-nil more))
+rows_more t (r ∷ runs) run rows more all one =
+    (all.0, all.1 ++ more, all.2, rows_more t runs run all.1 more all.3 one, ap (λ l. l ++ more) all.4 ∙ append_assoc all.0 all.1 more)
+
+pub rows_so_far : (t : Tables) (runs : List Counted) (at : ℕ) (d : Counted) (old mid new : InclusiveCosts) → at < length runs → Adds (AreRowsOfRuns t (take at runs)) old mid → Adds (AreRowsOf t (get_or runs at d)) mid new
+    → Adds (AreRowsOfRuns t (take (at + 1) runs)) old new
+rows_so_far t runs at d old mid new low all one = (
+  all.0 ++ one.0,
+  subst (λ rs. AreRowsOfRuns t rs (all.0 ++ one.0)) (sym (take_more runs at d low)) (rows_more t (take at runs) (get_or runs at d) all.0 one.0 all.1 one.1),
+  one.2 ∙ ap (λ costs. fold with_inclusive costs one.0) all.2 ∙ sym (fold-append with_inclusive old all.0 one.0),
+)
+
+-- ---- the rows of one file
+
+-- own costs, calls and stacks, one kind after the other
+abbrev by_kind : EventCells → EventArcs → List (StackRow (List ℕ)) → List InclusiveRow
+by_kind cells arcs stacks = own_rows cells.coefs cells.cells ++ (call_rows arcs.coefs arcs.arcs ++ map OfStack stacks)
+
+-- rows add what cells, calls and stacks do that stand for a file
+record AddsFile (event : List ℕ) (f : File) (rows : List InclusiveRow) : Type 0 where
+  cells : EventCells
+  own : StandsFor (inclusive_records event f) cells
+  arcs : EventArcs
+  calls : CallsStandFor (inclusive_records event f) arcs
+  stacks : List (StackRow (List ℕ))
+  seen : SameStacks stacks (event_stacks event f)
+  same : (old : InclusiveCosts) → fold with_inclusive old rows ≡ fold with_inclusive old (by_kind cells arcs stacks)
+
+all_called : (kind : Kind) (bytes : List ℕ) → kind ≡ Callgrind → called_records kind bytes ≡ records_of kind bytes
+all_called Callgrind bytes is = refl
+all_called Folded bytes is = absurd cc
+
+none_called : (kind : Kind) (bytes : List ℕ) → kind ≡ Folded → called_records kind bytes ≡ []
+none_called Callgrind bytes is = absurd cc
+none_called Folded bytes is = refl
+
+no_stacks : (kind : Kind) (bytes : List ℕ) → kind ≡ Callgrind → stacks_of kind bytes ≡ []
+no_stacks Callgrind bytes is = refl
+no_stacks Folded bytes is = absurd cc
+
+none_seen : (event : List ℕ) (f : File) → f.kind ≡ Callgrind → SameStacks [] (event_stacks event f)
+none_seen event f is = λ test. ap (frames_sum test) (sym (go (has_event event f)))
+  where
+    go : (b : Bool) → (if b then stacks_of f.kind f.bytes else []) ≡ []
+    go true = no_stacks f.kind f.bytes is
+    go false = refl
+
+-- what costs nothing adds nothing
+same_total : (n : ℕ) → n + 0 ≡ n
+same_total n = omega arith
+
+own_nothing : (old : InclusiveCosts) (cell : CellRow (List ℕ)) → with_own old (weighted [] cell) ≡ old
+own_nothing old cell =
+    ap (λ cost. with_own old (record cell { event = 0; cost = cost })) (none_of cell.cost) ∙ ap (λ total. record old { total = total }) (same_total old.total)
+  where
+    none_of : (cost : ℕ) → 0 * cost ≡ 0
+    none_of cost = omega arith
+
+calls_nothing : (old : InclusiveCosts) (arc : ArcRow (List ℕ) (List ℕ)) → with_outward old (weighted_calls [] arc) ≡ old
+calls_nothing old arc = go (is_one_function (weighted_calls [] arc).caller (weighted_calls [] arc).callee)
+  where
+    go : (b : Bool) → record old { sums = (fold with_row (by_function old) (rows_of (if b then [] else ((weighted_calls [] arc).caller, 0) ∷ []))).sums } ≡ old
+    go true = refl
+    go false = refl
+
+cells_nothing : (old : InclusiveCosts) (cells : List (CellRow (List ℕ))) (rest : List InclusiveRow) → fold with_inclusive old (own_rows [] cells ++ rest) ≡ fold with_inclusive old rest
+cells_nothing old [] rest = refl
+cells_nothing old (cell ∷ cells) rest = ap (λ costs. fold with_inclusive costs (own_rows [] cells ++ rest)) (own_nothing old cell) ∙ cells_nothing old cells rest
+
+arcs_nothing : (old : InclusiveCosts) (arcs : List (ArcRow (List ℕ) (List ℕ))) (rest : List InclusiveRow) → fold with_inclusive old (call_rows [] arcs ++ rest) ≡ fold with_inclusive old rest
+arcs_nothing old [] rest = refl
+arcs_nothing old (arc ∷ arcs) rest = ap (λ costs. fold with_inclusive costs (call_rows [] arcs ++ rest)) (calls_nothing old arc) ∙ arcs_nothing old arcs rest
+
+-- cells of a Callgrind file, and its calls
+module _ (h : History) (t : Tables) (event : List ℕ) (tell : TablesTell h t) (f : File) (there : Has (held h) f) where
+  told : TellsRows f t
+  told = tells_rows h t tell f there
+
+  own_of : (counts : List ℕ) → counts ≡ unwrap_or (counts_of event f) [] → f.kind ≡ Callgrind → StandsFor (inclusive_records event f) (record { coefs = counts; cells = cells_held f.number t })
+  own_of counts are is =
+      let same = sym (all_called f.kind f.bytes is) in
+      record { coefs = are; cells = λ passes k. told.cells passes k ∙ ap (own_sum passes k) same }
+
+  calls_of : (counts : List ℕ) (arcs : List (ArcRow (List ℕ) (List ℕ))) → counts ≡ unwrap_or (counts_of event f) [] → f.kind ≡ Callgrind → AreCallsOf f.number t arcs
+      → CallsStandFor (inclusive_records event f) (record { coefs = counts; arcs = arcs })
+  calls_of counts arcs are is whole =
+      let same = sym (all_called f.kind f.bytes is) in
+      let come : CallsCome arcs (records_of f.kind f.bytes) = told.calls arcs whole in
+      record {
+        coefs = are;
+        costs = λ passes k. come.costs passes k ∙ ap (call_sum passes k) same;
+        counts = λ passes. come.counts passes ∙ ap (count_sum passes) same;
+        called = λ passes. come.called passes ∙ ap (has_call passes) same;
+      }
+
+  -- a folded file has neither
+  no_own : f.kind ≡ Folded → StandsFor (inclusive_records event f) (record { coefs = unwrap_or (counts_of event f) []; cells = [] })
+  no_own is = record { coefs = refl; cells = λ passes k. ap (own_sum passes k) (sym (none_called f.kind f.bytes is)) }
+
+  no_calls : f.kind ≡ Folded → CallsStandFor (inclusive_records event f) (record { coefs = unwrap_or (counts_of event f) []; arcs = [] })
+  no_calls is =
+      let same = sym (none_called f.kind f.bytes is) in
+      record {
+        coefs = refl;
+        costs = λ passes k. ap (call_sum passes k) same;
+        counts = λ passes. ap (count_sum passes) same;
+        called = λ passes. ap (has_call passes) same;
+      }
+
+  -- by the kind of the file, where the run has the event
+  of_kind : (kind : Kind) (counts : List ℕ) (rows : List InclusiveRow) → kind ≡ f.kind → counts_of event f ≡ Some counts → AreRowsOfKind kind t f.number counts rows → AddsFile event f rows
+  of_kind Callgrind counts rows is has are =
+      let coefs : counts ≡ unwrap_or (counts_of event f) [] = sym (ap (λ c. unwrap_or c []) has) in
+      record {
+        cells = record { coefs = counts; cells = cells_held f.number t };
+        own = own_of counts coefs (sym is);
+        arcs = record { coefs = counts; arcs = are.0 };
+        calls = calls_of counts are.0 coefs (sym is) are.1;
+        stacks = [];
+        seen = none_seen event f (sym is);
+        same = λ old. ap (fold with_inclusive old) (are.2 ∙ ap (λ l. own_rows counts (cells_held f.number t) ++ l) (sym (append-nil (call_rows counts are.0))));
+      }
+  of_kind Folded counts rows is has are = record {
+    cells = record { coefs = unwrap_or (counts_of event f) []; cells = [] };
+    own = no_own (sym is);
+    arcs = record { coefs = unwrap_or (counts_of event f) []; arcs = [] };
+    calls = no_calls (sym is);
+    stacks = stacks_held f.number t;
+    seen = λ test. told.stacks test ∙ ap (λ b. frames_sum test (if b then stacks_of f.kind f.bytes else [])) (sym (ap is_some has));
+    same = λ old. ap (fold with_inclusive old) are;
+  }
+
+  -- and where it does not
+  without : (kind : Kind) → kind ≡ f.kind → counts_of event f ≡ None → AddsFile event f []
+  without Callgrind is has =
+      let coefs : [] ≡ unwrap_or (counts_of event f) [] = sym (ap (λ c. unwrap_or c []) has) in
+      let arcs = told.whole.0 in
+      record {
+        cells = record { coefs = []; cells = cells_held f.number t };
+        own = own_of [] coefs (sym is);
+        arcs = record { coefs = []; arcs = arcs };
+        calls = calls_of [] arcs coefs (sym is) told.whole.1;
+        stacks = [];
+        seen = none_seen event f (sym is);
+        same = λ old. sym (cells_nothing old (cells_held f.number t) (call_rows [] arcs ++ []) ∙ arcs_nothing old arcs []);
+      }
+  without Folded is has = record {
+    cells = record { coefs = unwrap_or (counts_of event f) []; cells = [] };
+    own = no_own (sym is);
+    arcs = record { coefs = unwrap_or (counts_of event f) []; arcs = [] };
+    calls = no_calls (sym is);
+    stacks = [];
+    seen = λ test. ap (λ b. frames_sum test (if b then stacks_of f.kind f.bytes else [])) (sym (ap is_some has));
+    same = λ old. refl;
+  }
+
+  file_added : (run : Counted) (rows : List InclusiveRow) → IsRunOf event f run → AreRowsOf t run rows → AddsFile event f rows
+  file_added run rows is are = go run.counts (sym is.counts) are
+    where
+      go : (counts : Option (List ℕ)) → counts_of event f ≡ counts
+          → MatchOption counts (rows ≡ []) (λ counts. (kind : Kind) × IsKindOf run.number t kind × AreRowsOfKind kind t run.number counts rows) → AddsFile event f rows
+      go (Some counts) has them =
+          let kind : IsKindOf f.number t them.0 = subst (λ n. IsKindOf n t them.0) is.number them.1 in
+          of_kind them.0 counts rows (kind_told h t f them.0 tell there kind) has (subst (λ n. AreRowsOfKind them.0 t n counts rows) is.number them.2)
+      go None has them = subst (AddsFile event f) (sym them) (without f.kind refl has)
+
+-- ---- of files
+
+record AddsFiles (event : List ℕ) (files : List File) (rows : List InclusiveRow) : Type 0 where
+  cells : List EventCells
+  own : StandForEach (map (inclusive_records event) files) cells
+  arcs : List EventArcs
+  calls : CallsStandForEach (map (inclusive_records event) files) arcs
+  stacks : List (StackRow (List ℕ))
+  seen : SameStacks stacks (flat_map (event_stacks event) files)
+  parts : List InclusiveRow
+  same : (old : InclusiveCosts) → fold with_inclusive old rows ≡ fold with_inclusive old parts
+  own_are : own_in parts ≡ all_rows cells
+  calls_are : calls_in parts ≡ all_arcs arcs
+  stacks_are : stacks_in parts ≡ stacks
+
+own_append : (xs ys : List InclusiveRow) → own_in (xs ++ ys) ≡ own_in xs ++ own_in ys
+own_append [] ys = refl
+own_append (OfOwn r ∷ xs) ys = ap (λ l. r ∷ l) (own_append xs ys)
+own_append (OfCalls c ∷ xs) ys = own_append xs ys
+own_append (OfStack r ∷ xs) ys = own_append xs ys
+
+calls_append : (xs ys : List InclusiveRow) → calls_in (xs ++ ys) ≡ calls_in xs ++ calls_in ys
+calls_append [] ys = refl
+calls_append (OfOwn r ∷ xs) ys = calls_append xs ys
+calls_append (OfCalls c ∷ xs) ys = ap (λ l. c ∷ l) (calls_append xs ys)
+calls_append (OfStack r ∷ xs) ys = calls_append xs ys
+
+stacks_append : (xs ys : List InclusiveRow) → stacks_in (xs ++ ys) ≡ stacks_in xs ++ stacks_in ys
+stacks_append [] ys = refl
+stacks_append (OfOwn r ∷ xs) ys = stacks_append xs ys
+stacks_append (OfCalls c ∷ xs) ys = stacks_append xs ys
+stacks_append (OfStack r ∷ xs) ys = ap (λ l. r ∷ l) (stacks_append xs ys)
+
+module _ (counts : List ℕ) where
+  own_of_own : (cells : List (CellRow (List ℕ))) (rest : List InclusiveRow) → own_in (own_rows counts cells ++ rest) ≡ map (weighted counts) cells ++ own_in rest
+  own_of_own [] rest = refl
+  own_of_own (c ∷ cells) rest = ap (λ l. weighted counts c ∷ l) (own_of_own cells rest)
+
+  own_of_calls : (arcs : List (ArcRow (List ℕ) (List ℕ))) (rest : List InclusiveRow) → own_in (call_rows counts arcs ++ rest) ≡ own_in rest
+  own_of_calls [] rest = refl
+  own_of_calls (a ∷ arcs) rest = own_of_calls arcs rest
+
+  calls_of_own : (cells : List (CellRow (List ℕ))) (rest : List InclusiveRow) → calls_in (own_rows counts cells ++ rest) ≡ calls_in rest
+  calls_of_own [] rest = refl
+  calls_of_own (c ∷ cells) rest = calls_of_own cells rest
+
+  calls_of_calls : (arcs : List (ArcRow (List ℕ) (List ℕ))) (rest : List InclusiveRow) → calls_in (call_rows counts arcs ++ rest) ≡ map (weighted_calls counts) arcs ++ calls_in rest
+  calls_of_calls [] rest = refl
+  calls_of_calls (a ∷ arcs) rest = ap (λ l. weighted_calls counts a ∷ l) (calls_of_calls arcs rest)
+
+  stacks_of_own : (cells : List (CellRow (List ℕ))) (rest : List InclusiveRow) → stacks_in (own_rows counts cells ++ rest) ≡ stacks_in rest
+  stacks_of_own [] rest = refl
+  stacks_of_own (c ∷ cells) rest = stacks_of_own cells rest
+
+  stacks_of_calls : (arcs : List (ArcRow (List ℕ) (List ℕ))) (rest : List InclusiveRow) → stacks_in (call_rows counts arcs ++ rest) ≡ stacks_in rest
+  stacks_of_calls [] rest = refl
+  stacks_of_calls (a ∷ arcs) rest = stacks_of_calls arcs rest
+
+own_of_stacks : (stacks : List (StackRow (List ℕ))) → own_in (map OfStack stacks) ≡ []
+own_of_stacks [] = refl
+own_of_stacks (s ∷ stacks) = own_of_stacks stacks
+
+calls_of_stacks : (stacks : List (StackRow (List ℕ))) → calls_in (map OfStack stacks) ≡ []
+calls_of_stacks [] = refl
+calls_of_stacks (s ∷ stacks) = calls_of_stacks stacks
+
+stacks_of_stacks : (stacks : List (StackRow (List ℕ))) → stacks_in (map OfStack stacks) ≡ stacks
+stacks_of_stacks [] = refl
+stacks_of_stacks (s ∷ stacks) = ap (λ l. s ∷ l) (stacks_of_stacks stacks)
+
+module _ (cells : EventCells) (arcs : EventArcs) (stacks : List (StackRow (List ℕ))) where
+  own_by_kind : own_in (by_kind cells arcs stacks) ≡ map (weighted cells.coefs) cells.cells
+  own_by_kind =
+      own_of_own cells.coefs cells.cells (call_rows arcs.coefs arcs.arcs ++ map OfStack stacks)
+      ∙ ap (λ l. map (weighted cells.coefs) cells.cells ++ l) (own_of_calls arcs.coefs arcs.arcs (map OfStack stacks) ∙ own_of_stacks stacks)
+      ∙ append-nil (map (weighted cells.coefs) cells.cells)
+
+  calls_by_kind : calls_in (by_kind cells arcs stacks) ≡ map (weighted_calls arcs.coefs) arcs.arcs
+  calls_by_kind =
+      calls_of_own cells.coefs cells.cells (call_rows arcs.coefs arcs.arcs ++ map OfStack stacks)
+      ∙ calls_of_calls arcs.coefs arcs.arcs (map OfStack stacks)
+      ∙ ap (λ l. map (weighted_calls arcs.coefs) arcs.arcs ++ l) (calls_of_stacks stacks)
+      ∙ append-nil (map (weighted_calls arcs.coefs) arcs.arcs)
+
+  stacks_by_kind : stacks_in (by_kind cells arcs stacks) ≡ stacks
+  stacks_by_kind =
+      stacks_of_own cells.coefs cells.cells (call_rows arcs.coefs arcs.arcs ++ map OfStack stacks)
+      ∙ stacks_of_calls arcs.coefs arcs.arcs (map OfStack stacks)
+      ∙ stacks_of_stacks stacks
+
+count_append : (test : List ℕ → Bool) (xs ys : List (StackRow (List ℕ))) → stacks_count test (xs ++ ys) ≡ stacks_count test xs + stacks_count test ys
+count_append test [] ys = let n : ℕ = stacks_count test ys in let e : n ≡ 0 + n = omega arith in e
+count_append test (x ∷ xs) ys = let rest = count_append test xs ys in omega (arith, rest)
+
+frames_append : (test : List ℕ → Bool) (xs ys : List Seen) → frames_sum test (xs ++ ys) ≡ frames_sum test xs + frames_sum test ys
+frames_append test [] ys = let n : ℕ = frames_sum test ys in let e : n ≡ 0 + n = omega arith in e
+frames_append test (x ∷ xs) ys = let rest = frames_append test xs ys in omega (arith, rest)
+
+both_seen : (xs ys : List (StackRow (List ℕ))) (seen more : List Seen) → SameStacks xs seen → SameStacks ys more → SameStacks (xs ++ ys) (seen ++ more)
+both_seen xs ys seen more one two = λ test. count_append test xs ys ∙ ap₂ ◌+◌ (one test) (two test) ∙ sym (frames_append test seen more)
+
+one_more : (event : List ℕ) (f : File) (files : List File) (first later rows : List InclusiveRow) → rows ≡ first ++ later → AddsFile event f first → AddsFiles event files later → AddsFiles event (f ∷ files) rows
+one_more event f files first later rows are one rest =
+    let here = by_kind one.cells one.arcs one.stacks in
+    record {
+      cells = one.cells ∷ rest.cells;
+      own = (one.own, rest.own);
+      arcs = one.arcs ∷ rest.arcs;
+      calls = (one.calls, rest.calls);
+      stacks = one.stacks ++ rest.stacks;
+      seen = both_seen one.stacks rest.stacks (event_stacks event f) (flat_map (event_stacks event) files) one.seen rest.seen;
+      parts = here ++ rest.parts;
+      same = λ old. ap (fold with_inclusive old) are ∙ fold-append with_inclusive old first later ∙ ap (λ costs. fold with_inclusive costs later) (one.same old)
+          ∙ rest.same (fold with_inclusive old here) ∙ sym (fold-append with_inclusive old here rest.parts);
+      own_are = own_append here rest.parts ∙ ap₂ ◌++◌ (own_by_kind one.cells one.arcs one.stacks) rest.own_are;
+      calls_are = calls_append here rest.parts ∙ ap₂ ◌++◌ (calls_by_kind one.cells one.arcs one.stacks) rest.calls_are;
+      stacks_are = stacks_append here rest.parts ∙ ap₂ ◌++◌ (stacks_by_kind one.cells one.arcs one.stacks) rest.stacks_are;
+    }
+
+files_added : (h : History) (t : Tables) (event : List ℕ) → TablesTell h t → (files : List File) (runs : List Counted) (rows : List InclusiveRow) → AllByRecursion (Has (held h)) files
+    → AreRunsOf event files runs → AreRowsOfRuns t runs rows → AddsFiles event files rows
+files_added h t event tell [] [] rows all are rows_are = record {
+  cells = [];
+  own = tt;
+  arcs = [];
+  calls = tt;
+  stacks = [];
+  seen = λ test. refl;
+  parts = [];
+  same = λ old. ap (fold with_inclusive old) rows_are;
+  own_are = refl;
+  calls_are = refl;
+  stacks_are = refl;
+}
+files_added h t event tell [] (run ∷ runs) rows all are rows_are = absurd are
+files_added h t event tell (f ∷ files) [] rows all are rows_are = absurd are
+files_added h t event tell (f ∷ files) (run ∷ runs) rows all are rows_are =
+    one_more event f files rows_are.0 rows_are.1 rows rows_are.4 (file_added h t event tell f all.0 run rows_are.0 are.0 rows_are.2)
+    (files_added h t event tell files runs rows_are.1 all.1 are.1 rows_are.3)
+
+inclusive_by : (event : List ℕ) (files : List File) (rows : List InclusiveRow) (costs : InclusiveCosts) → AddsFiles event files rows → costs ≡ fold with_inclusive no_costs rows → costs ≡ inclusive_of files event
+inclusive_by event files rows costs added is =
+    is ∙ added.same no_costs ∙ inclusive_come_to added.parts
+    ∙ ap₂ (λ own calls. inclusive_rows own calls (stacks_in added.parts)) added.own_are added.calls_are
+    ∙ ap (inclusive_rows (all_rows added.cells) (all_arcs added.arcs)) added.stacks_are
+    ∙ inclusive_are_records (map (inclusive_records event) files) (flat_map (event_stacks event) files) added.cells added.arcs added.stacks added.own added.calls added.seen
+
+-- ---- the answers
+
+pub inclusive_is_due : (h : History) (t : Tables) (s : Selection) (event : List ℕ) (runs : List Counted) (text : List ℕ) → TablesTell h t → AreEventRuns h t s event (Ok runs) → IsInclusiveText t runs event text
+    → Text text ≡ expected_of_query h (Inclusive s event)
+inclusive_is_due h t s event runs text tell found is =
+    let files = selected h s in
+    let all = selected_held h s in
+    let added = files_added h t event tell files runs is.1.0 all (are_runs h t event tell files runs all found.2) is.1.1 in
+    ap Text (is.2 ∙ ap (λ costs. inclusive_text event (inclusive_report costs)) (inclusive_by event files is.1.0 is.0 added is.1.2))
+    ∙ both_held h t s event runs found [] (Text (inclusive_of_files files event))
+
+pub inclusive_is_refused : (h : History) (t : Tables) (s : Selection) (event : List ℕ) (refusal : Refusal) → AreEventRuns h t s event (Err refusal) → Refused refusal ≡ expected_of_query h (Inclusive s event)
+inclusive_is_refused h t s event refusal found = sym (found [] (Text (inclusive_of_files (selected h s) event)))

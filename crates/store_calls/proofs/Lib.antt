@@ -1,0 +1,4 @@
+mod FunctionLemmas
+mod InclusiveLemmas
+mod KindLemmas
+mod WeightLemmas

@@ -1,0 +1,14 @@
+use Rattle.std.proofs.Common.{◌≡◌, take}
+use Rattle.sql_tables.specs.Calls.{Asked}
+use Rattle.prof_tables.specs.Schema.{schema_one}
+use Rattle.prof_tables.specs.Tables.{Tables}
+use Rattle.prof_store.specs.Shown.{shown, IsFaithful, StandsFor}
+use Rattle.store_calls.specs.FunctionCalls.{AreTakenFrom, taken_of}
+use Rattle.store_calls.proofs.calling.add_runs.Given as goal
+
+-- the calls of the runs so far
+abbrev pub invariant-loop-run : goal.invariant-loop-run
+invariant-loop-run g l = record {
+  asked : IsFaithful g.S.Store l.store → Asked schema_one (shown g.S.Store l.fn.store).is_open (shown g.S.Store l.fn.store) (shown g.S.Store l.store);
+  told : IsFaithful g.S.Store l.store → (t : Tables) → StandsFor g.S.Store t l.fn.store → l.names ≡ t.names → AreTakenFrom t (take l.run-index l.runs) (taken_of l.fn.calls) (taken_of l.calls);
+}

@@ -1,0 +1,31 @@
+use Rattle.std.proofs.Common.{◌++◌, fold, refl, sym, ap, ◌∙◌}
+use Rattle.std.proofs.lemmas.Grind.{fold-append}
+use Rattle.sql_tables.proofs.Calls.{asked_rests_yet}
+use Rattle.cost_reports.specs.Inclusive.{with_inclusive}
+use Rattle.held_runs.proofs.ArcRows.{calls_come}
+use Rattle.held_runs.proofs.RowSteps.{cells_come}
+use Rattle.prof_books.specs.Book.{cells_held}
+use Rattle.prof_tables.specs.Schema.{schema_one}
+use Rattle.prof_tables.specs.Tables.{Holds}
+use Rattle.store_calls.specs.InclusiveRuns.{call_rows, own_rows, with_call_row}
+use Rattle.store_calls.proofs.InclusiveLemmas.{calls_taken, own_taken}
+use Rattle.store_calls.proofs.including.add_callgrind.Goals as goal
+
+pub returns-clause-told : goal.returns-clause-told
+returns-clause-told g c clean t stands named =
+    let counts = c.args.counts.now in
+    let sums = c.args.sums in
+    let cells = cells_held c.args.run.now.number t in
+    let early = (c.in_ok-all.ensures.asks clean).stays.was_clean in
+    let own = cells_come _ _ _ _ c.args.run.now.number t _ (c.in_ok-own.ensures.told early t stands) named ∙ own_taken counts sums cells in
+    let mid = asked_rests_yet schema_one (Holds t) _ _ (c.in_ok-own.ensures.asks early) stands in
+    let calls = calls_come _ _ _ _ c.args.run.now.number t _ (c.in_ok-all.ensures.told clean t mid) named in
+    let before = own_rows counts cells in
+    let after = call_rows counts calls.0 in (
+      before ++ after,
+      (calls.0, calls.1, refl),
+      ap (λ m. m.1) (calls.2 ∙ ap (λ m. fold with_call_row m calls.0) own ∙ calls_taken counts (fold with_inclusive sums before) calls.0) ∙ sym (fold-append with_inclusive sums before after),
+    )
+
+pub returns-clause-of_events : goal.returns-clause-of_events
+returns-clause-of_events g c clean t stands = (c.in_ok-own.ensures.told (c.in_ok-all.ensures.asks clean).stays.was_clean t stands).of_events

@@ -1,0 +1,15 @@
+use Rattle.std.proofs.Common.{◌≡◌, take}
+use Rattle.sql_tables.specs.Calls.{Asked}
+use Rattle.prof_tables.specs.Schema.{schema_one}
+use Rattle.prof_tables.specs.Tables.{Tables}
+use Rattle.prof_store.specs.Shown.{shown, IsFaithful, StandsFor}
+use Rattle.cost_reports.specs.Inclusive.{no_costs}
+use Rattle.store_calls.specs.InclusiveRuns.{Adds, AreRowsOfRuns}
+use Rattle.store_calls.proofs.including.add_runs.Given as goal
+
+-- the costs of the runs so far
+abbrev pub invariant-loop-run : goal.invariant-loop-run
+invariant-loop-run g l = record {
+  asked : IsFaithful g.S.Store l.store → Asked schema_one (shown g.S.Store l.fn.store).is_open (shown g.S.Store l.fn.store) (shown g.S.Store l.store);
+  told : IsFaithful g.S.Store l.store → (t : Tables) → StandsFor g.S.Store t l.fn.store → l.names ≡ t.names → Adds (AreRowsOfRuns t (take l.run-index l.runs)) no_costs l.sums;
+}

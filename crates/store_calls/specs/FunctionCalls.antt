@@ -1,0 +1,97 @@
+-- The calls of a function over runs of the tables.
+use Rattle.std.specs.Prelude.{◌≡◌, ◌||◌, ℕ, Bool, false, if◌then◌else◌, List, [], ◌∷◌, map, fold, Option, Some, None, unwrap_or}
+use Rattle.std.specs.List.{list_any}
+use Rattle.cost_rows.specs.Keys.{place_of_row}
+use Rattle.cost_rows.specs.Sums.{Spot}
+use Rattle.cost_rows.specs.declared.rows.ArcRow.{ArcRow}
+use Rattle.cost_rows.specs.declared.rows.CellRow.{CellRow}
+use Rattle.cost_rows.specs.declared.rows.StackRow.{StackRow}
+use Rattle.cost_reports.specs.Calls.{Calls, CallsOfFunction, EventArcs, all_arcs, call_report_of, call_report_text, calls_by, weighted_calls, with_calls}
+use Rattle.cost_reports.specs.Functions.{function_spot, is_one_function}
+use Rattle.cost_reports.specs.Inclusive.{is_frame}
+use Rattle.cost_reports.specs.declared.call_sides.CallSide.{CallSide}
+use Rattle.prof_books.specs.Book.{cells_held, stacks_held}
+use Rattle.prof_tables.specs.Tables.{Tables}
+use Rattle.held_runs.specs.HandedCalls.{AreCallsOf}
+use Rattle.selected_runs.specs.declared.counting.Counted.{Counted}
+use Rattle.store_calls.specs.declared.function_calls.FunctionCalls.{FunctionCalls}
+
+-- a row of calls that cost so much in the event
+abbrev pub calls_costing : ArcRow (List ℕ) (List ℕ) → ℕ → Calls
+calls_costing r cost = record {
+  caller = function_spot r.object r.function;
+  callee = function_spot r.called_object r.called_function;
+  sum = record { first = cost; second = r.count };
+}
+
+-- whether calls are from a function or to it
+abbrev pub touches : Spot → Calls → Bool
+touches f c = is_one_function c.caller f || is_one_function c.callee f
+
+-- what was taken of the calls of runs: whether one was from a function or to it, and those that are asked
+pub record Taken : Type 0 where
+  pub function : Spot
+  pub known : Bool
+  pub calls : CallsOfFunction
+
+abbrev pub with_call : Taken → Calls → Taken
+with_call m c = record m { known = m.known || touches m.function c; calls = with_calls m.calls c }
+
+abbrev pub taken_of : FunctionCalls → Taken
+taken_of c = record { function = function_spot c.object.now c.name.now; known = c.known; calls = c.sums }
+
+-- a row of a run whose columns count so often
+abbrev pub with_row_of_calls : List ℕ × Taken → ArcRow (List ℕ) (List ℕ) → List ℕ × Taken
+with_row_of_calls m row = (m.0, with_call m.1 (weighted_calls m.0 row))
+
+-- rows of the calls of each run; in a run without the event they cost nothing
+abbrev pub AreArcsOf : List Counted → Tables → List EventArcs → Type 0
+AreArcsOf [] t [] = Unit {0}
+AreArcsOf (run ∷ runs) t (r ∷ rows) = (r.coefs ≡ unwrap_or run.counts []) × AreCallsOf run.number t r.arcs × AreArcsOf runs t rows
+AreArcsOf runs t rows = ⊥
+
+-- the calls of a run were taken, one after another
+abbrev pub IsTakenFrom : Tables → Counted → Taken → Taken → Type 0
+IsTakenFrom t run old new =
+    (arcs : List (ArcRow (List ℕ) (List ℕ))) × AreCallsOf run.number t arcs × (new ≡ fold with_call old (map (weighted_calls (unwrap_or run.counts [])) arcs))
+
+-- and those of runs
+abbrev pub AreTakenFrom : Tables → List Counted → Taken → Taken → Type 0
+AreTakenFrom t runs old new = (rows : List EventArcs) × AreArcsOf runs t rows × (new ≡ fold with_call old (all_arcs rows))
+
+-- before the first row
+abbrev pub not_taken : CallSide → Spot → Taken
+not_taken side f = record { function = f; known = false; calls = record { side = side; function = f; sums = [] } }
+
+-- whether a function has own costs in a run, or a frame in its stacks
+abbrev pub is_in_cells : Spot → List (CellRow (List ℕ)) → Bool
+is_in_cells f cells = list_any (λ (r : CellRow (List ℕ)). is_one_function (place_of_row r) f) cells
+
+abbrev pub is_in_stacks : Spot → List (StackRow (List ℕ)) → Bool
+is_in_stacks f stacks = list_any (λ (r : StackRow (List ℕ)). is_frame f r.stack) stacks
+
+abbrev pub is_in_rows : Tables → Spot → Counted → Bool
+is_in_rows t f run = is_in_cells f (cells_held run.number t) || is_in_stacks f (stacks_held run.number t)
+
+-- a function that is looked for in rows, and whether it was found
+abbrev pub with_cell_sought : Spot × Bool → CellRow (List ℕ) → Spot × Bool
+with_cell_sought m row = (m.0, m.1 || is_one_function (place_of_row row) m.0)
+
+abbrev pub with_stack_sought : Spot × Bool → StackRow (List ℕ) → Spot × Bool
+with_stack_sought m row = (m.0, m.1 || is_frame m.0 row.stack)
+
+-- ---- the text
+
+-- of what was taken of runs, where one of them knows the function
+abbrev pub text_taken : Tables → List Counted → List ℕ → Taken → Option (List ℕ)
+text_taken t runs event m = if m.known || list_any (is_in_rows t m.function) runs then Some (call_report_text event (call_report_of m.calls)) else None
+
+-- of calls, where one of the runs knows the function
+abbrev pub calls_text_over : Tables → List Counted → CallSide → Spot → List ℕ → List EventArcs → Option (List ℕ)
+calls_text_over t runs side f event arcs =
+    if list_any (touches f) (all_arcs arcs) || list_any (is_in_rows t f) runs
+    then Some (call_report_text event (call_report_of (record { side = side; function = f; sums = calls_by side f (all_arcs arcs) })))
+    else None
+
+abbrev pub IsCallsText : Tables → List Counted → CallSide → Spot → List ℕ → Option (List ℕ) → Type 0
+IsCallsText t runs side f event text = (arcs : List EventArcs) × AreArcsOf runs t arcs × (text ≡ calls_text_over t runs side f event arcs)

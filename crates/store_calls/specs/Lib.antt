@@ -1,0 +1,2 @@
+pub mod FunctionCalls
+pub mod InclusiveRuns

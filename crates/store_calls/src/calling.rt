@@ -1,0 +1,176 @@
+// The answers to questions of who calls a function, and whom it calls.
+ghost use Rattle.std.specs.Prelude.{◌≡◌, ◌||◌, [], IfOk, unwrap_or};
+ghost use Rattle.std.specs.List.{list_any};
+ghost use Rattle.std.specs.Result.{is_ok};
+ghost use Rattle.cost_reports.specs.Calls.{call_report_of, call_report_text};
+ghost use Rattle.cost_reports.specs.Functions.{function_spot};
+ghost use Rattle.prof_store.specs.Shown.{Told};
+ghost use Rattle.held_runs.specs.Walks.{AsksIfOpen};
+ghost use Rattle.histories.specs.declared.answers.Query.TheVariants.{Calls};
+ghost use Rattle.store_histories.specs.Answered.{Asks as AnswersAsked};
+ghost use Rattle.store_calls.specs.FunctionCalls.{AreTakenFrom, IsCallsText, IsTakenFrom, is_in_rows, not_taken, taken_of, text_taken};
+
+use crate::function_calls::{CallRows, FunctionCalls};
+use crate::known_names::is_in_runs;
+use cg_text::ListVec;
+use cost_reports::{CallSide, CallSums, calls};
+use held_runs::{HeldNames, each_call, names_of};
+use histories::{Answer, Refusal, Selection};
+use prof_store::{Store, StoreError};
+use selected_runs::{Counted, event_runs};
+use sqlite::Alter;
+use std::alloc::{AllocError, Global};
+
+/// How often the columns of a run count in the event: none, where it does not have it.
+fn counts_of(run: &Counted) -> &[u64]
+    ensures { result.now ≡ unwrap_or run.now.counts [] }
+{
+    match &run.counts {
+        Some(counts) => counts.as_slice(),
+        None => &[],
+    }
+}
+
+/// Adds the calls of a run.
+fn add_run<'n, S: Alter>(
+    store: &mut Store<S>,
+    alloc: Global,
+    names: &HeldNames,
+    run: &Counted,
+    calls: FunctionCalls<'n>,
+) -> Result<FunctionCalls<'n>, StoreError>
+    ensures told { Told S.Store result store.old store.new (λ t all. names.now ≡ t.names → IsTakenFrom t run.now (taken_of calls.entry) (taken_of all)) }
+    ensures asks { AsksIfOpen S.Store (is_ok result) store.old store.new }
+{
+    let counts = counts_of(run);
+    let rows = CallRows { counts, calls };
+    let all = each_call(store, alloc, run.number, names, run.events, rows)?;
+    let CallRows { counts: _, calls } = all;
+    Ok(calls)
+}
+
+/// Adds the calls of runs, one run after another.
+fn add_runs<'n, S: Alter>(
+    store: &mut Store<S>,
+    alloc: Global,
+    names: &HeldNames,
+    runs: &[Counted],
+    calls: FunctionCalls<'n>,
+) -> Result<FunctionCalls<'n>, StoreError>
+    ensures told { Told S.Store result store.old store.new (λ t all. names.now ≡ t.names → AreTakenFrom t runs.now (taken_of calls.entry) (taken_of all)) }
+    ensures asks { AsksIfOpen S.Store (is_ok result) store.old store.new }
+{
+    let mut calls = calls;
+    for run in runs {
+        calls = add_run(store, alloc, names, run, calls)?;
+    }
+    Ok(calls)
+}
+
+/// The calls of a function before the first row.
+fn no_calls<'n>(
+    alloc: Global,
+    side: CallSide,
+    object: &'n [u8],
+    name: &'n [u8],
+) -> Result<FunctionCalls<'n>, StoreError>
+    ensures { IfOk result (λ calls. taken_of calls ≡ not_taken side (function_spot object.entry.now name.entry.now)) }
+{
+    Ok(FunctionCalls {
+        object,
+        name,
+        known: false,
+        sums: CallSums::new(alloc, side, object, name)?,
+    })
+}
+
+/// Whether some runs know a function: a call of it was seen, or it has own costs or a frame in a stack.
+fn is_known<S: Alter>(
+    store: &mut Store<S>,
+    names: &HeldNames,
+    runs: &[Counted],
+    is_called: bool,
+    object: &[u8],
+    name: &[u8],
+) -> Result<bool, StoreError>
+    ensures told { Told S.Store result store.old store.new (λ t known. names.now ≡ t.names
+        → known ≡ is_called || list_any (is_in_rows t (function_spot object.now name.now)) runs.now) }
+    ensures asks { AsksIfOpen S.Store (is_ok result) store.old store.new }
+{
+    if is_called {
+        return Ok(true);
+    }
+    is_in_runs(store, names, runs, object, name)
+}
+
+/// The text of what the calls of a function come to.
+fn text_of_sums(alloc: Global, sums: &CallSums, event: &[u8]) -> Result<ListVec<u8>, AllocError>
+    ensures { IfOk result (λ text. text ≡ call_report_text event.now (call_report_of sums.now)) }
+{
+    let report = calls(alloc, sums)?;
+    report.text(alloc, event)
+}
+
+/// The text of the calls that were taken of some runs, if one of them knows the function.
+fn text_if_known<S: Alter>(
+    store: &mut Store<S>,
+    alloc: Global,
+    names: &HeldNames,
+    runs: &[Counted],
+    calls: &FunctionCalls<'_>,
+    event: &[u8],
+) -> Result<Option<ListVec<u8>>, StoreError>
+    ensures told { Told S.Store result store.old store.new (λ t text. names.now ≡ t.names → text ≡ text_taken t runs.now event.now (taken_of calls.now)) }
+    ensures asks { AsksIfOpen S.Store (is_ok result) store.old store.new }
+{
+    if !is_known(store, names, runs, calls.known, calls.object, calls.name)? {
+        return Ok(None);
+    }
+    let text = text_of_sums(alloc, &calls.sums, event)?;
+    Ok(Some(text))
+}
+
+/// The text of the calls of a function over some runs, if one of them knows it.
+fn calls_text<S: Alter>(
+    store: &mut Store<S>,
+    alloc: Global,
+    runs: &[Counted],
+    side: CallSide,
+    event: &[u8],
+    object: &[u8],
+    name: &[u8],
+) -> Result<Option<ListVec<u8>>, StoreError>
+    ensures told { Told S.Store result store.old store.new (λ t text. IsCallsText t runs.now side (function_spot object.now name.now) event.now text) }
+    ensures asks { AsksIfOpen S.Store (is_ok result) store.old store.new }
+{
+    let none = no_calls(alloc, side, object, name)?;
+    let names = names_of(store, alloc)?;
+    let all = add_runs(store, alloc, &names, runs, none)?;
+    text_if_known(store, alloc, &names, runs, &all, event)
+}
+
+/// Answers who calls a function of an object, or whom it calls, over the runs of a selection: a text, or
+/// the refusal of a run or a group that is not held, of an event that none of the runs has, or of a
+/// function that none of them knows. Errors: `Memory`; and `Store` as for a report by key.
+pub fn calls_answer<S: Alter>(
+    store: &mut Store<S>,
+    alloc: Global,
+    selection: &Selection,
+    side: CallSide,
+    event: &ListVec<u8>,
+    object: &ListVec<u8>,
+    function: &ListVec<u8>,
+) -> Result<Answer, StoreError>
+    ensures { AnswersAsked S.Store (Calls selection.now side event.now object.now function.now) result store.old store.new }
+{
+    let event = event.as_slice();
+    let runs = match event_runs(store, alloc, selection, event)? {
+        Ok(runs) => runs,
+        Err(refusal) => return Ok(Answer::Refused(refusal)),
+    };
+    let (object, name) = (object.as_slice(), function.as_slice());
+    match calls_text(store, alloc, runs.as_slice(), side, event, object, name)? {
+        Some(text) => Ok(Answer::Text(text)),
+        None => Ok(Answer::Refused(Refusal::NoSuchName)),
+    }
+}

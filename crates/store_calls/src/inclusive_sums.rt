@@ -1,0 +1,84 @@
+// The rows of runs, added up to what functions cost with all that they call.
+use crate::weights::{most_of, weighed_within, with_cost};
+use cg_text::ListVec;
+use cost_reports::InclusiveSums;
+use cost_rows::{ArcRow, CellRow, StackRow};
+use held_runs::{TakesCalls, TakesCells, TakesStacks};
+use prof_store::StoreError;
+use selected_runs::{is_within, weighted_within};
+
+/// Inclusive costs, and how often each column of the run that is read counts in the event.
+#[derive(Drop)]
+pub(crate) struct InclusiveRows<'a> {
+    pub counts: &'a [u64],
+    pub sums: InclusiveSums,
+}
+
+impl TakesCells for InclusiveRows<'_> {
+    ghost use Rattle.std.specs.Prelude.{List, ℕ};
+    ghost use Rattle.cost_reports.specs.Inclusive.{InclusiveCosts};
+    ghost use Rattle.store_calls.specs.InclusiveRuns.{with_own_row};
+
+    ghost Meaning = { List ℕ × InclusiveCosts };
+
+    ghost meaning = { λ s. (s.counts.now, s.sums) };
+
+    ghost step = { with_own_row };
+
+    fn take(&mut self, row: &CellRow<&[u8]>) -> Result<(), StoreError> {
+        let Some(cell) = weighted_within(self.sums.sum(), self.counts, row) else {
+            return Err(StoreError::Store);
+        };
+        if !is_within(self.sums.total(), cell.cost) {
+            return Err(StoreError::Store);
+        }
+        self.sums.add_own(&cell)?;
+        Ok(())
+    }
+}
+
+impl TakesCalls for InclusiveRows<'_> {
+    ghost use Rattle.std.specs.Prelude.{List, ℕ};
+    ghost use Rattle.cost_reports.specs.Inclusive.{InclusiveCosts};
+    ghost use Rattle.store_calls.specs.InclusiveRuns.{with_call_row};
+
+    ghost Meaning = { List ℕ × InclusiveCosts };
+
+    ghost meaning = { λ s. (s.counts.now, s.sums) };
+
+    ghost step = { with_call_row };
+
+    fn take(&mut self, row: &ArcRow<&[u8], ListVec<u128>>) -> Result<(), StoreError> {
+        let Some(cost) = weighed_within(self.counts, row.costs.as_slice()) else {
+            return Err(StoreError::Store);
+        };
+        if !is_within(self.sums.sum(), cost) {
+            return Err(StoreError::Store);
+        }
+        self.sums.add_calls(&with_cost(row, cost))?;
+        Ok(())
+    }
+}
+
+impl TakesStacks for InclusiveRows<'_> {
+    ghost use Rattle.std.specs.Prelude.{List, ℕ};
+    ghost use Rattle.cost_reports.specs.Inclusive.{InclusiveCosts};
+    ghost use Rattle.store_calls.specs.InclusiveRuns.{with_stack_row};
+
+    ghost Meaning = { List ℕ × InclusiveCosts };
+
+    ghost meaning = { λ s. (s.counts.now, s.sums) };
+
+    ghost step = { with_stack_row };
+
+    fn take(&mut self, row: &StackRow<&[u8]>) -> Result<(), StoreError> {
+        let Some(most) = most_of(row.stack.len(), row.count) else {
+            return Err(StoreError::Store);
+        };
+        if !is_within(self.sums.sum(), most) || !is_within(self.sums.total(), row.count) {
+            return Err(StoreError::Store);
+        }
+        self.sums.add_stack(row)?;
+        Ok(())
+    }
+}
