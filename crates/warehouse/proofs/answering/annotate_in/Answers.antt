@@ -25,8 +25,8 @@ returns-in-Ok g c = record {
         answers = λ clean.
             let asked = subst (λ t. WasAsked g.S.Store (queries.Annotate s c.args.event c.args.file t) c.annotate_answer.result c.args.store.now c.annotate_answer.new.store) text (c.annotate_answer.ensures clean) in
             subst (λ a. Answers g.S.Store limits said a c.args.store.now c.annotate_answer.new.store) (sym c.answer_of.ensures)
-                (answered_as g.S.Store limits query said tt (λ h. ended_due most_of_source read.outcomes (expected_of_query h query) ended.reads.within ended.reads.unfailed ended.ended)
-                c.args.store.now c.annotate_answer.new.store c.annotate_answer.result asked);
+            (answered_as g.S.Store limits query said tt (λ h. ended_due most_of_source read.outcomes (expected_of_query h query) ended.reads.within ended.reads.unfailed ended.ended)
+            c.args.store.now c.annotate_answer.new.store c.annotate_answer.result asked);
       };
 }
 
