@@ -1,5 +1,5 @@
 // The rows of one file.
-ghost use Rattle.std.specs.Prelude.{◌≡◌, None, IfOk};
+ghost use Rattle.std.specs.Prelude.{◌≡◌, None, IfOk, map};
 ghost use Rattle.profile_records.specs.Marks.{KnowsNothing};
 ghost use Rattle.cost_rows.specs.Marks.{HaveNames};
 ghost use Rattle.cost_rows.specs.Stacks.{by_bytes};
@@ -16,7 +16,7 @@ use crate::places::{Call, CellPlace};
 use crate::records::{merge_call, merge_own};
 use crate::rows::FileTotals;
 use crate::totals::{total_columns, total_count};
-use crate::walks::{ArcWalk, CellWalk, StackWalk};
+use crate::walks::{ArcWalk, CellWalk, StackWalk, Walk};
 use cg_text::ListVec;
 use profile_records::{CallCost, SelfCost, Sink};
 use std::alloc::{AllocError, Global};
@@ -44,7 +44,7 @@ impl FileRows {
     ghost use Rattle.cost_rows.specs.Content.{empty};
     ghost use Rattle.cost_rows.specs.Rows.{content_of, known_of};
     ghost use Rattle.cost_rows.specs.ByNumber.{numbered_cells, numbered_arcs};
-    ghost use Rattle.cost_rows.specs.Walks.{cell_rows, arc_rows, stack_rows};
+    ghost use Rattle.cost_rows.specs.Walks.{cell_named, cell_rows, arc_named, arc_rows, stack_rows};
 
     /// No record was taken. Takes no memory.
     pub fn new(alloc: Global) -> FileRows
@@ -69,9 +69,9 @@ impl FileRows {
     /// The sums of calls, every one of them, in the order of the numbers of their names; the line
     /// comes after the caller's names. Takes no memory.
     pub fn arcs(&self) -> ArcWalk<'_>
-        ensures { result ≡ arc_rows (content_of self.now).names (content_of self.now).arcs }
+        ensures { map (arc_named result.names.now) result.rest ≡ arc_rows (content_of self.now).names (content_of self.now).arcs }
     {
-        ArcWalk {
+        Walk {
             names: &self.names,
             rest: self.numbered_arcs(),
         }
@@ -89,9 +89,9 @@ impl FileRows {
     /// The sums of own costs above 0, in the order of the numbers of their names, then by line, then
     /// by event. Takes no memory.
     pub fn cells(&self) -> CellWalk<'_>
-        ensures { result ≡ cell_rows (content_of self.now).names (content_of self.now).cells }
+        ensures { map (cell_named result.names.now) result.rest ≡ cell_rows (content_of self.now).names (content_of self.now).cells }
     {
-        CellWalk {
+        Walk {
             names: &self.names,
             rest: self.numbered_cells(),
         }

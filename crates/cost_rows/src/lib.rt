@@ -60,4 +60,4 @@ pub use names::Names;
 pub use numbered::{NumberedArcs, NumberedCells};
 pub use rows::{ArcRow, CellRow, FileTotals, StackRow};
 pub use sum_rows::SumRows;
-pub use walks::{ArcWalk, CellWalk, StackWalk};
+pub use walks::{ArcWalk, CellWalk, GivesNames, StackWalk, Walk};

@@ -7,37 +7,71 @@ use crate::rows::{ArcRow, CellRow, StackRow};
 use std::collections::btree_map::Iter;
 use std::marker::Model;
 
-/// The sums of calls, in the order of the numbers of their names, the line after the caller's
-/// names. Takes no memory.
-#[derive(Drop)]
-pub struct ArcWalk<'a> {
-    pub(crate) names: &'a Names,
-    pub(crate) rest: NumberedArcs<'a>,
+/// Rows with names by their numbers, one after another, which can be given their names.
+pub trait GivesNames<'a> {
+    ghost use Rattle.std.specs.Prelude.{ℕ, List};
+    ghost use Rattle.std.specs.Iterator.{YieldsFirstBy};
+
+    /// A row with its names.
+    type Named;
+
+    /// The same as a value.
+    ghost Row: { Type 0 };
+
+    ghost plain: { Self.Named → Row };
+
+    /// The rows that are still to come, with their names.
+    ghost rows: { List (List ℕ) → Self → List Row };
+
+    /// The next row, with its names.
+    fn next_named(&mut self, names: &'a Names) -> Option<Self::Named>
+        ensures { YieldsFirstBy plain (rows names.now) self.old result self.new };
 }
 
-impl<'a> Model for ArcWalk<'a> {
+/// Rows with their names, one after another. Takes no memory.
+#[derive(Drop)]
+pub struct Walk<'a, W> {
+    pub(crate) names: &'a Names,
+    pub(crate) rest: W,
+}
+
+/// The sums of calls, in the order of the numbers of their names, the line after the caller's names.
+pub type ArcWalk<'a> = Walk<'a, NumberedArcs<'a>>;
+
+/// The sums of own costs above 0, in the order of the numbers of their names, then by line, then by
+/// event.
+pub type CellWalk<'a> = Walk<'a, NumberedCells<'a>>;
+
+impl<'a, W: GivesNames<'a> + Drop> Iterator for Walk<'a, W> {
+    ghost use Rattle.std.specs.Iterator.{YieldsFirstBy, item_count};
+
+    type Item = W::Named;
+
+    ghost next_gives = { YieldsFirstBy W.plain (λ s. W.rows s.names.now s.rest) };
+
+    ghost remaining = { item_count (λ s. W.rows s.names.now s.rest) };
+
+    fn next(&mut self) -> Option<W::Named> {
+        self.rest.next_named(self.names)
+    }
+}
+
+impl<'a> GivesNames<'a> for NumberedArcs<'a> {
     ghost use Rattle.std.specs.Prelude.{ℕ, List, map};
-    ghost use Rattle.cost_rows.specs.declared.rows.ArcRow.{ArcRow};
+    ghost use Rattle.cost_rows.specs.declared.rows.ArcRow as arcs;
+    ghost use Rattle.cost_rows.specs.Plain.{plain_arc};
     ghost use Rattle.cost_rows.specs.Walks.{arc_named};
 
-    ghost Value = { List (ArcRow (List ℕ) (List ℕ)) };
+    type Named = ArcRow<&'a [u8], &'a [u128]>;
 
-    ghost view = { λ a. map (arc_named a.names.now) a.rest };
-}
+    ghost Row = { arcs.ArcRow (List ℕ) (List ℕ) };
 
-impl<'a> Iterator for ArcWalk<'a> {
-    ghost use Rattle.std.specs.Iterator.{YieldsFirstBy, item_count};
-    ghost use Rattle.cost_rows.specs.Plain.{plain_arc};
+    ghost plain = { plain_arc };
 
-    type Item = ArcRow<&'a [u8], &'a [u128]>;
+    ghost rows = { λ names rest. map (arc_named names) rest };
 
-    ghost next_gives = { YieldsFirstBy plain_arc (λ s. s) };
-
-    ghost remaining = { item_count (λ s. s) };
-
-    fn next(&mut self) -> Option<ArcRow<&'a [u8], &'a [u128]>> {
-        let names = self.names;
-        let row = self.rest.next()?;
+    fn next_named(&mut self, names: &'a Names) -> Option<ArcRow<&'a [u8], &'a [u128]>> {
+        let row = self.next()?;
         Some(ArcRow {
             object: names.name_or_empty(row.object),
             file: names.name_or_empty(row.file),
@@ -48,6 +82,33 @@ impl<'a> Iterator for ArcWalk<'a> {
             called_function: names.name_or_empty(row.called_function),
             count: row.count,
             costs: row.costs,
+        })
+    }
+}
+
+impl<'a> GivesNames<'a> for NumberedCells<'a> {
+    ghost use Rattle.std.specs.Prelude.{ℕ, List, map};
+    ghost use Rattle.cost_rows.specs.declared.rows.CellRow as cells;
+    ghost use Rattle.cost_rows.specs.Plain.{plain_cell};
+    ghost use Rattle.cost_rows.specs.Walks.{cell_named};
+
+    type Named = CellRow<&'a [u8]>;
+
+    ghost Row = { cells.CellRow (List ℕ) };
+
+    ghost plain = { plain_cell };
+
+    ghost rows = { λ names rest. map (cell_named names) rest };
+
+    fn next_named(&mut self, names: &'a Names) -> Option<CellRow<&'a [u8]>> {
+        let row = self.next()?;
+        Some(CellRow {
+            object: names.name_or_empty(row.object),
+            file: names.name_or_empty(row.file),
+            function: names.name_or_empty(row.function),
+            line: row.line,
+            event: row.event,
+            cost: row.cost,
         })
     }
 }
@@ -89,47 +150,5 @@ impl<'a> Iterator for StackWalk<'a> {
             }
         }
         None
-    }
-}
-
-/// The sums of own costs above 0, in the order of the numbers of their names, then by line, then by
-/// event. Takes no memory.
-#[derive(Drop)]
-pub struct CellWalk<'a> {
-    pub(crate) names: &'a Names,
-    pub(crate) rest: NumberedCells<'a>,
-}
-
-impl<'a> Model for CellWalk<'a> {
-    ghost use Rattle.std.specs.Prelude.{ℕ, List, map};
-    ghost use Rattle.cost_rows.specs.declared.rows.CellRow.{CellRow};
-    ghost use Rattle.cost_rows.specs.Walks.{cell_named};
-
-    ghost Value = { List (CellRow (List ℕ)) };
-
-    ghost view = { λ a. map (cell_named a.names.now) a.rest };
-}
-
-impl<'a> Iterator for CellWalk<'a> {
-    ghost use Rattle.std.specs.Iterator.{YieldsFirstBy, item_count};
-    ghost use Rattle.cost_rows.specs.Plain.{plain_cell};
-
-    type Item = CellRow<&'a [u8]>;
-
-    ghost next_gives = { YieldsFirstBy plain_cell (λ s. s) };
-
-    ghost remaining = { item_count (λ s. s) };
-
-    fn next(&mut self) -> Option<CellRow<&'a [u8]>> {
-        let names = self.names;
-        let row = self.rest.next()?;
-        Some(CellRow {
-            object: names.name_or_empty(row.object),
-            file: names.name_or_empty(row.file),
-            function: names.name_or_empty(row.function),
-            line: row.line,
-            event: row.event,
-            cost: row.cost,
-        })
     }
 }
