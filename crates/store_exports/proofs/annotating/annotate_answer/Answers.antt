@@ -1,9 +1,6 @@
-use Rattle.std.proofs.Common.{◌≡◌, true, Ok, Err, Some, None, refl, subst, subst₂, rules}
-use Rattle.sql_tables.proofs.Calls.{asked_rests}
-use Rattle.prof_tables.specs.Schema.{schema_one}
-use Rattle.prof_tables.specs.Tables.{Holds}
+use Rattle.std.proofs.Common.{◌≡◌, Ok, Err, Some, None, refl, subst, subst₂, rules}
 use Rattle.selected_runs.specs.EventRuns.{AreEventRuns}
-use Rattle.selected_runs.proofs.AskLemmas.{asked_of_open}
+use Rattle.selected_runs.proofs.AskLemmas.{asked_twice}
 use Rattle.store_exports.specs.Annotated.{annotated_over}
 use Rattle.store_exports.proofs.AnnotateLemmas.{annotation_is_due, annotation_is_refused}
 use Rattle.store_exports.proofs.annotating.annotate_answer.Goals as goal
@@ -22,42 +19,27 @@ returns-in-Err g c clean =
 pub returns-in-Some : goal.returns-in-Some
 returns-in-Some g c clean =
     let selection = c.args.selection.now in
-    let asks = c.in_ok-text.ensures.asks clean in
-    let early = asks.stays.was_clean in
-    let text = Some c.in-Some.text in
     let event : c.as_slice-event.result.now ≡ c.args.event.now = search rules in
     let name : c.as_slice-name.result.now ≡ c.args.name.now = search rules in
     let source : c.as_slice-source.result.now ≡ c.args.source.now = search rules in
     let runs : c.as_slice.result.now ≡ c.in-Ok.runs = search rules in
-    record {
-      expected_answer = λ h s.
-          let found = subst (λ e. AreEventRuns h s.t selection e (Ok c.in-Ok.runs)) event (rw c.in-Ok.is at (c.in_ok-runs.ensures.told early h s)) in
-          let mid = asked_rests schema_one (Holds s.t) _ _ (c.in_ok-runs.ensures.asks early) s.stands in
-          let told = rw c.in-Some.is at (c.in_ok-text.ensures.told clean s.t mid) in
-          annotation_is_due h s.t selection c.args.event.now c.args.name.now c.args.source.now c.in-Ok.runs text s.tells found
-          (subst₂ (λ n o. text ≡ annotated_over s.t c.in-Ok.runs c.args.event.now n o) name source
-          (subst₂ (λ rs e. text ≡ annotated_over s.t rs e c.as_slice-name.result.now c.as_slice-source.result.now) runs event told));
-      still = refl;
-      asks = asked_of_open schema_one true _ _ _ (c.in_ok-runs.ensures.asks early) asks;
-    }
+    asked_twice g.S.Store _ _ _ _ _ refl c.in_ok-runs.ensures.asks (c.in_ok-text.ensures.asks clean) (λ h s early mid.
+    let found = subst (λ e. AreEventRuns h s.t selection e (Ok c.in-Ok.runs)) event (rw c.in-Ok.is at (c.in_ok-runs.ensures.told early h s)) in
+    let told = rw c.in-Some.is at (c.in_ok-text.ensures.told clean s.t mid) in
+    annotation_is_due h s.t selection c.args.event.now c.args.name.now c.args.source.now c.in-Ok.runs (Some c.in-Some.text) s.tells found
+    (subst₂ (λ n o. Some c.in-Some.text ≡ annotated_over s.t c.in-Ok.runs c.args.event.now n o) name source
+    (subst₂ (λ rs e. Some c.in-Some.text ≡ annotated_over s.t rs e c.as_slice-name.result.now c.as_slice-source.result.now) runs event told)))
 
 pub returns : goal.returns
 returns g c clean =
     let selection = c.args.selection.now in
-    let asks = c.in_ok-text.ensures.asks clean in
-    let early = asks.stays.was_clean in
     let event : c.as_slice-event.result.now ≡ c.args.event.now = search rules in
     let name : c.as_slice-name.result.now ≡ c.args.name.now = search rules in
     let source : c.as_slice-source.result.now ≡ c.args.source.now = search rules in
     let runs : c.as_slice.result.now ≡ c.in-Ok.runs = search rules in
-    record {
-      expected_answer = λ h s.
-          let found = subst (λ e. AreEventRuns h s.t selection e (Ok c.in-Ok.runs)) event (rw c.in-Ok.is at (c.in_ok-runs.ensures.told early h s)) in
-          let mid = asked_rests schema_one (Holds s.t) _ _ (c.in_ok-runs.ensures.asks early) s.stands in
-          let told = rw c.in-None.is at (c.in_ok-text.ensures.told clean s.t mid) in
-          annotation_is_due h s.t selection c.args.event.now c.args.name.now c.args.source.now c.in-Ok.runs None s.tells found
-          (subst₂ (λ n o. None ≡ annotated_over s.t c.in-Ok.runs c.args.event.now n o) name source
-          (subst₂ (λ rs e. None ≡ annotated_over s.t rs e c.as_slice-name.result.now c.as_slice-source.result.now) runs event told));
-      still = refl;
-      asks = asked_of_open schema_one true _ _ _ (c.in_ok-runs.ensures.asks early) asks;
-    }
+    asked_twice g.S.Store _ _ _ _ _ refl c.in_ok-runs.ensures.asks (c.in_ok-text.ensures.asks clean) (λ h s early mid.
+    let found = subst (λ e. AreEventRuns h s.t selection e (Ok c.in-Ok.runs)) event (rw c.in-Ok.is at (c.in_ok-runs.ensures.told early h s)) in
+    let told = rw c.in-None.is at (c.in_ok-text.ensures.told clean s.t mid) in
+    annotation_is_due h s.t selection c.args.event.now c.args.name.now c.args.source.now c.in-Ok.runs None s.tells found
+    (subst₂ (λ n o. None ≡ annotated_over s.t c.in-Ok.runs c.args.event.now n o) name source
+    (subst₂ (λ rs e. None ≡ annotated_over s.t rs e c.as_slice-name.result.now c.as_slice-source.result.now) runs event told)))

@@ -1,9 +1,6 @@
-use Rattle.std.proofs.Common.{◌≡◌, true, refl, subst, rules}
-use Rattle.sql_tables.proofs.Calls.{asked_rests}
-use Rattle.prof_tables.specs.Schema.{schema_one}
-use Rattle.prof_tables.specs.Tables.{Holds}
+use Rattle.std.proofs.Common.{◌≡◌, refl, subst, rules}
 use Rattle.store_reports.specs.Checked.{AreChecked}
-use Rattle.selected_runs.proofs.AskLemmas.{asked_of_open}
+use Rattle.selected_runs.proofs.AskLemmas.{asked_twice}
 use Rattle.store_reports.proofs.CheckLemmas.{verify_is_due, verify_is_refused}
 use Rattle.store_reports.proofs.checking.verify_answer.Goals as goal
 
@@ -16,15 +13,8 @@ returns-in-Err g c clean = record {
 
 pub returns : goal.returns
 returns g c clean =
-    let asks = c.in_ok-text.ensures.asks clean in
-    let early = asks.stays.was_clean in
     let text = c.in_ok-text.text in
     let numbers : c.as_slice.result.now ≡ c.in-Ok.numbers = search rules in
-    record {
-      expected_answer = λ h s.
-          let found = rw c.in-Ok.is at (c.in_ok-numbers.ensures.told early h s) in
-          let mid = asked_rests schema_one (Holds s.t) _ _ (c.in_ok-numbers.ensures.asks early) s.stands in
-          verify_is_due h s.t c.args.selection.now c.in-Ok.numbers text s.tells found (subst (λ ns. AreChecked s.t ns text) numbers (c.in_ok-text.ensures.told clean s.t mid));
-      still = refl;
-      asks = asked_of_open schema_one true _ _ _ (c.in_ok-numbers.ensures.asks early) asks;
-    }
+    asked_twice g.S.Store _ _ _ _ _ refl c.in_ok-numbers.ensures.asks (c.in_ok-text.ensures.asks clean) (λ h s early mid.
+    let found = rw c.in-Ok.is at (c.in_ok-numbers.ensures.told early h s) in
+    verify_is_due h s.t c.args.selection.now c.in-Ok.numbers text s.tells found (subst (λ ns. AreChecked s.t ns text) numbers (c.in_ok-text.ensures.told clean s.t mid)))
