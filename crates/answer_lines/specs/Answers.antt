@@ -44,6 +44,11 @@ line_text Done = codes "done\n"
 line_text (Text text) = text
 line_text (Refused refusal) = refused_line (reason_text refusal)
 
+-- whether memory is taken for the line of an answer; a text is written from where it lies
+abbrev pub takes_memory : Answer → Bool
+takes_memory (Text text) = false
+takes_memory answer = true
+
 abbrev pub is_refused : Answer → Bool
 is_refused (Refused refusal) = true
 is_refused answer = false

@@ -1,10 +1,10 @@
 -- What is replied to a request, and how it is sent.
-use Rattle.std.specs.Prelude.{◌≡◌, ◌⊎◌, ℕ, Bool, true, false, IsTrue, List, []}
+use Rattle.std.specs.Prelude.{◌≡◌, ◌⊎◌, ℕ, true, false, IsTrue, List, []}
 use Rattle.histories.specs.declared.answers.Answer.{Answer}
 use Rattle.histories.specs.declared.answers.Answer.TheVariants as answers
 use Rattle.histories.specs.declared.answers.Refusal.{Refusal}
 use Rattle.histories.specs.declared.answers.Refusal.TheVariants as reasons
-use Rattle.answer_lines.specs.Answers.{line_text}
+use Rattle.answer_lines.specs.Answers.{line_text, takes_memory}
 use Rattle.http_exchanges.specs.Failings as checks
 use Rattle.http_exchanges.specs.Responses.{code_of, response_text}
 use Rattle.http_exchanges.specs.declared.failings.Failing.{Failing}
@@ -42,11 +42,6 @@ status_of (answers.Held n) = is.Okay
 status_of answers.Done = is.Okay
 status_of (answers.Text text) = is.Okay
 status_of (answers.Refused refusal) = refused_status refusal
-
--- whether memory is taken for the line of an answer; a text is sent from where it lies
-abbrev pub takes_memory : Answer → Bool
-takes_memory (answers.Text text) = false
-takes_memory answer = true
 
 -- ---- what is sent
 

@@ -1,5 +1,5 @@
 -- What is done over an opened store, in the words of a history.
-use Rattle.std.specs.Prelude.{◌≡◌, ◌⊎◌, ℕ, if◌then◌else◌, List, [], ◌∷◌, ◌++◌, map, Option, take, Result, MatchResult}
+use Rattle.std.specs.Prelude.{◌≡◌, ◌⊎◌, ℕ, IsTrue, if◌then◌else◌, List, [], ◌∷◌, ◌++◌, map, Option, take, Result, MatchResult}
 use Rattle.std.specs.Io.KnownBytes.{Appends}
 use Rattle.std.specs.List.{list_any}
 use Rattle.sqlite_trees.specs.declared.store.Store.{Ghosts}
@@ -14,7 +14,7 @@ use Rattle.histories.specs.declared.answers.Refusal.TheVariants.{Memory}
 use Rattle.store_histories.specs.Answered.{HasHistory, Links}
 use Rattle.program_files.specs.Imported.{WereRead}
 use Rattle.store_commands.specs.Changes.{change_said}
-use Rattle.answer_lines.specs.Answers.{is_refused, line_text}
+use Rattle.answer_lines.specs.Answers.{is_refused, line_text, takes_memory}
 use Rattle.histories.specs.declared.answers.Selection.{Selection}
 use Rattle.sessions.specs.Questions.{query_said, selection_said}
 use Rattle.sessions.specs.declared.session.Session.{Session}
@@ -56,9 +56,9 @@ answers_of turns = map (λ (turn : Turn). turn.answer) turns
 abbrev pub status_after : ℕ → List Answer → ℕ
 status_after status answers = if list_any is_refused answers then 1 else status
 
--- the line of an answer, or that of out of memory, where there was none for its line
+-- the line of an answer, or that of out of memory, where there was none for its line; a text takes none
 abbrev pub IsLineOf : Answer → List ℕ → Type 0
-IsLineOf answer line = (line ≡ line_text answer) ⊎ (line ≡ line_text (Refused Memory))
+IsLineOf answer line = (line ≡ line_text answer) ⊎ (IsTrue (takes_memory answer) × (line ≡ line_text (Refused Memory)))
 
 -- the lines of answers, one after another
 abbrev pub AreLinesOf : List Answer → List ℕ → Type 0
