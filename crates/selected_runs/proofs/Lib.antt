@@ -1,3 +1,4 @@
+pub mod AddedLemmas
 pub mod AnyLemmas
 pub mod AskLemmas
 mod CountedLemmas

@@ -1,5 +1,5 @@
 -- Runs with how often their events count in the event that is asked.
-use Rattle.std.specs.Prelude.{◌≡◌, ℕ, Bool, List, [], ◌∷◌, length, unwrap_or}
+use Rattle.std.specs.Prelude.{◌≡◌, ℕ, Bool, List, [], ◌∷◌, ◌++◌, length, unwrap_or}
 use Rattle.std.specs.Option.{is_some}
 use Rattle.cg_formulas.specs.Flats.{row_of}
 use Rattle.cg_formulas.specs.declared.heads.FileHead.{FileHead}
@@ -22,6 +22,10 @@ abbrev pub AreCounted : Tables → List ℕ → List ℕ → List Counted → Ty
 AreCounted t event [] [] = Unit {0}
 AreCounted t event (number ∷ numbers) (run ∷ runs) = IsCounted t event number run × AreCounted t event numbers runs
 AreCounted t event numbers runs = ⊥
+
+-- a run was added
+abbrev pub AddsCounted : Tables → List ℕ → ℕ → List Counted → List Counted → Type 0
+AddsCounted t event number old new = (run : Counted) × IsCounted t event number run × (new ≡ old ++ run ∷ [])
 
 -- the cells of a run, which cost nothing in an event that it does not have
 abbrev pub event_cells : Tables → Counted → EventCells

@@ -1,3 +1,4 @@
+pub mod Added
 pub mod Counted
 pub mod EventRuns
 pub mod Heads

@@ -1,6 +1,6 @@
 // What rows cost in the event that is asked. Tables that another program filled may say anything, so each
 // sum is compared with its bound.
-ghost use Rattle.std.specs.Prelude.{◌≡◌, ◌+◌, ◌*◌, ◌<◌, ◌^◌, IfSome, IsTrue, slice_index};
+ghost use Rattle.std.specs.Prelude.{◌≡◌, ◌+◌, ◌*◌, ◌<◌, ◌≤◌, ◌^◌, false, None, IfSome, IsTrue, slice_index};
 ghost use Rattle.cost_rows.specs.Plain.{plain_cell};
 ghost use Rattle.cost_reports.specs.Costs.{weighted};
 
@@ -11,7 +11,8 @@ const TOO_MUCH: u128 = 1 << 112;
 
 /// Whether what is there and more of it stay within the bound.
 pub fn is_within(before: u128, more: u128) -> bool
-    ensures { IsTrue result → before + more < 2 ^ 112 }
+    ensures within { IsTrue result → before + more < 2 ^ 112 }
+    ensures past { result ≡ false → 2 ^ 112 ≤ before + more }
 {
     match before.checked_add(more) {
         Some(total) => total < TOO_MUCH,
@@ -21,7 +22,8 @@ pub fn is_within(before: u128, more: u128) -> bool
 
 /// What a row costs that counts so often, where that and the costs before it stay within the bound.
 pub fn cost_within(before: u128, times: u64, cost: u128) -> Option<u128>
-    ensures { IfSome result (λ n. (n ≡ times * cost) × (before + n < 2 ^ 112)) }
+    ensures within { IfSome result (λ n. (n ≡ times * cost) × (before + n < 2 ^ 112)) }
+    ensures past { result ≡ None → 2 ^ 112 ≤ before + times * cost }
 {
     let cost = u128::from(times).checked_mul(cost)?;
     let total = before.checked_add(cost)?;
@@ -43,7 +45,8 @@ pub fn weighted_within<'a>(
     row: &CellRow<&'a [u8]>,
 ) -> Option<CellRow<&'a [u8]>>
     ensures row { IfSome result (λ cell. plain_cell cell ≡ weighted counts.now (plain_cell row.now)) }
-    ensures small { IfSome result (λ cell. before + cell.cost < 2 ^ 112) }
+    ensures within { IfSome result (λ cell. before + cell.cost < 2 ^ 112) }
+    ensures past { result ≡ None → 2 ^ 112 ≤ before + (weighted counts.now (plain_cell row.now)).cost }
 {
     let cost = cost_within(before, times_of(counts, row.event), row.cost)?;
     Some(CellRow {

@@ -1,10 +1,11 @@
 // How often the events of runs count in the event that is asked.
-ghost use Rattle.std.specs.Prelude.{◌≡◌, ◌∷◌, [], map, take, IfOk};
+ghost use Rattle.std.specs.Prelude.{◌≡◌, ◌∷◌, [], map, take, unwrap_or, IfOk};
 ghost use Rattle.std.specs.Result.{is_ok};
 ghost use Rattle.prof_store.specs.Shown.{Told, Asks};
 ghost use Rattle.held_runs.specs.Walks.{AsksIfOpen};
 ghost use Rattle.selected_runs.specs.Counted.{IsCounted, AreCounted};
 
+use crate::adding::{AddsRuns, add_runs};
 use cg_text::ListVec;
 use held_runs::head_of;
 use prof_store::{Store, StoreError};
@@ -18,6 +19,18 @@ pub struct Counted {
     /// How many events it has.
     pub events: usize,
     pub counts: Option<ListVec<u64>>,
+}
+
+impl Counted {
+    /// How often its columns count in the event: none, where it does not have it.
+    pub fn event_counts(&self) -> &[u64]
+        ensures { result.now ≡ unwrap_or self.now.counts [] }
+    {
+        match &self.counts {
+            Some(counts) => counts.as_slice(),
+            None => &[],
+        }
+    }
 }
 
 /// A run of this number, by its head.
@@ -40,6 +53,37 @@ fn count_run<S: Alter>(
     })
 }
 
+/// Counts runs in the event that is asked.
+#[derive(Drop)]
+struct EventCounts<'a> {
+    alloc: Global,
+    event: &'a [u8],
+}
+
+impl AddsRuns for EventCounts<'_> {
+    ghost use Rattle.selected_runs.specs.Counted.{AddsCounted};
+
+    type Run = u32;
+
+    type Sums = Vec<Counted>;
+
+    ghost Step = { λ s t number old new. AddsCounted t s.event.now number old.items new.items };
+
+    fn add<S: Alter>(
+        &self,
+        store: &mut Store<S>,
+        number: &u32,
+        runs: Vec<Counted>,
+    ) -> Result<Vec<Counted>, StoreError> {
+        let run = count_run(store, self.alloc, *number, self.event)?;
+        let mut runs = runs;
+        if runs.push(run).is_err() {
+            return Err(StoreError::Memory);
+        }
+        Ok(runs)
+    }
+}
+
 /// The runs of these numbers.
 pub fn count_runs<S: Alter>(
     store: &mut Store<S>,
@@ -50,12 +94,6 @@ pub fn count_runs<S: Alter>(
     ensures told { Told S.Store result store.old store.new (λ t runs. AreCounted t event.now numbers.now runs.items) }
     ensures asks { AsksIfOpen S.Store (is_ok result) store.old store.new }
 {
-    let mut runs = Vec::new(alloc);
-    for number in numbers {
-        let run = count_run(store, alloc, *number, event)?;
-        if runs.push(run).is_err() {
-            return Err(StoreError::Memory);
-        }
-    }
-    Ok(runs)
+    let counts = EventCounts { alloc, event };
+    add_runs(store, &counts, numbers, Vec::new(alloc))
 }

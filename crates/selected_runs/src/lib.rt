@@ -1,6 +1,8 @@
 //! Which runs of a store a selection names, and how often their events count in the one that is asked.
 #![tactic(auto)]
 
+// Adds runs one after another (specs/Added.antt).
+mod adding;
 // What rows cost, within the bound of sums.
 mod bounds;
 // How often the columns of runs count in the event (specs/Counted.antt).
@@ -12,6 +14,7 @@ mod runs_asked;
 // Finds the runs of a selection (specs/Selected.antt).
 mod selecting;
 
+pub use adding::{AddsRuns, add_runs};
 pub use bounds::{cost_within, is_within, weighted_within};
 pub use counting::{Counted, count_runs};
 pub use laws::{heads_are_told, runs_cost_what_files_cost};

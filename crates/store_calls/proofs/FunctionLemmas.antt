@@ -4,7 +4,6 @@ use Rattle.std.specs.Prelude.{unwrap_or}
 use Rattle.std.specs.List.{list_any, AllByRecursion}
 use Rattle.std.proofs.lemmas.Bool.Decides.{nat_tests}
 use Rattle.std.proofs.lemmas.Grind.{fold-append}
-use Rattle.std.proofs.lemmas.List.{take_more}
 use Rattle.sqlite_rules.specs.Lists.{Has}
 use Rattle.cost_rows.specs.Keys.{place_of_row}
 use Rattle.cost_rows.specs.StackSums.{frames_sum}
@@ -40,6 +39,7 @@ use Rattle.histories.specs.declared.answers.Refusal.TheVariants.{NoSuchName}
 use Rattle.histories.specs.declared.answers.Selection.{Selection}
 use Rattle.histories.proofs.Runs.{tells_rows}
 use Rattle.histories.proofs.Tests.{any-append}
+use Rattle.selected_runs.specs.Added.{AreAdded}
 use Rattle.selected_runs.specs.EventRuns.{AreEventRuns}
 use Rattle.store_calls.specs.FunctionCalls.{AreArcsOf, AreTakenFrom, IsCallsText, IsTakenFrom, Taken, is_in_cells, is_in_rows, is_in_stacks, not_taken, text_taken, touches, with_call, with_cell_sought, with_row_of_calls, with_stack_sought}
 use Rattle.selected_runs.specs.declared.counting.Counted.{Counted}
@@ -74,35 +74,23 @@ stacks_sought f b (r ∷ stacks) =
 
 -- ---- runs, one after another
 
-arcs_more : (t : Tables) (runs : List Counted) (run : Counted) (rows : List EventArcs) (r : EventArcs) → AreArcsOf runs t rows → r.coefs ≡ unwrap_or run.counts [] → AreCallsOf run.number t r.arcs
-    → AreArcsOf (runs ++ run ∷ []) t (rows ++ r ∷ [])
-arcs_more t [] run [] r all coefs are = (coefs, are, tt)
-arcs_more t [] run (q ∷ rows) r all coefs are = absurd all
-arcs_more t (q ∷ runs) run [] r all coefs are = absurd all
-arcs_more t (q ∷ runs) run (x ∷ rows) r all coefs are = (all.0, all.1, arcs_more t runs run rows r all.2 coefs are)
+module _ {M : Type 0} {P : Type 0} (taken : M → Taken) (t : Tables) (given : P) where
+  pub calls_added : (runs : List Counted) (before after : M) → AreAdded (λ run old new. P → IsTakenFrom t run (taken old) (taken new)) runs before after → AreTakenFrom t runs (taken before) (taken after)
+  calls_added [] before after all = ([], tt, ap taken all)
+  calls_added (run ∷ runs) before after all =
+      let one = all.1 given in
+      let rest = calls_added runs all.0 after all.2 in
+      let counts : List ℕ = unwrap_or run.counts [] in (
+        record { coefs = counts; arcs = one.0 } ∷ rest.0,
+        (refl, one.1, rest.1),
+        rest.2 ∙ ap (λ m. fold with_call m (all_arcs rest.0)) one.2 ∙ sym (fold-append with_call (taken before) (map (weighted_calls counts) one.0) (all_arcs rest.0)),
+      )
 
-all_more : (rows : List EventArcs) (r : EventArcs) → all_arcs (rows ++ r ∷ []) ≡ all_arcs rows ++ map (weighted_calls r.coefs) r.arcs
-all_more [] r = last_nil (map (weighted_calls r.coefs) r.arcs)
-  where
-    last_nil : (xs : List Calls) → xs ++ [] ≡ xs
-    last_nil [] = refl
-    last_nil (x ∷ xs) = ap (λ l. x ∷ l) (last_nil xs)
-all_more (q ∷ rows) r = ap (λ l. map (weighted_calls q.coefs) q.arcs ++ l) (all_more rows r) ∙ assoc (map (weighted_calls q.coefs) q.arcs) (all_arcs rows) (map (weighted_calls r.coefs) r.arcs)
-  where
-    assoc : (xs ys zs : List Calls) → xs ++ (ys ++ zs) ≡ (xs ++ ys) ++ zs
-    assoc [] ys zs = refl
-    assoc (x ∷ xs) ys zs = ap (λ l. x ∷ l) (assoc xs ys zs)
-
-pub taken_so_far : (t : Tables) (runs : List Counted) (at : ℕ) (d : Counted) (old mid new : Taken) → at < length runs → AreTakenFrom t (take at runs) old mid → IsTakenFrom t (get_or runs at d) mid new
-    → AreTakenFrom t (take (at + 1) runs) old new
-taken_so_far t runs at d old mid new low all one =
-    let run = get_or runs at d in
-    let r : EventArcs = record { coefs = unwrap_or run.counts []; arcs = one.0 } in (
-      all.0 ++ r ∷ [],
-      subst (λ rs. AreArcsOf rs t (all.0 ++ r ∷ [])) (sym (take_more runs at d low)) (arcs_more t (take at runs) run all.0 r all.1 refl one.1),
-      one.2 ∙ ap (λ m. fold with_call m (map (weighted_calls r.coefs) r.arcs)) all.2 ∙ sym (fold-append with_call old (all_arcs all.0) (map (weighted_calls r.coefs) r.arcs))
-          ∙ ap (fold with_call old) (sym (all_more all.0 r)),
-    )
+pub seen_added : {P : Type 0} (is_in : Counted → Bool) → P → (runs : List Counted) (before after : Bool) → AreAdded (λ run old new. P → new ≡ old || is_in run) runs before after
+    → after ≡ before || list_any is_in runs
+seen_added is_in given [] before after all = all ∙ or_none before
+seen_added is_in given (run ∷ runs) before after all =
+    seen_added is_in given runs all.0 after all.2 ∙ ap (λ b. b || list_any is_in runs) (all.1 given) ∙ or_then before (is_in run) (list_any is_in runs)
 
 -- ---- what was taken
 

@@ -4,7 +4,6 @@ use Rattle.std.specs.Prelude.{unwrap_or}
 use Rattle.std.specs.List.{AllByRecursion}
 use Rattle.std.specs.Option.{is_some, MatchOption}
 use Rattle.std.proofs.lemmas.Grind.{fold-append}
-use Rattle.std.proofs.lemmas.List.{take_more}
 use Rattle.sqlite_rules.specs.Lists.{Has}
 use Rattle.cost_rows.specs.KeySums.{rows_of, with_row}
 use Rattle.cost_rows.specs.StackSums.{frames_sum}
@@ -39,6 +38,7 @@ use Rattle.histories.specs.declared.answers.Refusal.{Refusal}
 use Rattle.histories.specs.declared.answers.Selection.{Selection}
 use Rattle.histories.proofs.Runs.{tells_rows}
 use Rattle.std.specs.Prelude.{Ok, Err}
+use Rattle.selected_runs.specs.Added.{AreAdded}
 use Rattle.selected_runs.specs.EventRuns.{AreEventRuns}
 use Rattle.store_calls.specs.InclusiveRuns.{Adds, AreRowsOf, AreRowsOfKind, AreRowsOfRuns, IsInclusiveText, call_rows, own_rows, with_call_row, with_own_row, with_stack_row}
 use Rattle.selected_runs.specs.declared.counting.Counted.{Counted}
@@ -62,18 +62,16 @@ stacks_taken counts costs (stack ∷ stacks) = stacks_taken counts (with_inclusi
 
 -- ---- runs one after another
 
-rows_more : (t : Tables) (runs : List Counted) (run : Counted) (rows more : List InclusiveRow) → AreRowsOfRuns t runs rows → AreRowsOf t run more → AreRowsOfRuns t (runs ++ run ∷ []) (rows ++ more)
-rows_more t [] run rows more all one = (more, [], one, refl, ap (λ l. l ++ more) all ∙ sym (append-nil more))
-rows_more t (r ∷ runs) run rows more all one =
-    (all.0, all.1 ++ more, all.2, rows_more t runs run all.1 more all.3 one, ap (λ l. l ++ more) all.4 ∙ append_assoc all.0 all.1 more)
-
-pub rows_so_far : (t : Tables) (runs : List Counted) (at : ℕ) (d : Counted) (old mid new : InclusiveCosts) → at < length runs → Adds (AreRowsOfRuns t (take at runs)) old mid → Adds (AreRowsOf t (get_or runs at d)) mid new
-    → Adds (AreRowsOfRuns t (take (at + 1) runs)) old new
-rows_so_far t runs at d old mid new low all one = (
-  all.0 ++ one.0,
-  subst (λ rs. AreRowsOfRuns t rs (all.0 ++ one.0)) (sym (take_more runs at d low)) (rows_more t (take at runs) (get_or runs at d) all.0 one.0 all.1 one.1),
-  one.2 ∙ ap (λ costs. fold with_inclusive costs one.0) all.2 ∙ sym (fold-append with_inclusive old all.0 one.0),
-)
+pub rows_added : {P : Type 0} (t : Tables) → P → (runs : List Counted) (before after : InclusiveCosts) → AreAdded (λ run old new. P → Adds (AreRowsOf t run) old new) runs before after
+    → Adds (AreRowsOfRuns t runs) before after
+rows_added t given [] before after all = ([], refl, all)
+rows_added t given (run ∷ runs) before after all =
+    let one = all.1 given in
+    let rest = rows_added t given runs all.0 after all.2 in (
+      one.0 ++ rest.0,
+      (one.0, rest.0, one.1, rest.1, refl),
+      rest.2 ∙ ap (λ costs. fold with_inclusive costs rest.0) one.2 ∙ sym (fold-append with_inclusive before one.0 rest.0),
+    )
 
 -- ---- the rows of one file
 

@@ -1,5 +1,5 @@
 // The answers to questions of who calls a function, and whom it calls.
-ghost use Rattle.std.specs.Prelude.{◌≡◌, ◌||◌, [], IfOk, unwrap_or};
+ghost use Rattle.std.specs.Prelude.{◌≡◌, ◌||◌, IfOk};
 ghost use Rattle.std.specs.List.{list_any};
 ghost use Rattle.std.specs.Result.{is_ok};
 ghost use Rattle.cost_reports.specs.Calls.{call_report_of, call_report_text};
@@ -8,7 +8,7 @@ ghost use Rattle.prof_store.specs.Shown.{Told};
 ghost use Rattle.held_runs.specs.Walks.{AsksIfOpen};
 ghost use Rattle.histories.specs.declared.answers.Query.TheVariants.{Calls};
 ghost use Rattle.store_histories.specs.Answered.{Asks as AnswersAsked};
-ghost use Rattle.store_calls.specs.FunctionCalls.{AreTakenFrom, IsCallsText, IsTakenFrom, is_in_rows, not_taken, taken_of, text_taken};
+ghost use Rattle.store_calls.specs.FunctionCalls.{IsCallsText, is_in_rows, not_taken, taken_of, text_taken};
 
 use crate::function_calls::{CallRows, FunctionCalls};
 use crate::known_names::is_in_runs;
@@ -17,54 +17,39 @@ use cost_reports::{CallSide, CallSums, calls};
 use held_runs::{HeldNames, each_call, names_of};
 use histories::{Answer, Refusal, Selection};
 use prof_store::{Store, StoreError};
-use selected_runs::{Counted, event_runs};
+use selected_runs::{AddsRuns, Counted, add_runs, event_runs};
 use sqlite::Alter;
 use std::alloc::{AllocError, Global};
 
-/// How often the columns of a run count in the event: none, where it does not have it.
-fn counts_of(run: &Counted) -> &[u64]
-    ensures { result.now ≡ unwrap_or run.now.counts [] }
-{
-    match &run.counts {
-        Some(counts) => counts.as_slice(),
-        None => &[],
-    }
+/// Adds the calls of runs, by the names that are held.
+#[derive(Drop)]
+struct CallsOfRuns<'n> {
+    alloc: Global,
+    names: &'n HeldNames,
 }
 
-/// Adds the calls of a run.
-fn add_run<'n, S: Alter>(
-    store: &mut Store<S>,
-    alloc: Global,
-    names: &HeldNames,
-    run: &Counted,
-    calls: FunctionCalls<'n>,
-) -> Result<FunctionCalls<'n>, StoreError>
-    ensures told { Told S.Store result store.old store.new (λ t all. names.now ≡ t.names → IsTakenFrom t run.now (taken_of calls.entry) (taken_of all)) }
-    ensures asks { AsksIfOpen S.Store (is_ok result) store.old store.new }
-{
-    let counts = counts_of(run);
-    let rows = CallRows { counts, calls };
-    let all = each_call(store, alloc, run.number, names, run.events, rows)?;
-    let CallRows { counts: _, calls } = all;
-    Ok(calls)
-}
+impl<'n> AddsRuns for CallsOfRuns<'n> {
+    ghost use Rattle.std.specs.Prelude.{◌≡◌};
+    ghost use Rattle.store_calls.specs.FunctionCalls.{IsTakenFrom, taken_of};
 
-/// Adds the calls of runs, one run after another.
-fn add_runs<'n, S: Alter>(
-    store: &mut Store<S>,
-    alloc: Global,
-    names: &HeldNames,
-    runs: &[Counted],
-    calls: FunctionCalls<'n>,
-) -> Result<FunctionCalls<'n>, StoreError>
-    ensures told { Told S.Store result store.old store.new (λ t all. names.now ≡ t.names → AreTakenFrom t runs.now (taken_of calls.entry) (taken_of all)) }
-    ensures asks { AsksIfOpen S.Store (is_ok result) store.old store.new }
-{
-    let mut calls = calls;
-    for run in runs {
-        calls = add_run(store, alloc, names, run, calls)?;
+    type Run = Counted;
+
+    type Sums = FunctionCalls<'n>;
+
+    ghost Step = { λ s t run old new. s.names.now ≡ t.names → IsTakenFrom t run (taken_of old) (taken_of new) };
+
+    fn add<S: Alter>(
+        &self,
+        store: &mut Store<S>,
+        run: &Counted,
+        calls: FunctionCalls<'n>,
+    ) -> Result<FunctionCalls<'n>, StoreError> {
+        let counts = run.event_counts();
+        let rows = CallRows { counts, calls };
+        let all = each_call(store, self.alloc, run.number, self.names, run.events, rows)?;
+        let CallRows { counts: _, calls } = all;
+        Ok(calls)
     }
-    Ok(calls)
 }
 
 /// The calls of a function before the first row.
@@ -145,7 +130,11 @@ fn calls_text<S: Alter>(
 {
     let none = no_calls(alloc, side, object, name)?;
     let names = names_of(store, alloc)?;
-    let all = add_runs(store, alloc, &names, runs, none)?;
+    let adder = CallsOfRuns {
+        alloc,
+        names: &names,
+    };
+    let all = add_runs(store, &adder, runs, none)?;
     text_if_known(store, alloc, &names, runs, &all, event)
 }
 

@@ -2,7 +2,7 @@
 ghost use Rattle.std.specs.Prelude.{◌≡◌, IfOk};
 ghost use Rattle.std.specs.List.{AllByRecursion};
 ghost use Rattle.std.specs.Result.{is_ok};
-ghost use Rattle.cost_reports.specs.Inclusive.{inclusive_report, inclusive_text, no_costs};
+ghost use Rattle.cost_reports.specs.Inclusive.{inclusive_report, inclusive_text};
 ghost use Rattle.profile_records.specs.declared.kinds.Kind.TheVariants.{Callgrind, Folded};
 ghost use Rattle.prof_tables.specs.RunLines.{cells_in};
 ghost use Rattle.prof_store.specs.Shown.{Told};
@@ -10,7 +10,7 @@ ghost use Rattle.held_runs.specs.HeldCells.{IsOfAnEvent};
 ghost use Rattle.held_runs.specs.Walks.{AsksIfOpen};
 ghost use Rattle.histories.specs.declared.answers.Query.TheVariants.{Inclusive};
 ghost use Rattle.store_histories.specs.Answered.{Asks as AnswersAsked};
-ghost use Rattle.store_calls.specs.InclusiveRuns.{Adds, AreRowsCounted, AreRowsOf, AreRowsOfKind, AreRowsOfRuns, IsInclusiveText};
+ghost use Rattle.store_calls.specs.InclusiveRuns.{Adds, AreRowsCounted, AreRowsOfKind, IsInclusiveText};
 
 use crate::inclusive_sums::InclusiveRows;
 use cg_text::ListVec;
@@ -19,7 +19,7 @@ use held_runs::{HeldNames, each_call, each_cell, each_stack, kind_of, names_of};
 use histories::{Answer, Selection};
 use prof_store::{Store, StoreError};
 use profile_records::Kind;
-use selected_runs::{Counted, event_runs};
+use selected_runs::{AddsRuns, Counted, add_runs, event_runs};
 use sqlite::Alter;
 use std::alloc::{AllocError, Global};
 
@@ -78,38 +78,34 @@ fn add_rows<S: Alter>(
     }
 }
 
-/// Adds a run. One without the event costs nothing.
-fn add_run<S: Alter>(
-    store: &mut Store<S>,
+/// Adds runs to inclusive costs, by the names that are held. One without the event costs nothing.
+#[derive(Drop)]
+struct InclusiveOfRuns<'n> {
     alloc: Global,
-    names: &HeldNames,
-    run: &Counted,
-    sums: InclusiveSums,
-) -> Result<InclusiveSums, StoreError>
-    ensures told { Told S.Store result store.old store.new (λ t all. names.now ≡ t.names → Adds (AreRowsOf t run.now) sums all) }
-    ensures asks { AsksIfOpen S.Store (is_ok result) store.old store.new }
-{
-    match &run.counts {
-        Some(counts) => add_rows(store, alloc, names, run, counts.as_slice(), sums),
-        None => Ok(sums),
-    }
+    names: &'n HeldNames,
 }
 
-/// The inclusive costs of runs, one run after another.
-fn add_runs<S: Alter>(
-    store: &mut Store<S>,
-    alloc: Global,
-    names: &HeldNames,
-    runs: &[Counted],
-) -> Result<InclusiveSums, StoreError>
-    ensures told { Told S.Store result store.old store.new (λ t all. names.now ≡ t.names → Adds (AreRowsOfRuns t runs.now) no_costs all) }
-    ensures asks { AsksIfOpen S.Store (is_ok result) store.old store.new }
-{
-    let mut sums = InclusiveSums::new(alloc);
-    for run in runs {
-        sums = add_run(store, alloc, names, run, sums)?;
+impl AddsRuns for InclusiveOfRuns<'_> {
+    ghost use Rattle.std.specs.Prelude.{◌≡◌};
+    ghost use Rattle.store_calls.specs.InclusiveRuns.{Adds, AreRowsOf};
+
+    type Run = Counted;
+
+    type Sums = InclusiveSums;
+
+    ghost Step = { λ s t run old new. s.names.now ≡ t.names → Adds (AreRowsOf t run) old new };
+
+    fn add<S: Alter>(
+        &self,
+        store: &mut Store<S>,
+        run: &Counted,
+        sums: InclusiveSums,
+    ) -> Result<InclusiveSums, StoreError> {
+        match &run.counts {
+            Some(counts) => add_rows(store, self.alloc, self.names, run, counts.as_slice(), sums),
+            None => Ok(sums),
+        }
     }
-    Ok(sums)
 }
 
 /// The text of some inclusive costs.
@@ -135,7 +131,8 @@ fn text_of_runs<S: Alter>(
     ensures told { Told S.Store result store.old store.new (λ t text. names.now ≡ t.names → IsInclusiveText t runs.now event.now text) }
     ensures asks { AsksIfOpen S.Store (is_ok result) store.old store.new }
 {
-    let sums = add_runs(store, alloc, names, runs)?;
+    let adder = InclusiveOfRuns { alloc, names };
+    let sums = add_runs(store, &adder, runs, InclusiveSums::new(alloc))?;
     Ok(text_of_sums(alloc, &sums, event)?)
 }
 

@@ -13,7 +13,7 @@ use cost_reports::is_frame;
 use cost_rows::{CellRow, StackRow};
 use held_runs::{HeldNames, TakesCells, TakesStacks, each_cell, each_stack};
 use prof_store::{Store, StoreError};
-use selected_runs::Counted;
+use selected_runs::{AddsRuns, Counted, add_runs};
 use sqlite::Alter;
 
 /// A function, and whether it was found.
@@ -82,6 +82,38 @@ fn is_in_run<S: Alter>(
     Ok(all.found)
 }
 
+/// Looks for a function in runs, by the names that are held. Once it is found no more rows are read.
+#[derive(Drop)]
+struct SeeksFunction<'a> {
+    names: &'a HeldNames,
+    object: &'a [u8],
+    name: &'a [u8],
+}
+
+impl AddsRuns for SeeksFunction<'_> {
+    ghost use Rattle.std.specs.Prelude.{◌≡◌, ◌||◌};
+    ghost use Rattle.cost_reports.specs.Functions.{function_spot};
+    ghost use Rattle.store_calls.specs.FunctionCalls.{is_in_rows};
+
+    type Run = Counted;
+
+    type Sums = bool;
+
+    ghost Step = { λ s t run old new. s.names.now ≡ t.names → new ≡ old || is_in_rows t (function_spot s.object.now s.name.now) run };
+
+    fn add<S: Alter>(
+        &self,
+        store: &mut Store<S>,
+        run: &Counted,
+        found: bool,
+    ) -> Result<bool, StoreError> {
+        if found {
+            return Ok(true);
+        }
+        is_in_run(store, self.names, run, self.object, self.name)
+    }
+}
+
 /// Whether a function has own costs in one of some runs, or a frame in a stack.
 pub(crate) fn is_in_runs<S: Alter>(
     store: &mut Store<S>,
@@ -94,10 +126,10 @@ pub(crate) fn is_in_runs<S: Alter>(
         → found ≡ list_any (is_in_rows t (function_spot object.now name.now)) runs.now) }
     ensures asks { AsksIfOpen S.Store (is_ok result) store.old store.new }
 {
-    for run in runs {
-        if is_in_run(store, names, run, object, name)? {
-            return Ok(true);
-        }
-    }
-    Ok(false)
+    let seeker = SeeksFunction {
+        names,
+        object,
+        name,
+    };
+    add_runs(store, &seeker, runs, false)
 }

@@ -4,7 +4,6 @@ use Rattle.std.specs.Prelude.{unwrap_or}
 use Rattle.std.specs.List.{AllByRecursion, list_any}
 use Rattle.std.specs.Ordering.{nat_cmp}
 use Rattle.std.proofs.lemmas.Grind.{fold-append}
-use Rattle.std.proofs.lemmas.List.{take_more}
 use Rattle.sqlite_rules.specs.Lists.{Has}
 use Rattle.cost_exports.specs.Amounts.{with_amount}
 use Rattle.cost_exports.specs.Annotations.{FileCosts, HaveCostsEach, annotation_of, annotation_text, know_file, no_lines, with_line}
@@ -32,6 +31,8 @@ use Rattle.selected_runs.specs.Counted.{event_cells}
 use Rattle.selected_runs.specs.EventRuns.{AreEventRuns}
 use Rattle.selected_runs.specs.declared.counting.Counted.{Counted}
 use Rattle.selected_runs.proofs.EventLemmas.{both_held}
+use Rattle.selected_runs.specs.Added.{AreAdded}
+use Rattle.selected_runs.proofs.AddedLemmas.{added_fold}
 use Rattle.selected_runs.proofs.RunLemmas.{AreRunsOf, are_runs, runs_stand, selected_held}
 use Rattle.store_exports.specs.Annotated.{annotated_if_known, annotated_over, lines_from, lines_over}
 
@@ -49,10 +50,9 @@ runs_added t start [] = refl
 runs_added t start (run ∷ runs) =
     runs_added t (lines_from t start run) runs ∙ sym (fold-append with_line start (map (weighted (unwrap_or run.counts [])) (cells_held run.number t)) (all_rows (map (event_cells t) runs)))
 
-pub run_added : (t : Tables) (start : FileCosts) (runs : List Counted) (at : ℕ) (d : Counted) (before : FileCosts) → at < length runs → before ≡ fold (lines_from t) start (take at runs)
-    → lines_from t before (get_or runs at d) ≡ fold (lines_from t) start (take (at + 1) runs)
-run_added t start runs at d before low was =
-    ap (λ c. lines_from t c (get_or runs at d)) was ∙ sym (fold-append (lines_from t) start (take at runs) (get_or runs at d ∷ [])) ∙ ap (fold (lines_from t) start) (sym (take_more runs at d low))
+pub lines_from_runs : {P : Type 0} (t : Tables) (name : List ℕ) → P → (runs : List Counted) (before after : FileCosts) → before ≡ no_lines name → AreAdded (λ run old new. P → new ≡ lines_from t old run) runs before after
+    → after ≡ fold (lines_from t) (no_lines name) runs
+lines_from_runs t name given runs before after none added = added_fold (lines_from t) given runs before after added ∙ ap (λ c. fold (lines_from t) c runs) none
 
 -- ---- the text over runs
 

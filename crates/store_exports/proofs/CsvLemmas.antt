@@ -1,8 +1,6 @@
 -- What places cost by the names of events over runs, and what is answered of it.
 use Rattle.std.proofs.Common.{◌≡◌, ℕ, ◌+◌, ◌<◌, List, [], ◌∷◌, ◌++◌, map, fold, length, get_or, take, Ok, Err, refl, sym, ap, subst, ◌∙◌}
 use Rattle.std.specs.List.{AllByRecursion}
-use Rattle.std.proofs.lemmas.Grind.{fold-append}
-use Rattle.std.proofs.lemmas.List.{take_more}
 use Rattle.sqlite_rules.specs.Lists.{Has}
 use Rattle.cost_exports.specs.Csv.{EventSpot, NamedCells, NamesStandForEach, csv_of_cells, csv_text, with_cell_in, with_cells}
 use Rattle.cost_exports.proofs.ColumnLemmas.{csv-records}
@@ -21,6 +19,7 @@ use Rattle.histories.specs.declared.answers.Query.TheVariants as queries
 use Rattle.histories.specs.declared.answers.Refusal.{Refusal}
 use Rattle.histories.specs.declared.answers.Selection.{Selection}
 use Rattle.histories.proofs.Runs.{tells_rows}
+use Rattle.selected_runs.specs.Added.{AreAdded}
 use Rattle.selected_runs.specs.Selected.{AreSelected}
 use Rattle.selected_runs.proofs.HeadLemmas.{held_head_told}
 use Rattle.selected_runs.proofs.RunLemmas.{selected_held}
@@ -35,23 +34,13 @@ pub cells_taken : (events : List (List ℕ)) (sums : List (EventSpot × ℕ)) (c
 cells_taken events sums [] = refl
 cells_taken events sums (cell ∷ cells) = cells_taken events (with_cell_in events sums cell) cells
 
-named_more : (t : Tables) (numbers : List ℕ) (runs : List NamedCells) (number : ℕ) (r : NamedCells) → AreNamedRuns t numbers runs → AreNamedCells t number r → AreNamedRuns t (numbers ++ number ∷ []) (runs ++ r ∷ [])
-named_more t [] [] number r all one = (one, tt)
-named_more t [] (q ∷ runs) number r all one = absurd all
-named_more t (n ∷ numbers) [] number r all one = absurd all
-named_more t (n ∷ numbers) (q ∷ runs) number r all one = (all.0, named_more t numbers runs number r all.1 one)
-
-pub sums_none : (t : Tables) → AreSums t [] []
-sums_none t = ([], tt, refl)
-
-pub sums_so_far : (t : Tables) (numbers : List ℕ) (at : ℕ) (sums more : List (EventSpot × ℕ)) → at < length numbers → AreSums t (take at numbers) sums → AddsRun t (get_or numbers at 0) sums more → AreSums t (take (at + 1) numbers) more
-sums_so_far t numbers at sums more low all one =
-    let runs = all.0 in
-    let r = one.0 in (
-      runs ++ r ∷ [],
-      subst (λ ns. AreNamedRuns t ns (runs ++ r ∷ [])) (sym (take_more numbers at 0 low)) (named_more t (take at numbers) runs (get_or numbers at 0) r all.1 one.1),
-      one.2 ∙ ap (λ s. with_cells s r) all.2 ∙ sym (fold-append with_cells [] runs (r ∷ [])),
-    )
+pub cells_added : {P : Type 0} (t : Tables) → P → (numbers : List ℕ) (before after : List (EventSpot × ℕ)) → AreAdded (λ number old new. P → AddsRun t number old new) numbers before after
+    → (runs : List NamedCells) × AreNamedRuns t numbers runs × (after ≡ fold with_cells before runs)
+cells_added t given [] before after all = ([], tt, all)
+cells_added t given (number ∷ numbers) before after all =
+    let one = all.1 given in
+    let rest = cells_added t given numbers all.0 after all.2 in
+    (one.0 ∷ rest.0, (one.1, rest.1), rest.2 ∙ ap (λ sums. fold with_cells sums rest.0) one.2)
 
 -- ---- from runs to files
 

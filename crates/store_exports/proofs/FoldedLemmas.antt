@@ -3,7 +3,6 @@ use Rattle.std.proofs.Common.{◌≡◌, ℕ, ◌+◌, ◌<◌, List, [], ◌∷
 use Rattle.std.specs.Prelude.{flat_map}
 use Rattle.std.specs.List.{AllByRecursion}
 use Rattle.std.proofs.lemmas.Grind.{fold-append}
-use Rattle.std.proofs.lemmas.List.{take_more}
 use Rattle.sqlite_rules.specs.Lists.{Has}
 use Rattle.cost_exports.specs.Folded.{folded_of_rows, folded_text, with_stack}
 use Rattle.cost_exports.proofs.StackLemmas.{same_folded}
@@ -24,24 +23,19 @@ use Rattle.histories.specs.declared.answers.Query.TheVariants as queries
 use Rattle.histories.specs.declared.answers.Refusal.{Refusal}
 use Rattle.histories.specs.declared.answers.Selection.{Selection}
 use Rattle.histories.proofs.Runs.{tells_rows}
+use Rattle.selected_runs.specs.Added.{AreAdded}
 use Rattle.selected_runs.specs.Selected.{AreSelected}
 use Rattle.selected_runs.proofs.RunLemmas.{selected_held}
-use Rattle.store_exports.specs.FoldedRuns.{folded_over, stacks_over}
+use Rattle.store_exports.specs.FoldedRuns.{folded_over, stacks_from, stacks_over}
 
--- ---- the stacks of one run more
+-- ---- the stacks of runs, one run after another
 
-over_more : (t : Tables) (numbers : List ℕ) (number : ℕ) → stacks_over t (numbers ++ number ∷ []) ≡ stacks_over t numbers ++ stacks_held number t
-over_more t [] number = append-nil (stacks_held number t)
-over_more t (n ∷ numbers) number = ap (λ l. stacks_held n t ++ l) (over_more t numbers number) ∙ sym (append_assoc (stacks_held n t) (stacks_over t numbers) (stacks_held number t))
-
-pub stacks_so_far : (t : Tables) (numbers : List ℕ) (at : ℕ) (sums more : List (List ℕ × ℕ)) → at < length numbers → sums ≡ folded_of_rows (stacks_over t (take at numbers))
-    → more ≡ fold with_stack sums (stacks_held (get_or numbers at 0) t) → more ≡ folded_of_rows (stacks_over t (take (at + 1) numbers))
-stacks_so_far t numbers at sums more low was is =
-    let number = get_or numbers at 0 in
-    is ∙ ap (λ s. fold with_stack s (stacks_held number t)) was
-    ∙ sym (fold-append with_stack [] (stacks_over t (take at numbers)) (stacks_held number t))
-    ∙ ap folded_of_rows (sym (over_more t (take at numbers) number))
-    ∙ ap (λ ns. folded_of_rows (stacks_over t ns)) (sym (take_more numbers at 0 low))
+pub stacks_added : {M : Type 0} (sums : M → List (List ℕ × ℕ)) (t : Tables) (numbers : List ℕ) (before after : M) → AreAdded (λ number old new. sums new ≡ stacks_from t (sums old) number) numbers before after
+    → sums after ≡ fold with_stack (sums before) (stacks_over t numbers)
+stacks_added sums t [] before after all = ap sums all
+stacks_added sums t (number ∷ numbers) before after all =
+    stacks_added sums t numbers all.0 after all.2 ∙ ap (λ s. fold with_stack s (stacks_over t numbers)) all.1
+    ∙ sym (fold-append with_stack (sums before) (stacks_held number t) (stacks_over t numbers))
 
 -- ---- from runs to files
 

@@ -1,6 +1,6 @@
 -- Stacks with their counts over runs of the tables.
-use Rattle.std.specs.Prelude.{ℕ, List, flat_map}
-use Rattle.cost_exports.specs.Folded.{folded_of_rows, folded_text}
+use Rattle.std.specs.Prelude.{ℕ, List, fold, flat_map}
+use Rattle.cost_exports.specs.Folded.{folded_of_rows, folded_text, with_stack}
 use Rattle.cost_rows.specs.declared.rows.StackRow.{StackRow}
 use Rattle.prof_books.specs.Book.{stacks_held}
 use Rattle.prof_tables.specs.Tables.{Tables}
@@ -8,6 +8,10 @@ use Rattle.prof_tables.specs.Tables.{Tables}
 -- the stacks of runs, one run after another
 abbrev pub stacks_over : Tables → List ℕ → List (StackRow (List ℕ))
 stacks_over t numbers = flat_map (λ n. stacks_held n t) numbers
+
+-- the stacks of a run are added
+abbrev pub stacks_from : Tables → List (List ℕ × ℕ) → ℕ → List (List ℕ × ℕ)
+stacks_from t counts number = fold with_stack counts (stacks_held number t)
 
 abbrev pub folded_over : Tables → List ℕ → List ℕ
 folded_over t numbers = folded_text (folded_of_rows (stacks_over t numbers))

@@ -1,8 +1,7 @@
 // The answers to questions of what the lines of a source cost.
-ghost use Rattle.std.specs.Prelude.{◌≡◌, [], fold, unwrap_or};
+ghost use Rattle.std.specs.Prelude.{◌≡◌};
 ghost use Rattle.std.specs.List.{AllByRecursion};
 ghost use Rattle.std.specs.Result.{is_ok};
-ghost use Rattle.cost_exports.specs.Annotations.{no_lines, with_line};
 ghost use Rattle.prof_tables.specs.RunLines.{cells_in};
 ghost use Rattle.prof_store.specs.Shown.{Told};
 ghost use Rattle.held_runs.specs.HeldCells.{IsOfAnEvent};
@@ -17,19 +16,9 @@ use cost_exports::{LineSums, annotate};
 use held_runs::{HeldNames, each_cell, names_of};
 use histories::{Answer, Refusal, Selection};
 use prof_store::{Store, StoreError};
-use selected_runs::{Counted, event_runs};
+use selected_runs::{AddsRuns, Counted, add_runs, event_runs};
 use sqlite::Alter;
 use std::alloc::Global;
-
-/// How often the columns of a run count in the event: none, where it does not have it.
-fn counts_of(run: &Counted) -> &[u64]
-    ensures { result.now ≡ unwrap_or run.now.counts [] }
-{
-    match &run.counts {
-        Some(counts) => counts.as_slice(),
-        None => &[],
-    }
-}
 
 /// Adds the cells of a run. Those of a run without the event cost nothing, but tell that it has the file.
 fn add_run<S: Alter>(
@@ -43,7 +32,7 @@ fn add_run<S: Alter>(
     ensures asks { AsksIfOpen S.Store (is_ok result) store.old store.new }
 {
     let rows = LineRows {
-        counts: counts_of(run),
+        counts: run.event_counts(),
         sums,
     };
     let all = each_cell(store, run.number, names, run.events, rows)?;
@@ -51,22 +40,30 @@ fn add_run<S: Alter>(
     Ok(sums)
 }
 
-/// What the lines of a file cost, one run after another.
-fn add_runs<S: Alter>(
-    store: &mut Store<S>,
-    alloc: Global,
-    names: &HeldNames,
-    runs: &[Counted],
-    name: &[u8],
-) -> Result<LineSums, StoreError>
-    ensures told { Told S.Store result store.old store.new (λ t all. names.now ≡ t.names → all ≡ fold (lines_from t) (no_lines name.now) runs.now) }
-    ensures asks { AsksIfOpen S.Store (is_ok result) store.old store.new }
-{
-    let mut sums = LineSums::new(alloc, name)?;
-    for run in runs {
-        sums = add_run(store, names, run, sums)?;
+/// Adds runs to what the lines of a file cost, by the names that are held.
+#[derive(Drop)]
+struct LinesOfRuns<'n> {
+    names: &'n HeldNames,
+}
+
+impl AddsRuns for LinesOfRuns<'_> {
+    ghost use Rattle.std.specs.Prelude.{◌≡◌};
+    ghost use Rattle.store_exports.specs.Annotated.{lines_from};
+
+    type Run = Counted;
+
+    type Sums = LineSums;
+
+    ghost Step = { λ s t run old new. s.names.now ≡ t.names → new ≡ lines_from t old run };
+
+    fn add<S: Alter>(
+        &self,
+        store: &mut Store<S>,
+        run: &Counted,
+        sums: LineSums,
+    ) -> Result<LineSums, StoreError> {
+        add_run(store, self.names, run, sums)
     }
-    Ok(sums)
 }
 
 /// The text of a source with what its lines cost over some runs, if one of them knows the file.
@@ -82,7 +79,8 @@ fn annotated_text<S: Alter>(
     ensures asks { AsksIfOpen S.Store (is_ok result) store.old store.new }
 {
     let names = names_of(store, alloc)?;
-    let sums = add_runs(store, alloc, &names, runs, name)?;
+    let lines = LinesOfRuns { names: &names };
+    let sums = add_runs(store, &lines, runs, LineSums::new(alloc, name)?)?;
     if !sums.is_known() {
         return Ok(None);
     }

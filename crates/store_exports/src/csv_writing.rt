@@ -10,7 +10,7 @@ ghost use Rattle.held_runs.specs.HeldHeads.{IsHeadIn};
 ghost use Rattle.held_runs.specs.Walks.{AsksIfOpen};
 ghost use Rattle.histories.specs.declared.answers.Query.TheVariants.{Csv};
 ghost use Rattle.store_histories.specs.Answered.{Asks as AnswersAsked};
-ghost use Rattle.store_exports.specs.CsvRuns.{AddsRun, AreSums, IsCsvText};
+ghost use Rattle.store_exports.specs.CsvRuns.{AddsRun, IsCsvText};
 
 use crate::takers::NamedRows;
 use cg_text::ListVec;
@@ -18,7 +18,7 @@ use cost_exports::{CellSums, csv_text};
 use held_runs::{HeldNames, each_cell, head_of, names_of};
 use histories::{Answer, Selection};
 use prof_store::{Store, StoreError};
-use selected_runs::select_runs;
+use selected_runs::{AddsRuns, add_runs, select_runs};
 use sqlite::Alter;
 use std::alloc::Global;
 
@@ -43,21 +43,31 @@ fn add_run<S: Alter>(
     Ok(sums)
 }
 
-/// What places cost by the names of events, one run after another.
-fn add_runs<S: Alter>(
-    store: &mut Store<S>,
+/// Adds runs to what places cost by the names of events, by the names that are held.
+#[derive(Drop)]
+struct CellsOfRuns<'n> {
     alloc: Global,
-    names: &HeldNames,
-    numbers: &[u32],
-) -> Result<CellSums, StoreError>
-    ensures told { Told S.Store result store.old store.new (λ t all. names.now ≡ t.names → AreSums t numbers.now all) }
-    ensures asks { AsksIfOpen S.Store (is_ok result) store.old store.new }
-{
-    let mut sums = CellSums::new(alloc);
-    for number in numbers {
-        sums = add_run(store, alloc, names, *number, sums)?;
+    names: &'n HeldNames,
+}
+
+impl AddsRuns for CellsOfRuns<'_> {
+    ghost use Rattle.std.specs.Prelude.{◌≡◌};
+    ghost use Rattle.store_exports.specs.CsvRuns.{AddsRun};
+
+    type Run = u32;
+
+    type Sums = CellSums;
+
+    ghost Step = { λ s t number old new. s.names.now ≡ t.names → AddsRun t number old new };
+
+    fn add<S: Alter>(
+        &self,
+        store: &mut Store<S>,
+        number: &u32,
+        sums: CellSums,
+    ) -> Result<CellSums, StoreError> {
+        add_run(store, self.alloc, self.names, *number, sums)
     }
-    Ok(sums)
 }
 
 /// The self costs of some runs as CSV.
@@ -70,7 +80,11 @@ fn text_of_runs<S: Alter>(
     ensures asks { AsksIfOpen S.Store (is_ok result) store.old store.new }
 {
     let names = names_of(store, alloc)?;
-    let sums = add_runs(store, alloc, &names, numbers)?;
+    let cells = CellsOfRuns {
+        alloc,
+        names: &names,
+    };
+    let sums = add_runs(store, &cells, numbers, CellSums::new(alloc))?;
     Ok(csv_text(alloc, &sums)?)
 }
 

@@ -1,12 +1,11 @@
 // The answers to questions of stacks as folded text.
 ghost use Rattle.std.specs.Prelude.{◌≡◌};
 ghost use Rattle.std.specs.Result.{is_ok};
-ghost use Rattle.cost_exports.specs.Folded.{folded_of_rows};
 ghost use Rattle.prof_store.specs.Shown.{Told};
 ghost use Rattle.held_runs.specs.Walks.{AsksIfOpen};
 ghost use Rattle.histories.specs.declared.answers.Query.TheVariants.{Folded};
 ghost use Rattle.store_histories.specs.Answered.{Asks as AnswersAsked};
-ghost use Rattle.store_exports.specs.FoldedRuns.{folded_over, stacks_over};
+ghost use Rattle.store_exports.specs.FoldedRuns.{folded_over};
 
 use crate::takers::StackRows;
 use cg_text::ListVec;
@@ -14,26 +13,32 @@ use cost_exports::{StackSums, folded_text};
 use held_runs::each_stack;
 use histories::{Answer, Selection};
 use prof_store::{Store, StoreError};
-use selected_runs::select_runs;
+use selected_runs::{AddsRuns, add_runs, select_runs};
 use sqlite::Alter;
 use std::alloc::Global;
 
-/// The stacks of runs with their counts, one run after another. Callgrind runs have none.
-fn add_runs<S: Alter>(
-    store: &mut Store<S>,
-    alloc: Global,
-    numbers: &[u32],
-) -> Result<StackSums, StoreError>
-    ensures told { Told S.Store result store.old store.new (λ t sums. sums ≡ folded_of_rows (stacks_over t numbers.now)) }
-    ensures asks { AsksIfOpen S.Store (is_ok result) store.old store.new }
-{
-    let mut rows = StackRows {
-        sums: StackSums::new(alloc),
-    };
-    for number in numbers {
-        rows = each_stack(store, *number, rows)?;
+/// Adds the stacks of runs with their counts. Callgrind runs have none.
+#[derive(Drop)]
+struct StacksOfRuns;
+
+impl AddsRuns for StacksOfRuns {
+    ghost use Rattle.std.specs.Prelude.{◌≡◌};
+    ghost use Rattle.store_exports.specs.FoldedRuns.{stacks_from};
+
+    type Run = u32;
+
+    type Sums = StackRows;
+
+    ghost Step = { λ s t number old new. new.sums ≡ stacks_from t old.sums number };
+
+    fn add<S: Alter>(
+        &self,
+        store: &mut Store<S>,
+        number: &u32,
+        rows: StackRows,
+    ) -> Result<StackRows, StoreError> {
+        each_stack(store, *number, rows)
     }
-    Ok(rows.sums)
 }
 
 /// The stacks of some runs as folded text.
@@ -45,8 +50,11 @@ fn text_of_runs<S: Alter>(
     ensures told { Told S.Store result store.old store.new (λ t text. text ≡ folded_over t numbers.now) }
     ensures asks { AsksIfOpen S.Store (is_ok result) store.old store.new }
 {
-    let sums = add_runs(store, alloc, numbers)?;
-    Ok(folded_text(alloc, &sums)?)
+    let rows = StackRows {
+        sums: StackSums::new(alloc),
+    };
+    let all = add_runs(store, &StacksOfRuns, numbers, rows)?;
+    Ok(folded_text(alloc, &all.sums)?)
 }
 
 /// Answers the stacks of folded runs with their counts, over the runs of a selection: a folded text, or the

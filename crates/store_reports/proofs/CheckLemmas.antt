@@ -1,7 +1,6 @@
 -- The lines of runs that are checked are those of the files of a selection.
 use Rattle.std.proofs.Common.{◌≡◌, ℕ, suc, ◌+◌, ◌<◌, List, [], ◌∷◌, ◌++◌, map, length, get_or, take, Ok, Err, append_assoc, append-nil, refl, sym, ap, ap₂, subst, ◌∙◌}
 use Rattle.std.specs.List.{AllByRecursion}
-use Rattle.std.proofs.lemmas.List.{take_more}
 use Rattle.sqlite_rules.specs.Lists.{Has}
 use Rattle.cost_reports.specs.Verifying.{verified, verify_text}
 use Rattle.prof_tables.specs.Tables.{Tables, EventLine}
@@ -19,23 +18,20 @@ use Rattle.histories.specs.declared.answers.Query.TheVariants.{Verify}
 use Rattle.histories.specs.declared.answers.Refusal.{Refusal}
 use Rattle.histories.specs.declared.answers.Selection.{Selection}
 use Rattle.store_reports.specs.Checked.{IsChecked, IsRunChecked, AreChecked}
+use Rattle.selected_runs.specs.Added.{AreAdded}
 use Rattle.selected_runs.specs.Selected.{AreSelected}
 use Rattle.selected_runs.proofs.HeadLemmas.{held_head_told, line_of, verified_told}
 use Rattle.selected_runs.proofs.RunLemmas.{selected_held}
 
 -- ---- one after another
 
-checked_more : (t : Tables) (numbers : List ℕ) (number : ℕ) (text lines : List ℕ) → AreChecked t numbers text → IsRunChecked t number lines → AreChecked t (numbers ++ number ∷ []) (text ++ lines)
-checked_more t [] number text lines all one = (lines, [], one, refl, ap (λ x. x ++ lines) all ∙ sym (append-nil lines))
-checked_more t (n ∷ numbers) number text lines all one =
-    let first = all.0 in
-    let more = all.1 in
-    (first, more ++ lines, all.2, checked_more t numbers number more lines all.3 one, ap (λ x. x ++ lines) all.4 ∙ append_assoc first more lines)
-
-pub checked_so_far : (t : Tables) (numbers : List ℕ) (at : ℕ) (text more : List ℕ) → at < length numbers → AreChecked t (take at numbers) text → IsChecked t (get_or numbers at 0) text more → AreChecked t (take (at + 1) numbers) more
-checked_so_far t numbers at text more low all one =
-    subst (λ ns. AreChecked t ns more) (sym (take_more numbers at 0 low))
-    (subst (AreChecked t (take at numbers ++ get_or numbers at 0 ∷ [])) (sym one.2) (checked_more t (take at numbers) (get_or numbers at 0) text one.0 all one.1))
+pub lines_added : {M : Type 0} (items : M → List ℕ) (t : Tables) (numbers : List ℕ) (before after : M) → AreAdded (λ number old new. IsChecked t number (items old) (items new)) numbers before after
+    → (text : List ℕ) × AreChecked t numbers text × (items after ≡ items before ++ text)
+lines_added items t [] before after all = ([], refl, ap items all ∙ sym (append-nil (items before)))
+lines_added items t (number ∷ numbers) before after all =
+    let one = all.1 in
+    let rest = lines_added items t numbers all.0 after all.2 in
+    (one.0 ++ rest.0, (one.0, rest.0, one.1, rest.1, refl), rest.2 ∙ ap (λ l. l ++ rest.0) one.2 ∙ append_assoc (items before) one.0 rest.0)
 
 -- ---- of one file
 

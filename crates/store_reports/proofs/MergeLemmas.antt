@@ -2,7 +2,6 @@
 use Rattle.std.proofs.Common.{◌≡◌, ℕ, ◌+◌, ◌*◌, ◌<◌, Bool, true, false, if◌then◌else◌, nat_eq, List, [], ◌∷◌, map, fold, length, get_or, take, refl, sym, ap, ◌∙◌, arith}
 use Rattle.std.specs.Prelude.{unwrap_or}
 use Rattle.std.proofs.lemmas.Grind.{fold-append}
-use Rattle.std.proofs.lemmas.List.{take_more}
 use Rattle.cost_rows.specs.KeySums.{Sums, sums_with, with_row}
 use Rattle.cost_rows.specs.Keys.{part_of, place_of_row}
 use Rattle.cost_rows.specs.declared.rows.CellRow.{CellRow}
@@ -51,11 +50,6 @@ pub runs_merged : (t : Tables) (start : Sums) (runs : List Counted) → fold (me
 runs_merged t start [] = refl
 runs_merged t start (run ∷ runs) =
     runs_merged t (merged_from t start run) runs ∙ sym (fold-append with_row start (map (weighted (unwrap_or run.counts [])) (cells_held run.number t)) (all_rows (map (event_cells t) runs)))
-
-pub run_merged : (t : Tables) (start : Sums) (runs : List Counted) (at : ℕ) (d : Counted) (before : Sums) → at < length runs → before ≡ fold (merged_from t) start (take at runs)
-    → merged_from t before (get_or runs at d) ≡ fold (merged_from t) start (take (at + 1) runs)
-run_merged t start runs at d before low was =
-    ap (λ s. merged_from t s (get_or runs at d)) was ∙ sym (fold-append (merged_from t) start (take at runs) (get_or runs at d ∷ [])) ∙ ap (fold (merged_from t) start) (sym (take_more runs at d low))
 
 -- the report over what was merged
 pub report_merged : (t : Tables) (key : Key) (event : List ℕ) (cut : Cut) (runs : List Counted) (merged : Sums) → merged ≡ fold (merged_from t) (record { key = key; sums = [] }) runs

@@ -15,7 +15,7 @@ use cost_reports::verify;
 use held_runs::{head_of, sums_of};
 use histories::{Answer, Selection};
 use prof_store::{Store, StoreError};
-use selected_runs::select_runs;
+use selected_runs::{AddsRuns, add_runs, select_runs};
 use sqlite::Alter;
 use std::alloc::{AllocError, Global};
 
@@ -63,6 +63,33 @@ fn check_run<S: Alter>(
     push_sums(store, alloc, number, &head, text)
 }
 
+/// Adds the lines of runs to a text.
+#[derive(Drop)]
+struct ChecksOfRuns {
+    alloc: Global,
+}
+
+impl AddsRuns for ChecksOfRuns {
+    ghost use Rattle.store_reports.specs.Checked.{IsChecked};
+
+    type Run = u32;
+
+    type Sums = Vec<u8>;
+
+    ghost Step = { λ s t number old new. IsChecked t number old.items new.items };
+
+    fn add<S: Alter>(
+        &self,
+        store: &mut Store<S>,
+        number: &u32,
+        text: Vec<u8>,
+    ) -> Result<Vec<u8>, StoreError> {
+        let mut text = text;
+        check_run(store, self.alloc, *number, &mut text)?;
+        Ok(text)
+    }
+}
+
 /// The lines of runs.
 fn check_runs<S: Alter>(
     store: &mut Store<S>,
@@ -72,10 +99,8 @@ fn check_runs<S: Alter>(
     ensures told { Told S.Store result store.old store.new (λ t text. AreChecked t numbers.now text) }
     ensures asks { AsksIfOpen S.Store (is_ok result) store.old store.new }
 {
-    let mut text = Vec::new(alloc);
-    for number in numbers {
-        check_run(store, alloc, *number, &mut text)?;
-    }
+    let checks = ChecksOfRuns { alloc };
+    let text = add_runs(store, &checks, numbers, Vec::new(alloc))?;
     Ok(ListVec::from_vec(text))
 }
 

@@ -13,7 +13,7 @@ use crate::event_sums::EventSums;
 use cost_rows::{Key, Merged};
 use held_runs::{HeldNames, each_cell};
 use prof_store::{Store, StoreError};
-use selected_runs::Counted;
+use selected_runs::{AddsRuns, Counted, add_runs};
 use sqlite::Alter;
 use std::alloc::Global;
 
@@ -35,19 +35,32 @@ fn add_cells<S: Alter>(
     Ok(merged)
 }
 
-/// Adds a run. One without the event costs nothing.
-fn add_run<S: Alter>(
-    store: &mut Store<S>,
-    names: &HeldNames,
-    run: &Counted,
-    merged: Merged,
-) -> Result<Merged, StoreError>
-    ensures told { Told S.Store result store.old store.new (λ t sums. names.now ≡ t.names → sums ≡ merged_from t merged run.now) }
-    ensures asks { AsksIfOpen S.Store (is_ok result) store.old store.new }
-{
-    match &run.counts {
-        Some(counts) => add_cells(store, names, run.number, counts.as_slice(), merged),
-        None => Ok(merged),
+/// Adds runs to sums by key, by the names that are held. One without the event costs nothing.
+#[derive(Drop)]
+struct CellsOfRuns<'n> {
+    names: &'n HeldNames,
+}
+
+impl AddsRuns for CellsOfRuns<'_> {
+    ghost use Rattle.std.specs.Prelude.{◌≡◌};
+    ghost use Rattle.store_reports.specs.Reported.{merged_from};
+
+    type Run = Counted;
+
+    type Sums = Merged;
+
+    ghost Step = { λ s t run old new. s.names.now ≡ t.names → new ≡ merged_from t old run };
+
+    fn add<S: Alter>(
+        &self,
+        store: &mut Store<S>,
+        run: &Counted,
+        merged: Merged,
+    ) -> Result<Merged, StoreError> {
+        match &run.counts {
+            Some(counts) => add_cells(store, self.names, run.number, counts.as_slice(), merged),
+            None => Ok(merged),
+        }
     }
 }
 
@@ -63,9 +76,6 @@ pub(crate) fn merge_runs<S: Alter>(
         → sums ≡ fold (merged_from t) (record { key = key; sums = [] }) runs.now) }
     ensures asks { AsksIfOpen S.Store (is_ok result) store.old store.new }
 {
-    let mut merged = Merged::new(alloc, key);
-    for run in runs {
-        merged = add_run(store, names, run, merged)?;
-    }
-    Ok(merged)
+    let cells = CellsOfRuns { names };
+    add_runs(store, &cells, runs, Merged::new(alloc, key))
 }

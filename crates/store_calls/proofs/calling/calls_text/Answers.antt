@@ -5,7 +5,7 @@ use Rattle.prof_tables.specs.Schema.{schema_one}
 use Rattle.prof_tables.specs.Tables.{Holds}
 use Rattle.selected_runs.proofs.AskLemmas.{if_ok_so}
 use Rattle.store_calls.specs.FunctionCalls.{AreTakenFrom, taken_of}
-use Rattle.store_calls.proofs.FunctionLemmas.{text_of_taken}
+use Rattle.store_calls.proofs.FunctionLemmas.{calls_added, text_of_taken}
 use Rattle.store_calls.proofs.calling.calls_text.Goals as goal
 
 pub returns-clause-told : goal.returns-clause-told
@@ -18,5 +18,5 @@ returns-clause-told g c clean t stands =
     let named = c.in_ok-names.ensures.told early t stands in
     let one = asked_rests schema_one (Holds t) _ _ (c.in_ok-names.ensures.asks early) stands in
     let two = asked_rests_yet schema_one (Holds t) _ _ (c.in_ok-all.ensures.asks later) one in
-    let from = subst (λ m. AreTakenFrom t runs m all) c.in_ok-none.ensures (c.in_ok-all.ensures.told later t one named) in
+    let from = subst (λ m. AreTakenFrom t runs m all) c.in_ok-none.ensures (calls_added taken_of t named runs _ _ (c.in_ok-all.ensures.told later t one)) in
     if_ok_so c.text_if_known.result (λ text told. text_of_taken t runs c.args.side f c.args.event.now all text from (told named)) (c.text_if_known.ensures.told clean t two)

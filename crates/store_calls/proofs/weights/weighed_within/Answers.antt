@@ -8,7 +8,7 @@ loop-column-preserved c =
     let counts = c.args.counts.now in
     let costs = c.args.costs.now in
     let low : k < length counts = search rules in
-    let one = c.in_ok-cost.ensures in
+    let one = c.in_ok-cost.ensures.within in
     let cost : c.in_ok-cost.cost ≡ get_or counts k 0 * slice_index costs k = search rules in
     record {
       value = ap₂ ◌+◌ c.loop-column.invariant.value cost ∙ sym (weighed_more k counts costs low);

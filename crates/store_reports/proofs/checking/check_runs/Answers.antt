@@ -1,21 +1,12 @@
-use Rattle.std.proofs.Common.{◌<◌, length, arith}
-use Rattle.sql_tables.proofs.Calls.{asked_more, asked_rests_yet}
-use Rattle.prof_tables.specs.Schema.{schema_one}
-use Rattle.prof_tables.specs.Tables.{Holds}
-use Rattle.store_reports.proofs.CheckLemmas.{checked_so_far}
+use Rattle.std.proofs.Common.{◌≡◌, [], ◌++◌, subst, sym, ap, ◌∙◌, rules}
+use Rattle.store_reports.specs.Checked.{AreChecked}
+use Rattle.store_reports.proofs.CheckLemmas.{lines_added}
 use Rattle.store_reports.proofs.checking.check_runs.Goals as goal
 
-pub loop-number-preserved : goal.loop-number-preserved
-loop-number-preserved g c =
-    let i = c.loop-number.invariant in
+pub returns-clause-told : goal.returns-clause-told
+returns-clause-told g c clean t stands =
     let numbers = c.args.numbers.now in
-    let at = c.loop-number.number-index in
-    let low : at < length numbers = omega arith in
-    let one = c.in_ok-check_run.ensures in
-    record {
-      asked = λ clean. let asks = one.asks clean in asked_more schema_one _ _ _ (i.asked asks.stays.was_clean) asks;
-      told = λ clean t stands.
-          let early = (one.asks clean).stays.was_clean in
-          let mid = asked_rests_yet schema_one (Holds t) _ _ (i.asked early) stands in
-          checked_so_far t numbers at _ _ low (i.told early t stands) (one.told clean t mid);
-    }
+    let none : c.new.result.items ≡ [] = search rules in
+    let text : c.from_vec.result ≡ c.in_ok-text.text.items = search rules in
+    let all = lines_added (λ (v : _). v.items) t numbers _ _ (c.in_ok-text.ensures.told clean t stands) in
+    subst (AreChecked t numbers) (sym (text ∙ all.2 ∙ ap (λ l. l ++ all.0) none)) all.1

@@ -1,24 +1,11 @@
-use Rattle.std.proofs.Common.{◌<◌, true, [], length, ap, ◌∙◌, arith}
-use Rattle.sql_tables.proofs.Calls.{asked_rests_yet}
-use Rattle.prof_tables.specs.Schema.{schema_one}
-use Rattle.prof_tables.specs.Tables.{Holds}
-use Rattle.held_runs.proofs.Asking.{asked_open_then}
+use Rattle.std.proofs.Common.{◌≡◌, [], fold, ap, ◌∙◌}
+use Rattle.selected_runs.proofs.AddedLemmas.{added_fold}
+use Rattle.selected_runs.proofs.AskLemmas.{if_ok_so}
 use Rattle.store_reports.specs.Reported.{merged_from}
-use Rattle.store_reports.proofs.MergeLemmas.{run_merged}
 use Rattle.store_reports.proofs.merging.merge_runs.Goals as goal
 
-pub loop-run-preserved : goal.loop-run-preserved
-loop-run-preserved g c =
-    let i = c.loop-run.invariant in
+pub returns-clause-told : goal.returns-clause-told
+returns-clause-told g c clean t stands =
     let runs = c.args.runs.now in
-    let at = c.loop-run.run-index in
-    let low : at < length runs = omega arith in
-    let one = c.in_ok-merged.ensures in
-    record {
-      asked = λ clean. let asks = one.asks clean in asked_open_then schema_one true _ _ _ (i.asked asks.stays.was_clean) asks;
-      told = λ clean t stands named.
-          let early = (one.asks clean).stays.was_clean in
-          let mid = asked_rests_yet schema_one (Holds t) _ _ (i.asked early) stands in
-          one.told clean t mid named ∙ ap (merged_from t c.loop-run.merged) c.run-item.is
-          ∙ run_merged t (record { key = c.args.key; sums = [] }) runs at c.run-item.result c.loop-run.merged low (i.told early t stands named);
-    }
+    let none : c.new.result ≡ record { key = c.args.key; sums = [] } = λ k. record { key = c.new.ensures.key k; sums = c.new.ensures.sums k } in
+    if_ok_so c.add_runs.result (λ sums added named. added_fold (merged_from t) named runs _ sums added ∙ ap (λ start. fold (merged_from t) start runs) none) (c.add_runs.ensures.told clean t stands)

@@ -1,15 +1,14 @@
-use Rattle.std.proofs.Common.{◌≡◌, [], fold, take}
+use Rattle.std.proofs.Common.{take}
 use Rattle.sql_tables.specs.Calls.{Asked}
 use Rattle.prof_tables.specs.Schema.{schema_one}
 use Rattle.prof_tables.specs.Tables.{Tables}
 use Rattle.prof_store.specs.Shown.{shown, IsFaithful, StandsFor}
-use Rattle.store_reports.specs.Reported.{merged_from}
-use Rattle.store_reports.proofs.merging.merge_runs.Given as goal
+use Rattle.selected_runs.specs.Added.{AreAdded}
+use Rattle.selected_runs.proofs.adding.add_runs.Given as goal
 
--- the sums of the runs so far
+-- the runs so far were added
 abbrev pub invariant-loop-run : goal.invariant-loop-run
 invariant-loop-run g l = record {
   asked : IsFaithful g.S.Store l.store → Asked schema_one (shown g.S.Store l.fn.store).is_open (shown g.S.Store l.fn.store) (shown g.S.Store l.store);
-  told : IsFaithful g.S.Store l.store → (t : Tables) → StandsFor g.S.Store t l.fn.store → l.names ≡ t.names
-      → l.merged ≡ fold (merged_from t) (record { key = l.fn.key; sums = [] }) (take l.run-index l.runs);
+  told : IsFaithful g.S.Store l.store → (t : Tables) → StandsFor g.S.Store t l.fn.store → AreAdded (g.A.AddsRuns.Step l.adder t) (take l.run-index l.runs) l.fn.sums l.sums;
 }

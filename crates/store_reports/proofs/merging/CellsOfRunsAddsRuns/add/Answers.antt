@@ -3,7 +3,7 @@ use Rattle.std.specs.Prelude.{unwrap_or}
 use Rattle.prof_books.specs.Book.{cells_held}
 use Rattle.store_reports.specs.Reported.{merged_with}
 use Rattle.store_reports.proofs.MergeLemmas.{none_taken}
-use Rattle.store_reports.proofs.merging.add_run.Goals as goal
+use Rattle.store_reports.proofs.merging.CellsOfRunsAddsRuns.add.Goals as goal
 
 pub returns-in-None-clause-told : goal.returns-in-None-clause-told
 returns-in-None-clause-told g c clean t stands named =

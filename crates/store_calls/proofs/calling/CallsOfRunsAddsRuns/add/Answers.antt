@@ -3,10 +3,10 @@ use Rattle.cost_reports.specs.Calls.{weighted_calls}
 use Rattle.held_runs.proofs.ArcRows.{calls_come}
 use Rattle.store_calls.specs.FunctionCalls.{taken_of, with_call}
 use Rattle.store_calls.proofs.FunctionLemmas.{calls_taken}
-use Rattle.store_calls.proofs.calling.add_run.Goals as goal
+use Rattle.store_calls.proofs.calling.CallsOfRunsAddsRuns.add.Goals as goal
 
 pub returns-clause-told : goal.returns-clause-told
 returns-clause-told g c clean t stands named =
     let calls = calls_come _ _ _ _ c.args.run.now.number t _ (c.in_ok-all.ensures.told clean t stands) named in
     let before = taken_of c.args.calls in
-    (calls.0, calls.1, ap (λ m. m.1) (calls.2 ∙ calls_taken c.counts_of-counts.result.now before calls.0) ∙ ap (λ counts. fold with_call before (map (weighted_calls counts) calls.0)) c.counts_of-counts.ensures)
+    (calls.0, calls.1, ap (λ m. m.1) (calls.2 ∙ calls_taken c.event_counts-counts.result.now before calls.0) ∙ ap (λ counts. fold with_call before (map (weighted_calls counts) calls.0)) c.event_counts-counts.ensures)

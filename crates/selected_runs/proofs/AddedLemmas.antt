@@ -1,0 +1,19 @@
+-- Runs that are added one after another.
+use Rattle.std.proofs.Common.{◌≡◌, ℕ, ◌+◌, ◌<◌, List, [], ◌∷◌, ◌++◌, fold, length, get_or, take, refl, sym, ap, subst, ◌∙◌}
+use Rattle.std.proofs.lemmas.List.{take_more}
+use Rattle.selected_runs.specs.Added.{AreAdded}
+
+added_more : {R M : Type 0} (Step : R → M → M → Type 0) (runs : List R) (run : R) (before between after : M) → AreAdded Step runs before between → Step run between after
+    → AreAdded Step (runs ++ run ∷ []) before after
+added_more Step [] run before between after all one = (after, subst (λ m. Step run m after) all one, refl)
+added_more Step (r ∷ runs) run before between after all one = (all.0, all.1, added_more Step runs run all.0 between after all.2 one)
+
+pub added_so_far : {R M : Type 0} (Step : R → M → M → Type 0) (runs : List R) (at : ℕ) (d : R) (before between after : M) → at < length runs → AreAdded Step (take at runs) before between
+    → Step (get_or runs at d) between after → AreAdded Step (take (at + 1) runs) before after
+added_so_far Step runs at d before between after low all one =
+    subst (λ rs. AreAdded Step rs before after) (sym (take_more runs at d low)) (added_more Step (take at runs) (get_or runs at d) before between after all one)
+
+-- where each run takes a step, they fold it
+pub added_fold : {R M P : Type 0} (step : M → R → M) → P → (runs : List R) (before after : M) → AreAdded (λ run old new. P → new ≡ step old run) runs before after → after ≡ fold step before runs
+added_fold step given [] before after all = all
+added_fold step given (run ∷ runs) before after all = added_fold step given runs all.0 after all.2 ∙ ap (λ m. fold step m runs) (all.1 given)
