@@ -53,7 +53,7 @@ fn serve_client<'a, S: Alter>(
 )
     requires router { router.now ≡ spec.routes }
     ensures limits { warehouse.new.limits ≡ warehouse.old.limits }
-    ensures served { IsFaithful S.Store warehouse.new.store → HasServed S.Store warehouse.old.limits warehouse.old.store warehouse.new.store }
+    ensures served { IsFaithful S.Store warehouse.new.store → HasServed S.Store warehouse.old.limits 1 warehouse.old.store warehouse.new.store }
 {
     let Some((connection, address)) = client else {
         return;
@@ -78,9 +78,9 @@ pub fn serve_on<S: Alter>(
 ) -> bool
     requires router { router.now ≡ spec.routes }
     ensures limits { warehouse.new.limits ≡ warehouse.old.limits }
-    ensures served { IsFaithful S.Store warehouse.new.store → HasServed S.Store warehouse.old.limits warehouse.old.store warehouse.new.store }
+    ensures served { IsFaithful S.Store warehouse.new.store → HasServed S.Store warehouse.old.limits requests warehouse.old.store warehouse.new.store }
 {
-    'clients: for _ in 0..requests {
+    'clients: for _client in 0..requests {
         let Ok(client) = next_client(rt, listener) else {
             return false;
         };
@@ -130,7 +130,7 @@ pub fn serve<S: Alter>(
     service: Service,
 ) -> io::Result<u8>
     ensures limits { warehouse.new.limits ≡ warehouse.old.limits }
-    ensures served { IsFaithful S.Store warehouse.new.store → HasServed S.Store warehouse.old.limits warehouse.old.store warehouse.new.store }
+    ensures served { IsFaithful S.Store warehouse.new.store → HasServed S.Store warehouse.old.limits service.requests warehouse.old.store warehouse.new.store }
 {
     let Some((router, listener)) = listen(rt, service.port)? else {
         return Ok(1);

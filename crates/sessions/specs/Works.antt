@@ -66,14 +66,14 @@ module _ {W S : Type 0} (g : Ghosts S) (contents : W → Option (List ℕ)) (wan
 -- ---- a server
 
 module _ {S : Type 0} (g : Ghosts S) where
-  -- under the standard limits requests were served
-  pub record CameToServed (old new : Store S) : Type 0 where
+  -- under the standard limits so many requests were served
+  pub record CameToServed (requests : ℕ) (old new : Store S) : Type 0 where
     pub limits : Limits
     pub standard : IsStandard limits
-    pub served : HasServed g limits old new
+    pub served : HasServed g limits requests old new
 
   -- a store was made or found in a database, and served; or there was none to be had, and all is as it was
-  abbrev pub WasServed : {R F : Type 0} → Bool → Result R F → Connection S → Connection S → Type 0
-  WasServed is_new result old new = MatchResult result
-      (λ status. (opened : Store S) × (closed : Store S) × (closed.conn ≡ new) × TakesUp is_new (state g old) (shown g opened) × CameToServed opened closed)
+  abbrev pub WasServed : {R F : Type 0} → Bool → ℕ → Result R F → Connection S → Connection S → Type 0
+  WasServed is_new requests result old new = MatchResult result
+      (λ status. (opened : Store S) × (closed : Store S) × (closed.conn ≡ new) × TakesUp is_new (state g old) (shown g opened) × CameToServed requests opened closed)
       (λ end. Refuses is_new (state g old) (state g new))

@@ -20,7 +20,7 @@ fn serve_over<S: Alter>(
     store: Store<S>,
     service: Service,
 ) -> (io::Result<u8>, Store<S>)
-    ensures { IsFaithful S.Store result.1 → CameToServed S.Store store result.1 }
+    ensures { IsFaithful S.Store result.1 → CameToServed S.Store service.requests store result.1 }
 {
     let mut warehouse = Warehouse::new(store, Limits::standard());
     let served = serve(rt, &mut warehouse, service);
@@ -34,7 +34,7 @@ pub(crate) fn serve_in<S: Alter>(
     is_new: bool,
     service: Service,
 ) -> (Result<io::Result<u8>, OpenError>, Connection<S>)
-    ensures { HasCleanDisk (state S.Store result.1) → WasServed S.Store is_new result.0 conn result.1 }
+    ensures { HasCleanDisk (state S.Store result.1) → WasServed S.Store is_new service.requests result.0 conn result.1 }
 {
     match store_in(rt.alloc(), conn, is_new) {
         Ok(store) => {

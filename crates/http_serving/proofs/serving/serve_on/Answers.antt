@@ -4,7 +4,7 @@ use Rattle.http_serving.proofs.Served.{served_clean, served_none, served_on}
 use Rattle.http_serving.proofs.serving.serve_on.Goals as goal
 
 pub clients-init : goal.clients-init
-clients-init g c = (refl, λ clean. served_none g.S.Store c.args.warehouse.now.limits c.args.warehouse.now.store)
+clients-init g c = (refl, λ clean. served_none g.S.Store c.args.warehouse.now.limits 0 c.args.warehouse.now.store)
 
 pub clients-preserved : goal.clients-preserved
 clients-preserved g c =
@@ -15,6 +15,6 @@ clients-preserved g c =
     let new = c.serve_client.new.warehouse.store in (
       c.serve_client.ensures.limits ∙ i.0,
       λ clean.
-          let one = subst (λ x. HasServed g.S.Store x mid new) i.0 (c.serve_client.ensures.served clean) in
-          served_on g.S.Store limits old mid new (i.1 (served_clean g.S.Store limits mid new one clean)) one,
+          let one = subst (λ x. HasServed g.S.Store x 1 mid new) i.0 (c.serve_client.ensures.served clean) in
+          served_on g.S.Store limits c.clients._client 1 old mid new (i.1 (served_clean g.S.Store limits 1 mid new one clean)) one,
     )

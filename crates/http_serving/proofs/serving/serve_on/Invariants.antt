@@ -7,4 +7,4 @@ use Rattle.http_serving.proofs.serving.serve_on.Given as goal
 abbrev pub invariant-clients : goal.invariant-clients
 invariant-clients g l =
     (l.warehouse.limits ≡ l.fn.warehouse.limits)
-    × (IsFaithful g.S.Store l.warehouse.store → HasServed g.S.Store l.fn.warehouse.limits l.fn.warehouse.store l.warehouse.store)
+    × (IsFaithful g.S.Store l.warehouse.store → HasServed g.S.Store l.fn.warehouse.limits l._client l.fn.warehouse.store l.warehouse.store)

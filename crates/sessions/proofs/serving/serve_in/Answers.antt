@@ -10,5 +10,5 @@ returns-in-Ok g c clean =
     let same = c.into_connection.ensures in
     let faithful = subst (λ conn. HasCleanDisk (state g.S.Store conn)) same clean in
     let came = c.serve_over-served.ensures faithful in
-    let early = came_clean g.S.Store c.in-Ok.store served.1 came faithful in
+    let early = came_clean g.S.Store c.args.service.requests c.in-Ok.store served.1 came faithful in
     (c.in-Ok.store, served.1, sym same, c.in-Ok.ensures.taken_up early, came)

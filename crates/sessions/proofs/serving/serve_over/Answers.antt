@@ -14,5 +14,5 @@ returns g c clean =
     record {
       limits = c.new-warehouse.result.limits;
       standard = subst IsStandard (sym limits) standard;
-      served = subst (λ s. HasServed g.S.Store c.new-warehouse.result.limits s c.into_store.result) before (subst (λ s. HasServed g.S.Store c.new-warehouse.result.limits c.new-warehouse.result.store s) (sym after) served);
+      served = subst (λ s. HasServed g.S.Store c.new-warehouse.result.limits c.args.service.requests s c.into_store.result) before (subst (λ s. HasServed g.S.Store c.new-warehouse.result.limits c.args.service.requests c.new-warehouse.result.store s) (sym after) served);
     }
