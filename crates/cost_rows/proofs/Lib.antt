@@ -18,3 +18,4 @@ pub mod SeenLemmas
 pub mod KeysLemmas
 pub mod KeySumsLemmas
 pub mod SlotsLemmas
+pub mod StackCountsLemmas

@@ -1,6 +1,6 @@
 -- The numbers of names by their marks.
 use Rattle.std.proofs.Common.{◌≡◌, ◌⊎◌, inl, inr, ℕ, ◌<◌, zero, suc, true, List, [], ◌∷◌, ◌++◌, length, Option, Some, None, refl, sym, ap, subst, ◌∙◌, arith}
-use Rattle.std.specs.List.{slice_get, slice_set}
+use Rattle.std.specs.List.{slice_get}
 use Rattle.cg_text.specs.Distinct.{are_distinct}
 use Rattle.cg_text.specs.declared.words.Namespace.{Namespace}
 use Rattle.cg_text.specs.declared.words.Namespace.TheVariants.{Object, File, Function}
@@ -9,31 +9,11 @@ use Rattle.profile_records.specs.declared.marks.LentName.{LentName}
 use Rattle.profile_records.specs.declared.marks.LentNames.{LentNames}
 use Rattle.profile_records.specs.declared.marks.Mark.{Mark}
 use Rattle.cost_rows.specs.Growing.{Grows}
-use Rattle.cost_rows.specs.Marks.{number_held, number_at, marks_in, name_numbered, known_at, known_by, AreNamed, HaveNames, KeepsMark, LearnsName, LearnsNames}
+use Rattle.cost_rows.specs.Marks.{number_at, marks_in, name_numbered, known_at, known_by, AreNamed, HaveNames, KeepsMark, LearnsName, LearnsNames}
 use Rattle.cost_rows.specs.Naming.{place_of}
 use Rattle.cost_rows.specs.declared.marks.Marks.{Marks}
 use Rattle.cost_rows.specs.declared.marks.SpaceMarks.{SpaceMarks}
 use Rattle.cost_rows.proofs.NamingLemmas.{at_place, place_at}
-
--- ---- places
-
--- a further place without a number
-pub held-longer : (numbers : List (Option ℕ)) (place : ℕ) → number_held (numbers ++ None ∷ []) place ≡ number_held numbers place
-held-longer [] zero = refl
-held-longer [] (suc place) = refl
-held-longer (number ∷ numbers) zero = refl
-held-longer (number ∷ numbers) (suc place) = held-longer numbers place
-
--- a place that gets a number
-pub held-set : (numbers : List (Option ℕ)) (place number q n : ℕ) → number_held (slice_set numbers place (Some number)) q ≡ Some n → (number_held numbers q ≡ Some n) ⊎ ((q ≡ place) × (n ≡ number))
-held-set [] place number q n h = inl h
-held-set (first ∷ numbers) zero number zero n h = inr (refl, cc)
-held-set (first ∷ numbers) zero number (suc q) n h = inl h
-held-set (first ∷ numbers) (suc place) number zero n h = inl h
-held-set (first ∷ numbers) (suc place) number (suc q) n h = elim (held-set numbers place number q n h) [
-  | inl was ↦ inl was
-  | inr now ↦ inr (ap suc now.0, now.1)
-]
 
 -- ---- names that grow at their end
 
@@ -84,9 +64,6 @@ module _ (names : List (List ℕ)) (s : SpaceMarks) (name : LentName) where
       let found = get-below names n (named name.mark n is) in
       let known : known_at names s name.mark ≡ Some found.0 = ap (name_numbered names) is ∙ found.1 in
       place_at names name.text.now n distinct (found.1 ∙ ap Some (same found.0 known))
-
-  pub learns-nothing : AreNamed names s → LearnsName names s name names s
-  learns-nothing named = record { named = named; learns = λ mark text is. inl is }
 
   -- a name that got a number, which is kept of its mark
   pub learns-number : (new : List (List ℕ)) (after : SpaceMarks) (number : ℕ) → AreNamed names s → Grows names new → place_of name.text.now new ≡ Some number → number < length new → KeepsMark name.mark number s after → LearnsName names s name new after
@@ -187,11 +164,3 @@ learns-both known between after own called first second = λ space mark text is.
   | inl was ↦ elim (first space mark text was) [ inl before ↦ inl before | inr now ↦ inr (inl now) ]
   | inr now ↦ inr (inr now)
 ]
-
--- ---- no number is kept
-
-pub none-named : (names : List (List ℕ)) (m : Marks) → ((space : Namespace) (mark : Mark) → number_at (marks_in m space) mark ≡ None) → HaveNames names m
-none-named names m none = λ space mark n is. let never : Some n ≡ None = sym is ∙ none space mark in absurd (cc)
-
-pub none-known : (names : List (List ℕ)) (m : Marks) → ((space : Namespace) (mark : Mark) → number_at (marks_in m space) mark ≡ None) → (space : Namespace) (mark : Mark) (text : List ℕ) → known_by names m space mark ≡ Some text → ⊥
-none-known names m none space mark text is = let never : None ≡ Some text = sym (ap (name_numbered names) (none space mark)) ∙ is in absurd (cc)

@@ -1,16 +1,14 @@
 -- A map whose keys are seen as something else: what is done to it is done to its entries as they are seen.
-use Rattle.std.proofs.Common.{inl, inr, ◌≡◌, ℕ, suc, ◌≤◌, Bool, true, false, cond, List, [], ◌∷◌, length, Some, None, refl, sym, ap, ◌∙◌, arith}
+use Rattle.std.proofs.Common.{inl, inr, ◌≡◌, ℕ, suc, ◌≤◌, Bool, true, false, cond, List, [], ◌∷◌, length, Some, refl, ap, arith}
 use Rattle.std.specs.declared.cmp.Ordering.{Ordering}
 use Rattle.std.specs.declared.cmp.Ordering.TheVariants.{Less, Equal, Greater}
 use Rattle.std.specs.Ordering.{match_ordering, is_eq}
-use Rattle.std.specs.Cmp.{IsTotalOrder}
 use Rattle.std.specs.List.{AllByRecursion}
 use Rattle.std.specs.List.Sorted.{IsStrictlySortedBy}
-use Rattle.std.specs.Map.{lookup, keys_of, set_value, remove_entry}
-use Rattle.std.specs.BTreeMap.{BTreeMap, is_at, insert_entry, WritesThrough}
+use Rattle.std.specs.Map.{lookup, keys_of, remove_entry}
+use Rattle.std.specs.BTreeMap.{is_at, insert_entry}
 use Rattle.std.proofs.lemmas.Bool.{cases_Bool}
-use Rattle.cost_rows.specs.Merging.{merge, sum_where, seen}
-use Rattle.cost_rows.proofs.MergeLemmas.{merge-new, merge-held}
+use Rattle.cost_rows.specs.Merging.{sum_where, seen}
 
 -- keys by what they are seen as
 abbrev pub key_cmp : {K L : Type 0} → (K → L) → (L → L → Ordering) → K → K → Ordering
@@ -36,15 +34,6 @@ module _ {K L X : Type 0} (see : K → L) (cmp : L → L → Ordering) where
   seen-insert [] k v = refl
   seen-insert (e ∷ es) k v = insert-step k v e es (key_cmp see cmp k e.0) (seen-insert es k v)
 
-  set-step : (q : L) (w : X) (e : K × X) (es : List (K × X)) (b : Bool) → seen see (set_value (is_at (asking see cmp q)) es w) ≡ set_value (is_at (cmp q)) (seen see es) w
-      → seen see (cond b ((e.0, w) ∷ es) (e ∷ set_value (is_at (asking see cmp q)) es w)) ≡ cond b ((see e.0, w) ∷ seen see es) ((see e.0, e.1) ∷ set_value (is_at (cmp q)) (seen see es) w)
-  set-step q w e es true rest = refl
-  set-step q w e es false rest = ap (λ more. (see e.0, e.1) ∷ more) rest
-
-  pub seen-set : (es : List (K × X)) (q : L) (w : X) → seen see (set_value (is_at (asking see cmp q)) es w) ≡ set_value (is_at (cmp q)) (seen see es) w
-  seen-set [] q w = refl
-  seen-set (e ∷ es) q w = set-step q w e es (is_eq (asking see cmp q e.0)) (seen-set es q w)
-
   pub seen-lookup : (es : List (K × X)) (q : L) → lookup (is_at (asking see cmp q)) es ≡ lookup (is_at (cmp q)) (seen see es)
   seen-lookup [] q = refl
   seen-lookup (e ∷ es) q = ap (cond (is_eq (asking see cmp q e.0)) (Some e.1)) (seen-lookup es q)
@@ -66,21 +55,6 @@ module _ {K L X : Type 0} (see : K → L) (cmp : L → L → Ordering) where
   unfolding IsStrictlySortedBy
   seen-sorted [] sorted = tt
   seen-sorted (e ∷ es) sorted = (all-seen (see e.0) es sorted.0, seen-sorted es sorted.1)
-
-  -- what is written at a key that is held
-  pub seen-written : (total : IsTotalOrder cmp) (add : X → X → X) (m n : BTreeMap K X) (q : L) (held new amount : X) → WritesThrough (key_cmp see cmp) (asking see cmp q) m new n → IsStrictlySortedBy (key_cmp see cmp) (keys_of m.entries) → Some held ≡ lookup (is_at (asking see cmp q)) m.entries → new ≡ add held amount
-      → seen see n.entries ≡ merge cmp add (seen see m.entries) q amount
-  seen-written total add m n q held new amount written sorted found sum =
-      ap (seen see) written.0 ∙ seen-set m.entries q new ∙ ap (set_value (is_at (cmp q)) (seen see m.entries)) sum
-      ∙ merge-held total add (seen see m.entries) q amount held (seen-sorted m.entries sorted) (sym (seen-lookup m.entries q) ∙ sym found)
-
-  -- and at a new one
-  pub seen-new : (total : IsTotalOrder cmp) (add : X → X → X) (m n : BTreeMap K X) (q : L) (key : K) (new amount : X) → n.entries ≡ insert_entry (key_cmp see cmp) m.entries key new → None ≡ lookup (is_at (asking see cmp q)) m.entries → see key ≡ q → new ≡ amount
-      → seen see n.entries ≡ merge cmp add (seen see m.entries) q amount
-  seen-new total add m n q key new amount entries absent is sum =
-      ap (seen see) entries ∙ seen-insert m.entries key new
-      ∙ ap (λ k. insert_entry cmp (seen see m.entries) k new) is ∙ ap (insert_entry cmp (seen see m.entries) q) sum
-      ∙ merge-new total add (seen see m.entries) q amount (sym (seen-lookup m.entries q) ∙ sym absent)
 
 -- a sum that is held is at most that of all
 pub held-least : {K : Type 0} (test : K → Bool) (es : List (K × ℕ)) (held : ℕ) → Some held ≡ lookup test es → held ≤ sum_where (λ _. true) (λ n. n) es

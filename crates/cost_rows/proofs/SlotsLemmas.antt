@@ -1,22 +1,19 @@
 -- Sums in slots: what is done in a slot is done to the sum of its part.
-use Rattle.std.proofs.Common.{inl, inr, ◌≡◌, ◌≢◌, ℕ, suc, ◌+◌, ◌<◌, ◌≤◌, Bool, true, false, cond, List, [], ◌∷◌, ◌++◌, length, Option, Some, None, Result, Ok, Err, OnOk, OnErr, slice_index, slice_set, refl, sym, ap, subst, ◌∙◌, arith}
+use Rattle.std.proofs.Common.{inl, inr, ◌≡◌, ◌≢◌, ℕ, suc, ◌+◌, ◌<◌, ◌≤◌, Bool, true, false, cond, List, [], ◌∷◌, ◌++◌, length, Some, None, slice_index, slice_set, refl, sym, ap, subst, ◌∙◌, arith}
 use Rattle.std.specs.declared.cmp.Ordering.{Ordering}
 use Rattle.std.specs.declared.cmp.Ordering.TheVariants.{Less, Equal, Greater}
-use Rattle.std.specs.Ordering.{match_ordering, is_eq, nat_cmp}
+use Rattle.std.specs.Cmp.{IsTotalOrder}
+use Rattle.std.specs.Ordering.{match_ordering, is_eq}
 use Rattle.std.specs.List.{AllByRecursion}
 use Rattle.std.specs.List.Sorted.{IsStrictlySortedBy}
-use Rattle.std.specs.Map.{lookup, keys_of, values_of, set_value}
+use Rattle.std.specs.Map.{lookup, keys_of, values_of, set_value, remove_entry}
 use Rattle.std.specs.BTreeMap.{is_at, insert_entry}
 use Rattle.std.proofs.lemmas.Bool.{cases_Bool}
 use Rattle.std.proofs.lemmas.Cmp.{tied_itself}
 use Rattle.std.proofs.lemmas.List.{get_or-set_same, get_or-set_other, get_or_append_left, get_or_push, length_push}
-use Rattle.std.proofs.lemmas.Map.Lookups.{exact_unsigned}
-use Rattle.cost_rows.specs.Keys.{named_cmp}
-use Rattle.cost_rows.specs.KeySums.{sums_with, total_of}
-use Rattle.cost_rows.specs.Slots.{Slotted, with_sums, sums_in, slot_of, AreApart, AreSlots, at_line, LeadTo, KeepsSlots}
+use Rattle.cost_rows.specs.Merging.{merge, sum_where, TellsApart}
+use Rattle.cost_rows.specs.Slots.{Slotted, with_sums, sums_in, AreApart, AreSlotsBy}
 use Rattle.cost_rows.specs.Stacks.{counts_added}
-use Rattle.cost_rows.specs.Sums.{Spot}
-use Rattle.cost_rows.proofs.KeysLemmas.{named_cmp-total, named_cmp-apart}
 use Rattle.cost_rows.proofs.MergeLemmas.{merge-new, merge-held}
 use Rattle.cost_rows.proofs.SeenLemmas.{held-least}
 
@@ -48,7 +45,7 @@ module _ {K : Type 0} where
         rw further (lookup-with_sums test sums es slot rest)
   ]
 
-  absent-with_sums : (test : K → Bool) (sums : List ℕ) (es : List (K × ℕ)) → lookup test es ≡ None → lookup test (with_sums sums es) ≡ None
+  pub absent-with_sums : (test : K → Bool) (sums : List ℕ) (es : List (K × ℕ)) → lookup test es ≡ None → lookup test (with_sums sums es) ≡ None
   absent-with_sums test sums [] none = refl
   absent-with_sums test sums (e ∷ es) none = elim (cases_Bool (test e.0)) [
     | inl here ↦ let is : Some e.1 ≡ None = rw here at none in absurd (cc)
@@ -105,6 +102,34 @@ module _ {K : Type 0} where
   grown sums cost (e ∷ es) all =
       ap (λ n. (e.0, n) ∷ with_sums (sums ++ cost ∷ []) es) (get_or_append_left sums (cost ∷ []) 0 e.1 all.0)
       ∙ ap (λ more. (e.0, slice_index sums e.1) ∷ more) (grown sums cost es all.1)
+
+  -- ---- a key that goes
+
+  removed-step : (sums : List ℕ) (test : K → Bool) (e : K × ℕ) (es : List (K × ℕ)) (b : Bool) → with_sums sums (remove_entry test es) ≡ remove_entry test (with_sums sums es)
+      → with_sums sums (cond b es (e ∷ remove_entry test es)) ≡ cond b (with_sums sums es) ((e.0, slice_index sums e.1) ∷ remove_entry test (with_sums sums es))
+  removed-step sums test e es true rest = refl
+  removed-step sums test e es false rest = ap (λ more. (e.0, slice_index sums e.1) ∷ more) rest
+
+  pub removed : (sums : List ℕ) (test : K → Bool) (es : List (K × ℕ)) → with_sums sums (remove_entry test es) ≡ remove_entry test (with_sums sums es)
+  removed sums test [] = refl
+  removed sums test (e ∷ es) = removed-step sums test e es (test e.0) (removed sums test es)
+
+  all-removed-step : (P : ℕ → Type 0) (test : K → Bool) (e : K × ℕ) (es : List (K × ℕ)) (b : Bool) → AllByRecursion P (values_of (e ∷ es)) → AllByRecursion P (values_of (remove_entry test es))
+      → AllByRecursion P (values_of (cond b es (e ∷ remove_entry test es)))
+  all-removed-step P test e es true all rest = all.1
+  all-removed-step P test e es false all rest = (all.0, rest)
+
+  all-removed : (P : ℕ → Type 0) (test : K → Bool) (es : List (K × ℕ)) → AllByRecursion P (values_of es) → AllByRecursion P (values_of (remove_entry test es))
+  all-removed P test [] all = tt
+  all-removed P test (e ∷ es) all = all-removed-step P test e es (test e.0) all (all-removed P test es all.1)
+
+  apart-removed-step : (test : K → Bool) (e : K × ℕ) (es : List (K × ℕ)) (b : Bool) → AreApart (e ∷ es) → AreApart (remove_entry test es) → AreApart (cond b es (e ∷ remove_entry test es))
+  apart-removed-step test e es true apart rest = apart.1
+  apart-removed-step test e es false apart rest = (all-removed (λ n. n ≢ e.1) test es apart.0, rest)
+
+  apart-removed : (test : K → Bool) (es : List (K × ℕ)) → AreApart es → AreApart (remove_entry test es)
+  apart-removed test [] apart = tt
+  apart-removed test (e ∷ es) apart = apart-removed-step test e es (test e.0) apart (apart-removed test es apart.1)
 
 module _ {K : Type 0} (cmp : K → K → Ordering) where
   inserted-step : (sums : List ℕ) (cost : ℕ) (key : K) (e : K × ℕ) (es : List (K × ℕ)) (r : Ordering) → AllByRecursion (λ n. n < length sums) (values_of (e ∷ es))
@@ -190,99 +215,86 @@ module _ {K X : Type 0} (cmp : K → K → Ordering) where
   lookup-other key q v (e ∷ es) other none =
       other-step key q v e es (cmp key e.0) other refl none (lookup-other key q v es other (absent-further key e es (is_eq (cmp key e.0)) none))
 
--- ---- slots of parts
+-- ---- slots of keys
 
 equal-from : (r : Ordering) → is_eq r ≡ true → r ≡ Equal
 equal-from Less is = absurd (cc)
 equal-from Equal is = refl
 equal-from Greater is = absurd (cc)
 
-unsorted : IsStrictlySortedBy named_cmp []
-unfolding IsStrictlySortedBy
-unsorted = tt
+module _ {K : Type 0} (cmp : K → K → Ordering) where
+  unsorted : IsStrictlySortedBy cmp []
+  unfolding IsStrictlySortedBy
+  unsorted = tt
 
-pub no_slots : (es : List (Spot × ℕ)) (count : ℕ) → es ≡ [] → AreSlots es count
-no_slots es count none =
-    let P : List (Spot × ℕ) → Type 0 = λ xs. AreSlots xs count in
-    subst P (sym none) (record { order = unsorted; below = tt; apart = tt })
+  pub no_slots : (es : List (K × ℕ)) (count : ℕ) → es ≡ [] → AreSlotsBy cmp es count
+  no_slots es count none =
+      let P : List (K × ℕ) → Type 0 = λ xs. AreSlotsBy cmp xs count in
+      subst P (sym none) (record { order = unsorted; below = tt; apart = tt })
 
--- the slot of a part is one of the slots
-pub slot-in_range : (es : List (Spot × ℕ)) (count : ℕ) (part : Spot) (slot : ℕ) → AreSlots es count → slot_of part es ≡ Some slot → slot < count
-slot-in_range es count part slot are found = of_found (λ n. n < count) (is_at (named_cmp part)) es slot found are.below
+  -- the slot of a key is one of the slots
+  pub slot-in_range : (es : List (K × ℕ)) (count : ℕ) (key : K) (slot : ℕ) → AreSlotsBy cmp es count → lookup (is_at (cmp key)) es ≡ Some slot → slot < count
+  slot-in_range es count key slot are found = of_found (λ n. n < count) (is_at (cmp key)) es slot found are.below
 
--- and the sum in it at most that of all
-pub slot-least : (s : Slotted) (part : Spot) (slot : ℕ) → slot_of part s.slots ≡ Some slot → slice_index s.sums slot ≤ total_of (sums_in s)
-slot-least s part slot found =
-    held-least (is_at (named_cmp part)) (sums_in s) (slice_index s.sums slot) (sym (lookup-with_sums (is_at (named_cmp part)) s.sums s.slots slot found))
+  -- and the sum in it at most that of all
+  pub slot-least : (s : Slotted K) (key : K) (slot : ℕ) → lookup (is_at (cmp key)) s.slots ≡ Some slot → slice_index s.sums slot ≤ sum_where (λ _. true) (λ n. n) (sums_in s)
+  slot-least s key slot found =
+      held-least (is_at (cmp key)) (sums_in s) (slice_index s.sums slot) (sym (lookup-with_sums (is_at (cmp key)) s.sums s.slots slot found))
 
-sorted-sums : (sums : List ℕ) (es : List (Spot × ℕ)) → IsStrictlySortedBy named_cmp (keys_of es) → IsStrictlySortedBy named_cmp (keys_of (with_sums sums es))
-sorted-sums sums es sorted =
-    let P : List Spot → Type 0 = IsStrictlySortedBy named_cmp in
-    subst P (sym (keys-with_sums sums es)) sorted
+  pub are-put : (es new : List (K × ℕ)) (sums more : List ℕ) (key : K) (slot cost : ℕ) → AreSlotsBy cmp es (length sums) → slot ≡ length sums → more ≡ sums ++ cost ∷ [] → new ≡ insert_entry cmp es key slot → IsStrictlySortedBy cmp (keys_of new)
+      → AreSlotsBy cmp new (length more)
+  are-put es new sums more key slot cost are last pushed put order =
+      let size : length more ≡ length sums + 1 = ap length pushed ∙ length_push sums cost in
+      let there : new ≡ insert_entry cmp es key (length sums) = put ∙ ap (insert_entry cmp es key) last in
+      let low = all-inserted cmp (λ m. m < length sums + 1) key (length sums) es (omega arith) (all-weaker (λ m. m < length sums) (λ m. m < length sums + 1) (λ m. below-more m (length sums)) (values_of es) are.below) in
+      let P : ℕ → Type 0 = λ n. AllByRecursion (λ m. m < n) (values_of (insert_entry cmp es key (length sums))) in
+      let B : List (K × ℕ) → Type 0 = λ xs. AllByRecursion (λ m. m < length more) (values_of xs) in
+      record {
+        order = order;
+        below = subst B (sym there) (subst P (sym size) low);
+        apart = subst AreApart (sym there) (apart-inserted cmp key (length sums) es are.below are.apart);
+      }
 
--- a sum that grows in its slot is merged into that of the part
-pub slot-raised : (es : List (Spot × ℕ)) (sums : List ℕ) (part : Spot) (slot cost : ℕ) → AreSlots es (length sums) → slot_of part es ≡ Some slot
-    → with_sums (slice_set sums slot (slice_index sums slot + cost)) es ≡ sums_with part cost (with_sums sums es)
-slot-raised es sums part slot cost are found =
-    written (is_at (named_cmp part)) sums es slot (slice_index sums slot + cost) found (slot-in_range es (length sums) part slot are found) are.apart
-    ∙ merge-held named_cmp-total counts_added (with_sums sums es) part cost (slice_index sums slot) (sorted-sums sums es are.order) (lookup-with_sums (is_at (named_cmp part)) sums es slot found)
+  -- a key that goes leaves the others their slots
+  pub are-removed : (es new : List (K × ℕ)) (count : ℕ) (test : K → Bool) → AreSlotsBy cmp es count → new ≡ remove_entry test es → IsStrictlySortedBy cmp (keys_of new) → AreSlotsBy cmp new count
+  are-removed es new count test are gone order =
+      let B : List (K × ℕ) → Type 0 = λ xs. AllByRecursion (λ m. m < count) (values_of xs) in
+      record {
+        order = order;
+        below = subst B (sym gone) (all-removed (λ m. m < count) test es are.below);
+        apart = subst AreApart (sym gone) (apart-removed test es are.apart);
+      }
 
--- a new slot is merged as a new part
-pub slot-put : (es new : List (Spot × ℕ)) (sums more : List ℕ) (part : Spot) (slot cost : ℕ) → AreSlots es (length sums) → slot_of part es ≡ None → slot ≡ length sums → more ≡ sums ++ cost ∷ [] → new ≡ insert_entry named_cmp es part slot
-    → with_sums more new ≡ sums_with part cost (with_sums sums es)
-slot-put es new sums more part slot cost are absent last pushed put =
-    ap (λ s. with_sums s new) pushed
-    ∙ ap (with_sums (sums ++ cost ∷ [])) (put ∙ ap (insert_entry named_cmp es part) last)
-    ∙ inserted named_cmp sums cost part es are.below
-    ∙ merge-new named_cmp-total counts_added (with_sums sums es) part cost (absent-with_sums (is_at (named_cmp part)) sums es absent)
+module _ {K : Type 0} (cmp : K → K → Ordering) (total : IsTotalOrder cmp) where
+  -- a sum that grows in its slot is merged into that of the key
+  pub slot-raised : (es : List (K × ℕ)) (sums : List ℕ) (key : K) (slot cost : ℕ) → AreSlotsBy cmp es (length sums) → lookup (is_at (cmp key)) es ≡ Some slot
+      → with_sums (slice_set sums slot (slice_index sums slot + cost)) es ≡ merge cmp counts_added (with_sums sums es) key cost
+  slot-raised es sums key slot cost are found =
+      written (is_at (cmp key)) sums es slot (slice_index sums slot + cost) found (slot-in_range cmp es (length sums) key slot are found) are.apart
+      ∙ merge-held total counts_added (with_sums sums es) key cost (slice_index sums slot) (sums-rise cmp sums es are.order) (lookup-with_sums (is_at (cmp key)) sums es slot found)
 
-pub are-put : (es new : List (Spot × ℕ)) (sums more : List ℕ) (part : Spot) (slot cost : ℕ) → AreSlots es (length sums) → slot ≡ length sums → more ≡ sums ++ cost ∷ [] → new ≡ insert_entry named_cmp es part slot → IsStrictlySortedBy named_cmp (keys_of new)
-    → AreSlots new (length more)
-are-put es new sums more part slot cost are last pushed put order =
-    let size : length more ≡ length sums + 1 = ap length pushed ∙ length_push sums cost in
-    let there : new ≡ insert_entry named_cmp es part (length sums) = put ∙ ap (insert_entry named_cmp es part) last in
-    let low = all-inserted named_cmp (λ m. m < length sums + 1) part (length sums) es (omega arith) (all-weaker (λ m. m < length sums) (λ m. m < length sums + 1) (λ m. below-more m (length sums)) (values_of es) are.below) in
-    let P : ℕ → Type 0 = λ n. AllByRecursion (λ m. m < n) (values_of (insert_entry named_cmp es part (length sums))) in
-    let B : List (Spot × ℕ) → Type 0 = λ xs. AllByRecursion (λ m. m < length more) (values_of xs) in
-    record {
-      order = order;
-      below = subst B (sym there) (subst P (sym size) low);
-      apart = subst AreApart (sym there) (apart-inserted named_cmp part (length sums) es are.below are.apart);
-    }
+  -- a new slot is merged as a new key
+  pub slot-put : (es new : List (K × ℕ)) (sums more : List ℕ) (key : K) (slot cost : ℕ) → AreSlotsBy cmp es (length sums) → lookup (is_at (cmp key)) es ≡ None → slot ≡ length sums → more ≡ sums ++ cost ∷ [] → new ≡ insert_entry cmp es key slot
+      → with_sums more new ≡ merge cmp counts_added (with_sums sums es) key cost
+  slot-put es new sums more key slot cost are absent last pushed put =
+      ap (λ s. with_sums s new) pushed
+      ∙ ap (with_sums (sums ++ cost ∷ [])) (put ∙ ap (insert_entry cmp es key) last)
+      ∙ inserted cmp sums cost key es are.below
+      ∙ merge-new total counts_added (with_sums sums es) key cost (absent-with_sums (is_at (cmp key)) sums es absent)
 
--- the part has the slot
-pub put-found : (es new : List (Spot × ℕ)) (part : Spot) (slot : ℕ) → new ≡ insert_entry named_cmp es part slot → slot_of part new ≡ Some slot
-put-found es new part slot put =
-    ap (lookup (is_at (named_cmp part))) put ∙ lookup-new named_cmp part slot es (ap is_eq (tied_itself named_cmp-total part))
+  -- the key has the slot
+  pub put-found : (es new : List (K × ℕ)) (key : K) (slot : ℕ) → new ≡ insert_entry cmp es key slot → lookup (is_at (cmp key)) new ≡ Some slot
+  put-found es new key slot put =
+      ap (lookup (is_at (cmp key))) put ∙ lookup-new cmp key slot es (ap is_eq (tied_itself total key))
 
--- and the other parts have theirs
-pub put-keeps : (es new : List (Spot × ℕ)) (part : Spot) (slot : ℕ) → slot_of part es ≡ None → new ≡ insert_entry named_cmp es part slot → KeepsSlots es new
-put-keeps es new part slot absent put q n found = elim (cases_Bool (is_eq (named_cmp q part))) [
-  | inl same ↦
-      let is : q ≡ part = named_cmp-apart q part (equal-from (named_cmp q part) same) in
-      let none : slot_of q es ≡ None = ap (λ p. slot_of p es) is ∙ absent in
-      let clash : Some n ≡ None = sym found ∙ none in
-      absurd (cc)
-  | inr other ↦ ap (lookup (is_at (named_cmp q))) put ∙ lookup-other named_cmp part q slot es other absent ∙ found
-]
-
--- ---- lines that lead to slots
-
-pub leads-kept : (near : List (ℕ × ℕ)) (part : Spot) (old new : List (Spot × ℕ)) → KeepsSlots old new → LeadTo near part old → LeadTo near part new
-leads-kept near part old new keeps leads line slot found = keeps (at_line part line) slot (leads line slot found)
-
--- with one more line, or none where memory is out
-pub leads-more : {E : Type 0} (r : Result (Option ℕ) E) (near new : List (ℕ × ℕ)) (part : Spot) (slots : List (Spot × ℕ)) (slot : ℕ) → LeadTo near part slots → slot_of part slots ≡ Some slot
-    → OnOk r ((q : ℕ) → lookup (is_at (nat_cmp q)) new ≡ cond (is_at (nat_cmp part.line) q) (Some slot) (lookup (is_at (nat_cmp q)) near)) → OnErr r (new ≡ near) → LeadTo new part slots
-leads-more (Err e) near new part slots slot leads is put same line n found = leads line n (ap (lookup (is_at (nat_cmp line))) (sym same) ∙ found)
-leads-more (Ok o) near new part slots slot leads is put same line n found = elim (cases_Bool (is_eq (nat_cmp part.line line))) [
-  | inl here ↦
-      let at : part.line ≡ line = exact_unsigned part.line line (equal-from (nat_cmp part.line line) here) in
-      let now : lookup (is_at (nat_cmp line)) new ≡ Some slot = rw here at (put line) in
-      let both : Some slot ≡ Some n = sym now ∙ found in
-      let the : slot ≡ n = cc in
-      ap (λ l. slot_of (at_line part l) slots) (sym at) ∙ is ∙ ap (λ m. Some m) the
-  | inr other ↦
-      let now : lookup (is_at (nat_cmp line)) new ≡ lookup (is_at (nat_cmp line)) near = rw other at (put line) in
-      leads line n (sym now ∙ found)
-]
+  -- and the other keys have theirs
+  pub put-keeps : TellsApart cmp → (es new : List (K × ℕ)) (key : K) (slot : ℕ) → lookup (is_at (cmp key)) es ≡ None → new ≡ insert_entry cmp es key slot
+      → (q : K) (n : ℕ) → lookup (is_at (cmp q)) es ≡ Some n → lookup (is_at (cmp q)) new ≡ Some n
+  put-keeps exact es new key slot absent put q n found = elim (cases_Bool (is_eq (cmp q key))) [
+    | inl same ↦
+        let is : q ≡ key = exact q key (equal-from (cmp q key) same) in
+        let none : lookup (is_at (cmp q)) es ≡ None = ap (λ p. lookup (is_at (cmp p)) es) is ∙ absent in
+        let clash : Some n ≡ None = sym found ∙ none in
+        absurd (cc)
+    | inr other ↦ ap (lookup (is_at (cmp q))) put ∙ lookup-other cmp key q slot es other absent ∙ found
+  ]

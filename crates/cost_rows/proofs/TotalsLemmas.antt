@@ -48,12 +48,6 @@ all_calls (e ∷ es) n fits counts =
     (omega arith, All-from_get_or (λ s. s ≤ n) e.1.costs 0 (λ k below. let fit : slice_index e.1.costs k + arc_total k es ≤ n = fits k in omega arith))
     (all_calls es n (λ k. let fit : slice_index e.1.costs k + arc_total k es ≤ n = fits k in omega arith) (omega arith))
 
-all_counts : (stacks : List (List ℕ × ℕ)) (n : ℕ) → stack_total stacks ≤ n → All (λ s. s ≤ n) (values_of stacks)
-all_counts [] n fits = λ k d below. absurd (omega arith)
-all_counts (e ∷ es) n fits =
-    let fit : e.1 + stack_total es ≤ n = fits in
-    All-cons (λ s. s ≤ n) e.1 (values_of es) (omega arith) (all_counts es n (omega arith))
-
 bounded : (lines s : ℕ) → lines < 2 ^ 64 → s ≤ lines * 2 ^ 63 → s < 2 ^ 127
 bounded lines s few small = omega arith
 
@@ -69,10 +63,6 @@ arcs-small arcs lines few fits counts =
     All-weaker (λ c. (c.count ≤ lines * 2 ^ 63) × All (λ s. s ≤ lines * 2 ^ 63) c.costs) AreSmall
     (λ c both. (bounded lines c.count few both.0, All-weaker (λ s. s ≤ lines * 2 ^ 63) (λ s. s < 2 ^ 127) (λ s small. bounded lines s few small) c.costs both.1))
     (values_of arcs) (all_calls arcs (lines * 2 ^ 63) fits counts)
-
-pub counts-small : (stacks : List (List ℕ × ℕ)) (lines : ℕ) → lines < 2 ^ 64 → stack_total stacks ≤ lines * 2 ^ 63 → All (λ s. s < 2 ^ 127) (values_of stacks)
-counts-small stacks lines few fits =
-    All-weaker (λ s. s ≤ lines * 2 ^ 63) (λ s. s < 2 ^ 127) (λ s small. bounded lines s few small) (values_of stacks) (all_counts stacks (lines * 2 ^ 63) fits)
 
 -- ---- one more line
 

@@ -21,4 +21,5 @@ pub mod Keys
 pub mod Held
 pub mod KeySums
 pub mod Slots
+pub mod StackCounts
 pub mod ByNumber

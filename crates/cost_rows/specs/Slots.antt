@@ -1,5 +1,6 @@
--- Sums in slots, to which parts of places lead.
+-- Sums in slots, to which keys lead, as parts of places do.
 use Rattle.std.specs.Prelude.{◌≡◌, ◌≢◌, ℕ, ◌<◌, Option, Some, List, [], ◌∷◌, slice_index}
+use Rattle.std.specs.declared.cmp.Ordering.{Ordering}
 use Rattle.std.specs.List.{AllByRecursion}
 use Rattle.std.specs.List.Sorted.{IsStrictlySortedBy}
 use Rattle.std.specs.BTreeMap.{is_at}
@@ -8,9 +9,9 @@ use Rattle.std.specs.Ordering.{nat_cmp}
 use Rattle.cost_rows.specs.Keys.{named_cmp}
 use Rattle.cost_rows.specs.Sums.{Spot}
 
--- the slot of each part, and the sum in each slot
-pub record Slotted : Type 0 where
-  pub slots : List (Spot × ℕ)
+-- the slot of each key, and the sum in each slot
+pub record Slotted (K : Type 0) : Type 0 where
+  pub slots : List (K × ℕ)
   pub sums : List ℕ
 
 -- what leads to slots, with the sums in them
@@ -18,24 +19,28 @@ abbrev pub with_sums : {K : Type 0} → List ℕ → List (K × ℕ) → List (K
 with_sums sums [] = []
 with_sums sums (e ∷ slots) = (e.0, slice_index sums e.1) ∷ with_sums sums slots
 
--- each part with its sum
-abbrev pub sums_in : Slotted → List (Spot × ℕ)
+-- each key with its sum
+abbrev pub sums_in : {K : Type 0} → Slotted K → List (K × ℕ)
 sums_in s = with_sums s.sums s.slots
 
 -- the slot of a part
 abbrev pub slot_of : Spot → List (Spot × ℕ) → Option ℕ
 slot_of part slots = lookup (is_at (named_cmp part)) slots
 
--- no slot has two parts
+-- no slot has two keys
 abbrev pub AreApart : {K : Type 0} → List (K × ℕ) → Type 0
 AreApart [] = Unit {0}
 AreApart (e ∷ slots) = AllByRecursion (λ n. n ≢ e.1) (values_of slots) × AreApart slots
 
--- the parts stand in order, each with a slot of its own, and there are so many slots
-pub record AreSlots (slots : List (Spot × ℕ)) (count : ℕ) : Type 0 where
-  pub order : IsStrictlySortedBy named_cmp (keys_of slots)
+-- the keys stand in order, each with a slot of its own, and there are so many slots
+pub record AreSlotsBy {K : Type 0} (cmp : K → K → Ordering) (slots : List (K × ℕ)) (count : ℕ) : Type 0 where
+  pub order : IsStrictlySortedBy cmp (keys_of slots)
   pub below : AllByRecursion (λ n. n < count) (values_of slots)
   pub apart : AreApart slots
+
+-- so do parts
+abbrev pub AreSlots : List (Spot × ℕ) → ℕ → Type 0
+AreSlots = AreSlotsBy named_cmp
 
 -- a part with another line
 abbrev pub at_line : Spot → ℕ → Spot

@@ -2,7 +2,7 @@
 ghost use Rattle.std.specs.Prelude.{◌≡◌, None, IfOk, map};
 ghost use Rattle.profile_records.specs.Marks.{KnowsNothing};
 ghost use Rattle.cost_rows.specs.Marks.{HaveNames};
-ghost use Rattle.cost_rows.specs.Stacks.{by_bytes};
+ghost use Rattle.cost_rows.specs.Slots.{sums_in};
 ghost use Rattle.cost_rows.specs.Totals.{AreWithin, AreTotals};
 
 use crate::calls::Calls;
@@ -15,6 +15,7 @@ use crate::numbered::{NumberedArcs, NumberedCells};
 use crate::places::{Call, CellPlace};
 use crate::records::{merge_call, merge_own};
 use crate::rows::FileTotals;
+use crate::stack_counts::StackCounts;
 use crate::totals::{total_columns, total_count};
 use crate::walks::{ArcWalk, CellWalk, StackWalk, Walk};
 use cg_text::ListVec;
@@ -31,12 +32,12 @@ pub struct FileRows {
     pub(crate) names: Names,
     pub(crate) cells: BTreeMap<CellPlace, Costs>,
     pub(crate) arcs: BTreeMap<Call, Calls>,
-    pub(crate) stacks: BTreeMap<Vec<u8>, u128>,
+    pub(crate) stacks: StackCounts,
     marks: Marks,
     pub(crate) guesses: Guesses,
     pub(crate) last: u64,
     width: Option<u64>,
-    ghost within: { AreWithin cells.entries arcs.entries (by_bytes stacks.entries) last },
+    ghost within: { AreWithin cells.entries arcs.entries (sums_in stacks) last },
     ghost named: { HaveNames names marks },
 }
 
@@ -58,7 +59,7 @@ impl FileRows {
             names: Names::new(alloc),
             cells: BTreeMap::new(alloc),
             arcs: BTreeMap::new(alloc),
-            stacks: BTreeMap::new(alloc),
+            stacks: StackCounts::new(alloc),
             marks: Marks::new(alloc),
             guesses: Guesses::new(alloc),
             last: 0,
@@ -81,9 +82,7 @@ impl FileRows {
     pub fn stacks(&self) -> StackWalk<'_>
         ensures { result ≡ stack_rows (content_of self.now).stacks }
     {
-        StackWalk {
-            rest: self.stacks.iter(),
-        }
+        self.stacks.rows()
     }
 
     /// The sums of own costs above 0, in the order of the numbers of their names, then by line, then

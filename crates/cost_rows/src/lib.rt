@@ -21,8 +21,6 @@ mod limits;
 mod marks;
 // Rows of many files, added up by key (specs/KeySums.antt).
 mod merged;
-// One more count in a map of stacks (specs/Stacks.antt).
-mod merges;
 // Names, each once, by number (specs/Naming.antt, Growing.antt).
 mod names;
 // A file's rows with names by number (specs/ByNumber.antt).
@@ -35,10 +33,12 @@ mod places;
 mod records;
 // The rows as they are lent and handed over (specs/Plain.antt).
 mod rows;
-// The rows of a folded file (specs/StackSums.antt).
-mod stack_rows;
 // Sums by part, each in a slot of its own (specs/Slots.antt).
 mod slots;
+// Counts by stack, each in a slot of its own (specs/StackCounts.antt, Stacks.antt).
+mod stack_counts;
+// The rows of a folded file (specs/StackSums.antt).
+mod stack_rows;
 // Sums by key, as rows (specs/KeySums.antt).
 mod sum_rows;
 // One more amount at its key in an ordered map (specs/Merging.antt).

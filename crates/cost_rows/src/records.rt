@@ -84,7 +84,7 @@ pub(crate) fn merge_call(
 
 /// Merges the costs of a stack into those of the function that was running. A refusal leaves the
 /// cells as they were, and may leave names.
-pub(crate) fn merge_leaf(
+fn add_leaf(
     alloc: Global,
     names: &mut Names,
     guesses: &mut Guesses,
@@ -103,4 +103,28 @@ pub(crate) fn merge_leaf(
     let place = number_place(names, guess, b"???", b"???", function, 0)?;
     guesses.keep(place)?;
     merge_sums(alloc, cells, CellPlace { place }, costs)
+}
+
+/// The same, where a refusal leaves the names as they were too.
+pub(crate) fn merge_leaf(
+    alloc: Global,
+    names: &mut Names,
+    guesses: &mut Guesses,
+    cells: &mut BTreeMap<CellPlace, Costs>,
+    function: &[u8],
+    costs: &[u64],
+) -> Result<(), AllocError>
+    requires small { All HaveRoom (values cells.old) }
+    requires low { AreLow costs.now }
+    ensures names { OnOk result (names.new ≡ with_three unknown unknown function.now names.old) }
+    ensures cells { OnOk result (cells.new.entries ≡ merge cell_cmp added cells.old.entries (leaf_cell names.new function.now) costs.now) }
+    ensures grows { Grows names.old names.new }
+    ensures err { OnErr result ((names.new ≡ names.old) × (cells.new.entries ≡ cells.old.entries)) }
+{
+    let held = names.len();
+    if let Err(refused) = add_leaf(alloc, names, guesses, cells, function, costs) {
+        names.truncate(held);
+        return Err(refused);
+    }
+    Ok(())
 }

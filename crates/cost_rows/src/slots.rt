@@ -26,8 +26,9 @@ impl Model for Slots {
     ghost use Rattle.std.specs.Prelude.{length};
     ghost use Rattle.cost_rows.specs.Keys.{plain_sums};
     ghost use Rattle.cost_rows.specs.Slots.{Slotted, AreSlots};
+    ghost use Rattle.cost_rows.specs.Sums.{Spot};
 
-    ghost Value = { Slotted };
+    ghost Value = { Slotted Spot };
 
     ghost view = { λ a. record { slots = plain_sums a.places.entries; sums = a.sums.items } };
 
@@ -35,7 +36,7 @@ impl Model for Slots {
 }
 
 /// Adds a cost to the sum in a slot.
-fn raise(sums: &mut [u128], slot: usize, cost: u128)
+pub(crate) fn raise(sums: &mut [u128], slot: usize, cost: u128)
     requires in_range { slot < length sums.old }
     requires small { slice_index sums.old slot + cost < 2 ^ 128 }
     ensures { sums.new ≡ slice_set sums.old slot (slice_index sums.old slot + cost) }

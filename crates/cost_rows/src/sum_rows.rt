@@ -16,7 +16,7 @@ pub struct SumRows<'a> {
 }
 
 /// The sum in a slot, 0 where there is no such slot.
-fn sum_in(sums: &[u128], slot: usize) -> u128
+pub(crate) fn sum_in(sums: &[u128], slot: usize) -> u128
     ensures { result ≡ slice_index sums.now slot }
 {
     sums.get(slot).copied().unwrap_or(0)

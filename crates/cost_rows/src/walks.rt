@@ -4,6 +4,7 @@ ghost use Rattle.std.specs.Prelude.{◌≡◌};
 use crate::names::Names;
 use crate::numbered::{NumberedArcs, NumberedCells};
 use crate::rows::{ArcRow, CellRow, StackRow};
+use crate::sum_rows::sum_in;
 use std::collections::btree_map::Iter;
 use std::marker::Model;
 
@@ -116,18 +117,20 @@ impl<'a> GivesNames<'a> for NumberedCells<'a> {
 /// The counts of stacks above 0, by the bytes of their frames. Takes no memory.
 #[derive(Drop)]
 pub struct StackWalk<'a> {
-    pub(crate) rest: Iter<'a, Vec<u8>, u128>,
+    pub(crate) rest: Iter<'a, Vec<u8>, usize>,
+    pub(crate) counts: &'a [u128],
 }
 
 impl<'a> Model for StackWalk<'a> {
     ghost use Rattle.std.specs.Prelude.{ℕ, List};
     ghost use Rattle.cost_rows.specs.declared.rows.StackRow.{StackRow};
+    ghost use Rattle.cost_rows.specs.Slots.{with_sums};
     ghost use Rattle.cost_rows.specs.Stacks.{by_bytes};
     ghost use Rattle.cost_rows.specs.Walks.{stack_rows};
 
     ghost Value = { List (StackRow (List ℕ)) };
 
-    ghost view = { λ a. stack_rows (by_bytes a.rest) };
+    ghost view = { λ a. stack_rows (with_sums a.counts.now (by_bytes a.rest)) };
 }
 
 impl<'a> Iterator for StackWalk<'a> {
@@ -141,11 +144,12 @@ impl<'a> Iterator for StackWalk<'a> {
     ghost remaining = { item_count (λ s. s) };
 
     fn next(&mut self) -> Option<StackRow<&'a [u8]>> {
-        while let Some((stack, count)) = self.rest.next() {
-            if *count > 0 {
+        while let Some((stack, slot)) = self.rest.next() {
+            let count = sum_in(self.counts, *slot);
+            if count > 0 {
                 return Some(StackRow {
                     stack: stack.as_slice(),
-                    count: *count,
+                    count,
                 });
             }
         }

@@ -17,7 +17,7 @@ use Rattle.folded_reader.specs.Reads as stacks
 use Rattle.folded_reader.specs.declared.reader.FoldedReader.{FoldedReader}
 use Rattle.cost_rows.specs.Content.{Content, empty, with_record, with_stack}
 use Rattle.cost_rows.specs.Rows.{content_of, known_of}
-use Rattle.text_rows.specs.Texts.{content_of_text, content_of_folded}
+use Rattle.histories.specs.Files.{content_of_text, content_of_folded}
 use Rattle.cost_rows.specs.declared.file_rows.FileRows.{FileRows}
 use Rattle.profile_records.specs.declared.kinds.Kind.{Kind}
 use Rattle.profile_records.specs.declared.kinds.Kind.TheVariants as kinds

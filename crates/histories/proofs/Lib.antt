@@ -23,6 +23,7 @@ pub mod Selections
 pub mod Steps
 pub mod Tells
 pub mod Tests
+pub mod TextExamples
 pub mod Texts
 pub mod Totals
 pub mod Turns

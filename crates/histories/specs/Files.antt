@@ -9,7 +9,8 @@ use Rattle.folded_reader.specs.Files as folded
 use Rattle.profile_records.specs.Stacks.{Seen}
 use Rattle.folded_reader.specs.Heads.{HeadIs, samples_alone}
 use Rattle.cost_rows.specs.Content.{Content, leaf_cost}
-use Rattle.text_rows.specs.Texts.{content_of_text, content_of_folded}
+use Rattle.cost_rows.specs.StackSums.{content_of_stacks}
+use Rattle.cost_rows.specs.Sums.{content_of_records}
 use Rattle.profile_records.specs.declared.kinds.Kind.{Kind}
 use Rattle.profile_records.specs.declared.kinds.Kind.TheVariants.{Callgrind, Folded}
 
@@ -53,6 +54,14 @@ stacks_of Folded bytes = folded.stacks_of_file bytes
 abbrev pub IsHeadOf : Kind → FileHead → List ℕ → Type 0
 IsHeadOf Callgrind head bytes = HeadOfFile head bytes
 IsHeadOf Folded head bytes = HeadIs head
+
+-- the rows of a Callgrind text
+abbrev pub content_of_text : List ℕ → Content
+content_of_text text = content_of_records (callgrind.records_of_file text)
+
+-- the rows of a folded text
+abbrev pub content_of_folded : List ℕ → Content
+content_of_folded text = content_of_stacks (folded.stacks_of_file text)
 
 -- its rows
 abbrev pub rows_of : Kind → List ℕ → Content

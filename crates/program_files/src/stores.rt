@@ -8,10 +8,18 @@ ghost use Rattle.program_files.specs.Stores.{Refuses, TakesUp, store_text};
 
 use prof_store::{OpenError, Store};
 use sqlite::{Alter, Connection, Error, ErrorCode, File, FileStore};
+use sqlite_disk::Unknown;
+use sqlite_pager::Options;
+use sqlite_std_file::OpenError as PathError;
 use std::alloc::Global;
 use std::fs;
+use std::hash::{BuildHasher, RandomState};
 use std::io::ErrorKind;
 use std::rt::HostRuntime;
+
+/// How many pages that were read are kept in memory. An open checks each page and a report reads each
+/// once, so more would only have to be made: the database's own 2,000 are 8 MB, blank at each command.
+const CACHED_PAGES: usize = 100;
 
 /// What a database in a file is kept in.
 pub type StoreFile = FileStore<File>;
@@ -47,9 +55,27 @@ pub fn is_new_at(rt: &HostRuntime, path: &str) -> Result<bool, OpenError> {
     }
 }
 
-/// The database at a path, opened. No guarantee: of the files at a path the checker knows nothing.
+/// The database at a path, opened with few pages in its cache. No guarantee: of the files at a path the
+/// checker knows nothing.
 pub fn database_at(rt: &HostRuntime, path: &str) -> Result<Connection<StoreFile>, OpenError> {
-    Connection::open(rt, path).map_err(error_of_open)
+    if path == ":memory:" || path.starts_with("file:") {
+        return Err(OpenError::Store);
+    }
+    let files = match sqlite_std_file::open(rt, path, Unknown) {
+        Ok(files) => files,
+        Err(PathError::OutOfMemory) => return Err(OpenError::Memory),
+        Err(PathError::Io(error)) if error.kind() == ErrorKind::OutOfMemory => {
+            return Err(OpenError::Memory);
+        }
+        Err(_) => return Err(OpenError::Store),
+    };
+    let Ok(keys) = RandomState::new(rt) else {
+        return Err(OpenError::Store);
+    };
+    let mut options = Options::new(keys.hash_one(&0u8));
+    options.cache_pages = CACHED_PAGES;
+    Connection::open_files_with(rt.alloc(), files, options, false)
+        .map_err(|(error, _)| error_of_open(error))
 }
 
 /// The store of a database: a new one where it is to become one, else the one that it holds. A refusal

@@ -1,5 +1,5 @@
 use Rattle.std.proofs.Common.{◌<◌, ◌^◌, List, sym, subst, arith}
-use Rattle.cost_rows.specs.Stacks.{by_bytes}
+use Rattle.cost_rows.specs.Slots.{sums_in}
 use Rattle.cost_rows.specs.Totals.{AreWithin}
 use Rattle.cost_rows.specs.declared.places.Call.{Call}
 use Rattle.cost_rows.specs.declared.calls.Calls.{Calls}
@@ -14,9 +14,9 @@ merge_call-requires-clause-small c =
 pub invariant_of-self-2 : goal.invariant_of-self-2
 invariant_of-self-2 c = record {
   within =
-      let P : List (Call × Calls) → Type 0 = λ arcs. AreWithin c.args.self.now.cells.entries arcs (by_bytes c.args.self.now.stacks.entries) c.args.r.at in
+      let P : List (Call × Calls) → Type 0 = λ arcs. AreWithin c.args.self.now.cells.entries arcs (sums_in c.args.self.now.stacks) c.args.r.at in
       subst P (sym c.in_default.ensures.arcs)
-      (within-call c.args.self.now.cells.entries c.args.self.now.arcs.entries (by_bytes c.args.self.now.stacks.entries) c.args.self.now.last c.args.r.at _ (record { count = c.args.r.count; costs = c.args.r.costs.now })
+      (within-call c.args.self.now.cells.entries c.args.self.now.arcs.entries (sums_in c.args.self.now.stacks) c.args.self.now.last c.args.r.at _ (record { count = c.args.r.count; costs = c.args.r.costs.now })
       c.args.self.now.within c.requires.rises c.requires.count c.requires.small);
   named = c.in_default.ensures.learns.named;
 }

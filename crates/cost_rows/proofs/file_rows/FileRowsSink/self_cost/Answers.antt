@@ -1,5 +1,5 @@
 use Rattle.std.proofs.Common.{◌<◌, ◌^◌, List, ℕ, sym, subst, arith}
-use Rattle.cost_rows.specs.Stacks.{by_bytes}
+use Rattle.cost_rows.specs.Slots.{sums_in}
 use Rattle.cost_rows.specs.Totals.{AreWithin}
 use Rattle.cost_rows.specs.declared.places.CellPlace.{CellPlace}
 use Rattle.cost_rows.proofs.TotalsLemmas.{cells-small, within-own}
@@ -13,9 +13,9 @@ merge_own-requires-clause-small c =
 pub invariant_of-self-2 : goal.invariant_of-self-2
 invariant_of-self-2 c = record {
   within =
-      let P : List (CellPlace × List ℕ) → Type 0 = λ cells. AreWithin cells c.args.self.now.arcs.entries (by_bytes c.args.self.now.stacks.entries) c.args.r.at in
+      let P : List (CellPlace × List ℕ) → Type 0 = λ cells. AreWithin cells c.args.self.now.arcs.entries (sums_in c.args.self.now.stacks) c.args.r.at in
       subst P (sym c.in_default.ensures.cells)
-      (within-own c.args.self.now.cells.entries c.args.self.now.arcs.entries (by_bytes c.args.self.now.stacks.entries) c.args.self.now.last c.args.r.at _ c.args.r.costs.now
+      (within-own c.args.self.now.cells.entries c.args.self.now.arcs.entries (sums_in c.args.self.now.stacks) c.args.self.now.last c.args.r.at _ c.args.r.costs.now
       c.args.self.now.within c.requires.rises c.requires.small);
   named = c.in_default.ensures.learns.named;
 }

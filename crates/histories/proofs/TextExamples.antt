@@ -11,7 +11,7 @@ use Rattle.folded_reader.specs.Lines as folded
 use Rattle.folded_reader.specs.Files.{stacks_of_file}
 use Rattle.cost_rows.specs.StackSums.{leaf_sum, frames_sum}
 use Rattle.cost_rows.specs.Sums.{count_sum}
-use Rattle.text_rows.specs.Texts.{content_of_text, content_of_folded, all_counts}
+use Rattle.histories.specs.Files.{content_of_text, content_of_folded}
 use Rattle.std.specs.Str.{bytes_eq}
 
 -- two rows of one place
@@ -45,7 +45,3 @@ leaves-of_a = refl
 frames-of_b : frames_sum (λ frames. bytes_eq frames (codes "a;b")) (stacks_of_file (codes "a;b;a 3\na;b 2\n")) ≡ 2
 unfolding folded.reading_of
 frames-of_b = refl
-
-counts-of_all : all_counts (stacks_of_file (codes "a;b;a 3\na;b 2\n")) ≡ 5
-unfolding folded.reading_of
-counts-of_all = refl

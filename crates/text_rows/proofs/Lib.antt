@@ -1,2 +1,0 @@
-pub mod TextsLemmas
-pub mod TextExamples
