@@ -17,6 +17,7 @@ impl StackSink for FileRows {
     ghost last = { λ r. r.last };
 
     fn stack(&mut self, at: u64, stack: &[u8], count: u64) -> Result<(), AllocError> {
+        let function = leaf(stack);
         match self.stacks.find(stack)? {
             Some(slot) => {
                 merge_leaf(
@@ -24,7 +25,7 @@ impl StackSink for FileRows {
                     &mut self.names,
                     &mut self.guesses,
                     &mut self.cells,
-                    leaf(stack),
+                    function,
                     &[count],
                 )?;
                 self.stacks.add(slot, count);
@@ -36,7 +37,7 @@ impl StackSink for FileRows {
                     &mut self.names,
                     &mut self.guesses,
                     &mut self.cells,
-                    leaf(stack),
+                    function,
                     &[count],
                 ) {
                     self.stacks.forget(stack);
