@@ -1,8 +1,8 @@
 """Builds the program: proves the crates that it stands on side by side, and then the program by itself.
 
-`rt lib` locks its crate and every crate below, so two of them in one clone wait for each other. Each crate is therefore
-proved in a folder of its own, with the sources and the built libraries of the crates below it, and with its own out/,
-which moves there and back. Meanwhile this program holds the locks that rt takes in the clone.
+`rt lib` locks its crate and every crate below, so two of them in one clone wait for each other. So there is a tree for
+each crate that is proved at one time, with the sources and the built libraries of the crates below it, and with its own
+out/, which moves there and back. Meanwhile this program holds the locks that rt takes in the clone.
 
 A crate begins when all below it are done. It gets more than one job where processors would be idle, and where the crates
 that wait for it, one after another, would else take longer than all work that is left on all processors.
@@ -17,7 +17,8 @@ import sys
 import tempfile
 import time
 
-from sources import NAME, OUT, PARTS, PROGRAM, TOP, Tree, command_rt, is_current, keep, kept_in, kit_of, look_of, read, stamp
+from sources import (NAME, OUT, PARTS, PROGRAM, TOP, Tree, command_rt, is_current, keep, kept_in, kit_of, look_of,
+                     read, stamp)
 
 PROVED = os.path.join(OUT, "proved.json")
 # The memory that a proof takes, in GB, and what each further job of it takes.
@@ -31,7 +32,8 @@ def say(text, stays=True):
     if stays or not begin:
         print(f"{begin}{NAME}: {text}", file=sys.stderr, flush=True)
     else:
-        print(f"{begin}{NAME}: {text}"[:shutil.get_terminal_size().columns + len(begin) - 1], end="", file=sys.stderr, flush=True)
+        width = shutil.get_terminal_size().columns + len(begin) - 1
+        print(f"{begin}{NAME}: {text}"[:width], end="", file=sys.stderr, flush=True)
 
 
 def folder_of(name):
@@ -39,7 +41,7 @@ def folder_of(name):
 
 
 def place():
-    """Where the folders of single crates stand while they are proved."""
+    """Where the trees stand in which crates are proved: outside the clone, where `rt ci` refuses a second crates.txt."""
     cache = os.environ.get("XDG_CACHE_HOME") or os.path.join(os.path.expanduser("~"), ".cache")
     if not os.path.isabs(cache) or not os.access(os.path.dirname(cache), os.W_OK):
         cache = tempfile.gettempdir()
@@ -64,15 +66,16 @@ def free_memory():
 
 
 def weight_of(tree, name):
-    """About the seconds that a proof takes on one processor: its start, its code, and the libraries that it reads. A program is
-    proved over all the code below it. The numbers fit the table of docs/GATE.md."""
-    lines = {it: sum(read(os.path.join(TOP, path)).count(b"\n") for path in tree.files(it) if path.endswith(".rt"))
-             for it in ({name} | tree.below(name) if name == NAME else {name})}
-    return 20 + sum(lines.values()) / 60 if name == NAME else 20 + 0.15 * lines[name] + 2.75 * len(tree.below(name))
+    """About the seconds that a proof takes on one processor: its start, its code, and the libraries that it reads. The
+    program is proved over all the code below it. The numbers fit what `tests/by_hand/gate_cost` printed."""
+    names = {name} | tree.below(name) if name == NAME else {name}
+    paths = [os.path.join(TOP, path) for it in names for path in tree.files(it) if path.endswith(".rt")]
+    lines = sum(read(path).count(b"\n") for path in paths)
+    return 20 + lines / 60 if name == NAME else 20 + 0.15 * lines + 2.75 * len(tree.below(name))
 
 
 def link_or_copy(one, other):
-    """Gives a file a second name. rt writes into no source, and a file of a built library it removes before it makes it anew."""
+    """Gives a file a second name. rt writes into no source, and removes a file of a library before it makes it anew."""
     try:
         os.link(one, other)
     except OSError:
@@ -99,13 +102,14 @@ def locked(folders):
 class Job:
     """A call of rt in a folder of its own group of processes."""
 
-    def __init__(self, words, folder, jobs, held=()):
+    def __init__(self, words, folder, jobs, lane=None, held=()):
         os.makedirs(os.path.join(folder, "out"), exist_ok=True)
-        self.jobs, self.begun, self.log = jobs, time.monotonic(), os.path.join(folder, "out", "build.log")
+        self.lane, self.jobs, self.begun = lane, jobs, time.monotonic()
+        self.log = os.path.join(folder, "out", "build.log")
         with open(self.log, "wb") as log:
             # (held: where this program is killed, the locks stay until rt has ended)
-            self.process = subprocess.Popen(words, cwd=folder, stdin=subprocess.DEVNULL, stdout=log, stderr=subprocess.STDOUT,
-                                            start_new_session=True, pass_fds=held)
+            self.process = subprocess.Popen(words, cwd=folder, stdin=subprocess.DEVNULL, stdout=log,
+                                            stderr=subprocess.STDOUT, start_new_session=True, pass_fds=held)
 
     def stop(self):
         with contextlib.suppress(ProcessLookupError):
@@ -124,6 +128,8 @@ class Build:
         self.tree.sum(NAME, self.kit)  # (all sums, before any text can change)
         self.cores, self.memory = len(os.sched_getaffinity(0)), free_memory()
         self.held, self.running, self.failed = [], {}, []
+        # The crates below others that stand in each tree, with their libraries.
+        self.lanes = [set() for _ in range(self.cores)]
         known = kept_in(PROVED)
         self.proved = {it: known[it] for it in self.tree.names if it in known and known[it] == self.mark_of(it)}
         self.todo = [it for it in self.tree.names if it not in self.proved]
@@ -142,40 +148,47 @@ class Build:
 
     # -- one crate
 
-    def move_out(self, name, to_place):
-        """Moves out/ of a crate to its folder of the build, or back."""
-        ways = [os.path.join(folder_of(name), "out"), os.path.join(self.place, name, "crates", name, "out")]
-        one, other = ways if to_place else reversed(ways)
+    def folder_in(self, lane, name):
+        """The folder of a crate in one of the trees that the crates are proved in, of which each holds one that runs."""
+        return os.path.join(self.place, str(lane), "crates", name)
+
+    def move_out(self, one, other):
+        """Moves out/ of a crate from one folder of it to another."""
+        one, other = os.path.join(one, "out"), os.path.join(other, "out")
         if os.path.isdir(one):
             shutil.rmtree(other, ignore_errors=True)
             shutil.move(one, other)
 
-    def prepare(self, name):
-        """Makes the folder in which a crate is proved, and gives its path."""
-        top = os.path.join(self.place, name)
-        shutil.rmtree(top, ignore_errors=True)
-        for it in [*self.tree.below(name), name]:
-            for part in PARTS:
+    def prepare(self, lane, name):
+        """Makes the tree in which a crate is proved. It still has the crates of earlier proofs. Gives the crate's folder."""
+        below = self.tree.below(name)
+        for it in [*(below - self.lanes[lane]), name]:
+            for part in PARTS if it == name else (*PARTS, "out/rlib"):
                 if os.path.isdir(os.path.join(folder_of(it), part)):
-                    shutil.copytree(os.path.join(folder_of(it), part), os.path.join(top, "crates", it, part),
+                    shutil.copytree(os.path.join(folder_of(it), part), os.path.join(self.folder_in(lane, it), part),
                                     copy_function=link_or_copy)
-            if it != name:
-                shutil.copytree(os.path.join(folder_of(it), "out", "rlib"), os.path.join(top, "crates", it, "out", "rlib"),
-                                copy_function=link_or_copy)
-        with open(os.path.join(top, "crates.txt"), "w", encoding="utf-8") as file:
-            file.writelines(f"{self.tree.lines[it]}\n" for it in self.tree.names if it == name or it in self.tree.below(name))
-        self.move_out(name, True)
-        return os.path.join(top, "crates", name)
+        self.lanes[lane] |= below
+        with open(os.path.join(self.place, str(lane), "crates.txt"), "w", encoding="utf-8") as file:
+            # (a line whose crate has no folder here would be refused)
+            file.writelines(f"{self.tree.lines[it]}\n" for it in self.tree.names if it in {name} | below)
+        self.move_out(folder_of(name), self.folder_in(lane, name))
+        return self.folder_in(lane, name)
 
     def start(self, name, jobs):
         self.todo.remove(name)
-        self.running[name] = Job([self.rt, "lib", "--jobs", str(jobs)], self.prepare(name), jobs, self.held)
+        lane = min({*range(self.cores)} - {it.lane for it in self.running.values()})
+        words = [self.rt, "lib", "--jobs", str(jobs)]
+        self.running[name] = Job(words, self.prepare(lane, name), jobs, lane, self.held)
+
+    def take_back(self, name):
+        """Takes back what a crate's proof left."""
+        folder = self.folder_in(self.running.pop(name).lane, name)
+        self.move_out(folder, folder_of(name))
+        shutil.rmtree(folder, ignore_errors=True)
 
     def end(self, name):
-        """Takes back what a crate's proof left."""
-        job = self.running.pop(name)
-        self.move_out(name, False)
-        shutil.rmtree(os.path.join(self.place, name), ignore_errors=True)
+        job = self.running[name]
+        self.take_back(name)
         if job.process.returncode:
             self.failed.append(name)
             say(f"{name} is not proved. What rt said:")
@@ -187,11 +200,15 @@ class Build:
             keep(PROVED, self.proved)
 
     def recover(self):
-        """Puts back what a build that was killed left in the folders of single crates."""
-        for name in os.listdir(self.place) if os.path.isdir(self.place) else ():
-            if name in self.tree.names and not os.path.isdir(os.path.join(folder_of(name), "out")):
-                self.move_out(name, False)
-            shutil.rmtree(os.path.join(self.place, name), ignore_errors=True)
+        """Puts back what a build that was killed left in its trees."""
+        for lane in os.listdir(self.place) if os.path.isdir(self.place) else ():
+            for name in self.tree.names:
+                if not os.path.isdir(os.path.join(folder_of(name), "out")):
+                    self.move_out(self.folder_in(lane, name), folder_of(name))
+        self.clear()
+
+    def clear(self):
+        shutil.rmtree(self.place, ignore_errors=True)
 
     # -- all of them
 
@@ -219,16 +236,18 @@ class Build:
                 break
             self.start(name, jobs)
 
-    def tell(self, stays=False):
+    def tell(self):
         """Says how far it is."""
         done = len(self.tree.names) - len(self.todo) - len(self.running)
-        say(f"proving {', '.join(self.running)} .. {done} of {len(self.tree.names)} crates done, about {self.minutes()} left", stays)
+        names = ", ".join(self.running)
+        say(f"proving {names} .. {done} of {len(self.tree.names)} crates done, about {self.minutes()} left", stays=False)
 
     def minutes(self):
         """About how long the rest takes: by the speed so far, and no less than the longest chain."""
         done = sum(self.weight[it] for it in self.ended)
         clock = time.monotonic() - self.begun
-        all_at_once = (done + sum(self.weight[it] for it in self.running) / 2) / clock if self.ended else 0.7 * self.cores
+        half_done = sum(self.weight[it] for it in self.running) / 2
+        all_at_once = (done + half_done) / clock if self.ended else 0.7 * self.cores
         one_alone = done / self.spent if self.ended else 1.6
         rest = [self.chain[it] for it in self.todo] + [self.chain[it] - self.weight[it] / 2 for it in self.running]
         seconds = max(self.left() / all_at_once, max(rest, default=0) / one_alone)
@@ -249,11 +268,13 @@ class Build:
 
     def program(self):
         """Proves, builds and runs the program, with all processors. Gives whether that went well."""
-        say(f"all {len(self.tree.names) - 1} crates below are proved; proving and building the program, about {self.minutes()}")
+        say(f"all {len(self.tree.names) - 1} crates below are proved; proving and building the program, "
+            f"about {self.minutes()} left")
         self.release()
         jobs = self.jobs_that_fit(self.cores)
         job = Job([self.rt, "run", "--jobs", str(jobs), "--", "--version"], folder_of(NAME), jobs)
         self.running[NAME] = job
+        self.clear()
         if job.process.wait():
             say("the program is not built. What rt said:")
             sys.stderr.write(read(job.log).decode(errors="replace"))
@@ -270,8 +291,8 @@ class Build:
         for name, job in [*self.running.items()]:
             job.stop()
             if name != NAME:
-                self.move_out(name, False)
-        shutil.rmtree(self.place, ignore_errors=True)
+                self.take_back(name)
+        self.clear()
 
 
 def stop_here(number, _):
