@@ -123,7 +123,9 @@ def stamp(tree, looks, kit, rt):
 def is_current():
     """Whether the program is there, and made from the sources and by the kit as they are now."""
     stamped, rt = kept_in(STAMP), command_rt()
-    if not stamped or look_of(PROGRAM) is None or look_of(PROGRAM) != stamped.get("program"):
+    if not {"sum", "kit", "rt", "files", "program"} <= stamped.keys():
+        return False
+    if look_of(PROGRAM) is None or look_of(PROGRAM) != stamped["program"]:
         return False
     tree, kit = Tree(), stamped["kit"]
     looks, is_same_rt = tree.looks(), rt is None or [rt, look_of(rt)] == stamped["rt"]
