@@ -1,4 +1,4 @@
-/* Faults for a program, by LD_PRELOAD: for tests/faults, tests/faults_http and tests/refuse_each. The variables:
+/* Faults for a program, by LD_PRELOAD: for tests/faults, tests/faults_http and tests/by_hand/refuse_each. The variables:
 
    STORE, INPUTS   beginnings of paths: of the files of a store, and of files that are read
    FAULT           what is to fail: `allocation`, `read` (of a file of INPUTS), `change` (of a file of STORE:

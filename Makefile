@@ -1,0 +1,53 @@
+# The commands of this repository. `make` lists them.
+
+PROGRAM = crates/profhouse/out/profhouse
+PREFIX = /usr/local
+DESTDIR =
+INTO = $(DESTDIR)$(PREFIX)
+SCRIPTS = folded hostile http import reports rows run store total
+
+# What is installed: the mode, the file here, and its place below PREFIX.
+FILES = 755:$(PROGRAM):bin/profhouse \
+	644:share/man/man1/profhouse.1:share/man/man1/profhouse.1 \
+	644:share/completions/profhouse.bash:share/bash-completion/completions/profhouse \
+	644:share/completions/_profhouse:share/zsh/site-functions/_profhouse \
+	644:share/completions/profhouse.fish:share/fish/vendor_completions.d/profhouse.fish \
+	755:share/scripts/fail_if_costlier:share/profhouse/fail_if_costlier
+
+.PHONY: help build test gate bench install uninstall
+
+help:
+	@echo 'make build      proves and builds $(PROGRAM), where its sources have changed; needs rt'
+	@echo 'make test       builds, and runs the tests that need only the program; needs curl'
+	@echo 'make gate       runs all that CI runs, every proof from nothing; needs rt, git, gcc and curl'
+	@echo 'make bench      builds, and lists the benchmarks'
+	@echo 'make install    copies the built program, its manual page, completions and a script to PREFIX ($(PREFIX)), below DESTDIR'
+	@echo 'make uninstall  removes these files'
+
+build:
+	@PROFHOUSE_BUILD_ONLY=1 ./profhouse
+
+test: build
+	tests/run_stored
+	tests/http
+	tests/readme
+	tests/words_of_help
+
+gate:
+	tests/gate
+
+bench: build
+	@for it in $(SCRIPTS); do sed -n '/Usage: /{s/.*Usage: //;s/   .*//;p;q;}' bench/$$it; done
+	@echo 'bench/README.md says what each shows and needs.'
+
+# (it builds nothing: as root, the files of the build would belong to root)
+install:
+	@test -x $(PROGRAM) || { echo 'there is no program $(PROGRAM): make build first' >&2; exit 1; }
+	@for it in $(FILES); do \
+		to="$(INTO)/$${it##*:}" from=$${it#*:}; \
+		install -D -m "$${it%%:*}" "$${from%:*}" "$$to" && echo "$$to" || exit 1; \
+	done
+
+uninstall:
+	@for it in $(FILES); do rm -f "$(INTO)/$${it##*:}"; done
+	@rmdir "$(INTO)/share/profhouse" 2>/dev/null || true
