@@ -5,7 +5,10 @@ crates/profhouse/out/profhouse. It proves and builds nothing but its twins. Its 
 out/bench and are made once. Times are those of the processor, in user and system together, since other
 work beside does not count there; each is the least of RUNS runs (5, or the variable RUNS), and the
 commands that are compared run in turn. Peak memory is asked of /usr/bin/time (Debian's package time).
+With `--record NOTE` a benchmark appends its figures to bench/results.csv, with the day, the commit and NOTE,
+which says what the machine was and what ran beside; bench/table makes the table of bench/README.md of them.
 """
+import csv
 import datetime
 import itertools
 import os
@@ -19,6 +22,34 @@ TOP = os.path.dirname(os.path.dirname(os.path.abspath(__file__)))
 OUT = os.path.join(TOP, "out", "bench")
 TWINS = os.path.join(TOP, "bench", "twin")
 RUNS = int(os.environ.get("RUNS", "5"))
+RESULTS = os.path.join(TOP, "bench", "results.csv")
+
+
+def taken_off(option):
+    """The word behind an option, taken off the command line with it, so that no benchmark sees either."""
+    if option not in sys.argv[1:]:
+        return None
+    at = sys.argv.index(option)
+    if at + 1 == len(sys.argv):
+        sys.exit(f"{option} has no word behind it")
+    word = sys.argv[at + 1]
+    del sys.argv[at:at + 2]
+    return word
+
+
+NOTE = taken_off("--record")
+
+
+def record(case, ours, plain=None, unit="s", note=""):
+    """Keeps a figure, if figures are to be kept: what the program took for a case, and its plain counterpart."""
+    if NOTE is None:
+        return
+    ran = subprocess.run(["git", "rev-parse", "--short=8", "HEAD"], cwd=TOP, capture_output=True, text=True, check=False)
+    ratio = f"{ours / plain:.2f}" if plain else ""
+    row = [datetime.date.today(), ran.stdout.strip(), os.path.basename(sys.argv[0]), case, f"{ours:.4g}",
+           f"{plain:.4g}" if plain is not None else "", ratio, unit, "; ".join(filter(None, [NOTE, note]))]
+    with open(RESULTS, "a", newline="", encoding="utf-8") as file:
+        csv.writer(file, lineterminator="\n").writerow(row)
 
 
 def program():
@@ -230,7 +261,11 @@ def report_import(program, twin, path):
           f" same tables: {are_same('program.db', 'twin.db')}")
     print(f"    program {run.processor:.3f} s, twin {other.processor:.3f} s:"
           f" {run.processor / other.processor:.2f} times; by the clock {run.clock:.3f} s, {other.clock:.3f} s")
-    print(f"    peak memory {peak(ours)} KB, twin {peak(plain)} KB;"
+    memory = peak(ours), peak(plain)
+    case = f"import of {os.path.basename(path)}"
+    record(case, run.processor, other.processor)
+    record(f"{case}, memory", memory[0] / 1e3, memory[1] / 1e3, "MB")
+    print(f"    peak memory {memory[0]} KB, twin {memory[1]} KB;"
           f" database {megabytes(os.path.join(OUT, 'program.db')):.1f} MB,"
           f" twin {megabytes(os.path.join(OUT, 'twin.db')):.1f} MB")
     steps = [line.split() for line in other.output.splitlines()]
