@@ -8,7 +8,8 @@ use Rattle.cg_text.specs.Readings.{reading_of}
 use Rattle.cg_text.specs.Subpositions.{subpos_of}
 use Rattle.cg_text.specs.declared.faults.Fault.TheVariants.{BadNumber, CallWithoutCost, EventTwice, EventsChanged, IdRedefined, NoEvents, NumberTooLarge, PositionRange, PositionsForm, ShortLine, TooManyCosts, UnknownId, UnknownLine, Version}
 use Rattle.profile_records.specs.Records.{Own, Called}
-use Rattle.callgrind_reader.specs.IdPlaces.{place_near, place_or}
+use Rattle.callgrind_reader.specs.IdPlaces.{place_or}
+use Rattle.callgrind_reader.specs.NearPlaces.{place_near}
 use Rattle.callgrind_reader.specs.Files.{records_of_file, fault_of_file, events_of_file, stated_of_file}
 
 -- ---- the worked files: their records, and that they are accepted

@@ -1,16 +1,9 @@
 -- The places that identifiers have, as a function from them.
-use Rattle.std.specs.Prelude.{ℕ, List, Option, Some, None, slice_get}
+use Rattle.std.specs.Prelude.{ℕ, Option, Some, None}
 use Rattle.std.specs.Ordering.{nat_cmp}
 use Rattle.std.specs.BTreeMap.{get}
+use Rattle.callgrind_reader.specs.NearPlaces.{place_near}
 use Rattle.callgrind_reader.specs.declared.id_places.IdPlaces.{IdPlaces}
-
--- what stands in a list of places, if anything
-abbrev pub kept_in : Option (Option ℕ) → Option ℕ
-kept_in None = None
-kept_in (Some place) = place
-
-abbrev pub place_near : List (Option ℕ) → ℕ → Option ℕ
-place_near near id = kept_in (slice_get near id)
 
 abbrev pub place_or : Option ℕ → Option ℕ → Option ℕ
 place_or None other = other

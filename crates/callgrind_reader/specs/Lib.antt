@@ -9,6 +9,7 @@ pub mod Definitions
 pub mod Lines
 pub mod Files
 pub mod Inside
+pub mod NearPlaces
 pub mod IdPlaces
 pub mod Table
 pub mod Current

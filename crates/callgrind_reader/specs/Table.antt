@@ -1,5 +1,5 @@
 -- A table of identifiers, as a function from them.
-use Rattle.std.specs.Prelude.{◌≡◌, ◌==◌, ℕ, ◌<◌, List, Option, Some, None, slice_get, vec_len, if◌then◌else◌}
+use Rattle.std.specs.Prelude.{◌≡◌, ◌==◌, ℕ, ◌<◌, List, Option, Some, None, slice_get, unwrap_or, vec_len, if◌then◌else◌}
 use Rattle.callgrind_reader.specs.IdPlaces.{place_at}
 use Rattle.callgrind_reader.specs.declared.tables.NameTable.{NameTable}
 
@@ -23,9 +23,9 @@ text_at t q = name_at t (place_at t.places q)
 abbrev pub Keeps : NameTable → NameTable → Type 0
 Keeps old new = (place : ℕ) → place < names_in old → name_at new (Some place) ≡ name_at old (Some place)
 
--- an identifier was given a name, which stands at a place from now on
+-- an identifier means what it meant, or this name if it meant nothing; that stands at a place from now on
 pub record Defines (id : ℕ) (text : List ℕ) (old new : NameTable) (place : ℕ) : Type 0 where
-  pub means : (q : ℕ) → text_at new q ≡ (if id == q then Some text else text_at old q)
-  pub name : name_at new (Some place) ≡ Some text
+  pub means : (q : ℕ) → text_at new q ≡ (if id == q then Some (unwrap_or (text_at old id) text) else text_at old q)
+  pub name : name_at new (Some place) ≡ Some (unwrap_or (text_at old id) text)
   pub inside : place < names_in new
   pub keeps : Keeps old new

@@ -1,6 +1,8 @@
 // The places that identifiers have.
-ghost use Rattle.std.specs.Prelude.{◌≡◌, ◌==◌, ℕ, ◌≤◌, OnOk, OnErr, Some, None, vec_len, if◌then◌else◌};
-ghost use Rattle.callgrind_reader.specs.IdPlaces.{place_near};
+ghost use Rattle.std.specs.Prelude.{◌≡◌, ◌==◌, ℕ, ◌<◌, ◌≤◌, IfOk, OnOk, OnErr, Some, None, unwrap_or, vec_len, if◌then◌else◌};
+ghost use Rattle.std.specs.Ordering.{nat_cmp};
+ghost use Rattle.std.specs.BTreeMap.{get};
+ghost use Rattle.callgrind_reader.specs.NearPlaces.{place_near};
 
 use std::alloc::{AllocError, Global};
 use std::collections::BTreeMap;
@@ -15,6 +17,7 @@ const NEAR: u64 = 65_536;
 pub struct IdPlaces {
     near: Vec<Option<usize>>,
     others: BTreeMap<u64, usize>,
+    ghost great: { (q : ℕ) → q < 65536 → get nat_cmp others q ≡ None },
 }
 
 /// Lengthens a list of places by identifiers without one, until it has so many.
@@ -37,6 +40,28 @@ fn put_near(near: &mut Vec<Option<usize>>, id: usize, place: usize) -> Result<()
     lengthen(near, count)?;
     near[id] = Some(place);
     Ok(())
+}
+
+/// Leaves an identifier without a place in a list of places.
+fn clear_near(near: &mut Vec<Option<usize>>, id: usize)
+    ensures { (q : ℕ) → place_near near.new.items q ≡ (if id == q then None else place_near near.old.items q) }
+{
+    if id < near.len() {
+        near[id] = None;
+    }
+}
+
+/// The place of an identifier in a map of places. One that has none gets the next place.
+fn find_or_insert(
+    others: &mut BTreeMap<u64, usize>,
+    id: u64,
+    next: usize,
+) -> Result<usize, AllocError>
+    ensures found { IfOk result (λ place. place ≡ unwrap_or (get nat_cmp others.old id) next) }
+    ensures ok { IfOk result (λ place. (q : ℕ) → get nat_cmp others.new q ≡ (if id == q then Some place else get nat_cmp others.old q)) }
+    ensures err { OnErr result ((q : ℕ) → get nat_cmp others.new q ≡ get nat_cmp others.old q) }
+{
+    Ok(*others.entry(id)?.or_insert(next))
 }
 
 impl IdPlaces {
@@ -62,16 +87,28 @@ impl IdPlaces {
         }
     }
 
-    /// Gives a place to an identifier that has none.
-    pub fn add(&mut self, id: u64, place: usize) -> Result<(), AllocError>
-        requires { place_at self.old id ≡ None }
-        ensures ok { OnOk result ((q : ℕ) → place_at self.new q ≡ (if id == q then Some place else place_at self.old q)) }
+    /// The place of an identifier. One that has none gets the next place, by the search that did not find
+    /// it.
+    pub fn find_or_add(&mut self, id: u64, next: usize) -> Result<usize, AllocError>
+        ensures found { IfOk result (λ place. place ≡ unwrap_or (place_at self.old id) next) }
+        ensures ok { IfOk result (λ place. (q : ℕ) → place_at self.new q ≡ (if id == q then Some place else place_at self.old q)) }
         ensures err { OnErr result ((q : ℕ) → place_at self.new q ≡ place_at self.old q) }
     {
-        if id < NEAR {
-            return put_near(&mut self.near, id as usize, place);
+        if let Some(Some(place)) = self.near.get(id as usize) {
+            return Ok(*place);
         }
-        self.others.insert(id, place)?;
-        Ok(())
+        if id < NEAR {
+            put_near(&mut self.near, id as usize, next)?;
+            return Ok(next);
+        }
+        find_or_insert(&mut self.others, id, next)
+    }
+
+    /// Leaves an identifier without a place.
+    pub fn remove(&mut self, id: u64)
+        ensures { (q : ℕ) → place_at self.new q ≡ (if id == q then None else place_at self.old q) }
+    {
+        clear_near(&mut self.near, id as usize);
+        self.others.remove(&id);
     }
 }

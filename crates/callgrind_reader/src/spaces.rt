@@ -34,16 +34,17 @@ fn resolve<'a>(
     let Some(id) = spec.id else {
         return Ok(Ok(Given::Plain(spec.text.unwrap_or(b"???"))));
     };
-    let Some(place) = table.find(id) else {
-        return match spec.text {
-            Some(text) => Ok(Ok(Given::Held(table.define(id, text)?))),
+    let Some(text) = spec.text else {
+        return match table.find(id) {
+            Some(place) => Ok(Ok(Given::Held(place))),
             None => Ok(Err(Fault::UnknownId)),
         };
     };
-    match spec.text {
-        None => Ok(Ok(Given::Held(place))),
-        Some(text) if table.name(place) == text => Ok(Ok(Given::Held(place))),
-        Some(_) => Ok(Err(Fault::IdRedefined)),
+    let place = table.find_or_define(id, text)?;
+    if table.name(place) == text {
+        Ok(Ok(Given::Held(place)))
+    } else {
+        Ok(Err(Fault::IdRedefined))
     }
 }
 

@@ -1,5 +1,5 @@
 // The names that identifiers mean.
-ghost use Rattle.std.specs.Prelude.{◌≡◌, ◌==◌, ℕ, ◌<◌, ◌≤◌, IfOk, IfSome, Some, None, vec_len, if◌then◌else◌};
+ghost use Rattle.std.specs.Prelude.{◌≡◌, ◌==◌, ℕ, ◌<◌, ◌≤◌, ◌++◌, ◌∷◌, [], IfOk, OnOk, OnErr, Some, None, vec_len, if◌then◌else◌};
 ghost use Rattle.callgrind_reader.specs.IdPlaces.{place_at};
 ghost use Rattle.callgrind_reader.specs.Inside.{AreInside, IsInside};
 
@@ -14,6 +14,15 @@ pub struct NameTable {
     places: IdPlaces,
     names: Vec<ListVec<u8>>,
     ghost inside: { AreInside (place_at places) (vec_len names) },
+}
+
+/// Appends a copy of a name to a list of names. Where memory is refused, the list stays as it was.
+fn push_name(names: &mut Vec<ListVec<u8>>, text: &[u8], alloc: Global) -> Result<(), AllocError>
+    ensures ok { OnOk result (names.new.items ≡ names.old.items ++ text.now ∷ []) }
+    ensures err { OnErr result (names.new.items ≡ names.old.items) }
+{
+    names.push(ListVec::from_vec(text.to_vec(alloc)?))?;
+    Ok(())
 }
 
 impl NameTable {
@@ -47,16 +56,21 @@ impl NameTable {
         self.names[place].as_slice()
     }
 
-    /// Gives a name to an identifier that has none, and answers its place.
-    pub fn define(&mut self, id: u64, text: &[u8]) -> Result<usize, AllocError>
-        requires { place_at self.old.places id ≡ None }
+    /// The place of the name that an identifier means. One that means nothing gets this name. Where memory
+    /// is refused, each identifier means what it meant.
+    pub fn find_or_define(&mut self, id: u64, text: &[u8]) -> Result<usize, AllocError>
         ensures defines { IfOk result (Defines id text.now self.old self.new) }
+        ensures refused { OnErr result ((q : ℕ) → text_at self.new q ≡ text_at self.old q) }
         ensures grows { names_in self.old ≤ names_in self.new }
     {
-        let text = text.to_vec(self.alloc)?;
-        let place = self.names.len();
-        self.names.push(ListVec::from_vec(text))?;
-        self.places.add(id, place)?;
+        let next = self.names.len();
+        let place = self.places.find_or_add(id, next)?;
+        if place == next {
+            if let Err(error) = push_name(&mut self.names, text, self.alloc) {
+                self.places.remove(id);
+                return Err(error);
+            }
+        }
         Ok(place)
     }
 }

@@ -1,5 +1,5 @@
 use Rattle.std.proofs.Common.{◌≡◌, ℕ, ◌-◌, vec_len}
-use Rattle.callgrind_reader.specs.IdPlaces.{place_near}
+use Rattle.callgrind_reader.specs.NearPlaces.{place_near}
 use Rattle.callgrind_reader.proofs.id_places.lengthen.Given as goal
 
 -- the places of all identifiers are as they were
