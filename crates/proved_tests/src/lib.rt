@@ -10,6 +10,9 @@ mod given;
 // Imports into a warehouse with small limits.
 #[cfg(test)]
 mod imports;
+// Public calls that the program does not make.
+#[cfg(test)]
+mod library;
 // What takes lines may refuse one; then each later piece is refused.
 #[cfg(test)]
 mod lines;

@@ -214,7 +214,7 @@ fn rows_out_of_form_are_refused(rt: HostRuntime) -> Result<(), Fail> {
     Ok(())
 }
 
-/// With one allocation refused (`tests/refuse_each`), the call that meets it says so, and the next is whole.
+/// With one allocation refused (`tests/by_hand/refuse_each`), the call that meets it says so, and the next is whole.
 #[test]
 fn memory_refused_to_walk(rt: HostRuntime) -> Result<(), Fail> {
     let alloc = rt.alloc();

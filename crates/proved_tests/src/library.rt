@@ -1,0 +1,149 @@
+// Public calls that a library's user has and the program does not make.
+use crate::given::Given;
+use crate::stores::empty;
+use callgrind_reader::Reader;
+use cg_formulas::Flat;
+use cg_text::{ListVec, fields};
+use cost_rows::{ArcRow, CellRow, FileRows};
+use std::alloc::{AllocError, Global};
+use std::test::Fail;
+use warehouse::{
+    Answer, Command, GroupChange, Kind, Limits, Query, Refusal, Selection, Warehouse,
+};
+
+#[test]
+fn fields_stand_between_blanks(rt: HostRuntime) -> Result<(), Fail> {
+    let mut found = fields(b" ab\t\tc  d ");
+    for wanted in [b"ab".as_slice(), b"c", b"d"] {
+        assert!(rt; found.next() == Some(wanted));
+    }
+    assert!(rt; found.next().is_none());
+    Ok(())
+}
+
+/// The value of an event where `Ir` costs 3 and `L1m` costs 4, and `Est = Ir + 10 L1m`.
+fn value(alloc: Global, name: &[u8]) -> Result<Option<u128>, AllocError> {
+    let mut events = ListVec::new(alloc);
+    events.push(ListVec::from_vec(b"Ir".to_vec(alloc)?))?;
+    events.push(ListVec::from_vec(b"L1m".to_vec(alloc)?))?;
+    let mut derived = ListVec::new(alloc);
+    let numbers = ListVec::from_vec(vec![in alloc; 1, 10]?);
+    derived.push((ListVec::from_vec(b"Est".to_vec(alloc)?), numbers))?;
+    let flat = Flat::of(events, derived).ok_or(AllocError)?;
+    let costs = [3, 4];
+    if flat.events.len() != costs.len() {
+        return Err(AllocError);
+    }
+    Ok(flat.value(name, &costs))
+}
+
+#[test]
+fn derived_events_have_a_value(rt: HostRuntime) -> Result<(), Fail> {
+    assert_eq!(rt; value(rt.alloc(), b"L1m")?, Some(4));
+    assert_eq!(rt; value(rt.alloc(), b"Est")?, Some(43));
+    assert_eq!(rt; value(rt.alloc(), b"Dr")?, None);
+    Ok(())
+}
+
+/// A cost line of 20 and 1, and three calls that cost 400 of the first event.
+const CALLS: &[u8] = b"events: Ir Dr\nfl=a.c\nfn=main\n16 20 1\ncfn=g\ncalls=3 50\n17 400\n";
+
+fn rows_of(alloc: Global, text: &'static [u8]) -> Result<FileRows, Fail> {
+    let mut reader = Reader::new(alloc)?;
+    let mut rows = FileRows::new(alloc);
+    if text.len() as u64 > reader.room() {
+        return Err(Fail::from(AllocError));
+    }
+    reader.feed(text, &mut rows)?;
+    if reader.finish(&mut rows).is_err() {
+        return Err(Fail::from(AllocError));
+    }
+    Ok(rows)
+}
+
+/// Whether a row is the cost of an event at line 16 of `main`.
+fn is_cost(row: Option<CellRow<&[u8]>>, event: usize, cost: u128) -> bool {
+    let Some(row) = row else {
+        return false;
+    };
+    row.object == b"???".as_slice()
+        && row.file == b"a.c".as_slice()
+        && row.function == b"main".as_slice()
+        && row.line == 16
+        && row.event == event
+        && row.cost == cost
+}
+
+/// Whether a row is the three calls from line 17 of `main` to `g`.
+fn is_call(row: Option<ArcRow<&[u8], &[u128]>>) -> bool {
+    let Some(row) = row else {
+        return false;
+    };
+    row.function == b"main".as_slice()
+        && row.line == 17
+        && row.called_object == b"???".as_slice()
+        && row.called_file == b"a.c".as_slice()
+        && row.called_function == b"g".as_slice()
+        && row.count == 3
+        && row.costs == [400, 0].as_slice()
+}
+
+#[test]
+fn rows_of_a_file_have_their_names(rt: HostRuntime) -> Result<(), Fail> {
+    let rows = rows_of(rt.alloc(), CALLS)?;
+    let mut cells = rows.cells();
+    assert!(rt; is_cost(cells.next(), 0, 20));
+    assert!(rt; is_cost(cells.next(), 1, 1));
+    assert!(rt; cells.next().is_none());
+    let mut arcs = rows.arcs();
+    assert!(rt; is_call(arcs.next()));
+    assert!(rt; arcs.next().is_none());
+    Ok(())
+}
+
+/// A file is imported, a source annotated, the run put into a group and removed.
+fn commands(alloc: Global) -> Result<Vec<Command<Given>>, AllocError> {
+    let mut commands = Vec::new(alloc);
+    commands.push(Command::Import {
+        kind: Kind::Callgrind,
+        label: b"a".to_vec(alloc)?,
+        source: Given::sound(b"events: Ir\nfl=a.c\nfn=f\n0 1\n1 2\n9 4\n", 7),
+    })?;
+    commands.push(Command::Annotate {
+        selection: Selection::All,
+        event: ListVec::from_vec(b"Ir".to_vec(alloc)?),
+        file: ListVec::from_vec(b"a.c".to_vec(alloc)?),
+        source: Given::sound(b"int x;", 7),
+    })?;
+    commands.push(Command::Group(b"g".to_vec(alloc)?, GroupChange::Make))?;
+    commands.push(Command::Remove(2))?;
+    commands.push(Command::Group(b"g".to_vec(alloc)?, GroupChange::Join(1)))?;
+    commands.push(Command::Ask(Query::Groups))?;
+    Ok(commands)
+}
+
+/// Whether an answer is the one that is wanted of the command at a place of the list.
+fn is_wanted(at: usize, answer: &Answer) -> bool {
+    match (at, answer) {
+        (0, Answer::Run(1)) => true,
+        (1, Answer::Text(text)) => {
+            text.as_slice() == b"annotate a.c Ir\n7 total\n2 1: int x;\n5 (outside)\n".as_slice()
+        }
+        (2, Answer::Done) | (4, Answer::Done) => true,
+        (3, Answer::Refused(Refusal::NoSuchRun)) => true,
+        (5, Answer::Text(text)) => text.as_slice() == b"g - 1\n".as_slice(),
+        _ => false,
+    }
+}
+
+#[test]
+fn a_list_of_commands_is_answered(rt: HostRuntime) -> Result<(), Fail> {
+    let alloc = rt.alloc();
+    let mut house = Warehouse::new(empty(alloc, false)?, Limits::standard());
+    let answers = house.run(alloc, commands(alloc)?)?;
+    assert_eq!(rt; answers.len(), 6);
+    for (at, answer) in answers.iter().enumerate() {
+        assert!(rt; is_wanted(at, answer));
+    }
+    Ok(())
+}
