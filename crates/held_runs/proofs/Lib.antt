@@ -10,5 +10,6 @@ mod NumberLists
 pub mod OwnSumLists
 mod RunTexts
 pub mod RowSteps
+pub mod TableEnds
 pub mod WalkSteps
 pub mod WalkTables

@@ -1,5 +1,5 @@
--- What the texts on runs and groups mean, by computing them.
-use Rattle.std.proofs.Common.{◌≡◌, List, [], ◌∷◌, false, codes, refl}
+-- What the texts on runs, groups and the ends of tables mean, by computing them.
+use Rattle.std.proofs.Common.{◌≡◌, ℕ, List, [], ◌∷◌, true, false, codes, refl}
 use Rattle.sqlite_value.specs.declared.keys.Key.{Key}
 use Rattle.sqlite_value.specs.declared.keys.Collation.TheVariants.{Binary}
 use Rattle.sqlite_value.specs.Keys.{ascending}
@@ -8,10 +8,10 @@ use Rattle.sqlite_schema.specs.declared.command.Command.TheVariants.{Select}
 use Rattle.sqlite.specs.Listing.{understood, reads_listing}
 use Rattle.sqlite.proofs.Callers.{IsPlain, command_of}
 use Rattle.sqlite_tied.specs.Compute.{everything}
-use Rattle.sql_tables.specs.Queries.{only, is}
+use Rattle.sql_tables.specs.Queries.{only, is, columns_at, by_rowid}
 use Rattle.sql_tables.proofs.Queries.{sorted_scan}
-use Rattle.prof_tables.specs.Schema.{schema_one}
-use Rattle.held_runs.specs.RunTexts.{run_numbers_sql, members_of_sql, own_sums_sql, baseline_of_sql}
+use Rattle.prof_tables.specs.Schema.{schema_one, cell_at, arc_at, stack_at}
+use Rattle.held_runs.specs.RunTexts.{run_numbers_sql, members_of_sql, own_sums_sql, baseline_of_sql, first_cell_sql, last_cell_sql, first_arc_sql, last_arc_sql, first_stack_sql, last_stack_sql}
 
 -- ---- the numbers of all runs
 
@@ -101,3 +101,86 @@ baseline_of_plain = (refl, refl)
 pub baseline_of_unlisted : reads_listing schema_one baseline_of_sql ≡ false
 unfolding understood everything
 baseline_of_unlisted = refl
+
+-- ---- the ends of a table
+
+abbrev pub end_shown : List Term
+end_shown = columns_at (0 ∷ 1 ∷ [])
+
+abbrev pub down_by_rowid : List (Term × Key)
+down_by_rowid = (col 1 0, record { collation = Binary; descending = true }) ∷ []
+
+abbrev pub end_names : List (List ℕ)
+end_names = codes "rowid" ∷ codes "run" ∷ []
+
+pub first_cell_means : command_of (understood schema_one first_cell_sql) ≡ Select (only (sorted_scan cell_at.tree [] end_shown by_rowid)) end_names
+unfolding understood everything
+first_cell_means = refl
+
+pub first_cell_plain : IsPlain (understood schema_one first_cell_sql)
+unfolding understood everything
+first_cell_plain = (refl, refl)
+
+pub first_cell_unlisted : reads_listing schema_one first_cell_sql ≡ false
+unfolding understood everything
+first_cell_unlisted = refl
+
+pub last_cell_means : command_of (understood schema_one last_cell_sql) ≡ Select (only (sorted_scan cell_at.tree [] end_shown down_by_rowid)) end_names
+unfolding understood everything
+last_cell_means = refl
+
+pub last_cell_plain : IsPlain (understood schema_one last_cell_sql)
+unfolding understood everything
+last_cell_plain = (refl, refl)
+
+pub last_cell_unlisted : reads_listing schema_one last_cell_sql ≡ false
+unfolding understood everything
+last_cell_unlisted = refl
+
+pub first_arc_means : command_of (understood schema_one first_arc_sql) ≡ Select (only (sorted_scan arc_at.tree [] end_shown by_rowid)) end_names
+unfolding understood everything
+first_arc_means = refl
+
+pub first_arc_plain : IsPlain (understood schema_one first_arc_sql)
+unfolding understood everything
+first_arc_plain = (refl, refl)
+
+pub first_arc_unlisted : reads_listing schema_one first_arc_sql ≡ false
+unfolding understood everything
+first_arc_unlisted = refl
+
+pub last_arc_means : command_of (understood schema_one last_arc_sql) ≡ Select (only (sorted_scan arc_at.tree [] end_shown down_by_rowid)) end_names
+unfolding understood everything
+last_arc_means = refl
+
+pub last_arc_plain : IsPlain (understood schema_one last_arc_sql)
+unfolding understood everything
+last_arc_plain = (refl, refl)
+
+pub last_arc_unlisted : reads_listing schema_one last_arc_sql ≡ false
+unfolding understood everything
+last_arc_unlisted = refl
+
+pub first_stack_means : command_of (understood schema_one first_stack_sql) ≡ Select (only (sorted_scan stack_at.tree [] end_shown by_rowid)) end_names
+unfolding understood everything
+first_stack_means = refl
+
+pub first_stack_plain : IsPlain (understood schema_one first_stack_sql)
+unfolding understood everything
+first_stack_plain = (refl, refl)
+
+pub first_stack_unlisted : reads_listing schema_one first_stack_sql ≡ false
+unfolding understood everything
+first_stack_unlisted = refl
+
+pub last_stack_means : command_of (understood schema_one last_stack_sql) ≡ Select (only (sorted_scan stack_at.tree [] end_shown down_by_rowid)) end_names
+unfolding understood everything
+last_stack_means = refl
+
+pub last_stack_plain : IsPlain (understood schema_one last_stack_sql)
+unfolding understood everything
+last_stack_plain = (refl, refl)
+
+pub last_stack_unlisted : reads_listing schema_one last_stack_sql ≡ false
+unfolding understood everything
+last_stack_unlisted = refl

@@ -1,5 +1,6 @@
 -- The steps of a walk over the store.
-use Rattle.std.proofs.Common.{◌≡◌, ℕ, ◌≤◌, suc, ◌+◌, List, [], ◌∷◌, ◌++◌, drop, length, get_or, ◌<◌, true, false, Result, Ok, Err, OnOk, sym, ap, subst, ◌∙◌, add-one}
+use Rattle.std.proofs.Common.{◌≡◌, ℕ, ◌≤◌, suc, ◌+◌, List, [], ◌∷◌, ◌++◌, drop, length, get_or, ◌<◌, true, false, Option, Some, Result, Ok, Err, OnOk, refl, sym, ap, subst, ◌∙◌, add-one}
+use Rattle.std.specs.Prelude.{IfSome}
 use Rattle.std.proofs.Math.Seq.{drop-cons}
 use Rattle.sqlite_value.specs.Order.{Row}
 use Rattle.sqlite_trees.specs.View.{IsShaped}
@@ -16,9 +17,11 @@ use Rattle.prof_tables.proofs.RunLines.{cells_there, arcs_there, stacks_there}
 use Rattle.prof_store.specs.declared.store.Store.{Store}
 use Rattle.held_runs.specs.declared.walks.Listed.{Listed}
 use Rattle.held_runs.specs.declared.walks.Listed.TheVariants.{Cells, Arcs, Stacks}
+use Rattle.held_runs.specs.declared.walks.End.TheVariants.{First, Last}
+use Rattle.held_runs.specs.declared.walks.Span.{Span}
 use Rattle.held_runs.specs.declared.walks.Walk.{Walk}
 use Rattle.prof_store.specs.Shown.{shown}
-use Rattle.held_runs.specs.Walks.{tree_of, asked, page_of, rows_of, IsReady, Walks, HasWalked}
+use Rattle.held_runs.specs.Walks.{tree_of, asked, page_of, rows_of, IsEnd, IsReady, Walks, HasWalked}
 
 pub on_ok_then : {T E : Type 0} (r : Result T E) (P Q : Type 0) → OnOk r P → (P → Q) → OnOk r Q
 on_ok_then (Ok x) P Q h f = f h
@@ -42,6 +45,14 @@ ready_if_now old new same was = record {
 }
 
 module _ {S : Type 0} (g : Ghosts S) where
+  -- between the ends of a table lie all its rows, so those of a run
+  pub whole_step : (table : Listed) (run : ℕ) (old mid new : Store S) (first last : Option ℕ) (span : Span) → (shown g mid).now ≡ (shown g old).now → (shown g new).now ≡ (shown g mid).now
+      → IfSome first (IsEnd First (rows_of g table old)) → IfSome last (IsEnd Last (rows_of g table mid)) → first ≡ Some (span.low + 1) → last ≡ Some span.top → Lie (asked table run) (rows_of g table new) span.low span.top
+  whole_step table run old mid new first last span one two begins ends first_is last_is r there of = (
+    subst (λ (d : Database). IsEnd First (d.trees (tree_of table)) (span.low + 1)) (sym (two ∙ one)) (subst (λ f. IfSome f (IsEnd First (rows_of g table old))) first_is begins) span.low refl r there,
+    subst (λ (d : Database). IsEnd Last (d.trees (tree_of table)) span.top) (sym two) (subst (λ f. IfSome f (IsEnd Last (rows_of g table mid))) last_is ends) r there,
+  )
+
   -- a store that shows the same tables and page is at the same place of the walk
   pub walks_same : (given : List Row) (old new : Store S) (walk : Walk) → (shown g new).now ≡ (shown g old).now → new.page ≡ old.page → Walks g given old walk → Walks g given new walk
   walks_same given old new walk now page was = record {

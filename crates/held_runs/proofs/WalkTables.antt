@@ -1,5 +1,5 @@
 -- What the queries of a walk show, in each table.
-use Rattle.std.proofs.Common.{◌≡◌, ◌≢◌, ◌⊎◌, inl, inr, ℕ, ◌+◌, pos, List, [], ◌∷◌, false, Ok, refl, sym, subst}
+use Rattle.std.proofs.Common.{◌≡◌, ◌≢◌, ◌⊎◌, inl, inr, ℕ, ◌+◌, pos, List, [], ◌∷◌, false, Ok, refl, sym, ap, subst, ◌∙◌}
 use Rattle.sqlite_value.specs.declared.value.Value.{Value}
 use Rattle.sqlite_value.specs.declared.value.Value.TheVariants.{Null, Int, Real, Text, Blob}
 use Rattle.sqlite_value.specs.Order.{Row, column}
@@ -10,7 +10,7 @@ use Rattle.sqlite.specs.State.{State, Shown, QueriesRow}
 use Rattle.sqlite.proofs.Callers.{IsPlain}
 use Rattle.sql_tables.specs.Walks.{is_asked, Lie}
 use Rattle.sql_tables.specs.Queries.{window_terms, columns_at, by_rowid}
-use Rattle.sql_tables.proofs.Selects.{selected}
+use Rattle.sql_tables.proofs.Selects.{selected, selected_first}
 use Rattle.sql_tables.proofs.Windows.{window_params, window_found}
 use Rattle.sql_tables.proofs.Ends.{none_there, ends_found}
 use Rattle.sql_tables.proofs.Walks.{lie_nowhere}
@@ -19,8 +19,13 @@ use Rattle.prof_tables.specs.WalkTexts.{cell_window_sql, cell_ends_sql, cells_of
 use Rattle.prof_tables.proofs.WalkTexts.{cell_window_means, cell_window_plain, cell_window_unlisted, cell_ends_means, cell_ends_plain, cell_ends_unlisted, arc_window_means, arc_window_plain, arc_window_unlisted, arc_ends_means, arc_ends_plain, arc_ends_unlisted, stack_window_means, stack_window_plain, stack_window_unlisted, stack_ends_means, stack_ends_plain, stack_ends_unlisted}
 use Rattle.held_runs.specs.declared.walks.Listed.{Listed}
 use Rattle.held_runs.specs.declared.walks.Listed.TheVariants.{Cells, Arcs, Stacks}
+use Rattle.held_runs.specs.declared.walks.End.{End}
+use Rattle.held_runs.specs.declared.walks.End.TheVariants.{First, Last}
 use Rattle.held_runs.specs.declared.walks.Span.{Span}
-use Rattle.held_runs.specs.Walks.{tree_of, window_sql_of, ends_sql_of, asked, page_of, IsSpanIn, IsReady}
+use Rattle.held_runs.specs.Walks.{tree_of, window_sql_of, ends_sql_of, end_sql_of, asked, page_of, IsEnd, IsSpanIn, IsReady}
+use Rattle.held_runs.specs.RunTexts.{first_cell_sql, last_cell_sql, first_arc_sql, last_arc_sql, first_stack_sql, last_stack_sql}
+use Rattle.held_runs.proofs.RunTexts.{end_shown, down_by_rowid, first_cell_means, first_cell_plain, first_cell_unlisted, last_cell_means, last_cell_plain, last_cell_unlisted, first_arc_means, first_arc_plain, first_arc_unlisted, last_arc_means, last_arc_plain, last_arc_unlisted, first_stack_means, first_stack_plain, first_stack_unlisted, last_stack_means, last_stack_plain, last_stack_unlisted}
+use Rattle.held_runs.proofs.TableEnds.{all_above, all_within}
 
 window_plain : (table : Listed) → IsPlain (understood schema_one (window_sql_of table))
 window_plain Cells = cell_window_plain
@@ -32,12 +37,23 @@ ends_plain Cells = cell_ends_plain
 ends_plain Arcs = arc_ends_plain
 ends_plain Stacks = stack_ends_plain
 
+end_plain : (table : Listed) (end : End) → IsPlain (understood schema_one (end_sql_of table end))
+end_plain Cells First = first_cell_plain
+end_plain Cells Last = last_cell_plain
+end_plain Arcs First = first_arc_plain
+end_plain Arcs Last = last_arc_plain
+end_plain Stacks First = first_stack_plain
+end_plain Stacks Last = last_stack_plain
+
 -- so is a text that is known to be it
 pub window_plain_as : (table : Listed) (text : List ℕ) → text ≡ window_sql_of table → IsPlain (understood schema_one text)
 window_plain_as table text is = subst (λ t. IsPlain (understood schema_one t)) (sym is) (window_plain table)
 
 pub ends_plain_as : (table : Listed) (text : List ℕ) → text ≡ ends_sql_of table → IsPlain (understood schema_one text)
 ends_plain_as table text is = subst (λ t. IsPlain (understood schema_one t)) (sym is) (ends_plain table)
+
+pub end_plain_as : (table : Listed) (end : End) (text : List ℕ) → text ≡ end_sql_of table end → IsPlain (understood schema_one text)
+end_plain_as table end text is = subst (λ t. IsPlain (understood schema_one t)) (sym is) (end_plain table end)
 
 -- a page that rises is the rows of the window
 pub window_is : (table : Listed) (run low high : ℕ) (old new : State) (rows : List Row) → IsReady old → Shown (window_sql_of table) (Int (pos run) ∷ Int (pos low) ∷ Int (pos high) ∷ []) old new rows → IsTable rows
@@ -81,3 +97,25 @@ module _ (run : ℕ) (old new : State) (row : Row) (was : IsReady old) where
     | inl none ↦ lie_nowhere (asked table run) (old.now.trees (tree_of table)) span.low span.top (none_is table h none)
     | inr some ↦ some_is table h span (is some)
   ]
+
+-- the rowid of the row that is shown first is at that end
+module _ (old new : State) (row : Row) (was : IsReady old) where
+  pub end_is : (table : Listed) (end : End) → QueriesRow (end_sql_of table end) [] old new (Ok row) → (id : ℕ) → column row 0 ≡ Int (pos id) → IsEnd end (old.now.trees (tree_of table)) id
+  end_is Cells First h id is = λ low next.
+      let s = selected_first schema_one first_cell_sql cell_at.tree [] end_shown by_rowid _ first_cell_means first_cell_plain first_cell_unlisted old new was.schema_is refl [] row h in
+      all_above cell_at.tree (old.now.trees cell_at.tree) (was.numbered Cells) row s.0 low s.1 (is ∙ ap (λ n. Int (pos n)) next)
+  end_is Cells Last h id is =
+      let s = selected_first schema_one last_cell_sql cell_at.tree [] end_shown down_by_rowid _ last_cell_means last_cell_plain last_cell_unlisted old new was.schema_is refl [] row h in
+      all_within cell_at.tree (old.now.trees cell_at.tree) (was.numbered Cells) row s.0 id s.1 is
+  end_is Arcs First h id is = λ low next.
+      let s = selected_first schema_one first_arc_sql arc_at.tree [] end_shown by_rowid _ first_arc_means first_arc_plain first_arc_unlisted old new was.schema_is refl [] row h in
+      all_above arc_at.tree (old.now.trees arc_at.tree) (was.numbered Arcs) row s.0 low s.1 (is ∙ ap (λ n. Int (pos n)) next)
+  end_is Arcs Last h id is =
+      let s = selected_first schema_one last_arc_sql arc_at.tree [] end_shown down_by_rowid _ last_arc_means last_arc_plain last_arc_unlisted old new was.schema_is refl [] row h in
+      all_within arc_at.tree (old.now.trees arc_at.tree) (was.numbered Arcs) row s.0 id s.1 is
+  end_is Stacks First h id is = λ low next.
+      let s = selected_first schema_one first_stack_sql stack_at.tree [] end_shown by_rowid _ first_stack_means first_stack_plain first_stack_unlisted old new was.schema_is refl [] row h in
+      all_above stack_at.tree (old.now.trees stack_at.tree) (was.numbered Stacks) row s.0 low s.1 (is ∙ ap (λ n. Int (pos n)) next)
+  end_is Stacks Last h id is =
+      let s = selected_first schema_one last_stack_sql stack_at.tree [] end_shown down_by_rowid _ last_stack_means last_stack_plain last_stack_unlisted old new was.schema_is refl [] row h in
+      all_within stack_at.tree (old.now.trees stack_at.tree) (was.numbered Stacks) row s.0 id s.1 is

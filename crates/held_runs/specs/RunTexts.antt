@@ -1,4 +1,4 @@
--- The texts that list the numbers of runs, and look at one run or one group.
+-- The texts that list the numbers of runs, look at one run or one group, and show the rows at the ends of a table.
 use Rattle.std.specs.Prelude.{ℕ, List, codes}
 
 abbrev pub run_numbers_sql : List ℕ
@@ -12,3 +12,23 @@ own_sums_sql = codes "SELECT pos, self_cost FROM run_event WHERE run = ?1 ORDER 
 
 abbrev pub baseline_of_sql : List ℕ
 baseline_of_sql = codes "SELECT baseline FROM grp WHERE name = ?1"
+
+-- ---- the rows of a table by rowid, up from the first and down from the last
+
+abbrev pub first_cell_sql : List ℕ
+first_cell_sql = codes "SELECT rowid, run FROM cell ORDER BY rowid"
+
+abbrev pub last_cell_sql : List ℕ
+last_cell_sql = codes "SELECT rowid, run FROM cell ORDER BY rowid DESC"
+
+abbrev pub first_arc_sql : List ℕ
+first_arc_sql = codes "SELECT rowid, run FROM arc ORDER BY rowid"
+
+abbrev pub last_arc_sql : List ℕ
+last_arc_sql = codes "SELECT rowid, run FROM arc ORDER BY rowid DESC"
+
+abbrev pub first_stack_sql : List ℕ
+first_stack_sql = codes "SELECT rowid, run FROM stack ORDER BY rowid"
+
+abbrev pub last_stack_sql : List ℕ
+last_stack_sql = codes "SELECT rowid, run FROM stack ORDER BY rowid DESC"

@@ -5,16 +5,20 @@ use Rattle.sqlite_value.specs.Order.{Row, column}
 use Rattle.sqlite_trees.specs.View.{IsShaped}
 use Rattle.sqlite_trees.specs.declared.store.Store.{Ghosts}
 use Rattle.sqlite_trees.specs.declared.store.Shape.TheVariants as shape
+use Rattle.sqlite_rules.specs.Lists.{Has}
 use Rattle.sqlite.specs.State.{State}
-use Rattle.sql_tables.specs.Walks.{Asked, Reads, HasReadAll, in_page, in_window}
+use Rattle.sql_tables.specs.Walks.{Asked, Reads, HasReadAll, in_page, in_window, is_above, is_within}
 use Rattle.prof_tables.specs.Schema.{schema_one, cell_at, arc_at, stack_at}
 use Rattle.prof_tables.specs.WalkTexts.{cell_window_sql, cell_ends_sql, cells_of, arc_window_sql, arc_ends_sql, arcs_of, stack_window_sql, stack_ends_sql, stacks_of}
 use Rattle.prof_store.specs.declared.store.Store.{Store}
 use Rattle.store_columns.specs.declared.errors.StoreError.{StoreError}
 use Rattle.held_runs.specs.declared.walks.Listed.{Listed}
 use Rattle.held_runs.specs.declared.walks.Listed.TheVariants.{Cells, Arcs, Stacks}
+use Rattle.held_runs.specs.declared.walks.End.{End}
+use Rattle.held_runs.specs.declared.walks.End.TheVariants.{First, Last}
 use Rattle.held_runs.specs.declared.walks.Span.{Span}
 use Rattle.held_runs.specs.declared.walks.Walk.{Walk}
+use Rattle.held_runs.specs.RunTexts.{first_cell_sql, last_cell_sql, first_arc_sql, last_arc_sql, first_stack_sql, last_stack_sql}
 use Rattle.prof_store.specs.Shown.{Asks, IsFaithful, shown}
 
 abbrev pub tree_of : Listed → ℕ
@@ -31,6 +35,14 @@ abbrev pub ends_sql_of : Listed → List ℕ
 ends_sql_of Cells = cell_ends_sql
 ends_sql_of Arcs = arc_ends_sql
 ends_sql_of Stacks = stack_ends_sql
+
+abbrev pub end_sql_of : Listed → End → List ℕ
+end_sql_of Cells First = first_cell_sql
+end_sql_of Cells Last = last_cell_sql
+end_sql_of Arcs First = first_arc_sql
+end_sql_of Arcs Last = last_arc_sql
+end_sql_of Stacks First = first_stack_sql
+end_sql_of Stacks Last = last_stack_sql
 
 -- the rows of a run, and of each its columns
 abbrev pub asked : Listed → ℕ → Asked
@@ -49,6 +61,11 @@ AreAllRead table columns run rows lines = HasReadAll (asked table run) rows (map
 -- where the rows lie, by the row of the least and the greatest rowid, which has NULL where there are none
 abbrev pub IsSpanIn : Row → Span → Type 0
 IsSpanIn row span = column row 0 ≢ Null → (column row 0 ≡ Int (pos (span.low + 1))) × (column row 1 ≡ Int (pos span.top))
+
+-- no row of a table is before this rowid, or behind it
+abbrev pub IsEnd : End → List Row → ℕ → Type 0
+IsEnd First rows id = (low : ℕ) → id ≡ low + 1 → (r : Row) → Has rows r → is_above low r ≡ true
+IsEnd Last rows id = (r : Row) → Has rows r → is_within id r ≡ true
 
 -- over the same table, for the same run
 pub record IsSameWalk (old new : Walk) : Type 0 where

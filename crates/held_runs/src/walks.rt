@@ -1,12 +1,14 @@
 // Walks over the rows of a run.
-ghost use Rattle.std.specs.Prelude.{◌≡◌, true, false, IfOk, OnOk};
+ghost use Rattle.std.specs.Prelude.{◌≡◌, ◌+◌, true, false, Some, pos, IfOk, IfSome, OnOk};
 ghost use Rattle.std.specs.Result.{is_ok};
+ghost use Rattle.sqlite_value.specs.declared.value.Value.TheVariants.{Int};
+ghost use Rattle.sqlite_value.specs.Order.{column};
 ghost use Rattle.sqlite_trees.specs.Tree.{IsTable};
 ghost use Rattle.prof_store.specs.Shown.{Asks};
 ghost use Rattle.sql_tables.specs.Walks.{Lie};
-ghost use Rattle.held_runs.specs.Walks.{window_sql_of, ends_sql_of, asked, page_of, rows_of, IsSpanIn, IsRead, IsSameWalk, OfReady, AsksIfOpen, Moves, WalksOn, Walks};
+ghost use Rattle.held_runs.specs.Walks.{window_sql_of, ends_sql_of, end_sql_of, asked, page_of, rows_of, IsEnd, IsSpanIn, IsRead, IsSameWalk, OfReady, AsksIfOpen, Moves, WalksOn, Walks};
 
-use prof_store::{Store, select, select_row};
+use prof_store::{Store, select, select_first, select_row};
 use sqlite::{Alter, Row, params};
 use store_columns::{StoreError, number_at, number_or_null_at};
 
@@ -16,6 +18,13 @@ pub(crate) enum Listed {
     Cells,
     Arcs,
     Stacks,
+}
+
+/// The row of the least rowid of a table, or of the greatest.
+#[derive(Clone, Copy)]
+enum End {
+    First,
+    Last,
 }
 
 /// The rowids above `low`, up to `top`.
@@ -84,6 +93,25 @@ fn ends_sql(table: Listed) -> &'static str
     }
 }
 
+/// A text that shows the rowid and the run of each row, beginning at an end. SQL reads the table in
+/// the order of its rowids, so the first row alone costs the same in a table of any size.
+fn end_sql(table: Listed, end: End) -> &'static str
+    ensures { result.now ≡ end_sql_of table end }
+{
+    match end {
+        End::First => match table {
+            Listed::Cells => "SELECT rowid, run FROM cell ORDER BY rowid",
+            Listed::Arcs => "SELECT rowid, run FROM arc ORDER BY rowid",
+            Listed::Stacks => "SELECT rowid, run FROM stack ORDER BY rowid",
+        },
+        End::Last => match table {
+            Listed::Cells => "SELECT rowid, run FROM cell ORDER BY rowid DESC",
+            Listed::Arcs => "SELECT rowid, run FROM arc ORDER BY rowid DESC",
+            Listed::Stacks => "SELECT rowid, run FROM stack ORDER BY rowid DESC",
+        },
+    }
+}
+
 /// Refuses rows whose rowids do not rise from above `low`.
 fn rise(rows: &[Row], low: u32) -> Result<(), StoreError>
     ensures { OnOk result (IsTable rows.now) }
@@ -116,14 +144,85 @@ fn span_in(row: &Row) -> Result<Span, StoreError>
     })
 }
 
-/// Where the rows of a run lie.
-fn span_of<S: Alter>(store: &mut Store<S>, table: Listed, run: u32) -> Result<Span, StoreError>
+/// The rowid of a row, if the row is of this run and its numbers are in form. A row that is not is left
+/// to `run_span`, which refuses numbers out of form where the row is of this run.
+fn rowid_in(row: Option<Row>, run: u32) -> Option<u32>
+    ensures { IfSome result (λ id. (shown : _) × (row ≡ Some shown) × (column shown 0 ≡ Int (pos id))) }
+{
+    let row = row?;
+    match number_at(&row, 1) {
+        Ok(of) if of == run => number_at(&row, 0).ok(),
+        _ => None,
+    }
+}
+
+/// The rowid at an end of a table, if the row there is of this run.
+fn end_of<S: Alter>(
+    store: &mut Store<S>,
+    table: Listed,
+    end: End,
+    run: u32,
+) -> Result<Option<u32>, StoreError>
+    ensures ends { OfReady S.Store store.old store.new (IfOk result (λ found. IfSome found (IsEnd end (rows_of S.Store table store.old)))) }
+    ensures page { store.new.page ≡ store.old.page }
+    ensures asks { Asks S.Store (is_ok result) store.old store.new }
+{
+    let row = select_first(&mut store.conn, end_sql(table, end), &[])?;
+    Ok(rowid_in(row, run))
+}
+
+/// From the first rowid to the last.
+fn span_between(first: Option<u32>, last: Option<u32>) -> Option<Span>
+    ensures { IfSome result (λ span. (first ≡ Some (span.low + 1)) × (last ≡ Some span.top)) }
+{
+    match (first, last) {
+        (Some(least), Some(greatest)) if least > 0 => Some(Span {
+            low: least - 1,
+            top: greatest,
+        }),
+        _ => None,
+    }
+}
+
+/// The span of all rows of a table, where the first and the last are of this run, as in a store with
+/// one run. The rows of each run lie in it.
+fn whole_span<S: Alter>(
+    store: &mut Store<S>,
+    table: Listed,
+    run: u32,
+) -> Result<Option<Span>, StoreError>
+    ensures lie { OfReady S.Store store.old store.new (IfOk result (λ found. IfSome found (λ span. Lie (asked table run) (rows_of S.Store table store.new) span.low span.top))) }
+    ensures page { store.new.page ≡ store.old.page }
+    ensures asks { Asks S.Store (is_ok result) store.old store.new }
+{
+    let first = end_of(store, table, End::First, run)?;
+    if first.is_none() {
+        return Ok(None);
+    }
+    let last = end_of(store, table, End::Last, run)?;
+    Ok(span_between(first, last))
+}
+
+/// Where the rows of a run lie, by the least and the greatest rowid of its rows: a step for each row.
+fn run_span<S: Alter>(store: &mut Store<S>, table: Listed, run: u32) -> Result<Span, StoreError>
     ensures lie { OfReady S.Store store.old store.new (IfOk result (λ span. Lie (asked table run) (rows_of S.Store table store.new) span.low span.top)) }
     ensures page { store.new.page ≡ store.old.page }
     ensures asks { Asks S.Store (is_ok result) store.old store.new }
 {
     let row = select_row(&mut store.conn, ends_sql(table), params![run])?;
     span_in(&row)
+}
+
+/// Where the rows of a run lie.
+fn span_of<S: Alter>(store: &mut Store<S>, table: Listed, run: u32) -> Result<Span, StoreError>
+    ensures lie { OfReady S.Store store.old store.new (IfOk result (λ span. Lie (asked table run) (rows_of S.Store table store.new) span.low span.top)) }
+    ensures page { store.new.page ≡ store.old.page }
+    ensures asks { Asks S.Store (is_ok result) store.old store.new }
+{
+    match whole_span(store, table, run)? {
+        Some(span) => Ok(span),
+        None => run_span(store, table, run),
+    }
 }
 
 /// Reads the rows of a window into the page.

@@ -1,0 +1,24 @@
+use Rattle.std.specs.Result.{is_ok}
+use Rattle.std.proofs.Common.{refl, sym, subst}
+use Rattle.sqlite_exec.proofs.MarkLemmas.{if_ok_then}
+use Rattle.sqlite.specs.Effect.{Database}
+use Rattle.sql_tables.specs.Walks.{Lie}
+use Rattle.sql_tables.proofs.Calls.{asked_err, asked_if}
+use Rattle.prof_tables.specs.Schema.{schema_one}
+use Rattle.held_runs.specs.Walks.{tree_of, asked}
+use Rattle.held_runs.proofs.WalkTables.{ends_plain_as, span_is}
+use Rattle.held_runs.proofs.walks.run_span.Goals as goal
+
+pub returns-clause-lie : goal.returns-clause-lie
+returns-clause-lie g c clean was =
+    let one = c.in_ok-row.ensures.asked clean (ends_plain_as c.args.table c.ends_sql.result.now c.ends_sql.ensures) in
+    let row = rw (c.params-to_sql.ensures, c.ends_sql.ensures) at (c.in_ok-row.ensures.row clean) in
+    if_ok_then c.span_in.result c.span_in.ensures (λ span is. subst (λ (d : Database). Lie (asked c.args.table c.args.run) (d.trees (tree_of c.args.table)) span.low span.top) (sym (one.same refl was.schema_is))
+    (span_is c.args.run _ _ _ was c.args.table row span is))
+
+pub returns-clause-asks : goal.returns-clause-asks
+returns-clause-asks g c clean = asked_if schema_one (is_ok c.span_in.result) _ _ (c.in_ok-row.ensures.asked clean (ends_plain_as c.args.table c.ends_sql.result.now c.ends_sql.ensures))
+
+pub returns-in_err-row-clause-asks : goal.returns-in_err-row-clause-asks
+returns-in_err-row-clause-asks g c clean =
+    asked_err schema_one c.from_residual.result _ _ c.from_residual.ensures.0 (c.in_err-row.ensures.asked clean (ends_plain_as c.args.table c.ends_sql.result.now c.ends_sql.ensures))
