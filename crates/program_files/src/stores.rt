@@ -74,8 +74,10 @@ pub fn database_at(rt: &HostRuntime, path: &str) -> Result<Connection<StoreFile>
     };
     let mut options = Options::new(keys.hash_one(&0u8));
     options.cache_pages = CACHED_PAGES;
-    Connection::open_files_with(rt.alloc(), files, options, false)
-        .map_err(|(error, _)| error_of_open(error))
+    match Connection::open_files_with(rt.alloc(), files, options, false) {
+        Ok(conn) => Ok(conn),
+        Err((error, _)) => Err(error_of_open(error)),
+    }
 }
 
 /// The store of a database: a new one where it is to become one, else the one that it holds. A refusal

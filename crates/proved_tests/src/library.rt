@@ -7,9 +7,7 @@ use cg_text::{ListVec, fields};
 use cost_rows::{ArcRow, CellRow, FileRows};
 use std::alloc::{AllocError, Global};
 use std::test::Fail;
-use warehouse::{
-    Answer, Command, GroupChange, Kind, Limits, Query, Refusal, Selection, Warehouse,
-};
+use warehouse::{Answer, Command, GroupChange, Kind, Limits, Query, Refusal, Selection, Warehouse};
 
 #[test]
 fn fields_stand_between_blanks(rt: HostRuntime) -> Result<(), Fail> {
