@@ -4,7 +4,7 @@ PROGRAM = crates/profhouse/out/profhouse
 PREFIX = /usr/local
 DESTDIR =
 INTO = $(DESTDIR)$(PREFIX)
-SCRIPTS = folded hostile http import reports rows run store total
+SCRIPTS = folded hostile http import reports rows run store total versions
 
 # What is installed: the mode, the file here, and its place below PREFIX.
 FILES = 755:$(PROGRAM):bin/profhouse \
