@@ -7,7 +7,7 @@ use Rattle.sqlite_trees.specs.declared.store.Store.{Ghosts}
 use Rattle.sqlite_trees.specs.declared.store.Shape.TheVariants as shape
 use Rattle.sqlite_rules.specs.Lists.{Has}
 use Rattle.sqlite.specs.State.{State}
-use Rattle.sql_tables.specs.Walks.{Asked, Reads, HasReadAll, in_page, in_window, is_above, is_within}
+use Rattle.sql_tables.specs.Walks.{Asked, Lie, Reads, HasReadAll, in_page, in_window, is_above, is_within}
 use Rattle.prof_tables.specs.Schema.{schema_one, cell_at, arc_at, stack_at}
 use Rattle.prof_tables.specs.WalkTexts.{cell_window_sql, cell_ends_sql, cells_of, arc_window_sql, arc_ends_sql, arcs_of, stack_window_sql, stack_ends_sql, stacks_of}
 use Rattle.prof_store.specs.declared.store.Store.{Store}
@@ -85,6 +85,10 @@ module _ {S : Type 0} (g : Ghosts S) where
   -- the rows of a table
   abbrev pub rows_of : Listed → Store S → List Row
   rows_of table store = (shown g store).now.trees (tree_of table)
+
+  -- the rows of a run lie in a span
+  abbrev pub LieIn : Listed → ℕ → Store S → Span → Type 0
+  LieIn table run store span = Lie (asked table run) (rows_of table store) span.low span.top
 
   -- the walk has given these rows
   pub record Walks (given : List Row) (store : Store S) (walk : Walk) : Type 0 where

@@ -5,8 +5,7 @@ ghost use Rattle.sqlite_value.specs.declared.value.Value.TheVariants.{Int};
 ghost use Rattle.sqlite_value.specs.Order.{column};
 ghost use Rattle.sqlite_trees.specs.Tree.{IsTable};
 ghost use Rattle.prof_store.specs.Shown.{Asks};
-ghost use Rattle.sql_tables.specs.Walks.{Lie};
-ghost use Rattle.held_runs.specs.Walks.{window_sql_of, ends_sql_of, end_sql_of, asked, page_of, rows_of, IsEnd, IsSpanIn, IsRead, IsSameWalk, OfReady, AsksIfOpen, Moves, WalksOn, Walks};
+ghost use Rattle.held_runs.specs.Walks.{window_sql_of, ends_sql_of, end_sql_of, page_of, rows_of, IsEnd, IsSpanIn, IsRead, LieIn, IsSameWalk, OfReady, AsksIfOpen, Moves, WalksOn, Walks};
 
 use prof_store::{Store, select, select_first, select_row};
 use sqlite::{Alter, Row, params};
@@ -191,7 +190,7 @@ fn whole_span<S: Alter>(
     table: Listed,
     run: u32,
 ) -> Result<Option<Span>, StoreError>
-    ensures lie { OfReady S.Store store.old store.new (IfOk result (λ found. IfSome found (λ span. Lie (asked table run) (rows_of S.Store table store.new) span.low span.top))) }
+    ensures lie { OfReady S.Store store.old store.new (IfOk result (λ found. IfSome found (LieIn S.Store table run store.new))) }
     ensures page { store.new.page ≡ store.old.page }
     ensures asks { Asks S.Store (is_ok result) store.old store.new }
 {
@@ -205,7 +204,7 @@ fn whole_span<S: Alter>(
 
 /// Where the rows of a run lie, by the least and the greatest rowid of its rows: a step for each row.
 fn run_span<S: Alter>(store: &mut Store<S>, table: Listed, run: u32) -> Result<Span, StoreError>
-    ensures lie { OfReady S.Store store.old store.new (IfOk result (λ span. Lie (asked table run) (rows_of S.Store table store.new) span.low span.top)) }
+    ensures lie { OfReady S.Store store.old store.new (IfOk result (LieIn S.Store table run store.new)) }
     ensures page { store.new.page ≡ store.old.page }
     ensures asks { Asks S.Store (is_ok result) store.old store.new }
 {
@@ -215,7 +214,7 @@ fn run_span<S: Alter>(store: &mut Store<S>, table: Listed, run: u32) -> Result<S
 
 /// Where the rows of a run lie.
 fn span_of<S: Alter>(store: &mut Store<S>, table: Listed, run: u32) -> Result<Span, StoreError>
-    ensures lie { OfReady S.Store store.old store.new (IfOk result (λ span. Lie (asked table run) (rows_of S.Store table store.new) span.low span.top)) }
+    ensures lie { OfReady S.Store store.old store.new (IfOk result (LieIn S.Store table run store.new)) }
     ensures page { store.new.page ≡ store.old.page }
     ensures asks { Asks S.Store (is_ok result) store.old store.new }
 {
