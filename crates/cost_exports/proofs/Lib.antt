@@ -7,4 +7,5 @@ pub mod ReadBackLemmas
 pub mod SlotLemmas
 pub mod SpreadLemmas
 pub mod StackLemmas
+pub mod StackWrittenLemmas
 mod Examples

@@ -2,10 +2,10 @@ use Rattle.std.proofs.Common.{◌+◌, sym, refl, ap, ◌∙◌, arith}
 use Rattle.std.specs.BTreeMap.{is_at, insert_entry}
 use Rattle.cost_rows.specs.Stacks.{bytes_cmp, by_bytes}
 use Rattle.cost_rows.proofs.SeenLemmas.{held-least}
-use Rattle.cost_rows.proofs.StacksLemmas.{vec_cmp, stack-found, stack-written, stack-new}
 use Rattle.cost_exports.specs.Amounts.{amount_of}
 use Rattle.cost_exports.proofs.AmountLemmas.{amount-with, with_some}
 use Rattle.cost_exports.proofs.StackLemmas.{bytes_apart}
+use Rattle.cost_exports.proofs.StackWrittenLemmas.{vec_cmp, stack-found, stack-written, stack-new}
 use Rattle.cost_exports.proofs.stack_sums.add_count.Goals as goal
 
 pub overflow_add-held : goal.overflow_add-held

@@ -2,10 +2,11 @@ use Rattle.std.proofs.Common.{refl, ◌∙◌, ap, arith}
 use Rattle.std.specs.BTreeMap.{is_at, insert_entry}
 use Rattle.cost_rows.specs.Keys.{named_cmp}
 use Rattle.cost_rows.proofs.KeysLemmas.{named_cmp-total}
-use Rattle.cost_rows.proofs.SeenLemmas.{key_cmp, seen-written, seen-new, seen-lookup}
+use Rattle.cost_rows.proofs.SeenLemmas.{key_cmp, seen-lookup}
 use Rattle.cost_reports.specs.Pairs.{pairs_added, pair_total, held_place, held_pairs}
 use Rattle.cost_reports.specs.declared.pairs.Pair.{Pair}
 use Rattle.cost_reports.proofs.PairLemmas.{pair_least, total_with}
+use Rattle.cost_reports.proofs.WrittenLemmas.{seen-written, seen-new}
 use Rattle.cost_reports.proofs.pair_sums.merge_pair.Goals as goal
 
 pub returns-in-Some-clause-ok : goal.returns-in-Some-clause-ok

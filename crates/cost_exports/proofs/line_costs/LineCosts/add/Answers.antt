@@ -2,7 +2,8 @@ use Rattle.std.proofs.Common.{◌+◌, List, ℕ, refl, ap, ◌∙◌, arith}
 use Rattle.std.specs.BTreeMap.{is_at, insert_entry}
 use Rattle.cost_rows.specs.Merging.{merge}
 use Rattle.cost_rows.specs.Stacks.{counts_added}
-use Rattle.cost_rows.proofs.SeenLemmas.{held-least, key_cmp, seen-lookup, seen-new, seen-written}
+use Rattle.cost_reports.proofs.WrittenLemmas.{seen-new, seen-written}
+use Rattle.cost_rows.proofs.SeenLemmas.{held-least, key_cmp, seen-lookup}
 use Rattle.cost_exports.specs.Amounts.{amount_of}
 use Rattle.cost_exports.specs.Views.{LineEvent, held_line, held_lines, line_cmp}
 use Rattle.cost_exports.proofs.SpreadLemmas.{line-total}
