@@ -7,5 +7,8 @@ mod connection;
 mod logging;
 // Clients are served, one after another (specs/Served.antt).
 mod serving;
+// The store of a database is served (specs/Stores.antt).
+mod stores;
 
 pub use serving::{Service, serve, serve_on};
+pub use stores::serve_in;

@@ -1,9 +1,12 @@
 //! A warehouse of run profiles whose every figure is exact.
 #![tactic(auto)]
 
+// What a plan says is done, over the files that it names.
+mod running;
+
+use crate::running::{print_refused, run_plan};
 use anyhow::Result;
 use command_line::{PlanError, plan};
-use sessions::{print_refused, run_plan};
 use std::env;
 use std::process::ExitCode;
 

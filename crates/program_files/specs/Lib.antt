@@ -1,2 +1,3 @@
 pub mod Imported
+pub mod Standard
 pub mod Stores

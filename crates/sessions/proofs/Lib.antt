@@ -1,3 +1,2 @@
 pub mod SessionLemmas
 pub mod WorkLemmas
-pub mod ServedLemmas

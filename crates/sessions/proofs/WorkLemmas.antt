@@ -7,7 +7,8 @@ use Rattle.prof_store.specs.declared.store.Store.{Store}
 use Rattle.histories.specs.History.{Said}
 use Rattle.store_histories.proofs.Links.{links_clean}
 use Rattle.sessions.specs.Sessions.{WasRun, answers_of, commands_of, status_after}
-use Rattle.sessions.specs.Works.{CameTo, IsStandard}
+use Rattle.program_files.specs.Standard.{IsStandard}
+use Rattle.sessions.specs.Works.{CameTo}
 use Rattle.sessions.specs.declared.session.Session.{Session}
 
 module _ {W S : Type 0} (g : Ghosts S) (contents : W → Option (List ℕ)) (wanted : List Said → Type 0) where

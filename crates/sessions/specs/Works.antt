@@ -1,5 +1,5 @@
 -- What a work over a store comes to.
-use Rattle.std.specs.Prelude.{◌≡◌, ℕ, ◌^◌, Bool, if◌then◌else◌, List, [], ◌++◌, codes, Option, take, Result, Ok, Err, MatchResult}
+use Rattle.std.specs.Prelude.{◌≡◌, ℕ, Bool, if◌then◌else◌, List, [], ◌++◌, codes, Option, take, Result, Ok, Err, MatchResult}
 use Rattle.std.specs.Io.KnownBytes.{Appends}
 use Rattle.std.specs.declared.alloc.AllocError.{AllocError}
 use Rattle.sqlite_trees.specs.declared.store.Store.{Ghosts}
@@ -12,8 +12,8 @@ use Rattle.histories.specs.History.{History, Said}
 use Rattle.histories.specs.Legal.{AreLegal}
 use Rattle.histories.specs.declared.limits.Limits.{Limits}
 use Rattle.store_histories.specs.Answered.{HasHistory, Links}
+use Rattle.program_files.specs.Standard.{IsStandard}
 use Rattle.program_files.specs.Stores.{TakesUp, Refuses}
-use Rattle.http_serving.specs.Served.{HasServed}
 use Rattle.sessions.specs.Sessions.{ArePrinted, ArePrintedInPart, answers_of, commands_of, status_after}
 
 -- ---- a total
@@ -35,13 +35,6 @@ TotalPrinted total result old new =
 
 -- ---- a work
 
--- the limits that the program has
-pub record IsStandard (limits : Limits) : Type 0 where
-  pub bytes : limits.bytes ≡ 2 ^ 30
-  pub runs : limits.runs ≡ 1000000
-  pub groups : limits.groups ≡ 100000
-  pub numbers : limits.numbers ≡ 2 ^ 31
-
 module _ {W S : Type 0} (g : Ghosts S) (contents : W → Option (List ℕ)) (wanted : List Said → Type 0) where
   -- under the standard limits turns were taken, each from the store that the one before left: their commands are the first of those wanted, and all where a status came of it, which is 1 where an answer is a refusal and else 0; their answers are printed, as far as they could be
   pub record CameTo {E : Type 0} (result : Result ℕ E) (from to : W) (old new : Store S) : Type 0 where
@@ -61,19 +54,4 @@ module _ {W S : Type 0} (g : Ghosts S) (contents : W → Option (List ℕ)) (wan
   abbrev pub WasWorked : {E F : Type 0} → Bool → Result (Result ℕ E) F → W → Connection S → Connection S → Type 0
   WasWorked is_new result from old new = MatchResult result
       (λ printed. (to : W) × (opened : Store S) × (closed : Store S) × (closed.conn ≡ new) × TakesUp is_new (state g old) (shown g opened) × CameTo printed from to opened closed)
-      (λ end. Refuses is_new (state g old) (state g new))
-
--- ---- a server
-
-module _ {S : Type 0} (g : Ghosts S) where
-  -- under the standard limits so many requests were served
-  pub record CameToServed (requests : ℕ) (old new : Store S) : Type 0 where
-    pub limits : Limits
-    pub standard : IsStandard limits
-    pub served : HasServed g limits requests old new
-
-  -- a store was made or found in a database, and served; or there was none to be had, and all is as it was
-  abbrev pub WasServed : {R F : Type 0} → Bool → ℕ → Result R F → Connection S → Connection S → Type 0
-  WasServed is_new requests result old new = MatchResult result
-      (λ status. (opened : Store S) × (closed : Store S) × (closed.conn ≡ new) × TakesUp is_new (state g old) (shown g opened) × CameToServed requests opened closed)
       (λ end. Refuses is_new (state g old) (state g new))

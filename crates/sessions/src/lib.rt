@@ -4,15 +4,14 @@
 
 // Questions, from the words of a command line.
 mod questions;
-// Does what a plan says.
+// A total is printed, and a work done over the store of a database (specs/Works.antt).
 mod running;
-// A store is served over HTTP (specs/Works.antt).
-mod serving;
 // Runs commands over the store, and prints each answer as it is there (specs/Sessions.antt).
 mod session;
 // What is to be done for a plan.
 mod tasks;
 
 pub use questions::Question;
-pub use running::{print_refused, run_plan};
+pub use running::{print_total, work_in};
 pub use session::{Session, Work};
+pub use tasks::{Task, task_of};

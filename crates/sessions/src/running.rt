@@ -1,36 +1,25 @@
-// What is done for a plan.
+// A total is printed, and a work done over the store of a database (specs/Works.antt).
 ghost use Rattle.sqlite.specs.Held.{state};
 ghost use Rattle.sqlite.specs.State.{HasCleanDisk};
 ghost use Rattle.prof_store.specs.Shown.{IsFaithful};
 ghost use Rattle.sessions.specs.Sessions.{Wants};
 ghost use Rattle.sessions.specs.Works.{CameTo, TotalPrinted, WasWorked};
 
-use crate::serving::serve_in;
 use crate::session::{Session, Work};
-use crate::tasks::{Task, task_of};
-use command_line::Plan;
-use file_totals::{TotalText, total_file};
+use file_totals::TotalText;
 use histories::Limits;
-use http_serving::Service;
 use prof_store::{OpenError, Store};
-use program_files::{StoreFile, database_at, error_line, is_new_at, store_in};
+use program_files::store_in;
 use sqlite::{Alter, Connection};
 use std::alloc::AllocError;
 use std::io;
 use std::io::Write;
-use std::process::ExitCode;
-use std::rt::{Files, HostRuntime};
+use std::rt::Files;
 use warehouse::Warehouse;
 use written_texts::write_text;
 
-/// Prints the line of a refusal. No guarantee: of what is printed the checker knows nothing.
-pub fn print_refused<R: Print>(rt: &R, reason: &str) -> io::Result<ExitCode> {
-    println!(rt; "refused: {reason}")?;
-    Ok(ExitCode::FAILURE)
-}
-
 /// Prints what a total came to, and answers the status.
-fn print_total<W: Write>(out: &mut W, total: Result<TotalText, AllocError>) -> io::Result<u8>
+pub fn print_total<W: Write>(out: &mut W, total: Result<TotalText, AllocError>) -> io::Result<u8>
     ensures { TotalPrinted total result (W.contents out.old) (W.contents out.new) }
 {
     match total {
@@ -63,7 +52,7 @@ fn work_over<'a, R: Files + AllocGlobal, W: Write + Drop, S: Alter>(
 }
 
 /// Does a work over the store of a database, and hands back the database.
-fn work_in<'a, R: Files + AllocGlobal, W: Write + Drop, S: Alter>(
+pub fn work_in<'a, R: Files + AllocGlobal, W: Write + Drop, S: Alter>(
     rt: &'a R,
     out: W,
     conn: Connection<S>,
@@ -78,89 +67,5 @@ fn work_in<'a, R: Files + AllocGlobal, W: Write + Drop, S: Alter>(
             (Ok(printed), store.into_connection())
         }
         Err((end, conn)) => (Err(end), conn),
-    }
-}
-
-/// Prints why a store was not opened. No guarantee: of what is printed the checker knows nothing.
-fn print_unopened<R: Print>(rt: &R, end: OpenError) -> io::Result<ExitCode> {
-    println!(rt; "{}", error_line(end))?;
-    Ok(ExitCode::FAILURE)
-}
-
-/// What is done over the store at a path.
-#[derive(Drop)]
-enum Job<'a> {
-    Work(Work<'a>),
-    Serve(Service),
-}
-
-/// Does a job over a database, as `work_in` and `serve_in`, and prints to the standard output. No guarantee:
-/// nothing of it would reach the caller, who closes the database.
-fn work_on<'a, S: Alter>(
-    rt: &'a HostRuntime,
-    conn: Connection<S>,
-    is_new: bool,
-    job: Job<'a>,
-) -> (Result<io::Result<u8>, OpenError>, Connection<S>) {
-    match job {
-        Job::Work(work) => work_in(rt, io::writer(rt), conn, is_new, work),
-        Job::Serve(service) => serve_in(rt, conn, is_new, service),
-    }
-}
-
-/// Does a job over a database in a file, and closes it: what was committed is copied from the log into
-/// the file; where that fails, it stands in the log, and the next opening finds it there. No guarantee:
-/// nothing of the database comes back.
-fn work_and_close<'a>(
-    rt: &'a HostRuntime,
-    conn: Connection<StoreFile>,
-    is_new: bool,
-    job: Job<'a>,
-) -> Result<io::Result<u8>, OpenError> {
-    let (came_to, conn) = work_on(rt, conn, is_new, job);
-    let _closed = conn.close();
-    came_to
-}
-
-/// Does a job over the store at a path. No guarantee: as `run_over`.
-fn work_at<'a>(rt: &'a HostRuntime, db: &str, job: Job<'a>) -> Result<io::Result<u8>, OpenError> {
-    let is_new = is_new_at(rt, db)?;
-    let conn = database_at(rt, db)?;
-    work_and_close(rt, conn, is_new, job)
-}
-
-/// Does a job over the store at a path, and prints why that was not opened. No guarantee: which history the
-/// store at a path has, the checker does not know; `Session::run` says what is done over a store of any
-/// history, and which status comes of it.
-fn run_over<'a>(rt: &'a HostRuntime, db: &str, job: Job<'a>) -> io::Result<ExitCode> {
-    match work_at(rt, db, job) {
-        Ok(status) => Ok(ExitCode::from(status?)),
-        Err(end) => print_unopened(rt, end),
-    }
-}
-
-/// Does what a plan says, and prints what it came to. No guarantee: which files stand at the paths of a plan
-/// the checker does not know; `task_of`, `total_read` and `work_in` say what is made of them.
-pub fn run_plan<'a>(rt: &'a HostRuntime, plan: Plan<'a>) -> io::Result<ExitCode> {
-    match task_of(plan) {
-        Task::Total(path) => {
-            let status = print_total(&mut io::writer(rt), total_file(rt, path))?;
-            Ok(ExitCode::from(status))
-        }
-        Task::Over(db, work) => run_over(rt, db, Job::Work(work)),
-        Task::Serve {
-            db,
-            port,
-            requests,
-            log,
-        } => run_over(
-            rt,
-            db,
-            Job::Serve(Service {
-                port,
-                requests,
-                log,
-            }),
-        ),
     }
 }

@@ -14,7 +14,7 @@ use warehouse::GroupChange;
 
 /// What is to be done.
 #[derive(Drop)]
-pub(crate) enum Task<'a> {
+pub enum Task<'a> {
     /// Print the total of the file at a path.
     Total(&'a str),
     /// Do a work over the store at a path.
@@ -161,7 +161,7 @@ fn report_task<'a>(plan: Plan<'a>) -> Task<'a>
 }
 
 /// The task of a plan.
-pub(crate) fn task_of<'a>(plan: Plan<'a>) -> Task<'a>
+pub fn task_of<'a>(plan: Plan<'a>) -> Task<'a>
     ensures { IsTaskOf plan.entry result }
 {
     match plan {

@@ -2,7 +2,8 @@ use Rattle.std.proofs.Common.{◌∙◌, sym, ap, subst}
 use Rattle.prof_store.specs.Shown.{IsFaithful}
 use Rattle.warehouse.specs.declared.warehouse.Warehouse.{Warehouse}
 use Rattle.sessions.specs.Sessions.{Wants}
-use Rattle.sessions.specs.Works.{CameTo, IsStandard}
+use Rattle.program_files.specs.Standard.{IsStandard}
+use Rattle.sessions.specs.Works.{CameTo}
 use Rattle.sessions.proofs.WorkLemmas.{came_to, came_from}
 use Rattle.sessions.proofs.running.work_over.Goals as goal
 

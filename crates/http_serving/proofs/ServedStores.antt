@@ -1,10 +1,10 @@
--- From requests that were served to what a server over a store comes to.
+-- From requests that were served to what a server over the store of a database does.
 use Rattle.std.specs.Prelude.{ℕ}
 use Rattle.sqlite_trees.specs.declared.store.Store.{Ghosts}
 use Rattle.prof_store.specs.Shown.{IsFaithful}
 use Rattle.prof_store.specs.declared.store.Store.{Store}
 use Rattle.http_serving.proofs.Served.{served_clean}
-use Rattle.sessions.specs.Works.{CameToServed}
+use Rattle.http_serving.specs.Stores.{CameToServed}
 
 module _ {S : Type 0} (g : Ghosts S) where
   -- the disk was faithful before

@@ -1,8 +1,8 @@
 use Rattle.std.proofs.Common.{sym, subst}
 use Rattle.sqlite.specs.Held.{state}
 use Rattle.sqlite.specs.State.{HasCleanDisk}
-use Rattle.sessions.proofs.ServedLemmas.{came_clean}
-use Rattle.sessions.proofs.serving.serve_in.Goals as goal
+use Rattle.http_serving.proofs.ServedStores.{came_clean}
+use Rattle.http_serving.proofs.stores.serve_in.Goals as goal
 
 pub returns-in-Ok : goal.returns-in-Ok
 returns-in-Ok g c clean =

@@ -1,8 +1,8 @@
 use Rattle.std.proofs.Common.{◌∙◌, sym, ap, subst}
 use Rattle.prof_store.specs.Shown.{IsFaithful}
+use Rattle.program_files.specs.Standard.{IsStandard}
 use Rattle.http_serving.specs.Served.{HasServed}
-use Rattle.sessions.specs.Works.{IsStandard}
-use Rattle.sessions.proofs.serving.serve_over.Goals as goal
+use Rattle.http_serving.proofs.stores.serve_over.Goals as goal
 
 pub returns : goal.returns
 returns g c clean =

@@ -1,11 +1,11 @@
-// A store is served over HTTP.
+// The store of a database is served (specs/Stores.antt).
 ghost use Rattle.sqlite.specs.Held.{state};
 ghost use Rattle.sqlite.specs.State.{HasCleanDisk};
 ghost use Rattle.prof_store.specs.Shown.{IsFaithful};
-ghost use Rattle.sessions.specs.Works.{CameToServed, WasServed};
+ghost use Rattle.http_serving.specs.Stores.{CameToServed, WasServed};
 
+use crate::serving::{Service, serve};
 use histories::Limits;
-use http_serving::{Service, serve};
 use prof_store::{OpenError, Store};
 use program_files::store_in;
 use sqlite::{Alter, Connection};
@@ -28,7 +28,7 @@ fn serve_over<S: Alter>(
 }
 
 /// Serves the store of a database, and hands back the database.
-pub(crate) fn serve_in<S: Alter>(
+pub fn serve_in<S: Alter>(
     rt: &HostRuntime,
     conn: Connection<S>,
     is_new: bool,
