@@ -1,28 +1,27 @@
-"""Builds the program: proves the crates that it stands on side by side, and then the program by itself.
+"""Builds the program: proves the crates that it stands on side by side, and then the program itself.
 
-`rt lib` locks its crate and every crate below, so two of them in one clone wait for each other. So there is a tree for
-each crate that is proved at one time, with the sources and the built libraries of the crates below it, and with its own
-out/, which moves there and back. Meanwhile this program holds the locks that rt takes in the clone.
+The prover is called as `rt ci` calls it: of a library it writes what other crates may cite, and not the proofs. What is
+proved over such libraries takes half the time of what is proved over those of `rt lib`, since less is read. They
+stand in out/statements of each crate, which rt neither reads nor writes.
 
-A crate begins when all below it are done. It gets more than one job where processors would be idle, and where the crates
-that wait for it, one after another, would else take longer than all work that is left on all processors.
+A crate begins when all below it are done. Those of the longest chain that waits have more jobs, and the system gives
+them processors before all others. So there are more jobs than processors: a proof uses one alone for part of its time.
 """
 import contextlib
 import fcntl
+import functools
 import os
 import shutil
 import signal
 import subprocess
 import sys
-import tempfile
 import time
 
-from sources import (NAME, OUT, PARTS, PROGRAM, TOP, Tree, command_rt, is_current, keep, kept_in, kit_of, look_of,
-                     read, stamp)
+from sources import NAME, OUT, PROGRAM, TOP, Tree, command_rt, is_current, keep, kept_in, kit_of, look_of, read, stamp
 
 PROVED = os.path.join(OUT, "proved.json")
 # The memory that a proof takes, in GB, and what each further job of it takes.
-FIRST_JOB, NEXT_JOB = 3.0, 1.5
+FIRST_JOB, NEXT_JOB = 2.2, 0.7
 GROUP = "/sys/fs/cgroup/memory"
 
 
@@ -40,12 +39,9 @@ def folder_of(name):
     return os.path.join(TOP, "crates", name)
 
 
-def place():
-    """Where the trees stand in which crates are proved: outside the clone, where `rt ci` refuses a second crates.txt."""
-    cache = os.environ.get("XDG_CACHE_HOME") or os.path.join(os.path.expanduser("~"), ".cache")
-    if not os.path.isabs(cache) or not os.access(os.path.dirname(cache), os.W_OK):
-        cache = tempfile.gettempdir()
-    return os.path.join(cache, "profhouse-build", TOP.strip(os.sep).replace(os.sep, "-"))
+def library_of(name):
+    """Where a library stands that is proved here."""
+    return os.path.join(folder_of(name), "out", "statements", f"{name}.rlib")
 
 
 def number_in(path, word=""):
@@ -67,19 +63,9 @@ def free_memory():
 
 def weight_of(tree, name):
     """About the seconds that a proof takes on one processor: its start, its code, and the libraries that it reads. The
-    program is proved over all the code below it. The numbers fit what `tests/by_hand/gate_cost` printed."""
-    names = {name} | tree.below(name) if name == NAME else {name}
-    paths = [os.path.join(TOP, path) for it in names for path in tree.files(it) if path.endswith(".rt")]
-    lines = sum(read(path).count(b"\n") for path in paths)
-    return 20 + lines / 60 if name == NAME else 20 + 0.15 * lines + 2.75 * len(tree.below(name))
-
-
-def link_or_copy(one, other):
-    """Gives a file a second name. rt writes into no source, and removes a file of a library before it makes it anew."""
-    try:
-        os.link(one, other)
-    except OSError:
-        shutil.copyfile(one, other)
+    numbers fit what such builds took."""
+    lines = sum(read(os.path.join(TOP, path)).count(b"\n") for path in tree.files(name) if path.endswith(".rt"))
+    return 10 + 0.12 * lines + 0.7 * len(tree.below(name)) + (240 if name == NAME else 0)
 
 
 def locked(folders):
@@ -100,16 +86,17 @@ def locked(folders):
 
 
 class Job:
-    """A call of rt in a folder of its own group of processes."""
+    """A command in the folder of a crate, in a group of processes of its own."""
 
-    def __init__(self, words, folder, jobs, lane=None, held=()):
-        os.makedirs(os.path.join(folder, "out"), exist_ok=True)
-        self.lane, self.jobs, self.begun = lane, jobs, time.monotonic()
-        self.log = os.path.join(folder, "out", "build.log")
+    def __init__(self, name, words, jobs=1, nice=0, held=()):
+        self.jobs, self.begun = jobs, time.monotonic()
+        self.log = os.path.join(folder_of(name), "out", "build.log")
+        os.makedirs(os.path.dirname(self.log), exist_ok=True)
         with open(self.log, "wb") as log:
-            # (held: where this program is killed, the locks stay until rt has ended)
-            self.process = subprocess.Popen(words, cwd=folder, stdin=subprocess.DEVNULL, stdout=log,
-                                            stderr=subprocess.STDOUT, start_new_session=True, pass_fds=held)
+            # (held: where this program is killed, the locks stay until the prover has ended)
+            self.process = subprocess.Popen(
+                words, cwd=folder_of(name), stdin=subprocess.DEVNULL, stdout=log, stderr=subprocess.STDOUT,
+                start_new_session=True, pass_fds=held, preexec_fn=functools.partial(os.nice, nice))
 
     def stop(self):
         with contextlib.suppress(ProcessLookupError):
@@ -123,15 +110,21 @@ class Job:
 
 class Build:
     def __init__(self, rt):
-        self.tree, self.rt, self.kit = Tree(), rt, kit_of(rt)
-        self.looks, self.place = self.tree.looks(), place()
-        self.tree.sum(NAME, self.kit)  # (all sums, before any text can change)
+        import kit  # (without rt it cannot be read)
+        self.kit, self.tree, self.rt, self.version = kit, Tree(), rt, kit_of(rt)
+        self.looks = self.tree.looks()
+        self.tree.sum(NAME, self.version)  # (all sums, before any text can change)
+        program = kit.crate_in(TOP, NAME)
+        self.crates = {it.name: it for it in [*program.below(), program]}
+        for name, crate in self.crates.items():
+            crate.rlib = library_of(name)
         self.cores, self.memory = len(os.sched_getaffinity(0)), free_memory()
         self.held, self.running, self.failed = [], {}, []
-        # The crates below others that stand in each tree, with their libraries.
-        self.lanes = [set() for _ in range(self.cores)]
-        known = kept_in(PROVED)
-        self.proved = {it: known[it] for it in self.tree.names if it in known and known[it] == self.mark_of(it)}
+        known, self.proved = kept_in(PROVED), {}
+        for it in self.tree.names:
+            # (over a library that is proved anew all is)
+            if it in known and known[it] == self.mark_of(it) and self.tree.below(it) <= self.proved.keys():
+                self.proved[it] = known[it]
         self.todo = [it for it in self.tree.names if it not in self.proved]
         self.weight = {it: weight_of(self.tree, it) for it in self.todo}
         # The work of a crate and of the longest chain of crates that wait for it.
@@ -142,73 +135,29 @@ class Build:
         self.begun, self.spent, self.ended = time.monotonic(), 0.0, []
 
     def mark_of(self, name):
-        """What tells that the library which stands in out/ is that of the text."""
-        look = look_of(os.path.join(folder_of(name), "out", "rlib"))
-        return [self.tree.sum(name, self.kit), look and look[0]]
+        """What tells that the library which stands there is that of the text."""
+        return [self.tree.sum(name, self.version), look_of(os.path.join(library_of(name), "format"))]
 
     # -- one crate
 
-    def folder_in(self, lane, name):
-        """The folder of a crate in one of the trees that the crates are proved in, of which each holds one that runs."""
-        return os.path.join(self.place, str(lane), "crates", name)
-
-    def move_out(self, one, other):
-        """Moves out/ of a crate from one folder of it to another."""
-        one, other = os.path.join(one, "out"), os.path.join(other, "out")
-        if os.path.isdir(one):
-            shutil.rmtree(other, ignore_errors=True)
-            shutil.move(one, other)
-
-    def prepare(self, lane, name):
-        """Makes the tree in which a crate is proved. It still has the crates of earlier proofs. Gives the crate's folder."""
-        below = self.tree.below(name)
-        for it in [*(below - self.lanes[lane]), name]:
-            for part in PARTS if it == name else (*PARTS, "out/rlib"):
-                if os.path.isdir(os.path.join(folder_of(it), part)):
-                    shutil.copytree(os.path.join(folder_of(it), part), os.path.join(self.folder_in(lane, it), part),
-                                    copy_function=link_or_copy)
-        self.lanes[lane] |= below
-        with open(os.path.join(self.place, str(lane), "crates.txt"), "w", encoding="utf-8") as file:
-            # (a line whose crate has no folder here would be refused)
-            file.writelines(f"{self.tree.lines[it]}\n" for it in self.tree.names if it in {name} | below)
-        self.move_out(folder_of(name), self.folder_in(lane, name))
-        return self.folder_in(lane, name)
-
-    def start(self, name, jobs):
+    def start(self, name, jobs, nice):
         self.todo.remove(name)
-        lane = min({*range(self.cores)} - {it.lane for it in self.running.values()})
-        words = [self.rt, "lib", "--jobs", str(jobs)]
-        self.running[name] = Job(words, self.prepare(lane, name), jobs, lane, self.held)
-
-    def take_back(self, name):
-        """Takes back what a crate's proof left."""
-        folder = self.folder_in(self.running.pop(name).lane, name)
-        self.move_out(folder, folder_of(name))
-        shutil.rmtree(folder, ignore_errors=True)
+        words = self.kit.words_of(self.crates[name], jobs)
+        os.makedirs(os.path.dirname(library_of(name)), exist_ok=True)
+        words = [self.kit.RATTLE, "build", *words, "--statements", "-o", library_of(name)]
+        self.running[name] = Job(name, words, jobs, nice, self.held)
 
     def end(self, name):
-        job = self.running[name]
-        self.take_back(name)
+        job = self.running.pop(name)
         if job.process.returncode:
             self.failed.append(name)
-            say(f"{name} is not proved. What rt said:")
-            sys.stderr.write(read(os.path.join(folder_of(name), "out", "build.log")).decode(errors="replace"))
+            say(f"{name} is not proved. What the prover said:")
+            sys.stderr.write(read(job.log).decode(errors="replace"))
         else:
             self.ended.append(name)
             self.spent += time.monotonic() - job.begun
             self.proved[name] = self.mark_of(name)
             keep(PROVED, self.proved)
-
-    def recover(self):
-        """Puts back what a build that was killed left in its trees."""
-        for lane in os.listdir(self.place) if os.path.isdir(self.place) else ():
-            for name in self.tree.names:
-                if not os.path.isdir(os.path.join(folder_of(name), "out")):
-                    self.move_out(self.folder_in(lane, name), folder_of(name))
-        self.clear()
-
-    def clear(self):
-        shutil.rmtree(self.place, ignore_errors=True)
 
     # -- all of them
 
@@ -223,18 +172,16 @@ class Build:
         return min(jobs, fit if self.running else max(fit, 1))
 
     def start_ready(self):
-        ready = [it for it in self.todo if it != NAME and self.tree.below(it) <= set(self.proved)]
+        ready = [it for it in self.todo if it != NAME and self.tree.below(it) <= self.proved.keys()]
         ready.sort(key=lambda it: -self.chain[it])
-        for at, name in enumerate(ready):
-            idle = self.cores - sum(it.jobs for it in self.running.values())
-            # (2, where the chain behind the crate takes twice as long as all that is left on all processors)
-            wanted = int(self.chain[name] * self.cores / self.left())
-            if len(self.running) == self.cores or idle <= 0 and wanted < 2:
-                break
-            jobs = self.jobs_that_fit(max(1, min(self.cores, max(idle // (len(ready) - at), wanted))))
+        longest = max((self.chain[it] for it in [*ready, *self.running]), default=0)
+        for name in ready:
+            free = self.cores + self.cores * 3 // 4 - sum(it.jobs for it in self.running.values())
+            share = self.chain[name] / longest
+            jobs = self.jobs_that_fit(min(free, self.cores if share > 0.85 else (self.cores + 1) // 2))
             if jobs < 1:
                 break
-            self.start(name, jobs)
+            self.start(name, jobs, int(50 * (1 - share)) if share > 0.6 else 19)
 
     def tell(self):
         """Says how far it is."""
@@ -247,8 +194,8 @@ class Build:
         done = sum(self.weight[it] for it in self.ended)
         clock = time.monotonic() - self.begun
         half_done = sum(self.weight[it] for it in self.running) / 2
-        all_at_once = (done + half_done) / clock if self.ended else 0.7 * self.cores
-        one_alone = done / self.spent if self.ended else 1.6
+        all_at_once = (done + half_done) / clock if self.ended else 0.6 * self.cores
+        one_alone = done / self.spent if self.ended else 1.3
         rest = [self.chain[it] for it in self.todo] + [self.chain[it] - self.weight[it] / 2 for it in self.running]
         seconds = max(self.left() / all_at_once, max(rest, default=0) / one_alone)
         return f"{round(seconds / 60)} minutes" if seconds >= 90 else f"{round(seconds)} seconds"
@@ -267,32 +214,36 @@ class Build:
         return not self.failed
 
     def program(self):
-        """Proves, builds and runs the program, with all processors. Gives whether that went well."""
-        say(f"all {len(self.tree.names) - 1} crates below are proved; proving and building the program, "
+        """Proves, compiles, links and tries the program. Gives whether that went well."""
+        say(f"all {len(self.tree.names) - 1} crates below are proved; proving and compiling the program, "
             f"about {self.minutes()} left")
-        self.release()
-        jobs = self.jobs_that_fit(self.cores)
-        job = Job([self.rt, "run", "--jobs", str(jobs), "--", "--version"], folder_of(NAME), jobs)
-        self.running[NAME] = job
-        self.clear()
-        if job.process.wait():
-            say("the program is not built. What rt said:")
-            sys.stderr.write(read(job.log).decode(errors="replace"))
-        del self.running[NAME]
-        return job.process.returncode == 0
+        for command in self.commands(f"{PROGRAM}.new", self.jobs_that_fit(self.cores)):
+            job = self.running[NAME] = Job(NAME, command, held=self.held)
+            status = job.process.wait()
+            del self.running[NAME]
+            if status:
+                say("the program is not built. What the prover and the compiler said:")
+                sys.stderr.write(read(job.log).decode(errors="replace"))
+                return False
+        os.replace(f"{PROGRAM}.new", PROGRAM)
+        os.remove(f"{PROGRAM}.new.o")
+        return True
 
-    def release(self):
-        """Lets rt have the crates of the clone."""
-        while self.held:
-            os.close(self.held.pop())
+    def commands(self, new, jobs):
+        """What proves and compiles the program, links it, and tries it."""
+        home, words = self.kit.KIT, self.kit.words_of(self.crates[NAME], jobs)
+        tools = ["--toolchain", f"{home}/toolchain"]
+        return ([self.kit.RATTLE, "build", *words, *tools, "--backend", "llvm", "-o", f"{new}.o"],
+                [f"{home}/bin/rattle-link", "--target", "x86_64-unknown-linux-gnu", *tools, "-o", new,
+                 f"{new}.o", f"{home}/c/libos_c.a", f"{home}/c/liblibc_c.a"],
+                [new, "--version"])
 
     def stop(self):
-        """Ends what runs, and takes back what it left."""
-        for name, job in [*self.running.items()]:
+        """Ends what runs."""
+        for job in self.running.values():
             job.stop()
-            if name != NAME:
-                self.take_back(name)
-        self.clear()
+        while self.held:
+            os.close(self.held.pop())
 
 
 def stop_here(number, _):
@@ -322,11 +273,9 @@ def build():
     finally:
         if work:
             work.stop()
-            work.release()
 
 
 def built(work):
-    work.recover()
     count, what = len(work.todo), "is older than its sources" if os.path.exists(PROGRAM) else "is not built"
     say(f"the program {what}: {count} of {len(work.tree.names)} crates to prove, on {work.cores} processors, "
         f"about {work.minutes()} on a slow machine")
@@ -335,7 +284,7 @@ def built(work):
     if work.tree.looks() != work.looks:
         say("the sources changed while they were proved: run this again")
         return 1
-    stamp(work.tree, work.looks, work.kit, work.rt)
+    stamp(work.tree, work.looks, work.version, work.rt)
     minutes, seconds = divmod(round(time.monotonic() - work.begun), 60)
     say(f"built in {minutes} min {seconds} s")
     return 0

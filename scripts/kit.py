@@ -1,4 +1,5 @@
-"""The command rt, for the scripts here that call the prover of a crate by themselves."""
+"""The command rt of the Rattle kit as a module, for the scripts that call its prover by themselves: it knows with which
+words the prover is called for a crate, and where the parts of the kit are."""
 import contextlib
 import importlib.machinery
 import importlib.util
@@ -9,7 +10,6 @@ import sys
 
 
 def command_rt():
-    """The command rt as a module: it knows with which words the prover is called for a crate."""
     path = os.path.realpath(shutil.which("rt") or sys.exit("rt is not on the path"))
     sys.path.insert(0, os.path.dirname(path))
     loader = importlib.machinery.SourceFileLoader("command_rt", path)
@@ -19,14 +19,14 @@ def command_rt():
 
 
 RT = command_rt()
-RATTLE = RT.rtlib.RATTLE
+RATTLE, KIT = RT.rtlib.RATTLE, RT.KIT
 
 
 def crate_in(tree, name):
     return RT.Crate(os.path.join(tree, "crates", name), tree, {})
 
 
-def words_of(crate):
-    """The words that a check of a crate by one processor has."""
+def words_of(crate, jobs=1):
+    """The words that a check of a crate by so many jobs has."""
     with contextlib.redirect_stdout(io.StringIO()):
-        return crate.words(["--jobs", "1"], keeps=False)
+        return crate.words(["--jobs", str(jobs)], keeps=False)
