@@ -62,10 +62,14 @@ def free_memory():
 
 
 def weight_of(tree, name):
-    """About the seconds that a proof takes on one processor: its start, its code, and the libraries that it reads. The
-    numbers fit what such builds took."""
+    """About the seconds that a proof takes on one processor: its start, its code, and more where it knows a database or
+    a command line. The program's are mostly those of its compilation. The numbers fit what such builds took."""
+    if name == NAME:
+        return 300
     lines = sum(read(os.path.join(TOP, path)).count(b"\n") for path in tree.files(name) if path.endswith(".rt"))
-    return 10 + 0.12 * lines + 0.7 * len(tree.below(name)) + (240 if name == NAME else 0)
+    of_databases = min(lines / 150, 1) * (50 + 1.5 * len(tree.below(name)))
+    more = {"sqlite": of_databases, "clap": 180}
+    return 12 + 0.085 * lines + sum(more[word] for word in tree.lines[name].split() if word in more)
 
 
 def locked(folders):
@@ -194,8 +198,9 @@ class Build:
         done = sum(self.weight[it] for it in self.ended)
         clock = time.monotonic() - self.begun
         half_done = sum(self.weight[it] for it in self.running) / 2
-        all_at_once = (done + half_done) / clock if self.ended else 0.6 * self.cores
-        one_alone = done / self.spent if self.ended else 1.3
+        # (as if a minute had gone by before, at the speed that is usual)
+        all_at_once = (done + half_done + 60 * 0.8 * self.cores) / (clock + 60)
+        one_alone = (done + 60 * 1.2) / (self.spent + 60)
         rest = [self.chain[it] for it in self.todo] + [self.chain[it] - self.weight[it] / 2 for it in self.running]
         seconds = max(self.left() / all_at_once, max(rest, default=0) / one_alone)
         return f"{round(seconds / 60)} minutes" if seconds >= 90 else f"{round(seconds)} seconds"
