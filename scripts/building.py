@@ -89,6 +89,13 @@ def locked(folders):
     return held
 
 
+def stand_apart(nice):
+    """Gives a process a group of its own, and less of the processors. (In a session of its own it would have as much as
+    any other session.)"""
+    os.setpgid(0, 0)
+    os.nice(nice)
+
+
 class Job:
     """A command in the folder of a crate, in a group of processes of its own."""
 
@@ -100,7 +107,7 @@ class Job:
             # (held: where this program is killed, the locks stay until the prover has ended)
             self.process = subprocess.Popen(
                 words, cwd=folder_of(name), stdin=subprocess.DEVNULL, stdout=log, stderr=subprocess.STDOUT,
-                start_new_session=True, pass_fds=held, preexec_fn=functools.partial(os.nice, nice))
+                pass_fds=held, preexec_fn=functools.partial(stand_apart, nice))
 
     def stop(self):
         with contextlib.suppress(ProcessLookupError):
@@ -179,10 +186,11 @@ class Build:
         ready = [it for it in self.todo if it != NAME and self.tree.below(it) <= self.proved.keys()]
         ready.sort(key=lambda it: -self.chain[it])
         longest = max((self.chain[it] for it in [*ready, *self.running]), default=0)
-        for name in ready:
+        for at, name in enumerate(ready):
             free = self.cores + self.cores * 3 // 4 - sum(it.jobs for it in self.running.values())
             share = self.chain[name] / longest
-            jobs = self.jobs_that_fit(min(free, self.cores if share > 0.85 else (self.cores + 1) // 2))
+            wanted = self.cores if share > 0.85 else max(1, min(2, free // (len(ready) - at)))
+            jobs = self.jobs_that_fit(min(free, wanted))
             if jobs < 1:
                 break
             self.start(name, jobs, int(50 * (1 - share)) if share > 0.6 else 19)
