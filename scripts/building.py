@@ -1,8 +1,8 @@
 """Builds the program: proves the crates that it stands on side by side, and then the program itself.
 
-The prover is called as `rt ci` calls it: of a library it writes what other crates may cite, and not the proofs. What is
-proved over such libraries takes half the time of what is proved over those of `rt lib`, since less is read. They
-stand in out/statements of each crate, which rt neither reads nor writes.
+The prover is called as `rt ci` calls it: of a library it writes what other crates may cite, and not the proofs. A proof
+over such libraries takes less time than one over those of `rt lib`, since it reads less. They stand in out/statements of
+each crate, where rt neither reads nor writes.
 
 A crate begins when all below it are done. Those of the longest chain that waits have more jobs, and the system gives
 them processors before all others. So there are more jobs than processors: a proof uses one alone for part of its time.
@@ -160,7 +160,11 @@ class Build:
 
     def end(self, name):
         job = self.running.pop(name)
-        if job.process.returncode:
+        if job.process.returncode == -signal.SIGKILL and (job.jobs > 1 or self.running):
+            # (most likely for want of memory: once more, with less beside it)
+            self.memory /= 2
+            self.todo.append(name)
+        elif job.process.returncode:
             self.failed.append(name)
             say(f"{name} is not proved. What the prover said:")
             sys.stderr.write(read(job.log).decode(errors="replace"))
