@@ -190,11 +190,10 @@ class Build:
         ready = [it for it in self.todo if it != NAME and self.tree.below(it) <= self.proved.keys()]
         ready.sort(key=lambda it: -self.chain[it])
         longest = max((self.chain[it] for it in [*ready, *self.running]), default=0)
-        for at, name in enumerate(ready):
-            free = self.cores + self.cores * 3 // 4 - sum(it.jobs for it in self.running.values())
+        for name in ready:
+            free = 2 * self.cores - sum(it.jobs for it in self.running.values())
             share = self.chain[name] / longest
-            wanted = self.cores if share > 0.85 else max(1, min(2, free // (len(ready) - at)))
-            jobs = self.jobs_that_fit(min(free, wanted))
+            jobs = self.jobs_that_fit(min(free, self.cores if share > 0.97 else 2))
             if jobs < 1:
                 break
             self.start(name, jobs, int(50 * (1 - share)) if share > 0.6 else 19)
