@@ -193,7 +193,7 @@ class Build:
         for name in ready:
             free = 2 * self.cores - sum(it.jobs for it in self.running.values())
             share = self.chain[name] / longest
-            jobs = self.jobs_that_fit(min(free, self.cores if share > 0.97 else 2))
+            jobs = self.jobs_that_fit(min(free, self.cores if share > 0.97 else min(2, self.cores)))
             if jobs < 1:
                 break
             self.start(name, jobs, int(50 * (1 - share)) if share > 0.6 else 19)
