@@ -1,9 +1,9 @@
 // The panel of a function: its costs, who calls it and whom it calls. In a difference, how these differ.
 
 import { go } from "./address.js";
-import { changeCell, costCell, element, functionCell, greatest, leading, note, rowsBody, table } from "./drawing.js";
+import { changeCell, costCell, element, functionCell, greatest, leading, nameCell, note, rowsBody, sum, table } from "./drawing.js";
 import { lessOf, matchOf, PLACES } from "./difference.js";
-import { calls, events, functionOf, inclusive, objects, Refusal, selfCosts, where } from "./store.js";
+import { calls, csv, events, functionOf, inclusive, objects, Refusal, selfCosts, where } from "./store.js";
 import { grouped, part, share, shown, signed, signOf, size } from "./texts.js";
 
 // The objects in which these runs have the function. Where it costs nothing of the event, the first event of the runs
@@ -80,6 +80,32 @@ function callTable(title, event, now, before) {
   return [head, rows.length ? table(columns, rowsBody(rows, draw)) : note("none")];
 }
 
+// Where a function's own costs are. No report has the lines of one function, so they are taken from all costs of the
+// runs, and only when they are asked for.
+async function ownLines(s, runs, event, places) {
+  const sums = new Map();
+  for (const [object, file, name, line, of, cost] of await csv(runs)) {
+    if (name !== s.fn || of !== event || !places.includes(object)) continue;
+    const found = sums.get(`${file}:${line}`) ?? { name: `${file}:${line}`, file, line, cost: 0n };
+    found.cost += BigInt(cost);
+    sums.set(found.name, found);
+  }
+  return [...sums.values()].sort((a, b) => a.cost < b.cost ? 1 : a.cost > b.cost ? -1 : 0);
+}
+
+function linesButton(s, runs, event, places) {
+  const box = element("div"), button = element("button", { id: "own-lines" }, "its lines");
+  button.onclick = async () => {
+    button.disabled = true;
+    const rows = await ownLines(s, runs, event, places), total = sum(rows);
+    const draw = row => leading(element("tr", null, costCell(row.cost), element("td", { className: "count" }, share(row.cost, total)),
+      nameCell(row.name)), { view: "source", file: row.file, line: row.line, q: undefined });
+    box.replaceChildren(rows.length ? table([["cost", shown(event)], ["count", ""], ["name", "line"]], rowsBody(rows, draw)) : note("no costs"));
+  };
+  // A derived event is in no export.
+  return s.derived ? [] : [element("h3", null, button), box];
+}
+
 export async function panel(s, runs, event) {
   const less = s.view === "difference" ? lessOf(s, runs) : null, sides = less ? [runs, less] : [runs];
   const known = (await Promise.all(sides.map(it => objects(it, event, s.derived)))).flat().sort((a, b) => b.length - a.length);
@@ -97,5 +123,6 @@ export async function panel(s, runs, event) {
     return [...head, note("These runs do not have this function.")];
   }
   return [...head, element("div", { className: "cards" }, card("self", now, before, "own"), card("with all that it calls", now, before, "all")),
-    ...callTable("Called by", event, now.callers, before?.callers), ...callTable("Calls", event, now.callees, before?.callees)];
+    ...linesButton(s, runs, event, places[0]), ...callTable("Called by", event, now.callers, before?.callers),
+    ...callTable("Calls", event, now.callees, before?.callees)];
 }

@@ -60,6 +60,17 @@ const readDifference = text => {
 const readCalls = text => readRows(linesOf(text).slice(2), /^(\d+) (\d+) (.*)$/s)
   .map(it => ({ cost: BigInt(it[1]), count: BigInt(it[2]), key: it[3] }));
 
+// The rows below the head, each with its fields. A field with a comma, a quote or a line's end stands in quotes.
+const FIELD = /(?:"((?:[^"]|"")*)"|([^,"\n]*))([,\n])/gy;
+function readCsv(text) {
+  const rows = [[]];
+  for (const [, quoted, plain, end] of text.matchAll(FIELD)) {
+    rows.at(-1).push(quoted === undefined ? plain : quoted.replaceAll('""', '"'));
+    if (end === "\n") rows.push([]);
+  }
+  return rows.slice(1, -1);
+}
+
 const readVerify = text => linesOf(text).map(line => {
   const [run, event, sum, stated, word] = line.split(" ");
   return { run, event: unescaped(event), sum, stated, word };
@@ -69,6 +80,7 @@ export const selfCosts = (key, runs, event) => once("reports/" + key, { event, .
 export const inclusive = (runs, event) => once("inclusive", { event, ...runs }, readInclusive);
 export const verify = runs => once("verify", runs, readVerify);
 export const folded = runs => once("folded", runs, text => text);
+export const csv = runs => once("csv", runs, readCsv);
 export const calls = (which, runs, event, object, name) =>
   once(which, { event, object, function: name, ...runs }, readCalls);
 export const difference = (key, runs, less, event) =>
