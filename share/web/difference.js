@@ -94,7 +94,8 @@ function bar(s, key, sides) {
 // What to do where nothing can be compared yet, or where it would say little.
 function advice(s, runs, less) {
   if (!less) {
-    const before = runs.run && allRuns.filter(it => Number(it.number) < Number(runs.run)).at(-1);
+    const kind = allRuns.find(it => it.number === runs.run)?.kind;
+    const before = allRuns.filter(it => it.kind === kind && Number(it.number) < Number(runs.run)).at(-1);
     const offered = before ? [" Or take ", anchor(link({ less: "r" + before.number }), runName(before.number)), ", the one before."] : [];
     return note("Choose what is taken off in the list ‘less’ above, or by the sign − beside a run.", ...offered);
   }

@@ -135,6 +135,7 @@ class Flame {
 
   draw() {
     const width = this.box.clientWidth || 1000, trail = [];
+    hint(null, "");
     for (let it = this.top.above; it; it = it.above) trail.unshift(it);
     const mateOf = node => this.before && reached(this.before, namesTo(node) || undefined, true);
     const { found, cut } = placed(this.top, mateOf(this.top), trail.length, width);

@@ -114,8 +114,12 @@ async function drawContent(s, view, of, event, mine) {
   if (name === drawn) return;
   const nodes = await VIEWS[view][1](s, of, event);
   if (mine !== turn) return;
-  $("content").replaceChildren(...nodes.filter(Boolean));
+  put(name, nodes);
   if (!s.line) $("content").scrollTop = 0;
+}
+
+function put(name, nodes) {
+  $("content").replaceChildren(...nodes.filter(Boolean));
   drawn = name;
 }
 
@@ -141,10 +145,10 @@ async function show(anew) {
   drawLists(s);
   drawHead(s, view, of);
   try {
-    if (!runs.length) return void $("content").replaceChildren(note(...EMPTY));
+    if (!runs.length) return put("", [note(...EMPTY)]);
     const event = await drawEvents(s, view, of);
     if (mine !== turn) return;
-    if (event === undefined) return void $("content").replaceChildren(note("These runs count no event."));
+    if (event === undefined) return put("", [note("These runs count no event.")]);
     await drawContent({ ...s, view }, view, of, event, mine);
     await drawPanel(s, view, of, event, mine);
     mark();
@@ -157,9 +161,8 @@ async function show(anew) {
 }
 
 function failed(error) {
-  drawn = "";
   $("detail").hidden = true;
-  $("content").replaceChildren(fault(error instanceof Refusal ? error.message : `The page has a fault: ${error.message}`));
+  put("", [fault(error instanceof Refusal ? error.message : `The page has a fault: ${error.message}`)]);
 }
 
 async function begin() {

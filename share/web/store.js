@@ -91,8 +91,15 @@ export const events = async runs => [...new Set((await verify(runs)).map(it => i
 
 // Costs where the runs may be without the event: the server refuses an event that none of them has.
 const NONE = { total: 0n, rows: [] };
-export const where = async (runs, event, derived, asked) =>
-  derived || (await events(runs)).includes(event) ? asked() : NONE;
+export async function where(runs, event, derived, asked) {
+  if (!derived) return (await events(runs)).includes(event) ? asked() : NONE;
+  try {
+    return await asked();
+  } catch (error) {
+    if (error.message !== "refused: no such event") throw error;
+    return NONE;
+  }
+}
 
 // The objects of the runs, as they are printed, the longest first. Callgrind's first event counts wherever code ran.
 export async function objects(runs, event, derived) {

@@ -69,7 +69,8 @@ export function share(number, whole) {
   return `${marked((cut / 100n).toString())}.${(cut % 100n).toString().padStart(2, "0")} %`;
 }
 
-export const signedShare = (number, whole) => whole === 0n ? "" : (number < 0n ? "\u2212" : "+") + share(number, whole);
+export const signedShare = (number, whole) =>
+  whole === 0n ? "" : (number < 0n ? "\u2212" : number > 0n ? "+" : "") + share(number, whole);
 
 export const signOf = number => number > 0n ? "more" : number < 0n ? "fewer" : "";
 
