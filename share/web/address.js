@@ -1,7 +1,7 @@
 // The view stands in the address behind #, so that it can be sent to others and the browser's Back works. Values are
 // strings of bytes, as names are.
 //
-//   view=  run= or group=  event= or derived=  q= the filter  in= an object alone  fn= and ob= the function of the panel
+//   view=  run= or group= or all=1  event= or derived=  q= the filter  in= an object alone  fn= and ob= the function of the panel
 //   less=r1 or gNAME  key=  calls=1 with all that is called  match=  sum=1 many runs less one     of a difference
 //   zoom= frames joined by ;     file= and line= of a source
 
@@ -29,9 +29,6 @@ export const go = change => {
 export const replace = change => {
   history.replaceState(null, "", link(change));
 };
-
-// The runs that are looked at, as the server's parameters.
-export const chosen = s => s.run ? { run: s.run } : s.group ? { group: s.group } : {};
 
 // A selection in the form of less=, and back.
 export const packed = runs => runs.run ? "r" + runs.run : runs.group ? "g" + runs.group : "";

@@ -3,7 +3,7 @@
 import { go, link, packed, unpacked } from "./address.js";
 import { anchor, changeCell, changeShareCell, element, filtered, functionCell, greatest, leading, nameCell, note,
   rowsBody, table, toolbar, twoBarCell } from "./drawing.js";
-import { baselineOf, difference, functionOf, groups, inclusive, nameOf, objects, runName, runs as allRuns, selfCosts,
+import { baselineOf, difference, functionOf, inclusive, members, nameOf, objects, runName, runs as allRuns, selfCosts,
   where } from "./store.js";
 import { base, many, shown, size, unescaped } from "./texts.js";
 
@@ -99,12 +99,11 @@ function advice(s, runs, less) {
     const offered = before ? [" Or take ", anchor(link({ less: "r" + before.number }), runName(before.number)), ", the one before."] : [];
     return note("Choose what is taken off in the list ‘less’ above, or by the sign − beside a run.", ...offered);
   }
-  const members = runs.run ? [runs.run] : runs.group ? groups.find(it => it.name === runs.group)?.members ?? [] : allRuns.map(it => it.number);
-  const others = members.filter(it => it !== less.run);
+  const others = members(runs).filter(it => it !== less.run);
   if (s.sum || !less.run || others.length < 2) return null;
   const newest = others.at(-1);
-  return note(`${many(members.length, "run")} would be added up and compared with a single one, ${nameOf(less)}. `,
-    anchor(link({ run: newest, group: undefined, less: packed(less) }), `Compare ${runName(newest)} with it`), ", or ",
+  return note(`${many(members(runs).length, "run")} would be added up and compared with a single one, ${nameOf(less)}. `,
+    anchor(link({ run: newest, group: undefined, all: undefined, less: packed(less) }), `Compare ${runName(newest)} with it`), ", or ",
     anchor(link({ sum: "1" }), "add them up"), " all the same.");
 }
 

@@ -182,7 +182,7 @@ export async function flame(s, runs) {
   if (!root.count) {
     const run = allRuns.filter(it => it.kind === "folded").at(-1);
     return [note("These runs have no stacks: files of Callgrind have none. ", run
-      ? [anchor(link({ run: run.number, group: undefined, less: undefined }), `Run ${run.number}`), " has."]
+      ? [anchor(link({ run: run.number, group: undefined, all: undefined, less: undefined }), `Run ${run.number}`), " has."]
       : "`profhouse import --folded` takes folded stacks.")];
   }
   const drawing = new Flame(s, root, before);

@@ -1,13 +1,13 @@
 // The frame of the page: the views, the lists of groups and runs, the keys, and what is drawn when the address changes.
 
-import { chosen, go, link, replace, state, unpacked } from "./address.js";
+import { go, link, replace, state } from "./address.js";
 import { panel } from "./calls.js";
 import { differenceView, lessOf } from "./difference.js";
 import { $, anchor, element, fault, mark, note } from "./drawing.js";
 import { flame } from "./flame.js";
 import { report, verified } from "./reports.js";
 import { pick, source } from "./source.js";
-import { baselineOf, events, groups, load, nameOf, Refusal, runs } from "./store.js";
+import { baselineOf, chosen, events, groups, load, nameOf, Refusal, runs } from "./store.js";
 import { base, shown, toBytes } from "./texts.js";
 
 const VIEWS = {
@@ -29,10 +29,13 @@ const viewOf = s => s.view in VIEWS ? s.view : "function";
 const LISTED = 200;
 let wantedRuns = "";
 
-function runRow(s, run, baselines) {
+// What another selection of runs drops from the address.
+const NONE = { run: undefined, group: undefined, all: undefined, zoom: undefined, sum: undefined };
+
+function runRow(s, of, run, baselines) {
   const tag = run.kind === "folded" ? "stacks" : baselines.has(run.number) ? "baseline" : "";
-  const made = element("div", { className: "pick" + (s.run === run.number ? " on" : "") },
-    anchor(link({ run: run.number, group: undefined, zoom: undefined, sum: undefined }), "", { title: `${run.label}\n${run.kind}, SHA-256 ${run.digest}` }),
+  const made = element("div", { className: "pick" + (of.run === run.number ? " on" : "") },
+    anchor(link({ ...NONE, run: run.number }), "", { title: `${run.label}\n${run.kind}, SHA-256 ${run.digest}` }),
     tag ? element("span", { className: "tag" }, tag) : null);
   made.firstChild.append(element("span", { className: "number" }, run.number), element("span", { className: "label" }, base(run.label)));
   if (WITH_LESS.includes(viewOf(s))) {
@@ -41,33 +44,33 @@ function runRow(s, run, baselines) {
   return made;
 }
 
-function groupRow(s, group) {
+function groupRow(of, group) {
   const said = (group.baseline ? `baseline ${group.baseline}, ` : "") + (group.members.length === 1 ? "1 run" : `${group.members.length} runs`);
-  return element("div", { className: "pick" + (s.group === group.name ? " on" : "") },
-    element("a", { href: link({ group: group.name, run: undefined, zoom: undefined, sum: undefined }), title: `runs ${group.members.join(", ") || "none"}` },
+  return element("div", { className: "pick" + (of.group === group.name ? " on" : "") },
+    element("a", { href: link({ ...NONE, group: group.name }), title: `runs ${group.members.join(", ") || "none"}` },
       element("span", { className: "label" }, group.name)), element("span", { className: "tag" }, said));
 }
 
-function runList(s) {
+function runList(s, of) {
   const baselines = new Set(groups.map(it => it.baseline)), words = wantedRuns.toLowerCase();
   const found = runs.filter(it => !words || `${it.number} ${it.label}`.toLowerCase().includes(words)).reverse();
-  const rows = found.slice(0, LISTED).map(it => runRow(s, it, baselines));
+  const rows = found.slice(0, LISTED).map(it => runRow(s, of, it, baselines));
   if (found.length > LISTED) rows.push(note(`and ${found.length - LISTED} older ones`));
   return rows;
 }
 
-function drawLists(s) {
-  const list = element("div", { id: "run-list" }, runList(s));
+function drawLists(s, of) {
+  const list = element("div", { id: "run-list" }, runList(s, of));
   const find = runs.length <= 20 ? null : element("input", { id: "find-run", type: "search", placeholder: "find a run", ariaLabel: "find a run",
     value: wantedRuns, oninput: event => {
       wantedRuns = event.target.value;
-      list.replaceChildren(...runList(state()));
+      list.replaceChildren(...runList(state(), chosen(state())));
     } });
-  const all = element("div", { className: "pick" + (!s.run && !s.group ? " on" : "") },
-    element("a", { href: link({ run: undefined, group: undefined, zoom: undefined, sum: undefined }) }, element("span", { className: "label" }, "all runs")),
+  const all = element("div", { className: "pick" + (of.run || of.group ? "" : " on") },
+    element("a", { href: link({ ...NONE, all: "1" }) }, element("span", { className: "label" }, "all runs")),
     element("span", { className: "tag" }, String(runs.length)));
   const at = $("runs").scrollTop, inside = $("runs").contains(document.activeElement) && document.activeElement.id !== "find-run";
-  $("runs").replaceChildren(all, ...(groups.length ? [element("h2", null, "groups"), ...groups.map(it => groupRow(s, it))] : []),
+  $("runs").replaceChildren(all, ...(groups.length ? [element("h2", null, "groups"), ...groups.map(it => groupRow(of, it))] : []),
     element("h2", null, "runs"), ...(find ? [find] : []), list);
   $("runs").scrollTop = at;
   // The keyboard stays where it was.
@@ -140,9 +143,11 @@ const EMPTY = ["The store has no runs yet: ", element("code", null, "profhouse i
 
 async function show(anew) {
   const s = state(), view = viewOf(s), of = chosen(s), mine = ++turn;
+  // So that the address shows others the same run, when there is a newer one.
+  if (of.run && !s.run) replace({ run: s.run = of.run });
   document.body.dataset.state = "busy";
   if (anew === true) drawn = "";
-  drawLists(s);
+  drawLists(s, of);
   drawHead(s, view, of);
   try {
     if (!runs.length) return put("", [note(...EMPTY)]);

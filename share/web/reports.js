@@ -3,7 +3,7 @@
 import { anchor, barCell, costCell, element, filtered, functionCell, greatest, leading, nameCell, note, rowsBody,
   shareCell, sum, table } from "./drawing.js";
 import { link } from "./address.js";
-import { functionOf, inclusive, objects, selfCosts, verify } from "./store.js";
+import { functionOf, inclusive, members, objects, selfCosts, verify } from "./store.js";
 import { grouped, many, share, shown, unescaped } from "./texts.js";
 
 // What a row of each view leads to.
@@ -27,9 +27,9 @@ async function namedRows(view, s, runs, event) {
   return { total: report.total, rows: byFunction && s.in ? rows.filter(row => row.object === s.in) : rows };
 }
 
-function totalRow(view, s, total, rows, kept) {
-  const word = view === "inclusive" ? "function" : view;
-  let text = `total; ${many(rows.length, word)}`;
+function totalRow(view, s, runs, total, rows, kept) {
+  const word = view === "inclusive" ? "function" : view, count = members(runs).length;
+  let text = `${count > 1 ? `total of ${count} runs, added up` : "total"}; ${many(rows.length, word)}`;
   if (kept !== rows) {
     text += `, ${grouped(BigInt(kept.length))} of them match`;
     // Inclusive costs count a cost in each function that it went through.
@@ -49,7 +49,7 @@ export async function report(view, s, runs, event) {
   const draw = row => leading(element("tr", null, costCell(row.cost), shareCell(row.cost, total), barCell(row.cost, top),
     byFunction ? functionCell(row) : nameCell(row.name)), LEADS[view](row));
   const columns = [["cost", shown(event)], ["share", "share"], ["bar", ""], ["name", byFunction ? "function" : view]];
-  const drawn = table(columns, totalRow(view, s, total, rows, kept), rowsBody(kept, draw));
+  const drawn = table(columns, totalRow(view, s, runs, total, rows, kept), rowsBody(kept, draw));
   return rows.length ? [drawn] : [drawn, note("No costs.")];
 }
 

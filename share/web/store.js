@@ -131,6 +131,15 @@ export async function load() {
   });
 }
 
+// The runs that are looked at, as the server's parameters: the newest run where the address says nothing. All runs
+// are added up only where somebody asks for it, since builds of one program are no one profile.
+export function chosen(s) {
+  if (s.run || s.group) return s.run ? { run: s.run } : { group: s.group };
+  return s.all || !runs.length ? {} : { run: runs.at(-1).number };
+}
+export const members = of => of.run ? [of.run]
+  : of.group ? groups.find(it => it.name === of.group)?.members ?? [] : runs.map(it => it.number);
+
 // How runs are called in a list.
 export const runName = number => {
   const run = runs.find(it => it.number === number);
