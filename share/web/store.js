@@ -25,6 +25,8 @@ export async function ask(path, query, body) {
 function once(path, query, read) {
   const name = JSON.stringify([path, query]);
   if (!known.has(name)) {
+    // A page that is open for days looks at many reports.
+    if (known.size > 300) known.clear();
     const answer = ask(path, query).then(read);
     known.set(name, answer);
     answer.catch(() => known.delete(name));
