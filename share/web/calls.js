@@ -1,9 +1,9 @@
 // The panel of a function: its costs, who calls it and whom it calls. In a difference, how these differ.
 
-import { go } from "./address.js";
-import { changeCell, costCell, element, functionCell, greatest, leading, nameCell, note, rowsBody, sum, table } from "./drawing.js";
+import { go, link } from "./address.js";
+import { anchor, changeCell, costCell, element, functionCell, greatest, leading, nameCell, note, rowsBody, sum, table } from "./drawing.js";
 import { lessOf, matchOf, PLACES } from "./difference.js";
-import { calls, csv, events, functionOf, inclusive, objects, Refusal, selfCosts, where } from "./store.js";
+import { calls, csv, events, functionOf, inclusive, members, objects, Refusal, runs as allRuns, selfCosts, where } from "./store.js";
 import { grouped, part, share, shown, signed, signOf, size } from "./texts.js";
 
 // The objects in which these runs have the function. Where it costs nothing of the event, the first event of the runs
@@ -106,6 +106,13 @@ function linesButton(s, runs, event, places) {
   return s.derived ? [] : [element("h3", null, button), box];
 }
 
+// Folded stacks have no calls, and a flame graph shows what stands above and below.
+function inStacks(s, runs) {
+  if (!allRuns.some(it => it.kind === "folded" && members(runs).includes(it.number))) return [];
+  const there = link({ view: "flame", q: s.fn, fn: undefined, ob: undefined });
+  return [note("Stacks have no calls: ", anchor(there, "look at it in the flame graph"), ".")];
+}
+
 export async function panel(s, runs, event) {
   const less = s.view === "difference" ? lessOf(s, runs) : null, sides = less ? [runs, less] : [runs];
   const known = (await Promise.all(sides.map(it => objects(it, event, s.derived)))).flat().sort((a, b) => b.length - a.length);
@@ -123,6 +130,6 @@ export async function panel(s, runs, event) {
     return [...head, note("These runs do not have this function.")];
   }
   return [...head, element("div", { className: "cards" }, card("self", now, before, "own"), card("with all that it calls", now, before, "all")),
-    ...linesButton(s, runs, event, places[0]), ...callTable("Called by", event, now.callers, before?.callers),
+    ...inStacks(s, runs), ...linesButton(s, runs, event, places[0]), ...callTable("Called by", event, now.callers, before?.callers),
     ...callTable("Calls", event, now.callees, before?.callees)];
 }
