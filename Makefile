@@ -4,6 +4,7 @@ PROGRAM = crates/profhouse/out/profhouse
 PREFIX = /usr/local
 DESTDIR =
 INTO = $(DESTDIR)$(PREFIX)
+PAGE = $(wildcard share/web/*)
 SCRIPTS = folded hostile http import reports rows run store total versions
 
 # What is installed: the mode, the file here, and its place below PREFIX.
@@ -12,7 +13,9 @@ FILES = 755:$(PROGRAM):bin/profhouse \
 	644:share/completions/profhouse.bash:share/bash-completion/completions/profhouse \
 	644:share/completions/_profhouse:share/zsh/site-functions/_profhouse \
 	644:share/completions/profhouse.fish:share/fish/vendor_completions.d/profhouse.fish \
-	755:share/scripts/fail_if_costlier:share/profhouse/fail_if_costlier
+	755:share/scripts/fail_if_costlier:share/profhouse/fail_if_costlier \
+	755:share/scripts/profhouse_web:share/profhouse/profhouse_web \
+	$(foreach it,$(PAGE),644:$(it):share/profhouse/web/$(notdir $(it)))
 
 .PHONY: help build test gate bench install uninstall
 
@@ -21,7 +24,7 @@ help:
 	@echo 'make test       builds, and runs the tests that need only the program; needs curl'
 	@echo 'make gate       runs all that CI runs, every proof from nothing; needs rt, git, gcc and curl'
 	@echo 'make bench      builds, and lists the benchmarks'
-	@echo 'make install    copies the built program, its manual page, completions and a script to PREFIX ($(PREFIX)), below DESTDIR'
+	@echo 'make install    copies the built program, its manual page, completions, scripts and page to PREFIX ($(PREFIX)), below DESTDIR'
 	@echo 'make uninstall  removes these files'
 
 build:
@@ -30,6 +33,8 @@ build:
 test: build
 	tests/run_stored
 	tests/http
+	tests/web_server
+	tests/web
 	tests/readme
 	tests/words_of_help
 
@@ -50,4 +55,4 @@ install:
 
 uninstall:
 	@for it in $(FILES); do rm -f "$(INTO)/$${it##*:}"; done
-	@rmdir "$(INTO)/share/profhouse" 2>/dev/null || true
+	@rmdir "$(INTO)/share/profhouse/web" "$(INTO)/share/profhouse" 2>/dev/null || true

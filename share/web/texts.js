@@ -1,0 +1,98 @@
+// Texts as the server and the address have them, and as people read them. A name is a string of bytes, with a character
+// of code 0 to 255 for each of them, since a name need not be UTF-8. A cost is a BigInt, since it may be above 2^53.
+
+export function bytesOf(buffer) {
+  const bytes = new Uint8Array(buffer);
+  let text = "";
+  // A call takes only so many arguments.
+  for (let at = 0; at < bytes.length; at += 32768) {
+    text += String.fromCharCode.apply(null, bytes.subarray(at, at + 32768));
+  }
+  return text;
+}
+
+export const toBytes = text => bytesOf(new TextEncoder().encode(text).buffer);
+
+const UTF8 = new TextDecoder("utf-8", { fatal: true, ignoreBOM: true });
+
+// The characters of a name: UTF-8 where it is that, else Latin-1.
+export function decoded(name) {
+  if (!/[\x80-\xff]/.test(name)) return name;
+  try {
+    return UTF8.decode(Uint8Array.from(name, it => it.charCodeAt(0)));
+  } catch {
+    return name;
+  }
+}
+
+// Characters that cannot be seen, or that change the order of those around them.
+const HIDDEN = /[\0-\x1f\x7f-\x9f\u00ad\u061c\u200b-\u200f\u2028-\u202e\u2060-\u206f\ufeff]/g;
+
+const code = it => it.charCodeAt(0) < 256 ? "\\x" + it.charCodeAt(0).toString(16).padStart(2, "0")
+  : "\\u" + it.charCodeAt(0).toString(16).padStart(4, "0");
+
+export const shown = name => decoded(name).replace(HIDDEN, code);
+
+export const shownLine = line => decoded(line).replace(HIDDEN, it => it === "\t" ? it : code(it));
+
+// Reports double a backslash, and write a control code as \x and two digits.
+export const unescaped = printed => printed.includes("\\")
+  ? printed.replace(/\\(\\|x[0-9a-f]{2})/g, (_, it) => it === "\\" ? it : String.fromCharCode(parseInt(it.slice(1), 16)))
+  : printed;
+
+export const percent = name => name.replace(/[^A-Za-z0-9_.~-]/g,
+  it => "%" + it.charCodeAt(0).toString(16).padStart(2, "0"));
+
+// An address that somebody wrote by hand may have other characters than percent() leaves.
+export const unpercent = text => toBytes(text).replace(/%([0-9a-f]{2})/gi, (_, it) => String.fromCharCode(parseInt(it, 16)));
+
+export const linesOf = text => text.split("\n").slice(0, -1);
+
+export const base = path => path.slice(path.lastIndexOf("/") + 1) || path;
+
+const size = number => number < 0n ? -number : number;
+export { size };
+
+const marked = digits => digits.replace(/\B(?=(\d{3})+$)/g, "\u2009");
+
+export const grouped = number => (number < 0n ? "\u2212" : "") + marked(size(number).toString());
+
+export const signed = number => (number > 0n ? "+" : "") + grouped(number);
+
+// How long a bar is, in percent of the longest one.
+export const part = (number, whole) => whole === 0n ? 0 : Number(size(number) * 10000n / size(whole)) / 100;
+
+// A share in percent, cut to two decimals as the reports have it, and nothing of nothing.
+export function share(number, whole) {
+  if (whole === 0n) return "";
+  const cut = size(number) * 10000n / whole;
+  return `${marked((cut / 100n).toString())}.${(cut % 100n).toString().padStart(2, "0")} %`;
+}
+
+export const signedShare = (number, whole) =>
+  whole === 0n ? "" : (number < 0n ? "\u2212" : number > 0n ? "+" : "") + share(number, whole);
+
+export const signOf = number => number > 0n ? "more" : number < 0n ? "fewer" : "";
+
+export const many = (count, word) => `${marked(String(count))} ${word}${String(count) === "1" ? "" : "s"}`;
+
+// Names of operators have the signs that are brackets elsewhere.
+const WHOLE = /^(?:operator\s*(?:\(\)|\[\]|->\*?|<=>|<<=?|>>=?|[-+*\/%^&|~!=<>]=?)|\(anonymous namespace\))/;
+
+// A long name without what stands in its brackets, as std::map<…>::operator[](…).
+export function brief(name) {
+  if (name.length < 48) return name;
+  let text = "", depth = 0;
+  for (let at = 0; at < name.length; at++) {
+    const whole = (name[at] === "o" || name[at] === "(") && WHOLE.exec(name.slice(at, at + 24));
+    const it = whole ? whole[0] : name[at];
+    // A name of Rust may begin with the type in brackets.
+    const opens = !whole && (it === "(" || it === "<") && at > 0;
+    const closes = !whole && depth > 0 && (it === ")" || it === ">") && name[at - 1] !== "-";
+    if (closes && --depth === 0) text += "…";
+    if (depth === 0) text += it;
+    if (opens) depth++;
+    at += it.length - 1;
+  }
+  return depth ? name : text;
+}
