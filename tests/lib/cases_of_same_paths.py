@@ -49,7 +49,8 @@ def cases_of_builds(tried):
     tried.write("two.cg", BEFORE.replace("/builds/1/", "/builds/22/").replace("7 90", "7 95").replace("1 90", "1 95"))
     tried.profhouse("import", "--db", "s.db", "one.cg", "two.cg")
     question = ("subtract", "--db", "s.db", "--event", "Ir", "function")
-    wanted = b"subtract function Ir\n5 total\n95 /builds/22/app:work\n-90 /builds/1/app:work\n-5 /builds/1/app:main\n5 /builds/22/app:main\n"
+    wanted = (b"subtract function Ir\n5 total\n95 /builds/22/app:work\n-90 /builds/1/app:work\n-5 /builds/1/app:main\n"
+              b"5 /builds/22/app:main\n")
     tried.expect("as they are", tried.profhouse(*question, "--run", "2", "--less-run", "1"), wanted)
     for number, name in ((1, "one"), (22, "two")):
         tried.write(f"{name}.same.cg", tried.script(NAME, f"/builds/{number}=/src", given=tried.read(f"{name}.cg")).out)

@@ -78,7 +78,7 @@ class Tried:
     @contextlib.contextmanager
     def serving(self, store):
         """The address of a server of a store."""
-        words = [self.program, "serve", "--db", self.path(store), "--port", "0", "--requests", "100000"]
+        words = [self.path("bin/profhouse"), "serve", "--db", self.path(store), "--port", "0", "--requests", "100000"]
         with subprocess.Popen(words, stdout=subprocess.PIPE) as server:
             try:
                 said = server.stdout.readline()
