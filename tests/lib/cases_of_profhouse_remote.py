@@ -188,6 +188,19 @@ def cases_of_a_late_server(tried):
     tried.expect("a server that comes later", (client.returncode, out, b"yet (Connection refused)" in err), (0, b"run 1\n", True))
 
 
+def cases_of_restarts(tried):
+    """A server that ends after two requests and is started again, as a service manager does it."""
+    with socket.create_server(("127.0.0.1", 0)) as held:
+        port = str(held.getsockname()[1])
+    files = [tried.write(f"restart{n}.cg", f"events: Ir\nfn=f\n1 {n}\n") for n in range(1, 7)]
+    loop = ["bash", "-c", 'for i in 1 2 3; do timeout 20 "$0" serve --db restarts.db --port "$1" --requests 2; done', tried.program, port]
+    with subprocess.Popen(loop, cwd=tried.folder, stdout=subprocess.DEVNULL):
+        ran = tried.script(NAME, "import", "--api", f"http://127.0.0.1:{port}", "--wait", "10", *files)
+        tried.expect("imports while it is started again", (ran.status, ran.out.split(b"\n")[:-1]), (0, [b"run %d" % n for n in range(1, 7)]))
+    said = tried.profhouse("by", "--db", "restarts.db", "--event", "Ir", "--limit", "0", "object")
+    tried.expect("all costs are there", said.splitlines()[1], b"21 100.00% total")
+
+
 def cases(tried):
     tried.expect_help(NAME)
     make_store(tried)
@@ -197,3 +210,4 @@ def cases(tried):
         cases_of_imports(tried, address)
         cases_of_the_way(tried, address)
     cases_of_a_late_server(tried)
+    cases_of_restarts(tried)
