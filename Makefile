@@ -13,8 +13,23 @@ FILES = 755:$(PROGRAM):bin/profhouse \
 	644:share/completions/profhouse.bash:share/bash-completion/completions/profhouse \
 	644:share/completions/_profhouse:share/zsh/site-functions/_profhouse \
 	644:share/completions/profhouse.fish:share/fish/vendor_completions.d/profhouse.fish \
+	644:share/scripts/profhouse_http.py:share/profhouse/profhouse_http.py \
+	755:share/scripts/backup_store:share/profhouse/backup_store \
 	755:share/scripts/fail_if_costlier:share/profhouse/fail_if_costlier \
+	755:share/scripts/markdown_difference:share/profhouse/markdown_difference \
+	755:share/scripts/postgres_load:share/profhouse/postgres_load \
+	755:share/scripts/profhouse_remote:share/profhouse/profhouse_remote \
 	755:share/scripts/profhouse_web:share/profhouse/profhouse_web \
+	755:share/scripts/same_paths:share/profhouse/same_paths \
+	755:share/scripts/to_callgrind:share/profhouse/to_callgrind \
+	644:share/examples/github.yml:share/profhouse/examples/github.yml \
+	644:share/examples/gitlab.yml:share/profhouse/examples/gitlab.yml \
+	644:share/examples/postgres_schema.sql:share/profhouse/examples/postgres_schema.sql \
+	644:share/examples/postgres_trend.sql:share/profhouse/examples/postgres_trend.sql \
+	644:share/examples/profhouse-backup.service:share/profhouse/examples/profhouse-backup.service \
+	644:share/examples/profhouse-backup.timer:share/profhouse/examples/profhouse-backup.timer \
+	644:share/examples/profhouse.service:share/profhouse/examples/profhouse.service \
+	755:share/examples/bisect_run:share/profhouse/examples/bisect_run \
 	$(foreach it,$(PAGE),644:$(it):share/profhouse/web/$(notdir $(it)))
 
 .PHONY: help build test gate bench install uninstall
@@ -24,7 +39,7 @@ help:
 	@echo 'make test       builds, and runs the tests that need only the program; needs curl'
 	@echo 'make gate       runs all that CI runs, every proof from nothing; needs rt, git, gcc and curl'
 	@echo 'make bench      builds, and lists the benchmarks'
-	@echo 'make install    copies the built program, its manual page, completions, scripts and page to PREFIX ($(PREFIX)), below DESTDIR'
+	@echo 'make install    copies the built program, its manual page, completions, scripts, page and examples to PREFIX ($(PREFIX)), below DESTDIR'
 	@echo 'make uninstall  removes these files'
 
 build:
@@ -37,6 +52,7 @@ test: build
 	tests/web
 	tests/readme
 	tests/words_of_help
+	tests/scripts
 
 gate:
 	tests/gate
@@ -55,4 +71,4 @@ install:
 
 uninstall:
 	@for it in $(FILES); do rm -f "$(INTO)/$${it##*:}"; done
-	@rmdir "$(INTO)/share/profhouse/web" "$(INTO)/share/profhouse" 2>/dev/null || true
+	@rmdir "$(INTO)/share/profhouse/web" "$(INTO)/share/profhouse/examples" "$(INTO)/share/profhouse" 2>/dev/null || true

@@ -1,5 +1,18 @@
 # Completion of profhouse for bash. docs/USAGE.md says where it belongs, and tests/words_of_help tries it.
 
+# Words that the store of the command line holds. sqlite3 tells them at once, where the program would check the whole
+# store first; where it is missing, or the store is served or not there, nothing is offered.
+_profhouse_held()
+{
+    local at db=
+    for ((at = 2; at < COMP_CWORD; at++)); do
+        [[ ${COMP_WORDS[at]} == --db ]] && db=${COMP_WORDS[at + 1]}
+        [[ $db == = ]] && db=${COMP_WORDS[at + 2]}
+    done
+    db=${db/#\~\//$HOME/}
+    [[ -s $db ]] && sqlite3 -readonly "$db" "$1" 2>/dev/null
+}
+
 _profhouse()
 {
     local word=${COMP_WORDS[COMP_CWORD]} before=${COMP_WORDS[COMP_CWORD - 1]}
@@ -35,10 +48,21 @@ _profhouse()
         *) return ;;
     esac
 
+    local held=
     case $before in
         --db) options= operands=files ;;
-        --run | --group | --less-run | --less-group | --event | --limit | --threshold | --object | --file | --port | --requests) return ;;
+        --event) held="SELECT CAST(name AS TEXT) FROM run_event UNION SELECT CAST(name AS TEXT) FROM derived" ;;
+        --group | --less-group) held="SELECT name FROM grp" ;;
+        --run | --less-run) held="SELECT run FROM run" ;;
+        --limit | --threshold | --object | --file | --port | --requests) return ;;
     esac
+    if [[ $held ]]; then
+        # (compgen -W would run what stands in $(..) in the name of an event)
+        while IFS= read -r held; do
+            [[ $held == "$word"* ]] && COMPREPLY+=("$(printf %q "$held")")
+        done < <(_profhouse_held "$held")
+        return
+    fi
 
     if [[ $options && $word == -* ]]; then
         mapfile -t COMPREPLY < <(compgen -W "$options" -- "$word")

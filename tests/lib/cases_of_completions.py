@@ -1,0 +1,36 @@
+"""share/completions/profhouse.bash: the events, groups and runs of a store. What the help has, tests/words_of_help tries."""
+import os
+import shutil
+
+from tried import TOP
+
+COMPLETIONS = os.path.join(TOP, "share", "completions", "profhouse.bash")
+# Bash would run the last name if it were offered as it stands.
+NAME = "$(touch${IFS}made)"
+PROFILE = f"event: Sum = Ir\nevents: Ir I1mr {NAME}\nfn=f\n1 5\n"
+OFFER = 'source "$1"; shift; COMP_WORDS=("$@") COMP_CWORD=$(($# - 1)); _profhouse; printf "%s\\n" "${COMPREPLY[@]}"'
+
+
+def cases(tried):
+    if not shutil.which("sqlite3"):
+        print("completions: skipped, there is no sqlite3")
+        return
+    tried.profhouse("import", "--db", "s.db", tried.write("a.cg", PROFILE), tried.write("b.cg", "events: Dr\nfn=f\n1 5\n"))
+    for group in ("main", "nightly"):
+        tried.profhouse("group", "--db", "s.db", group)
+    store = tried.read("s.db")
+
+    def offered(*words):
+        ran = tried.run("bash", "--norc", "-c", OFFER, "offer", COMPLETIONS, "profhouse", *words, HOME=tried.folder)
+        return ran.out.decode().split(), ran.err
+    for words, wanted in (
+            (("by", "--db", "s.db", "--event", ""), ["\\$\\(touch\\$\\{IFS\\}made\\)", "Dr", "I1mr", "Ir", "Sum"]),
+            (("by", "--db", "s.db", "--event", "I"), ["I1mr", "Ir"]), (("by", "--db", "=", "s.db", "--event", "=", "S"), ["Sum"]),
+            (("csv", "--db", "s.db", "--group", ""), ["main", "nightly"]), (("csv", "--db", "~/s.db", "--group", "n"), ["nightly"]),
+            (("subtract", "--db", "s.db", "--less-run", ""), ["1", "2"]), (("csv", "--run", ""), []),
+            (("csv", "--db", "none.db", "--run", ""), []), (("csv", "--db", "a.cg", "--run", ""), [])):
+        tried.expect(" ".join(words), offered(*words), (wanted, b""))
+    with tried.serving("s.db"):
+        tried.expect("a store that is served", offered("csv", "--db", "s.db", "--run", ""), ([], b""))
+    tried.expect("nothing is made", [os.path.exists(tried.path(it)) for it in ("made", "none.db")], [False, False])
+    tried.expect("the store is as it was", tried.read("s.db"), store)

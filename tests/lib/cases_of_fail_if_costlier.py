@@ -1,0 +1,172 @@
+"""share/scripts/fail_if_costlier: every limit, on a store and on a server."""
+import http.server
+import os
+import shutil
+import threading
+
+NAME = "fail_if_costlier"
+# The self costs of each run in Ir and Bcm. Run 1 is the baseline; what each costs more than it stands behind it.
+COSTS = [(1000, 0), (1020, 5), (1021, 0), (900, 0), (1005, 0), (1006, 0), (1100, 0), (1101, 0), (1000, 1)]
+NO_BCM, EMPTY = 10, 11
+# A limit, a run, and the status.
+LIMITS = [
+    ("20", 2, 0), ("19", 2, 1), ("020", 2, 0), ("0", 9, 0), ("0", 4, 0), ("0", 2, 1), ("99999999999999999999999999", 8, 0),
+    ("2%", 2, 0), ("2%", 3, 1), ("2.0%", 2, 0), ("1.99%", 2, 1), ("2.099%", 3, 1), ("2.1%", 3, 0), ("0.5%", 5, 0),
+    ("0.5%", 6, 1), ("0.4999999999999999999999%", 5, 1), ("10%", 7, 0), ("10%", 8, 1), ("010%", 7, 0), ("0%", 9, 0),
+    ("0%", 2, 1), ("0%", 4, 0), ("0.%", 2, 2),
+    # (as octal it would be 64)
+    ("0100", 7, 0), ("0100", 8, 1), ("1000%", 8, 0),
+    *((limit, 2, 2) for limit in ("1e6", "-1", "-1%", "", "%", " ", "20 ", "20\n", "2 %", "+20", "1,000", "1_000", ".5%",
+                                  "5.%", "2.5", "2%%", "0x20", "nan", "inf", "twenty", "\u0662%", "9" * 5000, "--")),
+]
+
+
+def profile(ir, bcm):
+    return f"events: Ir Bcm\nevent: Both = Ir + Bcm\nfn=f\n1 {ir} {bcm}\n"
+
+
+def make_store(tried):
+    files = [tried.write(f"{n}.cg", profile(*costs)) for n, costs in enumerate(COSTS, 1)]
+    files.append(tried.write("no_bcm.cg", "events: Ir\nfn=f\n1 1000\n"))
+    files.append(tried.write("empty.cg", "events: Ir Bcm\n"))
+    tried.profhouse("import", "--db", "s.db", *files)
+    for group, baseline in (("main", 1), ("bare", None), ("no_bcm", NO_BCM), ("empty", EMPTY)):
+        tried.profhouse("group", "--db", "s.db", group)
+        if baseline:
+            tried.profhouse("baseline", "--db", "s.db", group, str(baseline))
+
+
+def cases_of_limits(tried, where):
+    for limit, run, status in LIMITS:
+        ran = tried.script(NAME, *where, "main", str(run), "Ir", limit)
+        tried.expect(f"{where[0]}: limit {limit[:40]!r}, run {run}", (ran.status, ran.err == b""), (status, status == 0))
+        tried.expect(f"{where[0]}: limit {limit[:40]!r}, run {run}: something is printed", ran.out != b"", status != 2)
+
+
+def cases_of_texts(tried, where):
+    ran = tried.script(NAME, *where, "main", "2", "Ir", "19")
+    difference = b"subtract function Ir\n20 total\n20 ???:f\n"
+    tried.expect("the texts of a number", ran, (1, difference, b"run 2 costs 20 more than run 1, and the limit is 19\n"))
+    ran = tried.script(NAME, *where, "main", "+002", "Ir", "1.5%")
+    tried.expect("the texts of a percentage", ran, (
+        1, difference, b"run 2 costs 20 more than run 1, and the limit is 1.5% of 1000\n"))
+    tried.expect("within", tried.script(NAME, *where, "main", "2", "Ir", "2%"), (0, difference, b""))
+    tried.expect("a derived event", tried.script(NAME, *where, "main", "2", "Both", "25"), (
+        0, b"subtract function Both\n25 total\n25 ???:f\n", b""))
+    # A baseline that costs nothing of an event is compared by numbers alone.
+    for limit, status in (("5", 0), ("4", 1), ("2%", 2), ("0%", 2)):
+        tried.expect(f"a baseline of 0, {limit}", tried.script(NAME, *where, "main", "2", "Bcm", limit).status, status)
+    tried.expect("0 and 0", tried.script(NAME, *where, "main", "3", "Bcm", "0").status, 0)
+
+
+def cases_of_refusals(tried, where):
+    for what, words, has in (
+            ("a group that is not there", ("nightly", "2", "Ir", "1"), b"there is no group nightly"),
+            ("a part of a group's name", ("mai", "2", "Ir", "1"), b"there is no group mai"),
+            ("no group", ("", "2", "Ir", "1"), b"there is no group"),
+            ("no baseline", ("bare", "2", "Ir", "1"), b"the group bare has no baseline"),
+            ("a run that is not there", ("main", "99", "Ir", "1"), b"run 99: refused: no such run"),
+            ("run 0", ("main", "0", "Ir", "1"), b"RUN is the number"),
+            ("a run that is no number", ("main", "2x", "Ir", "1"), b"RUN is the number"),
+            ("the last run", ("main", "last", "Ir", "1"), b"RUN is the number"),
+            ("a run that is too great", ("main", "9999999999", "Ir", "1"), b"bad request"),
+            ("an event that is not there", ("main", "2", "ir", "1"), b"run 1: refused: no such event"),
+            # `subtract` takes an event of either side: the difference would be far below 0.
+            ("an event that the run has not", ("main", str(NO_BCM), "Bcm", "1"), b"run 10: refused: no such event"),
+            ("an event that the baseline has not", ("no_bcm", "2", "Bcm", "9"), b"run 10: refused: no such event"),
+            ("an empty profile", ("main", str(EMPTY), "Ir", "1"), b"run 11 has no costs at all"),
+            ("an empty baseline", ("empty", "2", "Ir", "9999"), b"run 11 has no costs at all"),
+            ("a word too few", ("main", "2", "Ir"), b"are needed"),
+            ("a word too many", ("main", "2", "Ir", "1", "2"), b"are needed"),
+            ("an option that there is not", ("main", "2", "Ir", "1", "--percent"), b"unrecognized"),
+            ("no words", (), b"are needed")):
+        tried.expect_refusal(f"{where[0]}: {what}", tried.script(NAME, *where, *words), has)
+
+
+def cases_of_stores(tried):
+    words = ("main", "2", "Ir", "1")
+    held = sorted(os.listdir(tried.folder))
+    tried.expect_refusal("a store that is not there", tried.script(NAME, "none.db", *words), b"there is no store none.db")
+    tried.expect_refusal("a store in no folder", tried.script(NAME, "--db", "no/s.db", *words), b"there is no store")
+    tried.expect_refusal("a folder", tried.script(NAME, "--db", ".", *words), b"there is no store .")
+    tried.expect_refusal("no name", tried.script(NAME, "", *words), b"needed")
+    tried.expect("no store was made", sorted(os.listdir(tried.folder)), held)
+    tried.write("zero.db", b"")
+    tried.expect_refusal("a file without a byte", tried.script(NAME, "zero.db", *words), b"there is no store zero.db")
+    tried.expect("it stays empty", tried.read("zero.db"), b"")
+    tried.write("text.db", b"a text and no store\n" * 100)
+    tried.expect_refusal("a text", tried.script(NAME, "text.db", *words), b"text.db cannot be opened: store: ")
+    tried.expect_refusal("both options", tried.script(NAME, "--db", "s.db", "--api", "http://x", *words), b"not allowed")
+    tried.expect_refusal("neither", tried.script(NAME, *words), b"needed")
+    tried.expect("the options stand anywhere", tried.script(NAME, "main", "2", "--db=s.db", "Ir", "20").status, 0)
+    tried.expect_refusal("no program", tried.script(NAME, "s.db", *words, PROFHOUSE="./no"), b"./no cannot be run")
+    counter = tried.write("counter", '#!/bin/sh\necho "$1" >> opened\nexec profhouse "$@"\n', 0o755)
+    tried.script(NAME, "s.db", "main", "2", "Ir", "2%", PROFHOUSE=counter)
+    tried.expect("it is opened once", tried.read("opened"), b"serve\n")
+    shutil.copy(os.path.join(os.path.dirname(tried.program), tried.program), tried.path("copy"))
+    with open("/dev/full", "wb") as full:
+        tried.expect_refusal("a full output", tried.script(NAME, "s.db", "main", "2", "Ir", "20", out=full), b"No space", out=None)
+    os.mkdir(tried.path("alone"))
+    shutil.copy(os.path.join(os.path.dirname(__file__), "..", "..", "share", "scripts", NAME), tried.path("alone"))
+    tried.expect_refusal("without its module", tried.run("alone/" + NAME, "s.db", *words), b"profhouse_http.py")
+
+
+def cases_of_great_numbers(tried):
+    # 10^6 times 4 10^18, and a cost of 1 more: the difference is 10^6, and 2.5 10^-17 percent of the baseline.
+    head = "events: Ir\nevent: Huge = 1000000 Ir\nfn=f\n1 "
+    files = [tried.write(f"great{n}.cg", f"{head}{4 * 10**18 + n}\n") for n in (0, 1)]
+    tried.profhouse("import", "--db", "great.db", *files)
+    tried.profhouse("group", "--db", "great.db", "main")
+    tried.profhouse("baseline", "--db", "great.db", "main", "1")
+    for event, limit, status in (
+            ("Huge", "1000000", 0), ("Huge", "999999", 1), ("Ir", "0", 1), ("Ir", "1", 0),
+            ("Huge", "0.000000000000000025%", 0), ("Huge", "0.000000000000000024999%", 1), ("Ir", "0.00000000000000001%", 1)):
+        ran = tried.script(NAME, "great.db", "main", "2", event, limit)
+        tried.expect(f"{event}, limit {limit}", ran.status, status)
+    ran = tried.script(NAME, "great.db", "main", "2", "Huge", "0%")
+    tried.expect("its text", ran.err, b"run 2 costs 1000000 more than run 1, and the limit is 0% of 4000000000000000000000000\n")
+
+
+class Other(http.server.BaseHTTPRequestHandler):
+    """A server of something else."""
+
+    def do_GET(self):
+        self.send_response(200)
+        self.send_header("Content-Type", "text/html")
+        self.end_headers()
+        self.wfile.write(b"subtract function Ir\n0 total\n")
+
+    def log_message(self, *_):
+        pass
+
+
+def cases_of_servers(tried, address):
+    words = ("main", "2", "Ir", "20")
+    tried.expect("the variable", tried.script(NAME, *words, PROFHOUSE_API=address).status, 0)
+    tried.expect("a slash behind", tried.script(NAME, "--api", address + "/", *words).status, 0)
+    tried.expect_refusal("a store that is served", tried.script(NAME, "s.db", *words), b"give --api")
+    tried.expect_refusal("no server", tried.script(NAME, "--api", "http://127.0.0.1:9", "--wait", "0", *words), b"Connection refused")
+    tried.expect_refusal("no address", tried.script(NAME, "--api", "s.db", *words), b"no address of a server")
+    tried.expect_refusal("a path that is none", tried.script(NAME, "--api", address + "/x", *words), b"404: not found")
+    with http.server.HTTPServer(("127.0.0.1", 0), Other) as other:
+        threading.Thread(target=other.serve_forever, daemon=True).start()
+        there = f"http://127.0.0.1:{other.server_port}"
+        tried.expect_refusal("a server of something else", tried.script(NAME, "--api", there, *words), b"is no server of profhouse")
+        other.shutdown()
+
+
+def cases(tried):
+    tried.expect_help(NAME)
+    make_store(tried)
+    store = tried.read("s.db")
+    cases_of_limits(tried, ("s.db",))
+    cases_of_texts(tried, ("--db", "s.db"))
+    cases_of_refusals(tried, ("--db", "s.db"))
+    cases_of_stores(tried)
+    cases_of_great_numbers(tried)
+    with tried.serving("s.db") as address:
+        cases_of_limits(tried, ("--api", address))
+        cases_of_texts(tried, ("--api", address))
+        cases_of_refusals(tried, ("--api", address))
+        cases_of_servers(tried, address)
+    tried.expect("the store is as it was", tried.read("s.db"), store)
