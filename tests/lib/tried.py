@@ -44,8 +44,10 @@ class Tried:
 
     def run(self, *words, given=b"", out=subprocess.PIPE, **environment):
         """Runs a command in the folder."""
-        done = subprocess.run(words, input=given, stdout=out, stderr=subprocess.PIPE, cwd=self.folder, check=False,
-                              env={**self.environment, **environment}, timeout=SECONDS)
+        # (perf takes a pipe for its input)
+        source = {"input": given} if given else {"stdin": subprocess.DEVNULL}
+        done = subprocess.run(words, stdout=out, stderr=subprocess.PIPE, cwd=self.folder, check=False,
+                              env={**self.environment, **environment}, timeout=SECONDS, **source)
         return Ran(done.returncode, done.stdout, done.stderr)
 
     def script(self, name, *words, **more):
