@@ -4,6 +4,7 @@ import os
 import re
 import shutil
 import subprocess
+import sys
 import tempfile
 from collections import namedtuple
 
@@ -51,8 +52,8 @@ class Tried:
         return Ran(done.returncode, done.stdout, done.stderr)
 
     def script(self, name, *words, **more):
-        """Runs a script of share/scripts."""
-        return self.run(os.path.join(SCRIPTS, name), *words, **more)
+        """Runs a script of share/scripts, by this Python: a search for another takes longer than most of them."""
+        return self.run(sys.executable, os.path.join(SCRIPTS, name), *words, **more)
 
     def profhouse(self, *words):
         """What the program prints, which has to accept the words."""
