@@ -3,6 +3,7 @@ import http.server
 import os
 import shutil
 import threading
+from concurrent.futures import ThreadPoolExecutor
 
 NAME = "fail_if_costlier"
 # The self costs of each run in Ir and Bcm. Run 1 is the baseline; what each costs more than it stands behind it.
@@ -37,8 +38,10 @@ def make_store(tried):
 
 
 def cases_of_limits(tried, where):
-    for limit, run, status in LIMITS:
-        ran = tried.script(NAME, *where, "main", str(run), "Ir", limit)
+    # (a server answers many at a time, and a store is open in one program alone)
+    with ThreadPoolExecutor(4 if "--api" in where else 1) as pool:
+        rans = list(pool.map(lambda it: tried.script(NAME, *where, "main", str(it[1]), "Ir", it[0]), LIMITS))
+    for (limit, run, status), ran in zip(LIMITS, rans):
         tried.expect(f"{where[0]}: limit {limit[:40]!r}, run {run}", (ran.status, ran.err == b""), (status, status == 0))
         tried.expect(f"{where[0]}: limit {limit[:40]!r}, run {run}: something is printed", ran.out != b"", status != 2)
 

@@ -4,6 +4,7 @@ import os
 import re
 import shutil
 import subprocess
+import sys
 import tempfile
 from collections import namedtuple
 
@@ -44,13 +45,15 @@ class Tried:
 
     def run(self, *words, given=b"", out=subprocess.PIPE, **environment):
         """Runs a command in the folder."""
-        done = subprocess.run(words, input=given, stdout=out, stderr=subprocess.PIPE, cwd=self.folder, check=False,
-                              env={**self.environment, **environment}, timeout=SECONDS)
+        # (perf takes a pipe for its input)
+        source = {"input": given} if given else {"stdin": subprocess.DEVNULL}
+        done = subprocess.run(words, stdout=out, stderr=subprocess.PIPE, cwd=self.folder, check=False,
+                              env={**self.environment, **environment}, timeout=SECONDS, **source)
         return Ran(done.returncode, done.stdout, done.stderr)
 
     def script(self, name, *words, **more):
-        """Runs a script of share/scripts."""
-        return self.run(os.path.join(SCRIPTS, name), *words, **more)
+        """Runs a script of share/scripts, by this Python: a search for another takes longer than most of them."""
+        return self.run(sys.executable, os.path.join(SCRIPTS, name), *words, **more)
 
     def profhouse(self, *words):
         """What the program prints, which has to accept the words."""
