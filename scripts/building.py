@@ -100,7 +100,7 @@ class Job:
     """A command in the folder of a crate, in a group of processes of its own."""
 
     def __init__(self, name, words, jobs=1, nice=0, held=()):
-        self.jobs, self.begun = jobs, time.monotonic()
+        self.jobs = jobs
         self.log = os.path.join(folder_of(name), "out", "build.log")
         os.makedirs(os.path.dirname(self.log), exist_ok=True)
         with open(self.log, "wb") as log:
@@ -143,7 +143,7 @@ class Build:
         for it in reversed(self.todo):
             waiting = [self.chain[above] for above in self.chain if it in self.tree.below(above)]
             self.chain[it] = self.weight[it] + max(waiting, default=0)
-        self.begun, self.spent, self.ended = time.monotonic(), 0.0, []
+        self.begun, self.ended = time.monotonic(), []
 
     def mark_of(self, name):
         """What tells that the library which stands there is that of the text."""
@@ -170,7 +170,6 @@ class Build:
             sys.stderr.write(read(job.log).decode(errors="replace"))
         else:
             self.ended.append(name)
-            self.spent += time.monotonic() - job.begun
             self.proved[name] = self.mark_of(name)
             keep(PROVED, self.proved)
 
@@ -205,15 +204,15 @@ class Build:
         say(f"proving {names} .. {done} of {len(self.tree.names)} crates done, about {self.minutes()} left", stays=False)
 
     def minutes(self):
-        """About how long the rest takes: by the speed so far, and no less than the longest chain."""
+        """About how long the rest takes: by the speed so far, and no less than the longest chain, whose crates have most
+        of the jobs."""
         done = sum(self.weight[it] for it in self.ended)
         clock = time.monotonic() - self.begun
         half_done = sum(self.weight[it] for it in self.running) / 2
-        # (as if a minute had gone by before, at the speed that is usual)
-        all_at_once = (done + half_done + 60 * 0.8 * self.cores) / (clock + 60)
-        one_alone = (done + 60 * 1.2) / (self.spent + 60)
+        # (as if two minutes had gone by before, at the speed that is usual)
+        all_at_once = (done + half_done + 120 * 0.8 * self.cores) / (clock + 120)
         rest = [self.chain[it] for it in self.todo] + [self.chain[it] - self.weight[it] / 2 for it in self.running]
-        seconds = max(self.left() / all_at_once, max(rest, default=0) / one_alone)
+        seconds = max(self.left() / all_at_once, max(rest, default=0) / 1.4)
         return f"{round(seconds / 60)} minutes" if seconds >= 90 else f"{round(seconds)} seconds"
 
     def run(self):
