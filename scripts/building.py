@@ -4,12 +4,11 @@ The prover is called as `rt ci` calls it: of a library it writes what other crat
 over such libraries takes less time than one over those of `rt lib`, since it reads less. They stand in out/statements of
 each crate, where rt neither reads nor writes.
 
-A crate begins when all below it are done. Those of the longest chain that waits have more jobs, and the system gives
-them processors before all others. So there are more jobs than processors: a proof uses one alone for part of its time.
+A crate begins when all below it are done, those of the longest chain that waits first and with a second job. There are
+no more jobs than processors: with twice as many, all proofs together took 1.7 times the processor time.
 """
 import contextlib
 import fcntl
-import functools
 import os
 import shutil
 import signal
@@ -89,17 +88,10 @@ def locked(folders):
     return held
 
 
-def stand_apart(nice):
-    """Gives a process a group of its own, and less of the processors. (In a session of its own it would have as much as
-    any other session.)"""
-    os.setpgid(0, 0)
-    os.nice(nice)
-
-
 class Job:
     """A command in the folder of a crate, in a group of processes of its own."""
 
-    def __init__(self, name, words, jobs=1, nice=0, held=()):
+    def __init__(self, name, words, jobs=1, held=()):
         self.jobs = jobs
         self.log = os.path.join(folder_of(name), "out", "build.log")
         os.makedirs(os.path.dirname(self.log), exist_ok=True)
@@ -107,7 +99,7 @@ class Job:
             # (held: where this program is killed, the locks stay until the prover has ended)
             self.process = subprocess.Popen(
                 words, cwd=folder_of(name), stdin=subprocess.DEVNULL, stdout=log, stderr=subprocess.STDOUT,
-                pass_fds=held, preexec_fn=functools.partial(stand_apart, nice))
+                start_new_session=True, pass_fds=held)
 
     def stop(self):
         with contextlib.suppress(ProcessLookupError):
@@ -151,12 +143,12 @@ class Build:
 
     # -- one crate
 
-    def start(self, name, jobs, nice):
+    def start(self, name, jobs):
         self.todo.remove(name)
         words = self.kit.words_of(self.crates[name], jobs)
         os.makedirs(os.path.dirname(library_of(name)), exist_ok=True)
         words = [self.kit.RATTLE, "build", *words, "--statements", "-o", library_of(name)]
-        self.running[name] = Job(name, words, jobs, nice, self.held)
+        self.running[name] = Job(name, words, jobs, self.held)
 
     def end(self, name):
         job = self.running.pop(name)
@@ -189,13 +181,13 @@ class Build:
         ready = [it for it in self.todo if it != NAME and self.tree.below(it) <= self.proved.keys()]
         ready.sort(key=lambda it: -self.chain[it])
         longest = max((self.chain[it] for it in [*ready, *self.running]), default=0)
-        for name in ready:
-            free = 2 * self.cores - sum(it.jobs for it in self.running.values())
-            share = self.chain[name] / longest
-            jobs = self.jobs_that_fit(min(free, self.cores if share > 0.97 else min(2, self.cores)))
+        for at, name in enumerate(ready):
+            idle = self.cores - sum(it.jobs for it in self.running.values())
+            share = idle // (len(ready) - at)
+            jobs = self.jobs_that_fit(min(idle, max(share, 2 if self.chain[name] > 0.95 * longest else 1)))
             if jobs < 1:
                 break
-            self.start(name, jobs, int(50 * (1 - share)) if share > 0.6 else 19)
+            self.start(name, jobs)
 
     def tell(self):
         """Says how far it is."""
