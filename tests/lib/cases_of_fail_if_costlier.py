@@ -106,7 +106,6 @@ def cases_of_stores(tried):
     counter = tried.write("counter", '#!/bin/sh\necho "$1" >> opened\nexec profhouse "$@"\n', 0o755)
     tried.script(NAME, "s.db", "main", "2", "Ir", "2%", PROFHOUSE=counter)
     tried.expect("it is opened once", tried.read("opened"), b"serve\n")
-    shutil.copy(os.path.join(os.path.dirname(tried.program), tried.program), tried.path("copy"))
     with open("/dev/full", "wb") as full:
         tried.expect_refusal("a full output", tried.script(NAME, "s.db", "main", "2", "Ir", "20", out=full), b"No space", out=None)
     os.mkdir(tried.path("alone"))
