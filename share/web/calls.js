@@ -3,7 +3,8 @@
 import { go, link } from "./address.js";
 import { anchor, changeCell, costCell, element, functionCell, greatest, leading, nameCell, note, rowsBody, sum, table } from "./drawing.js";
 import { lessOf, matchOf, PLACES } from "./difference.js";
-import { calls, csv, events, functionOf, inclusive, members, objects, Refusal, runs as allRuns, selfCosts, where } from "./store.js";
+import { calls, csv, events, functionOf, inclusive, members, nameOf, objects, runs as allRuns, selfCosts,
+  where } from "./store.js";
 import { grouped, part, share, shown, signed, signOf, size } from "./texts.js";
 
 // The objects in which these runs have the function. Where it costs nothing of the event, the first event of the runs
@@ -73,7 +74,7 @@ function callTable(title, event, now, before) {
       element("td", { className: "count" }, write(row.count)), functionCell(row));
     drawn.style.setProperty("--part", part(row.cost, top) + "%");
     if (!before) drawn.classList.add("filled");
-    return leading(drawn, { fn: row.name, ob: row.ob });
+    return leading(drawn, { fn: row.name, ob: row.ob, zero: row.cost ? undefined : "1" });
   };
   const head = element("h3", null, `${title} (${rows.length}${before ? rows.length === 1 ? " differs" : " differ" : ""})`);
   const columns = [["cost", shown(event)], ["count", "calls"], ["name", ""]];
@@ -117,18 +118,13 @@ export async function panel(s, runs, event) {
   const less = s.view === "difference" ? lessOf(s, runs) : null, sides = less ? [runs, less] : [runs];
   const known = (await Promise.all(sides.map(it => objects(it, event, s.derived)))).flat().sort((a, b) => b.length - a.length);
   let places = await Promise.all(sides.map(it => placesOf(s, it, event, known)));
-  // A function whose calls cost nothing stands in no list, and the server knows it all the same.
-  if (!places.flat().length && s.ob) places = [[s.ob], ...sides.slice(1).map(() => [])];
+  // A function whose calls cost nothing may stand in no list, and the server knows it all the same.
+  if (!places.flat().length && s.zero) places = [[s.ob ?? ""], ...sides.slice(1).map(() => [])];
   const close = element("button", { className: "close", title: "close (Esc)", ariaLabel: "close", onclick: () => go({ fn: undefined, ob: undefined }) }, "×");
   const head = [close, element("div", { className: "whole" }, shown(s.fn)),
     [...new Set(places.flat())].map(it => element("div", { className: "small" }, shown(it)))];
-  let now, before;
-  try {
-    [now, before] = await Promise.all(sides.map((it, at) => side(s, it, event, places[at], known)));
-  } catch (error) {
-    if (!(error instanceof Refusal) || error.message !== "refused: no such name") throw error;
-    return [...head, note("These runs do not have this function.")];
-  }
+  if (!places.flat().length) return [...head, note(`This function costs nothing in ${sides.map(nameOf).join(" and ")}.`)];
+  const [now, before] = await Promise.all(sides.map((it, at) => side(s, it, event, places[at], known)));
   return [...head, element("div", { className: "cards" }, card("self", now, before, "own"), card("with all that it calls", now, before, "all")),
     ...inStacks(s, runs), ...linesButton(s, runs, event, places[0]), ...callTable("Called by", event, now.callers, before?.callers),
     ...callTable("Calls", event, now.callees, before?.callees)];

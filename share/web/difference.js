@@ -88,7 +88,8 @@ function bar(s, key, sides) {
     anchor(link({ calls: value }), text, { className: s.calls === value ? "on" : "" }));
   const turned = less && packed(runs) ? anchor(link({ run: less.run, group: less.group, less: packed(runs) }), "turn round") : null;
   return toolbar(element("span", { className: "choices" }, byKey), key === "function" ? element("span", { className: "choices" }, costs) : null,
-    less ? matchChoice(s, key === "function") : null, turned);
+    less ? matchChoice(s, key === "function") : null, turned,
+    less ? element("span", { className: "small" }, `${nameOf(runs)}, less ${nameOf(less)}`) : null);
 }
 
 // What to do where nothing can be compared yet, or where it would say little.
@@ -121,7 +122,7 @@ export async function differenceView(s, runs, event) {
       byFunction ? functionCell(row) : nameCell(row.name));
     return byFunction ? leading(drawn, { fn: row.name, ob: row.ob }) : drawn;
   };
-  const text = `total of ${nameOf(runs)}, less ${nameOf(less)}; ${many(rows.length, key)} differ${rows.length === 1 ? "s" : ""}`;
+  const text = `total; ${many(rows.length, key)} differ${rows.length === 1 ? "s" : ""}`;
   const totalRow = element("tbody", null, element("tr", { className: "total" }, changeCell(total),
     changeShareCell(total, before), element("td", { className: "bar" }), element("td", null, text)));
   const columns = [["cost", shown(event)], ["share", "of before"], ["bar", ""], ["name", key]];

@@ -30,7 +30,7 @@ const LISTED = 200;
 let wantedRuns = "";
 
 // What another selection of runs drops from the address.
-const NONE = { run: undefined, group: undefined, all: undefined, zoom: undefined, sum: undefined };
+const NONE = { run: undefined, group: undefined, all: undefined, zoom: undefined, sum: undefined, zero: undefined };
 
 function runRow(s, of, run, baselines) {
   const tag = run.kind === "folded" ? "stacks" : baselines.has(run.number) ? "baseline" : "";
@@ -139,6 +139,9 @@ async function drawPanel(s, view, of, event, mine) {
   box.scrollTop = 0;
 }
 
+// Why the lists of runs and groups could not be read.
+let unread = null;
+
 const EMPTY = ["The store has no runs yet: ", element("code", null, "profhouse import"), " brings some."];
 
 async function show(anew) {
@@ -150,6 +153,7 @@ async function show(anew) {
   drawLists(s, of);
   drawHead(s, view, of);
   try {
+    if (unread) throw unread;
     if (!runs.length) return put("", [note(...EMPTY)]);
     const event = await drawEvents(s, view, of);
     if (mine !== turn) return;
@@ -173,9 +177,9 @@ function failed(error) {
 async function begin() {
   try {
     await load();
+    unread = null;
   } catch (error) {
-    document.body.dataset.state = "ready";
-    return failed(error);
+    unread = error;
   }
   return show(true);
 }

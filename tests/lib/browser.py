@@ -1,14 +1,17 @@
 """Drives a headless Chromium by its DevTools protocol, over a pipe, for tests/web."""
 import base64
+import collections
 import contextlib
 import fcntl
 import json
 import os
 import select
 import shutil
+import struct
 import subprocess
 import tempfile
 import time
+import zlib
 
 NAMES = ("chromium", "chromium-browser", "google-chrome-stable", "google-chrome", "chrome")
 WORDS = ("--headless=new", "--no-sandbox", "--disable-gpu", "--disable-dev-shm-usage", "--hide-scrollbars", "--no-first-run",
@@ -23,6 +26,50 @@ def found():
     """The path of a browser, or None."""
     named = os.environ.get("CHROMIUM")
     return shutil.which(named) if named else next(filter(None, map(shutil.which, NAMES)), None)
+
+
+def rows_of(png):
+    """The rows of a picture as Chromium makes it: 8 bits for each of 3 or 4 colours, and no interlace."""
+    width, height, _, kind = struct.unpack(">IIBB", png[16:26])
+    deep, at, packed = {2: 3, 6: 4}[kind], 8, b""
+    while at < len(png):
+        length, name = struct.unpack(">I4s", png[at:at + 8])
+        packed += png[at + 8:at + 8 + length] if name == b"IDAT" else b""
+        at += 12 + length
+    data, size = zlib.decompress(packed), width * deep
+    before = bytes(size)
+    for row in range(height):
+        filtered = data[row * (size + 1)]
+        now = bytearray(data[row * (size + 1) + 1:(row + 1) * (size + 1)])
+        for place in range(size) if filtered else ():
+            left, up = now[place - deep] if place >= deep else 0, before[place]
+            corner = before[place - deep] if place >= deep else 0
+            if filtered == 4:
+                sum_ = left + up - corner
+                guess = min((left, up, corner), key=lambda it: abs(sum_ - it))
+            else:
+                guess = {1: left, 2: up, 3: (left + up) // 2}[filtered]
+            now[place] = (now[place] + guess) & 255
+        before = now
+        yield now, deep
+
+
+def smaller(png):
+    """The same picture in at most 256 colours: the most frequent ones, and for others the nearest of these."""
+    width, height = struct.unpack(">II", png[16:24])
+    rows = [[tuple(row[at:at + 3]) for at in range(0, len(row), deep)] for row, deep in rows_of(png)]
+    counts = collections.Counter(colour for row in rows for colour in row)
+    kept = [colour for colour, _ in counts.most_common(256)]
+    index = {colour: at for at, colour in enumerate(kept)}
+    for colour in counts:
+        if colour not in index:
+            index[colour] = min(range(len(kept)), key=lambda at: sum((a - b) ** 2 for a, b in zip(kept[at], colour)))
+    data = b"".join(b"\0" + bytes(index[colour] for colour in row) for row in rows)
+
+    def chunk(name, body):
+        return struct.pack(">I", len(body)) + name + body + struct.pack(">I", zlib.crc32(name + body))
+    return (png[:8] + chunk(b"IHDR", struct.pack(">IIBBBBB", width, height, 8, 3, 0, 0, 0))
+            + chunk(b"PLTE", b"".join(map(bytes, kept))) + chunk(b"IDAT", zlib.compress(data, 9)) + chunk(b"IEND", b""))
 
 
 class Wrong(Exception):
@@ -145,6 +192,7 @@ class Browser:
 
     def click(self, element):
         """Clicks in the middle of an element, which an expression tells."""
+        self.value(f"!!({element})", True, 5)
         place = self.script(f"""(async () => {{ const it = {element}; if (!it) return null; it.scrollIntoView({{ block: "nearest" }});
             await new Promise(requestAnimationFrame); const box = it.getBoundingClientRect();
             return [box.left + box.width / 2, box.top + box.height / 2]; }})()""")
@@ -188,4 +236,4 @@ class Browser:
         """Keeps what the page looks like."""
         data = self.call("Page.captureScreenshot", format="png")["data"]
         with open(path, "wb") as file:
-            file.write(base64.b64decode(data))
+            file.write(smaller(base64.b64decode(data)))
