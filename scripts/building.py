@@ -5,7 +5,7 @@ over such libraries takes less time than one over those of `rt lib`, since it re
 each crate, where rt neither reads nor writes.
 
 A crate begins when all below it are done, those of the longest chain that waits first and with a second job. There are
-no more jobs than processors: with twice as many, all proofs together took 1.7 times the processor time.
+no more jobs than processors: proofs slow one another by the memory that they read.
 """
 import contextlib
 import fcntl
