@@ -1,11 +1,11 @@
 """Builds the program: proves the crates that it stands on side by side, and then the program itself.
 
 The prover is called as `rt ci` calls it: of a library it writes what other crates may cite, and not the proofs. A proof
-over such libraries takes less time than one over those of `rt lib`, since it reads less. They stand in out/statements of
-each crate, where rt neither reads nor writes.
+over such libraries reads less than one over those of `rt lib`. They stand in out/statements of each crate, where rt
+neither reads nor writes.
 
 A crate begins when all below it are done, those of the longest chain that waits first and with a second job. There are
-no more jobs than processors: proofs slow one another by the memory that they read.
+no more jobs than processors.
 """
 import contextlib
 import fcntl
