@@ -4,8 +4,9 @@ The prover is called as `rt ci` calls it: of a library it writes what other crat
 over such libraries reads less than one over those of `rt lib`. They stand in out/statements of each crate, where rt
 neither reads nor writes.
 
-A crate begins when all below it are done, those of the longest chain that waits first and with a second job. There are
-no more jobs than processors.
+A crate begins when all below it are done. There are up to two jobs for each processor, and a crate on which a long chain
+of others waits goes before the rest: it has more jobs, and those of the rest are nicer to others (nice). So no processor
+waits, and the longest chain never does.
 """
 import contextlib
 import fcntl
@@ -89,17 +90,18 @@ def locked(folders):
 
 
 class Job:
-    """A command in the folder of a crate, in a group of processes of its own."""
+    """A command in the folder of a crate, in a group of processes of its own. (In a session of its own it would have a
+    share of the processors of its own on many kernels, however nice it is.)"""
 
-    def __init__(self, name, words, jobs=1, held=()):
+    def __init__(self, name, words, jobs=1, nice=0, held=()):
         self.jobs = jobs
         self.log = os.path.join(folder_of(name), "out", "build.log")
         os.makedirs(os.path.dirname(self.log), exist_ok=True)
         with open(self.log, "wb") as log:
             # (held: where this program is killed, the locks stay until the prover has ended)
             self.process = subprocess.Popen(
-                words, cwd=folder_of(name), stdin=subprocess.DEVNULL, stdout=log, stderr=subprocess.STDOUT,
-                start_new_session=True, pass_fds=held)
+                ["nice", "-n", str(nice), *words], cwd=folder_of(name), stdin=subprocess.DEVNULL, stdout=log,
+                stderr=subprocess.STDOUT, preexec_fn=os.setpgrp, pass_fds=held)
 
     def stop(self):
         with contextlib.suppress(ProcessLookupError):
@@ -143,12 +145,12 @@ class Build:
 
     # -- one crate
 
-    def start(self, name, jobs):
+    def start(self, name, jobs, nice):
         self.todo.remove(name)
         words = self.kit.words_of(self.crates[name], jobs)
         os.makedirs(os.path.dirname(library_of(name)), exist_ok=True)
         words = [self.kit.RATTLE, "build", *words, "--statements", "-o", library_of(name)]
-        self.running[name] = Job(name, words, jobs, self.held)
+        self.running[name] = Job(name, words, jobs, nice, self.held)
 
     def end(self, name):
         job = self.running.pop(name)
@@ -182,12 +184,13 @@ class Build:
         ready.sort(key=lambda it: -self.chain[it])
         longest = max((self.chain[it] for it in [*ready, *self.running]), default=0)
         for at, name in enumerate(ready):
-            idle = self.cores - sum(it.jobs for it in self.running.values())
-            share = idle // (len(ready) - at)
-            jobs = self.jobs_that_fit(min(idle, max(share, 2 if self.chain[name] > 0.95 * longest else 1)))
+            idle = 2 * self.cores - sum(it.jobs for it in self.running.values())
+            nice = min(19, int(60 * (1 - self.chain[name] / longest)))
+            share = self.cores if nice < 3 else idle // (len(ready) - at)
+            jobs = self.jobs_that_fit(min(idle, self.cores, max(share, 1)))
             if jobs < 1:
                 break
-            self.start(name, jobs)
+            self.start(name, jobs, nice)
 
     def tell(self):
         """Says how far it is."""

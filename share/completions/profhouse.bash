@@ -1,4 +1,5 @@
-# Completion of profhouse for bash. docs/USAGE.md says where it belongs, and tests/words_of_help tries it.
+# Completion of profhouse for bash: copy this to ~/.local/share/bash-completion/completions/profhouse,
+# or source it in ~/.bashrc. tests/words_of_help tries it.
 
 # Words that the store of the command line holds. sqlite3 tells them at once, where the program would check the whole
 # store first; where it is missing, or the store is served or not there, nothing is offered.
@@ -16,7 +17,7 @@ _profhouse_held()
 _profhouse()
 {
     local word=${COMP_WORDS[COMP_CWORD]} before=${COMP_WORDS[COMP_CWORD - 1]}
-    local commands="total import remove runs groups group join leave baseline by inclusive callers callees subtract verify annotate csv folded serve help"
+    local commands="total import runs by inclusive callers callees subtract verify annotate csv folded group join leave baseline groups remove serve help"
     local options="--db --help" operands=
     COMPREPLY=()
 

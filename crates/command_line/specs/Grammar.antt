@@ -139,15 +139,17 @@ abbrev pub program : App
 program = on_top (λ s. record s { has_version = true; subcommand_required = true }) (new_app (codes "profhouse"))
 
 abbrev pub with_files : App → App
-with_files a = with_subcommand (with_subcommand (with_subcommand a total.top) import.top) remove.top
-
-abbrev pub with_lists : App → App
-with_lists a = with_subcommand (with_subcommand (with_subcommand a (over_database (codes "runs")).top) (over_database (codes "groups")).top) group.top
+with_files a = with_subcommand (with_subcommand (with_subcommand a total.top) import.top) (over_database (codes "runs")).top
 
 abbrev pub with_members : App → App
 with_members a =
-    with_subcommand (with_subcommand (with_subcommand a (over_group_and_run (codes "join")).top) (over_group_and_run (codes "leave")).top)
-    (over_group_and_run (codes "baseline")).top
+    with_subcommand (with_subcommand (with_subcommand a group.top) (over_group_and_run (codes "join")).top)
+    (over_group_and_run (codes "leave")).top
+
+abbrev pub with_groups : App → App
+with_groups a =
+    with_subcommand (with_subcommand (with_subcommand a (over_group_and_run (codes "baseline")).top) (over_database (codes "groups")).top)
+    remove.top
 
 abbrev pub with_costs : ValueParser → App → App
 with_costs keys a = with_subcommand (with_subcommand a (by keys).top) inclusive.top
@@ -165,7 +167,7 @@ abbrev pub with_reports : ValueParser → App → App
 with_reports keys a = with_exports (with_comparisons keys (with_calls (with_costs keys a)))
 
 abbrev pub command_line : ValueParser → App
-command_line keys = with_subcommand (with_reports keys (with_members (with_lists (with_files program)))) serve.top
+command_line keys = with_subcommand (with_groups (with_members (with_reports keys (with_files program)))) serve.top
 
 -- ---- the words of keys
 

@@ -37,7 +37,8 @@ fn database<'a>(alloc: Global) -> Arg<'a>
     ensures rule { rule_of result ≡ line.database }
     ensures local { result.global ≡ false }
 {
-    option(alloc, "db", "D", "The database file").required(true)
+    let help = "The store, made if there is none; no other program may have it open";
+    option(alloc, "db", "D", help).required(true)
 }
 
 /// A word that has to be given.
@@ -75,11 +76,11 @@ fn run_numbers<'a>() -> ValueParser<'a>
 }
 
 /// The number of a run, which has to be given.
-fn run_number<'a>(alloc: Global) -> Arg<'a>
+fn run_number<'a>(alloc: Global, help: &'a str) -> Arg<'a>
     ensures rule { rule_of result ≡ line.run_number }
     ensures local { result.global ≡ false }
 {
-    operand(alloc, "N", "The number of a run").value_parser(run_numbers())
+    operand(alloc, "N", help).value_parser(run_numbers())
 }
 
 /// An option that selects one run.
@@ -103,7 +104,8 @@ fn event<'a>(alloc: Global) -> Arg<'a>
     ensures rule { rule_of result ≡ line.event }
     ensures local { result.global ≡ false }
 {
-    option(alloc, "event", "E", "The event whose costs are reported").required(true)
+    let help = "The event, as Ir or samples, or a derived one; verify lists those of each run";
+    option(alloc, "event", "E", help).required(true)
 }
 
 /// The option that says how many rows are shown at most.
@@ -111,7 +113,8 @@ fn limit<'a>(alloc: Global) -> Arg<'a>
     ensures rule { rule_of result ≡ line.limit }
     ensures local { result.global ≡ false }
 {
-    option(alloc, "limit", "L", "Show at most this many rows").value_parser(value_parser!(u32))
+    let help = "Show at most this many rows, and the rest as one";
+    option(alloc, "limit", "L", help).value_parser(value_parser!(u32))
 }
 
 /// The option that says how much of the total is shown.
@@ -119,15 +122,11 @@ fn threshold<'a>(alloc: Global) -> Arg<'a>
     ensures rule { rule_of result ≡ line.threshold }
     ensures local { result.global ≡ false }
 {
+    let help = "Show rows until they make up this percentage of the total, and the rest as one";
     let percents = value_parser!(u8).range(0..=i64::from(WHOLE));
-    option(
-        alloc,
-        "threshold",
-        "T",
-        "Show rows until they come to this percentage of the total",
-    )
-    .value_parser(percents)
-    .default_value("100")
+    option(alloc, "threshold", "T", help)
+        .value_parser(percents)
+        .default_value("100")
 }
 
 /// The option that names the object of a function.
@@ -135,7 +134,8 @@ fn object<'a>(alloc: Global) -> Arg<'a>
     ensures rule { rule_of result ≡ line.object }
     ensures local { result.global ≡ false }
 {
-    option(alloc, "object", "O", "The object of the function").default_value("???")
+    let help = "The object of the function, as `by object` prints it; most profiles name one";
+    option(alloc, "object", "O", help).default_value("???")
 }
 
 /// The option that names the file whose lines are annotated.
@@ -143,13 +143,8 @@ fn annotated<'a>(alloc: Global) -> Arg<'a>
     ensures rule { rule_of result ≡ line.annotated }
     ensures local { result.global ≡ false }
 {
-    option(
-        alloc,
-        "file",
-        "NAME",
-        "The name of the file in the profiles",
-    )
-    .required(true)
+    let help = "The file, as `by file` prints it, with its whole path";
+    option(alloc, "file", "NAME", help).required(true)
 }
 
 /// The option that names the port.
@@ -172,8 +167,9 @@ fn requests<'a>(alloc: Global) -> Arg<'a>
     ensures rule { rule_of result ≡ line.requests }
     ensures local { result.global ≡ false }
 {
+    let help = "End after this many requests, 1 to 1000000; a service manager starts it again";
     let counts = value_parser!(u32).range(1..=i64::from(MOST_REQUESTS));
-    option(alloc, "requests", "N", "End after this many requests")
+    option(alloc, "requests", "N", help)
         .value_parser(counts)
         .required(true)
 }
@@ -219,7 +215,7 @@ fn over_group_and_run<'a>(
 {
     over_database(alloc, name, about, example)?
         .arg(operand(alloc, "NAME", "The name of a group"))?
-        .arg(run_number(alloc))
+        .arg(run_number(alloc, "The number of a run"))
 }
 
 /// A subcommand over runs that may be selected.
@@ -233,8 +229,8 @@ fn over_selection<'a>(
     ensures local { IfOk result (λ command. (fields_of command).has_globals ≡ false) }
 {
     over_database(alloc, name, about, example)?
-        .arg(run_option(alloc, "run", "Only the run of this number"))?
-        .arg(group_option(alloc, "group", "Only the runs of this group"))
+        .arg(run_option(alloc, "run", "Only this run; `runs` lists the numbers"))?
+        .arg(group_option(alloc, "group", "Only the runs of this group; with neither option, all runs"))
 }
 
 /// A subcommand on an event of runs that may be selected.
@@ -290,9 +286,10 @@ fn over_less<'a>(
     ensures app { IfOk result (λ command. app_of command ≡ line.over_less name.entry.now) }
     ensures local { IfOk result (λ command. (fields_of command).has_globals ≡ false) }
 {
+    let help = "Take off the costs of this group; with neither, those of the baseline of --group";
     over_selection(alloc, name, about, example)?
         .arg(run_option(alloc, "less-run", "Take off the costs of this run"))?
-        .arg(group_option(alloc, "less-group", "Take off the costs of this group"))
+        .arg(group_option(alloc, "less-group", help))
 }
 
 /// A subcommand that answers requests at a port.
@@ -334,7 +331,7 @@ fn import<'a>(alloc: Global) -> Result<Command<'a>, AllocError>
         "Example: profhouse import --db s.db callgrind.out.4711 callgrind.out.4712",
     )?
     .arg(flag(alloc, "folded", "The files hold folded stacks"))?
-    .arg(several(operand(alloc, "FILE", "The files, each a run of its own")))
+    .arg(several(operand(alloc, "FILE", "The files; each becomes a run, labelled for ever with its name")))
 }
 
 fn remove<'a>(alloc: Global) -> Result<Command<'a>, AllocError>
@@ -347,7 +344,7 @@ fn remove<'a>(alloc: Global) -> Result<Command<'a>, AllocError>
         "Remove runs",
         "Example: profhouse remove --db s.db 2",
     )?
-    .arg(several(run_number(alloc)))
+    .arg(several(run_number(alloc, "The numbers of the runs")))
 }
 
 fn group<'a>(alloc: Global) -> Result<Command<'a>, AllocError>
@@ -371,7 +368,7 @@ fn by<'a>(alloc: Global, keys: &'a [&'a str]) -> Result<Command<'a>, AllocError>
     over_cut(
         alloc,
         "by",
-        "Report costs by object, file, function or line",
+        "Report self costs by object, file, function or line; those of several runs are added up",
         "Example: profhouse by --db s.db --event Ir function",
     )?
     .arg(key(alloc, keys))
@@ -384,8 +381,8 @@ fn subtract<'a>(alloc: Global, keys: &'a [&'a str]) -> Result<Command<'a>, Alloc
     over_less(
         alloc,
         "subtract",
-        "Report how costs differ, by object, file, function or line",
-        "Example: profhouse subtract --db s.db --group nightly --event Ir function",
+        "Report how self costs differ; to compare two builds, give --run N --less-run M",
+        "Example: profhouse subtract --db s.db --run 2 --less-run 1 --event Ir function",
     )?
     .arg(event(alloc))?
     .arg(key(alloc, keys))
@@ -443,42 +440,22 @@ fn with_files<'a>(alloc: Global, command: Command<'a>) -> Result<Command<'a>, Al
 {
     let command = with(command, total(alloc))?;
     let command = with(command, import(alloc))?;
-    with(command, remove(alloc))
+    let runs = over_database(
+        alloc,
+        "runs",
+        "List the runs",
+        "Example: profhouse runs --db s.db",
+    );
+    with(command, runs)
 }
 
-/// With the lists, and the subcommand on a group.
-fn with_lists<'a>(alloc: Global, command: Command<'a>) -> Result<Command<'a>, AllocError>
-    requires { (fields_of command).has_globals ≡ false }
-    ensures app { IfOk result (λ more. app_of more ≡ line.with_lists (app_of command.entry)) }
-    ensures local { IfOk result (λ more. (fields_of more).has_globals ≡ false) }
-{
-    let command = with(
-        command,
-        over_database(
-            alloc,
-            "runs",
-            "List the runs",
-            "Example: profhouse runs --db s.db",
-        ),
-    )?;
-    let command = with(
-        command,
-        over_database(
-            alloc,
-            "groups",
-            "List the groups",
-            "Example: profhouse groups --db s.db",
-        ),
-    )?;
-    with(command, group(alloc))
-}
-
-/// With the subcommands on a run and a group.
+/// With the subcommands on a group and its members.
 fn with_members<'a>(alloc: Global, command: Command<'a>) -> Result<Command<'a>, AllocError>
     requires { (fields_of command).has_globals ≡ false }
     ensures app { IfOk result (λ more. app_of more ≡ line.with_members (app_of command.entry)) }
     ensures local { IfOk result (λ more. (fields_of more).has_globals ≡ false) }
 {
+    let command = with(command, group(alloc))?;
     let join = over_group_and_run(
         alloc,
         "join",
@@ -492,14 +469,30 @@ fn with_members<'a>(alloc: Global, command: Command<'a>) -> Result<Command<'a>, 
         "Remove a run from a group",
         "Example: profhouse leave --db s.db nightly 1",
     );
-    let command = with(command, leave)?;
+    with(command, leave)
+}
+
+/// With the baseline of a group, the list of groups, and the removal of runs.
+fn with_groups<'a>(alloc: Global, command: Command<'a>) -> Result<Command<'a>, AllocError>
+    requires { (fields_of command).has_globals ≡ false }
+    ensures app { IfOk result (λ more. app_of more ≡ line.with_groups (app_of command.entry)) }
+    ensures local { IfOk result (λ more. (fields_of more).has_globals ≡ false) }
+{
     let baseline = over_group_and_run(
         alloc,
         "baseline",
         "Make a run the baseline of a group",
         "Example: profhouse baseline --db s.db nightly 1",
     );
-    with(command, baseline)
+    let command = with(command, baseline)?;
+    let groups = over_database(
+        alloc,
+        "groups",
+        "List the groups",
+        "Example: profhouse groups --db s.db",
+    );
+    let command = with(command, groups)?;
+    with(command, remove(alloc))
 }
 
 /// With the reports of costs.
@@ -581,8 +574,8 @@ fn with_exports<'a>(alloc: Global, command: Command<'a>) -> Result<Command<'a>, 
     let folded = over_selection(
         alloc,
         "folded",
-        "Write the stacks of folded runs with their counts",
-        "Example: profhouse folded --db s.db --group nightly",
+        "Write the stacks of folded runs, for flamegraph.pl or speedscope; none of Callgrind runs",
+        "Example: profhouse folded --db s.db",
     );
     with(command, folded)
 }
@@ -620,9 +613,9 @@ fn grammar_of<'a>(alloc: Global, keys: &'a [&'a str]) -> Result<Command<'a>, All
     ensures local { IfOk result (λ command. (fields_of command).has_globals ≡ false) }
 {
     let command = with_files(alloc, program(alloc))?;
-    let command = with_lists(alloc, command)?;
-    let command = with_members(alloc, command)?;
     let command = with_reports(alloc, command, keys)?;
+    let command = with_members(alloc, command)?;
+    let command = with_groups(alloc, command)?;
     with(command, serve(alloc))
 }
 
