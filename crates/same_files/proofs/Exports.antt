@@ -1,0 +1,86 @@
+-- Annotated sources and exports of the same files are the same.
+use Rattle.std.proofs.Common.{◌≡◌, ℕ, ◌==◌, Bool, true, false, not, bytes_eq, if◌then◌else◌, List, [], ◌∷◌, ◌++◌, length, map, flat_map, refl, sym, ap, ap₂, ◌∙◌}
+use Rattle.std.specs.Str.Lines.{strip_carriage_return}
+use Rattle.cg_text.specs.Lines.{lines_of, numbered}
+use Rattle.cost_rows.specs.Sums.{Spot}
+use Rattle.cost_rows.proofs.StacksLemmas.{bytes_cmp-total}
+use Rattle.cost_reports.specs.Costs.{all_costs}
+use Rattle.cost_exports.specs.Amounts.{amount_of}
+use Rattle.cost_exports.specs.Annotations.{SourceLine, annotation_of, annotation_text, cost_at, costs_in, is_outside, outside_cost, source_lines}
+use Rattle.cost_exports.specs.Csv.{EventSpot, NamedRecords, all_named, csv_text, event_spot_cmp, named_costs}
+use Rattle.cost_exports.specs.Folded.{counts_of, folded_text}
+use Rattle.cost_exports.proofs.SpreadLemmas.{event_spot-apart, event_spot-total}
+use Rattle.cost_exports.proofs.StackLemmas.{bytes_apart}
+use Rattle.profile_records.specs.Stacks.{Seen}
+use Rattle.histories.specs.Exports.{annotated_text, csv_of_files, file_stacks, folded_of_files, knows_source, named_records}
+use Rattle.histories.specs.History.{File}
+use Rattle.histories.specs.Legal.{no_source, when}
+use Rattle.histories.specs.Reports.{event_records}
+use Rattle.histories.specs.declared.answers.Answer.TheVariants.{Refused}
+use Rattle.histories.specs.declared.answers.Refusal.TheVariants as reasons
+use Rattle.same_files.specs.SameFiles.{AreSameFiles}
+use Rattle.same_files.proofs.Alike.{Alike, amounts_alike, pieces_alike, where_alike}
+use Rattle.same_files.proofs.FilesAlike.{said_alike, same_any}
+use Rattle.same_files.proofs.Reports.{costs_alike, seen_as}
+
+-- ---- a source
+
+module _ (file : List ℕ) where
+  in_piece : Spot × ℕ → List (ℕ × ℕ)
+  in_piece e = if bytes_eq e.0.file file then (e.0.line, e.1) ∷ [] else []
+
+  in_said : (costs : List (Spot × ℕ)) → costs_in file costs ≡ flat_map in_piece costs
+  unfolding in_piece
+  in_said [] = refl
+  in_said (e ∷ costs) = go (bytes_eq e.0.file file) (in_said costs)
+    where
+      go : (b : Bool) → costs_in file costs ≡ flat_map in_piece costs
+          → (if b then (e.0.line, e.1) ∷ costs_in file costs else costs_in file costs) ≡ (if b then (e.0.line, e.1) ∷ [] else []) ++ flat_map in_piece costs
+      go true rest = ap (λ l. (e.0.line, e.1) ∷ l) rest
+      go false rest = rest
+
+same_lines : (costs others : List (ℕ × ℕ)) → Alike costs others → (lines : List (ℕ × List ℕ)) → source_lines costs lines ≡ source_lines others lines
+same_lines costs others same [] = refl
+same_lines costs others same (line ∷ lines) =
+    ap₂ (λ (cost : ℕ) (rest : List SourceLine). record { number = line.0; text = strip_carriage_return line.1; cost = cost } ∷ rest)
+    (where_alike (λ n. n == line.0) (λ n. n) costs others same) (same_lines costs others same lines)
+
+pub same_annotation : (event file source : List ℕ) (files others : List File) → AreSameFiles files others → annotated_text event file source files ≡ annotated_text event file source others
+same_annotation event file source files others same =
+    ap₂ (λ (lines : List SourceLine) (sums : ℕ × ℕ). annotation_text event (record { file = file; lines = lines; outside = sums.0; total = sums.1 }))
+    (same_lines _ _ costs (numbered 1 (lines_of source)))
+    (ap₂ (λ (m n : ℕ). (m, n)) (where_alike (is_outside (length (lines_of source))) (λ n. n) _ _ costs) (where_alike (λ _. true) (λ n. n) _ _ costs))
+  where
+    costs : Alike (costs_in file (all_costs (map (event_records event) files))) (costs_in file (all_costs (map (event_records event) others)))
+    costs = seen_as _ _ _ _ (in_said file _) (in_said file _) (pieces_alike (in_piece file) _ _ (costs_alike (event_records event) (λ f. refl) files others same))
+
+pub same_source : (name : List ℕ) (files others : List File) → AreSameFiles files others → no_source name files ≡ no_source name others
+same_source name files others same = ap (λ b. when (not b) (Refused reasons.NoSuchName)) (same_any (knows_source name) (λ f. refl) files others same)
+
+-- ---- exports
+
+named_piece : File → List (EventSpot × ℕ)
+named_piece f = named_costs (named_records f).events (named_records f).records
+
+named_said : (files : List File) → all_named (map named_records files) ≡ flat_map named_piece files
+unfolding named_piece
+named_said [] = refl
+named_said (f ∷ files) = ap (λ l. named_costs (named_records f).events (named_records f).records ++ l) (named_said files)
+
+pub same_csv : (files others : List File) → AreSameFiles files others → csv_of_files files ≡ csv_of_files others
+unfolding named_piece
+same_csv files others same =
+    ap csv_text (amounts_alike event_spot-total event_spot-apart _ _ (seen_as _ _ _ _ (named_said files) (named_said others) (said_alike named_piece (λ f. refl) files others same)))
+
+counts_piece : Seen → List (List ℕ × ℕ)
+counts_piece s = (s.stack.frames, s.stack.count) ∷ []
+
+counts_said : (seen : List Seen) → counts_of seen ≡ flat_map counts_piece seen
+unfolding counts_piece
+counts_said [] = refl
+counts_said (s ∷ seen) = ap (λ l. (s.stack.frames, s.stack.count) ∷ l) (counts_said seen)
+
+pub same_folded : (files others : List File) → AreSameFiles files others → folded_of_files files ≡ folded_of_files others
+same_folded files others same =
+    ap folded_text (amounts_alike bytes_cmp-total bytes_apart _ _ (seen_as _ _ _ _ (counts_said _) (counts_said _)
+    (pieces_alike counts_piece _ _ (said_alike file_stacks (λ f. refl) files others same))))

@@ -1,0 +1,4 @@
+pub mod Alike
+pub mod FilesAlike
+pub mod Reports
+pub mod Exports

@@ -1,0 +1,33 @@
+-- Selections that name the same files, and questions that have the same answer.
+use Rattle.std.specs.Prelude.{◌≡◌, ℕ, List, map, Option, None, IsPermutation}
+use Rattle.profile_records.specs.declared.kinds.Kind.{Kind}
+use Rattle.histories.specs.History.{Said, History, File}
+use Rattle.histories.specs.Legal.{compared, expected_answer, files_of, no_second, no_selection}
+use Rattle.histories.specs.Selections.{selected}
+use Rattle.histories.specs.declared.answers.Selection.{Selection}
+use Rattle.histories.specs.declared.limits.Limits.{Limits}
+
+-- what a file is, without the number and the label that it got
+abbrev pub kind_and_bytes : File → Kind × List ℕ
+kind_and_bytes f = (f.kind, f.bytes)
+
+-- the same files, each as often, in whatever order
+abbrev pub AreSameFiles : List File → List File → Type 0
+AreSameFiles files others = IsPermutation (map kind_and_bytes files) (map kind_and_bytes others)
+
+-- two selections, each after its history: what they name is there, and is the same files
+pub record NameSameFiles (h : History) (s : Selection) (k : History) (r : Selection) : Type 0 where
+  pub here : no_selection h s ≡ None
+  pub there : no_selection k r ≡ None
+  pub files : AreSameFiles (selected h s) (selected k r)
+
+-- and what they are compared with
+pub record CompareSameFiles (h : History) (s : Selection) (t : Option Selection) (k : History) (r : Selection) (u : Option Selection) : Type 0 where
+  pub first : NameSameFiles h s k r
+  pub here : no_second h (compared h s t) ≡ None
+  pub there : no_second k (compared k r u) ≡ None
+  pub files : AreSameFiles (files_of h (compared h s t)) (files_of k (compared k r u))
+
+-- under all limits the one command after the one history has the answer of the other after the other
+abbrev pub AreAnsweredAlike : History → Said → History → Said → Type 0
+AreAnsweredAlike h said k other = (limits : Limits) → expected_answer limits h said ≡ expected_answer limits k other
