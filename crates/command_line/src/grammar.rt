@@ -104,7 +104,7 @@ fn event<'a>(alloc: Global) -> Arg<'a>
     ensures rule { rule_of result ≡ line.event }
     ensures local { result.global ≡ false }
 {
-    let help = "The event, as Ir or samples, or a derived one; verify lists those of each run";
+    let help = "The event, as Ir or samples; `verify` lists all but derived ones";
     option(alloc, "event", "E", help).required(true)
 }
 
@@ -167,7 +167,7 @@ fn requests<'a>(alloc: Global) -> Arg<'a>
     ensures rule { rule_of result ≡ line.requests }
     ensures local { result.global ≡ false }
 {
-    let help = "End after this many requests, 1 to 1000000; a service manager starts it again";
+    let help = "End after this many requests, 1 to 1000000; let a service manager start it again";
     let counts = value_parser!(u32).range(1..=i64::from(MOST_REQUESTS));
     option(alloc, "requests", "N", help)
         .value_parser(counts)
@@ -230,7 +230,11 @@ fn over_selection<'a>(
 {
     over_database(alloc, name, about, example)?
         .arg(run_option(alloc, "run", "Only this run; `runs` lists the numbers"))?
-        .arg(group_option(alloc, "group", "Only the runs of this group; with neither option, all runs"))
+        .arg(group_option(
+            alloc,
+            "group",
+            "Only the runs of this group; with neither option, all runs",
+        ))
 }
 
 /// A subcommand on an event of runs that may be selected.
@@ -331,7 +335,11 @@ fn import<'a>(alloc: Global) -> Result<Command<'a>, AllocError>
         "Example: profhouse import --db s.db callgrind.out.4711 callgrind.out.4712",
     )?
     .arg(flag(alloc, "folded", "The files hold folded stacks"))?
-    .arg(several(operand(alloc, "FILE", "The files; each becomes a run, labelled for ever with its name")))
+    .arg(several(operand(
+        alloc,
+        "FILE",
+        "The files; each becomes a run, labelled for ever with its name",
+    )))
 }
 
 fn remove<'a>(alloc: Global) -> Result<Command<'a>, AllocError>
@@ -574,7 +582,7 @@ fn with_exports<'a>(alloc: Global, command: Command<'a>) -> Result<Command<'a>, 
     let folded = over_selection(
         alloc,
         "folded",
-        "Write the stacks of folded runs, for flamegraph.pl or speedscope; none of Callgrind runs",
+        "Write the stacks of folded runs, for flamegraph.pl or speedscope; Callgrind runs have none",
         "Example: profhouse folded --db s.db",
     );
     with(command, folded)

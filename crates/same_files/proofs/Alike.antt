@@ -1,13 +1,12 @@
 -- Lists that add up alike: for every measure their elements have the same sum. So they have the same sums by key.
-use Rattle.std.proofs.Common.{zero, suc, ◌≡◌, ℕ, ◌+◌, ◌<◌, Bool, true, false, ◌||◌, nat_lt, if◌then◌else◌, List, [], ◌∷◌, ◌++◌, map, flat_map, sum_by, refl, sym, ap, ap₂, ◌∙◌, arith}
+use Rattle.std.proofs.Common.{zero, suc, ◌≡◌, ℕ, ◌+◌, Bool, true, false, ◌||◌, nat_lt, if◌then◌else◌, List, [], ◌∷◌, ◌++◌, flat_map, sum_by, refl, sym, ap, ap₂, ◌∙◌, arith}
 use Rattle.std.specs.declared.cmp.Ordering.{Ordering}
 use Rattle.std.specs.Cmp.{IsTotalOrder}
 use Rattle.std.specs.List.{list_any}
 use Rattle.std.specs.Map.{keys_of}
-use Rattle.std.proofs.lemmas.Bool.{cases_Bool}
 use Rattle.std.proofs.lemmas.Bool.Decides.{nat_tests}
 use Rattle.std.proofs.lemmas.List.Sums.{sum_by-cons, sum_by-append}
-use Rattle.cost_rows.specs.Keys.{named_cmp, part_of}
+use Rattle.cost_rows.specs.Keys.{part_of}
 use Rattle.cost_rows.specs.KeySums.{cost_where, rows_of, sums_by, total_of}
 use Rattle.cost_rows.specs.Merging.{sum_where, TellsApart}
 use Rattle.cost_rows.specs.Sums.{Spot}

@@ -1,15 +1,14 @@
 -- Reports of the same files are the same.
 use Rattle.std.proofs.Common.{◌≡◌, ℕ, ◌+◌, Bool, true, false, not, if◌then◌else◌, List, [], ◌∷◌, ◌++◌, map, flat_map, sum_by, refl, sym, ap, ap₂, ◌∙◌}
 use Rattle.std.proofs.lemmas.List.Sums.{sum_by-cons}
-use Rattle.cost_rows.specs.KeySums.{rows_of, sums_by, total_of}
 use Rattle.cost_rows.specs.Sums.{Spot}
 use Rattle.cost_rows.specs.declared.keys.Key.{Key}
 use Rattle.cost_rows.specs.declared.keys.Key.TheVariants.{Function}
-use Rattle.cost_reports.specs.Calls.{Calls, all_calls, asked, call_report_of, call_report_text, calls_at, calls_by, calls_of, other}
-use Rattle.cost_reports.specs.Costs.{EventRecords, all_costs, costs_by, costs_of}
+use Rattle.cost_reports.specs.Calls.{Calls, all_calls, asked, call_report_of, call_report_text, calls_at, calls_of, other}
+use Rattle.cost_reports.specs.Costs.{EventRecords, all_costs, costs_of}
 use Rattle.cost_reports.specs.Differences.{difference_of, difference_text}
 use Rattle.cost_reports.specs.Functions.{is_one_function}
-use Rattle.cost_reports.specs.Inclusive.{InclusiveCosts, count_of, frame_costs, functions_in, inclusive_report, inclusive_text, names_costs, outward_costs}
+use Rattle.cost_reports.specs.Inclusive.{count_of, frame_costs, functions_in, inclusive_costs, inclusive_report, inclusive_text, names_costs, outward_costs}
 use Rattle.cost_reports.specs.KeyReports.{report_of}
 use Rattle.cost_reports.specs.KeyTexts.{key_report_text}
 use Rattle.cost_reports.specs.declared.call_sides.CallSide.{CallSide}
@@ -41,7 +40,7 @@ module _ (records : File → EventRecords) (told : (f : File) → records f ≡ 
 
   pub costs_alike : (files others : List File) → AreSameFiles files others → Alike (all_costs (map records files)) (all_costs (map records others))
   unfolding costs_piece
-  costs_alike files others same = seen_as _ _ _ _ (costs_said files) (costs_said others)
+  costs_alike files others same = seen_as (all_costs (map records files)) (all_costs (map records others)) (flat_map costs_piece files) (flat_map costs_piece others) (costs_said files) (costs_said others)
       (said_alike costs_piece (λ f. ap (λ (e : EventRecords). costs_of e.coefs e.records) (told f)) files others same)
 
   calls_piece : File → List Calls
@@ -54,13 +53,13 @@ module _ (records : File → EventRecords) (told : (f : File) → records f ≡ 
 
   pub calls_alike : (files others : List File) → AreSameFiles files others → Alike (all_calls (map records files)) (all_calls (map records others))
   unfolding calls_piece
-  calls_alike files others same = seen_as _ _ _ _ (calls_said files) (calls_said others)
+  calls_alike files others same = seen_as (all_calls (map records files)) (all_calls (map records others)) (flat_map calls_piece files) (flat_map calls_piece others) (calls_said files) (calls_said others)
       (said_alike calls_piece (λ f. ap (λ (e : EventRecords). calls_of e.coefs e.records) (told f)) files others same)
 
 -- ---- by key
 
 pub same_costs : (key : Key) (event : List ℕ) (files others : List File) → AreSameFiles files others → costs_of_files key event files ≡ costs_of_files key event others
-same_costs key event files others same = sums_alike key _ _ (costs_alike (event_records event) (λ f. refl) files others same)
+same_costs key event files others same = sums_alike key (all_costs (map (event_records event) files)) (all_costs (map (event_records event) others)) (costs_alike (event_records event) (λ f. refl) files others same)
 
 pub same_by : (key : Key) (event : List ℕ) (cut : Cut) (files others : List File) → AreSameFiles files others → by_text files key event cut ≡ by_text others key event cut
 same_by key event cut files others same = ap (λ sums. key_report_text event (report_of key cut sums)) (same_costs key event files others same)
@@ -85,11 +84,20 @@ module _ (side : CallSide) (f : Spot) where
       go true rest = ap (λ l. (other side c, c.sum) ∷ l) rest
       go false rest = rest
 
+  at_alike : (calls more : List Calls) → Alike calls more → Alike (calls_at side f calls) (calls_at side f more)
+  at_alike calls more same =
+      seen_as (calls_at side f calls) (calls_at side f more) (flat_map at_piece calls) (flat_map at_piece more) (at_said calls) (at_said more) (pieces_alike at_piece calls more same)
+
   pub same_calls : (event : List ℕ) (files others : List File) → AreSameFiles files others → calls_text side f files event ≡ calls_text side f others event
   same_calls event files others same =
       ap (λ sums. call_report_text event (call_report_of (record { side = side; function = f; sums = sums })))
-      (pairs_alike _ _ (seen_as _ _ _ _ (at_said (all_calls (map (event_records event) files))) (at_said (all_calls (map (event_records event) others)))
-      (pieces_alike at_piece _ _ (calls_alike (event_records event) (λ f. refl) files others same))))
+      (pairs_alike (calls_at side f calls) (calls_at side f more) (at_alike calls more (calls_alike (event_records event) (λ f. refl) files others same)))
+    where
+      calls : List Calls
+      calls = all_calls (map (event_records event) files)
+
+      more : List Calls
+      more = all_calls (map (event_records event) others)
 
 -- ---- inclusive costs
 
@@ -106,6 +114,10 @@ outward_said (c ∷ calls) = go (is_one_function c.caller c.callee) (outward_sai
     go true rest = rest
     go false rest = ap (λ l. (c.caller, c.sum.first) ∷ l) rest
 
+outward_alike : (calls more : List Calls) → Alike calls more → Alike (outward_costs calls) (outward_costs more)
+outward_alike calls more same =
+    seen_as (outward_costs calls) (outward_costs more) (flat_map outward_piece calls) (flat_map outward_piece more) (outward_said calls) (outward_said more) (pieces_alike outward_piece calls more same)
+
 frame_piece : Seen → List (Spot × ℕ)
 frame_piece s = names_costs s.stack.count (functions_in s.stack.frames)
 
@@ -114,27 +126,37 @@ unfolding frame_piece
 frames_said [] = refl
 frames_said (s ∷ seen) = ap (λ l. names_costs s.stack.count (functions_in s.stack.frames) ++ l) (frames_said seen)
 
+frames_alike : (seen more : List Seen) → Alike seen more → Alike (frame_costs seen) (frame_costs more)
+frames_alike seen more same =
+    seen_as (frame_costs seen) (frame_costs more) (flat_map frame_piece seen) (flat_map frame_piece more) (frames_said seen) (frames_said more) (pieces_alike frame_piece seen more same)
+
 counts_said : (seen : List Seen) → count_of seen ≡ sum_by (λ (s : Seen). s.stack.count) seen
 counts_said [] = refl
 counts_said (s ∷ seen) = ap (λ n. s.stack.count + n) (counts_said seen) ∙ sym (sum_by-cons (λ (s : Seen). s.stack.count) s seen)
 
+-- costs, calls and stacks that add up alike have the same inclusive costs
+inclusive_alike : (files others : List EventRecords) (seen more : List Seen) → Alike (all_costs files) (all_costs others) → Alike (all_calls files) (all_calls others) → Alike seen more
+    → inclusive_costs files seen ≡ inclusive_costs others more
+inclusive_alike files others seen more costs calls stacks =
+    ap₂ (λ sums total. record { sums = sums; total = total })
+    (sums_alike Function (own ++ (outward_costs (all_calls files) ++ frame_costs seen)) (other ++ (outward_costs (all_calls others) ++ frame_costs more))
+    (both_alike own (outward_costs (all_calls files) ++ frame_costs seen) other (outward_costs (all_calls others) ++ frame_costs more) costs
+    (both_alike (outward_costs (all_calls files)) (frame_costs seen) (outward_costs (all_calls others)) (frame_costs more)
+    (outward_alike (all_calls files) (all_calls others) calls) (frames_alike seen more stacks))))
+    (ap₂ ◌+◌ (total_alike own other costs) (counts_said seen ∙ stacks (λ (s : Seen). s.stack.count) ∙ sym (counts_said more)))
+  where
+    own : List (Spot × ℕ)
+    own = all_costs files
+
+    other : List (Spot × ℕ)
+    other = all_costs others
+
 pub same_inclusive : (event : List ℕ) (files others : List File) → AreSameFiles files others → inclusive_of_files files event ≡ inclusive_of_files others event
 same_inclusive event files others same =
-    ap₂ (λ sums total. inclusive_text event (inclusive_report (record { sums = sums; total = total })))
-    (sums_alike Function _ _ (both_alike _ _ _ _ costs (both_alike _ _ _ _ outward frames)))
-    (ap₂ ◌+◌ (total_alike _ _ costs) (counts_said _ ∙ seen (λ (s : Seen). s.stack.count) ∙ sym (counts_said _)))
-  where
-    costs : Alike (all_costs (map (inclusive_records event) files)) (all_costs (map (inclusive_records event) others))
-    costs = costs_alike (inclusive_records event) (λ f. refl) files others same
-
-    outward : Alike (outward_costs (all_calls (map (inclusive_records event) files))) (outward_costs (all_calls (map (inclusive_records event) others)))
-    outward = seen_as _ _ _ _ (outward_said _) (outward_said _) (pieces_alike outward_piece _ _ (calls_alike (inclusive_records event) (λ f. refl) files others same))
-
-    seen : Alike (flat_map (event_stacks event) files) (flat_map (event_stacks event) others)
-    seen = said_alike (event_stacks event) (λ f. refl) files others same
-
-    frames : Alike (frame_costs (flat_map (event_stacks event) files)) (frame_costs (flat_map (event_stacks event) others))
-    frames = seen_as _ _ _ _ (frames_said _) (frames_said _) (pieces_alike frame_piece _ _ seen)
+    ap (λ costs. inclusive_text event (inclusive_report costs))
+    (inclusive_alike (map (inclusive_records event) files) (map (inclusive_records event) others) (flat_map (event_stacks event) files) (flat_map (event_stacks event) others)
+    (costs_alike (inclusive_records event) (λ f. refl) files others same) (calls_alike (inclusive_records event) (λ f. refl) files others same)
+    (said_alike (event_stacks event) (λ f. refl) files others same))
 
 -- ---- what is refused
 
