@@ -1,4 +1,5 @@
 pub mod Alike
+pub mod Examples
 pub mod FilesAlike
 pub mod Reports
 pub mod Exports
