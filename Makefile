@@ -48,6 +48,7 @@ build:
 test: build
 	tests/run_stored
 	tests/http
+	tests/sockets
 	tests/web_server
 	tests/web
 	tests/readme
