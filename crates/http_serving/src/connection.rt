@@ -117,14 +117,15 @@ impl<'a> Connection<'a> {
         Ok(count)
     }
 
-    /// Writes while there is time. What the command took is not the client's time.
+    /// Writes while there is time, a piece at most: the system may take more at once than the client does in the
+    /// time of a piece. What the command took is not the client's time.
     fn write_in_time(&mut self, bytes: &[u8]) -> io::Result<usize>
         ensures { WritesAtMost result bytes.now }
     {
         self.enter(Stage::Response)?;
         let left = self.left()?;
         self.socket.set_write_timeout(Some(left))?;
-        let count = self.socket.write(bytes)?;
+        let count = self.socket.write(&bytes[..PIECE.min(bytes.len())])?;
         self.count(count)?;
         Ok(count)
     }

@@ -1,14 +1,12 @@
-use Rattle.http_serving.proofs.Served.{served_by, served_none}
-use Rattle.prof_http.proofs.Turns.{exchange_turned}
+use Rattle.http_serving.proofs.Served.{served_none, served_one, with_any}
 use Rattle.http_serving.proofs.serving.serve_client.Goals as goal
 
 pub returns-in_default-clause-served : goal.returns-in_default-clause-served
-returns-in_default-clause-served g c clean = served_none g.S.Store c.args.warehouse.now.limits 1 c.args.warehouse.now.store
+returns-in_default-clause-served g c clean = served_none g.S.Store c.args.warehouse.now.limits 1 c.args.warehouse.now.store clean
 
 pub returns-clause-served : goal.returns-clause-served
 returns-clause-served g c clean =
     let limits = c.args.warehouse.now.limits in
     let old = c.args.warehouse.now.store in
     let new = c.answer-exchange.new.warehouse.store in
-    let turned = exchange_turned g.S.Store limits _ _ _ c.answer-exchange.result.0 _ _ old new c.answer-exchange.ensures.exchanged clean in
-    served_by g.S.Store limits 1 turned.0 old new turned.1 turned.2
+    served_one g.S.Store limits c.answer-exchange.result.0 old new (with_any g.S.Store limits _ _ _ c.answer-exchange.result.0 _ _ old new c.answer-exchange.ensures.exchanged) clean

@@ -4,7 +4,7 @@ use Rattle.http_serving.proofs.Served.{served_clean, served_none, served_on}
 use Rattle.http_serving.proofs.serving.serve_on.Goals as goal
 
 pub clients-init : goal.clients-init
-clients-init g c = (refl, λ clean. served_none g.S.Store c.args.warehouse.now.limits 0 c.args.warehouse.now.store)
+clients-init g c = (refl, λ clean. served_none g.S.Store c.args.warehouse.now.limits 0 c.args.warehouse.now.store clean)
 
 pub clients-preserved : goal.clients-preserved
 clients-preserved g c =
@@ -16,5 +16,5 @@ clients-preserved g c =
       c.serve_client.ensures.limits ∙ i.0,
       λ clean.
           let one = subst (λ x. HasServed g.S.Store x 1 mid new) i.0 (c.serve_client.ensures.served clean) in
-          served_on g.S.Store limits c.clients._client 1 old mid new (i.1 (served_clean g.S.Store limits 1 mid new one clean)) one,
+          served_on g.S.Store limits c.clients._client 1 old mid new (i.1 (served_clean g.S.Store limits 1 mid new one clean)) one clean,
     )
