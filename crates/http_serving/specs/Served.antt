@@ -1,6 +1,6 @@
 -- Requests that were served, one after another.
 use mathlib.Core.Logic.{inl, inr}
-use Rattle.std.specs.Prelude.{◌≡◌, ◌⊎◌, ℕ, ◌≤◌, List, [], ◌∷◌, ◌++◌, length, Result}
+use Rattle.std.specs.Prelude.{◌≡◌, ℕ, ◌≤◌, List, [], ◌∷◌, ◌++◌, length, Result}
 use Rattle.sqlite_trees.specs.declared.store.Store.{Ghosts}
 use Rattle.prof_store.specs.declared.store.Store.{Store}
 use Rattle.sources.specs.Outcomes.{Outcome}
@@ -38,6 +38,7 @@ module _ {S : Type 0} (g : Ghosts S) (limits : Limits) where
   turns_of_exchange exchange old new (inl served) = turns_of_reply _ served.after served.responded.body_reads served.responded.reply old new served.responded.replied
   turns_of_exchange exchange old new (inr refused) = []
 
+  -- those of all
   abbrev pub turns_of : (exchanges : List Exchange) (old new : Store S) → WereExchanged exchanges old new → History
   turns_of [] old new same = []
   turns_of (exchange ∷ later) old new were = turns_of_exchange exchange old were.0 were.1 ++ turns_of later were.0 new were.2
