@@ -68,7 +68,7 @@ def weight_of(tree, name):
         return 300
     lines = sum(read(os.path.join(TOP, path)).count(b"\n") for path in tree.files(name) if path.endswith(".rt"))
     of_databases = min(lines / 150, 1) * (50 + 1.5 * len(tree.below(name)))
-    more = {"sqlite": of_databases, "clap": 180}
+    more = {"sqlite": of_databases, "clap": 380}
     return 12 + 0.085 * lines + sum(more[word] for word in tree.lines[name].split() if word in more)
 
 
