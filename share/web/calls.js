@@ -1,7 +1,7 @@
 // The panel of a function: its costs, who calls it and whom it calls. In a difference, how these differ.
 
 import { go, link } from "./address.js";
-import { anchor, changeCell, costCell, element, functionCell, greatest, leading, nameCell, note, rowsBody, sum, table } from "./drawing.js";
+import { anchor, changeCell, costCell, element, functionCell, greatest, leading, nameCell, note, rowsBody, sum, table, widen } from "./drawing.js";
 import { lessOf, matchOf, PLACES } from "./difference.js";
 import { calls, csv, events, functionOf, inclusive, members, nameOf, objects, runs as allRuns, selfCosts,
   where } from "./store.js";
@@ -94,14 +94,15 @@ async function ownLines(s, runs, event, places) {
   return [...sums.values()].sort((a, b) => a.cost < b.cost ? 1 : a.cost > b.cost ? -1 : 0);
 }
 
-function linesButton(s, runs, event, places) {
+function linesButton(s, runs, event, places, less) {
   const box = element("div"), button = element("button", { id: "own-lines" }, "its lines");
   button.onclick = async () => {
     button.disabled = true;
     const rows = await ownLines(s, runs, event, places), total = sum(rows);
     const draw = row => leading(element("tr", null, costCell(row.cost), element("td", { className: "count" }, share(row.cost, total)),
       nameCell(row.name)), { view: "source", file: row.file, line: row.line, q: undefined });
-    box.replaceChildren(rows.length ? table([["cost", shown(event)], ["count", ""], ["name", "line"]], rowsBody(rows, draw)) : note("no costs"));
+    box.replaceChildren(rows.length ? table([["cost", shown(event)], ["count", ""], ["name", less ? `line, in ${nameOf(runs)}` : "line"]], rowsBody(rows, draw)) : note("no costs"));
+    widen();
   };
   // A derived event is in no export.
   return s.derived ? [] : [element("h3", null, button), box];
@@ -126,6 +127,6 @@ export async function panel(s, runs, event) {
   if (!places.flat().length) return [...head, note(`This function costs nothing in ${sides.map(nameOf).join(" and ")}.`)];
   const [now, before] = await Promise.all(sides.map((it, at) => side(s, it, event, places[at], known)));
   return [...head, element("div", { className: "cards" }, card("self", now, before, "own"), card("with all that it calls", now, before, "all")),
-    ...inStacks(s, runs), ...linesButton(s, runs, event, places[0]), ...callTable("Called by", event, now.callers, before?.callers),
+    ...inStacks(s, runs), ...linesButton(s, runs, event, places[0], less), ...callTable("Called by", event, now.callers, before?.callers),
     ...callTable("Calls", event, now.callees, before?.callees)];
 }

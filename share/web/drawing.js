@@ -28,9 +28,10 @@ export function functionCell(row) {
     element("code", null, brief(name)), object ? element("span", { className: "place" }, object) : null);
 }
 
+// Of a path that is too long, the end is shown.
 export function nameCell(name) {
   const text = shown(name), at = text.lastIndexOf("/") + 1;
-  return element("td", { className: "name", title: text },
+  return element("td", { className: "name path", title: text },
     element("code", null, element("span", { className: "folder" }, text.slice(0, at)), text.slice(at)));
 }
 
@@ -65,11 +66,29 @@ export function rowsBody(rows, draw) {
     body.append(...rows.slice(drawn, drawn + PIECE).map(draw));
     drawn += PIECE;
     if (drawn >= rows.length) return;
-    const button = element("button", { onclick: more }, `${grouped(BigInt(rows.length - drawn))} more rows: show ${Math.min(PIECE, rows.length - drawn)}`);
-    body.append(element("tr", { className: "further" }, element("td", { colSpan: 9 }, button)));
+    const shows = () => {
+      more();
+      widen();
+    };
+    const button = element("button", { onclick: shows }, `${grouped(BigInt(rows.length - drawn))} more rows: show ${Math.min(PIECE, rows.length - drawn)}`);
+    // (with more columns than there are, names would have little room)
+    body.append(element("tr", { className: "further" }, element("td", { colSpan: body.rows[0].cells.length }, button)));
   };
   more();
   return body;
+}
+
+// Makes columns as wide as their longest number: one that is cut reads like another one.
+const NUMBERS = ".cost, .share, .count";
+export function widen() {
+  for (const it of document.querySelectorAll("main table")) {
+    const heads = [...it.querySelectorAll("th")], rows = [...it.rows];
+    const wide = heads.map((_, at) => Math.max(...rows.map(row => row.cells[at]?.matches(NUMBERS) ? row.cells[at].scrollWidth : 0)));
+    heads.forEach((head, at) => {
+      // (as far as the number goes, and the edge behind it)
+      if (wide[at] > head.clientWidth) head.style.width = wide[at] + 9 + "px";
+    });
+  }
 }
 
 // A row that leads to a view, by a click or by Enter.

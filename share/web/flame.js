@@ -123,6 +123,7 @@ class Flame {
     const fill = before ? changed(ratio(node.count, root.count), mate ? ratio(mate.count, before.count) : 0) : warm(node.name);
     const made = element("div", { className: "frame", role: "treeitem", tabIndex: -1, ariaLabel: this.told(node, mate),
       style: { left: left * 100 + "%", width: wide * 100 + "%", top: depth * HEIGHT + "px", background: fill } }, wide * width > 24 ? label(node.name) : "");
+    made.classList.toggle("thin", wide * width < 4);
     made.classList.toggle("outside", outside);
     made.classList.toggle("hit", this.hit(node));
     made.node = node;

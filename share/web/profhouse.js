@@ -3,7 +3,7 @@
 import { go, link, replace, state } from "./address.js";
 import { panel } from "./calls.js";
 import { differenceView, lessOf } from "./difference.js";
-import { $, anchor, element, fault, mark, note } from "./drawing.js";
+import { $, anchor, element, fault, mark, note, widen } from "./drawing.js";
 import { flame } from "./flame.js";
 import { report, verified } from "./reports.js";
 import { pick, source } from "./source.js";
@@ -161,6 +161,7 @@ async function show(anew) {
     await drawContent({ ...s, view }, view, of, event, mine);
     await drawPanel(s, view, of, event, mine);
     mark();
+    widen();
   } catch (error) {
     if (mine === turn) failed(error);
     if (!(error instanceof Refusal)) throw error;
