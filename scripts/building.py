@@ -260,6 +260,14 @@ def stop_here(number, _):
     raise KeyboardInterrupt
 
 
+def undisturbed(end):
+    """Ends what is to be ended, without a second signal between: it would leave provers behind."""
+    before = {it: signal.signal(it, signal.SIG_IGN) for it in (signal.SIGINT, signal.SIGTERM, signal.SIGHUP)}
+    end()
+    for it, handler in before.items():
+        signal.signal(it, handler)
+
+
 def build():
     """Builds the program. Gives 0, or 1 where that failed, or 130 where it was interrupted."""
     rt = command_rt()
@@ -282,7 +290,7 @@ def build():
         return 130
     finally:
         if work:
-            work.stop()
+            undisturbed(work.stop)
 
 
 def built(work):
