@@ -45,13 +45,13 @@ _profhouse()
         verify | csv | folded) options+=" --run --group" ;;
         annotate) options+=" --run --group --event --file" operands=files ;;
         serve) options+=" --port --requests --log" ;;
-        help) options= operands=$commands ;;
+        help) options='' operands=$commands ;;
         *) return ;;
     esac
 
     local held=
     case $before in
-        --db) options= operands=files ;;
+        --db) options='' operands=files ;;
         --event) held="SELECT CAST(name AS TEXT) FROM run_event UNION SELECT CAST(name AS TEXT) FROM derived" ;;
         --group | --less-group) held="SELECT name FROM grp" ;;
         --run | --less-run) held="SELECT run FROM run" ;;
