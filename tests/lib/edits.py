@@ -1,4 +1,4 @@
-"""The edits of tests/edits and of crates/CRATE/must-fail: whether each applies, and in which function it stands."""
+"""The edits of tests/edits and of tests/must-fail: whether each applies, and in which function it stands."""
 import os
 import re
 from glob import glob
@@ -28,8 +28,7 @@ class Edit:
     def __init__(self, path):
         self.path = path
         parts = path.split(os.sep)
-        self.in_gate = parts[0] == "crates"
-        self.crate = parts[1] if self.in_gate else parts[2]
+        self.in_gate, self.crate = parts[1] == "must-fail", parts[2]
         self.name = f"{self.crate}/{os.path.basename(path)[:-len('.edit')]}"
 
     def pairs(self):
@@ -71,7 +70,7 @@ class Edit:
 
 
 def all_edits():
-    return [Edit(path) for path in sorted(glob("tests/edits/*/*.edit") + glob("crates/*/must-fail/*.edit"))]
+    return [Edit(path) for path in sorted(glob("tests/edits/*/*.edit") + glob("tests/must-fail/*/*.edit"))]
 
 
 def module_of(path):

@@ -5,44 +5,44 @@ ghost use Rattle.sqlite_value.specs.Order.{column};
 ghost use Rattle.prof_tables.specs.Tables.{number_or_null, text_or_null};
 ghost use Rattle.store_columns.specs.Names.{ShowsFirst};
 
-use crate::errors::{StoreError, error_of};
+use crate::errors::{OutOfForm, StoreError, error_of};
 use crate::whole::Whole;
 use sqlite::Row;
 
-pub fn number_at(row: &Row, at: usize) -> Result<u32, StoreError>
+pub fn number_at(row: &Row, at: usize) -> Result<u32, OutOfForm>
     ensures read { IfOk result (λ n. column row.now at ≡ Int (pos n)) }
 {
     match row.get(at) {
         Ok(number) => Ok(number),
-        Err(error) => Err(error_of(error)),
+        Err(_) => Err(OutOfForm),
     }
 }
 
-pub fn number_or_null_at(row: &Row, at: usize) -> Result<Option<u32>, StoreError>
+pub fn number_or_null_at(row: &Row, at: usize) -> Result<Option<u32>, OutOfForm>
     ensures read { IfOk result (λ n. column row.now at ≡ number_or_null n) }
 {
     match row.get::<Option<u32>>(at) {
         Ok(Some(number)) => Ok(Some(number)),
         Ok(None) => Ok(None),
-        Err(error) => Err(error_of(error)),
+        Err(_) => Err(OutOfForm),
     }
 }
 
-pub fn sum_at(row: &Row, at: usize) -> Result<u64, StoreError>
+pub fn sum_at(row: &Row, at: usize) -> Result<u64, OutOfForm>
     ensures read { IfOk result (λ n. column row.now at ≡ Int (pos n)) }
 {
     match row.get(at) {
         Ok(sum) => Ok(sum),
-        Err(error) => Err(error_of(error)),
+        Err(_) => Err(OutOfForm),
     }
 }
 
-pub fn whole_at(row: &Row, at: usize) -> Result<Whole, StoreError>
+pub fn whole_at(row: &Row, at: usize) -> Result<Whole, OutOfForm>
     ensures { IfOk result (λ number. column row.now at ≡ Int (pos number)) }
 {
     match row.get::<u64>(at) {
-        Ok(number) => Whole::of(number).ok_or(StoreError::Store),
-        Err(error) => Err(error_of(error)),
+        Ok(number) => Whole::of(number).ok_or(OutOfForm),
+        Err(_) => Err(OutOfForm),
     }
 }
 
@@ -75,7 +75,7 @@ pub fn bytes_at(row: &Row, at: usize) -> Result<Vec<u8>, StoreError>
 }
 
 /// The number in the first row, if there is a row.
-pub fn first_number(rows: &[Row]) -> Result<Option<u32>, StoreError>
+pub fn first_number(rows: &[Row]) -> Result<Option<u32>, OutOfForm>
     ensures { IfOk result (ShowsFirst rows.now) }
 {
     match rows.first() {

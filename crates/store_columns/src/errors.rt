@@ -14,6 +14,10 @@ pub enum StoreError {
     Store,
 }
 
+/// A row says nothing that a store can hold. What refuses a row so takes no memory: a caller tells it as `Store`.
+#[derive(Clone, Copy, Debug, PartialEq, Eq)]
+pub struct OutOfForm;
+
 /// Why a store is not opened. The tables are as before.
 #[derive(Clone, Copy, Debug, PartialEq, Eq)]
 pub enum OpenError {
@@ -43,6 +47,17 @@ impl From<AllocError> for StoreError {
 
     fn from(_error: AllocError) -> StoreError {
         StoreError::Memory
+    }
+}
+
+impl From<OutOfForm> for StoreError {
+    ghost use Rattle.std.specs.Prelude.{◌≡◌};
+    ghost use Rattle.store_columns.specs.declared.errors.StoreError.TheVariants as ends;
+
+    ghost from_gives = { λ _ end. end ≡ ends.Store };
+
+    fn from(_fault: OutOfForm) -> StoreError {
+        StoreError::Store
     }
 }
 

@@ -5,7 +5,7 @@ ghost use Rattle.sqlite_value.specs.Order.{column};
 ghost use Rattle.profile_records.specs.Kinds.{kind_number};
 
 use crate::columns::number_at;
-use crate::errors::StoreError;
+use crate::errors::OutOfForm;
 use profile_records::Kind;
 use sqlite::Row;
 
@@ -19,12 +19,12 @@ pub fn number_of_kind(kind: Kind) -> u32
     }
 }
 
-pub fn kind_at(row: &Row, at: usize) -> Result<Kind, StoreError>
+pub fn kind_at(row: &Row, at: usize) -> Result<Kind, OutOfForm>
     ensures read { IfOk result (λ kind. column row.now at ≡ Int (pos (kind_number kind))) }
 {
     match number_at(row, at)? {
         1 => Ok(Kind::Callgrind),
         2 => Ok(Kind::Folded),
-        _ => Err(StoreError::Store),
+        _ => Err(OutOfForm),
     }
 }

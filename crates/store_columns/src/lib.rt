@@ -22,7 +22,7 @@ pub use columns::{
     bytes_at, first_number, number_at, number_or_null_at, sum_at, text_at, text_or_null_at,
     whole_at,
 };
-pub use errors::{OpenError, StoreError, error_of};
+pub use errors::{OpenError, OutOfForm, StoreError, error_of};
 pub use kinds::{kind_at, number_of_kind};
 pub use labels::{digest_at, is_group_name, is_label, label_at};
 pub use lines::{

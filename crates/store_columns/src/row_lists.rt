@@ -87,7 +87,7 @@ impl FromRow for u32 {
     ghost columns = { λ n. number n ∷ [] };
 
     fn from_row(row: &Row) -> Result<u32, StoreError> {
-        number_at(row, 0)
+        Ok(number_at(row, 0)?)
     }
 }
 
