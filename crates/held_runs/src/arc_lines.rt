@@ -6,10 +6,10 @@ ghost use Rattle.prof_tables.specs.WalkTexts.{arcs_of};
 ghost use Rattle.store_columns.specs.Lines.{arc_line};
 
 use sqlite::Row;
-use store_columns::{ArcLine, StoreError, number_at, whole_at};
+use store_columns::{ArcLine, OutOfForm, number_at, whole_at};
 
 /// Reads a row of a page, behind its rowid.
-pub(crate) fn read_arc(run: u32, row: &Row) -> Result<ArcLine, StoreError>
+pub(crate) fn read_arc(run: u32, row: &Row) -> Result<ArcLine, OutOfForm>
     ensures { IfOk result (λ line. arc_columns (arc_line line) ≡ read_from (arcs_of run) row.now) }
 {
     let object = number_at(row, 1)?;

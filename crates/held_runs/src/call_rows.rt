@@ -7,7 +7,7 @@ ghost use Rattle.store_columns.specs.Lines.{arc_line};
 use crate::held_names::HeldNames;
 use cg_text::ListVec;
 use cost_rows::ArcRow;
-use store_columns::{ArcLine, StoreError};
+use store_columns::{ArcLine, OutOfForm, StoreError};
 
 /// Adds zeros, up to a length.
 fn fill(costs: &mut ListVec<u128>, len: usize) -> Result<(), StoreError>
@@ -71,7 +71,7 @@ pub(crate) fn arc_row<'a>(
     first: &ArcLine,
     names: &'a HeldNames,
     costs: ListVec<u128>,
-) -> Result<ArcRow<&'a [u8], ListVec<u128>>, StoreError>
+) -> Result<ArcRow<&'a [u8], ListVec<u128>>, OutOfForm>
     ensures row { IfOk result (λ row. plain_given row ≡ row_of names.now (arc_line first.now) costs) }
     ensures named { OnOk result (ArcIsNamed names.now (arc_line first.now)) }
 {

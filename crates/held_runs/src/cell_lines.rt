@@ -6,10 +6,10 @@ ghost use Rattle.prof_tables.specs.WalkTexts.{cells_of};
 ghost use Rattle.store_columns.specs.Lines.{cell_line};
 
 use sqlite::Row;
-use store_columns::{CellLine, StoreError, number_at, whole_at};
+use store_columns::{CellLine, OutOfForm, number_at, whole_at};
 
 /// Reads a row of a page, behind its rowid.
-pub(crate) fn read_cell(run: u32, row: &Row) -> Result<CellLine, StoreError>
+pub(crate) fn read_cell(run: u32, row: &Row) -> Result<CellLine, OutOfForm>
     ensures { IfOk result (λ line. cell_columns (cell_line line) ≡ read_from (cells_of run) row.now) }
 {
     let object = number_at(row, 1)?;

@@ -18,21 +18,21 @@ use crate::walks::Listed;
 use cost_rows::CellRow;
 use prof_store::Store;
 use sqlite::{Alter, Row};
-use store_columns::{CellLine, StoreError};
+use store_columns::{CellLine, OutOfForm, StoreError};
 
 /// A cell with its names, which have to be held, of one of so many events.
 fn cell_row<'n>(
     line: &CellLine,
     names: &'n HeldNames,
     events: usize,
-) -> Result<CellRow<&'n [u8]>, StoreError>
+) -> Result<CellRow<&'n [u8]>, OutOfForm>
     ensures row { IfOk result (λ row. plain_cell row ≡ cell_held names.now (cell_line line.now)) }
     ensures named { OnOk result (CellIsNamed names.now (cell_line line.now)) }
     ensures counted { IfOk result (λ row. row.event < events) }
 {
     let event = line.event as usize;
     if event >= events {
-        return Err(StoreError::Store);
+        return Err(OutOfForm);
     }
     let object = names.held(line.object)?;
     let file = names.held(line.file)?;

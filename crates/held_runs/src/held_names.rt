@@ -12,7 +12,7 @@ use prof_store::{Store, select};
 use sqlite::{Alter, Row};
 use std::alloc::Global;
 use std::marker::Model;
-use store_columns::{FromRow, Rises, StoreError, bytes_at, number_at, read_rising};
+use store_columns::{FromRow, OutOfForm, Rises, StoreError, bytes_at, number_at, read_rising};
 
 /// A name and its number.
 #[derive(Drop)]
@@ -112,10 +112,10 @@ impl HeldNames {
     }
 
     /// The name of a number, which has to be held.
-    pub(crate) fn held(&self, number: u32) -> Result<&[u8], StoreError>
+    pub(crate) fn held(&self, number: u32) -> Result<&[u8], OutOfForm>
         ensures { IfOk result (λ name. IsHeld self.now number × (name.now ≡ name_of self.now number)) }
     {
-        self.name(number).ok_or(StoreError::Store)
+        self.name(number).ok_or(OutOfForm)
     }
 }
 

@@ -20,7 +20,7 @@ pub fn kind_of<S: Alter>(store: &mut Store<S>, run: u32) -> Result<Kind, StoreEr
         "SELECT kind FROM run WHERE run = ?1",
         params![run],
     )?;
-    kind_at(&row, 0)
+    Ok(kind_at(&row, 0)?)
 }
 
 /// The baseline of a group, if it has one. `Store` where no such group is held.
@@ -34,5 +34,5 @@ pub fn baseline_of<S: Alter>(store: &mut Store<S>, name: &str) -> Result<Option<
         "SELECT baseline FROM grp WHERE name = ?1",
         params![name],
     )?;
-    number_or_null_at(&row, 0)
+    Ok(number_or_null_at(&row, 0)?)
 }

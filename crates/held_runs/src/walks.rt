@@ -9,7 +9,7 @@ ghost use Rattle.held_runs.specs.Walks.{window_sql_of, ends_sql_of, end_sql_of, 
 
 use prof_store::{Store, select, select_first, select_row};
 use sqlite::{Alter, Row, params};
-use store_columns::{StoreError, number_at, number_or_null_at};
+use store_columns::{OutOfForm, StoreError, number_at, number_or_null_at};
 
 /// A table whose rows are lines of runs.
 #[derive(Clone, Copy, Debug, PartialEq, Eq)]
@@ -112,14 +112,14 @@ fn end_sql(table: Listed, end: End) -> &'static str
 }
 
 /// Refuses rows whose rowids do not rise from above `low`.
-fn rise(rows: &[Row], low: u32) -> Result<(), StoreError>
+fn rise(rows: &[Row], low: u32) -> Result<(), OutOfForm>
     ensures { OnOk result (IsTable rows.now) }
 {
     let mut last = low;
     'rows: for row in rows {
         let id = number_at(row, 0)?;
         if id <= last {
-            return Err(StoreError::Store);
+            return Err(OutOfForm);
         }
         last = id;
     }
@@ -127,7 +127,7 @@ fn rise(rows: &[Row], low: u32) -> Result<(), StoreError>
 }
 
 /// Where the rows lie, by the least and the greatest rowid. Without any they may lie anywhere.
-fn span_in(row: &Row) -> Result<Span, StoreError>
+fn span_in(row: &Row) -> Result<Span, OutOfForm>
     ensures { IfOk result (IsSpanIn row.now) }
 {
     let Some(first) = number_or_null_at(row, 0)? else {
@@ -135,7 +135,7 @@ fn span_in(row: &Row) -> Result<Span, StoreError>
     };
     let top = number_at(row, 1)?;
     if first == 0 {
-        return Err(StoreError::Store);
+        return Err(OutOfForm);
     }
     Ok(Span {
         low: first - 1,
@@ -209,7 +209,7 @@ fn run_span<S: Alter>(store: &mut Store<S>, table: Listed, run: u32) -> Result<S
     ensures asks { Asks S.Store (is_ok result) store.old store.new }
 {
     let row = select_row(&mut store.conn, ends_sql(table), params![run])?;
-    span_in(&row)
+    Ok(span_in(&row)?)
 }
 
 /// Where the rows of a run lie.
@@ -237,7 +237,7 @@ fn load<S: Alter>(
 {
     let rows = select(&mut store.conn, window_sql(table), params![run, low, high])?;
     store.page = rows;
-    rise(&store.page, low)
+    Ok(rise(&store.page, low)?)
 }
 
 /// Finds out where the rows of the walk lie.

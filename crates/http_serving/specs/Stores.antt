@@ -21,4 +21,4 @@ module _ {S : Type 0} (g : Ghosts S) where
   abbrev pub WasServed : {R F : Type 0} → Bool → ℕ → Result R F → Connection S → Connection S → Type 0
   WasServed is_new requests result old new = MatchResult result
       (λ status. (opened : Store S) × (closed : Store S) × (closed.conn ≡ new) × TakesUp is_new (state g old) (shown g opened) × CameToServed requests opened closed)
-      (λ end. Refuses is_new (state g old) (state g new))
+      (λ end. Refuses is_new end (state g old) (state g new))

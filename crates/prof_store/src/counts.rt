@@ -8,13 +8,13 @@ ghost use Rattle.prof_store.specs.Shown.{Asks, Found, Told};
 use crate::statements::select_row;
 use crate::store::Store;
 use sqlite::{Alter, Row};
-use store_columns::{StoreError, sum_at};
+use store_columns::{OutOfForm, StoreError, sum_at};
 
 /// SQL counts no further.
 const MOST: u64 = 0x7fff_ffff_ffff_ffff;
 
 /// The count in a row, which may stand for more at `MOST` alone.
-fn count_in(row: &Row) -> Result<u64, StoreError>
+fn count_in(row: &Row) -> Result<u64, OutOfForm>
     ensures read { IfOk result (λ n. column row.now 0 ≡ Int (pos n)) }
     ensures exact { IfOk result (λ n. n + 1 < 2 ^ 63) }
 {
@@ -22,7 +22,7 @@ fn count_in(row: &Row) -> Result<u64, StoreError>
     if count < MOST {
         Ok(count)
     } else {
-        Err(StoreError::Store)
+        Err(OutOfForm)
     }
 }
 
@@ -34,7 +34,7 @@ impl<S: Alter> Store<S> {
         ensures asks { Asks S.Store (is_ok result) self.old self.new }
     {
         let row = select_row(&mut self.conn, "SELECT count(*) FROM run", &[])?;
-        count_in(&row)
+        Ok(count_in(&row)?)
     }
 
     /// How many groups are held.
@@ -44,6 +44,6 @@ impl<S: Alter> Store<S> {
         ensures asks { Asks S.Store (is_ok result) self.old self.new }
     {
         let row = select_row(&mut self.conn, "SELECT count(*) FROM grp", &[])?;
-        count_in(&row)
+        Ok(count_in(&row)?)
     }
 }

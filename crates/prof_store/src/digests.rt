@@ -9,10 +9,10 @@ ghost use Rattle.prof_store.specs.Shown.{Asks, Found, Told, shown};
 use crate::statements::select_first;
 use crate::store::Store;
 use sqlite::{Alter, Row, params};
-use store_columns::{StoreError, number_at};
+use store_columns::{OutOfForm, StoreError, number_at};
 
 /// The number in a row of one column, if there is a row.
-fn number_in(row: Option<Row>) -> Result<Option<u32>, StoreError>
+fn number_in(row: Option<Row>) -> Result<Option<u32>, OutOfForm>
     ensures read { IfOk result (λ found. MatchOption found (row ≡ None) (λ n. (shown : _) × (row ≡ Some shown) × (column shown 0 ≡ Int (pos n)))) }
 {
     match row {
@@ -33,6 +33,6 @@ impl<S: Alter> Store<S> {
             "SELECT run FROM run WHERE digest = ?1",
             params![digest],
         )?;
-        number_in(row)
+        Ok(number_in(row)?)
     }
 }

@@ -14,7 +14,7 @@ use sqlite::{Alter, Row};
 use std::alloc::Global;
 use std::cmp::Ordering;
 use store_columns::{
-    FromRow, Rises, StoreError, is_group_name, number_at, number_or_null_at, read_rows, rise,
+    FromRow, OutOfForm, Rises, StoreError, is_group_name, number_at, number_or_null_at, read_rows, rise,
     text_at,
 };
 
@@ -76,11 +76,11 @@ fn group_entry(
     name: String,
     baseline: Option<u32>,
     members: ListVec<u32>,
-) -> Result<GroupEntry, StoreError>
+) -> Result<GroupEntry, OutOfForm>
     ensures read { IfOk result (λ entry. (entry.name ≡ name) × (entry.baseline ≡ baseline) × (entry.members ≡ members)) }
 {
     if !is_group_name(name.as_str()) || !rise(members.as_slice()) {
-        return Err(StoreError::Store);
+        return Err(OutOfForm);
     }
     Ok(GroupEntry {
         name,

@@ -19,6 +19,6 @@ impl<S: Alter> Store<S> {
         ensures asks { Asks S.Store (is_ok result) self.old self.new }
     {
         let row = select_row(&mut self.conn, "SELECT next_run FROM meta", &[])?;
-        number_at(&row, 0)
+        Ok(number_at(&row, 0)?)
     }
 }

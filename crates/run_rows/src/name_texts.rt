@@ -23,7 +23,7 @@ fn find_name<S: Alter>(tx: &mut Transaction<'_, S>, name: &[u8]) -> Result<Optio
     ensures told { Tells S.Store tx.old tx.new (λ t. IfOk result (λ number. number ≡ number_if_held t name.now)) }
 {
     match tx.query_all("SELECT id FROM name WHERE bytes = ?1", &[name.to_sql()]) {
-        Ok(rows) => first_number(&rows),
+        Ok(rows) => Ok(first_number(&rows)?),
         Err(error) => Err(error_of(error)),
     }
 }

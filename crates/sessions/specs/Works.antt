@@ -54,4 +54,4 @@ module _ {W S : Type 0} (g : Ghosts S) (contents : W → Option (List ℕ)) (wan
   abbrev pub WasWorked : {E F : Type 0} → Bool → Result (Result ℕ E) F → W → Connection S → Connection S → Type 0
   WasWorked is_new result from old new = MatchResult result
       (λ printed. (to : W) × (opened : Store S) × (closed : Store S) × (closed.conn ≡ new) × TakesUp is_new (state g old) (shown g opened) × CameTo printed from to opened closed)
-      (λ end. Refuses is_new (state g old) (state g new))
+      (λ end. Refuses is_new end (state g old) (state g new))

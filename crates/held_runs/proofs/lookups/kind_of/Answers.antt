@@ -1,5 +1,3 @@
-use Rattle.std.specs.Result.{is_ok}
-use Rattle.sqlite_exec.proofs.MarkLemmas.{if_ok_then}
 use Rattle.sql_tables.proofs.Calls.{asked_err, asked_if}
 use Rattle.prof_tables.specs.Schema.{schema_one}
 use Rattle.prof_tables.proofs.Means.{kind_of_plain}
@@ -8,13 +6,20 @@ use Rattle.held_runs.proofs.lookups.kind_of.Goals as goal
 
 pub returns-clause-told : goal.returns-clause-told
 returns-clause-told g c clean t was =
-    if_ok_then c.kind_at.result c.kind_at.ensures.read (λ kind is. kind_told t _ was.holds c.args.run kind (kind_found _ _ c.in_ok-row.row was.schema_is c.args.run kind (rw c.params-to_sql.ensures at (c.in_ok-row.ensures.row clean)) is))
+    let kind = c.in_ok-kind_at.field-0 in
+    let is = c.in_ok-kind_at.ensures.read in
+    kind_told t _ was.holds c.args.run kind (kind_found _ _ c.in_ok-row.row was.schema_is c.args.run kind (rw c.params-to_sql.ensures at (c.in_ok-row.ensures.row clean)) is)
 
 pub returns-clause-found : goal.returns-clause-found
-returns-clause-found g c clean has = if_ok_then c.kind_at.result c.kind_at.ensures.read (λ kind is. kind_found _ _ c.in_ok-row.row has c.args.run kind (rw c.params-to_sql.ensures at (c.in_ok-row.ensures.row clean)) is)
+returns-clause-found g c clean has = let kind = c.in_ok-kind_at.field-0 in
+    let is = c.in_ok-kind_at.ensures.read in
+    kind_found _ _ c.in_ok-row.row has c.args.run kind (rw c.params-to_sql.ensures at (c.in_ok-row.ensures.row clean)) is
 
 pub returns-clause-asks : goal.returns-clause-asks
-returns-clause-asks g c clean = asked_if schema_one (is_ok c.kind_at.result) _ _ (c.in_ok-row.ensures.asked clean kind_of_plain)
+returns-clause-asks g c clean = c.in_ok-row.ensures.asked clean kind_of_plain
+
+pub returns-in_err-kind_at-clause-asks : goal.returns-in_err-kind_at-clause-asks
+returns-in_err-kind_at-clause-asks g c clean = asked_if schema_one _ _ _ (c.in_ok-row.ensures.asked clean kind_of_plain)
 
 pub returns-in_err-row-clause-asks : goal.returns-in_err-row-clause-asks
 returns-in_err-row-clause-asks g c clean = asked_err schema_one c.from_residual.result _ _ c.from_residual.ensures.0 (c.in_err-row.ensures.asked clean kind_of_plain)

@@ -1,19 +1,20 @@
-use Rattle.std.specs.Result.{is_ok}
 use Rattle.std.proofs.Common.{subst}
 use Rattle.sqlite_trees.specs.Tree.{IsTable}
 use Rattle.sql_tables.proofs.Calls.{asked_err, asked_if}
 use Rattle.prof_tables.specs.Schema.{schema_one}
 use Rattle.held_runs.proofs.WalkTables.{window_plain_as, window_is}
-use Rattle.held_runs.proofs.WalkSteps.{on_ok_then}
 use Rattle.held_runs.proofs.walks.load.Goals as goal
 
 pub returns-clause-loaded : goal.returns-clause-loaded
 returns-clause-loaded g c clean was =
     let shown = rw (c.params-to_sql.ensures, c.params-to_sql-2.ensures, c.params-to_sql-3.ensures, c.window_sql.ensures) at (c.in_ok-rows.ensures.rows clean) in
-    on_ok_then c.rise.result _ _ c.rise.ensures (λ up. window_is c.args.table c.args.run c.args.low c.args.high _ _ c.in_ok-rows.rows.items was shown (subst IsTable c.deref.ensures.value up))
+    window_is c.args.table c.args.run c.args.low c.args.high _ _ c.in_ok-rows.rows.items was shown (subst IsTable c.deref.ensures.value c.in_ok-rise.ensures)
 
 pub returns-clause-asks : goal.returns-clause-asks
-returns-clause-asks g c clean = asked_if schema_one (is_ok c.rise.result) _ _ (c.in_ok-rows.ensures.asked clean (window_plain_as c.args.table c.window_sql.result.now c.window_sql.ensures))
+returns-clause-asks g c clean = c.in_ok-rows.ensures.asked clean (window_plain_as c.args.table c.window_sql.result.now c.window_sql.ensures)
+
+pub returns-in_err-rise-clause-asks : goal.returns-in_err-rise-clause-asks
+returns-in_err-rise-clause-asks g c clean = asked_if schema_one _ _ _ (c.in_ok-rows.ensures.asked clean (window_plain_as c.args.table c.window_sql.result.now c.window_sql.ensures))
 
 pub returns-in_err-rows-clause-asks : goal.returns-in_err-rows-clause-asks
 returns-in_err-rows-clause-asks g c clean =

@@ -1,6 +1,4 @@
-use Rattle.std.specs.Result.{is_ok}
 use Rattle.std.proofs.Common.{refl, subst}
-use Rattle.sqlite_exec.proofs.MarkLemmas.{if_ok_then}
 use Rattle.prof_tables.specs.Seen.{calls_seen}
 use Rattle.prof_tables.specs.Tables.{RunLine, run_columns}
 use Rattle.prof_tables.proofs.Means.{call_counts_plain}
@@ -14,17 +12,23 @@ use Rattle.prof_store.proofs.store.Store.calls_of_all.Goals as goal
 pub returns-clause-told : goal.returns-clause-told
 returns-clause-told g c clean t was =
     let p = calls_listed _ _ c.in_ok-rows.rows.items was.schema_is (c.in_ok-rows.ensures.rows clean) in
-    if_ok_then c.column_sum.result c.column_sum.ensures.read (λ count is.
+    let count = c.in_ok-column_sum.field-0 in
+    let is = c.in_ok-column_sum.ensures.read in
     sum_shown (λ r. calls_seen (run_columns r)) 0 (λ (r : RunLine). r.call_count) (λ r. refl) t.runs count
-    (subst (λ l. IsSum 0 l count) (calls_are t _ was.holds) (sum_permuted 0 _ c.in_ok-rows.rows.items count p (subst (λ l. IsSum 0 l count) c.deref.ensures.value is))))
+    (subst (λ l. IsSum 0 l count) (calls_are t _ was.holds) (sum_permuted 0 _ c.in_ok-rows.rows.items count p (subst (λ l. IsSum 0 l count) c.deref.ensures.value is)))
 
 pub returns-clause-found : goal.returns-clause-found
 returns-clause-found g c clean has =
     let p = calls_listed _ _ c.in_ok-rows.rows.items has (c.in_ok-rows.ensures.rows clean) in
-    if_ok_then c.column_sum.result c.column_sum.ensures.read (λ count is. sum_seen calls_seen 0 5 (λ r. refl) _ count (sum_permuted 0 _ c.in_ok-rows.rows.items count p (subst (λ l. IsSum 0 l count) c.deref.ensures.value is)))
+    let count = c.in_ok-column_sum.field-0 in
+    let is = c.in_ok-column_sum.ensures.read in
+    sum_seen calls_seen 0 5 (λ r. refl) _ count (sum_permuted 0 _ c.in_ok-rows.rows.items count p (subst (λ l. IsSum 0 l count) c.deref.ensures.value is))
 
 pub returns-clause-asks : goal.returns-clause-asks
-returns-clause-asks g c clean = asked_if schema_one (is_ok c.column_sum.result) _ _ (c.in_ok-rows.ensures.asked clean call_counts_plain)
+returns-clause-asks g c clean = c.in_ok-rows.ensures.asked clean call_counts_plain
+
+pub returns-in_err-column_sum-clause-asks : goal.returns-in_err-column_sum-clause-asks
+returns-in_err-column_sum-clause-asks g c clean = asked_if schema_one _ _ _ (c.in_ok-rows.ensures.asked clean call_counts_plain)
 
 pub returns-in_err-rows-clause-asks : goal.returns-in_err-rows-clause-asks
 returns-in_err-rows-clause-asks g c clean = asked_err schema_one c.from_residual.result _ _ c.from_residual.ensures.0 (c.in_err-rows.ensures.asked clean call_counts_plain)

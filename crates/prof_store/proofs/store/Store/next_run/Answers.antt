@@ -1,6 +1,4 @@
-use Rattle.std.specs.Result.{is_ok}
 use Rattle.std.proofs.Common.{◌∙◌, sym}
-use Rattle.sqlite_exec.proofs.MarkLemmas.{if_ok_then}
 use Rattle.prof_tables.proofs.Means.{next_plain}
 use Rattle.prof_tables.proofs.Finds.{next_found, next_is}
 use Rattle.prof_tables.specs.Schema.{schema_one}
@@ -10,15 +8,22 @@ use Rattle.prof_store.proofs.store.Store.next_run.Goals as goal
 pub returns-clause-told : goal.returns-clause-told
 returns-clause-told g c clean t was =
     let it = next_found _ _ _ was.schema_is (c.in_ok-row.ensures.row clean) in
-    if_ok_then c.number_at.result c.number_at.ensures.read (λ n is. next_is t _ it.0 n was.holds it.1 (sym it.2 ∙ is))
+    let n = c.in_ok-number_at.field-0 in
+    let is = c.in_ok-number_at.ensures.read in
+    next_is t _ it.0 n was.holds it.1 (sym it.2 ∙ is)
 
 pub returns-clause-found : goal.returns-clause-found
 returns-clause-found g c clean has =
     let it = next_found _ _ _ has (c.in_ok-row.ensures.row clean) in
-    if_ok_then c.number_at.result c.number_at.ensures.read (λ n is. (it.0, it.1, sym it.2 ∙ is))
+    let n = c.in_ok-number_at.field-0 in
+    let is = c.in_ok-number_at.ensures.read in
+    (it.0, it.1, sym it.2 ∙ is)
 
 pub returns-clause-asks : goal.returns-clause-asks
-returns-clause-asks g c clean = asked_if schema_one (is_ok c.number_at.result) _ _ (c.in_ok-row.ensures.asked clean next_plain)
+returns-clause-asks g c clean = c.in_ok-row.ensures.asked clean next_plain
+
+pub returns-in_err-number_at-clause-asks : goal.returns-in_err-number_at-clause-asks
+returns-in_err-number_at-clause-asks g c clean = asked_if schema_one _ _ _ (c.in_ok-row.ensures.asked clean next_plain)
 
 pub returns-in_err-row-clause-asks : goal.returns-in_err-row-clause-asks
 returns-in_err-row-clause-asks g c clean = asked_err schema_one c.from_residual.result _ _ c.from_residual.ensures.0 (c.in_err-row.ensures.asked clean next_plain)

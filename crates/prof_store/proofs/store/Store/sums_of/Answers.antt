@@ -1,6 +1,4 @@
-use Rattle.std.specs.Result.{is_ok}
 use Rattle.std.proofs.Common.{refl, subst}
-use Rattle.sqlite_exec.proofs.MarkLemmas.{if_ok_then}
 use Rattle.prof_tables.specs.Seen.{sums_seen, sums_shown}
 use Rattle.prof_tables.specs.Tables.{EventLine}
 use Rattle.prof_tables.proofs.Means.{sums_of_plain}
@@ -8,7 +6,6 @@ use Rattle.prof_tables.proofs.RunLists.{sums_listed, sums_are}
 use Rattle.prof_store.specs.Totals.{IsSum}
 use Rattle.prof_books.specs.Totals.{lines_named}
 use Rattle.prof_store.proofs.HeldSums.{sum_permuted, sum_seen, sum_shown}
-use Rattle.prof_store.proofs.Reading.{both_ok}
 use Rattle.prof_tables.specs.Schema.{schema_one}
 use Rattle.sql_tables.proofs.Calls.{asked_err, asked_if}
 use Rattle.prof_store.proofs.store.Store.sums_of.Goals as goal
@@ -18,24 +15,29 @@ returns-clause-told g c clean t was =
     let name = c.args.name.now in
     let p = sums_listed name _ _ c.in_ok-rows.rows.items was.schema_is (rw c.params-to_sql.ensures at (c.in_ok-rows.ensures.rows clean)) in
     let lines = lines_named name t in
-    if_ok_then c.sums_in.result (both_ok _ _ c.sums_in.result c.sums_in.ensures.own c.sums_in.ensures.calls) (λ sums is. (
+    let sums = c.in_ok-sums_in.field-0 in
+    (
       sum_shown sums_shown 0 (λ (e : EventLine). e.self_cost) (λ e. refl) lines sums.own
-          (subst (λ l. IsSum 0 l sums.own) (sums_are t _ was.holds name) (sum_permuted 0 _ c.in_ok-rows.rows.items sums.own p (subst (λ l. IsSum 0 l sums.own) c.deref.ensures.value is.0))),
+          (subst (λ l. IsSum 0 l sums.own) (sums_are t _ was.holds name) (sum_permuted 0 _ c.in_ok-rows.rows.items sums.own p (subst (λ l. IsSum 0 l sums.own) c.deref.ensures.value c.in_ok-sums_in.ensures.own))),
       sum_shown sums_shown 1 (λ (e : EventLine). e.call_cost) (λ e. refl) lines sums.calls
-          (subst (λ l. IsSum 1 l sums.calls) (sums_are t _ was.holds name) (sum_permuted 1 _ c.in_ok-rows.rows.items sums.calls p (subst (λ l. IsSum 1 l sums.calls) c.deref.ensures.value is.1))),
-    ))
+          (subst (λ l. IsSum 1 l sums.calls) (sums_are t _ was.holds name) (sum_permuted 1 _ c.in_ok-rows.rows.items sums.calls p (subst (λ l. IsSum 1 l sums.calls) c.deref.ensures.value c.in_ok-sums_in.ensures.calls))),
+    )
 
 pub returns-clause-found : goal.returns-clause-found
 returns-clause-found g c clean has =
     let name = c.args.name.now in
     let p = sums_listed name _ _ c.in_ok-rows.rows.items has (rw c.params-to_sql.ensures at (c.in_ok-rows.ensures.rows clean)) in
-    if_ok_then c.sums_in.result (both_ok _ _ c.sums_in.result c.sums_in.ensures.own c.sums_in.ensures.calls) (λ sums is. (
-      sum_seen sums_seen 0 4 (λ r. refl) _ sums.own (sum_permuted 0 _ c.in_ok-rows.rows.items sums.own p (subst (λ l. IsSum 0 l sums.own) c.deref.ensures.value is.0)),
-      sum_seen sums_seen 1 5 (λ r. refl) _ sums.calls (sum_permuted 1 _ c.in_ok-rows.rows.items sums.calls p (subst (λ l. IsSum 1 l sums.calls) c.deref.ensures.value is.1)),
-    ))
+    let sums = c.in_ok-sums_in.field-0 in
+    (
+      sum_seen sums_seen 0 4 (λ r. refl) _ sums.own (sum_permuted 0 _ c.in_ok-rows.rows.items sums.own p (subst (λ l. IsSum 0 l sums.own) c.deref.ensures.value c.in_ok-sums_in.ensures.own)),
+      sum_seen sums_seen 1 5 (λ r. refl) _ sums.calls (sum_permuted 1 _ c.in_ok-rows.rows.items sums.calls p (subst (λ l. IsSum 1 l sums.calls) c.deref.ensures.value c.in_ok-sums_in.ensures.calls)),
+    )
 
 pub returns-clause-asks : goal.returns-clause-asks
-returns-clause-asks g c clean = asked_if schema_one (is_ok c.sums_in.result) _ _ (c.in_ok-rows.ensures.asked clean sums_of_plain)
+returns-clause-asks g c clean = c.in_ok-rows.ensures.asked clean sums_of_plain
+
+pub returns-in_err-sums_in-clause-asks : goal.returns-in_err-sums_in-clause-asks
+returns-in_err-sums_in-clause-asks g c clean = asked_if schema_one _ _ _ (c.in_ok-rows.ensures.asked clean sums_of_plain)
 
 pub returns-in_err-rows-clause-asks : goal.returns-in_err-rows-clause-asks
 returns-in_err-rows-clause-asks g c clean = asked_err schema_one c.from_residual.result _ _ c.from_residual.ensures.0 (c.in_err-rows.ensures.asked clean sums_of_plain)
