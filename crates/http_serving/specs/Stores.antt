@@ -8,6 +8,7 @@ use Rattle.prof_store.specs.declared.store.Store.{Store}
 use Rattle.histories.specs.declared.limits.Limits.{Limits}
 use Rattle.program_files.specs.Standard.{IsStandard}
 use Rattle.program_files.specs.Stores.{TakesUp, Refuses}
+use Rattle.store_columns.specs.declared.errors.OpenError.{OpenError}
 use Rattle.http_serving.specs.Served.{HasServed}
 
 module _ {S : Type 0} (g : Ghosts S) where
@@ -18,7 +19,7 @@ module _ {S : Type 0} (g : Ghosts S) where
     pub served : HasServed g limits requests old new
 
   -- a store was made or found in a database, and served; or there was none to be had, and all is as it was
-  abbrev pub WasServed : {R F : Type 0} → Bool → ℕ → Result R F → Connection S → Connection S → Type 0
+  abbrev pub WasServed : {R : Type 0} → Bool → ℕ → Result R OpenError → Connection S → Connection S → Type 0
   WasServed is_new requests result old new = MatchResult result
       (λ status. (opened : Store S) × (closed : Store S) × (closed.conn ≡ new) × TakesUp is_new (state g old) (shown g opened) × CameToServed requests opened closed)
       (λ end. Refuses is_new end (state g old) (state g new))

@@ -14,6 +14,7 @@ use Rattle.histories.specs.declared.limits.Limits.{Limits}
 use Rattle.store_histories.specs.Answered.{HasHistory, Links}
 use Rattle.program_files.specs.Standard.{IsStandard}
 use Rattle.program_files.specs.Stores.{TakesUp, Refuses}
+use Rattle.store_columns.specs.declared.errors.OpenError.{OpenError}
 use Rattle.sessions.specs.Sessions.{ArePrinted, ArePrintedInPart, answers_of, commands_of, status_after}
 
 -- ---- a total
@@ -51,7 +52,7 @@ module _ {W S : Type 0} (g : Ghosts S) (contents : W → Option (List ℕ)) (wan
         (λ e. ArePrintedInPart (answers_of turns) (contents from) (contents to))
 
   -- a store was made or found in a database, and the work done over it; or there was none to be had, and all is as it was
-  abbrev pub WasWorked : {E F : Type 0} → Bool → Result (Result ℕ E) F → W → Connection S → Connection S → Type 0
+  abbrev pub WasWorked : {E : Type 0} → Bool → Result (Result ℕ E) OpenError → W → Connection S → Connection S → Type 0
   WasWorked is_new result from old new = MatchResult result
       (λ printed. (to : W) × (opened : Store S) × (closed : Store S) × (closed.conn ≡ new) × TakesUp is_new (state g old) (shown g opened) × CameTo printed from to opened closed)
       (λ end. Refuses is_new end (state g old) (state g new))

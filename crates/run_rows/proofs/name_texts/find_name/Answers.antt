@@ -1,6 +1,5 @@
 use Rattle.std.proofs.Common.{[], ◌∷◌, subst}
 use Rattle.sqlite_value.specs.declared.value.Value.TheVariants.{Blob}
-use Rattle.sqlite_exec.proofs.MarkLemmas.{if_ok_then}
 use Rattle.prof_tables.specs.Texts.{id_of_name_sql}
 use Rattle.prof_tables.proofs.Means.{id_of_name_plain}
 use Rattle.store_columns.specs.Names.{ShowsFirst}
@@ -8,13 +7,18 @@ use Rattle.store_columns.proofs.Within.{shown_asks, fails_asks}
 use Rattle.run_rows.proofs.Finding.{finds}
 use Rattle.run_rows.proofs.name_texts.find_name.Goals as goal
 
-pub returns-in-Ok-clause-asks : goal.returns-in-Ok-clause-asks
-returns-in-Ok-clause-asks g c =
+pub returns-in_ok-first_number-in-Ok-clause-asks : goal.returns-in_ok-first_number-in-Ok-clause-asks
+returns-in_ok-first_number-in-Ok-clause-asks g c =
     shown_asks g.S.Store id_of_name_sql (Blob c.args.name.now ∷ []) _ _ c.query_all.ensures.same_reference c.query_all.ensures.survives c.in-Ok.rows.items _ id_of_name_plain (rw c.to_sql.ensures at c.in-Ok.ensures.ok)
 
-pub returns-in-Ok-clause-told : goal.returns-in-Ok-clause-told
-returns-in-Ok-clause-told g c clean t was =
-    if_ok_then c.first_number.result c.first_number.ensures (λ n first. finds t c.args.name.now _ _ c.in-Ok.rows.items n was ((rw c.to_sql.ensures at c.in-Ok.ensures.ok) clean) (subst (λ rows. ShowsFirst rows n) c.deref.ensures.value first))
+pub returns-in_err-first_number-in-Ok-clause-asks : goal.returns-in_err-first_number-in-Ok-clause-asks
+returns-in_err-first_number-in-Ok-clause-asks g c =
+    shown_asks g.S.Store id_of_name_sql (Blob c.args.name.now ∷ []) _ _ c.query_all.ensures.same_reference c.query_all.ensures.survives c.in-Ok.rows.items _ id_of_name_plain (rw c.to_sql.ensures at c.in-Ok.ensures.ok)
+
+pub returns-in_ok-first_number-in-Ok-clause-told : goal.returns-in_ok-first_number-in-Ok-clause-told
+returns-in_ok-first_number-in-Ok-clause-told g c clean t was =
+    let n = c.in_ok-first_number-in-Ok.field-0 in
+    finds t c.args.name.now _ _ c.in-Ok.rows.items n was ((rw c.to_sql.ensures at c.in-Ok.ensures.ok) clean) (subst (λ rows. ShowsFirst rows n) c.deref.ensures.value c.in_ok-first_number-in-Ok.ensures)
 
 pub returns-in-Err-clause-asks : goal.returns-in-Err-clause-asks
 returns-in-Err-clause-asks g c = fails_asks g.S.Store id_of_name_sql (Blob c.args.name.now ∷ []) _ _ c.query_all.ensures.same_reference c.query_all.ensures.survives c.in-Err.error (rw c.to_sql.ensures at c.in-Err.ensures.err)
