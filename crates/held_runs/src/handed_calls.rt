@@ -1,5 +1,5 @@
 // The calls of a run, handed on row by row, with names in place.
-ghost use Rattle.std.specs.Prelude.{◌≡◌, List, None, OnOk, IfOk};
+ghost use Rattle.std.specs.Prelude.{◌≡◌, ◌≢◌, List, None, OnOk, IfOk, IfErr};
 ghost use Rattle.std.specs.Result.{is_ok};
 ghost use Rattle.prof_tables.specs.RunLines.{arcs_in};
 ghost use Rattle.prof_tables.specs.Tables.{ArcLine as Arc};
@@ -19,7 +19,19 @@ use prof_store::Store;
 use sqlite::{Alter, Row};
 use std::alloc::Global;
 use std::mem;
-use store_columns::{ArcLine, StoreError};
+use store_columns::{ArcLine, OutOfForm, StoreError};
+
+/// Refuses a row of calls whose first line is not their count, part 0.
+fn check_first(line: &ArcLine) -> Result<(), OutOfForm>
+    ensures first { OnOk result (line.now.part ≡ 0) }
+    ensures refused { IfErr result (λ _. line.now.part ≢ 0) }
+{
+    if line.part == 0 {
+        Ok(())
+    } else {
+        Err(OutOfForm)
+    }
+}
 
 /// Takes the lines of calls, and hands on a row once all its lines are taken.
 #[derive(Drop)]
@@ -88,9 +100,7 @@ impl<T: TakesCalls> TakesLines for CallLines<'_, T> {
             return add_part(&mut self.costs, &line, self.events);
         }
         self.hand_on()?;
-        if line.part != 0 {
-            return Err(StoreError::Store);
-        }
+        check_first(&line)?;
         self.first = Some(line);
         Ok(())
     }

@@ -106,8 +106,8 @@ impl<'a> Connection<'a> {
         Ok(())
     }
 
-    /// Reads while there is time. A wait of no time is an error of the system, as it is meant to be.
-    fn read_in_time(&mut self, buf: &mut [u8]) -> io::Result<usize>
+    /// Reads once, while there is time. A wait of no time is an error of the system, as it is meant to be.
+    fn read_once(&mut self, buf: &mut [u8]) -> io::Result<usize>
         ensures { ReadsAtMost result buf.new }
     {
         let left = self.left()?;
@@ -117,9 +117,19 @@ impl<'a> Connection<'a> {
         Ok(count)
     }
 
-    /// Writes while there is time, a piece at most: the system may take more at once than the client does in the
-    /// time of a piece. What the command took is not the client's time.
-    fn write_in_time(&mut self, bytes: &[u8]) -> io::Result<usize>
+    /// Reads while there is time. A halt of the server interrupts a wait, which is then taken up once more.
+    fn read_in_time(&mut self, buf: &mut [u8]) -> io::Result<usize>
+        ensures { ReadsAtMost result buf.new }
+    {
+        match self.read_once(buf) {
+            Err(error) if error.kind() == ErrorKind::Interrupted => self.read_once(buf),
+            read => read,
+        }
+    }
+
+    /// Writes once, while there is time, a piece at most: the system may take more at once than the client does in
+    /// the time of a piece. What the command took is not the client's time.
+    fn write_once(&mut self, bytes: &[u8]) -> io::Result<usize>
         ensures { WritesAtMost result bytes.now }
     {
         self.enter(Stage::Response)?;
@@ -128,6 +138,16 @@ impl<'a> Connection<'a> {
         let count = self.socket.write(&bytes[..PIECE.min(bytes.len())])?;
         self.count(count)?;
         Ok(count)
+    }
+
+    /// Writes while there is time, and once more after a halt, as `read_in_time`.
+    fn write_in_time(&mut self, bytes: &[u8]) -> io::Result<usize>
+        ensures { WritesAtMost result bytes.now }
+    {
+        match self.write_once(bytes) {
+            Err(error) if error.kind() == ErrorKind::Interrupted => self.write_once(bytes),
+            written => written,
+        }
     }
 
     /// Keeps the first bytes that were read. No guarantee: they are for a person who reads the log.

@@ -1,5 +1,5 @@
 // How many runs and groups are held.
-ghost use Rattle.std.specs.Prelude.{◌≡◌, ◌+◌, ◌<◌, ◌^◌, pos, length, IfOk};
+ghost use Rattle.std.specs.Prelude.{◌≡◌, ◌+◌, ◌<◌, ◌≤◌, ◌^◌, pos, length, IfOk, IfErr};
 ghost use Rattle.std.specs.Result.{is_ok};
 ghost use Rattle.sqlite_value.specs.declared.value.Value.TheVariants.{Int};
 ghost use Rattle.sqlite_value.specs.Order.{column};
@@ -17,6 +17,7 @@ const MOST: u64 = 0x7fff_ffff_ffff_ffff;
 fn count_in(row: &Row) -> Result<u64, OutOfForm>
     ensures read { IfOk result (λ n. column row.now 0 ≡ Int (pos n)) }
     ensures exact { IfOk result (λ n. n + 1 < 2 ^ 63) }
+    ensures refused { IfErr result (λ _. (n : _) → column row.now 0 ≡ Int (pos n) → 2 ^ 63 ≤ n + 1) }
 {
     let count = sum_at(row, 0)?;
     if count < MOST {

@@ -1,5 +1,5 @@
 // The values in the columns of a row. A value that the type does not show is refused.
-ghost use Rattle.std.specs.Prelude.{◌≡◌, pos, option_map, string_bytes, IfOk};
+ghost use Rattle.std.specs.Prelude.{◌≡◌, ◌≢◌, ◌<◌, ◌^◌, pos, option_map, string_bytes, IfOk, IfErr, IfSome};
 ghost use Rattle.sqlite_value.specs.declared.value.Value.TheVariants.{Int, Text, Blob};
 ghost use Rattle.sqlite_value.specs.Order.{column};
 ghost use Rattle.prof_tables.specs.Tables.{number_or_null, text_or_null};
@@ -8,42 +8,48 @@ ghost use Rattle.store_columns.specs.Names.{ShowsFirst};
 use crate::errors::{OutOfForm, StoreError, error_of};
 use crate::whole::Whole;
 use sqlite::Row;
+use sqlite::types::ValueRef;
 
+/// A whole number from 0 on, below 2^32.
 pub fn number_at(row: &Row, at: usize) -> Result<u32, OutOfForm>
     ensures read { IfOk result (λ n. column row.now at ≡ Int (pos n)) }
+    ensures refused { IfErr result (λ _. (n : _) → n < 2 ^ 32 → column row.now at ≢ Int (pos n)) }
 {
-    match row.get(at) {
-        Ok(number) => Ok(number),
-        Err(_) => Err(OutOfForm),
+    match row.get_ref(at) {
+        Ok(ValueRef::Int(number)) => u32::try_from(number).map_err(|_| OutOfForm),
+        _ => Err(OutOfForm),
     }
 }
 
+/// The same, or NULL.
 pub fn number_or_null_at(row: &Row, at: usize) -> Result<Option<u32>, OutOfForm>
     ensures read { IfOk result (λ n. column row.now at ≡ number_or_null n) }
+    ensures refused { IfErr result (λ _. (n : _) → IfSome n (λ number. number < 2 ^ 32) → column row.now at ≢ number_or_null n) }
 {
-    match row.get::<Option<u32>>(at) {
-        Ok(Some(number)) => Ok(Some(number)),
-        Ok(None) => Ok(None),
-        Err(_) => Err(OutOfForm),
+    match row.get_ref(at) {
+        Ok(ValueRef::Int(number)) => u32::try_from(number).map(Some).map_err(|_| OutOfForm),
+        Ok(ValueRef::Null) | Err(_) => Ok(None),
+        _ => Err(OutOfForm),
     }
 }
 
+/// A whole number from 0 on.
 pub fn sum_at(row: &Row, at: usize) -> Result<u64, OutOfForm>
     ensures read { IfOk result (λ n. column row.now at ≡ Int (pos n)) }
+    ensures refused { IfErr result (λ _. (n : _) → column row.now at ≢ Int (pos n)) }
 {
-    match row.get(at) {
-        Ok(sum) => Ok(sum),
-        Err(_) => Err(OutOfForm),
+    match row.get_ref(at) {
+        Ok(ValueRef::Int(number)) => u64::try_from(number).map_err(|_| OutOfForm),
+        _ => Err(OutOfForm),
     }
 }
 
+/// The same, as a number that a column can hold.
 pub fn whole_at(row: &Row, at: usize) -> Result<Whole, OutOfForm>
-    ensures { IfOk result (λ number. column row.now at ≡ Int (pos number)) }
+    ensures read { IfOk result (λ number. column row.now at ≡ Int (pos number)) }
+    ensures refused { IfErr result (λ _. (n : _) → n < 2 ^ 63 → column row.now at ≢ Int (pos n)) }
 {
-    match row.get::<u64>(at) {
-        Ok(number) => Whole::of(number).ok_or(OutOfForm),
-        Err(_) => Err(OutOfForm),
-    }
+    Whole::of(sum_at(row, at)?).ok_or(OutOfForm)
 }
 
 pub fn text_at(row: &Row, at: usize) -> Result<String, StoreError>

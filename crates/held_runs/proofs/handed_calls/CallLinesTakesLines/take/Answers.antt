@@ -36,7 +36,7 @@ returns-2 g c start lines was =
     let came = g.T.TakesCalls.meaning new.taker in
     let before = subst₂ (λ (n : List NameLine) e. HasTakenCalls n e step start.2 (g.T.TakesCalls.meaning calls.taker) calls.first calls.costs lines) (sym was.0) (sym was.1) was.2 in
     let handed = subst (λ f. HasTakenCalls calls.names.now calls.events step start.2 came f new.costs lines) h.none (h.taken start.2 lines before) in
-    let begun = row_begun calls.names.now calls.events step start.2 came line new.costs lines handed c.if-line-ne0.false in (
+    let begun = row_begun calls.names.now calls.events step start.2 came line new.costs lines handed c.in_ok-check_first.ensures.first in (
       arc_line line,
       c.in_ok-line.ensures,
       (h.same.0 ∙ was.0, h.same.1 ∙ was.1, subst₂ (λ (n : List NameLine) e. HasTakenCalls n e step start.2 came (Some line) new.costs (lines ++ arc_line line ∷ [])) was.0 was.1 begun),
