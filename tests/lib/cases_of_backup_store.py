@@ -67,19 +67,12 @@ def cases_of_refusals(tried):
 
 
 def imported(address, numbers, answered):
-    """Imports small files one after another, and keeps what was answered. Where the server is halted while it waits
-    for a request, it drops that request; sent again, it is answered as new or as held."""
+    """Imports small files one after another, and keeps what was answered. No request is dropped."""
     for number in numbers:
         body = f"events: Ir\nfn=f{number}\n1 {number}\n".encode()
         request = urllib.request.Request(f"{address}/runs/callgrind?label=n{number}", data=body)
-        for left in (2, 1, 0):
-            try:
-                with urllib.request.urlopen(request) as answer:
-                    answered.append(answer.read().replace(b"held", b"run"))
-                break
-            except OSError:
-                if not left:
-                    raise
+        with urllib.request.urlopen(request) as answer:
+            answered.append(answer.read())
 
 
 def cases_while_served(tried):
