@@ -15,7 +15,7 @@ def text():
 def commands():
     """The commands of "From your profiler": what stands in the first backticks of each row, by the row's first column."""
     section = text().split("## From your profiler\n")[1].split("\n## ")[0]
-    rows = re.findall(r"^\| ([^|`]+) \| `(.+?)` \|", section, re.M)
+    rows = re.findall(r"^\|([^|`]+)\|`(.+?)`\|", section, re.M)
     return {name.strip(): command.replace("\\|", "|") for name, command in rows}
 
 
