@@ -5,11 +5,13 @@
                    a write, a sync, a cut), `look` (a read of a file of STORE), `receive` (a read of a socket)
                    or `send` (a write to one)
    AT              which of these, counted from 1
-   ERROR           how it fails: a number of errno, or 0 to kill the program in its place
+   ERROR           how it fails: a number of errno, 0 to kill the program in its place, or -1 for a `send` that takes
+                   no byte
    TORN            the write before which the program is killed is made by half
    SHORT           a read of a file of INPUTS gives at most so many bytes, and a socket gives and takes at most so many
    COUNTS          a file into which is written at the end how many there were of each thing that FAULT names, in turn
-   LOG             a file into which each change of a file of STORE is written, and what is printed */
+   LOG             a file into which each change of a file of STORE is written, what is printed, and where a socket is
+                   written to; with how many allocations came before */
 #define _GNU_SOURCE
 #include <errno.h>
 #include <dlfcn.h>
@@ -105,7 +107,8 @@ static int has_path(int file, const char *beginning)
     return strncmp(path, beginning, strlen(beginning)) == 0;
 }
 
-/* Writes a change into the log: what it is, of which file, where, how long, and the bytes. */
+/* Writes a change into the log: what it is, of which file, where, how long, how many allocations came before, and the
+   bytes. */
 static void keep(const char *what, int file, off_t place, const void *bytes, size_t length)
 {
     char link[40], path[4096], text[4200];
@@ -115,7 +118,8 @@ static void keep(const char *what, int file, off_t place, const void *bytes, siz
     snprintf(link, sizeof link, "/proc/self/fd/%d", file);
     found = readlink(link, path, sizeof path - 1);
     path[found < 0 ? 0 : found] = 0;
-    NEXT(write)(log_file, text, snprintf(text, sizeof text, "%s %s %ld %zu\n", what, path, (long)place, length));
+    NEXT(write)(log_file, text, snprintf(text, sizeof text, "%s %s %ld %zu %lu\n", what, path, (long)place, length,
+                                           counts[ALLOCATION]));
     if (bytes)
         NEXT(write)(log_file, bytes, length);
 }
@@ -172,7 +176,8 @@ ssize_t recv(int socket, void *bytes, size_t length, int flags)
 ssize_t send(int socket, const void *bytes, size_t length, int flags)
 {
     if (fails(SEND))
-        return -1;
+        return error < 0 ? 0 : -1;
+    keep("send", socket, 0, NULL, 0);
     return NEXT(send)(socket, bytes, most && length > most ? most : length, flags);
 }
 

@@ -16,6 +16,9 @@ mod library;
 // What takes lines may refuse one; then each later piece is refused.
 #[cfg(test)]
 mod lines;
+// A list of commands of which one allocation is refused.
+#[cfg(test)]
+mod refused;
 // Reports of small rows.
 #[cfg(test)]
 mod reports;
