@@ -17,6 +17,8 @@ vm.runInThisContext(text("import."));
 const modules = globalThis.parcelRequire.modules;
 const reader = Object.keys(modules).find(it => String(modules[it][0]).includes("exports.importProfileGroupFromText="));
 
+// (it rounds what it has read before each call, so that the order of calls would change the weights a little)
+Math.round = it => it;
 globalThis.parcelRequire(reader).importProfileGroupFromText(path.basename(file), fs.readFileSync(file, "utf8")).then(group => {
     for (const profile of group.profiles) {
         const rows = [];
