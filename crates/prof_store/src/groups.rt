@@ -14,8 +14,8 @@ use sqlite::{Alter, Row};
 use std::alloc::Global;
 use std::cmp::Ordering;
 use store_columns::{
-    FromRow, OutOfForm, Rises, StoreError, is_group_name, number_at, number_or_null_at, read_rows, rise,
-    text_at,
+    FromRow, OutOfForm, Rises, StoreError, is_group_name, number_at, number_or_null_at, read_rows,
+    rise, text_at,
 };
 
 /// A run that is in a group.
