@@ -1,4 +1,5 @@
-/* Faults for a program, by LD_PRELOAD: for tests/faults, tests/faults_http and tests/by_hand/refuse_each. The variables:
+/* Faults for a program, by LD_PRELOAD: for tests/faults, tests/faults_http, tests/power_loss and
+   tests/by_hand/refuse_each. The variables:
 
    STORE, INPUTS   beginnings of paths: of the files of a store, and of files that are read
    FAULT           what is to fail: `allocation`, `read` (of a file of INPUTS), `change` (of a file of STORE:
@@ -10,13 +11,16 @@
    TORN            the write before which the program is killed is made by half
    SHORT           a read of a file of INPUTS gives at most so many bytes, and a socket gives and takes at most so many
    COUNTS          a file into which is written at the end how many there were of each thing that FAULT names, in turn
-   LOG             a file into which each change of a file of STORE is written, what is printed, and where a socket is
-                   written to; with how many allocations came before */
+   LOG             a file into which each change of a file of STORE is written, what is printed, and what a socket is
+                   given; with how many allocations came before
+   NAMES           into LOG is also written where a file of STORE is made (`make`), and where its folder is synced
+                   (`folder`) */
 #define _GNU_SOURCE
 #include <errno.h>
 #include <dlfcn.h>
 #include <fcntl.h>
 #include <signal.h>
+#include <stdarg.h>
 #include <stdio.h>
 #include <stdlib.h>
 #include <string.h>
@@ -29,7 +33,7 @@ enum kind { ALLOCATION, READ, CHANGE, LOOK, RECEIVE, SEND, KINDS };
 static const char *const names[KINDS] = {"allocation", "read", "change", "look", "receive", "send"};
 static unsigned long counts[KINDS], at, most;
 static enum kind failing = KINDS;
-static int error, is_torn, log_file = -1;
+static int error, is_torn, has_names, log_file = -1;
 static const char *store, *inputs;
 
 void *__libc_malloc(size_t);
@@ -57,6 +61,7 @@ __attribute__((constructor)) static void begin(void)
     most = number("SHORT");
     error = number("ERROR");
     is_torn = number("TORN");
+    has_names = number("NAMES");
     if (log)
         log_file = open(log, O_WRONLY | O_CREAT | O_TRUNC, 0600);
     memset(counts, 0, sizeof counts);
@@ -105,6 +110,17 @@ static int has_path(int file, const char *beginning)
         return 0;
     path[length] = 0;
     return strncmp(path, beginning, strlen(beginning)) == 0;
+}
+
+/* Whether it is the folder of STORE. */
+static int is_folder(int file)
+{
+    const char *last = store ? strrchr(store, '/') : NULL;
+    char link[40], path[4096];
+    ssize_t length;
+    snprintf(link, sizeof link, "/proc/self/fd/%d", file);
+    length = last ? readlink(link, path, sizeof path) : -1;
+    return length >= 0 && length == last - store && strncmp(path, store, length) == 0;
 }
 
 /* Writes a change into the log: what it is, of which file, where, how long, how many allocations came before, and the
@@ -177,8 +193,22 @@ ssize_t send(int socket, const void *bytes, size_t length, int flags)
 {
     if (fails(SEND))
         return error < 0 ? 0 : -1;
-    keep("send", socket, 0, NULL, 0);
-    return NEXT(send)(socket, bytes, most && length > most ? most : length, flags);
+    if (most && length > most)
+        length = most;
+    keep("send", socket, 0, bytes, length);
+    return NEXT(send)(socket, bytes, length, flags);
+}
+
+int open(const char *path, int flags, ...)
+{
+    int is_new = has_names && (flags & O_CREAT) && access(path, F_OK) != 0, file;
+    va_list rest;
+    va_start(rest, flags);
+    file = NEXT(open)(path, flags, flags & (O_CREAT | O_TMPFILE) ? va_arg(rest, mode_t) : 0);
+    va_end(rest);
+    if (is_new && file >= 0 && has_path(file, store))
+        keep("make", file, 0, NULL, 0);
+    return file;
 }
 
 ssize_t pread64(int file, void *bytes, size_t length, off64_t place)
@@ -230,6 +260,8 @@ int fsync(int file)
         if (fails(CHANGE))
             return -1;
         keep("sync", file, 0, NULL, 0);
+    } else if (has_names && is_folder(file)) {
+        keep("folder", file, 0, NULL, 0);
     }
     return NEXT(fsync)(file);
 }
