@@ -43,8 +43,6 @@ def fill_of(rng, part, name):
 
 def kept_of(rng, how, at, count):
     """Which bytes of a write are kept: a byte of ones or of zeros for each."""
-    if how == "keep":
-        return b"\xff" * count
     if how == "bytes":
         return rng.randbytes(count).translate(bytes(128) + b"\xff" * 128)
     first, end = at // SECTOR, (at + count - 1) // SECTOR + 1
@@ -67,11 +65,13 @@ def left(rng, part, hows, fill):
         data.extend(fill(len(data), max(0, end - len(data))))
         if content is None:
             del data[end:]
+        elif how == "keep":
+            data[place:end] = content
         elif content := content[:max(0, end - place)]:
-            kept = int.from_bytes(kept_of(rng, how, place, len(content)))
-            old = int.from_bytes(data[place:place + len(content)])
-            mixed = old & ~kept | int.from_bytes(content) & kept
-            data[place:place + len(content)] = mixed.to_bytes(len(content))
+            kept = int.from_bytes(kept_of(rng, how, place, len(content)), "big")
+            old = int.from_bytes(data[place:place + len(content)], "big")
+            mixed = old & ~kept | int.from_bytes(content, "big") & kept
+            data[place:place + len(content)] = mixed.to_bytes(len(content), "big")
     return bytes(data)
 
 
@@ -99,7 +99,7 @@ def points_of(before, changes, answer=None):
 
 
 def parts_kept(rng, parts, count):
-    """What may be kept of the steps of each file at a point, with words for it."""
+    """What may be kept of the steps of each file at a point, with words for it. A byte is not torn."""
     sizes = {name: len(part.steps) for name, part in parts.items()}
     steps = [(name, number) for name, size in sizes.items() for number in range(size)]
 
@@ -113,7 +113,8 @@ def parts_kept(rng, parts, count):
     for name, size in sizes.items():
         if size:
             yield f"{name} alone kept", all_but("lose", **{name: ["keep"] * size})
-            for how, rest in itertools.product(TEARS, ("keep", "lose")):
+            is_byte = len(parts[name].steps[-1][1] or b"..") == 1
+            for how, rest in itertools.product(() if is_byte else TEARS, ("keep", "lose")):
                 yield f"last of {name} in part ({how}, {rest})", all_but(rest, **{name: ["keep"] * (size - 1) + [how]})
     for name, number in rng.sample(steps, min(SINGLE, len(steps))):
         for one, rest in (("lose", "keep"), ("keep", "lose")):
@@ -127,11 +128,18 @@ def parts_kept(rng, parts, count):
             for _ in range(size)] for name, size in sizes.items()}
 
 
+def grows(part):
+    """Whether a file may have bytes in which nothing was written."""
+    least = min([len(part.synced), *(place for place, content in part.steps if content is None)])
+    return any(place + len(content or b"") > least for place, content in part.steps)
+
+
 def choices(rng, parts, count):
     """All that may be left at a point: what is kept, what stands where a file grew, and which files have no name."""
+    fills = FILLS if any(map(grows, parts.values())) else FILLS[:1]
     unnamed = [name for name, part in parts.items() if not part.is_named]
     absent = [names for size in range(len(unnamed) + 1) for names in itertools.combinations(unnamed, size)]
-    found = list(itertools.product(parts_kept(rng, parts, count), FILLS, absent))
+    found = list(itertools.product(parts_kept(rng, parts, count), fills, absent))
     rng.shuffle(found)
     return found
 
