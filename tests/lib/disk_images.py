@@ -115,7 +115,8 @@ def parts_kept(rng, parts, count):
             yield f"{name} alone kept", all_but("lose", **{name: ["keep"] * size})
             is_byte = len(parts[name].steps[-1][1] or b"..") == 1
             for how, rest in itertools.product(() if is_byte else TEARS, ("keep", "lose")):
-                yield f"last of {name} in part ({how}, {rest})", all_but(rest, **{name: ["keep"] * (size - 1) + [how]})
+                hows = {name: ["keep"] * (size - 1) + [how]}
+                yield f"last of {name} in part ({how}, {rest})", all_but(rest, **hows)
     for name, number in rng.sample(steps, min(SINGLE, len(steps))):
         for one, rest in (("lose", "keep"), ("keep", "lose")):
             hows = all_but(rest)
@@ -135,13 +136,14 @@ def grows(part):
 
 
 def choices(rng, parts, count):
-    """All that may be left at a point: what is kept, what stands where a file grew, and which files have no name."""
+    """All that may be left at a point: what is kept, what stands where a file grew, and which files have no name. What
+    was synced alone comes last."""
     fills = FILLS if any(map(grows, parts.values())) else FILLS[:1]
     unnamed = [name for name, part in parts.items() if not part.is_named]
     absent = [names for size in range(len(unnamed) + 1) for names in itertools.combinations(unnamed, size)]
-    found = list(itertools.product(parts_kept(rng, parts, count), fills, absent))
+    nothing, *found = itertools.product(parts_kept(rng, parts, count), fills, absent)
     rng.shuffle(found)
-    return found
+    return [*found, nothing]
 
 
 class Image(NamedTuple):
@@ -163,9 +165,11 @@ def built(rng, number, point, choice):
 
 
 def images(rng, points, count, most):
-    """Different images, one of each point in turn."""
+    """Different images, one of each point in turn: those where an answer was just given come first, and at each point
+    what was synced alone."""
     turns = [(number, point, choices(rng, point[0], count)) for number, point in enumerate(points)]
     rng.shuffle(turns)
+    turns.sort(key=lambda turn: turn[0] == 0 or turn[1][1] == points[turn[0] - 1][1])
     known, drawn = set(), 0
     while turns:
         for number, point, open_choices in turns:
