@@ -1,5 +1,5 @@
 -- The numbers that tables tell of a selection are those of its files.
-use Rattle.std.proofs.Common.{◌≡◌, ◌⊎◌, ℕ, true, false, not, List, [], ◌∷◌, map, filter, Ok, Err, inl, inr, refl, sym, ap, ap₂, subst, ◌∙◌, arith}
+use Rattle.std.proofs.Common.{◌≡◌, ◌⊎◌, ℕ, Bool, true, false, not, if◌then◌else◌, List, [], ◌∷◌, map, filter, Result, Ok, Err, inl, inr, refl, sym, ap, ap₂, subst, ◌∙◌, arith}
 use Rattle.sql_tables.proofs.Rows.{filter_same_on}
 use Rattle.prof_tables.specs.Changes as tables
 use Rattle.prof_tables.specs.Labels.{IsGroupName}
@@ -11,12 +11,14 @@ use Rattle.histories.specs.Legal.{has_group, has_run, when}
 use Rattle.histories.specs.Selections.{numbers_of}
 use Rattle.histories.specs.Stands.{AreBooksOf, TablesTell}
 use Rattle.histories.specs.declared.answers.Answer.TheVariants.{Refused}
+use Rattle.histories.specs.declared.answers.Refusal.{Refusal}
 use Rattle.histories.specs.declared.answers.Refusal.TheVariants.{NoSuchGroup, NoSuchRun}
+use Rattle.histories.specs.declared.answers.Selection.{Selection}
 use Rattle.histories.specs.declared.answers.Selection.TheVariants as selections
 use Rattle.histories.proofs.Selections.{are_selected}
 use Rattle.histories.proofs.Tells.{tells_group, tells_run}
 use Rattle.store_histories.proofs.Settled.{no_group_named}
-use Rattle.selected_runs.specs.Selected.{AreSelected}
+use Rattle.selected_runs.specs.Selected.{AreSelected, AreSelectedIn, IsSought}
 
 numbers_of_books : (t : Tables) (files : List File) (lines : List RunLine) → AreBooksOf files (map (run_held t) lines) → map (λ (r : RunLine). r.number) lines ≡ numbers_of files
 numbers_of_books t [] [] all = refl
@@ -27,15 +29,15 @@ numbers_of_books t (f ∷ files) (r ∷ lines) all = ap₂ ◌∷◌ all.0.numbe
 numbers_held : (h : History) (t : Tables) → TablesTell h t → numbers_in_tables t ≡ numbers_of (held h)
 numbers_held h t tell = numbers_of_books t (held h) t.runs tell.runs
 
-pub all_selected : (h : History) (t : Tables) (numbers : List ℕ) → TablesTell h t → numbers ≡ numbers_in_tables t → AreSelected h selections.All (Ok numbers)
+all_selected : (h : History) (t : Tables) (numbers : List ℕ) → TablesTell h t → numbers ≡ numbers_in_tables t → AreSelected h selections.All (Ok numbers)
 all_selected h t numbers tell is = (refl, is ∙ numbers_held h t tell ∙ sym (ap numbers_of (are_selected h tell.legal).all))
 
 -- ---- one run
 
-pub run_missing : (h : History) (t : Tables) (n : ℕ) → TablesTell h t → tables.has_run t n ≡ false → AreSelected h (selections.Run n) (Err NoSuchRun)
+run_missing : (h : History) (t : Tables) (n : ℕ) → TablesTell h t → tables.has_run t n ≡ false → AreSelected h (selections.Run n) (Err NoSuchRun)
 run_missing h t n tell none = ap (λ b. when (not b) (Refused NoSuchRun)) (sym (tells_run h t tell n) ∙ none)
 
-pub run_selected : (h : History) (t : Tables) (n : ℕ) → TablesTell h t → tables.has_run t n ≡ true → AreSelected h (selections.Run n) (Ok (n ∷ []))
+run_selected : (h : History) (t : Tables) (n : ℕ) → TablesTell h t → tables.has_run t n ≡ true → AreSelected h (selections.Run n) (Ok (n ∷ []))
 run_selected h t n tell some =
     let there : has_run h n ≡ true = sym (tells_run h t tell n) ∙ some in
     let one = (are_selected h tell.legal).one n there in
@@ -54,7 +56,7 @@ group_there h t name text tell named (inr empty) some =
     let there : has_group h [] ≡ true = sym (tells_group h t tell []) ∙ ap (tables.has_group t) (sym empty) ∙ some in
     absurd (let b : true ≡ false = sym there ∙ none in cc)
 
-pub group_selected : (h : History) (t : Tables) (name text : List ℕ) (numbers : List ℕ) → TablesTell h t → (IsGroupName name → text ≡ name) → (text ≡ name) ⊎ (text ≡ []) → tables.has_group t text ≡ true
+group_selected : (h : History) (t : Tables) (name text : List ℕ) (numbers : List ℕ) → TablesTell h t → (IsGroupName name → text ≡ name) → (text ≡ name) ⊎ (text ≡ []) → tables.has_group t text ≡ true
     → numbers ≡ members_in_tables text t → AreSelected h (selections.Group name) (Ok numbers)
 group_selected h t name text numbers tell named other some is =
     let same = group_there h t name text tell named other some in
@@ -68,6 +70,24 @@ missing_group h t name text tell named (inl same) none = sym (tells_group h t te
 missing_group h t name text tell named (inr empty) none =
     no_group_named h name tell.legal (λ form. no_empty_name (subst IsGroupName (sym (named form) ∙ empty) form))
 
-pub group_missing : (h : History) (t : Tables) (name text : List ℕ) → TablesTell h t → (IsGroupName name → text ≡ name) → (text ≡ name) ⊎ (text ≡ []) → tables.has_group t text ≡ false
+group_missing : (h : History) (t : Tables) (name text : List ℕ) → TablesTell h t → (IsGroupName name → text ≡ name) → (text ≡ name) ⊎ (text ≡ []) → tables.has_group t text ≡ false
     → AreSelected h (selections.Group name) (Err NoSuchGroup)
 group_missing h t name text tell named other none = ap (λ b. when (not b) (Refused NoSuchGroup)) (missing_group h t name text tell named other none)
+
+-- ---- what the tables tell of a selection
+
+run_told : (h : History) (t : Tables) (n : ℕ) (b : Bool) (found : Result (List ℕ) Refusal) → TablesTell h t → tables.has_run t n ≡ b → found ≡ (if b then Ok (n ∷ []) else Err NoSuchRun) → AreSelected h (selections.Run n) found
+run_told h t n true found tell is same = subst (AreSelected h (selections.Run n)) (sym same) (run_selected h t n tell is)
+run_told h t n false found tell is same = subst (AreSelected h (selections.Run n)) (sym same) (run_missing h t n tell is)
+
+group_told : (h : History) (t : Tables) (name text : List ℕ) (b : Bool) (found : Result (List ℕ) Refusal) → TablesTell h t → IsSought name text → tables.has_group t text ≡ b
+    → found ≡ (if b then Ok (members_in_tables text t) else Err NoSuchGroup) → AreSelected h (selections.Group name) found
+group_told h t name text true found tell sought is same =
+    subst (AreSelected h (selections.Group name)) (sym same) (group_selected h t name text (members_in_tables text t) tell sought.named sought.other is refl)
+group_told h t name text false found tell sought is same =
+    subst (AreSelected h (selections.Group name)) (sym same) (group_missing h t name text tell sought.named sought.other is)
+
+pub selected_told : (h : History) (t : Tables) (s : Selection) (found : Result (List ℕ) Refusal) → TablesTell h t → AreSelectedIn t s found → AreSelected h s found
+selected_told h t selections.All found tell is = subst (AreSelected h selections.All) (sym is) (all_selected h t (numbers_in_tables t) tell refl)
+selected_told h t (selections.Run n) found tell is = run_told h t n (tables.has_run t n) found tell refl is
+selected_told h t (selections.Group name) found tell is = group_told h t name is.0 (tables.has_group t is.0) found tell is.1 refl is.2

@@ -1,6 +1,6 @@
 // What runs that are held tell of their files: laws of the definitions, each the contract of
 // a function that does nothing.
-ghost use Rattle.std.specs.Prelude.{◌≡◌, ℕ, List, map};
+ghost use Rattle.std.specs.Prelude.{◌≡◌, ℕ, List, Result, map};
 ghost use Rattle.std.specs.List.{list_any};
 ghost use Rattle.sqlite_rules.specs.Lists.{Has};
 ghost use Rattle.cg_formulas.specs.declared.heads.FileHead.{FileHead};
@@ -14,11 +14,22 @@ ghost use Rattle.histories.specs.History.{History, File, held};
 ghost use Rattle.histories.specs.Reports.{event_records, has_event};
 ghost use Rattle.histories.specs.Selections.{numbers_of, selected};
 ghost use Rattle.histories.specs.Stands.{TablesTell};
+ghost use Rattle.histories.specs.declared.answers.Refusal.{Refusal};
 ghost use Rattle.histories.specs.declared.answers.Selection.{Selection};
 ghost use Rattle.held_runs.specs.HeldHeads.{IsHeadIn};
 ghost use Rattle.selected_runs.specs.Counted.{AreCounted, event_cells, has_counts};
+ghost use Rattle.selected_runs.specs.EventRuns.{AreEventRuns, AreEventRunsIn};
 ghost use Rattle.selected_runs.specs.Heads.{TellsHead};
+ghost use Rattle.selected_runs.specs.Selected.{AreSelected, AreSelectedIn};
 ghost use Rattle.selected_runs.specs.declared.counting.Counted.{Counted};
+
+/// What tables that stand for a history tell of a selection is what is selected after it: its runs, those of
+/// an event that is asked, or why there are none.
+pub fn selections_are_told()
+    ensures selected { (h : History) (t : Tables) (s : Selection) (found : Result (List ℕ) Refusal) → TablesTell h t → AreSelectedIn t s found → AreSelected h s found }
+    ensures event { (h : History) (t : Tables) (s : Selection) (event : List ℕ) (found : Result (List Counted) Refusal) → TablesTell h t
+        → AreEventRunsIn t s event found → AreEventRuns h t s event found }
+{}
 
 /// In tables that stand for a history, the head that the lines of a run say is what its file says: its
 /// events, its derived events with their coefficients, and the totals that it states. What is verified

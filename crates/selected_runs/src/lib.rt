@@ -17,6 +17,6 @@ mod selecting;
 pub use adding::{AddsRuns, add_runs};
 pub use bounds::{cost_within, is_within, weighted_within};
 pub use counting::{Counted, count_runs};
-pub use laws::{heads_are_told, runs_cost_what_files_cost};
+pub use laws::{heads_are_told, runs_cost_what_files_cost, selections_are_told};
 pub use runs_asked::{EventRuns, event_runs, have_event};
 pub use selecting::{Numbers, name_text, one_run, select_runs};

@@ -2,9 +2,9 @@
 ghost use Rattle.std.specs.Prelude.{◌≡◌};
 ghost use Rattle.std.specs.List.{list_any};
 ghost use Rattle.std.specs.Result.{is_ok};
-ghost use Rattle.prof_store.specs.Shown.{Asks};
+ghost use Rattle.prof_store.specs.Shown.{Asks, Told};
 ghost use Rattle.selected_runs.specs.Counted.{has_counts};
-ghost use Rattle.selected_runs.specs.EventRuns.{AreEventRuns, ToldIn};
+ghost use Rattle.selected_runs.specs.EventRuns.{AreEventRunsIn};
 
 use crate::counting::{Counted, count_runs};
 use crate::selecting::select_runs;
@@ -31,7 +31,7 @@ pub fn event_runs<S: Alter>(
     selection: &Selection,
     event: &[u8],
 ) -> Result<EventRuns, StoreError>
-    ensures told { ToldIn S.Store result store.old store.new (λ h t found. AreEventRuns h t selection.now event.now found) }
+    ensures told { Told S.Store result store.old store.new (λ t found. AreEventRunsIn t selection.now event.now found) }
     ensures asks { Asks S.Store (is_ok result) store.old store.new }
 {
     let numbers = match select_runs(store, alloc, selection)? {

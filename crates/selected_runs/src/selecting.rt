@@ -1,10 +1,10 @@
 // The runs that a selection names.
-ghost use Rattle.std.specs.Prelude.{◌≡◌, ◌⊎◌, [], IfOk};
+ghost use Rattle.std.specs.Prelude.{◌≡◌, ◌⊎◌, []};
 ghost use Rattle.std.specs.Result.{is_ok};
 ghost use Rattle.prof_tables.specs.Labels.{IsGroupName};
-ghost use Rattle.prof_store.specs.Shown.{Asks};
+ghost use Rattle.prof_store.specs.Shown.{Asks, Told};
 ghost use Rattle.histories.specs.declared.answers.Selection.TheVariants as selections;
-ghost use Rattle.selected_runs.specs.Selected.{AreSelected, ToldOf};
+ghost use Rattle.selected_runs.specs.Selected.{AreSelectedIn};
 
 use cg_text::ListVec;
 use held_runs::{members_of, run_numbers};
@@ -18,7 +18,7 @@ pub type Numbers = Result<ListVec<u32>, Refusal>;
 
 /// All runs.
 fn all_runs<S: Alter>(store: &mut Store<S>, alloc: Global) -> Result<Numbers, StoreError>
-    ensures told { ToldOf S.Store result store.old store.new (λ h found. AreSelected h selections.All found) }
+    ensures told { Told S.Store result store.old store.new (λ t found. AreSelectedIn t selections.All found) }
     ensures asks { Asks S.Store (is_ok result) store.old store.new }
 {
     let numbers = run_numbers(store, alloc)?;
@@ -31,7 +31,7 @@ pub fn one_run<S: Alter>(
     alloc: Global,
     number: u32,
 ) -> Result<Numbers, StoreError>
-    ensures told { ToldOf S.Store result store.old store.new (λ h found. AreSelected h (selections.Run number) found) }
+    ensures told { Told S.Store result store.old store.new (λ t found. AreSelectedIn t (selections.Run number) found) }
     ensures asks { Asks S.Store (is_ok result) store.old store.new }
 {
     if !store.has_run(number)? {
@@ -60,7 +60,7 @@ fn of_group<S: Alter>(
     alloc: Global,
     name: &[u8],
 ) -> Result<Numbers, StoreError>
-    ensures told { ToldOf S.Store result store.old store.new (λ h found. AreSelected h (selections.Group name.now) found) }
+    ensures told { Told S.Store result store.old store.new (λ t found. AreSelectedIn t (selections.Group name.now) found) }
     ensures asks { Asks S.Store (is_ok result) store.old store.new }
 {
     let name = name_text(name);
@@ -77,7 +77,7 @@ pub fn select_runs<S: Alter>(
     alloc: Global,
     selection: &Selection,
 ) -> Result<Numbers, StoreError>
-    ensures told { ToldOf S.Store result store.old store.new (λ h found. AreSelected h selection.now found) }
+    ensures told { Told S.Store result store.old store.new (λ t found. AreSelectedIn t selection.now found) }
     ensures asks { Asks S.Store (is_ok result) store.old store.new }
 {
     match selection {

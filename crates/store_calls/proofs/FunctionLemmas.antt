@@ -1,5 +1,5 @@
 -- The calls of a function over runs are those of the files of a selection, and so is whether it is known.
-use Rattle.std.proofs.Common.{◌≡◌, ℕ, zero, suc, ◌+◌, ◌<◌, Bool, true, false, not, ◌&&◌, ◌||◌, ◌==◌, nat_lt, if◌then◌else◌, List, [], ◌∷◌, ◌++◌, map, fold, length, get_or, take, slice_index, Option, Some, None, Ok, Err, refl, sym, ap, ap₂, subst, ◌∙◌, arith}
+use Rattle.std.proofs.Common.{◌≡◌, ℕ, zero, suc, ◌+◌, ◌<◌, Bool, true, false, not, ◌&&◌, ◌||◌, ◌==◌, nat_lt, if◌then◌else◌, List, [], ◌∷◌, ◌++◌, map, fold, length, get_or, take, slice_index, Option, Some, None, Result, Ok, Err, refl, sym, ap, ap₂, subst, ◌∙◌, arith}
 use Rattle.std.specs.Prelude.{unwrap_or}
 use Rattle.std.specs.List.{list_any, AllByRecursion}
 use Rattle.std.proofs.lemmas.Bool.Decides.{nat_tests}
@@ -39,11 +39,12 @@ use Rattle.histories.specs.declared.answers.Refusal.TheVariants.{NoSuchName}
 use Rattle.histories.specs.declared.answers.Selection.{Selection}
 use Rattle.histories.proofs.Runs.{tells_rows}
 use Rattle.histories.proofs.Tests.{any-append}
+use Rattle.store_histories.specs.FromTables.{AnswersFor, text_or_no_name}
 use Rattle.selected_runs.specs.Added.{AreAdded}
-use Rattle.selected_runs.specs.EventRuns.{AreEventRuns}
-use Rattle.store_calls.specs.FunctionCalls.{AreArcsOf, AreTakenFrom, IsCallsText, IsTakenFrom, Taken, is_in_cells, is_in_rows, is_in_stacks, not_taken, text_taken, touches, with_call, with_cell_sought, with_row_of_calls, with_stack_sought}
+use Rattle.selected_runs.specs.EventRuns.{AreEventRuns, AreEventRunsIn}
+use Rattle.store_calls.specs.FunctionCalls.{AreArcsOf, AreCallsShown, ShowsCalls, AreTakenFrom, IsCallsText, IsTakenFrom, Taken, is_in_cells, is_in_rows, is_in_stacks, not_taken, text_taken, touches, with_call, with_cell_sought, with_row_of_calls, with_stack_sought}
 use Rattle.selected_runs.specs.declared.counting.Counted.{Counted}
-use Rattle.selected_runs.proofs.EventLemmas.{both_held}
+use Rattle.selected_runs.proofs.EventLemmas.{both_held, event_runs_told}
 use Rattle.selected_runs.proofs.RunLemmas.{AreRunsOf, are_runs, selected_held}
 
 -- ---- rows, taken one after another
@@ -352,32 +353,37 @@ calls_stand h t event tell (f ∷ files) (run ∷ runs) (r ∷ rows) all are arc
 
 -- ---- the answers
 
-abbrev answer_for : Option (List ℕ) → Answer
-answer_for (Some text) = Text text
-answer_for None = Refused NoSuchName
-
-pub calls_are_due : (h : History) (t : Tables) (s : Selection) (side : CallSide) (event object name : List ℕ) (runs : List Counted) (text : Option (List ℕ)) → TablesTell h t → AreEventRuns h t s event (Ok runs)
-    → IsCallsText t runs side (function_spot object name) event text → answer_for text ≡ expected_of_query h (queries.Calls s side event object name)
-calls_are_due h t s side event object name runs text tell found is =
+due_of : (h : History) (t : Tables) (s : Selection) (side : CallSide) (event object name : List ℕ) (runs : List Counted) (text : Option (List ℕ)) → TablesTell h t → AreEventRuns h t s event (Ok runs)
+    → IsCallsText t runs side (function_spot object name) event text → text_or_no_name text ≡ expected_of_query h (queries.Calls s side event object name)
+due_of h t s side event object name runs text tell found is =
     let f = function_spot object name in
     let files = selected h s in
     let all = selected_held h s in
     let are = are_runs h t event tell files runs all found.2 in
     let same : calls_by side f (all_arcs is.0) ≡ calls_by side f (all_calls (map (event_records event) files)) =
     calls_are_records side f (map (event_records event) files) is.0 (calls_stand h t event tell files runs is.0 all are is.1) in
-    ap answer_for is.2
-    ∙ ap (λ sums. answer_for (if list_any (touches f) (all_arcs is.0) || list_any (is_in_rows t f) runs
+    ap text_or_no_name is.2
+    ∙ ap (λ sums. text_or_no_name (if list_any (touches f) (all_arcs is.0) || list_any (is_in_rows t f) runs
     then Some (call_report_text event (call_report_of (record { side = side; function = f; sums = sums }))) else None)) same
-    ∙ ap (λ b. answer_for (if b then Some (calls_text side f files event) else None)) (runs_know f h t event tell files runs is.0 all are is.1)
+    ∙ ap (λ b. text_or_no_name (if b then Some (calls_text side f files event) else None)) (runs_know f h t event tell files runs is.0 all are is.1)
     ∙ go (list_any (knows f) files) (calls_text side f files event)
     ∙ both_held h t s event runs found (no_name f files ∷ []) (Text (calls_text side f files event))
   where
-    go : (b : Bool) (text : List ℕ) → answer_for (if b then Some text else None) ≡ first_or (when (not b) (Refused NoSuchName) ∷ []) (Text text)
+    go : (b : Bool) (text : List ℕ) → text_or_no_name (if b then Some text else None) ≡ first_or (when (not b) (Refused NoSuchName) ∷ []) (Text text)
     go true text = refl
     go false text = refl
 
-pub calls_are_refused : (h : History) (t : Tables) (s : Selection) (side : CallSide) (event object name : List ℕ) (refusal : Refusal) → AreEventRuns h t s event (Err refusal)
+refused_of : (h : History) (t : Tables) (s : Selection) (side : CallSide) (event object name : List ℕ) (refusal : Refusal) → AreEventRuns h t s event (Err refusal)
     → Refused refusal ≡ expected_of_query h (queries.Calls s side event object name)
-calls_are_refused h t s side event object name refusal found =
+refused_of h t s side event object name refusal found =
     let f = function_spot object name in
     sym (found (no_name f (selected h s) ∷ []) (Text (calls_text side f (selected h s) event)))
+
+due_by : (h : History) (t : Tables) (s : Selection) (side : CallSide) (event object name : List ℕ) (found : Result (List Counted) Refusal) (answer : Answer) → TablesTell h t → AreEventRunsIn t s event found
+    → AnswersFor (λ runs. ShowsCalls t runs side (function_spot object name) event) found answer → answer ≡ expected_of_query h (queries.Calls s side event object name)
+due_by h t s side event object name (Ok runs) answer tell found is = is.2 ∙ due_of h t s side event object name runs is.0 tell (event_runs_told h t s event (Ok runs) tell found) is.1
+due_by h t s side event object name (Err refusal) answer tell found is = is ∙ refused_of h t s side event object name refusal (event_runs_told h t s event (Err refusal) tell found)
+
+pub calls_are_due : (s : Selection) (side : CallSide) (event object name : List ℕ) (h : History) (t : Tables) (answer : Answer) → TablesTell h t → AreCallsShown t s side event object name answer
+    → answer ≡ expected_of_query h (queries.Calls s side event object name)
+calls_are_due s side event object name h t answer tell is = due_by h t s side event object name is.found answer tell is.is_found is.answer_is

@@ -32,17 +32,19 @@ use Rattle.histories.specs.Reports.{called_records, counts_of, event_stacks, has
 use Rattle.histories.specs.Selections.{selected}
 use Rattle.histories.specs.Stands.{TablesTell}
 use Rattle.histories.specs.Told.{CallsCome, TellsRows}
+use Rattle.histories.specs.declared.answers.Answer.{Answer}
 use Rattle.histories.specs.declared.answers.Answer.TheVariants.{Text, Refused}
 use Rattle.histories.specs.declared.answers.Query.TheVariants.{Inclusive}
 use Rattle.histories.specs.declared.answers.Refusal.{Refusal}
 use Rattle.histories.specs.declared.answers.Selection.{Selection}
 use Rattle.histories.proofs.Runs.{tells_rows}
-use Rattle.std.specs.Prelude.{Ok, Err}
+use Rattle.std.specs.Prelude.{Result, Ok, Err}
+use Rattle.store_histories.specs.FromTables.{AnswersFor, ShowsText}
 use Rattle.selected_runs.specs.Added.{AreAdded}
-use Rattle.selected_runs.specs.EventRuns.{AreEventRuns}
-use Rattle.store_calls.specs.InclusiveRuns.{Adds, AreRowsOf, AreRowsOfKind, AreRowsOfRuns, IsInclusiveText, call_rows, own_rows, with_call_row, with_own_row, with_stack_row}
+use Rattle.selected_runs.specs.EventRuns.{AreEventRuns, AreEventRunsIn}
+use Rattle.store_calls.specs.InclusiveRuns.{Adds, AreRowsOf, AreRowsOfKind, AreRowsOfRuns, IsInclusive, IsInclusiveText, call_rows, own_rows, with_call_row, with_own_row, with_stack_row}
 use Rattle.selected_runs.specs.declared.counting.Counted.{Counted}
-use Rattle.selected_runs.proofs.EventLemmas.{both_held}
+use Rattle.selected_runs.proofs.EventLemmas.{both_held, event_runs_told}
 use Rattle.store_calls.proofs.KindLemmas.{kind_told}
 use Rattle.selected_runs.proofs.RunLemmas.{AreRunsOf, IsRunOf, are_runs, selected_held}
 
@@ -376,14 +378,22 @@ inclusive_by event files rows costs added is =
 
 -- ---- the answers
 
-pub inclusive_is_due : (h : History) (t : Tables) (s : Selection) (event : List ℕ) (runs : List Counted) (text : List ℕ) → TablesTell h t → AreEventRuns h t s event (Ok runs) → IsInclusiveText t runs event text
+due_of : (h : History) (t : Tables) (s : Selection) (event : List ℕ) (runs : List Counted) (text : List ℕ) → TablesTell h t → AreEventRuns h t s event (Ok runs) → IsInclusiveText t runs event text
     → Text text ≡ expected_of_query h (Inclusive s event)
-inclusive_is_due h t s event runs text tell found is =
+due_of h t s event runs text tell found is =
     let files = selected h s in
     let all = selected_held h s in
     let added = files_added h t event tell files runs is.1.0 all (are_runs h t event tell files runs all found.2) is.1.1 in
     ap Text (is.2 ∙ ap (λ costs. inclusive_text event (inclusive_report costs)) (inclusive_by event files is.1.0 is.0 added is.1.2))
     ∙ both_held h t s event runs found [] (Text (inclusive_of_files files event))
 
-pub inclusive_is_refused : (h : History) (t : Tables) (s : Selection) (event : List ℕ) (refusal : Refusal) → AreEventRuns h t s event (Err refusal) → Refused refusal ≡ expected_of_query h (Inclusive s event)
-inclusive_is_refused h t s event refusal found = sym (found [] (Text (inclusive_of_files (selected h s) event)))
+refused_of : (h : History) (t : Tables) (s : Selection) (event : List ℕ) (refusal : Refusal) → AreEventRuns h t s event (Err refusal) → Refused refusal ≡ expected_of_query h (Inclusive s event)
+refused_of h t s event refusal found = sym (found [] (Text (inclusive_of_files (selected h s) event)))
+
+due_by : (h : History) (t : Tables) (s : Selection) (event : List ℕ) (found : Result (List Counted) Refusal) (answer : Answer) → TablesTell h t → AreEventRunsIn t s event found
+    → AnswersFor (λ runs. ShowsText (IsInclusiveText t runs event)) found answer → answer ≡ expected_of_query h (Inclusive s event)
+due_by h t s event (Ok runs) answer tell found is = is.2 ∙ due_of h t s event runs is.0 tell (event_runs_told h t s event (Ok runs) tell found) is.1
+due_by h t s event (Err refusal) answer tell found is = is ∙ refused_of h t s event refusal (event_runs_told h t s event (Err refusal) tell found)
+
+pub inclusive_is_due : (s : Selection) (event : List ℕ) (h : History) (t : Tables) (answer : Answer) → TablesTell h t → IsInclusive t s event answer → answer ≡ expected_of_query h (Inclusive s event)
+inclusive_is_due s event h t answer tell is = due_by h t s event is.found answer tell is.is_found is.answer_is

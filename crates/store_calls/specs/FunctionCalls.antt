@@ -13,6 +13,10 @@ use Rattle.cost_reports.specs.declared.call_sides.CallSide.{CallSide}
 use Rattle.prof_books.specs.Book.{cells_held, stacks_held}
 use Rattle.prof_tables.specs.Tables.{Tables}
 use Rattle.held_runs.specs.HandedCalls.{AreCallsOf}
+use Rattle.histories.specs.declared.answers.Answer.{Answer}
+use Rattle.histories.specs.declared.answers.Selection.{Selection}
+use Rattle.store_histories.specs.FromTables.{AnswersBy, text_or_no_name}
+use Rattle.selected_runs.specs.EventRuns.{AreEventRunsIn}
 use Rattle.selected_runs.specs.declared.counting.Counted.{Counted}
 use Rattle.store_calls.specs.declared.function_calls.FunctionCalls.{FunctionCalls}
 
@@ -95,3 +99,11 @@ calls_text_over t runs side f event arcs =
 
 abbrev pub IsCallsText : Tables → List Counted → CallSide → Spot → List ℕ → Option (List ℕ) → Type 0
 IsCallsText t runs side f event text = (arcs : List EventArcs) × AreArcsOf runs t arcs × (text ≡ calls_text_over t runs side f event arcs)
+
+-- ---- what is answered over the tables, whatever they stand for
+
+abbrev pub ShowsCalls : Tables → List Counted → CallSide → Spot → List ℕ → Answer → Type 0
+ShowsCalls t runs side f event answer = (text : Option (List ℕ)) × IsCallsText t runs side f event text × (answer ≡ text_or_no_name text)
+
+abbrev pub AreCallsShown : Tables → Selection → CallSide → List ℕ → List ℕ → List ℕ → Answer → Type 0
+AreCallsShown t s side event object name answer = AnswersBy (AreEventRunsIn t s event) (λ runs. ShowsCalls t runs side (function_spot object name) event) answer

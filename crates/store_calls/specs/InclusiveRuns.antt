@@ -13,6 +13,10 @@ use Rattle.profile_records.specs.declared.kinds.Kind.{Kind}
 use Rattle.profile_records.specs.declared.kinds.Kind.TheVariants.{Callgrind, Folded}
 use Rattle.held_runs.specs.HandedCalls.{AreCallsOf}
 use Rattle.held_runs.specs.Lookups.{IsKindOf}
+use Rattle.histories.specs.declared.answers.Answer.{Answer}
+use Rattle.histories.specs.declared.answers.Selection.{Selection}
+use Rattle.store_histories.specs.FromTables.{AnswersBy, ShowsText}
+use Rattle.selected_runs.specs.EventRuns.{AreEventRunsIn}
 use Rattle.selected_runs.specs.declared.counting.Counted.{Counted}
 
 -- ---- one row, of a run whose columns count so often
@@ -62,3 +66,7 @@ Adds Are old new = (rows : List InclusiveRow) × Are rows × (new ≡ fold with_
 abbrev pub IsInclusiveText : Tables → List Counted → List ℕ → List ℕ → Type 0
 IsInclusiveText t runs event text =
     (costs : InclusiveCosts) × Adds (AreRowsOfRuns t runs) no_costs costs × (text ≡ inclusive_text event (inclusive_report costs))
+
+-- what is answered over the tables, whatever they stand for
+abbrev pub IsInclusive : Tables → Selection → List ℕ → Answer → Type 0
+IsInclusive t s event answer = AnswersBy (AreEventRunsIn t s event) (λ runs. ShowsText (IsInclusiveText t runs event)) answer

@@ -8,7 +8,7 @@ ghost use Rattle.prof_store.specs.Shown.{Told};
 ghost use Rattle.held_runs.specs.Walks.{AsksIfOpen};
 ghost use Rattle.histories.specs.declared.answers.Query.TheVariants.{Calls};
 ghost use Rattle.store_histories.specs.Answered.{Asks as AnswersAsked};
-ghost use Rattle.store_calls.specs.FunctionCalls.{IsCallsText, is_in_rows, not_taken, taken_of, text_taken};
+ghost use Rattle.store_calls.specs.FunctionCalls.{AreCallsShown, IsCallsText, is_in_rows, not_taken, taken_of, text_taken};
 
 use crate::function_calls::{CallRows, FunctionCalls};
 use crate::known_names::is_in_runs;
@@ -150,7 +150,7 @@ pub fn calls_answer<S: Alter>(
     object: &ListVec<u8>,
     function: &ListVec<u8>,
 ) -> Result<Answer, StoreError>
-    ensures { AnswersAsked S.Store (Calls selection.now side event.now object.now function.now) result store.old store.new }
+    ensures { AnswersAsked S.Store (λ t. AreCallsShown t selection.now side event.now object.now function.now) (Calls selection.now side event.now object.now function.now) result store.old store.new }
 {
     let event = event.as_slice();
     let runs = match event_runs(store, alloc, selection, event)? {

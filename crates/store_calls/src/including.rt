@@ -10,7 +10,7 @@ ghost use Rattle.held_runs.specs.HeldCells.{IsOfAnEvent};
 ghost use Rattle.held_runs.specs.Walks.{AsksIfOpen};
 ghost use Rattle.histories.specs.declared.answers.Query.TheVariants.{Inclusive};
 ghost use Rattle.store_histories.specs.Answered.{Asks as AnswersAsked};
-ghost use Rattle.store_calls.specs.InclusiveRuns.{Adds, AreRowsCounted, AreRowsOfKind, IsInclusiveText};
+ghost use Rattle.store_calls.specs.InclusiveRuns.{Adds, AreRowsCounted, AreRowsOfKind, IsInclusive, IsInclusiveText};
 
 use crate::inclusive_sums::InclusiveRows;
 use cg_text::ListVec;
@@ -159,7 +159,7 @@ pub fn inclusive_answer<S: Alter>(
     selection: &Selection,
     event: &ListVec<u8>,
 ) -> Result<Answer, StoreError>
-    ensures { AnswersAsked S.Store (Inclusive selection.now event.now) result store.old store.new }
+    ensures { AnswersAsked S.Store (λ t. IsInclusive t selection.now event.now) (Inclusive selection.now event.now) result store.old store.new }
 {
     let event = event.as_slice();
     let runs = match event_runs(store, alloc, selection, event)? {

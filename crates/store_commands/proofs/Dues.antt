@@ -1,9 +1,12 @@
 -- What is due to removals and changes of groups.
-use Rattle.std.proofs.Common.{◌≡◌, sym, None, ℕ, inl, Bool, true, false, not, nat_le, List, [], ◌∷◌, length, Some, refl, ap, ap₂, ◌∙◌}
+use Rattle.std.proofs.Common.{◌≡◌, sym, subst, None, ℕ, inl, Bool, true, false, not, nat_le, List, [], ◌∷◌, length, Option, Some, refl, ap, ap₂, ◌∙◌}
 use Rattle.sqlite_trees.specs.Tree.{Trees}
+use Rattle.sqlite_trees.specs.declared.store.Store.{Ghosts}
 use Rattle.sqlite.specs.State.{State}
-use Rattle.sql_tables.specs.Calls.{Changed}
-use Rattle.sql_tables.proofs.Calls.{rests_as, changed_as}
+use Rattle.sql_tables.specs.Calls.{Asked, Changed}
+use Rattle.sql_tables.proofs.Calls.{asked_rests, rests_as, changed_as}
+use Rattle.prof_store.specs.Shown.{StandsFor, shown}
+use Rattle.prof_store.specs.declared.store.Store.{Store}
 use Rattle.prof_tables.specs.Changes as tables
 use Rattle.prof_tables.specs.Labels.{IsGroupName}
 use Rattle.prof_tables.specs.Schema.{schema_one}
@@ -13,6 +16,7 @@ use Rattle.histories.specs.Legal.{IsHistory, IsInForm, IsLegal, expected_answer,
 use Rattle.histories.specs.Stands.{TablesTell}
 use Rattle.histories.specs.declared.answers.Answer.{Answer}
 use Rattle.histories.specs.declared.answers.Answer.TheVariants as answers
+use Rattle.histories.specs.declared.answers.Refusal.{Refusal}
 use Rattle.histories.specs.declared.answers.Refusal.TheVariants as reasons
 use Rattle.histories.specs.declared.limits.Limits.{Limits}
 use Rattle.histories.proofs.Tells.{tells_run, tells_group, tells_groups}
@@ -20,7 +24,7 @@ use Rattle.histories.proofs.Steps.{tell_made, tell_dropped, tell_joined, tell_le
 use Rattle.store_histories.specs.Answered.{with_turn}
 use Rattle.store_histories.specs.Refusals.{missing_of, refused_or}
 use Rattle.store_histories.proofs.Settled.{bad_name, no_group_named}
-use Rattle.store_commands.specs.Changes.{changed, change_said, refusal_for, unmade_for, unnamed_for}
+use Rattle.store_commands.specs.Changes.{IsDoneIn, changed, change_said, refusal_for, unmade_for, unnamed_for}
 use Rattle.store_commands.specs.declared.changes.GroupChange.{GroupChange}
 use Rattle.store_commands.specs.declared.changes.GroupChange.TheVariants as change
 
@@ -107,3 +111,16 @@ pub given_less : (P Q : Tables → Type 0) (After : Tables → Trees → Type 0)
 given_less P Q After answered done old new less h =
     changed_as schema_one (λ t db. Q t × Holds t db) After (λ t db. P t × Holds t db) After answered done old new
     (λ t was. (t, rests_as schema_one (λ db. P t × Holds t db) (λ db. Q t × Holds t db) old was (less t was.holds.0, was.holds.1), λ next k. k)) h
+
+-- ---- what becomes of lines, whatever they stand for
+
+module _ {S : Type 0} (g : Ghosts S) (t : Tables) (old mid new : Store S) (asked : Asked schema_one true (shown g old) (shown g mid)) (stands : StandsFor g t old) where
+  pub stays_in : (refusal : Refusal) (found : Option Refusal) (change : Tables → Tables) → found ≡ Some refusal → IsDoneIn g found change t (answers.Refused refusal) mid
+  stays_in refusal found change is =
+      subst (λ r. IsDoneIn g r change t (answers.Refused refusal) mid) (sym is) (refl, asked_rests schema_one (Holds t) (shown g old) (shown g mid) asked stands)
+
+  pub done_in : (P : Tables → Type 0) (found : Option Refusal) (change : Tables → Tables) → P t → found ≡ None
+      → Changed schema_one (λ t db. P t × Holds t db) (λ t. Holds (change t)) true true (shown g mid) (shown g new) → IsDoneIn g found change t answers.Done new
+  done_in P found change held is made =
+      let mid_stands = asked_rests schema_one (Holds t) (shown g old) (shown g mid) asked stands in
+      subst (λ r. IsDoneIn g r change t answers.Done new) (sym is) (refl, made.done refl t (rests_as schema_one (Holds t) (λ db. P t × Holds t db) (shown g mid) mid_stands (held, mid_stands.holds)))

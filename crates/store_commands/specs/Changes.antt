@@ -1,9 +1,14 @@
 -- What is done to a group by its name.
-use Rattle.std.specs.Prelude.{Bool, true, false, List, ℕ, nat_le, length, Option, Some, None}
-use Rattle.prof_tables.specs.Changes.{has_group, has_run, with_group, without_group, joined, without_member, with_baseline}
+use Rattle.std.specs.Prelude.{◌≡◌, Bool, true, false, List, ℕ, nat_le, length, Option, Some, None}
+use Rattle.sqlite_trees.specs.declared.store.Store.{Ghosts}
+use Rattle.prof_store.specs.Shown.{StandsFor}
+use Rattle.prof_store.specs.declared.store.Store.{Store}
+use Rattle.prof_tables.specs.Changes.{has_group, has_run, with_group, without_group, without_run, joined, without_member, with_baseline}
 use Rattle.prof_tables.specs.Tables.{Tables}
 use Rattle.histories.specs.History as history
 use Rattle.histories.specs.History.{Said}
+use Rattle.histories.specs.declared.answers.Answer.{Answer}
+use Rattle.histories.specs.declared.answers.Answer.TheVariants as answers
 use Rattle.histories.specs.declared.answers.Refusal.{Refusal}
 use Rattle.histories.specs.declared.answers.Refusal.TheVariants.{BadName, Full, GroupTaken, NoSuchGroup}
 use Rattle.histories.specs.declared.limits.Limits.{Limits}
@@ -48,3 +53,19 @@ unnamed_for Drop = NoSuchGroup
 unnamed_for (Join n) = NoSuchGroup
 unnamed_for (Leave n) = NoSuchGroup
 unnamed_for (SetBaseline n) = NoSuchGroup
+
+-- ---- over lines of tables, whatever they stand for
+
+-- a change is refused and they stay, or it is done and they become what it makes of them
+module _ {S : Type 0} (g : Ghosts S) where
+  abbrev pub IsDoneIn : Option Refusal → (Tables → Tables) → Tables → Answer → Store S → Type 0
+  IsDoneIn (Some refusal) change t answer new = (answer ≡ answers.Refused refusal) × StandsFor g t new
+  IsDoneIn None change t answer new = (answer ≡ answers.Done) × StandsFor g (change t) new
+
+  -- a run is removed
+  abbrev pub RemovesIn : ℕ → Tables → Answer → Store S → Type 0
+  RemovesIn n t answer new = IsDoneIn (missing_of true (has_run t n)) (without_run n) t answer new
+
+  -- a group is changed under a name that a group can have
+  abbrev pub GroupsIn : Limits → GroupChange → List ℕ → Tables → Answer → Store S → Type 0
+  GroupsIn limits change name t answer new = IsDoneIn (refusal_for limits change name t) (changed change name) t answer new

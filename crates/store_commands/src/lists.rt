@@ -2,12 +2,12 @@
 ghost use Rattle.std.specs.Prelude.{◌≡◌, ◌++◌, flat_map, codes, string_bytes, IfOk, OnOk};
 ghost use Rattle.std.specs.Result.{is_ok};
 ghost use Rattle.std.specs.Fmt.{decimal};
-ghost use Rattle.prof_store.specs.Shown.{IsFaithful, Asks};
-ghost use Rattle.histories.specs.History.{History};
+ghost use Rattle.prof_store.specs.Shown.{Asks, Told};
 ghost use Rattle.histories.specs.Texts as texts;
 ghost use Rattle.histories.specs.declared.answers.Query.TheVariants.{Runs, Groups};
-ghost use Rattle.store_histories.specs.Answered.{StandsForHistory, Asks as AnswersAsked};
-ghost use Rattle.store_commands.specs.Lists.{entry_line, group_entry_line};
+ghost use Rattle.store_histories.specs.Answered.{Asks as AnswersAsked};
+ghost use Rattle.store_histories.specs.FromTables.{ShowsText};
+ghost use Rattle.store_commands.specs.Lists.{IsListOfGroups, IsListOfRuns, entry_line, group_entry_line};
 
 use cg_text::ListVec;
 use histories::Answer;
@@ -121,7 +121,7 @@ fn groups_text(alloc: Global, groups: &[GroupEntry]) -> Result<ListVec<u8>, Allo
 
 /// The list of the runs that are held.
 fn list_runs<S: Alter>(store: &mut Store<S>, alloc: Global) -> Result<ListVec<u8>, StoreError>
-    ensures told { IsFaithful S.Store store.new → (h : History) → StandsForHistory S.Store h store.old → IfOk result (λ text. text ≡ texts.runs_text h) }
+    ensures told { Told S.Store result store.old store.new IsListOfRuns }
     ensures asks { Asks S.Store (is_ok result) store.old store.new }
 {
     let runs = store.runs(alloc)?;
@@ -130,7 +130,7 @@ fn list_runs<S: Alter>(store: &mut Store<S>, alloc: Global) -> Result<ListVec<u8
 
 /// The list of the groups.
 fn list_groups<S: Alter>(store: &mut Store<S>, alloc: Global) -> Result<ListVec<u8>, StoreError>
-    ensures told { IsFaithful S.Store store.new → (h : History) → StandsForHistory S.Store h store.old → IfOk result (λ text. text ≡ texts.groups_text h) }
+    ensures told { Told S.Store result store.old store.new IsListOfGroups }
     ensures asks { Asks S.Store (is_ok result) store.old store.new }
 {
     let groups = store.groups(alloc)?;
@@ -139,7 +139,7 @@ fn list_groups<S: Alter>(store: &mut Store<S>, alloc: Global) -> Result<ListVec<
 
 /// Answers which runs are held.
 pub fn runs_answer<S: Alter>(store: &mut Store<S>, alloc: Global) -> Result<Answer, StoreError>
-    ensures { AnswersAsked S.Store Runs result store.old store.new }
+    ensures { AnswersAsked S.Store (λ t. ShowsText (IsListOfRuns t)) Runs result store.old store.new }
 {
     let text = list_runs(store, alloc)?;
     Ok(Answer::Text(text))
@@ -147,7 +147,7 @@ pub fn runs_answer<S: Alter>(store: &mut Store<S>, alloc: Global) -> Result<Answ
 
 /// Answers which groups are there.
 pub fn groups_answer<S: Alter>(store: &mut Store<S>, alloc: Global) -> Result<Answer, StoreError>
-    ensures { AnswersAsked S.Store Groups result store.old store.new }
+    ensures { AnswersAsked S.Store (λ t. ShowsText (IsListOfGroups t)) Groups result store.old store.new }
 {
     let text = list_groups(store, alloc)?;
     Ok(Answer::Text(text))

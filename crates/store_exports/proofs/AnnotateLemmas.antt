@@ -1,5 +1,5 @@
 -- What the lines of a file cost over runs, and what is answered of it.
-use Rattle.std.proofs.Common.{◌≡◌, ℕ, ◌+◌, ◌<◌, Bool, true, false, not, ◌||◌, if◌then◌else◌, List, [], ◌∷◌, map, fold, length, get_or, take, Option, Some, None, Ok, Err, bytes_eq, refl, sym, ap, ap₂, subst, ◌∙◌}
+use Rattle.std.proofs.Common.{◌≡◌, ℕ, ◌+◌, ◌<◌, Bool, true, false, not, ◌||◌, if◌then◌else◌, List, [], ◌∷◌, map, fold, length, get_or, take, Option, Some, None, Result, Ok, Err, bytes_eq, refl, sym, ap, ap₂, subst, ◌∙◌}
 use Rattle.std.specs.Prelude.{unwrap_or}
 use Rattle.std.specs.List.{AllByRecursion, list_any}
 use Rattle.std.specs.Ordering.{nat_cmp}
@@ -27,14 +27,15 @@ use Rattle.histories.specs.declared.answers.Refusal.{Refusal}
 use Rattle.histories.specs.declared.answers.Refusal.TheVariants.{NoSuchName}
 use Rattle.histories.specs.declared.answers.Selection.{Selection}
 use Rattle.histories.proofs.Runs.{tells_rows}
+use Rattle.store_histories.specs.FromTables.{AnswersFor, text_or_no_name}
 use Rattle.selected_runs.specs.Counted.{event_cells}
-use Rattle.selected_runs.specs.EventRuns.{AreEventRuns}
+use Rattle.selected_runs.specs.EventRuns.{AreEventRuns, AreEventRunsIn}
 use Rattle.selected_runs.specs.declared.counting.Counted.{Counted}
-use Rattle.selected_runs.proofs.EventLemmas.{both_held}
+use Rattle.selected_runs.proofs.EventLemmas.{both_held, event_runs_told}
 use Rattle.selected_runs.specs.Added.{AreAdded}
 use Rattle.selected_runs.proofs.AddedLemmas.{added_fold}
 use Rattle.selected_runs.proofs.RunLemmas.{AreRunsOf, are_runs, runs_stand, selected_held}
-use Rattle.store_exports.specs.Annotated.{annotated_if_known, annotated_over, lines_from, lines_over}
+use Rattle.store_exports.specs.Annotated.{IsAnnotated, annotated_if_known, annotated_over, lines_from, lines_over}
 
 -- ---- cells that are added
 
@@ -93,13 +94,9 @@ file_stays costs (row ∷ rows) = file_stays (with_line costs row) rows ∙ one 
 
 -- ---- the answers
 
-abbrev answer_for : Option (List ℕ) → Answer
-answer_for (Some text) = Text text
-answer_for None = Refused NoSuchName
-
-pub annotation_is_due : (h : History) (t : Tables) (s : Selection) (event name source : List ℕ) (runs : List Counted) (text : Option (List ℕ)) → TablesTell h t → AreEventRuns h t s event (Ok runs)
-    → text ≡ annotated_over t runs event name source → answer_for text ≡ expected_of_query h (queries.Annotate s event name source)
-annotation_is_due h t s event name source runs text tell found is =
+due_of : (h : History) (t : Tables) (s : Selection) (event name source : List ℕ) (runs : List Counted) (text : Option (List ℕ)) → TablesTell h t → AreEventRuns h t s event (Ok runs)
+    → text ≡ annotated_over t runs event name source → text_or_no_name text ≡ expected_of_query h (queries.Annotate s event name source)
+due_of h t s event name source runs text tell found is =
     let files = selected h s in
     let records = map (event_records event) files in
     let cells = map (event_cells t) runs in
@@ -110,16 +107,25 @@ annotation_is_due h t s event name source runs text tell found is =
     let known : lines.known ≡ list_any (knows_source name) files = known-records name records cells stand above ∙ known_by_files event name files in
     let shown : annotation_text event (annotation_of lines.file source lines.costs) ≡ annotated_text event name source files =
     ap (λ file. annotation_text event (annotation_of file source lines.costs)) (file_stays (no_lines name) (all_rows cells)) ∙ ap (annotation_text event) (annotation-records name source records cells stand) in
-    ap answer_for is
-    ∙ ap₂ (λ b x. answer_for (if b then Some x else None)) known shown
+    ap text_or_no_name is
+    ∙ ap₂ (λ b x. text_or_no_name (if b then Some x else None)) known shown
     ∙ go (list_any (knows_source name) files) (annotated_text event name source files)
     ∙ both_held h t s event runs found (no_source name files ∷ []) (Text (annotated_text event name source files))
   where
-    go : (b : Bool) (text : List ℕ) → answer_for (if b then Some text else None) ≡ first_or (when (not b) (Refused NoSuchName) ∷ []) (Text text)
+    go : (b : Bool) (text : List ℕ) → text_or_no_name (if b then Some text else None) ≡ first_or (when (not b) (Refused NoSuchName) ∷ []) (Text text)
     go true text = refl
     go false text = refl
 
-pub annotation_is_refused : (h : History) (t : Tables) (s : Selection) (event name source : List ℕ) (refusal : Refusal) → AreEventRuns h t s event (Err refusal)
+refused_of : (h : History) (t : Tables) (s : Selection) (event name source : List ℕ) (refusal : Refusal) → AreEventRuns h t s event (Err refusal)
     → Refused refusal ≡ expected_of_query h (queries.Annotate s event name source)
-annotation_is_refused h t s event name source refusal found =
+refused_of h t s event name source refusal found =
     sym (found (no_source name (selected h s) ∷ []) (Text (annotated_text event name source (selected h s))))
+
+due_by : (h : History) (t : Tables) (s : Selection) (event name source : List ℕ) (found : Result (List Counted) Refusal) (answer : Answer) → TablesTell h t → AreEventRunsIn t s event found
+    → AnswersFor (λ runs given. given ≡ text_or_no_name (annotated_over t runs event name source)) found answer → answer ≡ expected_of_query h (queries.Annotate s event name source)
+due_by h t s event name source (Ok runs) answer tell found is = is ∙ due_of h t s event name source runs _ tell (event_runs_told h t s event (Ok runs) tell found) refl
+due_by h t s event name source (Err refusal) answer tell found is = is ∙ refused_of h t s event name source refusal (event_runs_told h t s event (Err refusal) tell found)
+
+pub annotation_is_due : (s : Selection) (event name source : List ℕ) (h : History) (t : Tables) (answer : Answer) → TablesTell h t → IsAnnotated t s event name source answer
+    → answer ≡ expected_of_query h (queries.Annotate s event name source)
+annotation_is_due s event name source h t answer tell is = due_by h t s event name source is.found answer tell is.is_found is.answer_is

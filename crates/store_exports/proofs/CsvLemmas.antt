@@ -1,5 +1,5 @@
 -- What places cost by the names of events over runs, and what is answered of it.
-use Rattle.std.proofs.Common.{◌≡◌, ℕ, ◌+◌, ◌<◌, List, [], ◌∷◌, ◌++◌, map, fold, length, get_or, take, Ok, Err, refl, sym, ap, subst, ◌∙◌}
+use Rattle.std.proofs.Common.{◌≡◌, ℕ, ◌+◌, ◌<◌, List, [], ◌∷◌, ◌++◌, map, fold, length, get_or, take, Result, Ok, Err, refl, sym, ap, subst, ◌∙◌}
 use Rattle.std.specs.List.{AllByRecursion}
 use Rattle.sqlite_rules.specs.Lists.{Has}
 use Rattle.cost_exports.specs.Csv.{EventSpot, NamedCells, NamesStandForEach, csv_of_cells, csv_text, with_cell_in, with_cells}
@@ -14,16 +14,19 @@ use Rattle.histories.specs.History.{History, File, held}
 use Rattle.histories.specs.Legal.{expected_of_query, first_or}
 use Rattle.histories.specs.Selections.{numbers_of, selected}
 use Rattle.histories.specs.Stands.{TablesTell}
+use Rattle.histories.specs.declared.answers.Answer.{Answer}
 use Rattle.histories.specs.declared.answers.Answer.TheVariants.{Text, Refused}
 use Rattle.histories.specs.declared.answers.Query.TheVariants as queries
 use Rattle.histories.specs.declared.answers.Refusal.{Refusal}
 use Rattle.histories.specs.declared.answers.Selection.{Selection}
 use Rattle.histories.proofs.Runs.{tells_rows}
+use Rattle.store_histories.specs.FromTables.{AnswersFor, ShowsText}
 use Rattle.selected_runs.specs.Added.{AreAdded}
-use Rattle.selected_runs.specs.Selected.{AreSelected}
+use Rattle.selected_runs.specs.Selected.{AreSelected, AreSelectedIn}
 use Rattle.selected_runs.proofs.HeadLemmas.{held_head_told}
 use Rattle.selected_runs.proofs.RunLemmas.{selected_held}
-use Rattle.store_exports.specs.CsvRuns.{AddsRun, AreNamedCells, AreNamedRuns, AreSums, IsCsvText}
+use Rattle.selected_runs.proofs.SelectLemmas.{selected_told}
+use Rattle.store_exports.specs.CsvRuns.{AddsRun, AreNamedCells, AreNamedRuns, AreSums, IsCsv, IsCsvText}
 
 -- ---- cells that are added
 
@@ -59,13 +62,21 @@ runs_named h t tell (f ∷ files) (r ∷ runs) all are =
 
 -- ---- the answers
 
-pub csv_is_due : (h : History) (t : Tables) (s : Selection) (numbers text : List ℕ) → TablesTell h t → AreSelected h s (Ok numbers) → IsCsvText t numbers text → Text text ≡ expected_of_query h (queries.Csv s)
-csv_is_due h t s numbers text tell found is =
+due_of : (h : History) (t : Tables) (s : Selection) (numbers text : List ℕ) → TablesTell h t → AreSelected h s (Ok numbers) → IsCsvText t numbers text → Text text ≡ expected_of_query h (queries.Csv s)
+due_of h t s numbers text tell found is =
     let files = selected h s in
     let sums = is.1 in
     let stand = runs_named h t tell files sums.0 (selected_held h s) (subst (λ ns. AreNamedRuns t ns sums.0) found.1 sums.1) in
     ap Text (is.2 ∙ ap csv_text (sums.2 ∙ csv-records (map named_records files) sums.0 stand))
     ∙ ap (λ missing. first_or (missing ∷ []) (Text (csv_of_files files))) (sym found.0)
 
-pub csv_is_refused : (h : History) (s : Selection) (refusal : Refusal) → AreSelected h s (Err refusal) → Refused refusal ≡ expected_of_query h (queries.Csv s)
-csv_is_refused h s refusal found = ap (λ missing. first_or (missing ∷ []) (Text (csv_of_files (selected h s)))) (sym found)
+refused_of : (h : History) (s : Selection) (refusal : Refusal) → AreSelected h s (Err refusal) → Refused refusal ≡ expected_of_query h (queries.Csv s)
+refused_of h s refusal found = ap (λ missing. first_or (missing ∷ []) (Text (csv_of_files (selected h s)))) (sym found)
+
+due_by : (h : History) (t : Tables) (s : Selection) (found : Result (List ℕ) Refusal) (answer : Answer) → TablesTell h t → AreSelectedIn t s found
+    → AnswersFor (λ numbers. ShowsText (IsCsvText t numbers)) found answer → answer ≡ expected_of_query h (queries.Csv s)
+due_by h t s (Ok numbers) answer tell found is = is.2 ∙ due_of h t s numbers is.0 tell (selected_told h t s (Ok numbers) tell found) is.1
+due_by h t s (Err refusal) answer tell found is = is ∙ refused_of h s refusal (selected_told h t s (Err refusal) tell found)
+
+pub csv_is_due : (s : Selection) (h : History) (t : Tables) (answer : Answer) → TablesTell h t → IsCsv t s answer → answer ≡ expected_of_query h (queries.Csv s)
+csv_is_due s h t answer tell is = due_by h t s is.found answer tell is.is_found is.answer_is

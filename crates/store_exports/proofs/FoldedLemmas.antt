@@ -1,5 +1,5 @@
 -- Stacks with their counts over runs, and what is answered of them.
-use Rattle.std.proofs.Common.{◌≡◌, ℕ, ◌+◌, ◌<◌, List, [], ◌∷◌, ◌++◌, fold, length, get_or, take, Ok, Err, append_assoc, append-nil, Bool, refl, sym, ap, ap₂, subst, ◌∙◌, arith}
+use Rattle.std.proofs.Common.{◌≡◌, ℕ, ◌+◌, ◌<◌, List, [], ◌∷◌, ◌++◌, fold, length, get_or, take, Result, Ok, Err, append_assoc, append-nil, Bool, refl, sym, ap, ap₂, subst, ◌∙◌, arith}
 use Rattle.std.specs.Prelude.{flat_map}
 use Rattle.std.specs.List.{AllByRecursion}
 use Rattle.std.proofs.lemmas.Grind.{fold-append}
@@ -18,15 +18,18 @@ use Rattle.histories.specs.History.{History, File, held}
 use Rattle.histories.specs.Legal.{expected_of_query, first_or}
 use Rattle.histories.specs.Selections.{numbers_of, selected}
 use Rattle.histories.specs.Stands.{TablesTell}
+use Rattle.histories.specs.declared.answers.Answer.{Answer}
 use Rattle.histories.specs.declared.answers.Answer.TheVariants.{Text, Refused}
 use Rattle.histories.specs.declared.answers.Query.TheVariants as queries
 use Rattle.histories.specs.declared.answers.Refusal.{Refusal}
 use Rattle.histories.specs.declared.answers.Selection.{Selection}
 use Rattle.histories.proofs.Runs.{tells_rows}
+use Rattle.store_histories.specs.FromTables.{AnswersFor}
 use Rattle.selected_runs.specs.Added.{AreAdded}
-use Rattle.selected_runs.specs.Selected.{AreSelected}
+use Rattle.selected_runs.specs.Selected.{AreSelected, AreSelectedIn}
 use Rattle.selected_runs.proofs.RunLemmas.{selected_held}
-use Rattle.store_exports.specs.FoldedRuns.{folded_over, stacks_from, stacks_over}
+use Rattle.selected_runs.proofs.SelectLemmas.{selected_told}
+use Rattle.store_exports.specs.FoldedRuns.{IsFolded, folded_over, stacks_from, stacks_over}
 
 -- ---- the stacks of runs, one run after another
 
@@ -56,13 +59,21 @@ same_stacks h t tell (f ∷ files) all = λ test.
 
 -- ---- the answers
 
-pub folded_is_due : (h : History) (t : Tables) (s : Selection) (numbers text : List ℕ) → TablesTell h t → AreSelected h s (Ok numbers) → text ≡ folded_over t numbers → Text text ≡ expected_of_query h (queries.Folded s)
-folded_is_due h t s numbers text tell found is =
+due_of : (h : History) (t : Tables) (s : Selection) (numbers text : List ℕ) → TablesTell h t → AreSelected h s (Ok numbers) → text ≡ folded_over t numbers → Text text ≡ expected_of_query h (queries.Folded s)
+due_of h t s numbers text tell found is =
     let files = selected h s in
     let stacks : folded_of_rows (stacks_over t numbers) ≡ _ =
     ap (λ ns. folded_of_rows (stacks_over t ns)) found.1 ∙ same_folded (stacks_over t (numbers_of files)) (flat_map file_stacks files) (same_stacks h t tell files (selected_held h s)) in
     ap Text (is ∙ ap folded_text stacks)
     ∙ ap (λ missing. first_or (missing ∷ []) (Text (folded_of_files files))) (sym found.0)
 
-pub folded_is_refused : (h : History) (s : Selection) (refusal : Refusal) → AreSelected h s (Err refusal) → Refused refusal ≡ expected_of_query h (queries.Folded s)
-folded_is_refused h s refusal found = ap (λ missing. first_or (missing ∷ []) (Text (folded_of_files (selected h s)))) (sym found)
+refused_of : (h : History) (s : Selection) (refusal : Refusal) → AreSelected h s (Err refusal) → Refused refusal ≡ expected_of_query h (queries.Folded s)
+refused_of h s refusal found = ap (λ missing. first_or (missing ∷ []) (Text (folded_of_files (selected h s)))) (sym found)
+
+due_by : (h : History) (t : Tables) (s : Selection) (found : Result (List ℕ) Refusal) (answer : Answer) → TablesTell h t → AreSelectedIn t s found
+    → AnswersFor (λ numbers given. given ≡ Text (folded_over t numbers)) found answer → answer ≡ expected_of_query h (queries.Folded s)
+due_by h t s (Ok numbers) answer tell found is = is ∙ due_of h t s numbers (folded_over t numbers) tell (selected_told h t s (Ok numbers) tell found) refl
+due_by h t s (Err refusal) answer tell found is = is ∙ refused_of h s refusal (selected_told h t s (Err refusal) tell found)
+
+pub folded_is_due : (s : Selection) (h : History) (t : Tables) (answer : Answer) → TablesTell h t → IsFolded t s answer → answer ≡ expected_of_query h (queries.Folded s)
+folded_is_due s h t answer tell is = due_by h t s is.found answer tell is.is_found is.answer_is

@@ -1,10 +1,14 @@
 -- A source with what its lines cost over runs of the tables.
-use Rattle.std.specs.Prelude.{ℕ, if◌then◌else◌, List, [], map, fold, Option, Some, None, unwrap_or}
+use Rattle.std.specs.Prelude.{◌≡◌, ℕ, if◌then◌else◌, List, [], map, fold, Option, Some, None, unwrap_or}
 use Rattle.cost_exports.specs.Annotations.{FileCosts, annotation_of, annotation_text, no_lines, with_line}
 use Rattle.cost_reports.specs.Costs.{all_rows, weighted}
 use Rattle.prof_books.specs.Book.{cells_held}
 use Rattle.prof_tables.specs.Tables.{Tables}
+use Rattle.histories.specs.declared.answers.Answer.{Answer}
+use Rattle.histories.specs.declared.answers.Selection.{Selection}
+use Rattle.store_histories.specs.FromTables.{AnswersBy, text_or_no_name}
 use Rattle.selected_runs.specs.Counted.{event_cells}
+use Rattle.selected_runs.specs.EventRuns.{AreEventRunsIn}
 use Rattle.selected_runs.specs.declared.counting.Counted.{Counted}
 
 -- the cells of a run are added; in a run without the event they cost nothing
@@ -21,3 +25,7 @@ annotated_if_known event source costs = if costs.known then Some (annotation_tex
 
 abbrev pub annotated_over : Tables → List Counted → List ℕ → List ℕ → List ℕ → Option (List ℕ)
 annotated_over t runs event name source = annotated_if_known event source (lines_over t runs name)
+
+-- what is answered over the tables, whatever they stand for
+abbrev pub IsAnnotated : Tables → Selection → List ℕ → List ℕ → List ℕ → Answer → Type 0
+IsAnnotated t s event name source answer = AnswersBy (AreEventRunsIn t s event) (λ runs given. given ≡ text_or_no_name (annotated_over t runs event name source)) answer

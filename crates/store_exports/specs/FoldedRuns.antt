@@ -1,9 +1,14 @@
 -- Stacks with their counts over runs of the tables.
-use Rattle.std.specs.Prelude.{ℕ, List, fold, flat_map}
+use Rattle.std.specs.Prelude.{◌≡◌, ℕ, List, fold, flat_map}
 use Rattle.cost_exports.specs.Folded.{folded_of_rows, folded_text, with_stack}
 use Rattle.cost_rows.specs.declared.rows.StackRow.{StackRow}
 use Rattle.prof_books.specs.Book.{stacks_held}
 use Rattle.prof_tables.specs.Tables.{Tables}
+use Rattle.histories.specs.declared.answers.Answer.{Answer}
+use Rattle.histories.specs.declared.answers.Answer.TheVariants.{Text}
+use Rattle.histories.specs.declared.answers.Selection.{Selection}
+use Rattle.store_histories.specs.FromTables.{AnswersBy}
+use Rattle.selected_runs.specs.Selected.{AreSelectedIn}
 
 -- the stacks of runs, one run after another
 abbrev pub stacks_over : Tables → List ℕ → List (StackRow (List ℕ))
@@ -15,3 +20,7 @@ stacks_from t counts number = fold with_stack counts (stacks_held number t)
 
 abbrev pub folded_over : Tables → List ℕ → List ℕ
 folded_over t numbers = folded_text (folded_of_rows (stacks_over t numbers))
+
+-- what is answered over the tables, whatever they stand for
+abbrev pub IsFolded : Tables → Selection → Answer → Type 0
+IsFolded t s answer = AnswersBy (AreSelectedIn t s) (λ numbers given. given ≡ Text (folded_over t numbers)) answer

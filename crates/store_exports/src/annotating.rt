@@ -8,7 +8,7 @@ ghost use Rattle.held_runs.specs.HeldCells.{IsOfAnEvent};
 ghost use Rattle.held_runs.specs.Walks.{AsksIfOpen};
 ghost use Rattle.histories.specs.declared.answers.Query.TheVariants.{Annotate};
 ghost use Rattle.store_histories.specs.Answered.{Asks as AnswersAsked};
-ghost use Rattle.store_exports.specs.Annotated.{annotated_over, lines_from};
+ghost use Rattle.store_exports.specs.Annotated.{IsAnnotated, annotated_over, lines_from};
 
 use crate::takers::LineRows;
 use cg_text::ListVec;
@@ -100,7 +100,7 @@ pub fn annotate_answer<S: Alter>(
     name: &ListVec<u8>,
     source: &ListVec<u8>,
 ) -> Result<Answer, StoreError>
-    ensures { AnswersAsked S.Store (Annotate selection.now event.now name.now source.now) result store.old store.new }
+    ensures { AnswersAsked S.Store (λ t. IsAnnotated t selection.now event.now name.now source.now) (Annotate selection.now event.now name.now source.now) result store.old store.new }
 {
     let event = event.as_slice();
     let runs = match event_runs(store, alloc, selection, event)? {

@@ -10,7 +10,7 @@ ghost use Rattle.held_runs.specs.HeldHeads.{IsHeadIn};
 ghost use Rattle.held_runs.specs.Walks.{AsksIfOpen};
 ghost use Rattle.histories.specs.declared.answers.Query.TheVariants.{Csv};
 ghost use Rattle.store_histories.specs.Answered.{Asks as AnswersAsked};
-ghost use Rattle.store_exports.specs.CsvRuns.{AddsRun, IsCsvText};
+ghost use Rattle.store_exports.specs.CsvRuns.{AddsRun, IsCsv, IsCsvText};
 
 use crate::takers::NamedRows;
 use cg_text::ListVec;
@@ -97,7 +97,7 @@ pub fn csv_answer<S: Alter>(
     alloc: Global,
     selection: &Selection,
 ) -> Result<Answer, StoreError>
-    ensures { AnswersAsked S.Store (Csv selection.now) result store.old store.new }
+    ensures { AnswersAsked S.Store (λ t. IsCsv t selection.now) (Csv selection.now) result store.old store.new }
 {
     let numbers = match select_runs(store, alloc, selection)? {
         Ok(numbers) => numbers,

@@ -5,7 +5,7 @@ ghost use Rattle.prof_store.specs.Shown.{Told};
 ghost use Rattle.held_runs.specs.Walks.{AsksIfOpen};
 ghost use Rattle.histories.specs.declared.answers.Query.TheVariants.{Folded};
 ghost use Rattle.store_histories.specs.Answered.{Asks as AnswersAsked};
-ghost use Rattle.store_exports.specs.FoldedRuns.{folded_over};
+ghost use Rattle.store_exports.specs.FoldedRuns.{IsFolded, folded_over};
 
 use crate::takers::StackRows;
 use cg_text::ListVec;
@@ -66,7 +66,7 @@ pub fn folded_answer<S: Alter>(
     alloc: Global,
     selection: &Selection,
 ) -> Result<Answer, StoreError>
-    ensures { AnswersAsked S.Store (Folded selection.now) result store.old store.new }
+    ensures { AnswersAsked S.Store (λ t. IsFolded t selection.now) (Folded selection.now) result store.old store.new }
 {
     let numbers = match select_runs(store, alloc, selection)? {
         Ok(numbers) => numbers,

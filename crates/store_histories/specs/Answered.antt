@@ -82,14 +82,15 @@ module _ {S : Type 0} (g : Ghosts S) where
     pub turned : Changed schema_one TellsHistory (Follows limits said) (is_accepted answer) (is_accepted answer) (shown g old) (shown g new)
     pub answered : (h : History) → HasHistory h old → IsAnswered limits h said answer new
 
-  -- a question was answered, with a text or a refusal, what is due after each history that the tables stand for; the store was only asked
-  pub record WasAsked (query : Query) (result : Result Answer StoreError) (old new : Store S) : Type 0 where
+  -- a question was answered, with a text or a refusal, as lines of tables are, whatever they stand for, and what is expected after each history that they do stand for; the store was only asked
+  pub record WasAsked (Shows : Tables → Answer → Type 0) (query : Query) (result : Result Answer StoreError) (old new : Store S) : Type 0 where
+    pub told : (t : Tables) → StandsFor g t old → IfOk result (Shows t)
     pub expected_answer : (h : History) → StandsForHistory h old → IfOk result (λ answer. answer ≡ expected_of_query h query)
     pub still : has_changed result ≡ false
     pub asks : Asked schema_one (is_ok result) (shown g old) (shown g new)
 
-  abbrev pub Asks : Query → Result Answer StoreError → Store S → Store S → Type 0
-  Asks query result old new = IsFaithful g new → WasAsked query result old new
+  abbrev pub Asks : (Tables → Answer → Type 0) → Query → Result Answer StoreError → Store S → Store S → Type 0
+  Asks Shows query result old new = IsFaithful g new → WasAsked Shows query result old new
 
   -- turns one after another, each from the store that the one before left
   abbrev pub Links : Limits → History → Store S → Store S → Type 0

@@ -1,5 +1,5 @@
 -- The answers to questions by key.
-use Rattle.std.proofs.Common.{◌≡◌, ℕ, List, [], Ok, Err, sym, ap, ◌∙◌}
+use Rattle.std.proofs.Common.{◌≡◌, ℕ, List, [], Result, Ok, Err, refl, sym, ap, ◌∙◌}
 use Rattle.cost_rows.specs.declared.keys.Key.{Key}
 use Rattle.cost_reports.specs.KeyReports.{report_of}
 use Rattle.cost_reports.specs.KeyTexts.{key_report_text}
@@ -10,22 +10,33 @@ use Rattle.histories.specs.Legal.{expected_of_query}
 use Rattle.histories.specs.Reports.{by_text}
 use Rattle.histories.specs.Selections.{selected}
 use Rattle.histories.specs.Stands.{TablesTell}
+use Rattle.histories.specs.declared.answers.Answer.{Answer}
 use Rattle.histories.specs.declared.answers.Answer.TheVariants.{Text, Refused}
 use Rattle.histories.specs.declared.answers.Query.TheVariants.{By}
 use Rattle.histories.specs.declared.answers.Refusal.{Refusal}
 use Rattle.histories.specs.declared.answers.Selection.{Selection}
-use Rattle.selected_runs.specs.EventRuns.{AreEventRuns}
+use Rattle.store_histories.specs.FromTables.{AnswersFor}
+use Rattle.selected_runs.specs.EventRuns.{AreEventRuns, AreEventRunsIn}
 use Rattle.selected_runs.specs.declared.counting.Counted.{Counted}
-use Rattle.selected_runs.proofs.EventLemmas.{both_held}
+use Rattle.selected_runs.proofs.EventLemmas.{both_held, event_runs_told}
 use Rattle.selected_runs.proofs.RunLemmas.{runs_cost}
-use Rattle.store_reports.specs.Reported.{report_over}
+use Rattle.store_reports.specs.Reported.{IsReported, report_over}
 
-pub by_is_due : (h : History) (t : Tables) (s : Selection) (key : Key) (event : List ℕ) (cut : Cut) (runs : List Counted) (text : List ℕ) → TablesTell h t → AreEventRuns h t s event (Ok runs)
+by_is_due : (h : History) (t : Tables) (s : Selection) (key : Key) (event : List ℕ) (cut : Cut) (runs : List Counted) (text : List ℕ) → TablesTell h t → AreEventRuns h t s event (Ok runs)
     → text ≡ report_over t runs key event cut → Text text ≡ expected_of_query h (By s key event cut)
 by_is_due h t s key event cut runs text tell found is =
     ap Text (is ∙ ap (λ sums. key_report_text event (report_of key cut sums)) (runs_cost h t s key event runs tell found.2))
     ∙ both_held h t s event runs found [] (Text (by_text (selected h s) key event cut))
 
-pub by_is_refused : (h : History) (t : Tables) (s : Selection) (key : Key) (event : List ℕ) (cut : Cut) (refusal : Refusal) → AreEventRuns h t s event (Err refusal)
+by_is_refused : (h : History) (t : Tables) (s : Selection) (key : Key) (event : List ℕ) (cut : Cut) (refusal : Refusal) → AreEventRuns h t s event (Err refusal)
     → Refused refusal ≡ expected_of_query h (By s key event cut)
 by_is_refused h t s key event cut refusal found = sym (found [] (Text (by_text (selected h s) key event cut)))
+
+due_by : (h : History) (t : Tables) (s : Selection) (key : Key) (event : List ℕ) (cut : Cut) (found : Result (List Counted) Refusal) (answer : Answer) → TablesTell h t → AreEventRunsIn t s event found
+    → AnswersFor (λ runs given. given ≡ Text (report_over t runs key event cut)) found answer → answer ≡ expected_of_query h (By s key event cut)
+due_by h t s key event cut (Ok runs) answer tell found is = is ∙ by_is_due h t s key event cut runs _ tell (event_runs_told h t s event (Ok runs) tell found) refl
+due_by h t s key event cut (Err refusal) answer tell found is = is ∙ by_is_refused h t s key event cut refusal (event_runs_told h t s event (Err refusal) tell found)
+
+pub reported_is_due : (s : Selection) (key : Key) (event : List ℕ) (cut : Cut) (h : History) (t : Tables) (answer : Answer) → TablesTell h t → IsReported t s key event cut answer
+    → answer ≡ expected_of_query h (By s key event cut)
+reported_is_due s key event cut h t answer tell is = due_by h t s key event cut is.found answer tell is.is_found is.answer_is

@@ -1,5 +1,5 @@
 -- The lines of runs that are checked are those of the files of a selection.
-use Rattle.std.proofs.Common.{◌≡◌, ℕ, suc, ◌+◌, ◌<◌, List, [], ◌∷◌, ◌++◌, map, length, get_or, take, Ok, Err, append_assoc, append-nil, refl, sym, ap, ap₂, subst, ◌∙◌}
+use Rattle.std.proofs.Common.{◌≡◌, ℕ, suc, ◌+◌, ◌<◌, List, [], ◌∷◌, ◌++◌, map, length, get_or, take, Result, Ok, Err, append_assoc, append-nil, refl, sym, ap, ap₂, subst, ◌∙◌}
 use Rattle.std.specs.List.{AllByRecursion}
 use Rattle.sqlite_rules.specs.Lists.{Has}
 use Rattle.cost_reports.specs.Verifying.{verified, verify_text}
@@ -13,15 +13,18 @@ use Rattle.histories.specs.Reports.{file_verified, own_columns, own_columns_from
 use Rattle.histories.specs.Selections.{numbers_of, selected}
 use Rattle.histories.specs.Stands.{TablesTell, event_lines_from}
 use Rattle.histories.specs.Sums.{own_column}
+use Rattle.histories.specs.declared.answers.Answer.{Answer}
 use Rattle.histories.specs.declared.answers.Answer.TheVariants.{Text, Refused}
 use Rattle.histories.specs.declared.answers.Query.TheVariants.{Verify}
 use Rattle.histories.specs.declared.answers.Refusal.{Refusal}
 use Rattle.histories.specs.declared.answers.Selection.{Selection}
-use Rattle.store_reports.specs.Checked.{IsChecked, IsRunChecked, AreChecked}
+use Rattle.store_reports.specs.Checked.{IsChecked, IsRunChecked, IsVerified, AreChecked}
+use Rattle.store_histories.specs.FromTables.{AnswersFor, ShowsText}
 use Rattle.selected_runs.specs.Added.{AreAdded}
-use Rattle.selected_runs.specs.Selected.{AreSelected}
+use Rattle.selected_runs.specs.Selected.{AreSelected, AreSelectedIn}
 use Rattle.selected_runs.proofs.HeadLemmas.{held_head_told, line_of, verified_told}
 use Rattle.selected_runs.proofs.RunLemmas.{selected_held}
+use Rattle.selected_runs.proofs.SelectLemmas.{selected_told}
 
 -- ---- one after another
 
@@ -62,10 +65,18 @@ runs_told h t [] text tell all checked = checked
 runs_told h t (f ∷ files) text tell all checked =
     checked.4 ∙ ap₂ ◌++◌ (run_told h t f checked.0 tell all.0 checked.2) (runs_told h t files checked.1 tell all.1 checked.3)
 
-pub verify_is_due : (h : History) (t : Tables) (s : Selection) (numbers : List ℕ) (text : List ℕ) → TablesTell h t → AreSelected h s (Ok numbers) → AreChecked t numbers text → Text text ≡ expected_of_query h (Verify s)
+verify_is_due : (h : History) (t : Tables) (s : Selection) (numbers : List ℕ) (text : List ℕ) → TablesTell h t → AreSelected h s (Ok numbers) → AreChecked t numbers text → Text text ≡ expected_of_query h (Verify s)
 verify_is_due h t s numbers text tell found checked =
     ap Text (runs_told h t (selected h s) text tell (selected_held h s) (subst (λ ns. AreChecked t ns text) found.1 checked))
     ∙ ap (λ missing. first_or (missing ∷ []) (Text (verified_text (selected h s)))) (sym found.0)
 
-pub verify_is_refused : (h : History) (s : Selection) (refusal : Refusal) → AreSelected h s (Err refusal) → Refused refusal ≡ expected_of_query h (Verify s)
+verify_is_refused : (h : History) (s : Selection) (refusal : Refusal) → AreSelected h s (Err refusal) → Refused refusal ≡ expected_of_query h (Verify s)
 verify_is_refused h s refusal found = ap (λ missing. first_or (missing ∷ []) (Text (verified_text (selected h s)))) (sym found)
+
+due_by : (h : History) (t : Tables) (s : Selection) (found : Result (List ℕ) Refusal) (answer : Answer) → TablesTell h t → AreSelectedIn t s found
+    → AnswersFor (λ numbers. ShowsText (AreChecked t numbers)) found answer → answer ≡ expected_of_query h (Verify s)
+due_by h t s (Ok numbers) answer tell found is = is.2 ∙ verify_is_due h t s numbers is.0 tell (selected_told h t s (Ok numbers) tell found) is.1
+due_by h t s (Err refusal) answer tell found is = is ∙ verify_is_refused h s refusal (selected_told h t s (Err refusal) tell found)
+
+pub verified_is_due : (s : Selection) (h : History) (t : Tables) (answer : Answer) → TablesTell h t → IsVerified t s answer → answer ≡ expected_of_query h (Verify s)
+verified_is_due s h t answer tell is = due_by h t s is.found answer tell is.is_found is.answer_is

@@ -22,12 +22,13 @@ use Rattle.histories.specs.declared.answers.Selection.{Selection}
 use Rattle.histories.specs.declared.answers.Selection.TheVariants as selections
 use Rattle.histories.proofs.Runs.{tells_group_of}
 use Rattle.histories.proofs.Tests.{any-append, bytes-self}
-use Rattle.store_reports.specs.Compared.{AnswersDifference, AreCompared}
+use Rattle.store_histories.specs.FromTables.{AnswersBy, AnswersFor}
+use Rattle.store_reports.specs.Compared.{AnswersDifference, AreBasedIn, AreCompared, AreComparedIn, IsSubtracted}
 use Rattle.selected_runs.specs.Counted.{AreCounted, has_counts}
-use Rattle.selected_runs.specs.Selected.{AreSelected}
+use Rattle.selected_runs.specs.Selected.{AreSelected, AreSelectedIn, IsSought}
 use Rattle.selected_runs.proofs.AnyLemmas.{any_of}
 use Rattle.selected_runs.proofs.RunLemmas.{runs_cost, runs_have_event}
-use Rattle.selected_runs.proofs.SelectLemmas.{group_there}
+use Rattle.selected_runs.proofs.SelectLemmas.{group_there, selected_told}
 
 -- ---- the baseline of a group
 
@@ -40,19 +41,32 @@ group_baseline h t name text base tell named other is =
     let same = group_there h t name text tell named other there in
     sym is.3 ∙ (tells_group_of h t tell name).baseline g is.1 (is.2 ∙ same)
 
-pub compared_with : (h : History) (s : Selection) (found : Result (List ℕ) Refusal) → AreSelected h s found → AreCompared h (Some s) found
+compared_with : (h : History) (s : Selection) (found : Result (List ℕ) Refusal) → AreSelected h s found → AreCompared h (Some s) found
 compared_with h s (Ok numbers) selected = selected
 compared_with h s (Err refusal) selected = selected
 
-pub baseline_found : (h : History) (t : Tables) (name text : List ℕ) (n : ℕ) (found : Result (List ℕ) Refusal) → TablesTell h t → (IsGroupName name → text ≡ name) → (text ≡ name) ⊎ (text ≡ [])
+baseline_found : (h : History) (t : Tables) (name text : List ℕ) (n : ℕ) (found : Result (List ℕ) Refusal) → TablesTell h t → (IsGroupName name → text ≡ name) → (text ≡ name) ⊎ (text ≡ [])
     → IsBaselineOf text t (Some n) → AreSelected h (selections.Run n) found → AreCompared h (compared h (selections.Group name) None) found
 baseline_found h t name text n found tell named other is selected =
     subst (λ base. AreCompared h (option_map selections.Run base) found) (group_baseline h t name text (Some n) tell named other is) (compared_with h (selections.Run n) found selected)
 
-pub no_baseline_found : (h : History) (t : Tables) (name text : List ℕ) → TablesTell h t → (IsGroupName name → text ≡ name) → (text ≡ name) ⊎ (text ≡ []) → IsBaselineOf text t None
+no_baseline_found : (h : History) (t : Tables) (name text : List ℕ) → TablesTell h t → (IsGroupName name → text ≡ name) → (text ≡ name) ⊎ (text ≡ []) → IsBaselineOf text t None
     → AreCompared h (compared h (selections.Group name) None) (Err NoBaseline)
 no_baseline_found h t name text tell named other is =
     subst (λ base. AreCompared h (option_map selections.Run base) (Err NoBaseline)) (group_baseline h t name text None tell named other is) refl
+
+based_told : (h : History) (t : Tables) (name text : List ℕ) (base : Option ℕ) (found : Result (List ℕ) Refusal) → TablesTell h t → IsSought name text → AreBasedIn t text base found
+    → AreCompared h (compared h (selections.Group name) None) found
+based_told h t name text (Some n) found tell sought is = baseline_found h t name text n found tell sought.named sought.other is.0 (selected_told h t (selections.Run n) found tell is.1)
+based_told h t name text None found tell sought is =
+    subst (AreCompared h (compared h (selections.Group name) None)) (sym is.1) (no_baseline_found h t name text tell sought.named sought.other is.0)
+
+compared_told : (h : History) (t : Tables) (first : Selection) (second : Option Selection) (found : Result (List ℕ) Refusal) → TablesTell h t → AreComparedIn t first second found
+    → AreCompared h (compared h first second) found
+compared_told h t first (Some second) found tell is = compared_with h second found (selected_told h t second found tell is)
+compared_told h t (selections.Group name) None found tell is = based_told h t name is.text is.baseline found tell is.sought is.based
+compared_told h t selections.All None found tell is = subst (AreCompared h None) (sym is) refl
+compared_told h t (selections.Run n) None found tell is = subst (AreCompared h None) (sym is) refl
 
 -- ---- the answers
 
@@ -93,19 +107,42 @@ compared_due h t first (Some second) key event numbers others answer tell found 
     between h t first second key event numbers others answer tell found.1 with_it.1 answers
     ∙ ap₂ (λ a b. first_or (a ∷ b ∷ no_event event (selected h first ++ selected h second) ∷ []) (text_of h key event first (Some second))) (sym found.0) (sym with_it.0)
 
-pub subtract_is_due : (h : History) (t : Tables) (first : Selection) (second : Option Selection) (key : Key) (event : List ℕ) (numbers others : List ℕ) (answer : Answer) → TablesTell h t
+subtract_is_due : (h : History) (t : Tables) (first : Selection) (second : Option Selection) (key : Key) (event : List ℕ) (numbers others : List ℕ) (answer : Answer) → TablesTell h t
     → AreSelected h first (Ok numbers) → AreCompared h (compared h first second) (Ok others) → AnswersDifference t numbers others key event answer → answer ≡ expected_of_query h (Subtract first second key event)
 subtract_is_due h t first second key event numbers others answer tell found with_it answers =
     compared_due h t first (compared h first second) key event numbers others answer tell found with_it answers
 
-pub first_is_refused : (h : History) (first : Selection) (second : Option Selection) (key : Key) (event : List ℕ) (refusal : Refusal) → AreSelected h first (Err refusal)
+first_is_refused : (h : History) (first : Selection) (second : Option Selection) (key : Key) (event : List ℕ) (refusal : Refusal) → AreSelected h first (Err refusal)
     → Refused refusal ≡ expected_of_query h (Subtract first second key event)
 first_is_refused h first second key event refusal found =
     let c = compared h first second in
     ap (λ a. first_or (a ∷ no_second h c ∷ no_event event (selected h first ++ files_of h c) ∷ []) (text_of h key event first c)) (sym found)
 
-pub second_is_refused : (h : History) (first : Selection) (second : Option Selection) (key : Key) (event : List ℕ) (numbers : List ℕ) (refusal : Refusal) → AreSelected h first (Ok numbers)
+second_is_refused : (h : History) (first : Selection) (second : Option Selection) (key : Key) (event : List ℕ) (numbers : List ℕ) (refusal : Refusal) → AreSelected h first (Ok numbers)
     → AreCompared h (compared h first second) (Err refusal) → Refused refusal ≡ expected_of_query h (Subtract first second key event)
 second_is_refused h first second key event numbers refusal found with_it =
     let c = compared h first second in
     ap₂ (λ a b. first_or (a ∷ b ∷ no_event event (selected h first ++ files_of h c) ∷ []) (text_of h key event first c)) (sym found.0) (sym with_it)
+
+-- ---- over tables
+
+due_by : (h : History) (t : Tables) (first : Selection) (second : Option Selection) (key : Key) (event : List ℕ) (numbers : List ℕ) (others : Result (List ℕ) Refusal) (answer : Answer) → TablesTell h t
+    → AreSelected h first (Ok numbers) → AreComparedIn t first second others → AnswersFor (λ ns. AnswersDifference t numbers ns key event) others answer
+    → answer ≡ expected_of_query h (Subtract first second key event)
+due_by h t first second key event numbers (Ok others) answer tell found with_it is =
+    subtract_is_due h t first second key event numbers others answer tell found (compared_told h t first second (Ok others) tell with_it) is
+due_by h t first second key event numbers (Err refusal) answer tell found with_it is =
+    is ∙ second_is_refused h first second key event numbers refusal found (compared_told h t first second (Err refusal) tell with_it)
+
+due_of : (h : History) (t : Tables) (first : Selection) (second : Option Selection) (key : Key) (event : List ℕ) (numbers : Result (List ℕ) Refusal) (answer : Answer) → TablesTell h t
+    → AreSelectedIn t first numbers
+    → AnswersFor (λ ns given. AnswersBy (AreComparedIn t first second) (λ others. AnswersDifference t ns others key event) given) numbers answer
+    → answer ≡ expected_of_query h (Subtract first second key event)
+due_of h t first second key event (Ok numbers) answer tell found is =
+    due_by h t first second key event numbers is.found answer tell (selected_told h t first (Ok numbers) tell found) is.is_found is.answer_is
+due_of h t first second key event (Err refusal) answer tell found is =
+    is ∙ first_is_refused h first second key event refusal (selected_told h t first (Err refusal) tell found)
+
+pub subtracted_is_due : (first : Selection) (second : Option Selection) (key : Key) (event : List ℕ) (h : History) (t : Tables) (answer : Answer) → TablesTell h t
+    → IsSubtracted t first second key event answer → answer ≡ expected_of_query h (Subtract first second key event)
+subtracted_is_due first second key event h t answer tell is = due_of h t first second key event is.found answer tell is.is_found is.answer_is

@@ -5,6 +5,10 @@ use Rattle.cost_reports.specs.Verifying.{verified, verify_text}
 use Rattle.prof_tables.specs.Tables.{Tables}
 use Rattle.held_runs.specs.HeldHeads.{IsHeadIn}
 use Rattle.held_runs.specs.OwnSums.{AreOwnSums, events_of_run}
+use Rattle.histories.specs.declared.answers.Answer.{Answer}
+use Rattle.histories.specs.declared.answers.Selection.{Selection}
+use Rattle.store_histories.specs.FromTables.{AnswersBy, ShowsText}
+use Rattle.selected_runs.specs.Selected.{AreSelectedIn}
 
 -- the lines of a run: by its head, and the own sums of its events
 pub record IsRunChecked (t : Tables) (number : ℕ) (lines : List ℕ) : Type 0 where
@@ -22,3 +26,7 @@ IsChecked t number old new = (lines : List ℕ) × IsRunChecked t number lines �
 abbrev pub AreChecked : Tables → List ℕ → List ℕ → Type 0
 AreChecked t [] text = text ≡ []
 AreChecked t (number ∷ numbers) text = (lines : List ℕ) × (more : List ℕ) × IsRunChecked t number lines × AreChecked t numbers more × (text ≡ lines ++ more)
+
+-- what is answered over the tables, whatever they stand for
+abbrev pub IsVerified : Tables → Selection → Answer → Type 0
+IsVerified t s answer = AnswersBy (AreSelectedIn t s) (λ numbers. ShowsText (AreChecked t numbers)) answer

@@ -1,5 +1,5 @@
 -- What a report over runs of the tables is.
-use Rattle.std.specs.Prelude.{ℕ, List, [], map, fold, unwrap_or}
+use Rattle.std.specs.Prelude.{◌≡◌, ℕ, List, [], map, fold, unwrap_or}
 use Rattle.cost_rows.specs.KeySums.{Sums, sums_by, with_row}
 use Rattle.cost_rows.specs.declared.keys.Key.{Key}
 use Rattle.cost_reports.specs.Costs.{all_rows, weighted}
@@ -8,7 +8,12 @@ use Rattle.cost_reports.specs.KeyTexts.{key_report_text}
 use Rattle.cost_reports.specs.declared.cuts.Cut.{Cut}
 use Rattle.prof_books.specs.Book.{cells_held}
 use Rattle.prof_tables.specs.Tables.{Tables}
+use Rattle.histories.specs.declared.answers.Answer.{Answer}
+use Rattle.histories.specs.declared.answers.Answer.TheVariants.{Text}
+use Rattle.histories.specs.declared.answers.Selection.{Selection}
+use Rattle.store_histories.specs.FromTables.{AnswersBy}
 use Rattle.selected_runs.specs.Counted.{event_cells}
+use Rattle.selected_runs.specs.EventRuns.{AreEventRunsIn}
 use Rattle.selected_runs.specs.declared.counting.Counted.{Counted}
 
 -- the cells of a run are added, each as often as its column counts
@@ -22,3 +27,7 @@ merged_from t sums run = merged_with t run.number (unwrap_or run.counts []) sums
 -- the text of the report over some runs
 abbrev pub report_over : Tables → List Counted → Key → List ℕ → Cut → List ℕ
 report_over t runs key event cut = key_report_text event (report_of key cut (sums_by key (all_rows (map (event_cells t) runs))))
+
+-- what is answered over the tables, whatever they stand for
+abbrev pub IsReported : Tables → Selection → Key → List ℕ → Cut → Answer → Type 0
+IsReported t s key event cut answer = AnswersBy (AreEventRunsIn t s event) (λ runs given. given ≡ Text (report_over t runs key event cut)) answer

@@ -7,7 +7,7 @@ ghost use Rattle.held_runs.specs.HeldHeads.{IsHeadIn};
 ghost use Rattle.held_runs.specs.Walks.{AsksIfOpen};
 ghost use Rattle.histories.specs.declared.answers.Query.TheVariants.{Verify};
 ghost use Rattle.store_histories.specs.Answered.{Asks as AnswersAsked};
-ghost use Rattle.store_reports.specs.Checked.{IsChecked, AreChecked};
+ghost use Rattle.store_reports.specs.Checked.{IsChecked, IsVerified, AreChecked};
 
 use cg_formulas::FileHead;
 use cg_text::ListVec;
@@ -112,7 +112,7 @@ pub fn verify_answer<S: Alter>(
     alloc: Global,
     selection: &Selection,
 ) -> Result<Answer, StoreError>
-    ensures { AnswersAsked S.Store (Verify selection.now) result store.old store.new }
+    ensures { AnswersAsked S.Store (λ t. IsVerified t selection.now) (Verify selection.now) result store.old store.new }
 {
     let numbers = match select_runs(store, alloc, selection)? {
         Ok(numbers) => numbers,

@@ -1,15 +1,12 @@
 // The answers to questions of differences.
-ghost use Rattle.std.specs.Prelude.{◌≡◌, None, false, IfOk};
+ghost use Rattle.std.specs.Prelude.{◌≡◌, false, IfOk};
 ghost use Rattle.std.specs.Result.{is_ok};
 ghost use Rattle.cost_reports.specs.Differences.{difference_of, difference_text};
 ghost use Rattle.prof_store.specs.Shown.{Asks, Told};
 ghost use Rattle.held_runs.specs.Walks.{AsksIfOpen};
-ghost use Rattle.histories.specs.Legal.{compared};
 ghost use Rattle.histories.specs.declared.answers.Query.TheVariants.{Subtract};
-ghost use Rattle.histories.specs.declared.answers.Selection.TheVariants as selections;
 ghost use Rattle.store_histories.specs.Answered.{Asks as AnswersAsked, has_changed};
-ghost use Rattle.store_reports.specs.Compared.{AnswersDifference, AreCompared, costs_over, difference_over};
-ghost use Rattle.selected_runs.specs.Selected.{ToldOf};
+ghost use Rattle.store_reports.specs.Compared.{AnswersDifference, AreBaselineIn, AreComparedIn, IsSubtracted, costs_over, difference_over};
 
 use crate::merging::merge_runs;
 use cg_text::ListVec;
@@ -28,7 +25,7 @@ fn baseline_run<S: Alter>(
     alloc: Global,
     name: &[u8],
 ) -> Result<Numbers, StoreError>
-    ensures told { ToldOf S.Store result store.old store.new (λ h found. AreCompared h (compared h (selections.Group name.now) None) found) }
+    ensures told { Told S.Store result store.old store.new (λ t found. AreBaselineIn t name.now found) }
     ensures asks { Asks S.Store (is_ok result) store.old store.new }
 {
     match baseline_of(store, name_text(name))? {
@@ -44,7 +41,7 @@ fn compared_runs<S: Alter>(
     first: &Selection,
     second: &Option<Selection>,
 ) -> Result<Numbers, StoreError>
-    ensures told { ToldOf S.Store result store.old store.new (λ h found. AreCompared h (compared h first.now second.now) found) }
+    ensures told { Told S.Store result store.old store.new (λ t found. AreComparedIn t first.now second.now found) }
     ensures asks { AsksIfOpen S.Store (is_ok result) store.old store.new }
 {
     if let Some(second) = second {
@@ -137,7 +134,7 @@ pub fn subtract_answer<S: Alter>(
     key: Key,
     event: &ListVec<u8>,
 ) -> Result<Answer, StoreError>
-    ensures { AnswersAsked S.Store (Subtract first.now second.now key event.now) result store.old store.new }
+    ensures { AnswersAsked S.Store (λ t. IsSubtracted t first.now second.now key event.now) (Subtract first.now second.now key event.now) result store.old store.new }
 {
     let numbers = match select_runs(store, alloc, first)? {
         Ok(numbers) => numbers,

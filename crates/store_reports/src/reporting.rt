@@ -7,7 +7,7 @@ ghost use Rattle.prof_store.specs.Shown.{Told};
 ghost use Rattle.held_runs.specs.Walks.{AsksIfOpen};
 ghost use Rattle.histories.specs.declared.answers.Query.TheVariants.{By};
 ghost use Rattle.store_histories.specs.Answered.{Asks as AnswersAsked};
-ghost use Rattle.store_reports.specs.Reported.{report_over};
+ghost use Rattle.store_reports.specs.Reported.{IsReported, report_over};
 
 use crate::merging::merge_runs;
 use cg_text::ListVec;
@@ -78,7 +78,7 @@ pub fn by_answer<S: Alter>(
     event: &ListVec<u8>,
     cut: Cut,
 ) -> Result<Answer, StoreError>
-    ensures { AnswersAsked S.Store (By selection.now key event.now cut) result store.old store.new }
+    ensures { AnswersAsked S.Store (λ t. IsReported t selection.now key event.now cut) (By selection.now key event.now cut) result store.old store.new }
 {
     let event = event.as_slice();
     let runs = match event_runs(store, alloc, selection, event)? {

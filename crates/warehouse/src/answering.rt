@@ -1,9 +1,11 @@
 // Files are imported and sources annotated, each with its answer.
 ghost use Rattle.prof_tables.specs.Labels.{IsLabel};
-ghost use Rattle.prof_store.specs.Shown.{IsFaithful};
+ghost use Rattle.prof_store.specs.Shown.{IsFaithful, Tells};
 ghost use Rattle.histories.specs.History.{Annotate, Ask, Import};
 ghost use Rattle.store_histories.specs.Answered.{Answers, Asks};
+ghost use Rattle.store_histories.specs.FromTables.{OrFailed};
 ghost use Rattle.warehouse.specs.Answered.{WasAnsweredOver};
+ghost use Rattle.warehouse.specs.FromTables.{AnswersIn, WasAnnotated};
 
 use crate::refusals::unread_answer;
 use cg_text::ListVec;
@@ -61,7 +63,7 @@ pub(crate) fn import_in<S: Alter, R: Source>(
 
 /// What a question is answered.
 fn answer<S: Alter>(store: &mut Store<S>, alloc: Global, query: Query) -> Result<Answer, StoreError>
-    ensures { Asks S.Store query result store.old store.new }
+    ensures { Asks S.Store (AnswersIn query) query result store.old store.new }
 {
     match query {
         Query::Runs => runs_answer(store, alloc),
@@ -101,6 +103,7 @@ fn answer<S: Alter>(store: &mut Store<S>, alloc: Global, query: Query) -> Result
 /// Answers a question.
 pub(crate) fn ask_in<S: Alter>(store: &mut Store<S>, alloc: Global, query: Query) -> Answer
     ensures answered { (limits : _) → IsFaithful S.Store store.new → Answers S.Store limits (Ask query) result store.old store.new }
+    ensures found { Tells S.Store store.old store.new (λ t. OrFailed (AnswersIn query t) result) }
 {
     answer_of(answer(store, alloc, query))
 }
@@ -116,6 +119,7 @@ pub(crate) fn annotate_in<S: Alter, R: Source>(
 ) -> Answer
     ensures answered { (limits : _)
         → WasAnsweredOver S.Store R.reads limits (Annotate selection event file) source.old source.new result store.old store.new }
+    ensures found { WasAnnotated S.Store R.reads selection event file source.old source.new result store.old store.new }
 {
     match read_whole(alloc, SOURCE_BYTES, source) {
         Ok(text) => {

@@ -1,5 +1,5 @@
-use Rattle.selected_runs.proofs.SelectLemmas.{all_selected}
+use Rattle.std.proofs.Common.{Ok, ap}
 use Rattle.selected_runs.proofs.selecting.all_runs.Goals as goal
 
 pub returns-clause-told : goal.returns-clause-told
-returns-clause-told g c clean h s = all_selected h s.t c.in_ok-numbers.numbers s.tells (c.in_ok-numbers.ensures.told clean s.t s.stands)
+returns-clause-told g c clean t stands = ap Ok (c.in_ok-numbers.ensures.told clean t stands)

@@ -1,18 +1,26 @@
-use Rattle.std.proofs.Common.{sym, ◌∙◌}
+use Rattle.std.proofs.Common.{Ok, Err, if◌then◌else◌, sym, ap, ◌∙◌}
 use Rattle.prof_tables.specs.Schema.{schema_one}
 use Rattle.prof_tables.specs.Tables.{Holds}
 use Rattle.sql_tables.proofs.Calls.{asked_rests}
-use Rattle.selected_runs.proofs.SelectLemmas.{group_missing, group_selected}
+use Rattle.held_runs.specs.RunNumbers.{members_in_tables}
+use Rattle.histories.specs.declared.answers.Refusal.TheVariants.{NoSuchGroup}
 use Rattle.selected_runs.proofs.selecting.of_group.Goals as goal
 
 pub returns-then-not-branch-clause-told : goal.returns-then-not-branch-clause-told
-returns-then-not-branch-clause-told g c clean h s =
-    group_missing h s.t c.args.name.now c.name_text-name.result.now s.tells c.name_text-name.ensures.named c.name_text-name.ensures.other
-    (sym (c.in_ok-has_group.ensures.told clean s.t s.stands) ∙ c.if-not-branch.true)
+returns-then-not-branch-clause-told g c clean t stands =
+    let text = c.name_text-name.result.now in (
+      text,
+      record { named = c.name_text-name.ensures.named; other = c.name_text-name.ensures.other },
+      ap (λ b. if b then Ok (members_in_tables text t) else Err NoSuchGroup) (sym (sym (c.in_ok-has_group.ensures.told clean t stands) ∙ c.if-not-branch.true)),
+    )
 
 pub returns-clause-told : goal.returns-clause-told
-returns-clause-told g c clean h s =
+returns-clause-told g c clean t stands =
+    let text = c.name_text-name.result.now in
     let early = (c.in_ok-numbers.ensures.asks clean).stays.was_clean in
-    let mid = asked_rests schema_one (Holds s.t) _ _ (c.in_ok-has_group.ensures.asks early) s.stands in
-    group_selected h s.t c.args.name.now c.name_text-name.result.now c.in_ok-numbers.numbers s.tells c.name_text-name.ensures.named c.name_text-name.ensures.other
-    (sym (c.in_ok-has_group.ensures.told early s.t s.stands) ∙ c.if-not-branch.false) (c.in_ok-numbers.ensures.told clean s.t mid)
+    let mid = asked_rests schema_one (Holds t) _ _ (c.in_ok-has_group.ensures.asks early) stands in (
+      text,
+      record { named = c.name_text-name.ensures.named; other = c.name_text-name.ensures.other },
+      ap Ok (c.in_ok-numbers.ensures.told clean t mid)
+          ∙ ap (λ b. if b then Ok (members_in_tables text t) else Err NoSuchGroup) (sym (sym (c.in_ok-has_group.ensures.told early t stands) ∙ c.if-not-branch.false)),
+    )

@@ -3,7 +3,7 @@ use Rattle.sql_tables.proofs.Calls.{asked_rests, asked_rests_yet}
 use Rattle.cost_reports.specs.Functions.{function_spot}
 use Rattle.prof_tables.specs.Schema.{schema_one}
 use Rattle.prof_tables.specs.Tables.{Holds}
-use Rattle.selected_runs.proofs.AskLemmas.{if_ok_so}
+use Rattle.store_histories.proofs.Questions.{if_ok_so}
 use Rattle.store_calls.specs.FunctionCalls.{AreTakenFrom, taken_of}
 use Rattle.store_calls.proofs.FunctionLemmas.{calls_added, text_of_taken}
 use Rattle.store_calls.proofs.calling.calls_text.Goals as goal

@@ -1,6 +1,6 @@
 use Rattle.std.proofs.Common.{false}
 use Rattle.cost_reports.specs.Functions.{function_spot}
-use Rattle.selected_runs.proofs.AskLemmas.{if_ok_so}
+use Rattle.store_histories.proofs.Questions.{if_ok_so}
 use Rattle.store_calls.specs.FunctionCalls.{is_in_rows}
 use Rattle.store_calls.proofs.FunctionLemmas.{seen_added}
 use Rattle.store_calls.proofs.known_names.is_in_runs.Goals as goal

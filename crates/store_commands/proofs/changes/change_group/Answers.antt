@@ -9,7 +9,7 @@ use Rattle.store_histories.proofs.After.{turns_after, done_after}
 use Rattle.store_histories.proofs.Due.{was_still}
 use Rattle.store_histories.proofs.Settled.{turns_err}
 use Rattle.store_commands.specs.Changes.{changed, change_said, refusal_for}
-use Rattle.store_commands.proofs.Dues.{change_form, change_due, due_if_free, tell_changed}
+use Rattle.store_commands.proofs.Dues.{change_form, change_due, done_in, due_if_free, stays_in, tell_changed}
 use Rattle.store_commands.proofs.changes.change_group.Goals as goal
 
 pub returns-in_err-refusal-clause-turns : goal.returns-in_err-refusal-clause-turns
@@ -58,3 +58,20 @@ returns-clause-turns g c clean =
     let early = two.stays.was_clean in
     turns_after limits (change_said how name) (change_form how name c.requires) (λ t. refusal_for limits how name t ≡ None) (changed how name) (λ h t. due_if_free limits h how name t) (λ h t. tell_changed limits h how name t) g.S.Store c.args.store.now c.refusal_of.new.store c.change_free.new.store
     (c.in_ok-refusal.ensures.asks early) (λ t was. sym (c.in_ok-refusal.ensures.told early t was) ∙ c.in_default.is) true true two
+
+pub returns-in-Some-clause-found : goal.returns-in-Some-clause-found
+returns-in-Some-clause-found g c clean t stands =
+    let how = c.args.change in
+    let name = c.args.name.now in
+    stays_in g.S.Store t c.args.store.now c.refusal_of.new.store c.refusal_of.new.store (c.in_ok-refusal.ensures.asks clean) stands c.in-Some.refusal (refusal_for c.args.limits how name t) (changed how name)
+    (sym (c.in_ok-refusal.ensures.told clean t stands) ∙ c.in-Some.is)
+
+pub returns-clause-found : goal.returns-clause-found
+returns-clause-found g c clean t stands =
+    let limits = c.args.limits in
+    let how = c.args.change in
+    let name = c.args.name.now in
+    let two = c.in_ok-change_free.ensures.changes limits clean in
+    let early = two.stays.was_clean in
+    let is = sym (c.in_ok-refusal.ensures.told early t stands) ∙ c.in_default.is in
+    done_in g.S.Store t c.args.store.now c.refusal_of.new.store c.change_free.new.store (c.in_ok-refusal.ensures.asks early) stands (λ t. refusal_for limits how name t ≡ None) (refusal_for limits how name t) (changed how name) is is two

@@ -1,4 +1,4 @@
-use Rattle.std.proofs.Common.{◌≡◌, true, false, sym, ◌∙◌}
+use Rattle.std.proofs.Common.{◌≡◌, true, false, sym, ap, ◌∙◌}
 use Rattle.sql_tables.proofs.Calls.{asked_rests, changed_asked}
 use Rattle.prof_tables.specs.Changes as tables
 use Rattle.prof_tables.specs.Changes.{without_run}
@@ -11,10 +11,11 @@ use Rattle.histories.specs.declared.answers.Refusal.TheVariants.{NoSuchRun}
 use Rattle.histories.proofs.Steps.{tell_removed}
 use Rattle.histories.proofs.Tells.{tells_run}
 use Rattle.store_histories.specs.Answered.{TellsHistory, Follows}
+use Rattle.store_histories.specs.Refusals.{missing_of}
 use Rattle.store_histories.proofs.After.{turns_after, done_after}
 use Rattle.store_histories.proofs.Due.{was_still}
 use Rattle.store_histories.proofs.Settled.{turns_err}
-use Rattle.store_commands.proofs.Dues.{remove_due, due_if_run}
+use Rattle.store_commands.proofs.Dues.{done_in, remove_due, due_if_run, stays_in}
 use Rattle.store_commands.proofs.changes.remove.Goals as goal
 
 pub returns-in_err-has_run-clause-turns : goal.returns-in_err-has_run-clause-turns
@@ -53,3 +54,17 @@ returns-clause-turns g c limits clean =
     let early = two.stays.was_clean in
     turns_after limits (Remove n) tt (λ t. tables.has_run t n ≡ true) (without_run n) (λ h t. due_if_run limits h n t) (λ h t. tell_removed limits h n t) g.S.Store c.args.store.now c.has_run.new.self c.drop_run.new.self
     (c.in_ok-has_run.ensures.asks early) (λ t was. sym (c.in_ok-has_run.ensures.told early t was) ∙ c.if-not-branch.false) true true two
+
+pub returns-then-not-branch-clause-found : goal.returns-then-not-branch-clause-found
+returns-then-not-branch-clause-found g c clean t stands =
+    let is : tables.has_run t c.args.number ≡ false = sym (c.in_ok-has_run.ensures.told clean t stands) ∙ c.if-not-branch.true in
+    stays_in g.S.Store t c.args.store.now c.has_run.new.self c.has_run.new.self (c.in_ok-has_run.ensures.asks clean) stands NoSuchRun (missing_of true (tables.has_run t c.args.number)) (without_run c.args.number) (ap (missing_of true) is)
+
+pub returns-clause-found : goal.returns-clause-found
+returns-clause-found g c clean t stands =
+    let n = c.args.number in
+    let two = c.in_ok-drop_run.ensures.changes clean in
+    let early = two.stays.was_clean in
+    let is : tables.has_run t n ≡ true = sym (c.in_ok-has_run.ensures.told early t stands) ∙ c.if-not-branch.false in
+    done_in g.S.Store t c.args.store.now c.has_run.new.self c.drop_run.new.self (c.in_ok-has_run.ensures.asks early) stands (λ t. tables.has_run t n ≡ true) (missing_of true (tables.has_run t n)) (without_run n) is
+    (ap (missing_of true) is) two

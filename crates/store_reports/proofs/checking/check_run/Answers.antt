@@ -1,7 +1,7 @@
 use Rattle.sql_tables.proofs.Calls.{asked_rests}
 use Rattle.prof_tables.specs.Schema.{schema_one}
 use Rattle.prof_tables.specs.Tables.{Holds}
-use Rattle.selected_runs.proofs.AskLemmas.{if_ok_so}
+use Rattle.store_histories.proofs.Questions.{if_ok_so}
 use Rattle.store_reports.proofs.checking.check_run.Goals as goal
 
 pub returns-clause-told : goal.returns-clause-told

@@ -3,7 +3,7 @@ use Rattle.sql_tables.proofs.Calls.{asked_rests, asked_rests_yet}
 use Rattle.cost_reports.specs.Differences.{difference_of, difference_text}
 use Rattle.prof_tables.specs.Schema.{schema_one}
 use Rattle.prof_tables.specs.Tables.{Holds}
-use Rattle.selected_runs.proofs.AskLemmas.{if_ok_so}
+use Rattle.store_histories.proofs.Questions.{if_ok_so}
 use Rattle.store_reports.specs.Compared.{costs_over}
 use Rattle.store_reports.proofs.MergeLemmas.{merged_costs, merged_key}
 use Rattle.store_reports.proofs.comparing.difference_text.Goals as goal

@@ -1,6 +1,6 @@
 use Rattle.std.proofs.Common.{◌≡◌, [], fold, ap, ◌∙◌}
 use Rattle.selected_runs.proofs.AddedLemmas.{added_fold}
-use Rattle.selected_runs.proofs.AskLemmas.{if_ok_so}
+use Rattle.store_histories.proofs.Questions.{if_ok_so}
 use Rattle.store_reports.specs.Reported.{merged_from}
 use Rattle.store_reports.proofs.merging.merge_runs.Goals as goal
 

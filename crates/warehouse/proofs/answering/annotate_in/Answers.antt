@@ -1,11 +1,13 @@
-use Rattle.std.proofs.Common.{◌≡◌, refl, sym, ap, subst, ◌∙◌, Some}
+use Rattle.std.proofs.Common.{◌≡◌, inl, inr, refl, sym, ap, subst, subst₂, ◌∙◌, Some}
 use Rattle.sources.specs.Outcomes.{bytes_of}
 use Rattle.histories.specs.History.{Annotate}
 use Rattle.histories.specs.Legal.{expected_answer, expected_of_query, most_of_source}
 use Rattle.histories.specs.declared.answers.Query.TheVariants as queries
 use Rattle.histories.proofs.ReadsDue.{ended_due}
 use Rattle.store_histories.specs.Answered.{Answers, WasAsked}
-use Rattle.store_histories.proofs.Questions.{answered_as}
+use Rattle.store_histories.specs.FromTables.{OrFailed}
+use Rattle.store_histories.proofs.Questions.{answered_as, or_failed}
+use Rattle.store_exports.specs.Annotated.{IsAnnotated}
 use Rattle.warehouse.proofs.Unread.{unread_answered}
 use Rattle.warehouse.proofs.answering.annotate_in.Goals as goal
 
@@ -23,10 +25,20 @@ returns-in-Ok g c = record {
         outcomes = read.outcomes;
         came = read.came;
         answers = λ clean.
-            let asked = subst (λ t. WasAsked g.S.Store (queries.Annotate s c.args.event c.args.file t) c.annotate_answer.result c.args.store.now c.annotate_answer.new.store) text (c.annotate_answer.ensures clean) in
+            let asked = subst (λ x. WasAsked g.S.Store (λ t. IsAnnotated t s c.args.event c.args.file x) (queries.Annotate s c.args.event c.args.file x) c.annotate_answer.result c.args.store.now c.annotate_answer.new.store)
+            text (c.annotate_answer.ensures clean) in
             subst (λ a. Answers g.S.Store limits said a c.args.store.now c.annotate_answer.new.store) (sym c.answer_of.ensures)
-            (answered_as g.S.Store limits query said tt (λ h. ended_due most_of_source read.outcomes (expected_of_query h query) ended.reads.within ended.reads.unfailed ended.ended)
+            (answered_as g.S.Store limits (λ t. IsAnnotated t s c.args.event c.args.file bytes) query said tt (λ h. ended_due most_of_source read.outcomes (expected_of_query h query) ended.reads.within ended.reads.unfailed ended.ended)
             c.args.store.now c.annotate_answer.new.store c.annotate_answer.result asked);
+      };
+  found =
+      let read = c.in-Ok.ensures in
+      let text : c.from_vec-text.result ≡ bytes_of read.outcomes = c.from_vec-text.ensures ∙ read.read.1 in
+      record {
+        outcomes = read.outcomes;
+        came = read.came;
+        answered = inr (λ clean t stands. subst₂ (λ x a. OrFailed (IsAnnotated t c.args.selection c.args.event c.args.file x) a) text (sym c.answer_of.ensures)
+            (or_failed (IsAnnotated t c.args.selection c.args.event c.args.file c.from_vec-text.result) c.annotate_answer.result ((c.annotate_answer.ensures clean).told t stands)));
       };
 }
 
@@ -41,5 +53,12 @@ returns g c = record {
         came = read.came;
         answers = λ clean. subst (λ a. Answers g.S.Store limits said a c.args.store.now c.args.store.now) (sym c.unread_answer.ensures)
             (unread_answered limits said tt most_of_source read.outcomes (λ h. expected_of_query h (queries.Annotate s c.args.event c.args.file (bytes_of read.outcomes))) (λ h. refl) g.S.Store c.args.store.now clean c.in-Err.unread read.read);
+      };
+  found =
+      let read = c.in-Err.ensures in
+      record {
+        outcomes = read.outcomes;
+        came = read.came;
+        answered = inl (c.in-Err.unread, read.read, c.unread_answer.ensures);
       };
 }

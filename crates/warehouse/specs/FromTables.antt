@@ -1,0 +1,59 @@
+-- What commands are answered over lines of tables, whatever they stand for.
+use Rattle.std.specs.Prelude.{◌≡◌, ◌⊎◌, ℕ, List}
+use Rattle.sqlite_trees.specs.declared.store.Store.{Ghosts}
+use Rattle.prof_store.specs.Shown.{Tells}
+use Rattle.prof_store.specs.declared.store.Store.{Store}
+use Rattle.prof_tables.specs.Tables.{Tables}
+use Rattle.sources.specs.Outcomes.{Outcome, bytes_of}
+use Rattle.sources.specs.Reads.{IsUnreadFor, Reads}
+use Rattle.sources.specs.declared.reading.Unread.{Unread}
+use Rattle.histories.specs.Legal.{most_of_source}
+use Rattle.histories.specs.declared.answers.Answer.{Answer}
+use Rattle.histories.specs.declared.answers.Query.{Query}
+use Rattle.histories.specs.declared.answers.Query.TheVariants as queries
+use Rattle.histories.specs.declared.answers.Selection.{Selection}
+use Rattle.store_calls.specs.FunctionCalls.{AreCallsShown}
+use Rattle.store_calls.specs.InclusiveRuns.{IsInclusive}
+use Rattle.prof_tables.specs.Labels.{IsGroupName}
+use Rattle.histories.specs.declared.limits.Limits.{Limits}
+use Rattle.store_commands.specs.Changes.{GroupsIn, RemovesIn}
+use Rattle.store_commands.specs.Lists.{IsListOfGroups, IsListOfRuns}
+use Rattle.store_exports.specs.Annotated.{IsAnnotated}
+use Rattle.store_exports.specs.CsvRuns.{IsCsv}
+use Rattle.store_exports.specs.FoldedRuns.{IsFolded}
+use Rattle.store_histories.specs.FromTables.{OrFailed, ShowsText}
+use Rattle.store_reports.specs.Checked.{IsVerified}
+use Rattle.store_reports.specs.Compared.{IsSubtracted}
+use Rattle.store_reports.specs.Reported.{IsReported}
+use Rattle.warehouse.specs.Answered.{unread_for}
+use Rattle.warehouse.specs.declared.command.Command as commands
+use Rattle.warehouse.specs.declared.command.Command.TheVariants as command
+
+-- by what the lines say
+abbrev pub AnswersIn : Query → Tables → Answer → Type 0
+AnswersIn queries.Runs t answer = ShowsText (IsListOfRuns t) answer
+AnswersIn queries.Groups t answer = ShowsText (IsListOfGroups t) answer
+AnswersIn (queries.By selection key event cut) t answer = IsReported t selection key event cut answer
+AnswersIn (queries.Verify selection) t answer = IsVerified t selection answer
+AnswersIn (queries.Inclusive selection event) t answer = IsInclusive t selection event answer
+AnswersIn (queries.Calls selection side event object function) t answer = AreCallsShown t selection side event object function answer
+AnswersIn (queries.Subtract first second key event) t answer = IsSubtracted t first second key event answer
+AnswersIn (queries.Annotate selection event file source) t answer = IsAnnotated t selection event file source answer
+AnswersIn (queries.Csv selection) t answer = IsCsv t selection answer
+AnswersIn (queries.Folded selection) t answer = IsFolded t selection answer
+
+module _ {S R : Type 0} (g : Ghosts S) (reads : R → Outcome → R → Type 0) where
+  -- a source was not read through; or what it gave is annotated by what the lines say
+  pub record WasAnnotated (selection : Selection) (event file : List ℕ) (source to : R) (answer : Answer) (old new : Store S) : Type 0 where
+    pub outcomes : List Outcome
+    pub came : Reads reads source outcomes to
+    pub answered : ((unread : Unread) × IsUnreadFor most_of_source outcomes unread × (answer ≡ unread_for unread))
+        ⊎ Tells g old new (λ t. OrFailed (AnswersIn (queries.Annotate selection event file (bytes_of outcomes)) t) answer)
+
+  -- what a command asks is answered by what the lines say, and what it removes or makes of groups is made of them
+  abbrev pub IsFoundIn : Limits → commands.Command R → Answer → Store S → Store S → Type 0
+  IsFoundIn limits (command.Ask query) answer old new = Tells g old new (λ t. OrFailed (AnswersIn query t) answer)
+  IsFoundIn limits (command.Annotate selection event file source) answer old new = (to : R) × WasAnnotated selection event file source to answer old new
+  IsFoundIn limits (command.Remove n) answer old new = Tells g old new (λ t. OrFailed (λ given. RemovesIn g n t given new) answer)
+  IsFoundIn limits (command.Group name change) answer old new = IsGroupName name.items → Tells g old new (λ t. OrFailed (λ given. GroupsIn g limits change name.items t given new) answer)
+  IsFoundIn limits (command.Import kind label source) answer old new = Unit {0}
