@@ -1,9 +1,6 @@
 //! Tests of what no command line of the program reaches, over the public calls of the other crates.
 #![tactic(auto)]
 
-// What a store answers about its runs and groups.
-#[cfg(test)]
-mod asked;
 // A file whose reads are given by hand.
 #[cfg(test)]
 mod given;
@@ -19,12 +16,9 @@ mod lines;
 // A list of commands of which one allocation is refused.
 #[cfg(test)]
 mod refused;
-// Reports of small rows.
-#[cfg(test)]
-mod reports;
 // A store in memory whose rows are written by hand.
 #[cfg(test)]
 mod stores;
-// Names, heads and walks over the rows of a run.
+// Walks over the cells and the calls of a run.
 #[cfg(test)]
 mod walks;

@@ -1,11 +1,8 @@
-// Names, heads and the rows of a run, over rows that are written by hand.
+// The cells and the calls of a run, over rows that are written by hand.
 use crate::stores::filled;
-use cg_formulas::FileHead;
 use cg_text::ListVec;
-use cost_rows::{ArcRow, CellRow, StackRow};
-use held_runs::{
-    TakesCalls, TakesCells, TakesStacks, each_call, each_cell, each_stack, head_of, names_of,
-};
+use cost_rows::{ArcRow, CellRow};
+use held_runs::{TakesCalls, TakesCells, each_call, each_cell, names_of};
 use prof_store::{Store, StoreError};
 use sqlite::MemStore;
 use std::alloc::Global;
@@ -90,42 +87,6 @@ fn calls(store: &mut Store<MemStore>, alloc: Global) -> Result<(u128, u128), Sto
     Ok((sums.count, sums.costs))
 }
 
-/// The stacks of a run: their frames, each behind a line feed, and what they count.
-#[derive(Drop)]
-struct StackList {
-    frames: Vec<u8>,
-    count: u128,
-}
-
-impl TakesStacks for StackList {
-    ghost use Rattle.std.specs.Prelude.{⊤};
-
-    ghost Meaning = { ⊤ };
-
-    ghost meaning = { λ _. tt };
-
-    ghost step = { λ _ _. tt };
-
-    fn take(&mut self, stack: &StackRow<&[u8]>) -> Result<(), StoreError> {
-        if self.frames.push(b'\n').is_err() {
-            return Err(StoreError::Memory);
-        }
-        self.frames.extend_from_slice(stack.stack)?;
-        self.count = self.count.saturating_mul(10).saturating_add(stack.count);
-        Ok(())
-    }
-}
-
-/// The stacks of run 1: their frames, and their counts as the digits of one number.
-fn stacks(store: &mut Store<MemStore>, alloc: Global) -> Result<(Vec<u8>, u128), StoreError> {
-    let none = StackList {
-        frames: Vec::new(alloc),
-        count: 0,
-    };
-    let StackList { frames, count } = each_stack(store, 1, none)?;
-    Ok((frames, count))
-}
-
 /// There are 601 cells, of which a page has 512.
 #[test]
 fn cells_are_walked(rt: HostRuntime) -> Result<(), Fail> {
@@ -146,71 +107,6 @@ fn calls_are_walked(rt: HostRuntime) -> Result<(), Fail> {
     let mut store = filled(rt.alloc(), CALLS, 0)?;
     let told = calls(&mut store, rt.alloc())?;
     assert!(rt; told == (4, 400));
-    Ok(())
-}
-
-#[test]
-fn stacks_are_walked(rt: HostRuntime) -> Result<(), Fail> {
-    let text = "INSERT INTO stack VALUES (1, x'613b62', 3), (1, x'62', 5)";
-    let mut store = filled(rt.alloc(), text, 0)?;
-    let (frames, counts) = stacks(&mut store, rt.alloc())?;
-    assert!(rt; frames.as_slice() == b"\na;b\nb".as_slice() && counts == 35);
-    Ok(())
-}
-
-/// Whether a head has the events `Ir` and `Dr` with the totals 0 and 2^64, and no derived event.
-fn has_two_events(head: &FileHead) -> bool {
-    let ([first, second], Some(stated)) = (head.events.as_slice(), &head.stated) else {
-        return false;
-    };
-    first.as_slice() == b"Ir".as_slice()
-        && second.as_slice() == b"Dr".as_slice()
-        && head.derived.derived.is_empty()
-        && stated.as_slice() == [0, 18446744073709551616].as_slice()
-}
-
-#[test]
-fn a_head_is_told(rt: HostRuntime) -> Result<(), Fail> {
-    let text =
-        "INSERT INTO run_event VALUES (1, 1, x'4472', 5, 0, '18446744073709551616'), (1, 0, x'4972', 10, 3, '0')";
-    let mut store = filled(rt.alloc(), text, 0)?;
-    let head = head_of(&mut store, rt.alloc(), 1)?;
-    assert!(rt; has_two_events(&head));
-    Ok(())
-}
-
-/// A number for a refusal, and none for a row.
-fn mark<T: Drop>(told: Result<T, StoreError>, number: u8) -> u8 {
-    match told {
-        Err(StoreError::Store) => number,
-        _ => 0,
-    }
-}
-
-/// Which of these refuse the rows of run 1, of two events: the head (1), and what hands on its cells (2), its
-/// calls (4) and its stacks (8).
-fn refusals(alloc: Global, text: &str) -> Result<u8, StoreError> {
-    let mut store = filled(alloc, text, 1)?;
-    let head = mark(head_of(&mut store, alloc, 1), 1);
-    let cells = mark(cells(&mut store, alloc), 2);
-    let calls = mark(calls(&mut store, alloc), 4);
-    let stacks = mark(stacks(&mut store, alloc), 8);
-    Ok(head | cells | calls | stacks)
-}
-
-#[test]
-fn rows_out_of_form_are_refused(rt: HostRuntime) -> Result<(), Fail> {
-    for (text, wanted) in [
-        ("INSERT INTO run_event VALUES (1, 1, x'41', 5, 0, NULL)", 1),
-        ("INSERT INTO run_event VALUES (1, 0, x'41', 5, 0, '07')", 1),
-        ("INSERT INTO cell VALUES (1, 4, 2, 3, 9, 0, 1)", 2),
-        ("INSERT INTO cell VALUES (1, 1, 2, 3, 9, 2, 1)", 2),
-        ("INSERT INTO arc VALUES (1, 1, 2, 3, 4, 7, 3, 2, 1, 5)", 4),
-        ("INSERT INTO stack VALUES (1, x'61', -1)", 8),
-        ("INSERT INTO stack VALUES (1, x'61', 1)", 0),
-    ] {
-        assert_eq!(rt; refusals(rt.alloc(), text)?, wanted, "{text}");
-    }
     Ok(())
 }
 
