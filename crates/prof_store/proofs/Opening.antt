@@ -11,7 +11,8 @@ use Rattle.sqlite.specs.State.{State, HasCleanDisk, Survives, QueriesRow, Commit
 use Rattle.sql_tables.specs.Calls.{Asked}
 use Rattle.sql_tables.proofs.Calls.{asked_if}
 use Rattle.sql_tables.proofs.Failures.{never_blames, none_there}
-use Rattle.sql_tables.proofs.Foreign.{QueriesText, any_row_asks, any_row_refused}
+use Rattle.sql_tables.proofs.Foreign.{any_row_asks, any_row_refused}
+use Rattle.sql_tables.proofs.Returning.{HasNoReturning}
 use Rattle.sql_tables.proofs.Queries.{row_shown}
 use Rattle.sql_tables.proofs.Selects.{selected}
 use Rattle.store_columns.specs.declared.errors.StoreError.{StoreError}
@@ -27,7 +28,7 @@ use Rattle.prof_tables.proofs.Means.{schema_terms, schema_shown, schema_order, s
 use Rattle.prof_store.specs.Schemas.{IsStore, OpensBy, failed_opening}
 
 -- however a database is opened or refused, it was only asked
-pub only_asks : (sql : List ℕ) → QueriesText sql → (params : Row) (old new : State) → HasCleanDisk new → Survives old new (CommitsShowing sql params old) → (answer : Result Row Error) → QueriesRow sql params old new answer
+pub only_asks : (sql : List ℕ) → HasNoReturning sql → (params : Row) (old new : State) → HasCleanDisk new → Survives old new (CommitsShowing sql params old) → (answer : Result Row Error) → QueriesRow sql params old new answer
     → (out : Result Unit OpenError) → OpensBy answer out → Asked old.now.schema (is_ok out) old new
 only_asks sql query params old new clean survives (Ok row) h out is = asked_if old.now.schema (is_ok out) old new (any_row_asks sql query params old new clean survives row h)
 only_asks sql query params old new clean survives (Err e) h (Ok x) is = absurd cc

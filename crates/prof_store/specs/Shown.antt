@@ -55,6 +55,10 @@ module _ {S : Type 0} (g : Ghosts S) where
   abbrev pub ChangesIf : Bool → (Tables → Type 0) → (Tables → Tables) → Store S → Store S → Type 0
   ChangesIf done given change old new = IsFaithful new → Changed schema_one (λ t db. given t × Holds t db) (λ t. Holds (change t)) done done (shown old) (shown new)
 
+  -- over a store that was shut a call commits nothing
+  abbrev pub KeepsShut : Store S → Store S → Type 0
+  KeepsShut old new = IsFaithful new → calls.KeepsIfShut (shown old) (shown new)
+
   -- what an answer tells of the lines that the tables held before the call
   abbrev pub Tells : Store S → Store S → (Tables → Type 0) → Type 0
   Tells old new P = IsFaithful new → (t : Tables) → StandsFor t old → P t

@@ -1,5 +1,5 @@
 -- What is due for a file that was read to its end.
-use Rattle.std.proofs.Common.{◌≡◌, ℕ, Bool, true, false, nat_le, if◌then◌else◌, List, [], ◌∷◌, length, Option, Some, None, option_map, refl, sym, ap, ap₂, subst, ◌∙◌}
+use Rattle.std.proofs.Common.{◌≡◌, ℕ, Bool, true, false, nat_le, if◌then◌else◌, List, [], ◌∷◌, length, Option, Some, None, Result, Ok, Err, option_map, refl, sym, ap, ap₂, subst, ◌∙◌}
 use Rattle.sqlite_trees.specs.Tree.{Trees}
 use Rattle.sha2.specs.Sha256.{sha256}
 use Rattle.cg_text.specs.declared.faults.Fault as faults
@@ -26,8 +26,10 @@ use Rattle.histories.specs.declared.answers.Refusal.{Refusal}
 use Rattle.histories.specs.declared.answers.Refusal.TheVariants as reasons
 use Rattle.histories.specs.declared.limits.Limits.{Limits}
 use Rattle.histories.proofs.Excesses.{tells_excess}
+use Rattle.histories.proofs.Tells.{tells_many}
 use Rattle.sources.specs.Reads.{HasEnded}
-use Rattle.run_imports.specs.Refused.{or_later, if_some, room_refusal}
+use Rattle.run_imports.specs.FromTables.{IsExcess, IsNumber}
+use Rattle.run_imports.specs.Refused.{no_room, number_unless, room_refusal}
 use Rattle.store_histories.specs.Refusals.{refused_or}
 
 -- ---- sums
@@ -37,28 +39,39 @@ head_events Callgrind head bytes is = is.events
 head_events Folded head bytes is = is.events
 
 module _ (h : History) (t : Tables) (db : Trees) (kind : Kind) (bytes : List ℕ) (head : FileHead) (c : Content) (was : Holds t db) (tell : TablesTell h t) (is : IsHeadOf kind head bytes) (rows_are : c ≡ rows_of kind bytes) where
-  pub excess_told : (events : List (List ℕ)) (many : ℕ) (totals file : FileTotals) → events ≡ head.events → many ≡ length head.events → IsHeldIn t events totals → AreTotals file c many
-      → excess_of (held h) kind bytes ≡ option_map (excess_at head.events) (overflow_of totals file)
-  excess_told events many totals file same count in_tables in_file =
+  excess_told : (excess : Option Excess) → IsExcess head c t excess → excess ≡ excess_of (held h) kind bytes
+  excess_told excess it =
       let named = head_events kind head bytes is in
-      tells_excess h t db kind bytes totals file was tell (subst (λ l. IsHeldIn t l totals) (same ∙ named) in_tables)
-      (subst (λ n. AreTotals file (rows_of kind bytes) n) (count ∙ ap length named) (subst (λ x. AreTotals file x many) rows_are in_file))
-      ∙ ap (λ l. option_map (excess_at l) (overflow_of totals file)) (sym named)
+      it.excess_is
+      ∙ ap (λ l. option_map (excess_at l) (overflow_of it.held it.added)) named
+      ∙ sym (tells_excess h t db kind bytes it.held it.added was tell (subst (λ l. IsHeldIn t l it.held) named it.are_held)
+      (subst (λ n. AreTotals it.added (rows_of kind bytes) n) (ap length named) (subst (λ x. AreTotals it.added x (length head.events)) rows_are it.are_added)))
+
+  -- where the lines stand for a history, the number is what follows from it
+  pub number_told : (limits : Limits) (number : Result ℕ Refusal) → IsNumber limits head c t number → number ≡ number_unless (room_refusal limits h kind bytes) (next h)
+  number_told limits number it =
+      it.number_is
+      ∙ ap (λ e. number_unless (no_room e (nat_le limits.runs (length t.runs)) (nat_le limits.numbers t.next)) t.next) (excess_told it.excess it.is_excess)
+      ∙ ap₂ (λ many n. number_unless (no_room (excess_of (held h) kind bytes) (nat_le limits.runs many) (nat_le limits.numbers n)) n) (tells_many h t tell) tell.next
 
 -- ---- room
 
-abbrev room : Option Excess → Bool → Bool → Option Refusal
-room excess full spent = or_later (option_map reasons.Overflow excess) (or_later (if_some full reasons.Full) (if_some spent reasons.NumbersSpent))
+module _ (limits : Limits) (head : FileHead) (c : Content) (t : Tables) where
+  pub number_over : (excess : Excess) → IsExcess head c t (Some excess) → IsNumber limits head c t (Err (reasons.Overflow excess))
+  number_over excess is = record { excess = Some excess; is_excess = is; number_is = refl }
 
-module _ (limits : Limits) (h : History) (kind : Kind) (bytes : List ℕ) (fits : excess_of (held h) kind bytes ≡ None) where
-  pub room_full : nat_le limits.runs (length (held h)) ≡ true → room_refusal limits h kind bytes ≡ Some reasons.Full
-  room_full full = ap₂ (λ e b. room e b (nat_le limits.numbers (next h))) fits full
+  module _ (fits : IsExcess head c t None) where
+    abbrev by_room : Bool → Bool → Result ℕ Refusal
+    by_room full spent = number_unless (no_room None full spent) t.next
 
-  pub room_spent : nat_le limits.runs (length (held h)) ≡ false → nat_le limits.numbers (next h) ≡ true → room_refusal limits h kind bytes ≡ Some reasons.NumbersSpent
-  room_spent few spent = ap (λ e. room e (nat_le limits.runs (length (held h))) (nat_le limits.numbers (next h))) fits ∙ ap₂ (room None) few spent
+    pub number_full : nat_le limits.runs (length t.runs) ≡ true → IsNumber limits head c t (Err reasons.Full)
+    number_full full = record { excess = None; is_excess = fits; number_is = sym (ap (λ b. by_room b (nat_le limits.numbers t.next)) full) }
 
-  pub room_left : nat_le limits.runs (length (held h)) ≡ false → nat_le limits.numbers (next h) ≡ false → room_refusal limits h kind bytes ≡ None
-  room_left few some = ap (λ e. room e (nat_le limits.runs (length (held h))) (nat_le limits.numbers (next h))) fits ∙ ap₂ (room None) few some
+    pub number_spent : nat_le limits.runs (length t.runs) ≡ false → nat_le limits.numbers t.next ≡ true → IsNumber limits head c t (Err reasons.NumbersSpent)
+    number_spent few spent = record { excess = None; is_excess = fits; number_is = sym (ap₂ by_room few spent) }
+
+    pub number_left : nat_le limits.runs (length t.runs) ≡ false → nat_le limits.numbers t.next ≡ false → (n : ℕ) → n ≡ t.next → IsNumber limits head c t (Ok n)
+    number_left few some n is_next = record { excess = None; is_excess = fits; number_is = ap (λ k. Ok k) is_next ∙ sym (ap₂ by_room few some) }
 
 -- ---- what is due
 
@@ -91,7 +104,7 @@ module _ (limits : Limits) (h : History) (kind : Kind) (label : List ℕ) (outco
       where
         same : (e : Option Excess) (full spent : Bool)
             → first_or (option_map (λ excess. answers.Refused (reasons.Overflow excess)) e ∷ when full (answers.Refused reasons.Full) ∷ when spent (answers.Refused reasons.NumbersSpent) ∷ []) (answers.Run (next h))
-            ≡ refused_or (room e full spent) (answers.Run (next h))
+            ≡ refused_or (no_room e full spent) (answers.Run (next h))
         same (Some excess) full spent = refl
         same None true spent = refl
         same None false true = refl

@@ -1,11 +1,12 @@
 -- A file that was put.
-use Rattle.std.proofs.Common.{◌≡◌, ◌∙◌, ℕ, Bool, true, List, Some, None, Result, Ok, Err, Option, refl, inl, sym, ap, subst}
+use Rattle.std.proofs.Common.{◌≡◌, ◌∙◌, ℕ, nat_le, length, Bool, true, List, [], ◌∷◌, Some, None, Result, Ok, Err, Option, refl, inl, sym, ap, subst, arith}
 use Rattle.std.specs.Result.{is_ok}
 use Rattle.store_columns.specs.declared.errors.StoreError.{StoreError}
 use Rattle.histories.specs.declared.answers.Answer.{Answer}
 use Rattle.sqlite_trees.specs.declared.store.Store.{Ghosts}
 use Rattle.sqlite_trees.specs.Tree.{Trees}
 use Rattle.cg_formulas.specs.declared.heads.FileHead.{FileHead}
+use Rattle.cost_rows.specs.Content.{Content}
 use Rattle.cost_rows.specs.Rows.{content_of}
 use Rattle.cost_rows.specs.declared.file_rows.FileRows.{FileRows}
 use Rattle.sql_tables.specs.Calls.{Asked, Changed}
@@ -16,7 +17,7 @@ use Rattle.prof_books.specs.Runs.{with_file}
 use Rattle.profile_records.specs.declared.kinds.Kind.{Kind}
 use Rattle.prof_store.specs.Shown.{shown, StandsFor}
 use Rattle.prof_store.specs.declared.store.Store.{Store}
-use Rattle.sources.specs.Outcomes.{Outcome, bytes_of}
+use Rattle.sources.specs.Outcomes.{Outcome, Gave, bytes_of}
 use Rattle.histories.specs.History.{History, Import, next}
 use Rattle.histories.specs.Legal.{expected_answer, IsInForm, IsLegal}
 use Rattle.histories.specs.Stands.{TablesTell}
@@ -28,8 +29,9 @@ use Rattle.store_histories.specs.Answered.{with_turn, has_changed, TellsHistory,
 use Rattle.store_histories.specs.Refusals.{refused_or}
 use Rattle.store_histories.proofs.Due.{told_stands}
 use Rattle.sources.specs.Reads.{HasEnded}
-use Rattle.run_imports.specs.Refused.{number_unless, room_refusal}
-use Rattle.run_imports.proofs.Imports.{room_due}
+use Rattle.run_imports.specs.FromTables.{IsNumber}
+use Rattle.run_imports.specs.Refused.{no_room, number_unless, room_refusal}
+use Rattle.run_imports.proofs.Imports.{number_told, room_due}
 use Rattle.run_imports.specs.Imports.{IsNewFile}
 
 module _ (limits : Limits) (h : History) (kind : Kind) (label : List ℕ) (outcomes : List Outcome) (digest : List ℕ) (head : FileHead) (rows : FileRows) (t : Tables) (db : Trees)
@@ -62,6 +64,10 @@ free None n m is = (refl, ap value is)
     value (Err e) = 0
 free (Some refusal) n m is = absurd cc
 
+-- the number that a file gets in lines is the next one
+pub next_of : (limits : Limits) (head : FileHead) (c : Content) (t : Tables) (n : ℕ) → IsNumber limits head c t (Ok n) → n ≡ t.next
+next_of limits head c t n it = (free (no_room it.excess (nat_le limits.runs (length t.runs)) (nat_le limits.numbers t.next)) t.next n it.number_is).1
+
 -- where it is refused, that is why
 pub refused_for : (r : Option Refusal) (n : ℕ) (refusal : Refusal) → Err refusal ≡ number_unless r n → r ≡ Some refusal
 refused_for None n refusal is = absurd cc
@@ -70,6 +76,16 @@ refused_for (Some other) n refusal is = ap reason (sym is)
     reason : Result ℕ Refusal → Option Refusal
     reason (Ok k) = None
     reason (Err e) = Some e
+
+-- a source without a byte has ended
+pub ended_at_once : (limit : ℕ) → HasEnded limit (Gave [] ∷ [])
+ended_at_once limit = record { reads = record { within = omega arith; unfailed = refl }; ended = refl }
+
+-- what a new file's number is after a history
+pub number_due : {S : Type 0} (g : Ghosts S) (limits : Limits) (kind : Kind) (bytes digest : List ℕ) (head : FileHead) (rows : FileRows) (store : Store S) (h : History) (s : StandsForHistory g h store) → IsNewFile h kind bytes digest head rows
+    → (number : Result ℕ Refusal) → IsNumber limits head (content_of rows) s.t number → number ≡ number_unless (room_refusal limits h kind bytes) (next h)
+number_due g limits kind bytes digest head rows store h s new number is =
+    number_told h s.t (shown g store).now.trees kind bytes head (content_of rows) s.stands.holds s.tells new.head_is new.rows_are limits number is
 
 -- what becomes of a store that was asked for a number, and answered it
 module _ (limits : Limits) (kind : Kind) (label : List ℕ) (outcomes : List Outcome) (digest : List ℕ) (head : FileHead) (rows : FileRows) (form : IsInForm (Import kind label outcomes)) (ended : HasEnded limits.bytes outcomes)

@@ -1,2 +1,3 @@
+pub mod FromTables
 pub mod Imports
 pub mod Refused

@@ -4,17 +4,15 @@ ghost use Rattle.std.specs.Result.{is_ok};
 ghost use Rattle.std.specs.Str.{IsUtf8};
 ghost use Rattle.cost_rows.specs.Rows.{content_of};
 ghost use Rattle.prof_tables.specs.Labels.{IsLabel};
-ghost use Rattle.profile_records.specs.declared.kinds.Kind.{Kind};
-ghost use Rattle.prof_store.specs.Shown.{IsFaithful, Asks};
-ghost use Rattle.histories.specs.Files.{IsHeadOf, rows_of};
+ghost use Rattle.prof_store.specs.Shown.{IsFaithful, Asks, KeepsShut, Told};
 ghost use Rattle.sources.specs.Outcomes.{Outcome, bytes_of};
-ghost use Rattle.histories.specs.History.{History, Import, held, next};
+ghost use Rattle.histories.specs.History.{History, Import};
 ghost use Rattle.histories.specs.Sums as sums;
 ghost use Rattle.store_histories.specs.Answered.{StandsForHistory, WasDue, TurnsIf, has_changed};
+ghost use Rattle.run_imports.specs.FromTables.{IsExcess, IsNumber, IsPutIn, IsTakenIn};
 ghost use Rattle.run_imports.specs.Imports.{IsNewFile, PutsNew};
 ghost use Rattle.file_intake.specs.Intakes.{IsTakenOf};
 ghost use Rattle.sources.specs.Reads.{HasEnded};
-ghost use Rattle.run_imports.specs.Refused.{number_unless, room_refusal};
 
 use cg_text::ListVec;
 use cost_rows::{Overflow, Side, admit};
@@ -67,9 +65,7 @@ fn excess_with<S: Alter>(
     alloc: Global,
     file: &SummedFile<'_>,
 ) -> Result<Option<Excess>, StoreError>
-    ensures told { IsFaithful S.Store store.new → (h : History) (kind : Kind) (bytes : List ℕ) → StandsForHistory S.Store h store.old
-        → IsHeadOf kind file.now.head.now bytes → content_of file.now.rows.now ≡ rows_of kind bytes
-        → IfOk result (λ excess. excess ≡ sums.excess_of (held h) kind bytes) }
+    ensures told { Told S.Store result store.old store.new (IsExcess file.now.head.now (content_of file.now.rows.now)) }
     ensures asks { Asks S.Store (is_ok result) store.old store.new }
 {
     let totals = store.totals_of(alloc, file.head.events.as_slice())?;
@@ -89,9 +85,7 @@ fn number_for<S: Alter>(
     limits: Limits,
     file: &SummedFile<'_>,
 ) -> Result<Result<u32, Refusal>, StoreError>
-    ensures told { IsFaithful S.Store store.new → (h : History) (kind : Kind) (bytes : List ℕ) → StandsForHistory S.Store h store.old
-        → IsHeadOf kind file.now.head.now bytes → content_of file.now.rows.now ≡ rows_of kind bytes
-        → IfOk result (λ number. number ≡ number_unless (room_refusal limits h kind bytes) (next h)) }
+    ensures told { Told S.Store result store.old store.new (IsNumber limits file.now.head.now (content_of file.now.rows.now)) }
     ensures asks { Asks S.Store (is_ok result) store.old store.new }
 {
     if let Some(excess) = excess_with(store, alloc, file)? {
@@ -121,6 +115,8 @@ fn put_file<S: Alter>(
     ensures answered { IsFaithful S.Store store.new → (h : History) (outcomes : List Outcome) → StandsForHistory S.Store h store.old
         → HasEnded limits.bytes outcomes → IsNewFile h kind (bytes_of outcomes) digest.now file.now.head.now file.now.rows.now
         → IfOk result (λ answer. WasDue S.Store limits h (Import kind label.now outcomes) answer store.new) }
+    ensures told { Told S.Store result store.old store.new
+        (IsPutIn S.Store limits kind label.now digest.now file.now.head.now (content_of file.now.rows.now) store.new) }
     ensures turns { (outcomes : List Outcome) → HasEnded limits.bytes outcomes
         → PutsNew S.Store limits kind label.now outcomes digest.now file.now.head.now file.now.rows.now result store.old store.new }
 {
@@ -146,8 +142,10 @@ pub fn take_in<S: Alter>(
     ensures answered { IsFaithful S.Store store.new → (h : History) (outcomes : List Outcome) → StandsForHistory S.Store h store.old
         → HasEnded limits.bytes outcomes → IsTakenOf kind (bytes_of outcomes) taken.now
         → IfOk result (λ answer. WasDue S.Store limits h (Import kind label.now outcomes) answer store.new) }
+    ensures told { Told S.Store result store.old store.new (IsTakenIn S.Store limits kind label.now taken.now store.new) }
     ensures turns { (outcomes : List Outcome) → HasEnded limits.bytes outcomes → IsTakenOf kind (bytes_of outcomes) taken.now
         → TurnsIf S.Store limits (Import kind label.now outcomes) (is_ok result) (has_changed result) store.old store.new }
+    ensures shut { KeepsShut S.Store store.old store.new }
 {
     if let Some(number) = store.run_of_digest(&taken.digest)? {
         return Ok(Answer::Held(number));

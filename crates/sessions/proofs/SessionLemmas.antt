@@ -1,5 +1,5 @@
 -- Turns of a session, one after another.
-use Rattle.std.proofs.Common.{◌≡◌, ℕ, ◌+◌, ◌<◌, Bool, true, false, ◌||◌, if◌then◌else◌, List, [], ◌∷◌, ◌++◌, map, length, drop, get_or, Option, None, Result, Ok, Err, OnOk, OnErr, refl, sym, ap, ap₂, take, subst, ◌∙◌, append_assoc, append-nil}
+use Rattle.std.proofs.Common.{◌≡◌, ℕ, ◌+◌, ◌<◌, Bool, true, false, ◌||◌, if◌then◌else◌, List, [], ◌∷◌, ◌++◌, map, length, drop, get_or, Option, None, Result, Ok, Err, OnOk, OnErr, inl, refl, sym, ap, ap₂, take, subst, ◌∙◌, append_assoc, append-nil}
 use Rattle.std.specs.Io.KnownBytes.{Appends}
 use Rattle.std.proofs.KnownBytes.{Appends-nil, Appends-trans}
 use Rattle.std.proofs.Math.Seq.{take-add, take-length, take-append_seam, drop-append_seam}
@@ -8,7 +8,7 @@ use Rattle.std.proofs.lemmas.List.{map-append, drop_more}
 use Rattle.std.proofs.lemmas.List.Folds.{list_any-append}
 use Rattle.sqlite_trees.specs.declared.store.Store.{Ghosts}
 use Rattle.profile_records.specs.declared.kinds.Kind.{Kind}
-use Rattle.sql_tables.proofs.Calls.{changed_none}
+use Rattle.sql_tables.proofs.Calls.{changed_none, shut_none}
 use Rattle.prof_tables.specs.Schema.{schema_one}
 use Rattle.prof_store.specs.Shown.{shown, IsFaithful}
 use Rattle.prof_store.specs.declared.store.Store.{Store}
@@ -77,6 +77,8 @@ pub refused : {S : Type 0} (g : Ghosts S) (limits : Limits) (said : Said) (refus
 refused g limits said refusal store clean legal = record {
   turned = changed_none schema_one TellsHistory (Follows limits said) (shown g store) clean;
   answered = λ h has. untouched g limits h said store has clean (Refused refusal) tt (legal h);
+  closes = λ usable. inl usable;
+  shut = shut_none (shown g store);
 }
 
 -- ---- turns that were taken

@@ -15,7 +15,7 @@ use Rattle.sqlite.specs.Listing.{understood}
 use Rattle.sqlite.specs.State.{State, HasCleanDisk, IsUnchanged, IsRolledBack, Survives, Executes, CommitsBy, Shown, QueriesRow, FailsToQuery, CommitsShowing}
 use Rattle.sqlite.proofs.Callers.{IsPlain, command_of}
 use Rattle.sql_tables.specs.States.{Rests}
-use Rattle.sql_tables.specs.Calls.{IsSettled, IsAsBefore, Stays, Asked, Changed}
+use Rattle.sql_tables.specs.Calls.{IsSettled, IsAsBefore, Stays, Asked, Changed, KeepsIfShut}
 use Rattle.sql_tables.proofs.Opens.{WasOpen, WritesText, was_open_if_kept, shown_open, fails_was_open, row_open, no_row_open, no_row_unchanged, row_was_open, ran_open}
 use Rattle.sql_tables.proofs.Statements.{plain_mode, refused, done as write_done, crash as write_crash}
 use Rattle.sql_tables.proofs.Queries.{shown_keeps, failed_keeps, row_keeps, row_unchanged, commits_nothing}
@@ -87,7 +87,7 @@ asked_none schema s clean = record {
   stays = stays_none s clean;
   same = λ (none : false ≡ true). absurd cc;
   kept = λ was _. record { now_is = refl_now; committed_is = refl_committed; autocommit = was.autocommit };
-  crash = λ _ _ db may. inl may;
+  crash = λ db may. inl may;
 }
   where
     refl_now : s.now ≡ s.now
@@ -107,7 +107,7 @@ asked_then schema ok old mid new one two = record {
   stays = stays_then ok old mid new one.stays two.stays;
   same = λ is has. two.same is (ap (λ (d : Database). d.schema) (one.same refl has) ∙ has) ∙ one.same refl has;
   kept = λ was is_open. let first = one.kept was (one.stays.is_open refl) in before_then old mid new first (two.kept (settled_still schema old mid was first) is_open);
-  crash = λ is has db may. elim (two.crash (one.stays.is_open refl) (ap (λ (d : Database). d.schema) (one.same refl has) ∙ has) db may) [ inl before ↦ one.crash is has db before | inr none ↦ absurd none ];
+  crash = λ db may. elim (two.crash db may) [ inl before ↦ one.crash db before | inr none ↦ absurd none ];
 }
 
 pub asked_on : (schema : Schema) (ok : Bool) (old mid new : State) → Asked schema old.is_open old mid → Asked schema ok mid new → Asked schema ok old new
@@ -121,7 +121,7 @@ asked_on schema ok old mid new one two = record {
   };
   same = λ is has. let first = one.same (one.stays.was_open (two.stays.was_open (two.stays.is_open is))) has in two.same is (ap (λ (d : Database). d.schema) first ∙ has) ∙ first;
   kept = λ was is_open. let first = one.kept was (two.stays.was_open is_open) in before_then old mid new first (two.kept (settled_still schema old mid was first) is_open);
-  crash = λ is has db may. elim (two.crash (one.stays.is_open is) (ap (λ (d : Database). d.schema) (one.same is has) ∙ has) db may) [ inl before ↦ one.crash is has db before | inr none ↦ absurd none ];
+  crash = λ db may. elim (two.crash db may) [ inl before ↦ one.crash db before | inr none ↦ absurd none ];
 }
 
 pub asked_more : (schema : Schema) (old mid new : State) → Asked schema old.is_open old mid → Asked schema true mid new → Asked schema old.is_open old new
@@ -133,6 +133,18 @@ asked_rests schema P old new h was = rests_before schema P old new was (h.stays.
 
 pub asked_rests_yet : (schema : Schema) (P : Trees → Type 0) (old new : State) → Asked schema old.is_open old new → Rests schema P old → Rests schema P new
 asked_rests_yet schema P old new h was = rests_before schema P old new was (h.stays.is_open was.usable) (h.kept (settled_of schema P old was) (h.stays.is_open was.usable))
+
+-- ---- over a connection that was shut
+
+pub shut_none : (s : State) → KeepsIfShut s s
+shut_none s shut db may = inl may
+
+pub shut_asked : (schema : Schema) (ok : Bool) (old new : State) → Asked schema ok old new → KeepsIfShut old new
+shut_asked schema ok old new h shut = h.crash
+
+-- a question that was answered found it open
+pub shut_answered : (schema : Schema) (old mid new : State) → Asked schema true old mid → KeepsIfShut old new
+shut_answered schema old mid new h shut = absurd (shut (h.stays.was_open (h.stays.is_open refl)))
 
 -- ---- calls that change
 
@@ -146,7 +158,7 @@ module _ (schema : Schema) {M : Type 0} (Before After : M → Trees → Type 0) 
     stays = h.stays;
     done = λ (none : false ≡ true). absurd cc;
     kept = λ _. h.kept;
-    crash = λ m was db may. elim (h.crash was.usable was.schema_is db may) [ inl before ↦ inl before | inr none ↦ absurd none ];
+    crash = λ m was db may. elim (h.crash db may) [ inl before ↦ inl before | inr none ↦ absurd none ];
   }
 
   -- a change after questions
@@ -156,7 +168,7 @@ module _ (schema : Schema) {M : Type 0} (Before After : M → Trees → Type 0) 
     done = λ is m was. two.done is m (asked_rests schema (Before m) old mid one was);
     kept = λ not was is_open. let first = one.kept was (one.stays.is_open refl) in before_then old mid new first (two.kept not (settled_still schema old mid was first) is_open);
     crash = λ m was db may. elim (two.crash m (asked_rests schema (Before m) old mid one was) db may) [
-      | inl before ↦ elim (one.crash was.usable was.schema_is db before) [ inl first ↦ inl first | inr none ↦ absurd none ]
+      | inl before ↦ elim (one.crash db before) [ inl first ↦ inl first | inr none ↦ absurd none ]
       | inr after ↦ inr after
     ];
   }
@@ -167,7 +179,7 @@ module _ (schema : Schema) {M : Type 0} (Before After : M → Trees → Type 0) 
     stays = h.stays;
     done = λ _ m was. let after = asked_rests schema (Before m) old new h was in rests_as schema (Before m) (After m) new after (subst (λ (d : Database). After m d.trees) (sym (h.same refl was.schema_is)) (idle m was));
     kept = λ (none : true ≡ false). absurd cc;
-    crash = λ m was db may. elim (h.crash was.usable was.schema_is db may) [ inl before ↦ inl before | inr none ↦ absurd none ];
+    crash = λ m was db may. elim (h.crash db may) [ inl before ↦ inl before | inr none ↦ absurd none ];
   }
 
   -- the same change, told of other meanings
@@ -192,7 +204,7 @@ module _ (schema : Schema) (sql : List ℕ) (params : Row) (plain : IsPlain (und
     stays = stays_by ok old new survives clean was_open is_open;
     same = λ is has. (same has is).0.now_is;
     kept = λ was is_open. before_kept schema old new was is_open (kept was.schema_is);
-    crash = λ _ has. (commits_nothing schema sql params old new has plain survives).crash clean;
+    crash = (commits_nothing schema sql params old new plain survives).crash clean;
   }
 
   -- a query for all rows

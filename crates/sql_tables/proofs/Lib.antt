@@ -14,6 +14,7 @@ pub mod Many
 pub mod Opens
 pub mod Orders
 pub mod Queries
+pub mod Returning
 pub mod Rows
 pub mod Selects
 pub mod Splits

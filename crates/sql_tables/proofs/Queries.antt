@@ -1,5 +1,6 @@
 -- A query on one table, and what it leaves.
 use Rattle.sqlite_schema.specs.declared.schema.Schema.{Schema}
+use Rattle.sql_tables.proofs.Returning.{commits_none, plain_has_none}
 use Rattle.sql_tables.proofs.Rows.{passes}
 use Rattle.sql_tables.specs.Queries.{scan}
 use Rattle.std.proofs.Common.{◌≡◌, ◌⊎◌, inl, inr, ℕ, List, [], ◌∷◌, ◌++◌, map, filter, flat_map, Bool, true, false, cond, Ok, Err, Option, Some, None, Result, refl, sym, ap, subst, ◌∙◌}
@@ -20,7 +21,7 @@ use Rattle.sqlite.specs.Listing.{understood}
 use Rattle.sqlite_schema.specs.declared.command.Returning.{Returning}
 use Rattle.sqlite.specs.Clock.{timed}
 use Rattle.sqlite.specs.State.{FailsToShow, State, IsUnchanged, IsRolledBack, FailsToQuery, QueriesRow, Shown, IsNotRun, Survives, CommitsShowing}
-use Rattle.sqlite.proofs.Callers.{IsPlain, never_commits}
+use Rattle.sqlite.proofs.Callers.{IsPlain}
 use Rattle.sqlite.proofs.StateLemmas.{survives_weaker}
 
 module _ (schema : Schema) (sql : List ℕ) (params : Row) (old new : State) (has : old.now.schema ≡ schema) (plain : IsPlain (understood schema sql)) where
@@ -61,8 +62,8 @@ failed_keeps sql params old new e (inr h) = shown_or_run h.0.returning h.2
     shown_or_run (Some what) (inl k) = inl k.1
     shown_or_run (Some what) (inr k) = inr k.3
 
-pub commits_nothing : (schema : Schema) (sql : List ℕ) (params : Row) (old new : State) → old.now.schema ≡ schema → IsPlain (understood schema sql) → Survives old new (CommitsShowing sql params old) → Survives old new (λ _. ⊥)
-commits_nothing schema sql params old new has plain = survives_weaker old new _ _ (λ _ db. never_commits sql params old db (subst (λ s. IsPlain (understood s sql)) (sym has) plain))
+pub commits_nothing : (schema : Schema) (sql : List ℕ) (params : Row) (old new : State) → IsPlain (understood schema sql) → Survives old new (CommitsShowing sql params old) → Survives old new (λ _. ⊥)
+commits_nothing schema sql params old new plain = survives_weaker old new _ _ (λ _ db. commits_none sql (plain_has_none schema sql plain) params old db)
 
 module _ (tree : ℕ) (terms : List Term) (project : List Term) (order : List (Term × Key)) where
   abbrev pub sorted_scan : Query

@@ -26,12 +26,16 @@ pub record Stays (answered : Bool) (old new : State) : Type 0 where
   pub was_open : IsTrue new.is_open → IsTrue old.is_open
   pub is_open : IsTrue answered → IsTrue new.is_open
 
--- a call that asks: it changes nothing, and commits nothing
+-- a call that asks: it changes nothing, and commits nothing, be the connection open or not
 pub record Asked (schema : Schema) (answered : Bool) (old new : State) : Type 0 where
   pub stays : Stays answered old new
   pub same : IsTrue answered → old.now.schema ≡ schema → new.now ≡ old.now
   pub kept : IsSettled schema old → IsTrue new.is_open → IsAsBefore old new
-  pub crash : IsTrue old.is_open → old.now.schema ≡ schema → LeavesOnly old new (λ _. ⊥)
+  pub crash : LeavesOnly old new (λ _. ⊥)
+
+-- over a connection that was shut nothing more is committed: a crash leaves what it could leave before
+abbrev pub KeepsIfShut : State → State → Type 0
+KeepsIfShut old new = (IsTrue old.is_open → ⊥) → LeavesOnly old new (λ _. ⊥)
 
 -- a call that changes tables, by one commit at its end: each meaning that they had becomes what is said of it afterwards; where it is not done, all is as before; a crash leaves what it could leave before, or tables with the change
 pub record Changed (schema : Schema) {M : Type 0} (Before After : M → Trees → Type 0) (answered is_done : Bool) (old new : State) : Type 0 where

@@ -3,7 +3,7 @@ ghost use Rattle.std.specs.Prelude.{◌≡◌, MatchOption, IfOk, None, true, na
 ghost use Rattle.std.specs.Result.{is_ok};
 ghost use Rattle.prof_tables.specs.Changes.{has_run, has_group};
 ghost use Rattle.prof_tables.specs.Labels.{IsGroupName};
-ghost use Rattle.prof_store.specs.Shown.{Asks, ChangesIf, IsFaithful, Told};
+ghost use Rattle.prof_store.specs.Shown.{Asks, ChangesIf, IsFaithful, KeepsShut, Told};
 ghost use Rattle.histories.specs.History.{History, Remove};
 ghost use Rattle.histories.specs.declared.limits.Limits.{Limits};
 ghost use Rattle.store_histories.specs.Answered.{StandsForHistory, WasDue, TurnsIf, has_changed};
@@ -48,6 +48,7 @@ pub(crate) fn remove<S: Alter>(store: &mut Store<S>, number: u32) -> Result<Answ
     ensures answered { IsFaithful S.Store store.new → (limits : Limits) (h : History) → StandsForHistory S.Store h store.old
         → IfOk result (λ answer. WasDue S.Store limits h (Remove number) answer store.new) }
     ensures turns { (limits : Limits) → TurnsIf S.Store limits (Remove number) (is_ok result) (has_changed result) store.old store.new }
+    ensures shut { KeepsShut S.Store store.old store.new }
     ensures found { Told S.Store result store.old store.new (λ t answer. RemovesIn S.Store number t answer store.new) }
 {
     if !store.has_run(number)? {
@@ -153,6 +154,7 @@ pub(crate) fn change_group<S: Alter>(
     ensures answered { IsFaithful S.Store store.new → (h : History) → StandsForHistory S.Store h store.old
         → IfOk result (λ answer. WasDue S.Store limits h (change_said change name.now) answer store.new) }
     ensures turns { TurnsIf S.Store limits (change_said change name.now) (is_ok result) (has_changed result) store.old store.new }
+    ensures shut { KeepsShut S.Store store.old store.new }
     ensures found { Told S.Store result store.old store.new (λ t answer. GroupsIn S.Store limits change name.now t answer store.new) }
 {
     if let Some(refusal) = refusal_of(store, limits, name, change)? {

@@ -1,5 +1,6 @@
 pub mod After
 pub mod Due
+pub mod Left
 pub mod Links
 pub mod Names
 pub mod Questions

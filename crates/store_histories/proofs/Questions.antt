@@ -3,7 +3,7 @@ use Rattle.std.specs.Result.{is_ok}
 use Rattle.std.proofs.Common.{◌≡◌, ◌∙◌, Bool, false, Result, Ok, Err, IfOk, Some, inl, inr, ap, refl, sym, subst}
 use Rattle.sqlite_trees.specs.declared.store.Store.{Ghosts}
 use Rattle.sql_tables.specs.Calls.{Asked, Changed}
-use Rattle.sql_tables.proofs.Calls.{asked_rests, changed_asked}
+use Rattle.sql_tables.proofs.Calls.{asked_rests, changed_asked, shut_asked}
 use Rattle.prof_tables.specs.Schema.{schema_one}
 use Rattle.prof_tables.specs.Tables.{Tables, Holds}
 use Rattle.prof_store.specs.Shown.{StandsFor, shown}
@@ -21,9 +21,9 @@ use Rattle.histories.proofs.Held.{IsStill}
 use Rattle.store_histories.specs.Answered.{Answers, Follows, StandsForHistory, TellsHistory, WasAsked, WasDue, answer_for, has_changed, is_accepted}
 use Rattle.store_histories.specs.FromTables.{OrFailed}
 use Rattle.store_histories.proofs.Due.{was_still}
-use Rattle.store_histories.proofs.Settled.{settled, turns_answer}
+use Rattle.store_histories.proofs.Settled.{closes_for, settled, turns_answer}
 
-stays_still : (answer : Answer) → is_accepted answer ≡ false → IsStill answer
+pub stays_still : (answer : Answer) → is_accepted answer ≡ false → IsStill answer
 stays_still (answers.Run n) is = absurd cc
 stays_still (answers.Held n) is = tt
 stays_still answers.Done is = absurd cc
@@ -69,6 +69,8 @@ module _ {S : Type 0} (g : Ghosts S) (limits : Limits) (Shows : Tables → Answe
       record {
         turned = turns_answer limits said result (shown g old) (shown g new) turned;
         answered = λ h has. settled g limits h said old new has result form (was_due result asked h) turned;
+        closes = closes_for result (shown g old) (shown g new) asked.asks.stays;
+        shut = shut_asked schema_one (is_ok result) (shown g old) (shown g new) asked.asks;
       }
 
 pub question_answered : {S : Type 0} (g : Ghosts S) (limits : Limits) (Shows : Tables → Answer → Type 0) (query : Query) (old new : Store S) (result : Result Answer StoreError) → WasAsked g Shows query result old new → Answers g limits (Ask query) (answer_for result) old new

@@ -1,11 +1,11 @@
 -- An answer and what it leaves, whatever came of the calls below.
 use Rattle.std.specs.Result.{is_ok, IsErr}
-use Rattle.std.proofs.Common.{◌≡◌, ℕ, Bool, false, List, [], ◌∷◌, bytes_eq, ◌||◌, Result, Ok, Err, IfOk, inl, inr, refl, ap₂, subst}
+use Rattle.std.proofs.Common.{◌≡◌, ◌⊎◌, IsTrue, ℕ, Bool, false, List, [], ◌∷◌, bytes_eq, ◌||◌, Result, Ok, Err, IfOk, inl, inr, refl, ap₂, subst}
 use Rattle.std.specs.List.{AllByRecursion, list_any}
 use Rattle.sqlite_trees.specs.declared.store.Store.{Ghosts}
 use Rattle.sqlite.specs.State.{State}
 use Rattle.sqlite_trees.specs.Tree.{Trees}
-use Rattle.sql_tables.specs.Calls.{Changed}
+use Rattle.sql_tables.specs.Calls.{Changed, Stays}
 use Rattle.sql_tables.proofs.Calls.{settled_of, rests_before, stays_if, changed_none}
 use Rattle.prof_tables.specs.Schema.{schema_one}
 use Rattle.prof_tables.specs.Tables.{Holds}
@@ -25,7 +25,7 @@ use Rattle.histories.proofs.Invariants.{groups_named}
 use Rattle.histories.proofs.Steps.{tell_same}
 use Rattle.histories.proofs.Tests.{bytes_apart}
 use Rattle.histories.proofs.Turns.{history_more}
-use Rattle.store_histories.specs.Answered.{with_turn, is_accepted, has_changed, TellsHistory, Follows, StandsForHistory, HasHistory, WasDue, IsAnswered, answer_for}
+use Rattle.store_histories.specs.Answered.{with_turn, is_accepted, has_changed, TellsHistory, Follows, StandsForHistory, HasHistory, WasDue, IsAnswered, IsFailure, answer_for}
 
 module _ {S : Type 0} (g : Ghosts S) (limits : Limits) (h : History) (said : Said) (old new : Store S) (has : HasHistory g h old) where
   -- what was there stays, if a legal answer says that nothing changed
@@ -66,6 +66,12 @@ pub turns_answer : (limits : Limits) (said : Said) (result : Result Answer Store
 turns_answer limits said (Ok answer) old new h = record { stays = stays_if (is_accepted answer) old new h.stays; done = h.done; kept = h.kept; crash = h.crash }
 turns_answer limits said (Err ends.Memory) old new h = h
 turns_answer limits said (Err ends.Store) old new h = h
+
+-- a call that fails may shut the store
+pub closes_for : (result : Result Answer StoreError) (old new : State) → Stays (is_ok result) old new → IsTrue old.is_open → IsTrue new.is_open ⊎ IsFailure (answer_for result)
+closes_for (Ok answer) old new h usable = inl (h.is_open refl)
+closes_for (Err ends.Memory) old new h usable = inr (inl refl)
+closes_for (Err ends.Store) old new h usable = inr (inr refl)
 
 -- ---- the store is not asked
 

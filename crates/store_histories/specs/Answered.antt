@@ -1,9 +1,9 @@
 -- What is answered to a command, and what it leaves.
-use Rattle.std.specs.Prelude.{◌≡◌, Bool, true, false, IsTrue, Some, Result, Ok, Err, IfOk, List, [], ◌∷◌, ◌++◌}
+use Rattle.std.specs.Prelude.{◌≡◌, ◌⊎◌, Bool, true, false, IsTrue, Some, Result, Ok, Err, IfOk, List, [], ◌∷◌, ◌++◌}
 use Rattle.std.specs.Result.{is_ok}
 use Rattle.sqlite_trees.specs.declared.store.Store.{Ghosts}
 use Rattle.sqlite_trees.specs.Tree.{Trees}
-use Rattle.sql_tables.specs.Calls.{Asked, Changed}
+use Rattle.sql_tables.specs.Calls.{Asked, Changed, KeepsIfShut}
 use Rattle.prof_tables.specs.Schema.{schema_one}
 use Rattle.prof_tables.specs.Tables.{Tables, Holds}
 use Rattle.prof_store.specs.Shown.{shown, StandsFor, IsFaithful, IsUsable}
@@ -33,6 +33,10 @@ is_accepted answer = false
 abbrev pub has_changed : Result Answer StoreError → Bool
 has_changed (Ok answer) = is_accepted answer
 has_changed (Err end) = false
+
+-- that memory or the store failed
+abbrev pub IsFailure : Answer → Type 0
+IsFailure answer = (answer ≡ answers.Refused reasons.Memory) ⊎ (answer ≡ answers.Refused reasons.Store)
 
 -- tables that stand for a history
 pub record TellsHistory (h : History) (db : Trees) : Type 0 where
@@ -77,10 +81,12 @@ module _ {S : Type 0} (g : Ghosts S) where
     pub legal : IsLegal limits h said answer
     pub after : HasHistory (with_turn h said answer) new
 
-  -- a command was answered over a store: what it leaves, whatever the history; and that the answer is legal after each history that the store has
+  -- a command was answered over a store: what it leaves, whatever the history; that the answer is legal after each history that the store has; that it shuts the store only where memory or the store failed; and that it commits nothing where the store was shut
   pub record Answers (limits : Limits) (said : Said) (answer : Answer) (old new : Store S) : Type 0 where
     pub turned : Changed schema_one TellsHistory (Follows limits said) (is_accepted answer) (is_accepted answer) (shown g old) (shown g new)
     pub answered : (h : History) → HasHistory h old → IsAnswered limits h said answer new
+    pub closes : IsUsable g old → IsUsable g new ⊎ IsFailure answer
+    pub shut : KeepsIfShut (shown g old) (shown g new)
 
   -- a question was answered, with a text or a refusal, as lines of tables are, whatever they stand for, and what is expected after each history that they do stand for; the store was only asked
   pub record WasAsked (Shows : Tables → Answer → Type 0) (query : Query) (result : Result Answer StoreError) (old new : Store S) : Type 0 where

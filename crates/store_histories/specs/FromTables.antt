@@ -4,6 +4,7 @@ use Rattle.histories.specs.declared.answers.Answer.{Answer}
 use Rattle.histories.specs.declared.answers.Answer.TheVariants as answers
 use Rattle.histories.specs.declared.answers.Refusal.{Refusal}
 use Rattle.histories.specs.declared.answers.Refusal.TheVariants as reasons
+use Rattle.store_histories.specs.Answered.{IsFailure}
 
 -- what is found is shown, and what is not there is refused
 abbrev pub AnswersFor : {T : Type 0} → (T → Answer → Type 0) → Result T Refusal → Answer → Type 0
@@ -26,4 +27,4 @@ text_or_no_name None = answers.Refused reasons.NoSuchName
 
 -- this is answered, or that memory or the store failed
 abbrev pub OrFailed : (Answer → Type 0) → Answer → Type 0
-OrFailed Shows answer = Shows answer ⊎ (answer ≡ answers.Refused reasons.Memory) ⊎ (answer ≡ answers.Refused reasons.Store)
+OrFailed Shows answer = Shows answer ⊎ IsFailure answer

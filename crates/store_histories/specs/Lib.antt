@@ -1,3 +1,4 @@
 pub mod Answered
 pub mod FromTables
+pub mod Left
 pub mod Refusals

@@ -1,7 +1,7 @@
 -- Sources that were not read to their end.
 use Rattle.std.proofs.Common.{◌≡◌, ◌∙◌, ℕ, false, List, inl, inr, refl}
 use Rattle.sql_tables.specs.Calls.{Changed}
-use Rattle.sql_tables.proofs.Calls.{changed_none}
+use Rattle.sql_tables.proofs.Calls.{changed_none, shut_none}
 use Rattle.prof_tables.specs.Schema.{schema_one}
 use Rattle.prof_store.specs.Shown.{shown, IsFaithful}
 use Rattle.sqlite_trees.specs.declared.store.Store.{Ghosts}
@@ -39,6 +39,8 @@ module _ (limits : Limits) (said : Said) (form : IsInForm said) (limit : ℕ) (o
   unread_answered g store clean unread is = record {
     turned = turned unread;
     answered = λ h has. untouched g limits h said store has clean (unread_for unread) (unread_still unread) (unread_legal h unread is);
+    closes = λ usable. inl usable;
+    shut = shut_none (shown g store);
   }
     where
       none : Changed schema_one TellsHistory (Follows limits said) false false (shown g store) (shown g store)

@@ -1,5 +1,6 @@
 -- What commands are answered over lines of tables, whatever they stand for.
-use Rattle.std.specs.Prelude.{◌≡◌, ◌⊎◌, ℕ, List}
+use Rattle.std.specs.Prelude.{◌≡◌, ◌⊎◌, ℕ, List, []}
+use Rattle.std.specs.Str.{IsUtf8}
 use Rattle.sqlite_trees.specs.declared.store.Store.{Ghosts}
 use Rattle.prof_store.specs.Shown.{Tells}
 use Rattle.prof_store.specs.declared.store.Store.{Store}
@@ -9,12 +10,18 @@ use Rattle.sources.specs.Reads.{IsUnreadFor, Reads}
 use Rattle.sources.specs.declared.reading.Unread.{Unread}
 use Rattle.histories.specs.Legal.{most_of_source}
 use Rattle.histories.specs.declared.answers.Answer.{Answer}
+use Rattle.histories.specs.declared.answers.Answer.TheVariants as answers
 use Rattle.histories.specs.declared.answers.Query.{Query}
 use Rattle.histories.specs.declared.answers.Query.TheVariants as queries
+use Rattle.histories.specs.declared.answers.Refusal.TheVariants as reasons
 use Rattle.histories.specs.declared.answers.Selection.{Selection}
 use Rattle.store_calls.specs.FunctionCalls.{AreCallsShown}
 use Rattle.store_calls.specs.InclusiveRuns.{IsInclusive}
-use Rattle.prof_tables.specs.Labels.{IsGroupName}
+use Rattle.prof_tables.specs.Labels.{IsGroupName, IsLabel}
+use Rattle.profile_records.specs.declared.kinds.Kind.{Kind}
+use Rattle.file_intake.specs.Intakes.{IsTakenOf}
+use Rattle.file_intake.specs.declared.intake.Taken.{Taken}
+use Rattle.run_imports.specs.FromTables.{IsTakenIn}
 use Rattle.histories.specs.declared.limits.Limits.{Limits}
 use Rattle.store_commands.specs.Changes.{GroupsIn, RemovesIn}
 use Rattle.store_commands.specs.Lists.{IsListOfGroups, IsListOfRuns}
@@ -50,10 +57,18 @@ module _ {S R : Type 0} (g : Ghosts S) (reads : R → Outcome → R → Type 0) 
     pub answered : ((unread : Unread) × IsUnreadFor most_of_source outcomes unread × (answer ≡ unread_for unread))
         ⊎ Tells g old new (λ t. OrFailed (AnswersIn (queries.Annotate selection event file (bytes_of outcomes)) t) answer)
 
-  -- what a command asks is answered by what the lines say, and what it removes or makes of groups is made of them
+  -- under a label out of form a source is not read; one that was not read through is refused as such; what another gave is taken in by what the lines say
+  pub record WasImported (limits : Limits) (kind : Kind) (label : List ℕ) (source to : R) (answer : Answer) (old new : Store S) : Type 0 where
+    pub outcomes : List Outcome
+    pub came : Reads reads source outcomes to
+    pub answered : ((IsUtf8 label × IsLabel label → ⊥) × (outcomes ≡ []) × (answer ≡ answers.Refused reasons.BadName))
+        ⊎ ((unread : Unread) × IsUnreadFor limits.bytes outcomes unread × (answer ≡ unread_for unread))
+        ⊎ ((taken : Taken) × IsTakenOf kind (bytes_of outcomes) taken × Tells g old new (λ t. OrFailed (IsTakenIn g limits kind label taken new t) answer))
+
+  -- what a command asks is answered by what the lines say, and what it imports, removes or makes of groups is made of them
   abbrev pub IsFoundIn : Limits → commands.Command R → Answer → Store S → Store S → Type 0
   IsFoundIn limits (command.Ask query) answer old new = Tells g old new (λ t. OrFailed (AnswersIn query t) answer)
   IsFoundIn limits (command.Annotate selection event file source) answer old new = (to : R) × WasAnnotated selection event file source to answer old new
   IsFoundIn limits (command.Remove n) answer old new = Tells g old new (λ t. OrFailed (λ given. RemovesIn g n t given new) answer)
   IsFoundIn limits (command.Group name change) answer old new = IsGroupName name.items → Tells g old new (λ t. OrFailed (λ given. GroupsIn g limits change name.items t given new) answer)
-  IsFoundIn limits (command.Import kind label source) answer old new = Unit {0}
+  IsFoundIn limits (command.Import kind label source) answer old new = (to : R) × WasImported limits kind label.items source to answer old new

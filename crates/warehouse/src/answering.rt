@@ -5,7 +5,7 @@ ghost use Rattle.histories.specs.History.{Annotate, Ask, Import};
 ghost use Rattle.store_histories.specs.Answered.{Answers, Asks};
 ghost use Rattle.store_histories.specs.FromTables.{OrFailed};
 ghost use Rattle.warehouse.specs.Answered.{WasAnsweredOver};
-ghost use Rattle.warehouse.specs.FromTables.{AnswersIn, WasAnnotated};
+ghost use Rattle.warehouse.specs.FromTables.{AnswersIn, WasAnnotated, WasImported};
 
 use crate::refusals::unread_answer;
 use cg_text::ListVec;
@@ -37,6 +37,7 @@ fn import_labelled<S: Alter, R: Source>(
 ) -> Answer
     requires { IsLabel label.now }
     ensures answered { WasAnsweredOver S.Store R.reads limits (Import kind label.now) source.old source.new result store.old store.new }
+    ensures found { WasImported S.Store R.reads limits kind label.now source.old source.new result store.old store.new }
 {
     match take_file(alloc, kind, limits.bytes, source) {
         Ok(taken) => answer_of(take_in(store, alloc, limits, kind, label, &taken)),
@@ -54,6 +55,7 @@ pub(crate) fn import_in<S: Alter, R: Source>(
     source: &mut R,
 ) -> Answer
     ensures answered { WasAnsweredOver S.Store R.reads limits (Import kind label.now) source.old source.new result store.old store.new }
+    ensures found { WasImported S.Store R.reads limits kind label.now source.old source.new result store.old store.new }
 {
     match label_of(label) {
         Some(label) => import_labelled(store, alloc, limits, kind, label, source),

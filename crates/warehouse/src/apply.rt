@@ -3,7 +3,7 @@ ghost use Rattle.std.specs.Prelude.{◌≡◌, IfOk, OnErr};
 ghost use Rattle.prof_store.specs.Shown.{IsFaithful};
 ghost use Rattle.histories.specs.History.{Annotate, Import};
 ghost use Rattle.warehouse.specs.Answered.{WasAnswered, WasAnsweredOver, WasRun};
-ghost use Rattle.warehouse.specs.FromTables.{IsFoundIn, WasAnnotated};
+ghost use Rattle.warehouse.specs.FromTables.{IsFoundIn, WasAnnotated, WasImported};
 
 use crate::answering::{annotate_in, ask_in, import_in};
 use crate::command::Command;
@@ -31,6 +31,7 @@ impl<S: Alter> Warehouse<S> {
         ensures limits { self.new.limits ≡ self.old.limits }
         ensures answered { WasAnsweredOver S.Store R.reads self.old.limits (Import kind label.now) source.old source.new
             result self.old.store self.new.store }
+        ensures found { WasImported S.Store R.reads self.old.limits kind label.now source.old source.new result self.old.store self.new.store }
     {
         import_in(&mut self.store, alloc, self.limits, kind, label, source)
     }
@@ -56,7 +57,7 @@ impl<S: Alter> Warehouse<S> {
 
     /// Does what a command says, and answers it. A refused command changes nothing. Over tables that
     /// another program filled, and that stand for no history, a question is answered by what their lines
-    /// say, and a removal or a change of a group makes of them what it says; or both are refused.
+    /// say, and an import, a removal or a change of a group makes of them what it says; or it is refused.
     pub fn apply<R: Source + Drop>(&mut self, alloc: Global, command: Command<R>) -> Answer
         ensures limits { self.new.limits ≡ self.old.limits }
         ensures answered { WasAnswered S.Store R.reads self.old.limits command result self.old.store self.new.store }

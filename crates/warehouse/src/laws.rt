@@ -1,6 +1,6 @@
 // Which histories a store has: laws of the definitions, each the contract of a function that does
 // nothing.
-ghost use Rattle.std.specs.Prelude.{[], IsTrue};
+ghost use Rattle.std.specs.Prelude.{[], ◌++◌, IsTrue};
 ghost use Rattle.prof_tables.specs.Tables.{Tables, Holds, new_tables};
 ghost use Rattle.sqlite.specs.Steps.{over_memory};
 ghost use Rattle.sqlite_trees.specs.declared.memory.MemStore.{MemStore};
@@ -10,7 +10,8 @@ ghost use Rattle.histories.specs.History.{History, Said};
 ghost use Rattle.histories.specs.Stands.{TablesTell};
 ghost use Rattle.histories.specs.declared.answers.Answer.{Answer};
 ghost use Rattle.histories.specs.declared.limits.Limits.{Limits};
-ghost use Rattle.store_histories.specs.Answered.{HasHistory, StandsForHistory, Answers, TellsHistory, is_accepted, with_turn};
+ghost use Rattle.store_histories.specs.Answered.{HasHistory, StandsForHistory, Answers, Links, TellsHistory, is_accepted, with_turn};
+ghost use Rattle.store_histories.specs.Left.{LeavesHistory};
 
 use prof_store::what_stands_survives;
 use sqlite::Alter;
@@ -27,6 +28,17 @@ pub fn histories_survive<S: Alter>()
     ensures durable { (limits : Limits) (said : Said) (answer : Answer) (h : History) (old new : Store S) → Answers S.Store limits said answer old new
         → IsTrue (is_accepted answer) → HasHistory S.Store h old
         → LeavesJust S.Store new (TellsHistory (with_turn h said answer)) }
+{
+    what_stands_survives::<S>();
+}
+
+/// A crash between commands or after them, however they were answered and also once a failure has closed the
+/// database, leaves tables that stand for the history; or for what was before a command that was refused since
+/// memory or the store failed, with it done, as long as no later command was answered with a change.
+pub fn crashes_leave_a_history<S: Alter>()
+    ensures stands { (limits : Limits) (h : History) (store : Store S) → StandsForHistory S.Store h store → LeavesHistory S.Store limits h store }
+    ensures goes_on { (limits : Limits) (h turns : History) (old new : Store S) → HasHistory S.Store h old → LeavesHistory S.Store limits h old
+        → Links S.Store limits turns old new → LeavesHistory S.Store limits (h ++ turns) new }
 {
     what_stands_survives::<S>();
 }

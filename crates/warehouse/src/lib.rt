@@ -16,7 +16,7 @@ mod warehouse;
 
 pub use command::Command;
 pub use histories::{Answer, Excess, Limits, Query, Refusal, Selection};
-pub use laws::{histories_survive, memory_never_fails};
+pub use laws::{crashes_leave_a_history, histories_survive, memory_never_fails};
 pub use profile_records::Kind;
 pub use sources::{ReadFault, Source};
 pub use store_commands::GroupChange;

@@ -4,7 +4,7 @@ use Rattle.prof_tables.specs.Texts.{schema_sql}
 use Rattle.prof_tables.proofs.Finds.{schema_found}
 use Rattle.sqlite_resolve.specs.Compile.{first}
 use Rattle.sqlite_tied.specs.Compute.{everything}
-use Rattle.sql_tables.proofs.Foreign.{QueriesText}
+use Rattle.sql_tables.proofs.Returning.{HasNoReturning}
 use Rattle.prof_store.proofs.Opening.{only_asks, opening_row, store_is_right}
 use Rattle.prof_store.proofs.open.check_schema.Goals as goal
 
@@ -19,7 +19,7 @@ returns-clause-found g c clean = opening_row c.select_schema-answer.result c.ope
 pub returns-clause-right : goal.returns-clause-right
 returns-clause-right g c clean store = store_is_right _ _ store c.select_schema-answer.result (c.select_schema-answer.ensures.row clean) c.opened_by.result c.opened_by.ensures
 
-schema_query : QueriesText schema_sql
+schema_query : HasNoReturning schema_sql
 unfolding first everything
 schema_query = tt
 

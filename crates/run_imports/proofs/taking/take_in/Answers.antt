@@ -1,6 +1,6 @@
-use Rattle.std.proofs.Common.{◌≡◌, true, false, Some, None, Ok, sym, ap, subst, ◌∙◌}
+use Rattle.std.proofs.Common.{◌≡◌, true, false, Some, None, Ok, refl, sym, ap, subst, subst₂, ◌∙◌}
 use Rattle.sha2.specs.Sha256.{sha256}
-use Rattle.sql_tables.proofs.Calls.{asked_refused, asked_rests, changed_asked, rests_as}
+use Rattle.sql_tables.proofs.Calls.{asked_refused, asked_rests, changed_asked, rests_as, shut_answered, shut_asked}
 use Rattle.prof_tables.specs.Schema.{schema_one}
 use Rattle.prof_tables.specs.Tables.{Holds}
 use Rattle.sources.specs.Outcomes.{bytes_of}
@@ -13,11 +13,15 @@ use Rattle.histories.specs.declared.answers.Refusal.TheVariants.{File}
 use Rattle.histories.proofs.Tells.{tells_digest}
 use Rattle.store_histories.specs.Answered.{StandsForHistory, TellsHistory, Follows}
 use Rattle.store_histories.proofs.Due.{was_still}
+use Rattle.store_histories.proofs.Questions.{if_ok_so}
 use Rattle.store_histories.proofs.Settled.{turns_err}
+use Rattle.prof_store.specs.Digests.{IsRunOf}
+use Rattle.prof_store.specs.Shown.{shown}
+use Rattle.run_imports.specs.FromTables.{IsPutIn, TakesIn}
 use Rattle.run_imports.specs.Imports.{IsNewFile}
 use Rattle.file_intake.specs.Intakes.{IsFileOf}
 use Rattle.run_imports.proofs.Imports.{held_due, fault_due}
-use Rattle.run_imports.proofs.Puts.{new_turns}
+use Rattle.run_imports.proofs.Puts.{ended_at_once, new_turns}
 use Rattle.run_imports.proofs.taking.take_in.Goals as goal
 
 pub returns-in_err-number-clause-turns : goal.returns-in_err-number-clause-turns
@@ -79,3 +83,52 @@ pub returns-in_err-file-in-Ok-clause-turns : goal.returns-in_err-file-in-Ok-clau
 returns-in_err-file-in-Ok-clause-turns g c outcomes ended is clean =
     let said = Import c.args.kind c.args.label.now outcomes in
     turns_err c.args.limits said c.from_residual-in_err-file-in-Ok.result _ _ c.from_residual-in_err-file-in-Ok.ensures.0 (changed_asked schema_one TellsHistory (Follows c.args.limits said) false _ _ (asked_refused schema_one true _ _ (c.in_ok-number.ensures.asks clean)))
+
+pub returns-in-Some-clause-told : goal.returns-in-Some-clause-told
+returns-in-Some-clause-told g c clean t stands = record {
+  found = Some c.in-Some.number;
+  is_found = subst (IsRunOf c.args.taken.now.digest t) c.in-Some.is (c.in_ok-number.ensures.told clean t stands);
+  takes = (refl, asked_rests schema_one (Holds t) _ _ (c.in_ok-number.ensures.asks clean) stands);
+}
+
+pub returns-in_ok-file-in-Ok-clause-told : goal.returns-in_ok-file-in-Ok-clause-told
+returns-in_ok-file-in-Ok-clause-told g c clean t stands =
+    -- whatever the source gave: no fault of the disk is forgotten
+    let early = (c.put_file.ensures.turns _ (ended_at_once c.args.limits.bytes) clean).stays.was_clean in
+    let there = asked_rests schema_one (Holds t) _ _ (c.in_ok-number.ensures.asks early) stands in
+    let taken = c.args.taken.now in
+    let new = c.put_file.new.store in
+    let same = c.in_ok-file-in-Ok.ensures in
+    let takes = TakesIn g.S.Store c.args.limits c.args.kind c.args.label.now taken.digest new t None in
+    if_ok_so c.put_file.result
+    (λ answer is. record {
+      found = None;
+      is_found = subst (IsRunOf taken.digest t) c.in_default.is (c.in_ok-number.ensures.told early t stands);
+      takes = subst (λ f. takes f answer) (sym c.in-Ok.is) (subst₂ (λ head content. IsPutIn g.S.Store c.args.limits c.args.kind c.args.label.now taken.digest head content new t answer) same.0 (ap content_of same.1) is);
+    })
+    (c.put_file.ensures.told clean t there)
+
+pub returns-in-Err-clause-told : goal.returns-in-Err-clause-told
+returns-in-Err-clause-told g c clean t stands =
+    let taken = c.args.taken.now in
+    record {
+      found = None;
+      is_found = subst (IsRunOf taken.digest t) c.in_default.is (c.in_ok-number.ensures.told clean t stands);
+      takes = subst (λ f. TakesIn g.S.Store c.args.limits c.args.kind c.args.label.now taken.digest c.run_of_digest.new.self t None f (Refused (File c.in-Err.fault c.in-Err.line))) (sym c.in-Err.is)
+          (refl, asked_rests schema_one (Holds t) _ _ (c.in_ok-number.ensures.asks clean) stands);
+    }
+
+pub returns-in_err-number-clause-shut : goal.returns-in_err-number-clause-shut
+returns-in_err-number-clause-shut g c clean = shut_asked schema_one false _ _ (c.in_err-number.ensures.asks clean)
+
+pub returns-in-Some-clause-shut : goal.returns-in-Some-clause-shut
+returns-in-Some-clause-shut g c clean = shut_asked schema_one true _ _ (c.in_ok-number.ensures.asks clean)
+
+pub returns-in_ok-file-in-Ok-clause-shut : goal.returns-in_ok-file-in-Ok-clause-shut
+returns-in_ok-file-in-Ok-clause-shut g c clean = shut_answered schema_one _ _ (shown g.S.Store c.put_file.new.store) (c.in_ok-number.ensures.asks (c.put_file.ensures.turns _ (ended_at_once c.args.limits.bytes) clean).stays.was_clean)
+
+pub returns-in-Err-clause-shut : goal.returns-in-Err-clause-shut
+returns-in-Err-clause-shut g c clean = shut_asked schema_one true _ _ (c.in_ok-number.ensures.asks clean)
+
+pub returns-in_err-file-in-Ok-clause-shut : goal.returns-in_err-file-in-Ok-clause-shut
+returns-in_err-file-in-Ok-clause-shut g c clean = shut_asked schema_one true _ _ (c.in_ok-number.ensures.asks clean)

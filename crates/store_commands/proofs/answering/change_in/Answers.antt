@@ -1,5 +1,5 @@
-use Rattle.std.proofs.Common.{refl, ap, sym, subst, subst₂}
-use Rattle.sql_tables.proofs.Calls.{changed_none}
+use Rattle.std.proofs.Common.{inl, refl, ap, sym, subst, subst₂}
+use Rattle.sql_tables.proofs.Calls.{changed_none, shut_none}
 use Rattle.prof_tables.specs.Labels.{IsGroupName}
 use Rattle.prof_tables.specs.Schema.{schema_one}
 use Rattle.prof_store.specs.Shown.{shown}
@@ -8,7 +8,7 @@ use Rattle.histories.specs.declared.answers.Answer.TheVariants.{Refused}
 use Rattle.store_histories.specs.Answered.{Answers, TellsHistory, Follows}
 use Rattle.store_histories.specs.FromTables.{OrFailed}
 use Rattle.store_histories.proofs.Questions.{or_failed}
-use Rattle.store_histories.proofs.Settled.{settled, turns_answer, untouched}
+use Rattle.store_histories.proofs.Settled.{closes_for, settled, turns_answer, untouched}
 use Rattle.store_commands.specs.Changes.{GroupsIn, change_said}
 use Rattle.store_commands.proofs.Dues.{change_form, unnamed_legal}
 use Rattle.store_commands.proofs.answering.change_in.Goals as goal
@@ -25,6 +25,8 @@ returns-in-Some g c = record {
       (subst (λ a. Answers g.S.Store limits said a c.args.store.now c.change_group.new.store) (sym c.answer_of.ensures) (record {
         turned = turns_answer limits said c.change_group.result _ _ turned;
         answered = λ h has. settled g.S.Store limits h said c.args.store.now c.change_group.new.store has c.change_group.result (change_form how name (subst IsGroupName (sym c.in-Some.ensures.0) c.in-Some.ensures.1)) (c.change_group.ensures.answered clean h) turned;
+        closes = closes_for c.change_group.result _ _ turned.stays;
+        shut = c.change_group.ensures.shut clean;
       }));
   found = λ named clean t stands.
       subst₂ (λ l a. OrFailed (λ given. GroupsIn g.S.Store c.args.limits c.args.change l t given c.change_group.new.store) a) c.in-Some.ensures.0 (sym c.answer_of.ensures)
@@ -43,6 +45,8 @@ returns-in-None g c = record {
         turned = changed_none schema_one TellsHistory (Follows limits said) (shown g.S.Store c.args.store.now) clean;
         answered = λ h has. untouched g.S.Store limits h said c.args.store.now has clean (Refused c.unnamed.result) tt
             (subst (λ r. IsLegal limits h said (Refused r)) (sym c.unnamed.ensures) (unnamed_legal limits h how name has.legal c.in-None.ensures));
+        closes = λ usable. inl usable;
+        shut = shut_none (shown g.S.Store c.args.store.now);
       };
   found = λ named clean t stands. absurd (c.in-None.ensures named);
   unnamed = λ none. (ap Refused c.unnamed.ensures, refl);

@@ -3,7 +3,7 @@ use Rattle.histories.specs.History.{Remove}
 use Rattle.store_histories.specs.Answered.{Answers}
 use Rattle.store_histories.specs.FromTables.{OrFailed}
 use Rattle.store_histories.proofs.Questions.{or_failed}
-use Rattle.store_histories.proofs.Settled.{settled, turns_answer}
+use Rattle.store_histories.proofs.Settled.{closes_for, settled, turns_answer}
 use Rattle.store_commands.specs.Changes.{RemovesIn}
 use Rattle.store_commands.proofs.answering.remove_in.Goals as goal
 
@@ -15,6 +15,8 @@ returns g c = record {
       subst (λ a. Answers g.S.Store limits said a c.args.store.now c.remove.new.store) (sym c.answer_of.ensures) (record {
         turned = turns_answer limits said c.remove.result _ _ turned;
         answered = λ h has. settled g.S.Store limits h said c.args.store.now c.remove.new.store has c.remove.result tt (c.remove.ensures.answered clean limits h) turned;
+        closes = closes_for c.remove.result _ _ turned.stays;
+        shut = c.remove.ensures.shut clean;
       });
   found = λ clean t stands. subst (OrFailed (λ a. RemovesIn g.S.Store c.args.number t a c.remove.new.store)) (sym c.answer_of.ensures) (or_failed _ c.remove.result (c.remove.ensures.found clean t stands));
 }

@@ -1,7 +1,8 @@
 use Rattle.std.proofs.Common.{◌≡◌, true, false, None, sym, ap, ◌∙◌, Some}
-use Rattle.sql_tables.proofs.Calls.{asked_rests, changed_asked}
+use Rattle.sql_tables.proofs.Calls.{asked_rests, changed_asked, shut_answered, shut_asked}
 use Rattle.prof_tables.specs.Schema.{schema_one}
 use Rattle.prof_tables.specs.Tables.{Holds}
+use Rattle.prof_store.specs.Shown.{shown}
 use Rattle.histories.specs.declared.answers.Answer.TheVariants.{Done, Refused}
 use Rattle.store_histories.specs.Answered.{TellsHistory, Follows}
 use Rattle.store_histories.specs.Refusals.{refused_or}
@@ -75,3 +76,15 @@ returns-clause-found g c clean t stands =
     let early = two.stays.was_clean in
     let is = sym (c.in_ok-refusal.ensures.told early t stands) ∙ c.in_default.is in
     done_in g.S.Store t c.args.store.now c.refusal_of.new.store c.change_free.new.store (c.in_ok-refusal.ensures.asks early) stands (λ t. refusal_for limits how name t ≡ None) (refusal_for limits how name t) (changed how name) is is two
+
+pub returns-in_err-refusal-clause-shut : goal.returns-in_err-refusal-clause-shut
+returns-in_err-refusal-clause-shut g c clean = shut_asked schema_one false _ _ (c.in_err-refusal.ensures.asks clean)
+
+pub returns-in-Some-clause-shut : goal.returns-in-Some-clause-shut
+returns-in-Some-clause-shut g c clean = shut_asked schema_one true _ _ (c.in_ok-refusal.ensures.asks clean)
+
+pub returns-in_err-change_free-clause-shut : goal.returns-in_err-change_free-clause-shut
+returns-in_err-change_free-clause-shut g c clean = shut_answered schema_one _ _ (shown g.S.Store c.change_free.new.store) (c.in_ok-refusal.ensures.asks (c.in_err-change_free.ensures.changes c.args.limits clean).stays.was_clean)
+
+pub returns-clause-shut : goal.returns-clause-shut
+returns-clause-shut g c clean = shut_answered schema_one _ _ (shown g.S.Store c.change_free.new.store) (c.in_ok-refusal.ensures.asks (c.in_ok-change_free.ensures.changes c.args.limits clean).stays.was_clean)

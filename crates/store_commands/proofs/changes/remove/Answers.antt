@@ -1,9 +1,10 @@
 use Rattle.std.proofs.Common.{◌≡◌, true, false, sym, ap, ◌∙◌}
-use Rattle.sql_tables.proofs.Calls.{asked_rests, changed_asked}
+use Rattle.sql_tables.proofs.Calls.{asked_rests, changed_asked, shut_answered, shut_asked}
 use Rattle.prof_tables.specs.Changes as tables
 use Rattle.prof_tables.specs.Changes.{without_run}
 use Rattle.prof_tables.specs.Schema.{schema_one}
 use Rattle.prof_tables.specs.Tables.{Holds}
+use Rattle.prof_store.specs.Shown.{shown}
 use Rattle.histories.specs.History.{Remove}
 use Rattle.histories.specs.Legal.{has_run}
 use Rattle.histories.specs.declared.answers.Answer.TheVariants.{Refused}
@@ -68,3 +69,15 @@ returns-clause-found g c clean t stands =
     let is : tables.has_run t n ≡ true = sym (c.in_ok-has_run.ensures.told early t stands) ∙ c.if-not-branch.false in
     done_in g.S.Store t c.args.store.now c.has_run.new.self c.drop_run.new.self (c.in_ok-has_run.ensures.asks early) stands (λ t. tables.has_run t n ≡ true) (missing_of true (tables.has_run t n)) (without_run n) is
     (ap (missing_of true) is) two
+
+pub returns-in_err-has_run-clause-shut : goal.returns-in_err-has_run-clause-shut
+returns-in_err-has_run-clause-shut g c clean = shut_asked schema_one false _ _ (c.in_err-has_run.ensures.asks clean)
+
+pub returns-then-not-branch-clause-shut : goal.returns-then-not-branch-clause-shut
+returns-then-not-branch-clause-shut g c clean = shut_asked schema_one true _ _ (c.in_ok-has_run.ensures.asks clean)
+
+pub returns-in_err-drop_run-clause-shut : goal.returns-in_err-drop_run-clause-shut
+returns-in_err-drop_run-clause-shut g c clean = shut_answered schema_one _ _ (shown g.S.Store c.drop_run.new.self) (c.in_ok-has_run.ensures.asks (c.in_err-drop_run.ensures.changes clean).stays.was_clean)
+
+pub returns-clause-shut : goal.returns-clause-shut
+returns-clause-shut g c clean = shut_answered schema_one _ _ (shown g.S.Store c.drop_run.new.self) (c.in_ok-has_run.ensures.asks (c.in_ok-drop_run.ensures.changes clean).stays.was_clean)

@@ -1,9 +1,12 @@
-use Rattle.std.proofs.Common.{refl, sym, subst}
+use Rattle.std.proofs.Common.{inl, inr, refl, sym, subst}
 use Rattle.sources.specs.Outcomes.{bytes_of}
 use Rattle.histories.specs.Legal.{file_due}
 use Rattle.histories.specs.History.{Import}
 use Rattle.store_histories.specs.Answered.{Answers}
-use Rattle.store_histories.proofs.Settled.{settled, turns_answer}
+use Rattle.store_histories.specs.FromTables.{OrFailed}
+use Rattle.store_histories.proofs.Questions.{or_failed}
+use Rattle.store_histories.proofs.Settled.{closes_for, settled, turns_answer}
+use Rattle.run_imports.specs.FromTables.{IsTakenIn}
 use Rattle.warehouse.proofs.Unread.{unread_answered}
 use Rattle.warehouse.proofs.answering.import_labelled.Goals as goal
 
@@ -21,7 +24,17 @@ returns-in-Ok g c = record {
             subst (λ a. Answers g.S.Store limits said a c.args.store.now c.take_in.new.store) (sym c.answer_of.ensures) (record {
               turned = turns_answer limits said c.take_in.result _ _ turned;
               answered = λ h has. settled g.S.Store limits h said c.args.store.now c.take_in.new.store has c.take_in.result (c.utf8.label, c.requires) (λ s. c.take_in.ensures.answered clean h read.outcomes s read.read.0 read.read.1) turned;
+              closes = closes_for c.take_in.result _ _ turned.stays;
+              shut = c.take_in.ensures.shut clean;
             });
+      };
+  found =
+      let read = c.in-Ok.ensures in
+      let Taken = IsTakenIn g.S.Store c.args.limits c.args.kind c.args.label.now c.in-Ok.taken c.take_in.new.store in
+      record {
+        outcomes = read.outcomes;
+        came = read.came;
+        answered = inr (inr (c.in-Ok.taken, read.read.1, λ clean t stands. subst (OrFailed (Taken t)) (sym c.answer_of.ensures) (or_failed (Taken t) c.take_in.result (c.take_in.ensures.told clean t stands))));
       };
 }
 
@@ -35,5 +48,12 @@ returns-in-Err g c = record {
         outcomes = read.outcomes;
         came = read.came;
         answers = λ clean. subst (λ a. Answers g.S.Store limits said a c.args.store.now c.args.store.now) (sym c.unread_answer.ensures) (unread_answered limits said (c.utf8.label, c.requires) limits.bytes read.outcomes (λ h. file_due limits h c.args.kind (bytes_of read.outcomes)) (λ h. refl) g.S.Store c.args.store.now clean c.in-Err.unread read.read);
+      };
+  found =
+      let read = c.in-Err.ensures in
+      record {
+        outcomes = read.outcomes;
+        came = read.came;
+        answered = inr (inl (c.in-Err.unread, read.read, c.unread_answer.ensures));
       };
 }

@@ -5,7 +5,7 @@ use Rattle.prof_store.specs.Shown.{Tells}
 use Rattle.store_histories.specs.FromTables.{OrFailed}
 use Rattle.store_commands.specs.Changes.{GroupsIn, change_said}
 use Rattle.warehouse.specs.Answered.{Says}
-use Rattle.warehouse.specs.FromTables.{IsFoundIn}
+use Rattle.warehouse.specs.FromTables.{IsFoundIn, WasImported}
 use Rattle.warehouse.proofs.warehouse.Warehouse.apply.Goals as goal
 
 pub returns-in-Import-clause-answered : goal.returns-in-Import-clause-answered
@@ -69,4 +69,6 @@ returns-in-Group-clause-found g c =
 
 pub returns-in-Import-clause-found : goal.returns-in-Import-clause-found
 returns-in-Import-clause-found g c =
-    subst (λ k. IsFoundIn g.S.Store g.R.Source.reads c.args.self.now.limits k c.import_in.result c.args.self.now.store c.import_in.new.store) (sym c.in-Import.is) tt
+    let limits = c.args.self.now.limits in
+    let found = subst (λ l. WasImported g.S.Store g.R.Source.reads limits c.in-Import.kind l c.in-Import.source c.import_in.new.source c.import_in.result c.args.self.now.store c.import_in.new.store) c.as_slice.ensures.value c.import_in.ensures.found in
+    subst (λ k. IsFoundIn g.S.Store g.R.Source.reads limits k c.import_in.result c.args.self.now.store c.import_in.new.store) (sym c.in-Import.is) (c.import_in.new.source, found)

@@ -1,0 +1,65 @@
+-- What a file that was read is answered over lines of tables, whatever they stand for.
+use Rattle.std.specs.Prelude.{◌≡◌, ℕ, nat_le, List, length, Option, Some, None, Result, Ok, Err, option_map}
+use Rattle.sqlite_trees.specs.declared.store.Store.{Ghosts}
+use Rattle.cg_text.specs.declared.faults.Fault.{Fault}
+use Rattle.cg_formulas.specs.declared.heads.FileHead.{FileHead}
+use Rattle.cost_rows.specs.Admit.{overflow_of}
+use Rattle.cost_rows.specs.Content.{Content}
+use Rattle.cost_rows.specs.Rows.{content_of}
+use Rattle.cost_rows.specs.Totals.{AreTotals}
+use Rattle.cost_rows.specs.declared.file_rows.FileRows.{FileRows}
+use Rattle.cost_rows.specs.declared.rows.FileTotals.{FileTotals}
+use Rattle.prof_books.specs.Runs.{with_file}
+use Rattle.prof_books.specs.Totals.{IsHeldIn}
+use Rattle.prof_store.specs.Digests.{IsRunOf}
+use Rattle.prof_store.specs.Shown.{StandsFor}
+use Rattle.prof_store.specs.declared.store.Store.{Store}
+use Rattle.prof_tables.specs.Tables.{Tables}
+use Rattle.profile_records.specs.declared.kinds.Kind.{Kind}
+use Rattle.histories.specs.Legal.{faulty}
+use Rattle.histories.specs.Sums.{excess_at}
+use Rattle.histories.specs.declared.answers.Answer.{Answer}
+use Rattle.histories.specs.declared.answers.Answer.TheVariants as answers
+use Rattle.histories.specs.declared.answers.Excess.{Excess}
+use Rattle.histories.specs.declared.answers.Refusal.{Refusal}
+use Rattle.histories.specs.declared.limits.Limits.{Limits}
+use Rattle.file_intake.specs.declared.intake.Taken.{Taken}
+use Rattle.run_imports.specs.Refused.{no_room, number_unless}
+
+-- what would pass its bound with the file beside the runs of these lines
+pub record IsExcess (head : FileHead) (content : Content) (t : Tables) (excess : Option Excess) : Type 0 where
+  pub held : FileTotals
+  pub added : FileTotals
+  pub are_held : IsHeldIn t head.events held
+  pub are_added : AreTotals added content (length head.events)
+  pub excess_is : excess ≡ option_map (excess_at head.events) (overflow_of held added)
+
+-- the number that the file gets, or why there is no room for it
+pub record IsNumber (limits : Limits) (head : FileHead) (content : Content) (t : Tables) (number : Result ℕ Refusal) : Type 0 where
+  pub excess : Option Excess
+  pub is_excess : IsExcess head content t excess
+  pub number_is : number ≡ number_unless (no_room excess (nat_le limits.runs (length t.runs)) (nat_le limits.numbers t.next)) t.next
+
+module _ {S : Type 0} (g : Ghosts S) (limits : Limits) (kind : Kind) (label digest : List ℕ) where
+  -- it is put under its number, or the tables stay
+  abbrev pub PutsIn : FileHead → Content → Store S → Tables → Result ℕ Refusal → Answer → Type 0
+  PutsIn head content new t (Ok n) answer = (answer ≡ answers.Run n) × StandsFor g (with_file n kind digest label head content t) new
+  PutsIn head content new t (Err refusal) answer = (answer ≡ answers.Refused refusal) × StandsFor g t new
+
+  -- a file without a fault that is not held
+  pub record IsPutIn (head : FileHead) (content : Content) (new : Store S) (t : Tables) (answer : Answer) : Type 0 where
+    pub number : Result ℕ Refusal
+    pub is_number : IsNumber limits head content t number
+    pub puts : PutsIn head content new t number answer
+
+  -- a run of its digest is held; or it has a fault; or it is put
+  abbrev pub TakesIn : Store S → Tables → Option ℕ → Result (FileHead × FileRows) (Fault × ℕ) → Answer → Type 0
+  TakesIn new t (Some n) file answer = (answer ≡ answers.Held n) × StandsFor g t new
+  TakesIn new t None (Err fault) answer = (answer ≡ faulty fault) × StandsFor g t new
+  TakesIn new t None (Ok file) answer = IsPutIn file.0 (content_of file.1) new t answer
+
+-- a file that was read to its end
+pub record IsTakenIn {S : Type 0} (g : Ghosts S) (limits : Limits) (kind : Kind) (label : List ℕ) (taken : Taken) (new : Store S) (t : Tables) (answer : Answer) : Type 0 where
+  pub found : Option ℕ
+  pub is_found : IsRunOf taken.digest t found
+  pub takes : TakesIn g limits kind label taken.digest new t found taken.file answer
