@@ -1,6 +1,9 @@
 //! Tests of what no command line of the program reaches, over the public calls of the other crates.
 #![tactic(auto)]
 
+// A file in memory of which only so many changes are made.
+#[cfg(test)]
+mod disk;
 // A file whose reads are given by hand.
 #[cfg(test)]
 mod given;
@@ -16,6 +19,9 @@ mod lines;
 // A list of commands of which one allocation is refused.
 #[cfg(test)]
 mod refused;
+// A machine that stops at each change of the store's files.
+#[cfg(test)]
+mod stops;
 // A store in memory whose rows are written by hand.
 #[cfg(test)]
 mod stores;

@@ -11,7 +11,7 @@ use std::test::Fail;
 use warehouse::{Answer, Command, GroupChange, Kind, Limits, Query, Refusal, Selection, Warehouse};
 
 /// The manual's example of calls.
-const CALLS: &[u8] =
+pub(crate) const CALLS: &[u8] =
     b"# callgrind format\nevents: Instructions\n\nfl=file1.c\nfn=main\n16 20\ncfn=func1\ncalls=1 50\n16 400\ncfi=file2.c\ncfn=func2\ncalls=3 20\n16 400\n\nfn=func1\n51 100\ncfi=file2.c\ncfn=func2\ncalls=2 20\n51 300\n\nfl=file2.c\nfn=func2\n20 700\n";
 
 /// What its functions cost.
