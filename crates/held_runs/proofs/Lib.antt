@@ -10,6 +10,7 @@ mod NumberLists
 pub mod OwnSumLists
 mod RunTexts
 pub mod RowSteps
+pub mod Said
 pub mod TableEnds
 pub mod WalkSteps
 pub mod WalkTables

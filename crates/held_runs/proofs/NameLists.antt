@@ -25,13 +25,6 @@ pub names_listed : (old new : State) (rows : List Row) → old.now.schema ≡ sc
 names_listed old new rows has h =
     all_shown 11 names_shown names_order (old.now.trees 11) [] rows (selected schema_one names_sql 11 [] names_shown names_order _ names_means names_plain names_unlisted old new has refl [] rows h)
 
--- the names stand in the order of their numbers, and so does an answer whose rows rise
-pub names_in_order : (t : Tables) (db : Trees) → Holds t db → (answer : List Row) → IsTable answer → IsPermutation (map name_seen (db 11)) answer → answer ≡ map name_shown t.names
-names_in_order t db was answer up same =
-    let content = content_there schema_one.tables (contents_of t) db 5 name_at refl was.contain.contents_are in
-    let table : IsTable (map name_seen (db 11)) = map_table name_seen (db 11) (λ r there. refl) content.numbered.0 in
-    sym (same_permuted (map name_seen (db 11)) answer table up same) ∙ ap (map name_seen) content.rows_are ∙ map-map name_seen name_columns t.names
-
 pub same_line : (a b : NameLine) → name_shown a ≡ name_shown b → a ≡ b
 same_line a b h =
     let number : a.number ≡ b.number = cc in

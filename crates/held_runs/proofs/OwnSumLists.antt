@@ -28,11 +28,6 @@ sums_listed n old new rows has h =
     (answer_permutes 3 own_sums_terms own_sums_shown own_sums_order (old.now.trees 3) (number n ∷ []) rows
     (selected schema_one own_sums_sql 3 own_sums_terms own_sums_shown own_sums_order _ own_sums_means own_sums_plain own_sums_unlisted old new has refl (number n ∷ []) rows h))
 
-pub sums_are : (t : Tables) (db : Trees) → Holds t db → (n : ℕ) → map own_seen (filter (is_at 1 (number n)) (db 3)) ≡ map own_shown (events_of_run n t)
-sums_are t db was n =
-    let content = was.contain.contents_are.1.1.0 in
-    seen_picked event_columns own_shown own_seen (λ id e. refl) (is_at 1 (number n)) (λ (e : EventLine). e.run == n) (λ id e. numbers_equal e.run n) (db 3) t.events content.numbered.1 content.rows_are
-
 -- an answer that was read
 pub sums_read : (rows answer : List Row) (sums : List ℕ) → IsPermutation (map own_seen rows) answer → sums_from 0 sums ≡ map first_two answer → IsPermutation (map own_seen rows) (sums_from 0 sums)
 sums_read rows answer sums p is =

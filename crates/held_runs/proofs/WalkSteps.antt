@@ -27,17 +27,6 @@ pub on_ok_then : {T E : Type 0} (r : Result T E) (P Q : Type 0) → OnOk r P →
 on_ok_then (Ok x) P Q h f = f h
 on_ok_then (Err e) P Q h f = h
 
--- tables that a store stands for can be walked
-pub ready_for : (t : Tables) (s : State) → Rests schema_one (Holds t) s → IsReady s
-ready_for t s was = record {
-  schema_is = was.schema_is;
-  numbered = λ (table : Listed). elim table as (λ table. IsShaped shape.Table (s.now.trees (tree_of table))) [
-    | Cells ↦ (cells_there t s.now.trees was.holds).numbered
-    | Arcs ↦ (arcs_there t s.now.trees was.holds).numbered
-    | Stacks ↦ (stacks_there t s.now.trees was.holds).numbered
-  ];
-}
-
 pub ready_if_now : (old new : State) → new.now ≡ old.now → IsReady old → IsReady new
 ready_if_now old new same was = record {
   schema_is = ap (λ (d : Database). d.schema) same ∙ was.schema_is;

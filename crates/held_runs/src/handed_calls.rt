@@ -69,7 +69,7 @@ impl<T: TakesCalls> TakesLines for CallLines<'_, T> {
     ghost use Rattle.std.specs.Prelude.{◌≡◌, ℕ, List};
     ghost use Rattle.prof_tables.specs.RunLines.{arcs_in};
     ghost use Rattle.prof_tables.specs.Tables.{NameLine, ArcLine as Arc, arc_columns};
-    ghost use Rattle.prof_tables.proofs.RunLines.{arcs_all};
+    ghost use Rattle.prof_store.proofs.RunLines.{arcs_all};
     ghost use Rattle.held_runs.specs.HeldArcs.{HasTakenCalls};
     ghost use Rattle.held_runs.specs.declared.walks.Listed.TheVariants.{Arcs};
 

@@ -59,7 +59,7 @@ impl<T: TakesCells> TakesLines for CellLines<'_, T> {
     ghost use Rattle.std.specs.Prelude.{◌≡◌, ℕ, List};
     ghost use Rattle.prof_tables.specs.RunLines.{cells_in};
     ghost use Rattle.prof_tables.specs.Tables.{NameLine, CellLine, cell_columns};
-    ghost use Rattle.prof_tables.proofs.RunLines.{cells_all};
+    ghost use Rattle.prof_store.proofs.RunLines.{cells_all};
     ghost use Rattle.held_runs.specs.HeldCells.{CellsCameTo};
     ghost use Rattle.held_runs.specs.declared.walks.Listed.TheVariants.{Cells};
 

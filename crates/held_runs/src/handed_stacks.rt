@@ -39,7 +39,7 @@ impl<T: TakesStacks> TakesLines for StackLines<T> {
     ghost use Rattle.prof_books.specs.Book.{stack_held};
     ghost use Rattle.prof_tables.specs.RunLines.{stacks_in};
     ghost use Rattle.prof_tables.specs.Tables.{StackLine, stack_columns};
-    ghost use Rattle.prof_tables.proofs.RunLines.{stacks_all};
+    ghost use Rattle.prof_store.proofs.RunLines.{stacks_all};
     ghost use Rattle.held_runs.specs.declared.walks.Listed.TheVariants.{Stacks};
 
     ghost listed = { Stacks };

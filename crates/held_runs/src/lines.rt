@@ -11,11 +11,12 @@ use store_columns::StoreError;
 
 /// Takes the lines of runs in one of the tables whose rows are lines of runs, one at a time.
 pub(crate) trait TakesLines {
-    ghost use Rattle.std.specs.Prelude.{◌≡◌, ◌++◌, ◌∷◌, [], ℕ, List, OnOk};
+    ghost use Rattle.std.specs.Prelude.{◌≡◌, ◌<◌, ◌^◌, ◌++◌, ◌∷◌, [], ℕ, List, OnOk};
     ghost use Rattle.sqlite_value.specs.Order.{Row};
     ghost use Rattle.sqlite_trees.specs.Tree.{Trees};
     ghost use Rattle.sql_tables.specs.Walks.{read_from};
-    ghost use Rattle.prof_tables.specs.Tables.{Tables, Holds};
+    ghost use Rattle.prof_tables.specs.Tables.{Tables};
+    ghost use Rattle.prof_store.specs.Readings.{RowsSay};
     ghost use Rattle.held_runs.specs.declared.walks.Listed.{Listed};
     ghost use Rattle.held_runs.specs.Walks.{asked, tree_of, AreAllRead};
 
@@ -46,8 +47,8 @@ pub(crate) trait TakesLines {
         ensures { OnOk result ((start : Start) (lines : List Line) → Has start lines self.old
             → (line : Line) × (columns line ≡ read_from (asked listed run) row.now) × Has start (lines ++ line ∷ []) self.new) };
 
-    /// All lines that were read of a run are those in the tables.
-    ghost all_read: { (run : ℕ) (t : Tables) (db : Trees) → Holds t db → (lines : List Line)
+    /// All lines that were read of a run are those that its rows say.
+    ghost all_read: { (t : Tables) (db : Trees) → RowsSay t db → (run : ℕ) → run < 2 ^ 64 → (lines : List Line)
         → AreAllRead listed columns run (db (tree_of listed)) lines → lines_in run t ≡ lines };
 }
 

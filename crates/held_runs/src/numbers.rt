@@ -1,5 +1,6 @@
 // The numbers of runs: of all, and of the members of a group.
-ghost use Rattle.std.specs.Prelude.{◌≡◌, ◌<◌, [], map, IfOk, IsPermutation};
+ghost use Rattle.std.specs.Prelude.{◌≡◌, ◌<◌, ◌^◌, [], map, IfOk, IsPermutation};
+ghost use Rattle.std.specs.List.{AllByRecursion};
 ghost use Rattle.std.specs.Result.{is_ok};
 ghost use Rattle.sqlite_trees.specs.Tree.{IsAscending};
 ghost use Rattle.held_runs.specs.RunNumbers.{first_one, number_shown, numbers_in_tables, numbers_in_rows, members_in_tables, members_in_rows};
@@ -12,12 +13,21 @@ use sqlite::{Alter, Row, params};
 use std::alloc::Global;
 use store_columns::{StoreError, read_rising};
 
+/// Numbers of runs are below each that a negative number of a row is read as. It does nothing.
+fn are_near(numbers: &[u32])
+    ensures { AllByRecursion (λ n. n < 2 ^ 64) numbers.now }
+{
+    let _ = numbers;
+}
+
 /// The numbers in rows, of which none comes twice.
 fn numbers_in(alloc: Global, rows: &[Row]) -> Result<ListVec<u32>, StoreError>
     ensures read { IfOk result (λ numbers. map number_shown numbers ≡ map first_one rows.now) }
     ensures rising { IfOk result (IsAscending (λ a b. a < b)) }
+    ensures below { IfOk result (AllByRecursion (λ n. n < 2 ^ 64)) }
 {
     let numbers = read_rising(alloc, rows)?;
+    are_near(&numbers);
     Ok(ListVec::from_vec(numbers))
 }
 

@@ -25,14 +25,14 @@ sum_more at rows k row sum n low is value was =
 pub sum_permuted : (at : ℕ) (xs rows : List Row) (sum : ℕ) → IsPermutation xs rows → IsSum at rows sum → IsSum at xs sum
 sum_permuted at xs rows sum p was = (All-permutation (λ r. IsNumber (column r at)) rows xs (IsPermutation-sym xs rows p) was.0, was.1 ∙ sum_by-IsPermutation (λ r. number_in (column r at)) xs rows p)
 
-sum_by-map : {X Y : Type 0} (f : Y → ℕ) (g : X → Y) (xs : List X) → sum_by f (map g xs) ≡ sum_by (λ x. f (g x)) xs
+pub sum_by-map : {X Y : Type 0} (f : Y → ℕ) (g : X → Y) (xs : List X) → sum_by f (map g xs) ≡ sum_by (λ x. f (g x)) xs
 sum_by-map f g xs = sym (sum-map f (map g xs)) ∙ ap sum (map-map f g xs) ∙ sum-map (λ x. f (g x)) xs
 
 map-same : {X : Type 0} (f g : X → ℕ) → ((x : X) → f x ≡ g x) → (xs : List X) → map f xs ≡ map g xs
 map-same f g same [] = refl
 map-same f g same (x ∷ xs) = ap₂ ◌∷◌ (same x) (map-same f g same xs)
 
-sum_by-same : {X : Type 0} (f g : X → ℕ) → ((x : X) → f x ≡ g x) → (xs : List X) → sum_by f xs ≡ sum_by g xs
+pub sum_by-same : {X : Type 0} (f g : X → ℕ) → ((x : X) → f x ≡ g x) → (xs : List X) → sum_by f xs ≡ sum_by g xs
 sum_by-same f g same xs = sym (sum-map f xs) ∙ ap sum (map-same f g same xs) ∙ sum-map g xs
 
 all_unmapped : {X Y : Type 0} (P : Y → Type 0) (f : X → Y) (xs : List X) → All P (map f xs) → All (λ x. P (f x)) xs

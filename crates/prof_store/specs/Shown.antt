@@ -9,6 +9,7 @@ use Rattle.sql_tables.specs.Calls as calls
 use Rattle.sql_tables.specs.Calls.{Asked, Changed}
 use Rattle.prof_tables.specs.Schema.{schema_one}
 use Rattle.prof_tables.specs.Tables.{Tables, Holds}
+use Rattle.prof_store.specs.Readings.{RowsSay}
 use Rattle.prof_store.specs.declared.store.Store.{Store}
 
 module _ {S : Type 0} (g : Ghosts S) where
@@ -59,9 +60,17 @@ module _ {S : Type 0} (g : Ghosts S) where
   abbrev pub KeepsShut : Store S → Store S → Type 0
   KeepsShut old new = IsFaithful new → calls.KeepsIfShut (shown old) (shown new)
 
-  -- what an answer tells of the lines that the tables held before the call
+  -- the same of rows that are read as these lines, whoever wrote them
+  abbrev pub ReadsAs : Tables → Store S → Type 0
+  ReadsAs t store = Rests schema_one (RowsSay t) (shown store)
+
+  -- what an answer tells of the lines as which the rows were read before the call
   abbrev pub Tells : Store S → Store S → (Tables → Type 0) → Type 0
-  Tells old new P = IsFaithful new → (t : Tables) → StandsFor t old → P t
+  Tells old new P = IsFaithful new → (t : Tables) → ReadsAs t old → P t
+
+  -- what an answer and what is left tell of the lines that the tables held before the call
+  abbrev pub MakesOf : Store S → Store S → (Tables → Type 0) → Type 0
+  MakesOf old new P = IsFaithful new → (t : Tables) → StandsFor t old → P t
 
   -- what it tells of the rows of any tables of schema 1
   abbrev pub Finds : Store S → Store S → (Trees → Type 0) → Type 0
@@ -70,6 +79,10 @@ module _ {S : Type 0} (g : Ghosts S) where
   -- what is answered tells of those lines
   abbrev pub Told : {T E : Type 0} → Result T E → Store S → Store S → (Tables → T → Type 0) → Type 0
   Told result old new P = Tells old new (λ t. IfOk result (P t))
+
+  -- what is answered and left tells of the lines that were held
+  abbrev pub Made : {T E : Type 0} → Result T E → Store S → Store S → (Tables → T → Type 0) → Type 0
+  Made result old new P = MakesOf old new (λ t. IfOk result (P t))
 
   -- what is answered tells of those rows
   abbrev pub Found : {T E : Type 0} → Result T E → Store S → Store S → (Trees → T → Type 0) → Type 0

@@ -1,4 +1,8 @@
 // Laws of the definitions, each the contract of a function that does nothing.
+ghost use Rattle.std.specs.Prelude.{ℕ, ◌≤◌, ◌^◌};
+ghost use Rattle.sqlite_catalog.specs.Listing.{IsSound};
+ghost use Rattle.sqlite_trees.specs.Tree.{Trees};
+ghost use Rattle.prof_store.specs.Readings.{AreShaped, HasMeta, RowsSay};
 ghost use Rattle.sqlite.specs.Effect.{IsDatabase};
 ghost use Rattle.sqlite.specs.Held.{state};
 ghost use Rattle.sqlite.specs.State.{Opens};
@@ -21,4 +25,11 @@ pub fn what_stands_survives<S: Alter>()
 pub fn what_is_left_is_taken_up<S: Alter>()
     ensures { (t : Tables) (conn : Connection S) → Opens (state S.Store conn) → IsDatabase (state S.Store conn).now
         → Holds t (state S.Store conn).now.trees → Rests schema_one (Holds t) (state S.Store conn) }
+{}
+
+/// The rows of each sound database of schema 1 say lines, however its negative numbers are read: so what is
+/// told of them is told of each store that can be opened.
+pub fn rows_say_lines()
+    ensures { (db : Trees) → IsSound schema_one db → AreShaped db → HasMeta db
+        → (far : ℕ → ℕ) → ((n : ℕ) → 2 ^ 64 ≤ far n) → (t : Tables) × RowsSay t db }
 {}

@@ -40,26 +40,27 @@ pub record IsNumber (limits : Limits) (head : FileHead) (content : Content) (t :
   pub is_excess : IsExcess head content t excess
   pub number_is : number ≡ number_unless (no_room excess (nat_le limits.runs (length t.runs)) (nat_le limits.numbers t.next)) t.next
 
-module _ {S : Type 0} (g : Ghosts S) (limits : Limits) (kind : Kind) (label digest : List ℕ) where
+-- by what is left: of tables with some lines
+module _ (limits : Limits) (kind : Kind) (label digest : List ℕ) (Left : Tables → Type 0) where
   -- it is put under its number, or the tables stay
-  abbrev pub PutsIn : FileHead → Content → Store S → Tables → Result ℕ Refusal → Answer → Type 0
-  PutsIn head content new t (Ok n) answer = (answer ≡ answers.Run n) × StandsFor g (with_file n kind digest label head content t) new
-  PutsIn head content new t (Err refusal) answer = (answer ≡ answers.Refused refusal) × StandsFor g t new
+  abbrev pub PutsIn : FileHead → Content → Tables → Result ℕ Refusal → Answer → Type 0
+  PutsIn head content t (Ok n) answer = (answer ≡ answers.Run n) × Left (with_file n kind digest label head content t)
+  PutsIn head content t (Err refusal) answer = (answer ≡ answers.Refused refusal) × Left t
 
   -- a file without a fault that is not held
-  pub record IsPutIn (head : FileHead) (content : Content) (new : Store S) (t : Tables) (answer : Answer) : Type 0 where
+  pub record IsPutIn (head : FileHead) (content : Content) (t : Tables) (answer : Answer) : Type 0 where
     pub number : Result ℕ Refusal
     pub is_number : IsNumber limits head content t number
-    pub puts : PutsIn head content new t number answer
+    pub puts : PutsIn head content t number answer
 
   -- a run of its digest is held; or it has a fault; or it is put
-  abbrev pub TakesIn : Store S → Tables → Option ℕ → Result (FileHead × FileRows) (Fault × ℕ) → Answer → Type 0
-  TakesIn new t (Some n) file answer = (answer ≡ answers.Held n) × StandsFor g t new
-  TakesIn new t None (Err fault) answer = (answer ≡ faulty fault) × StandsFor g t new
-  TakesIn new t None (Ok file) answer = IsPutIn file.0 (content_of file.1) new t answer
+  abbrev pub TakesIn : Tables → Option ℕ → Result (FileHead × FileRows) (Fault × ℕ) → Answer → Type 0
+  TakesIn t (Some n) file answer = (answer ≡ answers.Held n) × Left t
+  TakesIn t None (Err fault) answer = (answer ≡ faulty fault) × Left t
+  TakesIn t None (Ok file) answer = IsPutIn file.0 (content_of file.1) t answer
 
 -- a file that was read to its end
-pub record IsTakenIn {S : Type 0} (g : Ghosts S) (limits : Limits) (kind : Kind) (label : List ℕ) (taken : Taken) (new : Store S) (t : Tables) (answer : Answer) : Type 0 where
+pub record IsTakenIn (limits : Limits) (kind : Kind) (label : List ℕ) (taken : Taken) (Left : Tables → Type 0) (t : Tables) (answer : Answer) : Type 0 where
   pub found : Option ℕ
   pub is_found : IsRunOf taken.digest t found
-  pub takes : TakesIn g limits kind label taken.digest new t found taken.file answer
+  pub takes : TakesIn limits kind label taken.digest Left t found taken.file answer

@@ -1,10 +1,11 @@
 // A file is imported.
+ghost use Rattle.std.specs.Bool.{⊤};
 ghost use Rattle.std.specs.Prelude.{◌≡◌, ℕ, List, MatchOption, IfOk};
 ghost use Rattle.std.specs.Result.{is_ok};
 ghost use Rattle.std.specs.Str.{IsUtf8};
 ghost use Rattle.cost_rows.specs.Rows.{content_of};
 ghost use Rattle.prof_tables.specs.Labels.{IsLabel};
-ghost use Rattle.prof_store.specs.Shown.{IsFaithful, Asks, KeepsShut, Told};
+ghost use Rattle.prof_store.specs.Shown.{IsFaithful, Asks, KeepsShut, Made, StandsFor, Told};
 ghost use Rattle.sources.specs.Outcomes.{Outcome, bytes_of};
 ghost use Rattle.histories.specs.History.{History, Import};
 ghost use Rattle.histories.specs.Sums as sums;
@@ -116,7 +117,9 @@ fn put_file<S: Alter>(
         → HasEnded limits.bytes outcomes → IsNewFile h kind (bytes_of outcomes) digest.now file.now.head.now file.now.rows.now
         → IfOk result (λ answer. WasDue S.Store limits h (Import kind label.now outcomes) answer store.new) }
     ensures told { Told S.Store result store.old store.new
-        (IsPutIn S.Store limits kind label.now digest.now file.now.head.now (content_of file.now.rows.now) store.new) }
+        (IsPutIn limits kind label.now digest.now (λ _. ⊤) file.now.head.now (content_of file.now.rows.now)) }
+    ensures made { Made S.Store result store.old store.new
+        (IsPutIn limits kind label.now digest.now (λ left. StandsFor S.Store left store.new) file.now.head.now (content_of file.now.rows.now)) }
     ensures turns { (outcomes : List Outcome) → HasEnded limits.bytes outcomes
         → PutsNew S.Store limits kind label.now outcomes digest.now file.now.head.now file.now.rows.now result store.old store.new }
 {
@@ -142,7 +145,8 @@ pub fn take_in<S: Alter>(
     ensures answered { IsFaithful S.Store store.new → (h : History) (outcomes : List Outcome) → StandsForHistory S.Store h store.old
         → HasEnded limits.bytes outcomes → IsTakenOf kind (bytes_of outcomes) taken.now
         → IfOk result (λ answer. WasDue S.Store limits h (Import kind label.now outcomes) answer store.new) }
-    ensures told { Told S.Store result store.old store.new (IsTakenIn S.Store limits kind label.now taken.now store.new) }
+    ensures told { Told S.Store result store.old store.new (IsTakenIn limits kind label.now taken.now (λ _. ⊤)) }
+    ensures made { Made S.Store result store.old store.new (IsTakenIn limits kind label.now taken.now (λ left. StandsFor S.Store left store.new)) }
     ensures turns { (outcomes : List Outcome) → HasEnded limits.bytes outcomes → IsTakenOf kind (bytes_of outcomes) taken.now
         → TurnsIf S.Store limits (Import kind label.now outcomes) (is_ok result) (has_changed result) store.old store.new }
     ensures shut { KeepsShut S.Store store.old store.new }

@@ -7,7 +7,7 @@ ghost use Rattle.sqlite_rules.specs.Lists.{Has};
 ghost use Rattle.prof_books.specs.Heads.{IsWhole};
 ghost use Rattle.run_heads.specs.Sums.{AllFit};
 ghost use Rattle.run_putting.specs.Runs.{with_summed};
-ghost use Rattle.prof_store.specs.Shown.{ChangesIf, Tells};
+ghost use Rattle.prof_store.specs.Shown.{ChangesIf, MakesOf};
 
 use crate::putting::put_in;
 use crate::summed::SummedFile;
@@ -32,7 +32,7 @@ pub fn put_run<S: Alter>(
     label: &str,
     file: &SummedFile<'_>,
 ) -> Result<(), StoreError>
-    ensures taken { Tells S.Store store.old store.new (λ t. t.next ≡ number → (r : _) → Has t.runs r → r.digest ≡ digest.now → OnOk result ⊥) }
+    ensures taken { MakesOf S.Store store.old store.new (λ t. t.next ≡ number → (r : _) → Has t.runs r → r.digest ≡ digest.now → OnOk result ⊥) }
     ensures whole { OnOk result (IsWhole file.now.head.now) }
     ensures fits { OnOk result (AllFit file.now.head.now (content_of file.now.rows.now)) }
     ensures counted { OnOk result (count_total (content_of file.now.rows.now).arcs < 2 ^ 63) }

@@ -114,6 +114,14 @@ inside_running : (text : List ℕ) (params : Row) (old new : State) (result : Re
 inside_running text params old new (Ok count) is h = h.1.mode
 inside_running text params old new (Err e) is h = absurd (cc is)
 
+inside_open : (text : List ℕ) (params : Row) (old new : State) (result : Result ℕ Error) → IsTrue (is_ok result) → ExecutesInside 0 text params old new result → IsTrue old.is_open
+inside_open text params old new (Ok count) is h = h.1.was_open
+inside_open text params old new (Err e) is h = absurd (cc is)
+
+-- a statement that was run found the connection open
+pub text_open : {S : Type 0} (g : Ghosts S) (text : List ℕ) (params : Row) (ok : Bool) (old new : Transaction S) → Ran g text params ok old new → IsTrue ok → IsFaithful g new → IsRunning g old → IsTrue (inside g old).is_open
+text_open g text params ok old new h is clean running = let it = h.ran clean running in inside_open text params (inside g old) (inside g new) it.0 (sym it.1 ∙ is) it.2
+
 module _ (text : List ℕ) (params : Row) (given : Tables → Type 0) (change : Tables → Tables) (makes : TextMakes text params given change) where
   inside_makes : (old new : State) (result : Result ℕ Error) → IsTrue (is_ok result) → ExecutesInside 0 text params old new result → (t : Tables) → given t → Works schema_one (Holds t) old → Works schema_one (Holds (change t)) new
   inside_makes old new (Ok count) is h t has was = inside_done schema_one text params makes.command makes.means makes.plain makes.writes (Holds t) (Holds (change t)) (makes.effect t has) old new count was h

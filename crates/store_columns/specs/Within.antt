@@ -45,6 +45,10 @@ module _ {S : Type 0} (g : Ghosts S) where
     pub running : IsTrue is_done → IsFaithful new → IsRunning old → IsRunning new
     pub done : IsTrue is_done → IsFaithful new → (t : Tables) → given t → Sees t old → Sees (change t) new
 
+  -- a call that is done found the connection open
+  abbrev pub FoundOpen : Bool → Transaction S → Transaction S → Type 0
+  FoundOpen is_done old new = IsTrue is_done → IsFaithful new → IsRunning old → IsTrue (inside old).is_open
+
   -- the same of any tables
   abbrev pub Writes : Bool → (Tables → Tables) → Transaction S → Transaction S → Type 0
   Writes is_done change old new = WritesIf is_done (λ _. ⊤) change old new

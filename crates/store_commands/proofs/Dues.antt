@@ -114,13 +114,19 @@ given_less P Q After answered done old new less h =
 
 -- ---- what becomes of lines, whatever they stand for
 
+module _ (Left : Tables → Type 0) (t : Tables) (found : Option Refusal) (change : Tables → Tables) where
+  pub refused_in : (refusal : Refusal) → found ≡ Some refusal → Left t → IsDoneIn Left found change t (answers.Refused refusal)
+  refused_in refusal is left = subst (λ r. IsDoneIn Left r change t (answers.Refused refusal)) (sym is) (refl, left)
+
+  pub changed_in : found ≡ None → Left (change t) → IsDoneIn Left found change t answers.Done
+  changed_in is left = subst (λ r. IsDoneIn Left r change t answers.Done) (sym is) (refl, left)
+
 module _ {S : Type 0} (g : Ghosts S) (t : Tables) (old mid new : Store S) (asked : Asked schema_one true (shown g old) (shown g mid)) (stands : StandsFor g t old) where
-  pub stays_in : (refusal : Refusal) (found : Option Refusal) (change : Tables → Tables) → found ≡ Some refusal → IsDoneIn g found change t (answers.Refused refusal) mid
-  stays_in refusal found change is =
-      subst (λ r. IsDoneIn g r change t (answers.Refused refusal) mid) (sym is) (refl, asked_rests schema_one (Holds t) (shown g old) (shown g mid) asked stands)
+  pub stays_in : (refusal : Refusal) (found : Option Refusal) (change : Tables → Tables) → found ≡ Some refusal → IsDoneIn (λ l. StandsFor g l mid) found change t (answers.Refused refusal)
+  stays_in refusal found change is = refused_in (λ l. StandsFor g l mid) t found change refusal is (asked_rests schema_one (Holds t) (shown g old) (shown g mid) asked stands)
 
   pub done_in : (P : Tables → Type 0) (found : Option Refusal) (change : Tables → Tables) → P t → found ≡ None
-      → Changed schema_one (λ t db. P t × Holds t db) (λ t. Holds (change t)) true true (shown g mid) (shown g new) → IsDoneIn g found change t answers.Done new
+      → Changed schema_one (λ t db. P t × Holds t db) (λ t. Holds (change t)) true true (shown g mid) (shown g new) → IsDoneIn (λ l. StandsFor g l new) found change t answers.Done
   done_in P found change held is made =
       let mid_stands = asked_rests schema_one (Holds t) (shown g old) (shown g mid) asked stands in
-      subst (λ r. IsDoneIn g r change t answers.Done new) (sym is) (refl, made.done refl t (rests_as schema_one (Holds t) (λ db. P t × Holds t db) (shown g mid) mid_stands (held, mid_stands.holds)))
+      changed_in (λ l. StandsFor g l new) t found change is (made.done refl t (rests_as schema_one (Holds t) (λ db. P t × Holds t db) (shown g mid) mid_stands (held, mid_stands.holds)))

@@ -1,8 +1,5 @@
 -- What is done to a group by its name.
 use Rattle.std.specs.Prelude.{◌≡◌, Bool, true, false, List, ℕ, nat_le, length, Option, Some, None}
-use Rattle.sqlite_trees.specs.declared.store.Store.{Ghosts}
-use Rattle.prof_store.specs.Shown.{StandsFor}
-use Rattle.prof_store.specs.declared.store.Store.{Store}
 use Rattle.prof_tables.specs.Changes.{has_group, has_run, with_group, without_group, without_run, joined, without_member, with_baseline}
 use Rattle.prof_tables.specs.Tables.{Tables}
 use Rattle.histories.specs.History as history
@@ -57,15 +54,15 @@ unnamed_for (SetBaseline n) = NoSuchGroup
 -- ---- over lines of tables, whatever they stand for
 
 -- a change is refused and they stay, or it is done and they become what it makes of them
-module _ {S : Type 0} (g : Ghosts S) where
-  abbrev pub IsDoneIn : Option Refusal → (Tables → Tables) → Tables → Answer → Store S → Type 0
-  IsDoneIn (Some refusal) change t answer new = (answer ≡ answers.Refused refusal) × StandsFor g t new
-  IsDoneIn None change t answer new = (answer ≡ answers.Done) × StandsFor g (change t) new
+module _ (Left : Tables → Type 0) where
+  abbrev pub IsDoneIn : Option Refusal → (Tables → Tables) → Tables → Answer → Type 0
+  IsDoneIn (Some refusal) change t answer = (answer ≡ answers.Refused refusal) × Left t
+  IsDoneIn None change t answer = (answer ≡ answers.Done) × Left (change t)
 
-  -- a run is removed
-  abbrev pub RemovesIn : ℕ → Tables → Answer → Store S → Type 0
-  RemovesIn n t answer new = IsDoneIn (missing_of true (has_run t n)) (without_run n) t answer new
+-- a run is removed
+abbrev pub RemovesIn : ℕ → (Tables → Type 0) → Tables → Answer → Type 0
+RemovesIn n Left t answer = IsDoneIn Left (missing_of true (has_run t n)) (without_run n) t answer
 
-  -- a group is changed under a name that a group can have
-  abbrev pub GroupsIn : Limits → GroupChange → List ℕ → Tables → Answer → Store S → Type 0
-  GroupsIn limits change name t answer new = IsDoneIn (refusal_for limits change name t) (changed change name) t answer new
+-- a group is changed under a name that a group can have
+abbrev pub GroupsIn : Limits → GroupChange → List ℕ → (Tables → Type 0) → Tables → Answer → Type 0
+GroupsIn limits change name Left t answer = IsDoneIn Left (refusal_for limits change name t) (changed change name) t answer

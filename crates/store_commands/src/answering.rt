@@ -1,11 +1,11 @@
 // Commands over a store, each with its answer.
 ghost use Rattle.std.specs.Prelude.{◌≡◌};
 ghost use Rattle.prof_tables.specs.Labels.{IsGroupName};
-ghost use Rattle.prof_store.specs.Shown.{IsFaithful, Tells};
+ghost use Rattle.prof_store.specs.Shown.{IsFaithful};
 ghost use Rattle.histories.specs.History.{Remove};
 ghost use Rattle.histories.specs.declared.answers.Answer.TheVariants.{Refused};
 ghost use Rattle.store_histories.specs.Answered.{Answers};
-ghost use Rattle.store_histories.specs.FromTables.{OrFailed};
+ghost use Rattle.store_histories.specs.FromTables.{WasChangedIn};
 ghost use Rattle.store_commands.specs.Changes.{GroupsIn, RemovesIn, change_said, unnamed_for};
 
 use crate::changes::{GroupChange, change_group, group_name, remove, unnamed};
@@ -17,7 +17,7 @@ use store_histories::answer_of;
 /// Drops a run.
 pub fn remove_in<S: Alter>(store: &mut Store<S>, number: u32) -> Answer
     ensures answered { (limits : _) → IsFaithful S.Store store.new → Answers S.Store limits (Remove number) result store.old store.new }
-    ensures found { Tells S.Store store.old store.new (λ t. OrFailed (λ answer. RemovesIn S.Store number t answer store.new) result) }
+    ensures found { WasChangedIn S.Store (RemovesIn number) result store.old store.new }
 {
     answer_of(remove(store, number))
 }
@@ -30,8 +30,7 @@ pub fn change_in<S: Alter>(
     change: GroupChange,
 ) -> Answer
     ensures answered { IsFaithful S.Store store.new → Answers S.Store limits (change_said change name.now) result store.old store.new }
-    ensures found { IsGroupName name.now
-        → Tells S.Store store.old store.new (λ t. OrFailed (λ answer. GroupsIn S.Store limits change name.now t answer store.new) result) }
+    ensures found { IsGroupName name.now → WasChangedIn S.Store (GroupsIn limits change name.now) result store.old store.new }
     ensures unnamed { (IsGroupName name.now → ⊥) → (result ≡ Refused (unnamed_for change)) × (store.new ≡ store.old) }
 {
     match group_name(name) {

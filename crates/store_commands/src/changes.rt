@@ -1,9 +1,10 @@
 // Runs are removed; groups are made, changed and dropped.
 ghost use Rattle.std.specs.Prelude.{◌≡◌, MatchOption, IfOk, None, true, nat_le, length};
+ghost use Rattle.std.specs.Bool.{⊤};
 ghost use Rattle.std.specs.Result.{is_ok};
 ghost use Rattle.prof_tables.specs.Changes.{has_run, has_group};
 ghost use Rattle.prof_tables.specs.Labels.{IsGroupName};
-ghost use Rattle.prof_store.specs.Shown.{Asks, ChangesIf, IsFaithful, KeepsShut, Told};
+ghost use Rattle.prof_store.specs.Shown.{Asks, ChangesIf, IsFaithful, KeepsShut, Made, StandsFor, Told};
 ghost use Rattle.histories.specs.History.{History, Remove};
 ghost use Rattle.histories.specs.declared.limits.Limits.{Limits};
 ghost use Rattle.store_histories.specs.Answered.{StandsForHistory, WasDue, TurnsIf, has_changed};
@@ -49,7 +50,8 @@ pub(crate) fn remove<S: Alter>(store: &mut Store<S>, number: u32) -> Result<Answ
         → IfOk result (λ answer. WasDue S.Store limits h (Remove number) answer store.new) }
     ensures turns { (limits : Limits) → TurnsIf S.Store limits (Remove number) (is_ok result) (has_changed result) store.old store.new }
     ensures shut { KeepsShut S.Store store.old store.new }
-    ensures found { Told S.Store result store.old store.new (λ t answer. RemovesIn S.Store number t answer store.new) }
+    ensures told { Told S.Store result store.old store.new (RemovesIn number (λ _. ⊤)) }
+    ensures made { Made S.Store result store.old store.new (RemovesIn number (λ left. StandsFor S.Store left store.new)) }
 {
     if !store.has_run(number)? {
         return Ok(Answer::Refused(Refusal::NoSuchRun));
@@ -155,7 +157,8 @@ pub(crate) fn change_group<S: Alter>(
         → IfOk result (λ answer. WasDue S.Store limits h (change_said change name.now) answer store.new) }
     ensures turns { TurnsIf S.Store limits (change_said change name.now) (is_ok result) (has_changed result) store.old store.new }
     ensures shut { KeepsShut S.Store store.old store.new }
-    ensures found { Told S.Store result store.old store.new (λ t answer. GroupsIn S.Store limits change name.now t answer store.new) }
+    ensures told { Told S.Store result store.old store.new (GroupsIn limits change name.now (λ _. ⊤)) }
+    ensures made { Made S.Store result store.old store.new (GroupsIn limits change name.now (λ left. StandsFor S.Store left store.new)) }
 {
     if let Some(refusal) = refusal_of(store, limits, name, change)? {
         return Ok(Answer::Refused(refusal));

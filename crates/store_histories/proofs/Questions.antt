@@ -6,7 +6,8 @@ use Rattle.sql_tables.specs.Calls.{Asked, Changed}
 use Rattle.sql_tables.proofs.Calls.{asked_rests, changed_asked, shut_asked}
 use Rattle.prof_tables.specs.Schema.{schema_one}
 use Rattle.prof_tables.specs.Tables.{Tables, Holds}
-use Rattle.prof_store.specs.Shown.{StandsFor, shown}
+use Rattle.prof_store.proofs.Told.{rests_said}
+use Rattle.prof_store.specs.Shown.{ReadsAs, shown}
 use Rattle.prof_store.specs.declared.store.Store.{Store}
 use Rattle.store_columns.specs.declared.errors.StoreError.{StoreError}
 use Rattle.store_columns.specs.declared.errors.StoreError.TheVariants as ends
@@ -40,10 +41,10 @@ if_ok_so (Ok x) so is = so x is
 if_ok_so (Err e) so is = tt
 
 pub asked_once : {S : Type 0} (g : Ghosts S) (Shows : Tables → Answer → Type 0) (query : Query) → IsTold Shows query → (result : Result Answer StoreError) (old new : Store S)
-    → has_changed result ≡ false → Asked schema_one (is_ok result) (shown g old) (shown g new) → ((t : Tables) → StandsFor g t old → IfOk result (Shows t)) → WasAsked g Shows query result old new
+    → has_changed result ≡ false → Asked schema_one (is_ok result) (shown g old) (shown g new) → ((t : Tables) → ReadsAs g t old → IfOk result (Shows t)) → WasAsked g Shows query result old new
 asked_once g Shows query law result old new still asks told = record {
   told = told;
-  expected_answer = λ h s. if_ok_so result (λ answer. law h s.t answer s.tells) (told s.t s.stands);
+  expected_answer = λ h s. if_ok_so result (λ answer. law h s.t answer s.tells) (told s.t (rests_said s.t (shown g old) s.stands));
   still = still;
   asks = asks;
 }

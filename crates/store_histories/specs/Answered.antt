@@ -6,7 +6,7 @@ use Rattle.sqlite_trees.specs.Tree.{Trees}
 use Rattle.sql_tables.specs.Calls.{Asked, Changed, KeepsIfShut}
 use Rattle.prof_tables.specs.Schema.{schema_one}
 use Rattle.prof_tables.specs.Tables.{Tables, Holds}
-use Rattle.prof_store.specs.Shown.{shown, StandsFor, IsFaithful, IsUsable}
+use Rattle.prof_store.specs.Shown.{shown, StandsFor, ReadsAs, IsFaithful, IsUsable}
 use Rattle.prof_store.specs.declared.store.Store.{Store}
 use Rattle.store_columns.specs.declared.errors.StoreError.{StoreError}
 use Rattle.store_columns.specs.declared.errors.StoreError.TheVariants as ends
@@ -88,9 +88,9 @@ module _ {S : Type 0} (g : Ghosts S) where
     pub closes : IsUsable g old → IsUsable g new ⊎ IsFailure answer
     pub shut : KeepsIfShut (shown g old) (shown g new)
 
-  -- a question was answered, with a text or a refusal, as lines of tables are, whatever they stand for, and what is expected after each history that they do stand for; the store was only asked
+  -- a question was answered, with a text or a refusal, as the lines say as which the rows were read, and what is expected after each history that the tables stand for; the store was only asked
   pub record WasAsked (Shows : Tables → Answer → Type 0) (query : Query) (result : Result Answer StoreError) (old new : Store S) : Type 0 where
-    pub told : (t : Tables) → StandsFor g t old → IfOk result (Shows t)
+    pub told : (t : Tables) → ReadsAs g t old → IfOk result (Shows t)
     pub expected_answer : (h : History) → StandsForHistory h old → IfOk result (λ answer. answer ≡ expected_of_query h query)
     pub still : has_changed result ≡ false
     pub asks : Asked schema_one (is_ok result) (shown g old) (shown g new)

@@ -9,6 +9,7 @@ use Rattle.sql_tables.specs.States.{Begins, Works}
 use Rattle.sql_tables.proofs.Creates.{empties_of}
 use Rattle.sql_tables.proofs.Statements.{inside_kept}
 use Rattle.store_columns.specs.Within.{inside, IsFaithful, Ran}
+use Rattle.store_columns.proofs.Within.{text_open}
 use Rattle.sqlite.proofs.StateLemmas.{survives_then}
 use Rattle.table_making.specs.Making.{AreEmpty, Makes, MakesTables}
 
@@ -27,6 +28,7 @@ module _ {S : Type 0} (g : Ghosts S) where
         let before = one.kept early was last.0 in
         (before.0, last.1 ∙ before.1);
     running = λ is clean was. two.running is clean (one.running refl (faithful_before mid new two.survives clean) was);
+    found_open = λ is clean was. one.found_open refl (faithful_before mid new two.survives clean) was;
     done = λ is clean was. two.done is clean (goes (inside g mid) (one.done refl (faithful_before mid new two.survives clean) was));
   }
 
@@ -41,6 +43,7 @@ module _ {S : Type 0} (g : Ghosts S) where
     survives = h.survives;
     kept = h.kept;
     running = λ (none : false ≡ true). absurd cc;
+    found_open = λ (none : false ≡ true). absurd cc;
     done = λ (none : false ≡ true). absurd cc;
   }
 
@@ -70,6 +73,7 @@ statement_makes g text A B on makes ok old new h = record {
   survives = h.survives;
   kept = λ clean was. let it = h.ran clean was in inside_kept text [] (inside g old) (inside g new) it.0 it.2;
   running = λ is clean was. let it = h.ran clean was in running text (inside g old) (inside g new) it.0 (sym it.1 ∙ is) it.2;
+  found_open = text_open g text [] ok old new h;
   done = λ is clean was. let it = h.ran clean (on (inside g old) was) in effect text A B makes (inside g old) (inside g new) it.0 (sym it.1 ∙ is) it.2 was;
 }
 

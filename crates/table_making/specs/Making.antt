@@ -9,19 +9,20 @@ use Rattle.sql_tables.specs.Contents.{Contain, no_rows}
 use Rattle.sql_tables.specs.States.{Begins, Works, KeepsCommit}
 use Rattle.prof_tables.specs.Schema.{empty_schema, schema_one}
 use Rattle.prof_tables.specs.Tables.{Holds, new_tables}
-use Rattle.store_columns.specs.Within.{inside, IsFaithful, IsRunning}
+use Rattle.store_columns.specs.Within.{inside, FoundOpen, IsFaithful, IsRunning}
 
 -- there is no row in the tables of a schema
 abbrev pub AreEmpty : Schema → Trees → Type 0
 AreEmpty schema = Contain schema (no_rows schema.tables)
 
 module _ {S : Type 0} (g : Ghosts S) where
-  -- whatever comes of a call, it commits nothing; done, the transaction goes on, and what it sees is the one thing where it was the other
+  -- whatever comes of a call, it commits nothing; done, it found the connection open, the transaction goes on, and what it sees is the one thing where it was the other
   pub record Makes (is_done : Bool) (Before After : State → Type 0) (old new : Transaction S) : Type 0 where
     pub same_reference : new.conn.ghost_name ≡ old.conn.ghost_name
     pub survives : Survives (inside g old) (inside g new) (λ _. ⊥)
     pub kept : IsFaithful g new → IsRunning g old → KeepsCommit (inside g old) (inside g new)
     pub running : IsTrue is_done → IsFaithful g new → IsRunning g old → IsRunning g new
+    pub found_open : FoundOpen g is_done old new
     pub done : IsTrue is_done → IsFaithful g new → Before (inside g old) → After (inside g new)
 
   -- the tables of a further schema are made

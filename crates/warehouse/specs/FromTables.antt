@@ -1,4 +1,4 @@
--- What commands are answered over lines of tables, whatever they stand for.
+-- What commands are answered over any tables, by the lines as which their rows are read.
 use Rattle.std.specs.Prelude.{◌≡◌, ◌⊎◌, ℕ, List, []}
 use Rattle.std.specs.Str.{IsUtf8}
 use Rattle.sqlite_trees.specs.declared.store.Store.{Ghosts}
@@ -6,7 +6,7 @@ use Rattle.prof_store.specs.Shown.{Tells}
 use Rattle.prof_store.specs.declared.store.Store.{Store}
 use Rattle.prof_tables.specs.Tables.{Tables}
 use Rattle.sources.specs.Outcomes.{Outcome, bytes_of}
-use Rattle.sources.specs.Reads.{IsUnreadFor, Reads}
+use Rattle.sources.specs.Reads.{HasEnded, IsUnreadFor, Reads}
 use Rattle.sources.specs.declared.reading.Unread.{Unread}
 use Rattle.histories.specs.Legal.{most_of_source}
 use Rattle.histories.specs.declared.answers.Answer.{Answer}
@@ -28,7 +28,7 @@ use Rattle.store_commands.specs.Lists.{IsListOfGroups, IsListOfRuns}
 use Rattle.store_exports.specs.Annotated.{IsAnnotated}
 use Rattle.store_exports.specs.CsvRuns.{IsCsv}
 use Rattle.store_exports.specs.FoldedRuns.{IsFolded}
-use Rattle.store_histories.specs.FromTables.{OrFailed, ShowsText}
+use Rattle.store_histories.specs.FromTables.{OrFailed, ShowsText, WasChangedIn}
 use Rattle.store_reports.specs.Checked.{IsVerified}
 use Rattle.store_reports.specs.Compared.{IsSubtracted}
 use Rattle.store_reports.specs.Reported.{IsReported}
@@ -55,7 +55,7 @@ module _ {S R : Type 0} (g : Ghosts S) (reads : R → Outcome → R → Type 0) 
     pub outcomes : List Outcome
     pub came : Reads reads source outcomes to
     pub answered : ((unread : Unread) × IsUnreadFor most_of_source outcomes unread × (answer ≡ unread_for unread))
-        ⊎ Tells g old new (λ t. OrFailed (AnswersIn (queries.Annotate selection event file (bytes_of outcomes)) t) answer)
+        ⊎ (HasEnded most_of_source outcomes × Tells g old new (λ t. OrFailed (AnswersIn (queries.Annotate selection event file (bytes_of outcomes)) t) answer))
 
   -- under a label out of form a source is not read; one that was not read through is refused as such; what another gave is taken in by what the lines say
   pub record WasImported (limits : Limits) (kind : Kind) (label : List ℕ) (source to : R) (answer : Answer) (old new : Store S) : Type 0 where
@@ -63,12 +63,12 @@ module _ {S R : Type 0} (g : Ghosts S) (reads : R → Outcome → R → Type 0) 
     pub came : Reads reads source outcomes to
     pub answered : ((IsUtf8 label × IsLabel label → ⊥) × (outcomes ≡ []) × (answer ≡ answers.Refused reasons.BadName))
         ⊎ ((unread : Unread) × IsUnreadFor limits.bytes outcomes unread × (answer ≡ unread_for unread))
-        ⊎ ((taken : Taken) × IsTakenOf kind (bytes_of outcomes) taken × Tells g old new (λ t. OrFailed (IsTakenIn g limits kind label taken new t) answer))
+        ⊎ ((taken : Taken) × HasEnded limits.bytes outcomes × IsTakenOf kind (bytes_of outcomes) taken × WasChangedIn g (IsTakenIn limits kind label taken) answer old new)
 
-  -- what a command asks is answered by what the lines say, and what it imports, removes or makes of groups is made of them
+  -- each command is answered by what the lines say; and where the tables hold these lines, what it imports, removes or makes of groups is made of them
   abbrev pub IsFoundIn : Limits → commands.Command R → Answer → Store S → Store S → Type 0
   IsFoundIn limits (command.Ask query) answer old new = Tells g old new (λ t. OrFailed (AnswersIn query t) answer)
   IsFoundIn limits (command.Annotate selection event file source) answer old new = (to : R) × WasAnnotated selection event file source to answer old new
-  IsFoundIn limits (command.Remove n) answer old new = Tells g old new (λ t. OrFailed (λ given. RemovesIn g n t given new) answer)
-  IsFoundIn limits (command.Group name change) answer old new = IsGroupName name.items → Tells g old new (λ t. OrFailed (λ given. GroupsIn g limits change name.items t given new) answer)
+  IsFoundIn limits (command.Remove n) answer old new = WasChangedIn g (RemovesIn n) answer old new
+  IsFoundIn limits (command.Group name change) answer old new = IsGroupName name.items → WasChangedIn g (GroupsIn limits change name.items) answer old new
   IsFoundIn limits (command.Import kind label source) answer old new = (to : R) × WasImported limits kind label.items source to answer old new

@@ -1,25 +1,24 @@
 use Rattle.std.specs.Result.{is_ok}
-use Rattle.std.proofs.Common.{◌∙◌, map, ap, refl, subst, IsPermutation}
+use Rattle.std.proofs.Common.{◌∙◌, map, ap, refl, arith}
 use Rattle.sqlite_exec.proofs.MarkLemmas.{if_ok_then}
 use Rattle.sql_tables.proofs.Calls.{asked_err, asked_if}
 use Rattle.prof_tables.specs.Schema.{schema_one}
 use Rattle.prof_tables.specs.Seen.{coef_seen}
 use Rattle.prof_tables.proofs.Means.{coefs_of_plain}
-use Rattle.prof_tables.proofs.RunLists.{coefs_listed, coefs_are}
+use Rattle.prof_tables.proofs.RunLists.{coefs_listed}
 use Rattle.held_runs.specs.HeadLines.{coef_columns, first_three}
 use Rattle.prof_store.proofs.Listing.{read_permutes}
+use Rattle.held_runs.proofs.Said.{coefs_told}
+use Rattle.prof_store.proofs.Told.{said}
 use Rattle.held_runs.proofs.head_lines.coefs_of.Goals as goal
-
-pub returns-clause-told : goal.returns-clause-told
-returns-clause-told g c clean t was =
-    let p = coefs_listed c.args.run _ _ c.in_ok-rows.rows.items was.schema_is (rw c.params-to_sql.ensures at (c.in_ok-rows.ensures.rows clean)) in
-    if_ok_then c.read_rows.result c.read_rows.ensures (λ lines is.
-    subst (λ l. IsPermutation l (map coef_columns lines.items)) (coefs_are t _ was.holds c.args.run) (read_permutes coef_seen first_three coef_columns (λ r. refl) _ c.in_ok-rows.rows.items lines.items p (is ∙ ap (map first_three) c.deref.ensures.value)))
 
 pub returns-clause-found : goal.returns-clause-found
 returns-clause-found g c clean has =
     let p = coefs_listed c.args.run _ _ c.in_ok-rows.rows.items has (rw c.params-to_sql.ensures at (c.in_ok-rows.ensures.rows clean)) in
     if_ok_then c.read_rows.result c.read_rows.ensures (λ lines is. read_permutes coef_seen first_three coef_columns (λ r. refl) _ c.in_ok-rows.rows.items lines.items p (is ∙ ap (map first_three) c.deref.ensures.value))
+
+pub returns-clause-told : goal.returns-clause-told
+returns-clause-told g c clean t was = if_ok_then c.read_rows.result (returns-clause-found g c clean was.schema_is) (λ lines. coefs_told t _ (said t _ was.holds) c.args.run (omega (arith, c.ranges)) lines.items)
 
 pub returns-clause-asks : goal.returns-clause-asks
 returns-clause-asks g c clean = asked_if schema_one (is_ok c.read_rows.result) _ _ (c.in_ok-rows.ensures.asked clean coefs_of_plain)

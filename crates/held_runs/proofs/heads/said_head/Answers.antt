@@ -4,7 +4,7 @@ use Rattle.sqlite_exec.proofs.MarkLemmas.{if_ok_then}
 use Rattle.sqlite.specs.Effect.{Database}
 use Rattle.sql_tables.proofs.Calls.{asked_err, asked_if, asked_rests, asked_then}
 use Rattle.prof_tables.specs.Schema.{schema_one}
-use Rattle.prof_tables.specs.Tables.{Holds}
+use Rattle.prof_store.specs.Readings.{RowsSay}
 use Rattle.held_runs.specs.HeadLines.{derived_columns, coef_columns, derived_in_rows, coefs_in_rows}
 use Rattle.held_runs.proofs.HeadReading.{is_head_of, read_from_same}
 use Rattle.held_runs.proofs.heads.said_head.Goals as goal
@@ -13,8 +13,8 @@ pub returns-clause-told : goal.returns-clause-told
 returns-clause-told g c clean t was =
     let third = (c.coefs_of.ensures.asks clean).stays.was_clean in
     let second = (c.derived_of.ensures.asks third).stays.was_clean in
-    let one = asked_rests schema_one (Holds t) _ _ (c.in_ok-events.ensures.asks second) was in
-    let two = asked_rests schema_one (Holds t) _ _ (c.in_ok-derived.ensures.asks third) one in
+    let one = asked_rests schema_one (RowsSay t) _ _ (c.in_ok-events.ensures.asks second) was in
+    let two = asked_rests schema_one (RowsSay t) _ _ (c.in_ok-derived.ensures.asks third) one in
     if_ok_then c.head_in.result c.head_in.ensures.read (λ head read.
     is_head_of head c.in_ok-events.events.items c.in_ok-derived.derived.items c.in_ok-coefs.coefs.items _ _ _ (c.in_ok-events.ensures.told second t was) (c.in_ok-derived.ensures.told third t one) (c.in_ok-coefs.ensures.told clean t two)
     (read_from_same head _ _ _ _ _ _ c.deref.ensures.value c.deref-2.ensures.value c.deref-3.ensures.value read))

@@ -10,21 +10,22 @@ use Rattle.held_runs.specs.HeadLines.{first_two}
 use Rattle.held_runs.specs.NameLines.{name_seen, name_shown}
 use Rattle.prof_store.proofs.Listing.{read_permutes, map_injective}
 use Rattle.prof_store.proofs.Reading.{both_ok}
-use Rattle.held_runs.proofs.NameLists.{names_listed, names_in_order, same_line}
+use Rattle.held_runs.proofs.NameLists.{names_listed, same_line}
+use Rattle.held_runs.proofs.Said.{names_in_order}
+use Rattle.prof_store.proofs.Readings.{shown_read}
+use Rattle.prof_store.proofs.Told.{said}
 use Rattle.held_runs.proofs.held_names.names_of.Goals as goal
-
-pub returns-clause-told : goal.returns-clause-told
-returns-clause-told g c clean t was =
-    let p = names_listed _ _ c.in_ok-rows.rows.items was.schema_is (c.in_ok-rows.ensures.rows clean) in
-    if_ok_then c.names_in.result (both_ok _ _ c.names_in.result c.names_in.ensures.read c.names_in.ensures.rising) (λ names is.
-    let q = read_permutes name_seen first_two name_shown (λ r. refl) _ c.in_ok-rows.rows.items names p (is.0 ∙ ap (map first_two) c.deref.ensures.value) in
-    let up = numbered_table name_shown (λ (l : NameLine). l.number) (λ l. refl) names is.1 in
-    map_injective name_shown same_line names t.names (names_in_order t _ was.holds (map name_shown names) up q))
 
 pub returns-clause-found : goal.returns-clause-found
 returns-clause-found g c clean has =
     let p = names_listed _ _ c.in_ok-rows.rows.items has (c.in_ok-rows.ensures.rows clean) in
     if_ok_then c.names_in.result c.names_in.ensures.read (λ names is. read_permutes name_seen first_two name_shown (λ r. refl) _ c.in_ok-rows.rows.items names p (is ∙ ap (map first_two) c.deref.ensures.value))
+
+pub returns-clause-told : goal.returns-clause-told
+returns-clause-told g c clean t was =
+    if_ok_then c.names_in.result (both_ok _ _ c.names_in.result (returns-clause-found g c clean was.schema_is) c.names_in.ensures.rising) (λ names is.
+    map_injective name_shown same_line names t.names
+    (names_in_order t _ (said t _ was.holds) (map name_shown names) (shown_read (said t _ was.holds).far name_shown (λ l. refl) names) (numbered_table name_shown (λ (l : NameLine). l.number) (λ l. refl) names is.1) is.0))
 
 pub returns-clause-asks : goal.returns-clause-asks
 returns-clause-asks g c clean = asked_if schema_one (is_ok c.names_in.result) _ _ (c.in_ok-rows.ensures.asked clean names_plain)

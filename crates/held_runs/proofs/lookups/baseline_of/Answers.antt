@@ -1,19 +1,18 @@
 use Rattle.sql_tables.proofs.Calls.{asked_err, asked_if}
 use Rattle.prof_tables.specs.Schema.{schema_one}
 use Rattle.held_runs.proofs.RunTexts.{baseline_of_plain}
-use Rattle.held_runs.proofs.LookupFinds.{baseline_found, baseline_told}
+use Rattle.held_runs.proofs.LookupFinds.{baseline_found}
+use Rattle.held_runs.proofs.Said.{baseline_told}
+use Rattle.prof_store.proofs.Told.{said}
 use Rattle.held_runs.proofs.lookups.baseline_of.Goals as goal
-
-pub returns-clause-told : goal.returns-clause-told
-returns-clause-told g c clean t was =
-    let baseline = c.in_ok-number_or_null_at.field-0 in
-    let is = c.in_ok-number_or_null_at.ensures.read in
-    baseline_told t _ was.holds c.args.name.now baseline (baseline_found _ _ c.in_ok-row.row was.schema_is c.args.name.now baseline (rw c.params-to_sql.ensures at (c.in_ok-row.ensures.row clean)) is)
 
 pub returns-clause-found : goal.returns-clause-found
 returns-clause-found g c clean has = let baseline = c.in_ok-number_or_null_at.field-0 in
     let is = c.in_ok-number_or_null_at.ensures.read in
     baseline_found _ _ c.in_ok-row.row has c.args.name.now baseline (rw c.params-to_sql.ensures at (c.in_ok-row.ensures.row clean)) is
+
+pub returns-clause-told : goal.returns-clause-told
+returns-clause-told g c clean t was = baseline_told t _ (said t _ was.holds) c.args.name.now c.in_ok-number_or_null_at.field-0 (returns-clause-found g c clean was.schema_is)
 
 pub returns-clause-asks : goal.returns-clause-asks
 returns-clause-asks g c clean = c.in_ok-row.ensures.asked clean baseline_of_plain

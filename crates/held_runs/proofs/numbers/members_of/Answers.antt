@@ -7,21 +7,21 @@ use Rattle.prof_tables.specs.Seen.{run_of_member_seen}
 use Rattle.held_runs.specs.RunNumbers.{first_one, number_shown}
 use Rattle.prof_store.proofs.Listing.{read_permutes}
 use Rattle.prof_store.proofs.Reading.{both_ok}
-use Rattle.held_runs.proofs.NumberLists.{members_listed, members_in_order}
+use Rattle.held_runs.proofs.NumberLists.{members_listed}
 use Rattle.held_runs.proofs.RunTexts.{members_of_plain}
+use Rattle.held_runs.proofs.Said.{members_in_order}
+use Rattle.prof_store.proofs.Told.{said}
 use Rattle.held_runs.proofs.numbers.members_of.Goals as goal
-
-pub returns-clause-told : goal.returns-clause-told
-returns-clause-told g c clean t was =
-    let name = c.args.name.now in
-    let p = members_listed _ _ c.in_ok-rows.rows.items was.schema_is name (rw c.params-to_sql.ensures at (c.in_ok-rows.ensures.rows clean)) in
-    if_ok_then c.numbers_in.result (both_ok _ _ c.numbers_in.result c.numbers_in.ensures.read c.numbers_in.ensures.rising) (λ numbers is.
-    members_in_order t _ was.holds name numbers is.1 (read_permutes run_of_member_seen first_one number_shown (λ r. refl) _ c.in_ok-rows.rows.items numbers p (is.0 ∙ ap (map first_one) c.deref.ensures.value)))
 
 pub returns-clause-found : goal.returns-clause-found
 returns-clause-found g c clean has =
     let p = members_listed _ _ c.in_ok-rows.rows.items has c.args.name.now (rw c.params-to_sql.ensures at (c.in_ok-rows.ensures.rows clean)) in
     if_ok_then c.numbers_in.result c.numbers_in.ensures.read (λ numbers is. read_permutes run_of_member_seen first_one number_shown (λ r. refl) _ c.in_ok-rows.rows.items numbers p (is ∙ ap (map first_one) c.deref.ensures.value))
+
+pub returns-clause-told : goal.returns-clause-told
+returns-clause-told g c clean t was =
+    if_ok_then c.numbers_in.result (both_ok _ _ c.numbers_in.result (returns-clause-found g c clean was.schema_is) (both_ok _ _ c.numbers_in.result c.numbers_in.ensures.rising c.numbers_in.ensures.below)) (λ numbers is.
+    members_in_order t _ (said t _ was.holds) c.args.name.now numbers is.1.1 is.1.0 is.0)
 
 pub returns-clause-asks : goal.returns-clause-asks
 returns-clause-asks g c clean = asked_if schema_one (is_ok c.numbers_in.result) _ _ (c.in_ok-rows.ensures.asked clean members_of_plain)

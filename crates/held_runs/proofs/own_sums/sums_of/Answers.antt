@@ -1,24 +1,22 @@
 use Rattle.std.specs.Result.{is_ok}
-use Rattle.std.proofs.Common.{◌∙◌, map, ap, subst, IsPermutation}
+use Rattle.std.proofs.Common.{◌∙◌, map, ap, arith}
 use Rattle.sqlite_exec.proofs.MarkLemmas.{if_ok_then}
 use Rattle.sql_tables.proofs.Calls.{asked_err, asked_if}
 use Rattle.prof_tables.specs.Schema.{schema_one}
 use Rattle.held_runs.specs.HeadLines.{first_two}
-use Rattle.held_runs.specs.OwnSums.{sums_from}
-use Rattle.held_runs.proofs.OwnSumLists.{sums_listed, sums_are, sums_read}
+use Rattle.held_runs.proofs.OwnSumLists.{sums_listed, sums_read}
 use Rattle.held_runs.proofs.RunTexts.{own_sums_plain}
+use Rattle.held_runs.proofs.Said.{sums_told}
+use Rattle.prof_store.proofs.Told.{said}
 use Rattle.held_runs.proofs.own_sums.sums_of.Goals as goal
-
-pub returns-clause-told : goal.returns-clause-told
-returns-clause-told g c clean t was =
-    let run = c.args.run in
-    let p = sums_listed run _ _ c.in_ok-rows.rows.items was.schema_is (rw c.params-to_sql.ensures at (c.in_ok-rows.ensures.rows clean)) in
-    if_ok_then c.sums_in.result c.sums_in.ensures.read (λ sums is. subst (λ l. IsPermutation l (sums_from 0 sums)) (sums_are t _ was.holds run) (sums_read _ c.in_ok-rows.rows.items sums p (is ∙ ap (map first_two) c.deref.ensures.value)))
 
 pub returns-clause-found : goal.returns-clause-found
 returns-clause-found g c clean has =
     let p = sums_listed c.args.run _ _ c.in_ok-rows.rows.items has (rw c.params-to_sql.ensures at (c.in_ok-rows.ensures.rows clean)) in
     if_ok_then c.sums_in.result c.sums_in.ensures.read (λ sums is. sums_read _ c.in_ok-rows.rows.items sums p (is ∙ ap (map first_two) c.deref.ensures.value))
+
+pub returns-clause-told : goal.returns-clause-told
+returns-clause-told g c clean t was = if_ok_then c.sums_in.result (returns-clause-found g c clean was.schema_is) (λ sums. sums_told t _ (said t _ was.holds) c.args.run (omega (arith, c.ranges)) sums)
 
 pub returns-clause-asks : goal.returns-clause-asks
 returns-clause-asks g c clean = asked_if schema_one (is_ok c.sums_in.result) _ _ (c.in_ok-rows.ensures.asked clean own_sums_plain)

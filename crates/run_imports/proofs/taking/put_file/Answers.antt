@@ -16,6 +16,7 @@ use Rattle.run_imports.specs.Refused.{room_refusal}
 use Rattle.run_imports.proofs.Imports.{room_due}
 use Rattle.run_imports.proofs.Puts.{next_of, number_due, refused_for, run_turns, run_done}
 use Rattle.store_histories.proofs.Settled.{turns_err_from as turns_err}
+use Rattle.prof_store.proofs.Told.{rests_said}
 use Rattle.run_imports.proofs.taking.put_file.Goals as goal
 
 pub returns-in_err-number-clause-turns : goal.returns-in_err-number-clause-turns
@@ -26,7 +27,7 @@ returns-in_err-number-clause-turns g c outcomes ended clean =
 
 pub returns-in-Err-clause-answered : goal.returns-in-Err-clause-answered
 returns-in-Err-clause-answered g c clean h outcomes s ended new =
-    let why = refused_for (room_refusal c.args.limits h c.args.kind (bytes_of outcomes)) (next h) c.in-Err.refusal (sym c.in-Err.is ∙ number_due g.S.Store c.args.limits c.args.kind (bytes_of outcomes) c.args.digest.now c.args.file.now.head.now c.args.file.now.rows.now c.args.store.now h s new _ (c.in_ok-number.ensures.told clean s.t s.stands)) in
+    let why = refused_for (room_refusal c.args.limits h c.args.kind (bytes_of outcomes)) (next h) c.in-Err.refusal (sym c.in-Err.is ∙ number_due g.S.Store c.args.limits c.args.kind (bytes_of outcomes) c.args.digest.now c.args.file.now.head.now c.args.file.now.rows.now c.args.store.now h s new _ (c.in_ok-number.ensures.told clean s.t (rests_said s.t _ s.stands))) in
     was_still c.args.limits h (Import c.args.kind c.args.label.now outcomes) (c.utf8.label, c.requires) g.S.Store c.args.store.now c.number_for.new.store (Refused c.in-Err.refusal) tt
     (room_due c.args.limits h c.args.kind c.args.label.now outcomes ended new.is_new new.sound ∙ ap (λ r. Some (refused_or r (Run (next h)))) why) s (asked_rests schema_one (Holds s.t) _ _ (c.in_ok-number.ensures.asks clean) s.stands)
 
@@ -42,37 +43,48 @@ returns-in_err-put_run-in-Ok-clause-turns g c outcomes ended clean =
     let before : History → Trees → Type 0 = λ h db. IsNewFile h c.args.kind (bytes_of outcomes) c.args.digest.now c.args.file.now.head.now c.args.file.now.rows.now × TellsHistory h db in
     turns_err c.args.limits (Import c.args.kind c.args.label.now outcomes) before c.from_residual-in_err-put_run-in-Ok.result _ _ c.from_residual-in_err-put_run-in-Ok.ensures.0
     (run_turns c.args.limits c.args.kind c.args.label.now outcomes c.args.digest.now c.args.file.now.head.now c.args.file.now.rows.now (c.utf8.label, c.requires) ended c.in-Ok.number g.S.Store c.args.store.now c.number_for.new.store c.put_run.new.store
-    (c.in_ok-number.ensures.asks early) (λ h s new. sym c.in-Ok.is ∙ number_due g.S.Store c.args.limits c.args.kind (bytes_of outcomes) c.args.digest.now c.args.file.now.head.now c.args.file.now.rows.now c.args.store.now h s new _ (c.in_ok-number.ensures.told early s.t s.stands)) false false two)
+    (c.in_ok-number.ensures.asks early) (λ h s new. sym c.in-Ok.is ∙ number_due g.S.Store c.args.limits c.args.kind (bytes_of outcomes) c.args.digest.now c.args.file.now.head.now c.args.file.now.rows.now c.args.store.now h s new _ (c.in_ok-number.ensures.told early s.t (rests_said s.t _ s.stands))) false false two)
 
 pub returns-in_ok-put_run-in-Ok-clause-answered : goal.returns-in_ok-put_run-in-Ok-clause-answered
 returns-in_ok-put_run-in-Ok-clause-answered g c clean h outcomes s ended new =
     let two = c.in_ok-put_run-in-Ok.ensures.changes clean in
     let early = two.stays.was_clean in
     run_done c.args.limits c.args.kind c.args.label.now outcomes c.args.digest.now c.args.file.now.head.now c.args.file.now.rows.now (c.utf8.label, c.requires) ended c.in-Ok.number g.S.Store c.args.store.now c.number_for.new.store c.put_run.new.store
-    (c.in_ok-number.ensures.asks early) (λ h s new. sym c.in-Ok.is ∙ number_due g.S.Store c.args.limits c.args.kind (bytes_of outcomes) c.args.digest.now c.args.file.now.head.now c.args.file.now.rows.now c.args.store.now h s new _ (c.in_ok-number.ensures.told early s.t s.stands)) h s new true two
+    (c.in_ok-number.ensures.asks early) (λ h s new. sym c.in-Ok.is ∙ number_due g.S.Store c.args.limits c.args.kind (bytes_of outcomes) c.args.digest.now c.args.file.now.head.now c.args.file.now.rows.now c.args.store.now h s new _ (c.in_ok-number.ensures.told early s.t (rests_said s.t _ s.stands))) h s new true two
 
 pub returns-in_ok-put_run-in-Ok-clause-turns : goal.returns-in_ok-put_run-in-Ok-clause-turns
 returns-in_ok-put_run-in-Ok-clause-turns g c outcomes ended clean =
     let two = c.in_ok-put_run-in-Ok.ensures.changes clean in
     let early = two.stays.was_clean in
     run_turns c.args.limits c.args.kind c.args.label.now outcomes c.args.digest.now c.args.file.now.head.now c.args.file.now.rows.now (c.utf8.label, c.requires) ended c.in-Ok.number g.S.Store c.args.store.now c.number_for.new.store c.put_run.new.store
-    (c.in_ok-number.ensures.asks early) (λ h s new. sym c.in-Ok.is ∙ number_due g.S.Store c.args.limits c.args.kind (bytes_of outcomes) c.args.digest.now c.args.file.now.head.now c.args.file.now.rows.now c.args.store.now h s new _ (c.in_ok-number.ensures.told early s.t s.stands)) true true two
+    (c.in_ok-number.ensures.asks early) (λ h s new. sym c.in-Ok.is ∙ number_due g.S.Store c.args.limits c.args.kind (bytes_of outcomes) c.args.digest.now c.args.file.now.head.now c.args.file.now.rows.now c.args.store.now h s new _ (c.in_ok-number.ensures.told early s.t (rests_said s.t _ s.stands))) true true two
 
 pub returns-in-Err-clause-told : goal.returns-in-Err-clause-told
-returns-in-Err-clause-told g c clean t stands =
+returns-in-Err-clause-told g c clean t was =
+    let file = c.args.file.now in
+    record { number = Err c.in-Err.refusal; is_number = subst (IsNumber c.args.limits file.head.now (content_of file.rows.now) t) c.in-Err.is (c.in_ok-number.ensures.told clean t was); puts = (refl, tt) }
+
+pub returns-in_ok-put_run-in-Ok-clause-told : goal.returns-in_ok-put_run-in-Ok-clause-told
+returns-in_ok-put_run-in-Ok-clause-told g c clean t was =
+    let file = c.args.file.now in
+    let early = (c.in_ok-put_run-in-Ok.ensures.changes clean).stays.was_clean in
+    record { number = Ok c.in-Ok.number; is_number = subst (IsNumber c.args.limits file.head.now (content_of file.rows.now) t) c.in-Ok.is (c.in_ok-number.ensures.told early t was); puts = (refl, tt) }
+
+pub returns-in-Err-clause-made : goal.returns-in-Err-clause-made
+returns-in-Err-clause-made g c clean t stands =
     let file = c.args.file.now in
     record {
       number = Err c.in-Err.refusal;
-      is_number = subst (IsNumber c.args.limits file.head.now (content_of file.rows.now) t) c.in-Err.is (c.in_ok-number.ensures.told clean t stands);
+      is_number = subst (IsNumber c.args.limits file.head.now (content_of file.rows.now) t) c.in-Err.is (c.in_ok-number.ensures.told clean t (rests_said t _ stands));
       puts = (refl, asked_rests schema_one (Holds t) _ _ (c.in_ok-number.ensures.asks clean) stands);
     }
 
-pub returns-in_ok-put_run-in-Ok-clause-told : goal.returns-in_ok-put_run-in-Ok-clause-told
-returns-in_ok-put_run-in-Ok-clause-told g c clean t stands =
+pub returns-in_ok-put_run-in-Ok-clause-made : goal.returns-in_ok-put_run-in-Ok-clause-made
+returns-in_ok-put_run-in-Ok-clause-made g c clean t stands =
     let file = c.args.file.now in
     let two = c.in_ok-put_run-in-Ok.ensures.changes clean in
     let early = two.stays.was_clean in
-    let is = subst (IsNumber c.args.limits file.head.now (content_of file.rows.now) t) c.in-Ok.is (c.in_ok-number.ensures.told early t stands) in
+    let is = subst (IsNumber c.args.limits file.head.now (content_of file.rows.now) t) c.in-Ok.is (c.in_ok-number.ensures.told early t (rests_said t _ stands)) in
     let there = asked_rests schema_one (Holds t) _ _ (c.in_ok-number.ensures.asks early) stands in
     let same : t.next ≡ c.in-Ok.number = sym (next_of c.args.limits file.head.now (content_of file.rows.now) t c.in-Ok.number is) in
     record {

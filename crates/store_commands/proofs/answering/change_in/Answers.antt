@@ -6,7 +6,7 @@ use Rattle.prof_store.specs.Shown.{shown}
 use Rattle.histories.specs.Legal.{IsLegal}
 use Rattle.histories.specs.declared.answers.Answer.TheVariants.{Refused}
 use Rattle.store_histories.specs.Answered.{Answers, TellsHistory, Follows}
-use Rattle.store_histories.specs.FromTables.{OrFailed}
+use Rattle.store_histories.specs.FromTables.{WasChangedIn}
 use Rattle.store_histories.proofs.Questions.{or_failed}
 use Rattle.store_histories.proofs.Settled.{closes_for, settled, turns_answer, untouched}
 use Rattle.store_commands.specs.Changes.{GroupsIn, change_said}
@@ -28,9 +28,11 @@ returns-in-Some g c = record {
         closes = closes_for c.change_group.result _ _ turned.stays;
         shut = c.change_group.ensures.shut clean;
       }));
-  found = λ named clean t stands.
-      subst₂ (λ l a. OrFailed (λ given. GroupsIn g.S.Store c.args.limits c.args.change l t given c.change_group.new.store) a) c.in-Some.ensures.0 (sym c.answer_of.ensures)
-      (or_failed _ c.change_group.result (c.change_group.ensures.found clean t stands));
+  found = λ named.
+      subst₂ (λ l a. WasChangedIn g.S.Store (GroupsIn c.args.limits c.args.change l) a c.args.store.now c.change_group.new.store) c.in-Some.ensures.0 (sym c.answer_of.ensures) (record {
+        told = λ clean t was. or_failed _ c.change_group.result (c.change_group.ensures.told clean t was);
+        made = λ clean t stands. or_failed _ c.change_group.result (c.change_group.ensures.made clean t stands);
+      });
   unnamed = λ none. absurd (none c.in-Some.ensures.1);
 }
 
@@ -48,6 +50,6 @@ returns-in-None g c = record {
         closes = λ usable. inl usable;
         shut = shut_none (shown g.S.Store c.args.store.now);
       };
-  found = λ named clean t stands. absurd (c.in-None.ensures named);
+  found = λ named. absurd (c.in-None.ensures named);
   unnamed = λ none. (ap Refused c.unnamed.ensures, refl);
 }

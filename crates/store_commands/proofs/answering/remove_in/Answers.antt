@@ -1,7 +1,7 @@
 use Rattle.std.proofs.Common.{sym, subst}
 use Rattle.histories.specs.History.{Remove}
 use Rattle.store_histories.specs.Answered.{Answers}
-use Rattle.store_histories.specs.FromTables.{OrFailed}
+use Rattle.store_histories.specs.FromTables.{WasChangedIn}
 use Rattle.store_histories.proofs.Questions.{or_failed}
 use Rattle.store_histories.proofs.Settled.{closes_for, settled, turns_answer}
 use Rattle.store_commands.specs.Changes.{RemovesIn}
@@ -18,5 +18,7 @@ returns g c = record {
         closes = closes_for c.remove.result _ _ turned.stays;
         shut = c.remove.ensures.shut clean;
       });
-  found = λ clean t stands. subst (OrFailed (λ a. RemovesIn g.S.Store c.args.number t a c.remove.new.store)) (sym c.answer_of.ensures) (or_failed _ c.remove.result (c.remove.ensures.found clean t stands));
+  found =
+      subst (λ a. WasChangedIn g.S.Store (RemovesIn c.args.number) a c.args.store.now c.remove.new.store) (sym c.answer_of.ensures)
+      (record { told = λ clean t was. or_failed _ c.remove.result (c.remove.ensures.told clean t was); made = λ clean t stands. or_failed _ c.remove.result (c.remove.ensures.made clean t stands) });
 }

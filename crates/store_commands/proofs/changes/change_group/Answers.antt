@@ -1,3 +1,4 @@
+use Rattle.std.specs.Bool.{⊤}
 use Rattle.std.proofs.Common.{◌≡◌, true, false, None, sym, ap, ◌∙◌, Some}
 use Rattle.sql_tables.proofs.Calls.{asked_rests, changed_asked, shut_answered, shut_asked}
 use Rattle.prof_tables.specs.Schema.{schema_one}
@@ -10,7 +11,8 @@ use Rattle.store_histories.proofs.After.{turns_after, done_after}
 use Rattle.store_histories.proofs.Due.{was_still}
 use Rattle.store_histories.proofs.Settled.{turns_err}
 use Rattle.store_commands.specs.Changes.{changed, change_said, refusal_for}
-use Rattle.store_commands.proofs.Dues.{change_form, change_due, done_in, due_if_free, stays_in, tell_changed}
+use Rattle.store_commands.proofs.Dues.{change_form, change_due, changed_in, done_in, due_if_free, refused_in, stays_in, tell_changed}
+use Rattle.prof_store.proofs.Told.{rests_said}
 use Rattle.store_commands.proofs.changes.change_group.Goals as goal
 
 pub returns-in_err-refusal-clause-turns : goal.returns-in_err-refusal-clause-turns
@@ -24,7 +26,7 @@ returns-in-Some-clause-answered g c clean h s =
     let name = c.args.name.now in
     let how = c.args.change in
     was_still limits h (change_said how name) (change_form how name c.requires) g.S.Store c.args.store.now c.refusal_of.new.store (Refused c.in-Some.refusal) tt
-    (change_due limits h how name s.t s.tells ∙ ap (λ r. Some (refused_or r Done)) (sym (c.in_ok-refusal.ensures.told clean s.t s.stands) ∙ c.in-Some.is)) s (asked_rests schema_one (Holds s.t) _ _ (c.in_ok-refusal.ensures.asks clean) s.stands)
+    (change_due limits h how name s.t s.tells ∙ ap (λ r. Some (refused_or r Done)) (sym (c.in_ok-refusal.ensures.told clean s.t (rests_said s.t _ s.stands)) ∙ c.in-Some.is)) s (asked_rests schema_one (Holds s.t) _ _ (c.in_ok-refusal.ensures.asks clean) s.stands)
 
 pub returns-in-Some-clause-turns : goal.returns-in-Some-clause-turns
 returns-in-Some-clause-turns g c clean = changed_asked schema_one TellsHistory (Follows c.args.limits (change_said c.args.change c.args.name.now)) true _ _ (c.in_ok-refusal.ensures.asks clean)
@@ -60,21 +62,21 @@ returns-clause-turns g c clean =
     turns_after limits (change_said how name) (change_form how name c.requires) (λ t. refusal_for limits how name t ≡ None) (changed how name) (λ h t. due_if_free limits h how name t) (λ h t. tell_changed limits h how name t) g.S.Store c.args.store.now c.refusal_of.new.store c.change_free.new.store
     (c.in_ok-refusal.ensures.asks early) (λ t was. sym (c.in_ok-refusal.ensures.told early t was) ∙ c.in_default.is) true true two
 
-pub returns-in-Some-clause-found : goal.returns-in-Some-clause-found
-returns-in-Some-clause-found g c clean t stands =
+pub returns-in-Some-clause-made : goal.returns-in-Some-clause-made
+returns-in-Some-clause-made g c clean t stands =
     let how = c.args.change in
     let name = c.args.name.now in
     stays_in g.S.Store t c.args.store.now c.refusal_of.new.store c.refusal_of.new.store (c.in_ok-refusal.ensures.asks clean) stands c.in-Some.refusal (refusal_for c.args.limits how name t) (changed how name)
-    (sym (c.in_ok-refusal.ensures.told clean t stands) ∙ c.in-Some.is)
+    (sym (c.in_ok-refusal.ensures.told clean t (rests_said t _ stands)) ∙ c.in-Some.is)
 
-pub returns-clause-found : goal.returns-clause-found
-returns-clause-found g c clean t stands =
+pub returns-clause-made : goal.returns-clause-made
+returns-clause-made g c clean t stands =
     let limits = c.args.limits in
     let how = c.args.change in
     let name = c.args.name.now in
     let two = c.in_ok-change_free.ensures.changes limits clean in
     let early = two.stays.was_clean in
-    let is = sym (c.in_ok-refusal.ensures.told early t stands) ∙ c.in_default.is in
+    let is = sym (c.in_ok-refusal.ensures.told early t (rests_said t _ stands)) ∙ c.in_default.is in
     done_in g.S.Store t c.args.store.now c.refusal_of.new.store c.change_free.new.store (c.in_ok-refusal.ensures.asks early) stands (λ t. refusal_for limits how name t ≡ None) (refusal_for limits how name t) (changed how name) is is two
 
 pub returns-in_err-refusal-clause-shut : goal.returns-in_err-refusal-clause-shut
@@ -88,3 +90,16 @@ returns-in_err-change_free-clause-shut g c clean = shut_answered schema_one _ _ 
 
 pub returns-clause-shut : goal.returns-clause-shut
 returns-clause-shut g c clean = shut_answered schema_one _ _ (shown g.S.Store c.change_free.new.store) (c.in_ok-refusal.ensures.asks (c.in_ok-change_free.ensures.changes c.args.limits clean).stays.was_clean)
+
+pub returns-in-Some-clause-told : goal.returns-in-Some-clause-told
+returns-in-Some-clause-told g c clean t was =
+    let how = c.args.change in
+    let name = c.args.name.now in
+    refused_in (λ _. ⊤) t (refusal_for c.args.limits how name t) (changed how name) c.in-Some.refusal (sym (c.in_ok-refusal.ensures.told clean t was) ∙ c.in-Some.is) tt
+
+pub returns-clause-told : goal.returns-clause-told
+returns-clause-told g c clean t was =
+    let how = c.args.change in
+    let name = c.args.name.now in
+    let early = (c.in_ok-change_free.ensures.changes c.args.limits clean).stays.was_clean in
+    changed_in (λ _. ⊤) t (refusal_for c.args.limits how name t) (changed how name) (sym (c.in_ok-refusal.ensures.told early t was) ∙ c.in_default.is) tt

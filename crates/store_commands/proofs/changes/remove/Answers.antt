@@ -1,3 +1,4 @@
+use Rattle.std.specs.Bool.{⊤}
 use Rattle.std.proofs.Common.{◌≡◌, true, false, sym, ap, ◌∙◌}
 use Rattle.sql_tables.proofs.Calls.{asked_rests, changed_asked, shut_answered, shut_asked}
 use Rattle.prof_tables.specs.Changes as tables
@@ -16,7 +17,8 @@ use Rattle.store_histories.specs.Refusals.{missing_of}
 use Rattle.store_histories.proofs.After.{turns_after, done_after}
 use Rattle.store_histories.proofs.Due.{was_still}
 use Rattle.store_histories.proofs.Settled.{turns_err}
-use Rattle.store_commands.proofs.Dues.{done_in, remove_due, due_if_run, stays_in}
+use Rattle.store_commands.proofs.Dues.{changed_in, done_in, refused_in, remove_due, due_if_run, stays_in}
+use Rattle.prof_store.proofs.Told.{rests_said}
 use Rattle.store_commands.proofs.changes.remove.Goals as goal
 
 pub returns-in_err-has_run-clause-turns : goal.returns-in_err-has_run-clause-turns
@@ -25,7 +27,7 @@ returns-in_err-has_run-clause-turns g c limits clean =
 
 pub returns-then-not-branch-clause-answered : goal.returns-then-not-branch-clause-answered
 returns-then-not-branch-clause-answered g c clean limits h s =
-    let is : has_run h c.args.number ≡ false = sym (tells_run h s.t s.tells c.args.number) ∙ sym (c.in_ok-has_run.ensures.told clean s.t s.stands) ∙ c.if-not-branch.true in
+    let is : has_run h c.args.number ≡ false = sym (tells_run h s.t s.tells c.args.number) ∙ sym (c.in_ok-has_run.ensures.told clean s.t (rests_said s.t _ s.stands)) ∙ c.if-not-branch.true in
     was_still limits h (Remove c.args.number) tt g.S.Store c.args.store.now c.has_run.new.self (Refused NoSuchRun) tt (remove_due limits h c.args.number false is) s (asked_rests schema_one (Holds s.t) _ _ (c.in_ok-has_run.ensures.asks clean) s.stands)
 
 pub returns-then-not-branch-clause-turns : goal.returns-then-not-branch-clause-turns
@@ -56,17 +58,17 @@ returns-clause-turns g c limits clean =
     turns_after limits (Remove n) tt (λ t. tables.has_run t n ≡ true) (without_run n) (λ h t. due_if_run limits h n t) (λ h t. tell_removed limits h n t) g.S.Store c.args.store.now c.has_run.new.self c.drop_run.new.self
     (c.in_ok-has_run.ensures.asks early) (λ t was. sym (c.in_ok-has_run.ensures.told early t was) ∙ c.if-not-branch.false) true true two
 
-pub returns-then-not-branch-clause-found : goal.returns-then-not-branch-clause-found
-returns-then-not-branch-clause-found g c clean t stands =
-    let is : tables.has_run t c.args.number ≡ false = sym (c.in_ok-has_run.ensures.told clean t stands) ∙ c.if-not-branch.true in
+pub returns-then-not-branch-clause-made : goal.returns-then-not-branch-clause-made
+returns-then-not-branch-clause-made g c clean t stands =
+    let is : tables.has_run t c.args.number ≡ false = sym (c.in_ok-has_run.ensures.told clean t (rests_said t _ stands)) ∙ c.if-not-branch.true in
     stays_in g.S.Store t c.args.store.now c.has_run.new.self c.has_run.new.self (c.in_ok-has_run.ensures.asks clean) stands NoSuchRun (missing_of true (tables.has_run t c.args.number)) (without_run c.args.number) (ap (missing_of true) is)
 
-pub returns-clause-found : goal.returns-clause-found
-returns-clause-found g c clean t stands =
+pub returns-clause-made : goal.returns-clause-made
+returns-clause-made g c clean t stands =
     let n = c.args.number in
     let two = c.in_ok-drop_run.ensures.changes clean in
     let early = two.stays.was_clean in
-    let is : tables.has_run t n ≡ true = sym (c.in_ok-has_run.ensures.told early t stands) ∙ c.if-not-branch.false in
+    let is : tables.has_run t n ≡ true = sym (c.in_ok-has_run.ensures.told early t (rests_said t _ stands)) ∙ c.if-not-branch.false in
     done_in g.S.Store t c.args.store.now c.has_run.new.self c.drop_run.new.self (c.in_ok-has_run.ensures.asks early) stands (λ t. tables.has_run t n ≡ true) (missing_of true (tables.has_run t n)) (without_run n) is
     (ap (missing_of true) is) two
 
@@ -81,3 +83,12 @@ returns-in_err-drop_run-clause-shut g c clean = shut_answered schema_one _ _ (sh
 
 pub returns-clause-shut : goal.returns-clause-shut
 returns-clause-shut g c clean = shut_answered schema_one _ _ (shown g.S.Store c.drop_run.new.self) (c.in_ok-has_run.ensures.asks (c.in_ok-drop_run.ensures.changes clean).stays.was_clean)
+
+pub returns-then-not-branch-clause-told : goal.returns-then-not-branch-clause-told
+returns-then-not-branch-clause-told g c clean t was =
+    refused_in (λ _. ⊤) t (missing_of true (tables.has_run t c.args.number)) (without_run c.args.number) NoSuchRun (ap (missing_of true) (sym (c.in_ok-has_run.ensures.told clean t was) ∙ c.if-not-branch.true)) tt
+
+pub returns-clause-told : goal.returns-clause-told
+returns-clause-told g c clean t was =
+    changed_in (λ _. ⊤) t (missing_of true (tables.has_run t c.args.number)) (without_run c.args.number)
+    (ap (missing_of true) (sym (c.in_ok-has_run.ensures.told (c.in_ok-drop_run.ensures.changes clean).stays.was_clean t was) ∙ c.if-not-branch.false)) tt

@@ -37,8 +37,8 @@ returns-in-Ok g c = record {
       record {
         outcomes = read.outcomes;
         came = read.came;
-        answered = inr (λ clean t stands. subst₂ (λ x a. OrFailed (IsAnnotated t c.args.selection c.args.event c.args.file x) a) text (sym c.answer_of.ensures)
-            (or_failed (IsAnnotated t c.args.selection c.args.event c.args.file c.from_vec-text.result) c.annotate_answer.result ((c.annotate_answer.ensures clean).told t stands)));
+        answered = inr (read.read.0, λ clean t was. subst₂ (λ x a. OrFailed (IsAnnotated t c.args.selection c.args.event c.args.file x) a) text (sym c.answer_of.ensures)
+            (or_failed (IsAnnotated t c.args.selection c.args.event c.args.file c.from_vec-text.result) c.annotate_answer.result ((c.annotate_answer.ensures clean).told t was)));
       };
 }
 

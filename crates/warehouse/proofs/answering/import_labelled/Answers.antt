@@ -3,7 +3,7 @@ use Rattle.sources.specs.Outcomes.{bytes_of}
 use Rattle.histories.specs.Legal.{file_due}
 use Rattle.histories.specs.History.{Import}
 use Rattle.store_histories.specs.Answered.{Answers}
-use Rattle.store_histories.specs.FromTables.{OrFailed}
+use Rattle.store_histories.specs.FromTables.{WasChangedIn}
 use Rattle.store_histories.proofs.Questions.{or_failed}
 use Rattle.store_histories.proofs.Settled.{closes_for, settled, turns_answer}
 use Rattle.run_imports.specs.FromTables.{IsTakenIn}
@@ -30,11 +30,13 @@ returns-in-Ok g c = record {
       };
   found =
       let read = c.in-Ok.ensures in
-      let Taken = IsTakenIn g.S.Store c.args.limits c.args.kind c.args.label.now c.in-Ok.taken c.take_in.new.store in
+      let says = IsTakenIn c.args.limits c.args.kind c.args.label.now c.in-Ok.taken in
+      let changed = subst (λ a. WasChangedIn g.S.Store says a c.args.store.now c.take_in.new.store) (sym c.answer_of.ensures)
+      (record { told = λ clean t was. or_failed _ c.take_in.result (c.take_in.ensures.told clean t was); made = λ clean t stands. or_failed _ c.take_in.result (c.take_in.ensures.made clean t stands) }) in
       record {
         outcomes = read.outcomes;
         came = read.came;
-        answered = inr (inr (c.in-Ok.taken, read.read.1, λ clean t stands. subst (OrFailed (Taken t)) (sym c.answer_of.ensures) (or_failed (Taken t) c.take_in.result (c.take_in.ensures.told clean t stands))));
+        answered = inr (inr (c.in-Ok.taken, read.read.0, read.read.1, changed));
       };
 }
 

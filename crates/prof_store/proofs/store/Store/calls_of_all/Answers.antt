@@ -7,15 +7,8 @@ use Rattle.prof_store.specs.Totals.{IsSum}
 use Rattle.prof_store.proofs.HeldSums.{sum_permuted, sum_seen, sum_shown}
 use Rattle.prof_tables.specs.Schema.{schema_one}
 use Rattle.sql_tables.proofs.Calls.{asked_err, asked_if}
+use Rattle.prof_store.proofs.Told.{count_told, said}
 use Rattle.prof_store.proofs.store.Store.calls_of_all.Goals as goal
-
-pub returns-clause-told : goal.returns-clause-told
-returns-clause-told g c clean t was =
-    let p = calls_listed _ _ c.in_ok-rows.rows.items was.schema_is (c.in_ok-rows.ensures.rows clean) in
-    let count = c.in_ok-column_sum.field-0 in
-    let is = c.in_ok-column_sum.ensures.read in
-    sum_shown (λ r. calls_seen (run_columns r)) 0 (λ (r : RunLine). r.call_count) (λ r. refl) t.runs count
-    (subst (λ l. IsSum 0 l count) (calls_are t _ was.holds) (sum_permuted 0 _ c.in_ok-rows.rows.items count p (subst (λ l. IsSum 0 l count) c.deref.ensures.value is)))
 
 pub returns-clause-found : goal.returns-clause-found
 returns-clause-found g c clean has =
@@ -23,6 +16,9 @@ returns-clause-found g c clean has =
     let count = c.in_ok-column_sum.field-0 in
     let is = c.in_ok-column_sum.ensures.read in
     sum_seen calls_seen 0 5 (λ r. refl) _ count (sum_permuted 0 _ c.in_ok-rows.rows.items count p (subst (λ l. IsSum 0 l count) c.deref.ensures.value is))
+
+pub returns-clause-told : goal.returns-clause-told
+returns-clause-told g c clean t was = count_told t _ (said t _ was.holds) c.in_ok-column_sum.field-0 (returns-clause-found g c clean was.schema_is)
 
 pub returns-clause-asks : goal.returns-clause-asks
 returns-clause-asks g c clean = c.in_ok-rows.ensures.asked clean call_counts_plain

@@ -3,7 +3,7 @@ use Rattle.sqlite_exec.proofs.MarkLemmas.{if_ok_then}
 use Rattle.sqlite.specs.Effect.{Database}
 use Rattle.sql_tables.proofs.Calls.{asked_rests, asked_then, asked_err}
 use Rattle.prof_tables.specs.Schema.{schema_one}
-use Rattle.prof_tables.specs.Tables.{Holds}
+use Rattle.prof_store.specs.Readings.{RowsSay}
 use Rattle.prof_store.specs.Groups.{AreGroupsIn, AreMembersIn, entry_group, member_line}
 use Rattle.prof_store.proofs.GroupMembers.{members_told}
 use Rattle.prof_store.proofs.Reading.{both_ok}
@@ -13,7 +13,7 @@ use Rattle.prof_store.proofs.store.Store.groups.Goals as goal
 pub returns-clause-told : goal.returns-clause-told
 returns-clause-told g c clean t was =
     let early = (c.groups_of.ensures.asks clean).stays.was_clean in
-    let mid = asked_rests schema_one (Holds t) _ _ (c.in_ok-members.ensures.asks early) was in
+    let mid = asked_rests schema_one (RowsSay t) _ _ (c.in_ok-members.ensures.asks early) was in
     let first = c.in_ok-members.ensures.told early t was in
     let each = both_ok _ _ c.groups_of.result c.groups_of.ensures.rising c.groups_of.ensures.members in
     if_ok_then c.groups_of.result (both_ok _ _ c.groups_of.result (c.groups_of.ensures.told clean t mid) each) (λ entries is.

@@ -11,14 +11,8 @@ use Rattle.prof_store.specs.declared.entries.GroupEntry.{GroupEntry}
 use Rattle.prof_store.proofs.Listing.{read_permutes, read_back, group_back, group_read}
 use Rattle.prof_tables.specs.Schema.{schema_one}
 use Rattle.sql_tables.proofs.Calls.{asked_err, asked_if}
+use Rattle.prof_store.proofs.Told.{groups_told, said}
 use Rattle.prof_store.proofs.store.Store.groups_of.Goals as goal
-
-pub returns-clause-told : goal.returns-clause-told
-returns-clause-told g c clean t was =
-    let p = groups_listed _ _ c.in_ok-rows.rows.items was.schema_is (c.in_ok-rows.ensures.rows clean) in
-    if_ok_then c.groups_in.result c.groups_in.ensures.groups (λ entries is.
-    let q = read_permutes group_seen first_two (λ (e : GroupEntry). group_columns (entry_group e)) (λ r. refl) _ c.in_ok-rows.rows.items entries.items p (is ∙ ap (map first_two) c.deref.ensures.value) in
-    read_back group_columns group_back group_read t.groups (map entry_group entries.items) (subst₂ IsPermutation (groups_are t _ was.holds) (sym (map-map group_columns entry_group entries.items)) q))
 
 pub returns-clause-found : goal.returns-clause-found
 returns-clause-found g c clean has =
@@ -26,6 +20,9 @@ returns-clause-found g c clean has =
     if_ok_then c.groups_in.result c.groups_in.ensures.groups (λ entries is.
     let q = read_permutes group_seen first_two (λ (e : GroupEntry). group_columns (entry_group e)) (λ r. refl) _ c.in_ok-rows.rows.items entries.items p (is ∙ ap (map first_two) c.deref.ensures.value) in
     subst (IsPermutation _) (sym (map-map group_columns entry_group entries.items)) q)
+
+pub returns-clause-told : goal.returns-clause-told
+returns-clause-told g c clean t was = if_ok_then c.groups_in.result (returns-clause-found g c clean was.schema_is) (λ entries. groups_told t _ (said t _ was.holds) (map entry_group entries.items))
 
 pub returns-clause-asks : goal.returns-clause-asks
 returns-clause-asks g c clean = asked_if schema_one (is_ok c.groups_in.result) _ _ (c.in_ok-rows.ensures.asked clean groups_plain)

@@ -3,14 +3,14 @@ use Rattle.prof_tables.proofs.Means.{find_group_plain}
 use Rattle.prof_tables.proofs.GroupFinds.{group_listed, group_there}
 use Rattle.prof_tables.specs.Schema.{schema_one}
 use Rattle.sql_tables.proofs.Calls.{asked_err}
+use Rattle.prof_store.proofs.Told.{has_group_told, said}
 use Rattle.prof_store.proofs.store.Store.has_group.Goals as goal
-
-pub returns-clause-told : goal.returns-clause-told
-returns-clause-told g c clean t was =
-    ap not (c.is_empty.ensures ∙ ap (λ l. length l == 0) c.as_slice.ensures.value) ∙ group_listed c.args.name.now _ _ c.in_ok-rows.rows.items was.schema_is (rw c.params-to_sql.ensures at (c.in_ok-rows.ensures.rows clean)) ∙ group_there c.args.name.now t _ was.holds
 
 pub returns-clause-found : goal.returns-clause-found
 returns-clause-found g c clean has = ap not (c.is_empty.ensures ∙ ap (λ l. length l == 0) c.as_slice.ensures.value) ∙ group_listed c.args.name.now _ _ c.in_ok-rows.rows.items has (rw c.params-to_sql.ensures at (c.in_ok-rows.ensures.rows clean))
+
+pub returns-clause-told : goal.returns-clause-told
+returns-clause-told g c clean t was = has_group_told t _ (said t _ was.holds) c.args.name.now _ (returns-clause-found g c clean was.schema_is)
 
 pub returns-clause-asks : goal.returns-clause-asks
 returns-clause-asks g c clean = c.in_ok-rows.ensures.asked clean find_group_plain

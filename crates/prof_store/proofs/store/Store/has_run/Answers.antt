@@ -1,16 +1,16 @@
-use Rattle.std.proofs.Common.{◌∙◌, ◌==◌, length, not, ap}
+use Rattle.std.proofs.Common.{◌∙◌, ◌==◌, length, not, ap, arith}
 use Rattle.prof_tables.proofs.Means.{kind_of_plain}
 use Rattle.prof_tables.proofs.RunFinds.{run_listed, run_there}
 use Rattle.prof_tables.specs.Schema.{schema_one}
 use Rattle.sql_tables.proofs.Calls.{asked_err}
+use Rattle.prof_store.proofs.Told.{has_run_told, said}
 use Rattle.prof_store.proofs.store.Store.has_run.Goals as goal
-
-pub returns-clause-told : goal.returns-clause-told
-returns-clause-told g c clean t was =
-    ap not (c.is_empty.ensures ∙ ap (λ l. length l == 0) c.as_slice.ensures.value) ∙ run_listed c.args.run _ _ c.in_ok-rows.rows.items was.schema_is (rw c.params-to_sql.ensures at (c.in_ok-rows.ensures.rows clean)) ∙ run_there c.args.run t _ was.holds
 
 pub returns-clause-found : goal.returns-clause-found
 returns-clause-found g c clean has = ap not (c.is_empty.ensures ∙ ap (λ l. length l == 0) c.as_slice.ensures.value) ∙ run_listed c.args.run _ _ c.in_ok-rows.rows.items has (rw c.params-to_sql.ensures at (c.in_ok-rows.ensures.rows clean))
+
+pub returns-clause-told : goal.returns-clause-told
+returns-clause-told g c clean t was = has_run_told t _ (said t _ was.holds) c.args.run _ (omega (arith, c.ranges)) (returns-clause-found g c clean was.schema_is)
 
 pub returns-clause-asks : goal.returns-clause-asks
 returns-clause-asks g c clean = c.in_ok-rows.ensures.asked clean kind_of_plain

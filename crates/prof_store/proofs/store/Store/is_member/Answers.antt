@@ -1,15 +1,16 @@
-use Rattle.std.proofs.Common.{ap, not, length, ◌==◌, ◌∙◌}
+use Rattle.std.proofs.Common.{ap, not, length, ◌==◌, ◌∙◌, arith}
 use Rattle.prof_tables.proofs.MemberFinds.{member_found, member_listed}
 use Rattle.prof_tables.proofs.Means.{find_member_plain}
 use Rattle.prof_tables.specs.Schema.{schema_one}
 use Rattle.sql_tables.proofs.Calls.{asked_err}
+use Rattle.prof_store.proofs.Told.{is_member_told, said}
 use Rattle.prof_store.proofs.store.Store.is_member.Goals as goal
-
-pub returns-clause-told : goal.returns-clause-told
-returns-clause-told g c clean t was = ap not (c.is_empty.ensures ∙ ap (λ l. length l == 0) c.as_slice.ensures.value) ∙ member_found c.args.name.now c.args.run t _ _ c.in_ok-rows.rows.items was (rw (c.params-to_sql.ensures, c.params-to_sql-2.ensures) at (c.in_ok-rows.ensures.rows clean))
 
 pub returns-clause-found : goal.returns-clause-found
 returns-clause-found g c clean has = ap not (c.is_empty.ensures ∙ ap (λ l. length l == 0) c.as_slice.ensures.value) ∙ member_listed c.args.name.now c.args.run _ _ c.in_ok-rows.rows.items has (rw (c.params-to_sql.ensures, c.params-to_sql-2.ensures) at (c.in_ok-rows.ensures.rows clean))
+
+pub returns-clause-told : goal.returns-clause-told
+returns-clause-told g c clean t was = is_member_told t _ (said t _ was.holds) c.args.name.now c.args.run _ (omega (arith, c.ranges)) (returns-clause-found g c clean was.schema_is)
 
 pub returns-clause-asks : goal.returns-clause-asks
 returns-clause-asks g c clean = c.in_ok-rows.ensures.asked clean find_member_plain

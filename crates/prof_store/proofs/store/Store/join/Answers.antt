@@ -5,6 +5,7 @@ use Rattle.prof_tables.specs.Changes.{has_member, joined, with_member}
 use Rattle.prof_tables.specs.Schema.{schema_one}
 use Rattle.prof_tables.specs.Tables.{Holds}
 use Rattle.prof_store.specs.Shown.{shown}
+use Rattle.prof_store.proofs.Told.{rests_said}
 use Rattle.prof_store.proofs.store.Store.join.Goals as goal
 
 pub returns : goal.returns
@@ -15,7 +16,7 @@ returns g c = record {
       let two = c.put_member.ensures.changes clean in
       let early = two.stays.was_clean in
       changed_as schema_one Holds (λ t. Holds (with_member name run t)) Holds (λ t. Holds (joined name run t)) (is_ok c.put_member.result) (is_ok c.put_member.result) _ _
-      (λ t was. (t, was, λ next h. subst (λ b. Holds (if b then t else with_member name run t) next) (let e : has_member t name run ≡ false = sym (c.in_ok-is_member.ensures.told early t was) ∙ c.if-branch.false in sym e) h))
+      (λ t was. (t, was, λ next h. subst (λ b. Holds (if b then t else with_member name run t) next) (let e : has_member t name run ≡ false = sym (c.in_ok-is_member.ensures.told early t (rests_said t _ was)) ∙ c.if-branch.false in sym e) h))
       (changed_then schema_one Holds (λ t. Holds (with_member name run t)) (is_ok c.put_member.result) (is_ok c.put_member.result) _ _ _ (c.in_ok-is_member.ensures.asks early) two);
 }
 
@@ -25,7 +26,7 @@ returns-then-branch g c = record {
       let name = c.args.name.now in
       let run = c.args.run in
       changed_idle schema_one Holds (λ t. Holds (joined name run t)) _ _ (c.in_ok-is_member.ensures.asks clean)
-      (λ t was. subst (λ b. Holds (if b then t else with_member name run t) (shown g.S.Store c.args.self.now).now.trees) (let e : has_member t name run ≡ true = sym (c.in_ok-is_member.ensures.told clean t was) ∙ c.if-branch.true in sym e) was.holds);
+      (λ t was. subst (λ b. Holds (if b then t else with_member name run t) (shown g.S.Store c.args.self.now).now.trees) (let e : has_member t name run ≡ true = sym (c.in_ok-is_member.ensures.told clean t (rests_said t _ was)) ∙ c.if-branch.true in sym e) was.holds);
 }
 
 pub returns-in_err-is_member : goal.returns-in_err-is_member

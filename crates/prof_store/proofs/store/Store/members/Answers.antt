@@ -11,14 +11,8 @@ use Rattle.prof_store.specs.declared.groups.Member.{Member}
 use Rattle.prof_store.proofs.Listing.{read_permutes, read_back, member_back, member_read}
 use Rattle.prof_tables.specs.Schema.{schema_one}
 use Rattle.sql_tables.proofs.Calls.{asked_err, asked_if}
+use Rattle.prof_store.proofs.Told.{members_told, said}
 use Rattle.prof_store.proofs.store.Store.members.Goals as goal
-
-pub returns-clause-told : goal.returns-clause-told
-returns-clause-told g c clean t was =
-    let p = members_listed _ _ c.in_ok-rows.rows.items was.schema_is (c.in_ok-rows.ensures.rows clean) in
-    if_ok_then c.read_rows.result c.read_rows.ensures (λ members is.
-    let q = read_permutes member_seen first_two (λ (m : Member). member_columns (member_line m)) (λ r. refl) _ c.in_ok-rows.rows.items members.items p (is ∙ ap (map first_two) c.deref.ensures.value) in
-    read_back member_columns member_back member_read t.members (map member_line members.items) (subst₂ IsPermutation (members_are t _ was.holds) (sym (map-map member_columns member_line members.items)) q))
 
 pub returns-clause-found : goal.returns-clause-found
 returns-clause-found g c clean has =
@@ -26,6 +20,9 @@ returns-clause-found g c clean has =
     if_ok_then c.read_rows.result c.read_rows.ensures (λ members is.
     let q = read_permutes member_seen first_two (λ (m : Member). member_columns (member_line m)) (λ r. refl) _ c.in_ok-rows.rows.items members.items p (is ∙ ap (map first_two) c.deref.ensures.value) in
     subst (IsPermutation _) (sym (map-map member_columns member_line members.items)) q)
+
+pub returns-clause-told : goal.returns-clause-told
+returns-clause-told g c clean t was = if_ok_then c.read_rows.result (returns-clause-found g c clean was.schema_is) (λ members. members_told t _ (said t _ was.holds) (map member_line members.items))
 
 pub returns-clause-asks : goal.returns-clause-asks
 returns-clause-asks g c clean = asked_if schema_one (is_ok c.read_rows.result) _ _ (c.in_ok-rows.ensures.asked clean members_plain)

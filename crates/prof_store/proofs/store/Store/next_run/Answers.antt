@@ -3,14 +3,8 @@ use Rattle.prof_tables.proofs.Means.{next_plain}
 use Rattle.prof_tables.proofs.Finds.{next_found, next_is}
 use Rattle.prof_tables.specs.Schema.{schema_one}
 use Rattle.sql_tables.proofs.Calls.{asked_err, asked_if}
+use Rattle.prof_store.proofs.Told.{next_told, said}
 use Rattle.prof_store.proofs.store.Store.next_run.Goals as goal
-
-pub returns-clause-told : goal.returns-clause-told
-returns-clause-told g c clean t was =
-    let it = next_found _ _ _ was.schema_is (c.in_ok-row.ensures.row clean) in
-    let n = c.in_ok-number_at.field-0 in
-    let is = c.in_ok-number_at.ensures.read in
-    next_is t _ it.0 n was.holds it.1 (sym it.2 ∙ is)
 
 pub returns-clause-found : goal.returns-clause-found
 returns-clause-found g c clean has =
@@ -18,6 +12,9 @@ returns-clause-found g c clean has =
     let n = c.in_ok-number_at.field-0 in
     let is = c.in_ok-number_at.ensures.read in
     (it.0, it.1, sym it.2 ∙ is)
+
+pub returns-clause-told : goal.returns-clause-told
+returns-clause-told g c clean t was = next_told t _ (said t _ was.holds) c.in_ok-number_at.field-0 (returns-clause-found g c clean was.schema_is)
 
 pub returns-clause-asks : goal.returns-clause-asks
 returns-clause-asks g c clean = c.in_ok-row.ensures.asked clean next_plain

@@ -11,21 +11,8 @@ use Rattle.prof_tables.proofs.Means.{by_digest_means, by_digest_plain}
 use Rattle.prof_store.specs.Statements.{row_or_none}
 use Rattle.sql_tables.proofs.Calls.{asked_err, asked_if}
 use Rattle.prof_store.proofs.Reading.{either_found}
+use Rattle.prof_store.proofs.Told.{digest_told, said}
 use Rattle.prof_store.proofs.store.Store.run_of_digest.Goals as goal
-
-pub returns-clause-told : goal.returns-clause-told
-returns-clause-told g c clean t was =
-    let digest = c.args.digest.now in
-    let old = shown g.S.Store c.args.self.now in
-    let new = state g.S.Store c.select_first.new.conn in
-    let row = rw c.params-to_sql.ensures at (c.in_ok-row.ensures.row clean) in
-    let found = c.in_ok-number_in.field-0 in
-    let is = c.in_ok-number_in.ensures.read in
-    either_found found is
-    (λ none. no_run_of t _ digest was.holds (digest_absent digest old new was.schema_is (none_there schema_one by_digest_sql _ _ by_digest_means by_digest_plain (Blob digest ∷ []) old new was.schema_is (subst (λ r. QueriesRow by_digest_sql (Blob digest ∷ []) old new (row_or_none r)) none row))))
-    (λ n some.
-    let it = digest_found digest old new was.schema_is some.0 (subst (λ r. QueriesRow by_digest_sql (Blob digest ∷ []) old new (row_or_none r)) some.1 row) in
-    run_of t _ digest n was.holds it.0 it.1 it.2 (sym it.3 ∙ some.2))
 
 pub returns-clause-found : goal.returns-clause-found
 returns-clause-found g c clean has =
@@ -40,6 +27,9 @@ returns-clause-found g c clean has =
     (λ n some.
     let it = digest_found digest old new has some.0 (subst (λ r. QueriesRow by_digest_sql (Blob digest ∷ []) old new (row_or_none r)) some.1 row) in
     (it.0, it.1, it.2, sym it.3 ∙ some.2))
+
+pub returns-clause-told : goal.returns-clause-told
+returns-clause-told g c clean t was = digest_told t _ (said t _ was.holds) c.args.digest.now c.in_ok-number_in.field-0 (returns-clause-found g c clean was.schema_is)
 
 pub returns-clause-asks : goal.returns-clause-asks
 returns-clause-asks g c clean = c.in_ok-row.ensures.asked clean by_digest_plain

@@ -5,12 +5,14 @@ use Rattle.sqlite_keyed.proofs.ListLemmas.{map-map}
 use Rattle.sql_tables.proofs.Orders.{rising}
 use Rattle.prof_tables.specs.Seen.{run_seen}
 use Rattle.prof_tables.proofs.Means.{runs_plain}
-use Rattle.prof_tables.proofs.Lists.{runs_listed, runs_in_order, numbered_table}
+use Rattle.prof_tables.proofs.Lists.{runs_listed, numbered_table}
 use Rattle.prof_store.specs.Entries.{entry_run, held_columns, entry_columns, first_four}
 use Rattle.prof_books.specs.Entries.{HeldRun, held_run}
 use Rattle.prof_store.specs.declared.entries.RunEntry.{RunEntry}
 use Rattle.prof_store.proofs.Listing.{read_permutes, map_injective}
 use Rattle.prof_store.proofs.Reading.{both_ok}
+use Rattle.prof_store.proofs.Readings.{shown_read}
+use Rattle.prof_store.proofs.Told.{runs_in_order, said}
 use Rattle.prof_tables.specs.Schema.{schema_one}
 use Rattle.sql_tables.proofs.Calls.{asked_err, asked_if}
 use Rattle.prof_store.proofs.store.Store.runs.Goals as goal
@@ -29,7 +31,7 @@ returns-clause-told g c clean t was =
     if_ok_then c.read_rising.result (both_ok _ _ c.read_rising.result c.read_rising.ensures.read c.read_rising.ensures.rising) (λ entries is.
     let q = read_permutes run_seen first_four entry_columns (λ r. refl) _ c.in_ok-rows.rows.items entries.items p (is.0 ∙ ap (map first_four) c.deref.ensures.value) in
     let up = numbered_table entry_columns (λ (e : RunEntry). e.number) (λ e. refl) entries.items (rising (λ (e : RunEntry). e.number) entries.items is.1) in
-    let same = runs_in_order t _ was.holds (map entry_columns entries.items) up q in
+    let same = runs_in_order t _ (said t _ was.holds) (map entry_columns entries.items) (shown_read (said t _ was.holds).far entry_columns (λ e. refl) entries.items) up q in
     map_injective held_columns same_held (map entry_run entries.items) (map held_run t.runs) (map-map held_columns entry_run entries.items ∙ same ∙ sym (map-map held_columns held_run t.runs)))
 
 pub returns-clause-found : goal.returns-clause-found

@@ -8,19 +8,8 @@ use Rattle.prof_books.specs.Totals.{lines_named}
 use Rattle.prof_store.proofs.HeldSums.{sum_permuted, sum_seen, sum_shown}
 use Rattle.prof_tables.specs.Schema.{schema_one}
 use Rattle.sql_tables.proofs.Calls.{asked_err, asked_if}
+use Rattle.prof_store.proofs.Told.{sums_told, said}
 use Rattle.prof_store.proofs.store.Store.sums_of.Goals as goal
-
-pub returns-clause-told : goal.returns-clause-told
-returns-clause-told g c clean t was =
-    let name = c.args.name.now in
-    let p = sums_listed name _ _ c.in_ok-rows.rows.items was.schema_is (rw c.params-to_sql.ensures at (c.in_ok-rows.ensures.rows clean)) in
-    let lines = lines_named name t in
-    let sums = c.in_ok-sums_in.field-0 in (
-      sum_shown sums_shown 0 (λ (e : EventLine). e.self_cost) (λ e. refl) lines sums.own
-          (subst (λ l. IsSum 0 l sums.own) (sums_are t _ was.holds name) (sum_permuted 0 _ c.in_ok-rows.rows.items sums.own p (subst (λ l. IsSum 0 l sums.own) c.deref.ensures.value c.in_ok-sums_in.ensures.own))),
-      sum_shown sums_shown 1 (λ (e : EventLine). e.call_cost) (λ e. refl) lines sums.calls
-          (subst (λ l. IsSum 1 l sums.calls) (sums_are t _ was.holds name) (sum_permuted 1 _ c.in_ok-rows.rows.items sums.calls p (subst (λ l. IsSum 1 l sums.calls) c.deref.ensures.value c.in_ok-sums_in.ensures.calls))),
-    )
 
 pub returns-clause-found : goal.returns-clause-found
 returns-clause-found g c clean has =
@@ -30,6 +19,9 @@ returns-clause-found g c clean has =
       sum_seen sums_seen 0 4 (λ r. refl) _ sums.own (sum_permuted 0 _ c.in_ok-rows.rows.items sums.own p (subst (λ l. IsSum 0 l sums.own) c.deref.ensures.value c.in_ok-sums_in.ensures.own)),
       sum_seen sums_seen 1 5 (λ r. refl) _ sums.calls (sum_permuted 1 _ c.in_ok-rows.rows.items sums.calls p (subst (λ l. IsSum 1 l sums.calls) c.deref.ensures.value c.in_ok-sums_in.ensures.calls)),
     )
+
+pub returns-clause-told : goal.returns-clause-told
+returns-clause-told g c clean t was = sums_told t _ (said t _ was.holds) c.args.name.now c.in_ok-sums_in.field-0 (returns-clause-found g c clean was.schema_is)
 
 pub returns-clause-asks : goal.returns-clause-asks
 returns-clause-asks g c clean = c.in_ok-rows.ensures.asked clean sums_of_plain

@@ -4,7 +4,7 @@ use Rattle.std.proofs.lemmas.List.Elements.{All-push}
 use Rattle.sqlite.specs.Effect.{Database}
 use Rattle.sql_tables.proofs.Calls.{asked_more, asked_rests_yet}
 use Rattle.prof_tables.specs.Schema.{schema_one}
-use Rattle.prof_tables.specs.Tables.{Holds}
+use Rattle.prof_store.specs.Readings.{RowsSay}
 use Rattle.prof_store.specs.Shown.{shown}
 use Rattle.prof_store.specs.Totals.{AreSums, IsSum, rows_named}
 use Rattle.prof_books.specs.Totals.{held_self, held_calls}
@@ -36,7 +36,7 @@ events-preserved g c =
       told = λ clean t was.
           let one = s.asks clean in
           let early = one.stays.was_clean in
-          let told = s.told clean t (asked_rests_yet schema_one (Holds t) old mid (i.asked early) was) in
+          let told = s.told clean t (asked_rests_yet schema_one (RowsSay t) old mid (i.asked early) was) in
           let far = i.told early t was in (
             pushed_own ∙ ap (λ n. own ++ n ∷ []) (told.0 ∙ ap (held_self t) named) ∙ sym (read_on (held_self t) events k name own low is (sym far.0)),
             pushed_calls ∙ ap (λ n. calls ++ n ∷ []) (told.1 ∙ ap (held_calls t) named) ∙ sym (read_on (held_calls t) events k name calls low is (sym far.1)),

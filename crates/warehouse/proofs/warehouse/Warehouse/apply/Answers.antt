@@ -1,8 +1,7 @@
 use Rattle.std.proofs.Common.{◌≡◌, refl, sym, ap, subst}
 use Rattle.histories.specs.History.{Annotate, Import, Remove, Ask}
 use Rattle.prof_tables.specs.Labels.{IsGroupName}
-use Rattle.prof_store.specs.Shown.{Tells}
-use Rattle.store_histories.specs.FromTables.{OrFailed}
+use Rattle.store_histories.specs.FromTables.{WasChangedIn}
 use Rattle.store_commands.specs.Changes.{GroupsIn, change_said}
 use Rattle.warehouse.specs.Answered.{Says}
 use Rattle.warehouse.specs.FromTables.{IsFoundIn, WasImported}
@@ -63,7 +62,7 @@ pub returns-in-Group-clause-found : goal.returns-in-Group-clause-found
 returns-in-Group-clause-found g c =
     let limits = c.args.self.now.limits in
     let name : c.as_slice-in-Group.result.now ≡ c.in-Group.name.items = c.as_slice-in-Group.ensures.value in
-    let found = subst (λ l. IsGroupName l → Tells g.S.Store c.args.self.now.store c.change_in.new.store (λ t. OrFailed (λ given. GroupsIn g.S.Store limits c.in-Group.change l t given c.change_in.new.store) c.change_in.result))
+    let found = subst (λ l. IsGroupName l → WasChangedIn g.S.Store (GroupsIn limits c.in-Group.change l) c.change_in.result c.args.self.now.store c.change_in.new.store)
     name c.change_in.ensures.found in
     subst (λ k. IsFoundIn g.S.Store g.R.Source.reads limits k c.change_in.result c.args.self.now.store c.change_in.new.store) (sym c.in-Group.is) found
 
