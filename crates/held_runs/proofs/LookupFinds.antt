@@ -1,25 +1,18 @@
 -- What the texts that look at one run or one group find.
-use Rattle.std.proofs.Common.{◌≡◌, inl, ℕ, List, [], ◌∷◌, true, eqb, Option, None, Some, Ok, bytes_eq, refl, sym, ap, ◌∙◌, arith}
-use Rattle.std.proofs.lemmas.Bool.Decides.{nat_tests}
-use Rattle.std.proofs.lemmas.Slice.Eq.{bytes_eq-Decides}
+use Rattle.std.proofs.Common.{◌≡◌, inl, ℕ, List, [], ◌∷◌, Option, Ok, refl, sym, ap, ◌∙◌}
 use Rattle.sqlite_value.specs.declared.value.Value.TheVariants.{Text}
 use Rattle.sqlite_value.specs.Order.{Row, column}
-use Rattle.sqlite_trees.specs.Tree.{Trees}
 use Rattle.sqlite_tied.proofs.RuleLemmas.{and_true}
 use Rattle.sqlite.specs.State.{State, QueriesRow}
 use Rattle.sql_tables.proofs.Queries.{shown_row}
-use Rattle.sql_tables.proofs.Rows.{numbers_equal, texts_equal}
 use Rattle.sql_tables.proofs.Selects.{selected_first}
-use Rattle.sql_tables.proofs.Updates.{entry_there}
-use Rattle.prof_tables.specs.Schema.{schema_one, grp_at}
-use Rattle.prof_tables.specs.Seen.{is_at}
-use Rattle.prof_tables.specs.Tables.{Tables, Holds, group_columns, number, number_or_null}
+use Rattle.prof_tables.specs.Schema.{schema_one}
+use Rattle.prof_tables.specs.Tables.{number, number_or_null}
 use Rattle.prof_tables.specs.Texts.{kind_of_sql}
-use Rattle.prof_tables.proofs.Finds.{run_row}
 use Rattle.prof_tables.proofs.Means.{kind_of_terms, kind_of_shown, kind_of_order, kind_of_means, kind_of_plain, kind_of_unlisted}
 use Rattle.profile_records.specs.Kinds.{kind_number}
 use Rattle.profile_records.specs.declared.kinds.Kind.{Kind}
-use Rattle.held_runs.specs.Lookups.{IsKindOf, IsKindAt, IsBaselineOf, IsBaselineAt}
+use Rattle.held_runs.specs.Lookups.{IsKindAt, IsBaselineAt}
 use Rattle.held_runs.specs.RunTexts.{baseline_of_sql}
 use Rattle.held_runs.proofs.RunTexts.{baseline_of_terms, baseline_of_shown, baseline_of_order, baseline_of_means, baseline_of_plain, baseline_of_unlisted}
 

@@ -1,18 +1,15 @@
 -- The names that are held: as the query lists them, and found by their numbers.
-use Rattle.std.proofs.Common.{◌≡◌, ◌≢◌, ℕ, zero, suc, ◌<◌, ◌≤◌, List, [], ◌∷◌, map, length, get_or, true, false, eqb, refl, sym, ap, ap₂, ◌∙◌, IsPermutation, arith}
+use Rattle.std.proofs.Common.{◌≡◌, ◌≢◌, ℕ, zero, suc, ◌<◌, ◌≤◌, List, [], ◌∷◌, map, length, get_or, true, false, eqb, refl, ap₂, IsPermutation, arith}
 use Rattle.std.specs.List.{AllByRecursion}
 use Rattle.std.specs.List.Sorted.{IsNonDecreasingBy}
 use Rattle.std.proofs.lemmas.Bool.Decides.{nat_tests}
-use Rattle.sqlite_keyed.proofs.ListLemmas.{map-map}
 use Rattle.sqlite_value.specs.Order.{Row}
-use Rattle.sqlite_trees.specs.Tree.{Trees, IsTable, IsAscending}
+use Rattle.sqlite_trees.specs.Tree.{IsAscending}
 use Rattle.sqlite.specs.State.{State, Shown}
-use Rattle.sql_tables.proofs.Contents.{content_there}
-use Rattle.sql_tables.proofs.InPlace.{map_table}
-use Rattle.sql_tables.proofs.Orders.{all_shown, same_permuted}
+use Rattle.sql_tables.proofs.Orders.{all_shown}
 use Rattle.sql_tables.proofs.Selects.{selected}
-use Rattle.prof_tables.specs.Schema.{schema_one, name_at}
-use Rattle.prof_tables.specs.Tables.{Tables, Holds, NameLine, name_columns, contents_of}
+use Rattle.prof_tables.specs.Schema.{schema_one}
+use Rattle.prof_tables.specs.Tables.{NameLine}
 use Rattle.prof_tables.specs.Texts.{names_sql}
 use Rattle.prof_tables.proofs.Means.{names_shown, names_order, names_means, names_plain, names_unlisted}
 use Rattle.prof_books.specs.Book.{name_of, IsHeld}

@@ -1,42 +1,21 @@
 -- The numbers of runs as the queries list them, and that members are runs that are held.
-use Rattle.std.proofs.Common.{◌≡◌, ◌<◌, ◌&&◌, ℕ, List, [], ◌∷◌, map, filter, Bool, true, false, cond, eqb, bytes_eq, refl, sym, ap, subst, ◌∙◌, codes, Some, IsPermutation, arith, suc, get_or, ◌^◌}
-use Rattle.std.specs.List.{AllByRecursion, list_any}
-use Rattle.std.specs.declared.cmp.Ordering.TheVariants.{Less}
-use Rattle.std.proofs.lemmas.Bool.{and_parts, and_from}
-use Rattle.std.proofs.lemmas.Bool.Decides.{nat_tests}
-use Rattle.std.proofs.lemmas.List.Sorted.{IsPermutation-sym}
-use Rattle.sqlite_keyed.proofs.ListLemmas.{map-map}
-use Rattle.sqlite_value.specs.declared.value.Value.{Value}
-use Rattle.sqlite_value.specs.declared.value.Value.TheVariants.{Int, Text}
-use Rattle.sqlite_value.specs.declared.keys.Collation.TheVariants.{Binary}
-use Rattle.sqlite_value.specs.Order.{Row, column, value_cmp}
-use Rattle.sqlite_value.specs.Keys.{first_key, plain}
-use Rattle.sqlite_trees.specs.Tree.{Trees, IsTable, IsAscending, rowid}
-use Rattle.sqlite_sql.specs.Ops.{binary, is_true}
-use Rattle.sqlite_sql.specs.declared.ops.BinaryOp.TheVariants.{Compare}
-use Rattle.sqlite_sql.specs.declared.ops.CompareOp.TheVariants.{Eq}
-use Rattle.sqlite_schema.specs.declared.schema.Constraint.TheVariants.{ForeignKey}
-use Rattle.sqlite_schema.specs.Rules.{agree, has_parent, is_held, parent_key}
-use Rattle.sqlite_rules.specs.Lists.{Has}
-use Rattle.sqlite_rules.proofs.ListLemmas.{all_has, all_from, some_has, some_from}
-use Rattle.sqlite_rules.proofs.ProbeLemmas.{has_mapped, mapped_has}
+use Rattle.std.proofs.Common.{◌≡◌, ◌<◌, ℕ, List, [], ◌∷◌, map, refl, subst, codes, Some, IsPermutation, suc, get_or, ◌^◌}
+use Rattle.std.specs.List.{AllByRecursion}
+use Rattle.sqlite_value.specs.declared.value.Value.TheVariants.{Text}
+use Rattle.sqlite_value.specs.Order.{Row}
+use Rattle.sqlite_value.specs.Keys.{plain}
+use Rattle.sqlite_trees.specs.Tree.{IsTable, IsAscending, rowid}
+use Rattle.sqlite_schema.specs.Rules.{parent_key}
 use Rattle.sqlite_tied.proofs.RuleLemmas.{and_true}
 use Rattle.sqlite_tied.specs.Compute.{everything}
 use Rattle.sqlite.specs.State.{State, Shown}
-use Rattle.sql_tables.proofs.Cascades.{row_there}
-use Rattle.sql_tables.proofs.InPlace.{map_table, same_rows}
-use Rattle.sql_tables.proofs.Orders.{all_shown, answer_permutes, same_permuted, seen_picked}
-use Rattle.sql_tables.proofs.Queries.{has_kept, kept_has, has_permuted}
-use Rattle.sql_tables.proofs.Rows.{passes, filter_same_on, numbers_equal, texts_equal}
+use Rattle.sql_tables.proofs.Orders.{all_shown, answer_permutes}
+use Rattle.sql_tables.proofs.Rows.{passes, filter_same_on}
 use Rattle.sql_tables.proofs.Selects.{selected}
-use Rattle.prof_tables.specs.Changes.{is_member, has_member}
-use Rattle.prof_tables.specs.Schema.{schema_one, member_at, to}
+use Rattle.prof_tables.specs.Schema.{schema_one, to}
 use Rattle.prof_tables.specs.Seen.{is_at, run_of_member_seen}
-use Rattle.prof_tables.specs.Tables.{Tables, Holds, RunLine, MemberLine, run_columns, member_columns, number}
-use Rattle.prof_tables.proofs.Finds.{run_row}
 use Rattle.prof_tables.proofs.Lists.{numbered_table}
-use Rattle.prof_store.proofs.Listing.{map_injective}
-use Rattle.held_runs.specs.RunNumbers.{first_one, number_shown, numbers_in_tables, numbers_in_rows, members_in_tables, members_in_rows}
+use Rattle.held_runs.specs.RunNumbers.{number_shown, numbers_in_rows, members_in_rows}
 use Rattle.held_runs.specs.RunTexts.{run_numbers_sql, members_of_sql}
 use Rattle.held_runs.proofs.RunTexts.{run_numbers_shown, run_numbers_order, run_numbers_means, run_numbers_plain, run_numbers_unlisted, members_of_terms, members_of_shown, members_of_order, members_of_means, members_of_plain, members_of_unlisted}
 

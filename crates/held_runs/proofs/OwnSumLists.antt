@@ -1,22 +1,22 @@
 -- The own sums of a run: as the query lists them, and by place.
-use Rattle.std.proofs.Common.{◌≡◌, ◌==◌, ◌++◌, ◌+◌, ◌<◌, ℕ, suc, List, [], ◌∷◌, map, take, filter, length, get_or, refl, sym, ap, ap₂, subst, ◌∙◌, arith, pos, IsPermutation}
+use Rattle.std.proofs.Common.{◌≡◌, ◌++◌, ◌+◌, ◌<◌, ℕ, suc, List, [], ◌∷◌, map, take, filter, length, get_or, refl, sym, ap, ap₂, subst, ◌∙◌, arith, pos, IsPermutation}
 use Rattle.std.specs.List.{AllByRecursion}
 use Rattle.std.specs.declared.cmp.Ordering.TheVariants.{Less}
 use Rattle.sqlite_value.specs.declared.value.Value.TheVariants.{Int}
 use Rattle.sqlite_value.specs.Order.{Row, column, value_cmp}
-use Rattle.sqlite_trees.specs.Tree.{Trees, IsTable, rowid}
+use Rattle.sqlite_trees.specs.Tree.{IsTable, rowid}
 use Rattle.sqlite_tied.proofs.RuleLemmas.{and_true}
 use Rattle.sqlite.specs.State.{State, Shown}
-use Rattle.sql_tables.proofs.Orders.{answer_permutes, same_permuted, seen_picked}
-use Rattle.sql_tables.proofs.Rows.{passes, filter_same_on, numbers_equal}
+use Rattle.sql_tables.proofs.Orders.{answer_permutes, same_permuted}
+use Rattle.sql_tables.proofs.Rows.{passes, filter_same_on}
 use Rattle.sql_tables.proofs.Selects.{selected}
 use Rattle.prof_tables.specs.Schema.{schema_one}
 use Rattle.prof_tables.specs.Seen.{is_at}
-use Rattle.prof_tables.specs.Tables.{Tables, Holds, EventLine, event_columns, number}
+use Rattle.prof_tables.specs.Tables.{EventLine, number}
 use Rattle.prof_tables.proofs.Values.{number_below}
 use Rattle.prof_store.proofs.Listing.{read_on, read_permutes}
 use Rattle.held_runs.specs.HeadLines.{first_two}
-use Rattle.held_runs.specs.OwnSums.{own_seen, own_shown, sums_from, events_of_run, AreOwnSums, IsByPlace}
+use Rattle.held_runs.specs.OwnSums.{own_seen, own_shown, sums_from, AreOwnSums, IsByPlace}
 use Rattle.held_runs.specs.RunTexts.{own_sums_sql}
 use Rattle.held_runs.proofs.RunTexts.{own_sums_terms, own_sums_shown, own_sums_order, own_sums_means, own_sums_plain, own_sums_unlisted}
 

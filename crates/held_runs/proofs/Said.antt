@@ -1,5 +1,5 @@
 -- What is found in rows of runs tells of the lines as which they are read.
-use Rattle.std.proofs.Common.{◌≡◌, ℕ, suc, ◌≤◌, ◌<◌, ◌^◌, ◌==◌, ◌&&◌, ◌||◌, pos, List, [], ◌∷◌, map, drop, filter, Bool, true, false, cond, eqb, bytes_eq, Option, Some, None, option_map, string_bytes, refl, sym, ap, ap₂, subst, subst₂, ◌∙◌, inl, inr, codes, arith, IsPermutation}
+use Rattle.std.proofs.Common.{◌≡◌, ℕ, suc, ◌≤◌, ◌<◌, ◌^◌, ◌==◌, ◌&&◌, ◌||◌, List, [], ◌∷◌, map, filter, Bool, true, false, cond, eqb, bytes_eq, Option, Some, None, option_map, string_bytes, refl, sym, ap, subst, subst₂, ◌∙◌, codes, arith, IsPermutation}
 use Rattle.std.specs.List.{AllByRecursion, AllZip, list_any}
 use Rattle.std.specs.declared.cmp.Ordering.TheVariants.{Less}
 use Rattle.std.proofs.lemmas.Bool.{and_parts, and_from}
@@ -7,8 +7,7 @@ use Rattle.std.proofs.lemmas.Bool.Decides.{nat_tests}
 use Rattle.std.proofs.lemmas.List.Sorted.{IsPermutation-map, IsPermutation-sym}
 use Rattle.std.proofs.lemmas.Slice.Eq.{bytes_eq-Decides}
 use Rattle.sqlite_keyed.proofs.ListLemmas.{map-map}
-use Rattle.sqlite_value.specs.declared.value.Value.{Value}
-use Rattle.sqlite_value.specs.declared.value.Value.TheVariants.{Int, Text, Blob}
+use Rattle.sqlite_value.specs.declared.value.Value.TheVariants.{Text, Blob}
 use Rattle.sqlite_value.specs.Keys.{first_key, plain}
 use Rattle.sqlite_value.specs.Order.{Row, column, value_cmp}
 use Rattle.sqlite_trees.specs.Tree.{Trees, IsTable, rowid}
@@ -28,17 +27,14 @@ use Rattle.sql_tables.proofs.Queries.{has_kept, kept_has, has_permuted}
 use Rattle.profile_records.specs.Kinds.{kind_number}
 use Rattle.profile_records.specs.declared.kinds.Kind.{Kind}
 use Rattle.prof_tables.specs.Changes.{is_member, has_member}
-use Rattle.prof_tables.specs.RunLines.{cells_in, arcs_in, stacks_in}
 use Rattle.prof_tables.specs.Schema.{schema_one, to, run_at, run_event_at, derived_at, coef_at, name_at, grp_at, member_at}
 use Rattle.prof_tables.specs.Seen.{is_at, event_seen, derived_seen, coef_seen, event_shown, derived_shown, coef_shown, run_of_member_seen}
-use Rattle.prof_tables.specs.Tables.{Tables, RunLine, EventLine, DerivedLine, CoefLine, CellLine, ArcLine, StackLine, MemberLine, run_columns, event_columns, derived_columns, coef_columns, name_columns, cell_columns, arc_columns, stack_columns, group_columns, member_columns, number, number_or_null, text_or_null}
-use Rattle.prof_tables.specs.WalkTexts.{cells_of, arcs_of, stacks_of}
-use Rattle.prof_tables.proofs.RunLines.{one_cell, one_arc, one_stack}
+use Rattle.prof_tables.specs.Tables.{Tables, RunLine, EventLine, DerivedLine, CoefLine, MemberLine, run_columns, event_columns, derived_columns, coef_columns, name_columns, group_columns, member_columns, number, number_or_null, text_or_null}
 use Rattle.prof_store.specs.Readings.{as_read, IsSaidBy, RowsSay}
 use Rattle.prof_store.proofs.Listing.{map_injective}
 use Rattle.prof_store.proofs.RunLines.{of_run}
 use Rattle.prof_store.proofs.Told.{said}
-use Rattle.prof_store.proofs.Readings.{runs_rise as rows_rise, names_rise, cells_shaped, arcs_shaped, stacks_shaped, Says, SaysBehind, values_read, number_read, equals_read, not_null, number_at, text_at, picked_said, seen_said, line_of_row, row_of_line, shown_read, permutes_read, runs_said, events_said, derived_said, coefs_said, names_said, cells_said, arcs_said, stacks_said, groups_said, members_said}
+use Rattle.prof_store.proofs.Readings.{runs_rise as rows_rise, names_rise, cells_shaped, arcs_shaped, stacks_shaped, Says, SaysBehind, values_read, number_read, equals_read, not_null, number_at, text_at, picked_said, seen_said, line_of_row, row_of_line, shown_read, permutes_read, runs_said, events_said, derived_said, coefs_said, names_said, groups_said, members_said}
 use Rattle.held_runs.specs.HeadLines as heads
 use Rattle.held_runs.specs.HeadLines.{events_in_tables, derived_in_tables, coefs_in_tables, events_in_rows, derived_in_rows, coefs_in_rows}
 use Rattle.held_runs.specs.Lookups.{IsKindOf, IsKindAt, IsBaselineOf, IsBaselineAt}
@@ -239,8 +235,8 @@ module _ (t : Tables) (db : Trees) (was : IsSaidBy t db) where
     members_in_order numbers low up same =
         let lines = permutes_read was.far number_shown (λ n. refl) (members_in_rows name db) (map shows (filter of_group t.members)) numbers members_are same in
         let below : (n : ℕ) → has_member t name n ≡ true → n < 2 ^ 64 = λ n is.
-            let m = has_mapped number_shown numbers (number_shown n) (has_permuted (map number_shown numbers) (map shows (filter of_group t.members)) (number_shown n) (IsPermutation-sym _ _ lines) (line_there n is)) in
-            subst (λ k. k < 2 ^ 64) (sym (same_number n m.0 m.2)) (all_has (λ k. k < 2 ^ 64) numbers m.0 low m.1) in
+        let m = has_mapped number_shown numbers (number_shown n) (has_permuted (map number_shown numbers) (map shows (filter of_group t.members)) (number_shown n) (IsPermutation-sym _ _ lines) (line_there n is)) in
+        subst (λ k. k < 2 ^ 64) (sym (same_number n m.0 m.2)) (all_has (λ k. k < 2 ^ 64) numbers m.0 low m.1) in
         let table = picked_table was.far was.is_far (has_member t name) below (db 1) t.runs (runs_said t db was) (rows_rise t db was) in
         map_injective number_shown same_number numbers (members_in_tables name t)
         (same_rows (map number_shown numbers) (map number_shown (members_in_tables name t)) (risen numbers up) table

@@ -8,15 +8,10 @@ use Rattle.sqlite_trees.specs.declared.store.Store.{Ghosts}
 use Rattle.sqlite_trees.specs.declared.store.Shape.TheVariants as shape
 use Rattle.sqlite.specs.Effect.{Database}
 use Rattle.sqlite.specs.State.{State}
-use Rattle.sql_tables.specs.States.{Rests}
 use Rattle.sql_tables.specs.Walks.{read_from, Reads, Lie}
 use Rattle.sql_tables.proofs.Walks.{reads_begin, reads_placed, reads_turned, reads_took, reads_ended}
-use Rattle.prof_tables.specs.Schema.{schema_one}
-use Rattle.prof_tables.specs.Tables.{Tables, Holds}
-use Rattle.prof_tables.proofs.RunLines.{cells_there, arcs_there, stacks_there}
 use Rattle.prof_store.specs.declared.store.Store.{Store}
 use Rattle.held_runs.specs.declared.walks.Listed.{Listed}
-use Rattle.held_runs.specs.declared.walks.Listed.TheVariants.{Cells, Arcs, Stacks}
 use Rattle.held_runs.specs.declared.walks.End.TheVariants.{First, Last}
 use Rattle.held_runs.specs.declared.walks.Span.{Span}
 use Rattle.held_runs.specs.declared.walks.Walk.{Walk}

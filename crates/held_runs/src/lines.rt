@@ -1,5 +1,5 @@
 // The lines of a run in one of its tables, handed on one at a time: the one loop that reads rows of runs.
-ghost use Rattle.std.specs.Prelude.{◌≡◌, [], List, OnOk, IfOk};
+ghost use Rattle.std.specs.Prelude.{◌≡◌, [], List, OnOk};
 ghost use Rattle.std.specs.Result.{is_ok};
 ghost use Rattle.prof_store.specs.Shown.{shown, Told};
 ghost use Rattle.held_runs.specs.Walks.{rows_of, IsReady, AreAllRead, AsksIfOpen, Gives, HandsLine, IsSameWalk, OfReady};

@@ -1,17 +1,16 @@
 -- The rows of each sound database of schema 1 say lines.
-use Rattle.std.proofs.Common.{◌≡◌, ℕ, zero, suc, ◌+◌, ◌≤◌, ◌^◌, ◌||◌, ◌&&◌, ◌==◌, not, pos, negsuc, List, [], ◌∷◌, map, drop, Bool, true, false, if◌then◌else◌, Option, Some, None, slice_get, codes, refl, sym, ap, ap₂, subst, ◌∙◌, arith}
+use Rattle.std.proofs.Common.{◌≡◌, ℕ, zero, suc, ◌+◌, ◌≤◌, ◌^◌, ◌||◌, ◌&&◌, not, pos, negsuc, List, [], ◌∷◌, map, drop, Bool, true, false, if◌then◌else◌, Option, Some, None, slice_get, codes, refl, ap, ap₂, subst, ◌∙◌, arith}
 use Rattle.std.specs.List.{AllByRecursion}
 use Rattle.std.proofs.lemmas.Bool.{and_parts}
 use Rattle.sqlite_value.specs.declared.value.Value.{Value}
 use Rattle.sqlite_value.specs.declared.value.Value.TheVariants.{Null, Int, Real, Text, Blob}
 use Rattle.sqlite_value.specs.Order.{Row, column, bytes}
 use Rattle.sqlite_trees.specs.Tree.{Trees, rowid}
-use Rattle.sqlite_trees.specs.View.{IsShaped, is_int}
-use Rattle.sqlite_trees.specs.declared.store.Shape.TheVariants as shape
+use Rattle.sqlite_trees.specs.View.{is_int}
 use Rattle.sqlite_catalog.specs.Listing.{IsSound}
 use Rattle.sqlite_sql.specs.Ops.{is_null}
 use Rattle.sqlite_schema.specs.Names.{is_key}
-use Rattle.sqlite_schema.specs.Rules.{are_present, are_typed, has_affinity, has_computed, is_of, passes}
+use Rattle.sqlite_schema.specs.Rules.{are_present, are_typed, has_affinity, has_computed, is_of}
 use Rattle.sqlite_schema.specs.declared.schema.Column.{Column}
 use Rattle.sqlite_schema.specs.declared.schema.Constraint.TheVariants.{Datatype, NotNull}
 use Rattle.sqlite_schema.specs.declared.schema.Kind.TheVariants as kind
@@ -19,7 +18,7 @@ use Rattle.sqlite_schema.specs.declared.schema.Table.{Table}
 use Rattle.sqlite_keyed.proofs.ListLemmas.{map-map}
 use Rattle.prof_tables.specs.Schema.{column_of, schema_one, meta_at, run_at, run_event_at, derived_at, coef_at, name_at, cell_at, arc_at, stack_at, grp_at, member_at}
 use Rattle.prof_tables.specs.Tables.{Tables, RunLine, EventLine, DerivedLine, CoefLine, NameLine, CellLine, ArcLine, StackLine, GroupLine, MemberLine, meta_columns, run_columns, event_columns, derived_columns, coef_columns, name_columns, cell_columns, arc_columns, stack_columns, group_columns, member_columns, number, number_or_null, text_or_null}
-use Rattle.prof_store.specs.Readings.{as_read, row_read, AreShaped, HasMeta, IsSaidBy, RowsSay}
+use Rattle.prof_store.specs.Readings.{as_read, row_read, AreShaped, HasMeta, RowsSay}
 
 -- ---- what the schema says of a column
 
@@ -332,18 +331,39 @@ module _ (db : Trees) (sound : IsSound schema_one db) (shaped : AreShaped db) (m
           sound = sound;
           far = far;
           is_far = is_far;
-          contents_are =
-            (record { numbered = shaped.0; rows_are = meta_read },
-            (record { numbered = shaped.1.0; rows_are = each_read run_at (row_read far run_at) run_columns (run_of far) (run_read far) (db 1) shaped.1.0.1 d.1.0 p.1.0 },
-            (record { numbered = shaped.1.1.0; rows_are = map-map (drop 1) (row_read far run_event_at) (db 3) ∙ each_read run_event_at (λ r. drop 1 (row_read far run_event_at r)) event_columns (event_of far) (event_read far) (db 3) shaped.1.1.0.1 d.1.1.0 p.1.1.0 },
-            (record { numbered = shaped.1.1.1.0; rows_are = map-map (drop 1) (row_read far derived_at) (db 6) ∙ each_read derived_at (λ r. drop 1 (row_read far derived_at r)) derived_columns (derived_of far) (derived_read far) (db 6) shaped.1.1.1.0.1 d.1.1.1.0 p.1.1.1.0 },
-            (record { numbered = shaped.1.1.1.1.0; rows_are = map-map (drop 1) (row_read far coef_at) (db 9) ∙ each_read coef_at (λ r. drop 1 (row_read far coef_at r)) coef_columns (coef_of far) (coef_read far) (db 9) shaped.1.1.1.1.0.1 d.1.1.1.1.0 p.1.1.1.1.0 },
-            (record { numbered = shaped.1.1.1.1.1.0; rows_are = each_read name_at (row_read far name_at) name_columns (name_of far) (name_read far) (db 11) shaped.1.1.1.1.1.0.1 d.1.1.1.1.1.0 p.1.1.1.1.1.0 },
-            (record { numbered = shaped.1.1.1.1.1.1.0; rows_are = map-map (drop 1) (row_read far cell_at) (db 13) ∙ each_read cell_at (λ r. drop 1 (row_read far cell_at r)) cell_columns (cell_of far) (cell_read far) (db 13) shaped.1.1.1.1.1.1.0.1 d.1.1.1.1.1.1.0 p.1.1.1.1.1.1.0 },
-            (record { numbered = shaped.1.1.1.1.1.1.1.0; rows_are = map-map (drop 1) (row_read far arc_at) (db 15) ∙ each_read arc_at (λ r. drop 1 (row_read far arc_at r)) arc_columns (arc_of far) (arc_read far) (db 15) shaped.1.1.1.1.1.1.1.0.1 d.1.1.1.1.1.1.1.0 p.1.1.1.1.1.1.1.0 },
-            (record { numbered = shaped.1.1.1.1.1.1.1.1.0; rows_are = map-map (drop 1) (row_read far stack_at) (db 17) ∙ each_read stack_at (λ r. drop 1 (row_read far stack_at r)) stack_columns (stack_of far) (stack_read far) (db 17) shaped.1.1.1.1.1.1.1.1.0.1 d.1.1.1.1.1.1.1.1.0 p.1.1.1.1.1.1.1.1.0 },
-            (record { numbered = shaped.1.1.1.1.1.1.1.1.1.0; rows_are = map-map (drop 1) (row_read far grp_at) (db 19) ∙ each_read grp_at (λ r. drop 1 (row_read far grp_at r)) group_columns (group_of far) (group_read far) (db 19) shaped.1.1.1.1.1.1.1.1.1.0.1 d.1.1.1.1.1.1.1.1.1.0 p.1.1.1.1.1.1.1.1.1.0 },
-            (record { numbered = shaped.1.1.1.1.1.1.1.1.1.1.0; rows_are = map-map (drop 1) (row_read far member_at) (db 21) ∙ each_read member_at (λ r. drop 1 (row_read far member_at r)) member_columns (member_of far) (member_read far) (db 21) shaped.1.1.1.1.1.1.1.1.1.1.0.1 d.1.1.1.1.1.1.1.1.1.1.0 p.1.1.1.1.1.1.1.1.1.1.0 },
-            tt)))))))))));
+          contents_are = (
+            record { numbered = shaped.0; rows_are = meta_read },
+            (
+              record { numbered = shaped.1.0; rows_are = each_read run_at (row_read far run_at) run_columns (run_of far) (run_read far) (db 1) shaped.1.0.1 d.1.0 p.1.0 },
+              (
+                record { numbered = shaped.1.1.0; rows_are = map-map (drop 1) (row_read far run_event_at) (db 3) ∙ each_read run_event_at (λ r. drop 1 (row_read far run_event_at r)) event_columns (event_of far) (event_read far) (db 3) shaped.1.1.0.1 d.1.1.0 p.1.1.0 },
+                (
+                  record { numbered = shaped.1.1.1.0; rows_are = map-map (drop 1) (row_read far derived_at) (db 6) ∙ each_read derived_at (λ r. drop 1 (row_read far derived_at r)) derived_columns (derived_of far) (derived_read far) (db 6) shaped.1.1.1.0.1 d.1.1.1.0 p.1.1.1.0 },
+                  (
+                    record { numbered = shaped.1.1.1.1.0; rows_are = map-map (drop 1) (row_read far coef_at) (db 9) ∙ each_read coef_at (λ r. drop 1 (row_read far coef_at r)) coef_columns (coef_of far) (coef_read far) (db 9) shaped.1.1.1.1.0.1 d.1.1.1.1.0 p.1.1.1.1.0 },
+                    (
+                      record { numbered = shaped.1.1.1.1.1.0; rows_are = each_read name_at (row_read far name_at) name_columns (name_of far) (name_read far) (db 11) shaped.1.1.1.1.1.0.1 d.1.1.1.1.1.0 p.1.1.1.1.1.0 },
+                      (
+                        record { numbered = shaped.1.1.1.1.1.1.0; rows_are = map-map (drop 1) (row_read far cell_at) (db 13) ∙ each_read cell_at (λ r. drop 1 (row_read far cell_at r)) cell_columns (cell_of far) (cell_read far) (db 13) shaped.1.1.1.1.1.1.0.1 d.1.1.1.1.1.1.0 p.1.1.1.1.1.1.0 },
+                        (
+                          record { numbered = shaped.1.1.1.1.1.1.1.0; rows_are = map-map (drop 1) (row_read far arc_at) (db 15) ∙ each_read arc_at (λ r. drop 1 (row_read far arc_at r)) arc_columns (arc_of far) (arc_read far) (db 15) shaped.1.1.1.1.1.1.1.0.1 d.1.1.1.1.1.1.1.0 p.1.1.1.1.1.1.1.0 },
+                          (
+                            record { numbered = shaped.1.1.1.1.1.1.1.1.0; rows_are = map-map (drop 1) (row_read far stack_at) (db 17) ∙ each_read stack_at (λ r. drop 1 (row_read far stack_at r)) stack_columns (stack_of far) (stack_read far) (db 17) shaped.1.1.1.1.1.1.1.1.0.1 d.1.1.1.1.1.1.1.1.0 p.1.1.1.1.1.1.1.1.0 },
+                            (
+                              record { numbered = shaped.1.1.1.1.1.1.1.1.1.0; rows_are = map-map (drop 1) (row_read far grp_at) (db 19) ∙ each_read grp_at (λ r. drop 1 (row_read far grp_at r)) group_columns (group_of far) (group_read far) (db 19) shaped.1.1.1.1.1.1.1.1.1.0.1 d.1.1.1.1.1.1.1.1.1.0 p.1.1.1.1.1.1.1.1.1.0 },
+                              (
+                                record { numbered = shaped.1.1.1.1.1.1.1.1.1.1.0; rows_are = map-map (drop 1) (row_read far member_at) (db 21) ∙ each_read member_at (λ r. drop 1 (row_read far member_at r)) member_columns (member_of far) (member_read far) (db 21) shaped.1.1.1.1.1.1.1.1.1.1.0.1 d.1.1.1.1.1.1.1.1.1.1.0 p.1.1.1.1.1.1.1.1.1.1.0 },
+                                tt,
+                              ),
+                            ),
+                          ),
+                        ),
+                      ),
+                    ),
+                  ),
+                ),
+              ),
+            ),
+          );
         },
       )

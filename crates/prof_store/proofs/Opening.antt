@@ -1,5 +1,5 @@
 -- What is read of any database changes nothing, and what its answer makes of an opening.
-use Rattle.std.proofs.Common.{◌≡◌, ◌≢◌, ◌∙◌, ℕ, List, [], ◌∷◌, pos, Result, Ok, Err, inl, inr, refl, sym, ap, subst}
+use Rattle.std.proofs.Common.{◌≡◌, ◌≢◌, ◌∙◌, ℕ, List, [], pos, Result, Ok, Err, inl, inr, refl, sym, ap, subst}
 use Rattle.std.specs.Result.{is_ok, OnOk, IfErr}
 use Rattle.sqlite_value.specs.declared.value.Value.TheVariants.{Int}
 use Rattle.sqlite_value.specs.Order.{Row, column}

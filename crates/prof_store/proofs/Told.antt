@@ -1,33 +1,31 @@
 -- What is found in rows tells of the lines as which they are read, and lines that tables hold are such.
-use Rattle.std.proofs.Common.{◌≡◌, ◌≢◌, ℕ, ◌≤◌, ◌<◌, ◌^◌, ◌+◌, ◌&&◌, ◌==◌, pos, List, [], ◌∷◌, map, drop, filter, length, Bool, true, false, if◌then◌else◌, bytes_eq, inl, inr, sum, refl, sym, ap, ap₂, subst, ◌∙◌, arith, IsPermutation, All, sum_by, Option, Some, None, is_some}
-use Rattle.std.specs.List.{AllByRecursion, AllZip, list_any}
+use Rattle.std.proofs.Common.{◌≡◌, ℕ, ◌<◌, ◌^◌, ◌+◌, ◌&&◌, ◌==◌, pos, List, [], ◌∷◌, map, drop, filter, length, Bool, bytes_eq, inl, inr, sum, refl, sym, ap, ap₂, subst, ◌∙◌, arith, IsPermutation, sum_by, Option, Some, None}
+use Rattle.std.specs.List.{AllByRecursion, list_any}
 use Rattle.std.proofs.lemmas.List.Elements.{All-head, All-tail}
 use Rattle.std.proofs.lemmas.List.Sums.{sum-map}
 use Rattle.sqlite_keyed.proofs.ListLemmas.{map-map}
 use Rattle.sqlite_value.specs.declared.value.Value.{Value}
-use Rattle.sqlite_value.specs.declared.value.Value.TheVariants.{Null, Int, Real, Text, Blob}
+use Rattle.sqlite_value.specs.declared.value.Value.TheVariants.{Int, Text, Blob}
 use Rattle.sqlite_value.specs.Order.{Row, column}
 use Rattle.sqlite_trees.specs.Tree.{Trees, IsTable}
 use Rattle.sqlite_schema.specs.declared.schema.Table.{Table}
 use Rattle.sqlite_rules.specs.Lists.{Has}
 use Rattle.sqlite_rules.proofs.ProbeLemmas.{mapped_has}
-use Rattle.sql_tables.specs.Contents.{IsContent, AllContents, rows_that_count}
 use Rattle.sql_tables.specs.States.{Rests}
 use Rattle.sql_tables.proofs.Calls.{rests_as}
 use Rattle.sql_tables.proofs.InPlace.{map_table}
 use Rattle.sql_tables.proofs.Orders.{same_permuted, seen_columns}
 use Rattle.sql_tables.proofs.Rows.{Numbered}
 use Rattle.sqlite.specs.State.{State}
-use Rattle.cost_rows.specs.declared.rows.FileTotals.{FileTotals}
 use Rattle.prof_tables.specs.Changes.{has_run, has_group, has_member, is_member, is_named}
 use Rattle.prof_tables.specs.Schema.{schema_one, meta_at, run_at, run_event_at, derived_at, coef_at, name_at, cell_at, arc_at, stack_at, grp_at, member_at}
 use Rattle.prof_tables.specs.Seen.{is_at, run_seen, group_seen, member_seen, is_member_row}
-use Rattle.prof_tables.specs.Tables.{Tables, Holds, RunLine, EventLine, GroupLine, MemberLine, contents_of, meta_columns, run_columns, event_columns, derived_columns, coef_columns, name_columns, cell_columns, arc_columns, stack_columns, group_columns, member_columns, number, number_or_null, text_or_null}
-use Rattle.prof_books.specs.Totals.{held_self, held_calls, held_count, IsHeldIn}
+use Rattle.prof_tables.specs.Tables.{Tables, Holds, RunLine, EventLine, GroupLine, MemberLine, meta_columns, run_columns, event_columns, derived_columns, coef_columns, name_columns, cell_columns, arc_columns, stack_columns, group_columns, member_columns, number, number_or_null, text_or_null}
+use Rattle.prof_books.specs.Totals.{held_self, held_calls, held_count}
 use Rattle.prof_store.specs.Digests.{IsRowOf, IsRunOf}
 use Rattle.prof_store.specs.Groups.{AreGroupsIn, AreMembersIn}
 use Rattle.prof_store.specs.Readings.{as_read, row_read, IsSaidBy, RowsSay}
-use Rattle.prof_store.specs.Totals.{number_in, IsNumber, HasNumbers, IsSum, IsSumAt, IsSumIn, AreSums, AreSumsIn, IsHeldAt, column_sum, rows_named}
+use Rattle.prof_store.specs.Totals.{number_in, IsNumber, HasNumbers, IsSum, IsSumAt, IsSumIn, rows_named}
 use Rattle.prof_store.specs.declared.totals.EventSums.{EventSums}
 use Rattle.prof_store.proofs.HeldSums.{sum_by-map, sum_by-same}
 use Rattle.prof_store.proofs.Listing.{read_back, group_back, group_read, member_back, member_read}
@@ -184,19 +182,40 @@ held_said t db was =
       sound = was.contain.sound;
       far = far;
       is_far = λ n. omega arith;
-      contents_are =
-        (record { numbered = c.0.numbered; rows_are = ap (map (row_read far meta_at)) c.0.rows_are },
-        (record { numbered = c.1.0.numbered; rows_are = ap (map (row_read far run_at)) c.1.0.rows_are ∙ keyed far run_at run_columns (λ x. refl) t.runs },
-        (record { numbered = c3.numbered; rows_are = behind far run_event_at event_columns (event_read far) (db 3) t.events c3.numbered.1 c3.rows_are },
-        (record { numbered = c6.numbered; rows_are = behind far derived_at derived_columns (λ id x. refl) (db 6) t.derived c6.numbered.1 c6.rows_are },
-        (record { numbered = c9.numbered; rows_are = behind far coef_at coef_columns (λ id x. refl) (db 9) t.coefs c9.numbered.1 c9.rows_are },
-        (record { numbered = c.1.1.1.1.1.0.numbered; rows_are = ap (map (row_read far name_at)) c.1.1.1.1.1.0.rows_are ∙ keyed far name_at name_columns (λ x. refl) t.names },
-        (record { numbered = c13.numbered; rows_are = behind far cell_at cell_columns (λ id x. refl) (db 13) t.cells c13.numbered.1 c13.rows_are },
-        (record { numbered = c15.numbered; rows_are = behind far arc_at arc_columns (λ id x. refl) (db 15) t.arcs c15.numbered.1 c15.rows_are },
-        (record { numbered = c17.numbered; rows_are = behind far stack_at stack_columns (λ id x. refl) (db 17) t.stacks c17.numbered.1 c17.rows_are },
-        (record { numbered = c19.numbered; rows_are = behind far grp_at group_columns (λ id g. group_plain far g) (db 19) t.groups c19.numbered.1 c19.rows_are },
-        (record { numbered = c21.numbered; rows_are = behind far member_at member_columns (λ id x. refl) (db 21) t.members c21.numbered.1 c21.rows_are },
-        tt)))))))))));
+      contents_are = (
+        record { numbered = c.0.numbered; rows_are = ap (map (row_read far meta_at)) c.0.rows_are },
+        (
+          record { numbered = c.1.0.numbered; rows_are = ap (map (row_read far run_at)) c.1.0.rows_are ∙ keyed far run_at run_columns (λ x. refl) t.runs },
+          (
+            record { numbered = c3.numbered; rows_are = behind far run_event_at event_columns (event_read far) (db 3) t.events c3.numbered.1 c3.rows_are },
+            (
+              record { numbered = c6.numbered; rows_are = behind far derived_at derived_columns (λ id x. refl) (db 6) t.derived c6.numbered.1 c6.rows_are },
+              (
+                record { numbered = c9.numbered; rows_are = behind far coef_at coef_columns (λ id x. refl) (db 9) t.coefs c9.numbered.1 c9.rows_are },
+                (
+                  record { numbered = c.1.1.1.1.1.0.numbered; rows_are = ap (map (row_read far name_at)) c.1.1.1.1.1.0.rows_are ∙ keyed far name_at name_columns (λ x. refl) t.names },
+                  (
+                    record { numbered = c13.numbered; rows_are = behind far cell_at cell_columns (λ id x. refl) (db 13) t.cells c13.numbered.1 c13.rows_are },
+                    (
+                      record { numbered = c15.numbered; rows_are = behind far arc_at arc_columns (λ id x. refl) (db 15) t.arcs c15.numbered.1 c15.rows_are },
+                      (
+                        record { numbered = c17.numbered; rows_are = behind far stack_at stack_columns (λ id x. refl) (db 17) t.stacks c17.numbered.1 c17.rows_are },
+                        (
+                          record { numbered = c19.numbered; rows_are = behind far grp_at group_columns (λ id g. group_plain far g) (db 19) t.groups c19.numbered.1 c19.rows_are },
+                          (
+                            record { numbered = c21.numbered; rows_are = behind far member_at member_columns (λ id x. refl) (db 21) t.members c21.numbered.1 c21.rows_are },
+                            tt,
+                          ),
+                        ),
+                      ),
+                    ),
+                  ),
+                ),
+              ),
+            ),
+          ),
+        ),
+      );
     }
 
 pub rests_said : (t : Tables) (s : State) → Rests schema_one (Holds t) s → Rests schema_one (RowsSay t) s

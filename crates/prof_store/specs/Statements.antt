@@ -1,21 +1,16 @@
 -- What came of a statement.
-use Rattle.std.specs.Prelude.{◌≡◌, ℕ, Bool, List, Vec, Option, Some, None, Result, Ok, Err, IfOk}
+use Rattle.std.specs.Prelude.{ℕ, Bool, List, Vec, Option, Some, None, Result, Ok, Err, IfOk}
 use Rattle.std.specs.Global.{Global}
-use Rattle.std.specs.Result.{is_ok}
 use Rattle.sqlite_value.specs.Order.{Row}
 use Rattle.sqlite.specs.declared.error.Error.{Error}
 use Rattle.sqlite.specs.declared.error.Error.TheVariants.{QueryReturnedNoRows}
 use Rattle.sqlite.specs.declared.rows.Row as rows
 use Rattle.sqlite.specs.Given.{IsPlain}
 use Rattle.sqlite.specs.Listing.{understood}
-use Rattle.sqlite.specs.State.{State, HasCleanDisk, Executes, QueriesRow, Shown}
+use Rattle.sqlite.specs.State.{State, HasCleanDisk, QueriesRow, Shown}
 use Rattle.sql_tables.specs.Calls.{Asked}
 use Rattle.prof_tables.specs.Schema.{schema_one}
 use Rattle.store_columns.specs.declared.errors.StoreError.{StoreError}
-
--- it was run, or failed with some error
-abbrev pub Ran : List ℕ → Row → State → State → Bool → Type 0
-Ran sql params old new done = (result : Result ℕ Error) × (done ≡ is_ok result) × Executes sql params old new result
 
 -- what a query for one row answers
 abbrev pub row_or_none : Option Row → Result Row Error

@@ -2,7 +2,7 @@
 ghost use Rattle.std.specs.Prelude.{◌≡◌, true};
 ghost use Rattle.std.specs.Result.{is_ok};
 ghost use Rattle.prof_tables.specs.Changes.{has_run, without_run};
-ghost use Rattle.prof_store.specs.Shown.{ChangesIf};
+ghost use Rattle.prof_store.specs.Shown.{ChangesIf, KeepsShut};
 
 use crate::statements::write;
 use crate::store::Store;
@@ -14,6 +14,7 @@ impl<S: Alter> Store<S> {
     /// its number is not used again, and names stay.
     pub fn drop_run(&mut self, run: u32) -> Result<(), StoreError>
         ensures changes { ChangesIf S.Store (is_ok result) (λ t. has_run t run ≡ true) (without_run run) self.old self.new }
+        ensures shut { KeepsShut S.Store self.old self.new }
     {
         write(
             &mut self.conn,

@@ -3,7 +3,7 @@ ghost use Rattle.std.specs.Prelude.{◌≡◌, true};
 ghost use Rattle.std.specs.Result.{is_ok};
 ghost use Rattle.prof_tables.specs.Changes.{has_group, with_group, without_group, without_member, with_baseline};
 ghost use Rattle.prof_tables.specs.Labels.{IsGroupName};
-ghost use Rattle.prof_store.specs.Shown.{Changes, ChangesIf};
+ghost use Rattle.prof_store.specs.Shown.{Changes, ChangesIf, KeepsShut};
 
 use crate::statements::write;
 use crate::store::Store;
@@ -15,6 +15,7 @@ impl<S: Alter> Store<S> {
     pub fn put_group(&mut self, name: &str) -> Result<(), StoreError>
         requires { IsGroupName name.now }
         ensures changes { Changes S.Store (is_ok result) (with_group name.now) self.old self.new }
+        ensures shut { KeepsShut S.Store self.old self.new }
     {
         write(
             &mut self.conn,
@@ -26,6 +27,7 @@ impl<S: Alter> Store<S> {
     /// Drops a group that is held, with its members; the runs stay.
     pub fn drop_group(&mut self, name: &str) -> Result<(), StoreError>
         ensures changes { ChangesIf S.Store (is_ok result) (λ t. has_group t name.now ≡ true) (without_group name.now) self.old self.new }
+        ensures shut { KeepsShut S.Store self.old self.new }
     {
         write(
             &mut self.conn,
@@ -37,6 +39,7 @@ impl<S: Alter> Store<S> {
     /// Takes a run out of a group.
     pub fn leave(&mut self, name: &str, run: u32) -> Result<(), StoreError>
         ensures changes { Changes S.Store (is_ok result) (without_member name.now run) self.old self.new }
+        ensures shut { KeepsShut S.Store self.old self.new }
     {
         write(
             &mut self.conn,
@@ -48,6 +51,7 @@ impl<S: Alter> Store<S> {
     /// Makes a run the baseline of a group, in place of an older one.
     pub fn set_baseline(&mut self, name: &str, run: u32) -> Result<(), StoreError>
         ensures changes { Changes S.Store (is_ok result) (with_baseline name.now run) self.old self.new }
+        ensures shut { KeepsShut S.Store self.old self.new }
     {
         write(
             &mut self.conn,

@@ -1,10 +1,10 @@
 // A run joins a group.
-ghost use Rattle.std.specs.Prelude.{◌≡◌, IfOk};
+ghost use Rattle.std.specs.Prelude.{◌≡◌};
 ghost use Rattle.std.specs.List.{list_any};
 ghost use Rattle.std.specs.Result.{is_ok};
 ghost use Rattle.prof_tables.specs.Changes.{has_member, joined, with_member};
 ghost use Rattle.prof_tables.specs.Seen.{is_member_row};
-ghost use Rattle.prof_store.specs.Shown.{Asks, Changes, Found, Told};
+ghost use Rattle.prof_store.specs.Shown.{Asks, Changes, Found, KeepsShut, Told};
 
 use crate::statements::{select, write};
 use crate::store::Store;
@@ -29,6 +29,7 @@ impl<S: Alter> Store<S> {
     /// Writes a member that is not there yet.
     fn put_member(&mut self, name: &str, run: u32) -> Result<(), StoreError>
         ensures changes { Changes S.Store (is_ok result) (with_member name.now run) self.old self.new }
+        ensures shut { KeepsShut S.Store self.old self.new }
     {
         write(
             &mut self.conn,
@@ -40,6 +41,7 @@ impl<S: Alter> Store<S> {
     /// Takes a run into a group, where it may be already.
     pub fn join(&mut self, name: &str, run: u32) -> Result<(), StoreError>
         ensures changes { Changes S.Store (is_ok result) (joined name.now run) self.old self.new }
+        ensures shut { KeepsShut S.Store self.old self.new }
     {
         if self.is_member(name, run)? {
             return Ok(());

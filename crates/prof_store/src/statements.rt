@@ -1,13 +1,15 @@
 // Every statement that a store runs outside a transaction goes through one of these calls.
+ghost use Rattle.std.specs.Prelude.{◌≡◌, Bool, true, false};
+ghost use Rattle.prof_tables.specs.Tables.{Tables};
 ghost use Rattle.std.specs.Result.{is_ok};
 ghost use Rattle.sqlite.specs.Held.{state};
-ghost use Rattle.sqlite.specs.State.{HasCleanDisk, Survives, CommitsBy};
 ghost use Rattle.sqlite.specs.Values.{bound};
-ghost use Rattle.prof_store.specs.Statements.{AsksBy, Ran, ShowsAll, ShowsFirst, ShowsRow};
+ghost use Rattle.prof_store.specs.Statements.{AsksBy, ShowsAll, ShowsFirst, ShowsRow};
+ghost use Rattle.store_columns.specs.Within.{CommitsIf, CommitsUnlessShut, TextMakes};
 
 use sqlite::types::ValueRef;
 use sqlite::{Alter, Connection, Error, Row};
-use store_columns::{StoreError, error_of};
+use store_columns::{StoreError, error_of, write_inside};
 
 /// All rows that a query shows.
 pub fn select<S: Alter>(
@@ -55,19 +57,37 @@ pub fn select_first<S: Alter>(
     }
 }
 
-/// Runs a statement that writes, which is a transaction by itself.
+/// Runs a statement that writes, in a transaction of its own. Within another one it is refused.
 pub(crate) fn write<S: Alter>(
     conn: &mut Connection<S>,
     sql: &str,
     params: &[ValueRef<'_>],
 ) -> Result<(), StoreError>
-    ensures ran { HasCleanDisk (state S.Store conn.new)
-        → Ran sql.now (bound params.now) (state S.Store conn.old) (state S.Store conn.new) (is_ok result) }
-    ensures survives { Survives (state S.Store conn.old) (state S.Store conn.new)
-        (CommitsBy sql.now (bound params.now) (state S.Store conn.old)) }
+    ensures commits { (given : Tables → Bool) (change : _) → TextMakes sql.now (bound params.now) (λ t. given t ≡ true) change
+        → CommitsIf S.Store (is_ok result) (λ t. given t ≡ true) change conn.old conn.new }
+    ensures shut { CommitsUnlessShut S.Store conn.old conn.new }
 {
-    match conn.execute(sql, params) {
-        Ok(_) => Ok(()),
+    if !conn.is_autocommit() {
+        return Err(StoreError::Store);
+    }
+    write_alone(conn, sql, params)
+}
+
+/// The same outside a transaction.
+fn write_alone<S: Alter>(
+    conn: &mut Connection<S>,
+    sql: &str,
+    params: &[ValueRef<'_>],
+) -> Result<(), StoreError>
+    requires { conn.old.in_transaction ≡ false }
+    ensures commits { (given : Tables → Bool) (change : _) → TextMakes sql.now (bound params.now) (λ t. given t ≡ true) change
+        → CommitsIf S.Store (is_ok result) (λ t. given t ≡ true) change conn.old conn.new }
+    ensures shut { CommitsUnlessShut S.Store conn.old conn.new }
+{
+    let mut tx = conn.transaction();
+    write_inside(&mut tx, sql, params)?;
+    match tx.commit() {
+        Ok(()) => Ok(()),
         Err(error) => Err(error_of(error)),
     }
 }

@@ -3,14 +3,15 @@ ghost use Rattle.std.specs.Result.{is_ok};
 ghost use Rattle.prof_tables.specs.Changes.{with_next, with_run};
 ghost use Rattle.store_columns.specs.Lines.{run_line};
 ghost use Rattle.store_columns.specs.Steps.{IsAbove, IsNext};
-ghost use Rattle.store_columns.specs.Within.{WritesIf};
+ghost use Rattle.store_columns.specs.Within.{FoundOpen, WritesIf};
 
 use sqlite::{Alter, Transaction, params};
 use store_columns::{RunLine, StoreError, write_inside};
 
 /// Sets the number of the next run, within a transaction.
 pub fn raise_next<S: Alter>(tx: &mut Transaction<'_, S>, next: u32) -> Result<(), StoreError>
-    ensures { WritesIf S.Store (is_ok result) (IsAbove next) (with_next next) tx.old tx.new }
+    ensures writes { WritesIf S.Store (is_ok result) (IsAbove next) (with_next next) tx.old tx.new }
+    ensures found_open { FoundOpen S.Store (is_ok result) tx.old tx.new }
 {
     write_inside(tx, "UPDATE meta SET next_run = ?1", params![next])
 }

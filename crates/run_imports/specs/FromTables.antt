@@ -1,6 +1,5 @@
 -- What a file that was read is answered over lines of tables, whatever they stand for.
 use Rattle.std.specs.Prelude.{◌≡◌, ℕ, nat_le, List, length, Option, Some, None, Result, Ok, Err, option_map}
-use Rattle.sqlite_trees.specs.declared.store.Store.{Ghosts}
 use Rattle.cg_text.specs.declared.faults.Fault.{Fault}
 use Rattle.cg_formulas.specs.declared.heads.FileHead.{FileHead}
 use Rattle.cost_rows.specs.Admit.{overflow_of}
@@ -12,8 +11,6 @@ use Rattle.cost_rows.specs.declared.rows.FileTotals.{FileTotals}
 use Rattle.prof_books.specs.Runs.{with_file}
 use Rattle.prof_books.specs.Totals.{IsHeldIn}
 use Rattle.prof_store.specs.Digests.{IsRunOf}
-use Rattle.prof_store.specs.Shown.{StandsFor}
-use Rattle.prof_store.specs.declared.store.Store.{Store}
 use Rattle.prof_tables.specs.Tables.{Tables}
 use Rattle.profile_records.specs.declared.kinds.Kind.{Kind}
 use Rattle.histories.specs.Legal.{faulty}

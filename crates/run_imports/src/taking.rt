@@ -1,6 +1,6 @@
 // A file is imported.
 ghost use Rattle.std.specs.Bool.{⊤};
-ghost use Rattle.std.specs.Prelude.{◌≡◌, ℕ, List, MatchOption, IfOk};
+ghost use Rattle.std.specs.Prelude.{◌≡◌, List, MatchOption, IfOk};
 ghost use Rattle.std.specs.Result.{is_ok};
 ghost use Rattle.std.specs.Str.{IsUtf8};
 ghost use Rattle.cost_rows.specs.Rows.{content_of};

@@ -1,13 +1,8 @@
 -- What a run that is written makes of the tables.
-use Rattle.std.specs.Prelude.{ℕ, Bool, List, map}
-use Rattle.sqlite_trees.specs.declared.store.Store.{Ghosts}
-use Rattle.sqlite.specs.Held.{Held, state}
-use Rattle.sqlite.specs.State.{HasCleanDisk}
-use Rattle.sql_tables.specs.Calls.{Changed}
+use Rattle.std.specs.Prelude.{ℕ, List, map}
 use Rattle.cost_rows.specs.Rows.{content_of}
 use Rattle.cost_rows.specs.declared.file_rows.FileRows.{FileRows}
-use Rattle.prof_tables.specs.Schema.{schema_one}
-use Rattle.prof_tables.specs.Tables.{Tables, Holds}
+use Rattle.prof_tables.specs.Tables.{Tables}
 use Rattle.prof_books.specs.Files.{with_rows, with_head}
 use Rattle.prof_books.specs.Runs.{with_file}
 use Rattle.profile_records.specs.declared.kinds.Kind.{Kind}
@@ -27,7 +22,3 @@ with_run_of run head rows t = with_rows run.number (content_of rows) (with_head_
 -- a file under a number
 abbrev pub with_summed : ℕ → Kind → List ℕ → List ℕ → SummedFile → Tables → Tables
 with_summed number kind digest label file = with_file number kind digest label file.head.now (content_of file.rows.now)
-
--- a call over a connection that changes its tables, where they are in a state for it, by one commit at its end, or leaves all as it was
-abbrev pub CommitsIf : {S : Type 0} → Ghosts S → Bool → (Tables → Type 0) → (Tables → Tables) → Held S → Held S → Type 0
-CommitsIf g is_done given change old new = HasCleanDisk (state g new) → Changed schema_one (λ t db. given t × Holds t db) (λ t. Holds (change t)) is_done is_done (state g old) (state g new)

@@ -1,9 +1,9 @@
 // A run is written, within a transaction.
 ghost use Rattle.std.specs.Prelude.{◌≡◌, false};
 ghost use Rattle.std.specs.Result.{is_ok};
-ghost use Rattle.run_putting.specs.Runs.{with_head_of, with_run_of, CommitsIf};
+ghost use Rattle.run_putting.specs.Runs.{with_head_of, with_run_of};
 ghost use Rattle.store_columns.specs.Steps.{IsAbove};
-ghost use Rattle.store_columns.specs.Within.{WritesIf};
+ghost use Rattle.store_columns.specs.Within.{CommitsIf, CommitsUnlessShut, FoundOpen, WritesIf};
 
 use cost_rows::FileRows;
 use run_heads::{put_line_of_run, raise_next};
@@ -19,7 +19,8 @@ fn put_head<S: Alter>(
     run: &RunLine<'_>,
     head: &HeadLines<'_>,
 ) -> Result<(), StoreError>
-    ensures { WritesIf S.Store (is_ok result) (IsAbove run.now.number) (with_head_of run.now head.now) tx.old tx.new }
+    ensures writes { WritesIf S.Store (is_ok result) (IsAbove run.now.number) (with_head_of run.now head.now) tx.old tx.new }
+    ensures found_open { FoundOpen S.Store (is_ok result) tx.old tx.new }
 {
     let Some(next) = run.number.checked_add(1) else {
         return Err(StoreError::Store);
@@ -39,7 +40,8 @@ fn fill_run<S: Alter>(
     head: &HeadLines<'_>,
     rows: &FileRows,
 ) -> Result<(), StoreError>
-    ensures { WritesIf S.Store (is_ok result) (λ t. t.next ≡ run.now.number) (with_run_of run.now head.now rows.now) tx.old tx.new }
+    ensures writes { WritesIf S.Store (is_ok result) (λ t. t.next ≡ run.now.number) (with_run_of run.now head.now rows.now) tx.old tx.new }
+    ensures found_open { FoundOpen S.Store (is_ok result) tx.old tx.new }
 {
     put_head(tx, alloc, run, head)?;
     let numbers = number_names(tx, alloc, rows.names())?;
@@ -57,7 +59,8 @@ pub(crate) fn put_in<S: Alter>(
     rows: &FileRows,
 ) -> Result<(), StoreError>
     requires { conn.old.in_transaction ≡ false }
-    ensures { CommitsIf S.Store (is_ok result) (λ t. t.next ≡ run.now.number) (with_run_of run.now head.now rows.now) conn.old conn.new }
+    ensures commits { CommitsIf S.Store (is_ok result) (λ t. t.next ≡ run.now.number) (with_run_of run.now head.now rows.now) conn.old conn.new }
+    ensures shut { CommitsUnlessShut S.Store conn.old conn.new }
 {
     let mut tx = conn.transaction();
     fill_run(&mut tx, alloc, run, head, rows)?;

@@ -7,7 +7,7 @@ ghost use Rattle.sqlite_rules.specs.Lists.{Has};
 ghost use Rattle.prof_books.specs.Heads.{IsWhole};
 ghost use Rattle.run_heads.specs.Sums.{AllFit};
 ghost use Rattle.run_putting.specs.Runs.{with_summed};
-ghost use Rattle.prof_store.specs.Shown.{ChangesIf, MakesOf};
+ghost use Rattle.prof_store.specs.Shown.{ChangesIf, KeepsShut, MakesOf};
 
 use crate::putting::put_in;
 use crate::summed::SummedFile;
@@ -37,6 +37,7 @@ pub fn put_run<S: Alter>(
     ensures fits { OnOk result (AllFit file.now.head.now (content_of file.now.rows.now)) }
     ensures counted { OnOk result (count_total (content_of file.now.rows.now).arcs < 2 ^ 63) }
     ensures changes { ChangesIf S.Store (is_ok result) (λ t. t.next ≡ number) (with_summed number kind digest.now label.now file.now) store.old store.new }
+    ensures shut { KeepsShut S.Store store.old store.new }
 {
     if !store.conn.is_autocommit() {
         return Err(StoreError::Store);

@@ -11,10 +11,11 @@ use Rattle.sqlite.specs.declared.transaction.Transaction.{Transaction}
 use Rattle.sqlite.specs.Calls.{IsWrite}
 use Rattle.sqlite.specs.Does.{Tally, Does}
 use Rattle.sqlite.specs.Effect.{Database, IsDatabase}
-use Rattle.sqlite.specs.Held.{state}
+use Rattle.sqlite.specs.Held.{Held, state}
 use Rattle.sqlite.specs.Listing.{understood}
 use Rattle.sqlite.specs.State.{State, HasCleanDisk, Survives, ExecutesInside}
 use Rattle.sqlite.proofs.Callers.{IsPlain, command_of}
+use Rattle.sql_tables.specs.Calls.{Changed, KeepsIfShut}
 use Rattle.sql_tables.specs.States.{Works, KeepsCommit}
 use Rattle.sql_tables.proofs.Statements.{plain_mode}
 use Rattle.prof_tables.specs.Schema.{schema_one}
@@ -66,6 +67,14 @@ module _ {S : Type 0} (g : Ghosts S) where
     pub same_reference : new.conn.ghost_name ≡ old.conn.ghost_name
     pub survives : Survives (inside old) (inside new) (λ _. ⊥)
     pub ran : IsFaithful new → IsRunning old → (result : Result ℕ Error) × (is_done ≡ is_ok result) × ExecutesInside 0 text params (inside old) (inside new) result
+
+-- a call over a connection that changes its tables, where they are in a state for it, by one commit at its end, or leaves all as it was
+abbrev pub CommitsIf : {S : Type 0} → Ghosts S → Bool → (Tables → Type 0) → (Tables → Tables) → Held S → Held S → Type 0
+CommitsIf g is_done given change old new = HasCleanDisk (state g new) → Changed schema_one (λ t db. given t × Holds t db) (λ t. Holds (change t)) is_done is_done (state g old) (state g new)
+
+-- over a connection that was shut it commits nothing
+abbrev pub CommitsUnlessShut : {S : Type 0} → Ghosts S → Held S → Held S → Type 0
+CommitsUnlessShut g old new = HasCleanDisk (state g new) → KeepsIfShut (state g old) (state g new)
 
 -- what a command makes of the tables
 abbrev pub Effect : Row → Command → Tables → Tables → Type 0

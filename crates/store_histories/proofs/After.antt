@@ -3,7 +3,6 @@ use Rattle.std.proofs.Common.{◌≡◌, Bool, true, refl, Some}
 use Rattle.sqlite_trees.specs.declared.store.Store.{Ghosts}
 use Rattle.sqlite_trees.specs.Tree.{Trees}
 use Rattle.sqlite.specs.State.{State}
-use Rattle.sql_tables.specs.States.{Rests}
 use Rattle.sql_tables.specs.Calls.{Asked, Changed}
 use Rattle.sql_tables.proofs.Calls.{rests_as, asked_rests, changed_then, changed_as}
 use Rattle.prof_tables.specs.Schema.{schema_one}

@@ -1,5 +1,5 @@
 -- What is answered to a command, and what it leaves.
-use Rattle.std.specs.Prelude.{◌≡◌, ◌⊎◌, Bool, true, false, IsTrue, Some, Result, Ok, Err, IfOk, List, [], ◌∷◌, ◌++◌}
+use Rattle.std.specs.Prelude.{◌≡◌, ◌⊎◌, Bool, true, false, IsTrue, Some, Result, Ok, Err, IfOk, [], ◌∷◌, ◌++◌}
 use Rattle.std.specs.Result.{is_ok}
 use Rattle.sqlite_trees.specs.declared.store.Store.{Ghosts}
 use Rattle.sqlite_trees.specs.Tree.{Trees}
@@ -10,7 +10,7 @@ use Rattle.prof_store.specs.Shown.{shown, StandsFor, ReadsAs, IsFaithful, IsUsab
 use Rattle.prof_store.specs.declared.store.Store.{Store}
 use Rattle.store_columns.specs.declared.errors.StoreError.{StoreError}
 use Rattle.store_columns.specs.declared.errors.StoreError.TheVariants as ends
-use Rattle.histories.specs.History.{History, Said, Turn}
+use Rattle.histories.specs.History.{History, Said}
 use Rattle.histories.specs.Legal.{IsLegal, IsHistory, expected_of_query, expected_answer}
 use Rattle.histories.specs.Stands.{TablesTell}
 use Rattle.histories.specs.declared.answers.Answer.{Answer}

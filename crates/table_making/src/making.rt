@@ -3,7 +3,8 @@ ghost use Rattle.std.specs.Prelude.{◌≡◌, ◌↔◌, false, IsTrue, IfErr, 
 ghost use Rattle.std.specs.Result.{is_ok};
 ghost use Rattle.sqlite.specs.Held.{state};
 ghost use Rattle.sqlite.specs.State.{HasCleanDisk, Survives};
-ghost use Rattle.sql_tables.specs.Calls.{KeepsIfShut, Stays};
+ghost use Rattle.sql_tables.specs.Calls.{Stays};
+ghost use Rattle.store_columns.specs.Within.{CommitsUnlessShut};
 ghost use Rattle.sql_tables.specs.States.{Rests, IsBlank};
 ghost use Rattle.prof_tables.specs.Schema.{empty_schema, schema_to_derived, schema_to_arc, schema_one};
 ghost use Rattle.prof_tables.specs.Tables.{Holds, new_tables};
@@ -117,7 +118,7 @@ fn create_in<S: Alter>(conn: &mut Connection<S>) -> Result<(), StoreError>
     ensures undone { HasCleanDisk (state S.Store conn.new) → OnErr result (IsUndone (state S.Store conn.old) (state S.Store conn.new)) }
     ensures stays { HasCleanDisk (state S.Store conn.new) → Stays (is_ok result) (state S.Store conn.old) (state S.Store conn.new) }
     ensures crash { IsBlank empty_schema (state S.Store conn.old) → Survives (state S.Store conn.old) (state S.Store conn.new) (Holds new_tables) }
-    ensures shut { HasCleanDisk (state S.Store conn.new) → KeepsIfShut (state S.Store conn.old) (state S.Store conn.new) }
+    ensures shut { CommitsUnlessShut S.Store conn.old conn.new }
 {
     let mut tx = conn.transaction();
     fill_new(&mut tx)?;

@@ -1,4 +1,4 @@
-use Rattle.std.proofs.Common.{◌<◌, arith}
+use Rattle.std.proofs.Common.{arith}
 use Rattle.held_runs.proofs.NumberLists.{all_near}
 use Rattle.held_runs.proofs.numbers.are_near.Goals as goal
 

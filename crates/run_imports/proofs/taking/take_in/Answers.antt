@@ -1,7 +1,7 @@
 use Rattle.std.specs.Bool.{⊤}
 use Rattle.std.proofs.Common.{◌≡◌, true, false, Some, None, Ok, refl, sym, ap, subst, subst₂, ◌∙◌}
 use Rattle.sha2.specs.Sha256.{sha256}
-use Rattle.sql_tables.proofs.Calls.{asked_refused, asked_rests, changed_asked, rests_as, shut_answered, shut_asked}
+use Rattle.sql_tables.proofs.Calls.{asked_refused, asked_rests, changed_asked, shut_answered, shut_asked}
 use Rattle.prof_tables.specs.Schema.{schema_one}
 use Rattle.prof_tables.specs.Tables.{Tables, Holds}
 use Rattle.sources.specs.Outcomes.{bytes_of}

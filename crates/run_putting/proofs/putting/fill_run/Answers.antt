@@ -1,4 +1,4 @@
-use Rattle.std.proofs.Common.{◌≡◌, ◌<◌, List, ℕ, true, ap, ap₂, subst, ◌∙◌}
+use Rattle.std.proofs.Common.{refl, ◌≡◌, ◌<◌, List, ℕ, true, ap, ap₂, subst, ◌∙◌}
 use Rattle.std.specs.Bool.{⊤}
 use Rattle.std.specs.List.{AllByRecursion}
 use Rattle.std.specs.Result.{is_ok}
@@ -12,11 +12,11 @@ use Rattle.store_columns.proofs.Within.{both, writes_same, writes_then, writes_a
 use Rattle.run_putting.specs.Runs.{with_head_of}
 use Rattle.run_putting.proofs.putting.fill_run.Goals as goal
 
-pub returns : goal.returns
-returns g c =
+pub returns-clause-writes : goal.returns-clause-writes
+returns-clause-writes g c =
     let run = c.args.run.now in
     let head = with_head_of run c.args.head.now in
-    let above = writes_asking g.S.Store true (IsAbove run.number) (λ t. t.next ≡ run.number) head _ _ c.in_ok-put_head.ensures (λ t next was. subst (λ n. AllByRecursion (λ (r : RunLine). r.number < n) t.runs) next was.holds.below) in
+    let above = writes_asking g.S.Store true (IsAbove run.number) (λ t. t.next ≡ run.number) head _ _ c.in_ok-put_head.ensures.writes (λ t next was. subst (λ n. AllByRecursion (λ (r : RunLine). r.number < n) t.runs) next was.holds.below) in
     let content = content_of c.args.rows.now in
     let names = c.names.result.now in
     let cells = with_cells (cell_lines run.number c.deref.result.now content.cells) in
@@ -32,3 +32,7 @@ returns g c =
     ap₂ (λ (n m : List ℕ). stacks (with_arcs (arc_lines run.number m content.arcs) (with_cells (cell_lines run.number n content.cells) (all_named names t)))) (c.deref.ensures.value ∙ numbers) (c.deref-2.ensures.value ∙ numbers)
     ∙ ap (λ (l : List (List ℕ)). let known = all_named l t in stacks (with_arcs (arc_lines run.number (numbers_in known l) content.arcs) (with_cells (cell_lines run.number (numbers_in known l) content.cells) known))) c.names.ensures) in
     writes_then g.S.Store done (λ t. t.next ≡ run.number) (λ _. ⊤) head (with_rows run.number content) _ _ _ above rows (λ t is. tt)
+
+pub returns-clause-found_open : goal.returns-clause-found_open
+returns-clause-found_open g c is clean =
+    c.in_ok-put_head.ensures.found_open refl (was_faithful g.S.Store c.in_ok-numbers.ensures.writes (was_faithful g.S.Store c.in_ok-put_cells.ensures (was_faithful g.S.Store c.in_ok-put_arcs.ensures (was_faithful g.S.Store c.put_stacks.ensures clean))))

@@ -1,5 +1,4 @@
-use Rattle.std.proofs.Common.{[], Ok}
-use Rattle.sqlite.specs.State.{State, ExecutesInside}
+use Rattle.std.proofs.Common.{[]}
 use Rattle.sql_tables.specs.States.{Works}
 use Rattle.sql_tables.proofs.Statements.{inside_done}
 use Rattle.prof_tables.specs.Schema.{schema_one}

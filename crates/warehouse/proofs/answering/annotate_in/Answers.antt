@@ -1,7 +1,7 @@
-use Rattle.std.proofs.Common.{◌≡◌, inl, inr, refl, sym, ap, subst, subst₂, ◌∙◌, Some}
+use Rattle.std.proofs.Common.{◌≡◌, inl, inr, refl, sym, subst, subst₂, ◌∙◌}
 use Rattle.sources.specs.Outcomes.{bytes_of}
 use Rattle.histories.specs.History.{Annotate}
-use Rattle.histories.specs.Legal.{expected_answer, expected_of_query, most_of_source}
+use Rattle.histories.specs.Legal.{expected_of_query, most_of_source}
 use Rattle.histories.specs.declared.answers.Query.TheVariants as queries
 use Rattle.histories.proofs.ReadsDue.{ended_due}
 use Rattle.store_histories.specs.Answered.{Answers, WasAsked}
@@ -37,8 +37,11 @@ returns-in-Ok g c = record {
       record {
         outcomes = read.outcomes;
         came = read.came;
-        answered = inr (read.read.0, λ clean t was. subst₂ (λ x a. OrFailed (IsAnnotated t c.args.selection c.args.event c.args.file x) a) text (sym c.answer_of.ensures)
-            (or_failed (IsAnnotated t c.args.selection c.args.event c.args.file c.from_vec-text.result) c.annotate_answer.result ((c.annotate_answer.ensures clean).told t was)));
+        answered = inr (
+          read.read.0,
+          λ clean t was. subst₂ (λ x a. OrFailed (IsAnnotated t c.args.selection c.args.event c.args.file x) a) text (sym c.answer_of.ensures)
+              (or_failed (IsAnnotated t c.args.selection c.args.event c.args.file c.from_vec-text.result) c.annotate_answer.result ((c.annotate_answer.ensures clean).told t was)),
+        );
       };
 }
 

@@ -1,10 +1,9 @@
 use Rattle.std.proofs.Common.{refl, subst}
 use Rattle.prof_tables.specs.Seen.{calls_seen}
-use Rattle.prof_tables.specs.Tables.{RunLine, run_columns}
 use Rattle.prof_tables.proofs.Means.{call_counts_plain}
-use Rattle.prof_tables.proofs.Lists.{calls_listed, calls_are}
+use Rattle.prof_tables.proofs.Lists.{calls_listed}
 use Rattle.prof_store.specs.Totals.{IsSum}
-use Rattle.prof_store.proofs.HeldSums.{sum_permuted, sum_seen, sum_shown}
+use Rattle.prof_store.proofs.HeldSums.{sum_permuted, sum_seen}
 use Rattle.prof_tables.specs.Schema.{schema_one}
 use Rattle.sql_tables.proofs.Calls.{asked_err, asked_if}
 use Rattle.prof_store.proofs.Told.{count_told, said}

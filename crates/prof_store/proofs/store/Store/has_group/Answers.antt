@@ -1,6 +1,6 @@
 use Rattle.std.proofs.Common.{◌∙◌, ◌==◌, length, not, ap}
 use Rattle.prof_tables.proofs.Means.{find_group_plain}
-use Rattle.prof_tables.proofs.GroupFinds.{group_listed, group_there}
+use Rattle.prof_tables.proofs.GroupFinds.{group_listed}
 use Rattle.prof_tables.specs.Schema.{schema_one}
 use Rattle.sql_tables.proofs.Calls.{asked_err}
 use Rattle.prof_store.proofs.Told.{has_group_told, said}

@@ -1,6 +1,6 @@
 use Rattle.std.proofs.Common.{◌∙◌, ◌==◌, length, not, ap, arith}
 use Rattle.prof_tables.proofs.Means.{kind_of_plain}
-use Rattle.prof_tables.proofs.RunFinds.{run_listed, run_there}
+use Rattle.prof_tables.proofs.RunFinds.{run_listed}
 use Rattle.prof_tables.specs.Schema.{schema_one}
 use Rattle.sql_tables.proofs.Calls.{asked_err}
 use Rattle.prof_store.proofs.Told.{has_run_told, said}

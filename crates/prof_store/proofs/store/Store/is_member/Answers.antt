@@ -1,5 +1,5 @@
 use Rattle.std.proofs.Common.{ap, not, length, ◌==◌, ◌∙◌, arith}
-use Rattle.prof_tables.proofs.MemberFinds.{member_found, member_listed}
+use Rattle.prof_tables.proofs.MemberFinds.{member_listed}
 use Rattle.prof_tables.proofs.Means.{find_member_plain}
 use Rattle.prof_tables.specs.Schema.{schema_one}
 use Rattle.sql_tables.proofs.Calls.{asked_err}

@@ -1,6 +1,6 @@
 use Rattle.std.proofs.Common.{◌∙◌, sym}
 use Rattle.prof_tables.proofs.Means.{next_plain}
-use Rattle.prof_tables.proofs.Finds.{next_found, next_is}
+use Rattle.prof_tables.proofs.Finds.{next_found}
 use Rattle.prof_tables.specs.Schema.{schema_one}
 use Rattle.sql_tables.proofs.Calls.{asked_err, asked_if}
 use Rattle.prof_store.proofs.Told.{next_told, said}

@@ -1,18 +1,20 @@
 use Rattle.std.specs.Result.{is_ok}
-use Rattle.std.proofs.Common.{[], ◌∷◌}
+use Rattle.std.proofs.Common.{◌≡◌, true, [], ◌∷◌}
 use Rattle.sqlite_value.specs.declared.value.Value.TheVariants.{Text}
 use Rattle.prof_tables.specs.Tables.{Holds}
 use Rattle.prof_tables.specs.Texts.{put_group_sql}
 use Rattle.prof_tables.specs.Changes.{with_group}
 use Rattle.prof_tables.proofs.Means.{put_group_means, put_group_plain}
 use Rattle.prof_tables.proofs.Rows.{puts_group}
-use Rattle.prof_tables.proofs.Writes.{put_group_writes}
-use Rattle.prof_store.proofs.Writing.{wrote}
+use Rattle.prof_store.proofs.Writing.{of_any}
+use Rattle.store_columns.specs.Within.{TextMakes}
 use Rattle.prof_store.proofs.store.Store.put_group.Goals as goal
 
 pub returns : goal.returns
 returns g c = record {
   changes = λ clean.
       let name = c.args.name.now in
-      wrote put_group_sql (Text name ∷ []) _ put_group_means put_group_plain tt put_group_writes Holds (λ t. Holds (with_group name t)) (λ t limit trees text tally after was sound. puts_group t limit trees text tally after was sound name) (is_ok c.write.result) _ _ clean (rw c.params-to_sql.ensures at c.write.ensures.survives) ((rw c.params-to_sql.ensures at c.write.ensures.ran) clean);
+      let makes : TextMakes put_group_sql (Text name ∷ []) (λ _. true ≡ true) (with_group name) = record { command = _; means = put_group_means; plain = put_group_plain; writes = tt; effect = λ t _ limit trees text tally after was sound. puts_group t limit trees text tally after was sound name } in
+      of_any (λ t. Holds (with_group name t)) (is_ok c.write.result) (is_ok c.write.result) _ _ ((rw c.params-to_sql.ensures at c.write.ensures.commits) (λ _. true) (with_group name) makes clean);
+  shut = c.write.ensures.shut;
 }

@@ -4,7 +4,7 @@ use Rattle.sqlite.specs.Held.{state}
 use Rattle.sqlite.specs.State.{QueriesRow}
 use Rattle.prof_store.specs.Shown.{shown}
 use Rattle.sql_tables.proofs.Failures.{none_there}
-use Rattle.prof_tables.proofs.Finds.{digest_found, digest_absent, no_run_of, run_of}
+use Rattle.prof_tables.proofs.Finds.{digest_found, digest_absent}
 use Rattle.prof_tables.specs.Schema.{schema_one}
 use Rattle.prof_tables.specs.Texts.{by_digest_sql}
 use Rattle.prof_tables.proofs.Means.{by_digest_means, by_digest_plain}

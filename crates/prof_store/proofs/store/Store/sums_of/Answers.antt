@@ -1,11 +1,9 @@
 use Rattle.std.proofs.Common.{refl, subst}
-use Rattle.prof_tables.specs.Seen.{sums_seen, sums_shown}
-use Rattle.prof_tables.specs.Tables.{EventLine}
+use Rattle.prof_tables.specs.Seen.{sums_seen}
 use Rattle.prof_tables.proofs.Means.{sums_of_plain}
-use Rattle.prof_tables.proofs.RunLists.{sums_listed, sums_are}
+use Rattle.prof_tables.proofs.RunLists.{sums_listed}
 use Rattle.prof_store.specs.Totals.{IsSum}
-use Rattle.prof_books.specs.Totals.{lines_named}
-use Rattle.prof_store.proofs.HeldSums.{sum_permuted, sum_seen, sum_shown}
+use Rattle.prof_store.proofs.HeldSums.{sum_permuted, sum_seen}
 use Rattle.prof_tables.specs.Schema.{schema_one}
 use Rattle.sql_tables.proofs.Calls.{asked_err, asked_if}
 use Rattle.prof_store.proofs.Told.{sums_told, said}
