@@ -2,8 +2,9 @@
 use crate::given::Given;
 use crate::stores::empty;
 use callgrind_reader::Reader;
-use cg_formulas::Flat;
+use cg_formulas::{FileHead, Flat};
 use cg_text::{ListVec, fields};
+use cost_reports::verify;
 use cost_rows::{ArcRow, CellRow, FileRows};
 use std::alloc::{AllocError, Global};
 use std::test::Fail;
@@ -143,5 +144,26 @@ fn a_list_of_commands_is_answered(rt: HostRuntime) -> Result<(), Fail> {
     for (at, answer) in answers.iter().enumerate() {
         assert!(rt; is_wanted(at, answer));
     }
+    Ok(())
+}
+
+/// An event behind the last sum has none, and its name may have any byte.
+#[test]
+fn sums_may_be_fewer_than_events(rt: HostRuntime) -> Result<(), Fail> {
+    let alloc = rt.alloc();
+    let mut events = ListVec::new(alloc);
+    events.push(ListVec::from_vec(b"Ir".to_vec(alloc)?))?;
+    events.push(ListVec::from_vec(b"D\nr".to_vec(alloc)?))?;
+    let derived = Flat::of(ListVec::new(alloc), ListVec::new(alloc)).ok_or(AllocError)?;
+    let head = FileHead {
+        events,
+        derived,
+        stated: None,
+    };
+    let text = verify(alloc, 3, &head, &[9])?.text(alloc)?;
+    assert_eq!(rt;
+        text.as_slice(),
+        b"3 Ir 9 none none\n3 D\\x0ar 0 none none\n".as_slice()
+    );
     Ok(())
 }

@@ -1,8 +1,8 @@
-// The cells and the calls of a run, over rows that are written by hand.
+// The cells and the calls of a run, over rows that are written by hand, and what is asked of runs and groups that are not held.
 use crate::stores::filled;
 use cg_text::ListVec;
 use cost_rows::{ArcRow, CellRow};
-use held_runs::{TakesCalls, TakesCells, each_call, each_cell, names_of};
+use held_runs::{TakesCalls, TakesCells, baseline_of, each_call, each_cell, kind_of, members_of, names_of, sums_of};
 use prof_store::{Store, StoreError};
 use sqlite::MemStore;
 use std::alloc::Global;
@@ -127,5 +127,19 @@ fn memory_refused_to_walk(rt: HostRuntime) -> Result<(), Fail> {
         told => told?,
     };
     assert!(rt; costs == (3, 0, 3) && told == (4, 400));
+    Ok(())
+}
+
+/// A run without events and a group without members are empty; a kind and a baseline have to be there.
+#[test]
+fn what_is_not_held_is_not_told(rt: HostRuntime) -> Result<(), Fail> {
+    let alloc = rt.alloc();
+    let mut store = filled(alloc, "INSERT INTO grp VALUES ('all', 1)", 0)?;
+    let store = &mut store;
+    assert!(rt; members_of(store, alloc, "al")?.is_empty());
+    assert!(rt; sums_of(store, alloc, 7)?.is_empty());
+    assert!(rt; matches!(kind_of(store, 7), Err(StoreError::Store)));
+    assert!(rt; matches!(baseline_of(store, "al"), Err(StoreError::Store)));
+    assert!(rt; baseline_of(store, "all")? == Some(1));
     Ok(())
 }
