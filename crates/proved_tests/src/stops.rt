@@ -232,7 +232,7 @@ fn ask(
     }
 }
 
-/// What files tell of runs, groups, sums and costs; nothing where they hold no store.
+/// What files tell of runs, groups, sums and costs; nothing where they hold no store, and then one can be made.
 fn told_by(alloc: Global, log: &[u8], database: &[u8]) -> Result<Vec<u8>, Fail> {
     let mut told = Vec::new(alloc);
     let files = files_of(alloc, log, database, Stops::Both, u64::MAX)?;
@@ -240,8 +240,12 @@ fn told_by(alloc: Global, log: &[u8], database: &[u8]) -> Result<Vec<u8>, Fail> 
         Ok(conn) => conn,
         Err(_) => Err("the files cannot be opened")?,
     };
-    let Ok(mut house) = house_over(alloc, conn) else {
-        return Ok(told);
+    let mut house = match house_over(alloc, conn) {
+        Ok(house) => house,
+        Err(conn) => match Store::create(alloc, conn) {
+            Ok(_) => return Ok(told),
+            Err(_) => Err("a store that is half made")?,
+        },
     };
     let house = &mut house;
     ask(alloc, house, Query::Runs, &mut told)?;

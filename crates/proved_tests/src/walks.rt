@@ -2,7 +2,10 @@
 use crate::stores::filled;
 use cg_text::ListVec;
 use cost_rows::{ArcRow, CellRow};
-use held_runs::{TakesCalls, TakesCells, baseline_of, each_call, each_cell, kind_of, members_of, names_of, sums_of};
+use held_runs::{
+    TakesCalls, TakesCells, baseline_of, each_call, each_cell, kind_of, members_of, names_of,
+    sums_of,
+};
 use prof_store::{Store, StoreError};
 use sqlite::MemStore;
 use std::alloc::Global;
