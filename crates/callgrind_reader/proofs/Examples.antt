@@ -7,16 +7,17 @@ use Rattle.cg_text.specs.Numbers.{number_of, amount_of}
 use Rattle.cg_text.specs.Readings.{reading_of}
 use Rattle.cg_text.specs.Subpositions.{subpos_of}
 use Rattle.cg_text.specs.declared.faults.Fault.TheVariants.{BadNumber, CallWithoutCost, EventTwice, EventsChanged, IdRedefined, NoEvents, NumberTooLarge, PositionRange, PositionsForm, ShortLine, TooManyCosts, UnknownId, UnknownLine, Version}
-use Rattle.profile_records.specs.Records.{Own, Called}
+use Rattle.profile_records.specs.Records.{Record, Own, Called}
 use Rattle.callgrind_reader.specs.IdPlaces.{place_or}
 use Rattle.callgrind_reader.specs.NearPlaces.{place_near}
-use Rattle.callgrind_reader.specs.Files.{records_of_file, fault_of_file, events_of_file, stated_of_file}
+use Rattle.callgrind_reader.specs.Grammars.{First, Second}
+use Rattle.callgrind_reader.specs.Files.{fault_by, records_by, records_of_file, fault_of_file, events_of_file, stated_of_file}
 
 -- ---- the worked files: their records, and that they are accepted
 
 records-three_events : records_of_file (codes "# callgrind format\nevents: Cycles Instructions Flops\nfl=file.f\nfn=main\n15 90 14 2\n16 20 12\n")
-    ≡ Own (record { at = 5; object = codes "???"; file = codes "file.f"; function = codes "main"; line = 15; costs = 90 ∷ 14 ∷ 2 ∷ [] })
-    ∷ Own (record { at = 6; object = codes "???"; file = codes "file.f"; function = codes "main"; line = 16; costs = 20 ∷ 12 ∷ 0 ∷ [] })
+    ≡ Own (record { at = 5; object = codes "???"; file = codes "file.f"; function = codes "main"; line = 15; thread = 0; costs = 90 ∷ 14 ∷ 2 ∷ [] })
+    ∷ Own (record { at = 6; object = codes "???"; file = codes "file.f"; function = codes "main"; line = 16; thread = 0; costs = 20 ∷ 12 ∷ 0 ∷ [] })
     ∷ []
 unfolding reading_of line_text kind_of name_of number_of amount_of subpos_of
 records-three_events = refl
@@ -26,12 +27,12 @@ unfolding reading_of line_text kind_of name_of number_of amount_of subpos_of
 fault-three_events = refl
 
 records-manual_calls : records_of_file (codes "# callgrind format\nevents: Instructions\n\nfl=file1.c\nfn=main\n16 20\ncfn=func1\ncalls=1 50\n16 400\ncfi=file2.c\ncfn=func2\ncalls=3 20\n16 400\n\nfn=func1\n51 100\ncfi=file2.c\ncfn=func2\ncalls=2 20\n51 300\n\nfl=file2.c\nfn=func2\n20 700\n")
-    ≡ Own (record { at = 6; object = codes "???"; file = codes "file1.c"; function = codes "main"; line = 16; costs = 20 ∷ [] })
-    ∷ Called (record { object = codes "???"; file = codes "file1.c"; function = codes "func1"; count = 1 }) (record { at = 9; object = codes "???"; file = codes "file1.c"; function = codes "main"; line = 16; costs = 400 ∷ [] })
-    ∷ Called (record { object = codes "???"; file = codes "file2.c"; function = codes "func2"; count = 3 }) (record { at = 13; object = codes "???"; file = codes "file1.c"; function = codes "main"; line = 16; costs = 400 ∷ [] })
-    ∷ Own (record { at = 16; object = codes "???"; file = codes "file1.c"; function = codes "func1"; line = 51; costs = 100 ∷ [] })
-    ∷ Called (record { object = codes "???"; file = codes "file2.c"; function = codes "func2"; count = 2 }) (record { at = 20; object = codes "???"; file = codes "file1.c"; function = codes "func1"; line = 51; costs = 300 ∷ [] })
-    ∷ Own (record { at = 24; object = codes "???"; file = codes "file2.c"; function = codes "func2"; line = 20; costs = 700 ∷ [] })
+    ≡ Own (record { at = 6; object = codes "???"; file = codes "file1.c"; function = codes "main"; line = 16; thread = 0; costs = 20 ∷ [] })
+    ∷ Called (record { object = codes "???"; file = codes "file1.c"; function = codes "func1"; count = 1 }) (record { at = 9; object = codes "???"; file = codes "file1.c"; function = codes "main"; line = 16; thread = 0; costs = 400 ∷ [] })
+    ∷ Called (record { object = codes "???"; file = codes "file2.c"; function = codes "func2"; count = 3 }) (record { at = 13; object = codes "???"; file = codes "file1.c"; function = codes "main"; line = 16; thread = 0; costs = 400 ∷ [] })
+    ∷ Own (record { at = 16; object = codes "???"; file = codes "file1.c"; function = codes "func1"; line = 51; thread = 0; costs = 100 ∷ [] })
+    ∷ Called (record { object = codes "???"; file = codes "file2.c"; function = codes "func2"; count = 2 }) (record { at = 20; object = codes "???"; file = codes "file1.c"; function = codes "func1"; line = 51; thread = 0; costs = 300 ∷ [] })
+    ∷ Own (record { at = 24; object = codes "???"; file = codes "file2.c"; function = codes "func2"; line = 20; thread = 0; costs = 700 ∷ [] })
     ∷ []
 unfolding reading_of line_text kind_of name_of number_of amount_of subpos_of
 records-manual_calls = refl
@@ -41,12 +42,12 @@ unfolding reading_of line_text kind_of name_of number_of amount_of subpos_of
 fault-manual_calls = refl
 
 records-manual_compressed : records_of_file (codes "# callgrind format\nevents: Instructions\n\nfl=(1) file1.c\nfl=(2) file2.c\nfn=(1) main\nfn=(2) func1\nfn=(3) func2\n\nfl=(1)\nfn=(1)\n16 20\ncfn=(2)\ncalls=1 50\n16 400\ncfi=(2)\ncfn=(3)\ncalls=3 20\n16 400\n\nfn=(2)\n51 100\ncfi=(2)\ncfn=(3)\ncalls=2 20\n51 300\n\nfl=(2)\nfn=(3)\n20 700\n")
-    ≡ Own (record { at = 12; object = codes "???"; file = codes "file1.c"; function = codes "main"; line = 16; costs = 20 ∷ [] })
-    ∷ Called (record { object = codes "???"; file = codes "file1.c"; function = codes "func1"; count = 1 }) (record { at = 15; object = codes "???"; file = codes "file1.c"; function = codes "main"; line = 16; costs = 400 ∷ [] })
-    ∷ Called (record { object = codes "???"; file = codes "file2.c"; function = codes "func2"; count = 3 }) (record { at = 19; object = codes "???"; file = codes "file1.c"; function = codes "main"; line = 16; costs = 400 ∷ [] })
-    ∷ Own (record { at = 22; object = codes "???"; file = codes "file1.c"; function = codes "func1"; line = 51; costs = 100 ∷ [] })
-    ∷ Called (record { object = codes "???"; file = codes "file2.c"; function = codes "func2"; count = 2 }) (record { at = 26; object = codes "???"; file = codes "file1.c"; function = codes "func1"; line = 51; costs = 300 ∷ [] })
-    ∷ Own (record { at = 30; object = codes "???"; file = codes "file2.c"; function = codes "func2"; line = 20; costs = 700 ∷ [] })
+    ≡ Own (record { at = 12; object = codes "???"; file = codes "file1.c"; function = codes "main"; line = 16; thread = 0; costs = 20 ∷ [] })
+    ∷ Called (record { object = codes "???"; file = codes "file1.c"; function = codes "func1"; count = 1 }) (record { at = 15; object = codes "???"; file = codes "file1.c"; function = codes "main"; line = 16; thread = 0; costs = 400 ∷ [] })
+    ∷ Called (record { object = codes "???"; file = codes "file2.c"; function = codes "func2"; count = 3 }) (record { at = 19; object = codes "???"; file = codes "file1.c"; function = codes "main"; line = 16; thread = 0; costs = 400 ∷ [] })
+    ∷ Own (record { at = 22; object = codes "???"; file = codes "file1.c"; function = codes "func1"; line = 51; thread = 0; costs = 100 ∷ [] })
+    ∷ Called (record { object = codes "???"; file = codes "file2.c"; function = codes "func2"; count = 2 }) (record { at = 26; object = codes "???"; file = codes "file1.c"; function = codes "func1"; line = 51; thread = 0; costs = 300 ∷ [] })
+    ∷ Own (record { at = 30; object = codes "???"; file = codes "file2.c"; function = codes "func2"; line = 20; thread = 0; costs = 700 ∷ [] })
     ∷ []
 unfolding reading_of line_text kind_of name_of number_of amount_of subpos_of
 records-manual_compressed = refl
@@ -56,9 +57,9 @@ unfolding reading_of line_text kind_of name_of number_of amount_of subpos_of
 fault-manual_compressed = refl
 
 records-instr_line : records_of_file (codes "positions: instr line\nevents: ticks\nfn=func\n0x80001234 90 1\n+3 * 5\n+1 +1 6\n")
-    ≡ Own (record { at = 4; object = codes "???"; file = codes "???"; function = codes "func"; line = 90; costs = 1 ∷ [] })
-    ∷ Own (record { at = 5; object = codes "???"; file = codes "???"; function = codes "func"; line = 90; costs = 5 ∷ [] })
-    ∷ Own (record { at = 6; object = codes "???"; file = codes "???"; function = codes "func"; line = 91; costs = 6 ∷ [] })
+    ≡ Own (record { at = 4; object = codes "???"; file = codes "???"; function = codes "func"; line = 90; thread = 0; costs = 1 ∷ [] })
+    ∷ Own (record { at = 5; object = codes "???"; file = codes "???"; function = codes "func"; line = 90; thread = 0; costs = 5 ∷ [] })
+    ∷ Own (record { at = 6; object = codes "???"; file = codes "???"; function = codes "func"; line = 91; thread = 0; costs = 6 ∷ [] })
     ∷ []
 unfolding reading_of line_text kind_of name_of number_of amount_of subpos_of
 records-instr_line = refl
@@ -68,8 +69,8 @@ unfolding reading_of line_text kind_of name_of number_of amount_of subpos_of
 fault-instr_line = refl
 
 records-three_name_spaces : records_of_file (codes "events: Ir\nob=(1) x.so\nfl=(1) a.c\nfn=(1) f\n1 2\nob=(1)\nfl=(1)\nfn=(1)\n+1 3\n")
-    ≡ Own (record { at = 5; object = codes "x.so"; file = codes "a.c"; function = codes "f"; line = 1; costs = 2 ∷ [] })
-    ∷ Own (record { at = 9; object = codes "x.so"; file = codes "a.c"; function = codes "f"; line = 2; costs = 3 ∷ [] })
+    ≡ Own (record { at = 5; object = codes "x.so"; file = codes "a.c"; function = codes "f"; line = 1; thread = 0; costs = 2 ∷ [] })
+    ∷ Own (record { at = 9; object = codes "x.so"; file = codes "a.c"; function = codes "f"; line = 2; thread = 0; costs = 3 ∷ [] })
     ∷ []
 unfolding reading_of line_text kind_of name_of number_of amount_of subpos_of
 records-three_name_spaces = refl
@@ -79,10 +80,10 @@ unfolding reading_of line_text kind_of name_of number_of amount_of subpos_of
 fault-three_name_spaces = refl
 
 records-relative_after_call : records_of_file (codes "events: Ir\nfl=a.c\nfn=main\n10 5\ncfn=(4) g\ncalls=2 30\n+2 7\n+1 1\nfn=(4)\n* 4\n")
-    ≡ Own (record { at = 4; object = codes "???"; file = codes "a.c"; function = codes "main"; line = 10; costs = 5 ∷ [] })
-    ∷ Called (record { object = codes "???"; file = codes "a.c"; function = codes "g"; count = 2 }) (record { at = 7; object = codes "???"; file = codes "a.c"; function = codes "main"; line = 12; costs = 7 ∷ [] })
-    ∷ Own (record { at = 8; object = codes "???"; file = codes "a.c"; function = codes "main"; line = 13; costs = 1 ∷ [] })
-    ∷ Own (record { at = 10; object = codes "???"; file = codes "a.c"; function = codes "g"; line = 13; costs = 4 ∷ [] })
+    ≡ Own (record { at = 4; object = codes "???"; file = codes "a.c"; function = codes "main"; line = 10; thread = 0; costs = 5 ∷ [] })
+    ∷ Called (record { object = codes "???"; file = codes "a.c"; function = codes "g"; count = 2 }) (record { at = 7; object = codes "???"; file = codes "a.c"; function = codes "main"; line = 12; thread = 0; costs = 7 ∷ [] })
+    ∷ Own (record { at = 8; object = codes "???"; file = codes "a.c"; function = codes "main"; line = 13; thread = 0; costs = 1 ∷ [] })
+    ∷ Own (record { at = 10; object = codes "???"; file = codes "a.c"; function = codes "g"; line = 13; thread = 0; costs = 4 ∷ [] })
     ∷ []
 unfolding reading_of line_text kind_of name_of number_of amount_of subpos_of
 records-relative_after_call = refl
@@ -92,9 +93,9 @@ unfolding reading_of line_text kind_of name_of number_of amount_of subpos_of
 fault-relative_after_call = refl
 
 records-below_main : records_of_file (codes "events: Ir\nfn=(below main)\n1 1\nfn=(7) (below main)\n1 2\nfn=(7)\n1 4\n")
-    ≡ Own (record { at = 3; object = codes "???"; file = codes "???"; function = codes "(below main)"; line = 1; costs = 1 ∷ [] })
-    ∷ Own (record { at = 5; object = codes "???"; file = codes "???"; function = codes "(below main)"; line = 1; costs = 2 ∷ [] })
-    ∷ Own (record { at = 7; object = codes "???"; file = codes "???"; function = codes "(below main)"; line = 1; costs = 4 ∷ [] })
+    ≡ Own (record { at = 3; object = codes "???"; file = codes "???"; function = codes "(below main)"; line = 1; thread = 0; costs = 1 ∷ [] })
+    ∷ Own (record { at = 5; object = codes "???"; file = codes "???"; function = codes "(below main)"; line = 1; thread = 0; costs = 2 ∷ [] })
+    ∷ Own (record { at = 7; object = codes "???"; file = codes "???"; function = codes "(below main)"; line = 1; thread = 0; costs = 4 ∷ [] })
     ∷ []
 unfolding reading_of line_text kind_of name_of number_of amount_of subpos_of
 records-below_main = refl
@@ -104,10 +105,10 @@ unfolding reading_of line_text kind_of name_of number_of amount_of subpos_of
 fault-below_main = refl
 
 records-four_lines : records_of_file (codes "events: Ir\nfl=a.c\nfn=f\n1 50\n2 30\n3 15\n4 5\n")
-    ≡ Own (record { at = 4; object = codes "???"; file = codes "a.c"; function = codes "f"; line = 1; costs = 50 ∷ [] })
-    ∷ Own (record { at = 5; object = codes "???"; file = codes "a.c"; function = codes "f"; line = 2; costs = 30 ∷ [] })
-    ∷ Own (record { at = 6; object = codes "???"; file = codes "a.c"; function = codes "f"; line = 3; costs = 15 ∷ [] })
-    ∷ Own (record { at = 7; object = codes "???"; file = codes "a.c"; function = codes "f"; line = 4; costs = 5 ∷ [] })
+    ≡ Own (record { at = 4; object = codes "???"; file = codes "a.c"; function = codes "f"; line = 1; thread = 0; costs = 50 ∷ [] })
+    ∷ Own (record { at = 5; object = codes "???"; file = codes "a.c"; function = codes "f"; line = 2; thread = 0; costs = 30 ∷ [] })
+    ∷ Own (record { at = 6; object = codes "???"; file = codes "a.c"; function = codes "f"; line = 3; thread = 0; costs = 15 ∷ [] })
+    ∷ Own (record { at = 7; object = codes "???"; file = codes "a.c"; function = codes "f"; line = 4; thread = 0; costs = 5 ∷ [] })
     ∷ []
 unfolding reading_of line_text kind_of name_of number_of amount_of subpos_of
 records-four_lines = refl
@@ -117,9 +118,9 @@ unfolding reading_of line_text kind_of name_of number_of amount_of subpos_of
 fault-four_lines = refl
 
 records-line_zero : records_of_file (codes "events: Ir\nfl=a.c\nfn=f\n0 1\n1 2\n9 4\n")
-    ≡ Own (record { at = 4; object = codes "???"; file = codes "a.c"; function = codes "f"; line = 0; costs = 1 ∷ [] })
-    ∷ Own (record { at = 5; object = codes "???"; file = codes "a.c"; function = codes "f"; line = 1; costs = 2 ∷ [] })
-    ∷ Own (record { at = 6; object = codes "???"; file = codes "a.c"; function = codes "f"; line = 9; costs = 4 ∷ [] })
+    ≡ Own (record { at = 4; object = codes "???"; file = codes "a.c"; function = codes "f"; line = 0; thread = 0; costs = 1 ∷ [] })
+    ∷ Own (record { at = 5; object = codes "???"; file = codes "a.c"; function = codes "f"; line = 1; thread = 0; costs = 2 ∷ [] })
+    ∷ Own (record { at = 6; object = codes "???"; file = codes "a.c"; function = codes "f"; line = 9; thread = 0; costs = 4 ∷ [] })
     ∷ []
 unfolding reading_of line_text kind_of name_of number_of amount_of subpos_of
 records-line_zero = refl
@@ -129,12 +130,12 @@ unfolding reading_of line_text kind_of name_of number_of amount_of subpos_of
 fault-line_zero = refl
 
 records-callgrind_layout : records_of_file (codes "# callgrind format\nversion: 1\ncreator: callgrind-3.22.0\npid: 4242\ncmd:  ./a.out\npart: 1\n\n\ndesc: I1 cache: \ndesc: D1 cache: \ndesc: LL cache: \n\ndesc: Timerange: Basic block 0 - 11\ndesc: Trigger: Program termination\n\npositions: line\nevents: Ir\nsummary: 12\n\n\nob=(1) /tmp/a.out\nfl=(1) a.c\nfn=(1) main\n3 2\n+2 1\ncfn=(2) g\ncalls=1 +4 \n* 6\nfi=(2) a.h\n-1 2\nfe=(1)\n+3 1\n\nfn=(2)\n9 6\n\ntotals: 12\n")
-    ≡ Own (record { at = 24; object = codes "/tmp/a.out"; file = codes "a.c"; function = codes "main"; line = 3; costs = 2 ∷ [] })
-    ∷ Own (record { at = 25; object = codes "/tmp/a.out"; file = codes "a.c"; function = codes "main"; line = 5; costs = 1 ∷ [] })
-    ∷ Called (record { object = codes "/tmp/a.out"; file = codes "a.c"; function = codes "g"; count = 1 }) (record { at = 28; object = codes "/tmp/a.out"; file = codes "a.c"; function = codes "main"; line = 5; costs = 6 ∷ [] })
-    ∷ Own (record { at = 30; object = codes "/tmp/a.out"; file = codes "a.h"; function = codes "main"; line = 4; costs = 2 ∷ [] })
-    ∷ Own (record { at = 32; object = codes "/tmp/a.out"; file = codes "a.c"; function = codes "main"; line = 7; costs = 1 ∷ [] })
-    ∷ Own (record { at = 35; object = codes "/tmp/a.out"; file = codes "a.c"; function = codes "g"; line = 9; costs = 6 ∷ [] })
+    ≡ Own (record { at = 24; object = codes "/tmp/a.out"; file = codes "a.c"; function = codes "main"; line = 3; thread = 0; costs = 2 ∷ [] })
+    ∷ Own (record { at = 25; object = codes "/tmp/a.out"; file = codes "a.c"; function = codes "main"; line = 5; thread = 0; costs = 1 ∷ [] })
+    ∷ Called (record { object = codes "/tmp/a.out"; file = codes "a.c"; function = codes "g"; count = 1 }) (record { at = 28; object = codes "/tmp/a.out"; file = codes "a.c"; function = codes "main"; line = 5; thread = 0; costs = 6 ∷ [] })
+    ∷ Own (record { at = 30; object = codes "/tmp/a.out"; file = codes "a.h"; function = codes "main"; line = 4; thread = 0; costs = 2 ∷ [] })
+    ∷ Own (record { at = 32; object = codes "/tmp/a.out"; file = codes "a.c"; function = codes "main"; line = 7; thread = 0; costs = 1 ∷ [] })
+    ∷ Own (record { at = 35; object = codes "/tmp/a.out"; file = codes "a.c"; function = codes "g"; line = 9; thread = 0; costs = 6 ∷ [] })
     ∷ []
 unfolding reading_of line_text kind_of name_of number_of amount_of subpos_of
 records-callgrind_layout = refl
@@ -144,9 +145,9 @@ unfolding reading_of line_text kind_of name_of number_of amount_of subpos_of
 fault-callgrind_layout = refl
 
 records-jumps : records_of_file (codes "events: Ir\nfn=f\n5 1\njfi=(3) x.h\njfn=(4) k\njcnd=3/4 9\n5\nfi=(3)\n+1 2\n")
-    ≡ Own (record { at = 3; object = codes "???"; file = codes "???"; function = codes "f"; line = 5; costs = 1 ∷ [] })
-    ∷ Own (record { at = 7; object = codes "???"; file = codes "???"; function = codes "f"; line = 5; costs = 0 ∷ [] })
-    ∷ Own (record { at = 9; object = codes "???"; file = codes "x.h"; function = codes "f"; line = 6; costs = 2 ∷ [] })
+    ≡ Own (record { at = 3; object = codes "???"; file = codes "???"; function = codes "f"; line = 5; thread = 0; costs = 1 ∷ [] })
+    ∷ Own (record { at = 7; object = codes "???"; file = codes "???"; function = codes "f"; line = 5; thread = 0; costs = 0 ∷ [] })
+    ∷ Own (record { at = 9; object = codes "???"; file = codes "x.h"; function = codes "f"; line = 6; thread = 0; costs = 2 ∷ [] })
     ∷ []
 unfolding reading_of line_text kind_of name_of number_of amount_of subpos_of
 records-jumps = refl
@@ -229,8 +230,8 @@ place-in_the_map = refl
 -- ---- calls
 
 records-called_names_forgotten : records_of_file (codes "events: Ir\nfn=f\ncob=x\ncfn=g\ncalls=1 1\n1 5\ncfn=h\ncalls=1 1\n2 6\n")
-    ≡ Called (record { object = codes "x"; file = codes "???"; function = codes "g"; count = 1 }) (record { at = 6; object = codes "???"; file = codes "???"; function = codes "f"; line = 1; costs = 5 ∷ [] })
-    ∷ Called (record { object = codes "???"; file = codes "???"; function = codes "h"; count = 1 }) (record { at = 9; object = codes "???"; file = codes "???"; function = codes "f"; line = 2; costs = 6 ∷ [] })
+    ≡ Called (record { object = codes "x"; file = codes "???"; function = codes "g"; count = 1 }) (record { at = 6; object = codes "???"; file = codes "???"; function = codes "f"; line = 1; thread = 0; costs = 5 ∷ [] })
+    ∷ Called (record { object = codes "???"; file = codes "???"; function = codes "h"; count = 1 }) (record { at = 9; object = codes "???"; file = codes "???"; function = codes "f"; line = 2; thread = 0; costs = 6 ∷ [] })
     ∷ []
 unfolding reading_of line_text kind_of name_of number_of amount_of subpos_of
 records-called_names_forgotten = refl
@@ -240,8 +241,8 @@ unfolding reading_of line_text kind_of name_of number_of amount_of subpos_of
 fault-called_names_forgotten = refl
 
 records-called_name_kept_over_cost_line : records_of_file (codes "events: Ir\nfn=f\ncfn=g\n1 5\ncalls=1 1\n2 6\n")
-    ≡ Own (record { at = 4; object = codes "???"; file = codes "???"; function = codes "f"; line = 1; costs = 5 ∷ [] })
-    ∷ Called (record { object = codes "???"; file = codes "???"; function = codes "g"; count = 1 }) (record { at = 6; object = codes "???"; file = codes "???"; function = codes "f"; line = 2; costs = 6 ∷ [] })
+    ≡ Own (record { at = 4; object = codes "???"; file = codes "???"; function = codes "f"; line = 1; thread = 0; costs = 5 ∷ [] })
+    ∷ Called (record { object = codes "???"; file = codes "???"; function = codes "g"; count = 1 }) (record { at = 6; object = codes "???"; file = codes "???"; function = codes "f"; line = 2; thread = 0; costs = 6 ∷ [] })
     ∷ []
 unfolding reading_of line_text kind_of name_of number_of amount_of subpos_of
 records-called_name_kept_over_cost_line = refl
@@ -448,12 +449,46 @@ fault-first_of_two : fault_of_file (codes "x\ny\n") ≡ Some (UnknownLine, 1)
 unfolding reading_of line_text kind_of name_of number_of amount_of subpos_of
 fault-first_of_two = refl
 
-fault-other_keys : fault_of_file (codes "creator: x\nthread: y\nZ: 1\n") ≡ None
+fault-other_keys : fault_of_file (codes "creator: x\ndesc: y\nZ: 1\n") ≡ None
 unfolding reading_of line_text kind_of name_of number_of amount_of subpos_of
 fault-other_keys = refl
 
 records-before_a_fault : records_of_file (codes "events: Ir\n1 1\nx\n2 2\n")
-    ≡ Own (record { at = 2; object = codes "???"; file = codes "???"; function = codes "???"; line = 1; costs = 1 ∷ [] })
+    ≡ Own (record { at = 2; object = codes "???"; file = codes "???"; function = codes "???"; line = 1; thread = 0; costs = 1 ∷ [] })
     ∷ []
 unfolding reading_of line_text kind_of name_of number_of amount_of subpos_of
 records-before_a_fault = refl
+
+-- ---- threads
+
+abbrev of_threads : List Record → List (ℕ × ℕ)
+of_threads [] = []
+of_threads (Own cost ∷ records) = (cost.line, cost.thread) ∷ of_threads records
+of_threads (Called callee cost ∷ records) = (cost.line, cost.thread) ∷ of_threads records
+
+abbrev with_threads : List ℕ
+with_threads = codes "events: Ir\nfn=f\n1 1\nthread: 2\n1 10\nthread: 1\n+1 100\nthread:2\n2 1000\n"
+
+threads-second : of_threads (records_by Second with_threads) ≡ (1, 0) ∷ (1, 2) ∷ (2, 1) ∷ (2, 2) ∷ []
+unfolding reading_of line_text kind_of name_of number_of amount_of subpos_of
+threads-second = refl
+
+threads-first : of_threads (records_by First with_threads) ≡ (1, 0) ∷ (1, 0) ∷ (2, 0) ∷ (2, 0) ∷ []
+unfolding reading_of line_text kind_of name_of number_of amount_of subpos_of
+threads-first = refl
+
+fault-no_thread : fault_by Second (codes "events: Ir\nthread: x\n1 1\n") ≡ Some (BadNumber, 2)
+unfolding reading_of line_text kind_of name_of number_of amount_of subpos_of
+fault-no_thread = refl
+
+fault-large_thread : fault_by Second (codes "events: Ir\nthread: 9223372036854775808\n1 1\n") ≡ Some (NumberTooLarge, 2)
+unfolding reading_of line_text kind_of name_of number_of amount_of subpos_of
+fault-large_thread = refl
+
+fault-two_threads : fault_by Second (codes "thread: 1 2\n") ≡ Some (BadNumber, 1)
+unfolding reading_of line_text kind_of name_of number_of amount_of subpos_of
+fault-two_threads = refl
+
+fault-unread_thread : fault_by First (codes "events: Ir\nthread: x\n1 1\n") ≡ None
+unfolding reading_of line_text kind_of name_of number_of amount_of subpos_of
+fault-unread_thread = refl

@@ -31,7 +31,7 @@ fault-derived_event-unknown = refl
 
 -- a fault of a formula takes no record away
 records-derived_event-unknown : records_of_file (codes "event: Est = Ir + 10 L1m + 100 * LLm : Estimate\nevents: Ir L1m LLm\nfn=f\n1 1000 20 3\nevent: Bad = Ir + Xx\n")
-    ≡ Own (record { at = 4; object = codes "???"; file = codes "???"; function = codes "f"; line = 1; costs = 1000 ∷ 20 ∷ 3 ∷ [] })
+    ≡ Own (record { at = 4; object = codes "???"; file = codes "???"; function = codes "f"; line = 1; thread = 0; costs = 1000 ∷ 20 ∷ 3 ∷ [] })
     ∷ []
 unfolding reading_of line_text kind_of name_of number_of amount_of subpos_of event_of formula_of term_of
 records-derived_event-unknown = refl

@@ -12,6 +12,7 @@ use Rattle.profile_records.specs.declared.marks.Mark.TheVariants.{Held, Own, Cal
 use Rattle.profile_records.specs.Records.{Cost, Callee}
 use Rattle.callgrind_reader.specs.Calls.{number_after, called, callee_of}
 use Rattle.callgrind_reader.specs.Lines.{cost_of}
+use Rattle.callgrind_reader.specs.Threads.{thread_of}
 use Rattle.callgrind_reader.specs.Names.{in_force}
 use Rattle.callgrind_reader.specs.Stands.{NamesAre}
 use Rattle.callgrind_reader.specs.Marks.{AreLent, AreOwn, AreCalled, own_text, IsLent, StillIs, KnownHolds, MarksStay, space_of}
@@ -87,18 +88,19 @@ pub ruleset marks_rules = (known-stays, marks-same)
 -- ---- the records that are lent
 
 -- costs with the names in force
-pub lent-cost : (n : Names) (names : LentNames) (at line : ℕ) (costs : List ℕ) (back : List Reading) → NamesAre n back → AreOwn n names → at ≡ number_after back
-    → record { at = at; object = names.object.text.now; file = names.file.text.now; function = names.function.text.now; line = line; costs = costs } ≡ cost_of line costs back
-lent-cost n names at line costs back are own number =
-    let P : ℕ → List ℕ → List ℕ → List ℕ → Cost = λ a o f u. record { at = a; object = o; file = f; function = u; line = line; costs = costs } in
+pub lent-cost : (n : Names) (names : LentNames) (at line thread : ℕ) (costs : List ℕ) (back : List Reading) → NamesAre n back → AreOwn n names → at ≡ number_after back → thread ≡ thread_of back
+    → record { at = at; object = names.object.text.now; file = names.file.text.now; function = names.function.text.now; line = line; thread = thread; costs = costs } ≡ cost_of line costs back
+lent-cost n names at line thread costs back are own number ran =
+    let P : ℕ → ℕ → List ℕ → List ℕ → List ℕ → Cost = λ t a o f u. record { at = a; object = o; file = f; function = u; line = line; thread = t; costs = costs } in
     let object : names.object.text.now ≡ in_force Object back = own.object ∙ ap (λ t. unwrap_or t unknown) are.objects.own in
     let file : names.file.text.now ≡ in_force File back = own.file ∙ ap (λ t. unwrap_or t unknown) are.files.own in
     let function : names.function.text.now ≡ in_force Function back = own.function ∙ ap (λ t. unwrap_or t unknown) are.functions.own in
-    let e : P at names.object.text.now names.file.text.now names.function.text.now ≡ P (number_after back) (in_force Object back) (in_force File back) (in_force Function back) =
-    ap (λ a. P a names.object.text.now names.file.text.now names.function.text.now) number
-    ∙ ap (λ o. P (number_after back) o names.file.text.now names.function.text.now) object
-    ∙ ap (λ f. P (number_after back) (in_force Object back) f names.function.text.now) file
-    ∙ ap (P (number_after back) (in_force Object back) (in_force File back)) function in
+    let e : P thread at names.object.text.now names.file.text.now names.function.text.now ≡ P (thread_of back) (number_after back) (in_force Object back) (in_force File back) (in_force Function back) =
+    ap (λ t. P t at names.object.text.now names.file.text.now names.function.text.now) ran
+    ∙ ap (λ a. P (thread_of back) a names.object.text.now names.file.text.now names.function.text.now) number
+    ∙ ap (λ o. P (thread_of back) (number_after back) o names.file.text.now names.function.text.now) object
+    ∙ ap (λ f. P (thread_of back) (number_after back) (in_force Object back) f names.function.text.now) file
+    ∙ ap (P (thread_of back) (number_after back) (in_force Object back) (in_force File back)) function in
     e
 
 -- whom calls called

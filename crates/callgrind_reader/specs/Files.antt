@@ -1,7 +1,7 @@
 -- The records and the first fault of a whole file.
 use Rattle.std.specs.Prelude.{ℕ, Bool, true, false, List, [], ◌∷◌, ◌++◌, map, length, Ok, Err, Option, Some, None}
 use Rattle.cg_text.specs.Lines.{lines_of}
-use Rattle.cg_text.specs.Readings.{Reading, reading_of}
+use Rattle.cg_text.specs.Readings.{Reading}
 use Rattle.cg_text.specs.Kinds as kinds
 use Rattle.cg_text.specs.Kinds.{Nothing, Calls}
 use Rattle.cg_formulas.specs.Formulas.{Definition, formula_fault, derived_of}
@@ -15,6 +15,7 @@ use Rattle.callgrind_reader.specs.Events.{events_of}
 use Rattle.callgrind_reader.specs.Totals.{stated_of}
 use Rattle.callgrind_reader.specs.Calls.{number_after}
 use Rattle.callgrind_reader.specs.Definitions.{definitions_of}
+use Rattle.callgrind_reader.specs.Grammars.{Grammar, Second, reading_in}
 use Rattle.callgrind_reader.specs.Lines.{record_of, fault_at}
 
 -- ---- a `calls=` line looks ahead
@@ -75,35 +76,62 @@ formulas_fault back = formula_fault (names_or_none (events_of back)) (definition
 abbrev pub fault_in : List Reading → Option (Fault × ℕ)
 fault_in rs = earlier_or (first_fault [] rs) (formulas_fault (onto rs []))
 
--- ---- a file
+-- ---- a text, by a grammar
 
-abbrev pub readings_of : List ℕ → List Reading
-readings_of text = map reading_of (lines_of text)
+-- each line by itself
+abbrev pub readings_by : Grammar → List ℕ → List Reading
+readings_by g text = map (reading_in g) (lines_of text)
 
 -- all lines, the nearest to the end first
-abbrev pub end_of : List ℕ → List Reading
-end_of = pieces.end_of reading_of
+abbrev pub end_by : Grammar → List ℕ → List Reading
+end_by g = pieces.end_of (reading_in g)
 
--- the first fault of a file, with its line; a file without one is accepted
-abbrev pub fault_of_file : List ℕ → Option (Fault × ℕ)
-fault_of_file text = fault_in (readings_of text)
+-- the first fault of a text, with its line; a text without one is accepted
+abbrev pub fault_by : Grammar → List ℕ → Option (Fault × ℕ)
+fault_by g text = fault_in (readings_by g text)
 
 -- the records of the lines before the first with a fault; where the fault is a formula's, all records
-abbrev pub records_of_file : List ℕ → List Record
-records_of_file = in_all reading_of (sound_records [])
+abbrev pub records_by : Grammar → List ℕ → List Record
+records_by g = in_all (reading_in g) (sound_records [])
 
--- the events of a file
-abbrev pub events_of_file : List ℕ → List (List ℕ)
-events_of_file text = names_or_none (events_of (end_of text))
+-- the events of a text
+abbrev pub events_by : Grammar → List ℕ → List (List ℕ)
+events_by g text = names_or_none (events_of (end_by g text))
 
 -- the definitions that its `event:` lines give
-abbrev pub definitions_of_file : List ℕ → List Definition
-definitions_of_file text = definitions_of (end_of text)
+abbrev pub definitions_by : Grammar → List ℕ → List Definition
+definitions_by g text = definitions_of (end_by g text)
 
 -- its derived events, each with its coefficients
-abbrev pub derived_of_file : List ℕ → List (List ℕ × List ℕ)
-derived_of_file text = derived_of (events_of_file text) (definitions_of_file text)
+abbrev pub derived_by : Grammar → List ℕ → List (List ℕ × List ℕ)
+derived_by g text = derived_of (events_by g text) (definitions_by g text)
 
--- the totals that a file states, one for each event
+-- the totals that it states, one for each event
+abbrev pub stated_by : Grammar → List ℕ → Option (List ℕ)
+stated_by g text = stated_of (length (events_by g text)) (end_by g text)
+
+-- ---- a file that is read now
+
+abbrev pub readings_of : List ℕ → List Reading
+readings_of = readings_by Second
+
+abbrev pub end_of : List ℕ → List Reading
+end_of = end_by Second
+
+abbrev pub fault_of_file : List ℕ → Option (Fault × ℕ)
+fault_of_file = fault_by Second
+
+abbrev pub records_of_file : List ℕ → List Record
+records_of_file = records_by Second
+
+abbrev pub events_of_file : List ℕ → List (List ℕ)
+events_of_file = events_by Second
+
+abbrev pub definitions_of_file : List ℕ → List Definition
+definitions_of_file = definitions_by Second
+
+abbrev pub derived_of_file : List ℕ → List (List ℕ × List ℕ)
+derived_of_file = derived_by Second
+
 abbrev pub stated_of_file : List ℕ → Option (List ℕ)
-stated_of_file text = stated_of (length (events_of_file text)) (end_of text)
+stated_of_file = stated_by Second

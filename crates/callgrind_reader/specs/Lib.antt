@@ -8,10 +8,12 @@ pub mod Totals
 pub mod Definitions
 pub mod Lines
 pub mod Files
+pub mod Grammars
 pub mod Inside
 pub mod NearPlaces
 pub mod IdPlaces
 pub mod Table
+pub mod Threads
 pub mod Current
 pub mod Space
 pub mod Marks

@@ -11,7 +11,7 @@ use Rattle.cg_text.specs.Words.{namespace_of}
 use Rattle.cg_text.specs.declared.faults.Fault.{Fault}
 use Rattle.cg_text.specs.declared.faults.Fault.TheVariants as faults
 use Rattle.cg_text.specs.declared.words.HeaderKey.{HeaderKey}
-use Rattle.cg_text.specs.declared.words.HeaderKey.TheVariants.{Version, Positions, Events, Event, Summary, Totals, Other}
+use Rattle.cg_text.specs.declared.words.HeaderKey.TheVariants.{Version, Positions, Events, Event, Summary, Totals, Thread, Other}
 use Rattle.cg_text.specs.declared.words.Namespace.TheVariants.{Object, File, Function}
 use Rattle.callgrind_reader.specs.Faulty.{each, err_of}
 use Rattle.profile_records.specs.Records.{Cost, Record, Own, Called}
@@ -19,6 +19,7 @@ use Rattle.callgrind_reader.specs.Names.{meaning, in_force, name_fault}
 use Rattle.callgrind_reader.specs.Events.{events_of, events_fault}
 use Rattle.callgrind_reader.specs.Positions.{form_of, settled, positions_fault}
 use Rattle.callgrind_reader.specs.Costs.{row_at}
+use Rattle.callgrind_reader.specs.Threads.{thread_in, thread_of}
 use Rattle.callgrind_reader.specs.Calls.{number_after, awaiting, callee_of, count_at}
 
 -- ---- records
@@ -31,6 +32,7 @@ cost_of line costs back = record {
   file = in_force File back;
   function = in_force Function back;
   line = line;
+  thread = thread_of back;
   costs = costs;
 }
 
@@ -67,6 +69,7 @@ header_fault Events value back = events_fault (fields_of value) (events_of back)
 header_fault Event value back = err_of (event_of value)
 header_fault Summary value back = err_of (each amount_of (fields_of value))
 header_fault Totals value back = err_of (each amount_of (fields_of value))
+header_fault Thread value back = err_of (thread_in value)
 header_fault Other value back = None
 
 -- the fault that a line has by itself and the lines before it

@@ -15,6 +15,7 @@ use Rattle.callgrind_reader.specs.Names.{meaning, name_fault}
 use Rattle.callgrind_reader.specs.Events.{events_of}
 use Rattle.callgrind_reader.specs.Positions.{settled, offsets_at}
 use Rattle.callgrind_reader.specs.Stated.{StatedIs}
+use Rattle.callgrind_reader.specs.Threads.{thread_of}
 use Rattle.callgrind_reader.specs.Calls.{awaiting}
 use Rattle.callgrind_reader.specs.Definitions.{definitions_of}
 use Rattle.callgrind_reader.specs.Lines.{fault_at}
@@ -27,6 +28,7 @@ pub record HeaderIs (h : Header) (back : List Reading) : Type 0 where
   pub layout : h.layout ≡ settled back
   pub formulas : Holds h.formulas (definitions_of back)
   pub stated : StatedIs h.stated back
+  pub thread : h.thread ≡ thread_of back
 
 pub record NamesAre (n : Names) (back : List Reading) : Type 0 where
   pub objects : SpaceIs n.objects Object back

@@ -3,7 +3,7 @@ ghost use Rattle.std.specs.Prelude.{◌≡◌, ℕ, ◌<◌, ◌≤◌, ◌^◌,
 ghost use Rattle.cg_text.specs.Readings.{Reading};
 ghost use Rattle.callgrind_reader.specs.Positions.{or_line};
 ghost use Rattle.callgrind_reader.specs.Totals.{header_key};
-ghost use Rattle.cg_text.specs.declared.words.HeaderKey.TheVariants.{Event, Positions};
+ghost use Rattle.cg_text.specs.declared.words.HeaderKey.TheVariants.{Event, Positions, Thread};
 ghost use Rattle.callgrind_reader.specs.Files.{names_or_none, formulas_fault};
 
 use crate::events::Events;
@@ -12,7 +12,7 @@ use crate::layouts::Layout;
 use crate::rows::push_amounts;
 use crate::stated::{Stated, StatedKey};
 use cg_formulas::{FileHead, FlatError, Formulas, TextError, event_line};
-use cg_text::{Fault, HeaderKey, ListVec, ReadError};
+use cg_text::{Fault, HeaderKey, ListVec, ReadError, amount, trim_start};
 use std::alloc::{AllocError, Global};
 
 /// What is known of a file's header.
@@ -22,6 +22,7 @@ pub struct Header {
     pub(crate) layout: Option<Layout>,
     pub(crate) formulas: Formulas,
     pub(crate) stated: Stated,
+    pub(crate) thread: u64,
     amounts: Vec<u64>,
 }
 
@@ -41,6 +42,7 @@ impl Header {
             layout: None,
             formulas: Formulas::new(alloc),
             stated: Stated::new(alloc)?,
+            thread: 0,
             amounts: Vec::new(alloc),
         })
     }
@@ -103,6 +105,20 @@ impl Header {
         }
     }
 
+    /// Takes a `thread:` line, and answers its fault.
+    fn thread_line(&mut self, value: &[u8]) -> Option<Fault>
+        ensures takes { (line : ℕ) → TakesHeader line Thread value.now self.old result self.new }
+        ensures keeps { HeaderKeeps self.old self.new }
+    {
+        match amount(trim_start(value)) {
+            Ok(thread) => {
+                self.thread = thread;
+                None
+            }
+            Err(fault) => Some(fault),
+        }
+    }
+
     /// Takes a header line of this number, and answers its fault.
     pub fn take(
         &mut self,
@@ -121,6 +137,7 @@ impl Header {
             HeaderKey::Summary => self.stated_line(StatedKey::Summary, value),
             HeaderKey::Totals => self.stated_line(StatedKey::Totals, value),
             HeaderKey::Event => self.formula_line(line, value),
+            HeaderKey::Thread => Ok(self.thread_line(value)),
             HeaderKey::Other => Ok(None),
         }
     }
@@ -158,6 +175,7 @@ impl Header {
             layout: _,
             formulas,
             stated: _,
+            thread: _,
             amounts: _,
         } = self;
         let events = events.into_names();

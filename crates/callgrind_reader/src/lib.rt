@@ -1,9 +1,9 @@
 //! Reads Callgrind files in one pass, piece by piece, and hands their records to a sink.
 //!
 //! What a file says and what the code keeps are two things, so the definitions in specs/ are of four kinds:
-//! - what a file says, looking back over its lines: Names, Events, Positions, Costs, Calls, Totals and
-//!   Definitions, one idea each; Lines has the record and the fault of a line, Files those of a file, and
-//!   Faulty the values in whose place a fault may stand;
+//! - what a file says, looking back over its lines: Names, Events, Positions, Costs, Calls, Totals,
+//!   Threads and Definitions, one idea each; Lines has the record and the fault of a line, Files those of a file,
+//!   Grammars how a line was read before threads were, and Faulty the values in whose place a fault may stand;
 //! - the same line by line, and for a text that may go on: Accept, Cut, Ends;
 //! - when what the code keeps stands for lines: Table, Space, Places, Stated, Stands, Reads;
 //! - what reading a part of a line makes of it: Columns, Parts, Headers, Steps.

@@ -133,6 +133,7 @@ impl State {
             at: self.lines,
             names: self.names.own(),
             line,
+            thread: self.header.thread,
             called: self.names.called(),
             count,
             costs: &self.row,
@@ -148,6 +149,7 @@ impl State {
             at: self.lines,
             names: self.names.own(),
             line,
+            thread: self.header.thread,
             costs: &self.row,
         })
     }

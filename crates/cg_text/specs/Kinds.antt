@@ -8,7 +8,7 @@ use Rattle.cg_text.specs.Numbers.{is_digit}
 use Rattle.cg_text.specs.declared.faults.Fault.{Fault}
 use Rattle.cg_text.specs.declared.faults.Fault.TheVariants.{UnknownLine}
 use Rattle.cg_text.specs.declared.words.HeaderKey.{HeaderKey}
-use Rattle.cg_text.specs.declared.words.HeaderKey.TheVariants.{Version, Positions, Events, Event, Summary, Totals, Other}
+use Rattle.cg_text.specs.declared.words.HeaderKey.TheVariants.{Version, Positions, Events, Event, Summary, Totals, Thread, Other}
 use Rattle.cg_text.specs.declared.words.NameWord.{NameWord}
 use Rattle.cg_text.specs.declared.words.NameWord.TheVariants.{Ob, Fl, Fi, Fe, Fn, Cob, Cfi, Cfl, Cfn, Jfi, Jfn}
 
@@ -32,7 +32,7 @@ begins_cost b = is_digit b || (b == plus || (b == minus || b == star))
 abbrev pub known_keys : List (List ℕ × HeaderKey)
 known_keys =
     (codes "version", Version) ∷ (codes "positions", Positions) ∷ (codes "events", Events)
-    ∷ (codes "event", Event) ∷ (codes "summary", Summary) ∷ (codes "totals", Totals) ∷ []
+    ∷ (codes "event", Event) ∷ (codes "summary", Summary) ∷ (codes "totals", Totals) ∷ (codes "thread", Thread) ∷ []
 
 -- the key that a word is
 abbrev pub key_of : List ℕ → HeaderKey

@@ -59,6 +59,7 @@ fn header_key(word: &[u8]) -> HeaderKey
         b"event" => HeaderKey::Event,
         b"summary" => HeaderKey::Summary,
         b"totals" => HeaderKey::Totals,
+        b"thread" => HeaderKey::Thread,
         _ => HeaderKey::Other,
     }
 }

@@ -86,6 +86,7 @@ pub enum HeaderKey {
     Event,
     Summary,
     Totals,
+    Thread,
     /// A key that says nothing about costs.
     Other,
 }

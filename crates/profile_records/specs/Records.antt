@@ -8,6 +8,7 @@ pub record Cost : Type 0 where
   pub file : List ℕ
   pub function : List ℕ
   pub line : ℕ
+  pub thread : ℕ
   pub costs : List ℕ
 
 -- whom calls called, and how many of them there were

@@ -12,6 +12,8 @@ pub struct SelfCost<'a> {
     pub names: LentNames<'a>,
     /// The source line, 0 where none is known.
     pub line: u64,
+    /// The number of the thread that ran, 0 where none is known.
+    pub thread: u64,
     pub costs: &'a [u64],
 }
 
@@ -23,6 +25,8 @@ pub struct CallCost<'a> {
     pub names: LentNames<'a>,
     /// The source line of the call, 0 where none is known.
     pub line: u64,
+    /// The number of the thread that called, 0 where none is known.
+    pub thread: u64,
     pub called: LentNames<'a>,
     /// How many calls there were.
     pub count: u64,

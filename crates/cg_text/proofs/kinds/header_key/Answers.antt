@@ -16,3 +16,6 @@ returns-in-summary c = let same : c.args.word.now ≡ codes "summary" = text_fro
 
 pub returns-in-totals : goal.returns-in-totals
 returns-in-totals c = let same : c.args.word.now ≡ codes "totals" = text_from_reads _ _ (search rules) (search rules) in rw same (search rules)
+
+pub returns-in-thread : goal.returns-in-thread
+returns-in-thread c = let same : c.args.word.now ≡ codes "thread" = text_from_reads _ _ (search rules) (search rules) in rw same (search rules)

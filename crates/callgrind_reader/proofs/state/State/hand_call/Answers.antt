@@ -17,7 +17,7 @@ returns g c = record {
       let names = c.args.self.now.names in
       let costs = c.deref.result.now in
       let after : Record → _ = g.S.Sink.step (g.S.Sink.meaning c.args.sink.now) in
-      let place = lent-cost names c.own.result c.args.self.now.lines c.args.line costs back live.names c.own.ensures.texts at in
+      let place = lent-cost names c.own.result c.args.self.now.lines c.args.line c.args.self.now.header.thread costs back live.names c.own.ensures.texts at live.header.thread in
       let callee = lent-callee names c.called.result c.args.count back live.names c.called.ensures.texts in
       told
       ∙ ap (λ cost. after (Called (record { object = c.called.result.object.text.now; file = c.called.result.file.text.now; function = c.called.result.function.text.now; count = c.args.count }) cost)) place

@@ -13,7 +13,7 @@ returns g c = record {
   told = on_ok_weaker c.self_cost.result
       (λ told back live at.
       let after : Record → _ = g.S.Sink.step (g.S.Sink.meaning c.args.sink.now) in
-      let place = lent-cost c.args.self.now.names c.own.result c.args.self.now.lines c.args.line c.deref.result.now back live.names c.own.ensures.texts at in
+      let place = lent-cost c.args.self.now.names c.own.result c.args.self.now.lines c.args.line c.args.self.now.header.thread c.deref.result.now back live.names c.own.ensures.texts at live.header.thread in
       told ∙ ap (λ cost. after (Own cost)) place ∙ ap (λ row. after (Own (cost_of c.args.line row back))) c.deref.ensures.value)
       c.self_cost.ensures.ok;
   last = search rules;
