@@ -172,7 +172,7 @@ command_line keys = with_subcommand (with_groups (with_members (with_reports key
 -- ---- the words of keys
 
 abbrev pub key_words : List Text
-key_words = codes "object" ∷ codes "file" ∷ codes "function" ∷ codes "line" ∷ []
+key_words = codes "object" ∷ codes "file" ∷ codes "function" ∷ codes "line" ∷ codes "thread" ∷ []
 
 -- the parser takes the words of keys; where these lie in memory is left open
 abbrev pub TakesKeys : ValueParser → Type 0

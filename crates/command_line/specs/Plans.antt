@@ -10,7 +10,7 @@ use Rattle.clap.specs.Walk.{Row, Text, all_of, first_of, one_of}
 use Rattle.clap.specs.declared.error.Error.{Error}
 use Rattle.clap.specs.declared.error.kind.ErrorKind.TheVariants.{OutOfMemory}
 use Rattle.cost_rows.specs.declared.keys.Key.{Key}
-use Rattle.cost_rows.specs.declared.keys.Key.TheVariants.{Object, File, Function, Line}
+use Rattle.cost_rows.specs.declared.keys.Key.TheVariants.{Object, File, Function, Line, Thread}
 use Rattle.profile_records.specs.declared.kinds.Kind.{Kind}
 use Rattle.profile_records.specs.declared.kinds.Kind.TheVariants.{Callgrind, Folded}
 use Rattle.command_line.specs.declared.plans.Plan.{Plan}
@@ -121,6 +121,7 @@ key_word Object = codes "object"
 key_word File = codes "file"
 key_word Function = codes "function"
 key_word Line = codes "line"
+key_word Thread = codes "thread"
 
 -- the numbers that the words of an argument say
 abbrev pub HaveRuns : List Row → List ℕ → Type 0

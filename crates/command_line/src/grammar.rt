@@ -22,7 +22,7 @@ pub const MOST_REQUESTS: u32 = 1_000_000;
 pub const WHOLE: u8 = 100;
 
 /// The words of keys.
-static KEYS: [&str; 4] = ["object", "file", "function", "line"];
+static KEYS: [&str; 5] = ["object", "file", "function", "line", "thread"];
 
 /// An option with a value.
 fn option<'a>(alloc: Global, id: &'a str, value: &'a str, help: &'a str) -> Arg<'a>
@@ -376,7 +376,7 @@ fn by<'a>(alloc: Global, keys: &'a [&'a str]) -> Result<Command<'a>, AllocError>
     over_cut(
         alloc,
         "by",
-        "Report self costs by object, file, function or line; those of several runs are added up",
+        "Report self costs by object, file, function, line or thread; those of several runs are added up",
         "Example: profhouse by --db s.db --event Ir function",
     )?
     .arg(key(alloc, keys))

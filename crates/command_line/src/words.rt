@@ -203,6 +203,7 @@ pub fn key(words: &ArgMatches<'_>) -> Option<Key>
         "file" => Some(Key::File),
         "function" => Some(Key::Function),
         "line" => Some(Key::Line),
+        "thread" => Some(Key::Thread),
         _ => None,
     }
 }

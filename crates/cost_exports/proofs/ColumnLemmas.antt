@@ -3,7 +3,7 @@ use Rattle.std.proofs.Common.{zero, suc, ◌≡◌, ℕ, ◌+◌, Bool, true, fa
 use Rattle.std.proofs.lemmas.Bool.Decides.{nat_tests}
 use Rattle.cost_rows.specs.Keys.{place_of_row}
 use Rattle.cost_rows.specs.Merging.{sum_where}
-use Rattle.cost_rows.specs.Sums.{Spot, spot_of, own_sum}
+use Rattle.cost_rows.specs.Sums.{Spot, any_thread, spot_of, own_sum}
 use Rattle.cost_rows.specs.WalkSums.{rows_cost}
 use Rattle.cost_rows.specs.declared.rows.CellRow.{CellRow}
 use Rattle.profile_records.specs.Records.{Cost, Record, Own, Called}
@@ -17,7 +17,7 @@ use Rattle.cost_exports.proofs.SpreadLemmas.{event_spot-apart, event_spot-total}
 
 amount_named : CellRow (List ℕ) → Option (List ℕ) → List (EventSpot × ℕ)
 amount_named r None = []
-amount_named r (Some event) = (record { spot = place_of_row r; event = event }, r.cost) ∷ []
+amount_named r (Some event) = (record { spot = any_thread (place_of_row r); event = event }, r.cost) ∷ []
 
 amounts_of : List (List ℕ) → List (CellRow (List ℕ)) → List (EventSpot × ℕ)
 amounts_of events [] = []
@@ -60,7 +60,7 @@ runs_added sums (r ∷ runs) =
 
 module _ (test : EventSpot → Bool) where
   abbrev at : List ℕ → Spot → Bool
-  at event p = test (record { spot = p; event = event })
+  at event p = test (record { spot = any_thread p; event = event })
 
   over : (k : ℕ) (events : List (List ℕ)) (cost : (Spot → Bool) → ℕ → ℕ) → ℕ
   over k [] cost = 0

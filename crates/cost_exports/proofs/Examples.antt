@@ -11,12 +11,12 @@ use Rattle.cost_exports.specs.Csv.{NamedRecords, csv_of_records, csv_text}
 use Rattle.cost_exports.specs.Folded.{folded_of_stacks, folded_text}
 
 abbrev own : List ℕ → List ℕ → List ℕ → ℕ → List ℕ → Record
-own object file function line costs = Own (record { at = 0; object = object; file = file; function = function; line = line; costs = costs })
+own object file function line costs = Own (record { at = 0; object = object; file = file; function = function; line = line; thread = 0; costs = costs })
 
 -- a call from `f` of `a.c` to `g`, at line 1
 abbrev call : List ℕ → Record
 call costs =
-    Called (record { object = unknown; file = codes "a.c"; function = codes "g"; count = 1 }) (record { at = 0; object = unknown; file = codes "a.c"; function = codes "f"; line = 1; costs = costs })
+    Called (record { object = unknown; file = codes "a.c"; function = codes "g"; count = 1 }) (record { at = 0; object = unknown; file = codes "a.c"; function = codes "f"; line = 1; thread = 0; costs = costs })
 
 -- ---- annotated sources
 
@@ -97,6 +97,15 @@ csv_of_columns : csv_text (csv_of_records (
     ≡ codes "object,file,function,line,event,cost\n???,a,g,10,Dr,6\n???,b,f,9,Dr,1\n???,b,f,10,Dr,9\n???,b,f,10,Ir,3\n"
 unfolding digits escaped fields_text is_blank
 csv_of_columns = refl
+
+-- what one place cost in two threads is one row
+abbrev in_thread : ℕ → ℕ → Record
+in_thread thread cost = Own (record { at = 0; object = unknown; file = codes "a.c"; function = codes "f"; line = 3; thread = thread; costs = cost ∷ [] })
+
+csv_of_two_threads : csv_text (csv_of_records (record { events = codes "Ir" ∷ []; records = in_thread 2 10 ∷ at_line 1 1 ∷ in_thread 1 100 ∷ [] } ∷ []))
+    ≡ codes "object,file,function,line,event,cost\n???,a.c,f,1,Ir,1\n???,a.c,f,3,Ir,110\n"
+unfolding digits escaped fields_text is_blank
+csv_of_two_threads = refl
 
 csv_of_nothing : csv_text (csv_of_records []) ≡ codes "object,file,function,line,event,cost\n"
 unfolding digits escaped fields_text is_blank

@@ -58,15 +58,17 @@ line-apart a b h =
     let make : ℕ → List ℕ → LineEvent = λ line event. record { line = line; event = event } in
     ap₂ make (exact_unsigned a.line b.line both.0) (bytes_apart a.event b.event both.1)
 
--- names first, then lines and events
-grouped : (a b d e f : Ordering) → ordering_then (ordering_then a (ordering_then b (ordering_then d e))) f ≡ ordering_then (ordering_then a (ordering_then b d)) (ordering_then e f)
+-- names first, then lines and events; none of the places tells a thread
+grouped : (a b d e f : Ordering) → ordering_then (ordering_then a (ordering_then b (ordering_then d (ordering_then e Equal)))) f ≡ ordering_then (ordering_then a (ordering_then b d)) (ordering_then e f)
 grouped Less b d e f = refl
 grouped Greater b d e f = refl
 grouped Equal Less d e f = refl
 grouped Equal Greater d e f = refl
 grouped Equal Equal Less e f = refl
 grouped Equal Equal Greater e f = refl
-grouped Equal Equal Equal e f = refl
+grouped Equal Equal Equal Less f = refl
+grouped Equal Equal Equal Greater f = refl
+grouped Equal Equal Equal Equal f = refl
 
 cmp-with : (p q : PlaceNames) (l m : LineEvent) → event_spot_cmp (spot_with p l) (spot_with q m) ≡ ordering_then (names_cmp p q) (line_cmp l m)
 cmp-with p q l m = grouped (bytes_cmp p.object q.object) (bytes_cmp p.file q.file) (bytes_cmp p.function q.function) (nat_cmp l.line m.line) (bytes_cmp l.event m.event)

@@ -6,13 +6,13 @@ use Rattle.std.specs.Ordering.{ordering_then}
 use Rattle.csv.specs.Writing.{default_writer, row_text}
 use Rattle.cost_rows.specs.Keys.{named_cmp, place_of_row}
 use Rattle.cost_rows.specs.Stacks.{bytes_cmp}
-use Rattle.cost_rows.specs.Sums.{Spot, spot_of, own_sum}
+use Rattle.cost_rows.specs.Sums.{Spot, any_thread, spot_of, own_sum}
 use Rattle.cost_rows.specs.WalkSums.{rows_cost}
 use Rattle.cost_rows.specs.declared.rows.CellRow.{CellRow}
 use Rattle.profile_records.specs.Records.{Cost, Record, Own, Called}
 use Rattle.cost_exports.specs.Amounts.{amounts_by, with_amount}
 
--- a place, and an event by its name
+-- a place, whichever thread ran there, and an event by its name
 pub record EventSpot : Type 0 where
   pub spot : Spot
   pub event : List ℕ
@@ -26,10 +26,10 @@ pub record NamedRecords : Type 0 where
   pub events : List (List ℕ)
   pub records : List Record
 
--- what a cost line says of events, of which the first has column k
+-- what a cost line says of events, of which the first has column k; what threads cost is added up
 abbrev pub costs_from : Cost → ℕ → List (List ℕ) → List (EventSpot × ℕ)
 costs_from cost k [] = []
-costs_from cost k (event ∷ events) = (record { spot = spot_of cost; event = event }, slice_index cost.costs k) ∷ costs_from cost (k + 1) events
+costs_from cost k (event ∷ events) = (record { spot = any_thread (spot_of cost); event = event }, slice_index cost.costs k) ∷ costs_from cost (k + 1) events
 
 -- what self records say; what calls cost is no self cost
 abbrev pub named_costs : List (List ℕ) → List Record → List (EventSpot × ℕ)
@@ -68,7 +68,7 @@ csv_text sums = row_text default_writer csv_header ++ csv_rows sums
 
 -- a row's cost is added at its place and its event's name
 abbrev pub with_cell : List (EventSpot × ℕ) → CellRow (List ℕ) → List ℕ → List (EventSpot × ℕ)
-with_cell sums row event = with_amount event_spot_cmp sums (record { spot = place_of_row row; event = event }) row.cost
+with_cell sums row event = with_amount event_spot_cmp sums (record { spot = any_thread (place_of_row row); event = event }) row.cost
 
 abbrev pub with_cell_of : List (EventSpot × ℕ) → CellRow (List ℕ) → Option (List ℕ) → List (EventSpot × ℕ)
 with_cell_of sums row None = sums

@@ -39,7 +39,7 @@ line_cmp a b = ordering_then (nat_cmp a.line b.line) (bytes_cmp a.event b.event)
 
 -- a line and an event of a place with these names
 abbrev pub spot_with : PlaceNames → LineEvent → EventSpot
-spot_with names line = record { spot = record { object = names.object; file = names.file; function = names.function; line = line.line }; event = line.event }
+spot_with names line = record { spot = record { object = names.object; file = names.file; function = names.function; line = line.line; thread = 0 }; event = line.event }
 
 abbrev pub placed : PlaceNames → List (LineEvent × ℕ) → List (EventSpot × ℕ)
 placed names [] = []

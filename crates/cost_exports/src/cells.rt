@@ -1,5 +1,5 @@
 // The keys of the sums of cells: the names of places, and under these lines and events.
-ghost use Rattle.std.specs.Prelude.{◌≡◌, IsTrue, OnOk, IfOk};
+ghost use Rattle.std.specs.Prelude.{◌≡◌, [], IsTrue, OnOk, IfOk};
 ghost use Rattle.cost_rows.specs.Plain.{plain_cell};
 ghost use Rattle.cost_exports.specs.Views.{held_line, held_names, names_of_row};
 
@@ -24,8 +24,10 @@ pub(crate) struct HeldNames {
 }
 
 impl HeldNames {
-    /// No names. No guarantee: `set` replaces them before they are read.
-    pub(crate) fn new(alloc: Global) -> HeldNames {
+    /// No names: `set` replaces them before they are read.
+    pub(crate) fn new(alloc: Global) -> HeldNames
+        ensures { held_names result ≡ record { object = []; file = []; function = [] } }
+    {
         HeldNames {
             object: Vec::new(alloc),
             file: Vec::new(alloc),
@@ -72,8 +74,10 @@ pub(crate) struct HeldLine {
 }
 
 impl HeldLine {
-    /// Line 0, and no name. No guarantee: `set` replaces both before they are read.
-    pub(crate) fn new(alloc: Global) -> HeldLine {
+    /// Line 0, and no name: `set` replaces both before they are read.
+    pub(crate) fn new(alloc: Global) -> HeldLine
+        ensures { held_line result ≡ record { line = 0; event = [] } }
+    {
         HeldLine {
             line: 0,
             event: Vec::new(alloc),

@@ -5,7 +5,7 @@ use Rattle.std.specs.Map.{keys_of}
 use Rattle.cg_formulas.specs.Formulas.{weighed}
 use Rattle.profile_records.specs.Records.{Record, Own, Called}
 use Rattle.cost_rows.specs.Merging.{sum_where}
-use Rattle.cost_rows.specs.Sums.{Spot, spot_of, callee_spot, call_sum, count_sum, has_call}
+use Rattle.cost_rows.specs.Sums.{Spot, caller_spot, callee_spot, call_sum, count_sum, has_call}
 use Rattle.cost_rows.specs.WalkSums.{caller_of_row, callee_of_row, calls_cost, calls_count, has_calls}
 use Rattle.cost_rows.specs.declared.rows.ArcRow.{ArcRow}
 use Rattle.cost_rows.proofs.KeysLemmas.{named_cmp-total, named_cmp-apart}
@@ -104,10 +104,10 @@ module _ (side : CallSide) (f : Spot) (passes : Spot → Bool) where
   records_value coefs (Own cost ∷ records) = records_value coefs records
   records_value coefs (Called callee cost ∷ records) =
       ap₂ ◌+◌
-      (ap (λ b. if b then weighed coefs cost.costs else 0) (chosen_is (spot_of cost) (callee_spot callee) (pair (weighed coefs cost.costs) callee.count))
-      ∙ record_where (tests (spot_of cost) (callee_spot callee)) coefs cost.costs)
+      (ap (λ b. if b then weighed coefs cost.costs else 0) (chosen_is (caller_spot cost) (callee_spot callee) (pair (weighed coefs cost.costs) callee.count))
+      ∙ record_where (tests (caller_spot cost) (callee_spot callee)) coefs cost.costs)
       (records_value coefs records)
-      ∙ sym (value_sum coefs (λ k. if tests (spot_of cost) (callee_spot callee) then slice_index cost.costs k else 0) (λ k. call_sum tests k records))
+      ∙ sym (value_sum coefs (λ k. if tests (caller_spot cost) (callee_spot callee) then slice_index cost.costs k else 0) (λ k. call_sum tests k records))
 
   rows_count : (coefs : List ℕ) (arcs : List (ArcRow (List ℕ) (List ℕ))) → sum_chosen second (map (weighted_calls coefs) arcs) ≡ calls_count tests arcs
   rows_count coefs [] = refl
@@ -118,7 +118,7 @@ module _ (side : CallSide) (f : Spot) (passes : Spot → Bool) where
   records_count coefs [] = refl
   records_count coefs (Own cost ∷ records) = records_count coefs records
   records_count coefs (Called callee cost ∷ records) =
-      ap₂ ◌+◌ (ap (λ b. if b then callee.count else 0) (chosen_is (spot_of cost) (callee_spot callee) (pair (weighed coefs cost.costs) callee.count))) (records_count coefs records)
+      ap₂ ◌+◌ (ap (λ b. if b then callee.count else 0) (chosen_is (caller_spot cost) (callee_spot callee) (pair (weighed coefs cost.costs) callee.count))) (records_count coefs records)
 
   rows_any : (coefs : List ℕ) (arcs : List (ArcRow (List ℕ) (List ℕ))) → any_chosen (map (weighted_calls coefs) arcs) ≡ has_calls tests arcs
   rows_any coefs [] = refl
@@ -128,7 +128,7 @@ module _ (side : CallSide) (f : Spot) (passes : Spot → Bool) where
   records_any coefs [] = refl
   records_any coefs (Own cost ∷ records) = records_any coefs records
   records_any coefs (Called callee cost ∷ records) =
-      ap₂ ◌||◌ (chosen_is (spot_of cost) (callee_spot callee) (pair (weighed coefs cost.costs) callee.count)) (records_any coefs records)
+      ap₂ ◌||◌ (chosen_is (caller_spot cost) (callee_spot callee) (pair (weighed coefs cost.costs) callee.count)) (records_any coefs records)
 
   -- ---- run by run
 

@@ -5,7 +5,7 @@ use Rattle.cg_formulas.specs.Formulas.{coefficients}
 use Rattle.cg_text.specs.Names.{unknown}
 use Rattle.profile_records.specs.Records.{Record, Own, Called}
 use Rattle.cost_rows.specs.declared.keys.Key.{Key}
-use Rattle.cost_rows.specs.declared.keys.Key.TheVariants.{Object, File, Function, Line}
+use Rattle.cost_rows.specs.declared.keys.Key.TheVariants.{Object, File, Function, Line, Thread}
 use Rattle.cost_reports.specs.Costs.{EventRecords, costs_by}
 use Rattle.cost_reports.specs.KeyReports.{report_of}
 use Rattle.cost_reports.specs.KeyTexts.{key_report_text}
@@ -13,11 +13,11 @@ use Rattle.cost_reports.specs.Verifying.{verified, verify_text}
 use Rattle.cost_reports.specs.declared.cuts.Cut.{Cut}
 
 abbrev pub own : List ℕ → List ℕ → ℕ → List ℕ → Record
-own file function line costs = Own (record { at = 0; object = unknown; file = file; function = function; line = line; costs = costs })
+own file function line costs = Own (record { at = 0; object = unknown; file = file; function = function; line = line; thread = 0; costs = costs })
 
 abbrev pub call : List ℕ → List ℕ → ℕ → List ℕ → Record
 call caller callee count costs =
-    Called (record { object = unknown; file = codes "file2.c"; function = callee; count = count }) (record { at = 0; object = unknown; file = codes "file1.c"; function = caller; line = 1; costs = costs })
+    Called (record { object = unknown; file = codes "file2.c"; function = callee; count = count }) (record { at = 0; object = unknown; file = codes "file1.c"; function = caller; line = 1; thread = 0; costs = costs })
 
 abbrev all : Cut
 all = record { limit = None; threshold = 100 }
@@ -78,6 +78,29 @@ cut_by_the_threshold = refl
 nothing_shown : text_by Line (codes "Ir") (record { limit = None; threshold = 0 }) (four_lines ∷ []) ≡ codes "by line Ir\n100 100.00% total\n100 100.00% (rest)\n"
 unfolding digits
 nothing_shown = refl
+
+-- of three threads, which come and go
+abbrev in_thread : ℕ → ℕ → ℕ → Record
+in_thread line thread cost = Own (record { at = 0; object = unknown; file = unknown; function = codes "f"; line = line; thread = thread; costs = cost ∷ [] })
+
+abbrev pub three_threads : EventRecords
+three_threads = record { coefs = 1 ∷ []; records = in_thread 1 0 1 ∷ in_thread 1 2 10 ∷ in_thread 2 1 100 ∷ in_thread 2 2 1000 ∷ [] }
+
+by_thread_of_three : text_by Thread (codes "Ir") all (three_threads ∷ [])
+    ≡ codes "by thread Ir\n1111 100.00% total\n1010 90.90% 2\n100 9.00% 1\n1 0.09% 0\n0 0.00% (rest)\n"
+unfolding digits
+by_thread_of_three = refl
+
+-- other keys tell no threads
+by_line_of_three : text_by Line (codes "Ir") all (three_threads ∷ []) ≡ codes "by line Ir\n1111 100.00% total\n1100 99.00% ???:2\n11 0.99% ???:1\n0 0.00% (rest)\n"
+unfolding digits
+by_line_of_three = refl
+
+-- threads of equal cost by number, those of two runs together
+by_thread_of_two : text_by Thread (codes "Ir") all (record { coefs = 1 ∷ []; records = in_thread 1 10 3 ∷ in_thread 2 9 5 ∷ [] } ∷ record { coefs = 1 ∷ []; records = in_thread 3 10 2 ∷ [] } ∷ [])
+    ≡ codes "by thread Ir\n10 100.00% total\n5 50.00% 9\n5 50.00% 10\n0 0.00% (rest)\n"
+unfolding digits
+by_thread_of_two = refl
 
 -- of no cost at all; a record of cost 0 has no row
 of_nothing : text_by Object (codes "Ir") all (record { coefs = 1 ∷ []; records = own unknown unknown 1 (0 ∷ []) ∷ [] } ∷ []) ≡ codes "by object Ir\n0 0.00% total\n0 0.00% (rest)\n"

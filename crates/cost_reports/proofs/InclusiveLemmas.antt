@@ -6,7 +6,7 @@ use Rattle.cg_text.specs.Names.{unknown}
 use Rattle.profile_records.specs.Records.{Record, Own, Called}
 use Rattle.profile_records.specs.Stacks.{Seen}
 use Rattle.cost_rows.specs.KeySums.{cost_where, rows_of, total_of}
-use Rattle.cost_rows.specs.Sums.{Spot, spot_of, callee_spot, call_sum}
+use Rattle.cost_rows.specs.Sums.{Spot, caller_spot, callee_spot, call_sum}
 use Rattle.cost_rows.specs.StackSums.{frames_sum}
 use Rattle.cost_rows.specs.WalkSums.{caller_of_row, callee_of_row, calls_cost, stacks_count}
 use Rattle.cost_rows.specs.declared.keys.Key.TheVariants.{Function}
@@ -182,8 +182,8 @@ module _ (passes : Spot → Bool) where
   calls_value coefs [] = sym (value_none coefs)
   calls_value coefs (Own cost ∷ records) = calls_value coefs records
   calls_value coefs (Called callee cost ∷ records) =
-      ap₂ ◌+◌ (record_where (outward (spot_of cost) (callee_spot callee)) coefs cost.costs) (calls_value coefs records)
-      ∙ sym (value_sum coefs (λ k. if outward (spot_of cost) (callee_spot callee) then slice_index cost.costs k else 0) (λ k. call_sum outward k records))
+      ap₂ ◌+◌ (record_where (outward (caller_spot cost) (callee_spot callee)) coefs cost.costs) (calls_value coefs records)
+      ∙ sym (value_sum coefs (λ k. if outward (caller_spot cost) (callee_spot callee) then slice_index cost.costs k else 0) (λ k. call_sum outward k records))
 
   same_outward : (files : List EventRecords) (runs : List EventArcs) → CallsStandForEach files runs → outward_sum (all_arcs runs) ≡ outward_sum (all_calls files)
   same_outward [] [] stand = refl

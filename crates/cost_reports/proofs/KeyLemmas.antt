@@ -7,7 +7,7 @@ use Rattle.cost_rows.specs.KeySums.{AreSums, total_of, cost_where, rows_of, sums
 use Rattle.cost_rows.specs.Merging.{sum_where}
 use Rattle.cost_rows.specs.Sums.{Spot}
 use Rattle.cost_rows.specs.declared.keys.Key.{Key}
-use Rattle.cost_rows.specs.declared.keys.Key.TheVariants.{Object, File, Function, Line}
+use Rattle.cost_rows.specs.declared.keys.Key.TheVariants.{Object, File, Function, Line, Thread}
 use Rattle.cost_rows.specs.declared.rows.CellRow.{CellRow}
 use Rattle.cost_rows.proofs.KeysLemmas.{named_cmp-total, named_cmp-apart}
 use Rattle.cost_rows.proofs.KeySumsLemmas.{sums-rows, sums-are}
@@ -37,6 +37,7 @@ part_again Object p = refl
 part_again File p = refl
 part_again Function p = refl
 part_again Line p = refl
+part_again Thread p = refl
 
 rows_of_where : (key : Key) (passes : Spot → Bool) (sums : List (Spot × ℕ)) → cost_where key passes (rows_of sums) ≡ sum_where (λ p. passes (part_of key p)) (λ n. n) sums
 rows_of_where key passes [] = refl
@@ -73,4 +74,4 @@ where_append key passes (x ∷ xs) ys =
 
 pub rows_append : (xs ys : List (Spot × ℕ)) → rows_of (xs ++ ys) ≡ rows_of xs ++ rows_of ys
 rows_append [] ys = refl
-rows_append (x ∷ xs) ys = ap (λ rest. record { object = x.0.object; file = x.0.file; function = x.0.function; line = x.0.line; event = 0; cost = x.1 } ∷ rest) (rows_append xs ys)
+rows_append (x ∷ xs) ys = ap (λ rest. record { object = x.0.object; file = x.0.file; function = x.0.function; line = x.0.line; thread = x.0.thread; event = 0; cost = x.1 } ∷ rest) (rows_append xs ys)

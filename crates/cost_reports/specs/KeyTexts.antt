@@ -3,7 +3,7 @@ use Rattle.std.specs.Prelude.{ℕ, List, ◌++◌, flat_map, codes}
 use Rattle.std.specs.Fmt.{decimal}
 use Rattle.cost_rows.specs.Sums.{Spot}
 use Rattle.cost_rows.specs.declared.keys.Key.{Key}
-use Rattle.cost_rows.specs.declared.keys.Key.TheVariants.{Object, File, Function, Line}
+use Rattle.cost_rows.specs.declared.keys.Key.TheVariants.{Object, File, Function, Line, Thread}
 use Rattle.printed_names.specs.Escapes.{escaped}
 use Rattle.cost_reports.specs.KeyReports.{ReportByKey}
 use Rattle.cost_reports.specs.Percents.{percent}
@@ -13,6 +13,7 @@ key_name Object = codes "object"
 key_name File = codes "file"
 key_name Function = codes "function"
 key_name Line = codes "line"
+key_name Thread = codes "thread"
 
 -- the part of a place that a key tells, as it is printed
 abbrev pub part_text : Key → Spot → List ℕ
@@ -20,6 +21,7 @@ part_text Object p = escaped p.object
 part_text File p = escaped p.file
 part_text Function p = escaped p.object ++ (codes ":" ++ escaped p.function)
 part_text Line p = escaped p.file ++ (codes ":" ++ decimal p.line)
+part_text Thread p = decimal p.thread
 
 -- a cost and its part of the total
 abbrev pub cost_text : ℕ → ℕ → List ℕ

@@ -34,7 +34,11 @@ pub record AreBelow (m n : ℕ) : Type 0 where
 -- ---- as the code holds them
 
 abbrev pub held_place : HeldPlace → Spot
-held_place p = record { object = p.object.items; file = p.file.items; function = p.function.items; line = p.line }
+held_place p = record { object = p.object.items; file = p.file.items; function = p.function.items; line = p.line; thread = p.thread }
+
+-- before a place is held
+abbrev pub no_place : Spot
+no_place = record { object = []; file = []; function = []; line = 0; thread = 0 }
 
 abbrev pub held_pairs : List (HeldPlace × Pair) → List (Spot × Pair)
 held_pairs = seen held_place

@@ -11,7 +11,7 @@ use Rattle.cost_reports.specs.declared.rows.Row.{Row}
 use Rattle.cost_reports.specs.declared.signed.Signed.{Signed}
 
 abbrev pub lent_place : LentPlace → Spot
-lent_place p = record { object = p.object.now; file = p.file.now; function = p.function.now; line = p.line }
+lent_place p = record { object = p.object.now; file = p.file.now; function = p.function.now; line = p.line; thread = p.thread }
 
 abbrev pub plain_row : Row → Spot × ℕ
 plain_row r = (lent_place r.place, r.cost.0)

@@ -51,6 +51,7 @@ fn add_functions(
             file: b"???".as_slice(),
             function: *function,
             line: 0,
+            thread: 0,
             event: 0,
             cost: count,
         })?;
@@ -111,6 +112,7 @@ impl InclusiveSums {
             file: b"???".as_slice(),
             function: row.function,
             line: 0,
+            thread: 0,
             event: 0,
             cost: row.costs,
         })

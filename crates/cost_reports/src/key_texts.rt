@@ -22,6 +22,7 @@ pub(crate) fn key_name(key: Key) -> &'static [u8]
         Key::File => b"file",
         Key::Function => b"function",
         Key::Line => b"line",
+        Key::Thread => b"thread",
     }
 }
 
@@ -46,6 +47,7 @@ pub(crate) fn push_part(
             text.push(b':')?;
             push_number(text, u128::from(place.line))?;
         }
+        Key::Thread => push_number(text, u128::from(place.thread))?,
     }
     Ok(())
 }

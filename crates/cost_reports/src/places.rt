@@ -3,19 +3,20 @@ ghost use Rattle.std.specs.Prelude.{◌≡◌, OnOk, IfOk};
 ghost use Rattle.cost_rows.specs.Keys.{place_of_row};
 ghost use Rattle.cost_rows.specs.Plain.{plain_cell};
 ghost use Rattle.cost_reports.specs.Functions.{function_spot};
-ghost use Rattle.cost_reports.specs.Pairs.{held_place};
+ghost use Rattle.cost_reports.specs.Pairs.{held_place, no_place};
 ghost use Rattle.cost_reports.specs.Rows.{lent_place};
 
 use cost_rows::CellRow;
 use std::alloc::{AllocError, Global};
 
-/// A place by names that are lent; the parts outside a key are `???`, and line 0.
+/// A place by names that are lent; the parts outside a key are `???` and 0.
 #[derive(Clone, Copy, PartialEq, Eq, PartialOrd, Ord)]
 pub(crate) struct LentPlace<'a> {
     pub(crate) object: &'a [u8],
     pub(crate) file: &'a [u8],
     pub(crate) function: &'a [u8],
     pub(crate) line: u64,
+    pub(crate) thread: u64,
 }
 
 /// The place of a row.
@@ -27,6 +28,7 @@ pub(crate) fn place_of_row<'a>(row: &CellRow<&'a [u8]>) -> LentPlace<'a>
         file: row.file,
         function: row.function,
         line: row.line,
+        thread: row.thread,
     }
 }
 
@@ -39,6 +41,7 @@ pub(crate) fn function_place<'a>(object: &'a [u8], function: &'a [u8]) -> LentPl
         file: b"???",
         function,
         line: 0,
+        thread: 0,
     }
 }
 
@@ -49,6 +52,7 @@ pub(crate) struct HeldPlace {
     pub(crate) file: Vec<u8>,
     pub(crate) function: Vec<u8>,
     pub(crate) line: u64,
+    pub(crate) thread: u64,
 }
 
 /// Replaces a name.
@@ -61,13 +65,16 @@ fn replace(held: &mut Vec<u8>, name: &[u8]) -> Result<(), AllocError>
 }
 
 impl HeldPlace {
-    /// No names, and line 0. No guarantee: `set` replaces all of it before it is read.
-    pub(crate) fn new(alloc: Global) -> HeldPlace {
+    /// No names, line 0 and thread 0: `set` replaces all of it before it is read.
+    pub(crate) fn new(alloc: Global) -> HeldPlace
+        ensures { held_place result ≡ no_place }
+    {
         HeldPlace {
             object: Vec::new(alloc),
             file: Vec::new(alloc),
             function: Vec::new(alloc),
             line: 0,
+            thread: 0,
         }
     }
 
@@ -79,6 +86,7 @@ impl HeldPlace {
         replace(&mut self.file, place.file)?;
         replace(&mut self.function, place.function)?;
         self.line = place.line;
+        self.thread = place.thread;
         Ok(())
     }
 
@@ -91,6 +99,7 @@ impl HeldPlace {
             file: self.file.as_slice().to_vec(alloc)?,
             function: self.function.as_slice().to_vec(alloc)?,
             line: self.line,
+            thread: self.thread,
         })
     }
 
@@ -103,6 +112,7 @@ impl HeldPlace {
             file: self.file.as_slice(),
             function: self.function.as_slice(),
             line: self.line,
+            thread: self.thread,
         }
     }
 }

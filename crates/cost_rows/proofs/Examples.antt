@@ -107,12 +107,12 @@ sum-below_eight = refl
 -- ---- the rows of a file
 
 abbrev own : List ℕ → ℕ → List ℕ → Record
-own function line costs = Own (record { at = 1; object = codes "???"; file = codes "a.c"; function = function; line = line; costs = costs })
+own function line costs = Own (record { at = 1; object = codes "???"; file = codes "a.c"; function = function; line = line; thread = 0; costs = costs })
 
 abbrev called : List ℕ → ℕ → List ℕ → ℕ → List ℕ → Record
 called function line callee count costs =
     Called (record { object = codes "???"; file = codes "b.c"; function = callee; count = count })
-    (record { at = 1; object = codes "???"; file = codes "a.c"; function = function; line = line; costs = costs })
+    (record { at = 1; object = codes "???"; file = codes "a.c"; function = function; line = line; thread = 0; costs = costs })
 
 -- two places that differ in the line alone, one of them met twice, and a call met twice
 abbrev records : List Record
@@ -127,7 +127,7 @@ content-names = refl
 abbrev place : ℕ → Place
 place line = record { object = 0; file = 1; function = 2; line = line }
 
-content-cells : content.cells ≡ (record { place = place 2 }, 0 ∷ 5 ∷ []) ∷ (record { place = place 3 }, 5 ∷ 2 ∷ 7 ∷ []) ∷ []
+content-cells : content.cells ≡ (record { place = place 2; thread = 0 }, 0 ∷ 5 ∷ []) ∷ (record { place = place 3; thread = 0 }, 5 ∷ 2 ∷ 7 ∷ []) ∷ []
 content-cells = refl
 
 content-arcs : content.arcs ≡ (record { place = place 3; object = 0; file = 3; function = 4 }, record { count = 3; costs = 30 ∷ 3 ∷ [] }) ∷ []

@@ -16,18 +16,21 @@ pub named_cmp-total : IsTotalOrder named_cmp
 named_cmp-total =
     then_total (on_total (λ (p : Spot). p.object) nat_list_cmp_total)
     (then_total (on_total (λ (p : Spot). p.file) nat_list_cmp_total)
-    (then_total (on_total (λ (p : Spot). p.function) nat_list_cmp_total) (on_total (λ (p : Spot). p.line) nat_cmp_total)))
+    (then_total (on_total (λ (p : Spot). p.function) nat_list_cmp_total)
+    (then_total (on_total (λ (p : Spot). p.line) nat_cmp_total) (on_total (λ (p : Spot). p.thread) nat_cmp_total))))
 
-same_named : (a b : Spot) → a.object ≡ b.object → a.file ≡ b.file → a.function ≡ b.function → a.line ≡ b.line → a ≡ b
-same_named a b object file function line =
-    let P : List ℕ → List ℕ → List ℕ → ℕ → Spot = λ w x y z. record { object = w; file = x; function = y; line = z } in
-    ap (λ n. P n a.file a.function a.line) object ∙ ap (λ n. P b.object n a.function a.line) file
-    ∙ ap (λ n. P b.object b.file n a.line) function ∙ ap (λ n. P b.object b.file b.function n) line
+same_named : (a b : Spot) → a.object ≡ b.object → a.file ≡ b.file → a.function ≡ b.function → a.line ≡ b.line → a.thread ≡ b.thread → a ≡ b
+same_named a b object file function line thread =
+    let P : List ℕ → List ℕ → List ℕ → ℕ → ℕ → Spot = λ w x y z t. record { object = w; file = x; function = y; line = z; thread = t } in
+    ap (λ n. P n a.file a.function a.line a.thread) object ∙ ap (λ n. P b.object n a.function a.line a.thread) file
+    ∙ ap (λ n. P b.object b.file n a.line a.thread) function ∙ ap (λ n. P b.object b.file b.function n a.thread) line
+    ∙ ap (λ n. P b.object b.file b.function b.line n) thread
 
 pub named_cmp-apart : TellsApart named_cmp
 named_cmp-apart a b h =
     let first = both_equal (bytes_cmp a.object b.object) _ h in
     let second = both_equal (bytes_cmp a.file b.file) _ first.1 in
-    let third = both_equal (bytes_cmp a.function b.function) (nat_cmp a.line b.line) second.1 in
+    let third = both_equal (bytes_cmp a.function b.function) _ second.1 in
+    let fourth = both_equal (nat_cmp a.line b.line) (nat_cmp a.thread b.thread) third.1 in
     same_named a b (equal-bytes a.object b.object (ap is_eq first.0)) (equal-bytes a.file b.file (ap is_eq second.0))
-    (equal-bytes a.function b.function (ap is_eq third.0)) (exact_unsigned a.line b.line third.1)
+    (equal-bytes a.function b.function (ap is_eq third.0)) (exact_unsigned a.line b.line fourth.0) (exact_unsigned a.thread b.thread fourth.1)

@@ -39,12 +39,13 @@ place_cmp-total =
 
 pub cell_cmp-apart : TellsApart cell_cmp
 cell_cmp-apart a b h =
-    let P : Place → CellPlace = λ p. record { place = p } in
-    let e : P a.place ≡ P b.place = ap P (place_cmp-apart a.place b.place h) in
+    let both = both_equal (place_cmp a.place b.place) (nat_cmp a.thread b.thread) h in
+    let P : Place → ℕ → CellPlace = λ p t. record { place = p; thread = t } in
+    let e : P a.place a.thread ≡ P b.place b.thread = ap (λ p. P p a.thread) (place_cmp-apart a.place b.place both.0) ∙ ap (P b.place) (exact_unsigned a.thread b.thread both.1) in
     e
 
 pub cell_cmp-total : IsTotalOrder cell_cmp
-cell_cmp-total = on_total (λ (p : CellPlace). p.place) place_cmp-total
+cell_cmp-total = then_total (on_total (λ (p : CellPlace). p.place) place_cmp-total) (on_total (λ (p : CellPlace). p.thread) nat_cmp_total)
 
 same_call : (a b : Call) → a.place ≡ b.place → a.object ≡ b.object → a.file ≡ b.file → a.function ≡ b.function → a ≡ b
 same_call a b place object file function =

@@ -14,7 +14,7 @@ use Rattle.cost_rows.specs.Held.{IsHeld, CellHeld, CallHeld, AreHeld}
 use Rattle.cost_rows.specs.Merging.{merge, sum_where}
 use Rattle.cost_rows.specs.Places.{cell_cmp, call_cmp}
 use Rattle.cost_rows.specs.Content.{Content, empty, number_of, with_three, names_with_cost, names_with_callee, place_of_cost, cell_of, call_of, calls_of, with_cost, with_call, with_record}
-use Rattle.cost_rows.specs.Sums.{Spot, spot_of, callee_spot, name_at, spot_at, callee_at, passing_cell, passing_call, cells_where, calls_where, counts_where, content_of_records, ComesToRecords, own_sum, call_sum, count_sum, has_arc, has_call}
+use Rattle.cost_rows.specs.Sums.{Spot, spot_of, callee_spot, name_at, spot_at, callee_at, passing_cell, passing_call, cells_where, calls_where, counts_where, content_of_records, ComesToRecords, own_sum, call_sum, count_sum, has_arc, has_call, cell_spot, caller_spot}
 use Rattle.cost_rows.specs.declared.places.CellPlace.{CellPlace}
 use Rattle.cost_rows.specs.declared.places.Call.{Call}
 use Rattle.cost_rows.specs.declared.calls.Calls.{Calls}
@@ -43,13 +43,13 @@ number-names names name n h =
     let found = name-found names n name (at_place names name n h) in
     (ap (name_at names) is ∙ found.0, subst (λ (m : ℕ). m < length names) (sym is) found.1)
 
-same_spot : (a b d a' b' d' : List ℕ) (line : ℕ) → a ≡ a' → b ≡ b' → d ≡ d' → ◌≡◌ {A = Spot} (record { object = a; file = b; function = d; line = line }) (record { object = a'; file = b'; function = d'; line = line })
+same_spot : (a b d a' b' d' : List ℕ) (line : ℕ) → a ≡ a' → b ≡ b' → d ≡ d' → ◌≡◌ {A = Spot} (record { object = a; file = b; function = d; line = line; thread = 0 }) (record { object = a'; file = b'; function = d'; line = line; thread = 0 })
 same_spot a b d a' b' d' line x y z =
-    let P : List ℕ → List ℕ → List ℕ → Spot = λ u v w. record { object = u; file = v; function = w; line = line } in
+    let P : List ℕ → List ℕ → List ℕ → Spot = λ u v w. record { object = u; file = v; function = w; line = line; thread = 0 } in
     let e : P a b d ≡ P a' b' d' = ap (λ u. P u b d) x ∙ ap (λ v. P a' v d) y ∙ ap (P a' b') z in
     e
 
-spot-kept : (names new : List (List ℕ)) (a b d line : ℕ) → Grows names new → IsHeld names a b d → ◌≡◌ {A = Spot} (record { object = name_at new a; file = name_at new b; function = name_at new d; line = line }) (record { object = name_at names a; file = name_at names b; function = name_at names d; line = line })
+spot-kept : (names new : List (List ℕ)) (a b d line : ℕ) → Grows names new → IsHeld names a b d → ◌≡◌ {A = Spot} (record { object = name_at new a; file = name_at new b; function = name_at new d; line = line; thread = 0 }) (record { object = name_at names a; file = name_at names b; function = name_at names d; line = line; thread = 0 })
 spot-kept names new a b d line grows held =
     let at : (n : ℕ) → n < length names → name_at new n ≡ name_at names n = λ n below. ap (λ ns. name_at ns n) grows.1 ∙ name-kept names grows.0 n below in
     same_spot (name_at new a) (name_at new b) (name_at new d) (name_at names a) (name_at names b) (name_at names d) line (at a held.0) (at b held.1) (at d held.2)
@@ -93,7 +93,7 @@ cells-kept : (passes : Spot → Bool) (f : List ℕ → ℕ) (names new : List (
 cells-kept passes f names new cells grows held =
     sum-same (passing_cell passes new) (passing_cell passes names) f cells
     (all-weaker (CellHeld names) (λ p. passing_cell passes new p ≡ passing_cell passes names p) (keys_of cells)
-    (λ p h. ap passes (spot-kept names new p.place.object p.place.file p.place.function p.place.line grows h)) held)
+    (λ p h. ap (λ (s : Spot). passes (record s { thread = p.thread })) (spot-kept names new p.place.object p.place.file p.place.function p.place.line grows h)) held)
 
 -- a test of calls is answered the same among more names
 tests-kept : (passes : Spot → Spot → Bool) (names new : List (List ℕ)) (arcs : List (Call × Calls)) → Grows names new → AllByRecursion (CallHeld names) (keys_of arcs)
@@ -180,7 +180,7 @@ pub cells-cost : (passes : Spot → Bool) (k : ℕ) (c : Content) (cost : Cost) 
 cells-cost passes k c cost held =
     let new = names_with_cost cost c.names in
     let is = named-three c.names cost.object cost.file cost.function in
-    let spot : spot_at new (place_of_cost new cost) ≡ spot_of cost = same_spot _ _ _ _ _ _ cost.line is.0 is.1 is.2 in
+    let spot : cell_spot new (cell_of new cost) ≡ spot_of cost = ap (λ (s : Spot). let at : Spot = record s { thread = cost.thread } in at) (same_spot _ _ _ _ _ _ cost.line is.0 is.1 is.2) in
     sum-merge cell_cmp-apart added (passing_cell passes new) (λ v. slice_index v k) (λ x y. slice_index-added x y k) c.cells (cell_of new cost) cost.costs
     ∙ ap (λ n. n + (if passing_cell passes new (cell_of new cost) then slice_index cost.costs k else 0))
     (cells-kept passes (λ v. slice_index v k) c.names new c.cells (grows-three c.names cost.object cost.file cost.function) held.cells)
@@ -188,13 +188,13 @@ cells-cost passes k c cost held =
 
 -- the calls of a record, by the names that it leaves
 call-named : (passes : Spot → Spot → Bool) (c : Content) (callee : Callee) (cost : Cost)
-    → passing_call passes (with_call c callee cost).names (call_of (with_call c callee cost).names callee cost) ≡ passes (spot_of cost) (callee_spot callee)
+    → passing_call passes (with_call c callee cost).names (call_of (with_call c callee cost).names callee cost) ≡ passes (caller_spot cost) (callee_spot callee)
 call-named passes c callee cost =
     let mid = names_with_cost cost c.names in
     let new = names_with_callee callee mid in
     let caller = named-then c.names cost.object cost.file cost.function callee.object callee.file callee.function in
     let called = named-three mid callee.object callee.file callee.function in
-    let place : spot_at new (place_of_cost new cost) ≡ spot_of cost = same_spot _ _ _ _ _ _ cost.line caller.0 caller.1 caller.2 in
+    let place : spot_at new (place_of_cost new cost) ≡ caller_spot cost = same_spot _ _ _ _ _ _ cost.line caller.0 caller.1 caller.2 in
     let whom : callee_at new (call_of new callee cost) ≡ callee_spot callee = same_spot _ _ _ _ _ _ 0 called.0 called.1 called.2 in
     ap₂ passes place whom
 
@@ -204,7 +204,7 @@ call-grows c callee cost =
     grows-more c.names mid (names_with_callee callee mid) (grows-three c.names cost.object cost.file cost.function) (grows-three mid callee.object callee.file callee.function)
 
 arcs-call : (passes : Spot → Spot → Bool) (f : Calls → ℕ) (adds : (x y : Calls) → f (calls_added x y) ≡ f x + f y) (c : Content) (callee : Callee) (cost : Cost) → AreHeld c
-    → sum_where (passing_call passes (with_call c callee cost).names) f (with_call c callee cost).arcs ≡ sum_where (passing_call passes c.names) f c.arcs + (if passes (spot_of cost) (callee_spot callee) then f (calls_of callee cost) else 0)
+    → sum_where (passing_call passes (with_call c callee cost).names) f (with_call c callee cost).arcs ≡ sum_where (passing_call passes c.names) f c.arcs + (if passes (caller_spot cost) (callee_spot callee) then f (calls_of callee cost) else 0)
 arcs-call passes f adds c callee cost held =
     let new = (with_call c callee cost).names in
     let more : Calls = calls_of callee cost in
@@ -212,7 +212,7 @@ arcs-call passes f adds c callee cost held =
     ∙ ap₂ (λ n b. n + (if b then f more else 0)) (arcs-kept passes f c.names new c.arcs (call-grows c callee cost) held.arcs) (call-named passes c callee cost)
 
 has-call : (passes : Spot → Spot → Bool) (c : Content) (callee : Callee) (cost : Cost) → AreHeld c
-    → has_arc passes (with_call c callee cost) ≡ passes (spot_of cost) (callee_spot callee) || has_arc passes c
+    → has_arc passes (with_call c callee cost) ≡ passes (caller_spot cost) (callee_spot callee) || has_arc passes c
 has-call passes c callee cost held =
     let new = (with_call c callee cost).names in
     keys-merge call_cmp-apart calls_added (passing_call passes new) c.arcs (call_of new callee cost) (calls_of callee cost)
@@ -238,7 +238,7 @@ law-cells passes k (Called callee cost ∷ records) c held =
 abbrev arc_sum : (Calls → ℕ) → (Spot → Spot → Bool) → List Record → ℕ
 arc_sum f passes [] = 0
 arc_sum f passes (Own cost ∷ records) = arc_sum f passes records
-arc_sum f passes (Called callee cost ∷ records) = (if passes (spot_of cost) (callee_spot callee) then f (calls_of callee cost) else 0) + arc_sum f passes records
+arc_sum f passes (Called callee cost ∷ records) = (if passes (caller_spot cost) (callee_spot callee) then f (calls_of callee cost) else 0) + arc_sum f passes records
 
 law-arcs : (passes : Spot → Spot → Bool) (f : Calls → ℕ) (adds : (x y : Calls) → f (calls_added x y) ≡ f x + f y) (records : List Record) (c : Content) → AreHeld c
     → sum_where (passing_call passes (fold with_record c records).names) f (fold with_record c records).arcs ≡ sum_where (passing_call passes c.names) f c.arcs + arc_sum f passes records
@@ -249,7 +249,7 @@ law-arcs passes f adds (Own cost ∷ records) c held =
 law-arcs passes f adds (Called callee cost ∷ records) c held =
     law-arcs passes f adds records (with_call c callee cost) (held-call c callee cost held)
     ∙ ap (λ n. n + arc_sum f passes records) (arcs-call passes f adds c callee cost held)
-    ∙ add_assoc (sum_where (passing_call passes c.names) f c.arcs) (if passes (spot_of cost) (callee_spot callee) then f (calls_of callee cost) else 0) (arc_sum f passes records)
+    ∙ add_assoc (sum_where (passing_call passes c.names) f c.arcs) (if passes (caller_spot cost) (callee_spot callee) then f (calls_of callee cost) else 0) (arc_sum f passes records)
 
 or_none : (b : Bool) → b ≡ b || false
 or_none true = refl
@@ -269,17 +269,17 @@ law-called passes (Own cost ∷ records) c held =
 law-called passes (Called callee cost ∷ records) c held =
     law-called passes records (with_call c callee cost) (held-call c callee cost held)
     ∙ ap (λ b. b || has_call passes records) (has-call passes c callee cost held)
-    ∙ turned (passes (spot_of cost) (callee_spot callee)) (has_arc passes c) (has_call passes records)
+    ∙ turned (passes (caller_spot cost) (callee_spot callee)) (has_arc passes c) (has_call passes records)
 
 call_sum-is : (passes : Spot → Spot → Bool) (k : ℕ) (records : List Record) → arc_sum (λ calls. slice_index calls.costs k) passes records ≡ call_sum passes k records
 call_sum-is passes k [] = refl
 call_sum-is passes k (Own cost ∷ records) = call_sum-is passes k records
-call_sum-is passes k (Called callee cost ∷ records) = ap (λ n. (if passes (spot_of cost) (callee_spot callee) then slice_index cost.costs k else 0) + n) (call_sum-is passes k records)
+call_sum-is passes k (Called callee cost ∷ records) = ap (λ n. (if passes (caller_spot cost) (callee_spot callee) then slice_index cost.costs k else 0) + n) (call_sum-is passes k records)
 
 count_sum-is : (passes : Spot → Spot → Bool) (records : List Record) → arc_sum (λ calls. calls.count) passes records ≡ count_sum passes records
 count_sum-is passes [] = refl
 count_sum-is passes (Own cost ∷ records) = count_sum-is passes records
-count_sum-is passes (Called callee cost ∷ records) = ap (λ n. (if passes (spot_of cost) (callee_spot callee) then callee.count else 0) + n) (count_sum-is passes records)
+count_sum-is passes (Called callee cost ∷ records) = ap (λ n. (if passes (caller_spot cost) (callee_spot callee) then callee.count else 0) + n) (count_sum-is passes records)
 
 pub none_held : AreHeld empty
 none_held = record { cells = tt; arcs = tt }

@@ -4,7 +4,7 @@ use Rattle.std.proofs.lemmas.Bool.Decides.{nat_tests}
 use Rattle.std.specs.List.{list_any}
 use Rattle.std.specs.Map.{keys_of}
 use Rattle.cost_rows.specs.Merging.{sum_where}
-use Rattle.cost_rows.specs.Sums.{Spot, spot_at, callee_at, passing_cell, passing_call}
+use Rattle.cost_rows.specs.Sums.{Spot, spot_at, callee_at, passing_cell, passing_call, cell_spot}
 use Rattle.cost_rows.specs.ByNumber.{numbered_cell, numbered_at, numbered_cells}
 use Rattle.cost_rows.specs.Walks.{cell_named, cell_rows, arc_rows, stack_rows}
 use Rattle.cost_rows.specs.WalkSums.{rows_cost, calls_cost, calls_count, has_calls, stacks_count}
@@ -61,14 +61,14 @@ pub nothing_each_way : (b : Bool) → 0 ≡ neither b
 nothing_each_way true = refl
 nothing_each_way false = refl
 
-rows-at : (passes : Spot → Bool) (k : ℕ) (names : List (List ℕ)) (p : CellPlace) (e : ℕ) (costs : List ℕ) → rows_cost passes k (map (cell_named names) (numbered_at p e costs)) ≡ (if passes (spot_at names p.place) then column_from e k costs else 0)
-rows-at passes k names p e [] = nothing_each_way (passes (spot_at names p.place))
+rows-at : (passes : Spot → Bool) (k : ℕ) (names : List (List ℕ)) (p : CellPlace) (e : ℕ) (costs : List ℕ) → rows_cost passes k (map (cell_named names) (numbered_at p e costs)) ≡ (if passes (cell_spot names p) then column_from e k costs else 0)
+rows-at passes k names p e [] = nothing_each_way (passes (cell_spot names p))
 rows-at passes k names p e (zero ∷ costs) =
-    rows-at passes k names p (suc e) costs ∙ none_more (passes (spot_at names p.place)) (e == k) (column_from (suc e) k costs)
+    rows-at passes k names p (suc e) costs ∙ none_more (passes (cell_spot names p)) (e == k) (column_from (suc e) k costs)
 rows-at passes k names p e (suc n ∷ costs) =
     ap (λ b. rows_cost passes k (map (cell_named names) (if b then numbered_cell p e (suc n) ∷ numbered_at p (suc e) costs else numbered_at p (suc e) costs))) (is_above n)
-    ∙ ap (λ m. (if passes (spot_at names p.place) && (e == k) then suc n else 0) + m) (rows-at passes k names p (suc e) costs)
-    ∙ one_more (passes (spot_at names p.place)) (e == k) (suc n) (column_from (suc e) k costs)
+    ∙ ap (λ m. (if passes (cell_spot names p) && (e == k) then suc n else 0) + m) (rows-at passes k names p (suc e) costs)
+    ∙ one_more (passes (cell_spot names p)) (e == k) (suc n) (column_from (suc e) k costs)
 
 rows-append : (passes : Spot → Bool) (k : ℕ) (xs ys : List (CellRow (List ℕ))) → rows_cost passes k (xs ++ ys) ≡ rows_cost passes k xs + rows_cost passes k ys
 rows-append passes k [] ys = let n : ℕ = rows_cost passes k ys in let e : n ≡ 0 + n = omega arith in e
@@ -88,8 +88,8 @@ walked-cells passes k names [] = refl
 walked-cells passes k names (e ∷ cells) =
     ap (rows_cost passes k) (map-append (cell_named names) (numbered_at e.0 0 e.1) (numbered_cells cells))
     ∙ rows-append passes k (map (cell_named names) (numbered_at e.0 0 e.1)) (cell_rows names cells)
-    ∙ ap (λ n. n + rows_cost passes k (cell_rows names cells)) (rows-at passes k names e.0 0 e.1 ∙ ap (λ n. if passes (spot_at names e.0.place) then n else 0) (column-at 0 k k e.1 (omega arith)))
-    ∙ ap (λ n. (if passes (spot_at names e.0.place) then slice_index e.1 k else 0) + n) (walked-cells passes k names cells)
+    ∙ ap (λ n. n + rows_cost passes k (cell_rows names cells)) (rows-at passes k names e.0 0 e.1 ∙ ap (λ n. if passes (cell_spot names e.0) then n else 0) (column-at 0 k k e.1 (omega arith)))
+    ∙ ap (λ n. (if passes (cell_spot names e.0) then slice_index e.1 k else 0) + n) (walked-cells passes k names cells)
 
 pub walked-costs : (passes : Spot → Spot → Bool) (k : ℕ) (names : List (List ℕ)) (arcs : List (Call × Calls)) → calls_cost passes k (arc_rows names arcs) ≡ sum_where (passing_call passes names) (λ calls. slice_index calls.costs k) arcs
 walked-costs passes k names [] = refl

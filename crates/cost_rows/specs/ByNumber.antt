@@ -11,7 +11,7 @@ use Rattle.cost_rows.specs.declared.rows.ArcRow.{ArcRow}
 -- the row of an event's sum at a place
 abbrev pub numbered_cell : CellPlace → ℕ → ℕ → CellRow ℕ
 numbered_cell p event cost =
-    record { object = p.place.object; file = p.place.file; function = p.place.function; line = p.place.line; event = event; cost = cost }
+    record { object = p.place.object; file = p.place.file; function = p.place.function; line = p.place.line; thread = p.thread; event = event; cost = cost }
 
 -- the rows of a place, from an event on
 abbrev pub numbered_at : CellPlace → ℕ → List ℕ → List (CellRow ℕ)

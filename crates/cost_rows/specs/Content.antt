@@ -50,7 +50,7 @@ place_of_cost names cost = place_in names cost.object cost.file cost.function co
 
 -- where own costs belong
 abbrev pub cell_of : List (List ℕ) → Cost → CellPlace
-cell_of names cost = record { place = place_of_cost names cost }
+cell_of names cost = record { place = place_of_cost names cost; thread = cost.thread }
 
 abbrev pub call_of : List (List ℕ) → Callee → Cost → Call
 call_of names callee cost = record {
@@ -92,7 +92,7 @@ with_record c (Called callee cost) = with_call c callee cost
 
 -- a stack's count is an own cost of the function that was running, of no known object, file or line
 abbrev pub leaf_cost : Seen → Cost
-leaf_cost s = record { at = s.at; object = unknown; file = unknown; function = leaf_of s.stack.frames; line = 0; costs = s.stack.count ∷ [] }
+leaf_cost s = record { at = s.at; object = unknown; file = unknown; function = leaf_of s.stack.frames; line = 0; thread = 0; costs = s.stack.count ∷ [] }
 
 -- it is added to its stack, and to the function that was running
 abbrev pub with_stack : Content → Seen → Content

@@ -32,7 +32,7 @@ total_of = sum_where (λ _. true) (λ n. n)
 -- sums as rows, of event 0
 abbrev pub rows_of : List (Spot × ℕ) → List (CellRow (List ℕ))
 rows_of [] = []
-rows_of (e ∷ sums) = record { object = e.0.object; file = e.0.file; function = e.0.function; line = e.0.line; event = 0; cost = e.1 } ∷ rows_of sums
+rows_of (e ∷ sums) = record { object = e.0.object; file = e.0.file; function = e.0.function; line = e.0.line; thread = e.0.thread; event = 0; cost = e.1 } ∷ rows_of sums
 
 -- what rows cost at the parts of their places that pass a test
 abbrev pub cost_where : Key → (Spot → Bool) → List (CellRow (List ℕ)) → ℕ

@@ -6,7 +6,7 @@ use Rattle.cost_rows.specs.declared.rows.ArcRow.{ArcRow}
 use Rattle.cost_rows.specs.declared.rows.StackRow.{StackRow}
 
 abbrev pub plain_cell : CellRow (Bor (List ℕ)) → CellRow (List ℕ)
-plain_cell r = record { object = r.object.now; file = r.file.now; function = r.function.now; line = r.line; event = r.event; cost = r.cost }
+plain_cell r = record { object = r.object.now; file = r.file.now; function = r.function.now; line = r.line; thread = r.thread; event = r.event; cost = r.cost }
 
 abbrev pub plain_arc : ArcRow (Bor (List ℕ)) (Bor (List ℕ)) → ArcRow (List ℕ) (List ℕ)
 plain_arc r = record {

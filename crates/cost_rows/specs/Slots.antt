@@ -44,7 +44,7 @@ AreSlots = AreSlotsBy named_cmp
 
 -- a part with another line
 abbrev pub at_line : Spot → ℕ → Spot
-at_line part line = record { object = part.object; file = part.file; function = part.function; line = line }
+at_line part line = record { object = part.object; file = part.file; function = part.function; line = line; thread = part.thread }
 
 -- lines lead to the slots of a part's names at these lines
 abbrev pub LeadTo : List (ℕ × ℕ) → Spot → List (Spot × ℕ) → Type 0

@@ -19,28 +19,40 @@ pub record Spot : Type 0 where
   pub file : List ℕ
   pub function : List ℕ
   pub line : ℕ
+  pub thread : ℕ
 
--- where costs belong
+-- where own costs belong
 abbrev pub spot_of : Cost → Spot
-spot_of cost = record { object = cost.object; file = cost.file; function = cost.function; line = cost.line }
+spot_of cost = record { object = cost.object; file = cost.file; function = cost.function; line = cost.line; thread = cost.thread }
+
+-- the same place, whichever thread ran there
+abbrev pub any_thread : Spot → Spot
+any_thread s = record s { thread = 0 }
+
+-- where calls are made; of the threads of calls nothing is told
+abbrev pub caller_spot : Cost → Spot
+caller_spot cost = any_thread (spot_of cost)
 
 -- whom calls called, of no line
 abbrev pub callee_spot : Callee → Spot
-callee_spot callee = record { object = callee.object; file = callee.file; function = callee.function; line = 0 }
+callee_spot callee = record { object = callee.object; file = callee.file; function = callee.function; line = 0; thread = 0 }
 
 -- the name of a number
 abbrev pub name_at : List (List ℕ) → ℕ → List ℕ
 name_at names n = slice_index_or names n []
 
 abbrev pub spot_at : List (List ℕ) → Place → Spot
-spot_at names p = record { object = name_at names p.object; file = name_at names p.file; function = name_at names p.function; line = p.line }
+spot_at names p = record { object = name_at names p.object; file = name_at names p.file; function = name_at names p.function; line = p.line; thread = 0 }
 
 abbrev pub callee_at : List (List ℕ) → Call → Spot
-callee_at names c = record { object = name_at names c.object; file = name_at names c.file; function = name_at names c.function; line = 0 }
+callee_at names c = record { object = name_at names c.object; file = name_at names c.file; function = name_at names c.function; line = 0; thread = 0 }
+
+abbrev pub cell_spot : List (List ℕ) → CellPlace → Spot
+cell_spot names p = record (spot_at names p.place) { thread = p.thread }
 
 -- a test of places, and one of calls, asked of what is held by number
 abbrev pub passing_cell : (Spot → Bool) → List (List ℕ) → CellPlace → Bool
-passing_cell passes names p = passes (spot_at names p.place)
+passing_cell passes names p = passes (cell_spot names p)
 
 abbrev pub passing_call : (Spot → Spot → Bool) → List (List ℕ) → Call → Bool
 passing_call passes names a = passes (spot_at names a.place) (callee_at names a)
@@ -76,19 +88,19 @@ abbrev pub call_sum : (Spot → Spot → Bool) → ℕ → List Record → ℕ
 call_sum passes k [] = 0
 call_sum passes k (Own cost ∷ records) = call_sum passes k records
 call_sum passes k (Called callee cost ∷ records) =
-    (if passes (spot_of cost) (callee_spot callee) then slice_index cost.costs k else 0) + call_sum passes k records
+    (if passes (caller_spot cost) (callee_spot callee) then slice_index cost.costs k else 0) + call_sum passes k records
 
 -- how many calls these records count
 abbrev pub count_sum : (Spot → Spot → Bool) → List Record → ℕ
 count_sum passes [] = 0
 count_sum passes (Own cost ∷ records) = count_sum passes records
-count_sum passes (Called callee cost ∷ records) = (if passes (spot_of cost) (callee_spot callee) then callee.count else 0) + count_sum passes records
+count_sum passes (Called callee cost ∷ records) = (if passes (caller_spot cost) (callee_spot callee) then callee.count else 0) + count_sum passes records
 
 -- whether there is a call record that passes, of whatever count and cost
 abbrev pub has_call : (Spot → Spot → Bool) → List Record → Bool
 has_call passes [] = false
 has_call passes (Own cost ∷ records) = has_call passes records
-has_call passes (Called callee cost ∷ records) = passes (spot_of cost) (callee_spot callee) || has_call passes records
+has_call passes (Called callee cost ∷ records) = passes (caller_spot cost) (callee_spot callee) || has_call passes records
 
 -- the rows that records make
 abbrev pub content_of_records : List Record → Content

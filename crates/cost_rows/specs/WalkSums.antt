@@ -15,10 +15,10 @@ rows_cost passes k (r ∷ rows) = (if passes (place_of_row r) && (r.event == k) 
 
 -- the place of a row of calls, and whom they called
 abbrev pub caller_of_row : ArcRow (List ℕ) (List ℕ) → Spot
-caller_of_row r = record { object = r.object; file = r.file; function = r.function; line = r.line }
+caller_of_row r = record { object = r.object; file = r.file; function = r.function; line = r.line; thread = 0 }
 
 abbrev pub callee_of_row : ArcRow (List ℕ) (List ℕ) → Spot
-callee_of_row r = record { object = r.called_object; file = r.called_file; function = r.called_function; line = 0 }
+callee_of_row r = record { object = r.called_object; file = r.called_file; function = r.called_function; line = 0; thread = 0 }
 
 -- what the calls that pass cost in column k
 abbrev pub calls_cost : (Spot → Spot → Bool) → ℕ → List (ArcRow (List ℕ) (List ℕ)) → ℕ

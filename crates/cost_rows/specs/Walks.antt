@@ -17,6 +17,7 @@ cell_named names r = record {
   file = name_at names r.file;
   function = name_at names r.function;
   line = r.line;
+  thread = r.thread;
   event = r.event;
   cost = r.cost;
 }

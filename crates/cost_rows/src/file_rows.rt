@@ -85,8 +85,8 @@ impl FileRows {
         self.stacks.rows()
     }
 
-    /// The sums of own costs above 0, in the order of the numbers of their names, then by line, then
-    /// by event. Takes no memory.
+    /// The sums of own costs above 0, in the order of the numbers of their names, then by line, by
+    /// thread and by event. Takes no memory.
     pub fn cells(&self) -> CellWalk<'_>
         ensures { map (cell_named result.names.now) result.rest ≡ cell_rows (content_of self.now).names (content_of self.now).cells }
     {

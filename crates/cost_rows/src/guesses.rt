@@ -13,7 +13,10 @@ const NOWHERE: Place = Place {
 };
 
 /// The cell of no place.
-pub(crate) const NO_CELL: CellPlace = CellPlace { place: NOWHERE };
+pub(crate) const NO_CELL: CellPlace = CellPlace {
+    place: NOWHERE,
+    thread: 0,
+};
 
 /// The place of the last stack, and that of the last stack of each function that was running, by the
 /// number of its name. No guarantee speaks of them: whoever takes a guess compares it with the stack's

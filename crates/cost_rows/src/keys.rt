@@ -7,22 +7,25 @@ ghost use Rattle.cost_rows.specs.Slots.{at_line};
 use crate::rows::CellRow;
 use std::alloc::{AllocError, Global};
 
-/// What rows are added up by: objects; files; functions, each of its object; lines, each of its file.
+/// What rows are added up by: objects; files; functions, each of its object; lines, each of its file;
+/// threads.
 #[derive(Clone, Copy, Debug, PartialEq, Eq)]
 pub enum Key {
     Object,
     File,
     Function,
     Line,
+    Thread,
 }
 
-/// The part of a row's place that a key tells, with the row's names; the others are `???`, and line 0.
+/// The part of a row's place that a key tells, with the row's names; the others are `???` and 0.
 #[derive(Clone, Copy)]
 pub(crate) struct LentPart<'a> {
     pub(crate) object: &'a [u8],
     pub(crate) file: &'a [u8],
     pub(crate) function: &'a [u8],
     pub(crate) line: u64,
+    pub(crate) thread: u64,
 }
 
 impl Key {
@@ -31,17 +34,19 @@ impl Key {
         ensures { plain_part result ≡ part_of self (place_of_row (plain_cell row.now)) }
     {
         let unknown = b"???".as_slice();
-        let (object, file, function, line) = match self {
-            Key::Object => (row.object, unknown, unknown, 0),
-            Key::File => (unknown, row.file, unknown, 0),
-            Key::Function => (row.object, unknown, row.function, 0),
-            Key::Line => (unknown, row.file, unknown, row.line),
+        let (object, file, function, line, thread) = match self {
+            Key::Object => (row.object, unknown, unknown, 0, 0),
+            Key::File => (unknown, row.file, unknown, 0, 0),
+            Key::Function => (row.object, unknown, row.function, 0, 0),
+            Key::Line => (unknown, row.file, unknown, row.line, 0),
+            Key::Thread => (unknown, unknown, unknown, 0, row.thread),
         };
         LentPart {
             object,
             file,
             function,
             line,
+            thread,
         }
     }
 }
@@ -53,6 +58,7 @@ pub(crate) struct Part {
     pub(crate) file: Vec<u8>,
     pub(crate) function: Vec<u8>,
     pub(crate) line: u64,
+    pub(crate) thread: u64,
 }
 
 /// Whether a name is held.
@@ -79,6 +85,7 @@ impl Part {
             file: Vec::new(alloc),
             function: Vec::new(alloc),
             line: 0,
+            thread: 0,
         }
     }
 
@@ -90,16 +97,18 @@ impl Part {
         replace(&mut self.file, part.file)?;
         replace(&mut self.function, part.function)?;
         self.line = part.line;
+        self.thread = part.thread;
         Ok(())
     }
 
-    /// Whether its names are those of a part. Most rows that differ do so in the function.
+    /// Whether its names and its thread are those of a part. Most rows that differ do so in the function.
     pub(crate) fn has_names(&self, part: &LentPart<'_>) -> bool
         ensures { IsTrue result → at_line (plain_place self.now) part.now.line ≡ plain_part part.now }
     {
         is_name(&self.function, part.function)
             && is_name(&self.file, part.file)
             && is_name(&self.object, part.object)
+            && self.thread == part.thread
     }
 
     /// The same once more.
@@ -111,6 +120,7 @@ impl Part {
             file: self.file.as_slice().to_vec(alloc)?,
             function: self.function.as_slice().to_vec(alloc)?,
             line: self.line,
+            thread: self.thread,
         })
     }
 }

@@ -9,7 +9,7 @@ mod costs;
 mod file_rows;
 // Which numbers the names of the stacks before had.
 mod guesses;
-// What reports add costs up by: object, file, function or line.
+// What reports add costs up by: object, file, function, line or thread.
 mod keys;
 // Laws: what rows come to is what the records come to.
 mod laws;

@@ -51,7 +51,7 @@ impl<'a> Iterator for NumberedArcs<'a> {
 }
 
 /// The sums of own costs above 0 with names by their numbers, in the order of these, then by line,
-/// then by event. Takes no memory.
+/// by thread and by event. Takes no memory.
 #[derive(Drop)]
 pub struct NumberedCells<'a> {
     pub(crate) rest: Iter<'a, CellPlace, Costs>,
@@ -95,6 +95,7 @@ impl<'a> Iterator for NumberedCells<'a> {
                             file: place.file,
                             function: place.function,
                             line: place.line,
+                            thread: self.place.thread,
                             event,
                             cost: *cost,
                         });

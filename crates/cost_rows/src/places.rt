@@ -14,6 +14,7 @@ pub struct Place {
 #[derive(Clone, Copy, PartialEq, Eq, PartialOrd, Ord)]
 pub struct CellPlace {
     pub place: Place,
+    pub thread: u64,
 }
 
 /// Calls from a place to a function.

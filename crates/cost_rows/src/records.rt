@@ -45,7 +45,8 @@ pub(crate) fn merge_own(
     ensures err { OnErr result (cells.new.entries ≡ cells.old.entries) }
 {
     let place = place_lent(names, marks, r.names, r.line)?;
-    merge_sums(alloc, cells, CellPlace { place }, r.costs)
+    let thread = r.thread;
+    merge_sums(alloc, cells, CellPlace { place, thread }, r.costs)
 }
 
 /// Merges a call record. A refusal leaves the calls as they were, and may leave names of the record
@@ -102,7 +103,7 @@ fn add_leaf(
     let guess = guesses.guess(names, function);
     let place = number_place(names, guess, b"???", b"???", function, 0)?;
     guesses.keep(place)?;
-    merge_sums(alloc, cells, CellPlace { place }, costs)
+    merge_sums(alloc, cells, CellPlace { place, thread: 0 }, costs)
 }
 
 /// The same, where a refusal leaves the names as they were too.

@@ -10,6 +10,8 @@ pub struct CellRow<N> {
     pub function: N,
     /// The source line, 0 where none is known.
     pub line: u64,
+    /// The number of the thread that ran, 0 where none is known.
+    pub thread: u64,
     /// The event's column, from 0.
     pub event: usize,
     /// The sum, below 2^127, in the event's unit.

@@ -51,6 +51,7 @@ impl<'a> Iterator for SumRows<'a> {
             file: part.file.as_slice(),
             function: part.function.as_slice(),
             line: part.line,
+            thread: part.thread,
             event: 0,
             cost: sum_in(self.sums, *slot),
         })

@@ -39,8 +39,8 @@ pub struct Walk<'a, W> {
 /// The sums of calls, in the order of the numbers of their names, the line after the caller's names.
 pub type ArcWalk<'a> = Walk<'a, NumberedArcs<'a>>;
 
-/// The sums of own costs above 0, in the order of the numbers of their names, then by line, then by
-/// event.
+/// The sums of own costs above 0, in the order of the numbers of their names, then by line, by thread
+/// and by event.
 pub type CellWalk<'a> = Walk<'a, NumberedCells<'a>>;
 
 impl<'a, W: GivesNames<'a> + Drop> Iterator for Walk<'a, W> {
@@ -108,6 +108,7 @@ impl<'a> GivesNames<'a> for NumberedCells<'a> {
             file: names.name_or_empty(row.file),
             function: names.name_or_empty(row.function),
             line: row.line,
+            thread: row.thread,
             event: row.event,
             cost: row.cost,
         })

@@ -48,6 +48,15 @@ of_subtract : place_of (codes "/subtract/line") ≡ Some (at.Subtract key.Line)
 unfolding routes matchit_on_literals
 of_subtract = refl
 
+of_subtracted_threads : place_of (codes "/subtract/thread") ≡ Some (at.Subtract key.Thread)
+unfolding routes matchit_on_literals
+of_subtracted_threads = refl
+
+-- a key that is none is no path
+none_of_threads : place_of (codes "/reports/threads") ≡ None
+unfolding routes matchit_on_literals
+none_of_threads = refl
+
 none_of_slash : place_of (codes "/runs/") ≡ None
 unfolding routes matchit_on_literals
 none_of_slash = refl
@@ -130,6 +139,10 @@ asks_by = refl
 asks_by_line : Asks (codes "GET") (codes "/reports/line?limit=4&event=I%72%26&run=%31&threshold=0") (asks.By (selected.Run 1) key.Line (codes "Ir&") (record { limit = Some 4; threshold = 0 }))
 unfolding request_of routes matchit_on_literals percent_decode
 asks_by_line = refl
+
+asks_by_thread : Asks (codes "GET") (codes "/reports/thread?event=Ir&group=g") (asks.By (selected.Group (codes "g")) key.Thread (codes "Ir") (record { limit = None; threshold = 100 }))
+unfolding request_of routes matchit_on_literals percent_decode
+asks_by_thread = refl
 
 asks_inclusive : Asks (codes "GET") (codes "/inclusive?event=Ir&group=a=b") (asks.Inclusive (selected.Group (codes "a=b")) (codes "Ir"))
 unfolding request_of routes matchit_on_literals percent_decode

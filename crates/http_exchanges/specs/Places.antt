@@ -11,9 +11,9 @@ use Rattle.http_exchanges.specs.declared.places.Method.TheVariants.{Get, Post, P
 abbrev pub places : List Place
 places =
     at.CallgrindRuns ∷ at.FoldedRuns ∷ at.Runs ∷ at.Groups ∷ at.OneRun ∷ at.OneGroup ∷ at.Member ∷ at.Baseline
-    ∷ at.Report key.Object ∷ at.Report key.File ∷ at.Report key.Function ∷ at.Report key.Line ∷ at.Inclusive
-    ∷ at.Calls side.Callers ∷ at.Calls side.Callees ∷ at.Annotate
-    ∷ at.Subtract key.Object ∷ at.Subtract key.File ∷ at.Subtract key.Function ∷ at.Subtract key.Line
+    ∷ at.Report key.Object ∷ at.Report key.File ∷ at.Report key.Function ∷ at.Report key.Line ∷ at.Report key.Thread
+    ∷ at.Inclusive ∷ at.Calls side.Callers ∷ at.Calls side.Callees ∷ at.Annotate
+    ∷ at.Subtract key.Object ∷ at.Subtract key.File ∷ at.Subtract key.Function ∷ at.Subtract key.Line ∷ at.Subtract key.Thread
     ∷ at.Verify ∷ at.Csv ∷ at.Folded ∷ []
 
 -- the pattern of each: a name in braces stands for one part of at least one byte
@@ -30,6 +30,7 @@ pattern_of (at.Report key.Object) = codes "/reports/object"
 pattern_of (at.Report key.File) = codes "/reports/file"
 pattern_of (at.Report key.Function) = codes "/reports/function"
 pattern_of (at.Report key.Line) = codes "/reports/line"
+pattern_of (at.Report key.Thread) = codes "/reports/thread"
 pattern_of at.Inclusive = codes "/inclusive"
 pattern_of (at.Calls side.Callers) = codes "/callers"
 pattern_of (at.Calls side.Callees) = codes "/callees"
@@ -38,6 +39,7 @@ pattern_of (at.Subtract key.Object) = codes "/subtract/object"
 pattern_of (at.Subtract key.File) = codes "/subtract/file"
 pattern_of (at.Subtract key.Function) = codes "/subtract/function"
 pattern_of (at.Subtract key.Line) = codes "/subtract/line"
+pattern_of (at.Subtract key.Thread) = codes "/subtract/thread"
 pattern_of at.Verify = codes "/verify"
 pattern_of at.Csv = codes "/csv"
 pattern_of at.Folded = codes "/folded"

@@ -5,7 +5,7 @@ ghost use Rattle.http_exchanges.specs.Places as spec;
 use cost_reports::CallSide;
 use cost_rows::Key;
 
-/// A path of the table of routes. A key in a path is one of the four, so each makes a path of its own.
+/// A path of the table of routes. A key in a path is one of the five, so each makes a path of its own.
 #[derive(Clone, Copy, Debug, PartialEq, Eq)]
 pub enum Place {
     CallgrindRuns,
@@ -36,7 +36,7 @@ pub enum Method {
 }
 
 /// The paths of the table.
-pub(crate) const PLACES: [Place; 23] = [
+pub(crate) const PLACES: [Place; 25] = [
     Place::CallgrindRuns,
     Place::FoldedRuns,
     Place::Runs,
@@ -49,6 +49,7 @@ pub(crate) const PLACES: [Place; 23] = [
     Place::Report(Key::File),
     Place::Report(Key::Function),
     Place::Report(Key::Line),
+    Place::Report(Key::Thread),
     Place::Inclusive,
     Place::Calls(CallSide::Callers),
     Place::Calls(CallSide::Callees),
@@ -57,6 +58,7 @@ pub(crate) const PLACES: [Place; 23] = [
     Place::Subtract(Key::File),
     Place::Subtract(Key::Function),
     Place::Subtract(Key::Line),
+    Place::Subtract(Key::Thread),
     Place::Verify,
     Place::Csv,
     Place::Folded,
@@ -80,6 +82,7 @@ impl Place {
             Place::Report(Key::File) => "/reports/file",
             Place::Report(Key::Function) => "/reports/function",
             Place::Report(Key::Line) => "/reports/line",
+            Place::Report(Key::Thread) => "/reports/thread",
             Place::Inclusive => "/inclusive",
             Place::Calls(CallSide::Callers) => "/callers",
             Place::Calls(CallSide::Callees) => "/callees",
@@ -88,6 +91,7 @@ impl Place {
             Place::Subtract(Key::File) => "/subtract/file",
             Place::Subtract(Key::Function) => "/subtract/function",
             Place::Subtract(Key::Line) => "/subtract/line",
+            Place::Subtract(Key::Thread) => "/subtract/thread",
             Place::Verify => "/verify",
             Place::Csv => "/csv",
             Place::Folded => "/folded",

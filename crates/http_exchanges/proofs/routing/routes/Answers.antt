@@ -23,7 +23,7 @@ step i d old new was few is = is ∙ ap (λ r. with_place r (get_or places i d))
 pub loop-place-preserved : goal.loop-place-preserved
 loop-place-preserved c = step c.loop-place.place-index _ _ _ c.loop-place.invariant c.loop-place-test.true c.in-Ok.ensures
 
-all_of : (i : ℕ) → i ≡ 23 → with_places [] (take i places) ≡ routes
+all_of : (i : ℕ) → i ≡ 25 → with_places [] (take i places) ≡ routes
 unfolding routes
 all_of i e = ap (λ n. with_places [] (take n places)) e
 

@@ -50,7 +50,7 @@ invariant_of-self-2 c =
     elim c.match-branch-2.branch [
       | in-Some+in_ok-merge_leaf-in-Some w ↦
           let names = w.merge_leaf.new.names in
-          let place : CellPlace = record { place = place_in names (63 ∷ 63 ∷ 63 ∷ []) (63 ∷ 63 ∷ 63 ∷ []) c.leaf-function.result.now 0 } in
+          let place : CellPlace = record { place = place_in names (63 ∷ 63 ∷ 63 ∷ []) (63 ∷ 63 ∷ 63 ∷ []) c.leaf-function.result.now 0; thread = 0 } in
           let cells = merge cell_cmp added old.cells.entries place (c.args.count ∷ []) in
           let same = c.in_ok-slot.ensures.same in
           let known : slot_of_stack frames c.find.new.self.slots ≡ Some w.in-Some.slot = ap (λ (s : Slotted (List ℕ)). slot_of_stack frames s.slots) same ∙ sym c.in_ok-slot.ensures.slot ∙ w.in-Some.is in
@@ -64,7 +64,7 @@ invariant_of-self-2 c =
           })
       | in-None+in_ok-put-in-None+in_default w ↦
           let names = w.merge_leaf-in-None.new.names in
-          let place : CellPlace = record { place = place_in names (63 ∷ 63 ∷ 63 ∷ []) (63 ∷ 63 ∷ 63 ∷ []) c.leaf-function.result.now 0 } in
+          let place : CellPlace = record { place = place_in names (63 ∷ 63 ∷ 63 ∷ []) (63 ∷ 63 ∷ 63 ∷ []) c.leaf-function.result.now 0; thread = 0 } in
           let cells = merge cell_cmp added old.cells.entries place (c.args.count ∷ []) in
           let counted : sums_in w.put.new.self ≡ counts = w.in_ok-put-in-None.ensures.ok ∙ ap (λ (s : Slotted (List ℕ)). stacks_with frames c.args.count (sums_in s)) c.in_ok-slot.ensures.same in
           let P : List (CellPlace × List ℕ) → Type 0 = λ cs. AreWithin cs old.arcs.entries (sums_in w.put.new.self) c.args.at in
