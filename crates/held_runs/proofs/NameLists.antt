@@ -8,7 +8,7 @@ use Rattle.sqlite_trees.specs.Tree.{IsAscending}
 use Rattle.sqlite.specs.State.{State, Shown}
 use Rattle.sql_tables.proofs.Orders.{all_shown}
 use Rattle.sql_tables.proofs.Selects.{selected}
-use Rattle.prof_tables.specs.Schema.{schema_one}
+use Rattle.prof_tables.specs.Schema.{schema_two}
 use Rattle.prof_tables.specs.Tables.{NameLine}
 use Rattle.prof_tables.specs.Texts.{names_sql}
 use Rattle.prof_tables.proofs.Means.{names_shown, names_order, names_means, names_plain, names_unlisted}
@@ -18,9 +18,9 @@ use Rattle.held_runs.specs.declared.held_names.HeldName.{HeldName}
 
 -- ---- the query
 
-pub names_listed : (old new : State) (rows : List Row) → old.now.schema ≡ schema_one → Shown names_sql [] old new rows → IsPermutation (map name_seen (old.now.trees 11)) rows
+pub names_listed : (old new : State) (rows : List Row) → old.now.schema ≡ schema_two → Shown names_sql [] old new rows → IsPermutation (map name_seen (old.now.trees 11)) rows
 names_listed old new rows has h =
-    all_shown 11 names_shown names_order (old.now.trees 11) [] rows (selected schema_one names_sql 11 [] names_shown names_order _ names_means names_plain names_unlisted old new has refl [] rows h)
+    all_shown 11 names_shown names_order (old.now.trees 11) [] rows (selected schema_two names_sql 11 [] names_shown names_order _ names_means names_plain names_unlisted old new has refl [] rows h)
 
 pub same_line : (a b : NameLine) → name_shown a ≡ name_shown b → a ≡ b
 same_line a b h =

@@ -10,7 +10,7 @@ use Rattle.sqlite.specs.State.{State, Shown}
 use Rattle.sql_tables.proofs.Orders.{answer_permutes, same_permuted}
 use Rattle.sql_tables.proofs.Rows.{passes, filter_same_on}
 use Rattle.sql_tables.proofs.Selects.{selected}
-use Rattle.prof_tables.specs.Schema.{schema_one}
+use Rattle.prof_tables.specs.Schema.{schema_two}
 use Rattle.prof_tables.specs.Seen.{is_at}
 use Rattle.prof_tables.specs.Tables.{EventLine, number}
 use Rattle.prof_tables.proofs.Values.{number_below}
@@ -22,11 +22,11 @@ use Rattle.held_runs.proofs.RunTexts.{own_sums_terms, own_sums_shown, own_sums_o
 
 -- ---- the query
 
-pub sums_listed : (n : ℕ) (old new : State) (rows : List Row) → old.now.schema ≡ schema_one → Shown own_sums_sql (number n ∷ []) old new rows → IsPermutation (map own_seen (filter (is_at 1 (number n)) (old.now.trees 3))) rows
+pub sums_listed : (n : ℕ) (old new : State) (rows : List Row) → old.now.schema ≡ schema_two → Shown own_sums_sql (number n ∷ []) old new rows → IsPermutation (map own_seen (filter (is_at 1 (number n)) (old.now.trees 3))) rows
 sums_listed n old new rows has h =
     subst (λ l. IsPermutation (map own_seen l) rows) (filter_same_on (passes (number n ∷ []) own_sums_terms) (is_at 1 (number n)) (old.now.trees 3) (λ r there. and_true _))
     (answer_permutes 3 own_sums_terms own_sums_shown own_sums_order (old.now.trees 3) (number n ∷ []) rows
-    (selected schema_one own_sums_sql 3 own_sums_terms own_sums_shown own_sums_order _ own_sums_means own_sums_plain own_sums_unlisted old new has refl (number n ∷ []) rows h))
+    (selected schema_two own_sums_sql 3 own_sums_terms own_sums_shown own_sums_order _ own_sums_means own_sums_plain own_sums_unlisted old new has refl (number n ∷ []) rows h))
 
 -- an answer that was read
 pub sums_read : (rows answer : List Row) (sums : List ℕ) → IsPermutation (map own_seen rows) answer → sums_from 0 sums ≡ map first_two answer → IsPermutation (map own_seen rows) (sums_from 0 sums)

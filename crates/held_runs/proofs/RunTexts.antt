@@ -10,7 +10,7 @@ use Rattle.sqlite.proofs.Callers.{IsPlain, command_of}
 use Rattle.sqlite_tied.specs.Compute.{everything}
 use Rattle.sql_tables.specs.Queries.{only, is, columns_at, by_rowid}
 use Rattle.sql_tables.proofs.Queries.{sorted_scan}
-use Rattle.prof_tables.specs.Schema.{schema_one, cell_at, arc_at, stack_at}
+use Rattle.prof_tables.specs.Schema.{schema_two, thread_cell_at, arc_at, stack_at}
 use Rattle.held_runs.specs.RunTexts.{run_numbers_sql, members_of_sql, own_sums_sql, baseline_of_sql, first_cell_sql, last_cell_sql, first_arc_sql, last_arc_sql, first_stack_sql, last_stack_sql}
 
 -- ---- the numbers of all runs
@@ -21,15 +21,15 @@ run_numbers_shown = col 1 0 ∷ []
 abbrev pub run_numbers_order : List (Term × Key)
 run_numbers_order = (col 1 0, ascending Binary) ∷ []
 
-pub run_numbers_means : command_of (understood schema_one run_numbers_sql) ≡ Select (only (sorted_scan 1 [] run_numbers_shown run_numbers_order)) (codes "run" ∷ [])
+pub run_numbers_means : command_of (understood schema_two run_numbers_sql) ≡ Select (only (sorted_scan 1 [] run_numbers_shown run_numbers_order)) (codes "run" ∷ [])
 unfolding understood everything
 run_numbers_means = refl
 
-pub run_numbers_plain : IsPlain (understood schema_one run_numbers_sql)
+pub run_numbers_plain : IsPlain (understood schema_two run_numbers_sql)
 unfolding understood everything
 run_numbers_plain = (refl, refl)
 
-pub run_numbers_unlisted : reads_listing schema_one run_numbers_sql ≡ false
+pub run_numbers_unlisted : reads_listing schema_two run_numbers_sql ≡ false
 unfolding understood everything
 run_numbers_unlisted = refl
 
@@ -44,15 +44,15 @@ members_of_shown = col 1 2 ∷ []
 abbrev pub members_of_order : List (Term × Key)
 members_of_order = (col 1 2, ascending Binary) ∷ []
 
-pub members_of_means : command_of (understood schema_one members_of_sql) ≡ Select (only (sorted_scan 21 members_of_terms members_of_shown members_of_order)) (codes "run" ∷ [])
+pub members_of_means : command_of (understood schema_two members_of_sql) ≡ Select (only (sorted_scan 21 members_of_terms members_of_shown members_of_order)) (codes "run" ∷ [])
 unfolding understood everything
 members_of_means = refl
 
-pub members_of_plain : IsPlain (understood schema_one members_of_sql)
+pub members_of_plain : IsPlain (understood schema_two members_of_sql)
 unfolding understood everything
 members_of_plain = (refl, refl)
 
-pub members_of_unlisted : reads_listing schema_one members_of_sql ≡ false
+pub members_of_unlisted : reads_listing schema_two members_of_sql ≡ false
 unfolding understood everything
 members_of_unlisted = refl
 
@@ -67,15 +67,15 @@ own_sums_shown = col 1 2 ∷ col 1 4 ∷ []
 abbrev pub own_sums_order : List (Term × Key)
 own_sums_order = (col 1 2, ascending Binary) ∷ []
 
-pub own_sums_means : command_of (understood schema_one own_sums_sql) ≡ Select (only (sorted_scan 3 own_sums_terms own_sums_shown own_sums_order)) (codes "pos" ∷ codes "self_cost" ∷ [])
+pub own_sums_means : command_of (understood schema_two own_sums_sql) ≡ Select (only (sorted_scan 3 own_sums_terms own_sums_shown own_sums_order)) (codes "pos" ∷ codes "self_cost" ∷ [])
 unfolding understood everything
 own_sums_means = refl
 
-pub own_sums_plain : IsPlain (understood schema_one own_sums_sql)
+pub own_sums_plain : IsPlain (understood schema_two own_sums_sql)
 unfolding understood everything
 own_sums_plain = (refl, refl)
 
-pub own_sums_unlisted : reads_listing schema_one own_sums_sql ≡ false
+pub own_sums_unlisted : reads_listing schema_two own_sums_sql ≡ false
 unfolding understood everything
 own_sums_unlisted = refl
 
@@ -90,15 +90,15 @@ baseline_of_shown = col 1 2 ∷ []
 abbrev pub baseline_of_order : List (Term × Key)
 baseline_of_order = []
 
-pub baseline_of_means : command_of (understood schema_one baseline_of_sql) ≡ Select (only (sorted_scan 19 baseline_of_terms baseline_of_shown baseline_of_order)) (codes "baseline" ∷ [])
+pub baseline_of_means : command_of (understood schema_two baseline_of_sql) ≡ Select (only (sorted_scan 19 baseline_of_terms baseline_of_shown baseline_of_order)) (codes "baseline" ∷ [])
 unfolding understood everything
 baseline_of_means = refl
 
-pub baseline_of_plain : IsPlain (understood schema_one baseline_of_sql)
+pub baseline_of_plain : IsPlain (understood schema_two baseline_of_sql)
 unfolding understood everything
 baseline_of_plain = (refl, refl)
 
-pub baseline_of_unlisted : reads_listing schema_one baseline_of_sql ≡ false
+pub baseline_of_unlisted : reads_listing schema_two baseline_of_sql ≡ false
 unfolding understood everything
 baseline_of_unlisted = refl
 
@@ -113,74 +113,74 @@ down_by_rowid = (col 1 0, record { collation = Binary; descending = true }) ∷ 
 abbrev pub end_names : List (List ℕ)
 end_names = codes "rowid" ∷ codes "run" ∷ []
 
-pub first_cell_means : command_of (understood schema_one first_cell_sql) ≡ Select (only (sorted_scan cell_at.tree [] end_shown by_rowid)) end_names
+pub first_cell_means : command_of (understood schema_two first_cell_sql) ≡ Select (only (sorted_scan thread_cell_at.tree [] end_shown by_rowid)) end_names
 unfolding understood everything
 first_cell_means = refl
 
-pub first_cell_plain : IsPlain (understood schema_one first_cell_sql)
+pub first_cell_plain : IsPlain (understood schema_two first_cell_sql)
 unfolding understood everything
 first_cell_plain = (refl, refl)
 
-pub first_cell_unlisted : reads_listing schema_one first_cell_sql ≡ false
+pub first_cell_unlisted : reads_listing schema_two first_cell_sql ≡ false
 unfolding understood everything
 first_cell_unlisted = refl
 
-pub last_cell_means : command_of (understood schema_one last_cell_sql) ≡ Select (only (sorted_scan cell_at.tree [] end_shown down_by_rowid)) end_names
+pub last_cell_means : command_of (understood schema_two last_cell_sql) ≡ Select (only (sorted_scan thread_cell_at.tree [] end_shown down_by_rowid)) end_names
 unfolding understood everything
 last_cell_means = refl
 
-pub last_cell_plain : IsPlain (understood schema_one last_cell_sql)
+pub last_cell_plain : IsPlain (understood schema_two last_cell_sql)
 unfolding understood everything
 last_cell_plain = (refl, refl)
 
-pub last_cell_unlisted : reads_listing schema_one last_cell_sql ≡ false
+pub last_cell_unlisted : reads_listing schema_two last_cell_sql ≡ false
 unfolding understood everything
 last_cell_unlisted = refl
 
-pub first_arc_means : command_of (understood schema_one first_arc_sql) ≡ Select (only (sorted_scan arc_at.tree [] end_shown by_rowid)) end_names
+pub first_arc_means : command_of (understood schema_two first_arc_sql) ≡ Select (only (sorted_scan arc_at.tree [] end_shown by_rowid)) end_names
 unfolding understood everything
 first_arc_means = refl
 
-pub first_arc_plain : IsPlain (understood schema_one first_arc_sql)
+pub first_arc_plain : IsPlain (understood schema_two first_arc_sql)
 unfolding understood everything
 first_arc_plain = (refl, refl)
 
-pub first_arc_unlisted : reads_listing schema_one first_arc_sql ≡ false
+pub first_arc_unlisted : reads_listing schema_two first_arc_sql ≡ false
 unfolding understood everything
 first_arc_unlisted = refl
 
-pub last_arc_means : command_of (understood schema_one last_arc_sql) ≡ Select (only (sorted_scan arc_at.tree [] end_shown down_by_rowid)) end_names
+pub last_arc_means : command_of (understood schema_two last_arc_sql) ≡ Select (only (sorted_scan arc_at.tree [] end_shown down_by_rowid)) end_names
 unfolding understood everything
 last_arc_means = refl
 
-pub last_arc_plain : IsPlain (understood schema_one last_arc_sql)
+pub last_arc_plain : IsPlain (understood schema_two last_arc_sql)
 unfolding understood everything
 last_arc_plain = (refl, refl)
 
-pub last_arc_unlisted : reads_listing schema_one last_arc_sql ≡ false
+pub last_arc_unlisted : reads_listing schema_two last_arc_sql ≡ false
 unfolding understood everything
 last_arc_unlisted = refl
 
-pub first_stack_means : command_of (understood schema_one first_stack_sql) ≡ Select (only (sorted_scan stack_at.tree [] end_shown by_rowid)) end_names
+pub first_stack_means : command_of (understood schema_two first_stack_sql) ≡ Select (only (sorted_scan stack_at.tree [] end_shown by_rowid)) end_names
 unfolding understood everything
 first_stack_means = refl
 
-pub first_stack_plain : IsPlain (understood schema_one first_stack_sql)
+pub first_stack_plain : IsPlain (understood schema_two first_stack_sql)
 unfolding understood everything
 first_stack_plain = (refl, refl)
 
-pub first_stack_unlisted : reads_listing schema_one first_stack_sql ≡ false
+pub first_stack_unlisted : reads_listing schema_two first_stack_sql ≡ false
 unfolding understood everything
 first_stack_unlisted = refl
 
-pub last_stack_means : command_of (understood schema_one last_stack_sql) ≡ Select (only (sorted_scan stack_at.tree [] end_shown down_by_rowid)) end_names
+pub last_stack_means : command_of (understood schema_two last_stack_sql) ≡ Select (only (sorted_scan stack_at.tree [] end_shown down_by_rowid)) end_names
 unfolding understood everything
 last_stack_means = refl
 
-pub last_stack_plain : IsPlain (understood schema_one last_stack_sql)
+pub last_stack_plain : IsPlain (understood schema_two last_stack_sql)
 unfolding understood everything
 last_stack_plain = (refl, refl)
 
-pub last_stack_unlisted : reads_listing schema_one last_stack_sql ≡ false
+pub last_stack_unlisted : reads_listing schema_two last_stack_sql ≡ false
 unfolding understood everything
 last_stack_unlisted = refl

@@ -27,7 +27,7 @@ use Rattle.sql_tables.proofs.Queries.{has_kept, kept_has, has_permuted}
 use Rattle.profile_records.specs.Kinds.{kind_number}
 use Rattle.profile_records.specs.declared.kinds.Kind.{Kind}
 use Rattle.prof_tables.specs.Changes.{is_member, has_member}
-use Rattle.prof_tables.specs.Schema.{schema_one, to, run_at, run_event_at, derived_at, coef_at, name_at, grp_at, member_at}
+use Rattle.prof_tables.specs.Schema.{schema_two, to, run_at, run_event_at, derived_at, coef_at, name_at, grp_at, member_at}
 use Rattle.prof_tables.specs.Seen.{is_at, event_seen, derived_seen, coef_seen, event_shown, derived_shown, coef_shown, run_of_member_seen}
 use Rattle.prof_tables.specs.Tables.{Tables, RunLine, EventLine, DerivedLine, CoefLine, MemberLine, run_columns, event_columns, derived_columns, coef_columns, name_columns, group_columns, member_columns, number, number_or_null, text_or_null}
 use Rattle.prof_store.specs.Readings.{as_read, IsSaidBy, RowsSay}
@@ -50,7 +50,7 @@ use Rattle.held_runs.specs.declared.walks.Listed.TheVariants.{Cells, Arcs, Stack
 use Rattle.held_runs.proofs.NumberLists.{Rise, parent_is, risen, same_number}
 
 -- such tables can be walked
-pub ready_for : (t : Tables) (s : State) → Rests schema_one (RowsSay t) s → IsReady s
+pub ready_for : (t : Tables) (s : State) → Rests schema_two (RowsSay t) s → IsReady s
 ready_for t s was =
     let db = s.now.trees in
     let is = said t db was.holds in
@@ -179,12 +179,12 @@ module _ (t : Tables) (db : Trees) (was : IsSaidBy t db) where
       let at = row_of_line (SaysBehind was.far member_at member_columns) (db 21) t.members (members_said t db was) m there in
       let row = at.0 in
       let is : as_read was.far (column row 2) ≡ number m.run = ap (λ l. column l 2) at.2.1 in
-      let group = has_parent schema_one.tables db row (to (codes "grp") 1) in
-      let run = has_parent schema_one.tables db row (to (codes "run") 2) in
+      let group = has_parent schema_two.tables db row (to (codes "grp") 1) in
+      let run = has_parent schema_two.tables db row (to (codes "run") 2) in
       let rule : group && (run && true) ≡ true =
-      all_has (λ r. has_parent schema_one.tables db r (to (codes "grp") 1) && (has_parent schema_one.tables db r (to (codes "run") 2) && true) ≡ true) (db 21) row (was.sound.obeys.rules ForeignKey).1.1.1.1.1.1.1.1.1.1.0 at.1 in
+      all_has (λ r. has_parent schema_two.tables db r (to (codes "grp") 1) && (has_parent schema_two.tables db r (to (codes "run") 2) && true) ≡ true) (db 21) row (was.sound.obeys.rules ForeignKey).1.1.1.1.1.1.1.1.1.0 at.1 in
       let none_null : has_null (2 ∷ []) row ≡ false = ap (λ b. b || false) (not_null was.far (column row 2) m.run is) in
-      let held : is_held db (2 ∷ []) row (parent_key schema_one.tables (to (codes "run") 2)) ≡ true = other_is _ _ none_null (and_parts run true (and_parts group (run && true) rule).1).0 in
+      let held : is_held db (2 ∷ []) row (parent_key schema_two.tables (to (codes "run") 2)) ≡ true = other_is _ _ none_null (and_parts run true (and_parts group (run && true) rule).1).0 in
       let any : list_any (λ parent. agree plain (0 ∷ []) parent (2 ∷ []) row) (db 1) ≡ true = sym (ap (is_held db (2 ∷ []) row) parent_is) ∙ held in
       let parent = some_has _ (db 1) any in
       let line = line_of_row (Says was.far run_at run_columns) (db 1) t.runs (runs_said t db was) parent.0 parent.1 in

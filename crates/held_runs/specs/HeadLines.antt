@@ -36,7 +36,7 @@ derived_in_tables run t = map derived_shown (filter (λ (d : DerivedLine). d.run
 abbrev pub coefs_in_tables : ℕ → Tables → List Row
 coefs_in_tables run t = map coef_shown (filter (λ (c : CoefLine). c.run == run) t.coefs)
 
--- of the rows of any tables of schema 1
+-- of the rows of any tables of schema 2
 abbrev pub events_in_rows : ℕ → Trees → List Row
 events_in_rows run db = map event_seen (filter (is_at 1 (number run)) (db 3))
 

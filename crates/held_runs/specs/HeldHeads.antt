@@ -137,7 +137,7 @@ IsReadIn run t head = IsHeadOf head (events_in_tables run t) (derived_in_tables 
 abbrev pub IsHeadIn : ℕ → Tables → FileHead → Type 0
 IsHeadIn run t head = IsTrue (has_run t run) × IsReadIn run t head
 
--- the same in any tables of schema 1, of their rows
+-- the same in any tables of schema 2, of their rows
 abbrev pub IsReadAt : ℕ → Trees → FileHead → Type 0
 IsReadAt run db head = IsHeadOf head (events_in_rows run db) (derived_in_rows run db) (coefs_in_rows run db)
 

@@ -17,7 +17,7 @@ IsKindOf run t kind = (r : RunLine) × Has t.runs r × (r.number ≡ run) × (r.
 abbrev pub IsBaselineOf : List ℕ → Tables → Option ℕ → Type 0
 IsBaselineOf name t baseline = (g : GroupLine) × Has t.groups g × (g.name ≡ name) × (g.baseline ≡ baseline)
 
--- the same of the rows of any tables of schema 1
+-- the same of the rows of any tables of schema 2
 abbrev pub IsKindAt : ℕ → Trees → Kind → Type 0
 IsKindAt run db kind = (r : Row) × Has (db 1) r × IsTrue (is_at 0 (number run) r) × (column r 2 ≡ number (kind_number kind))
 

@@ -25,7 +25,7 @@ events_of_run run t = filter (λ (e : EventLine). e.run == run) t.events
 abbrev pub AreOwnSums : List EventLine → List ℕ → Type 0
 AreOwnSums lines sums = IsPermutation (map own_shown lines) (sums_from 0 sums)
 
--- the same of the rows of any tables of schema 1
+-- the same of the rows of any tables of schema 2
 abbrev pub AreOwnSumsAt : ℕ → Trees → List ℕ → Type 0
 AreOwnSumsAt run db sums = IsPermutation (map own_seen (filter (is_at 1 (number run)) (db 3))) (sums_from 0 sums)
 

@@ -24,7 +24,7 @@ numbers_in_tables t = map (λ (r : RunLine). r.number) t.runs
 abbrev pub members_in_tables : List ℕ → Tables → List ℕ
 members_in_tables name t = filter (has_member t name) (numbers_in_tables t)
 
--- ---- the same of the rows of any tables of schema 1
+-- ---- the same of the rows of any tables of schema 2
 
 abbrev pub numbers_in_rows : Trees → List Row
 numbers_in_rows db = map first_one (db 1)

@@ -16,10 +16,10 @@ baseline_of_sql = codes "SELECT baseline FROM grp WHERE name = ?1"
 -- ---- the rows of a table by rowid, up from the first and down from the last
 
 abbrev pub first_cell_sql : List ℕ
-first_cell_sql = codes "SELECT rowid, run FROM cell ORDER BY rowid"
+first_cell_sql = codes "SELECT rowid, run FROM thread_cell ORDER BY rowid"
 
 abbrev pub last_cell_sql : List ℕ
-last_cell_sql = codes "SELECT rowid, run FROM cell ORDER BY rowid DESC"
+last_cell_sql = codes "SELECT rowid, run FROM thread_cell ORDER BY rowid DESC"
 
 abbrev pub first_arc_sql : List ℕ
 first_arc_sql = codes "SELECT rowid, run FROM arc ORDER BY rowid"

@@ -8,7 +8,7 @@ use Rattle.sqlite_trees.specs.declared.store.Shape.TheVariants as shape
 use Rattle.sqlite_rules.specs.Lists.{Has}
 use Rattle.sqlite.specs.State.{State}
 use Rattle.sql_tables.specs.Walks.{Asked, Lie, Reads, HasReadAll, in_page, in_window, is_above, is_within}
-use Rattle.prof_tables.specs.Schema.{schema_one, cell_at, arc_at, stack_at}
+use Rattle.prof_tables.specs.Schema.{schema_two, thread_cell_at, arc_at, stack_at}
 use Rattle.prof_tables.specs.WalkTexts.{cell_window_sql, cell_ends_sql, cells_of, arc_window_sql, arc_ends_sql, arcs_of, stack_window_sql, stack_ends_sql, stacks_of}
 use Rattle.prof_store.specs.declared.store.Store.{Store}
 use Rattle.store_columns.specs.declared.errors.StoreError.{StoreError}
@@ -22,7 +22,7 @@ use Rattle.held_runs.specs.RunTexts.{first_cell_sql, last_cell_sql, first_arc_sq
 use Rattle.prof_store.specs.Shown.{Asks, IsFaithful, shown}
 
 abbrev pub tree_of : Listed → ℕ
-tree_of Cells = cell_at.tree
+tree_of Cells = thread_cell_at.tree
 tree_of Arcs = arc_at.tree
 tree_of Stacks = stack_at.tree
 
@@ -76,9 +76,9 @@ pub record IsSameWalk (old new : Walk) : Type 0 where
 abbrev pub IsRead : {S : Type 0} → Store S → Walk → Type 0
 IsRead store walk = drop walk.at store.page.items ≡ []
 
--- the schema is schema 1, and the rows of these tables have rowids that rise
+-- the schema is schema 2, and the rows of these tables have rowids that rise
 pub record IsReady (s : State) : Type 0 where
-  pub schema_is : s.now.schema ≡ schema_one
+  pub schema_is : s.now.schema ≡ schema_two
   pub numbered : (table : Listed) → IsShaped shape.Table (s.now.trees (tree_of table))
 
 module _ {S : Type 0} (g : Ghosts S) where

@@ -12,18 +12,20 @@ use store_columns::{CellLine, OutOfForm, number_at, whole_at};
 pub(crate) fn read_cell(run: u32, row: &Row) -> Result<CellLine, OutOfForm>
     ensures { IfOk result (λ line. cell_columns (cell_line line) ≡ read_from (cells_of run) row.now) }
 {
-    let object = number_at(row, 1)?;
-    let file = number_at(row, 2)?;
-    let function = number_at(row, 3)?;
-    let line = whole_at(row, 4)?;
-    let event = number_at(row, 5)?;
-    let cost = whole_at(row, 6)?;
+    let thread = whole_at(row, 1)?;
+    let object = number_at(row, 2)?;
+    let file = number_at(row, 3)?;
+    let function = number_at(row, 4)?;
+    let line = whole_at(row, 5)?;
+    let event = number_at(row, 6)?;
+    let cost = whole_at(row, 7)?;
     Ok(CellLine {
         run,
         object,
         file,
         function,
         line,
+        thread,
         event,
         cost,
     })

@@ -42,6 +42,7 @@ fn cell_row<'n>(
         file,
         function,
         line: line.line.get(),
+        thread: line.thread.get(),
         event,
         cost: u128::from(line.cost.get()),
     })

@@ -71,7 +71,7 @@ fn window_sql(table: Listed) -> &'static str
 {
     match table {
         Listed::Cells => {
-            "SELECT rowid, ob, fl, fn, line, event, cost FROM cell WHERE run = ?1 AND rowid > ?2 AND rowid <= ?3 ORDER BY rowid"
+            "SELECT rowid, thread, ob, fl, fn, line, event, cost FROM thread_cell WHERE run = ?1 AND rowid > ?2 AND rowid <= ?3 ORDER BY rowid"
         }
         Listed::Arcs => {
             "SELECT rowid, ob, fl, fn, line, cob, cfl, cfn, part, n FROM arc WHERE run = ?1 AND rowid > ?2 AND rowid <= ?3 ORDER BY rowid"
@@ -86,7 +86,7 @@ fn ends_sql(table: Listed) -> &'static str
     ensures { result.now ≡ ends_sql_of table }
 {
     match table {
-        Listed::Cells => "SELECT min(rowid), max(rowid) FROM cell WHERE run = ?1",
+        Listed::Cells => "SELECT min(rowid), max(rowid) FROM thread_cell WHERE run = ?1",
         Listed::Arcs => "SELECT min(rowid), max(rowid) FROM arc WHERE run = ?1",
         Listed::Stacks => "SELECT min(rowid), max(rowid) FROM stack WHERE run = ?1",
     }
@@ -99,12 +99,12 @@ fn end_sql(table: Listed, end: End) -> &'static str
 {
     match end {
         End::First => match table {
-            Listed::Cells => "SELECT rowid, run FROM cell ORDER BY rowid",
+            Listed::Cells => "SELECT rowid, run FROM thread_cell ORDER BY rowid",
             Listed::Arcs => "SELECT rowid, run FROM arc ORDER BY rowid",
             Listed::Stacks => "SELECT rowid, run FROM stack ORDER BY rowid",
         },
         End::Last => match table {
-            Listed::Cells => "SELECT rowid, run FROM cell ORDER BY rowid DESC",
+            Listed::Cells => "SELECT rowid, run FROM thread_cell ORDER BY rowid DESC",
             Listed::Arcs => "SELECT rowid, run FROM arc ORDER BY rowid DESC",
             Listed::Stacks => "SELECT rowid, run FROM stack ORDER BY rowid DESC",
         },

@@ -15,13 +15,13 @@ use Rattle.sqlite_rules.proofs.ListLemmas.{some_has, some_from}
 use Rattle.sqlite_tied.proofs.RuleLemmas.{and_true}
 use Rattle.sqlite_tied.specs.Compute.{everything}
 use Rattle.sql_tables.proofs.Rows.{numbers_equal}
-use Rattle.prof_tables.specs.Schema.{schema_one, to}
+use Rattle.prof_tables.specs.Schema.{schema_two, to}
 use Rattle.prof_tables.specs.Tables.{Tables, Holds, RunLine, EventLine, event_columns, number}
 use Rattle.prof_tables.specs.Changes.{has_run}
 use Rattle.prof_tables.proofs.Finds.{run_row}
 
 -- a reference to a run points to the rowid of the table of runs
-parent_is : parent_key schema_one.tables (to (codes "run") 1) ≡ Some (1, 0 ∷ [], plain)
+parent_is : parent_key schema_two.tables (to (codes "run") 1) ≡ Some (1, 0 ∷ [], plain)
 unfolding everything
 parent_is = refl
 
@@ -44,13 +44,13 @@ module _ (t : Tables) (db : Trees) (was : Holds t db) where
       ∙ ap (λ v. is_true (binary (Compare Eq Binary) (column parent.0 0) v) && true) (sym is) ∙ parent.2 in
       some_from (λ (r : RunLine). r.number == n) t.runs line.0 line.1 same
 
-  row_held : (row : Row) (n : ℕ) → column row 1 ≡ number n → has_parent schema_one.tables db row (to (codes "run") 1) && true ≡ true → has_run t n ≡ true
+  row_held : (row : Row) (n : ℕ) → column row 1 ≡ number n → has_parent schema_two.tables db row (to (codes "run") 1) && true ≡ true → has_run t n ≡ true
   row_held row n is h =
       run_held row n is (ap (λ b. b || list_any (λ parent. agree plain (0 ∷ []) parent (1 ∷ []) row) (db 1)) (sym (no_null row n is)) ∙ ap (λ key. (is_null (column row 1) || false) || is_held db (1 ∷ []) row key) (sym parent_is)
       ∙ (and_parts _ _ h).0)
 
   lines_held : {X : Type 0} (columns : X → Row) (run : X → ℕ) → ((x : X) → column (columns x) 0 ≡ number (run x)) → (rows : List Row) (lines : List X) → map (drop 1) rows ≡ map columns lines
-      → AllByRecursion (λ row. has_parent schema_one.tables db row (to (codes "run") 1) && true ≡ true) rows → AllByRecursion (λ x. has_run t (run x) ≡ true) lines
+      → AllByRecursion (λ row. has_parent schema_two.tables db row (to (codes "run") 1) && true ≡ true) rows → AllByRecursion (λ x. has_run t (run x) ≡ true) lines
   lines_held columns run is [] [] same h = tt
   lines_held columns run is [] (line ∷ lines) same h = absurd cc
   lines_held columns run is (row ∷ rows) [] same h = absurd cc

@@ -15,7 +15,7 @@ use Rattle.histories.specs.Files.{content_of_text, content_of_folded}
 use Rattle.std.specs.Str.{bytes_eq}
 
 -- two rows of one place
-cells-twice : (content_of_text (codes "events: Ir\n1 1\n1 2\n")).cells ≡ (record { place = record { object = 0; file = 0; function = 0; line = 1 } }, 3 ∷ []) ∷ []
+cells-twice : (content_of_text (codes "events: Ir\n1 1\n1 2\n")).cells ≡ (record { place = record { object = 0; file = 0; function = 0; line = 1 }; thread = 0 }, 3 ∷ []) ∷ []
 unfolding reading_of line_text kind_of name_of number_of amount_of subpos_of
 cells-twice = refl
 

@@ -46,7 +46,7 @@ module _ (known : List NameLine) (up : Rising known) where
 
     one_cell : (p : CellPlace) (event cost : ℕ) → CellHeld names p → cell_held known (cell_line_of run numbers p event cost) ≡ cell_named names (numbered_cell p event cost)
     one_cell p event cost h =
-        let P : List ℕ → List ℕ → List ℕ → CellRow (List ℕ) = λ a b d. record { object = a; file = b; function = d; line = p.place.line; event = event; cost = cost } in
+        let P : List ℕ → List ℕ → List ℕ → CellRow (List ℕ) = λ a b d. record { object = a; file = b; function = d; line = p.place.line; thread = p.thread; event = event; cost = cost } in
         let e : P (name_of known (numbered numbers p.place.object)) (name_of known (numbered numbers p.place.file)) (name_of known (numbered numbers p.place.function)) ≡ P (name_at names p.place.object) (name_at names p.place.file) (name_at names p.place.function) =
         ap (λ a. P a (name_of known (numbered numbers p.place.file)) (name_of known (numbered numbers p.place.function))) (through names all p.place.object h.0)
         ∙ ap (λ b. P (name_at names p.place.object) b (name_of known (numbered numbers p.place.function))) (through names all p.place.file h.1) ∙ ap (P (name_at names p.place.object) (name_at names p.place.file)) (through names all p.place.function h.2) in

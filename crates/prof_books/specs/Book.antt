@@ -25,6 +25,7 @@ cell_held names c = record {
   file = name_of names c.file;
   function = name_of names c.function;
   line = c.line;
+  thread = c.thread;
   event = c.event;
   cost = c.cost;
 }

@@ -20,6 +20,7 @@ cell_line_of run numbers p event cost = record {
   file = numbered numbers p.place.file;
   function = numbered numbers p.place.function;
   line = p.place.line;
+  thread = p.thread;
   event = event;
   cost = cost;
 }

@@ -6,12 +6,12 @@ use Rattle.cost_rows.specs.WalkSums.{calls_cost, calls_count, has_calls}
 use Rattle.cost_rows.specs.declared.rows.ArcRow.{ArcRow}
 use Rattle.prof_books.specs.Book.{CallPart, parts_of}
 
--- the place of calls, and whom they called
+-- the place of calls, and whom they called; of their threads nothing is kept
 abbrev pub caller_of_part : CallPart → Spot
-caller_of_part p = record { object = p.object; file = p.file; function = p.function; line = p.line }
+caller_of_part p = record { object = p.object; file = p.file; function = p.function; line = p.line; thread = 0 }
 
 abbrev pub callee_of_part : CallPart → Spot
-callee_of_part p = record { object = p.called_object; file = p.called_file; function = p.called_function; line = 0 }
+callee_of_part p = record { object = p.called_object; file = p.called_file; function = p.called_function; line = 0; thread = 0 }
 
 -- what the parts of one number come to, of the calls that pass
 abbrev pub parts_sum : (Spot → Spot → Bool) → ℕ → List CallPart → ℕ

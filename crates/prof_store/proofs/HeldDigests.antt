@@ -20,7 +20,7 @@ use Rattle.sqlite_rules.proofs.ProbeLemmas.{mapped_has}
 use Rattle.sqlite_tied.proofs.RuleLemmas.{and_true}
 use Rattle.cg_formulas.specs.declared.heads.FileHead.{FileHead}
 use Rattle.cost_rows.specs.Content.{Content}
-use Rattle.prof_tables.specs.Schema.{schema_one, run_at}
+use Rattle.prof_tables.specs.Schema.{schema_two, run_at}
 use Rattle.prof_tables.specs.Tables.{Tables, Holds, RunLine, run_columns, number}
 use Rattle.prof_tables.specs.Changes.{named, has_name, with_new_name}
 use Rattle.prof_tables.specs.Files.{all_named}
@@ -42,7 +42,7 @@ numbers_differ a b = go (value_cmp (number a) (number b)) ∙ ap is_ne (value_cm
     same = grind (arith, ints, nat_tests)
 
 -- no row has the digest of another
-unclashed : (db : Trees) (row : Row) → obeys Unique schema_one db run_at row ≡ true → not (clashes plain (3 ∷ []) (db 1) row) ≡ true
+unclashed : (db : Trees) (row : Row) → obeys Unique schema_two db run_at row ≡ true → not (clashes plain (3 ∷ []) (db 1) row) ≡ true
 unclashed db row h = (and_parts _ _ h).0
 
 agrees : (a b : RunLine) → agree plain (3 ∷ []) (run_columns a) (3 ∷ []) (run_columns b) ≡ bytes_eq a.digest b.digest

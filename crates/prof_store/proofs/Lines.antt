@@ -1,4 +1,4 @@
--- The rows of each sound database of schema 1 say lines.
+-- The rows of each sound database of schema 2 say lines.
 use Rattle.std.proofs.Common.{◌≡◌, ℕ, zero, suc, ◌+◌, ◌≤◌, ◌^◌, ◌||◌, ◌&&◌, not, pos, negsuc, List, [], ◌∷◌, map, drop, Bool, true, false, if◌then◌else◌, Option, Some, None, slice_get, codes, refl, ap, ap₂, subst, ◌∙◌, arith}
 use Rattle.std.specs.List.{AllByRecursion}
 use Rattle.std.proofs.lemmas.Bool.{and_parts}
@@ -16,7 +16,7 @@ use Rattle.sqlite_schema.specs.declared.schema.Constraint.TheVariants.{Datatype,
 use Rattle.sqlite_schema.specs.declared.schema.Kind.TheVariants as kind
 use Rattle.sqlite_schema.specs.declared.schema.Table.{Table}
 use Rattle.sqlite_keyed.proofs.ListLemmas.{map-map}
-use Rattle.prof_tables.specs.Schema.{column_of, schema_one, meta_at, run_at, run_event_at, derived_at, coef_at, name_at, cell_at, arc_at, stack_at, grp_at, member_at}
+use Rattle.prof_tables.specs.Schema.{column_of, schema_two, meta_at, run_at, run_event_at, derived_at, coef_at, name_at, thread_cell_at, arc_at, stack_at, grp_at, member_at}
 use Rattle.prof_tables.specs.Tables.{Tables, RunLine, EventLine, DerivedLine, CoefLine, NameLine, CellLine, ArcLine, StackLine, GroupLine, MemberLine, meta_columns, run_columns, event_columns, derived_columns, coef_columns, name_columns, cell_columns, arc_columns, stack_columns, group_columns, member_columns, number, number_or_null, text_or_null}
 use Rattle.prof_store.specs.Readings.{as_read, row_read, AreShaped, HasMeta, RowsSay}
 
@@ -245,14 +245,14 @@ module _ (far : ℕ → ℕ) where
       ap₂ {A = Value} ◌∷◌ (int_at far key cs r are there 0 (codes "run") refl refl) (ap₂ {A = Value} ◌∷◌ (int_at far key cs r are there 1 (codes "pos") refl refl) (ap₂ {A = Value} ◌∷◌ (int_at far key cs r are there 2 (codes "event") refl refl) (ap₂ {A = Value} ◌∷◌ (int_at far key cs r are there 3 (codes "n") refl refl) refl)))
 
   cell_of : Row → CellLine
-  cell_of r = record { run = value_of far (column r 1); object = value_of far (column r 2); file = value_of far (column r 3); function = value_of far (column r 4); line = value_of far (column r 5); event = value_of far (column r 6); cost = value_of far (column r 7) }
+  cell_of r = record { run = value_of far (column r 1); object = value_of far (column r 3); file = value_of far (column r 4); function = value_of far (column r 5); line = value_of far (column r 6); thread = value_of far (column r 2); event = value_of far (column r 7); cost = value_of far (column r 8) }
 
-  cell_read : (r : Row) → is_int (rowid r) ≡ true → are_typed cell_at.key 0 cell_at.columns (drop 1 r) ≡ true → are_present cell_at.key 0 cell_at.columns r ≡ true → drop 1 (row_read far cell_at r) ≡ cell_columns (cell_of r)
+  cell_read : (r : Row) → is_int (rowid r) ≡ true → are_typed thread_cell_at.key 0 thread_cell_at.columns (drop 1 r) ≡ true → are_present thread_cell_at.key 0 thread_cell_at.columns r ≡ true → drop 1 (row_read far thread_cell_at r) ≡ cell_columns (cell_of r)
   unfolding cell_of
   cell_read r id are there =
-      let key = cell_at.key in
-      let cs = cell_at.columns in
-      ap₂ {A = Value} ◌∷◌ (int_at far key cs r are there 0 (codes "run") refl refl) (ap₂ {A = Value} ◌∷◌ (int_at far key cs r are there 1 (codes "ob") refl refl) (ap₂ {A = Value} ◌∷◌ (int_at far key cs r are there 2 (codes "fl") refl refl) (ap₂ {A = Value} ◌∷◌ (int_at far key cs r are there 3 (codes "fn") refl refl) (ap₂ {A = Value} ◌∷◌ (int_at far key cs r are there 4 (codes "line") refl refl) (ap₂ {A = Value} ◌∷◌ (int_at far key cs r are there 5 (codes "event") refl refl) (ap₂ {A = Value} ◌∷◌ (int_at far key cs r are there 6 (codes "cost") refl refl) refl))))))
+      let key = thread_cell_at.key in
+      let cs = thread_cell_at.columns in
+      ap₂ {A = Value} ◌∷◌ (int_at far key cs r are there 0 (codes "run") refl refl) (ap₂ {A = Value} ◌∷◌ (int_at far key cs r are there 1 (codes "thread") refl refl) (ap₂ {A = Value} ◌∷◌ (int_at far key cs r are there 2 (codes "ob") refl refl) (ap₂ {A = Value} ◌∷◌ (int_at far key cs r are there 3 (codes "fl") refl refl) (ap₂ {A = Value} ◌∷◌ (int_at far key cs r are there 4 (codes "fn") refl refl) (ap₂ {A = Value} ◌∷◌ (int_at far key cs r are there 5 (codes "line") refl refl) (ap₂ {A = Value} ◌∷◌ (int_at far key cs r are there 6 (codes "event") refl refl) (ap₂ {A = Value} ◌∷◌ (int_at far key cs r are there 7 (codes "cost") refl refl) refl)))))))
 
   arc_of : Row → ArcLine
   arc_of r = record { run = value_of far (column r 1); object = value_of far (column r 2); file = value_of far (column r 3); function = value_of far (column r 4); line = value_of far (column r 5); called_object = value_of far (column r 6); called_file = value_of far (column r 7); called_function = value_of far (column r 8); part = value_of far (column r 9); sum = value_of far (column r 10) }
@@ -295,7 +295,7 @@ module _ (far : ℕ → ℕ) where
       ap₂ {A = Value} ◌∷◌ (text_at far key cs r are there 0 (codes "grp") refl refl) (ap₂ {A = Value} ◌∷◌ (int_at far key cs r are there 1 (codes "run") refl refl) refl)
 
 -- where meta has its row
-module _ (db : Trees) (sound : IsSound schema_one db) (shaped : AreShaped db) (meta : HasMeta db) (far : ℕ → ℕ) (is_far : (n : ℕ) → 2 ^ 64 ≤ far n) where
+module _ (db : Trees) (sound : IsSound schema_two db) (shaped : AreShaped db) (meta : HasMeta db) (far : ℕ → ℕ) (is_far : (n : ℕ) → 2 ^ 64 ≤ far n) where
   lines_of : Tables
   lines_of = record {
     next = value_of far (column meta.row 3);
@@ -304,7 +304,7 @@ module _ (db : Trees) (sound : IsSound schema_one db) (shaped : AreShaped db) (m
     derived = map (derived_of far) (db 6);
     coefs = map (coef_of far) (db 9);
     names = map (name_of far) (db 11);
-    cells = map (cell_of far) (db 13);
+    cells = map (cell_of far) (db 23);
     arcs = map (arc_of far) (db 15);
     stacks = map (stack_of far) (db 17);
     groups = map (group_of far) (db 19);
@@ -344,15 +344,15 @@ module _ (db : Trees) (sound : IsSound schema_one db) (shaped : AreShaped db) (m
                     (
                       record { numbered = shaped.1.1.1.1.1.0; rows_are = each_read name_at (row_read far name_at) name_columns (name_of far) (name_read far) (db 11) shaped.1.1.1.1.1.0.1 d.1.1.1.1.1.0 p.1.1.1.1.1.0 },
                       (
-                        record { numbered = shaped.1.1.1.1.1.1.0; rows_are = map-map (drop 1) (row_read far cell_at) (db 13) ∙ each_read cell_at (λ r. drop 1 (row_read far cell_at r)) cell_columns (cell_of far) (cell_read far) (db 13) shaped.1.1.1.1.1.1.0.1 d.1.1.1.1.1.1.0 p.1.1.1.1.1.1.0 },
+                        record { numbered = shaped.1.1.1.1.1.1.0; rows_are = map-map (drop 1) (row_read far arc_at) (db 15) ∙ each_read arc_at (λ r. drop 1 (row_read far arc_at r)) arc_columns (arc_of far) (arc_read far) (db 15) shaped.1.1.1.1.1.1.0.1 d.1.1.1.1.1.1.0 p.1.1.1.1.1.1.0 },
                         (
-                          record { numbered = shaped.1.1.1.1.1.1.1.0; rows_are = map-map (drop 1) (row_read far arc_at) (db 15) ∙ each_read arc_at (λ r. drop 1 (row_read far arc_at r)) arc_columns (arc_of far) (arc_read far) (db 15) shaped.1.1.1.1.1.1.1.0.1 d.1.1.1.1.1.1.1.0 p.1.1.1.1.1.1.1.0 },
+                          record { numbered = shaped.1.1.1.1.1.1.1.0; rows_are = map-map (drop 1) (row_read far stack_at) (db 17) ∙ each_read stack_at (λ r. drop 1 (row_read far stack_at r)) stack_columns (stack_of far) (stack_read far) (db 17) shaped.1.1.1.1.1.1.1.0.1 d.1.1.1.1.1.1.1.0 p.1.1.1.1.1.1.1.0 },
                           (
-                            record { numbered = shaped.1.1.1.1.1.1.1.1.0; rows_are = map-map (drop 1) (row_read far stack_at) (db 17) ∙ each_read stack_at (λ r. drop 1 (row_read far stack_at r)) stack_columns (stack_of far) (stack_read far) (db 17) shaped.1.1.1.1.1.1.1.1.0.1 d.1.1.1.1.1.1.1.1.0 p.1.1.1.1.1.1.1.1.0 },
+                            record { numbered = shaped.1.1.1.1.1.1.1.1.0; rows_are = map-map (drop 1) (row_read far grp_at) (db 19) ∙ each_read grp_at (λ r. drop 1 (row_read far grp_at r)) group_columns (group_of far) (group_read far) (db 19) shaped.1.1.1.1.1.1.1.1.0.1 d.1.1.1.1.1.1.1.1.0 p.1.1.1.1.1.1.1.1.0 },
                             (
-                              record { numbered = shaped.1.1.1.1.1.1.1.1.1.0; rows_are = map-map (drop 1) (row_read far grp_at) (db 19) ∙ each_read grp_at (λ r. drop 1 (row_read far grp_at r)) group_columns (group_of far) (group_read far) (db 19) shaped.1.1.1.1.1.1.1.1.1.0.1 d.1.1.1.1.1.1.1.1.1.0 p.1.1.1.1.1.1.1.1.1.0 },
+                              record { numbered = shaped.1.1.1.1.1.1.1.1.1.0; rows_are = map-map (drop 1) (row_read far member_at) (db 21) ∙ each_read member_at (λ r. drop 1 (row_read far member_at r)) member_columns (member_of far) (member_read far) (db 21) shaped.1.1.1.1.1.1.1.1.1.0.1 d.1.1.1.1.1.1.1.1.1.0 p.1.1.1.1.1.1.1.1.1.0 },
                               (
-                                record { numbered = shaped.1.1.1.1.1.1.1.1.1.1.0; rows_are = map-map (drop 1) (row_read far member_at) (db 21) ∙ each_read member_at (λ r. drop 1 (row_read far member_at r)) member_columns (member_of far) (member_read far) (db 21) shaped.1.1.1.1.1.1.1.1.1.1.0.1 d.1.1.1.1.1.1.1.1.1.1.0 p.1.1.1.1.1.1.1.1.1.1.0 },
+                                record { numbered = shaped.1.1.1.1.1.1.1.1.1.1.0; rows_are = map-map (drop 1) (row_read far thread_cell_at) (db 23) ∙ each_read thread_cell_at (λ r. drop 1 (row_read far thread_cell_at r)) cell_columns (cell_of far) (cell_read far) (db 23) shaped.1.1.1.1.1.1.1.1.1.1.0.1 d.1.1.1.1.1.1.1.1.1.1.0 p.1.1.1.1.1.1.1.1.1.1.0 },
                                 tt,
                               ),
                             ),

@@ -20,7 +20,7 @@ use Rattle.store_columns.specs.declared.errors.StoreError.TheVariants as errors
 use Rattle.store_columns.specs.declared.errors.OpenError.{OpenError}
 use Rattle.store_columns.specs.declared.errors.OpenError.TheVariants as ends
 use Rattle.store_columns.specs.Errors.{error_for, opening}
-use Rattle.prof_tables.specs.Schema.{schema_one}
+use Rattle.prof_tables.specs.Schema.{schema_two}
 use Rattle.prof_tables.specs.Tables.{Tables, Holds, meta_columns}
 use Rattle.prof_tables.specs.Texts.{schema_sql}
 use Rattle.prof_tables.proofs.Finds.{schema_found}
@@ -34,8 +34,8 @@ only_asks sql query params old new clean survives (Ok row) h out is = asked_if o
 only_asks sql query params old new clean survives (Err e) h (Ok x) is = absurd cc
 only_asks sql query params old new clean survives (Err e) h (Err x) is = any_row_refused sql query params old new clean survives e h
 
--- what is opened showed a row with the number 1
-pub opening_row : {P : Type 0} (answer : Result Row Error) (out : Result Unit OpenError) → OpensBy answer out → ((row : Row) → answer ≡ Ok row → column row 0 ≡ Int (pos 1) → P) → OnOk out P
+-- what is opened showed a row with the number 2
+pub opening_row : {P : Type 0} (answer : Result Row Error) (out : Result Unit OpenError) → OpensBy answer out → ((row : Row) → answer ≡ Ok row → column row 0 ≡ Int (pos 2) → P) → OnOk out P
 opening_row (Ok row) (Ok x) is f = f row refl (is.0.0 refl)
 opening_row (Ok row) (Err e) is f = tt
 opening_row (Err e) (Ok x) is f = absurd cc
@@ -45,7 +45,7 @@ opening_row (Err e) (Err x) is f = tt
 meta_held : (t : Tables) (db : Trees) → Holds t db → Has (db 0) (meta_columns t.next)
 meta_held t db was = subst (λ l. Has l (meta_columns t.next)) (sym was.contain.contents_are.0.rows_are) (inl refl)
 
-meta_says : (t : Tables) (db : Trees) (r : Row) → Holds t db → Has (db 0) r → column r 2 ≡ Int (pos 1)
+meta_says : (t : Tables) (db : Trees) (r : Row) → Holds t db → Has (db 0) r → column r 2 ≡ Int (pos 2)
 meta_says t db r was there = elim (subst (λ l. Has l r) was.contain.contents_are.0.rows_are there) [ inl same ↦ ap (λ l. column l 2) same | inr none ↦ absurd none ]
 
 never_wrong : (end : StoreError) → opening end ≢ ends.WrongSchema
@@ -54,10 +54,10 @@ never_wrong errors.Store = λ same. cc
 
 -- a query of a store fails for no other schema
 store_fails : (old new : State) → IsStore old → (error : Error) → QueriesRow schema_sql [] old new (Err error) → failed_opening error ≢ ends.WrongSchema
-store_fails old new store (SqlInputError fault) h = λ same. never_blames schema_one schema_sql _ _ schema_means schema_plain [] old new store.1.schema_is fault h
+store_fails old new store (SqlInputError fault) h = λ same. never_blames schema_two schema_sql _ _ schema_means schema_plain [] old new store.1.schema_is fault h
 store_fails old new store QueryReturnedNoRows h = λ same.
-    let none = none_there schema_one schema_sql _ _ schema_means schema_plain [] old new store.1.schema_is h in
-    let s = selected schema_one schema_sql 0 schema_terms schema_shown schema_order _ schema_means schema_plain schema_unlisted old new store.1.schema_is refl [] [] none in
+    let none = none_there schema_two schema_sql _ _ schema_means schema_plain [] old new store.1.schema_is h in
+    let s = selected schema_two schema_sql 0 schema_terms schema_shown schema_order _ schema_means schema_plain schema_unlisted old new store.1.schema_is refl [] [] none in
     row_shown 0 schema_terms schema_shown schema_order (old.now.trees 0) [] [] s (meta_columns store.0.next) (meta_held store.0 _ store.1.holds) refl
 store_fails old new store (SqliteFailure code) h = never_wrong (error_for (SqliteFailure code))
 store_fails old new store (InvalidParameterCount n m) h = never_wrong errors.Store

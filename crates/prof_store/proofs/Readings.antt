@@ -21,7 +21,7 @@ use Rattle.sqlite_sql.specs.declared.ops.BinaryOp.TheVariants.{Compare}
 use Rattle.sqlite_sql.specs.declared.ops.CompareOp.TheVariants.{Eq}
 use Rattle.sqlite_rules.specs.Lists.{Has}
 use Rattle.sqlite_schema.specs.declared.schema.Table.{Table}
-use Rattle.prof_tables.specs.Schema.{meta_at, run_at, run_event_at, derived_at, coef_at, name_at, cell_at, arc_at, stack_at, grp_at, member_at}
+use Rattle.prof_tables.specs.Schema.{meta_at, run_at, run_event_at, derived_at, coef_at, name_at, thread_cell_at, arc_at, stack_at, grp_at, member_at}
 use Rattle.sql_tables.proofs.Rows.{numbers_equal, texts_equal}
 use Rattle.prof_tables.proofs.Values.{blobs_equal}
 use Rattle.prof_tables.specs.Seen.{is_at}
@@ -230,14 +230,14 @@ module _ (t : Tables) (db : Trees) (was : IsSaidBy t db) where
   pub names_rise : IsTable (db 11)
   names_rise = was.contents_are.1.1.1.1.1.0.numbered.0
 
-  pub cells_shaped : IsShaped shape.Table (db 13)
-  cells_shaped = was.contents_are.1.1.1.1.1.1.0.numbered
+  pub cells_shaped : IsShaped shape.Table (db 23)
+  cells_shaped = was.contents_are.1.1.1.1.1.1.1.1.1.1.0.numbered
 
   pub arcs_shaped : IsShaped shape.Table (db 15)
-  arcs_shaped = was.contents_are.1.1.1.1.1.1.1.0.numbered
+  arcs_shaped = was.contents_are.1.1.1.1.1.1.0.numbered
 
   pub stacks_shaped : IsShaped shape.Table (db 17)
-  stacks_shaped = was.contents_are.1.1.1.1.1.1.1.1.0.numbered
+  stacks_shaped = was.contents_are.1.1.1.1.1.1.1.0.numbered
 
   pub runs_said : AllZip (Says was.far run_at run_columns) (db 1) t.runs
   runs_said = all_say was.far run_at run_columns (db 1) t.runs was.contents_are.1.0.rows_are
@@ -254,17 +254,17 @@ module _ (t : Tables) (db : Trees) (was : IsSaidBy t db) where
   pub names_said : AllZip (Says was.far name_at name_columns) (db 11) t.names
   names_said = all_say was.far name_at name_columns (db 11) t.names was.contents_are.1.1.1.1.1.0.rows_are
 
-  pub cells_said : AllZip (SaysBehind was.far cell_at cell_columns) (db 13) t.cells
-  cells_said = all_say_behind was.far cell_at cell_columns (db 13) t.cells was.contents_are.1.1.1.1.1.1.0.rows_are
+  pub cells_said : AllZip (SaysBehind was.far thread_cell_at cell_columns) (db 23) t.cells
+  cells_said = all_say_behind was.far thread_cell_at cell_columns (db 23) t.cells was.contents_are.1.1.1.1.1.1.1.1.1.1.0.rows_are
 
   pub arcs_said : AllZip (SaysBehind was.far arc_at arc_columns) (db 15) t.arcs
-  arcs_said = all_say_behind was.far arc_at arc_columns (db 15) t.arcs was.contents_are.1.1.1.1.1.1.1.0.rows_are
+  arcs_said = all_say_behind was.far arc_at arc_columns (db 15) t.arcs was.contents_are.1.1.1.1.1.1.0.rows_are
 
   pub stacks_said : AllZip (SaysBehind was.far stack_at stack_columns) (db 17) t.stacks
-  stacks_said = all_say_behind was.far stack_at stack_columns (db 17) t.stacks was.contents_are.1.1.1.1.1.1.1.1.0.rows_are
+  stacks_said = all_say_behind was.far stack_at stack_columns (db 17) t.stacks was.contents_are.1.1.1.1.1.1.1.0.rows_are
 
   pub groups_said : AllZip (SaysBehind was.far grp_at group_columns) (db 19) t.groups
-  groups_said = all_say_behind was.far grp_at group_columns (db 19) t.groups was.contents_are.1.1.1.1.1.1.1.1.1.0.rows_are
+  groups_said = all_say_behind was.far grp_at group_columns (db 19) t.groups was.contents_are.1.1.1.1.1.1.1.1.0.rows_are
 
   pub members_said : AllZip (SaysBehind was.far member_at member_columns) (db 21) t.members
-  members_said = all_say_behind was.far member_at member_columns (db 21) t.members was.contents_are.1.1.1.1.1.1.1.1.1.1.0.rows_are
+  members_said = all_say_behind was.far member_at member_columns (db 21) t.members was.contents_are.1.1.1.1.1.1.1.1.1.0.rows_are

@@ -6,7 +6,7 @@ use Rattle.sqlite_value.specs.Order.{Row, column}
 use Rattle.sqlite_trees.specs.Tree.{Trees}
 use Rattle.sql_tables.specs.Walks.{Asked, HasReadAll, is_asked, said}
 use Rattle.prof_tables.specs.RunLines.{cells_in, arcs_in, stacks_in}
-use Rattle.prof_tables.specs.Schema.{cell_at, arc_at, stack_at}
+use Rattle.prof_tables.specs.Schema.{thread_cell_at, arc_at, stack_at}
 use Rattle.prof_tables.specs.Seen.{is_at}
 use Rattle.prof_tables.specs.Tables.{Tables, CellLine, ArcLine, StackLine, cell_columns, arc_columns, stack_columns, number}
 use Rattle.prof_tables.specs.WalkTexts.{cells_of, arcs_of, stacks_of}
@@ -32,9 +32,9 @@ module _ (t : Tables) (db : Trees) (was : IsSaidBy t db) where
       ap (λ m. number m ∷ values_read was.far (map (column r) places)) named ∙ whole r x is) rows xs zip in
       map_injective columns one (filter (λ x. eqb (run x) n) xs) given (sym lines ∙ ap (map (values_read was.far)) all ∙ shown_read was.far columns plain given)
 
-  cells_taken : (run : ℕ) → run < 2 ^ 64 → (given : List CellLine) → HasReadAll (cells_of run) (db cell_at.tree) (map cell_columns given) → cells_in run t ≡ given
+  cells_taken : (run : ℕ) → run < 2 ^ 64 → (given : List CellLine) → HasReadAll (cells_of run) (db thread_cell_at.tree) (map cell_columns given) → cells_in run t ≡ given
   cells_taken run low =
-      all_taken (SaysBehind was.far cell_at cell_columns) cell_columns one_cell (λ c. c.run) (λ r x is. ap (λ l. column l 1) is.1) (λ c. refl) (2 ∷ 3 ∷ 4 ∷ 5 ∷ 6 ∷ 7 ∷ []) (λ r x is. ap (λ l. number x.run ∷ drop 2 l) is.1) run low (db 13) t.cells (cells_said t db was)
+      all_taken (SaysBehind was.far thread_cell_at cell_columns) cell_columns one_cell (λ c. c.run) (λ r x is. ap (λ l. column l 1) is.1) (λ c. refl) (2 ∷ 3 ∷ 4 ∷ 5 ∷ 6 ∷ 7 ∷ 8 ∷ []) (λ r x is. ap (λ l. number x.run ∷ drop 2 l) is.1) run low (db 23) t.cells (cells_said t db was)
 
   arcs_taken : (run : ℕ) → run < 2 ^ 64 → (given : List ArcLine) → HasReadAll (arcs_of run) (db arc_at.tree) (map arc_columns given) → arcs_in run t ≡ given
   arcs_taken run low =
@@ -44,7 +44,7 @@ module _ (t : Tables) (db : Trees) (was : IsSaidBy t db) where
   stacks_taken run low =
       all_taken (SaysBehind was.far stack_at stack_columns) stack_columns one_stack (λ s. s.run) (λ r x is. ap (λ l. column l 1) is.1) (λ s. refl) (2 ∷ 3 ∷ []) (λ r x is. ap (λ l. number x.run ∷ drop 2 l) is.1) run low (db 17) t.stacks (stacks_said t db was)
 
-pub cells_all : (t : Tables) (db : Trees) → RowsSay t db → (run : ℕ) → run < 2 ^ 64 → (given : List CellLine) → HasReadAll (cells_of run) (db cell_at.tree) (map cell_columns given) → cells_in run t ≡ given
+pub cells_all : (t : Tables) (db : Trees) → RowsSay t db → (run : ℕ) → run < 2 ^ 64 → (given : List CellLine) → HasReadAll (cells_of run) (db thread_cell_at.tree) (map cell_columns given) → cells_in run t ≡ given
 unfolding RowsSay
 cells_all t db was = cells_taken t db was
 

@@ -18,7 +18,7 @@ use Rattle.sql_tables.proofs.Orders.{same_permuted, seen_columns}
 use Rattle.sql_tables.proofs.Rows.{Numbered}
 use Rattle.sqlite.specs.State.{State}
 use Rattle.prof_tables.specs.Changes.{has_run, has_group, has_member, is_member, is_named}
-use Rattle.prof_tables.specs.Schema.{schema_one, meta_at, run_at, run_event_at, derived_at, coef_at, name_at, cell_at, arc_at, stack_at, grp_at, member_at}
+use Rattle.prof_tables.specs.Schema.{schema_two, meta_at, run_at, run_event_at, derived_at, coef_at, name_at, thread_cell_at, arc_at, stack_at, grp_at, member_at}
 use Rattle.prof_tables.specs.Seen.{is_at, run_seen, group_seen, member_seen, is_member_row}
 use Rattle.prof_tables.specs.Tables.{Tables, Holds, RunLine, EventLine, GroupLine, MemberLine, meta_columns, run_columns, event_columns, derived_columns, coef_columns, name_columns, cell_columns, arc_columns, stack_columns, group_columns, member_columns, number, number_or_null, text_or_null}
 use Rattle.prof_books.specs.Totals.{held_self, held_calls, held_count}
@@ -173,11 +173,11 @@ held_said t db was =
     let c3 = c.1.1.0 in
     let c6 = c.1.1.1.0 in
     let c9 = c.1.1.1.1.0 in
-    let c13 = c.1.1.1.1.1.1.0 in
-    let c15 = c.1.1.1.1.1.1.1.0 in
-    let c17 = c.1.1.1.1.1.1.1.1.0 in
-    let c19 = c.1.1.1.1.1.1.1.1.1.0 in
-    let c21 = c.1.1.1.1.1.1.1.1.1.1.0 in
+    let c15 = c.1.1.1.1.1.1.0 in
+    let c17 = c.1.1.1.1.1.1.1.0 in
+    let c19 = c.1.1.1.1.1.1.1.1.0 in
+    let c21 = c.1.1.1.1.1.1.1.1.1.0 in
+    let c23 = c.1.1.1.1.1.1.1.1.1.1.0 in
     record {
       sound = was.contain.sound;
       far = far;
@@ -195,15 +195,15 @@ held_said t db was =
                 (
                   record { numbered = c.1.1.1.1.1.0.numbered; rows_are = ap (map (row_read far name_at)) c.1.1.1.1.1.0.rows_are ∙ keyed far name_at name_columns (λ x. refl) t.names },
                   (
-                    record { numbered = c13.numbered; rows_are = behind far cell_at cell_columns (λ id x. refl) (db 13) t.cells c13.numbered.1 c13.rows_are },
+                    record { numbered = c15.numbered; rows_are = behind far arc_at arc_columns (λ id x. refl) (db 15) t.arcs c15.numbered.1 c15.rows_are },
                     (
-                      record { numbered = c15.numbered; rows_are = behind far arc_at arc_columns (λ id x. refl) (db 15) t.arcs c15.numbered.1 c15.rows_are },
+                      record { numbered = c17.numbered; rows_are = behind far stack_at stack_columns (λ id x. refl) (db 17) t.stacks c17.numbered.1 c17.rows_are },
                       (
-                        record { numbered = c17.numbered; rows_are = behind far stack_at stack_columns (λ id x. refl) (db 17) t.stacks c17.numbered.1 c17.rows_are },
+                        record { numbered = c19.numbered; rows_are = behind far grp_at group_columns (λ id g. group_plain far g) (db 19) t.groups c19.numbered.1 c19.rows_are },
                         (
-                          record { numbered = c19.numbered; rows_are = behind far grp_at group_columns (λ id g. group_plain far g) (db 19) t.groups c19.numbered.1 c19.rows_are },
+                          record { numbered = c21.numbered; rows_are = behind far member_at member_columns (λ id x. refl) (db 21) t.members c21.numbered.1 c21.rows_are },
                           (
-                            record { numbered = c21.numbered; rows_are = behind far member_at member_columns (λ id x. refl) (db 21) t.members c21.numbered.1 c21.rows_are },
+                            record { numbered = c23.numbered; rows_are = behind far thread_cell_at cell_columns (λ id x. refl) (db 23) t.cells c23.numbered.1 c23.rows_are },
                             tt,
                           ),
                         ),
@@ -218,5 +218,5 @@ held_said t db was =
       );
     }
 
-pub rests_said : (t : Tables) (s : State) → Rests schema_one (Holds t) s → Rests schema_one (RowsSay t) s
-rests_said t s was = rests_as schema_one (Holds t) (RowsSay t) s was (held_said t s.now.trees was.holds)
+pub rests_said : (t : Tables) (s : State) → Rests schema_two (Holds t) s → Rests schema_two (RowsSay t) s
+rests_said t s was = rests_as schema_two (Holds t) (RowsSay t) s was (held_said t s.now.trees was.holds)

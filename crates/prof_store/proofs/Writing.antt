@@ -4,10 +4,10 @@ use Rattle.sqlite_trees.specs.Tree.{Trees}
 use Rattle.sqlite.specs.State.{State}
 use Rattle.sql_tables.specs.Calls.{Changed}
 use Rattle.sql_tables.proofs.Calls.{changed_as, rests_as}
-use Rattle.prof_tables.specs.Schema.{schema_one}
+use Rattle.prof_tables.specs.Schema.{schema_two}
 use Rattle.prof_tables.specs.Tables.{Tables, Holds}
 
 -- a change of tables in any state
-pub of_any : (After : Tables → Trees → Type 0) (answered done : Bool) (old new : State) → Changed schema_one (λ t db. (true ≡ true) × Holds t db) After answered done old new → Changed schema_one Holds After answered done old new
+pub of_any : (After : Tables → Trees → Type 0) (answered done : Bool) (old new : State) → Changed schema_two (λ t db. (true ≡ true) × Holds t db) After answered done old new → Changed schema_two Holds After answered done old new
 of_any After answered done old new h =
-    changed_as schema_one (λ t db. (true ≡ true) × Holds t db) After Holds After answered done old new (λ t was. (t, rests_as schema_one (Holds t) (λ db. (true ≡ true) × Holds t db) old was (refl, was.holds), λ next k. k)) h
+    changed_as schema_two (λ t db. (true ≡ true) × Holds t db) After Holds After answered done old new (λ t was. (t, rests_as schema_two (Holds t) (λ db. (true ≡ true) × Holds t db) old was (refl, was.holds), λ next k. k)) h

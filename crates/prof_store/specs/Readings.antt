@@ -1,4 +1,4 @@
--- What rows of tables of schema 1 say, whoever wrote them, read as lines.
+-- What rows of tables of schema 2 say, whoever wrote them, read as lines.
 use Rattle.std.specs.Prelude.{◌≡◌, ◌≤◌, ◌^◌, ℕ, suc, pos, negsuc, List, [], ◌∷◌, map, ⊤}
 use Rattle.std.specs.List.{AllByRecursion}
 use Rattle.sqlite_value.specs.declared.value.Value.{Value}
@@ -11,7 +11,7 @@ use Rattle.sqlite_catalog.specs.Listing.{IsSound}
 use Rattle.sqlite_schema.specs.declared.schema.Column.{Column}
 use Rattle.sqlite_schema.specs.declared.schema.Table.{Table}
 use Rattle.sql_tables.specs.Contents.{rows_that_count}
-use Rattle.prof_tables.specs.Schema.{schema_one}
+use Rattle.prof_tables.specs.Schema.{schema_two}
 use Rattle.prof_tables.specs.Tables.{Tables, contents_of, number}
 
 -- a negative number, which stands in no line, is read as another number
@@ -45,21 +45,21 @@ AreReadAs far (table ∷ tables) (content ∷ contents) db = IsReadAs far table 
 
 -- the rowids of each table rise, as they do in a store
 abbrev pub AreShaped : Trees → Type 0
-AreShaped db = AllByRecursion (λ (table : Table). IsShaped shape.Table (db table.tree)) schema_one.tables
+AreShaped db = AllByRecursion (λ (table : Table). IsShaped shape.Table (db table.tree)) schema_two.tables
 
--- the one row of meta says schema 1
+-- the one row of meta says schema 2
 pub record HasMeta (db : Trees) : Type 0 where
   pub row : Row
   pub only : db 0 ≡ row ∷ []
   pub id : column row 0 ≡ number 1
-  pub schema : column row 2 ≡ number 1
+  pub schema : column row 2 ≡ number 2
 
 -- the tables are sound, and their rows are read as these lines, where each negative number is read as one that no command has
 pub record IsSaidBy (t : Tables) (db : Trees) : Type 0 where
-  pub sound : IsSound schema_one db
+  pub sound : IsSound schema_two db
   pub far : ℕ → ℕ
   pub is_far : (n : ℕ) → 2 ^ 64 ≤ far n
-  pub contents_are : AreReadAs far schema_one.tables (contents_of t) db
+  pub contents_are : AreReadAs far schema_two.tables (contents_of t) db
 
 -- the same, which proofs that only pass it on do not look into
 unfoldable pub RowsSay : Tables → Trees → Type 0

@@ -12,17 +12,17 @@ use Rattle.sql_tables.specs.States.{Rests}
 use Rattle.store_columns.specs.declared.errors.OpenError.{OpenError}
 use Rattle.store_columns.specs.declared.errors.OpenError.TheVariants as ends
 use Rattle.store_columns.specs.Errors.{error_for, opening}
-use Rattle.prof_tables.specs.Schema.{schema_one}
+use Rattle.prof_tables.specs.Schema.{schema_two}
 use Rattle.prof_tables.specs.Tables.{Tables, Holds}
 use Rattle.prof_tables.specs.Texts.{schema_sql}
 
 -- a store stands between calls: its tables hold some lines
 abbrev pub IsStore : State → Type 0
-IsStore s = (t : Tables) × Rests schema_one (Holds t) s
+IsStore s = (t : Tables) × Rests schema_two (Holds t) s
 
--- tables of schema 1 say that their number is this one
+-- tables of schema 2 say that their number is this one
 abbrev pub SaysSchema : Database → ℕ → Type 0
-SaysSchema now n = now.schema ≡ schema_one → (r : Row) × Has (now.trees 0) r × (column r 2 ≡ Int (pos n))
+SaysSchema now n = now.schema ≡ schema_two → (r : Row) × Has (now.trees 0) r × (column r 2 ≡ Int (pos n))
 
 -- a question to a database of any schema
 abbrev pub AsksAny : Bool → State → State → Type 0
@@ -34,9 +34,9 @@ failed_opening (SqlInputError fault) = ends.WrongSchema
 failed_opening QueryReturnedNoRows = ends.WrongSchema
 failed_opening error = opening (error_for error)
 
--- what the answer to the query makes of an opening: the number 1 is taken up, and each other value is another schema
+-- what the answer to the query makes of an opening: the number 2 is taken up, and each other value is another schema
 abbrev pub OpensBy : Result Row Error → Result Unit OpenError → Type 0
-OpensBy (Ok row) result = ((result ≡ Ok tt) ↔ (column row 0 ≡ Int (pos 1))) × IfErr result (λ end. end ≡ ends.WrongSchema)
+OpensBy (Ok row) result = ((result ≡ Ok tt) ↔ (column row 0 ≡ Int (pos 2))) × IfErr result (λ end. end ≡ ends.WrongSchema)
 OpensBy (Err error) result = result ≡ Err (failed_opening error)
 
 -- a database of any schema was asked, and so opened or refused

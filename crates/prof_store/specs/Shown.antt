@@ -7,7 +7,7 @@ use Rattle.sqlite.specs.State.{HasCleanDisk, State}
 use Rattle.sql_tables.specs.States.{Rests, LeavesOnly as Leaves, LeavesJust as Just}
 use Rattle.sql_tables.specs.Calls as calls
 use Rattle.sql_tables.specs.Calls.{Asked, Changed}
-use Rattle.prof_tables.specs.Schema.{schema_one}
+use Rattle.prof_tables.specs.Schema.{schema_two}
 use Rattle.prof_tables.specs.Tables.{Tables, Holds}
 use Rattle.prof_store.specs.Readings.{RowsSay}
 use Rattle.prof_store.specs.declared.store.Store.{Store}
@@ -24,9 +24,9 @@ module _ {S : Type 0} (g : Ghosts S) where
   abbrev pub IsUsable : Store S → Type 0
   IsUsable store = IsTrue (shown store).is_open
 
-  -- between calls, in tables of schema 1, whatever stands in them
+  -- between calls, in tables of schema 2, whatever stands in them
   abbrev pub IsSettled : Store S → Type 0
-  IsSettled store = calls.IsSettled schema_one (shown store)
+  IsSettled store = calls.IsSettled schema_two (shown store)
 
   -- the tables, the last commit and the mode are as they were
   abbrev pub IsAsBefore : Store S → Store S → Type 0
@@ -34,7 +34,7 @@ module _ {S : Type 0} (g : Ghosts S) where
 
   -- between calls the tables hold these lines, and so does the last commit
   abbrev pub StandsFor : Tables → Store S → Type 0
-  StandsFor t store = Rests schema_one (Holds t) (shown store)
+  StandsFor t store = Rests schema_two (Holds t) (shown store)
 
   -- a crash leaves what it could leave before, or tables that P holds of
   abbrev pub LeavesOnly : Store S → Store S → (Trees → Type 0) → Type 0
@@ -46,15 +46,15 @@ module _ {S : Type 0} (g : Ghosts S) where
 
   -- a call that asks: it changes nothing, and what it answers an open store answers
   abbrev pub Asks : Bool → Store S → Store S → Type 0
-  Asks answered old new = IsFaithful new → Asked schema_one answered (shown old) (shown new)
+  Asks answered old new = IsFaithful new → Asked schema_two answered (shown old) (shown new)
 
   -- a call that changes the tables, by one commit at its end, or leaves all as it was
   abbrev pub Changes : Bool → (Tables → Tables) → Store S → Store S → Type 0
-  Changes done change old new = IsFaithful new → Changed schema_one Holds (λ t. Holds (change t)) done done (shown old) (shown new)
+  Changes done change old new = IsFaithful new → Changed schema_two Holds (λ t. Holds (change t)) done done (shown old) (shown new)
 
   -- the same of tables that are in a state for it
   abbrev pub ChangesIf : Bool → (Tables → Type 0) → (Tables → Tables) → Store S → Store S → Type 0
-  ChangesIf done given change old new = IsFaithful new → Changed schema_one (λ t db. given t × Holds t db) (λ t. Holds (change t)) done done (shown old) (shown new)
+  ChangesIf done given change old new = IsFaithful new → Changed schema_two (λ t db. given t × Holds t db) (λ t. Holds (change t)) done done (shown old) (shown new)
 
   -- over a store that was shut a call commits nothing
   abbrev pub KeepsShut : Store S → Store S → Type 0
@@ -62,7 +62,7 @@ module _ {S : Type 0} (g : Ghosts S) where
 
   -- the same of rows that are read as these lines, whoever wrote them
   abbrev pub ReadsAs : Tables → Store S → Type 0
-  ReadsAs t store = Rests schema_one (RowsSay t) (shown store)
+  ReadsAs t store = Rests schema_two (RowsSay t) (shown store)
 
   -- what an answer tells of the lines as which the rows were read before the call
   abbrev pub Tells : Store S → Store S → (Tables → Type 0) → Type 0
@@ -72,9 +72,9 @@ module _ {S : Type 0} (g : Ghosts S) where
   abbrev pub MakesOf : Store S → Store S → (Tables → Type 0) → Type 0
   MakesOf old new P = IsFaithful new → (t : Tables) → StandsFor t old → P t
 
-  -- what it tells of the rows of any tables of schema 1
+  -- what it tells of the rows of any tables of schema 2
   abbrev pub Finds : Store S → Store S → (Trees → Type 0) → Type 0
-  Finds old new P = IsFaithful new → (shown old).now.schema ≡ schema_one → P (shown old).now.trees
+  Finds old new P = IsFaithful new → (shown old).now.schema ≡ schema_two → P (shown old).now.trees
 
   -- what is answered tells of those lines
   abbrev pub Told : {T E : Type 0} → Result T E → Store S → Store S → (Tables → T → Type 0) → Type 0

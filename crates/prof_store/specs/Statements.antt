@@ -9,7 +9,7 @@ use Rattle.sqlite.specs.Given.{IsPlain}
 use Rattle.sqlite.specs.Listing.{understood}
 use Rattle.sqlite.specs.State.{State, HasCleanDisk, QueriesRow, Shown}
 use Rattle.sql_tables.specs.Calls.{Asked}
-use Rattle.prof_tables.specs.Schema.{schema_one}
+use Rattle.prof_tables.specs.Schema.{schema_two}
 use Rattle.store_columns.specs.declared.errors.StoreError.{StoreError}
 
 -- what a query for one row answers
@@ -19,7 +19,7 @@ row_or_none None = Err QueryReturnedNoRows
 
 -- a text that only reads the tables asks
 abbrev pub AsksBy : List ℕ → Bool → State → State → Type 0
-AsksBy sql answered old new = HasCleanDisk new → IsPlain (understood schema_one sql) → Asked schema_one answered old new
+AsksBy sql answered old new = HasCleanDisk new → IsPlain (understood schema_two sql) → Asked schema_two answered old new
 
 -- its rows are those that the query shows
 abbrev pub ShowsAll : List ℕ → Row → State → State → Result (Vec rows.Row Global) StoreError → Type 0

@@ -1,4 +1,4 @@
--- Sums over all runs that are held, in the rows of any tables of schema 1.
+-- Sums over all runs that are held, in the rows of any tables of schema 2.
 use Rattle.std.specs.Prelude.{◌≡◌, ◌<◌, ◌^◌, ℕ, pos, List, map, filter, sum_by, All}
 use Rattle.sqlite_value.specs.declared.value.Value.{Value}
 use Rattle.sqlite_value.specs.declared.value.Value.TheVariants.{Int, Blob}

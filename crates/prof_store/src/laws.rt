@@ -8,7 +8,7 @@ ghost use Rattle.sqlite.specs.Held.{state};
 ghost use Rattle.sqlite.specs.State.{Opens};
 ghost use Rattle.sqlite.specs.declared.connection.Connection.{Connection};
 ghost use Rattle.sql_tables.specs.States.{Rests};
-ghost use Rattle.prof_tables.specs.Schema.{schema_one};
+ghost use Rattle.prof_tables.specs.Schema.{schema_two};
 ghost use Rattle.prof_tables.specs.Tables.{Tables, Holds};
 ghost use Rattle.prof_store.specs.Shown.{StandsFor, LeavesJust};
 ghost use Rattle.prof_store.specs.declared.store.Store.{Store};
@@ -24,12 +24,13 @@ pub fn what_stands_survives<S: Alter>()
 /// whatever schema it took them for, stands as `Store::open` wants it to take them up.
 pub fn what_is_left_is_taken_up<S: Alter>()
     ensures { (t : Tables) (conn : Connection S) → Opens (state S.Store conn) → IsDatabase (state S.Store conn).now
-        → Holds t (state S.Store conn).now.trees → Rests schema_one (Holds t) (state S.Store conn) }
+        → Holds t (state S.Store conn).now.trees → Rests schema_two (Holds t) (state S.Store conn) }
 {}
 
-/// The rows of each sound database of schema 1 say lines, however its negative numbers are read: so what is
-/// told of them is told of each store that can be opened.
+/// The rows of each sound database of schema 2 say lines, however its negative numbers are read, where its
+/// rowids rise and `meta` has one row, which says schema 2: what is told of such rows is told of each store
+/// of that form.
 pub fn rows_say_lines()
-    ensures { (db : Trees) → IsSound schema_one db → AreShaped db → HasMeta db
+    ensures { (db : Trees) → IsSound schema_two db → AreShaped db → HasMeta db
         → (far : ℕ → ℕ) → ((n : ℕ) → 2 ^ 64 ≤ far n) → (t : Tables) × RowsSay t db }
 {}

@@ -24,10 +24,10 @@ fn select_schema<S: Alter>(conn: &mut Connection<S>) -> Result<Row, Error>
 }
 
 /// Whether a row shows the number of this program's schema.
-fn is_schema_one(row: &Row) -> bool
-    ensures { IsTrue result ↔ (column row.now 0 ≡ Int (pos 1)) }
+fn is_schema_two(row: &Row) -> bool
+    ensures { IsTrue result ↔ (column row.now 0 ≡ Int (pos 2)) }
 {
-    matches!(row.get_ref(0), Ok(ValueRef::Int(1)))
+    matches!(row.get_ref(0), Ok(ValueRef::Int(2)))
 }
 
 /// Whether the answer to the query for the number of the schema lets a store be opened.
@@ -35,7 +35,7 @@ fn opened_by(answer: Result<Row, Error>) -> Result<(), OpenError>
     ensures { OpensBy answer result }
 {
     match answer {
-        Ok(row) if is_schema_one(&row) => Ok(()),
+        Ok(row) if is_schema_two(&row) => Ok(()),
         Ok(_) => Err(OpenError::WrongSchema),
         Err(Error::SqlInputError(_) | Error::QueryReturnedNoRows) => Err(OpenError::WrongSchema),
         Err(error) => Err(OpenError::from(error_of(error))),
@@ -45,7 +45,7 @@ fn opened_by(answer: Result<Row, Error>) -> Result<(), OpenError>
 /// Refuses tables that are not of this program's schema.
 fn check_schema<S: Alter>(conn: &mut Connection<S>) -> Result<(), OpenError>
     ensures opened { HasCleanDisk (state S.Store conn.new) → IsOpenedBy (state S.Store conn.old) (state S.Store conn.new) result }
-    ensures found { HasCleanDisk (state S.Store conn.new) → OnOk result (SaysSchema (state S.Store conn.old).now 1) }
+    ensures found { HasCleanDisk (state S.Store conn.new) → OnOk result (SaysSchema (state S.Store conn.old).now 2) }
     ensures right { HasCleanDisk (state S.Store conn.new) → IsStore (state S.Store conn.old) → IfErr result (λ e. e ≢ ends.WrongSchema) }
     ensures asked { AsksAny (is_ok result) (state S.Store conn.old) (state S.Store conn.new) }
 {
@@ -56,14 +56,14 @@ fn check_schema<S: Alter>(conn: &mut Connection<S>) -> Result<(), OpenError>
 impl<S: Alter> Store<S> {
     /// Takes up the store of a database, whatever its tables are. It reads the number of the schema and
     /// changes nothing: what stands, the last commit and what a crash may leave are as before, taken up or
-    /// refused. `WrongSchema`: that number is not 1, or there is none. A refusal hands the connection back.
+    /// refused. `WrongSchema`: that number is not 2, or there is none. A refusal hands the connection back.
     pub fn open(
         alloc: Global,
         mut conn: Connection<S>,
     ) -> Result<Store<S>, (OpenError, Connection<S>)>
         ensures opened { IfOk result (λ store. IsFaithful S.Store store → IsOpenedBy (state S.Store conn) (shown S.Store store) (Ok tt)) }
         ensures why { IfErr result (λ e. HasCleanDisk (state S.Store e.1) → IsOpenedBy (state S.Store conn) (state S.Store e.1) (Err e.0)) }
-        ensures found { IfOk result (λ store. IsFaithful S.Store store → SaysSchema (state S.Store conn).now 1) }
+        ensures found { IfOk result (λ store. IsFaithful S.Store store → SaysSchema (state S.Store conn).now 2) }
         ensures right { IfErr result (λ e. HasCleanDisk (state S.Store e.1) → IsStore (state S.Store conn) → e.0 ≢ ends.WrongSchema) }
         ensures asked { IfOk result (λ store. AsksAny true (state S.Store conn) (shown S.Store store)) }
         ensures refused { IfErr result (λ e. AsksAny false (state S.Store conn) (state S.Store e.1)) }

@@ -2,7 +2,7 @@
 use Rattle.std.proofs.Common.{◌≡◌, Ok, refl}
 use Rattle.sqlite_resolve.specs.Compile.{table_defined_by}
 use Rattle.sqlite_tied.specs.Compute.{everything}
-use Rattle.prof_tables.specs.Schema.{meta_sql, meta_table, run_sql, run_table, run_event_sql, run_event_table, derived_sql, derived_table, coef_sql, coef_table, name_sql, name_table, cell_sql, cell_table, arc_sql, arc_table, stack_sql, stack_table, grp_sql, grp_table, member_sql, member_table}
+use Rattle.prof_tables.specs.Schema.{meta_sql, meta_table, run_sql, run_table, run_event_sql, run_event_table, derived_sql, derived_table, coef_sql, coef_table, name_sql, name_table, cell_sql, cell_table, arc_sql, arc_table, stack_sql, stack_table, grp_sql, grp_table, member_sql, member_table, thread_cell_sql, thread_cell_table}
 
 pub meta_is : table_defined_by meta_sql ≡ Ok meta_table
 unfolding everything
@@ -47,3 +47,7 @@ grp_is = refl
 pub member_is : table_defined_by member_sql ≡ Ok member_table
 unfolding everything
 member_is = refl
+
+pub thread_cell_is : table_defined_by thread_cell_sql ≡ Ok thread_cell_table
+unfolding everything
+thread_cell_is = refl

@@ -16,7 +16,7 @@ use Rattle.sqlite.specs.State.{State, QueriesRow, Shown}
 use Rattle.sql_tables.proofs.Queries.{shown_row, row_shown}
 use Rattle.sql_tables.proofs.Rows.{passes}
 use Rattle.sql_tables.proofs.Selects.{selected, selected_first}
-use Rattle.prof_tables.specs.Schema.{schema_one}
+use Rattle.prof_tables.specs.Schema.{schema_two}
 use Rattle.prof_tables.specs.Tables.{Tables, Holds, RunLine, meta_columns, run_columns}
 use Rattle.prof_tables.specs.Texts.{next_sql, schema_sql, by_digest_sql}
 use Rattle.prof_tables.proofs.Values.{blobs_equal}
@@ -27,23 +27,23 @@ use Rattle.prof_tables.proofs.Means.{next_terms, next_shown, next_order, next_me
 meta_row : (t : Tables) (db : Trees) (r : Row) → Holds t db → Has (db 0) r → r ≡ meta_columns t.next
 meta_row t db r was there = elim (subst (λ l. Has l r) was.contain.contents_are.0.rows_are there) [ inl same ↦ same | inr none ↦ absurd none ]
 
-pub next_found : (old new : State) (row : Row) → old.now.schema ≡ schema_one → QueriesRow next_sql [] old new (Ok row) → (r : Row) × Has (old.now.trees 0) r × (column row 0 ≡ column r 3)
+pub next_found : (old new : State) (row : Row) → old.now.schema ≡ schema_two → QueriesRow next_sql [] old new (Ok row) → (r : Row) × Has (old.now.trees 0) r × (column row 0 ≡ column r 3)
 next_found old new row has h =
-    let s = selected_first schema_one next_sql 0 next_terms next_shown next_order _ next_means next_plain next_unlisted old new has refl [] row h in
+    let s = selected_first schema_two next_sql 0 next_terms next_shown next_order _ next_means next_plain next_unlisted old new has refl [] row h in
     let it = shown_row 0 next_terms next_shown next_order (old.now.trees 0) [] (row ∷ s.0) s.1 row (inl refl) in
     (it.0, it.1, ap (λ l. column l 0) it.3)
 
 pub next_is : (t : Tables) (db : Trees) (r : Row) (n : ℕ) → Holds t db → Has (db 0) r → column r 3 ≡ Int (pos n) → n ≡ t.next
 next_is t db r n was there is = let e : Int (pos n) ≡ Int (pos t.next) = sym is ∙ ap (λ l. column l 3) (meta_row t db r was there) in cc
 
-pub schema_found : (old new : State) (row : Row) → old.now.schema ≡ schema_one → QueriesRow schema_sql [] old new (Ok row) → (r : Row) × Has (old.now.trees 0) r × (column row 0 ≡ column r 2)
+pub schema_found : (old new : State) (row : Row) → old.now.schema ≡ schema_two → QueriesRow schema_sql [] old new (Ok row) → (r : Row) × Has (old.now.trees 0) r × (column row 0 ≡ column r 2)
 schema_found old new row has h =
-    let s = selected_first schema_one schema_sql 0 schema_terms schema_shown schema_order _ schema_means schema_plain schema_unlisted old new has refl [] row h in
+    let s = selected_first schema_two schema_sql 0 schema_terms schema_shown schema_order _ schema_means schema_plain schema_unlisted old new has refl [] row h in
     let it = shown_row 0 schema_terms schema_shown schema_order (old.now.trees 0) [] (row ∷ s.0) s.1 row (inl refl) in
     (it.0, it.1, ap (λ l. column l 0) it.3)
 
-pub schema_is : (t : Tables) (db : Trees) (r : Row) (n : ℕ) → Holds t db → Has (db 0) r → column r 2 ≡ Int (pos n) → n ≡ 1
-schema_is t db r n was there is = let e : Int (pos n) ≡ Int (pos 1) = sym is ∙ ap (λ l. column l 2) (meta_row t db r was there) in cc
+pub schema_is : (t : Tables) (db : Trees) (r : Row) (n : ℕ) → Holds t db → Has (db 0) r → column r 2 ≡ Int (pos n) → n ≡ 2
+schema_is t db r n was there is = let e : Int (pos n) ≡ Int (pos 2) = sym is ∙ ap (λ l. column l 2) (meta_row t db r was there) in cc
 
 -- ---- the runs
 
@@ -62,16 +62,16 @@ run_row t db r was there = has_mapped run_columns t.runs r (subst (λ l. Has l r
 pub run_there : (t : Tables) (db : Trees) (line : RunLine) → Holds t db → Has t.runs line → Has (db 1) (run_columns line)
 run_there t db line was there = subst (λ l. Has l (run_columns line)) (sym was.contain.contents_are.1.0.rows_are) (mapped_has run_columns t.runs line there)
 
-module _ (digest : List ℕ) (old new : State) (has : old.now.schema ≡ schema_one) where
+module _ (digest : List ℕ) (old new : State) (has : old.now.schema ≡ schema_two) where
   pub digest_found : (row : Row) → QueriesRow by_digest_sql (Blob digest ∷ []) old new (Ok row) → (r : Row) × Has (old.now.trees 1) r × (column r 3 ≡ Blob digest) × (column row 0 ≡ column r 0)
   digest_found row h =
-      let s = selected_first schema_one by_digest_sql 1 by_digest_terms by_digest_shown by_digest_order _ by_digest_means by_digest_plain by_digest_unlisted old new has refl (Blob digest ∷ []) row h in
+      let s = selected_first schema_two by_digest_sql 1 by_digest_terms by_digest_shown by_digest_order _ by_digest_means by_digest_plain by_digest_unlisted old new has refl (Blob digest ∷ []) row h in
       let it = shown_row 1 by_digest_terms by_digest_shown by_digest_order (old.now.trees 1) (Blob digest ∷ []) (row ∷ s.0) s.1 row (inl refl) in
       (it.0, it.1, blob_is _ digest (sym (and_true _) ∙ it.2), ap (λ l. column l 0) it.3)
 
   pub digest_absent : Shown by_digest_sql (Blob digest ∷ []) old new [] → (r : Row) → Has (old.now.trees 1) r → column r 3 ≢ Blob digest
   digest_absent h r there is =
-      let s = selected schema_one by_digest_sql 1 by_digest_terms by_digest_shown by_digest_order _ by_digest_means by_digest_plain by_digest_unlisted old new has refl (Blob digest ∷ []) [] h in
+      let s = selected schema_two by_digest_sql 1 by_digest_terms by_digest_shown by_digest_order _ by_digest_means by_digest_plain by_digest_unlisted old new has refl (Blob digest ∷ []) [] h in
       let same : passes (Blob digest ∷ []) by_digest_terms r ≡ true = and_true _ ∙ ap (λ v. is_true (binary (Compare Eq Binary) v (Blob digest))) is ∙ blobs_equal digest digest ∙ (bytes_eq-Decides digest digest).1 refl in
       row_shown 1 by_digest_terms by_digest_shown by_digest_order (old.now.trees 1) (Blob digest ∷ []) [] s r there same
 

@@ -12,7 +12,7 @@ use Rattle.sql_tables.proofs.Counts.{count_is}
 use Rattle.sql_tables.proofs.Orders.{answer_permutes}
 use Rattle.sql_tables.proofs.Rows.{passes, filter_same_on, texts_equal}
 use Rattle.sql_tables.proofs.Selects.{selected}
-use Rattle.prof_tables.specs.Schema.{schema_one}
+use Rattle.prof_tables.specs.Schema.{schema_two}
 use Rattle.prof_tables.specs.Changes.{has_group, is_named}
 use Rattle.prof_tables.specs.Seen.{is_at, group_seen, name_of_group_seen}
 use Rattle.prof_tables.specs.Tables.{Tables, Holds, GroupLine, group_columns, run_columns}
@@ -21,12 +21,12 @@ use Rattle.prof_tables.proofs.Lists.{groups_are}
 use Rattle.prof_tables.proofs.Means.{find_group_terms, find_group_shown, find_group_order, find_group_means, find_group_plain, find_group_unlisted, run_count_means, run_count_plain, run_count_unlisted, group_count_means, group_count_plain, group_count_unlisted}
 use Rattle.prof_tables.proofs.RunFinds.{any_left}
 
-module _ (name : List ℕ) (old new : State) (rows : List Row) (has : old.now.schema ≡ schema_one) (h : Shown find_group_sql (Text name ∷ []) old new rows) where
+module _ (name : List ℕ) (old new : State) (rows : List Row) (has : old.now.schema ≡ schema_two) (h : Shown find_group_sql (Text name ∷ []) old new rows) where
   names_listed : IsPermutation (map name_of_group_seen (filter (is_at 1 (Text name)) (old.now.trees 19))) rows
   names_listed =
       subst (λ l. IsPermutation (map name_of_group_seen l) rows) (filter_same_on (passes (Text name ∷ []) find_group_terms) (is_at 1 (Text name)) (old.now.trees 19) (λ r there. and_true _))
       (answer_permutes 19 find_group_terms find_group_shown find_group_order (old.now.trees 19) (Text name ∷ []) rows
-      (selected schema_one find_group_sql 19 find_group_terms find_group_shown find_group_order _ find_group_means find_group_plain find_group_unlisted old new has refl (Text name ∷ []) rows h))
+      (selected schema_two find_group_sql 19 find_group_terms find_group_shown find_group_order _ find_group_means find_group_plain find_group_unlisted old new has refl (Text name ∷ []) rows h))
 
   -- rows are found exactly where a group has the name
   pub group_listed : not (length rows == 0) ≡ list_any (is_at 1 (Text name)) (old.now.trees 19)
@@ -48,12 +48,12 @@ group_there name t db was = any_seen name (db 19) ∙ ap (list_any (is_at 0 (Tex
 
 -- ---- counts
 
-module _ (old new : State) (has : old.now.schema ≡ schema_one) (row : Row) (n : ℕ) (is : column row 0 ≡ Int (pos n)) (low : n < 9223372036854775807) where
+module _ (old new : State) (has : old.now.schema ≡ schema_two) (row : Row) (n : ℕ) (is : column row 0 ≡ Int (pos n)) (low : n < 9223372036854775807) where
   pub runs_counted : QueriesRow run_count_sql [] old new (Ok row) → n ≡ length (old.now.trees 1)
-  runs_counted h = count_is schema_one run_count_sql 1 _ run_count_means run_count_plain run_count_unlisted old new has refl row h n is low
+  runs_counted h = count_is schema_two run_count_sql 1 _ run_count_means run_count_plain run_count_unlisted old new has refl row h n is low
 
   pub groups_counted : QueriesRow group_count_sql [] old new (Ok row) → n ≡ length (old.now.trees 19)
-  groups_counted h = count_is schema_one group_count_sql 19 _ group_count_means group_count_plain group_count_unlisted old new has refl row h n is low
+  groups_counted h = count_is schema_two group_count_sql 19 _ group_count_means group_count_plain group_count_unlisted old new has refl row h n is low
 
 pub runs_many : (t : Tables) (db : Trees) → Holds t db → length (db 1) ≡ length t.runs
 runs_many t db was = ap length was.contain.contents_are.1.0.rows_are ∙ length-map t.runs run_columns

@@ -9,31 +9,31 @@ use Rattle.sqlite.specs.State.{State, Shown}
 use Rattle.sql_tables.proofs.InPlace.{map_table}
 use Rattle.sql_tables.proofs.Orders.{all_shown, same_permuted, seen_columns}
 use Rattle.sql_tables.proofs.Selects.{selected}
-use Rattle.prof_tables.specs.Schema.{schema_one}
+use Rattle.prof_tables.specs.Schema.{schema_two}
 use Rattle.prof_tables.specs.Seen.{run_seen, group_seen, member_seen, calls_seen}
 use Rattle.prof_tables.specs.Tables.{Tables, Holds, run_columns, group_columns, member_columns, number}
 use Rattle.prof_tables.specs.Texts.{runs_sql, groups_sql, members_sql, call_counts_sql}
 use Rattle.prof_tables.proofs.Values.{number_below}
 use Rattle.prof_tables.proofs.Means.{runs_shown, runs_order, runs_means, runs_plain, runs_unlisted, groups_shown, groups_order, groups_means, groups_plain, groups_unlisted, members_shown, members_order, members_means, members_plain, members_unlisted, call_counts_shown, call_counts_order, call_counts_means, call_counts_plain, call_counts_unlisted}
 
-module _ (old new : State) (rows : List Row) (has : old.now.schema ≡ schema_one) where
+module _ (old new : State) (rows : List Row) (has : old.now.schema ≡ schema_two) where
   pub runs_listed : Shown runs_sql [] old new rows → IsPermutation (map run_seen (old.now.trees 1)) rows
   runs_listed h =
-      all_shown 1 runs_shown runs_order (old.now.trees 1) [] rows (selected schema_one runs_sql 1 [] runs_shown runs_order _ runs_means runs_plain runs_unlisted old new has refl [] rows h)
+      all_shown 1 runs_shown runs_order (old.now.trees 1) [] rows (selected schema_two runs_sql 1 [] runs_shown runs_order _ runs_means runs_plain runs_unlisted old new has refl [] rows h)
 
   pub calls_listed : Shown call_counts_sql [] old new rows → IsPermutation (map calls_seen (old.now.trees 1)) rows
   calls_listed h =
       all_shown 1 call_counts_shown call_counts_order (old.now.trees 1) [] rows
-      (selected schema_one call_counts_sql 1 [] call_counts_shown call_counts_order _ call_counts_means call_counts_plain call_counts_unlisted old new has refl [] rows h)
+      (selected schema_two call_counts_sql 1 [] call_counts_shown call_counts_order _ call_counts_means call_counts_plain call_counts_unlisted old new has refl [] rows h)
 
   pub groups_listed : Shown groups_sql [] old new rows → IsPermutation (map group_seen (old.now.trees 19)) rows
   groups_listed h =
-      all_shown 19 groups_shown groups_order (old.now.trees 19) [] rows (selected schema_one groups_sql 19 [] groups_shown groups_order _ groups_means groups_plain groups_unlisted old new has refl [] rows h)
+      all_shown 19 groups_shown groups_order (old.now.trees 19) [] rows (selected schema_two groups_sql 19 [] groups_shown groups_order _ groups_means groups_plain groups_unlisted old new has refl [] rows h)
 
   pub members_listed : Shown members_sql [] old new rows → IsPermutation (map member_seen (old.now.trees 21)) rows
   members_listed h =
       all_shown 21 members_shown members_order (old.now.trees 21) [] rows
-      (selected schema_one members_sql 21 [] members_shown members_order _ members_means members_plain members_unlisted old new has refl [] rows h)
+      (selected schema_two members_sql 21 [] members_shown members_order _ members_means members_plain members_unlisted old new has refl [] rows h)
 
 module _ (t : Tables) (db : Trees) (was : Holds t db) where
   -- the runs stand in the order of their numbers, and so does an answer whose rows rise
@@ -48,12 +48,12 @@ module _ (t : Tables) (db : Trees) (was : Holds t db) where
 
   pub groups_are : map group_seen (db 19) ≡ map group_columns t.groups
   groups_are =
-      let content = was.contain.contents_are.1.1.1.1.1.1.1.1.1.0 in
+      let content = was.contain.contents_are.1.1.1.1.1.1.1.1.0 in
       seen_columns group_columns group_columns group_seen (λ id g. refl) (db 19) t.groups content.numbered.1 content.rows_are
 
   pub members_are : map member_seen (db 21) ≡ map member_columns t.members
   members_are =
-      let content = was.contain.contents_are.1.1.1.1.1.1.1.1.1.1.0 in
+      let content = was.contain.contents_are.1.1.1.1.1.1.1.1.1.0 in
       seen_columns member_columns member_columns member_seen (λ id m. refl) (db 21) t.members content.numbered.1 content.rows_are
 
 -- rows whose numbers rise are a table

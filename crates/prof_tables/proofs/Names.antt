@@ -22,7 +22,7 @@ use Rattle.sqlite_tied.proofs.RuleLemmas.{and_true}
 use Rattle.sql_tables.proofs.Contents.{content_there}
 use Rattle.sql_tables.proofs.Rows.{passes}
 use Rattle.sql_tables.proofs.Queries.{Selects, shown_row, row_shown}
-use Rattle.prof_tables.specs.Schema.{schema_one, name_at}
+use Rattle.prof_tables.specs.Schema.{schema_two, name_at}
 use Rattle.prof_tables.specs.Tables.{Tables, Holds, contents_of, NameLine, name_columns, number}
 use Rattle.prof_tables.specs.Changes.{has_name}
 use Rattle.prof_tables.specs.Files.{number_in}
@@ -31,7 +31,7 @@ use Rattle.prof_tables.proofs.Values.{blobs_equal}
 
 -- the rows of the names
 name_rows : (t : Tables) (db : Trees) → Holds t db → db 11 ≡ map name_columns t.names
-name_rows t db h = (content_there schema_one.tables (contents_of t) db 5 name_at refl h.contain.contents_are).rows_are
+name_rows t db h = (content_there schema_two.tables (contents_of t) db 5 name_at refl h.contain.contents_are).rows_are
 
 -- SQL's <> on two numbers
 numbers_differ : (a b : ℕ) → differ (number a) (number b) ≡ not (eqb a b)
@@ -47,7 +47,7 @@ numbers_differ a b = go (value_cmp (number a) (number b)) ∙ ap is_ne (value_cm
     same = grind (arith, ints, nat_tests)
 
 -- no row has the bytes of another
-unclashed : (db : Trees) (row : Row) → obeys Unique schema_one db name_at row ≡ true → not (clashes plain (2 ∷ []) (db 11) row) ≡ true
+unclashed : (db : Trees) (row : Row) → obeys Unique schema_two db name_at row ≡ true → not (clashes plain (2 ∷ []) (db 11) row) ≡ true
 unclashed db row h = (and_parts _ _ h).0
 
 agrees : (a b : NameLine) → agree plain (2 ∷ []) (name_columns a) (2 ∷ []) (name_columns b) ≡ bytes_eq a.name b.name

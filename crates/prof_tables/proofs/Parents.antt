@@ -16,12 +16,12 @@ use Rattle.sqlite_rules.proofs.ListLemmas.{all_has, some_has}
 use Rattle.sqlite_tied.proofs.RuleLemmas.{and_true}
 use Rattle.sqlite_tied.specs.Compute.{everything}
 use Rattle.sql_tables.proofs.Rows.{numbers_equal}
-use Rattle.prof_tables.specs.Schema.{schema_one, to}
+use Rattle.prof_tables.specs.Schema.{schema_two, to}
 use Rattle.prof_tables.specs.Tables.{Tables, Holds, RunLine, EventLine, DerivedLine, CoefLine, CellLine, ArcLine, StackLine, event_columns, derived_columns, coef_columns, cell_columns, arc_columns, stack_columns, number}
 use Rattle.prof_tables.proofs.Finds.{run_row}
 
 -- a reference to a run points to the rowid of the table of runs
-parent_is : parent_key schema_one.tables (to (codes "run") 1) ≡ Some (1, 0 ∷ [], plain)
+parent_is : parent_key schema_two.tables (to (codes "run") 1) ≡ Some (1, 0 ∷ [], plain)
 unfolding everything
 parent_is = refl
 
@@ -45,13 +45,13 @@ module _ (t : Tables) (db : Trees) (was : Holds t db) where
       let below = all_has (λ (r : RunLine). r.number < t.next) t.runs line.0 was.below line.1 in
       grind (arith, nat_tests)
 
-  row_below : (row : Row) (n : ℕ) → column row 1 ≡ number n → has_parent schema_one.tables db row (to (codes "run") 1) && true ≡ true → n < t.next
+  row_below : (row : Row) (n : ℕ) → column row 1 ≡ number n → has_parent schema_two.tables db row (to (codes "run") 1) && true ≡ true → n < t.next
   row_below row n is h =
       run_below row n is (ap (λ b. b || list_any (λ parent. agree plain (0 ∷ []) parent (1 ∷ []) row) (db 1)) (sym (no_null row n is)) ∙ ap (λ key. (is_null (column row 1) || false) || is_held db (1 ∷ []) row key) (sym parent_is)
       ∙ (and_parts _ _ h).0)
 
   lines_below : {X : Type 0} (columns : X → Row) (run : X → ℕ) → ((x : X) → column (columns x) 0 ≡ number (run x)) → (rows : List Row) (lines : List X) → map (drop 1) rows ≡ map columns lines
-      → AllByRecursion (λ row. has_parent schema_one.tables db row (to (codes "run") 1) && true ≡ true) rows → AllByRecursion (λ x. run x < t.next) lines
+      → AllByRecursion (λ row. has_parent schema_two.tables db row (to (codes "run") 1) && true ≡ true) rows → AllByRecursion (λ x. run x < t.next) lines
   lines_below columns run is [] [] same h = tt
   lines_below columns run is [] (line ∷ lines) same h = absurd cc
   lines_below columns run is (row ∷ rows) [] same h = absurd cc
@@ -70,10 +70,10 @@ module _ (t : Tables) (db : Trees) (was : Holds t db) where
   coefs_below = lines_below coef_columns (λ c. c.run) (λ c. refl) (db 9) t.coefs was.contain.contents_are.1.1.1.1.0.rows_are (was.contain.sound.obeys.rules ForeignKey).1.1.1.1.0
 
   pub cells_below : AllByRecursion (λ (c : CellLine). c.run < t.next) t.cells
-  cells_below = lines_below cell_columns (λ c. c.run) (λ c. refl) (db 13) t.cells was.contain.contents_are.1.1.1.1.1.1.0.rows_are (was.contain.sound.obeys.rules ForeignKey).1.1.1.1.1.1.0
+  cells_below = lines_below cell_columns (λ c. c.run) (λ c. refl) (db 23) t.cells was.contain.contents_are.1.1.1.1.1.1.1.1.1.1.0.rows_are (was.contain.sound.obeys.rules ForeignKey).1.1.1.1.1.1.1.1.1.1.0
 
   pub arcs_below : AllByRecursion (λ (a : ArcLine). a.run < t.next) t.arcs
-  arcs_below = lines_below arc_columns (λ a. a.run) (λ a. refl) (db 15) t.arcs was.contain.contents_are.1.1.1.1.1.1.1.0.rows_are (was.contain.sound.obeys.rules ForeignKey).1.1.1.1.1.1.1.0
+  arcs_below = lines_below arc_columns (λ a. a.run) (λ a. refl) (db 15) t.arcs was.contain.contents_are.1.1.1.1.1.1.0.rows_are (was.contain.sound.obeys.rules ForeignKey).1.1.1.1.1.1.0
 
   pub stacks_below : AllByRecursion (λ (s : StackLine). s.run < t.next) t.stacks
-  stacks_below = lines_below stack_columns (λ s. s.run) (λ s. refl) (db 17) t.stacks was.contain.contents_are.1.1.1.1.1.1.1.1.0.rows_are (was.contain.sound.obeys.rules ForeignKey).1.1.1.1.1.1.1.1.0
+  stacks_below = lines_below stack_columns (λ s. s.run) (λ s. refl) (db 17) t.stacks was.contain.contents_are.1.1.1.1.1.1.1.0.rows_are (was.contain.sound.obeys.rules ForeignKey).1.1.1.1.1.1.1.0

@@ -11,18 +11,18 @@ use Rattle.sqlite.specs.State.{State, Shown}
 use Rattle.sql_tables.proofs.Orders.{answer_permutes}
 use Rattle.sql_tables.proofs.Rows.{passes, filter_same_on, numbers_equal}
 use Rattle.sql_tables.proofs.Selects.{selected}
-use Rattle.prof_tables.specs.Schema.{schema_one}
+use Rattle.prof_tables.specs.Schema.{schema_two}
 use Rattle.prof_tables.specs.Changes.{has_run}
 use Rattle.prof_tables.specs.Seen.{is_at, kind_seen}
 use Rattle.prof_tables.specs.Tables.{Tables, Holds, RunLine, run_columns, number}
 use Rattle.prof_tables.specs.Texts.{kind_of_sql}
 use Rattle.prof_tables.proofs.Means.{kind_of_terms, kind_of_shown, kind_of_order, kind_of_means, kind_of_plain, kind_of_unlisted}
 
-pub kind_listed : (n : ℕ) (old new : State) (rows : List Row) → old.now.schema ≡ schema_one → Shown kind_of_sql (number n ∷ []) old new rows → IsPermutation (map kind_seen (filter (is_at 0 (number n)) (old.now.trees 1))) rows
+pub kind_listed : (n : ℕ) (old new : State) (rows : List Row) → old.now.schema ≡ schema_two → Shown kind_of_sql (number n ∷ []) old new rows → IsPermutation (map kind_seen (filter (is_at 0 (number n)) (old.now.trees 1))) rows
 kind_listed n old new rows has h =
     subst (λ l. IsPermutation (map kind_seen l) rows) (filter_same_on (passes (number n ∷ []) kind_of_terms) (is_at 0 (number n)) (old.now.trees 1) (λ r there. and_true _))
     (answer_permutes 1 kind_of_terms kind_of_shown kind_of_order (old.now.trees 1) (number n ∷ []) rows
-    (selected schema_one kind_of_sql 1 kind_of_terms kind_of_shown kind_of_order _ kind_of_means kind_of_plain kind_of_unlisted old new has refl (number n ∷ []) rows h))
+    (selected schema_two kind_of_sql 1 kind_of_terms kind_of_shown kind_of_order _ kind_of_means kind_of_plain kind_of_unlisted old new has refl (number n ∷ []) rows h))
 
 -- a test passes an element exactly where it leaves some
 pub any_left : {X : Type 0} (p : X → Bool) (xs : List X) → not (length (filter p xs) == 0) ≡ list_any p xs
@@ -34,7 +34,7 @@ any_left p (x ∷ xs) = go (p x) (any_left p xs)
     go false h = h
 
 -- rows are found exactly where a run has the number
-pub run_listed : (n : ℕ) (old new : State) (rows : List Row) → old.now.schema ≡ schema_one → Shown kind_of_sql (number n ∷ []) old new rows → not (length rows == 0) ≡ list_any (is_at 0 (number n)) (old.now.trees 1)
+pub run_listed : (n : ℕ) (old new : State) (rows : List Row) → old.now.schema ≡ schema_two → Shown kind_of_sql (number n ∷ []) old new rows → not (length rows == 0) ≡ list_any (is_at 0 (number n)) (old.now.trees 1)
 run_listed n old new rows has h =
     let picked = filter (is_at 0 (number n)) (old.now.trees 1) in
     ap (λ k. not (k == 0)) (length_permutation (map kind_seen picked) rows (kind_listed n old new rows has h) ∙ length-map picked kind_seen) ∙ any_left (is_at 0 (number n)) (old.now.trees 1)

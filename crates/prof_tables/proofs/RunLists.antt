@@ -9,7 +9,7 @@ use Rattle.sqlite.specs.State.{State, Shown}
 use Rattle.sql_tables.proofs.Orders.{answer_permutes, seen_picked}
 use Rattle.sql_tables.proofs.Rows.{passes, filter_same_on, numbers_equal}
 use Rattle.sql_tables.proofs.Selects.{selected}
-use Rattle.prof_tables.specs.Schema.{schema_one}
+use Rattle.prof_tables.specs.Schema.{schema_two}
 use Rattle.prof_tables.specs.Seen.{is_at, event_seen, derived_seen, coef_seen, sums_seen, event_shown, derived_shown, coef_shown, sums_shown}
 use Rattle.prof_tables.specs.Tables.{Tables, Holds, EventLine, DerivedLine, CoefLine, event_columns, derived_columns, coef_columns, number}
 use Rattle.prof_tables.specs.Texts.{events_of_sql, derived_of_sql, coefs_of_sql, sums_of_sql}
@@ -18,31 +18,31 @@ use Rattle.prof_tables.proofs.Means.{events_of_terms, events_of_shown, events_of
 
 -- ---- the rows that are listed
 
-module _ (n : ℕ) (old new : State) (rows : List Row) (has : old.now.schema ≡ schema_one) where
+module _ (n : ℕ) (old new : State) (rows : List Row) (has : old.now.schema ≡ schema_two) where
   pub events_listed : Shown events_of_sql (number n ∷ []) old new rows → IsPermutation (map event_seen (filter (is_at 1 (number n)) (old.now.trees 3))) rows
   events_listed h =
       subst (λ l. IsPermutation (map event_seen l) rows) (filter_same_on (passes (number n ∷ []) events_of_terms) (is_at 1 (number n)) (old.now.trees 3) (λ r there. and_true _))
       (answer_permutes 3 events_of_terms events_of_shown events_of_order (old.now.trees 3) (number n ∷ []) rows
-      (selected schema_one events_of_sql 3 events_of_terms events_of_shown events_of_order _ events_of_means events_of_plain events_of_unlisted old new has refl (number n ∷ []) rows h))
+      (selected schema_two events_of_sql 3 events_of_terms events_of_shown events_of_order _ events_of_means events_of_plain events_of_unlisted old new has refl (number n ∷ []) rows h))
 
   pub derived_listed : Shown derived_of_sql (number n ∷ []) old new rows → IsPermutation (map derived_seen (filter (is_at 1 (number n)) (old.now.trees 6))) rows
   derived_listed h =
       subst (λ l. IsPermutation (map derived_seen l) rows) (filter_same_on (passes (number n ∷ []) derived_of_terms) (is_at 1 (number n)) (old.now.trees 6) (λ r there. and_true _))
       (answer_permutes 6 derived_of_terms derived_of_shown derived_of_order (old.now.trees 6) (number n ∷ []) rows
-      (selected schema_one derived_of_sql 6 derived_of_terms derived_of_shown derived_of_order _ derived_of_means derived_of_plain derived_of_unlisted old new has refl (number n ∷ []) rows h))
+      (selected schema_two derived_of_sql 6 derived_of_terms derived_of_shown derived_of_order _ derived_of_means derived_of_plain derived_of_unlisted old new has refl (number n ∷ []) rows h))
 
   pub coefs_listed : Shown coefs_of_sql (number n ∷ []) old new rows → IsPermutation (map coef_seen (filter (is_at 1 (number n)) (old.now.trees 9))) rows
   coefs_listed h =
       subst (λ l. IsPermutation (map coef_seen l) rows) (filter_same_on (passes (number n ∷ []) coefs_of_terms) (is_at 1 (number n)) (old.now.trees 9) (λ r there. and_true _))
       (answer_permutes 9 coefs_of_terms coefs_of_shown coefs_of_order (old.now.trees 9) (number n ∷ []) rows
-      (selected schema_one coefs_of_sql 9 coefs_of_terms coefs_of_shown coefs_of_order _ coefs_of_means coefs_of_plain coefs_of_unlisted old new has refl (number n ∷ []) rows h))
+      (selected schema_two coefs_of_sql 9 coefs_of_terms coefs_of_shown coefs_of_order _ coefs_of_means coefs_of_plain coefs_of_unlisted old new has refl (number n ∷ []) rows h))
 
-pub sums_listed : (name : List ℕ) (old new : State) (rows : List Row) → old.now.schema ≡ schema_one → Shown sums_of_sql (Blob name ∷ []) old new rows
+pub sums_listed : (name : List ℕ) (old new : State) (rows : List Row) → old.now.schema ≡ schema_two → Shown sums_of_sql (Blob name ∷ []) old new rows
     → IsPermutation (map sums_seen (filter (is_at 3 (Blob name)) (old.now.trees 3))) rows
 sums_listed name old new rows has h =
     subst (λ l. IsPermutation (map sums_seen l) rows) (filter_same_on (passes (Blob name ∷ []) sums_of_terms) (is_at 3 (Blob name)) (old.now.trees 3) (λ r there. and_true _))
     (answer_permutes 3 sums_of_terms sums_of_shown sums_of_order (old.now.trees 3) (Blob name ∷ []) rows
-    (selected schema_one sums_of_sql 3 sums_of_terms sums_of_shown sums_of_order _ sums_of_means sums_of_plain sums_of_unlisted old new has refl (Blob name ∷ []) rows h))
+    (selected schema_two sums_of_sql 3 sums_of_terms sums_of_shown sums_of_order _ sums_of_means sums_of_plain sums_of_unlisted old new has refl (Blob name ∷ []) rows h))
 
 -- ---- the lines that they show
 

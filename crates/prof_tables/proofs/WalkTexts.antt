@@ -5,7 +5,7 @@ use Rattle.sqlite.specs.Listing.{understood, reads_listing}
 use Rattle.sqlite.proofs.Callers.{IsPlain, command_of}
 use Rattle.sqlite_tied.specs.Compute.{everything}
 use Rattle.sql_tables.specs.Queries.{only, window_query, ends_query}
-use Rattle.prof_tables.specs.Schema.{schema_one, cell_at, arc_at, stack_at}
+use Rattle.prof_tables.specs.Schema.{schema_two, thread_cell_at, arc_at, stack_at}
 use Rattle.prof_tables.specs.WalkTexts.{cell_window_sql, cell_ends_sql, arc_window_sql, arc_ends_sql, stack_window_sql, stack_ends_sql}
 
 -- the names of an answer's columns
@@ -15,29 +15,29 @@ ends_names = codes "min(rowid)" ∷ codes "max(rowid)" ∷ []
 -- ---- cell
 
 abbrev pub cell_names : List (List ℕ)
-cell_names = codes "rowid" ∷ codes "ob" ∷ codes "fl" ∷ codes "fn" ∷ codes "line" ∷ codes "event" ∷ codes "cost" ∷ []
+cell_names = codes "rowid" ∷ codes "thread" ∷ codes "ob" ∷ codes "fl" ∷ codes "fn" ∷ codes "line" ∷ codes "event" ∷ codes "cost" ∷ []
 
-pub cell_window_means : command_of (understood schema_one cell_window_sql) ≡ Select (only (window_query cell_at.tree 1 (2 ∷ 3 ∷ 4 ∷ 5 ∷ 6 ∷ 7 ∷ []))) cell_names
+pub cell_window_means : command_of (understood schema_two cell_window_sql) ≡ Select (only (window_query thread_cell_at.tree 1 (2 ∷ 3 ∷ 4 ∷ 5 ∷ 6 ∷ 7 ∷ 8 ∷ []))) cell_names
 unfolding understood everything
 cell_window_means = refl
 
-pub cell_window_plain : IsPlain (understood schema_one cell_window_sql)
+pub cell_window_plain : IsPlain (understood schema_two cell_window_sql)
 unfolding understood everything
 cell_window_plain = (refl, refl)
 
-pub cell_window_unlisted : reads_listing schema_one cell_window_sql ≡ false
+pub cell_window_unlisted : reads_listing schema_two cell_window_sql ≡ false
 unfolding understood everything
 cell_window_unlisted = refl
 
-pub cell_ends_means : command_of (understood schema_one cell_ends_sql) ≡ Select (only (ends_query cell_at.tree 1)) ends_names
+pub cell_ends_means : command_of (understood schema_two cell_ends_sql) ≡ Select (only (ends_query thread_cell_at.tree 1)) ends_names
 unfolding understood everything
 cell_ends_means = refl
 
-pub cell_ends_plain : IsPlain (understood schema_one cell_ends_sql)
+pub cell_ends_plain : IsPlain (understood schema_two cell_ends_sql)
 unfolding understood everything
 cell_ends_plain = (refl, refl)
 
-pub cell_ends_unlisted : reads_listing schema_one cell_ends_sql ≡ false
+pub cell_ends_unlisted : reads_listing schema_two cell_ends_sql ≡ false
 unfolding understood everything
 cell_ends_unlisted = refl
 
@@ -46,27 +46,27 @@ cell_ends_unlisted = refl
 abbrev pub arc_names : List (List ℕ)
 arc_names = codes "rowid" ∷ codes "ob" ∷ codes "fl" ∷ codes "fn" ∷ codes "line" ∷ codes "cob" ∷ codes "cfl" ∷ codes "cfn" ∷ codes "part" ∷ codes "n" ∷ []
 
-pub arc_window_means : command_of (understood schema_one arc_window_sql) ≡ Select (only (window_query arc_at.tree 1 (2 ∷ 3 ∷ 4 ∷ 5 ∷ 6 ∷ 7 ∷ 8 ∷ 9 ∷ 10 ∷ []))) arc_names
+pub arc_window_means : command_of (understood schema_two arc_window_sql) ≡ Select (only (window_query arc_at.tree 1 (2 ∷ 3 ∷ 4 ∷ 5 ∷ 6 ∷ 7 ∷ 8 ∷ 9 ∷ 10 ∷ []))) arc_names
 unfolding understood everything
 arc_window_means = refl
 
-pub arc_window_plain : IsPlain (understood schema_one arc_window_sql)
+pub arc_window_plain : IsPlain (understood schema_two arc_window_sql)
 unfolding understood everything
 arc_window_plain = (refl, refl)
 
-pub arc_window_unlisted : reads_listing schema_one arc_window_sql ≡ false
+pub arc_window_unlisted : reads_listing schema_two arc_window_sql ≡ false
 unfolding understood everything
 arc_window_unlisted = refl
 
-pub arc_ends_means : command_of (understood schema_one arc_ends_sql) ≡ Select (only (ends_query arc_at.tree 1)) ends_names
+pub arc_ends_means : command_of (understood schema_two arc_ends_sql) ≡ Select (only (ends_query arc_at.tree 1)) ends_names
 unfolding understood everything
 arc_ends_means = refl
 
-pub arc_ends_plain : IsPlain (understood schema_one arc_ends_sql)
+pub arc_ends_plain : IsPlain (understood schema_two arc_ends_sql)
 unfolding understood everything
 arc_ends_plain = (refl, refl)
 
-pub arc_ends_unlisted : reads_listing schema_one arc_ends_sql ≡ false
+pub arc_ends_unlisted : reads_listing schema_two arc_ends_sql ≡ false
 unfolding understood everything
 arc_ends_unlisted = refl
 
@@ -75,26 +75,26 @@ arc_ends_unlisted = refl
 abbrev pub stack_names : List (List ℕ)
 stack_names = codes "rowid" ∷ codes "frames" ∷ codes "n" ∷ []
 
-pub stack_window_means : command_of (understood schema_one stack_window_sql) ≡ Select (only (window_query stack_at.tree 1 (2 ∷ 3 ∷ []))) stack_names
+pub stack_window_means : command_of (understood schema_two stack_window_sql) ≡ Select (only (window_query stack_at.tree 1 (2 ∷ 3 ∷ []))) stack_names
 unfolding understood everything
 stack_window_means = refl
 
-pub stack_window_plain : IsPlain (understood schema_one stack_window_sql)
+pub stack_window_plain : IsPlain (understood schema_two stack_window_sql)
 unfolding understood everything
 stack_window_plain = (refl, refl)
 
-pub stack_window_unlisted : reads_listing schema_one stack_window_sql ≡ false
+pub stack_window_unlisted : reads_listing schema_two stack_window_sql ≡ false
 unfolding understood everything
 stack_window_unlisted = refl
 
-pub stack_ends_means : command_of (understood schema_one stack_ends_sql) ≡ Select (only (ends_query stack_at.tree 1)) ends_names
+pub stack_ends_means : command_of (understood schema_two stack_ends_sql) ≡ Select (only (ends_query stack_at.tree 1)) ends_names
 unfolding understood everything
 stack_ends_means = refl
 
-pub stack_ends_plain : IsPlain (understood schema_one stack_ends_sql)
+pub stack_ends_plain : IsPlain (understood schema_two stack_ends_sql)
 unfolding understood everything
 stack_ends_plain = (refl, refl)
 
-pub stack_ends_unlisted : reads_listing schema_one stack_ends_sql ≡ false
+pub stack_ends_unlisted : reads_listing schema_two stack_ends_sql ≡ false
 unfolding understood everything
 stack_ends_unlisted = refl

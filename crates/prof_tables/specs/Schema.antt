@@ -1,4 +1,4 @@
--- Schema 1: the texts that make its tables, and each table as SQL reads it off its text.
+-- Schemas 1 and 2: the texts that make their tables, and each table as SQL reads it off its text.
 use Rattle.std.specs.Prelude.{ℕ, true, false, List, [], ◌∷◌, None, Some, codes, pos, Bool}
 use Rattle.sqlite_value.specs.declared.keys.Collation.TheVariants.{Binary}
 use Rattle.sqlite_value.specs.declared.value.Value.TheVariants.{Null, Int}
@@ -12,7 +12,7 @@ use Rattle.sqlite_schema.specs.declared.schema.Action.TheVariants.{NoAction, Set
 use Rattle.sqlite_schema.specs.declared.schema.Reference.{Reference}
 use Rattle.sqlite_sql.specs.Term.{lit, col, op2}
 use Rattle.sqlite_sql.specs.declared.ops.BinaryOp.TheVariants.{Compare}
-use Rattle.sqlite_catalog.specs.Change.{created}
+use Rattle.sqlite_catalog.specs.Change.{created, without_table}
 use Rattle.sqlite_sql.specs.declared.ops.CompareOp.TheVariants.{Eq}
 
 abbrev pub column_of : List ℕ → Kind → Bool → Column
@@ -230,6 +230,25 @@ member_table = record {
   is_counted = false;
 }
 
+abbrev pub thread_cell_sql : List ℕ
+thread_cell_sql = codes "CREATE TABLE thread_cell (run INTEGER NOT NULL REFERENCES run ON DELETE CASCADE, thread INTEGER NOT NULL, ob INTEGER NOT NULL, fl INTEGER NOT NULL, fn INTEGER NOT NULL, line INTEGER NOT NULL, event INTEGER NOT NULL, cost INTEGER NOT NULL, PRIMARY KEY (run, thread, ob, fl, fn, line, event)) STRICT"
+
+abbrev pub thread_cell_table : Table
+thread_cell_table = record {
+  name = codes "thread_cell";
+  tree = 0;
+  columns = column_of (codes "run") Integer true ∷ column_of (codes "thread") Integer true ∷ column_of (codes "ob") Integer true ∷ column_of (codes "fl") Integer true ∷ column_of (codes "fn") Integer true ∷ column_of (codes "line") Integer true ∷ column_of (codes "event") Integer true ∷ column_of (codes "cost") Integer true ∷ [];
+  key = None;
+  primary = 1 ∷ 2 ∷ 3 ∷ 4 ∷ 5 ∷ 6 ∷ 7 ∷ [];
+  uniques = (1 ∷ 2 ∷ 3 ∷ 4 ∷ 5 ∷ 6 ∷ 7 ∷ []) ∷ [];
+  orders = plain ∷ [];
+  checks = [];
+  references = to (codes "run") 1 ∷ [];
+  computed = [];
+  stamps = record { places = []; terms = []; formats = [] };
+  is_counted = false;
+}
+
 -- no table
 abbrev pub empty_schema : Schema
 empty_schema = record { tables = []; indexes = []; views = [] }
@@ -265,9 +284,17 @@ schema_to_stack = created schema_to_arc stack_table
 abbrev pub schema_to_grp : Schema
 schema_to_grp = created schema_to_stack grp_table
 
--- with all of them
+-- those of version 1
 abbrev pub schema_one : Schema
 schema_one = created schema_to_grp member_table
+
+-- with the cells of threads beside those without
+abbrev pub schema_both : Schema
+schema_both = created schema_one thread_cell_table
+
+-- without these: those of version 2
+abbrev pub schema_two : Schema
+schema_two = without_table schema_both 13
 
 -- the trees of the tables: each index has one behind its table
 abbrev pub meta_at : Table
@@ -288,6 +315,7 @@ coef_at = record coef_table { tree = 9 }
 abbrev pub name_at : Table
 name_at = record name_table { tree = 11 }
 
+-- the cells of version 1
 abbrev pub cell_at : Table
 cell_at = record cell_table { tree = 13 }
 
@@ -302,3 +330,6 @@ grp_at = record grp_table { tree = 19 }
 
 abbrev pub member_at : Table
 member_at = record member_table { tree = 21 }
+
+abbrev pub thread_cell_at : Table
+thread_cell_at = record thread_cell_table { tree = 23 }

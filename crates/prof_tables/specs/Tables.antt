@@ -6,7 +6,7 @@ use Rattle.sqlite_value.specs.declared.value.Value.TheVariants.{Null, Int, Text,
 use Rattle.sqlite_value.specs.Order.{Row}
 use Rattle.sqlite_trees.specs.Tree.{Trees}
 use Rattle.sql_tables.specs.Contents.{Contain}
-use Rattle.prof_tables.specs.Schema.{schema_one}
+use Rattle.prof_tables.specs.Schema.{schema_two}
 
 -- a run that is held; its kind is 1 for Callgrind and 2 for folded stacks
 pub record RunLine : Type 0 where
@@ -50,6 +50,7 @@ pub record CellLine : Type 0 where
   pub file : ℕ
   pub function : ℕ
   pub line : ℕ
+  pub thread : ℕ
   pub event : ℕ
   pub cost : ℕ
 
@@ -108,7 +109,7 @@ text_or_null None = Null
 text_or_null (Some text) = Text text
 
 abbrev pub meta_columns : ℕ → Row
-meta_columns next = number 1 ∷ Null ∷ number 1 ∷ number next ∷ []
+meta_columns next = number 1 ∷ Null ∷ number 2 ∷ number next ∷ []
 
 abbrev pub run_columns : RunLine → Row
 run_columns r = number r.number ∷ Null ∷ number r.kind ∷ Blob r.digest ∷ Text r.label ∷ number r.call_count ∷ []
@@ -126,7 +127,7 @@ abbrev pub name_columns : NameLine → Row
 name_columns n = number n.number ∷ Null ∷ Blob n.name ∷ []
 
 abbrev pub cell_columns : CellLine → Row
-cell_columns c = number c.run ∷ number c.object ∷ number c.file ∷ number c.function ∷ number c.line ∷ number c.event ∷ number c.cost ∷ []
+cell_columns c = number c.run ∷ number c.thread ∷ number c.object ∷ number c.file ∷ number c.function ∷ number c.line ∷ number c.event ∷ number c.cost ∷ []
 
 abbrev pub arc_columns : ArcLine → Row
 arc_columns a =
@@ -141,15 +142,15 @@ group_columns g = Text g.name ∷ number_or_null g.baseline ∷ []
 abbrev pub member_columns : MemberLine → Row
 member_columns m = Text m.group ∷ number m.run ∷ []
 
--- the contents of the tables of schema 1, in its order
+-- the contents of the tables of schema 2, in its order
 abbrev pub contents_of : Tables → List (List Row)
 contents_of t =
-    (meta_columns t.next ∷ []) ∷ map run_columns t.runs ∷ map event_columns t.events ∷ map derived_columns t.derived ∷ map coef_columns t.coefs ∷ map name_columns t.names ∷ map cell_columns t.cells
-    ∷ map arc_columns t.arcs ∷ map stack_columns t.stacks ∷ map group_columns t.groups ∷ map member_columns t.members ∷ []
+    (meta_columns t.next ∷ []) ∷ map run_columns t.runs ∷ map event_columns t.events ∷ map derived_columns t.derived ∷ map coef_columns t.coefs ∷ map name_columns t.names
+    ∷ map arc_columns t.arcs ∷ map stack_columns t.stacks ∷ map group_columns t.groups ∷ map member_columns t.members ∷ map cell_columns t.cells ∷ []
 
 -- the database has these tables, and each run's number is below the next
 pub record Holds (t : Tables) (db : Trees) : Type 0 where
-  pub contain : Contain schema_one (contents_of t) db
+  pub contain : Contain schema_two (contents_of t) db
   pub below : AllByRecursion (λ (r : RunLine). r.number < t.next) t.runs
 
 -- a new store

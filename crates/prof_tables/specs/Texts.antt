@@ -1,10 +1,15 @@
 -- The texts of the statements on the tables.
 use Rattle.std.specs.Prelude.{ℕ, List, codes}
 
+-- ---- a table of version 1 goes
+
+abbrev pub drop_cell_sql : List ℕ
+drop_cell_sql = codes "DROP TABLE cell"
+
 -- ---- rows are written
 
 abbrev pub begin_sql : List ℕ
-begin_sql = codes "INSERT INTO meta (id, schema, next_run) VALUES (1, 1, 1)"
+begin_sql = codes "INSERT INTO meta (id, schema, next_run) VALUES (1, 2, 1)"
 
 abbrev pub put_run_sql : List ℕ
 put_run_sql = codes "INSERT INTO run (run, kind, digest, label, call_count) VALUES (?1, ?2, ?3, ?4, ?5)"
@@ -22,7 +27,7 @@ abbrev pub put_name_sql : List ℕ
 put_name_sql = codes "INSERT INTO name (bytes) VALUES (?1)"
 
 abbrev pub put_cell_sql : List ℕ
-put_cell_sql = codes "INSERT INTO cell (run, ob, fl, fn, line, event, cost) VALUES (?1, ?2, ?3, ?4, ?5, ?6, ?7)"
+put_cell_sql = codes "INSERT INTO thread_cell (run, thread, ob, fl, fn, line, event, cost) VALUES (?1, ?2, ?3, ?4, ?5, ?6, ?7, ?8)"
 
 abbrev pub put_arc_sql : List ℕ
 put_arc_sql = codes "INSERT INTO arc (run, ob, fl, fn, line, cob, cfl, cfn, part, n) VALUES (?1, ?2, ?3, ?4, ?5, ?6, ?7, ?8, ?9, ?10)"

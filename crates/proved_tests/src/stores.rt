@@ -24,7 +24,7 @@ pub(crate) fn filled(alloc: Global, text: &str, cells: u32) -> Result<Store<MemS
         }
     }
     for line in 1..=cells {
-        let text = "INSERT INTO cell VALUES (1, 1, 2, 3, ?1, 0, ?1)";
+        let text = "INSERT INTO thread_cell VALUES (1, 5, 1, 2, 3, ?1, 0, ?1)";
         if conn.execute(text, params![line]).is_err() {
             return Err(StoreError::Store);
         }

@@ -93,7 +93,7 @@ fn calls(store: &mut Store<MemStore>, alloc: Global) -> Result<(u128, u128), Sto
 /// There are 601 cells, of which a page has 512.
 #[test]
 fn cells_are_walked(rt: HostRuntime) -> Result<(), Fail> {
-    let text = "INSERT INTO cell VALUES (1, 7, 2, 3, 0, 1, 9223372036854775807)";
+    let text = "INSERT INTO thread_cell VALUES (1, 0, 7, 2, 3, 0, 1, 9223372036854775807)";
     let mut store = filled(rt.alloc(), text, 600)?;
     let told = cells(&mut store, rt.alloc())?;
     // 180300 is the sum of 1 to 600.

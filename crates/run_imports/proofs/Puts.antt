@@ -11,7 +11,7 @@ use Rattle.cost_rows.specs.Rows.{content_of}
 use Rattle.cost_rows.specs.declared.file_rows.FileRows.{FileRows}
 use Rattle.sql_tables.specs.Calls.{Asked, Changed}
 use Rattle.sql_tables.proofs.Calls.{rests_as, asked_rests, changed_then, changed_as}
-use Rattle.prof_tables.specs.Schema.{schema_one}
+use Rattle.prof_tables.specs.Schema.{schema_two}
 use Rattle.prof_tables.specs.Tables.{Tables, Holds}
 use Rattle.prof_books.specs.Runs.{with_file}
 use Rattle.profile_records.specs.declared.kinds.Kind.{Kind}
@@ -89,7 +89,7 @@ number_due g limits kind bytes digest head rows store h s new number is =
 
 -- what becomes of a store that was asked for a number, and answered it
 module _ (limits : Limits) (kind : Kind) (label : List ℕ) (outcomes : List Outcome) (digest : List ℕ) (head : FileHead) (rows : FileRows) (form : IsInForm (Import kind label outcomes)) (ended : HasEnded limits.bytes outcomes)
-    (number : ℕ) {S : Type 0} (g : Ghosts S) (old mid new : Store S) (asked : Asked schema_one true (shown g old) (shown g mid))
+    (number : ℕ) {S : Type 0} (g : Ghosts S) (old mid new : Store S) (asked : Asked schema_two true (shown g old) (shown g mid))
     (told : (h : History) → StandsForHistory g h old → IsNewFile h kind (bytes_of outcomes) digest head rows → Ok number ≡ number_unless (room_refusal limits h kind (bytes_of outcomes)) (next h)) where
   pub run_due : (h : History) (s : StandsForHistory g h old) → IsNewFile h kind (bytes_of outcomes) digest head rows → expected_answer limits h (Import kind label outcomes) ≡ Some (Run s.t.next)
   run_due h s it =
@@ -108,33 +108,33 @@ module _ (limits : Limits) (kind : Kind) (label : List ℕ) (outcomes : List Out
   abbrev Before : History → Trees → Type 0
   Before h db = IsNewFile h kind (bytes_of outcomes) digest head rows × TellsHistory h db
 
-  pub run_turns : (answered done : Bool) → Changed schema_one Given (λ t. Holds (by_number number t)) answered done (shown g mid) (shown g new) → Changed schema_one Before (Follows limits (Import kind label outcomes)) answered done (shown g old) (shown g new)
+  pub run_turns : (answered done : Bool) → Changed schema_two Given (λ t. Holds (by_number number t)) answered done (shown g mid) (shown g new) → Changed schema_two Before (Follows limits (Import kind label outcomes)) answered done (shown g old) (shown g new)
   run_turns answered done made =
-      changed_as schema_one Given (λ t. Holds (by_number number t)) Before (Follows limits (Import kind label outcomes)) answered done (shown g old) (shown g new)
+      changed_as schema_two Given (λ t. Holds (by_number number t)) Before (Follows limits (Import kind label outcomes)) answered done (shown g old) (shown g new)
       (λ h was.
-      let s = told_stands g h old (rests_as schema_one (Before h) (TellsHistory h) (shown g old) was was.holds.1) in
+      let s = told_stands g h old (rests_as schema_two (Before h) (TellsHistory h) (shown g old) was was.holds.1) in
       let same = is_next h s was.holds.0 in (
         s.t,
-        rests_as schema_one (Holds s.t) (Given s.t) (shown g old) s.stands (same, s.stands.holds),
+        rests_as schema_two (Holds s.t) (Given s.t) (shown g old) s.stands (same, s.stands.holds),
         λ after k. follows_run limits h kind label outcomes digest head rows s.t (shown g old).now.trees form (run_due h s was.holds.0) was.holds.0 s.stands.holds s.tells after (subst (λ n. Holds (by_number n s.t) after) (sym same) k),
       ))
-      (changed_then schema_one Given (λ t. Holds (by_number number t)) answered done (shown g old) (shown g mid) (shown g new) asked made)
+      (changed_then schema_two Given (λ t. Holds (by_number number t)) answered done (shown g old) (shown g mid) (shown g new) asked made)
 
-  pub run_done : (h : History) → StandsForHistory g h old → IsNewFile h kind (bytes_of outcomes) digest head rows → (answered : Bool) → Changed schema_one Given (λ t. Holds (by_number number t)) answered true (shown g mid) (shown g new)
+  pub run_done : (h : History) → StandsForHistory g h old → IsNewFile h kind (bytes_of outcomes) digest head rows → (answered : Bool) → Changed schema_two Given (λ t. Holds (by_number number t)) answered true (shown g mid) (shown g new)
       → WasDue g limits h (Import kind label outcomes) (Run number) new
   run_done h s it answered made =
-      let there = asked_rests schema_one (Holds s.t) (shown g old) (shown g mid) asked s.stands in
+      let there = asked_rests schema_two (Holds s.t) (shown g old) (shown g mid) asked s.stands in
       let same = is_next h s it in
       was_run limits h kind label outcomes digest head rows s.t (shown g old).now.trees form (run_due h s it) it s.stands.holds s.tells g new number (sym same)
-      (subst (λ n. StandsFor g (by_number n s.t) new) (sym same) (made.done refl s.t (rests_as schema_one (Holds s.t) (Given s.t) (shown g mid) there (same, there.holds))))
+      (subst (λ n. StandsFor g (by_number n s.t) new) (sym same) (made.done refl s.t (rests_as schema_two (Holds s.t) (Given s.t) (shown g mid) there (same, there.holds))))
 
 -- a file that is put after it was asked whether it is held
 pub new_turns : (limits : Limits) (kind : Kind) (label : List ℕ) (outcomes : List Outcome) (digest : List ℕ) (head : FileHead) (rows : FileRows) {S : Type 0} (g : Ghosts S) (old mid new : Store S) (result : Result Answer StoreError)
-    → Asked schema_one true (shown g old) (shown g mid) → ((h : History) → StandsForHistory g h old → IsNewFile h kind (bytes_of outcomes) digest head rows)
-    → Changed schema_one (λ h db. IsNewFile h kind (bytes_of outcomes) digest head rows × TellsHistory h db) (Follows limits (Import kind label outcomes)) (is_ok result) (has_changed result) (shown g mid) (shown g new)
-    → Changed schema_one TellsHistory (Follows limits (Import kind label outcomes)) (is_ok result) (has_changed result) (shown g old) (shown g new)
+    → Asked schema_two true (shown g old) (shown g mid) → ((h : History) → StandsForHistory g h old → IsNewFile h kind (bytes_of outcomes) digest head rows)
+    → Changed schema_two (λ h db. IsNewFile h kind (bytes_of outcomes) digest head rows × TellsHistory h db) (Follows limits (Import kind label outcomes)) (is_ok result) (has_changed result) (shown g mid) (shown g new)
+    → Changed schema_two TellsHistory (Follows limits (Import kind label outcomes)) (is_ok result) (has_changed result) (shown g old) (shown g new)
 new_turns limits kind label outcomes digest head rows g old mid new result asked is_new made =
     let put : History → Trees → Type 0 = λ h db. IsNewFile h kind (bytes_of outcomes) digest head rows × TellsHistory h db in
-    changed_as schema_one put (Follows limits (Import kind label outcomes)) TellsHistory (Follows limits (Import kind label outcomes)) (is_ok result) (has_changed result) (shown g old) (shown g new)
-    (λ h was. (h, rests_as schema_one (TellsHistory h) (put h) (shown g old) was (is_new h (told_stands g h old was), was.holds), λ next k. k))
-    (changed_then schema_one put (Follows limits (Import kind label outcomes)) (is_ok result) (has_changed result) (shown g old) (shown g mid) (shown g new) asked made)
+    changed_as schema_two put (Follows limits (Import kind label outcomes)) TellsHistory (Follows limits (Import kind label outcomes)) (is_ok result) (has_changed result) (shown g old) (shown g new)
+    (λ h was. (h, rests_as schema_two (TellsHistory h) (put h) (shown g old) was (is_new h (told_stands g h old was), was.holds), λ next k. k))
+    (changed_then schema_two put (Follows limits (Import kind label outcomes)) (is_ok result) (has_changed result) (shown g old) (shown g mid) (shown g new) asked made)

@@ -4,7 +4,7 @@ use Rattle.std.specs.Result.{is_ok}
 use Rattle.sha2.specs.Sha256.{sha256}
 use Rattle.sqlite_trees.specs.declared.store.Store.{Ghosts}
 use Rattle.sql_tables.specs.Calls.{Changed}
-use Rattle.prof_tables.specs.Schema.{schema_one}
+use Rattle.prof_tables.specs.Schema.{schema_two}
 use Rattle.prof_store.specs.Shown.{shown, IsFaithful}
 use Rattle.prof_store.specs.declared.store.Store.{Store}
 use Rattle.store_columns.specs.declared.errors.StoreError.{StoreError}
@@ -31,4 +31,4 @@ pub record IsNewFile (h : History) (kind : Kind) (bytes digest : List ℕ) (head
 -- what a call leaves that puts such a file as a run, whatever the history
 abbrev pub PutsNew : {S : Type 0} → Ghosts S → Limits → Kind → List ℕ → List Outcome → List ℕ → FileHead → FileRows → Result Answer StoreError → Store S → Store S → Type 0
 PutsNew g limits kind label outcomes digest head rows result old new =
-    IsFaithful g new → Changed schema_one (λ h db. IsNewFile h kind (bytes_of outcomes) digest head rows × TellsHistory h db) (Follows limits (Import kind label outcomes)) (is_ok result) (has_changed result) (shown g old) (shown g new)
+    IsFaithful g new → Changed schema_two (λ h db. IsNewFile h kind (bytes_of outcomes) digest head rows × TellsHistory h db) (Follows limits (Import kind label outcomes)) (is_ok result) (has_changed result) (shown g old) (shown g new)

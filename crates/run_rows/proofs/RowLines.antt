@@ -23,7 +23,7 @@ cells_at run numbers p event (cost ∷ costs) = go (nat_lt 0 cost) (cells_at run
     rest = numbered_at p (suc event) costs
 
     go : (b : Bool) → map (line_of_cell run numbers) rest ≡ cell_lines_at run numbers p (suc event) costs
-        → map (line_of_cell run numbers) (if b then record { object = p.place.object; file = p.place.file; function = p.place.function; line = p.place.line; event = event; cost = cost } ∷ rest else rest)
+        → map (line_of_cell run numbers) (if b then record { object = p.place.object; file = p.place.file; function = p.place.function; line = p.place.line; thread = p.thread; event = event; cost = cost } ∷ rest else rest)
         ≡ (if b then cell_line_of run numbers p event cost ∷ cell_lines_at run numbers p (suc event) costs else cell_lines_at run numbers p (suc event) costs)
     go true more = ap (λ l. cell_line_of run numbers p event cost ∷ l) more
     go false more = more

@@ -11,7 +11,7 @@ use Rattle.prof_tables.specs.Tables.{CellLine, ArcLine, StackLine}
 use Rattle.prof_books.specs.Files.{cell_line_of, arc_line_of, arc_lines_at}
 
 abbrev pub place_of_cell : CellRow ℕ → CellPlace
-place_of_cell r = record { place = record { object = r.object; file = r.file; function = r.function; line = r.line } }
+place_of_cell r = record { place = record { object = r.object; file = r.file; function = r.function; line = r.line }; thread = r.thread }
 
 abbrev pub line_of_cell : ℕ → List ℕ → CellRow ℕ → CellLine
 line_of_cell run numbers r = cell_line_of run numbers (place_of_cell r) r.event r.cost

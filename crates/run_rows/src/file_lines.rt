@@ -27,6 +27,7 @@ pub fn cell_of(run: u32, numbers: &[u32], row: &CellRow<u32>) -> Option<CellLine
         file: number_of(numbers, row.file)?,
         function: number_of(numbers, row.function)?,
         line: Whole::of(row.line)?,
+        thread: Whole::of(row.thread)?,
         event: small_of(row.event)?,
         cost: whole_of(row.cost)?,
     })

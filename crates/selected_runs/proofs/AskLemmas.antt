@@ -7,7 +7,7 @@ use Rattle.sqlite.specs.State.{HasCleanDisk, State}
 use Rattle.sql_tables.specs.Calls.{Asked}
 use Rattle.sql_tables.specs.States.{Rests}
 use Rattle.sql_tables.proofs.Calls.{asked_rests, asked_then}
-use Rattle.prof_tables.specs.Schema.{schema_one}
+use Rattle.prof_tables.specs.Schema.{schema_two}
 use Rattle.prof_tables.specs.Tables.{Tables}
 use Rattle.prof_store.specs.Readings.{RowsSay}
 use Rattle.prof_store.specs.Shown.{ReadsAs, shown}
@@ -28,10 +28,10 @@ asked_of_open schema ok old mid new one two = asked_then schema ok old mid new o
 
 -- a question that takes two calls, the first to find what the second is over: the tables stand between them too
 pub asked_twice : {S : Type 0} (g : Ghosts S) (Shows : Tables → Answer → Type 0) (query : Query) → IsTold Shows query → (result : Result Answer StoreError) (old new : Store S) (mid : State)
-    → has_changed result ≡ false → (HasCleanDisk mid → Asked schema_one true (shown g old) mid) → Asked schema_one (is_ok result && mid.is_open) mid (shown g new)
-    → ((t : Tables) → ReadsAs g t old → HasCleanDisk mid → Rests schema_one (RowsSay t) mid → IfOk result (Shows t)) → WasAsked g Shows query result old new
+    → has_changed result ≡ false → (HasCleanDisk mid → Asked schema_two true (shown g old) mid) → Asked schema_two (is_ok result && mid.is_open) mid (shown g new)
+    → ((t : Tables) → ReadsAs g t old → HasCleanDisk mid → Rests schema_two (RowsSay t) mid → IfOk result (Shows t)) → WasAsked g Shows query result old new
 asked_twice g Shows query law result old new mid still one two told =
     let early = two.stays.was_clean in
     let asks = one early in
-    asked_once g Shows query law result old new still (asked_of_open schema_one (is_ok result) (shown g old) mid (shown g new) asks two)
-    (λ t stands. told t stands early (asked_rests schema_one (RowsSay t) (shown g old) mid asks stands))
+    asked_once g Shows query law result old new still (asked_of_open schema_two (is_ok result) (shown g old) mid (shown g new) asks two)
+    (λ t stands. told t stands early (asked_rests schema_two (RowsSay t) (shown g old) mid asks stands))

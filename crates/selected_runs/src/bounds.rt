@@ -54,6 +54,7 @@ pub fn weighted_within<'a>(
         file: row.file,
         function: row.function,
         line: row.line,
+        thread: row.thread,
         event: 0,
         cost,
     })

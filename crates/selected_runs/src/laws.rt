@@ -26,7 +26,8 @@ ghost use Rattle.selected_runs.specs.declared.counting.Counted.{Counted};
 /// What tables that stand for a history tell of a selection is what is selected after it: its runs, those of
 /// an event that is asked, or why there are none.
 pub fn selections_are_told()
-    ensures selected { (h : History) (t : Tables) (s : Selection) (found : Result (List ℕ) Refusal) → TablesTell h t → AreSelectedIn t s found → AreSelected h s found }
+    ensures selected { (h : History) (t : Tables) (s : Selection) (found : Result (List ℕ) Refusal)
+        → TablesTell h t → AreSelectedIn t s found → AreSelected h s found }
     ensures event { (h : History) (t : Tables) (s : Selection) (event : List ℕ) (found : Result (List Counted) Refusal) → TablesTell h t
         → AreEventRunsIn t s event found → AreEventRuns h t s event found }
 {}

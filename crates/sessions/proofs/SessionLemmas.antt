@@ -9,7 +9,7 @@ use Rattle.std.proofs.lemmas.List.Folds.{list_any-append}
 use Rattle.sqlite_trees.specs.declared.store.Store.{Ghosts}
 use Rattle.profile_records.specs.declared.kinds.Kind.{Kind}
 use Rattle.sql_tables.proofs.Calls.{changed_none, shut_none}
-use Rattle.prof_tables.specs.Schema.{schema_one}
+use Rattle.prof_tables.specs.Schema.{schema_two}
 use Rattle.prof_store.specs.Shown.{shown, IsFaithful}
 use Rattle.prof_store.specs.declared.store.Store.{Store}
 use Rattle.sources.specs.Outcomes.{Outcome}
@@ -75,7 +75,7 @@ wrote (Err e) answer line a b is whole part = (line, part.0, (line, [], is, refl
 
 pub refused : {S : Type 0} (g : Ghosts S) (limits : Limits) (said : Said) (refusal : Refusal) (store : Store S) → IsFaithful g store → ((h : History) → IsLegal limits h said (Refused refusal)) → Answers g limits said (Refused refusal) store store
 refused g limits said refusal store clean legal = record {
-  turned = changed_none schema_one TellsHistory (Follows limits said) (shown g store) clean;
+  turned = changed_none schema_two TellsHistory (Follows limits said) (shown g store) clean;
   answered = λ h has. untouched g limits h said store has clean (Refused refusal) tt (legal h);
   closes = λ usable. inl usable;
   shut = shut_none (shown g store);

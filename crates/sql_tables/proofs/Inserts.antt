@@ -32,11 +32,11 @@ abbrev pub unnumbered : List Row → List Row
 unnumbered columns = map (λ c. Null ∷ c) columns
 
 -- they are given rowids above each that is there, and so go to the end
-record Appended (rows columns all : List Row) : Type 0 where
-  numbered : IsShaped shape.Table all
-  columns_are : map (drop 1) all ≡ map (drop 1) rows ++ columns
+pub record Appended (rows columns all : List Row) : Type 0 where
+  pub numbered : IsShaped shape.Table all
+  pub columns_are : map (drop 1) all ≡ map (drop 1) rows ++ columns
 
-appended : (columns rows : List Row) → IsShaped shape.Table rows → Appended rows columns (put_all rows (numbered Chosen rows (unnumbered columns)))
+pub appended : (columns rows : List Row) → IsShaped shape.Table rows → Appended rows columns (put_all rows (numbered Chosen rows (unnumbered columns)))
 appended [] rows h = record { numbered = h; columns_are = sym (append-nil (map (drop 1) rows)) }
 appended (c ∷ columns) rows h =
     let new = Int (next_rowid rows) ∷ c in

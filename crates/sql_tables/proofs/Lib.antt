@@ -22,3 +22,6 @@ pub mod Statements
 pub mod Updates
 pub mod Walks
 pub mod Windows
+pub mod Beside
+pub mod Copies
+pub mod TableDrops

@@ -7,7 +7,7 @@ use Rattle.std.proofs.lemmas.Grind.{fold-append}
 use Rattle.sqlite_rules.specs.Lists.{Has}
 use Rattle.cost_rows.specs.Keys.{place_of_row}
 use Rattle.cost_rows.specs.StackSums.{frames_sum}
-use Rattle.cost_rows.specs.Sums.{Spot, callee_spot, has_call, own_sum, spot_of}
+use Rattle.cost_rows.specs.Sums.{Spot, callee_spot, caller_spot, has_call, own_sum, spot_of}
 use Rattle.cost_rows.specs.WalkSums.{has_calls, rows_cost, stacks_count}
 use Rattle.cost_rows.specs.Walks.{HaveCosts, HaveCounts}
 use Rattle.cost_rows.specs.declared.rows.ArcRow.{ArcRow}
@@ -193,7 +193,7 @@ module _ (f : Spot) where
   apart [] = refl
   apart (Own cost ∷ records) = ap (λ b. own_tells (Own cost) || b) (apart records) ∙ or_swap (own_tells (Own cost)) (has_call either records) (list_any own_tells records)
   apart (Called callee cost ∷ records) =
-      ap (λ b. either (spot_of cost) (callee_spot callee) || b) (apart records) ∙ sym (or_then (either (spot_of cost) (callee_spot callee)) (has_call either records) (list_any own_tells records))
+      ap (λ b. either (caller_spot cost) (callee_spot callee) || b) (apart records) ∙ sym (or_then (either (caller_spot cost) (callee_spot callee)) (has_call either records) (list_any own_tells records))
 
   own_positive : (k : ℕ) (records : List Record) → 0 < own_sum of_f k records → list_any own_tells records ≡ true
   own_positive k [] low = absurd (omega (arith, low))

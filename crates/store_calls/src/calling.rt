@@ -150,7 +150,8 @@ pub fn calls_answer<S: Alter>(
     object: &ListVec<u8>,
     function: &ListVec<u8>,
 ) -> Result<Answer, StoreError>
-    ensures { AnswersAsked S.Store (λ t. AreCallsShown t selection.now side event.now object.now function.now) (Calls selection.now side event.now object.now function.now) result store.old store.new }
+    ensures { AnswersAsked S.Store (λ t. AreCallsShown t selection.now side event.now object.now function.now)
+        (Calls selection.now side event.now object.now function.now) result store.old store.new }
 {
     let event = event.as_slice();
     let runs = match event_runs(store, alloc, selection, event)? {

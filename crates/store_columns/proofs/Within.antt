@@ -15,7 +15,7 @@ use Rattle.sqlite.proofs.StateLemmas.{survives_then}
 use Rattle.sql_tables.specs.States.{Works, KeepsCommit}
 use Rattle.sql_tables.proofs.Queries.{shown_keeps}
 use Rattle.sql_tables.proofs.Statements.{inside_kept, inside_done, works_if_same}
-use Rattle.prof_tables.specs.Schema.{schema_one}
+use Rattle.prof_tables.specs.Schema.{schema_two}
 use Rattle.prof_tables.specs.Tables.{Tables, Holds}
 use Rattle.store_columns.specs.Within.{inside, IsFaithful, IsRunning, Sees, WritesIf, Writes, Asks, Ran, TextMakes}
 
@@ -123,8 +123,8 @@ pub text_open : {S : Type 0} (g : Ghosts S) (text : List ℕ) (params : Row) (ok
 text_open g text params ok old new h is clean running = let it = h.ran clean running in inside_open text params (inside g old) (inside g new) it.0 (sym it.1 ∙ is) it.2
 
 module _ (text : List ℕ) (params : Row) (given : Tables → Type 0) (change : Tables → Tables) (makes : TextMakes text params given change) where
-  inside_makes : (old new : State) (result : Result ℕ Error) → IsTrue (is_ok result) → ExecutesInside 0 text params old new result → (t : Tables) → given t → Works schema_one (Holds t) old → Works schema_one (Holds (change t)) new
-  inside_makes old new (Ok count) is h t has was = inside_done schema_one text params makes.command makes.means makes.plain makes.writes (Holds t) (Holds (change t)) (makes.effect t has) old new count was h
+  inside_makes : (old new : State) (result : Result ℕ Error) → IsTrue (is_ok result) → ExecutesInside 0 text params old new result → (t : Tables) → given t → Works schema_two (Holds t) old → Works schema_two (Holds (change t)) new
+  inside_makes old new (Ok count) is h t has was = inside_done schema_two text params makes.command makes.means makes.plain makes.writes (Holds t) (Holds (change t)) (makes.effect t has) old new count was h
   inside_makes old new (Err e) is h t has was = absurd (cc is)
 
   -- a statement that writes
@@ -165,13 +165,13 @@ module _ (text : List ℕ) (params : Row) (old new : State) where
 
 module _ {S : Type 0} (g : Ghosts S) (text : List ℕ) (params : Row) (old new : Transaction S) (same : new.conn.ghost_name ≡ old.conn.ghost_name) (survives : Survives (inside g old) (inside g new) (λ _. ⊥)) where
   -- its rows
-  pub shown_asks : (rows : List Row) (ok : Bool) → IsPlain (understood schema_one text) → (IsFaithful g new → Shown text params (inside g old) (inside g new) rows) → Asks g ok old new
+  pub shown_asks : (rows : List Row) (ok : Bool) → IsPlain (understood schema_two text) → (IsFaithful g new → Shown text params (inside g old) (inside g new) rows) → Asks g ok old new
   shown_asks rows ok plain h = record {
     same_reference = same;
     survives = survives;
     kept = λ clean running. (shown_kept text params (inside g old) (inside g new) rows (h clean) running).0;
     running = λ is clean was. (shown_kept text params (inside g old) (inside g new) rows (h clean) was).1;
-    done = λ is clean t has was. works_if_same schema_one (Holds t) (inside g old) (inside g new) was (shown_keeps schema_one text params (inside g old) (inside g new) was.schema_is plain rows (h clean));
+    done = λ is clean t has was. works_if_same schema_two (Holds t) (inside g old) (inside g new) was (shown_keeps schema_two text params (inside g old) (inside g new) was.schema_is plain rows (h clean));
   }
 
   -- its error

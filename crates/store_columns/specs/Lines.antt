@@ -11,7 +11,7 @@ use Rattle.store_columns.specs.declared.lines.DerivedLine.{DerivedLine}
 use Rattle.store_columns.specs.declared.lines.CoefLine.{CoefLine}
 
 abbrev pub cell_line : CellLine → Cell
-cell_line c = record { run = c.run; object = c.object; file = c.file; function = c.function; line = c.line; event = c.event; cost = c.cost }
+cell_line c = record { run = c.run; object = c.object; file = c.file; function = c.function; line = c.line; thread = c.thread; event = c.event; cost = c.cost }
 
 abbrev pub event_line : EventLine → Event
 event_line e = record { run = e.run; place = e.place; name = e.name.now; self_cost = e.self_cost; call_cost = e.call_cost; stated = option_map string_bytes e.stated }

@@ -18,7 +18,7 @@ use Rattle.sqlite.proofs.Callers.{IsPlain, command_of}
 use Rattle.sql_tables.specs.Calls.{Changed, KeepsIfShut}
 use Rattle.sql_tables.specs.States.{Works, KeepsCommit}
 use Rattle.sql_tables.proofs.Statements.{plain_mode}
-use Rattle.prof_tables.specs.Schema.{schema_one}
+use Rattle.prof_tables.specs.Schema.{schema_two}
 use Rattle.prof_tables.specs.Tables.{Tables, Holds}
 
 module _ {S : Type 0} (g : Ghosts S) where
@@ -36,7 +36,7 @@ module _ {S : Type 0} (g : Ghosts S) where
 
   -- it goes on, and the tables that it sees hold these lines
   abbrev pub Sees : Tables → Transaction S → Type 0
-  Sees t tx = Works schema_one (Holds t) (inside tx)
+  Sees t tx = Works schema_two (Holds t) (inside tx)
 
   -- a call that changes the tables, where they are in a state for it: whatever comes of it, it commits nothing, so a crash leaves what it could leave before; done, the transaction goes on with the change
   pub record WritesIf (is_done : Bool) (given : Tables → Type 0) (change : Tables → Tables) (old new : Transaction S) : Type 0 where
@@ -70,7 +70,7 @@ module _ {S : Type 0} (g : Ghosts S) where
 
 -- a call over a connection that changes its tables, where they are in a state for it, by one commit at its end, or leaves all as it was
 abbrev pub CommitsIf : {S : Type 0} → Ghosts S → Bool → (Tables → Type 0) → (Tables → Tables) → Held S → Held S → Type 0
-CommitsIf g is_done given change old new = HasCleanDisk (state g new) → Changed schema_one (λ t db. given t × Holds t db) (λ t. Holds (change t)) is_done is_done (state g old) (state g new)
+CommitsIf g is_done given change old new = HasCleanDisk (state g new) → Changed schema_two (λ t db. given t × Holds t db) (λ t. Holds (change t)) is_done is_done (state g old) (state g new)
 
 -- over a connection that was shut it commits nothing
 abbrev pub CommitsUnlessShut : {S : Type 0} → Ghosts S → Held S → Held S → Type 0
@@ -80,12 +80,12 @@ CommitsUnlessShut g old new = HasCleanDisk (state g new) → KeepsIfShut (state 
 abbrev pub Effect : Row → Command → Tables → Tables → Type 0
 Effect params command t next =
     (limit : Option ℕ) (trees : Trees) (text : List ℕ) (tally : Tally) (after : Database) → Holds t trees → IsDatabase after
-    → Does limit plain_mode params (record { schema = schema_one; trees = trees }) text None command (Ok (tally, after)) → (after.schema ≡ schema_one) × Holds next after.trees
+    → Does limit plain_mode params (record { schema = schema_two; trees = trees }) text None command (Ok (tally, after)) → (after.schema ≡ schema_two) × Holds next after.trees
 
 -- a text is one statement that writes, and what it makes of the tables, where they are in a state for it, is the change
 pub record TextMakes (text : List ℕ) (params : Row) (given : Tables → Type 0) (change : Tables → Tables) : Type 0 where
   pub command : Command
-  pub means : command_of (understood schema_one text) ≡ command
-  pub plain : IsPlain (understood schema_one text)
+  pub means : command_of (understood schema_two text) ≡ command
+  pub plain : IsPlain (understood schema_two text)
   pub writes : IsWrite command
   pub effect : (t : Tables) → given t → Effect params command t (change t)

@@ -10,6 +10,7 @@ pub struct CellLine {
     pub file: u32,
     pub function: u32,
     pub line: Whole,
+    pub thread: Whole,
     pub event: u32,
     pub cost: Whole,
 }

@@ -9,7 +9,7 @@ use Rattle.prof_store.specs.Shown.{StandsFor, shown}
 use Rattle.prof_store.specs.declared.store.Store.{Store}
 use Rattle.prof_tables.specs.Changes as tables
 use Rattle.prof_tables.specs.Labels.{IsGroupName}
-use Rattle.prof_tables.specs.Schema.{schema_one}
+use Rattle.prof_tables.specs.Schema.{schema_two}
 use Rattle.prof_tables.specs.Tables.{Tables, Holds}
 use Rattle.histories.specs.History.{History, Remove, MakeGroup, groups}
 use Rattle.histories.specs.Legal.{IsHistory, IsInForm, IsLegal, expected_answer, when, first_or, has_run, has_group}
@@ -107,10 +107,10 @@ drop_held limits name t is = go (tables.has_group t name) is
 
 -- a change of tables in some state is one of those in a narrower one
 pub given_less : (P Q : Tables → Type 0) (After : Tables → Trees → Type 0) (answered done : Bool) (old new : State) → ((t : Tables) → P t → Q t)
-    → Changed schema_one (λ t db. Q t × Holds t db) After answered done old new → Changed schema_one (λ t db. P t × Holds t db) After answered done old new
+    → Changed schema_two (λ t db. Q t × Holds t db) After answered done old new → Changed schema_two (λ t db. P t × Holds t db) After answered done old new
 given_less P Q After answered done old new less h =
-    changed_as schema_one (λ t db. Q t × Holds t db) After (λ t db. P t × Holds t db) After answered done old new
-    (λ t was. (t, rests_as schema_one (λ db. P t × Holds t db) (λ db. Q t × Holds t db) old was (less t was.holds.0, was.holds.1), λ next k. k)) h
+    changed_as schema_two (λ t db. Q t × Holds t db) After (λ t db. P t × Holds t db) After answered done old new
+    (λ t was. (t, rests_as schema_two (λ db. P t × Holds t db) (λ db. Q t × Holds t db) old was (less t was.holds.0, was.holds.1), λ next k. k)) h
 
 -- ---- what becomes of lines, whatever they stand for
 
@@ -121,12 +121,12 @@ module _ (Left : Tables → Type 0) (t : Tables) (found : Option Refusal) (chang
   pub changed_in : found ≡ None → Left (change t) → IsDoneIn Left found change t answers.Done
   changed_in is left = subst (λ r. IsDoneIn Left r change t answers.Done) (sym is) (refl, left)
 
-module _ {S : Type 0} (g : Ghosts S) (t : Tables) (old mid new : Store S) (asked : Asked schema_one true (shown g old) (shown g mid)) (stands : StandsFor g t old) where
+module _ {S : Type 0} (g : Ghosts S) (t : Tables) (old mid new : Store S) (asked : Asked schema_two true (shown g old) (shown g mid)) (stands : StandsFor g t old) where
   pub stays_in : (refusal : Refusal) (found : Option Refusal) (change : Tables → Tables) → found ≡ Some refusal → IsDoneIn (λ l. StandsFor g l mid) found change t (answers.Refused refusal)
-  stays_in refusal found change is = refused_in (λ l. StandsFor g l mid) t found change refusal is (asked_rests schema_one (Holds t) (shown g old) (shown g mid) asked stands)
+  stays_in refusal found change is = refused_in (λ l. StandsFor g l mid) t found change refusal is (asked_rests schema_two (Holds t) (shown g old) (shown g mid) asked stands)
 
   pub done_in : (P : Tables → Type 0) (found : Option Refusal) (change : Tables → Tables) → P t → found ≡ None
-      → Changed schema_one (λ t db. P t × Holds t db) (λ t. Holds (change t)) true true (shown g mid) (shown g new) → IsDoneIn (λ l. StandsFor g l new) found change t answers.Done
+      → Changed schema_two (λ t db. P t × Holds t db) (λ t. Holds (change t)) true true (shown g mid) (shown g new) → IsDoneIn (λ l. StandsFor g l new) found change t answers.Done
   done_in P found change held is made =
-      let mid_stands = asked_rests schema_one (Holds t) (shown g old) (shown g mid) asked stands in
-      changed_in (λ l. StandsFor g l new) t found change is (made.done refl t (rests_as schema_one (Holds t) (λ db. P t × Holds t db) (shown g mid) mid_stands (held, mid_stands.holds)))
+      let mid_stands = asked_rests schema_two (Holds t) (shown g old) (shown g mid) asked stands in
+      changed_in (λ l. StandsFor g l new) t found change is (made.done refl t (rests_as schema_two (Holds t) (λ db. P t × Holds t db) (shown g mid) mid_stands (held, mid_stands.holds)))

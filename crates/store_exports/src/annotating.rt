@@ -100,7 +100,8 @@ pub fn annotate_answer<S: Alter>(
     name: &ListVec<u8>,
     source: &ListVec<u8>,
 ) -> Result<Answer, StoreError>
-    ensures { AnswersAsked S.Store (λ t. IsAnnotated t selection.now event.now name.now source.now) (Annotate selection.now event.now name.now source.now) result store.old store.new }
+    ensures { AnswersAsked S.Store (λ t. IsAnnotated t selection.now event.now name.now source.now)
+        (Annotate selection.now event.now name.now source.now) result store.old store.new }
 {
     let event = event.as_slice();
     let runs = match event_runs(store, alloc, selection, event)? {

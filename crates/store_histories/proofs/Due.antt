@@ -6,7 +6,7 @@ use Rattle.sqlite_trees.specs.Tree.{Trees}
 use Rattle.sql_tables.specs.States.{Rests}
 use Rattle.sql_tables.specs.Calls.{Changed}
 use Rattle.sql_tables.proofs.Calls.{rests_as, changed_as}
-use Rattle.prof_tables.specs.Schema.{schema_one}
+use Rattle.prof_tables.specs.Schema.{schema_two}
 use Rattle.prof_tables.specs.Tables.{Tables, Holds}
 use Rattle.prof_store.specs.Shown.{shown, StandsFor}
 use Rattle.prof_store.specs.declared.store.Store.{Store}
@@ -38,13 +38,13 @@ module _ (limits : Limits) (h : History) (said : Said) (form : IsInForm said) wh
 -- ---- what a call makes of the tables, as a turn of a history
 
 module _ {S : Type 0} (g : Ghosts S) where
-  pub told_stands : (h : History) (store : Store S) → Rests schema_one (TellsHistory h) (shown g store) → StandsForHistory g h store
-  told_stands h store was = record { t = was.holds.t; stands = rests_as schema_one (TellsHistory h) (Holds was.holds.t) (shown g store) was was.holds.holds; tells = was.holds.tells }
+  pub told_stands : (h : History) (store : Store S) → Rests schema_two (TellsHistory h) (shown g store) → StandsForHistory g h store
+  told_stands h store was = record { t = was.holds.t; stands = rests_as schema_two (TellsHistory h) (Holds was.holds.t) (shown g store) was was.holds.holds; tells = was.holds.tells }
 
   pub turns_by : (limits : Limits) (said : Said) (answered done : Bool) (old new : Store S) (Before After : Tables → Trees → Type 0)
-      → ((h : History) → StandsForHistory g h old → (t : Tables) × Rests schema_one (Before t) (shown g old) × ((db : Trees) → After t db → Follows limits said h db))
-      → Changed schema_one Before After answered done (shown g old) (shown g new) → Changed schema_one TellsHistory (Follows limits said) answered done (shown g old) (shown g new)
-  turns_by limits said answered done old new Before After means h = changed_as schema_one Before After TellsHistory (Follows limits said) answered done (shown g old) (shown g new) (λ n was. means n (told_stands n old was)) h
+      → ((h : History) → StandsForHistory g h old → (t : Tables) × Rests schema_two (Before t) (shown g old) × ((db : Trees) → After t db → Follows limits said h db))
+      → Changed schema_two Before After answered done (shown g old) (shown g new) → Changed schema_two TellsHistory (Follows limits said) answered done (shown g old) (shown g new)
+  turns_by limits said answered done old new Before After means h = changed_as schema_two Before After TellsHistory (Follows limits said) answered done (shown g old) (shown g new) (λ n was. means n (told_stands n old was)) h
 
 -- ---- a limit and how many are held
 

@@ -4,7 +4,7 @@ use Rattle.std.specs.List.{AllByRecursion}
 use Rattle.sqlite_trees.specs.declared.store.Store.{Ghosts}
 use Rattle.sqlite_trees.specs.Tree.{Trees}
 use Rattle.sql_tables.proofs.Calls.{rests_as}
-use Rattle.prof_tables.specs.Schema.{schema_one}
+use Rattle.prof_tables.specs.Schema.{schema_two}
 use Rattle.prof_tables.specs.Tables.{Tables, Holds}
 use Rattle.prof_store.specs.Shown.{LeavesJust, StandsFor, shown}
 use Rattle.prof_store.specs.declared.store.Store.{Store}
@@ -63,7 +63,7 @@ module _ {S : Type 0} (g : Ghosts S) (limits : Limits) (survives : (t : Tables) 
           by_old : (b : Bool) → (shown g old).is_open ≡ b → MayBeLeft limits (with_turn h said answer) db
           by_old true usable =
               let s = has.stands usable in
-              elim (turn.turned.crash h (rests_as schema_one (Holds s.t) (TellsHistory h) (shown g old) s.stands (record { t = s.t; holds = s.stands.holds; tells = s.tells })) db may) [
+              elim (turn.turned.crash h (rests_as schema_two (Holds s.t) (TellsHistory h) (shown g old) s.stands (record { t = s.t; holds = s.stands.holds; tells = s.tells })) db may) [
                 | inl before ↦ still (was db before)
                 | inr after ↦ inr (record {
                   before = h;

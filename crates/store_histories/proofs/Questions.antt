@@ -4,7 +4,7 @@ use Rattle.std.proofs.Common.{◌≡◌, ◌∙◌, Bool, false, Result, Ok, Err
 use Rattle.sqlite_trees.specs.declared.store.Store.{Ghosts}
 use Rattle.sql_tables.specs.Calls.{Asked, Changed}
 use Rattle.sql_tables.proofs.Calls.{asked_rests, changed_asked, shut_asked}
-use Rattle.prof_tables.specs.Schema.{schema_one}
+use Rattle.prof_tables.specs.Schema.{schema_two}
 use Rattle.prof_tables.specs.Tables.{Tables, Holds}
 use Rattle.prof_store.proofs.Told.{rests_said}
 use Rattle.prof_store.specs.Shown.{ReadsAs, shown}
@@ -41,7 +41,7 @@ if_ok_so (Ok x) so is = so x is
 if_ok_so (Err e) so is = tt
 
 pub asked_once : {S : Type 0} (g : Ghosts S) (Shows : Tables → Answer → Type 0) (query : Query) → IsTold Shows query → (result : Result Answer StoreError) (old new : Store S)
-    → has_changed result ≡ false → Asked schema_one (is_ok result) (shown g old) (shown g new) → ((t : Tables) → ReadsAs g t old → IfOk result (Shows t)) → WasAsked g Shows query result old new
+    → has_changed result ≡ false → Asked schema_two (is_ok result) (shown g old) (shown g new) → ((t : Tables) → ReadsAs g t old → IfOk result (Shows t)) → WasAsked g Shows query result old new
 asked_once g Shows query law result old new still asks told = record {
   told = told;
   expected_answer = λ h s. if_ok_so result (λ answer. law h s.t answer s.tells) (told s.t (rests_said s.t (shown g old) s.stands));
@@ -61,17 +61,17 @@ module _ {S : Type 0} (g : Ghosts S) (limits : Limits) (Shows : Tables → Answe
   was_due (Err end) asked h s = tt
   was_due (Ok answer) asked h s =
       was_still limits h said form g old new answer (stays_still answer asked.still) (due h ∙ ap (λ a. Some a) (sym (asked.expected_answer h s))) s
-      (asked_rests schema_one (Holds s.t) (shown g old) (shown g new) asked.asks s.stands)
+      (asked_rests schema_two (Holds s.t) (shown g old) (shown g new) asked.asks s.stands)
 
   pub answered_as : (result : Result Answer StoreError) → WasAsked g Shows query result old new → Answers g limits said (answer_for result) old new
   answered_as result asked =
-      let unchanged = changed_asked schema_one TellsHistory (Follows limits said) (is_ok result) (shown g old) (shown g new) asked.asks in
-      let turned = subst (λ (done : Bool). Changed schema_one TellsHistory (Follows limits said) (is_ok result) done (shown g old) (shown g new)) (sym asked.still) unchanged in
+      let unchanged = changed_asked schema_two TellsHistory (Follows limits said) (is_ok result) (shown g old) (shown g new) asked.asks in
+      let turned = subst (λ (done : Bool). Changed schema_two TellsHistory (Follows limits said) (is_ok result) done (shown g old) (shown g new)) (sym asked.still) unchanged in
       record {
         turned = turns_answer limits said result (shown g old) (shown g new) turned;
         answered = λ h has. settled g limits h said old new has result form (was_due result asked h) turned;
         closes = closes_for result (shown g old) (shown g new) asked.asks.stays;
-        shut = shut_asked schema_one (is_ok result) (shown g old) (shown g new) asked.asks;
+        shut = shut_asked schema_two (is_ok result) (shown g old) (shown g new) asked.asks;
       }
 
 pub question_answered : {S : Type 0} (g : Ghosts S) (limits : Limits) (Shows : Tables → Answer → Type 0) (query : Query) (old new : Store S) (result : Result Answer StoreError) → WasAsked g Shows query result old new → Answers g limits (Ask query) (answer_for result) old new

@@ -7,7 +7,7 @@ use Rattle.sqlite.specs.State.{State}
 use Rattle.sqlite_trees.specs.Tree.{Trees}
 use Rattle.sql_tables.specs.Calls.{Changed, Stays}
 use Rattle.sql_tables.proofs.Calls.{settled_of, rests_before, stays_if, changed_none}
-use Rattle.prof_tables.specs.Schema.{schema_one}
+use Rattle.prof_tables.specs.Schema.{schema_two}
 use Rattle.prof_tables.specs.Tables.{Holds}
 use Rattle.prof_tables.specs.Labels.{IsGroupName}
 use Rattle.prof_store.specs.Shown.{shown, IsFaithful}
@@ -29,20 +29,20 @@ use Rattle.store_histories.specs.Answered.{with_turn, is_accepted, has_changed, 
 
 module _ {S : Type 0} (g : Ghosts S) (limits : Limits) (h : History) (said : Said) (old new : Store S) (has : HasHistory g h old) where
   -- what was there stays, if a legal answer says that nothing changed
-  pub still_answered : (answered : Bool) (answer : Answer) → IsStill answer → IsLegal limits h said answer → Changed schema_one TellsHistory (Follows limits said) answered false (shown g old) (shown g new) → IsAnswered g limits h said answer new
+  pub still_answered : (answered : Bool) (answer : Answer) → IsStill answer → IsLegal limits h said answer → Changed schema_two TellsHistory (Follows limits said) answered false (shown g old) (shown g new) → IsAnswered g limits h said answer new
   still_answered answered answer still legal turned = record {
     legal = legal;
     after = record {
       legal = history_more limits h said answer has.legal legal;
       stands = λ usable.
           let s = has.stands (turned.stays.was_open usable) in
-          let kept = turned.kept refl (settled_of schema_one (Holds s.t) (shown g old) s.stands) usable in
-          record { t = s.t; stands = rests_before schema_one (Holds s.t) (shown g old) (shown g new) s.stands usable kept; tells = tell_same limits h said answer s.t still s.tells legal };
+          let kept = turned.kept refl (settled_of schema_two (Holds s.t) (shown g old) s.stands) usable in
+          record { t = s.t; stands = rests_before schema_two (Holds s.t) (shown g old) (shown g new) s.stands usable kept; tells = tell_same limits h said answer s.t still s.tells legal };
     };
   }
 
   pub settled : (result : Result Answer StoreError) → IsInForm said → (StandsForHistory g h old → IfOk result (λ answer. WasDue g limits h said answer new))
-      → Changed schema_one TellsHistory (Follows limits said) (is_ok result) (has_changed result) (shown g old) (shown g new) → IsAnswered g limits h said (answer_for result) new
+      → Changed schema_two TellsHistory (Follows limits said) (is_ok result) (has_changed result) (shown g old) (shown g new) → IsAnswered g limits h said (answer_for result) new
   settled (Ok answer) form answered turned =
       let it = answered (has.stands (turned.stays.was_open (turned.stays.is_open refl))) in
       let legal : IsLegal limits h said answer = inl (form, inl it.is_due) in
@@ -51,18 +51,18 @@ module _ {S : Type 0} (g : Ghosts S) (limits : Limits) (h : History) (said : Sai
   settled (Err ends.Store) form answered turned = still_answered false (answers.Refused reasons.Store) tt (inl (form, inr (inr refl))) turned
 
 -- of a call that is refused
-pub turns_err_from : (limits : Limits) (said : Said) (Before : History → Trees → Type 0) (result : Result Answer StoreError) (old new : State) → IsErr result → Changed schema_one Before (Follows limits said) false false old new
-    → Changed schema_one Before (Follows limits said) (is_ok result) (has_changed result) old new
+pub turns_err_from : (limits : Limits) (said : Said) (Before : History → Trees → Type 0) (result : Result Answer StoreError) (old new : State) → IsErr result → Changed schema_two Before (Follows limits said) false false old new
+    → Changed schema_two Before (Follows limits said) (is_ok result) (has_changed result) old new
 turns_err_from limits said Before (Ok answer) old new is h = absurd (cc is)
 turns_err_from limits said Before (Err end) old new is h = h
 
-pub turns_err : (limits : Limits) (said : Said) (result : Result Answer StoreError) (old new : State) → IsErr result → Changed schema_one TellsHistory (Follows limits said) false false old new
-    → Changed schema_one TellsHistory (Follows limits said) (is_ok result) (has_changed result) old new
+pub turns_err : (limits : Limits) (said : Said) (result : Result Answer StoreError) (old new : State) → IsErr result → Changed schema_two TellsHistory (Follows limits said) false false old new
+    → Changed schema_two TellsHistory (Follows limits said) (is_ok result) (has_changed result) old new
 turns_err limits said result old new is h = turns_err_from limits said TellsHistory result old new is h
 
 -- what a call leaves is what its answer leaves
-pub turns_answer : (limits : Limits) (said : Said) (result : Result Answer StoreError) (old new : State) → Changed schema_one TellsHistory (Follows limits said) (is_ok result) (has_changed result) old new
-    → Changed schema_one TellsHistory (Follows limits said) (is_accepted (answer_for result)) (is_accepted (answer_for result)) old new
+pub turns_answer : (limits : Limits) (said : Said) (result : Result Answer StoreError) (old new : State) → Changed schema_two TellsHistory (Follows limits said) (is_ok result) (has_changed result) old new
+    → Changed schema_two TellsHistory (Follows limits said) (is_accepted (answer_for result)) (is_accepted (answer_for result)) old new
 turns_answer limits said (Ok answer) old new h = record { stays = stays_if (is_accepted answer) old new h.stays; done = h.done; kept = h.kept; crash = h.crash }
 turns_answer limits said (Err ends.Memory) old new h = h
 turns_answer limits said (Err ends.Store) old new h = h
@@ -77,7 +77,7 @@ closes_for (Err ends.Store) old new h usable = inr (inr refl)
 
 module _ {S : Type 0} (g : Ghosts S) (limits : Limits) (h : History) (said : Said) (store : Store S) (has : HasHistory g h store) where
   pub untouched : IsFaithful g store → (answer : Answer) → IsStill answer → IsLegal limits h said answer → IsAnswered g limits h said answer store
-  untouched clean answer still legal = still_answered g limits h said store store has false answer still legal (changed_none schema_one TellsHistory (Follows limits said) (shown g store) clean)
+  untouched clean answer still legal = still_answered g limits h said store store has false answer still legal (changed_none schema_two TellsHistory (Follows limits said) (shown g store) clean)
 
 -- ---- names out of form
 

@@ -4,7 +4,7 @@ use Rattle.std.specs.Result.{is_ok}
 use Rattle.sqlite_trees.specs.declared.store.Store.{Ghosts}
 use Rattle.sqlite_trees.specs.Tree.{Trees}
 use Rattle.sql_tables.specs.Calls.{Asked, Changed, KeepsIfShut}
-use Rattle.prof_tables.specs.Schema.{schema_one}
+use Rattle.prof_tables.specs.Schema.{schema_two}
 use Rattle.prof_tables.specs.Tables.{Tables, Holds}
 use Rattle.prof_store.specs.Shown.{shown, StandsFor, ReadsAs, IsFaithful, IsUsable}
 use Rattle.prof_store.specs.declared.store.Store.{Store}
@@ -70,7 +70,7 @@ module _ {S : Type 0} (g : Ghosts S) where
 
   -- what a call for a command leaves, whatever the history: where the command is not done, all is as before; a crash leaves what it could leave before, or tables with the command done
   abbrev pub TurnsIf : Limits → Said → Bool → Bool → Store S → Store S → Type 0
-  TurnsIf limits said answered done old new = IsFaithful g new → Changed schema_one TellsHistory (Follows limits said) answered done (shown g old) (shown g new)
+  TurnsIf limits said answered done old new = IsFaithful g new → Changed schema_two TellsHistory (Follows limits said) answered done (shown g old) (shown g new)
 
   -- what a command leaves, by its answer
   abbrev pub Turns : Limits → Said → Answer → Store S → Store S → Type 0
@@ -83,7 +83,7 @@ module _ {S : Type 0} (g : Ghosts S) where
 
   -- a command was answered over a store: what it leaves, whatever the history; that the answer is legal after each history that the store has; that it shuts the store only where memory or the store failed; and that it commits nothing where the store was shut
   pub record Answers (limits : Limits) (said : Said) (answer : Answer) (old new : Store S) : Type 0 where
-    pub turned : Changed schema_one TellsHistory (Follows limits said) (is_accepted answer) (is_accepted answer) (shown g old) (shown g new)
+    pub turned : Changed schema_two TellsHistory (Follows limits said) (is_accepted answer) (is_accepted answer) (shown g old) (shown g new)
     pub answered : (h : History) → HasHistory h old → IsAnswered limits h said answer new
     pub closes : IsUsable g old → IsUsable g new ⊎ IsFailure answer
     pub shut : KeepsIfShut (shown g old) (shown g new)
@@ -93,7 +93,7 @@ module _ {S : Type 0} (g : Ghosts S) where
     pub told : (t : Tables) → ReadsAs g t old → IfOk result (Shows t)
     pub expected_answer : (h : History) → StandsForHistory h old → IfOk result (λ answer. answer ≡ expected_of_query h query)
     pub still : has_changed result ≡ false
-    pub asks : Asked schema_one (is_ok result) (shown g old) (shown g new)
+    pub asks : Asked schema_two (is_ok result) (shown g old) (shown g new)
 
   abbrev pub Asks : (Tables → Answer → Type 0) → Query → Result Answer StoreError → Store S → Store S → Type 0
   Asks Shows query result old new = IsFaithful g new → WasAsked Shows query result old new

@@ -134,7 +134,8 @@ pub fn subtract_answer<S: Alter>(
     key: Key,
     event: &ListVec<u8>,
 ) -> Result<Answer, StoreError>
-    ensures { AnswersAsked S.Store (λ t. IsSubtracted t first.now second.now key event.now) (Subtract first.now second.now key event.now) result store.old store.new }
+    ensures { AnswersAsked S.Store (λ t. IsSubtracted t first.now second.now key event.now)
+        (Subtract first.now second.now key event.now) result store.old store.new }
 {
     let numbers = match select_runs(store, alloc, first)? {
         Ok(numbers) => numbers,

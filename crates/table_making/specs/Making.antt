@@ -7,7 +7,7 @@ use Rattle.sqlite.specs.State.{State, Survives}
 use Rattle.sqlite.specs.declared.transaction.Transaction.{Transaction}
 use Rattle.sql_tables.specs.Contents.{Contain, no_rows}
 use Rattle.sql_tables.specs.States.{Begins, Works, KeepsCommit}
-use Rattle.prof_tables.specs.Schema.{empty_schema, schema_one}
+use Rattle.prof_tables.specs.Schema.{empty_schema, schema_two}
 use Rattle.prof_tables.specs.Tables.{Holds, new_tables}
 use Rattle.store_columns.specs.Within.{inside, FoundOpen, IsFaithful, IsRunning}
 
@@ -31,8 +31,8 @@ module _ {S : Type 0} (g : Ghosts S) where
 
   -- tables without rows become those of a new store
   abbrev pub BeginsStore : Bool → Transaction S → Transaction S → Type 0
-  BeginsStore is_done old new = Makes is_done (Works schema_one (AreEmpty schema_one)) (Works schema_one (Holds new_tables)) old new
+  BeginsStore is_done old new = Makes is_done (Works schema_two (AreEmpty schema_two)) (Works schema_two (Holds new_tables)) old new
 
   -- where there was no table, there are those of a new store
   abbrev pub FillsStore : Bool → Transaction S → Transaction S → Type 0
-  FillsStore is_done old new = Makes is_done (Begins empty_schema) (Works schema_one (Holds new_tables)) old new
+  FillsStore is_done old new = Makes is_done (Begins empty_schema) (Works schema_two (Holds new_tables)) old new

@@ -6,7 +6,7 @@ ghost use Rattle.sqlite.specs.State.{HasCleanDisk, Survives};
 ghost use Rattle.sql_tables.specs.Calls.{Stays};
 ghost use Rattle.store_columns.specs.Within.{CommitsUnlessShut};
 ghost use Rattle.sql_tables.specs.States.{Rests, IsBlank};
-ghost use Rattle.prof_tables.specs.Schema.{empty_schema, schema_to_derived, schema_to_arc, schema_one};
+ghost use Rattle.prof_tables.specs.Schema.{empty_schema, schema_to_derived, schema_to_arc, schema_one, schema_two};
 ghost use Rattle.prof_tables.specs.Tables.{Holds, new_tables};
 ghost use Rattle.store_columns.specs.declared.errors.OpenError.TheVariants as ends;
 ghost use Rattle.table_making.specs.Created.{Creates, IsUndone};
@@ -89,13 +89,25 @@ fn make_last_tables<S: Alter>(tx: &mut Transaction<'_, S>) -> Result<(), StoreEr
     )
 }
 
+/// Puts the table of cells of threads in the place of the one without.
+fn bring_up<S: Alter>(tx: &mut Transaction<'_, S>) -> Result<(), StoreError>
+    ensures { MakesTables S.Store (is_ok result) schema_one schema_two tx.old tx.new }
+{
+    write_inside(
+        tx,
+        "CREATE TABLE thread_cell (run INTEGER NOT NULL REFERENCES run ON DELETE CASCADE, thread INTEGER NOT NULL, ob INTEGER NOT NULL, fl INTEGER NOT NULL, fn INTEGER NOT NULL, line INTEGER NOT NULL, event INTEGER NOT NULL, cost INTEGER NOT NULL, PRIMARY KEY (run, thread, ob, fl, fn, line, event)) STRICT",
+        &[],
+    )?;
+    write_inside(tx, "DROP TABLE cell", &[])
+}
+
 /// Writes the row of a new store.
 fn begin_meta<S: Alter>(tx: &mut Transaction<'_, S>) -> Result<(), StoreError>
     ensures { BeginsStore S.Store (is_ok result) tx.old tx.new }
 {
     write_inside(
         tx,
-        "INSERT INTO meta (id, schema, next_run) VALUES (1, 1, 1)",
+        "INSERT INTO meta (id, schema, next_run) VALUES (1, 2, 1)",
         &[],
     )
 }
@@ -107,6 +119,7 @@ fn fill_new<S: Alter>(tx: &mut Transaction<'_, S>) -> Result<(), StoreError>
     make_first_tables(tx)?;
     make_row_tables(tx)?;
     make_last_tables(tx)?;
+    bring_up(tx)?;
     begin_meta(tx)
 }
 
@@ -114,7 +127,7 @@ fn fill_new<S: Alter>(tx: &mut Transaction<'_, S>) -> Result<(), StoreError>
 fn create_in<S: Alter>(conn: &mut Connection<S>) -> Result<(), StoreError>
     requires { conn.old.in_transaction ≡ false }
     ensures done { HasCleanDisk (state S.Store conn.new) → IsBlank empty_schema (state S.Store conn.old)
-        → OnOk result (Rests schema_one (Holds new_tables) (state S.Store conn.new)) }
+        → OnOk result (Rests schema_two (Holds new_tables) (state S.Store conn.new)) }
     ensures undone { HasCleanDisk (state S.Store conn.new) → OnErr result (IsUndone (state S.Store conn.old) (state S.Store conn.new)) }
     ensures stays { HasCleanDisk (state S.Store conn.new) → Stays (is_ok result) (state S.Store conn.old) (state S.Store conn.new) }
     ensures crash { IsBlank empty_schema (state S.Store conn.old) → Survives (state S.Store conn.old) (state S.Store conn.new) (Holds new_tables) }

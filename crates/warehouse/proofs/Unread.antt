@@ -2,7 +2,7 @@
 use Rattle.std.proofs.Common.{◌≡◌, ◌∙◌, ℕ, false, List, inl, inr, refl}
 use Rattle.sql_tables.specs.Calls.{Changed}
 use Rattle.sql_tables.proofs.Calls.{changed_none, shut_none}
-use Rattle.prof_tables.specs.Schema.{schema_one}
+use Rattle.prof_tables.specs.Schema.{schema_two}
 use Rattle.prof_store.specs.Shown.{shown, IsFaithful}
 use Rattle.sqlite_trees.specs.declared.store.Store.{Ghosts}
 use Rattle.prof_store.specs.declared.store.Store.{Store}
@@ -43,10 +43,10 @@ module _ (limits : Limits) (said : Said) (form : IsInForm said) (limit : ℕ) (o
     shut = shut_none (shown g store);
   }
     where
-      none : Changed schema_one TellsHistory (Follows limits said) false false (shown g store) (shown g store)
-      none = changed_none schema_one TellsHistory (Follows limits said) (shown g store) clean
+      none : Changed schema_two TellsHistory (Follows limits said) false false (shown g store) (shown g store)
+      none = changed_none schema_two TellsHistory (Follows limits said) (shown g store) clean
 
-      turned : (unread : Unread) → Changed schema_one TellsHistory (Follows limits said) (is_accepted (unread_for unread)) (is_accepted (unread_for unread)) (shown g store) (shown g store)
+      turned : (unread : Unread) → Changed schema_two TellsHistory (Follows limits said) (is_accepted (unread_for unread)) (is_accepted (unread_for unread)) (shown g store) (shown g store)
       turned unreads.Memory = none
       turned unreads.Failed = none
       turned unreads.TooLong = none

@@ -3,7 +3,7 @@ use Rattle.std.proofs.Common.{◌∙◌, map, ap, refl, subst, IsPermutation}
 use Rattle.sqlite_exec.proofs.MarkLemmas.{if_ok_then}
 use Rattle.sqlite.specs.Effect.{Database}
 use Rattle.sql_tables.proofs.Calls.{asked_err, asked_if, asked_rests, asked_then}
-use Rattle.prof_tables.specs.Schema.{schema_one}
+use Rattle.prof_tables.specs.Schema.{schema_two}
 use Rattle.prof_store.specs.Readings.{RowsSay}
 use Rattle.held_runs.specs.HeadLines.{derived_columns, coef_columns, derived_in_rows, coefs_in_rows}
 use Rattle.held_runs.proofs.HeadReading.{is_head_of, read_from_same}
@@ -13,8 +13,8 @@ pub returns-clause-told : goal.returns-clause-told
 returns-clause-told g c clean t was =
     let third = (c.coefs_of.ensures.asks clean).stays.was_clean in
     let second = (c.derived_of.ensures.asks third).stays.was_clean in
-    let one = asked_rests schema_one (RowsSay t) _ _ (c.in_ok-events.ensures.asks second) was in
-    let two = asked_rests schema_one (RowsSay t) _ _ (c.in_ok-derived.ensures.asks third) one in
+    let one = asked_rests schema_two (RowsSay t) _ _ (c.in_ok-events.ensures.asks second) was in
+    let two = asked_rests schema_two (RowsSay t) _ _ (c.in_ok-derived.ensures.asks third) one in
     if_ok_then c.head_in.result c.head_in.ensures.read (λ head read.
     is_head_of head c.in_ok-events.events.items c.in_ok-derived.derived.items c.in_ok-coefs.coefs.items _ _ _ (c.in_ok-events.ensures.told second t was) (c.in_ok-derived.ensures.told third t one) (c.in_ok-coefs.ensures.told clean t two)
     (read_from_same head _ _ _ _ _ _ c.deref.ensures.value c.deref-2.ensures.value c.deref-3.ensures.value read))
@@ -38,19 +38,19 @@ returns-clause-asks g c clean =
     let three = c.in_ok-coefs.ensures.asks clean in
     let two = c.in_ok-derived.ensures.asks three.stays.was_clean in
     let one = c.in_ok-events.ensures.asks two.stays.was_clean in
-    asked_if schema_one (is_ok c.head_in.result) _ _ (asked_then schema_one _ _ _ _ one (asked_then schema_one _ _ _ _ two three))
+    asked_if schema_two (is_ok c.head_in.result) _ _ (asked_then schema_two _ _ _ _ one (asked_then schema_two _ _ _ _ two three))
 
 pub returns-in_err-coefs-clause-asks : goal.returns-in_err-coefs-clause-asks
 returns-in_err-coefs-clause-asks g c clean =
     let three = c.in_err-coefs.ensures.asks clean in
     let two = c.in_ok-derived.ensures.asks three.stays.was_clean in
     let one = c.in_ok-events.ensures.asks two.stays.was_clean in
-    asked_err schema_one c.from_residual-in_err-coefs.result _ _ c.from_residual-in_err-coefs.ensures.0 (asked_then schema_one _ _ _ _ one (asked_then schema_one _ _ _ _ two three))
+    asked_err schema_two c.from_residual-in_err-coefs.result _ _ c.from_residual-in_err-coefs.ensures.0 (asked_then schema_two _ _ _ _ one (asked_then schema_two _ _ _ _ two three))
 
 pub returns-in_err-derived-clause-asks : goal.returns-in_err-derived-clause-asks
 returns-in_err-derived-clause-asks g c clean =
     let two = c.in_err-derived.ensures.asks clean in
-    asked_err schema_one c.from_residual-in_err-derived.result _ _ c.from_residual-in_err-derived.ensures.0 (asked_then schema_one _ _ _ _ (c.in_ok-events.ensures.asks two.stays.was_clean) two)
+    asked_err schema_two c.from_residual-in_err-derived.result _ _ c.from_residual-in_err-derived.ensures.0 (asked_then schema_two _ _ _ _ (c.in_ok-events.ensures.asks two.stays.was_clean) two)
 
 pub returns-in_err-events-clause-asks : goal.returns-in_err-events-clause-asks
-returns-in_err-events-clause-asks g c clean = asked_err schema_one c.from_residual.result _ _ c.from_residual.ensures.0 (c.in_err-events.ensures.asks clean)
+returns-in_err-events-clause-asks g c clean = asked_err schema_two c.from_residual.result _ _ c.from_residual.ensures.0 (c.in_err-events.ensures.asks clean)

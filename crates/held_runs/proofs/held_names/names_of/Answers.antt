@@ -2,7 +2,7 @@ use Rattle.std.specs.Result.{is_ok}
 use Rattle.std.proofs.Common.{◌∙◌, map, ap, refl}
 use Rattle.sqlite_exec.proofs.MarkLemmas.{if_ok_then}
 use Rattle.sql_tables.proofs.Calls.{asked_err, asked_if}
-use Rattle.prof_tables.specs.Schema.{schema_one}
+use Rattle.prof_tables.specs.Schema.{schema_two}
 use Rattle.prof_tables.specs.Tables.{NameLine}
 use Rattle.prof_tables.proofs.Lists.{numbered_table}
 use Rattle.prof_tables.proofs.Means.{names_plain}
@@ -28,7 +28,7 @@ returns-clause-told g c clean t was =
     (names_in_order t _ (said t _ was.holds) (map name_shown names) (shown_read (said t _ was.holds).far name_shown (λ l. refl) names) (numbered_table name_shown (λ (l : NameLine). l.number) (λ l. refl) names is.1) is.0))
 
 pub returns-clause-asks : goal.returns-clause-asks
-returns-clause-asks g c clean = asked_if schema_one (is_ok c.names_in.result) _ _ (c.in_ok-rows.ensures.asked clean names_plain)
+returns-clause-asks g c clean = asked_if schema_two (is_ok c.names_in.result) _ _ (c.in_ok-rows.ensures.asked clean names_plain)
 
 pub returns-in_err-rows-clause-asks : goal.returns-in_err-rows-clause-asks
-returns-in_err-rows-clause-asks g c clean = asked_err schema_one c.from_residual.result _ _ c.from_residual.ensures.0 (c.in_err-rows.ensures.asked clean names_plain)
+returns-in_err-rows-clause-asks g c clean = asked_err schema_two c.from_residual.result _ _ c.from_residual.ensures.0 (c.in_err-rows.ensures.asked clean names_plain)

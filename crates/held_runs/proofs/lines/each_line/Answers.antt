@@ -1,6 +1,6 @@
 use Rattle.std.proofs.Common.{◌++◌, ◌∷◌, [], true, arith, subst, sym, ◌∙◌}
 use Rattle.sql_tables.proofs.Calls.{asked_rests_yet}
-use Rattle.prof_tables.specs.Schema.{schema_one}
+use Rattle.prof_tables.specs.Schema.{schema_two}
 use Rattle.prof_store.specs.Readings.{RowsSay}
 use Rattle.held_runs.specs.Walks.{rows_of, AreAllRead, HandsOn}
 use Rattle.held_runs.proofs.Asking.{asked_open_then}
@@ -15,7 +15,7 @@ lines-preserved g c =
     let t = g.T.TakesLines in
     record {
       run = n.same.run ∙ i.run;
-      asked = λ clean. let one = n.asks clean in asked_open_then schema_one true _ _ _ (i.asked one.stays.was_clean) one;
+      asked = λ clean. let one = n.asks clean in asked_open_then schema_two true _ _ _ (i.asked one.stays.was_clean) one;
       taken = λ clean ready start was.
           let h = i.taken (n.asks clean).stays.was_clean ready start was in
           let more = subst (HandsOn g.S.Store t.listed t.columns (λ l. t.Has start l c.hand_line.new.taker) h.0 c.hand_line.new.store c.hand_line.new.walk) c.if-not-branch.false (n.handed start clean h.0 h.1 h.2) in
@@ -39,8 +39,8 @@ returns-then-not-branch-clause-told g c clean t stands start was =
     let n = c.in_ok-hand_line.ensures in
     let i = c.lines.invariant in
     let read = returns-then-not-branch-clause-found g c clean (ready_for t _ stands) start was in
-    let now = asked_rests_yet schema_one (RowsSay t) _ _ (asked_open_then schema_one true _ _ _ (i.asked (n.asks clean).stays.was_clean) (n.asks clean)) stands in
+    let now = asked_rests_yet schema_two (RowsSay t) _ _ (asked_open_then schema_two true _ _ _ (i.asked (n.asks clean).stays.was_clean) (n.asks clean)) stands in
     subst (λ lines. g.T.TakesLines.Has start lines c.hand_line.new.taker) (sym (g.met.T.TakesLines.all_read t _ now.holds c.args.run (omega (arith, c.ranges)) read.0 read.1)) read.2
 
 pub returns-then-not-branch-clause-asks : goal.returns-then-not-branch-clause-asks
-returns-then-not-branch-clause-asks g c clean = let one = c.in_ok-hand_line.ensures.asks clean in asked_open_then schema_one true _ _ _ (c.lines.invariant.asked one.stays.was_clean) one
+returns-then-not-branch-clause-asks g c clean = let one = c.in_ok-hand_line.ensures.asks clean in asked_open_then schema_two true _ _ _ (c.lines.invariant.asked one.stays.was_clean) one

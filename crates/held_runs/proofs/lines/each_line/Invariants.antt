@@ -1,6 +1,6 @@
 use Rattle.std.proofs.Common.{◌≡◌, List, [], map}
 use Rattle.sql_tables.specs.Calls.{Asked}
-use Rattle.prof_tables.specs.Schema.{schema_one}
+use Rattle.prof_tables.specs.Schema.{schema_two}
 use Rattle.prof_store.specs.Shown.{shown, IsFaithful}
 use Rattle.held_runs.specs.Walks.{IsReady, Gives}
 use Rattle.held_runs.proofs.lines.each_line.Given as goal
@@ -11,6 +11,6 @@ invariant-lines g l =
     let t = g.T.TakesLines in
     record {
       run : l.walk.run ≡ l.run;
-      asked : IsFaithful g.S.Store l.store → Asked schema_one (shown g.S.Store l.fn.store).is_open (shown g.S.Store l.fn.store) (shown g.S.Store l.store);
+      asked : IsFaithful g.S.Store l.store → Asked schema_two (shown g.S.Store l.fn.store).is_open (shown g.S.Store l.fn.store) (shown g.S.Store l.store);
       taken : IsFaithful g.S.Store l.store → IsReady (shown g.S.Store l.fn.store) → (start : t.Start) → t.Has start [] l.fn.taker → (lines : List t.Line) × Gives g.S.Store t.listed (map t.columns lines) l.store l.walk × t.Has start lines l.taker;
     }

@@ -1,5 +1,5 @@
 use Rattle.sql_tables.proofs.Calls.{asked_err, asked_if}
-use Rattle.prof_tables.specs.Schema.{schema_one}
+use Rattle.prof_tables.specs.Schema.{schema_two}
 use Rattle.prof_tables.proofs.Means.{kind_of_plain}
 use Rattle.held_runs.proofs.LookupFinds.{kind_found}
 use Rattle.held_runs.proofs.Said.{kind_told}
@@ -19,7 +19,7 @@ pub returns-clause-asks : goal.returns-clause-asks
 returns-clause-asks g c clean = c.in_ok-row.ensures.asked clean kind_of_plain
 
 pub returns-in_err-kind_at-clause-asks : goal.returns-in_err-kind_at-clause-asks
-returns-in_err-kind_at-clause-asks g c clean = asked_if schema_one _ _ _ (c.in_ok-row.ensures.asked clean kind_of_plain)
+returns-in_err-kind_at-clause-asks g c clean = asked_if schema_two _ _ _ (c.in_ok-row.ensures.asked clean kind_of_plain)
 
 pub returns-in_err-row-clause-asks : goal.returns-in_err-row-clause-asks
-returns-in_err-row-clause-asks g c clean = asked_err schema_one c.from_residual.result _ _ c.from_residual.ensures.0 (c.in_err-row.ensures.asked clean kind_of_plain)
+returns-in_err-row-clause-asks g c clean = asked_err schema_two c.from_residual.result _ _ c.from_residual.ensures.0 (c.in_err-row.ensures.asked clean kind_of_plain)

@@ -2,7 +2,7 @@ use Rattle.std.specs.Result.{is_ok}
 use Rattle.std.proofs.Common.{◌∙◌, map, ap, refl}
 use Rattle.sqlite_exec.proofs.MarkLemmas.{if_ok_then}
 use Rattle.sql_tables.proofs.Calls.{asked_err, asked_if}
-use Rattle.prof_tables.specs.Schema.{schema_one}
+use Rattle.prof_tables.specs.Schema.{schema_two}
 use Rattle.prof_tables.specs.Seen.{run_of_member_seen}
 use Rattle.held_runs.specs.RunNumbers.{first_one, number_shown}
 use Rattle.prof_store.proofs.Listing.{read_permutes}
@@ -24,7 +24,7 @@ returns-clause-told g c clean t was =
     members_in_order t _ (said t _ was.holds) c.args.name.now numbers is.1.1 is.1.0 is.0)
 
 pub returns-clause-asks : goal.returns-clause-asks
-returns-clause-asks g c clean = asked_if schema_one (is_ok c.numbers_in.result) _ _ (c.in_ok-rows.ensures.asked clean members_of_plain)
+returns-clause-asks g c clean = asked_if schema_two (is_ok c.numbers_in.result) _ _ (c.in_ok-rows.ensures.asked clean members_of_plain)
 
 pub returns-in_err-rows-clause-asks : goal.returns-in_err-rows-clause-asks
-returns-in_err-rows-clause-asks g c clean = asked_err schema_one c.from_residual.result _ _ c.from_residual.ensures.0 (c.in_err-rows.ensures.asked clean members_of_plain)
+returns-in_err-rows-clause-asks g c clean = asked_err schema_two c.from_residual.result _ _ c.from_residual.ensures.0 (c.in_err-rows.ensures.asked clean members_of_plain)

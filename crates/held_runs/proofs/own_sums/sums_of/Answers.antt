@@ -2,7 +2,7 @@ use Rattle.std.specs.Result.{is_ok}
 use Rattle.std.proofs.Common.{◌∙◌, map, ap, arith}
 use Rattle.sqlite_exec.proofs.MarkLemmas.{if_ok_then}
 use Rattle.sql_tables.proofs.Calls.{asked_err, asked_if}
-use Rattle.prof_tables.specs.Schema.{schema_one}
+use Rattle.prof_tables.specs.Schema.{schema_two}
 use Rattle.held_runs.specs.HeadLines.{first_two}
 use Rattle.held_runs.proofs.OwnSumLists.{sums_listed, sums_read}
 use Rattle.held_runs.proofs.RunTexts.{own_sums_plain}
@@ -19,7 +19,7 @@ pub returns-clause-told : goal.returns-clause-told
 returns-clause-told g c clean t was = if_ok_then c.sums_in.result (returns-clause-found g c clean was.schema_is) (λ sums. sums_told t _ (said t _ was.holds) c.args.run (omega (arith, c.ranges)) sums)
 
 pub returns-clause-asks : goal.returns-clause-asks
-returns-clause-asks g c clean = asked_if schema_one (is_ok c.sums_in.result) _ _ (c.in_ok-rows.ensures.asked clean own_sums_plain)
+returns-clause-asks g c clean = asked_if schema_two (is_ok c.sums_in.result) _ _ (c.in_ok-rows.ensures.asked clean own_sums_plain)
 
 pub returns-in_err-rows-clause-asks : goal.returns-in_err-rows-clause-asks
-returns-in_err-rows-clause-asks g c clean = asked_err schema_one c.from_residual.result _ _ c.from_residual.ensures.0 (c.in_err-rows.ensures.asked clean own_sums_plain)
+returns-in_err-rows-clause-asks g c clean = asked_err schema_two c.from_residual.result _ _ c.from_residual.ensures.0 (c.in_err-rows.ensures.asked clean own_sums_plain)

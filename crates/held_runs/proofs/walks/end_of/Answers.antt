@@ -2,7 +2,7 @@ use Rattle.std.proofs.Common.{[], subst}
 use Rattle.std.proofs.lemmas.Option.{IfSome_then}
 use Rattle.sqlite.specs.Held.{state}
 use Rattle.sqlite.specs.State.{QueriesRow}
-use Rattle.prof_tables.specs.Schema.{schema_one}
+use Rattle.prof_tables.specs.Schema.{schema_two}
 use Rattle.prof_store.specs.Statements.{row_or_none}
 use Rattle.prof_store.specs.Shown.{shown}
 use Rattle.sql_tables.proofs.Calls.{asked_err}
@@ -23,4 +23,4 @@ returns-clause-asks g c clean = c.in_ok-row.ensures.asked clean (end_plain_as c.
 
 pub returns-in_err-row-clause-asks : goal.returns-in_err-row-clause-asks
 returns-in_err-row-clause-asks g c clean =
-    asked_err schema_one c.from_residual.result _ _ c.from_residual.ensures.0 (c.in_err-row.ensures.asked clean (end_plain_as c.args.table c.args.end c.end_sql.result.now c.end_sql.ensures))
+    asked_err schema_two c.from_residual.result _ _ c.from_residual.ensures.0 (c.in_err-row.ensures.asked clean (end_plain_as c.args.table c.args.end c.end_sql.result.now c.end_sql.ensures))

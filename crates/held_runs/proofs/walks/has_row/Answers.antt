@@ -1,6 +1,6 @@
 use Rattle.std.proofs.Common.{rules, ◌≡◌, true, false, [], drop, ◌∙◌}
 use Rattle.std.proofs.lemmas.List.{drop_all}
-use Rattle.prof_tables.specs.Schema.{schema_one}
+use Rattle.prof_tables.specs.Schema.{schema_two}
 use Rattle.held_runs.proofs.Asking.{asked_open_then}
 use Rattle.held_runs.proofs.walks.has_row.Goals as goal
 
@@ -19,6 +19,6 @@ pages-preserved g c =
     let i = c.pages.invariant in
     let none : drop c.pages.walk.at c.pages.store.page.items ≡ [] = search (rules, drop_all) in record {
       same = record { table = t.same.table ∙ i.same.table; run = t.same.run ∙ i.same.run };
-      asked = λ clean. let one = t.asks clean in asked_open_then schema_one true _ _ _ (i.asked one.stays.was_clean) one;
+      asked = λ clean. let one = t.asks clean in asked_open_then schema_two true _ _ _ (i.asked one.stays.was_clean) one;
       moved = λ clean given was. (t.moved clean given (i.moved (t.asks clean).stays.was_clean given was) none).0;
     }

@@ -1,7 +1,7 @@
 use Rattle.std.proofs.Common.{List}
 use Rattle.sqlite_value.specs.Order.{Row}
 use Rattle.sql_tables.specs.Calls.{Asked}
-use Rattle.prof_tables.specs.Schema.{schema_one}
+use Rattle.prof_tables.specs.Schema.{schema_two}
 use Rattle.prof_store.specs.Shown.{shown, IsFaithful}
 use Rattle.held_runs.specs.Walks.{IsSameWalk, Walks}
 use Rattle.held_runs.proofs.walks.has_row.Given as goal
@@ -10,6 +10,6 @@ use Rattle.held_runs.proofs.walks.has_row.Given as goal
 abbrev pub invariant-pages : goal.invariant-pages
 invariant-pages g l = record {
   same : IsSameWalk l.fn.walk l.walk;
-  asked : IsFaithful g.S.Store l.store → Asked schema_one (shown g.S.Store l.fn.store).is_open (shown g.S.Store l.fn.store) (shown g.S.Store l.store);
+  asked : IsFaithful g.S.Store l.store → Asked schema_two (shown g.S.Store l.fn.store).is_open (shown g.S.Store l.fn.store) (shown g.S.Store l.store);
   moved : IsFaithful g.S.Store l.store → (given : List Row) → Walks g.S.Store given l.fn.store l.fn.walk → Walks g.S.Store given l.store l.walk;
 }

@@ -2,7 +2,7 @@ use Rattle.std.proofs.Common.{refl, sym, subst}
 use Rattle.sqlite.specs.Effect.{Database}
 use Rattle.sql_tables.specs.Walks.{Lie}
 use Rattle.sql_tables.proofs.Calls.{asked_err, asked_if}
-use Rattle.prof_tables.specs.Schema.{schema_one}
+use Rattle.prof_tables.specs.Schema.{schema_two}
 use Rattle.held_runs.specs.Walks.{tree_of, asked}
 use Rattle.held_runs.proofs.WalkTables.{ends_plain_as, span_is}
 use Rattle.held_runs.proofs.walks.run_span.Goals as goal
@@ -19,8 +19,8 @@ pub returns-clause-asks : goal.returns-clause-asks
 returns-clause-asks g c clean = c.in_ok-row.ensures.asked clean (ends_plain_as c.args.table c.ends_sql.result.now c.ends_sql.ensures)
 
 pub returns-in_err-span_in-clause-asks : goal.returns-in_err-span_in-clause-asks
-returns-in_err-span_in-clause-asks g c clean = asked_if schema_one _ _ _ (c.in_ok-row.ensures.asked clean (ends_plain_as c.args.table c.ends_sql.result.now c.ends_sql.ensures))
+returns-in_err-span_in-clause-asks g c clean = asked_if schema_two _ _ _ (c.in_ok-row.ensures.asked clean (ends_plain_as c.args.table c.ends_sql.result.now c.ends_sql.ensures))
 
 pub returns-in_err-row-clause-asks : goal.returns-in_err-row-clause-asks
 returns-in_err-row-clause-asks g c clean =
-    asked_err schema_one c.from_residual.result _ _ c.from_residual.ensures.0 (c.in_err-row.ensures.asked clean (ends_plain_as c.args.table c.ends_sql.result.now c.ends_sql.ensures))
+    asked_err schema_two c.from_residual.result _ _ c.from_residual.ensures.0 (c.in_err-row.ensures.asked clean (ends_plain_as c.args.table c.ends_sql.result.now c.ends_sql.ensures))

@@ -1,7 +1,7 @@
 use Rattle.std.specs.Result.{is_ok}
 use Rattle.std.proofs.Common.{refl}
 use Rattle.sql_tables.proofs.Calls.{asked_then}
-use Rattle.prof_tables.specs.Schema.{schema_one}
+use Rattle.prof_tables.specs.Schema.{schema_two}
 use Rattle.prof_store.specs.Shown.{shown}
 use Rattle.held_runs.proofs.WalkSteps.{ready_if_now}
 use Rattle.held_runs.proofs.walks.span_of.Goals as goal
@@ -15,4 +15,4 @@ returns-in-None-clause-lie g c clean was =
 pub returns-in-None-clause-asks : goal.returns-in-None-clause-asks
 returns-in-None-clause-asks g c clean =
     let two = c.run_span.ensures.asks clean in
-    asked_then schema_one (is_ok c.run_span.result) _ _ _ (c.in_ok-span.ensures.asks two.stays.was_clean) two
+    asked_then schema_two (is_ok c.run_span.result) _ _ _ (c.in_ok-span.ensures.asks two.stays.was_clean) two

@@ -1,6 +1,6 @@
 use Rattle.std.proofs.Common.{◌≡◌, ◌≤◌, true, false, drop, ap₂, refl, ◌∙◌, arith}
 use Rattle.sql_tables.proofs.Calls.{asked_more}
-use Rattle.prof_tables.specs.Schema.{schema_one}
+use Rattle.prof_tables.specs.Schema.{schema_two}
 use Rattle.held_runs.proofs.WalkSteps.{ended_step, turned_step}
 use Rattle.held_runs.proofs.walks.turn.Goals.{then-walk-gt-WINDOW, else-walk-gt-WINDOW}
 use Rattle.held_runs.proofs.walks.turn.Goals as goal
@@ -22,4 +22,4 @@ returns-clause-moved g c clean given was none =
     (turned_step g.S.Store given c.place.new.store c.load.new.store c.place.new.walk c.if-walk-gt-WINDOW.high mid e.placed none_now order (asked.same refl mid.ready.schema_is) (l.loaded clean mid.ready), λ bad. absurd (let b : true ≡ false = bad in cc))
 
 pub returns-clause-asks : goal.returns-clause-asks
-returns-clause-asks g c clean = let one = c.in_ok-load.ensures.asks clean in asked_more schema_one _ _ _ (c.in_ok-place.ensures.asks one.stays.was_clean) one
+returns-clause-asks g c clean = let one = c.in_ok-load.ensures.asks clean in asked_more schema_two _ _ _ (c.in_ok-place.ensures.asks one.stays.was_clean) one

@@ -1,7 +1,7 @@
 use Rattle.std.proofs.Common.{true, refl}
 use Rattle.std.proofs.lemmas.Option.{IfSome_then}
 use Rattle.sql_tables.proofs.Calls.{asked_then}
-use Rattle.prof_tables.specs.Schema.{schema_one}
+use Rattle.prof_tables.specs.Schema.{schema_two}
 use Rattle.prof_store.specs.Shown.{shown}
 use Rattle.held_runs.proofs.WalkSteps.{ready_if_now, whole_step}
 use Rattle.held_runs.proofs.walks.whole_span.Goals as goal
@@ -18,4 +18,4 @@ returns-clause-lie g c clean was =
     whole_step g.S.Store c.args.table c.args.run old mid c.end_of-2.new.store c.in_ok-first.first c.in_ok-last.last span same (later.same refl ready.schema_is) (c.in_ok-first.ensures.ends before was) (c.in_ok-last.ensures.ends clean ready) is.0 is.1)
 
 pub returns-clause-asks : goal.returns-clause-asks
-returns-clause-asks g c clean = let later = c.in_ok-last.ensures.asks clean in asked_then schema_one true _ _ _ (c.in_ok-first.ensures.asks later.stays.was_clean) later
+returns-clause-asks g c clean = let later = c.in_ok-last.ensures.asks clean in asked_then schema_two true _ _ _ (c.in_ok-first.ensures.asks later.stays.was_clean) later

@@ -1,13 +1,13 @@
-use Rattle.prof_tables.specs.Schema.{schema_one}
+use Rattle.prof_tables.specs.Schema.{schema_two}
 use Rattle.sqlite.specs.Values.{bound}
 use Rattle.sql_tables.proofs.Calls.{row_asks, no_row_asks, row_refused}
 use Rattle.prof_store.proofs.statements.select_first.Goals as goal
 
 pub returns-in-Ok-clause-asked : goal.returns-in-Ok-clause-asked
-returns-in-Ok-clause-asked g c clean plain = row_asks schema_one c.args.sql.now (bound c.args.params.now) plain _ _ clean c.query_row.ensures.survives c.in-Ok.row (c.in-Ok.ensures.row clean)
+returns-in-Ok-clause-asked g c clean plain = row_asks schema_two c.args.sql.now (bound c.args.params.now) plain _ _ clean c.query_row.ensures.survives c.in-Ok.row (c.in-Ok.ensures.row clean)
 
 pub returns-in-Err-QueryReturnedNoRows-clause-asked : goal.returns-in-Err-QueryReturnedNoRows-clause-asked
-returns-in-Err-QueryReturnedNoRows-clause-asked g c clean plain = no_row_asks schema_one c.args.sql.now (bound c.args.params.now) plain _ _ clean c.query_row.ensures.survives (rw c.in-Err-QueryReturnedNoRows.field-0-is at (c.in-Err-QueryReturnedNoRows.ensures.row clean))
+returns-in-Err-QueryReturnedNoRows-clause-asked g c clean plain = no_row_asks schema_two c.args.sql.now (bound c.args.params.now) plain _ _ clean c.query_row.ensures.survives (rw c.in-Err-QueryReturnedNoRows.field-0-is at (c.in-Err-QueryReturnedNoRows.ensures.row clean))
 
 pub returns-in-Err-clause-asked : goal.returns-in-Err-clause-asked
-returns-in-Err-clause-asked g c clean plain = row_refused schema_one c.args.sql.now (bound c.args.params.now) plain _ _ clean c.query_row.ensures.survives c.in-Err.error (c.in-Err.ensures.row clean)
+returns-in-Err-clause-asked g c clean plain = row_refused schema_two c.args.sql.now (bound c.args.params.now) plain _ _ clean c.query_row.ensures.survives c.in-Err.error (c.in-Err.ensures.row clean)

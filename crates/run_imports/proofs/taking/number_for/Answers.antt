@@ -1,6 +1,6 @@
 use Rattle.std.proofs.Common.{rules, length, subst}
 use Rattle.sql_tables.proofs.Calls.{asked_rests}
-use Rattle.prof_tables.specs.Schema.{schema_one}
+use Rattle.prof_tables.specs.Schema.{schema_two}
 use Rattle.prof_store.specs.Readings.{RowsSay}
 use Rattle.cost_rows.specs.Rows.{content_of}
 use Rattle.store_histories.proofs.Due.{has_room, has_none}
@@ -18,7 +18,7 @@ pub returns-then-branch-from-clause-told : goal.returns-then-branch-from-clause-
 returns-then-branch-from-clause-told g c clean t stands =
     let file = c.args.file.now in
     let first = (c.run_count.ensures.asks clean).stays.was_clean in
-    let once = asked_rests schema_one (RowsSay t) _ _ (c.in_ok-excess.ensures.asks first) stands in
+    let once = asked_rests schema_two (RowsSay t) _ _ (c.in_ok-excess.ensures.asks first) stands in
     let fits = subst (IsExcess file.head.now (content_of file.rows.now) t) c.in_default.is (c.in_ok-excess.ensures.told first t stands) in
     number_full c.args.limits file.head.now (content_of file.rows.now) t fits
     (has_none c.args.limits.runs c.in_ok-run_count.field-0 (length t.runs) (c.in_ok-run_count.ensures.told clean t once) (search (rules, c.if-branch-from.true)))
@@ -28,8 +28,8 @@ returns-then-number-limits-clause-told g c clean t stands =
     let file = c.args.file.now in
     let second = (c.in_ok-number.ensures.asks clean).stays.was_clean in
     let first = (c.run_count.ensures.asks second).stays.was_clean in
-    let once = asked_rests schema_one (RowsSay t) _ _ (c.in_ok-excess.ensures.asks first) stands in
-    let twice = asked_rests schema_one (RowsSay t) _ _ (c.in_ok-run_count.ensures.asks second) once in
+    let once = asked_rests schema_two (RowsSay t) _ _ (c.in_ok-excess.ensures.asks first) stands in
+    let twice = asked_rests schema_two (RowsSay t) _ _ (c.in_ok-run_count.ensures.asks second) once in
     let fits = subst (IsExcess file.head.now (content_of file.rows.now) t) c.in_default.is (c.in_ok-excess.ensures.told first t stands) in
     let few = has_room c.args.limits.runs c.in_ok-run_count.field-0 (length t.runs) (c.in_ok-run_count.ensures.told second t once) (search (rules, c.if-branch-from.false)) in
     number_spent c.args.limits file.head.now (content_of file.rows.now) t fits few
@@ -40,8 +40,8 @@ returns-clause-told g c clean t stands =
     let file = c.args.file.now in
     let second = (c.in_ok-number.ensures.asks clean).stays.was_clean in
     let first = (c.run_count.ensures.asks second).stays.was_clean in
-    let once = asked_rests schema_one (RowsSay t) _ _ (c.in_ok-excess.ensures.asks first) stands in
-    let twice = asked_rests schema_one (RowsSay t) _ _ (c.in_ok-run_count.ensures.asks second) once in
+    let once = asked_rests schema_two (RowsSay t) _ _ (c.in_ok-excess.ensures.asks first) stands in
+    let twice = asked_rests schema_two (RowsSay t) _ _ (c.in_ok-run_count.ensures.asks second) once in
     let fits = subst (IsExcess file.head.now (content_of file.rows.now) t) c.in_default.is (c.in_ok-excess.ensures.told first t stands) in
     let few = has_room c.args.limits.runs c.in_ok-run_count.field-0 (length t.runs) (c.in_ok-run_count.ensures.told second t once) (search (rules, c.if-branch-from.false)) in
     let is_next = c.in_ok-number.ensures.told clean t twice in

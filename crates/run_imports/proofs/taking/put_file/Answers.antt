@@ -1,7 +1,7 @@
 use Rattle.std.proofs.Common.{◌≡◌, true, false, Some, Ok, Err, refl, sym, ap, subst, ◌∙◌}
 use Rattle.sqlite_trees.specs.Tree.{Trees}
 use Rattle.sql_tables.proofs.Calls.{asked_rests, changed_asked, rests_as}
-use Rattle.prof_tables.specs.Schema.{schema_one}
+use Rattle.prof_tables.specs.Schema.{schema_two}
 use Rattle.prof_tables.specs.Tables.{Holds}
 use Rattle.cost_rows.specs.Rows.{content_of}
 use Rattle.sources.specs.Outcomes.{bytes_of}
@@ -23,18 +23,18 @@ pub returns-in_err-number-clause-turns : goal.returns-in_err-number-clause-turns
 returns-in_err-number-clause-turns g c outcomes ended clean =
     let said = Import c.args.kind c.args.label.now outcomes in
     let before : History → Trees → Type 0 = λ h db. IsNewFile h c.args.kind (bytes_of outcomes) c.args.digest.now c.args.file.now.head.now c.args.file.now.rows.now × TellsHistory h db in
-    turns_err c.args.limits said before c.from_residual.result _ _ c.from_residual.ensures.0 (changed_asked schema_one before (Follows c.args.limits said) false _ _ (c.in_err-number.ensures.asks clean))
+    turns_err c.args.limits said before c.from_residual.result _ _ c.from_residual.ensures.0 (changed_asked schema_two before (Follows c.args.limits said) false _ _ (c.in_err-number.ensures.asks clean))
 
 pub returns-in-Err-clause-answered : goal.returns-in-Err-clause-answered
 returns-in-Err-clause-answered g c clean h outcomes s ended new =
     let why = refused_for (room_refusal c.args.limits h c.args.kind (bytes_of outcomes)) (next h) c.in-Err.refusal (sym c.in-Err.is ∙ number_due g.S.Store c.args.limits c.args.kind (bytes_of outcomes) c.args.digest.now c.args.file.now.head.now c.args.file.now.rows.now c.args.store.now h s new _ (c.in_ok-number.ensures.told clean s.t (rests_said s.t _ s.stands))) in
     was_still c.args.limits h (Import c.args.kind c.args.label.now outcomes) (c.utf8.label, c.requires) g.S.Store c.args.store.now c.number_for.new.store (Refused c.in-Err.refusal) tt
-    (room_due c.args.limits h c.args.kind c.args.label.now outcomes ended new.is_new new.sound ∙ ap (λ r. Some (refused_or r (Run (next h)))) why) s (asked_rests schema_one (Holds s.t) _ _ (c.in_ok-number.ensures.asks clean) s.stands)
+    (room_due c.args.limits h c.args.kind c.args.label.now outcomes ended new.is_new new.sound ∙ ap (λ r. Some (refused_or r (Run (next h)))) why) s (asked_rests schema_two (Holds s.t) _ _ (c.in_ok-number.ensures.asks clean) s.stands)
 
 pub returns-in-Err-clause-turns : goal.returns-in-Err-clause-turns
 returns-in-Err-clause-turns g c outcomes ended clean =
     let before : History → Trees → Type 0 = λ h db. IsNewFile h c.args.kind (bytes_of outcomes) c.args.digest.now c.args.file.now.head.now c.args.file.now.rows.now × TellsHistory h db in
-    changed_asked schema_one before (Follows c.args.limits (Import c.args.kind c.args.label.now outcomes)) true _ _ (c.in_ok-number.ensures.asks clean)
+    changed_asked schema_two before (Follows c.args.limits (Import c.args.kind c.args.label.now outcomes)) true _ _ (c.in_ok-number.ensures.asks clean)
 
 pub returns-in_err-put_run-in-Ok-clause-turns : goal.returns-in_err-put_run-in-Ok-clause-turns
 returns-in_err-put_run-in-Ok-clause-turns g c outcomes ended clean =
@@ -76,7 +76,7 @@ returns-in-Err-clause-made g c clean t stands =
     record {
       number = Err c.in-Err.refusal;
       is_number = subst (IsNumber c.args.limits file.head.now (content_of file.rows.now) t) c.in-Err.is (c.in_ok-number.ensures.told clean t (rests_said t _ stands));
-      puts = (refl, asked_rests schema_one (Holds t) _ _ (c.in_ok-number.ensures.asks clean) stands);
+      puts = (refl, asked_rests schema_two (Holds t) _ _ (c.in_ok-number.ensures.asks clean) stands);
     }
 
 pub returns-in_ok-put_run-in-Ok-clause-made : goal.returns-in_ok-put_run-in-Ok-clause-made
@@ -85,10 +85,10 @@ returns-in_ok-put_run-in-Ok-clause-made g c clean t stands =
     let two = c.in_ok-put_run-in-Ok.ensures.changes clean in
     let early = two.stays.was_clean in
     let is = subst (IsNumber c.args.limits file.head.now (content_of file.rows.now) t) c.in-Ok.is (c.in_ok-number.ensures.told early t (rests_said t _ stands)) in
-    let there = asked_rests schema_one (Holds t) _ _ (c.in_ok-number.ensures.asks early) stands in
+    let there = asked_rests schema_two (Holds t) _ _ (c.in_ok-number.ensures.asks early) stands in
     let same : t.next ≡ c.in-Ok.number = sym (next_of c.args.limits file.head.now (content_of file.rows.now) t c.in-Ok.number is) in
     record {
       number = Ok c.in-Ok.number;
       is_number = is;
-      puts = (refl, two.done refl t (rests_as schema_one (Holds t) (λ db. (t.next ≡ c.in-Ok.number) × Holds t db) _ there (same, there.holds)));
+      puts = (refl, two.done refl t (rests_as schema_two (Holds t) (λ db. (t.next ≡ c.in-Ok.number) × Holds t db) _ there (same, there.holds)));
     }

@@ -3,7 +3,7 @@ use Rattle.std.specs.Result.{is_ok}
 use Rattle.cost_rows.specs.Rows.{content_of}
 use Rattle.sqlite_trees.specs.Tree.{Trees}
 use Rattle.sql_tables.proofs.Calls.{changed_as, rests_as}
-use Rattle.prof_tables.specs.Schema.{schema_one}
+use Rattle.prof_tables.specs.Schema.{schema_two}
 use Rattle.prof_tables.specs.Tables.{Tables, Holds}
 use Rattle.sqlite.specs.Held.{state}
 use Rattle.prof_books.specs.Runs.{with_file}
@@ -22,7 +22,7 @@ returns-clause-changes g c clean =
     let content = content_of file.rows.now in
     let given = λ (t : Tables) (db : Trees). (t.next ≡ c.args.number) × Holds t db in
     let same = λ (t : Tables). file_is c.args.number c.number_of_kind.result c.in-Some.call_count c.args.digest.now c.args.label.now c.in_ok-lines.lines file.rows.now t c.args.kind file.head.now c.number_of_kind.ensures (c.in-Some.ensures ∙ file.summed.call_count) (c.in_ok-lines.ensures.events content file.summed) c.in_ok-lines.ensures.derived c.in_ok-lines.ensures.coefs in
-    changed_as schema_one _ _ given (λ t. Holds (with_summed c.args.number c.args.kind c.args.digest.now c.args.label.now file t)) (is_ok c.put_in.result) (is_ok c.put_in.result) _ _
+    changed_as schema_two _ _ given (λ t. Holds (with_summed c.args.number c.args.kind c.args.digest.now c.args.label.now file t)) (is_ok c.put_in.result) (is_ok c.put_in.result) _ _
     (λ t was. (t, was, λ next h. subst (λ u. Holds u next) (same t) h)) (c.put_in.ensures.commits clean)
 
 -- what would follow if it went well
@@ -35,5 +35,5 @@ returns-clause-taken g c clean t was next r there is =
     let file = c.args.file.now in
     let rows = content_of file.rows.now in
     on_ok_if ⊥ c.put_in.result (λ ok.
-    let made = (returns-clause-changes g c clean).done ok t (rests_as schema_one (Holds t) (λ db. (t.next ≡ c.args.number) × Holds t db) _ was (next, was.holds)) in
+    let made = (returns-clause-changes g c clean).done ok t (rests_as schema_two (Holds t) (λ db. (t.next ≡ c.args.number) × Holds t db) _ was (next, was.holds)) in
     taken t _ _ c.args.kind c.args.digest.now c.args.label.now file.head.now rows r was.holds (subst (λ n. Holds (with_file n c.args.kind c.args.digest.now c.args.label.now file.head.now rows t) (state g.S.Store c.put_in.new.conn).now.trees) (sym next) made.holds) there is)

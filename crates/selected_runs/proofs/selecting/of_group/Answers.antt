@@ -1,5 +1,5 @@
 use Rattle.std.proofs.Common.{Ok, Err, if◌then◌else◌, sym, ap, ◌∙◌}
-use Rattle.prof_tables.specs.Schema.{schema_one}
+use Rattle.prof_tables.specs.Schema.{schema_two}
 use Rattle.prof_store.specs.Readings.{RowsSay}
 use Rattle.sql_tables.proofs.Calls.{asked_rests}
 use Rattle.held_runs.specs.RunNumbers.{members_in_tables}
@@ -18,7 +18,7 @@ pub returns-clause-told : goal.returns-clause-told
 returns-clause-told g c clean t stands =
     let text = c.name_text-name.result.now in
     let early = (c.in_ok-numbers.ensures.asks clean).stays.was_clean in
-    let mid = asked_rests schema_one (RowsSay t) _ _ (c.in_ok-has_group.ensures.asks early) stands in (
+    let mid = asked_rests schema_two (RowsSay t) _ _ (c.in_ok-has_group.ensures.asks early) stands in (
       text,
       record { named = c.name_text-name.ensures.named; other = c.name_text-name.ensures.other },
       ap Ok (c.in_ok-numbers.ensures.told clean t mid)

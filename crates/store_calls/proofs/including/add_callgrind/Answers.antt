@@ -5,7 +5,7 @@ use Rattle.cost_reports.specs.Inclusive.{with_inclusive}
 use Rattle.held_runs.proofs.ArcRows.{calls_come}
 use Rattle.held_runs.proofs.RowSteps.{cells_come}
 use Rattle.prof_books.specs.Book.{cells_held}
-use Rattle.prof_tables.specs.Schema.{schema_one}
+use Rattle.prof_tables.specs.Schema.{schema_two}
 use Rattle.prof_store.specs.Readings.{RowsSay}
 use Rattle.store_calls.specs.InclusiveRuns.{call_rows, own_rows, with_call_row}
 use Rattle.store_calls.proofs.InclusiveLemmas.{calls_taken, own_taken}
@@ -18,7 +18,7 @@ returns-clause-told g c clean t stands named =
     let cells = cells_held c.args.run.now.number t in
     let early = (c.in_ok-all.ensures.asks clean).stays.was_clean in
     let own = cells_come _ _ _ _ c.args.run.now.number t _ (c.in_ok-own.ensures.told early t stands) named ∙ own_taken counts sums cells in
-    let mid = asked_rests_yet schema_one (RowsSay t) _ _ (c.in_ok-own.ensures.asks early) stands in
+    let mid = asked_rests_yet schema_two (RowsSay t) _ _ (c.in_ok-own.ensures.asks early) stands in
     let calls = calls_come _ _ _ _ c.args.run.now.number t _ (c.in_ok-all.ensures.told clean t mid) named in
     let before = own_rows counts cells in
     let after = call_rows counts calls.0 in (

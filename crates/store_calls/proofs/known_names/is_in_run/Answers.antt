@@ -3,7 +3,7 @@ use Rattle.sql_tables.proofs.Calls.{asked_rests_yet}
 use Rattle.cost_reports.specs.Functions.{function_spot}
 use Rattle.held_runs.proofs.RowSteps.{cells_come}
 use Rattle.prof_books.specs.Book.{cells_held, stacks_held}
-use Rattle.prof_tables.specs.Schema.{schema_one}
+use Rattle.prof_tables.specs.Schema.{schema_two}
 use Rattle.prof_store.specs.Readings.{RowsSay}
 use Rattle.store_calls.specs.FunctionCalls.{is_in_cells, with_stack_sought}
 use Rattle.store_calls.proofs.FunctionLemmas.{cells_sought, stacks_sought}
@@ -16,7 +16,7 @@ returns-clause-told g c clean t stands named =
     let stacks = stacks_held c.args.run.now.number t in
     let early = (c.in_ok-all.ensures.asks clean).stays.was_clean in
     let found = cells_come _ _ _ _ c.args.run.now.number t _ (c.in_ok-cells.ensures.told early t stands) named ∙ cells_sought f false cells in
-    let mid = asked_rests_yet schema_one (RowsSay t) _ _ (c.in_ok-cells.ensures.asks early) stands in
+    let mid = asked_rests_yet schema_two (RowsSay t) _ _ (c.in_ok-cells.ensures.asks early) stands in
     ap (λ m. m.1) (c.in_ok-all.ensures.told clean t mid ∙ ap (λ m. fold with_stack_sought m stacks) found ∙ stacks_sought f (is_in_cells f cells) stacks)
 
 pub returns-clause-of_events : goal.returns-clause-of_events

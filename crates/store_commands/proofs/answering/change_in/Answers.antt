@@ -1,7 +1,7 @@
 use Rattle.std.proofs.Common.{inl, refl, ap, sym, subst, subst₂}
 use Rattle.sql_tables.proofs.Calls.{changed_none, shut_none}
 use Rattle.prof_tables.specs.Labels.{IsGroupName}
-use Rattle.prof_tables.specs.Schema.{schema_one}
+use Rattle.prof_tables.specs.Schema.{schema_two}
 use Rattle.prof_store.specs.Shown.{shown}
 use Rattle.histories.specs.Legal.{IsLegal}
 use Rattle.histories.specs.declared.answers.Answer.TheVariants.{Refused}
@@ -44,7 +44,7 @@ returns-in-None g c = record {
       let name = c.args.name.now in
       let said = change_said how name in
       record {
-        turned = changed_none schema_one TellsHistory (Follows limits said) (shown g.S.Store c.args.store.now) clean;
+        turned = changed_none schema_two TellsHistory (Follows limits said) (shown g.S.Store c.args.store.now) clean;
         answered = λ h has. untouched g.S.Store limits h said c.args.store.now has clean (Refused c.unnamed.result) tt
             (subst (λ r. IsLegal limits h said (Refused r)) (sym c.unnamed.ensures) (unnamed_legal limits h how name has.legal c.in-None.ensures));
         closes = λ usable. inl usable;

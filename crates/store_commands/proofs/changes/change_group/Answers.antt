@@ -1,7 +1,7 @@
 use Rattle.std.specs.Bool.{⊤}
 use Rattle.std.proofs.Common.{◌≡◌, true, false, None, sym, ap, ◌∙◌, Some}
 use Rattle.sql_tables.proofs.Calls.{asked_rests, changed_asked, shut_answered, shut_asked}
-use Rattle.prof_tables.specs.Schema.{schema_one}
+use Rattle.prof_tables.specs.Schema.{schema_two}
 use Rattle.prof_tables.specs.Tables.{Holds}
 use Rattle.prof_store.specs.Shown.{shown}
 use Rattle.histories.specs.declared.answers.Answer.TheVariants.{Done, Refused}
@@ -18,7 +18,7 @@ use Rattle.store_commands.proofs.changes.change_group.Goals as goal
 pub returns-in_err-refusal-clause-turns : goal.returns-in_err-refusal-clause-turns
 returns-in_err-refusal-clause-turns g c clean =
     let said = change_said c.args.change c.args.name.now in
-    turns_err c.args.limits said c.from_residual.result _ _ c.from_residual.ensures.0 (changed_asked schema_one TellsHistory (Follows c.args.limits said) false _ _ (c.in_err-refusal.ensures.asks clean))
+    turns_err c.args.limits said c.from_residual.result _ _ c.from_residual.ensures.0 (changed_asked schema_two TellsHistory (Follows c.args.limits said) false _ _ (c.in_err-refusal.ensures.asks clean))
 
 pub returns-in-Some-clause-answered : goal.returns-in-Some-clause-answered
 returns-in-Some-clause-answered g c clean h s =
@@ -26,10 +26,10 @@ returns-in-Some-clause-answered g c clean h s =
     let name = c.args.name.now in
     let how = c.args.change in
     was_still limits h (change_said how name) (change_form how name c.requires) g.S.Store c.args.store.now c.refusal_of.new.store (Refused c.in-Some.refusal) tt
-    (change_due limits h how name s.t s.tells ∙ ap (λ r. Some (refused_or r Done)) (sym (c.in_ok-refusal.ensures.told clean s.t (rests_said s.t _ s.stands)) ∙ c.in-Some.is)) s (asked_rests schema_one (Holds s.t) _ _ (c.in_ok-refusal.ensures.asks clean) s.stands)
+    (change_due limits h how name s.t s.tells ∙ ap (λ r. Some (refused_or r Done)) (sym (c.in_ok-refusal.ensures.told clean s.t (rests_said s.t _ s.stands)) ∙ c.in-Some.is)) s (asked_rests schema_two (Holds s.t) _ _ (c.in_ok-refusal.ensures.asks clean) s.stands)
 
 pub returns-in-Some-clause-turns : goal.returns-in-Some-clause-turns
-returns-in-Some-clause-turns g c clean = changed_asked schema_one TellsHistory (Follows c.args.limits (change_said c.args.change c.args.name.now)) true _ _ (c.in_ok-refusal.ensures.asks clean)
+returns-in-Some-clause-turns g c clean = changed_asked schema_two TellsHistory (Follows c.args.limits (change_said c.args.change c.args.name.now)) true _ _ (c.in_ok-refusal.ensures.asks clean)
 
 pub returns-in_err-change_free-clause-turns : goal.returns-in_err-change_free-clause-turns
 returns-in_err-change_free-clause-turns g c clean =
@@ -80,16 +80,16 @@ returns-clause-made g c clean t stands =
     done_in g.S.Store t c.args.store.now c.refusal_of.new.store c.change_free.new.store (c.in_ok-refusal.ensures.asks early) stands (λ t. refusal_for limits how name t ≡ None) (refusal_for limits how name t) (changed how name) is is two
 
 pub returns-in_err-refusal-clause-shut : goal.returns-in_err-refusal-clause-shut
-returns-in_err-refusal-clause-shut g c clean = shut_asked schema_one false _ _ (c.in_err-refusal.ensures.asks clean)
+returns-in_err-refusal-clause-shut g c clean = shut_asked schema_two false _ _ (c.in_err-refusal.ensures.asks clean)
 
 pub returns-in-Some-clause-shut : goal.returns-in-Some-clause-shut
-returns-in-Some-clause-shut g c clean = shut_asked schema_one true _ _ (c.in_ok-refusal.ensures.asks clean)
+returns-in-Some-clause-shut g c clean = shut_asked schema_two true _ _ (c.in_ok-refusal.ensures.asks clean)
 
 pub returns-in_err-change_free-clause-shut : goal.returns-in_err-change_free-clause-shut
-returns-in_err-change_free-clause-shut g c clean = shut_answered schema_one _ _ (shown g.S.Store c.change_free.new.store) (c.in_ok-refusal.ensures.asks (c.in_err-change_free.ensures.changes c.args.limits clean).stays.was_clean)
+returns-in_err-change_free-clause-shut g c clean = shut_answered schema_two _ _ (shown g.S.Store c.change_free.new.store) (c.in_ok-refusal.ensures.asks (c.in_err-change_free.ensures.changes c.args.limits clean).stays.was_clean)
 
 pub returns-clause-shut : goal.returns-clause-shut
-returns-clause-shut g c clean = shut_answered schema_one _ _ (shown g.S.Store c.change_free.new.store) (c.in_ok-refusal.ensures.asks (c.in_ok-change_free.ensures.changes c.args.limits clean).stays.was_clean)
+returns-clause-shut g c clean = shut_answered schema_two _ _ (shown g.S.Store c.change_free.new.store) (c.in_ok-refusal.ensures.asks (c.in_ok-change_free.ensures.changes c.args.limits clean).stays.was_clean)
 
 pub returns-in-Some-clause-told : goal.returns-in-Some-clause-told
 returns-in-Some-clause-told g c clean t was =

@@ -3,7 +3,7 @@ use Rattle.std.proofs.Common.{◌≡◌, true, false, sym, ap, ◌∙◌}
 use Rattle.sql_tables.proofs.Calls.{asked_rests, changed_asked, shut_answered, shut_asked}
 use Rattle.prof_tables.specs.Changes as tables
 use Rattle.prof_tables.specs.Changes.{without_run}
-use Rattle.prof_tables.specs.Schema.{schema_one}
+use Rattle.prof_tables.specs.Schema.{schema_two}
 use Rattle.prof_tables.specs.Tables.{Holds}
 use Rattle.prof_store.specs.Shown.{shown}
 use Rattle.histories.specs.History.{Remove}
@@ -23,15 +23,15 @@ use Rattle.store_commands.proofs.changes.remove.Goals as goal
 
 pub returns-in_err-has_run-clause-turns : goal.returns-in_err-has_run-clause-turns
 returns-in_err-has_run-clause-turns g c limits clean =
-    turns_err limits (Remove c.args.number) c.from_residual.result _ _ c.from_residual.ensures.0 (changed_asked schema_one TellsHistory (Follows limits (Remove c.args.number)) false _ _ (c.in_err-has_run.ensures.asks clean))
+    turns_err limits (Remove c.args.number) c.from_residual.result _ _ c.from_residual.ensures.0 (changed_asked schema_two TellsHistory (Follows limits (Remove c.args.number)) false _ _ (c.in_err-has_run.ensures.asks clean))
 
 pub returns-then-not-branch-clause-answered : goal.returns-then-not-branch-clause-answered
 returns-then-not-branch-clause-answered g c clean limits h s =
     let is : has_run h c.args.number ≡ false = sym (tells_run h s.t s.tells c.args.number) ∙ sym (c.in_ok-has_run.ensures.told clean s.t (rests_said s.t _ s.stands)) ∙ c.if-not-branch.true in
-    was_still limits h (Remove c.args.number) tt g.S.Store c.args.store.now c.has_run.new.self (Refused NoSuchRun) tt (remove_due limits h c.args.number false is) s (asked_rests schema_one (Holds s.t) _ _ (c.in_ok-has_run.ensures.asks clean) s.stands)
+    was_still limits h (Remove c.args.number) tt g.S.Store c.args.store.now c.has_run.new.self (Refused NoSuchRun) tt (remove_due limits h c.args.number false is) s (asked_rests schema_two (Holds s.t) _ _ (c.in_ok-has_run.ensures.asks clean) s.stands)
 
 pub returns-then-not-branch-clause-turns : goal.returns-then-not-branch-clause-turns
-returns-then-not-branch-clause-turns g c limits clean = changed_asked schema_one TellsHistory (Follows limits (Remove c.args.number)) true _ _ (c.in_ok-has_run.ensures.asks clean)
+returns-then-not-branch-clause-turns g c limits clean = changed_asked schema_two TellsHistory (Follows limits (Remove c.args.number)) true _ _ (c.in_ok-has_run.ensures.asks clean)
 
 pub returns-in_err-drop_run-clause-turns : goal.returns-in_err-drop_run-clause-turns
 returns-in_err-drop_run-clause-turns g c limits clean =
@@ -73,16 +73,16 @@ returns-clause-made g c clean t stands =
     (ap (missing_of true) is) two
 
 pub returns-in_err-has_run-clause-shut : goal.returns-in_err-has_run-clause-shut
-returns-in_err-has_run-clause-shut g c clean = shut_asked schema_one false _ _ (c.in_err-has_run.ensures.asks clean)
+returns-in_err-has_run-clause-shut g c clean = shut_asked schema_two false _ _ (c.in_err-has_run.ensures.asks clean)
 
 pub returns-then-not-branch-clause-shut : goal.returns-then-not-branch-clause-shut
-returns-then-not-branch-clause-shut g c clean = shut_asked schema_one true _ _ (c.in_ok-has_run.ensures.asks clean)
+returns-then-not-branch-clause-shut g c clean = shut_asked schema_two true _ _ (c.in_ok-has_run.ensures.asks clean)
 
 pub returns-in_err-drop_run-clause-shut : goal.returns-in_err-drop_run-clause-shut
-returns-in_err-drop_run-clause-shut g c clean = shut_answered schema_one _ _ (shown g.S.Store c.drop_run.new.self) (c.in_ok-has_run.ensures.asks (c.in_err-drop_run.ensures.changes clean).stays.was_clean)
+returns-in_err-drop_run-clause-shut g c clean = shut_answered schema_two _ _ (shown g.S.Store c.drop_run.new.self) (c.in_ok-has_run.ensures.asks (c.in_err-drop_run.ensures.changes clean).stays.was_clean)
 
 pub returns-clause-shut : goal.returns-clause-shut
-returns-clause-shut g c clean = shut_answered schema_one _ _ (shown g.S.Store c.drop_run.new.self) (c.in_ok-has_run.ensures.asks (c.in_ok-drop_run.ensures.changes clean).stays.was_clean)
+returns-clause-shut g c clean = shut_answered schema_two _ _ (shown g.S.Store c.drop_run.new.self) (c.in_ok-has_run.ensures.asks (c.in_ok-drop_run.ensures.changes clean).stays.was_clean)
 
 pub returns-then-not-branch-clause-told : goal.returns-then-not-branch-clause-told
 returns-then-not-branch-clause-told g c clean t was =

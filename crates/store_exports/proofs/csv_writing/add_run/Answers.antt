@@ -1,7 +1,7 @@
 use Rattle.std.proofs.Common.{◌≡◌, ℕ, List, fold, length, refl, ap, subst, ◌∙◌, rules}
 use Rattle.std.specs.List.{AllByRecursion}
 use Rattle.sql_tables.proofs.Calls.{asked_rests}
-use Rattle.prof_tables.specs.Schema.{schema_one}
+use Rattle.prof_tables.specs.Schema.{schema_two}
 use Rattle.prof_tables.specs.RunLines.{cells_in}
 use Rattle.prof_store.specs.Readings.{RowsSay}
 use Rattle.cost_exports.specs.Csv.{with_cell_in}
@@ -16,7 +16,7 @@ returns-clause-told g c clean t stands named =
     let number = c.args.number in
     let head = c.in_ok-head.head in
     let early = (c.in_ok-all.ensures.asks clean).stays.was_clean in
-    let mid = asked_rests schema_one (RowsSay t) _ _ (c.in_ok-head.ensures.asks early) stands in
+    let mid = asked_rests schema_two (RowsSay t) _ _ (c.in_ok-head.ensures.asks early) stands in
     let cells = cells_held number t in
     let same : c.as_slice-events.result.now ≡ head.events = search rules in (
       record { events = head.events; cells = cells },
@@ -28,6 +28,6 @@ pub returns-clause-of_events : goal.returns-clause-of_events
 returns-clause-of_events g c clean t stands =
     let head = c.in_ok-head.head in
     let early = (c.in_ok-all.ensures.asks clean).stays.was_clean in
-    let mid = asked_rests schema_one (RowsSay t) _ _ (c.in_ok-head.ensures.asks early) stands in
+    let mid = asked_rests schema_two (RowsSay t) _ _ (c.in_ok-head.ensures.asks early) stands in
     let same : c.as_slice-events.result.now ≡ head.events = search rules in
     (head, c.in_ok-head.ensures.told early t stands, subst (λ (events : List (List ℕ)). AllByRecursion (IsOfAnEvent (length events)) (cells_in c.args.number t)) same (c.in_ok-all.ensures.told clean t mid).of_events)

@@ -1,6 +1,6 @@
 use Rattle.std.proofs.Common.{◌≡◌, true, Ok, Err, refl, subst, subst₂, rules}
 use Rattle.sql_tables.proofs.Calls.{asked_rests}
-use Rattle.prof_tables.specs.Schema.{schema_one}
+use Rattle.prof_tables.specs.Schema.{schema_two}
 use Rattle.prof_store.specs.Readings.{RowsSay}
 use Rattle.store_reports.specs.Compared.{AnswersDifference}
 use Rattle.store_histories.proofs.Questions.{asked_once, if_ok_so}
@@ -37,9 +37,9 @@ returns g c clean =
     let others : c.as_slice-2.result.now ≡ c.in-Ok-2.numbers = search rules in
     let event : c.as_slice-3.result.now ≡ c.args.event.now = search rules in
     asked_twice g.S.Store _ _ (subtracted_is_due c.args.first.now c.args.second.now c.args.key c.args.event.now) c.answer_difference.result _ _ _ c.answer_difference.ensures.still
-    (λ later. let compared = seconds.asks later in asked_of_open schema_one true _ _ _ (firsts.asks compared.stays.was_clean) compared) (c.answer_difference.ensures.asks clean) (λ t stands later two.
+    (λ later. let compared = seconds.asks later in asked_of_open schema_two true _ _ _ (firsts.asks compared.stays.was_clean) compared) (c.answer_difference.ensures.asks clean) (λ t stands later two.
     let early = (seconds.asks later).stays.was_clean in
-    let one = asked_rests schema_one (RowsSay t) _ _ (firsts.asks early) stands in
+    let one = asked_rests schema_two (RowsSay t) _ _ (firsts.asks early) stands in
     if_ok_so c.answer_difference.result (λ answer told. record {
       found = Ok c.in-Ok.numbers;
       is_found = rw c.in-Ok.is at (firsts.told early t stands);

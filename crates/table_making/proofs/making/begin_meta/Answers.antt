@@ -1,7 +1,7 @@
 use Rattle.std.proofs.Common.{[]}
 use Rattle.sql_tables.specs.States.{Works}
 use Rattle.sql_tables.proofs.Statements.{inside_done}
-use Rattle.prof_tables.specs.Schema.{schema_one}
+use Rattle.prof_tables.specs.Schema.{schema_two}
 use Rattle.prof_tables.specs.Tables.{Holds, new_tables}
 use Rattle.prof_tables.specs.Texts.{begin_sql}
 use Rattle.prof_tables.proofs.Means.{begin_means, begin_plain}
@@ -11,5 +11,5 @@ use Rattle.table_making.proofs.Parts.{statement_makes}
 use Rattle.table_making.proofs.making.begin_meta.Goals as goal
 
 pub returns : goal.returns
-returns g c = statement_makes g.S.Store begin_sql (Works schema_one (AreEmpty schema_one)) (Works schema_one (Holds new_tables)) (λ s was. was.running)
-    (λ old new count was h. inside_done schema_one begin_sql [] _ begin_means begin_plain tt (AreEmpty schema_one) (Holds new_tables) begins old new count was h) _ _ _ c.write_inside.ensures
+returns g c = statement_makes g.S.Store begin_sql (Works schema_two (AreEmpty schema_two)) (Works schema_two (Holds new_tables)) (λ s was. was.running)
+    (λ old new count was h. inside_done schema_two begin_sql [] _ begin_means begin_plain tt (AreEmpty schema_two) (Holds new_tables) begins old new count was h) _ _ _ c.write_inside.ensures

@@ -1,7 +1,7 @@
 use Rattle.std.proofs.Common.{true}
 use Rattle.std.specs.Result.{is_ok}
 use Rattle.sql_tables.specs.States.{Begins, Works}
-use Rattle.prof_tables.specs.Schema.{empty_schema, schema_to_derived, schema_to_arc, schema_one}
+use Rattle.prof_tables.specs.Schema.{empty_schema, schema_to_derived, schema_to_arc, schema_one, schema_two}
 use Rattle.prof_tables.specs.Tables.{Holds, new_tables}
 use Rattle.table_making.specs.Making.{AreEmpty}
 use Rattle.table_making.proofs.Parts.{makes_then, tables_then}
@@ -12,4 +12,5 @@ returns g c =
     let one = c.in_ok-make_first_tables.ensures in
     let two = tables_then g.S.Store true empty_schema schema_to_derived schema_to_arc _ _ _ one c.in_ok-make_row_tables.ensures in
     let three = tables_then g.S.Store true empty_schema schema_to_arc schema_one _ _ _ two c.in_ok-make_last_tables.ensures in
-    makes_then g.S.Store (is_ok c.begin_meta.result) (Begins empty_schema) (Works schema_one (AreEmpty schema_one)) (Works schema_one (AreEmpty schema_one)) (Works schema_one (Holds new_tables)) _ _ _ three c.begin_meta.ensures (λ s it. it)
+    let four = tables_then g.S.Store true empty_schema schema_one schema_two _ _ _ three c.in_ok-bring_up.ensures in
+    makes_then g.S.Store (is_ok c.begin_meta.result) (Begins empty_schema) (Works schema_two (AreEmpty schema_two)) (Works schema_two (AreEmpty schema_two)) (Works schema_two (Holds new_tables)) _ _ _ four c.begin_meta.ensures (λ s it. it)

@@ -3,7 +3,7 @@ use Rattle.histories.specs.History.{Import}
 use Rattle.histories.specs.declared.answers.Answer.TheVariants.{Refused}
 use Rattle.histories.specs.declared.answers.Refusal.TheVariants.{BadName}
 use Rattle.sql_tables.proofs.Calls.{changed_none, shut_none}
-use Rattle.prof_tables.specs.Schema.{schema_one}
+use Rattle.prof_tables.specs.Schema.{schema_two}
 use Rattle.prof_store.specs.Shown.{shown}
 use Rattle.store_histories.specs.Answered.{TellsHistory, Follows}
 use Rattle.store_histories.proofs.Settled.{untouched, bad_name}
@@ -18,7 +18,7 @@ returns-in-None g c = record {
         outcomes = [];
         came = refl;
         answers = λ clean. record {
-          turned = changed_none schema_one TellsHistory (Follows limits said) (shown g.S.Store c.args.store.now) clean;
+          turned = changed_none schema_two TellsHistory (Follows limits said) (shown g.S.Store c.args.store.now) clean;
           answered = λ h has. untouched g.S.Store limits h said c.args.store.now has clean (Refused BadName) tt (bad_name limits h said c.in-None.ensures refl);
           closes = λ usable. inl usable;
           shut = shut_none (shown g.S.Store c.args.store.now);

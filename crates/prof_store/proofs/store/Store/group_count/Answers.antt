@@ -1,7 +1,7 @@
 use Rattle.std.proofs.Common.{◌∙◌, arith}
 use Rattle.prof_tables.proofs.Means.{group_count_plain}
 use Rattle.prof_tables.proofs.GroupFinds.{groups_counted}
-use Rattle.prof_tables.specs.Schema.{schema_one}
+use Rattle.prof_tables.specs.Schema.{schema_two}
 use Rattle.sql_tables.proofs.Calls.{asked_err, asked_if}
 use Rattle.prof_store.proofs.Told.{groups_many, said}
 use Rattle.prof_store.proofs.store.Store.group_count.Goals as goal
@@ -17,7 +17,7 @@ pub returns-clause-asks : goal.returns-clause-asks
 returns-clause-asks g c clean = c.in_ok-row.ensures.asked clean group_count_plain
 
 pub returns-in_err-count_in-clause-asks : goal.returns-in_err-count_in-clause-asks
-returns-in_err-count_in-clause-asks g c clean = asked_if schema_one _ _ _ (c.in_ok-row.ensures.asked clean group_count_plain)
+returns-in_err-count_in-clause-asks g c clean = asked_if schema_two _ _ _ (c.in_ok-row.ensures.asked clean group_count_plain)
 
 pub returns-in_err-row-clause-asks : goal.returns-in_err-row-clause-asks
-returns-in_err-row-clause-asks g c clean = asked_err schema_one c.from_residual.result _ _ c.from_residual.ensures.0 (c.in_err-row.ensures.asked clean group_count_plain)
+returns-in_err-row-clause-asks g c clean = asked_err schema_two c.from_residual.result _ _ c.from_residual.ensures.0 (c.in_err-row.ensures.asked clean group_count_plain)

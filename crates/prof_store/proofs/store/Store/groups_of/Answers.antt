@@ -9,7 +9,7 @@ use Rattle.prof_tables.proofs.Lists.{groups_listed}
 use Rattle.prof_store.specs.Groups.{entry_group, first_two}
 use Rattle.prof_store.specs.declared.entries.GroupEntry.{GroupEntry}
 use Rattle.prof_store.proofs.Listing.{read_permutes}
-use Rattle.prof_tables.specs.Schema.{schema_one}
+use Rattle.prof_tables.specs.Schema.{schema_two}
 use Rattle.sql_tables.proofs.Calls.{asked_err, asked_if}
 use Rattle.prof_store.proofs.Told.{groups_told, said}
 use Rattle.prof_store.proofs.store.Store.groups_of.Goals as goal
@@ -25,7 +25,7 @@ pub returns-clause-told : goal.returns-clause-told
 returns-clause-told g c clean t was = if_ok_then c.groups_in.result (returns-clause-found g c clean was.schema_is) (λ entries. groups_told t _ (said t _ was.holds) (map entry_group entries.items))
 
 pub returns-clause-asks : goal.returns-clause-asks
-returns-clause-asks g c clean = asked_if schema_one (is_ok c.groups_in.result) _ _ (c.in_ok-rows.ensures.asked clean groups_plain)
+returns-clause-asks g c clean = asked_if schema_two (is_ok c.groups_in.result) _ _ (c.in_ok-rows.ensures.asked clean groups_plain)
 
 pub returns-in_err-rows-clause-asks : goal.returns-in_err-rows-clause-asks
-returns-in_err-rows-clause-asks g c clean = asked_err schema_one c.from_residual.result _ _ c.from_residual.ensures.0 (c.in_err-rows.ensures.asked clean groups_plain)
+returns-in_err-rows-clause-asks g c clean = asked_err schema_two c.from_residual.result _ _ c.from_residual.ensures.0 (c.in_err-rows.ensures.asked clean groups_plain)

@@ -1,7 +1,7 @@
 use Rattle.std.proofs.Common.{ap, not, length, ◌==◌, ◌∙◌, arith}
 use Rattle.prof_tables.proofs.MemberFinds.{member_listed}
 use Rattle.prof_tables.proofs.Means.{find_member_plain}
-use Rattle.prof_tables.specs.Schema.{schema_one}
+use Rattle.prof_tables.specs.Schema.{schema_two}
 use Rattle.sql_tables.proofs.Calls.{asked_err}
 use Rattle.prof_store.proofs.Told.{is_member_told, said}
 use Rattle.prof_store.proofs.store.Store.is_member.Goals as goal
@@ -16,4 +16,4 @@ pub returns-clause-asks : goal.returns-clause-asks
 returns-clause-asks g c clean = c.in_ok-rows.ensures.asked clean find_member_plain
 
 pub returns-in_err-rows-clause-asks : goal.returns-in_err-rows-clause-asks
-returns-in_err-rows-clause-asks g c clean = asked_err schema_one c.from_residual.result _ _ c.from_residual.ensures.0 (c.in_err-rows.ensures.asked clean find_member_plain)
+returns-in_err-rows-clause-asks g c clean = asked_err schema_two c.from_residual.result _ _ c.from_residual.ensures.0 (c.in_err-rows.ensures.asked clean find_member_plain)

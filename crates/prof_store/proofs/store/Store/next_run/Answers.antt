@@ -1,7 +1,7 @@
 use Rattle.std.proofs.Common.{◌∙◌, sym}
 use Rattle.prof_tables.proofs.Means.{next_plain}
 use Rattle.prof_tables.proofs.Finds.{next_found}
-use Rattle.prof_tables.specs.Schema.{schema_one}
+use Rattle.prof_tables.specs.Schema.{schema_two}
 use Rattle.sql_tables.proofs.Calls.{asked_err, asked_if}
 use Rattle.prof_store.proofs.Told.{next_told, said}
 use Rattle.prof_store.proofs.store.Store.next_run.Goals as goal
@@ -20,7 +20,7 @@ pub returns-clause-asks : goal.returns-clause-asks
 returns-clause-asks g c clean = c.in_ok-row.ensures.asked clean next_plain
 
 pub returns-in_err-number_at-clause-asks : goal.returns-in_err-number_at-clause-asks
-returns-in_err-number_at-clause-asks g c clean = asked_if schema_one _ _ _ (c.in_ok-row.ensures.asked clean next_plain)
+returns-in_err-number_at-clause-asks g c clean = asked_if schema_two _ _ _ (c.in_ok-row.ensures.asked clean next_plain)
 
 pub returns-in_err-row-clause-asks : goal.returns-in_err-row-clause-asks
-returns-in_err-row-clause-asks g c clean = asked_err schema_one c.from_residual.result _ _ c.from_residual.ensures.0 (c.in_err-row.ensures.asked clean next_plain)
+returns-in_err-row-clause-asks g c clean = asked_err schema_two c.from_residual.result _ _ c.from_residual.ensures.0 (c.in_err-row.ensures.asked clean next_plain)

@@ -5,7 +5,7 @@ use Rattle.sqlite.specs.State.{QueriesRow}
 use Rattle.prof_store.specs.Shown.{shown}
 use Rattle.sql_tables.proofs.Failures.{none_there}
 use Rattle.prof_tables.proofs.Finds.{digest_found, digest_absent}
-use Rattle.prof_tables.specs.Schema.{schema_one}
+use Rattle.prof_tables.specs.Schema.{schema_two}
 use Rattle.prof_tables.specs.Texts.{by_digest_sql}
 use Rattle.prof_tables.proofs.Means.{by_digest_means, by_digest_plain}
 use Rattle.prof_store.specs.Statements.{row_or_none}
@@ -23,7 +23,7 @@ returns-clause-found g c clean has =
     let found = c.in_ok-number_in.field-0 in
     let is = c.in_ok-number_in.ensures.read in
     either_found found is
-    (λ none. digest_absent digest old new has (none_there schema_one by_digest_sql _ _ by_digest_means by_digest_plain (Blob digest ∷ []) old new has (subst (λ r. QueriesRow by_digest_sql (Blob digest ∷ []) old new (row_or_none r)) none row)))
+    (λ none. digest_absent digest old new has (none_there schema_two by_digest_sql _ _ by_digest_means by_digest_plain (Blob digest ∷ []) old new has (subst (λ r. QueriesRow by_digest_sql (Blob digest ∷ []) old new (row_or_none r)) none row)))
     (λ n some.
     let it = digest_found digest old new has some.0 (subst (λ r. QueriesRow by_digest_sql (Blob digest ∷ []) old new (row_or_none r)) some.1 row) in
     (it.0, it.1, it.2, sym it.3 ∙ some.2))
@@ -35,7 +35,7 @@ pub returns-clause-asks : goal.returns-clause-asks
 returns-clause-asks g c clean = c.in_ok-row.ensures.asked clean by_digest_plain
 
 pub returns-in_err-number_in-clause-asks : goal.returns-in_err-number_in-clause-asks
-returns-in_err-number_in-clause-asks g c clean = asked_if schema_one _ _ _ (c.in_ok-row.ensures.asked clean by_digest_plain)
+returns-in_err-number_in-clause-asks g c clean = asked_if schema_two _ _ _ (c.in_ok-row.ensures.asked clean by_digest_plain)
 
 pub returns-in_err-row-clause-asks : goal.returns-in_err-row-clause-asks
-returns-in_err-row-clause-asks g c clean = asked_err schema_one c.from_residual.result _ _ c.from_residual.ensures.0 (c.in_err-row.ensures.asked clean by_digest_plain)
+returns-in_err-row-clause-asks g c clean = asked_err schema_two c.from_residual.result _ _ c.from_residual.ensures.0 (c.in_err-row.ensures.asked clean by_digest_plain)

@@ -13,7 +13,7 @@ use Rattle.prof_store.proofs.Listing.{read_permutes, map_injective}
 use Rattle.prof_store.proofs.Reading.{both_ok}
 use Rattle.prof_store.proofs.Readings.{shown_read}
 use Rattle.prof_store.proofs.Told.{runs_in_order, said}
-use Rattle.prof_tables.specs.Schema.{schema_one}
+use Rattle.prof_tables.specs.Schema.{schema_two}
 use Rattle.sql_tables.proofs.Calls.{asked_err, asked_if}
 use Rattle.prof_store.proofs.store.Store.runs.Goals as goal
 
@@ -40,7 +40,7 @@ returns-clause-found g c clean has =
     if_ok_then c.read_rising.result c.read_rising.ensures.read (λ entries is. read_permutes run_seen first_four entry_columns (λ r. refl) _ c.in_ok-rows.rows.items entries.items p (is ∙ ap (map first_four) c.deref.ensures.value))
 
 pub returns-clause-asks : goal.returns-clause-asks
-returns-clause-asks g c clean = asked_if schema_one (is_ok c.read_rising.result) _ _ (c.in_ok-rows.ensures.asked clean runs_plain)
+returns-clause-asks g c clean = asked_if schema_two (is_ok c.read_rising.result) _ _ (c.in_ok-rows.ensures.asked clean runs_plain)
 
 pub returns-in_err-rows-clause-asks : goal.returns-in_err-rows-clause-asks
-returns-in_err-rows-clause-asks g c clean = asked_err schema_one c.from_residual.result _ _ c.from_residual.ensures.0 (c.in_err-rows.ensures.asked clean runs_plain)
+returns-in_err-rows-clause-asks g c clean = asked_err schema_two c.from_residual.result _ _ c.from_residual.ensures.0 (c.in_err-rows.ensures.asked clean runs_plain)

@@ -4,7 +4,7 @@ use Rattle.prof_tables.proofs.Means.{sums_of_plain}
 use Rattle.prof_tables.proofs.RunLists.{sums_listed}
 use Rattle.prof_store.specs.Totals.{IsSum}
 use Rattle.prof_store.proofs.HeldSums.{sum_permuted, sum_seen}
-use Rattle.prof_tables.specs.Schema.{schema_one}
+use Rattle.prof_tables.specs.Schema.{schema_two}
 use Rattle.sql_tables.proofs.Calls.{asked_err, asked_if}
 use Rattle.prof_store.proofs.Told.{sums_told, said}
 use Rattle.prof_store.proofs.store.Store.sums_of.Goals as goal
@@ -25,7 +25,7 @@ pub returns-clause-asks : goal.returns-clause-asks
 returns-clause-asks g c clean = c.in_ok-rows.ensures.asked clean sums_of_plain
 
 pub returns-in_err-sums_in-clause-asks : goal.returns-in_err-sums_in-clause-asks
-returns-in_err-sums_in-clause-asks g c clean = asked_if schema_one _ _ _ (c.in_ok-rows.ensures.asked clean sums_of_plain)
+returns-in_err-sums_in-clause-asks g c clean = asked_if schema_two _ _ _ (c.in_ok-rows.ensures.asked clean sums_of_plain)
 
 pub returns-in_err-rows-clause-asks : goal.returns-in_err-rows-clause-asks
-returns-in_err-rows-clause-asks g c clean = asked_err schema_one c.from_residual.result _ _ c.from_residual.ensures.0 (c.in_err-rows.ensures.asked clean sums_of_plain)
+returns-in_err-rows-clause-asks g c clean = asked_err schema_two c.from_residual.result _ _ c.from_residual.ensures.0 (c.in_err-rows.ensures.asked clean sums_of_plain)

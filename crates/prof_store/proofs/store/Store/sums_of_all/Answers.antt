@@ -3,7 +3,7 @@ use Rattle.std.proofs.lemmas.List.{take_all, length-append}
 use Rattle.std.proofs.lemmas.List.Elements.{All-push}
 use Rattle.sqlite.specs.Effect.{Database}
 use Rattle.sql_tables.proofs.Calls.{asked_more, asked_rests_yet}
-use Rattle.prof_tables.specs.Schema.{schema_one}
+use Rattle.prof_tables.specs.Schema.{schema_two}
 use Rattle.prof_store.specs.Readings.{RowsSay}
 use Rattle.prof_store.specs.Shown.{shown}
 use Rattle.prof_store.specs.Totals.{AreSums, IsSum, rows_named}
@@ -32,11 +32,11 @@ events-preserved g c =
     let pushed_own : c.push.new.self ≡ own ++ a ∷ [] = is_ok_then c.push.result c.if-is_err.ensures.negation c.push.ensures.ok in
     let pushed_calls : c.push-else-is_err.new.self ≡ calls ++ b ∷ [] = is_ok_then c.push-else-is_err.result c.if-is_err-2.ensures.negation c.push-else-is_err.ensures.ok in
     let named : c.as_slice.result.now ≡ name = c.as_slice.ensures in record {
-      asked = λ clean. let one = s.asks clean in asked_more schema_one old mid _ (i.asked one.stays.was_clean) one;
+      asked = λ clean. let one = s.asks clean in asked_more schema_two old mid _ (i.asked one.stays.was_clean) one;
       told = λ clean t was.
           let one = s.asks clean in
           let early = one.stays.was_clean in
-          let told = s.told clean t (asked_rests_yet schema_one (RowsSay t) old mid (i.asked early) was) in
+          let told = s.told clean t (asked_rests_yet schema_two (RowsSay t) old mid (i.asked early) was) in
           let far = i.told early t was in (
             pushed_own ∙ ap (λ n. own ++ n ∷ []) (told.0 ∙ ap (held_self t) named) ∙ sym (read_on (held_self t) events k name own low is (sym far.0)),
             pushed_calls ∙ ap (λ n. calls ++ n ∷ []) (told.1 ∙ ap (held_calls t) named) ∙ sym (read_on (held_calls t) events k name calls low is (sym far.1)),
