@@ -224,7 +224,7 @@ def digest_rate(opened, taken, read):
 def rows_told(name):
     """What a store says of its run of a Callgrind file, in the words of bench/twin/rows.rs."""
     values = asked(name, "SELECT lower(hex(digest)) FROM run",
-                   "SELECT count(*), coalesce(sum(cost), 0) FROM cell",
+                   "SELECT count(*), coalesce(sum(cost), 0) FROM thread_cell",
                    "SELECT count(*), coalesce(sum(n), 0) FROM arc WHERE part = 0",
                    "SELECT coalesce(sum(n), 0) FROM arc WHERE part > 0")
     return " ".join(map(str, values))
@@ -256,7 +256,7 @@ def report_import(program, twin, path):
         return [twin, fresh("twin.db"), path]
 
     run, other = least(ours, plain)
-    names, cells, calls = asked("program.db", *(f"SELECT count(*) FROM {t}" for t in ("name", "cell", "arc")))
+    names, cells, calls = asked("program.db", *(f"SELECT count(*) FROM {t}" for t in ("name", "thread_cell", "arc")))
     print(f"  {megabytes(path):.1f} MB: {names} names, {cells} cells, {calls} rows of calls;"
           f" same tables: {are_same('program.db', 'twin.db')}")
     print(f"    program {run.processor:.3f} s, twin {other.processor:.3f} s:"

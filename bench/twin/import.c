@@ -1,7 +1,7 @@
 /* The plain counterpart of an import: C over libsqlite3, without proofs. It does what
    `profhouse import --db DATABASE FILE` does with a Callgrind file and a new database: it reads the
    file in pieces of 65,536 bytes, takes their SHA-256, merges the costs and the calls of equal places,
-   and writes them into the tables of a store of schema 1, references enforced, in one transaction:
+   and writes them into the tables of a store of schema 2, references enforced, in one transaction:
    rows in the order of their keys, fifty in a prepared statement.
 
    import_file.c reads the lines, import_rows.c has the digest (plain C, of no library) and the hash
@@ -9,7 +9,8 @@
 
    A file with a fault ends the program, with one of its faults. Left out is what a dump of valgrind
    never needs: `event:` lines (their form is not looked at, and a formula ends the program), stated
-   totals of 2^64 or more, and the limit of a file's length; and the questions whether the store holds
+   totals of 2^64 or more, and the limit of a file's length; `thread:` lines, of which it has none where
+   threads are not kept apart: all cells stand under thread 0; and the questions whether the store holds
    the digest and has room for the sums, which a new one answers at once. */
 
 #include "import.h"
@@ -35,9 +36,10 @@ static const char *const TABLES[] = {
     "CREATE TABLE coef (run INTEGER NOT NULL REFERENCES run ON DELETE CASCADE, pos INTEGER NOT NULL,"
     " event INTEGER NOT NULL, n INTEGER NOT NULL, PRIMARY KEY (run, pos, event)) STRICT",
     "CREATE TABLE name (id INTEGER PRIMARY KEY, bytes BLOB NOT NULL UNIQUE) STRICT",
-    "CREATE TABLE cell (run INTEGER NOT NULL REFERENCES run ON DELETE CASCADE, ob INTEGER NOT NULL,"
-    " fl INTEGER NOT NULL, fn INTEGER NOT NULL, line INTEGER NOT NULL, event INTEGER NOT NULL,"
-    " cost INTEGER NOT NULL, PRIMARY KEY (run, ob, fl, fn, line, event)) STRICT",
+    "CREATE TABLE thread_cell (run INTEGER NOT NULL REFERENCES run ON DELETE CASCADE,"
+    " thread INTEGER NOT NULL, ob INTEGER NOT NULL, fl INTEGER NOT NULL, fn INTEGER NOT NULL,"
+    " line INTEGER NOT NULL, event INTEGER NOT NULL, cost INTEGER NOT NULL,"
+    " PRIMARY KEY (run, thread, ob, fl, fn, line, event)) STRICT",
     "CREATE TABLE arc (run INTEGER NOT NULL REFERENCES run ON DELETE CASCADE, ob INTEGER NOT NULL,"
     " fl INTEGER NOT NULL, fn INTEGER NOT NULL, line INTEGER NOT NULL, cob INTEGER NOT NULL,"
     " cfl INTEGER NOT NULL, cfn INTEGER NOT NULL, part INTEGER NOT NULL, n INTEGER NOT NULL,"
@@ -144,7 +146,7 @@ static void make_tables(void)
 {
     for (size_t k = 0; k < sizeof TABLES / sizeof *TABLES; k++)
         run_text(TABLES[k]);
-    run_text("INSERT INTO meta VALUES (1, 1, 1)");
+    run_text("INSERT INTO meta VALUES (1, 2, 1)");
 }
 
 static void write_run(const char *label)
@@ -209,7 +211,7 @@ static void write_cell(struct inserter *into, const uint64_t *row, const uint64_
 {
     for (size_t event = 0; event < file.event_count; event++) {
         uint64_t cost = row[file.cells.key + event];
-        uint64_t values[] = {1, numbers[row[0]], numbers[row[1]], numbers[row[2]], row[3], event, cost};
+        uint64_t values[] = {1, 0, numbers[row[0]], numbers[row[1]], numbers[row[2]], row[3], event, cost};
         if (cost > 0)
             insert_row(into, values);
     }
@@ -217,7 +219,7 @@ static void write_cell(struct inserter *into, const uint64_t *row, const uint64_
 
 static void write_cells(const uint64_t *numbers)
 {
-    struct inserter into = inserter_into("cell", 7);
+    struct inserter into = inserter_into("thread_cell", 8);
     sort_rows(&file.cells);
     for (size_t k = 0; k < file.cells.count; k++)
         write_cell(&into, file.cells.words + k * file.cells.width, numbers);

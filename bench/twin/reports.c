@@ -30,8 +30,8 @@ static const char *const QUESTION_NAMES[QUESTIONS] = {"by", "inclusive", "caller
 static const int WORDS_BEHIND[QUESTIONS] = {1, 0, 2, 2, 0};
 static const char *const KEY_NAMES[KEYS] = {"object", "file", "function", "line"};
 
-static const char CELLS[] = "SELECT ob, fl, fn, line, event, cost FROM cell WHERE run = ?"
-                            " ORDER BY ob, fl, fn, line, event";
+static const char CELLS[] = "SELECT ob, fl, fn, line, event, cost FROM thread_cell WHERE run = ?"
+                            " ORDER BY thread, ob, fl, fn, line, event";
 static const char CALLS[] = "SELECT ob, fl, fn, line, cob, cfl, cfn, part, n FROM arc WHERE run = ?"
                             " ORDER BY ob, fl, fn, line, cob, cfl, cfn, part";
 

@@ -22,7 +22,7 @@ QUESTIONS = [
     ("runs",), ("groups",), ("verify",), ("csv",), ("folded",), ("verify", "--group", "nightly"), ("csv", "--run", "4"),
     ("by", "--event", "Instructions", "function"), ("by", "--event=Ir", "--run=+003", "file"),
     ("by", "--event", "Ir", "--run", "3", "--threshold", "80", "--limit", "1", "line"), ("by", "object", "--event", "Ir"),
-    ("by", "--event", "a&b=c", "line"), ("by", "--event", "Ir", "--limit", "0", "function"),
+    ("by", "--event", "a&b=c", "line"), ("by", "--event", "Ir", "--limit", "0", "function"), ("by", "--event", "Ir", "thread"),
     ("inclusive", "--event", "Instructions", "--run", "1"), ("inclusive", "--event", "samples"),
     ("callers", "--event", "Instructions", "func2"), ("callees", "--event", "Instructions", "--group", "nightly", "main"),
     ("callers", "--event", "Ir", "--object", ODD_OBJECT, b"t\tab\\x"), ("callers", "--event", "Ir", "--object", "x", "--", "-f"),
@@ -30,6 +30,7 @@ QUESTIONS = [
     ("subtract", "--run", "2", "--less-run", "1", "--event", "Instructions", "function"),
     ("subtract", "--group", "nightly", "--less-group", "nightly", "--event", "Instructions", "line"),
     ("subtract", "--group", "nightly", "--event", "Instructions", "file"),
+    ("subtract", "--group", "nightly", "--event", "Instructions", "thread"),
     ("annotate", "--event", "Ir", "--file", "a.c", "source.c"), ("annotate", "--event", "Ir", "--file", "b.c", "source.c"),
     ("annotate", "--event", "Ir", "--file", "a.c", "none.c"),
     # Refused.

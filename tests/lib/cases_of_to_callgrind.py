@@ -42,7 +42,7 @@ def reports(tried, store):
     base = sqlite3.connect(tried.path(store))
     base.text_factory = bytes
     events = [name for name, in base.execute("SELECT name FROM run_event UNION SELECT name FROM derived")]
-    functions = base.execute("SELECT DISTINCT o.bytes, f.bytes FROM (SELECT ob, fn FROM cell UNION SELECT cob, cfn FROM arc)"
+    functions = base.execute("SELECT DISTINCT o.bytes, f.bytes FROM (SELECT ob, fn FROM thread_cell UNION SELECT cob, cfn FROM arc)"
                              " JOIN name o ON o.id = ob JOIN name f ON f.id = fn ORDER BY 1, 2").fetchall()
     calls = base.execute("SELECT a.bytes, b.bytes, c.bytes, line, d.bytes, e.bytes, f.bytes, part, n FROM arc JOIN name a ON a.id = ob"
                          " JOIN name b ON b.id = fl JOIN name c ON c.id = fn JOIN name d ON d.id = cob JOIN name e ON e.id = cfl"
@@ -77,6 +77,15 @@ def cases_of_files(tried):
             os.fsencode(again), os.fsencode(path))), by_name(ran.out))
 
 
+def cases_of_threads(tried):
+    """They are added up."""
+    tried.profhouse("import", "--db", "threads.db", os.path.join(TOP, "examples", "workers.cg"))
+    again = tried.write("threads.cg", tried.script(NAME, "--db", "threads.db", "1").out)
+    tried.profhouse("import", "--db", "threads.db", again)
+    tried.expect("threads are added up", tried.profhouse("by", "--db", "threads.db", "--event", "Ir", "--run", "2", "thread"),
+                 b"by thread Ir\n56015 100.00% total\n56015 100.00% 0\n0 0.00% (rest)\n")
+
+
 def cases_of_refusals(tried):
     tried.profhouse("import", "--db", "s.db", "calls.cg")
     tried.profhouse("import", "--db", "s.db", "--folded", tried.write("a.folded", "a;b 2\n"))
@@ -99,4 +108,5 @@ def cases_of_refusals(tried):
 def cases(tried):
     tried.expect_help(NAME)
     cases_of_files(tried)
+    cases_of_threads(tried)
     cases_of_refusals(tried)
