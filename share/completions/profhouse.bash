@@ -38,10 +38,10 @@ _profhouse()
         import) options+=" --folded" operands=files ;;
         remove | runs | groups | join | leave | baseline) ;;
         group) options+=" --drop" ;;
-        by) options+=" --run --group --event --limit --threshold" operands="object file function line" ;;
+        by) options+=" --run --group --event --limit --threshold" operands="object file function line thread" ;;
         inclusive) options+=" --run --group --event" ;;
         callers | callees) options+=" --run --group --event --object" ;;
-        subtract) options+=" --run --group --less-run --less-group --event" operands="object file function line" ;;
+        subtract) options+=" --run --group --less-run --less-group --event" operands="object file function line thread" ;;
         verify | csv | folded) options+=" --run --group" ;;
         annotate) options+=" --run --group --event --file" operands=files ;;
         serve) options+=" --port --requests --log" ;;

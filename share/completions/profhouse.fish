@@ -16,7 +16,7 @@ complete -c profhouse -f
 complete -c profhouse -n __profhouse_no_command -a total -d 'Print the sum of each event of a Callgrind file'
 complete -c profhouse -n __profhouse_no_command -a import -d 'Import profile files'
 complete -c profhouse -n __profhouse_no_command -a runs -d 'List the runs'
-complete -c profhouse -n __profhouse_no_command -a by -d 'Report self costs by object, file, function or line'
+complete -c profhouse -n __profhouse_no_command -a by -d 'Report self costs by object, file, function, line or thread'
 complete -c profhouse -n __profhouse_no_command -a inclusive -d 'Report what functions cost with all that they call'
 complete -c profhouse -n __profhouse_no_command -a callers -d 'Report who calls a function'
 complete -c profhouse -n __profhouse_no_command -a callees -d 'Report whom a function calls'
@@ -54,5 +54,5 @@ complete -c profhouse -n '__profhouse_command serve' -l requests -x -d 'End afte
 complete -c profhouse -n '__profhouse_command serve' -l log -d 'Write one line on standard error for each served request'
 
 complete -c profhouse -n '__profhouse_command total import annotate' -F
-complete -c profhouse -n '__profhouse_command by subtract' -a 'object file function line'
+complete -c profhouse -n '__profhouse_command by subtract' -a 'object file function line thread'
 complete -c profhouse -n '__profhouse_command help' -a 'total import runs by inclusive callers callees subtract verify annotate csv folded group join leave baseline groups remove serve help'

@@ -7,7 +7,7 @@ import { baselineOf, difference, functionOf, inclusive, members, nameOf, objects
   where } from "./store.js";
 import { base, many, shown, size, unescaped } from "./texts.js";
 
-const KEYS = ["function", "file", "object", "line"];
+const KEYS = ["function", "file", "object", "line", "thread"];
 
 // Builds in two folders have two paths for one object or file. What of the path counts, by match=
 export const PLACES = { path: it => it, last: base, name: () => "" };
@@ -88,7 +88,7 @@ function bar(s, key, sides) {
     anchor(link({ calls: value }), text, { className: s.calls === value ? "on" : "" }));
   const turned = less && packed(runs) ? anchor(link({ run: less.run, group: less.group, less: packed(runs) }), "turn round") : null;
   return toolbar(element("span", { className: "choices" }, byKey), key === "function" ? element("span", { className: "choices" }, costs) : null,
-    less ? matchChoice(s, key === "function") : null, turned,
+    less && key !== "thread" ? matchChoice(s, key === "function") : null, turned,
     less ? element("span", { className: "small" }, `${nameOf(runs)}, less ${nameOf(less)}`) : null);
 }
 

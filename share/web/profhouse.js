@@ -16,13 +16,14 @@ const VIEWS = {
   file: ["Files", (s, of, event) => report("file", s, of, event)],
   object: ["Objects", (s, of, event) => report("object", s, of, event)],
   line: ["Lines", (s, of, event) => report("line", s, of, event)],
+  thread: ["Threads", (s, of, event) => report("thread", s, of, event)],
   difference: ["Difference", differenceView],
   flame: ["Flame graph", flame],
   source: ["Source", (s, of, event) => source(s, of, event, () => show(true))],
   verify: ["Verify", verified],
 };
 const WITH_LESS = ["difference", "flame"];
-const WITH_PANEL = ["function", "inclusive", "file", "object", "line", "difference"];
+const WITH_PANEL = ["function", "inclusive", "file", "object", "line", "thread", "difference"];
 const viewOf = s => s.view in VIEWS ? s.view : "function";
 
 // Beyond so many runs the list has a filter of its own, and shows the newest.
@@ -187,7 +188,7 @@ async function begin() {
 
 // The keys.
 
-const KEYS = [["1 to 9", "a view"], ["/", "the filter; Esc leaves it"], ["↑ ↓ Home End", "from row to row"], ["Enter", "open the row"],
+const KEYS = [["1 to 9, 0", "a view"], ["/", "the filter; Esc leaves it"], ["↑ ↓ Home End", "from row to row"], ["Enter", "open the row"],
   ["↑ ↓ ← →", "in a flame graph: from frame to frame"], ["Esc", "close the function, or the zoom"], ["Alt ←", "back"], ["?", "these keys"]];
 
 function help() {
@@ -217,7 +218,7 @@ function pressed(event) {
     if (event.key === "Escape") event.target.blur();
     return;
   }
-  const view = Object.keys(VIEWS)[Number(event.key) - 1], row = event.target.closest?.("tr.leads");
+  const view = Object.keys(VIEWS)[[..."1234567890"].indexOf(event.key)], row = event.target.closest?.("tr.leads");
   if (view) go({ view, q: undefined });
   else if (event.key === "/") $("filter").focus();
   else if (event.key === "?") help();

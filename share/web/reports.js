@@ -1,4 +1,4 @@
-// The views of one selection of runs: where an event went, by function, file, object or line; and verify.
+// The views of one selection of runs: where an event went, by function, file, object, line or thread; and verify.
 
 import { anchor, barCell, costCell, element, filtered, functionCell, greatest, leading, nameCell, note, rowsBody,
   shareCell, sum, table } from "./drawing.js";
@@ -6,7 +6,7 @@ import { link } from "./address.js";
 import { functionOf, inclusive, members, objects, selfCosts, verify } from "./store.js";
 import { grouped, many, share, shown, unescaped } from "./texts.js";
 
-// What a row of each view leads to.
+// What a row of each view leads to; those of threads lead nowhere.
 const LEADS = {
   function: row => ({ fn: row.name, ob: row.object }),
   inclusive: row => ({ fn: row.name, ob: row.object }),
@@ -46,8 +46,11 @@ export async function report(view, s, runs, event) {
   const byFunction = view === "function" || view === "inclusive";
   const kept = filtered(rows, row => byFunction ? `${row.object}:${row.name}` : row.name);
   const top = greatest(rows);
-  const draw = row => leading(element("tr", null, costCell(row.cost), shareCell(row.cost, total), barCell(row.cost, top),
-    byFunction ? functionCell(row) : nameCell(row.name)), LEADS[view](row));
+  const draw = row => {
+    const made = element("tr", null, costCell(row.cost), shareCell(row.cost, total), barCell(row.cost, top),
+      byFunction ? functionCell(row) : nameCell(row.name));
+    return view in LEADS ? leading(made, LEADS[view](row)) : made;
+  };
   const columns = [["cost", shown(event)], ["share", "share"], ["bar", ""], ["name", byFunction ? "function" : view]];
   const drawn = table(columns, totalRow(view, s, runs, total, rows, kept), rowsBody(kept, draw));
   return rows.length ? [drawn] : [drawn, note("No costs.")];
