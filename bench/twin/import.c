@@ -39,7 +39,7 @@ static const char *const TABLES[] = {
     "CREATE TABLE thread_cell (run INTEGER NOT NULL REFERENCES run ON DELETE CASCADE,"
     " thread INTEGER NOT NULL, ob INTEGER NOT NULL, fl INTEGER NOT NULL, fn INTEGER NOT NULL,"
     " line INTEGER NOT NULL, event INTEGER NOT NULL, cost INTEGER NOT NULL,"
-    " PRIMARY KEY (run, thread, ob, fl, fn, line, event)) STRICT",
+    " PRIMARY KEY (run, fn, line, fl, ob, thread, event)) STRICT",
     "CREATE TABLE arc (run INTEGER NOT NULL REFERENCES run ON DELETE CASCADE, ob INTEGER NOT NULL,"
     " fl INTEGER NOT NULL, fn INTEGER NOT NULL, line INTEGER NOT NULL, cob INTEGER NOT NULL,"
     " cfl INTEGER NOT NULL, cfn INTEGER NOT NULL, part INTEGER NOT NULL, n INTEGER NOT NULL,"

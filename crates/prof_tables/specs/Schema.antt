@@ -231,7 +231,7 @@ member_table = record {
 }
 
 abbrev pub thread_cell_sql : List ℕ
-thread_cell_sql = codes "CREATE TABLE thread_cell (run INTEGER NOT NULL REFERENCES run ON DELETE CASCADE, thread INTEGER NOT NULL, ob INTEGER NOT NULL, fl INTEGER NOT NULL, fn INTEGER NOT NULL, line INTEGER NOT NULL, event INTEGER NOT NULL, cost INTEGER NOT NULL, PRIMARY KEY (run, thread, ob, fl, fn, line, event)) STRICT"
+thread_cell_sql = codes "CREATE TABLE thread_cell (run INTEGER NOT NULL REFERENCES run ON DELETE CASCADE, thread INTEGER NOT NULL, ob INTEGER NOT NULL, fl INTEGER NOT NULL, fn INTEGER NOT NULL, line INTEGER NOT NULL, event INTEGER NOT NULL, cost INTEGER NOT NULL, PRIMARY KEY (run, fn, line, fl, ob, thread, event)) STRICT"
 
 abbrev pub thread_cell_table : Table
 thread_cell_table = record {
@@ -239,8 +239,8 @@ thread_cell_table = record {
   tree = 0;
   columns = column_of (codes "run") Integer true ∷ column_of (codes "thread") Integer true ∷ column_of (codes "ob") Integer true ∷ column_of (codes "fl") Integer true ∷ column_of (codes "fn") Integer true ∷ column_of (codes "line") Integer true ∷ column_of (codes "event") Integer true ∷ column_of (codes "cost") Integer true ∷ [];
   key = None;
-  primary = 1 ∷ 2 ∷ 3 ∷ 4 ∷ 5 ∷ 6 ∷ 7 ∷ [];
-  uniques = (1 ∷ 2 ∷ 3 ∷ 4 ∷ 5 ∷ 6 ∷ 7 ∷ []) ∷ [];
+  primary = 1 ∷ 5 ∷ 6 ∷ 4 ∷ 3 ∷ 2 ∷ 7 ∷ [];
+  uniques = (1 ∷ 5 ∷ 6 ∷ 4 ∷ 3 ∷ 2 ∷ 7 ∷ []) ∷ [];
   orders = plain ∷ [];
   checks = [];
   references = to (codes "run") 1 ∷ [];

@@ -95,7 +95,7 @@ fn bring_up<S: Alter>(tx: &mut Transaction<'_, S>) -> Result<(), StoreError>
 {
     write_inside(
         tx,
-        "CREATE TABLE thread_cell (run INTEGER NOT NULL REFERENCES run ON DELETE CASCADE, thread INTEGER NOT NULL, ob INTEGER NOT NULL, fl INTEGER NOT NULL, fn INTEGER NOT NULL, line INTEGER NOT NULL, event INTEGER NOT NULL, cost INTEGER NOT NULL, PRIMARY KEY (run, thread, ob, fl, fn, line, event)) STRICT",
+        "CREATE TABLE thread_cell (run INTEGER NOT NULL REFERENCES run ON DELETE CASCADE, thread INTEGER NOT NULL, ob INTEGER NOT NULL, fl INTEGER NOT NULL, fn INTEGER NOT NULL, line INTEGER NOT NULL, event INTEGER NOT NULL, cost INTEGER NOT NULL, PRIMARY KEY (run, fn, line, fl, ob, thread, event)) STRICT",
         &[],
     )?;
     write_inside(tx, "DROP TABLE cell", &[])
