@@ -78,7 +78,7 @@ fn replace(held: &mut Vec<u8>, name: &[u8]) -> Result<(), AllocError>
 }
 
 impl Part {
-    /// No names, and line 0. No guarantee: `set` replaces all of it before it is read.
+    /// No names, line 0 and thread 0. No guarantee: `set` replaces all of it before it is read.
     pub(crate) fn new(alloc: Global) -> Part {
         Part {
             object: Vec::new(alloc),
