@@ -18,6 +18,7 @@ use Rattle.sha2.specs.Hashers.{Holds256}
 use Rattle.sha2.specs.Sha256.{sha256}
 use Rattle.profile_records.specs.declared.kinds.Kind.{Kind}
 use Rattle.profile_records.specs.declared.kinds.Kind.TheVariants as kinds
+use Rattle.histories.specs.Formats.{today}
 use Rattle.histories.specs.Files.{fault_of, IsHeadOf, rows_of}
 use Rattle.file_intake.specs.declared.intake.FileReader.{FileReader}
 use Rattle.file_intake.specs.declared.intake.FileReader.TheVariants as readers
@@ -58,13 +59,13 @@ pub record HasTaken (i : Intake) (kind : Kind) (bytes : List ℕ) : Type 0 where
 
 -- the head and the rows of a file without a fault, or its first fault and the line
 abbrev pub IsFileOf : Kind → List ℕ → Result (FileHead × FileRows) (faults.Fault × ℕ) → Type 0
-IsFileOf kind bytes (Ok file) = (fault_of kind bytes ≡ None) × IsHeadOf kind file.0 bytes × (content_of file.1 ≡ rows_of kind bytes)
-IsFileOf kind bytes (Err fault) = fault_of kind bytes ≡ Some fault
+IsFileOf kind bytes (Ok file) = (fault_of (today kind) bytes ≡ None) × IsHeadOf kind file.0 bytes × (content_of file.1 ≡ rows_of kind bytes)
+IsFileOf kind bytes (Err fault) = fault_of (today kind) bytes ≡ Some fault
 
 -- what a reader and its rows come to
 abbrev pub HasEndedAs : Kind → List ℕ → Result FileHead ReadError → FileRows → Type 0
 HasEndedAs kind bytes (Ok head) rows = IsFileOf kind bytes (Ok (head, rows))
-HasEndedAs kind bytes (Err (ends.Fault fault line)) rows = fault_of kind bytes ≡ Some (fault, line)
+HasEndedAs kind bytes (Err (ends.Fault fault line)) rows = fault_of (today kind) bytes ≡ Some (fault, line)
 HasEndedAs kind bytes (Err ends.Memory) rows = Unit {0}
 
 pub record IsTakenOf (kind : Kind) (bytes : List ℕ) (t : Taken) : Type 0 where

@@ -1,6 +1,6 @@
 -- Imports of the same bytes make the same of a history, however they were cut into reads.
 use Rattle.std.proofs.Common.{◌≡◌, ℕ, List, [], ◌∷◌, ◌++◌, filter, Option, Some, None, refl, sym, ap, subst, ◌∙◌}
-use Rattle.profile_records.specs.declared.kinds.Kind.{Kind}
+use Rattle.histories.specs.Formats.{Format}
 use Rattle.prof_tables.specs.Tables.{Tables, GroupLine}
 use Rattle.prof_books.specs.Book.{book_of}
 use Rattle.sources.specs.Outcomes.{Outcome, bytes_of}
@@ -17,19 +17,19 @@ use Rattle.histories.proofs.Members.{member_more}
 use Rattle.histories.proofs.Tests.{all_on}
 use Rattle.histories.proofs.Turns.{history_more}
 
-module _ (h : History) (kind : Kind) (label : List ℕ) (xs ys : List Outcome) (answer : Answer) (same : bytes_of xs ≡ bytes_of ys) where
+module _ (h : History) (format : Format) (label : List ℕ) (xs ys : List Outcome) (answer : Answer) (same : bytes_of xs ≡ bytes_of ys) where
   abbrev first : Turn
-  first = record { said = Import kind label xs; answer = answer }
+  first = record { said = Import format label xs; answer = answer }
 
   abbrev second : Turn
-  second = record { said = Import kind label ys; answer = answer }
+  second = record { said = Import format label ys; answer = answer }
 
-  taken_same : (a : Answer) → taken (Import kind label xs) a ≡ taken (Import kind label ys) a
-  taken_same (Run n) = ap (λ bytes. let f : File = record { number = n; kind = kind; label = label; bytes = bytes } in f ∷ []) same
+  taken_same : (a : Answer) → taken (Import format label xs) a ≡ taken (Import format label ys) a
+  taken_same (Run n) = ap (λ bytes. let f : File = record { number = n; format = format; label = label; bytes = bytes } in f ∷ []) same
   taken_same a = refl
 
   held_same : held (h ++ first ∷ []) ≡ held (h ++ second ∷ [])
-  held_same = held_more h first ∙ ap (λ l. filter (stays (Import kind label xs) answer) (held h) ++ l) (taken_same answer) ∙ sym (held_more h second)
+  held_same = held_more h first ∙ ap (λ l. filter (stays (Import format label xs) answer) (held h) ++ l) (taken_same answer) ∙ sym (held_more h second)
 
   next_same : next (h ++ first ∷ []) ≡ next (h ++ second ∷ [])
   next_same = next_more h first ∙ sym (next_more h second)
@@ -40,16 +40,16 @@ module _ (h : History) (kind : Kind) (label : List ℕ) (xs ys : List Outcome) (
   member_same : (name : List ℕ) (n : ℕ) → is_member (h ++ first ∷ []) name n ≡ is_member (h ++ second ∷ []) name n
   member_same name n = member_more h first name n ∙ sym (member_more h second name n)
 
-  left_same : (name : List ℕ) (was : Option ℕ) → left_by name (Import kind label xs) answer was ≡ left_by name (Import kind label ys) answer was
+  left_same : (name : List ℕ) (was : Option ℕ) → left_by name (Import format label xs) answer was ≡ left_by name (Import format label ys) answer was
   left_same name None = refl
   left_same name (Some n) = refl
 
   baseline_same : (name : List ℕ) → baseline (h ++ first ∷ []) name ≡ baseline (h ++ second ∷ []) name
   baseline_same name = baseline_more h first name ∙ ap (set_or None) (left_same name (baseline h name)) ∙ sym (baseline_more h second name)
 
-  pub tell_same : (limits : Limits) (t : Tables) → IsHistory h → IsLegal limits h (Import kind label ys) answer → TablesTell (h ++ first ∷ []) t → TablesTell (h ++ second ∷ []) t
+  pub tell_same : (limits : Limits) (t : Tables) → IsHistory h → IsLegal limits h (Import format label ys) answer → TablesTell (h ++ first ∷ []) t → TablesTell (h ++ second ∷ []) t
   tell_same limits t is legal tell = record {
-    legal = history_more limits h (Import kind label ys) answer is legal;
+    legal = history_more limits h (Import format label ys) answer is legal;
     named = tell.named;
     next = tell.next ∙ next_same;
     runs = subst (λ files. AreBooksOf files (book_of t).runs) held_same tell.runs;

@@ -12,10 +12,9 @@ use Rattle.callgrind_reader.specs.Events as events
 use Rattle.callgrind_reader.specs.Events.{events_fault, first_of}
 use Rattle.callgrind_reader.specs.Faulty.{earlier_or}
 use Rattle.callgrind_reader.specs.Files as files
-use Rattle.callgrind_reader.specs.Files.{call_fault, first_fault, formulas_fault, names_or_none, numbered_or, or_else, readings_of}
+use Rattle.callgrind_reader.specs.Files.{call_fault, first_fault, formulas_fault, names_or_none, numbered_or, or_else, readings_by}
 use Rattle.callgrind_reader.specs.Lines.{fault_at}
-use Rattle.profile_records.specs.declared.kinds.Kind.{Kind}
-use Rattle.profile_records.specs.declared.kinds.Kind.TheVariants.{Callgrind, Folded}
+use Rattle.histories.specs.Formats.{Format, Callgrind, Folded}
 use Rattle.histories.specs.Files.{events_of, fault_of}
 
 -- ---- no fault of several
@@ -62,6 +61,6 @@ all_stand back (r ∷ ahead) was none =
     let two = neither (files.fault_of r back ahead) (number_after back) (first_fault (r ∷ back) ahead) none in
     all_stand (r ∷ back) ahead (line_stands r back was (own_none (fault_at r back) (call_fault r ahead) two.0)) two.1
 
-pub events_apart : (kind : Kind) (bytes : List ℕ) → fault_of kind bytes ≡ None → are_distinct (events_of kind bytes) ≡ true
-events_apart Callgrind bytes none = all_stand [] (readings_of bytes) refl (lines_none (first_fault [] (readings_of bytes)) (formulas_fault (files.end_of bytes)) none)
+pub events_apart : (format : Format) (bytes : List ℕ) → fault_of format bytes ≡ None → are_distinct (events_of format bytes) ≡ true
+events_apart (Callgrind g) bytes none = all_stand [] (readings_by g bytes) refl (lines_none (first_fault [] (readings_by g bytes)) (formulas_fault (files.end_by g bytes)) none)
 events_apart Folded bytes none = refl

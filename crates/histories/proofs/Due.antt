@@ -4,7 +4,7 @@ use Rattle.std.specs.List.{list_any}
 use Rattle.sha2.specs.Sha256.{sha256}
 use Rattle.cg_text.specs.declared.faults.Fault as faults
 use Rattle.prof_tables.specs.Labels.{IsGroupName}
-use Rattle.profile_records.specs.declared.kinds.Kind.{Kind}
+use Rattle.histories.specs.Formats.{Format}
 use Rattle.histories.specs.Files.{fault_of}
 use Rattle.sources.specs.Outcomes.{Outcome, bytes_of, is_failed, is_end}
 use Rattle.histories.specs.History.{Said, Import, MakeGroup, Join, SetBaseline, History, held, next, groups}
@@ -63,8 +63,8 @@ based_legal limits h name n legal = both (has_group h name) (has_run h n) (was_d
 
 -- ---- imports
 
-module _ (limits : Limits) (h : History) (kind : Kind) (bytes : List ℕ) (n : ℕ) where
-  pub run_due : file_due limits h kind bytes ≡ Run n → (n ≡ next h) × (number_of (sha256 bytes) (held h) ≡ None)
+module _ (limits : Limits) (h : History) (format : Format) (bytes : List ℕ) (n : ℕ) where
+  pub run_due : file_due limits h format bytes ≡ Run n → (n ≡ next h) × (number_of (sha256 bytes) (held h) ≡ None)
   run_due is = first (number_of (sha256 bytes) (held h)) refl is
     where
       spent : (e : Bool) → first_or (when e (Refused reasons.NumbersSpent) ∷ []) (Run (next h)) ≡ Run n → n ≡ next h
@@ -85,15 +85,15 @@ module _ (limits : Limits) (h : History) (kind : Kind) (bytes : List ℕ) (n : �
       fault None c d e same = excess c d e same
 
       first : (a : Option ℕ) → number_of (sha256 bytes) (held h) ≡ a
-          → first_or (option_map Held a ∷ option_map faulty (fault_of kind bytes) ∷ option_map (λ excess. Refused (reasons.Overflow excess)) (excess_of (held h) kind bytes)
+          → first_or (option_map Held a ∷ option_map faulty (fault_of format bytes) ∷ option_map (λ excess. Refused (reasons.Overflow excess)) (excess_of (held h) format bytes)
           ∷ when (nat_le limits.runs (length (held h))) (Refused reasons.Full) ∷ when (nat_le limits.numbers (next h)) (Refused reasons.NumbersSpent) ∷ []) (Run (next h)) ≡ Run n
           → (n ≡ next h) × (number_of (sha256 bytes) (held h) ≡ None)
       first (Some m) here same = absurd cc
-      first None here same = (fault (fault_of kind bytes) (excess_of (held h) kind bytes) (nat_le limits.runs (length (held h))) (nat_le limits.numbers (next h)) same, here)
+      first None here same = (fault (fault_of format bytes) (excess_of (held h) format bytes) (nat_le limits.runs (length (held h))) (nat_le limits.numbers (next h)) same, here)
 
   -- and the file has no fault, and no sum over it and those that are held is above its bound
-  sound_due : file_due limits h kind bytes ≡ Run n → (fault_of kind bytes ≡ None) × (excess_of (held h) kind bytes ≡ None)
-  sound_due is = go (number_of (sha256 bytes) (held h)) (fault_of kind bytes) (excess_of (held h) kind bytes) (nat_le limits.runs (length (held h))) (nat_le limits.numbers (next h)) is
+  sound_due : file_due limits h format bytes ≡ Run n → (fault_of format bytes ≡ None) × (excess_of (held h) format bytes ≡ None)
+  sound_due is = go (number_of (sha256 bytes) (held h)) (fault_of format bytes) (excess_of (held h) format bytes) (nat_le limits.runs (length (held h))) (nat_le limits.numbers (next h)) is
     where
       go : (a : Option ℕ) (b : Option (faults.Fault × ℕ)) (c : Option Excess) (d e : Bool)
           → first_or (option_map Held a ∷ option_map faulty b ∷ option_map (λ excess. Refused (reasons.Overflow excess)) c ∷ when d (Refused reasons.Full) ∷ when e (Refused reasons.NumbersSpent) ∷ []) (Run (next h)) ≡ Run n
@@ -104,20 +104,20 @@ module _ (limits : Limits) (h : History) (kind : Kind) (bytes : List ℕ) (n : �
       go None None None d e same = (refl, refl)
 
 -- an import that is answered with a number was answered by its whole file
-file_was_due : (limits : Limits) (h : History) (kind : Kind) (label : List ℕ) (outcomes : List Outcome) (n : ℕ) → IsLegal limits h (Import kind label outcomes) (Run n) → file_due limits h kind (bytes_of outcomes) ≡ Run n
-file_was_due limits h kind label outcomes n legal =
-    go (nat_lt limits.bytes (length (bytes_of outcomes))) (list_any is_failed outcomes) (list_any is_end outcomes) (was_due limits h (Import kind label outcomes) (Run n) tt legal).1
+file_was_due : (limits : Limits) (h : History) (format : Format) (label : List ℕ) (outcomes : List Outcome) (n : ℕ) → IsLegal limits h (Import format label outcomes) (Run n) → file_due limits h format (bytes_of outcomes) ≡ Run n
+file_was_due limits h format label outcomes n legal =
+    go (nat_lt limits.bytes (length (bytes_of outcomes))) (list_any is_failed outcomes) (list_any is_end outcomes) (was_due limits h (Import format label outcomes) (Run n) tt legal).1
   where
     go : (a b c : Bool)
-        → (if a then Some (Refused reasons.TooLong) else if b then Some (Refused reasons.ReadFault) else if c then Some (file_due limits h kind (bytes_of outcomes)) else None) ≡ Some (Run n)
-        → file_due limits h kind (bytes_of outcomes) ≡ Run n
+        → (if a then Some (Refused reasons.TooLong) else if b then Some (Refused reasons.ReadFault) else if c then Some (file_due limits h format (bytes_of outcomes)) else None) ≡ Some (Run n)
+        → file_due limits h format (bytes_of outcomes) ≡ Run n
     go true b c same = absurd cc
     go false true c same = absurd cc
     go false false true same = cc
     go false false false same = absurd cc
 
-pub run_legal : (limits : Limits) (h : History) (kind : Kind) (label : List ℕ) (outcomes : List Outcome) (n : ℕ) → IsLegal limits h (Import kind label outcomes) (Run n) → (n ≡ next h) × (number_of (sha256 (bytes_of outcomes)) (held h) ≡ None)
-run_legal limits h kind label outcomes n legal = run_due limits h kind (bytes_of outcomes) n (file_was_due limits h kind label outcomes n legal)
+pub run_legal : (limits : Limits) (h : History) (format : Format) (label : List ℕ) (outcomes : List Outcome) (n : ℕ) → IsLegal limits h (Import format label outcomes) (Run n) → (n ≡ next h) × (number_of (sha256 (bytes_of outcomes)) (held h) ≡ None)
+run_legal limits h format label outcomes n legal = run_due limits h format (bytes_of outcomes) n (file_was_due limits h format label outcomes n legal)
 
-pub run_fits : (limits : Limits) (h : History) (kind : Kind) (label : List ℕ) (outcomes : List Outcome) (n : ℕ) → IsLegal limits h (Import kind label outcomes) (Run n) → (fault_of kind (bytes_of outcomes) ≡ None) × (excess_of (held h) kind (bytes_of outcomes) ≡ None)
-run_fits limits h kind label outcomes n legal = sound_due limits h kind (bytes_of outcomes) n (file_was_due limits h kind label outcomes n legal)
+pub run_fits : (limits : Limits) (h : History) (format : Format) (label : List ℕ) (outcomes : List Outcome) (n : ℕ) → IsLegal limits h (Import format label outcomes) (Run n) → (fault_of format (bytes_of outcomes) ≡ None) × (excess_of (held h) format (bytes_of outcomes) ≡ None)
+run_fits limits h format label outcomes n legal = sound_due limits h format (bytes_of outcomes) n (file_was_due limits h format label outcomes n legal)

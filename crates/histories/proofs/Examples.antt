@@ -17,6 +17,7 @@ use Rattle.cg_text.specs.declared.faults.Fault.TheVariants.{NumberTooLarge}
 use Rattle.profile_records.specs.declared.kinds.Kind.{Kind}
 use Rattle.profile_records.specs.declared.kinds.Kind.TheVariants.{Callgrind, Folded}
 use Rattle.sources.specs.Outcomes.{Outcome, Gave, Failed}
+use Rattle.histories.specs.Formats.{today}
 use Rattle.histories.specs.History.{Said, Import, Remove, MakeGroup, DropGroup, Join, Leave, SetBaseline, Ask, Turn, History, File, held, next, groups, members, is_member, baseline}
 use Rattle.histories.specs.Legal.{expected_answer, AreLegal}
 use Rattle.histories.specs.Texts.{groups_text, runs_text}
@@ -51,7 +52,7 @@ abbrev one : List ℕ
 one = codes "events: Ir\n1 1\n"
 
 abbrev import : Kind → List ℕ → Said
-import kind bytes = Import kind (codes "a") (Gave bytes ∷ Gave [] ∷ [])
+import kind bytes = Import (today kind) (codes "a") (Gave bytes ∷ Gave [] ∷ [])
 
 abbrev turn : Said → Answer → Turn
 turn said answer = record { said = said; answer = answer }
@@ -63,7 +64,7 @@ abbrev ticks : List ℕ
 ticks = codes "positions: instr line\nevents: ticks\nfn=func\n0x80001234 90 1\n+3 * 5\n+1 +1 6\n"
 
 abbrev named : ℕ → Kind → List ℕ → File
-named n kind bytes = record { number = n; kind = kind; label = codes "a"; bytes = bytes }
+named n kind bytes = record { number = n; format = today kind; label = codes "a"; bytes = bytes }
 
 -- ---- one file, imported, held, removed and imported again
 
@@ -176,7 +177,7 @@ abbrev small : Limits
 small = record { bytes = 2; runs = 2; groups = 1; numbers = 3; bytes_fit = omega arith; runs_fit = omega arith; groups_fit = omega arith; numbers_fit = omega arith }
 
 abbrev reads : List Outcome → Said
-reads outcomes = Import Callgrind (codes "a") outcomes
+reads outcomes = Import (today Callgrind) (codes "a") outcomes
 
 read_failed : expected_answer small [] (reads (Gave (codes "#") ∷ Failed ∷ [])) ≡ Some (Refused reasons.ReadFault)
 read_failed = refl
@@ -346,9 +347,9 @@ member-left = refl
 -- ---- the list of runs
 
 abbrev empty : History
-empty = turn (Import Callgrind (codes "empty.out") (Gave [] ∷ [])) (Run 1) ∷ []
+empty = turn (Import (today Callgrind) (codes "empty.out") (Gave [] ∷ [])) (Run 1) ∷ []
 
-empty_is_run : expected_answer standard [] (Import Callgrind (codes "empty.out") (Gave [] ∷ [])) ≡ Some (Run 1)
+empty_is_run : expected_answer standard [] (Import (today Callgrind) (codes "empty.out") (Gave [] ∷ [])) ≡ Some (Run 1)
 unfolding reading_of line_text kind_of name_of number_of amount_of subpos_of
 empty_is_run = refl
 
@@ -357,7 +358,7 @@ unfolding first_words schedule rounds compress hash_after digest_bytes sha256 en
 list_of_runs = refl
 
 abbrev sampled : History
-sampled = turn (Import Folded (codes "b c") (Gave (codes "a;b 2\n") ∷ Gave [] ∷ [])) (Run 1) ∷ []
+sampled = turn (Import (today Folded) (codes "b c") (Gave (codes "a;b 2\n") ∷ Gave [] ∷ [])) (Run 1) ∷ []
 
 list_of_samples : runs_text sampled ≡ codes "1 folded fe491dc98a03200ded9c49087a54ebfbb0543dff4f7fb17679c74d30e2eecc64 b c\n"
 unfolding first_words schedule rounds compress hash_after digest_bytes sha256 encode_with digits

@@ -9,6 +9,7 @@ use Rattle.cost_rows.specs.declared.rows.FileTotals.{FileTotals}
 use Rattle.prof_tables.specs.Tables.{Tables, Holds}
 use Rattle.prof_books.specs.Totals.{held_self, held_calls, IsHeldIn}
 use Rattle.profile_records.specs.declared.kinds.Kind.{Kind}
+use Rattle.histories.specs.Formats.{today}
 use Rattle.histories.specs.Files.{events_of, rows_of}
 use Rattle.histories.specs.History.{History, File, held}
 use Rattle.histories.specs.Stands.{TablesTell}
@@ -93,33 +94,33 @@ none_first : (j : ℕ) → 0 + j ≡ j
 none_first j = omega arith
 
 -- what does not fit beside the sums of the tables is what does not fit beside the files that are held
-pub tells_excess : (h : History) (t : Tables) (db : Trees) (kind : Kind) (bytes : List ℕ) (held_totals file_totals : FileTotals) → Holds t db → TablesTell h t → IsHeldIn t (events_of kind bytes) held_totals
-    → AreTotals file_totals (rows_of kind bytes) (length (events_of kind bytes)) → excess_of (held h) kind bytes ≡ option_map (excess_at (events_of kind bytes)) (overflow_of held_totals file_totals)
+pub tells_excess : (h : History) (t : Tables) (db : Trees) (kind : Kind) (bytes : List ℕ) (held_totals file_totals : FileTotals) → Holds t db → TablesTell h t → IsHeldIn t (events_of (today kind) bytes) held_totals
+    → AreTotals file_totals (rows_of kind bytes) (length (events_of (today kind) bytes)) → excess_of (held h) (today kind) bytes ≡ option_map (excess_at (events_of (today kind) bytes)) (overflow_of held_totals file_totals)
 tells_excess h t db kind bytes held_totals file_totals was tell in_tables in_file =
-    let events : List (List ℕ) = events_of kind bytes in
+    let events : List (List ℕ) = events_of (today kind) bytes in
     let all = rows_come kind bytes in
-    let own : AreSame events (column_sums sides.SelfCost 0 held_totals.self_cost file_totals.self_cost) (own_sums (held h) (own_column kind bytes) 0 events) =
-    subst (λ l. AreSame events (column_sums sides.SelfCost 0 l file_totals.self_cost) (own_sums (held h) (own_column kind bytes) 0 events)) (sym in_tables.self_cost)
-    (own_same events (own_column kind bytes) (held h) t (tells_self h t db was tell) 0 events file_totals.self_cost (record {
+    let own : AreSame events (column_sums sides.SelfCost 0 held_totals.self_cost file_totals.self_cost) (own_sums (held h) (own_column (today kind) bytes) 0 events) =
+    subst (λ l. AreSame events (column_sums sides.SelfCost 0 l file_totals.self_cost) (own_sums (held h) (own_column (today kind) bytes) 0 events)) (sym in_tables.self_cost)
+    (own_same events (own_column (today kind) bytes) (held h) t (tells_self h t db was tell) 0 events file_totals.self_cost (record {
       names = λ j low. ap (λ n. slice_index_or events n []) (none_first j);
       many = in_file.self_columns;
-      are = λ j low. in_file.self_cost j low ∙ all.cells (λ _. true) j ∙ ap (own_column kind bytes) (sym (none_first j));
+      are = λ j low. in_file.self_cost j low ∙ all.cells (λ _. true) j ∙ ap (own_column (today kind) bytes) (sym (none_first j));
     })) in
-    let calls : AreSame events (column_sums sides.CallCost 0 held_totals.call_cost file_totals.call_cost) (call_sums (held h) (call_column kind bytes) 0 events) =
-    subst (λ l. AreSame events (column_sums sides.CallCost 0 l file_totals.call_cost) (call_sums (held h) (call_column kind bytes) 0 events)) (sym in_tables.call_cost)
-    (call_same events (call_column kind bytes) (held h) t (tells_calls h t db was tell) 0 events file_totals.call_cost (record {
+    let calls : AreSame events (column_sums sides.CallCost 0 held_totals.call_cost file_totals.call_cost) (call_sums (held h) (call_column (today kind) bytes) 0 events) =
+    subst (λ l. AreSame events (column_sums sides.CallCost 0 l file_totals.call_cost) (call_sums (held h) (call_column (today kind) bytes) 0 events)) (sym in_tables.call_cost)
+    (call_same events (call_column (today kind) bytes) (held h) t (tells_calls h t db was tell) 0 events file_totals.call_cost (record {
       names = λ j low. ap (λ n. slice_index_or events n []) (none_first j);
       many = in_file.call_columns;
-      are = λ j low. in_file.call_cost j low ∙ all.arcs (λ _ _. true) j ∙ ap (call_column kind bytes) (sym (none_first j));
+      are = λ j low. in_file.call_cost j low ∙ all.arcs (λ _ _. true) j ∙ ap (call_column (today kind) bytes) (sym (none_first j));
     })) in
-    let count : held_totals.call_count + file_totals.call_count ≡ calls_held (held h) + calls_of kind bytes =
+    let count : held_totals.call_count + file_totals.call_count ≡ calls_held (held h) + calls_of (today kind) bytes =
     ap₂ ◌+◌ (in_tables.call_count ∙ tells_count h t tell) (in_file.call_count ∙ all.counts (λ _ _. true)) in
-    first_same events (sums_of held_totals file_totals) (sums_with (held h) kind bytes)
+    first_same events (sums_of held_totals file_totals) (sums_with (held h) (today kind) bytes)
     (same_append events
     (column_sums sides.SelfCost 0 held_totals.self_cost file_totals.self_cost ++ column_sums sides.CallCost 0 held_totals.call_cost file_totals.call_cost)
     (record { of = record { side = sides.CallCount; column = 0 }; sum = held_totals.call_count + file_totals.call_count } ∷ [])
-    (own_sums (held h) (own_column kind bytes) 0 events ++ call_sums (held h) (call_column kind bytes) 0 events)
-    (record { of = CallCount; sum = calls_held (held h) + calls_of kind bytes } ∷ [])
-    (same_append events (column_sums sides.SelfCost 0 held_totals.self_cost file_totals.self_cost) (column_sums sides.CallCost 0 held_totals.call_cost file_totals.call_cost) (own_sums (held h) (own_column kind bytes) 0 events)
-    (call_sums (held h) (call_column kind bytes) 0 events) own calls)
+    (own_sums (held h) (own_column (today kind) bytes) 0 events ++ call_sums (held h) (call_column (today kind) bytes) 0 events)
+    (record { of = CallCount; sum = calls_held (held h) + calls_of (today kind) bytes } ∷ [])
+    (same_append events (column_sums sides.SelfCost 0 held_totals.self_cost file_totals.self_cost) (column_sums sides.CallCost 0 held_totals.call_cost file_totals.call_cost) (own_sums (held h) (own_column (today kind) bytes) 0 events)
+    (call_sums (held h) (call_column (today kind) bytes) 0 events) own calls)
     (record { of = refl; sum = count }, tt))

@@ -8,7 +8,7 @@ use Rattle.std.proofs.lemmas.List.Sums.{sum_by-append, sum_by-cons}
 use Rattle.cg_text.specs.Distinct.{are_distinct}
 use Rattle.cost_rows.specs.Admit.{bound}
 use Rattle.cost_rows.proofs.NamingLemmas.{same_bytes}
-use Rattle.profile_records.specs.declared.kinds.Kind.{Kind}
+use Rattle.histories.specs.Formats.{Format}
 use Rattle.sources.specs.Outcomes.{bytes_of}
 use Rattle.histories.specs.Files.{events_of}
 use Rattle.histories.specs.History.{Said, Import, History, File, held}
@@ -121,36 +121,36 @@ module _ (m : File → ℕ) (p : File → Bool) where
 
 left_fit : (p : File → Bool) (files : List File) → SumsFit files → SumsFit (filter p files ++ [])
 left_fit p files was = record {
-  self_cost = λ name. stay_fit (λ (f : File). column_named name (own_column f.kind f.bytes) 0 (events_of f.kind f.bytes)) p files (was.self_cost name);
-  call_cost = λ name. stay_fit (λ (f : File). column_named name (call_column f.kind f.bytes) 0 (events_of f.kind f.bytes)) p files (was.call_cost name);
-  call_count = stay_fit (λ (f : File). calls_of f.kind f.bytes) p files was.call_count;
+  self_cost = λ name. stay_fit (λ (f : File). column_named name (own_column f.format f.bytes) 0 (events_of f.format f.bytes)) p files (was.self_cost name);
+  call_cost = λ name. stay_fit (λ (f : File). column_named name (call_column f.format f.bytes) 0 (events_of f.format f.bytes)) p files (was.call_cost name);
+  call_count = stay_fit (λ (f : File). calls_of f.format f.bytes) p files was.call_count;
 }
 
-import_fit : (p : File → Bool) (files : List File) (number : ℕ) (kind : Kind) (label bytes : List ℕ) → SumsFit files → are_distinct (events_of kind bytes) ≡ true → excess_of files kind bytes ≡ None
-    → SumsFit (filter p files ++ record { number = number; kind = kind; label = label; bytes = bytes } ∷ [])
-import_fit p files number kind label bytes was distinct none =
-    let events : List (List ℕ) = events_of kind bytes in
-    let f : File = record { number = number; kind = kind; label = label; bytes = bytes } in
-    let own : List Sum = own_sums files (own_column kind bytes) 0 events in
-    let calls : List Sum = call_sums files (call_column kind bytes) 0 events in
-    let count : List Sum = record { of = CallCount; sum = calls_held files + calls_of kind bytes } ∷ [] in
-    let costs = split (own ++ calls) count (all_fit (sums_with files kind bytes) none) in
+import_fit : (p : File → Bool) (files : List File) (number : ℕ) (format : Format) (label bytes : List ℕ) → SumsFit files → are_distinct (events_of format bytes) ≡ true → excess_of files format bytes ≡ None
+    → SumsFit (filter p files ++ record { number = number; format = format; label = label; bytes = bytes } ∷ [])
+import_fit p files number format label bytes was distinct none =
+    let events : List (List ℕ) = events_of format bytes in
+    let f : File = record { number = number; format = format; label = label; bytes = bytes } in
+    let own : List Sum = own_sums files (own_column format bytes) 0 events in
+    let calls : List Sum = call_sums files (call_column format bytes) 0 events in
+    let count : List Sum = record { of = CallCount; sum = calls_held files + calls_of format bytes } ∷ [] in
+    let costs = split (own ++ calls) count (all_fit (sums_with files format bytes) none) in
     let each = split own calls costs.0 in
     record {
       self_cost = λ name.
-          more_fit (λ (f : File). column_named name (own_column f.kind f.bytes) 0 (events_of f.kind f.bytes)) p files f
-          (named_fits (own_held files) (own_column kind bytes) name 0 events distinct (was.self_cost name) (own_fit files (own_column kind bytes) 0 events each.0));
+          more_fit (λ (f : File). column_named name (own_column f.format f.bytes) 0 (events_of f.format f.bytes)) p files f
+          (named_fits (own_held files) (own_column format bytes) name 0 events distinct (was.self_cost name) (own_fit files (own_column format bytes) 0 events each.0));
       call_cost = λ name.
-          more_fit (λ (f : File). column_named name (call_column f.kind f.bytes) 0 (events_of f.kind f.bytes)) p files f
-          (named_fits (calls_cost_held files) (call_column kind bytes) name 0 events distinct (was.call_cost name) (calls_fit files (call_column kind bytes) 0 events each.1));
-      call_count = more_fit (λ (f : File). calls_of f.kind f.bytes) p files f costs.1.0;
+          more_fit (λ (f : File). column_named name (call_column f.format f.bytes) 0 (events_of f.format f.bytes)) p files f
+          (named_fits (calls_cost_held files) (call_column format bytes) name 0 events distinct (was.call_cost name) (calls_fit files (call_column format bytes) 0 events each.1));
+      call_count = more_fit (λ (f : File). calls_of f.format f.bytes) p files f costs.1.0;
     }
 
 turn_fits : (limits : Limits) (h : History) (said : Said) (answer : Answer) → IsLegal limits h said answer → SumsFit (held h) → SumsFit (filter (stays said answer) (held h) ++ taken said answer)
-turn_fits limits h (Import kind label outcomes) (Run n) legal was =
-    let two = run_fits limits h kind label outcomes n legal in
-    import_fit (stays (Import kind label outcomes) (Run n)) (held h) n kind label (bytes_of outcomes) was (events_apart kind (bytes_of outcomes) two.0) two.1
-turn_fits limits h (Import kind label outcomes) answer legal was = left_fit (stays (Import kind label outcomes) answer) (held h) was
+turn_fits limits h (Import format label outcomes) (Run n) legal was =
+    let two = run_fits limits h format label outcomes n legal in
+    import_fit (stays (Import format label outcomes) (Run n)) (held h) n format label (bytes_of outcomes) was (events_apart format (bytes_of outcomes) two.0) two.1
+turn_fits limits h (Import format label outcomes) answer legal was = left_fit (stays (Import format label outcomes) answer) (held h) was
 turn_fits limits h said answer legal was = left_fit (stays said answer) (held h) was
 
 no_sum : 0 ≤ bound

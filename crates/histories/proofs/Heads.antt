@@ -15,7 +15,7 @@ use Rattle.sqlite_value.specs.declared.value.Value.TheVariants.{Int, Blob}
 use Rattle.sql_tables.proofs.Rows.{map-append}
 use Rattle.cg_formulas.specs.Formulas.{coefficient}
 use Rattle.cg_formulas.specs.declared.heads.FileHead.{FileHead}
-use Rattle.callgrind_reader.specs.Files.{definitions_of_file}
+use Rattle.callgrind_reader.specs.Files.{definitions_by}
 use Rattle.cost_rows.specs.Content.{empty}
 use Rattle.cost_rows.proofs.NamingLemmas.{same_bytes}
 use Rattle.cost_rows.proofs.WalkSumsLemmas.{is_above, column_from, column-at, one_more, none_more, nothing_each_way}
@@ -23,8 +23,7 @@ use Rattle.prof_tables.specs.Seen.{event_shown, derived_shown, coef_shown}
 use Rattle.prof_tables.specs.Tables.{Tables, CoefLine}
 use Rattle.prof_books.specs.Heads as heads
 use Rattle.prof_books.specs.Heads.{derived_lines_from, coef_line_of, coef_lines_at, coef_lines_from}
-use Rattle.profile_records.specs.declared.kinds.Kind.{Kind}
-use Rattle.profile_records.specs.declared.kinds.Kind.TheVariants.{Callgrind, Folded}
+use Rattle.histories.specs.Formats.{Format, Callgrind, Folded}
 use Rattle.histories.specs.Files.{events_of, derived_of}
 use Rattle.histories.specs.History.{History, File, held}
 use Rattle.histories.specs.Stands.{TablesTell, event_lines_from}
@@ -202,10 +201,10 @@ wide_names : (events : List (List ℕ)) (row : List ℕ → List ℕ) (names : L
 wide_names events row [] wide = tt
 wide_names events row (name ∷ names) wide = (wide name, wide_names events row names wide)
 
-derived_wide : (kind : Kind) (bytes : List ℕ) → AreWide (length (events_of kind bytes)) (derived_of kind bytes)
-derived_wide Callgrind bytes =
-    let back = definitions_of_file bytes in
-    wide_names (events_of Callgrind bytes) (λ name. map (λ event. coefficient event name back) (events_of Callgrind bytes)) _ (λ name. length-map (events_of Callgrind bytes) (λ event. coefficient event name back))
+derived_wide : (format : Format) (bytes : List ℕ) → AreWide (length (events_of format bytes)) (derived_of format bytes)
+derived_wide (Callgrind g) bytes =
+    let back = definitions_by g bytes in
+    wide_names (events_of (Callgrind g) bytes) (λ name. map (λ event. coefficient event name back) (events_of (Callgrind g) bytes)) _ (λ name. length-map (events_of (Callgrind g) bytes) (λ event. coefficient event name back))
 derived_wide Folded bytes = tt
 
 -- ---- the head
@@ -214,11 +213,11 @@ pub tells_head : (h : History) (t : Tables) → TablesTell h t → (f : File) (h
 tells_head h t tell f head there is =
     let run = run_of t t.runs (held h) f tell.runs there in
     let read = subst (λ n. IsHeadOfRun n head t) (sym run.book.number) is in
-    let ds : List Derived = derived_of f.kind f.bytes in
+    let ds : List Derived = derived_of f.format f.bytes in
     let n : ℕ = run.line.number in
-    let events : events_of f.kind f.bytes ≡ head.events =
-    names_mixed (map event_shown (event_lines_from f 0 (events_of f.kind f.bytes))) (map event_shown (heads.event_lines_from n head empty 0 head.events)) (events_of f.kind f.bytes) head.events
-    (file_events f 0 (events_of f.kind f.bytes)) (head_events n head 0 head.events)
+    let events : events_of f.format f.bytes ≡ head.events =
+    names_mixed (map event_shown (event_lines_from f 0 (events_of f.format f.bytes))) (map event_shown (heads.event_lines_from n head empty 0 head.events)) (events_of f.format f.bytes) head.events
+    (file_events f 0 (events_of f.format f.bytes)) (head_events n head 0 head.events)
     (subst (λ lines. IsPermutation (map event_shown lines) (map event_shown (heads.event_lines_from n head empty 0 head.events))) run.book.events read.events) in
     let names : names_of ds ≡ names_of head.derived.derived =
     names_mixed (map derived_shown (derived_lines_from f.number 0 ds)) (map derived_shown (derived_lines_from n 0 head.derived.derived)) (names_of ds) (names_of head.derived.derived)
@@ -227,12 +226,12 @@ tells_head h t tell f head there is =
     let mixed : IsPermutation (map coef_shown (coef_lines_from f.number 0 ds)) (map coef_shown (coef_lines_from n 0 head.derived.derived)) =
     subst (λ lines. IsPermutation (map coef_shown lines) (map coef_shown (coef_lines_from n 0 head.derived.derived))) run.book.coefs read.coefs in
     let wide : AreWide (length head.derived.events) head.derived.derived = recursion_from_All (λ (d : Derived). length d.1 ≡ length head.derived.events) head.derived.derived head.derived.shape in
-    let long : length head.derived.events ≡ length (events_of f.kind f.bytes) = ap length (read.own ∙ sym events) in
+    let long : length head.derived.events ≡ length (events_of f.format f.bytes) = ap length (read.own ∙ sym events) in
     record {
       events = sym events;
       derived =
           sym
-          (same_derived (length (events_of f.kind f.bytes)) 0 ds head.derived.derived names (derived_wide f.kind f.bytes) (subst (λ m. AreWide m head.derived.derived) long wide)
+          (same_derived (length (events_of f.format f.bytes)) 0 ds head.derived.derived names (derived_wide f.format f.bytes) (subst (λ m. AreWide m head.derived.derived) long wide)
           (λ p e.
           sym (all_times f.number 0 p e ds) ∙ sym (sum_by-IsPermutation (times_in p e) (map coef_shown (coef_lines_from f.number 0 ds)) (map coef_shown (coef_lines_from n 0 head.derived.derived)) mixed)
           ∙ all_times n 0 p e head.derived.derived));

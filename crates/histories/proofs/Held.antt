@@ -2,7 +2,7 @@
 use Rattle.std.proofs.Common.{◌≡◌, ℕ, ◌+◌, suc, Bool, true, false, not, ◌||◌, ◌==◌, if◌then◌else◌, List, [], ◌∷◌, ◌++◌, filter, length, Option, Some, None, refl, sym, ap, ap₂, ◌∙◌, append-nil, append_assoc, arith, cond}
 use Rattle.std.proofs.lemmas.List.Elements.{filter-append}
 use Rattle.std.proofs.lemmas.List.{length-append}
-use Rattle.profile_records.specs.declared.kinds.Kind.{Kind}
+use Rattle.histories.specs.Formats.{Format}
 use Rattle.sources.specs.Outcomes.{Outcome, bytes_of}
 use Rattle.histories.specs.History.{Said, Import, Remove, Turn, History, File, held, next, is_run, taken_by, removes, is_removed, unless_removed}
 use Rattle.histories.specs.declared.answers.Answer.{Answer}
@@ -50,8 +50,8 @@ still_removes n (Remove m) answer still = refl
 still_removes n said answer still = refl
 
 still_taken : (said : Said) (answer : Answer) → IsStill answer → taken said answer ≡ []
-still_taken (Import kind label outcomes) (Run m) still = absurd still
-still_taken (Import kind label outcomes) answer still = refl
+still_taken (Import format label outcomes) (Run m) still = absurd still
+still_taken (Import format label outcomes) answer still = refl
 still_taken said answer still = refl
 
 pub held_still : (h : History) (said : Said) (answer : Answer) → IsStill answer → held (h ++ record { said = said; answer = answer } ∷ []) ≡ held h
@@ -61,9 +61,9 @@ held_still h said answer still =
     ∙ append-nil (held h)
 
 -- a file is imported
-pub held_put : (h : History) (kind : Kind) (label : List ℕ) (outcomes : List Outcome) (n : ℕ) → held (h ++ record { said = Import kind label outcomes; answer = Run n } ∷ []) ≡ held h ++ record { number = n; kind = kind; label = label; bytes = bytes_of outcomes } ∷ []
-held_put h kind label outcomes n =
-    held_more h (record { said = Import kind label outcomes; answer = Run n }) ∙ ap (λ l. l ++ taken (Import kind label outcomes) (Run n)) (filter_all (stays (Import kind label outcomes) (Run n)) (held h) (λ f. refl))
+pub held_put : (h : History) (format : Format) (label : List ℕ) (outcomes : List Outcome) (n : ℕ) → held (h ++ record { said = Import format label outcomes; answer = Run n } ∷ []) ≡ held h ++ record { number = n; format = format; label = label; bytes = bytes_of outcomes } ∷ []
+held_put h format label outcomes n =
+    held_more h (record { said = Import format label outcomes; answer = Run n }) ∙ ap (λ l. l ++ taken (Import format label outcomes) (Run n)) (filter_all (stays (Import format label outcomes) (Run n)) (held h) (λ f. refl))
 
 -- a run is removed
 pub held_removed : (h : History) (n : ℕ) → held (h ++ record { said = Remove n; answer = Done } ∷ []) ≡ filter (λ (f : File). not (f.number == n)) (held h)
@@ -81,7 +81,7 @@ done_removes n (Remove m) of = absurd of
 done_removes n said of = refl
 
 done_taken : (said : Said) → taken said Done ≡ []
-done_taken (Import kind label outcomes) = refl
+done_taken (Import format label outcomes) = refl
 done_taken said = refl
 
 pub held_done : (h : History) (said : Said) → IsNoRemoval said → held (h ++ record { said = said; answer = Done } ∷ []) ≡ held h

@@ -41,10 +41,10 @@ pub record IsNew (h : History) (answer : Answer) (f : File) : Type 0 where
   pub counts : step answer ≡ 1
 
 pub taken_is : (limits : Limits) (h : History) (said : Said) (answer : Answer) → IsLegal limits h said answer → (taken said answer ≡ []) ⊎ ((f : File) × (taken said answer ≡ f ∷ []) × IsNew h answer f)
-taken_is limits h (Import kind label outcomes) (Run n) legal =
-    let two = run_legal limits h kind label outcomes n legal in
-    inr (record { number = n; kind = kind; label = label; bytes = bytes_of outcomes }, refl, record { number = two.0; digest = two.1; counts = refl })
-taken_is limits h (Import kind label outcomes) answer legal = inl refl
+taken_is limits h (Import format label outcomes) (Run n) legal =
+    let two = run_legal limits h format label outcomes n legal in
+    inr (record { number = n; format = format; label = label; bytes = bytes_of outcomes }, refl, record { number = two.0; digest = two.1; counts = refl })
+taken_is limits h (Import format label outcomes) answer legal = inl refl
 taken_is limits h said answer legal = inl refl
 
 below_later : (m n : ℕ) (files : List File) → m ≤ n → AreBelow m files → AreBelow n files

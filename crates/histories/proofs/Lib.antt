@@ -12,6 +12,8 @@ pub mod Heads
 pub mod Held
 pub mod Invariants
 pub mod Lists
+mod MarkExamples
+pub mod Marks
 pub mod Members
 pub mod Parents
 pub mod Put

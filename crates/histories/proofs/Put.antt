@@ -15,11 +15,13 @@ use Rattle.prof_books.specs.Book.{Book, book_of, with_run_book}
 use Rattle.prof_books.specs.Heads as heads
 use Rattle.prof_books.specs.Heads.{event_lines, derived_lines, coef_lines, derived_lines_from, coef_lines_from, stated_at}
 use Rattle.prof_books.specs.Runs.{run_line_of, with_file, file_book}
+use Rattle.profile_records.specs.Kinds.{kind_number}
 use Rattle.profile_records.specs.declared.kinds.Kind.{Kind}
 use Rattle.profile_records.specs.declared.kinds.Kind.TheVariants.{Callgrind, Folded}
 use Rattle.prof_books.proofs.Books.{book_put, named_put}
 use Rattle.prof_books.proofs.Filed.{head_of_run}
 use Rattle.prof_books.proofs.Parts.{counts_are, costs_are, calls_are}
+use Rattle.histories.specs.Formats.{kind_in, today}
 use Rattle.histories.specs.Files.{events_of, derived_of, stated_of, IsHeadOf, rows_of}
 use Rattle.sources.specs.Outcomes.{Outcome, bytes_of}
 use Rattle.histories.specs.History.{Import, History, File, held, baseline}
@@ -38,23 +40,27 @@ use Rattle.histories.proofs.Turns.{history_more}
 
 -- ---- the parts of a head
 
-head_events : (kind : Kind) (head : FileHead) (bytes : List ℕ) → IsHeadOf kind head bytes → head.events ≡ events_of kind bytes
+head_events : (kind : Kind) (head : FileHead) (bytes : List ℕ) → IsHeadOf kind head bytes → head.events ≡ events_of (today kind) bytes
 head_events Callgrind head bytes is = is.events
 head_events Folded head bytes is = is.events
 
-head_derived : (kind : Kind) (head : FileHead) (bytes : List ℕ) → IsHeadOf kind head bytes → head.derived.derived ≡ derived_of kind bytes
+head_derived : (kind : Kind) (head : FileHead) (bytes : List ℕ) → IsHeadOf kind head bytes → head.derived.derived ≡ derived_of (today kind) bytes
 head_derived Callgrind head bytes is = is.derived
 head_derived Folded head bytes is = is.derived
 
-head_stated : (kind : Kind) (head : FileHead) (bytes : List ℕ) → IsHeadOf kind head bytes → head.stated ≡ stated_of kind bytes
+head_stated : (kind : Kind) (head : FileHead) (bytes : List ℕ) → IsHeadOf kind head bytes → head.stated ≡ stated_of (today kind) bytes
 head_stated Callgrind head bytes is = is.stated
 head_stated Folded head bytes is = is.stated
+
+kind_back : (kind : Kind) → kind_in (today kind) ≡ kind
+kind_back Callgrind = refl
+kind_back Folded = refl
 
 -- ---- the run of a file in the book
 
 module _ (number : ℕ) (kind : Kind) (label bytes : List ℕ) (head : FileHead) (is : IsHeadOf kind head bytes) where
   abbrev file : File
-  file = record { number = number; kind = kind; label = label; bytes = bytes }
+  file = record { number = number; format = today kind; label = label; bytes = bytes }
 
   abbrev rows : Content
   rows = rows_of kind bytes
@@ -70,7 +76,7 @@ module _ (number : ℕ) (kind : Kind) (label bytes : List ℕ) (head : FileHead)
       let all = rows_come kind bytes in
       record {
         number = refl;
-        kind = refl;
+        kind = ap kind_number (sym (kind_back kind));
         digest = refl;
         label = refl;
         call_count = all.counts (λ _ _. true);
@@ -97,34 +103,34 @@ module _ (limits : Limits) (h : History) (kind : Kind) (label : List ℕ) (outco
   after = with_file t.next kind digest label head c t
 
   abbrev later : History
-  later = h ++ record { said = Import kind label outcomes; answer = Run t.next } ∷ []
+  later = h ++ record { said = Import (today kind) label outcomes; answer = Run t.next } ∷ []
 
-  pub tell_put : Holds t db → Holds (with_file t.next kind (sha256 (bytes_of outcomes)) label head c t) next → TablesTell h t → IsLegal limits h (Import kind label outcomes) (Run t.next)
+  pub tell_put : Holds t db → Holds (with_file t.next kind (sha256 (bytes_of outcomes)) label head c t) next → TablesTell h t → IsLegal limits h (Import (today kind) label outcomes) (Run t.next)
       → IsHeadOf kind head (bytes_of outcomes) → c ≡ rows_of kind (bytes_of outcomes)
-      → TablesTell (h ++ record { said = Import kind label outcomes; answer = Run t.next } ∷ []) (with_file t.next kind (sha256 (bytes_of outcomes)) label head c t)
+      → TablesTell (h ++ record { said = Import (today kind) label outcomes; answer = Run t.next } ∷ []) (with_file t.next kind (sha256 (bytes_of outcomes)) label head c t)
   tell_put was is tell legal has rows_are =
       let names = subst AreHeld (sym rows_are) (rows_come kind (bytes_of outcomes)).held in
       let lines = head_of_run t.next head c in
       let run = run_line_of t.next kind digest label c in
       let book : book_of after ≡ with_run_book (file_book t.next kind digest label head c) (book_of t) =
       book_put run (event_lines t.next head c) (derived_lines t.next head) (coef_lines t.next head) c t db next was is tell.named names refl lines in
-      let one : IsBookOf (record { number = t.next; kind = kind; label = label; bytes = bytes_of outcomes }) (file_book t.next kind digest label head c) =
-      subst (λ rows. IsBookOf (record { number = t.next; kind = kind; label = label; bytes = bytes_of outcomes }) (file_book t.next kind digest label head rows)) (sym rows_are)
+      let one : IsBookOf (record { number = t.next; format = today kind; label = label; bytes = bytes_of outcomes }) (file_book t.next kind digest label head c) =
+      subst (λ rows. IsBookOf (record { number = t.next; format = today kind; label = label; bytes = bytes_of outcomes }) (file_book t.next kind digest label head rows)) (sym rows_are)
       (book_of_file t.next kind label (bytes_of outcomes) head has) in
       record {
-        legal = history_more limits h (Import kind label outcomes) (Run t.next) tell.legal legal;
+        legal = history_more limits h (Import (today kind) label outcomes) (Run t.next) tell.legal legal;
         named = named_put run (event_lines t.next head c) (derived_lines t.next head) (coef_lines t.next head) c t db next was is tell.named names refl lines;
-        next = ap (λ (b : Book). b.next) book ∙ ap suc tell.next ∙ sym (next_run h (Import kind label outcomes) t.next);
+        next = ap (λ (b : Book). b.next) book ∙ ap suc tell.next ∙ sym (next_run h (Import (today kind) label outcomes) t.next);
         runs =
             subst (λ (b : Book). AreBooksOf (held later) b.runs) (sym book)
-            (subst (λ files. AreBooksOf files ((book_of t).runs ++ file_book t.next kind digest label head c ∷ [])) (sym (held_put h kind label outcomes t.next))
-            (books_push (held h) (book_of t).runs (record { number = t.next; kind = kind; label = label; bytes = bytes_of outcomes }) (file_book t.next kind digest label head c) tell.runs one));
-        groups = ap (λ (b : Book). map (λ (g : GroupLine). g.name) b.groups) book ∙ tell.groups ∙ sym (groups_other h (Import kind label outcomes) (Run t.next) tt);
+            (subst (λ files. AreBooksOf files ((book_of t).runs ++ file_book t.next kind digest label head c ∷ [])) (sym (held_put h (today kind) label outcomes t.next))
+            (books_push (held h) (book_of t).runs (record { number = t.next; format = today kind; label = label; bytes = bytes_of outcomes }) (file_book t.next kind digest label head c) tell.runs one));
+        groups = ap (λ (b : Book). map (λ (g : GroupLine). g.name) b.groups) book ∙ tell.groups ∙ sym (groups_other h (Import (today kind) label outcomes) (Run t.next) tt);
         baselines =
             subst (λ (b : Book). AllByRecursion (λ (g : GroupLine). g.baseline ≡ baseline later g.name) b.groups) (sym book)
             (all_on (λ (g : GroupLine). g.baseline ≡ baseline h g.name) (λ (g : GroupLine). g.baseline ≡ baseline later g.name) t.groups
-            (λ g same. same ∙ sym (baseline_other h (Import kind label outcomes) (Run t.next) g.name tt)) tell.baselines);
+            (λ g same. same ∙ sym (baseline_other h (Import (today kind) label outcomes) (Run t.next) g.name tt)) tell.baselines);
         members = λ name n.
             ap (λ (b : Book). list_any (changes.is_member name n) b.members) book ∙ tell.members name n
-            ∙ sym (member_other h (Import kind label outcomes) (Run t.next) name n tt);
+            ∙ sym (member_other h (Import (today kind) label outcomes) (Run t.next) name n tt);
       }

@@ -17,6 +17,7 @@ use Rattle.cost_rows.specs.declared.keys.Key.TheVariants as keys
 use Rattle.profile_records.specs.declared.kinds.Kind.{Kind}
 use Rattle.profile_records.specs.declared.kinds.Kind.TheVariants.{Callgrind, Folded}
 use Rattle.sources.specs.Outcomes.{Gave}
+use Rattle.histories.specs.Formats.{today}
 use Rattle.histories.specs.History.{History, Import, Remove, MakeGroup, Join, SetBaseline, Turn}
 use Rattle.histories.specs.Legal.{expected_of_query}
 use Rattle.histories.specs.declared.answers.Answer.{Answer}
@@ -29,7 +30,7 @@ use Rattle.histories.specs.declared.answers.Selection.TheVariants as selections
 -- ---- files and histories
 
 abbrev imported : ℕ → Kind → List ℕ → Turn
-imported n kind bytes = record { said = Import kind (codes "a") (Gave bytes ∷ Gave [] ∷ []); answer = Run n }
+imported n kind bytes = record { said = Import (today kind) (codes "a") (Gave bytes ∷ Gave [] ∷ []); answer = Run n }
 
 abbrev whole : Cut
 whole = record { limit = None; threshold = 100 }

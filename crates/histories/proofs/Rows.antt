@@ -15,6 +15,7 @@ use Rattle.cost_rows.proofs.StackSumsLemmas.{held-stacks, sums-stacks}
 use Rattle.cost_rows.proofs.SumsLemmas.{held-records, sums-cells, sums-arcs, sums-counts, calls-there}
 use Rattle.profile_records.specs.declared.kinds.Kind.{Kind}
 use Rattle.profile_records.specs.declared.kinds.Kind.TheVariants.{Callgrind, Folded}
+use Rattle.histories.specs.Formats.{today}
 use Rattle.histories.specs.Files.{records_of, stacks_of, rows_of, sample}
 
 pub record ComesTo (c : Content) (records : List Record) (stacks : List Seen) : Type 0 where
@@ -80,6 +81,6 @@ stacks_come seen = record {
     columns passes zero = (sums-stacks seen).cells passes ∙ own_first passes seen
     columns passes (suc k) = (sums-stacks seen).further passes k ∙ sym (own_further passes k seen)
 
-pub rows_come : (kind : Kind) (bytes : List ℕ) → ComesTo (rows_of kind bytes) (records_of kind bytes) (stacks_of kind bytes)
+pub rows_come : (kind : Kind) (bytes : List ℕ) → ComesTo (rows_of kind bytes) (records_of (today kind) bytes) (stacks_of (today kind) bytes)
 rows_come Callgrind bytes = records_come (records_of_file bytes)
 rows_come Folded bytes = stacks_come (stacks_of_file bytes)

@@ -60,9 +60,9 @@ rows_of_book : (t : Tables) (r : RunLine) (f : File) → IsBookOf f (run_held t 
 rows_of_book t r f is = record {
   cells = is.cells;
   calls = λ rows are. record {
-    counts = λ passes. counts_are passes rows ∙ subst (λ parts. parts_sum passes 0 parts ≡ count_sum passes (records_of f.kind f.bytes)) are (is.counts passes);
-    costs = λ passes k. costs_are passes k rows ∙ subst (λ parts. parts_sum passes (suc k) parts ≡ call_sum passes k (records_of f.kind f.bytes)) are (is.costs passes k);
-    called = λ passes. calls_are passes rows ∙ subst (λ parts. has_part passes parts ≡ has_call passes (records_of f.kind f.bytes)) are (is.called passes);
+    counts = λ passes. counts_are passes rows ∙ subst (λ parts. parts_sum passes 0 parts ≡ count_sum passes (records_of f.format f.bytes)) are (is.counts passes);
+    costs = λ passes k. costs_are passes k rows ∙ subst (λ parts. parts_sum passes (suc k) parts ≡ call_sum passes k (records_of f.format f.bytes)) are (is.costs passes k);
+    called = λ passes. calls_are passes rows ∙ subst (λ parts. has_part passes parts ≡ has_call passes (records_of f.format f.bytes)) are (is.called passes);
   };
   stacks = is.stacks;
   whole = is.whole;

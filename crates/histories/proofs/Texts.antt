@@ -16,6 +16,7 @@ use Rattle.prof_books.specs.Entries.{HeldRun, held_run}
 use Rattle.profile_records.specs.Kinds.{kind_number}
 use Rattle.profile_records.specs.declared.kinds.Kind.{Kind}
 use Rattle.profile_records.specs.declared.kinds.Kind.TheVariants.{Callgrind, Folded}
+use Rattle.histories.specs.Formats.{kind_in}
 use Rattle.histories.specs.History.{History, File, held, groups, members, is_member, baseline}
 use Rattle.histories.specs.Legal.{IsHistory, has_run}
 use Rattle.histories.specs.Stands.{TablesTell, file_run}
@@ -45,7 +46,7 @@ module _ {E : Type 0} (number : E → ℕ) (kind : E → Kind) (digest : E → L
       let first : run e ≡ file_run f = cc in
       let later : map run es ≡ map file_run files = cc in
       ap₂ ◌++◌
-      (ap₂ (λ n k. run_text n k (sha256 f.bytes) f.label) (sym (ap (λ (r : HeldRun). r.number) first)) (sym (same_kind (kind e) f.kind (ap (λ (r : HeldRun). r.kind) first)))
+      (ap₂ (λ n k. run_text n k (sha256 f.bytes) f.label) (sym (ap (λ (r : HeldRun). r.number) first)) (sym (same_kind (kind e) (kind_in f.format) (ap (λ (r : HeldRun). r.kind) first)))
       ∙ ap₂ (λ d l. run_text (number e) (kind e) d l) (sym (ap (λ (r : HeldRun). r.digest) first)) (sym (ap (λ (r : HeldRun). r.label) first)))
       (run_lines es files later)
 

@@ -91,7 +91,7 @@ per_run m runs (e ∷ events) up there =
 
 abbrev event_line : File → ℕ → List ℕ → EventLine
 event_line f place event =
-    record { run = f.number; place = place; name = event; self_cost = own_column f.kind f.bytes place; call_cost = call_column f.kind f.bytes place; stated = stated_at (stated_of f.kind f.bytes) place }
+    record { run = f.number; place = place; name = event; self_cost = own_column f.format f.bytes place; call_cost = call_column f.format f.bytes place; stated = stated_at (stated_of f.format f.bytes) place }
 
 named_lines : (m : EventLine → ℕ) (column : ℕ → ℕ) (name : List ℕ) (f : File) (place : ℕ) (events : List (List ℕ)) → ((place : ℕ) (event : List ℕ) → m (event_line f place event) ≡ column place)
     → sum_by (λ (e : EventLine). part (bytes_eq e.name name) (m e)) (event_lines_from f place events) ≡ column_named name column place events
@@ -123,35 +123,35 @@ module _ (t : Tables) where
 
   sums_of : (m : EventLine → ℕ) (column : File → ℕ → ℕ) (name : List ℕ) (runs : List RunLine) (files : List File) → ((f : File) (place : ℕ) (event : List ℕ) → m (event_line f place event) ≡ column f place) → books runs files
       → sum_by (λ (r : RunLine). sum_by (λ (e : EventLine). part (bytes_eq e.name name) (m e)) (filter (λ (e : EventLine). e.run == r.number) t.events)) runs
-      ≡ sum_by (λ (f : File). column_named name (column f) 0 (events_of f.kind f.bytes)) files
+      ≡ sum_by (λ (f : File). column_named name (column f) 0 (events_of f.format f.bytes)) files
   sums_of m column name [] [] is all = refl
   sums_of m column name [] (f ∷ files) is all = absurd all
   sums_of m column name (r ∷ runs) [] is all = absurd all
   sums_of m column name (r ∷ runs) (f ∷ files) is all =
       sum_by-cons (λ (r : RunLine). sum_by (λ (e : EventLine). part (bytes_eq e.name name) (m e)) (filter (λ (e : EventLine). e.run == r.number) t.events)) r runs
-      ∙ ap₂ ◌+◌ (ap (sum_by (λ (e : EventLine). part (bytes_eq e.name name) (m e))) all.0.events ∙ named_lines m (column f) name f 0 (events_of f.kind f.bytes) (is f)) (sums_of m column name runs files is all.1)
-      ∙ sym (sum_by-cons (λ (f : File). column_named name (column f) 0 (events_of f.kind f.bytes)) f files)
+      ∙ ap₂ ◌+◌ (ap (sum_by (λ (e : EventLine). part (bytes_eq e.name name) (m e))) all.0.events ∙ named_lines m (column f) name f 0 (events_of f.format f.bytes) (is f)) (sums_of m column name runs files is all.1)
+      ∙ sym (sum_by-cons (λ (f : File). column_named name (column f) 0 (events_of f.format f.bytes)) f files)
 
-  counts_of : (runs : List RunLine) (files : List File) → books runs files → sum_by (λ (r : RunLine). r.call_count) runs ≡ sum_by (λ (f : File). calls_of f.kind f.bytes) files
+  counts_of : (runs : List RunLine) (files : List File) → books runs files → sum_by (λ (r : RunLine). r.call_count) runs ≡ sum_by (λ (f : File). calls_of f.format f.bytes) files
   counts_of [] [] all = refl
   counts_of [] (f ∷ files) all = absurd all
   counts_of (r ∷ runs) [] all = absurd all
   counts_of (r ∷ runs) (f ∷ files) all =
-      sum_by-cons (λ (r : RunLine). r.call_count) r runs ∙ ap₂ ◌+◌ all.0.call_count (counts_of runs files all.1) ∙ sym (sum_by-cons (λ (f : File). calls_of f.kind f.bytes) f files)
+      sum_by-cons (λ (r : RunLine). r.call_count) r runs ∙ ap₂ ◌+◌ all.0.call_count (counts_of runs files all.1) ∙ sym (sum_by-cons (λ (f : File). calls_of f.format f.bytes) f files)
 
 module _ (h : History) (t : Tables) (db : Trees) (was : Holds t db) (tell : TablesTell h t) where
   sums : (m : EventLine → ℕ) (column : File → ℕ → ℕ) (name : List ℕ) → ((f : File) (place : ℕ) (event : List ℕ) → m (event_line f place event) ≡ column f place)
-      → sum_by m (lines_named name t) ≡ sum_by (λ (f : File). column_named name (column f) 0 (events_of f.kind f.bytes)) (held h)
+      → sum_by m (lines_named name t) ≡ sum_by (λ (f : File). column_named name (column f) 0 (events_of f.format f.bytes)) (held h)
   sums m column name is =
       sum_filter m (λ (e : EventLine). bytes_eq e.name name) t.events
       ∙ per_run (λ (e : EventLine). part (bytes_eq e.name name) (m e)) t.runs t.events (earlier_of t t.runs (held h) tell.runs (numbered h tell.legal).rising) (events_held t db was)
       ∙ sums_of t m column name t.runs (held h) is tell.runs
 
   pub tells_self : (name : List ℕ) → held_self t name ≡ own_held (held h) name
-  tells_self name = sums (λ (e : EventLine). e.self_cost) (λ f. own_column f.kind f.bytes) name (λ f place event. refl)
+  tells_self name = sums (λ (e : EventLine). e.self_cost) (λ f. own_column f.format f.bytes) name (λ f place event. refl)
 
   pub tells_calls : (name : List ℕ) → held_calls t name ≡ calls_cost_held (held h) name
-  tells_calls name = sums (λ (e : EventLine). e.call_cost) (λ f. call_column f.kind f.bytes) name (λ f place event. refl)
+  tells_calls name = sums (λ (e : EventLine). e.call_cost) (λ f. call_column f.format f.bytes) name (λ f place event. refl)
 
 pub tells_count : (h : History) (t : Tables) → TablesTell h t → held_count t ≡ calls_held (held h)
 tells_count h t tell = counts_of t t.runs (held h) tell.runs

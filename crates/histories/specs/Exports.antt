@@ -10,7 +10,7 @@ use Rattle.histories.specs.Reports.{event_records}
 
 -- whether a line of a source of this name costs something in a file, in some column
 abbrev pub knows_source : List ℕ → File → Bool
-knows_source name f = knows_file name (records_of f.kind f.bytes)
+knows_source name f = knows_file name (records_of f.format f.bytes)
 
 -- a source with what its lines cost in an event
 abbrev pub annotated_text : List ℕ → List ℕ → List ℕ → List File → List ℕ
@@ -18,13 +18,13 @@ annotated_text event name source files = annotation_text event (annotation_of_re
 
 -- the records of a file, with the names of its events by column
 abbrev pub named_records : File → NamedRecords
-named_records f = record { events = events_of f.kind f.bytes; records = records_of f.kind f.bytes }
+named_records f = record { events = events_of f.format f.bytes; records = records_of f.format f.bytes }
 
 abbrev pub csv_of_files : List File → List ℕ
 csv_of_files files = csv_text (csv_of_records (map named_records files))
 
 abbrev pub file_stacks : File → List Seen
-file_stacks f = stacks_of f.kind f.bytes
+file_stacks f = stacks_of f.format f.bytes
 
 abbrev pub folded_of_files : List File → List ℕ
 folded_of_files files = folded_text (folded_of_stacks (flat_map file_stacks files))

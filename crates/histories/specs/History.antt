@@ -1,7 +1,7 @@
 -- A history: commands and what they were answered, and what is held after it.
 use Rattle.std.specs.Prelude.{ℕ, suc, Bool, true, false, not, ◌&&◌, ◌||◌, ◌==◌, bytes_eq, if◌then◌else◌, List, [], ◌∷◌, ◌++◌, map, filter, length, Option, Some, None}
 use Rattle.std.specs.List.{list_any}
-use Rattle.profile_records.specs.declared.kinds.Kind.{Kind}
+use Rattle.histories.specs.Formats.{Format}
 use Rattle.sources.specs.Outcomes.{Outcome, bytes_of}
 use Rattle.histories.specs.declared.answers.Answer.{Answer}
 use Rattle.histories.specs.declared.answers.Answer.TheVariants.{Run, Done}
@@ -10,7 +10,7 @@ use Rattle.histories.specs.declared.answers.Selection.{Selection}
 
 -- a command; an import, and the annotation of a source by an event and the name of a file, with what the reads of the source came to
 pub data Said : Type 0 where
-  Import : Kind → List ℕ → List Outcome → Said
+  Import : Format → List ℕ → List Outcome → Said
   Remove : ℕ → Said
   MakeGroup : List ℕ → Said
   DropGroup : List ℕ → Said
@@ -37,13 +37,13 @@ with_turn h said answer = h ++ record { said = said; answer = answer } ∷ []
 
 pub record File : Type 0 where
   pub number : ℕ
-  pub kind : Kind
+  pub format : Format
   pub label : List ℕ
   pub bytes : List ℕ
 
 -- a file is held from an import that is answered with its number on
 abbrev pub taken_by : Said → Answer → Option File
-taken_by (Import kind label outcomes) (Run n) = Some (record { number = n; kind = kind; label = label; bytes = bytes_of outcomes })
+taken_by (Import format label outcomes) (Run n) = Some (record { number = n; format = format; label = label; bytes = bytes_of outcomes })
 taken_by said answer = None
 
 abbrev pub removes : ℕ → Said → Answer → Bool

@@ -7,7 +7,7 @@ use Rattle.cost_reports.specs.Functions.{function_spot}
 use Rattle.cost_rows.specs.Sums.{Spot}
 use Rattle.cg_text.specs.declared.faults.Fault as faults
 use Rattle.prof_tables.specs.Labels.{IsLabel, IsGroupName}
-use Rattle.profile_records.specs.declared.kinds.Kind.{Kind}
+use Rattle.histories.specs.Formats.{Format}
 use Rattle.histories.specs.Files.{fault_of}
 use Rattle.sources.specs.Outcomes.{Outcome, bytes_of, is_failed, is_end}
 use Rattle.histories.specs.History.{Said, Import, Remove, MakeGroup, DropGroup, Join, Leave, SetBaseline, Ask, Annotate, History, File, held, next, groups, is_member, baseline}
@@ -29,13 +29,13 @@ use Rattle.histories.specs.declared.answers.Selection.TheVariants as selections
 
 -- a label is UTF-8; the name of a group that is made has its own form
 abbrev pub IsInForm : Said → Type 0
-IsInForm (Import kind label outcomes) = IsUtf8 label × IsLabel label
+IsInForm (Import format label outcomes) = IsUtf8 label × IsLabel label
 IsInForm (MakeGroup name) = IsGroupName name
 IsInForm said = Unit {0}
 
 -- the source of an import is not read
 abbrev pub IsUnread : Said → Type 0
-IsUnread (Import kind label outcomes) = outcomes ≡ []
+IsUnread (Import format label outcomes) = outcomes ≡ []
 IsUnread said = Unit {0}
 
 -- ---- answers by the first condition that holds
@@ -74,18 +74,18 @@ abbrev pub faulty : faults.Fault × ℕ → Answer
 faulty fault = Refused (reasons.File fault.0 fault.1)
 
 -- once the source has ended
-abbrev pub file_due : Limits → History → Kind → List ℕ → Answer
-file_due limits h kind bytes = first_or
+abbrev pub file_due : Limits → History → Format → List ℕ → Answer
+file_due limits h format bytes = first_or
     (option_map Held (number_of (sha256 bytes) (held h))
-    ∷ option_map faulty (fault_of kind bytes)
-    ∷ option_map (λ excess. Refused (reasons.Overflow excess)) (excess_of (held h) kind bytes)
+    ∷ option_map faulty (fault_of format bytes)
+    ∷ option_map (λ excess. Refused (reasons.Overflow excess)) (excess_of (held h) format bytes)
     ∷ when (nat_le limits.runs (length (held h))) (Refused reasons.Full)
     ∷ when (nat_le limits.numbers (next h)) (Refused reasons.NumbersSpent)
     ∷ [])
     (Run (next h))
 
-abbrev pub expected_of_import : Limits → History → Kind → List Outcome → Option Answer
-expected_of_import limits h kind outcomes = once_read limits.bytes outcomes (file_due limits h kind (bytes_of outcomes))
+abbrev pub expected_of_import : Limits → History → Format → List Outcome → Option Answer
+expected_of_import limits h format outcomes = once_read limits.bytes outcomes (file_due limits h format (bytes_of outcomes))
 
 -- ---- all commands
 
@@ -160,7 +160,7 @@ expected_of_query h (queries.Folded selection) = first_or (no_selection h select
 
 -- what a command in form is answered, if it is answered at all
 abbrev pub expected_answer : Limits → History → Said → Option Answer
-expected_answer limits h (Import kind label outcomes) = expected_of_import limits h kind outcomes
+expected_answer limits h (Import format label outcomes) = expected_of_import limits h format outcomes
 expected_answer limits h (Remove n) = Some (first_or (no_run h n ∷ []) Done)
 expected_answer limits h (MakeGroup name) =
     Some (first_or (when (has_group h name) (Refused reasons.GroupTaken) ∷ when (nat_le limits.groups (length (groups h))) (Refused reasons.Full) ∷ []) Done)

@@ -1,8 +1,10 @@
 pub mod Entries
 pub mod Exports
 pub mod Files
+pub mod Formats
 pub mod History
 pub mod Legal
+pub mod Marks
 pub mod Reports
 pub mod SelectedRuns
 pub mod Selections

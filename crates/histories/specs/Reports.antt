@@ -20,15 +20,14 @@ use Rattle.cost_reports.specs.declared.call_sides.CallSide.{CallSide}
 use Rattle.cost_reports.specs.declared.cuts.Cut.{Cut}
 use Rattle.profile_records.specs.Records.{Record, Own, Called}
 use Rattle.profile_records.specs.Stacks.{Seen}
-use Rattle.profile_records.specs.declared.kinds.Kind.{Kind}
-use Rattle.profile_records.specs.declared.kinds.Kind.TheVariants.{Callgrind, Folded}
+use Rattle.histories.specs.Formats.{Format, Callgrind, Folded}
 use Rattle.histories.specs.Files.{events_of, derived_of, stated_of, records_of, stacks_of}
 use Rattle.histories.specs.History.{File}
 use Rattle.histories.specs.Sums.{own_column}
 
 -- how often each column of a file counts in an event, if the file has it
 abbrev pub counts_of : List ℕ → File → Option (List ℕ)
-counts_of event f = row_in (events_of f.kind f.bytes) (derived_of f.kind f.bytes) event
+counts_of event f = row_in (events_of f.format f.bytes) (derived_of f.format f.bytes) event
 
 abbrev pub has_event : List ℕ → File → Bool
 has_event event f = is_some (counts_of event f)
@@ -37,7 +36,7 @@ has_event event f = is_some (counts_of event f)
 
 -- the records of a file, which cost nothing in an event that it does not have
 abbrev pub event_records : List ℕ → File → EventRecords
-event_records event f = record { coefs = unwrap_or (counts_of event f) []; records = records_of f.kind f.bytes }
+event_records event f = record { coefs = unwrap_or (counts_of event f) []; records = records_of f.format f.bytes }
 
 -- what the self records of files cost in all
 abbrev pub self_costs : List ℕ → List File → ℕ
@@ -52,16 +51,16 @@ by_text files key event cut = key_report_text event (report_by files key event c
 -- ---- inclusive costs
 
 -- the records of a Callgrind file; a folded one has stacks in their place
-abbrev pub called_records : Kind → List ℕ → List Record
-called_records Callgrind bytes = records_of Callgrind bytes
+abbrev pub called_records : Format → List ℕ → List Record
+called_records (Callgrind g) bytes = records_of (Callgrind g) bytes
 called_records Folded bytes = []
 
 abbrev pub inclusive_records : List ℕ → File → EventRecords
-inclusive_records event f = record { coefs = unwrap_or (counts_of event f) []; records = called_records f.kind f.bytes }
+inclusive_records event f = record { coefs = unwrap_or (counts_of event f) []; records = called_records f.format f.bytes }
 
 -- the stacks of a file, which count nothing in an event that it does not have
 abbrev pub event_stacks : List ℕ → File → List Seen
-event_stacks event f = if has_event event f then stacks_of f.kind f.bytes else []
+event_stacks event f = if has_event event f then stacks_of f.format f.bytes else []
 
 abbrev pub inclusive_of : List File → List ℕ → InclusiveCosts
 inclusive_of files event = inclusive_costs (map (inclusive_records event) files) (flat_map (event_stacks event) files)
@@ -88,7 +87,7 @@ abbrev pub is_seen_in : Spot → Seen → Bool
 is_seen_in f s = nat_lt 0 s.stack.count && is_frame f s.stack.frames
 
 abbrev pub knows : Spot → File → Bool
-knows f file = list_any (tells_of f) (records_of file.kind file.bytes) || list_any (is_seen_in f) (stacks_of file.kind file.bytes)
+knows f file = list_any (tells_of f) (records_of file.format file.bytes) || list_any (is_seen_in f) (stacks_of file.format file.bytes)
 
 -- ---- differences
 
@@ -106,13 +105,13 @@ subtract_text key event firsts seconds = difference_text event (difference_by ke
 -- the sums of columns, from one on
 abbrev pub own_columns_from : File → ℕ → List (List ℕ) → List ℕ
 own_columns_from f k [] = []
-own_columns_from f k (event ∷ events) = own_column f.kind f.bytes k ∷ own_columns_from f (suc k) events
+own_columns_from f k (event ∷ events) = own_column f.format f.bytes k ∷ own_columns_from f (suc k) events
 
 abbrev pub own_columns : File → List ℕ
-own_columns f = own_columns_from f 0 (events_of f.kind f.bytes)
+own_columns f = own_columns_from f 0 (events_of f.format f.bytes)
 
 abbrev pub file_verified : File → List ℕ
-file_verified f = verify_text (verified f.number (events_of f.kind f.bytes) (own_columns f) (stated_of f.kind f.bytes))
+file_verified f = verify_text (verified f.number (events_of f.format f.bytes) (own_columns f) (stated_of f.format f.bytes))
 
 abbrev pub verified_text : List File → List ℕ
 verified_text files = flat_map file_verified files

@@ -16,6 +16,7 @@ use Rattle.prof_books.specs.Runs.{CanBeHeld, with_file}
 use Rattle.profile_records.specs.Kinds.{kind_number}
 use Rattle.profile_records.specs.declared.kinds.Kind.{Kind}
 use Rattle.prof_books.specs.Parts.{parts_sum, has_part, AreOfRows}
+use Rattle.histories.specs.Formats.{kind_in, today}
 use Rattle.histories.specs.Files.{events_of, derived_of, stated_of, records_of, stacks_of, rows_of, IsHeadOf}
 use Rattle.sources.specs.Outcomes.{Outcome, bytes_of}
 use Rattle.histories.specs.History.{Said, Import, History, File, with_turn, held, next, groups, is_member, baseline}
@@ -34,30 +35,30 @@ event_lines_from f place (event ∷ events) = record {
   run = f.number;
   place = place;
   name = event;
-  self_cost = own_column f.kind f.bytes place;
-  call_cost = call_column f.kind f.bytes place;
-  stated = stated_at (stated_of f.kind f.bytes) place;
+  self_cost = own_column f.format f.bytes place;
+  call_cost = call_column f.format f.bytes place;
+  stated = stated_at (stated_of f.format f.bytes) place;
 } ∷ event_lines_from f (suc place) events
 
 -- what the book says of a run is what its file says
 pub record IsBookOf (f : File) (r : RunBook) : Type 0 where
   pub number : r.line.number ≡ f.number
-  pub kind : r.line.kind ≡ kind_number f.kind
+  pub kind : r.line.kind ≡ kind_number (kind_in f.format)
   pub digest : r.line.digest ≡ sha256 f.bytes
   pub label : r.line.label ≡ f.label
-  pub call_count : r.line.call_count ≡ calls_of f.kind f.bytes
-  pub events : r.events ≡ event_lines_from f 0 (events_of f.kind f.bytes)
-  pub derived : r.derived ≡ derived_lines_from f.number 0 (derived_of f.kind f.bytes)
-  pub coefs : r.coefs ≡ coef_lines_from f.number 0 (derived_of f.kind f.bytes)
+  pub call_count : r.line.call_count ≡ calls_of f.format f.bytes
+  pub events : r.events ≡ event_lines_from f 0 (events_of f.format f.bytes)
+  pub derived : r.derived ≡ derived_lines_from f.number 0 (derived_of f.format f.bytes)
+  pub coefs : r.coefs ≡ coef_lines_from f.number 0 (derived_of f.format f.bytes)
   -- for every test of places and each column, the cells come to the self records
-  pub cells : (passes : Spot → Bool) (k : ℕ) → rows_cost passes k r.cells ≡ own_sum passes k (records_of f.kind f.bytes)
+  pub cells : (passes : Spot → Bool) (k : ℕ) → rows_cost passes k r.cells ≡ own_sum passes k (records_of f.format f.bytes)
   -- for every test of calls, part 0 to how many there were, and part k + 1 to what they cost in column k
-  pub counts : (passes : Spot → Spot → Bool) → parts_sum passes 0 r.parts ≡ count_sum passes (records_of f.kind f.bytes)
-  pub costs : (passes : Spot → Spot → Bool) (k : ℕ) → parts_sum passes (suc k) r.parts ≡ call_sum passes k (records_of f.kind f.bytes)
+  pub counts : (passes : Spot → Spot → Bool) → parts_sum passes 0 r.parts ≡ count_sum passes (records_of f.format f.bytes)
+  pub costs : (passes : Spot → Spot → Bool) (k : ℕ) → parts_sum passes (suc k) r.parts ≡ call_sum passes k (records_of f.format f.bytes)
   -- a part 0 that passes is there exactly where a call record is, of whatever count and cost
-  pub called : (passes : Spot → Spot → Bool) → has_part passes r.parts ≡ has_call passes (records_of f.kind f.bytes)
+  pub called : (passes : Spot → Spot → Bool) → has_part passes r.parts ≡ has_call passes (records_of f.format f.bytes)
   -- for every test of frames, the stacks to what they count
-  pub stacks : (passes : List ℕ → Bool) → stacks_count passes r.stacks ≡ frames_sum passes (stacks_of f.kind f.bytes)
+  pub stacks : (passes : List ℕ → Bool) → stacks_count passes r.stacks ≡ frames_sum passes (stacks_of f.format f.bytes)
   -- the parts are those of whole rows of calls, and no row is 0 but a part 0
   pub whole : AreOfRows r.parts
   pub cells_above : HaveCosts r.cells
@@ -71,7 +72,7 @@ AreBooksOf files runs = ⊥
 
 -- what is told of a file that is held
 abbrev pub file_run : File → HeldRun
-file_run f = record { number = f.number; kind = kind_number f.kind; digest = sha256 f.bytes; label = f.label }
+file_run f = record { number = f.number; kind = kind_number (kind_in f.format); digest = sha256 f.bytes; label = f.label }
 
 -- ---- tables and a history
 
@@ -106,7 +107,7 @@ pub record IsPut (kind : Kind) (label : List ℕ) (outcomes : List Outcome) (hea
 -- a file that is put is the import of it
 abbrev pub IsImport : Kind → List ℕ → List Outcome → FileHead → Type 0
 IsImport kind label outcomes head =
-    (t : Tables) → IsPut kind label outcomes head t → TurnsInto (Import kind label outcomes) (Run t.next) t (with_import kind label outcomes head t)
+    (t : Tables) → IsPut kind label outcomes head t → TurnsInto (Import (today kind) label outcomes) (Run t.next) t (with_import kind label outcomes head t)
 
 -- tables that stand for a history with the one command stand for it with the other, where the answer is legal to this
 abbrev pub AreToldAlike : Said → Said → Type 0

@@ -5,7 +5,7 @@ use Rattle.cost_rows.specs.Sums.{own_sum, call_sum, count_sum}
 use Rattle.cost_rows.specs.declared.limits.Overflow.{Overflow}
 use Rattle.cost_rows.specs.declared.limits.Side.{Side}
 use Rattle.cost_rows.specs.declared.limits.Side.TheVariants as sides
-use Rattle.profile_records.specs.declared.kinds.Kind.{Kind}
+use Rattle.histories.specs.Formats.{Format}
 use Rattle.histories.specs.Files.{events_of, records_of}
 use Rattle.histories.specs.History.{File}
 use Rattle.histories.specs.declared.answers.Excess.{Excess}
@@ -13,14 +13,14 @@ use Rattle.histories.specs.declared.answers.Excess.TheVariants.{SelfCost, CallCo
 
 -- ---- of one file: the sums of its columns over all self records, over all call records, and how many calls these count
 
-abbrev pub own_column : Kind → List ℕ → ℕ → ℕ
-own_column kind bytes k = own_sum (λ _. true) k (records_of kind bytes)
+abbrev pub own_column : Format → List ℕ → ℕ → ℕ
+own_column format bytes k = own_sum (λ _. true) k (records_of format bytes)
 
-abbrev pub call_column : Kind → List ℕ → ℕ → ℕ
-call_column kind bytes k = call_sum (λ _ _. true) k (records_of kind bytes)
+abbrev pub call_column : Format → List ℕ → ℕ → ℕ
+call_column format bytes k = call_sum (λ _ _. true) k (records_of format bytes)
 
-abbrev pub calls_of : Kind → List ℕ → ℕ
-calls_of kind bytes = count_sum (λ _ _. true) (records_of kind bytes)
+abbrev pub calls_of : Format → List ℕ → ℕ
+calls_of format bytes = count_sum (λ _ _. true) (records_of format bytes)
 
 -- the sum of the column that has this name, from column k on
 abbrev pub column_named : List ℕ → (ℕ → ℕ) → ℕ → List (List ℕ) → ℕ
@@ -30,13 +30,13 @@ column_named name column k (event ∷ events) = (if bytes_eq event name then col
 -- ---- of all files
 
 abbrev pub own_held : List File → List ℕ → ℕ
-own_held files name = sum_by (λ (f : File). column_named name (own_column f.kind f.bytes) 0 (events_of f.kind f.bytes)) files
+own_held files name = sum_by (λ (f : File). column_named name (own_column f.format f.bytes) 0 (events_of f.format f.bytes)) files
 
 abbrev pub calls_cost_held : List File → List ℕ → ℕ
-calls_cost_held files name = sum_by (λ (f : File). column_named name (call_column f.kind f.bytes) 0 (events_of f.kind f.bytes)) files
+calls_cost_held files name = sum_by (λ (f : File). column_named name (call_column f.format f.bytes) 0 (events_of f.format f.bytes)) files
 
 abbrev pub calls_held : List File → ℕ
-calls_held files = sum_by (λ (f : File). calls_of f.kind f.bytes) files
+calls_held files = sum_by (λ (f : File). calls_of f.format f.bytes) files
 
 -- ---- with one file more
 
@@ -55,19 +55,19 @@ call_sums files column k (event ∷ events) =
     record { of = CallCost event; sum = calls_cost_held files event + column k } ∷ call_sums files column (suc k) events
 
 -- own costs by event, then costs of calls by event, then the number of calls
-abbrev pub sums_with : List File → Kind → List ℕ → List Sum
-sums_with files kind bytes =
-    own_sums files (own_column kind bytes) 0 (events_of kind bytes)
-    ++ call_sums files (call_column kind bytes) 0 (events_of kind bytes)
-    ++ record { of = CallCount; sum = calls_held files + calls_of kind bytes } ∷ []
+abbrev pub sums_with : List File → Format → List ℕ → List Sum
+sums_with files format bytes =
+    own_sums files (own_column format bytes) 0 (events_of format bytes)
+    ++ call_sums files (call_column format bytes) 0 (events_of format bytes)
+    ++ record { of = CallCount; sum = calls_held files + calls_of format bytes } ∷ []
 
 abbrev pub first_above : List Sum → Option Excess
 first_above [] = None
 first_above (s ∷ sums) = if nat_lt bound s.sum then Some s.of else first_above sums
 
 -- the first sum over these files and one more that is above 2^63-1
-abbrev pub excess_of : List File → Kind → List ℕ → Option Excess
-excess_of files kind bytes = first_above (sums_with files kind bytes)
+abbrev pub excess_of : List File → Format → List ℕ → Option Excess
+excess_of files format bytes = first_above (sums_with files format bytes)
 
 -- ---- by column
 

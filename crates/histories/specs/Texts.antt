@@ -9,6 +9,7 @@ use Rattle.sha2.specs.Sha256.{sha256}
 use Rattle.hex.specs.Hex.{encode_lower}
 use Rattle.profile_records.specs.declared.kinds.Kind.{Kind}
 use Rattle.profile_records.specs.declared.kinds.Kind.TheVariants.{Callgrind, Folded}
+use Rattle.histories.specs.Formats.{kind_in}
 use Rattle.histories.specs.History.{History, File, held, groups, members, baseline}
 
 -- ---- runs
@@ -23,7 +24,7 @@ run_text number kind digest label =
     decimal number ++ (codes " " ++ (kind_text kind ++ (codes " " ++ (encode_lower digest ++ (codes " " ++ (label ++ codes "\n"))))))
 
 abbrev pub run_line : File → List ℕ
-run_line f = run_text f.number f.kind (sha256 f.bytes) f.label
+run_line f = run_text f.number (kind_in f.format) (sha256 f.bytes) f.label
 
 abbrev pub runs_text : History → List ℕ
 runs_text h = flat_map run_line (held h)

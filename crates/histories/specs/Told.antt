@@ -23,6 +23,7 @@ use Rattle.prof_books.specs.Heads.{event_lines, derived_lines, coef_lines}
 use Rattle.prof_books.specs.Parts.{AreOfRows}
 use Rattle.prof_books.specs.Totals.{held_self, held_calls, IsHeldIn}
 use Rattle.profile_records.specs.declared.kinds.Kind.{Kind}
+use Rattle.histories.specs.Formats.{today}
 use Rattle.histories.specs.Files.{events_of, derived_of, records_of, rows_of, stacks_of}
 use Rattle.histories.specs.History.{History, File, held, next, groups, is_member, members, baseline}
 use Rattle.histories.specs.Legal.{number_of, has_run, has_group}
@@ -51,8 +52,8 @@ pub record TellsSums (h : History) (t : Tables) : Type 0 where
   pub self_cost : (name : List ℕ) → held_self t name ≡ own_held (held h) name
   pub call_cost : (name : List ℕ) → held_calls t name ≡ calls_cost_held (held h) name
   pub excess : (kind : Kind) (bytes : List ℕ) (held_totals file_totals : FileTotals)
-      → IsHeldIn t (events_of kind bytes) held_totals → AreTotals file_totals (rows_of kind bytes) (length (events_of kind bytes))
-      → excess_of (held h) kind bytes ≡ option_map (excess_at (events_of kind bytes)) (overflow_of held_totals file_totals)
+      → IsHeldIn t (events_of (today kind) bytes) held_totals → AreTotals file_totals (rows_of kind bytes) (length (events_of (today kind) bytes))
+      → excess_of (held h) (today kind) bytes ≡ option_map (excess_at (events_of (today kind) bytes)) (overflow_of held_totals file_totals)
 
 -- no sum over files passes its bound, which is 2^63-1
 pub record SumsFit (files : List File) : Type 0 where
@@ -79,9 +80,9 @@ pub record CallsCome (rows : List (ArcRow (List ℕ) (List ℕ))) (records : Lis
 
 -- the rows of the file's number come to what the file says: cells and stacks as they stand, and calls row by row of which the parts are those
 pub record TellsRows (f : File) (t : Tables) : Type 0 where
-  pub cells : (passes : Spot → Bool) (k : ℕ) → rows_cost passes k (cells_held f.number t) ≡ own_sum passes k (records_of f.kind f.bytes)
-  pub calls : (rows : List (ArcRow (List ℕ) (List ℕ))) → parts_held f.number t ≡ flat_map parts_of rows → CallsCome rows (records_of f.kind f.bytes)
-  pub stacks : (passes : List ℕ → Bool) → stacks_count passes (stacks_held f.number t) ≡ frames_sum passes (stacks_of f.kind f.bytes)
+  pub cells : (passes : Spot → Bool) (k : ℕ) → rows_cost passes k (cells_held f.number t) ≡ own_sum passes k (records_of f.format f.bytes)
+  pub calls : (rows : List (ArcRow (List ℕ) (List ℕ))) → parts_held f.number t ≡ flat_map parts_of rows → CallsCome rows (records_of f.format f.bytes)
+  pub stacks : (passes : List ℕ → Bool) → stacks_count passes (stacks_held f.number t) ≡ frames_sum passes (stacks_of f.format f.bytes)
   pub whole : AreOfRows (parts_held f.number t)
   pub cells_above : HaveCosts (cells_held f.number t)
   pub stacks_above : HaveCounts (stacks_held f.number t)
@@ -97,8 +98,8 @@ pub record IsHeadOfRun (run : ℕ) (head : FileHead) (t : Tables) : Type 0 where
 
 -- it has the events of the file, and its derived events with their coefficients
 pub record TellsHead (f : File) (head : FileHead) : Type 0 where
-  pub events : head.events ≡ events_of f.kind f.bytes
-  pub derived : head.derived.derived ≡ derived_of f.kind f.bytes
+  pub events : head.events ≡ events_of f.format f.bytes
+  pub derived : head.derived.derived ≡ derived_of f.format f.bytes
 
 -- ---- one group
 

@@ -1,8 +1,10 @@
 // What legal turns make of histories, and of tables that stand for them: laws of the definitions, each
 // the contract of a function that does nothing.
 ghost use Rattle.std.specs.Prelude.{◌≡◌, ℕ, ◌++◌, [], ◌∷◌, List, true};
+ghost use Rattle.std.specs.List.{AllByRecursion};
 ghost use Rattle.sqlite_rules.specs.Lists.{Has};
 ghost use Rattle.sqlite_trees.specs.Tree.{Trees};
+ghost use Rattle.callgrind_reader.specs.Grammars.{First, Second};
 ghost use Rattle.cg_formulas.specs.declared.heads.FileHead.{FileHead};
 ghost use Rattle.prof_tables.specs.Changes.{has_run, joined, with_baseline, with_group, without_group, without_member, without_run};
 ghost use Rattle.prof_tables.specs.Tables.{Tables, Holds, new_tables};
@@ -10,8 +12,11 @@ ghost use Rattle.prof_books.specs.Totals.{held_count};
 ghost use Rattle.profile_records.specs.declared.kinds.Kind.{Kind};
 ghost use Rattle.sources.specs.Outcomes.{Outcome};
 ghost use Rattle.histories.specs.Entries.{GroupShown, ListsGroups, ListsRuns, RunShown};
+ghost use Rattle.histories.specs.Formats.{Format, Callgrind};
 ghost use Rattle.histories.specs.History.{Said, Import, Remove, MakeGroup, DropGroup, Join, Leave, SetBaseline, Turn, History, File, held};
 ghost use Rattle.histories.specs.Legal.{AreAlike, AreDueAlike, GaveSame, AreLegal, IsHistory, IsLegal, IsTidy};
+ghost use Rattle.histories.specs.Files.{records_of};
+ghost use Rattle.histories.specs.Marks.{AreBy, AreReadAlike, HasNoThread, HasNoThreadLine, IsMarked};
 ghost use Rattle.histories.specs.SelectedRuns.{AreSelected, TellsSelected};
 ghost use Rattle.histories.specs.Stands.{AreToldAlike, IsImport, TablesTell, TurnsInto};
 ghost use Rattle.histories.specs.Sums.{calls_held};
@@ -114,6 +119,21 @@ pub fn tables_tell_the_lists<E>()
 /// read failed in both or in none, and that both ended or did not, are due the same answer; and tables
 /// stand for a history with the one where they stand for it with the other.
 pub fn cuts_do_not_show()
-    ensures answers { (kind : Kind) (label : List ℕ) (xs ys : List Outcome) → AreAlike xs ys → AreDueAlike (Import kind label xs) (Import kind label ys) }
-    ensures tables { (kind : Kind) (label : List ℕ) (xs ys : List Outcome) → GaveSame xs ys → AreToldAlike (Import kind label xs) (Import kind label ys) }
+    ensures answers { (format : Format) (label : List ℕ) (xs ys : List Outcome) → AreAlike xs ys → AreDueAlike (Import format label xs) (Import format label ys) }
+    ensures tables { (format : Format) (label : List ℕ) (xs ys : List Outcome) → GaveSame xs ys → AreToldAlike (Import format label xs) (Import format label ys) }
+{}
+
+/// The mark of a history stays where it is: a history whose imports are all by the first grammar has it at
+/// its end, one of imports by the second at its start, and imports by the second that follow do not move it.
+pub fn the_mark_stays()
+    ensures at_end { (h : History) → AreBy First h → IsMarked h }
+    ensures at_start { (h : History) → AreBy Second h → IsMarked h }
+    ensures stays { (h turns : History) → IsMarked h → AreBy Second turns → IsMarked (h ++ turns) }
+{}
+
+/// The first grammar knows no threads: its records have thread 0; and both grammars read alike what has
+/// no `thread:` line.
+pub fn the_first_grammar_knows_no_thread()
+    ensures none { (text : List ℕ) → AllByRecursion HasNoThread (records_of (Callgrind First) text) }
+    ensures alike { (text : List ℕ) → HasNoThreadLine text → AreReadAlike text }
 {}

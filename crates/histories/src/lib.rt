@@ -15,5 +15,6 @@ pub use laws::{
     histories_grow, members_and_baselines_are_held, tables_stay_through_what_changes_nothing,
     tables_tell_each_group, tables_tell_each_head, tables_tell_each_run, tables_tell_selections,
     tables_tell_the_lists, tables_tell_the_sums, tables_tell_what_is_held,
+    the_first_grammar_knows_no_thread, the_mark_stays,
 };
 pub use limits::Limits;

@@ -1,9 +1,7 @@
 -- What a server over the store of a database does.
 use Rattle.std.specs.Prelude.{◌≡◌, ℕ, Bool, Result, MatchResult}
 use Rattle.sqlite_trees.specs.declared.store.Store.{Ghosts}
-use Rattle.sqlite.specs.Held.{state}
 use Rattle.sqlite.specs.declared.connection.Connection.{Connection}
-use Rattle.prof_store.specs.Shown.{shown}
 use Rattle.prof_store.specs.declared.store.Store.{Store}
 use Rattle.histories.specs.declared.limits.Limits.{Limits}
 use Rattle.program_files.specs.Standard.{IsStandard}
@@ -21,5 +19,5 @@ module _ {S : Type 0} (g : Ghosts S) where
   -- a store was made or found in a database, and served; or there was none to be had, and all is as it was
   abbrev pub WasServed : {R : Type 0} → Bool → ℕ → Result R OpenError → Connection S → Connection S → Type 0
   WasServed is_new requests result old new = MatchResult result
-      (λ status. (opened : Store S) × (closed : Store S) × (closed.conn ≡ new) × TakesUp is_new (state g old) (shown g opened) × CameToServed requests opened closed)
-      (λ end. Refuses is_new end (state g old) (state g new))
+      (λ status. (opened : Store S) × (closed : Store S) × (closed.conn ≡ new) × TakesUp g is_new old opened.conn × CameToServed requests opened closed)
+      (λ end. Refuses g is_new end old new)

@@ -9,6 +9,7 @@ use Rattle.profile_records.specs.declared.kinds.Kind.TheVariants as kind
 use Rattle.cost_rows.specs.declared.keys.Key.TheVariants as key
 use Rattle.cost_reports.specs.declared.call_sides.CallSide.TheVariants as side
 use Rattle.sources.specs.Outcomes.{Outcome, Gave}
+use Rattle.histories.specs.Formats.{today}
 use Rattle.histories.specs.History as history
 use Rattle.histories.specs.History.{Said}
 use Rattle.histories.specs.declared.answers.Answer.{Answer}
@@ -44,11 +45,11 @@ said_to (Err failing) = None
 abbrev Says : List ℕ → List ℕ → List Field → Said → Type 0
 Says method target fields said = said_to (request_of 100 (record { blank = []; method = method; target = target; minor = 1; line_end = crlf; fields = fields; last = crlf })) ≡ Some said
 
-says_import_callgrind : Says (codes "POST") (codes "/runs/callgrind?label=build+7") six (history.Import kind.Callgrind (codes "build+7") body)
+says_import_callgrind : Says (codes "POST") (codes "/runs/callgrind?label=build+7") six (history.Import (today kind.Callgrind) (codes "build+7") body)
 unfolding request_of routes matchit_on_literals percent_decode trim_ows
 says_import_callgrind = refl
 
-says_import_folded : Says (codes "POST") (codes "/runs/folded?label=t") six (history.Import kind.Folded (codes "t") body)
+says_import_folded : Says (codes "POST") (codes "/runs/folded?label=t") six (history.Import (today kind.Folded) (codes "t") body)
 unfolding request_of routes matchit_on_literals percent_decode trim_ows
 says_import_folded = refl
 

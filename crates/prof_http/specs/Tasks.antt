@@ -2,6 +2,7 @@
 use Rattle.std.specs.Prelude.{◌≡◌, List, option_map}
 use Rattle.profile_records.specs.declared.kinds.Kind.TheVariants as kind
 use Rattle.sources.specs.Outcomes.{Outcome}
+use Rattle.histories.specs.Formats.{today}
 use Rattle.histories.specs.History as history
 use Rattle.histories.specs.History.{Said}
 use Rattle.histories.specs.declared.answers.Query.TheVariants as queries
@@ -22,8 +23,8 @@ selection_said (selected.Group name) = selections.Group name
 
 -- the command that a request asks for, where the reads of its body came to these
 abbrev pub said_of : Asked → List Outcome → Said
-said_of (asks.ImportCallgrind label) outcomes = history.Import kind.Callgrind label outcomes
-said_of (asks.ImportFolded label) outcomes = history.Import kind.Folded label outcomes
+said_of (asks.ImportCallgrind label) outcomes = history.Import (today kind.Callgrind) label outcomes
+said_of (asks.ImportFolded label) outcomes = history.Import (today kind.Folded) label outcomes
 said_of asks.Runs outcomes = history.Ask queries.Runs
 said_of asks.Groups outcomes = history.Ask queries.Groups
 said_of (asks.Remove n) outcomes = history.Remove n
@@ -43,7 +44,7 @@ said_of (asks.Folded chosen) outcomes = history.Ask (queries.Folded (selection_s
 
 -- the command of a task, over such a body
 abbrev pub task_said : Task → List Outcome → Said
-task_said (tasks.Import kind label) outcomes = history.Import kind label outcomes
+task_said (tasks.Import kind label) outcomes = history.Import (today kind) label outcomes
 task_said (tasks.Annotate selection event file) outcomes = history.Annotate selection event file outcomes
 task_said (tasks.Remove n) outcomes = history.Remove n
 task_said (tasks.Group name change) outcomes = change_said change name

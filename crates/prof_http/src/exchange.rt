@@ -4,6 +4,7 @@ ghost use Rattle.httparse.specs.Grammar.{RequestHead};
 ghost use Rattle.httparse.specs.Spans.{IsRequestWithin};
 ghost use Rattle.sources.specs.Outcomes.{Outcome};
 ghost use Rattle.sources.specs.Reads.{Reads};
+ghost use Rattle.histories.specs.Formats.{today};
 ghost use Rattle.histories.specs.History.{Annotate, Import};
 ghost use Rattle.warehouse.specs.Answered.{WasAnswered};
 ghost use Rattle.http_exchanges.specs.Heads.{IsHeadAt};
@@ -36,7 +37,7 @@ fn import<T: Stream + Drop, S: Alter>(
     body: Body<'_, T>,
 ) -> (Answer, T)
     ensures limits { warehouse.new.limits ≡ warehouse.old.limits }
-    ensures done { IsDoneOver S.Store T.reads warehouse.old.limits (Import kind label.now) body.entry
+    ensures done { IsDoneOver S.Store T.reads warehouse.old.limits (Import (today kind) label.now) body.entry
         result.0 result.1 warehouse.old.store warehouse.new.store }
 {
     let mut body = body;

@@ -1,30 +1,42 @@
 // Laws of the definitions, each the contract of a function that does nothing.
-ghost use Rattle.std.specs.Prelude.{ℕ, ◌≤◌, ◌^◌};
+ghost use Rattle.std.specs.Prelude.{◌≡◌, ℕ, ◌≤◌, ◌^◌};
 ghost use Rattle.sqlite_catalog.specs.Listing.{IsSound};
 ghost use Rattle.sqlite_trees.specs.Tree.{Trees};
 ghost use Rattle.prof_store.specs.Readings.{AreShaped, HasMeta, RowsSay};
-ghost use Rattle.sqlite.specs.Effect.{IsDatabase};
+ghost use Rattle.sqlite.specs.Effect.{Database, IsDatabase};
 ghost use Rattle.sqlite.specs.Held.{state};
 ghost use Rattle.sqlite.specs.State.{Opens};
 ghost use Rattle.sqlite.specs.declared.connection.Connection.{Connection};
-ghost use Rattle.sql_tables.specs.States.{Rests};
-ghost use Rattle.prof_tables.specs.Schema.{schema_two};
+ghost use Rattle.sql_tables.specs.States.{Rests, LeavesJust as Leaves};
+ghost use Rattle.prof_tables.specs.First.{HoldsFirst};
+ghost use Rattle.prof_tables.specs.Schema.{schema_one, schema_two};
 ghost use Rattle.prof_tables.specs.Tables.{Tables, Holds};
+ghost use Rattle.prof_store.specs.Schemas.{SaysSecond};
 ghost use Rattle.prof_store.specs.Shown.{StandsFor, LeavesJust};
 ghost use Rattle.prof_store.specs.declared.store.Store.{Store};
 
 use sqlite::Alter;
 
-/// What a store stands for survives: between calls a crash leaves tables that hold it.
+/// What a store stands for survives: between calls a crash leaves tables that hold it; and so of a
+/// connection over a store of version 1.
 pub fn what_stands_survives<S: Alter>()
-    ensures { (t : Tables) (store : Store S) → StandsFor S.Store t store → LeavesJust S.Store store (Holds t) }
+    ensures second { (t : Tables) (store : Store S) → StandsFor S.Store t store → LeavesJust S.Store store (Holds t) }
+    ensures first { (t : Tables) (conn : Connection S) → Rests schema_one (HoldsFirst t) (state S.Store conn) → Leaves (state S.Store conn) (HoldsFirst t) }
 {}
 
-/// What a crash left is found again: a connection that was just opened, over tables that hold these lines,
-/// whatever schema it took them for, stands as `Store::open` wants it to take them up.
+/// What a crash left is found again: a connection that was just opened, over tables of either version that
+/// hold these lines, whatever schema it took them for, stands as `Store::open` wants it to take them up.
 pub fn what_is_left_is_taken_up<S: Alter>()
-    ensures { (t : Tables) (conn : Connection S) → Opens (state S.Store conn) → IsDatabase (state S.Store conn).now
+    ensures second { (t : Tables) (conn : Connection S) → Opens (state S.Store conn) → IsDatabase (state S.Store conn).now
         → Holds t (state S.Store conn).now.trees → Rests schema_two (Holds t) (state S.Store conn) }
+    ensures first { (t : Tables) (conn : Connection S) → Opens (state S.Store conn) → IsDatabase (state S.Store conn).now
+        → HoldsFirst t (state S.Store conn).now.trees → Rests schema_one (HoldsFirst t) (state S.Store conn) }
+{}
+
+/// The tables of a store say that they are of version 2: what opening leaves of such tables it leaves of
+/// each store.
+pub fn stores_say_their_version()
+    ensures { (t : Tables) (now : Database) → now.schema ≡ schema_two → Holds t now.trees → SaysSecond now }
 {}
 
 /// The rows of each sound database of schema 2 say lines, however its negative numbers are read, where its

@@ -37,7 +37,9 @@ mod sums;
 mod totals;
 
 pub use entries::{GroupEntry, RunEntry};
-pub use laws::{what_is_left_is_taken_up, what_stands_survives};
+pub use laws::{
+    rows_say_lines, stores_say_their_version, what_is_left_is_taken_up, what_stands_survives,
+};
 pub use profile_records::Kind;
 pub use sqlite::Alter;
 pub use statements::{select, select_first, select_row};

@@ -1,12 +1,14 @@
 -- The tables are made, one after another, each without rows.
-use Rattle.std.proofs.Common.{ℕ, [], Ok, refl}
+use Rattle.std.proofs.Common.{ℕ, List, [], ◌∷◌, ◌++◌, Ok, refl}
+use Rattle.sqlite_value.specs.Order.{Row}
 use Rattle.sqlite_tied.specs.Compute.{everything}
 use Rattle.sqlite.specs.Listing.{understood}
 use Rattle.sqlite.specs.State.{State, ExecutesInside}
 use Rattle.sql_tables.specs.Contents.{Contain, no_rows}
 use Rattle.sql_tables.specs.States.{Begins, Works}
+use Rattle.sql_tables.proofs.Beside.{creates_beside}
 use Rattle.sql_tables.proofs.Creates.{creates}
-use Rattle.sql_tables.proofs.TableDrops.{drops}
+use Rattle.sql_tables.proofs.TableDrops.{drops, without_content}
 use Rattle.prof_tables.specs.Texts.{drop_cell_sql}
 use Rattle.prof_tables.specs.Schema.{empty_schema, schema_one, meta_sql, meta_table, run_sql, run_table, run_event_sql, run_event_table, derived_sql, derived_table, coef_sql, coef_table, name_sql, name_table, cell_sql, cell_table, arc_sql, arc_table, stack_sql, stack_table, grp_sql, grp_table, member_sql, member_table, schema_to_meta, schema_to_run, schema_to_run_event, schema_to_derived, schema_to_coef, schema_to_name, schema_to_cell, schema_to_arc, schema_to_stack, schema_to_grp, schema_both, schema_two, thread_cell_sql, thread_cell_table, cell_at}
 use Rattle.prof_tables.proofs.Defines.{meta_is, run_is, run_event_is, derived_is, coef_is, name_is, cell_is, arc_is, stack_is, grp_is, member_is, thread_cell_is}
@@ -55,12 +57,14 @@ pub makes_member : (old new : State) (count : ℕ) → Begins schema_to_grp old 
 unfolding understood everything
 makes_member = creates schema_to_grp member_sql member_table refl refl (refl, refl) member_is refl
 
--- ---- version 2
+-- ---- version 2, whatever rows the tables have
 
-pub makes_thread_cell : (old new : State) (count : ℕ) → Begins schema_one old → ExecutesInside 0 thread_cell_sql [] old new (Ok count) → Works schema_both (Contain schema_both (no_rows schema_both.tables)) new
+pub makes_thread_cell : (contents : List (List Row)) (old new : State) (count : ℕ) → Works schema_one (Contain schema_one contents) old → ExecutesInside 0 thread_cell_sql [] old new (Ok count)
+    → Works schema_both (Contain schema_both (contents ++ [] ∷ [])) new
 unfolding understood everything
-makes_thread_cell = creates schema_one thread_cell_sql thread_cell_table refl refl (refl, refl) thread_cell_is refl
+makes_thread_cell = creates_beside schema_one thread_cell_sql thread_cell_table refl refl (refl, refl) thread_cell_is refl
 
-pub drops_cell : (old new : State) (count : ℕ) → Works schema_both (Contain schema_both (no_rows schema_both.tables)) old → ExecutesInside 0 drop_cell_sql [] old new (Ok count) → Works schema_two (Contain schema_two (no_rows schema_two.tables)) new
+pub drops_cell : (contents : List (List Row)) (old new : State) (count : ℕ) → Works schema_both (Contain schema_both contents) old → ExecutesInside 0 drop_cell_sql [] old new (Ok count)
+    → Works schema_two (Contain schema_two (without_content 6 contents)) new
 unfolding understood everything
-drops_cell = drops schema_both drop_cell_sql 6 cell_at refl (refl, refl) refl refl refl (no_rows schema_both.tables)
+drops_cell contents = drops schema_both drop_cell_sql 6 cell_at refl (refl, refl) refl refl refl contents

@@ -1,5 +1,5 @@
 -- What the texts that read find in the tables.
-use Rattle.std.proofs.Common.{◌≡◌, ◌≢◌, ℕ, List, [], ◌∷◌, pos, true, Ok, inl, inr, refl, sym, ap, subst, ◌∙◌}
+use Rattle.std.proofs.Common.{◌≡◌, ◌≢◌, ℕ, List, [], ◌∷◌, codes, pos, true, false, Ok, inl, inr, refl, sym, ap, subst, ◌∙◌}
 use Rattle.std.proofs.lemmas.Slice.Eq.{bytes_eq-Decides}
 use Rattle.sqlite_value.specs.declared.value.Value.{Value}
 use Rattle.sqlite_value.specs.declared.value.Value.TheVariants.{Null, Int, Real, Text, Blob}
@@ -12,15 +12,20 @@ use Rattle.sqlite_sql.specs.declared.ops.BinaryOp.TheVariants.{Compare}
 use Rattle.sqlite_sql.specs.declared.ops.CompareOp.TheVariants.{Eq}
 use Rattle.sqlite_rules.specs.Lists.{Has}
 use Rattle.sqlite_rules.proofs.ProbeLemmas.{has_mapped, mapped_has}
+use Rattle.sqlite_schema.specs.declared.schema.Schema.{Schema}
+use Rattle.sqlite_schema.specs.declared.command.Command.TheVariants.{Select}
+use Rattle.sqlite.specs.Listing.{understood, reads_listing}
 use Rattle.sqlite.specs.State.{State, QueriesRow, Shown}
-use Rattle.sql_tables.proofs.Queries.{shown_row, row_shown}
+use Rattle.sqlite.proofs.Callers.{IsPlain, command_of}
+use Rattle.sql_tables.specs.Queries.{only}
+use Rattle.sql_tables.proofs.Queries.{shown_row, row_shown, sorted_scan}
 use Rattle.sql_tables.proofs.Rows.{passes}
 use Rattle.sql_tables.proofs.Selects.{selected, selected_first}
-use Rattle.prof_tables.specs.Schema.{schema_two}
+use Rattle.prof_tables.specs.Schema.{schema_one, schema_two}
 use Rattle.prof_tables.specs.Tables.{Tables, Holds, RunLine, meta_columns, run_columns}
 use Rattle.prof_tables.specs.Texts.{next_sql, schema_sql, by_digest_sql}
 use Rattle.prof_tables.proofs.Values.{blobs_equal}
-use Rattle.prof_tables.proofs.Means.{next_terms, next_shown, next_order, next_means, next_plain, next_unlisted, schema_terms, schema_shown, schema_order, schema_means, schema_plain, schema_unlisted, by_digest_terms, by_digest_shown, by_digest_order, by_digest_means, by_digest_plain, by_digest_unlisted}
+use Rattle.prof_tables.proofs.Means.{next_terms, next_shown, next_order, next_means, next_plain, next_unlisted, schema_terms, schema_shown, schema_order, schema_means, schema_plain, schema_unlisted, first_schema_means, first_schema_plain, first_schema_unlisted, by_digest_terms, by_digest_shown, by_digest_order, by_digest_means, by_digest_plain, by_digest_unlisted}
 
 -- ---- the one row of meta
 
@@ -36,11 +41,26 @@ next_found old new row has h =
 pub next_is : (t : Tables) (db : Trees) (r : Row) (n : ℕ) → Holds t db → Has (db 0) r → column r 3 ≡ Int (pos n) → n ≡ t.next
 next_is t db r n was there is = let e : Int (pos n) ≡ Int (pos t.next) = sym is ∙ ap (λ l. column l 3) (meta_row t db r was there) in cc
 
+-- the number of the schema, in tables of one that understands the query for it
+module _ (schema : Schema) (means : command_of (understood schema schema_sql) ≡ Select (only (sorted_scan 0 schema_terms schema_shown schema_order)) (codes "schema" ∷ [])) (plain : IsPlain (understood schema schema_sql))
+    (unlisted : reads_listing schema schema_sql ≡ false) (old new : State) (has : old.now.schema ≡ schema) where
+  number_found : (row : Row) → QueriesRow schema_sql [] old new (Ok row) → (r : Row) × Has (old.now.trees 0) r × (column row 0 ≡ column r 2)
+  number_found row h =
+      let s = selected_first schema schema_sql 0 schema_terms schema_shown schema_order _ means plain unlisted old new has refl [] row h in
+      let it = shown_row 0 schema_terms schema_shown schema_order (old.now.trees 0) [] (row ∷ s.0) s.1 row (inl refl) in
+      (it.0, it.1, ap (λ l. column l 0) it.3)
+
+  -- a row that is there is shown
+  pub row_there : (r : Row) → Has (old.now.trees 0) r → Shown schema_sql [] old new [] → ⊥
+  row_there r there none =
+      let s = selected schema schema_sql 0 schema_terms schema_shown schema_order _ means plain unlisted old new has refl [] [] none in
+      row_shown 0 schema_terms schema_shown schema_order (old.now.trees 0) [] [] s r there refl
+
 pub schema_found : (old new : State) (row : Row) → old.now.schema ≡ schema_two → QueriesRow schema_sql [] old new (Ok row) → (r : Row) × Has (old.now.trees 0) r × (column row 0 ≡ column r 2)
-schema_found old new row has h =
-    let s = selected_first schema_two schema_sql 0 schema_terms schema_shown schema_order _ schema_means schema_plain schema_unlisted old new has refl [] row h in
-    let it = shown_row 0 schema_terms schema_shown schema_order (old.now.trees 0) [] (row ∷ s.0) s.1 row (inl refl) in
-    (it.0, it.1, ap (λ l. column l 0) it.3)
+schema_found old new row has h = number_found schema_two schema_means schema_plain schema_unlisted old new has row h
+
+pub first_schema_found : (old new : State) (row : Row) → old.now.schema ≡ schema_one → QueriesRow schema_sql [] old new (Ok row) → (r : Row) × Has (old.now.trees 0) r × (column row 0 ≡ column r 2)
+first_schema_found old new row has h = number_found schema_one first_schema_means first_schema_plain first_schema_unlisted old new has row h
 
 pub schema_is : (t : Tables) (db : Trees) (r : Row) (n : ℕ) → Holds t db → Has (db 0) r → column r 2 ≡ Int (pos n) → n ≡ 2
 schema_is t db r n was there is = let e : Int (pos n) ≡ Int (pos 2) = sym is ∙ ap (λ l. column l 2) (meta_row t db r was there) in cc

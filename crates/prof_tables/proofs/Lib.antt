@@ -8,6 +8,7 @@ pub mod Lists
 pub mod Many
 pub mod Means
 pub mod MemberFinds
+pub mod Moves
 pub mod Names
 pub mod Numbering
 pub mod Parents

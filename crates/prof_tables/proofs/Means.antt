@@ -12,7 +12,7 @@ use Rattle.sqlite.proofs.Callers.{IsPlain, command_of}
 use Rattle.sqlite_tied.specs.Compute.{everything}
 use Rattle.sql_tables.specs.Queries.{scan, only, is, count_query}
 use Rattle.sql_tables.proofs.Queries.{sorted_scan}
-use Rattle.prof_tables.specs.Schema.{schema_two}
+use Rattle.prof_tables.specs.Schema.{schema_one, schema_two}
 use Rattle.prof_tables.specs.Texts.{begin_sql, put_run_sql, put_event_sql, put_derived_sql, put_coef_sql, put_name_sql, put_cell_sql, put_arc_sql, put_stack_sql, put_group_sql, put_member_sql, raise_sql, set_baseline_sql, drop_run_sql, drop_group_sql, leave_sql, schema_sql, next_sql, by_digest_sql, runs_sql, call_counts_sql, kind_of_sql, events_of_sql, derived_of_sql, coefs_of_sql, sums_of_sql, names_sql, id_of_name_sql, groups_sql, members_sql, find_member_sql, find_group_sql, run_count_sql, group_count_sql}
 
 abbrev pub begin_terms : List Term
@@ -217,6 +217,19 @@ schema_plain = (refl, refl)
 pub schema_unlisted : reads_listing schema_two schema_sql ≡ false
 unfolding understood everything
 schema_unlisted = refl
+
+-- the same over the tables of version 1
+pub first_schema_means : command_of (understood schema_one schema_sql) ≡ Select (only (sorted_scan 0 schema_terms schema_shown schema_order)) (codes "schema" ∷ [])
+unfolding understood everything
+first_schema_means = refl
+
+pub first_schema_plain : IsPlain (understood schema_one schema_sql)
+unfolding understood everything
+first_schema_plain = (refl, refl)
+
+pub first_schema_unlisted : reads_listing schema_one schema_sql ≡ false
+unfolding understood everything
+first_schema_unlisted = refl
 
 abbrev pub next_terms : List Term
 next_terms = []

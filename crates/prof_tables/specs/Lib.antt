@@ -1,5 +1,6 @@
 pub mod Changes
 pub mod Files
+pub mod First
 pub mod Labels
 pub mod ManyTexts
 pub mod RunLines

@@ -1,10 +1,16 @@
 -- The texts of the statements on the tables.
 use Rattle.std.specs.Prelude.{ℕ, List, codes}
 
--- ---- a table of version 1 goes
+-- ---- tables of version 1 become those of version 2
+
+abbrev pub copy_cells_sql : List ℕ
+copy_cells_sql = codes "INSERT INTO thread_cell (run, thread, ob, fl, fn, line, event, cost) SELECT run, 0, ob, fl, fn, line, event, cost FROM cell ORDER BY rowid"
 
 abbrev pub drop_cell_sql : List ℕ
 drop_cell_sql = codes "DROP TABLE cell"
+
+abbrev pub second_sql : List ℕ
+second_sql = codes "UPDATE meta SET schema = 2"
 
 -- ---- rows are written
 

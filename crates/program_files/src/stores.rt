@@ -87,8 +87,8 @@ pub fn store_in<S: Alter>(
     conn: Connection<S>,
     is_new: bool,
 ) -> Result<Store<S>, (OpenError, Connection<S>)>
-    ensures taken_up { IfOk result (λ store. IsFaithful S.Store store → TakesUp is_new (state S.Store conn) (shown S.Store store)) }
-    ensures refused { IfErr result (λ e. HasCleanDisk (state S.Store e.1) → Refuses is_new e.0 (state S.Store conn) (state S.Store e.1)) }
+    ensures taken_up { IfOk result (λ store. IsFaithful S.Store store → TakesUp S.Store is_new conn store.conn) }
+    ensures refused { IfErr result (λ e. HasCleanDisk (state S.Store e.1) → Refuses S.Store is_new e.0 conn e.1) }
 {
     if is_new {
         Store::create(alloc, conn)

@@ -18,10 +18,11 @@ use warehouse::{Answer, Command, GroupChange, Kind, Limits, Query, Selection, Wa
 /// Stacks in which a frame calls itself.
 const STACKS: &[u8] = b"a;b;a 3\na;b 2\n";
 
-/// Makes a store, or does a command.
+/// Makes a store, or opens one of version 1, or does a command.
 #[derive(Clone, Copy)]
 enum Step {
     Create,
+    Open,
     Import(Kind, &'static [u8]),
     Remove(u32),
     /// What is done to the group `g`.
@@ -39,6 +40,14 @@ const STEPS: [Step; 9] = [
     Step::Group(GroupChange::Leave(1)),
     Step::Group(GroupChange::Drop),
     Step::Remove(1),
+];
+
+/// What makes a store of version 1 of one of version 2 whose costs are of thread 0.
+const BACK: [&str; 4] = [
+    "CREATE TABLE cell (run INTEGER NOT NULL REFERENCES run ON DELETE CASCADE, ob INTEGER NOT NULL, fl INTEGER NOT NULL, fn INTEGER NOT NULL, line INTEGER NOT NULL, event INTEGER NOT NULL, cost INTEGER NOT NULL, PRIMARY KEY (run, ob, fl, fn, line, event)) STRICT",
+    "INSERT INTO cell SELECT run, ob, fl, fn, line, event, cost FROM thread_cell",
+    "DROP TABLE thread_cell",
+    "UPDATE meta SET schema = 1",
 ];
 
 /// Which files stop.
@@ -119,7 +128,7 @@ fn house_over(alloc: Global, conn: Held) -> Result<Warehouse<FileStore<Stopping>
 
 fn command_of(alloc: Global, step: Step) -> Result<Command<Given>, AllocError> {
     Ok(match step {
-        Step::Create => Command::Ask(Query::Runs),
+        Step::Create | Step::Open => Command::Ask(Query::Runs),
         Step::Import(kind, bytes) => Command::Import {
             kind,
             label: b"a".to_vec(alloc)?,
@@ -144,6 +153,12 @@ fn is_answered(
 fn done(alloc: Global, conn: Held, step: Step) -> Result<(bool, Held), AllocError> {
     if let Step::Create = step {
         return Ok(match Store::create(alloc, conn) {
+            Ok(store) => (true, store.into_connection()),
+            Err((_, conn)) => (false, conn),
+        });
+    }
+    if let Step::Open = step {
+        return Ok(match Store::open(alloc, conn) {
             Ok(store) => (true, store.into_connection()),
             Err((_, conn)) => (false, conn),
         });
@@ -316,6 +331,40 @@ fn step_on(alloc: Global, image: &Image, step: Step, stops: Stops) -> Result<Ima
     Ok(whole.written)
 }
 
+/// The files of a store of version 1 with what a store holds.
+fn as_first(alloc: Global, image: &Image) -> Result<Image, Fail> {
+    let files = files_of(alloc, &image.log, &image.database, Stops::Both, u64::MAX)?;
+    let mut conn = match opened(alloc, files) {
+        Ok(conn) => conn,
+        Err(_) => Err("the files cannot be opened")?,
+    };
+    for text in BACK {
+        if conn.execute(text, &[]).is_err() {
+            Err("no store of version 1")?;
+        }
+    }
+    let files = closed(conn);
+    Ok(Image {
+        log: files.log.written.to_vec(alloc)?,
+        database: files.db.written.to_vec(alloc)?,
+    })
+}
+
+/// Stops at each change of the opening of a store of version 1, which tells what it told before.
+fn opening_stops(alloc: Global, image: &Image, stops: Stops) -> Result<(), Fail> {
+    let told = told_by(alloc, &image.log, &image.database)?;
+    let first = as_first(alloc, image)?;
+    let whole = left_by(alloc, &first, Step::Open, stops, u64::MAX)?;
+    if !whole.is_done || whole.has_stopped {
+        Err("it is not opened")?;
+    }
+    let told = told.as_slice();
+    if stops_of(alloc, &first, Step::Open, stops, told, told)? < 2 {
+        Err("it changes no file")?;
+    }
+    Ok(())
+}
+
 /// Stops at each change of each step.
 fn all_stops(alloc: Global, stops: Stops) -> Result<(), Fail> {
     let mut image = Image {
@@ -325,7 +374,7 @@ fn all_stops(alloc: Global, stops: Stops) -> Result<(), Fail> {
     for step in STEPS {
         image = step_on(alloc, &image, step, stops)?;
     }
-    Ok(())
+    opening_stops(alloc, &image, stops)
 }
 
 #[test]

@@ -12,6 +12,7 @@ use Rattle.prof_tables.specs.Tables.{Tables, Holds}
 use Rattle.prof_books.specs.Totals.{IsHeldIn}
 use Rattle.profile_records.specs.declared.kinds.Kind.{Kind}
 use Rattle.profile_records.specs.declared.kinds.Kind.TheVariants.{Callgrind, Folded}
+use Rattle.histories.specs.Formats.{today}
 use Rattle.histories.specs.Files.{IsHeadOf, rows_of, events_of, fault_of}
 use Rattle.sources.specs.Outcomes.{Outcome, bytes_of}
 use Rattle.histories.proofs.ReadsDue as by_reads
@@ -34,12 +35,12 @@ use Rattle.store_histories.specs.Refusals.{refused_or}
 
 -- ---- sums
 
-pub head_events : (kind : Kind) (head : FileHead) (bytes : List ℕ) → IsHeadOf kind head bytes → head.events ≡ events_of kind bytes
+pub head_events : (kind : Kind) (head : FileHead) (bytes : List ℕ) → IsHeadOf kind head bytes → head.events ≡ events_of (today kind) bytes
 head_events Callgrind head bytes is = is.events
 head_events Folded head bytes is = is.events
 
 module _ (h : History) (t : Tables) (db : Trees) (kind : Kind) (bytes : List ℕ) (head : FileHead) (c : Content) (was : Holds t db) (tell : TablesTell h t) (is : IsHeadOf kind head bytes) (rows_are : c ≡ rows_of kind bytes) where
-  excess_told : (excess : Option Excess) → IsExcess head c t excess → excess ≡ excess_of (held h) kind bytes
+  excess_told : (excess : Option Excess) → IsExcess head c t excess → excess ≡ excess_of (held h) (today kind) bytes
   excess_told excess it =
       let named = head_events kind head bytes is in
       it.excess_is
@@ -52,7 +53,7 @@ module _ (h : History) (t : Tables) (db : Trees) (kind : Kind) (bytes : List ℕ
   number_told limits number it =
       it.number_is
       ∙ ap (λ e. number_unless (no_room e (nat_le limits.runs (length t.runs)) (nat_le limits.numbers t.next)) t.next) (excess_told it.excess it.is_excess)
-      ∙ ap₂ (λ many n. number_unless (no_room (excess_of (held h) kind bytes) (nat_le limits.runs many) (nat_le limits.numbers n)) n) (tells_many h t tell) tell.next
+      ∙ ap₂ (λ many n. number_unless (no_room (excess_of (held h) (today kind) bytes) (nat_le limits.runs many) (nat_le limits.numbers n)) n) (tells_many h t tell) tell.next
 
 -- ---- room
 
@@ -79,28 +80,28 @@ module _ (limits : Limits) (h : History) (kind : Kind) (label : List ℕ) (outco
   abbrev bytes : List ℕ
   bytes = bytes_of outcomes
 
-  pub ended_due : expected_answer limits h (Import kind label outcomes) ≡ Some (file_due limits h kind bytes)
-  ended_due = by_reads.ended_due limits.bytes outcomes (file_due limits h kind bytes) ended.reads.within ended.reads.unfailed ended.ended
+  pub ended_due : expected_answer limits h (Import (today kind) label outcomes) ≡ Some (file_due limits h (today kind) bytes)
+  ended_due = by_reads.ended_due limits.bytes outcomes (file_due limits h (today kind) bytes) ended.reads.within ended.reads.unfailed ended.ended
 
   abbrev by_answers : Option ℕ → Option (faults.Fault × ℕ) → Answer
   by_answers found fault = first_or
       (option_map answers.Held found
       ∷ option_map faulty fault
-      ∷ option_map (λ excess. answers.Refused (reasons.Overflow excess)) (excess_of (held h) kind bytes)
+      ∷ option_map (λ excess. answers.Refused (reasons.Overflow excess)) (excess_of (held h) (today kind) bytes)
       ∷ when (nat_le limits.runs (length (held h))) (answers.Refused reasons.Full)
       ∷ when (nat_le limits.numbers (next h)) (answers.Refused reasons.NumbersSpent)
       ∷ [])
       (answers.Run (next h))
 
-  pub held_due : (n : ℕ) → number_of (sha256 bytes) (held h) ≡ Some n → expected_answer limits h (Import kind label outcomes) ≡ Some (answers.Held n)
-  held_due n is = ended_due ∙ ap (λ found. Some (by_answers found (fault_of kind bytes))) is
+  pub held_due : (n : ℕ) → number_of (sha256 bytes) (held h) ≡ Some n → expected_answer limits h (Import (today kind) label outcomes) ≡ Some (answers.Held n)
+  held_due n is = ended_due ∙ ap (λ found. Some (by_answers found (fault_of (today kind) bytes))) is
 
   module _ (new : number_of (sha256 bytes) (held h) ≡ None) where
-    pub fault_due : (fault : faults.Fault × ℕ) → fault_of kind bytes ≡ Some fault → expected_answer limits h (Import kind label outcomes) ≡ Some (faulty fault)
+    pub fault_due : (fault : faults.Fault × ℕ) → fault_of (today kind) bytes ≡ Some fault → expected_answer limits h (Import (today kind) label outcomes) ≡ Some (faulty fault)
     fault_due fault is = ended_due ∙ ap₂ (λ found fault. Some (by_answers found fault)) new is
 
-    pub room_due : fault_of kind bytes ≡ None → expected_answer limits h (Import kind label outcomes) ≡ Some (refused_or (room_refusal limits h kind bytes) (answers.Run (next h)))
-    room_due sound = ended_due ∙ ap₂ (λ found fault. Some (by_answers found fault)) new sound ∙ ap (λ a. Some a) (same (excess_of (held h) kind bytes) (nat_le limits.runs (length (held h))) (nat_le limits.numbers (next h)))
+    pub room_due : fault_of (today kind) bytes ≡ None → expected_answer limits h (Import (today kind) label outcomes) ≡ Some (refused_or (room_refusal limits h kind bytes) (answers.Run (next h)))
+    room_due sound = ended_due ∙ ap₂ (λ found fault. Some (by_answers found fault)) new sound ∙ ap (λ a. Some a) (same (excess_of (held h) (today kind) bytes) (nat_le limits.runs (length (held h))) (nat_le limits.numbers (next h)))
       where
         same : (e : Option Excess) (full spent : Bool)
             → first_or (option_map (λ excess. answers.Refused (reasons.Overflow excess)) e ∷ when full (answers.Refused reasons.Full) ∷ when spent (answers.Refused reasons.NumbersSpent) ∷ []) (answers.Run (next h))

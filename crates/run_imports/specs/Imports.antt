@@ -12,6 +12,7 @@ use Rattle.cg_formulas.specs.declared.heads.FileHead.{FileHead}
 use Rattle.cost_rows.specs.Rows.{content_of}
 use Rattle.cost_rows.specs.declared.file_rows.FileRows.{FileRows}
 use Rattle.profile_records.specs.declared.kinds.Kind.{Kind}
+use Rattle.histories.specs.Formats.{today}
 use Rattle.histories.specs.Files.{IsHeadOf, rows_of, fault_of}
 use Rattle.sources.specs.Outcomes.{Outcome, bytes_of}
 use Rattle.histories.specs.History.{History, Import, held}
@@ -24,11 +25,11 @@ use Rattle.histories.specs.Legal.{number_of}
 pub record IsNewFile (h : History) (kind : Kind) (bytes digest : List ℕ) (head : FileHead) (rows : FileRows) : Type 0 where
   pub digest_is : digest ≡ sha256 bytes
   pub is_new : number_of (sha256 bytes) (held h) ≡ None
-  pub sound : fault_of kind bytes ≡ None
+  pub sound : fault_of (today kind) bytes ≡ None
   pub head_is : IsHeadOf kind head bytes
   pub rows_are : content_of rows ≡ rows_of kind bytes
 
 -- what a call leaves that puts such a file as a run, whatever the history
 abbrev pub PutsNew : {S : Type 0} → Ghosts S → Limits → Kind → List ℕ → List Outcome → List ℕ → FileHead → FileRows → Result Answer StoreError → Store S → Store S → Type 0
 PutsNew g limits kind label outcomes digest head rows result old new =
-    IsFaithful g new → Changed schema_two (λ h db. IsNewFile h kind (bytes_of outcomes) digest head rows × TellsHistory h db) (Follows limits (Import kind label outcomes)) (is_ok result) (has_changed result) (shown g old) (shown g new)
+    IsFaithful g new → Changed schema_two (λ h db. IsNewFile h kind (bytes_of outcomes) digest head rows × TellsHistory h db) (Follows limits (Import (today kind) label outcomes)) (is_ok result) (has_changed result) (shown g old) (shown g new)

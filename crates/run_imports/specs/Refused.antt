@@ -1,6 +1,7 @@
 -- Refusals in the order in which they are looked for.
 use Rattle.std.specs.Prelude.{Bool, true, false, ℕ, nat_le, List, length, Option, Some, None, Result, Ok, Err, option_map}
 use Rattle.profile_records.specs.declared.kinds.Kind.{Kind}
+use Rattle.histories.specs.Formats.{today}
 use Rattle.histories.specs.History.{History, held, next}
 use Rattle.histories.specs.Sums.{excess_of}
 use Rattle.histories.specs.declared.answers.Excess.{Excess}
@@ -22,7 +23,7 @@ no_room excess full spent = or_later (option_map reasons.Overflow excess) (or_la
 
 -- of a file without a fault that is not held
 abbrev pub room_refusal : Limits → History → Kind → List ℕ → Option Refusal
-room_refusal limits h kind bytes = no_room (excess_of (held h) kind bytes) (nat_le limits.runs (length (held h))) (nat_le limits.numbers (next h))
+room_refusal limits h kind bytes = no_room (excess_of (held h) (today kind) bytes) (nat_le limits.runs (length (held h))) (nat_le limits.numbers (next h))
 
 -- a number, unless it is refused
 abbrev pub number_unless : Option Refusal → ℕ → Result ℕ Refusal

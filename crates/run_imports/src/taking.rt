@@ -7,6 +7,7 @@ ghost use Rattle.cost_rows.specs.Rows.{content_of};
 ghost use Rattle.prof_tables.specs.Labels.{IsLabel};
 ghost use Rattle.prof_store.specs.Shown.{IsFaithful, Asks, KeepsShut, Made, StandsFor, Told};
 ghost use Rattle.sources.specs.Outcomes.{Outcome, bytes_of};
+ghost use Rattle.histories.specs.Formats.{today};
 ghost use Rattle.histories.specs.History.{History, Import};
 ghost use Rattle.histories.specs.Sums as sums;
 ghost use Rattle.store_histories.specs.Answered.{StandsForHistory, WasDue, TurnsIf, has_changed};
@@ -115,7 +116,7 @@ fn put_file<S: Alter>(
     requires { IsLabel label.now }
     ensures answered { IsFaithful S.Store store.new → (h : History) (outcomes : List Outcome) → StandsForHistory S.Store h store.old
         → HasEnded limits.bytes outcomes → IsNewFile h kind (bytes_of outcomes) digest.now file.now.head.now file.now.rows.now
-        → IfOk result (λ answer. WasDue S.Store limits h (Import kind label.now outcomes) answer store.new) }
+        → IfOk result (λ answer. WasDue S.Store limits h (Import (today kind) label.now outcomes) answer store.new) }
     ensures told { Told S.Store result store.old store.new
         (IsPutIn limits kind label.now digest.now (λ _. ⊤) file.now.head.now (content_of file.now.rows.now)) }
     ensures made { Made S.Store result store.old store.new
@@ -144,11 +145,11 @@ pub fn take_in<S: Alter>(
     requires { IsLabel label.now }
     ensures answered { IsFaithful S.Store store.new → (h : History) (outcomes : List Outcome) → StandsForHistory S.Store h store.old
         → HasEnded limits.bytes outcomes → IsTakenOf kind (bytes_of outcomes) taken.now
-        → IfOk result (λ answer. WasDue S.Store limits h (Import kind label.now outcomes) answer store.new) }
+        → IfOk result (λ answer. WasDue S.Store limits h (Import (today kind) label.now outcomes) answer store.new) }
     ensures told { Told S.Store result store.old store.new (IsTakenIn limits kind label.now taken.now (λ _. ⊤)) }
     ensures made { Made S.Store result store.old store.new (IsTakenIn limits kind label.now taken.now (λ left. StandsFor S.Store left store.new)) }
     ensures turns { (outcomes : List Outcome) → HasEnded limits.bytes outcomes → IsTakenOf kind (bytes_of outcomes) taken.now
-        → TurnsIf S.Store limits (Import kind label.now outcomes) (is_ok result) (has_changed result) store.old store.new }
+        → TurnsIf S.Store limits (Import (today kind) label.now outcomes) (is_ok result) (has_changed result) store.old store.new }
     ensures shut { KeepsShut S.Store store.old store.new }
 {
     if let Some(number) = store.run_of_digest(&taken.digest)? {

@@ -4,6 +4,7 @@ use Rattle.std.proofs.lemmas.List.Sorted.{length_permutation}
 use Rattle.profile_records.specs.declared.kinds.Kind.{Kind}
 use Rattle.profile_records.specs.declared.kinds.Kind.TheVariants.{Callgrind, Folded}
 use Rattle.sources.specs.Outcomes.{Gave}
+use Rattle.histories.specs.Formats.{today}
 use Rattle.histories.specs.History.{Said, Import, Remove, MakeGroup, Join, Turn, History}
 use Rattle.histories.specs.Selections.{selected}
 use Rattle.histories.specs.declared.answers.Answer.{Answer}
@@ -21,7 +22,7 @@ abbrev turn : Said → Answer → Turn
 turn said answer = record { said = said; answer = answer }
 
 abbrev import : Kind → List ℕ → List ℕ → Said
-import kind label bytes = Import kind label (Gave bytes ∷ Gave [] ∷ [])
+import kind label bytes = Import (today kind) label (Gave bytes ∷ Gave [] ∷ [])
 
 -- both files, the one first
 abbrev there : History
@@ -33,7 +34,7 @@ back =
     turn (import Callgrind (codes "gone") []) (Run 1)
     ∷ turn (import Folded (codes "second") two) (Run 2)
     ∷ turn (Remove 1) Done
-    ∷ turn (Import Callgrind (codes "first") (Gave (codes "events: Ir") ∷ Gave (codes "\n1 1\n") ∷ Gave [] ∷ [])) (Run 3)
+    ∷ turn (Import (today Callgrind) (codes "first") (Gave (codes "events: Ir") ∷ Gave (codes "\n1 1\n") ∷ Gave [] ∷ [])) (Run 3)
     ∷ turn (MakeGroup (codes "g")) Done
     ∷ turn (Join (codes "g") 3) Done
     ∷ []

@@ -20,7 +20,7 @@ use Rattle.histories.specs.Legal.{no_event, no_name, when}
 use Rattle.histories.specs.Reports.{by_text, calls_text, costs_of_files, event_records, event_stacks, has_event, inclusive_of_files, inclusive_records, knows, subtract_text}
 use Rattle.histories.specs.declared.answers.Answer.TheVariants.{Refused}
 use Rattle.histories.specs.declared.answers.Refusal.TheVariants as reasons
-use Rattle.same_files.specs.SameFiles.{AreSameFiles, kind_and_bytes}
+use Rattle.same_files.specs.SameFiles.{AreSameFiles, format_and_bytes}
 use Rattle.same_files.proofs.Alike.{Alike, both_alike, pairs_alike, pieces_alike, sums_alike, total_alike}
 use Rattle.same_files.proofs.FilesAlike.{bare, said_alike, same_any, same_any_of_both}
 
@@ -29,7 +29,7 @@ seen_as xs ys us vs one other same m = ap (sum_by m) one ∙ same m ∙ ap (sum_
 
 -- ---- costs and calls of files, each as records of an event
 
-module _ (records : File → EventRecords) (told : (f : File) → records f ≡ records (bare (kind_and_bytes f))) where
+module _ (records : File → EventRecords) (told : (f : File) → records f ≡ records (bare (format_and_bytes f))) where
   costs_piece : File → List (Spot × ℕ)
   costs_piece f = costs_of (records f).coefs (records f).records
 

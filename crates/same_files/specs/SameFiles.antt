@@ -1,19 +1,19 @@
 -- Selections that name the same files, and questions that have the same answer.
 use Rattle.std.specs.Prelude.{◌≡◌, ℕ, List, map, Option, None, IsPermutation}
-use Rattle.profile_records.specs.declared.kinds.Kind.{Kind}
+use Rattle.histories.specs.Formats.{Format}
 use Rattle.histories.specs.History.{Said, History, File}
 use Rattle.histories.specs.Legal.{compared, expected_answer, files_of, no_second, no_selection}
 use Rattle.histories.specs.Selections.{selected}
 use Rattle.histories.specs.declared.answers.Selection.{Selection}
 use Rattle.histories.specs.declared.limits.Limits.{Limits}
 
--- what a file is, without the number and the label that it got
-abbrev pub kind_and_bytes : File → Kind × List ℕ
-kind_and_bytes f = (f.kind, f.bytes)
+-- what a file is, without the number and the label that it got: its bytes, and the format in which they were read, which tells its kind and the side of the mark
+abbrev pub format_and_bytes : File → Format × List ℕ
+format_and_bytes f = (f.format, f.bytes)
 
 -- the same files, each as often, in whatever order
 abbrev pub AreSameFiles : List File → List File → Type 0
-AreSameFiles files others = IsPermutation (map kind_and_bytes files) (map kind_and_bytes others)
+AreSameFiles files others = IsPermutation (map format_and_bytes files) (map format_and_bytes others)
 
 -- two selections, each after its history: what they name is there, and is the same files
 pub record NameSameFiles (h : History) (s : Selection) (k : History) (r : Selection) : Type 0 where

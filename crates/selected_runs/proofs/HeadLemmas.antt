@@ -15,15 +15,14 @@ use Rattle.sqlite_value.specs.declared.value.Value.TheVariants.{Int, Text, Blob}
 use Rattle.sql_tables.proofs.Rows.{map-append}
 use Rattle.cg_formulas.specs.Formulas.{coefficient, derived_names}
 use Rattle.cg_formulas.specs.declared.heads.FileHead.{FileHead}
-use Rattle.callgrind_reader.specs.Files.{definitions_of_file, events_of_file}
+use Rattle.callgrind_reader.specs.Files.{definitions_by, events_by}
 use Rattle.cost_reports.specs.Verifying.{verified}
 use Rattle.cost_rows.proofs.WalkSumsLemmas.{column_from, column-at, is_above, none_more, nothing_each_way, one_more}
-use Rattle.profile_records.specs.declared.kinds.Kind.{Kind}
-use Rattle.profile_records.specs.declared.kinds.Kind.TheVariants.{Callgrind, Folded}
 use Rattle.prof_tables.specs.Seen.{coef_shown, derived_shown, event_shown}
 use Rattle.prof_tables.specs.Tables.{Tables, RunLine, text_or_null}
 use Rattle.prof_books.specs.Book.{run_held}
 use Rattle.prof_books.specs.Heads.{coef_lines_at, coef_lines_from, derived_lines_from, stated_at}
+use Rattle.histories.specs.Formats.{Format, Callgrind, Folded}
 use Rattle.histories.specs.Files.{derived_of, events_of, stated_of}
 use Rattle.histories.specs.History.{History, File, held}
 use Rattle.histories.specs.Stands.{AreBooksOf, IsBookOf, TablesTell, event_lines_from}
@@ -112,11 +111,11 @@ abbrev file_events : (ℕ → Option (List ℕ)) → ℕ → List (List ℕ) →
 file_events stated place [] = []
 file_events stated place (name ∷ names) = record { place = place; name = name; stated = stated place } ∷ file_events stated (suc place) names
 
-lines_say : (f : File) (place : ℕ) (names : List (List ℕ)) → map event_in (map event_shown (event_lines_from f place names)) ≡ file_events (stated_at (stated_of f.kind f.bytes)) place names
+lines_say : (f : File) (place : ℕ) (names : List (List ℕ)) → map event_in (map event_shown (event_lines_from f place names)) ≡ file_events (stated_at (stated_of f.format f.bytes)) place names
 unfolding natural
 lines_say f place [] = refl
 lines_say f place (name ∷ names) =
-    ap₂ ◌∷◌ (ap (λ o. let e : EventSaid = record { place = place; name = name; stated = o } in e) (text_back (stated_at (stated_of f.kind f.bytes) place))) (lines_say f (suc place) names)
+    ap₂ ◌∷◌ (ap (λ o. let e : EventSaid = record { place = place; name = name; stated = o } in e) (text_back (stated_at (stated_of f.format f.bytes) place))) (lines_say f (suc place) names)
 
 said_back : (said : List EventSaid) → map event_in (map said_columns said) ≡ said
 unfolding natural
@@ -355,10 +354,10 @@ rows_wide : (events names : List (List ℕ)) (row : List ℕ → List ℕ) → (
 rows_wide events [] row wide = tt
 rows_wide events (name ∷ names) row wide = (wide name, rows_wide events names row wide)
 
-file_wide : (kind : Kind) (bytes : List ℕ) → AreWide (length (events_of kind bytes)) (rows_of (derived_of kind bytes))
-file_wide Callgrind bytes =
-    rows_wide (events_of_file bytes) (derived_names (definitions_of_file bytes)) (λ name. map (λ event. coefficient event name (definitions_of_file bytes)) (events_of_file bytes))
-    (λ name. length-map (events_of_file bytes) (λ event. coefficient event name (definitions_of_file bytes)))
+file_wide : (format : Format) (bytes : List ℕ) → AreWide (length (events_of format bytes)) (rows_of (derived_of format bytes))
+file_wide (Callgrind g) bytes =
+    rows_wide (events_by g bytes) (derived_names (definitions_by g bytes)) (λ name. map (λ event. coefficient event name (definitions_by g bytes)) (events_by g bytes))
+    (λ name. length-map (events_by g bytes) (λ event. coefficient event name (definitions_by g bytes)))
 file_wide Folded bytes = tt
 
 -- ---- the head
@@ -366,9 +365,9 @@ file_wide Folded bytes = tt
 pub head_told : (f : File) (t : Tables) (line : RunLine) (head : FileHead) → IsShort f → IsBookOf f (run_held t line) → IsHeadIn line.number t head → TellsHead f head
 head_told f t line head short book is =
     let sound = is.1.sound in
-    let stated : ℕ → Option (List ℕ) = stated_at (stated_of f.kind f.bytes) in
-    let names : List (List ℕ) = events_of f.kind f.bytes in
-    let ds : List Derived = derived_of f.kind f.bytes in
+    let stated : ℕ → Option (List ℕ) = stated_at (stated_of f.format f.bytes) in
+    let names : List (List ℕ) = events_of f.format f.bytes in
+    let ds : List Derived = derived_of f.format f.bytes in
     let es : List Derived = head.derived.derived in
     let said : file_events stated 0 names ≡ events_said head =
     same_order at_place 0 (file_events stated 0 names) (events_said head) (file_counts stated 0 names) (said_counts 0 head.events (unwrap_or head.stated []))
@@ -388,14 +387,14 @@ head_told f t line head short book is =
     all_map (λ (d : Derived). length d.1 ≡ length head.derived.events) (λ (row : List ℕ). length row ≡ length head.derived.events) (λ (d : Derived). d.1) es (λ d is_wide. is_wide)
     (recursion_from_All (λ (d : Derived). length d.1 ≡ length head.derived.events) es head.derived.shape) in
     let rows : rows_of ds ≡ rows_of es =
-    same_rows (length names) 0 (rows_of ds) (rows_of es) (many_rows ds ∙ ap length derived_names_are ∙ sym (many_rows es)) (file_wide f.kind f.bytes)
+    same_rows (length names) 0 (rows_of ds) (rows_of es) (many_rows ds ∙ ap length derived_names_are ∙ sym (many_rows es)) (file_wide f.format f.bytes)
     (subst (λ n. AreWide n (rows_of es)) (ap length (sound.events_same ∙ events)) wide)
     (λ p e. sym (all_times 0 p e (rows_of ds)) ∙ sym (sum_by-IsPermutation (times_of p e) (coefs_from 0 (rows_of ds)) (coefs_from 0 (rows_of es)) coefs) ∙ all_times 0 p e (rows_of es)) in
     record {
       events = events;
       wide = sound.events_same;
       derived = sym (same_pairs ds es derived_names_are rows);
-      stated = λ some. told_stated names head.events (stated_of f.kind f.bytes) head.stated some (file_totals f.kind f.bytes short) sound.stated_all said;
+      stated = λ some. told_stated names head.events (stated_of f.format f.bytes) head.stated some (file_totals f.format f.bytes short) sound.stated_all said;
     }
 
 -- ---- of a file that a history holds
@@ -413,9 +412,9 @@ held_head_told h t f head tell there is =
     head_told f t run.0 head (one_of_all IsShort (held h) f (held_short h tell.legal) there) run.1 (subst (λ n. IsHeadIn n t head) (sym run.1.number) is)
 
 -- what is verified by a head is what is verified by the file, which states nothing where it has no event
-pub verified_told : (f : File) (head : FileHead) (run : ℕ) (sums : List ℕ) → TellsHead f head → verified run head.events sums head.stated ≡ verified run (events_of f.kind f.bytes) sums (stated_of f.kind f.bytes)
-verified_told f head run sums told = ap (λ events. verified run events sums head.stated) told.events ∙ go (events_of f.kind f.bytes) (λ some. told.stated (subst (λ events. 0 < length events) (sym told.events) some))
+pub verified_told : (f : File) (head : FileHead) (run : ℕ) (sums : List ℕ) → TellsHead f head → verified run head.events sums head.stated ≡ verified run (events_of f.format f.bytes) sums (stated_of f.format f.bytes)
+verified_told f head run sums told = ap (λ events. verified run events sums head.stated) told.events ∙ go (events_of f.format f.bytes) (λ some. told.stated (subst (λ events. 0 < length events) (sym told.events) some))
   where
-    go : (events : List (List ℕ)) → (0 < length events → head.stated ≡ stated_of f.kind f.bytes) → verified run events sums head.stated ≡ verified run events sums (stated_of f.kind f.bytes)
+    go : (events : List (List ℕ)) → (0 < length events → head.stated ≡ stated_of f.format f.bytes) → verified run events sums head.stated ≡ verified run events sums (stated_of f.format f.bytes)
     go [] stated = refl
     go (event ∷ events) stated = ap (verified run (event ∷ events) sums) (stated (omega arith))

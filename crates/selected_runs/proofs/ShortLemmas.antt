@@ -3,8 +3,8 @@ use Rattle.std.proofs.Common.{◌≡◌, ℕ, ◌≤◌, ◌^◌, Bool, true, fa
 use Rattle.std.specs.List.{list_any, AllByRecursion}
 use Rattle.std.proofs.lemmas.Bool.Decides.{nat_tests}
 use Rattle.sqlite_rules.specs.Lists.{Has}
-use Rattle.profile_records.specs.declared.kinds.Kind.{Kind}
 use Rattle.sources.specs.Outcomes.{Outcome, bytes_of, is_failed, is_end}
+use Rattle.histories.specs.Formats.{Format}
 use Rattle.histories.specs.History.{Said, Import, Turn, History, File, held}
 use Rattle.histories.specs.Legal.{IsLegal, IsHistory, file_due}
 use Rattle.histories.specs.declared.limits.Limits.{Limits}
@@ -24,11 +24,11 @@ within : (m n : ℕ) → nat_lt m n ≡ false → n ≤ m
 within m n none = grind (arith, nat_tests)
 
 -- an import that is answered with a number was not refused as too long
-put_short : (limits : Limits) (h : History) (kind : Kind) (label : List ℕ) (outcomes : List Outcome) (n : ℕ) → IsLegal limits h (Import kind label outcomes) (Run n) → length (bytes_of outcomes) ≤ 2 ^ 30
-put_short limits h kind label outcomes n legal =
+put_short : (limits : Limits) (h : History) (format : Format) (label : List ℕ) (outcomes : List Outcome) (n : ℕ) → IsLegal limits h (Import format label outcomes) (Run n) → length (bytes_of outcomes) ≤ 2 ^ 30
+put_short limits h format label outcomes n legal =
     go (nat_lt limits.bytes (length (bytes_of outcomes))) (within limits.bytes (length (bytes_of outcomes)))
-    (if list_any is_failed outcomes then Some (Refused reasons.ReadFault) else if list_any is_end outcomes then Some (file_due limits h kind (bytes_of outcomes)) else None)
-    (was_due limits h (Import kind label outcomes) (Run n) tt legal).1
+    (if list_any is_failed outcomes then Some (Refused reasons.ReadFault) else if list_any is_end outcomes then Some (file_due limits h format (bytes_of outcomes)) else None)
+    (was_due limits h (Import format label outcomes) (Run n) tt legal).1
   where
     go : (long : Bool) → (long ≡ false → length (bytes_of outcomes) ≤ limits.bytes) → (other : Option Answer) → (if long then Some (Refused reasons.TooLong) else other) ≡ Some (Run n)
         → length (bytes_of outcomes) ≤ 2 ^ 30
@@ -36,8 +36,8 @@ put_short limits h kind label outcomes n legal =
     go false low other same = let few = low refl in let most = limits.bytes_fit in omega (arith, few, most)
 
 taken_short : (limits : Limits) (h : History) (said : Said) (answer : Answer) → IsLegal limits h said answer → AllByRecursion IsShort (taken said answer)
-taken_short limits h (Import kind label outcomes) (Run n) legal = (put_short limits h kind label outcomes n legal, tt)
-taken_short limits h (Import kind label outcomes) answer legal = tt
+taken_short limits h (Import format label outcomes) (Run n) legal = (put_short limits h format label outcomes n legal, tt)
+taken_short limits h (Import format label outcomes) answer legal = tt
 taken_short limits h said answer legal = tt
 
 short_step : (limits : Limits) (h : History) (turn : Turn) → IsHistory h → AllByRecursion IsShort (held h) → IsLegal limits h turn.said turn.answer → AllByRecursion IsShort (held (h ++ turn ∷ []))

@@ -14,16 +14,16 @@ use Rattle.std.proofs.lemmas.Nat.{le-div}
 use Rattle.cg_text.specs.Fields.{fields_of}
 use Rattle.cg_text.specs.Lines.{is_line_feed, lines_of}
 use Rattle.cg_text.specs.Numbers.{amount_of, below_half, number_of}
-use Rattle.cg_text.specs.Readings.{Reading, reading_of}
+use Rattle.cg_text.specs.Readings.{Reading}
 use Rattle.cg_text.specs.declared.faults.Fault.{Fault}
 use Rattle.cg_text.specs.declared.faults.Fault.TheVariants.{NumberTooLarge}
 use Rattle.callgrind_reader.specs.Faulty.{◌>>=◌, each}
-use Rattle.callgrind_reader.specs.Files.{end_of, events_of_file}
+use Rattle.callgrind_reader.specs.Files.{end_by, events_by}
+use Rattle.callgrind_reader.specs.Grammars.{Grammar, reading_in}
 use Rattle.callgrind_reader.specs.Totals.{amount_in, amounts_or_none, columns, is_stated, plus, stated_by, sum_in}
 use Rattle.callgrind_reader.specs.declared.stated.StatedKey.{StatedKey}
 use Rattle.callgrind_reader.specs.declared.stated.StatedKey.TheVariants.{Totals, Summary}
-use Rattle.profile_records.specs.declared.kinds.Kind.{Kind}
-use Rattle.profile_records.specs.declared.kinds.Kind.TheVariants.{Callgrind, Folded}
+use Rattle.histories.specs.Formats.{Format, Callgrind, Folded}
 use Rattle.histories.specs.Files.{events_of, stated_of}
 
 -- ---- a number is told by its decimal, if that has fewer digits than are ever written
@@ -138,17 +138,17 @@ onto_long : {A : Type 0} (ahead back : List A) → length (onto ahead back) ≡ 
 onto_long [] back = omega arith
 onto_long (x ∷ ahead) back = let e = onto_long ahead (x ∷ back) in omega (arith, e)
 
-end_few : (bytes : List ℕ) → length (end_of bytes) ≤ length bytes
-end_few bytes =
-    let long : length (end_of bytes) ≡ length (map reading_of (lines_of bytes)) + 0 = onto_long (map reading_of (lines_of bytes)) [] in
-    let same : length (map reading_of (lines_of bytes)) ≡ length (lines_of bytes) = length-map (lines_of bytes) reading_of in
+end_few : (g : Grammar) (bytes : List ℕ) → length (end_by g bytes) ≤ length bytes
+end_few g bytes =
+    let long : length (end_by g bytes) ≡ length (map (reading_in g) (lines_of bytes)) + 0 = onto_long (map (reading_in g) (lines_of bytes)) [] in
+    let same : length (map (reading_in g) (lines_of bytes)) ≡ length (lines_of bytes) = length-map (lines_of bytes) (reading_in g) in
     let few = lines_few bytes in
     omega (arith, long, same, few)
 
-sum_small : (bytes : List ℕ) → length bytes ≤ 2 ^ 30 → (key : StatedKey) (k : ℕ) → IsSmall (sum_in key k (end_of bytes))
-sum_small bytes short key k =
-    let low : sum_in key k (end_of bytes) ≤ length (end_of bytes) * 2 ^ 63 = sum_low key k (end_of bytes) in
-    let few : length (end_of bytes) ≤ length bytes = end_few bytes in
+sum_small : (g : Grammar) (bytes : List ℕ) → length bytes ≤ 2 ^ 30 → (key : StatedKey) (k : ℕ) → IsSmall (sum_in key k (end_by g bytes))
+sum_small g bytes short key k =
+    let low : sum_in key k (end_by g bytes) ≤ length (end_by g bytes) * 2 ^ 63 = sum_low key k (end_by g bytes) in
+    let few : length (end_by g bytes) ≤ length bytes = end_few g bytes in
     omega (arith, low, few, short)
 
 -- ---- the totals of a file
@@ -164,24 +164,24 @@ all_small sum (k ∷ ks) small = (small k, all_small sum ks small)
 columns_are : (sum : ℕ → ℕ) (n : ℕ) → ((k : ℕ) → IsSmall (sum k)) → (length (columns sum n) ≡ n) × AllByRecursion IsSmall (columns sum n)
 columns_are sum n small = (length-map-range_with_len sum 0 n, all_small sum (range_with_len 0 n) small)
 
-pub file_totals : (kind : Kind) (bytes : List ℕ) → length bytes ≤ 2 ^ 30 → AreTotalsFor (events_of kind bytes) (stated_of kind bytes)
-file_totals Callgrind bytes short =
-    go (length (events_of_file bytes) == 0) (is_stated Totals (end_of bytes)) (is_stated Summary (end_of bytes))
+pub file_totals : (format : Format) (bytes : List ℕ) → length bytes ≤ 2 ^ 30 → AreTotalsFor (events_of format bytes) (stated_of format bytes)
+file_totals (Callgrind g) bytes short =
+    go (length (events_by g bytes) == 0) (is_stated Totals (end_by g bytes)) (is_stated Summary (end_by g bytes))
   where
     n : ℕ
-    n = length (events_of_file bytes)
+    n = length (events_by g bytes)
 
     by_key : StatedKey → List ℕ
-    by_key key = columns (λ k. sum_in key k (end_of bytes)) (length (events_of_file bytes))
+    by_key key = columns (λ k. sum_in key k (end_by g bytes)) (length (events_by g bytes))
 
-    are : (key : StatedKey) → (length (columns (λ k. sum_in key k (end_of bytes)) (length (events_of_file bytes))) ≡ length (events_of_file bytes)) × AllByRecursion IsSmall (columns (λ k. sum_in key k (end_of bytes)) (length (events_of_file bytes)))
-    are key = columns_are (λ k. sum_in key k (end_of bytes)) (length (events_of_file bytes)) (sum_small bytes short key)
+    are : (key : StatedKey) → (length (columns (λ k. sum_in key k (end_by g bytes)) (length (events_by g bytes))) ≡ length (events_by g bytes)) × AllByRecursion IsSmall (columns (λ k. sum_in key k (end_by g bytes)) (length (events_by g bytes)))
+    are key = columns_are (λ k. sum_in key k (end_by g bytes)) (length (events_by g bytes)) (sum_small g bytes short key)
 
     go : (none totals summary : Bool)
-        → AreTotalsFor (events_of_file bytes)
+        → AreTotalsFor (events_by g bytes)
         (if none then None
-        else (if totals then Some (columns (λ k. sum_in Totals k (end_of bytes)) (length (events_of_file bytes)))
-        else (if summary then Some (columns (λ k. sum_in Summary k (end_of bytes)) (length (events_of_file bytes))) else None)))
+        else (if totals then Some (columns (λ k. sum_in Totals k (end_by g bytes)) (length (events_by g bytes)))
+        else (if summary then Some (columns (λ k. sum_in Summary k (end_by g bytes)) (length (events_by g bytes))) else None)))
     go true totals summary = tt
     go false true summary = are Totals
     go false false true = are Summary

@@ -6,7 +6,7 @@ use Rattle.histories.specs.History.{File}
 
 -- its events and its derived events are those of the file, with coefficients for just these events, and so are the totals that it states, where it has an event
 pub record TellsHead (f : File) (head : FileHead) : Type 0 where
-  pub events : head.events ≡ events_of f.kind f.bytes
+  pub events : head.events ≡ events_of f.format f.bytes
   pub wide : head.derived.events ≡ head.events
-  pub derived : head.derived.derived ≡ derived_of f.kind f.bytes
-  pub stated : 0 < length head.events → head.stated ≡ stated_of f.kind f.bytes
+  pub derived : head.derived.derived ≡ derived_of f.format f.bytes
+  pub stated : 0 < length head.events → head.stated ≡ stated_of f.format f.bytes

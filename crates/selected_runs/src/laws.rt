@@ -38,7 +38,7 @@ pub fn selections_are_told()
 pub fn heads_are_told()
     ensures told { (h : History) (t : Tables) (f : File) (head : FileHead) → TablesTell h t → Has (held h) f → IsHeadIn f.number t head → TellsHead f head }
     ensures verified { (f : File) (head : FileHead) (run : ℕ) (sums : List ℕ)
-        → TellsHead f head → verified run head.events sums head.stated ≡ verified run (events_of f.kind f.bytes) sums (stated_of f.kind f.bytes) }
+        → TellsHead f head → verified run head.events sums head.stated ≡ verified run (events_of f.format f.bytes) sums (stated_of f.format f.bytes) }
 {}
 
 /// Runs that are counted by their heads, those of a selection: one of them has the event where a file that

@@ -13,6 +13,7 @@ use Rattle.prof_tables.specs.Schema.{schema_two}
 use Rattle.prof_store.specs.Shown.{shown, IsFaithful}
 use Rattle.prof_store.specs.declared.store.Store.{Store}
 use Rattle.sources.specs.Outcomes.{Outcome}
+use Rattle.histories.specs.Formats.{today}
 use Rattle.histories.specs.History.{History, Said, Turn, Import}
 use Rattle.histories.specs.Legal.{IsLegal}
 use Rattle.histories.specs.declared.answers.Answer.{Answer}
@@ -162,16 +163,16 @@ module _ {R W S : Type 0} (g : Ghosts S) where
 
 -- imports that were not begun, with no reads
 abbrev unread : Kind → List (List ℕ) → List Said
-unread kind paths = map (λ path. Import kind path []) paths
+unread kind paths = map (λ path. Import (today kind) path []) paths
 
 imports_unread : (reads : List Outcome → Type 0) → reads [] → (kind : Kind) (paths : List (List ℕ)) → AreImports reads kind paths (unread kind paths)
 imports_unread reads none kind [] = tt
 imports_unread reads none kind (path ∷ paths) = ([], none, refl, imports_unread reads none kind paths)
 
 imports_next : {X : Type 0} (reads : List Outcome → Type 0) (now : X → List ℕ) (kind : Kind) (paths : List X) (i : ℕ) (d : X) (outcomes : List Outcome) (rest : List Said) → i < length paths → reads outcomes
-    → AreImports reads kind (map now (drop (i + 1) paths)) rest → AreImports reads kind (map now (drop i paths)) (Import kind (now (get_or paths i d)) outcomes ∷ rest)
+    → AreImports reads kind (map now (drop (i + 1) paths)) rest → AreImports reads kind (map now (drop i paths)) (Import (today kind) (now (get_or paths i d)) outcomes ∷ rest)
 imports_next reads now kind paths i d outcomes rest low read all =
-    subst (λ l. AreImports reads kind (map now l) (Import kind (now (get_or paths i d)) outcomes ∷ rest)) (sym (drop_more paths i d low)) (outcomes, read, refl, all)
+    subst (λ l. AreImports reads kind (map now l) (Import (today kind) (now (get_or paths i d)) outcomes ∷ rest)) (sym (drop_more paths i d low)) (outcomes, read, refl, all)
 
 module _ {R W S X : Type 0} (g : Ghosts S) (contents : W → Option (List ℕ)) (reads : List Outcome → Type 0) (now : X → List ℕ) (kind : Kind) (paths : List X) (i : ℕ) (d : X) (list : List Said) (old mid new : Session R W S) where
   -- the imports so far fit those of all paths, with the others behind them
@@ -179,18 +180,18 @@ module _ {R W S X : Type 0} (g : Ghosts S) (contents : W → Option (List ℕ)) 
   Fits done n = (rest : List Said) → AreImports reads kind (map now (drop n paths)) rest → AreImports reads kind (map now paths) (done ++ rest)
 
   pub import_on : {E : Type 0} (done : Unit {0}) → i < length paths → mid.warehouse.limits ≡ old.warehouse.limits → Fits list i → (w : SoFar g contents list old mid)
-      → ((outcomes : List Outcome) × reads outcomes × WasTold g contents (Import kind (now (get_or paths i d)) outcomes) {E = E} (Ok done) mid new) → (more : List Said) × Fits more (i + 1) × SoFar g contents more old new
+      → ((outcomes : List Outcome) × reads outcomes × WasTold g contents (Import (today kind) (now (get_or paths i d)) outcomes) {E = E} (Ok done) mid new) → (more : List Said) × Fits more (i + 1) × SoFar g contents more old new
   import_on done low same fits w t =
-      let said = Import kind (now (get_or paths i d)) t.0 in (
+      let said = Import (today kind) (now (get_or paths i d)) t.0 in (
         list ++ said ∷ [],
         λ rest all. subst (AreImports reads kind (map now paths)) (sym (append_assoc list (said ∷ []) rest)) (fits (said ∷ rest) (imports_next reads now kind paths i d t.0 rest low t.1 all)),
         so_far_on g contents list said done old mid new same w t.2,
       )
 
   pub import_cut : {E : Type 0} (result : Result Unit E) → reads [] → i < length paths → mid.warehouse.limits ≡ old.warehouse.limits → Fits list i → (w : SoFar g contents list old mid)
-      → ((outcomes : List Outcome) × reads outcomes × WasTold g contents (Import kind (now (get_or paths i d)) outcomes) result mid new) → WasCut g contents (AreImports reads kind (map now paths)) old new
+      → ((outcomes : List Outcome) × reads outcomes × WasTold g contents (Import (today kind) (now (get_or paths i d)) outcomes) result mid new) → WasCut g contents (AreImports reads kind (map now paths)) old new
   import_cut result none low same fits w t =
-      let said = Import kind (now (get_or paths i d)) t.0 in
+      let said = Import (today kind) (now (get_or paths i d)) t.0 in
       let rest = unread kind (map now (drop (i + 1) paths)) in
       so_far_cut g contents list rest said (AreImports reads kind (map now paths)) result old mid new same w t.2
       (fits (said ∷ rest) (imports_next reads now kind paths i d t.0 rest low t.1 (imports_unread reads none kind (map now (drop (i + 1) paths)))))

@@ -4,6 +4,7 @@ use Rattle.std.specs.Io.KnownBytes.{Appends}
 use Rattle.std.specs.List.{list_any}
 use Rattle.sqlite_trees.specs.declared.store.Store.{Ghosts}
 use Rattle.profile_records.specs.declared.kinds.Kind.{Kind}
+use Rattle.histories.specs.Formats.{today}
 use Rattle.histories.specs.History as history
 use Rattle.sources.specs.Outcomes.{Outcome}
 use Rattle.histories.specs.History.{History, Said, Turn}
@@ -26,7 +27,7 @@ use Rattle.sessions.specs.declared.session.Work.TheVariants as works
 -- an import of each path in turn, under the path as its label, with reads of a file
 abbrev pub AreImports : (List Outcome → Type 0) → Kind → List (List ℕ) → List Said → Type 0
 AreImports reads kind [] [] = Unit {0}
-AreImports reads kind (path ∷ paths) (said ∷ later) = (outcomes : List Outcome) × reads outcomes × (said ≡ history.Import kind path outcomes) × AreImports reads kind paths later
+AreImports reads kind (path ∷ paths) (said ∷ later) = (outcomes : List Outcome) × reads outcomes × (said ≡ history.Import (today kind) path outcomes) × AreImports reads kind paths later
 AreImports reads kind paths list = ⊥
 
 -- the annotation of a source, with reads of a file

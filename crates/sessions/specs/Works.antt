@@ -3,9 +3,7 @@ use Rattle.std.specs.Prelude.{◌≡◌, ℕ, Bool, if◌then◌else◌, List, [
 use Rattle.std.specs.Io.KnownBytes.{Appends}
 use Rattle.std.specs.declared.alloc.AllocError.{AllocError}
 use Rattle.sqlite_trees.specs.declared.store.Store.{Ghosts}
-use Rattle.sqlite.specs.Held.{state}
 use Rattle.sqlite.specs.declared.connection.Connection.{Connection}
-use Rattle.prof_store.specs.Shown.{shown}
 use Rattle.prof_store.specs.declared.store.Store.{Store}
 use Rattle.file_totals.specs.declared.total.TotalText.{TotalText}
 use Rattle.histories.specs.History.{History, Said}
@@ -54,5 +52,5 @@ module _ {W S : Type 0} (g : Ghosts S) (contents : W → Option (List ℕ)) (wan
   -- a store was made or found in a database, and the work done over it; or there was none to be had, and all is as it was
   abbrev pub WasWorked : {E : Type 0} → Bool → Result (Result ℕ E) OpenError → W → Connection S → Connection S → Type 0
   WasWorked is_new result from old new = MatchResult result
-      (λ printed. (to : W) × (opened : Store S) × (closed : Store S) × (closed.conn ≡ new) × TakesUp is_new (state g old) (shown g opened) × CameTo printed from to opened closed)
-      (λ end. Refuses is_new end (state g old) (state g new))
+      (λ printed. (to : W) × (opened : Store S) × (closed : Store S) × (closed.conn ≡ new) × TakesUp g is_new old opened.conn × CameTo printed from to opened closed)
+      (λ end. Refuses g is_new end old new)

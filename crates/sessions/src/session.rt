@@ -2,6 +2,7 @@
 ghost use Rattle.std.specs.Prelude.{◌≡◌, ◌↔◌, IfOk, IsTrue, List, [], ◌∷◌, map};
 ghost use Rattle.prof_store.specs.Shown.{IsFaithful, IsUsable};
 ghost use Rattle.sources.specs.Outcomes.{Outcome};
+ghost use Rattle.histories.specs.Formats.{today};
 ghost use Rattle.histories.specs.History.{History, Said, Annotate, Ask, Import, Remove};
 ghost use Rattle.histories.specs.Legal.{IsInForm, IsLegal};
 ghost use Rattle.histories.specs.declared.answers.Answer.TheVariants as answers;
@@ -177,7 +178,7 @@ impl<'a, R: Files + AllocGlobal, W: Write + Drop, S: Alter> Session<'a, R, W, S>
     fn import_file(&mut self, kind: Kind, path: &'a str) -> io::Result<()>
         ensures limits { self.new.warehouse.limits ≡ self.old.warehouse.limits }
         ensures answered { IsFaithful S.Store self.new.warehouse.store → (outcomes : List Outcome) × WereRead R.File.remaining outcomes
-            × WasTold S.Store W.contents (Import kind path.now outcomes) result self.old self.new }
+            × WasTold S.Store W.contents (Import (today kind) path.now outcomes) result self.old self.new }
     {
         let mut source = FileSource::new(self.rt, path);
         let label = path.as_bytes();

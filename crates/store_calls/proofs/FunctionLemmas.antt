@@ -302,11 +302,11 @@ module _ (f : Spot) where
       → list_any (touches f) (map (weighted_calls coefs) arcs) || (is_in_cells f (cells_held file.number t) || is_in_stacks f (stacks_held file.number t)) ≡ knows f file
   file_knows h t file coefs arcs tell there are =
       let told = tells_rows h t tell file there in
-      let records = records_of file.kind file.bytes in
+      let records = records_of file.format file.bytes in
       ap₂ (λ a b. a || b) (calls_touch coefs arcs ∙ (told.calls arcs are).called either)
-      (ap₂ (λ a b. a || b) (cells_know (cells_held file.number t) records told.cells_above told.cells) (stacks_know (stacks_held file.number t) (stacks_of file.kind file.bytes) told.stacks_above told.stacks))
-      ∙ sym (or_then (has_call either records) (list_any own_tells records) (list_any (is_seen_in f) (stacks_of file.kind file.bytes)))
-      ∙ ap (λ b. b || list_any (is_seen_in f) (stacks_of file.kind file.bytes)) (sym (apart records))
+      (ap₂ (λ a b. a || b) (cells_know (cells_held file.number t) records told.cells_above told.cells) (stacks_know (stacks_held file.number t) (stacks_of file.format file.bytes) told.stacks_above told.stacks))
+      ∙ sym (or_then (has_call either records) (list_any own_tells records) (list_any (is_seen_in f) (stacks_of file.format file.bytes)))
+      ∙ ap (λ b. b || list_any (is_seen_in f) (stacks_of file.format file.bytes)) (sym (apart records))
 
   shuffled : (a b c d : Bool) → (a || b) || (c || d) ≡ (a || c) || (b || d)
   shuffled true b c d = refl
@@ -341,7 +341,7 @@ calls_stand h t event tell [] (run ∷ runs) rows all are arcs = absurd are
 calls_stand h t event tell (f ∷ files) [] rows all are arcs = absurd are
 calls_stand h t event tell (f ∷ files) (run ∷ runs) [] all are arcs = absurd arcs
 calls_stand h t event tell (f ∷ files) (run ∷ runs) (r ∷ rows) all are arcs =
-    let come : CallsCome r.arcs (records_of f.kind f.bytes) = (tells_rows h t tell f all.0).calls r.arcs (subst (λ n. AreCallsOf n t r.arcs) are.0.number arcs.1) in (
+    let come : CallsCome r.arcs (records_of f.format f.bytes) = (tells_rows h t tell f all.0).calls r.arcs (subst (λ n. AreCallsOf n t r.arcs) are.0.number arcs.1) in (
       record {
         coefs = arcs.0 ∙ ap (λ counts. unwrap_or counts []) are.0.counts;
         costs = come.costs;

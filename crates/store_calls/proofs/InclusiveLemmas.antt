@@ -25,6 +25,8 @@ use Rattle.profile_records.specs.declared.kinds.Kind.{Kind}
 use Rattle.profile_records.specs.declared.kinds.Kind.TheVariants.{Callgrind, Folded}
 use Rattle.held_runs.specs.HandedCalls.{AreCallsOf}
 use Rattle.held_runs.specs.Lookups.{IsKindOf}
+use Rattle.histories.specs.Formats as formats
+use Rattle.histories.specs.Formats.{Format, kind_in}
 use Rattle.histories.specs.Files.{records_of, stacks_of}
 use Rattle.histories.specs.History.{History, File, held}
 use Rattle.histories.specs.Legal.{expected_of_query}
@@ -91,23 +93,23 @@ record AddsFile (event : List ℕ) (f : File) (rows : List InclusiveRow) : Type 
   seen : SameStacks stacks (event_stacks event f)
   same : (old : InclusiveCosts) → fold with_inclusive old rows ≡ fold with_inclusive old (by_kind cells arcs stacks)
 
-all_called : (kind : Kind) (bytes : List ℕ) → kind ≡ Callgrind → called_records kind bytes ≡ records_of kind bytes
-all_called Callgrind bytes is = refl
-all_called Folded bytes is = absurd cc
+all_called : (format : Format) (bytes : List ℕ) → kind_in format ≡ Callgrind → called_records format bytes ≡ records_of format bytes
+all_called (formats.Callgrind g) bytes is = refl
+all_called formats.Folded bytes is = absurd cc
 
-none_called : (kind : Kind) (bytes : List ℕ) → kind ≡ Folded → called_records kind bytes ≡ []
-none_called Callgrind bytes is = absurd cc
-none_called Folded bytes is = refl
+none_called : (format : Format) (bytes : List ℕ) → kind_in format ≡ Folded → called_records format bytes ≡ []
+none_called (formats.Callgrind g) bytes is = absurd cc
+none_called formats.Folded bytes is = refl
 
-no_stacks : (kind : Kind) (bytes : List ℕ) → kind ≡ Callgrind → stacks_of kind bytes ≡ []
-no_stacks Callgrind bytes is = refl
-no_stacks Folded bytes is = absurd cc
+no_stacks : (format : Format) (bytes : List ℕ) → kind_in format ≡ Callgrind → stacks_of format bytes ≡ []
+no_stacks (formats.Callgrind g) bytes is = refl
+no_stacks formats.Folded bytes is = absurd cc
 
-none_seen : (event : List ℕ) (f : File) → f.kind ≡ Callgrind → SameStacks [] (event_stacks event f)
+none_seen : (event : List ℕ) (f : File) → kind_in f.format ≡ Callgrind → SameStacks [] (event_stacks event f)
 none_seen event f is = λ test. ap (frames_sum test) (sym (go (has_event event f)))
   where
-    go : (b : Bool) → (if b then stacks_of f.kind f.bytes else []) ≡ []
-    go true = no_stacks f.kind f.bytes is
+    go : (b : Bool) → (if b then stacks_of f.format f.bytes else []) ≡ []
+    go true = no_stacks f.format f.bytes is
     go false = refl
 
 -- what costs nothing adds nothing
@@ -141,16 +143,16 @@ module _ (h : History) (t : Tables) (event : List ℕ) (tell : TablesTell h t) (
   told : TellsRows f t
   told = tells_rows h t tell f there
 
-  own_of : (counts : List ℕ) → counts ≡ unwrap_or (counts_of event f) [] → f.kind ≡ Callgrind → StandsFor (inclusive_records event f) (record { coefs = counts; cells = cells_held f.number t })
+  own_of : (counts : List ℕ) → counts ≡ unwrap_or (counts_of event f) [] → kind_in f.format ≡ Callgrind → StandsFor (inclusive_records event f) (record { coefs = counts; cells = cells_held f.number t })
   own_of counts are is =
-      let same = sym (all_called f.kind f.bytes is) in
+      let same = sym (all_called f.format f.bytes is) in
       record { coefs = are; cells = λ passes k. told.cells passes k ∙ ap (own_sum passes k) same }
 
-  calls_of : (counts : List ℕ) (arcs : List (ArcRow (List ℕ) (List ℕ))) → counts ≡ unwrap_or (counts_of event f) [] → f.kind ≡ Callgrind → AreCallsOf f.number t arcs
+  calls_of : (counts : List ℕ) (arcs : List (ArcRow (List ℕ) (List ℕ))) → counts ≡ unwrap_or (counts_of event f) [] → kind_in f.format ≡ Callgrind → AreCallsOf f.number t arcs
       → CallsStandFor (inclusive_records event f) (record { coefs = counts; arcs = arcs })
   calls_of counts arcs are is whole =
-      let same = sym (all_called f.kind f.bytes is) in
-      let come : CallsCome arcs (records_of f.kind f.bytes) = told.calls arcs whole in
+      let same = sym (all_called f.format f.bytes is) in
+      let come : CallsCome arcs (records_of f.format f.bytes) = told.calls arcs whole in
       record {
         coefs = are;
         costs = λ passes k. come.costs passes k ∙ ap (call_sum passes k) same;
@@ -159,12 +161,12 @@ module _ (h : History) (t : Tables) (event : List ℕ) (tell : TablesTell h t) (
       }
 
   -- a folded file has neither
-  no_own : f.kind ≡ Folded → StandsFor (inclusive_records event f) (record { coefs = unwrap_or (counts_of event f) []; cells = [] })
-  no_own is = record { coefs = refl; cells = λ passes k. ap (own_sum passes k) (sym (none_called f.kind f.bytes is)) }
+  no_own : kind_in f.format ≡ Folded → StandsFor (inclusive_records event f) (record { coefs = unwrap_or (counts_of event f) []; cells = [] })
+  no_own is = record { coefs = refl; cells = λ passes k. ap (own_sum passes k) (sym (none_called f.format f.bytes is)) }
 
-  no_calls : f.kind ≡ Folded → CallsStandFor (inclusive_records event f) (record { coefs = unwrap_or (counts_of event f) []; arcs = [] })
+  no_calls : kind_in f.format ≡ Folded → CallsStandFor (inclusive_records event f) (record { coefs = unwrap_or (counts_of event f) []; arcs = [] })
   no_calls is =
-      let same = sym (none_called f.kind f.bytes is) in
+      let same = sym (none_called f.format f.bytes is) in
       record {
         coefs = refl;
         costs = λ passes k. ap (call_sum passes k) same;
@@ -173,7 +175,7 @@ module _ (h : History) (t : Tables) (event : List ℕ) (tell : TablesTell h t) (
       }
 
   -- by the kind of the file, where the run has the event
-  of_kind : (kind : Kind) (counts : List ℕ) (rows : List InclusiveRow) → kind ≡ f.kind → counts_of event f ≡ Some counts → AreRowsOfKind kind t f.number counts rows → AddsFile event f rows
+  of_kind : (kind : Kind) (counts : List ℕ) (rows : List InclusiveRow) → kind ≡ kind_in f.format → counts_of event f ≡ Some counts → AreRowsOfKind kind t f.number counts rows → AddsFile event f rows
   of_kind Callgrind counts rows is has are =
       let coefs : counts ≡ unwrap_or (counts_of event f) [] = sym (ap (λ c. unwrap_or c []) has) in
       record {
@@ -191,12 +193,12 @@ module _ (h : History) (t : Tables) (event : List ℕ) (tell : TablesTell h t) (
     arcs = record { coefs = unwrap_or (counts_of event f) []; arcs = [] };
     calls = no_calls (sym is);
     stacks = stacks_held f.number t;
-    seen = λ test. told.stacks test ∙ ap (λ b. frames_sum test (if b then stacks_of f.kind f.bytes else [])) (sym (ap is_some has));
+    seen = λ test. told.stacks test ∙ ap (λ b. frames_sum test (if b then stacks_of f.format f.bytes else [])) (sym (ap is_some has));
     same = λ old. ap (fold with_inclusive old) are;
   }
 
   -- and where it does not
-  without : (kind : Kind) → kind ≡ f.kind → counts_of event f ≡ None → AddsFile event f []
+  without : (kind : Kind) → kind ≡ kind_in f.format → counts_of event f ≡ None → AddsFile event f []
   without Callgrind is has =
       let coefs : [] ≡ unwrap_or (counts_of event f) [] = sym (ap (λ c. unwrap_or c []) has) in
       let arcs = told.whole.0 in
@@ -215,7 +217,7 @@ module _ (h : History) (t : Tables) (event : List ℕ) (tell : TablesTell h t) (
     arcs = record { coefs = unwrap_or (counts_of event f) []; arcs = [] };
     calls = no_calls (sym is);
     stacks = [];
-    seen = λ test. ap (λ b. frames_sum test (if b then stacks_of f.kind f.bytes else [])) (sym (ap is_some has));
+    seen = λ test. ap (λ b. frames_sum test (if b then stacks_of f.format f.bytes else [])) (sym (ap is_some has));
     same = λ old. refl;
   }
 
@@ -227,7 +229,7 @@ module _ (h : History) (t : Tables) (event : List ℕ) (tell : TablesTell h t) (
       go (Some counts) has them =
           let kind : IsKindOf f.number t them.0 = subst (λ n. IsKindOf n t them.0) is.number them.1 in
           of_kind them.0 counts rows (kind_told h t f them.0 tell there kind) has (subst (λ n. AreRowsOfKind them.0 t n counts rows) is.number them.2)
-      go None has them = subst (AddsFile event f) (sym them) (without f.kind refl has)
+      go None has them = subst (AddsFile event f) (sym them) (without (kind_in f.format) refl has)
 
 -- ---- of files
 

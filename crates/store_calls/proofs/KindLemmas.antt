@@ -9,6 +9,7 @@ use Rattle.profile_records.specs.Kinds.{kind_number}
 use Rattle.profile_records.specs.declared.kinds.Kind.{Kind}
 use Rattle.profile_records.specs.declared.kinds.Kind.TheVariants.{Callgrind, Folded}
 use Rattle.held_runs.specs.Lookups.{IsKindOf}
+use Rattle.histories.specs.Formats.{kind_in}
 use Rattle.histories.specs.History.{History, File, held}
 use Rattle.histories.specs.Stands.{AreBooksOf, IsBookOf, TablesTell}
 use Rattle.histories.proofs.Selections.{are_selected}
@@ -45,9 +46,9 @@ one_file h t f g tell has_f has_g same =
     let g_is = only_one g one.0 (subst (λ l. Has l g) one.1 (kept_has is_of (held h) g has_g there)) in
     g_is ∙ sym f_is
 
-pub kind_told : (h : History) (t : Tables) (f : File) (kind : Kind) → TablesTell h t → Has (held h) f → IsKindOf f.number t kind → kind ≡ f.kind
+pub kind_told : (h : History) (t : Tables) (f : File) (kind : Kind) → TablesTell h t → Has (held h) f → IsKindOf f.number t kind → kind ≡ kind_in f.format
 kind_told h t f kind tell there is =
     let line = is.0 in
     let of = file_for t t.runs (held h) line tell.runs is.1 in
     let same = one_file h t f of.0 tell there of.1 (sym of.2.number ∙ is.2) in
-    same_kind kind f.kind (sym is.3 ∙ of.2.kind ∙ ap (λ (g : File). kind_number g.kind) same)
+    same_kind kind (kind_in f.format) (sym is.3 ∙ of.2.kind ∙ ap (λ (g : File). kind_number (kind_in g.format)) same)

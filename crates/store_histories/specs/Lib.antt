@@ -1,4 +1,5 @@
 pub mod Answered
+pub mod First
 pub mod FromTables
 pub mod Left
 pub mod Refusals

@@ -44,19 +44,19 @@ lines_by_place f place (event ∷ events) = (refl, lines_by_place f (suc place) 
 
 lines_own : (f : File) (place : ℕ) (events : List (List ℕ)) → map (λ (e : EventLine). e.self_cost) (event_lines_from f place events) ≡ own_columns_from f place events
 lines_own f place [] = refl
-lines_own f place (event ∷ events) = ap (λ l. own_column f.kind f.bytes place ∷ l) (lines_own f (suc place) events)
+lines_own f place (event ∷ events) = ap (λ l. own_column f.format f.bytes place ∷ l) (lines_own f (suc place) events)
 
 own_told : (h : History) (t : Tables) (f : File) (sums : List ℕ) → TablesTell h t → Has (held h) f → AreOwnSums (events_of_run f.number t) sums → sums ≡ own_columns f
 own_told h t f sums tell there are =
     let run = line_of t t.runs (held h) f tell.runs there in
-    let events = events_of f.kind f.bytes in
+    let events = events_of f.format f.bytes in
     let lines : events_of_run f.number t ≡ event_lines_from f 0 events = ap (λ n. events_of_run n t) (sym run.1.number) ∙ run.1.events in
     own_sums_by_place (event_lines_from f 0 events) sums (lines_by_place f 0 events) (subst (λ l. AreOwnSums l sums) lines are) ∙ lines_own f 0 events
 
 run_told : (h : History) (t : Tables) (f : File) (lines : List ℕ) → TablesTell h t → Has (held h) f → IsRunChecked t f.number lines → lines ≡ file_verified f
 run_told h t f lines tell there run =
     run.lines_are ∙ ap verify_text (verified_told f run.head f.number run.sums (held_head_told h t f run.head tell there run.head_is))
-    ∙ ap (λ sums. verify_text (verified f.number (events_of f.kind f.bytes) sums _)) (own_told h t f run.sums tell there run.sums_are)
+    ∙ ap (λ sums. verify_text (verified f.number (events_of f.format f.bytes) sums _)) (own_told h t f run.sums tell there run.sums_are)
 
 -- ---- of a selection
 

@@ -11,7 +11,7 @@ use Rattle.sql_tables.proofs.Statements.{inside_kept}
 use Rattle.store_columns.specs.Within.{inside, IsFaithful, Ran}
 use Rattle.store_columns.proofs.Within.{text_open}
 use Rattle.sqlite.proofs.StateLemmas.{survives_then}
-use Rattle.table_making.specs.Making.{AreEmpty, Makes, MakesTables}
+use Rattle.table_making.specs.Making.{AreEmpty, CommitsNothing, Makes, MakesTables}
 
 module _ {S : Type 0} (g : Ghosts S) where
   faithful_before : (old new : Transaction S) → Survives (inside g old) (inside g new) (λ _. ⊥) → IsFaithful g new → IsFaithful g old
@@ -31,6 +31,21 @@ module _ {S : Type 0} (g : Ghosts S) where
     found_open = λ is clean was. one.found_open refl (faithful_before mid new two.survives clean) was;
     done = λ is clean was. two.done is clean (goes (inside g mid) (one.done refl (faithful_before mid new two.survives clean) was));
   }
+
+  -- what no statement changes goes along
+  pub makes_beside : (ok : Bool) (X : Type 0) (A B : State → Type 0) (old new : Transaction S) → Makes g ok A B old new → Makes g ok (λ s. X × A s) (λ s. X × B s) old new
+  makes_beside ok X A B old new h = record {
+    same_reference = h.same_reference;
+    survives = h.survives;
+    kept = h.kept;
+    running = h.running;
+    found_open = h.found_open;
+    done = λ is clean was. (was.0, h.done is clean was.1);
+  }
+
+  -- of what is made nothing more is said
+  pub makes_any : (ok : Bool) (A B : State → Type 0) (old new : Transaction S) → Makes g ok A B old new → CommitsNothing g ok old new
+  makes_any ok A B old new h = record { same_reference = h.same_reference; survives = h.survives; kept = h.kept; running = h.running; found_open = h.found_open; done = λ is clean none. none }
 
   -- a further schema's tables
   pub tables_then : (ok : Bool) (from by to : Schema) (old mid new : Transaction S) → MakesTables g true from by old mid → MakesTables g ok by to mid new → MakesTables g ok from to old new

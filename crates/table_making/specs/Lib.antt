@@ -1,2 +1,3 @@
 pub mod Created
 pub mod Making
+pub mod Migrated

@@ -1,5 +1,6 @@
 -- What each part of the transaction that makes the tables leaves.
-use Rattle.std.specs.Prelude.{◌≡◌, Bool, IsTrue}
+use Rattle.std.specs.Prelude.{◌≡◌, Bool, List, IsTrue}
+use Rattle.sqlite_value.specs.Order.{Row}
 use Rattle.sqlite_trees.specs.Tree.{Trees}
 use Rattle.sqlite_trees.specs.declared.store.Store.{Ghosts}
 use Rattle.sqlite_schema.specs.declared.schema.Schema.{Schema}
@@ -28,6 +29,14 @@ module _ {S : Type 0} (g : Ghosts S) where
   -- the tables of a further schema are made
   abbrev pub MakesTables : Bool → Schema → Schema → Transaction S → Transaction S → Type 0
   MakesTables is_done from to old new = Makes is_done (Begins from) (Works to (AreEmpty to)) old new
+
+  -- tables with these rows become others, with those rows
+  abbrev pub ChangesTables : Bool → Schema → List (List Row) → Schema → List (List Row) → Transaction S → Transaction S → Type 0
+  ChangesTables is_done from contents to others old new = Makes is_done (Works from (Contain from contents)) (Works to (Contain to others)) old new
+
+  -- whatever it makes of the tables
+  abbrev pub CommitsNothing : Bool → Transaction S → Transaction S → Type 0
+  CommitsNothing is_done old new = Makes is_done (λ _. ⊥) (λ _. ⊥) old new
 
   -- tables without rows become those of a new store
   abbrev pub BeginsStore : Bool → Transaction S → Transaction S → Type 0

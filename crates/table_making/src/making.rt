@@ -1,16 +1,19 @@
 // The tables of a new store.
-ghost use Rattle.std.specs.Prelude.{◌≡◌, ◌↔◌, false, IsTrue, IfErr, OnOk, OnErr};
+ghost use Rattle.std.specs.Prelude.{◌≡◌, ◌↔◌, ◌++◌, ◌∷◌, [], List, false, IsTrue, IfErr, OnOk, OnErr};
 ghost use Rattle.std.specs.Result.{is_ok};
+ghost use Rattle.sqlite_value.specs.Order.{Row};
 ghost use Rattle.sqlite.specs.Held.{state};
 ghost use Rattle.sqlite.specs.State.{HasCleanDisk, Survives};
 ghost use Rattle.sql_tables.specs.Calls.{Stays};
+ghost use Rattle.sql_tables.specs.Contents.{no_rows};
+ghost use Rattle.sql_tables.proofs.TableDrops.{without_content};
 ghost use Rattle.store_columns.specs.Within.{CommitsUnlessShut};
 ghost use Rattle.sql_tables.specs.States.{Rests, IsBlank};
-ghost use Rattle.prof_tables.specs.Schema.{empty_schema, schema_to_derived, schema_to_arc, schema_one, schema_two};
+ghost use Rattle.prof_tables.specs.Schema.{empty_schema, schema_to_derived, schema_to_arc, schema_one, schema_both, schema_two};
 ghost use Rattle.prof_tables.specs.Tables.{Holds, new_tables};
 ghost use Rattle.store_columns.specs.declared.errors.OpenError.TheVariants as ends;
 ghost use Rattle.table_making.specs.Created.{Creates, IsUndone};
-ghost use Rattle.table_making.specs.Making.{BeginsStore, FillsStore, MakesTables};
+ghost use Rattle.table_making.specs.Making.{BeginsStore, ChangesTables, CommitsNothing, FillsStore, MakesTables};
 
 use sqlite::{Alter, Connection, Transaction};
 use sqlite_schema::schema::Schema;
@@ -89,16 +92,32 @@ fn make_last_tables<S: Alter>(tx: &mut Transaction<'_, S>) -> Result<(), StoreEr
     )
 }
 
-/// Puts the table of cells of threads in the place of the one without.
-fn bring_up<S: Alter>(tx: &mut Transaction<'_, S>) -> Result<(), StoreError>
-    ensures { MakesTables S.Store (is_ok result) schema_one schema_two tx.old tx.new }
+/// Makes the table of cells of threads, beside tables of version 1 with whatever rows.
+pub(crate) fn make_thread_cells<S: Alter>(tx: &mut Transaction<'_, S>) -> Result<(), StoreError>
+    ensures makes { (contents : List (List Row)) → ChangesTables S.Store (is_ok result) schema_one contents schema_both (contents ++ [] ∷ []) tx.old tx.new }
+    ensures keeps { CommitsNothing S.Store (is_ok result) tx.old tx.new }
 {
     write_inside(
         tx,
         "CREATE TABLE thread_cell (run INTEGER NOT NULL REFERENCES run ON DELETE CASCADE, thread INTEGER NOT NULL, ob INTEGER NOT NULL, fl INTEGER NOT NULL, fn INTEGER NOT NULL, line INTEGER NOT NULL, event INTEGER NOT NULL, cost INTEGER NOT NULL, PRIMARY KEY (run, fn, line, fl, ob, thread, event)) STRICT",
         &[],
-    )?;
+    )
+}
+
+/// Drops the table of cells of version 1, whatever rows the tables have.
+pub(crate) fn drop_cells<S: Alter>(tx: &mut Transaction<'_, S>) -> Result<(), StoreError>
+    ensures makes { (contents : List (List Row)) → ChangesTables S.Store (is_ok result) schema_both contents schema_two (without_content 6 contents) tx.old tx.new }
+    ensures keeps { CommitsNothing S.Store (is_ok result) tx.old tx.new }
+{
     write_inside(tx, "DROP TABLE cell", &[])
+}
+
+/// Puts the table of cells of threads in the place of the one without, where no table has rows.
+fn bring_up<S: Alter>(tx: &mut Transaction<'_, S>) -> Result<(), StoreError>
+    ensures { ChangesTables S.Store (is_ok result) schema_one (no_rows schema_one.tables) schema_two (no_rows schema_two.tables) tx.old tx.new }
+{
+    make_thread_cells(tx)?;
+    drop_cells(tx)
 }
 
 /// Writes the row of a new store.

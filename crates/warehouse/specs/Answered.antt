@@ -4,6 +4,7 @@ use Rattle.sqlite_trees.specs.declared.store.Store.{Ghosts}
 use Rattle.prof_store.specs.Shown.{IsFaithful}
 use Rattle.prof_store.specs.declared.store.Store.{Store}
 use Rattle.sources.specs.Outcomes.{Outcome}
+use Rattle.histories.specs.Formats.{today}
 use Rattle.histories.specs.History.{History, Said, Turn, Import, Remove, Ask, Annotate}
 use Rattle.histories.specs.Legal.{AreLegal}
 use Rattle.histories.specs.declared.answers.Answer.{Answer}
@@ -23,7 +24,7 @@ use Rattle.warehouse.specs.declared.command.Command.TheVariants as command
 module _ {R : Type 0} (reads : R → Outcome → R → Type 0) where
   -- an import or an annotation, with what the reads of its source came to
   abbrev pub Says : commands.Command R → Said → Type 0
-  Says (command.Import kind label source) said = (outcomes : List Outcome) × (to : R) × Reads reads source outcomes to × (said ≡ Import kind label.items outcomes)
+  Says (command.Import kind label source) said = (outcomes : List Outcome) × (to : R) × Reads reads source outcomes to × (said ≡ Import (today kind) label.items outcomes)
   Says (command.Remove n) said = said ≡ Remove n
   Says (command.Group name change) said = said ≡ change_said change name.items
   Says (command.Ask query) said = said ≡ Ask query

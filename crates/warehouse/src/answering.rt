@@ -1,6 +1,7 @@
 // Files are imported and sources annotated, each with its answer.
 ghost use Rattle.prof_tables.specs.Labels.{IsLabel};
 ghost use Rattle.prof_store.specs.Shown.{IsFaithful, Tells};
+ghost use Rattle.histories.specs.Formats.{today};
 ghost use Rattle.histories.specs.History.{Annotate, Ask, Import};
 ghost use Rattle.store_histories.specs.Answered.{Answers, Asks};
 ghost use Rattle.store_histories.specs.FromTables.{OrFailed};
@@ -36,7 +37,7 @@ fn import_labelled<S: Alter, R: Source>(
     source: &mut R,
 ) -> Answer
     requires { IsLabel label.now }
-    ensures answered { WasAnsweredOver S.Store R.reads limits (Import kind label.now) source.old source.new result store.old store.new }
+    ensures answered { WasAnsweredOver S.Store R.reads limits (Import (today kind) label.now) source.old source.new result store.old store.new }
     ensures found { WasImported S.Store R.reads limits kind label.now source.old source.new result store.old store.new }
 {
     match take_file(alloc, kind, limits.bytes, source) {
@@ -54,7 +55,7 @@ pub(crate) fn import_in<S: Alter, R: Source>(
     label: &[u8],
     source: &mut R,
 ) -> Answer
-    ensures answered { WasAnsweredOver S.Store R.reads limits (Import kind label.now) source.old source.new result store.old store.new }
+    ensures answered { WasAnsweredOver S.Store R.reads limits (Import (today kind) label.now) source.old source.new result store.old store.new }
     ensures found { WasImported S.Store R.reads limits kind label.now source.old source.new result store.old store.new }
 {
     match label_of(label) {

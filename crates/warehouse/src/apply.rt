@@ -1,6 +1,7 @@
 // Commands, one by one and in lists.
 ghost use Rattle.std.specs.Prelude.{◌≡◌, IfOk, OnErr};
 ghost use Rattle.prof_store.specs.Shown.{IsFaithful};
+ghost use Rattle.histories.specs.Formats.{today};
 ghost use Rattle.histories.specs.History.{Annotate, Import};
 ghost use Rattle.warehouse.specs.Answered.{WasAnswered, WasAnsweredOver, WasRun};
 ghost use Rattle.warehouse.specs.FromTables.{IsFoundIn, WasAnnotated, WasImported};
@@ -29,7 +30,7 @@ impl<S: Alter> Warehouse<S> {
         source: &mut R,
     ) -> Answer
         ensures limits { self.new.limits ≡ self.old.limits }
-        ensures answered { WasAnsweredOver S.Store R.reads self.old.limits (Import kind label.now) source.old source.new
+        ensures answered { WasAnsweredOver S.Store R.reads self.old.limits (Import (today kind) label.now) source.old source.new
             result self.old.store self.new.store }
         ensures found { WasImported S.Store R.reads self.old.limits kind label.now source.old source.new result self.old.store self.new.store }
     {

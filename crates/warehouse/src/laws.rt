@@ -1,19 +1,30 @@
 // Which histories a store has: laws of the definitions, each the contract of a function that does
 // nothing.
-ghost use Rattle.std.specs.Prelude.{[], ◌++◌, IsTrue};
+ghost use Rattle.std.specs.Prelude.{[], ◌++◌, Bool, List, true, IsTrue};
+ghost use Rattle.callgrind_reader.specs.Grammars.{Second};
 ghost use Rattle.prof_tables.specs.Tables.{Tables, Holds, new_tables};
+ghost use Rattle.sqlite.specs.Held.{state};
 ghost use Rattle.sqlite.specs.Steps.{over_memory};
+ghost use Rattle.sqlite.specs.declared.connection.Connection.{Connection};
 ghost use Rattle.sqlite_trees.specs.declared.memory.MemStore.{MemStore};
-ghost use Rattle.prof_store.specs.Shown.{IsFaithful, IsUsable, StandsFor, LeavesJust};
+ghost use Rattle.sql_tables.specs.States.{LeavesJust as Leaves};
+ghost use Rattle.prof_store.specs.Schemas.{Opened};
+ghost use Rattle.prof_store.specs.Shown.{shown, IsFaithful, IsUsable, StandsFor, LeavesJust};
 ghost use Rattle.prof_store.specs.declared.store.Store.{Store};
 ghost use Rattle.histories.specs.History.{History, Said};
+ghost use Rattle.histories.specs.Marks.{AreBy, IsMarked};
 ghost use Rattle.histories.specs.Stands.{TablesTell};
 ghost use Rattle.histories.specs.declared.answers.Answer.{Answer};
 ghost use Rattle.histories.specs.declared.limits.Limits.{Limits};
 ghost use Rattle.store_histories.specs.Answered.{HasHistory, StandsForHistory, Answers, Links, TellsHistory, is_accepted, with_turn};
+ghost use Rattle.store_histories.specs.First.{StandsForFirst, TellsEither};
 ghost use Rattle.store_histories.specs.Left.{LeavesHistory};
+ghost use Rattle.warehouse.specs.Answered.{AreSaid};
+ghost use Rattle.warehouse.specs.declared.command.Command as commands;
 
+use histories::the_mark_stays;
 use prof_store::what_stands_survives;
+use sources::Source;
 use sqlite::Alter;
 
 /// A new store has the empty history, and one that is opened has each history that its tables stand
@@ -50,3 +61,23 @@ pub fn memory_never_fails()
     ensures usable { (store : Store MemStore) → IsUsable over_memory store }
     ensures stands { (h : History) (store : Store MemStore) → HasHistory over_memory h store → StandsForHistory over_memory h store }
 {}
+
+/// A store of version 1 that stands for a history, by the first grammar, is opened as one that has this
+/// history, and the mark stands at its end: so every sum is as it was. A crash in the opening, also one that
+/// was refused, leaves tables of the one or the other version that stand for it.
+pub fn migrated_stores_have_their_history<S: Alter>()
+    ensures opened { (h : History) (conn : Connection S) (store : Store S) → StandsForFirst h (state S.Store conn)
+        → Opened true (state S.Store conn) (shown S.Store store) → HasHistory S.Store h store × IsMarked h }
+    ensures crash { (is_done : Bool) (h : History) (conn next : Connection S) → StandsForFirst h (state S.Store conn)
+        → Opened is_done (state S.Store conn) (state S.Store next) → Leaves (state S.Store next) (TellsEither h) }
+{
+    what_stands_survives::<S>();
+}
+
+/// What this program imports it reads by the second grammar, so commands keep the mark of a history.
+pub fn commands_keep_the_mark<R: Source>()
+    ensures second { (list : List (commands.Command R)) (turns : History) → AreSaid R.reads list turns → AreBy Second turns }
+    ensures marked { (h : History) (list : List (commands.Command R)) (turns : History) → IsMarked h → AreSaid R.reads list turns → IsMarked (h ++ turns) }
+{
+    the_mark_stays();
+}

@@ -16,7 +16,10 @@ mod warehouse;
 
 pub use command::Command;
 pub use histories::{Answer, Excess, Limits, Query, Refusal, Selection};
-pub use laws::{crashes_leave_a_history, histories_survive, memory_never_fails};
+pub use laws::{
+    commands_keep_the_mark, crashes_leave_a_history, histories_survive, memory_never_fails,
+    migrated_stores_have_their_history,
+};
 pub use profile_records::Kind;
 pub use sources::{ReadFault, Source};
 pub use store_commands::GroupChange;

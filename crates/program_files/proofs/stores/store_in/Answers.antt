@@ -11,5 +11,5 @@ both_err (Err e) p q f = f e p q
 
 pub returns-then-is_new-clause-refused : goal.returns-then-is_new-clause-refused
 returns-then-is_new-clause-refused g c =
-    subst (λ new. IfErr c.create.result (λ e. HasCleanDisk (state g.S.Store e.1) → Refuses new e.0 (state g.S.Store c.args.conn) (state g.S.Store e.1))) (sym c.if-is_new.true)
+    subst (λ new. IfErr c.create.result (λ e. HasCleanDisk (state g.S.Store e.1) → Refuses g.S.Store new e.0 c.args.conn e.1)) (sym c.if-is_new.true)
     (both_err c.create.result c.create.ensures.refused c.create.ensures.wrong (λ e made wrong clean. (made clean, wrong)))

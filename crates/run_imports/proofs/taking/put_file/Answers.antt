@@ -5,6 +5,7 @@ use Rattle.prof_tables.specs.Schema.{schema_two}
 use Rattle.prof_tables.specs.Tables.{Holds}
 use Rattle.cost_rows.specs.Rows.{content_of}
 use Rattle.sources.specs.Outcomes.{bytes_of}
+use Rattle.histories.specs.Formats.{today}
 use Rattle.histories.specs.History.{History, Import, next}
 use Rattle.histories.specs.declared.answers.Answer.TheVariants.{Run, Refused}
 use Rattle.store_histories.specs.Answered.{TellsHistory, Follows}
@@ -21,27 +22,27 @@ use Rattle.run_imports.proofs.taking.put_file.Goals as goal
 
 pub returns-in_err-number-clause-turns : goal.returns-in_err-number-clause-turns
 returns-in_err-number-clause-turns g c outcomes ended clean =
-    let said = Import c.args.kind c.args.label.now outcomes in
+    let said = Import (today c.args.kind) c.args.label.now outcomes in
     let before : History → Trees → Type 0 = λ h db. IsNewFile h c.args.kind (bytes_of outcomes) c.args.digest.now c.args.file.now.head.now c.args.file.now.rows.now × TellsHistory h db in
     turns_err c.args.limits said before c.from_residual.result _ _ c.from_residual.ensures.0 (changed_asked schema_two before (Follows c.args.limits said) false _ _ (c.in_err-number.ensures.asks clean))
 
 pub returns-in-Err-clause-answered : goal.returns-in-Err-clause-answered
 returns-in-Err-clause-answered g c clean h outcomes s ended new =
     let why = refused_for (room_refusal c.args.limits h c.args.kind (bytes_of outcomes)) (next h) c.in-Err.refusal (sym c.in-Err.is ∙ number_due g.S.Store c.args.limits c.args.kind (bytes_of outcomes) c.args.digest.now c.args.file.now.head.now c.args.file.now.rows.now c.args.store.now h s new _ (c.in_ok-number.ensures.told clean s.t (rests_said s.t _ s.stands))) in
-    was_still c.args.limits h (Import c.args.kind c.args.label.now outcomes) (c.utf8.label, c.requires) g.S.Store c.args.store.now c.number_for.new.store (Refused c.in-Err.refusal) tt
+    was_still c.args.limits h (Import (today c.args.kind) c.args.label.now outcomes) (c.utf8.label, c.requires) g.S.Store c.args.store.now c.number_for.new.store (Refused c.in-Err.refusal) tt
     (room_due c.args.limits h c.args.kind c.args.label.now outcomes ended new.is_new new.sound ∙ ap (λ r. Some (refused_or r (Run (next h)))) why) s (asked_rests schema_two (Holds s.t) _ _ (c.in_ok-number.ensures.asks clean) s.stands)
 
 pub returns-in-Err-clause-turns : goal.returns-in-Err-clause-turns
 returns-in-Err-clause-turns g c outcomes ended clean =
     let before : History → Trees → Type 0 = λ h db. IsNewFile h c.args.kind (bytes_of outcomes) c.args.digest.now c.args.file.now.head.now c.args.file.now.rows.now × TellsHistory h db in
-    changed_asked schema_two before (Follows c.args.limits (Import c.args.kind c.args.label.now outcomes)) true _ _ (c.in_ok-number.ensures.asks clean)
+    changed_asked schema_two before (Follows c.args.limits (Import (today c.args.kind) c.args.label.now outcomes)) true _ _ (c.in_ok-number.ensures.asks clean)
 
 pub returns-in_err-put_run-in-Ok-clause-turns : goal.returns-in_err-put_run-in-Ok-clause-turns
 returns-in_err-put_run-in-Ok-clause-turns g c outcomes ended clean =
     let two = c.in_err-put_run-in-Ok.ensures.changes clean in
     let early = two.stays.was_clean in
     let before : History → Trees → Type 0 = λ h db. IsNewFile h c.args.kind (bytes_of outcomes) c.args.digest.now c.args.file.now.head.now c.args.file.now.rows.now × TellsHistory h db in
-    turns_err c.args.limits (Import c.args.kind c.args.label.now outcomes) before c.from_residual-in_err-put_run-in-Ok.result _ _ c.from_residual-in_err-put_run-in-Ok.ensures.0
+    turns_err c.args.limits (Import (today c.args.kind) c.args.label.now outcomes) before c.from_residual-in_err-put_run-in-Ok.result _ _ c.from_residual-in_err-put_run-in-Ok.ensures.0
     (run_turns c.args.limits c.args.kind c.args.label.now outcomes c.args.digest.now c.args.file.now.head.now c.args.file.now.rows.now (c.utf8.label, c.requires) ended c.in-Ok.number g.S.Store c.args.store.now c.number_for.new.store c.put_run.new.store
     (c.in_ok-number.ensures.asks early) (λ h s new. sym c.in-Ok.is ∙ number_due g.S.Store c.args.limits c.args.kind (bytes_of outcomes) c.args.digest.now c.args.file.now.head.now c.args.file.now.rows.now c.args.store.now h s new _ (c.in_ok-number.ensures.told early s.t (rests_said s.t _ s.stands))) false false two)
 

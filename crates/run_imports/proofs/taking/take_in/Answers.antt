@@ -6,6 +6,7 @@ use Rattle.prof_tables.specs.Schema.{schema_two}
 use Rattle.prof_tables.specs.Tables.{Tables, Holds}
 use Rattle.sources.specs.Outcomes.{bytes_of}
 use Rattle.cost_rows.specs.Rows.{content_of}
+use Rattle.histories.specs.Formats.{today}
 use Rattle.histories.specs.Files.{IsHeadOf, fault_of}
 use Rattle.histories.specs.History.{Import, held}
 use Rattle.histories.specs.Legal.{number_of}
@@ -29,17 +30,17 @@ use Rattle.run_imports.proofs.taking.take_in.Goals as goal
 
 pub returns-in_err-number-clause-turns : goal.returns-in_err-number-clause-turns
 returns-in_err-number-clause-turns g c outcomes ended is clean =
-    let said = Import c.args.kind c.args.label.now outcomes in turns_err c.args.limits said c.from_residual.result _ _ c.from_residual.ensures.0 (changed_asked schema_two TellsHistory (Follows c.args.limits said) false _ _ (c.in_err-number.ensures.asks clean))
+    let said = Import (today c.args.kind) c.args.label.now outcomes in turns_err c.args.limits said c.from_residual.result _ _ c.from_residual.ensures.0 (changed_asked schema_two TellsHistory (Follows c.args.limits said) false _ _ (c.in_err-number.ensures.asks clean))
 
 pub returns-in-Some-clause-answered : goal.returns-in-Some-clause-answered
 returns-in-Some-clause-answered g c clean h outcomes s ended is =
     let found : number_of (sha256 (bytes_of outcomes)) (held h) ≡ Some c.in-Some.number =
     ap (λ d. number_of d (held h)) (sym is.digest) ∙ tells_digest h s.t s.tells c.args.taken.now.digest c.in_ok-number.field-0 (c.in_ok-number.ensures.told clean s.t (rests_said s.t _ s.stands)) ∙ c.in-Some.is in
-    was_still c.args.limits h (Import c.args.kind c.args.label.now outcomes) (c.utf8.label, c.requires) g.S.Store c.args.store.now c.run_of_digest.new.self (Held c.in-Some.number) tt
+    was_still c.args.limits h (Import (today c.args.kind) c.args.label.now outcomes) (c.utf8.label, c.requires) g.S.Store c.args.store.now c.run_of_digest.new.self (Held c.in-Some.number) tt
     (held_due c.args.limits h c.args.kind c.args.label.now outcomes ended c.in-Some.number found) s (asked_rests schema_two (Holds s.t) _ _ (c.in_ok-number.ensures.asks clean) s.stands)
 
 pub returns-in-Some-clause-turns : goal.returns-in-Some-clause-turns
-returns-in-Some-clause-turns g c outcomes ended is clean = changed_asked schema_two TellsHistory (Follows c.args.limits (Import c.args.kind c.args.label.now outcomes)) true _ _ (c.in_ok-number.ensures.asks clean)
+returns-in-Some-clause-turns g c outcomes ended is clean = changed_asked schema_two TellsHistory (Follows c.args.limits (Import (today c.args.kind) c.args.label.now outcomes)) true _ _ (c.in_ok-number.ensures.asks clean)
 
 pub returns-in_ok-file-in-Ok-clause-answered : goal.returns-in_ok-file-in-Ok-clause-answered
 returns-in_ok-file-in-Ok-clause-answered g c clean h outcomes s ended is =
@@ -75,16 +76,16 @@ pub returns-in-Err-clause-answered : goal.returns-in-Err-clause-answered
 returns-in-Err-clause-answered g c clean h outcomes s ended is =
     let none : number_of (sha256 (bytes_of outcomes)) (held h) ≡ None =
     ap (λ d. number_of d (held h)) (sym is.digest) ∙ tells_digest h s.t s.tells c.args.taken.now.digest c.in_ok-number.field-0 (c.in_ok-number.ensures.told clean s.t (rests_said s.t _ s.stands)) ∙ c.in_default.is in
-    let fault : fault_of c.args.kind (bytes_of outcomes) ≡ Some (c.in-Err.fault, c.in-Err.line) = subst (IsFileOf c.args.kind (bytes_of outcomes)) c.in-Err.is is.file in
-    was_still c.args.limits h (Import c.args.kind c.args.label.now outcomes) (c.utf8.label, c.requires) g.S.Store c.args.store.now c.run_of_digest.new.self (Refused (File c.in-Err.fault c.in-Err.line)) tt
+    let fault : fault_of (today c.args.kind) (bytes_of outcomes) ≡ Some (c.in-Err.fault, c.in-Err.line) = subst (IsFileOf c.args.kind (bytes_of outcomes)) c.in-Err.is is.file in
+    was_still c.args.limits h (Import (today c.args.kind) c.args.label.now outcomes) (c.utf8.label, c.requires) g.S.Store c.args.store.now c.run_of_digest.new.self (Refused (File c.in-Err.fault c.in-Err.line)) tt
     (fault_due c.args.limits h c.args.kind c.args.label.now outcomes ended none (c.in-Err.fault, c.in-Err.line) fault) s (asked_rests schema_two (Holds s.t) _ _ (c.in_ok-number.ensures.asks clean) s.stands)
 
 pub returns-in-Err-clause-turns : goal.returns-in-Err-clause-turns
-returns-in-Err-clause-turns g c outcomes ended is clean = changed_asked schema_two TellsHistory (Follows c.args.limits (Import c.args.kind c.args.label.now outcomes)) true _ _ (c.in_ok-number.ensures.asks clean)
+returns-in-Err-clause-turns g c outcomes ended is clean = changed_asked schema_two TellsHistory (Follows c.args.limits (Import (today c.args.kind) c.args.label.now outcomes)) true _ _ (c.in_ok-number.ensures.asks clean)
 
 pub returns-in_err-file-in-Ok-clause-turns : goal.returns-in_err-file-in-Ok-clause-turns
 returns-in_err-file-in-Ok-clause-turns g c outcomes ended is clean =
-    let said = Import c.args.kind c.args.label.now outcomes in
+    let said = Import (today c.args.kind) c.args.label.now outcomes in
     turns_err c.args.limits said c.from_residual-in_err-file-in-Ok.result _ _ c.from_residual-in_err-file-in-Ok.ensures.0 (changed_asked schema_two TellsHistory (Follows c.args.limits said) false _ _ (asked_refused schema_two true _ _ (c.in_ok-number.ensures.asks clean)))
 
 pub returns-in-Some-clause-told : goal.returns-in-Some-clause-told

@@ -1,4 +1,5 @@
 use Rattle.std.proofs.Common.{[], inl, refl}
+use Rattle.histories.specs.Formats.{today}
 use Rattle.histories.specs.History.{Import}
 use Rattle.histories.specs.declared.answers.Answer.TheVariants.{Refused}
 use Rattle.histories.specs.declared.answers.Refusal.TheVariants.{BadName}
@@ -13,7 +14,7 @@ pub returns-in-None : goal.returns-in-None
 returns-in-None g c = record {
   answered =
       let limits = c.args.limits in
-      let said = Import c.args.kind c.args.label.now [] in
+      let said = Import (today c.args.kind) c.args.label.now [] in
       record {
         outcomes = [];
         came = refl;

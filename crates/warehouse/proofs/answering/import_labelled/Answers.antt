@@ -1,5 +1,6 @@
 use Rattle.std.proofs.Common.{inl, inr, refl, sym, subst}
 use Rattle.sources.specs.Outcomes.{bytes_of}
+use Rattle.histories.specs.Formats.{today}
 use Rattle.histories.specs.Legal.{file_due}
 use Rattle.histories.specs.History.{Import}
 use Rattle.store_histories.specs.Answered.{Answers}
@@ -15,7 +16,7 @@ returns-in-Ok g c = record {
   answered =
       let limits = c.args.limits in
       let read = c.in-Ok.ensures in
-      let said = Import c.args.kind c.args.label.now read.outcomes in
+      let said = Import (today c.args.kind) c.args.label.now read.outcomes in
       record {
         outcomes = read.outcomes;
         came = read.came;
@@ -45,11 +46,11 @@ returns-in-Err g c = record {
   answered =
       let limits = c.args.limits in
       let read = c.in-Err.ensures in
-      let said = Import c.args.kind c.args.label.now read.outcomes in
+      let said = Import (today c.args.kind) c.args.label.now read.outcomes in
       record {
         outcomes = read.outcomes;
         came = read.came;
-        answers = λ clean. subst (λ a. Answers g.S.Store limits said a c.args.store.now c.args.store.now) (sym c.unread_answer.ensures) (unread_answered limits said (c.utf8.label, c.requires) limits.bytes read.outcomes (λ h. file_due limits h c.args.kind (bytes_of read.outcomes)) (λ h. refl) g.S.Store c.args.store.now clean c.in-Err.unread read.read);
+        answers = λ clean. subst (λ a. Answers g.S.Store limits said a c.args.store.now c.args.store.now) (sym c.unread_answer.ensures) (unread_answered limits said (c.utf8.label, c.requires) limits.bytes read.outcomes (λ h. file_due limits h (today c.args.kind) (bytes_of read.outcomes)) (λ h. refl) g.S.Store c.args.store.now clean c.in-Err.unread read.read);
       };
   found =
       let read = c.in-Err.ensures in

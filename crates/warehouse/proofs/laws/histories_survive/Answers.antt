@@ -16,8 +16,8 @@ returns-clause-opened g c h t store tells stands = record {
 
 pub returns-clause-survives : goal.returns-clause-survives
 returns-clause-survives g c h store has usable db may =
-    let is = has.stands usable in (is.t, c.what_stands_survives.ensures is.t store is.stands db may, is.tells)
+    let is = has.stands usable in (is.t, c.what_stands_survives.ensures.second is.t store is.stands db may, is.tells)
 
 pub returns-clause-durable : goal.returns-clause-durable
 returns-clause-durable g c limits said answer h old new answered accepted has db may =
-    let is = (answered.answered h has).after.stands (answered.turned.stays.is_open accepted) in record { t = is.t; holds = c.what_stands_survives.ensures is.t new is.stands db may; tells = is.tells }
+    let is = (answered.answered h has).after.stands (answered.turned.stays.is_open accepted) in record { t = is.t; holds = c.what_stands_survives.ensures.second is.t new is.stands db may; tells = is.tells }

@@ -1,4 +1,5 @@
 use Rattle.std.proofs.Common.{◌≡◌, refl, sym, ap, subst}
+use Rattle.histories.specs.Formats.{today}
 use Rattle.histories.specs.History.{Annotate, Import, Remove, Ask}
 use Rattle.prof_tables.specs.Labels.{IsGroupName}
 use Rattle.store_histories.specs.FromTables.{WasChangedIn}
@@ -10,9 +11,9 @@ use Rattle.warehouse.proofs.warehouse.Warehouse.apply.Goals as goal
 pub returns-in-Import-clause-answered : goal.returns-in-Import-clause-answered
 returns-in-Import-clause-answered g c =
     let it = c.import_in.ensures.answered in
-    let said = Import c.in-Import.kind c.as_slice.result.now it.outcomes in record {
+    let said = Import (today c.in-Import.kind) c.as_slice.result.now it.outcomes in record {
       said = said;
-      says = subst (λ k. Says g.R.Source.reads k said) (sym c.in-Import.is) (it.outcomes, c.import_in.new.source, it.came, ap (λ l. Import c.in-Import.kind l it.outcomes) c.as_slice.ensures.value);
+      says = subst (λ k. Says g.R.Source.reads k said) (sym c.in-Import.is) (it.outcomes, c.import_in.new.source, it.came, ap (λ l. Import (today c.in-Import.kind) l it.outcomes) c.as_slice.ensures.value);
       answers = it.answers;
     }
 
