@@ -1,8 +1,10 @@
 """share/scripts/to_callgrind: what it writes, and that it imports to the same reports."""
 import os
 import re
+import shutil
 import sqlite3
 
+from first_version import as_first
 from tried import TOP
 
 NAME = "to_callgrind"
@@ -98,6 +100,9 @@ def cases_of_refusals(tried):
             ("a text", ("--db", "calls.cg", "1"), b"not a database")):
         tried.expect_refusal(what, tried.script(NAME, *words), has)
     tried.expect("none was made", os.path.exists(tried.path("none.db")), False)
+    shutil.copy(tried.path("s.db"), tried.path("old.db"))
+    as_first(tried.path("old.db"))
+    tried.expect_refusal("a store of version 1", tried.script(NAME, "--db", "old.db", "1"), b"old.db is a store of version 1")
     with open("/dev/full", "wb") as full:
         tried.expect_refusal("a full output", tried.script(NAME, "--db", "s.db", "1", out=full), b"No space", out=None)
     tried.expect("the store is as it was", tried.read("s.db"), store)
