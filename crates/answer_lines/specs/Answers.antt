@@ -9,8 +9,8 @@ use Rattle.histories.specs.declared.answers.Excess.{Excess}
 use Rattle.histories.specs.declared.answers.Excess.TheVariants.{SelfCost, CallCost, CallCount}
 use Rattle.histories.specs.declared.answers.Refusal.{Refusal}
 use Rattle.histories.specs.declared.answers.Refusal.TheVariants.{Memory, Store, ReadFault, TooLong, File, Overflow, Full, NumbersSpent, NoSuchRun, NoSuchGroup, GroupTaken, BadName, NoSuchEvent, NoSuchName, NoBaseline}
-use Rattle.printed_names.specs.Escapes.{escaped}
-use Rattle.file_totals.specs.TotalLines.{refused_line}
+use Rattle.byte_io.specs.Escapes.{escaped}
+use Rattle.file_reading.specs.TotalLines.{refused_line}
 
 -- the sum that would pass its bound, an event by its name
 abbrev pub excess_text : Excess → List ℕ

@@ -4,9 +4,9 @@ ghost use Rattle.cg_text.specs.Errors.{error_text};
 ghost use Rattle.cg_text.specs.declared.faults.ReadError.TheVariants as ends;
 ghost use Rattle.answer_lines.specs.Answers as told;
 
+use byte_io::push_escaped;
 use cg_text::{Fault, ListVec, ReadError};
 use histories::{Answer, Excess, Refusal};
-use printed_names::push_escaped;
 use std::alloc::{AllocError, Global};
 
 /// Adds a fault and its line.

@@ -12,7 +12,7 @@ use Rattle.cost_rows.specs.Merging.{merge, sum_where, TellsApart}
 use Rattle.cost_rows.specs.Stacks.{counts_added}
 use Rattle.cost_rows.proofs.MergeLemmas.{sum-merge, sorted-merge}
 use Rattle.cost_reports.proofs.SameSums.{same_sums}
-use Rattle.cost_exports.specs.Amounts.{amount_of, amounts_by, with_amount}
+use Rattle.report_texts.specs.Amounts.{amount_of, amounts_by, with_amount}
 
 -- ---- one amount
 

@@ -8,8 +8,8 @@ use Rattle.cost_rows.specs.WalkSums.{rows_cost}
 use Rattle.cost_rows.specs.declared.rows.CellRow.{CellRow}
 use Rattle.profile_records.specs.Records.{Cost, Record, Own, Called}
 use Rattle.cost_reports.proofs.CostLemmas.{swap_sums}
-use Rattle.cost_exports.specs.Amounts.{with_amount}
-use Rattle.cost_exports.specs.Csv.{EventSpot, NamedCells, NamedRecords, NamesStandForEach, all_named, costs_from, csv_of_cells, csv_of_records, event_spot_cmp, named_costs, with_cell_in, with_cell_of, with_cells}
+use Rattle.report_texts.specs.Amounts.{with_amount}
+use Rattle.report_texts.specs.Csv.{EventSpot, NamedCells, NamedRecords, NamesStandForEach, all_named, costs_from, csv_of_cells, csv_of_records, event_spot_cmp, named_costs, with_cell_in, with_cell_of, with_cells}
 use Rattle.cost_exports.proofs.AmountLemmas.{no_more, none_before, same_amounts, sum-append}
 use Rattle.cost_exports.proofs.SpreadLemmas.{event_spot-apart, event_spot-total}
 

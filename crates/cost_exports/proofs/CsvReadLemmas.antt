@@ -5,7 +5,7 @@ use Rattle.csv.specs.Reading.{default_config, records, records_from}
 use Rattle.csv.specs.Writing.{default_writer, is_blank, read_back, row_body, row_text}
 use Rattle.csv.specs.declared.parser.State.TheVariants as st
 use Rattle.csv.proofs.RoundTrip.{read-write, rows_text}
-use Rattle.cost_exports.specs.Csv.{EventSpot, csv_fields, csv_header, csv_row, csv_rows, csv_text}
+use Rattle.report_texts.specs.Csv.{EventSpot, csv_fields, csv_header, csv_row, csv_rows, csv_text}
 use Rattle.cost_exports.proofs.AmountLemmas.{none_before}
 
 -- as many as there are, however many more are asked for

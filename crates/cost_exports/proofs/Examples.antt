@@ -5,10 +5,10 @@ use Rattle.cg_text.specs.Names.{unknown}
 use Rattle.csv.specs.Writing.{escaped, fields_text, is_blank}
 use Rattle.profile_records.specs.Records.{Record, Own, Called}
 use Rattle.profile_records.specs.Stacks.{Seen}
-use Rattle.cost_reports.specs.Costs.{EventRecords}
-use Rattle.cost_exports.specs.Annotations.{annotation_of_records, annotation_text, know_file}
-use Rattle.cost_exports.specs.Csv.{NamedRecords, csv_of_records, csv_text}
-use Rattle.cost_exports.specs.Folded.{folded_of_stacks, folded_text}
+use Rattle.report_texts.specs.Costs.{EventRecords}
+use Rattle.report_texts.specs.Annotations.{annotation_of_records, annotation_text, know_file}
+use Rattle.report_texts.specs.Csv.{NamedRecords, csv_of_records, csv_text}
+use Rattle.report_texts.specs.Folded.{folded_of_stacks, folded_text}
 
 abbrev own : List ℕ → List ℕ → List ℕ → ℕ → List ℕ → Record
 own object file function line costs = Own (record { at = 0; object = object; file = file; function = function; line = line; thread = 0; costs = costs })

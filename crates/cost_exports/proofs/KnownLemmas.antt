@@ -10,9 +10,9 @@ use Rattle.cost_rows.specs.Walks.{HaveCosts}
 use Rattle.cost_rows.specs.WalkSums.{rows_cost}
 use Rattle.cost_rows.specs.declared.rows.CellRow.{CellRow}
 use Rattle.profile_records.specs.Records.{Record, Own, Called}
-use Rattle.cost_reports.specs.Costs.{EventCells, EventRecords, StandForEach, all_rows, weighted}
-use Rattle.cost_exports.specs.Amounts.{with_amount}
-use Rattle.cost_exports.specs.Annotations.{FileCosts, HaveCostsEach, costs_something_in, know_file, knows_file, no_lines, with_line}
+use Rattle.report_texts.specs.Costs.{EventCells, EventRecords, StandForEach, all_rows, weighted}
+use Rattle.report_texts.specs.Amounts.{with_amount}
+use Rattle.report_texts.specs.Annotations.{FileCosts, HaveCostsEach, costs_something_in, know_file, knows_file, no_lines, with_line}
 
 above_is : (n : ℕ) → 0 < n → nat_lt 0 n ≡ true
 above_is n low = grind (arith, nat_tests)

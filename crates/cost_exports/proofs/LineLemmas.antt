@@ -20,10 +20,10 @@ use Rattle.cost_rows.specs.Merging.{sum_where, TellsApart}
 use Rattle.cost_rows.specs.Sums.{Spot}
 use Rattle.cost_rows.specs.declared.keys.Key.TheVariants.{Line}
 use Rattle.cost_rows.specs.declared.rows.CellRow.{CellRow}
-use Rattle.cost_reports.specs.Costs.{EventCells, EventRecords, StandForEach, all_costs, all_rows}
+use Rattle.report_texts.specs.Costs.{EventCells, EventRecords, StandForEach, all_costs, all_rows}
 use Rattle.cost_reports.proofs.CostLemmas.{same_costs}
-use Rattle.cost_exports.specs.Amounts.{amount_of, with_amount}
-use Rattle.cost_exports.specs.Annotations.{Annotation, FileCosts, SourceLine, annotation_of, annotation_of_records, cost_at, cost_of_lines, costs_in, is_outside, no_lines, outside_cost, source_lines, with_line}
+use Rattle.report_texts.specs.Amounts.{amount_of, with_amount}
+use Rattle.report_texts.specs.Annotations.{Annotation, FileCosts, SourceLine, annotation_of, annotation_of_records, cost_at, cost_of_lines, costs_in, is_outside, no_lines, outside_cost, source_lines, with_line}
 use Rattle.cost_exports.proofs.AmountLemmas.{no_more, none_before, sum-with}
 
 pub nat_apart : TellsApart nat_cmp

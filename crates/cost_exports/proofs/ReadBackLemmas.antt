@@ -19,7 +19,7 @@ use Rattle.cg_text.specs.declared.faults.Fault.TheVariants.{FoldedLine, LineTooL
 use Rattle.cg_text.proofs.JoinedLemmas.{lines_of-joined}
 use Rattle.folded_reader.specs.Files.{fault_from, readings_of, stacks_from}
 use Rattle.folded_reader.specs.Lines.{Reading, behind_blank, count_of, counted, cut_at, reading_of, some_stack, stack_of, text_says}
-use Rattle.cost_exports.specs.Folded.{counts_of, folded_text, stack_line, stack_text}
+use Rattle.report_texts.specs.Folded.{counts_of, folded_text, stack_line, stack_text}
 use Rattle.cost_exports.specs.ReadBack.{AreReadable, IsReadable, ReadsAs}
 
 -- ---- digits

@@ -15,8 +15,8 @@ use Rattle.cost_rows.specs.Slots.{AreApart}
 use Rattle.cost_rows.specs.Stacks.{counts_added}
 use Rattle.cost_rows.proofs.MergeLemmas.{merge-held}
 use Rattle.cost_rows.proofs.SlotsLemmas.{lookup-new}
-use Rattle.cost_exports.specs.Amounts.{amount_of}
-use Rattle.cost_exports.specs.Csv.{event_spot_cmp}
+use Rattle.report_texts.specs.Amounts.{amount_of}
+use Rattle.report_texts.specs.Csv.{event_spot_cmp}
 use Rattle.cost_exports.specs.Views.{AreSlots, LineEvent, PlaceNames, Slotted, line_cmp, lines_added, names_cmp, placed, slot_of, spot_with, spread, sums_in, with_lines}
 use Rattle.cost_exports.proofs.SpreadLemmas.{names-total, spread-merge, under-least}
 

@@ -18,8 +18,8 @@ use Rattle.cost_rows.specs.Stacks.{bytes_cmp, counts_added}
 use Rattle.cost_rows.specs.Sums.{Spot}
 use Rattle.cost_rows.proofs.KeysLemmas.{named_cmp-total, named_cmp-apart}
 use Rattle.cost_rows.proofs.PlacesLemmas.{both_equal}
-use Rattle.cost_exports.specs.Amounts.{amount_of}
-use Rattle.cost_exports.specs.Csv.{EventSpot, event_spot_cmp}
+use Rattle.report_texts.specs.Amounts.{amount_of}
+use Rattle.report_texts.specs.Csv.{EventSpot, event_spot_cmp}
 use Rattle.cost_exports.specs.Views.{LineEvent, PlaceNames, line_cmp, lines_added, names_cmp, placed, spot_with, spread}
 use Rattle.cost_exports.proofs.AmountLemmas.{sum-append}
 use Rattle.cost_exports.proofs.StackLemmas.{bytes_apart}

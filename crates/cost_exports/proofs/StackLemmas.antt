@@ -9,9 +9,9 @@ use Rattle.cost_rows.specs.WalkSums.{stacks_count}
 use Rattle.cost_rows.specs.declared.rows.StackRow.{StackRow}
 use Rattle.cost_rows.proofs.NumberedLemmas.{equal-bytes}
 use Rattle.cost_rows.proofs.StacksLemmas.{bytes_cmp-total}
-use Rattle.cost_reports.specs.Inclusive.{SameStacks}
-use Rattle.cost_exports.specs.Amounts.{with_amount}
-use Rattle.cost_exports.specs.Folded.{counts_of, folded_of_rows, folded_of_stacks, with_stack}
+use Rattle.report_texts.specs.Inclusive.{SameStacks}
+use Rattle.report_texts.specs.Amounts.{with_amount}
+use Rattle.report_texts.specs.Folded.{counts_of, folded_of_rows, folded_of_stacks, with_stack}
 use Rattle.cost_exports.proofs.AmountLemmas.{same_amounts}
 
 pub bytes_apart : TellsApart bytes_cmp

@@ -4,7 +4,7 @@ use Rattle.std.specs.List.{AllByRecursion}
 use Rattle.cg_text.specs.Lines.{is_one_line}
 use Rattle.cg_text.specs.Readings.{line_limit}
 use Rattle.folded_reader.specs.Files.{fault_of_file, stacks_of_file}
-use Rattle.cost_exports.specs.Folded.{counts_of, stack_text}
+use Rattle.report_texts.specs.Folded.{counts_of, stack_text}
 
 -- some bytes but no line feed, a count as a line can have it, and a line that is not too long
 pub record IsReadable (e : List ℕ × ℕ) : Type 0 where

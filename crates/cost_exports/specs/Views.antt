@@ -13,7 +13,7 @@ use Rattle.cost_rows.specs.Merging.{merge_all, seen}
 use Rattle.cost_rows.specs.Slots.{AreApart}
 use Rattle.cost_rows.specs.Stacks.{bytes_cmp, counts_added}
 use Rattle.cost_rows.specs.declared.rows.CellRow.{CellRow}
-use Rattle.cost_exports.specs.Csv.{EventSpot}
+use Rattle.report_texts.specs.Csv.{EventSpot}
 use Rattle.cost_exports.specs.declared.cells.HeldLine.{HeldLine}
 use Rattle.cost_exports.specs.declared.cells.HeldNames.{HeldNames}
 

@@ -1,8 +1,8 @@
 // What places cost by the names of events.
 ghost use Rattle.std.specs.Prelude.{◌≡◌, ◌+◌, ◌<◌, ◌^◌, Some, [], OnOk, OnErr, IfOk, IfSome};
 ghost use Rattle.cost_rows.specs.Plain.{plain_cell};
-ghost use Rattle.cost_exports.specs.Amounts.{amount_of};
-ghost use Rattle.cost_exports.specs.Csv.{with_cell};
+ghost use Rattle.report_texts.specs.Amounts.{amount_of};
+ghost use Rattle.report_texts.specs.Csv.{with_cell};
 ghost use Rattle.cost_exports.specs.Views.{held_names, names_of_row, slot_of, sums_in};
 
 use crate::cells::{HeldLine, HeldNames};
@@ -57,7 +57,7 @@ pub struct CellSums {
 
 impl Model for CellSums {
     ghost use Rattle.std.specs.Prelude.{◌≡◌, ℕ, List, Some, IfSome};
-    ghost use Rattle.cost_exports.specs.Csv.{EventSpot};
+    ghost use Rattle.report_texts.specs.Csv.{EventSpot};
     ghost use Rattle.cost_exports.specs.Views.{held_names, slot_of, sums_in};
 
     ghost Value = { List (EventSpot × ℕ) };

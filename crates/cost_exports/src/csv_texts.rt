@@ -1,7 +1,7 @@
 // The text of what places cost by the names of events.
 ghost use Rattle.std.specs.Prelude.{◌≡◌, ◌++◌, ℕ, List, OnOk, IfOk, map};
 ghost use Rattle.csv.specs.Writing.{default_writer, row_text};
-ghost use Rattle.cost_exports.specs.Csv.{csv_header, csv_row, csv_rows, csv_text};
+ghost use Rattle.report_texts.specs.Csv.{csv_header, csv_row, csv_rows, csv_text};
 ghost use Rattle.cost_exports.specs.Views.{HasWritten, held_line, held_names, placed, spot_with, sums_in};
 
 use crate::cell_sums::CellSums;

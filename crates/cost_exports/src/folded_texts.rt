@@ -1,6 +1,6 @@
 // The text of stacks.
 ghost use Rattle.std.specs.Prelude.{◌≡◌, ◌++◌, OnOk, IfOk};
-ghost use Rattle.cost_exports.specs.Folded.{folded_text, stack_line};
+ghost use Rattle.report_texts.specs.Folded.{folded_text, stack_line};
 
 use crate::numbers::push_number;
 use crate::stack_sums::StackSums;

@@ -2,12 +2,12 @@
 ghost use Rattle.std.specs.Prelude.{◌≡◌, ℕ, ◌+◌, List, [], ◌∷◌, fold, map};
 ghost use Rattle.csv.specs.Reading.{default_config, records};
 ghost use Rattle.cost_rows.specs.declared.rows.StackRow.{StackRow};
-ghost use Rattle.cost_reports.specs.Costs.{EventCells, EventRecords, StandForEach, all_rows};
-ghost use Rattle.cost_reports.specs.Inclusive.{SameStacks};
+ghost use Rattle.report_texts.specs.Costs.{EventCells, EventRecords, StandForEach, all_rows};
+ghost use Rattle.report_texts.specs.Inclusive.{SameStacks};
 ghost use Rattle.profile_records.specs.Stacks.{Seen};
-ghost use Rattle.cost_exports.specs.Annotations.{HaveCostsEach, annotation_of, annotation_of_records, cost_of_lines, know_file, no_lines, with_line};
-ghost use Rattle.cost_exports.specs.Csv.{EventSpot, NamedCells, NamedRecords, NamesStandForEach, csv_fields, csv_header, csv_of_cells, csv_of_records, csv_text};
-ghost use Rattle.cost_exports.specs.Folded.{folded_of_rows, folded_of_stacks, folded_text};
+ghost use Rattle.report_texts.specs.Annotations.{HaveCostsEach, annotation_of, annotation_of_records, cost_of_lines, know_file, no_lines, with_line};
+ghost use Rattle.report_texts.specs.Csv.{EventSpot, NamedCells, NamedRecords, NamesStandForEach, csv_fields, csv_header, csv_of_cells, csv_of_records, csv_text};
+ghost use Rattle.report_texts.specs.Folded.{folded_of_rows, folded_of_stacks, folded_text};
 ghost use Rattle.cost_exports.specs.ReadBack.{AreReadable, ReadsAs};
 
 /// What the lines of a source cost, and what is outside, come to the total, whatever the source.

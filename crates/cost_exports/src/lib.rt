@@ -3,27 +3,27 @@
 //! key: nothing here knows where they are kept.
 #![tactic(auto)]
 
-// The text of a source with what its lines cost (specs/Annotations.antt).
+// The text of a source with what its lines cost (report_texts/specs/Annotations.antt).
 mod annotations;
 // The keys of the sums of cells (specs/Views.antt).
 mod cells;
-// What places cost by the names of events (specs/Csv.antt).
+// What places cost by the names of events (report_texts/specs/Csv.antt).
 mod cell_sums;
-// The text of these sums (specs/Csv.antt).
+// The text of these sums (report_texts/specs/Csv.antt).
 mod csv_texts;
-// The text of stacks (specs/Folded.antt).
+// The text of stacks (report_texts/specs/Folded.antt).
 mod folded_texts;
 // Laws: what exports come to, from rows to records, and that the folded one reads back.
 mod laws;
 // What the lines of a place cost by the names of events (specs/Views.antt).
 mod line_costs;
-// What the lines of one file cost (specs/Annotations.antt).
+// What the lines of one file cost (report_texts/specs/Annotations.antt).
 mod line_sums;
 // What is printed of a number.
 mod numbers;
 // The lines of places, found by the names of the place (specs/Views.antt).
 mod places;
-// Stacks with their counts (specs/Folded.antt).
+// Stacks with their counts (report_texts/specs/Folded.antt).
 mod stack_sums;
 
 pub use annotations::annotate;

@@ -2,7 +2,7 @@
 ghost use Rattle.std.specs.Prelude.{◌≡◌, ◌+◌, ◌<◌, ◌^◌, [], OnOk, OnErr};
 ghost use Rattle.cost_rows.specs.Merging.{merge};
 ghost use Rattle.cost_rows.specs.Stacks.{counts_added};
-ghost use Rattle.cost_exports.specs.Amounts.{amount_of};
+ghost use Rattle.report_texts.specs.Amounts.{amount_of};
 ghost use Rattle.cost_exports.specs.Views.{held_line, held_lines, line_cmp};
 
 use crate::cells::HeldLine;

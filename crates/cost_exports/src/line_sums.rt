@@ -2,8 +2,8 @@
 ghost use Rattle.std.specs.Prelude.{◌≡◌, ◌+◌, ◌<◌, ◌^◌, OnOk, OnErr, IfOk};
 ghost use Rattle.std.specs.Ordering.{nat_cmp};
 ghost use Rattle.cost_rows.specs.Plain.{plain_cell};
-ghost use Rattle.cost_exports.specs.Amounts.{amount_of, with_amount};
-ghost use Rattle.cost_exports.specs.Annotations.{cost_at, no_lines, with_line};
+ghost use Rattle.report_texts.specs.Amounts.{amount_of, with_amount};
+ghost use Rattle.report_texts.specs.Annotations.{cost_at, no_lines, with_line};
 
 use cost_rows::CellRow;
 use std::alloc::{AllocError, Global};
@@ -42,7 +42,7 @@ pub struct LineSums {
 }
 
 impl Model for LineSums {
-    ghost use Rattle.cost_exports.specs.Annotations.{FileCosts};
+    ghost use Rattle.report_texts.specs.Annotations.{FileCosts};
 
     ghost Value = { FileCosts };
 

@@ -2,8 +2,8 @@
 ghost use Rattle.std.specs.Prelude.{◌≡◌, ◌+◌, ◌<◌, ◌^◌, None, Some, [], length, slice_get, slice_index_or, slice_set, option_map, OnOk, OnErr, IfOk};
 ghost use Rattle.cost_rows.specs.Merging.{merge};
 ghost use Rattle.cost_rows.specs.Stacks.{counts_added};
-ghost use Rattle.cost_exports.specs.Amounts.{amount_of};
-ghost use Rattle.cost_exports.specs.Csv.{event_spot_cmp};
+ghost use Rattle.report_texts.specs.Amounts.{amount_of};
+ghost use Rattle.report_texts.specs.Csv.{event_spot_cmp};
 ghost use Rattle.cost_exports.specs.Views.{PlaceNames, held_line, held_names, held_slots, line_cmp, slot_of, spot_with, sums_in};
 
 use crate::cells::{HeldLine, HeldNames};

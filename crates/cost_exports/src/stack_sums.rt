@@ -2,8 +2,8 @@
 ghost use Rattle.std.specs.Prelude.{◌≡◌, ◌+◌, ◌<◌, ◌^◌, [], OnOk, OnErr};
 ghost use Rattle.cost_rows.specs.Plain.{plain_stack};
 ghost use Rattle.cost_rows.specs.Stacks.{bytes_cmp, by_bytes};
-ghost use Rattle.cost_exports.specs.Amounts.{amount_of, with_amount};
-ghost use Rattle.cost_exports.specs.Folded.{with_stack};
+ghost use Rattle.report_texts.specs.Amounts.{amount_of, with_amount};
+ghost use Rattle.report_texts.specs.Folded.{with_stack};
 
 use cost_rows::StackRow;
 use std::alloc::{AllocError, Global};

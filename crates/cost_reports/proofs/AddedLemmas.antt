@@ -9,12 +9,12 @@ use Rattle.cost_rows.specs.Sums.{Spot}
 use Rattle.cost_rows.specs.declared.keys.Key.{Key}
 use Rattle.cost_rows.specs.declared.keys.Key.TheVariants.{Function}
 use Rattle.cost_rows.specs.declared.rows.CellRow.{CellRow}
-use Rattle.cost_reports.specs.Calls.{Calls, CallsOfFunction, asked, other, calls_at, calls_by, with_calls}
-use Rattle.cost_reports.specs.Functions.{is_one_function}
-use Rattle.cost_reports.specs.Inclusive.{InclusiveCosts, InclusiveRow, OfOwn, OfCalls, OfStack, by_function, calls_in, functions_in, inclusive_rows, names_costs, no_costs, outward_costs, own_in, row_costs, rows_count, stacks_in, with_inclusive, with_outward, with_own, with_stack}
-use Rattle.cost_reports.specs.Pairs.{pairs_added}
-use Rattle.cost_reports.specs.declared.call_sides.CallSide.{CallSide}
-use Rattle.cost_reports.specs.declared.pairs.Pair.{Pair}
+use Rattle.report_texts.specs.Calls.{Calls, CallsOfFunction, asked, other, calls_at, calls_by, with_calls}
+use Rattle.report_texts.specs.Functions.{is_one_function}
+use Rattle.report_texts.specs.Inclusive.{InclusiveCosts, InclusiveRow, OfOwn, OfCalls, OfStack, by_function, calls_in, functions_in, inclusive_rows, names_costs, no_costs, outward_costs, own_in, row_costs, rows_count, stacks_in, with_inclusive, with_outward, with_own, with_stack}
+use Rattle.report_texts.specs.Pairs.{pairs_added}
+use Rattle.report_texts.specs.declared.call_sides.CallSide.{CallSide}
+use Rattle.report_texts.specs.declared.pairs.Pair.{Pair}
 use Rattle.cost_reports.proofs.KeyLemmas.{same_by_key, rows_append, where_append}
 
 -- ---- calls

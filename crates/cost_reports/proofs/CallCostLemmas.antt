@@ -9,12 +9,12 @@ use Rattle.cost_rows.specs.Sums.{Spot, caller_spot, callee_spot, call_sum, count
 use Rattle.cost_rows.specs.WalkSums.{caller_of_row, callee_of_row, calls_cost, calls_count, has_calls}
 use Rattle.cost_rows.specs.declared.rows.ArcRow.{ArcRow}
 use Rattle.cost_rows.proofs.KeysLemmas.{named_cmp-total, named_cmp-apart}
-use Rattle.cost_reports.specs.Calls.{Calls, CallsStandFor, CallsStandForEach, EventArcs, all_arcs, all_calls, asked, other, calls_at, calls_by, calls_of, weighted_calls}
-use Rattle.cost_reports.specs.Costs.{EventRecords}
-use Rattle.cost_reports.specs.Functions.{function_spot, is_one_function}
-use Rattle.cost_reports.specs.declared.call_sides.CallSide.{CallSide}
-use Rattle.cost_reports.specs.declared.call_sides.CallSide.TheVariants.{Callers, Callees}
-use Rattle.cost_reports.specs.declared.pairs.Pair.{Pair}
+use Rattle.report_texts.specs.Calls.{Calls, CallsStandFor, CallsStandForEach, EventArcs, all_arcs, all_calls, asked, other, calls_at, calls_by, calls_of, weighted_calls}
+use Rattle.report_texts.specs.Costs.{EventRecords}
+use Rattle.report_texts.specs.Functions.{function_spot, is_one_function}
+use Rattle.report_texts.specs.declared.call_sides.CallSide.{CallSide}
+use Rattle.report_texts.specs.declared.call_sides.CallSide.TheVariants.{Callers, Callees}
+use Rattle.report_texts.specs.declared.pairs.Pair.{Pair}
 use Rattle.cost_reports.proofs.CostLemmas.{value, value_same, value_sum, value_none, record_where}
 use Rattle.cost_reports.proofs.PairLemmas.{pair, measure, told, firsts_by, seconds_by, keys_by, sorted_by}
 use Rattle.cost_reports.proofs.SameSums.{same_merged}

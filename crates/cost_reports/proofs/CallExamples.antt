@@ -4,12 +4,12 @@ use Rattle.std.specs.Fmt.{digits}
 use Rattle.cg_text.specs.Names.{unknown}
 use Rattle.profile_records.specs.Records.{Record, Own, Called}
 use Rattle.profile_records.specs.Stacks.{Seen}
-use Rattle.cost_reports.specs.Calls.{all_calls, calls_by, call_report_of, call_report_text}
-use Rattle.cost_reports.specs.Costs.{EventRecords}
-use Rattle.cost_reports.specs.Functions.{function_spot}
-use Rattle.cost_reports.specs.Inclusive.{inclusive_costs, inclusive_report, inclusive_text}
-use Rattle.cost_reports.specs.declared.call_sides.CallSide.{CallSide}
-use Rattle.cost_reports.specs.declared.call_sides.CallSide.TheVariants.{Callers, Callees}
+use Rattle.report_texts.specs.Calls.{all_calls, calls_by, call_report_of, call_report_text}
+use Rattle.report_texts.specs.Costs.{EventRecords}
+use Rattle.report_texts.specs.Functions.{function_spot}
+use Rattle.report_texts.specs.Inclusive.{inclusive_costs, inclusive_report, inclusive_text}
+use Rattle.report_texts.specs.declared.call_sides.CallSide.{CallSide}
+use Rattle.report_texts.specs.declared.call_sides.CallSide.TheVariants.{Callers, Callees}
 use Rattle.cost_reports.proofs.Examples.{own, call, manual_calls}
 
 -- the records of files and the stacks of others, by one of their events

@@ -2,12 +2,12 @@
 use Rattle.std.proofs.Common.{◌≡◌, ℕ, ◌+◌, Bool, true, false, List, [], ◌∷◌, if◌then◌else◌, refl, sym, ap, ap₂, ◌∙◌, arith}
 use Rattle.cost_rows.specs.Merging.{sum_where}
 use Rattle.cost_rows.specs.Sums.{Spot}
-use Rattle.cost_reports.specs.Calls.{Calls, HaveFunctions, asked, other, calls_at, sum_of, times_in, totals_of}
-use Rattle.cost_reports.specs.Functions.{is_one_function}
-use Rattle.cost_reports.specs.Pairs.{pairs_added}
-use Rattle.cost_reports.specs.declared.call_sides.CallSide.{CallSide}
-use Rattle.cost_reports.specs.declared.call_sides.CallSide.TheVariants.{Callers, Callees}
-use Rattle.cost_reports.specs.declared.pairs.Pair.{Pair}
+use Rattle.report_texts.specs.Calls.{Calls, HaveFunctions, asked, other, calls_at, sum_of, times_in, totals_of}
+use Rattle.report_texts.specs.Functions.{is_one_function}
+use Rattle.report_texts.specs.Pairs.{pairs_added}
+use Rattle.report_texts.specs.declared.call_sides.CallSide.{CallSide}
+use Rattle.report_texts.specs.declared.call_sides.CallSide.TheVariants.{Callers, Callees}
+use Rattle.report_texts.specs.declared.pairs.Pair.{Pair}
 use Rattle.cost_reports.proofs.PairLemmas.{pair, firsts_by, seconds_by}
 
 -- a number at each function of a list that is another

@@ -12,7 +12,7 @@ use Rattle.cost_rows.specs.Sums.{Spot, spot_of, own_sum}
 use Rattle.cost_rows.specs.WalkSums.{rows_cost}
 use Rattle.cost_rows.specs.declared.keys.Key.{Key}
 use Rattle.cost_rows.specs.declared.rows.CellRow.{CellRow}
-use Rattle.cost_reports.specs.Costs.{EventRecords, EventCells, StandForEach, costs_of, all_costs, costs_by, weighted, all_rows}
+use Rattle.report_texts.specs.Costs.{EventRecords, EventCells, StandForEach, costs_of, all_costs, costs_by, weighted, all_rows}
 use Rattle.cost_reports.proofs.KeyLemmas.{no_more, same_by_key, where_append, rows_append}
 
 -- ---- costs of columns, each as often as it counts

@@ -6,9 +6,9 @@ use Rattle.std.proofs.Math.Nat.{mul-le-mul_right}
 use Rattle.std.proofs.lemmas.Bool.{le-leb, leb-true, leb-false}
 use Rattle.cost_rows.specs.KeySums.{total_of}
 use Rattle.cost_rows.specs.Sums.{Spot}
-use Rattle.cost_reports.specs.KeyReports.{rank_cmp, reaching, limited, enough, shown, IsShortest}
-use Rattle.cost_reports.specs.Ranking.{placed, among, ranked}
-use Rattle.cost_reports.specs.declared.cuts.Cut.{Cut}
+use Rattle.report_texts.specs.KeyReports.{rank_cmp, reaching, limited, enough, shown, IsShortest}
+use Rattle.report_texts.specs.Ranking.{placed, among, ranked}
+use Rattle.report_texts.specs.declared.cuts.Cut.{Cut}
 
 total_placed : (x y : Spot × ℕ) (o : Ordering) (more ys : List (Spot × ℕ)) → total_of more ≡ x.1 + total_of ys → total_of (placed o x y more ys) ≡ x.1 + (y.1 + total_of ys)
 total_placed x y Less more ys e = refl

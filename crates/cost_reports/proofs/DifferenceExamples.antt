@@ -4,8 +4,8 @@ use Rattle.std.specs.Fmt.{digits}
 use Rattle.cg_text.specs.Names.{unknown}
 use Rattle.cost_rows.specs.declared.keys.Key.{Key}
 use Rattle.cost_rows.specs.declared.keys.Key.TheVariants.{File, Function, Line}
-use Rattle.cost_reports.specs.Costs.{EventRecords, costs_by}
-use Rattle.cost_reports.specs.Differences.{difference_of, difference_text}
+use Rattle.report_texts.specs.Costs.{EventRecords, costs_by}
+use Rattle.report_texts.specs.Differences.{difference_of, difference_text}
 use Rattle.cost_reports.proofs.Examples.{own, manual_calls, four_lines, instr_line}
 
 -- the records of files less those of other files, by one of their events

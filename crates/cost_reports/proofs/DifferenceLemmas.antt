@@ -13,12 +13,12 @@ use Rattle.cost_rows.specs.Merging.{sum_where}
 use Rattle.cost_rows.specs.Sums.{Spot}
 use Rattle.cost_rows.specs.declared.keys.Key.{Key}
 use Rattle.cost_rows.proofs.KeysLemmas.{named_cmp-total, named_cmp-apart}
-use Rattle.cost_reports.specs.Differences.{less, beside, differing, difference_cmp, difference_of, gains_of, losses_of, negated, negated_row, negative, on_side}
-use Rattle.cost_reports.specs.Pairs.{firsts_of, seconds_of}
-use Rattle.cost_reports.specs.Ranking.{placed, among, ranked}
-use Rattle.cost_reports.specs.declared.differences.Side.TheVariants.{First, Second}
-use Rattle.cost_reports.specs.declared.pairs.Pair.{Pair}
-use Rattle.cost_reports.specs.declared.signed.Signed.{Signed}
+use Rattle.report_texts.specs.Differences.{less, beside, differing, difference_cmp, difference_of, gains_of, losses_of, negated, negated_row, negative, on_side}
+use Rattle.report_texts.specs.Pairs.{firsts_of, seconds_of}
+use Rattle.report_texts.specs.Ranking.{placed, among, ranked}
+use Rattle.report_texts.specs.declared.differences.Side.TheVariants.{First, Second}
+use Rattle.report_texts.specs.declared.pairs.Pair.{Pair}
+use Rattle.report_texts.specs.declared.signed.Signed.{Signed}
 use Rattle.cost_reports.proofs.PairLemmas.{pair, measure, told, firsts_by, seconds_by, keys_by, sorted_by}
 use Rattle.cost_reports.proofs.RankLemmas.{all_ranked}
 use Rattle.cost_reports.proofs.RowLemmas.{difference_cmp-total, difference_cmp-apart}

@@ -6,11 +6,11 @@ use Rattle.cg_text.specs.Names.{unknown}
 use Rattle.profile_records.specs.Records.{Record, Own, Called}
 use Rattle.cost_rows.specs.declared.keys.Key.{Key}
 use Rattle.cost_rows.specs.declared.keys.Key.TheVariants.{Object, File, Function, Line, Thread}
-use Rattle.cost_reports.specs.Costs.{EventRecords, costs_by}
-use Rattle.cost_reports.specs.KeyReports.{report_of}
-use Rattle.cost_reports.specs.KeyTexts.{key_report_text}
-use Rattle.cost_reports.specs.Verifying.{verified, verify_text}
-use Rattle.cost_reports.specs.declared.cuts.Cut.{Cut}
+use Rattle.report_texts.specs.Costs.{EventRecords, costs_by}
+use Rattle.report_texts.specs.KeyReports.{report_of}
+use Rattle.report_texts.specs.KeyTexts.{key_report_text}
+use Rattle.report_texts.specs.Verifying.{verified, verify_text}
+use Rattle.report_texts.specs.declared.cuts.Cut.{Cut}
 
 abbrev pub own : List ℕ → List ℕ → ℕ → List ℕ → Record
 own file function line costs = Own (record { at = 0; object = unknown; file = file; function = function; line = line; thread = 0; costs = costs })

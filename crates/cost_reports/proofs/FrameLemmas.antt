@@ -15,7 +15,7 @@ use Rattle.memchr.specs.Find.{Nowhere, Passes}
 use Rattle.cost_rows.specs.KeySums.{total_of}
 use Rattle.cost_rows.specs.Stacks.{bytes_cmp}
 use Rattle.profile_records.specs.Frames.{is_semicolon, function_of, functions_of}
-use Rattle.cost_reports.specs.Inclusive.{functions_in, names_costs, names_in}
+use Rattle.report_texts.specs.Inclusive.{functions_in, names_costs, names_in}
 
 -- ---- the first frame, and the others
 

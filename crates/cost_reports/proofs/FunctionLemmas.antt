@@ -21,10 +21,10 @@ use Rattle.cost_rows.proofs.MergeLemmas.{keys-merge_all, sorted-merge_all}
 use Rattle.cost_rows.proofs.NamingLemmas.{same_bytes}
 use Rattle.cost_rows.proofs.NumberedLemmas.{equal-bytes}
 use Rattle.cost_rows.proofs.StacksLemmas.{bytes_cmp-total}
-use Rattle.cost_reports.specs.Calls.{Calls, all_calls}
-use Rattle.cost_reports.specs.Costs.{EventRecords, all_costs}
-use Rattle.cost_reports.specs.Functions.{function_spot, is_one_function}
-use Rattle.cost_reports.specs.Inclusive.{frame_costs, frame_count, functions_in, inclusive_cost, inclusive_costs, is_frame, names_costs, outward_cost, outward_costs, own_cost}
+use Rattle.report_texts.specs.Calls.{Calls, all_calls}
+use Rattle.report_texts.specs.Costs.{EventRecords, all_costs}
+use Rattle.report_texts.specs.Functions.{function_spot, is_one_function}
+use Rattle.report_texts.specs.Inclusive.{frame_costs, frame_count, functions_in, inclusive_cost, inclusive_costs, is_frame, names_costs, outward_cost, outward_costs, own_cost}
 use Rattle.cost_reports.proofs.InclusiveLemmas.{how_many, names_where, times}
 use Rattle.cost_reports.proofs.KeyLemmas.{rows_append, sums_cost, where_append}
 

@@ -12,10 +12,10 @@ use Rattle.cost_rows.specs.WalkSums.{caller_of_row, callee_of_row, calls_cost, s
 use Rattle.cost_rows.specs.declared.keys.Key.TheVariants.{Function}
 use Rattle.cost_rows.specs.declared.rows.ArcRow.{ArcRow}
 use Rattle.cost_rows.specs.declared.rows.StackRow.{StackRow}
-use Rattle.cost_reports.specs.Calls.{Calls, CallsStandForEach, EventArcs, all_arcs, all_calls, calls_of, weighted_calls}
-use Rattle.cost_reports.specs.Costs.{EventCells, EventRecords, StandForEach, all_costs, all_rows}
-use Rattle.cost_reports.specs.Functions.{function_spot, is_one_function}
-use Rattle.cost_reports.specs.Inclusive.{SameStacks, frame_costs, functions_in, inclusive_costs, inclusive_rows, names_costs, outward_costs, row_costs, rows_count, count_of}
+use Rattle.report_texts.specs.Calls.{Calls, CallsStandForEach, EventArcs, all_arcs, all_calls, calls_of, weighted_calls}
+use Rattle.report_texts.specs.Costs.{EventCells, EventRecords, StandForEach, all_costs, all_rows}
+use Rattle.report_texts.specs.Functions.{function_spot, is_one_function}
+use Rattle.report_texts.specs.Inclusive.{SameStacks, frame_costs, functions_in, inclusive_costs, inclusive_rows, names_costs, outward_costs, row_costs, rows_count, count_of}
 use Rattle.cost_reports.proofs.CostLemmas.{value, value_same, value_sum, value_none, record_where, cells_are_records, same_costs}
 use Rattle.cost_reports.proofs.KeyLemmas.{same_by_key, total_by_key, total_of_rows, where_append, rows_append}
 

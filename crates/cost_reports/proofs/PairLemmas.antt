@@ -9,8 +9,8 @@ use Rattle.cost_rows.specs.Merging.{sum_where}
 use Rattle.cost_rows.specs.Sums.{Spot}
 use Rattle.cost_rows.proofs.KeysLemmas.{named_cmp-total, named_cmp-apart}
 use Rattle.cost_rows.proofs.MergeLemmas.{sum-merge, sum-merge_all, sorted-merge_all, keys-merge_all}
-use Rattle.cost_reports.specs.Pairs.{pairs_added, pairs_with, pairs_by, pair_total}
-use Rattle.cost_reports.specs.declared.pairs.Pair.{Pair}
+use Rattle.report_texts.specs.Pairs.{pairs_added, pairs_with, pairs_by, pair_total}
+use Rattle.report_texts.specs.declared.pairs.Pair.{Pair}
 
 abbrev pub pair : ℕ → ℕ → Pair
 pair m n = record { first = m; second = n }

@@ -10,12 +10,12 @@ use Rattle.cost_rows.specs.Keys.{named_cmp}
 use Rattle.cost_rows.specs.KeySums.{rows_of}
 use Rattle.cost_rows.proofs.KeysLemmas.{named_cmp-total, named_cmp-apart}
 use Rattle.cost_rows.proofs.PlacesLemmas.{both_equal}
-use Rattle.cost_reports.specs.Calls.{call_cmp}
-use Rattle.cost_reports.specs.Differences.{difference_cmp}
-use Rattle.cost_reports.specs.KeyReports.{rank_cmp}
+use Rattle.report_texts.specs.Calls.{call_cmp}
+use Rattle.report_texts.specs.Differences.{difference_cmp}
+use Rattle.report_texts.specs.KeyReports.{rank_cmp}
+use Rattle.report_texts.specs.declared.pairs.Pair.{Pair}
+use Rattle.report_texts.specs.declared.signed.Signed.{Signed}
 use Rattle.cost_reports.specs.Rows.{sum_of_row}
-use Rattle.cost_reports.specs.declared.pairs.Pair.{Pair}
-use Rattle.cost_reports.specs.declared.signed.Signed.{Signed}
 
 pub rank_cmp-total : IsTotalOrder rank_cmp
 rank_cmp-total = then_total (on_total (λ (e : Spot × ℕ). e.1) (back_total nat_cmp_total)) (on_total (λ (e : Spot × ℕ). e.0) named_cmp-total)

@@ -11,16 +11,16 @@ use Rattle.cost_rows.specs.Keys.{named_cmp}
 use Rattle.cost_rows.specs.Merging.{merge, merge_all}
 use Rattle.cost_rows.specs.Sums.{Spot}
 use Rattle.cost_rows.proofs.KeysLemmas.{named_cmp-total, named_cmp-apart}
-use Rattle.cost_reports.specs.Differences.{beside, differing, less, on_side}
+use Rattle.report_texts.specs.Differences.{beside, differing, less, on_side}
+use Rattle.report_texts.specs.Pairs.{pairs_added}
+use Rattle.report_texts.specs.declared.differences.Side.{Side}
+use Rattle.report_texts.specs.declared.differences.Side.TheVariants.{First, Second}
+use Rattle.report_texts.specs.declared.pairs.Pair.{Pair}
+use Rattle.report_texts.specs.declared.signed.Signed.{Signed}
 use Rattle.cost_reports.specs.InStep.{from_row, left_of, ComesNext, IsAlone, IsInOrder}
-use Rattle.cost_reports.specs.Pairs.{pairs_added}
 use Rattle.cost_reports.specs.Rows.{lent_place, plain_row}
 use Rattle.cost_reports.specs.declared.differences.Next.{Next}
-use Rattle.cost_reports.specs.declared.differences.Side.{Side}
-use Rattle.cost_reports.specs.declared.differences.Side.TheVariants.{First, Second}
-use Rattle.cost_reports.specs.declared.pairs.Pair.{Pair}
 use Rattle.cost_reports.specs.declared.rows.Row.{Row}
-use Rattle.cost_reports.specs.declared.signed.Signed.{Signed}
 
 -- a place is before all of these
 abbrev IsBefore : Spot → List Spot → Type 0

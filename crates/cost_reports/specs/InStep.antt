@@ -4,11 +4,11 @@ use Rattle.std.specs.List.Sorted.{IsStrictlySortedBy}
 use Rattle.std.specs.Map.{keys_of}
 use Rattle.cost_rows.specs.Keys.{named_cmp}
 use Rattle.cost_rows.specs.Sums.{Spot}
-use Rattle.cost_reports.specs.Differences.{beside, pair_on}
+use Rattle.report_texts.specs.Differences.{beside, pair_on}
+use Rattle.report_texts.specs.declared.differences.Side.{Side}
+use Rattle.report_texts.specs.declared.differences.Side.TheVariants.{First, Second}
 use Rattle.cost_reports.specs.Rows.{lent_place, plain_row}
 use Rattle.cost_reports.specs.declared.differences.Next.{Next}
-use Rattle.cost_reports.specs.declared.differences.Side.{Side}
-use Rattle.cost_reports.specs.declared.differences.Side.TheVariants.{First, Second}
 use Rattle.cost_reports.specs.declared.rows.Row.{Row}
 
 -- each place stands once, in order

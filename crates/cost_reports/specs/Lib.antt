@@ -1,13 +1,3 @@
-pub mod Calls
-pub mod Costs
-pub mod Differences
-pub mod Functions
 pub mod InStep
-pub mod Inclusive
-pub mod KeyReports
-pub mod KeyTexts
-pub mod Pairs
-pub mod Percents
-pub mod Ranking
+pub mod Places
 pub mod Rows
-pub mod Verifying

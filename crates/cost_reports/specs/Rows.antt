@@ -3,12 +3,14 @@ use Rattle.std.specs.Prelude.{ℕ, List, map}
 use Rattle.cost_rows.specs.Keys.{place_of_row}
 use Rattle.cost_rows.specs.Sums.{Spot}
 use Rattle.cost_rows.specs.declared.rows.CellRow.{CellRow}
-use Rattle.cost_reports.specs.declared.pairs.Pair.{Pair}
+use Rattle.report_texts.specs.Verifying.{Checked}
+use Rattle.report_texts.specs.declared.pairs.Pair.{Pair}
+use Rattle.report_texts.specs.declared.signed.Signed.{Signed}
 use Rattle.cost_reports.specs.declared.places.LentPlace.{LentPlace}
 use Rattle.cost_reports.specs.declared.rows.CallRow.{CallRow}
 use Rattle.cost_reports.specs.declared.rows.DifferenceRow.{DifferenceRow}
 use Rattle.cost_reports.specs.declared.rows.Row.{Row}
-use Rattle.cost_reports.specs.declared.signed.Signed.{Signed}
+use Rattle.cost_reports.specs.declared.verifying.Check.{Check}
 
 abbrev pub lent_place : LentPlace → Spot
 lent_place p = record { object = p.object.now; file = p.file.now; function = p.function.now; line = p.line; thread = p.thread }
@@ -30,6 +32,10 @@ plain_call r = (lent_place r.place, record { first = r.cost.0; second = r.count 
 
 abbrev pub plain_calls : List CallRow → List (Spot × Pair)
 plain_calls rows = map plain_call rows
+
+-- a check as the code holds it
+abbrev pub plain_check : Check → Checked
+plain_check c = record { event = c.event.now; sum = c.sum; stated = c.stated }
 
 -- the sum that a merged row has
 abbrev pub sum_of_row : CellRow (List ℕ) → Spot × ℕ

@@ -1,17 +1,17 @@
 // Who calls a function, and whom it calls.
 ghost use Rattle.std.specs.Prelude.{◌≡◌, ◌+◌, ◌<◌, ◌^◌, [], OnOk, OnErr, IfOk};
-ghost use Rattle.cost_reports.specs.Calls.{call_cmp, call_report_of, calls_of_row, with_calls};
-ghost use Rattle.cost_reports.specs.Functions.{function_spot, is_one_function};
-ghost use Rattle.cost_reports.specs.Pairs.{firsts_of, seconds_of, held_place, AreBelow};
-ghost use Rattle.cost_reports.specs.Ranking.{ranked};
+ghost use Rattle.report_texts.specs.Calls.{call_cmp, call_report_of, calls_of_row, with_calls};
+ghost use Rattle.report_texts.specs.Functions.{function_spot, is_one_function};
+ghost use Rattle.report_texts.specs.Pairs.{firsts_of, seconds_of, AreBelow};
+ghost use Rattle.report_texts.specs.Ranking.{ranked};
+ghost use Rattle.cost_reports.specs.Places.{held_place};
 ghost use Rattle.cost_reports.specs.Rows.{plain_calls};
 
-use crate::call_sides::CallSide;
 use crate::pair_sums::PairSums;
-use crate::pairs::Pair;
 use crate::places::{HeldPlace, LentPlace, function_place};
 use crate::rows::CallRow;
 use cost_rows::ArcRow;
+use report_texts::{CallSide, Pair};
 use std::alloc::{AllocError, Global};
 use std::cmp::Reverse;
 use std::marker::Model;
@@ -26,8 +26,8 @@ pub struct CallSums {
 }
 
 impl Model for CallSums {
-    ghost use Rattle.cost_reports.specs.Calls.{CallsOfFunction};
-    ghost use Rattle.cost_reports.specs.Pairs.{held_place};
+    ghost use Rattle.report_texts.specs.Calls.{CallsOfFunction};
+    ghost use Rattle.cost_reports.specs.Places.{held_place};
 
     ghost Value = { CallsOfFunction };
 
@@ -122,7 +122,7 @@ pub struct CallReport<'a> {
 }
 
 impl<'a> Model for CallReport<'a> {
-    ghost use Rattle.cost_reports.specs.Calls.{RankedCalls};
+    ghost use Rattle.report_texts.specs.Calls.{RankedCalls};
     ghost use Rattle.cost_reports.specs.Rows.{lent_place, plain_calls};
 
     ghost Value = { RankedCalls };

@@ -1,18 +1,17 @@
 // The text of a report of calls.
 ghost use Rattle.std.specs.Prelude.{◌≡◌, ◌++◌, OnOk, IfOk, codes};
-ghost use Rattle.cost_reports.specs.Calls.{side_name, pair_text, call_line, call_row_text, call_lines, call_head, call_report_text};
+ghost use Rattle.report_texts.specs.Calls.{side_name, pair_text, call_line, call_row_text, call_lines, call_head, call_report_text};
 ghost use Rattle.cost_reports.specs.Rows.{lent_place, plain_call, plain_calls};
 
 use crate::call_reports::CallReport;
-use crate::call_sides::CallSide;
 use crate::key_texts::push_part;
 use crate::numbers::push_number;
-use crate::pairs::Pair;
 use crate::places::LentPlace;
 use crate::rows::CallRow;
+use byte_io::push_escaped;
 use cg_text::ListVec;
 use cost_rows::Key;
-use printed_names::push_escaped;
+use report_texts::{CallSide, Pair};
 use std::alloc::{AllocError, Global};
 
 fn side_name(side: CallSide) -> &'static [u8]

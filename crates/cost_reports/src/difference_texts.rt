@@ -1,15 +1,16 @@
 // The text of a difference.
 ghost use Rattle.std.specs.Prelude.{◌≡◌, ◌++◌, OnOk, IfOk};
-ghost use Rattle.cost_reports.specs.Differences.{difference_line, difference_lines, difference_head, difference_text};
+ghost use Rattle.report_texts.specs.Differences.{difference_line, difference_lines, difference_head, difference_text};
 ghost use Rattle.cost_reports.specs.Rows.{plain_difference, plain_differences};
 
 use crate::differences::Difference;
 use crate::key_texts::{key_name, push_part};
 use crate::rows::DifferenceRow;
-use crate::signed::{Signed, push_signed};
+use crate::signed::push_signed;
+use byte_io::push_escaped;
 use cg_text::ListVec;
 use cost_rows::Key;
-use printed_names::push_escaped;
+use report_texts::Signed;
 use std::alloc::{AllocError, Global};
 
 /// Adds the line of a row.

@@ -1,17 +1,17 @@
 // What rows cost less what other rows cost, by key.
 ghost use Rattle.std.specs.Prelude.{◌≡◌, ◌++◌, ◌∷◌, [], ℕ, List, OnOk, IfOk, map};
 ghost use Rattle.cost_rows.specs.Sums.{Spot};
-ghost use Rattle.cost_reports.specs.Differences.{beside, difference_of, differing, difference_cmp, pair_on};
+ghost use Rattle.report_texts.specs.Differences.{beside, difference_of, differing, difference_cmp, pair_on};
+ghost use Rattle.report_texts.specs.Ranking.{ranked};
 ghost use Rattle.cost_reports.specs.InStep.{from_row, ComesNext, IsAlone, IsInOrder};
-ghost use Rattle.cost_reports.specs.Ranking.{ranked};
 ghost use Rattle.cost_reports.specs.Rows.{lent_place, plain_differences, sum_of_row};
 
-use crate::pairs::Pair;
 use crate::places::LentPlace;
 use crate::ranks::row_of;
 use crate::rows::{DifferenceRow, Row};
-use crate::signed::{Signed, less};
+use crate::signed::less;
 use cost_rows::{Key, Merged, SumRows};
+use report_texts::{Pair, Side, Signed};
 use std::alloc::{AllocError, Global};
 use std::cmp::{Ordering, Reverse};
 use std::marker::Model;
@@ -26,19 +26,12 @@ pub struct Difference<'a> {
 }
 
 impl<'a> Model for Difference<'a> {
-    ghost use Rattle.cost_reports.specs.Differences.{DifferenceByKey};
+    ghost use Rattle.report_texts.specs.Differences.{DifferenceByKey};
     ghost use Rattle.cost_reports.specs.Rows.{plain_differences};
 
     ghost Value = { DifferenceByKey };
 
     ghost view = { λ d. record { key = d.key; rows = plain_differences d.rows.items; total = d.total } };
-}
-
-/// One of the two sides of a difference.
-#[derive(Clone, Copy)]
-pub(crate) enum Side {
-    First,
-    Second,
 }
 
 /// A cost on one side, and none on the other.

@@ -2,8 +2,8 @@
 ghost use Rattle.std.specs.Prelude.{◌≡◌, IfOk, bytes_eq, map};
 ghost use Rattle.std.specs.List.{list_any};
 ghost use Rattle.profile_records.specs.Frames.{function_of, functions_of};
-ghost use Rattle.cost_reports.specs.Functions.{function_spot};
-ghost use Rattle.cost_reports.specs.Inclusive.{functions_in, is_frame, names_in};
+ghost use Rattle.report_texts.specs.Functions.{function_spot};
+ghost use Rattle.report_texts.specs.Inclusive.{functions_in, is_frame, names_in};
 
 use memchr::memchr;
 use std::alloc::{AllocError, Global};

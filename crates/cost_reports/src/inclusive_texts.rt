@@ -1,12 +1,12 @@
 // The text of inclusive costs.
 ghost use Rattle.std.specs.Prelude.{◌≡◌, ◌++◌, OnOk, IfOk};
-ghost use Rattle.cost_reports.specs.Inclusive.{inclusive_head, inclusive_text};
+ghost use Rattle.report_texts.specs.Inclusive.{inclusive_head, inclusive_text};
 
 use crate::inclusives::InclusiveReport;
 use crate::key_texts::{push_rows, push_sum};
+use byte_io::push_escaped;
 use cg_text::ListVec;
 use cost_rows::Key;
-use printed_names::push_escaped;
 use std::alloc::{AllocError, Global};
 
 /// Adds of which event the costs are.

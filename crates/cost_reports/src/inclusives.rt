@@ -3,9 +3,9 @@ ghost use Rattle.std.specs.Prelude.{◌≡◌, ◌+◌, ◌*◌, ◌<◌, ◌^�
 ghost use Rattle.cost_rows.specs.KeySums.{total_of, with_row, rows_of};
 ghost use Rattle.cost_rows.specs.Plain.{plain_cell, plain_stack};
 ghost use Rattle.cost_rows.specs.declared.keys.Key.TheVariants.{Function};
-ghost use Rattle.cost_reports.specs.Calls.{calls_of_row};
-ghost use Rattle.cost_reports.specs.Inclusive.{inclusive_report, names_in, names_costs, with_own, with_outward, with_stack};
-ghost use Rattle.cost_reports.specs.Pairs.{AreBelow};
+ghost use Rattle.report_texts.specs.Calls.{calls_of_row};
+ghost use Rattle.report_texts.specs.Inclusive.{inclusive_report, names_in, names_costs, with_own, with_outward, with_stack};
+ghost use Rattle.report_texts.specs.Pairs.{AreBelow};
 ghost use Rattle.cost_reports.specs.Rows.{plain_rows};
 
 use crate::frames::functions_in;
@@ -28,7 +28,7 @@ pub struct InclusiveSums {
 }
 
 impl Model for InclusiveSums {
-    ghost use Rattle.cost_reports.specs.Inclusive.{InclusiveCosts};
+    ghost use Rattle.report_texts.specs.Inclusive.{InclusiveCosts};
 
     ghost Value = { InclusiveCosts };
 
@@ -143,7 +143,7 @@ pub struct InclusiveReport<'a> {
 }
 
 impl<'a> Model for InclusiveReport<'a> {
-    ghost use Rattle.cost_reports.specs.Inclusive.{RankedCosts};
+    ghost use Rattle.report_texts.specs.Inclusive.{RankedCosts};
     ghost use Rattle.cost_reports.specs.Rows.{plain_rows};
 
     ghost Value = { RankedCosts };

@@ -1,13 +1,13 @@
 // Reports by key.
 ghost use Rattle.std.specs.Prelude.{◌≡◌, ◌+◌, ◌<◌, ◌^◌, IfOk};
 ghost use Rattle.cost_rows.specs.KeySums.{total_of};
-ghost use Rattle.cost_reports.specs.KeyReports.{report_of};
+ghost use Rattle.report_texts.specs.KeyReports.{report_of};
 ghost use Rattle.cost_reports.specs.Rows.{plain_rows};
 
-use crate::cuts::Cut;
 use crate::ranks::{cost_of, shown_rows};
 use crate::rows::Row;
 use cost_rows::{Key, Merged};
+use report_texts::Cut;
 use std::alloc::{AllocError, Global};
 use std::marker::Model;
 
@@ -24,7 +24,7 @@ pub struct Report<'a> {
 }
 
 impl<'a> Model for Report<'a> {
-    ghost use Rattle.cost_reports.specs.KeyReports.{ReportByKey};
+    ghost use Rattle.report_texts.specs.KeyReports.{ReportByKey};
     ghost use Rattle.cost_reports.specs.Rows.{plain_rows};
 
     ghost Value = { ReportByKey };

@@ -1,7 +1,7 @@
 // The text of a report by key.
 ghost use Rattle.std.specs.Prelude.{◌≡◌, ◌++◌, ◌<◌, ◌^◌, OnOk, IfOk};
 ghost use Rattle.cost_rows.specs.KeySums.{total_of};
-ghost use Rattle.cost_reports.specs.KeyTexts.{key_name, part_text, cost_text, cost_line, row_text, rows_text, head_text, key_report_text};
+ghost use Rattle.report_texts.specs.KeyTexts.{key_name, part_text, cost_text, cost_line, row_text, rows_text, head_text, key_report_text};
 ghost use Rattle.cost_reports.specs.Rows.{lent_place, plain_row, plain_rows};
 
 use crate::key_reports::Report;
@@ -9,9 +9,9 @@ use crate::numbers::push_number;
 use crate::percents::push_percent;
 use crate::places::LentPlace;
 use crate::rows::Row;
+use byte_io::push_escaped;
 use cg_text::ListVec;
 use cost_rows::Key;
-use printed_names::push_escaped;
 use std::alloc::{AllocError, Global};
 
 pub(crate) fn key_name(key: Key) -> &'static [u8]

@@ -7,15 +7,15 @@ ghost use Rattle.cost_rows.specs.declared.keys.Key.{Key};
 ghost use Rattle.cost_rows.specs.declared.rows.CellRow.{CellRow};
 ghost use Rattle.cost_rows.specs.declared.rows.StackRow.{StackRow};
 ghost use Rattle.profile_records.specs.Stacks.{Seen};
-ghost use Rattle.cost_reports.specs.Calls.{Calls, CallsStandForEach, EventArcs, HaveFunctions, all_arcs, all_calls, calls_by, sum_of, totals_of, with_calls};
-ghost use Rattle.cost_reports.specs.Costs.{EventRecords, EventCells, StandForEach, all_costs, all_rows, costs_by};
-ghost use Rattle.cost_reports.specs.Differences.{difference_of, gains_of, losses_of, negative};
-ghost use Rattle.cost_reports.specs.Functions.{is_one_function};
-ghost use Rattle.cost_reports.specs.Inclusive.{InclusiveRow, SameStacks, calls_in, inclusive_cost, inclusive_costs, inclusive_rows, no_costs, own_in, stacks_in, with_inclusive};
-ghost use Rattle.cost_reports.specs.KeyReports.{rank_cmp, enough, report_of, IsShortest};
-ghost use Rattle.cost_reports.specs.Ranking.{ranked};
-ghost use Rattle.cost_reports.specs.declared.call_sides.CallSide.{CallSide};
-ghost use Rattle.cost_reports.specs.declared.cuts.Cut.{Cut};
+ghost use Rattle.report_texts.specs.Calls.{Calls, CallsStandForEach, EventArcs, HaveFunctions, all_arcs, all_calls, calls_by, sum_of, totals_of, with_calls};
+ghost use Rattle.report_texts.specs.Costs.{EventRecords, EventCells, StandForEach, all_costs, all_rows, costs_by};
+ghost use Rattle.report_texts.specs.Differences.{difference_of, gains_of, losses_of, negative};
+ghost use Rattle.report_texts.specs.Functions.{is_one_function};
+ghost use Rattle.report_texts.specs.Inclusive.{InclusiveRow, SameStacks, calls_in, inclusive_cost, inclusive_costs, inclusive_rows, no_costs, own_in, stacks_in, with_inclusive};
+ghost use Rattle.report_texts.specs.KeyReports.{rank_cmp, enough, report_of, IsShortest};
+ghost use Rattle.report_texts.specs.Ranking.{ranked};
+ghost use Rattle.report_texts.specs.declared.call_sides.CallSide.{CallSide};
+ghost use Rattle.report_texts.specs.declared.cuts.Cut.{Cut};
 
 /// What a report shows and what is left come to the total, and the total is that of the rows that
 /// were added, whatever the key.

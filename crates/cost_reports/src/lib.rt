@@ -2,52 +2,46 @@
 //! in: nothing here knows where they are kept.
 #![tactic(auto)]
 
-// The callers of a function, or those that it calls (specs/Calls.antt).
+// The callers of a function, or those that it calls (report_texts/specs/Calls.antt).
 mod call_reports;
-// The two sides of calls.
-mod call_sides;
-// The text of calls (specs/Calls.antt).
+// The text of calls (report_texts/specs/Calls.antt).
 mod call_texts;
-// How much of a report is shown.
-mod cuts;
-// The text of a difference (specs/Differences.antt).
+// The text of a difference (report_texts/specs/Differences.antt).
 mod difference_texts;
-// The rows of some runs less those of others (specs/Differences.antt).
+// The rows of some runs less those of others (report_texts/specs/Differences.antt).
 mod differences;
-// The functions of a stack (specs/Inclusive.antt).
+// The functions of a stack (report_texts/specs/Inclusive.antt).
 mod frames;
-// The text of inclusive costs (specs/Inclusive.antt).
+// The text of inclusive costs (report_texts/specs/Inclusive.antt).
 mod inclusive_texts;
-// What functions cost with all that they call (specs/Inclusive.antt).
+// What functions cost with all that they call (report_texts/specs/Inclusive.antt).
 mod inclusives;
-// A report by key (specs/KeyReports.antt).
+// A report by key (report_texts/specs/KeyReports.antt).
 mod key_reports;
-// The text of a report by key (specs/KeyTexts.antt).
+// The text of a report by key (report_texts/specs/KeyTexts.antt).
 mod key_texts;
 // Laws: what reports come to, from the rows of runs to the records of their files.
 mod laws;
 // What is printed of a number.
 mod numbers;
-// Two sums side by side, by place (specs/Pairs.antt).
+// Two sums side by side, by place (report_texts/specs/Pairs.antt).
 mod pair_sums;
-// Two numbers that are added up side by side (specs/Pairs.antt).
+// Two numbers that are added up side by side (report_texts/specs/Pairs.antt).
 mod pairs;
-// A part of a total in percent (specs/Percents.antt).
+// A part of a total in percent (report_texts/specs/Percents.antt).
 mod percents;
-// Places by names, lent and held (specs/Functions.antt).
+// Places by names, lent and held (specs/Places.antt).
 mod places;
-// Rows in the order of a report (specs/Ranking.antt).
+// Rows in the order of a report (report_texts/specs/Ranking.antt).
 mod ranks;
 // The rows of reports, their names borrowed (specs/Rows.antt).
 mod rows;
-// Whole numbers with a sign (specs/Differences.antt).
+// Whole numbers with a sign (report_texts/specs/Differences.antt).
 mod signed;
-// The sums of a run's events beside the totals that its file states (specs/Verifying.antt).
+// The sums of a run's events beside the totals that its file states (report_texts/specs/Verifying.antt).
 mod verifying;
 
 pub use call_reports::{CallReport, CallSums, calls};
-pub use call_sides::CallSide;
-pub use cuts::Cut;
 pub use differences::{Difference, subtract};
 pub use frames::is_frame;
 pub use inclusives::{InclusiveReport, InclusiveSums, inclusive};
@@ -59,4 +53,5 @@ pub use laws::{
     inclusive_costs_are_those_of_each_function, inclusive_costs_come_to_the_records,
     shown_and_rest_are_the_total, the_fewest_rows_are_shown,
 };
+pub use report_texts::{CallSide, Cut};
 pub use verifying::{Verification, verify};

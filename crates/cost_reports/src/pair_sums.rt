@@ -1,11 +1,13 @@
 // Pairs of numbers, added up by place.
 ghost use Rattle.std.specs.Prelude.{◌≡◌, ◌+◌, ◌<◌, ◌^◌, [], OnOk, OnErr, length};
 ghost use Rattle.std.specs.BTreeMap.{IsUnchanged};
-ghost use Rattle.cost_reports.specs.Pairs.{pairs_with, pairs_added, pair_total, firsts_of, seconds_of, held_place, held_pairs, AreBelow};
+ghost use Rattle.report_texts.specs.Pairs.{pairs_with, pairs_added, pair_total, firsts_of, seconds_of, AreBelow};
+ghost use Rattle.cost_reports.specs.Places.{held_place, held_pairs};
 ghost use Rattle.cost_reports.specs.Rows.{lent_place};
 
-use crate::pairs::Pair;
+use crate::pairs::plus;
 use crate::places::{HeldPlace, LentPlace};
+use report_texts::Pair;
 use std::alloc::{AllocError, Global};
 use std::collections::BTreeMap;
 use std::collections::btree_map::Iter;
@@ -25,7 +27,7 @@ fn merge_pair(
     ensures err { OnErr result (IsUnchanged sums.old sums.new) }
 {
     match sums.get_mut(place) {
-        Some(sum) => *sum = sum.plus(pair),
+        Some(sum) => *sum = plus(*sum, pair),
         None => {
             let place = place.copy(alloc)?;
             sums.insert(place, pair)?;
@@ -49,8 +51,8 @@ pub(crate) struct PairSums {
 impl Model for PairSums {
     ghost use Rattle.std.specs.Prelude.{List};
     ghost use Rattle.cost_rows.specs.Sums.{Spot};
-    ghost use Rattle.cost_reports.specs.Pairs.{held_pairs};
-    ghost use Rattle.cost_reports.specs.declared.pairs.Pair.{Pair};
+    ghost use Rattle.report_texts.specs.declared.pairs.Pair.{Pair};
+    ghost use Rattle.cost_reports.specs.Places.{held_pairs};
 
     ghost Value = { List (Spot × Pair) };
 
@@ -97,7 +99,7 @@ impl PairSums {
     {
         self.recent.set(place)?;
         merge_pair(self.alloc, &mut self.sums, &self.recent, pair)?;
-        self.total = self.total.plus(pair);
+        self.total = plus(self.total, pair);
         Ok(())
     }
 

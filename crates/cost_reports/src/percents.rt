@@ -1,6 +1,6 @@
 // Parts of a total in percent.
 ghost use Rattle.std.specs.Prelude.{◌≡◌, ◌++◌, ◌<◌, ◌^◌, OnOk};
-ghost use Rattle.cost_reports.specs.Percents.{hundredths, percent};
+ghost use Rattle.report_texts.specs.Percents.{hundredths, percent};
 
 use crate::numbers::push_number;
 use std::alloc::AllocError;

@@ -2,8 +2,8 @@
 ghost use Rattle.std.specs.Prelude.{◌≡◌, OnOk, IfOk};
 ghost use Rattle.cost_rows.specs.Keys.{place_of_row};
 ghost use Rattle.cost_rows.specs.Plain.{plain_cell};
-ghost use Rattle.cost_reports.specs.Functions.{function_spot};
-ghost use Rattle.cost_reports.specs.Pairs.{held_place, no_place};
+ghost use Rattle.report_texts.specs.Functions.{function_spot};
+ghost use Rattle.cost_reports.specs.Places.{held_place, no_place};
 ghost use Rattle.cost_reports.specs.Rows.{lent_place};
 
 use cost_rows::CellRow;

@@ -1,15 +1,15 @@
 // Merged rows in the order of a report, cut.
 ghost use Rattle.std.specs.Prelude.{◌≡◌, ◌*◌, ◌≤◌, ◌<◌, ◌^◌, IfOk, take};
 ghost use Rattle.cost_rows.specs.KeySums.{total_of};
-ghost use Rattle.cost_reports.specs.KeyReports.{rank_cmp, reaching, limited, shown};
-ghost use Rattle.cost_reports.specs.Ranking.{ranked};
+ghost use Rattle.report_texts.specs.KeyReports.{rank_cmp, reaching, limited, shown};
+ghost use Rattle.report_texts.specs.Ranking.{ranked};
 ghost use Rattle.cost_rows.specs.Plain.{plain_cell};
 ghost use Rattle.cost_reports.specs.Rows.{plain_row, plain_rows, sum_of_row};
 
-use crate::cuts::Cut;
 use crate::places::place_of_row;
 use crate::rows::Row;
 use cost_rows::{CellRow, Merged};
+use report_texts::Cut;
 use std::alloc::{AllocError, Global};
 use std::cmp::Reverse;
 

@@ -1,16 +1,10 @@
 // Whole numbers with a sign.
 ghost use Rattle.std.specs.Prelude.{◌≡◌, ◌++◌, OnOk};
-ghost use Rattle.cost_reports.specs.Differences.{less, signed_text};
+ghost use Rattle.report_texts.specs.Differences.{less, signed_text};
 
 use crate::numbers::push_number;
+use report_texts::Signed;
 use std::alloc::AllocError;
-
-/// A whole number by its size, and whether it is below 0.
-#[derive(Clone, Copy, PartialEq, Eq)]
-pub(crate) struct Signed {
-    pub(crate) size: u128,
-    pub(crate) below: bool,
-}
 
 /// One number less another.
 pub(crate) fn less(first: u128, second: u128) -> Signed

@@ -1,11 +1,12 @@
 // The sums of a run's events beside the totals that its file states.
 ghost use Rattle.std.specs.Prelude.{◌≡◌, ◌++◌, OnOk, IfOk, map};
-ghost use Rattle.cost_reports.specs.Verifying.{stated_in, checks_from, verified, verdict, event_text, sum_text, check_line, check_lines, verify_text, plain_check};
+ghost use Rattle.report_texts.specs.Verifying.{stated_in, checks_from, verified, verdict, event_text, sum_text, check_line, check_lines, verify_text};
+ghost use Rattle.cost_reports.specs.Rows.{plain_check};
 
 use crate::numbers::push_number;
+use byte_io::push_escaped;
 use cg_formulas::FileHead;
 use cg_text::ListVec;
-use printed_names::push_escaped;
 use std::alloc::{AllocError, Global};
 use std::marker::Model;
 
@@ -26,7 +27,8 @@ pub struct Verification<'a> {
 
 impl<'a> Model for Verification<'a> {
     ghost use Rattle.std.specs.Prelude.{map};
-    ghost use Rattle.cost_reports.specs.Verifying.{Verified, plain_check};
+    ghost use Rattle.report_texts.specs.Verifying.{Verified};
+    ghost use Rattle.cost_reports.specs.Rows.{plain_check};
 
     ghost Value = { Verified };
 

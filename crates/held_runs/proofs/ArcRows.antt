@@ -1,18 +1,17 @@
 -- Rows of calls and their lines, with names in place.
-use Rattle.std.proofs.Common.{◌≡◌, ◌≤◌, ℕ, suc, ◌+◌, ◌<◌, nat_lt, if◌then◌else◌, Bool, true, false, List, [], ◌∷◌, ◌++◌, map, fold, length, Some, None, refl, sym, ap, ap₂, subst, ◌∙◌, append-nil, append_assoc, add-zero, arith}
+use Rattle.std.proofs.Common.{◌≡◌, ◌≤◌, ℕ, suc, ◌+◌, ◌<◌, nat_lt, if◌then◌else◌, Bool, true, false, List, [], ◌∷◌, ◌++◌, map, length, Some, None, refl, sym, ap, ap₂, subst, ◌∙◌, append-nil, append_assoc, add-zero, arith}
 use Rattle.std.specs.Borrow.{Bor}
 use Rattle.std.specs.List.{AllByRecursion}
 use Rattle.std.proofs.lemmas.Bool.Decides.{nat_tests}
 use Rattle.std.proofs.lemmas.Grind.{flat_map-append, fold-append}
 use Rattle.std.proofs.lemmas.List.{map-append}
 use Rattle.cost_rows.specs.declared.rows.ArcRow.{ArcRow}
-use Rattle.prof_tables.specs.RunLines.{arcs_in}
-use Rattle.prof_tables.specs.Tables.{Tables, NameLine, ArcLine as Arc}
+use Rattle.plain_tables.specs.Tables.{NameLine, ArcLine as Arc}
 use Rattle.prof_books.specs.Book.{part_held, part_of, parts_from, parts_of, ArcIsNamed}
-use Rattle.held_runs.specs.HandedCalls.{AreCallsOf}
-use Rattle.held_runs.specs.HeldArcs.{CallsCameTo, HasTakenCalls, lines_from, part_line, plain_given, row_of}
-use Rattle.store_columns.specs.declared.lines.ArcLine.{ArcLine}
-use Rattle.store_columns.specs.Lines.{arc_line}
+use Rattle.run_stores.specs.Walks.{CallsCameTo, plain_given}
+use Rattle.held_runs.specs.HeldArcs.{HasTakenCalls, lines_from, part_line, row_of}
+use Rattle.store_schema.specs.declared.lines.ArcLine.{ArcLine}
+use Rattle.store_schema.specs.Lines.{arc_line}
 use Rattle.held_runs.proofs.LineLists.{all_append}
 
 -- ---- costs and the lines of their parts
@@ -69,9 +68,6 @@ module _ (names : List NameLine) (first : Arc) where
       go false more = more
 
 -- ---- lines that are taken
-
-abbrev Rows : Type 0
-Rows = List (ArcRow (List ℕ) (List ℕ))
 
 module _ {M : Type 0} (names : List NameLine) (events : ℕ) (step : M → ArcRow (List ℕ) (List ℕ) → M) (start : M) where
   pub no_line : HasTakenCalls names events step start start None [] []
@@ -130,7 +126,3 @@ module _ {M : Type 0} (names : List NameLine) (events : ℕ) (step : M → ArcRo
   -- none waits: all rows were handed on
   pub all_handed : (came : M) (costs : List ℕ) (lines : List Arc) → HasTakenCalls names events step start came None costs lines → CallsCameTo names events step start came lines
   all_handed came costs lines was = subst (CallsCameTo names events step start came) (sym (was.lines_are ∙ ap (λ l. was.handed ++ l) was.are_waiting.1 ∙ append-nil was.handed)) was.came_to
-
-  -- in the words of the book
-  pub calls_come : (run : ℕ) (t : Tables) (came : M) → CallsCameTo names events step start came (arcs_in run t) → names ≡ t.names → (rows : Rows) × AreCallsOf run t rows × (came ≡ fold step start rows)
-  calls_come run t came was same = (was.rows, ap (λ (n : List NameLine). map (part_held n) (arcs_in run t)) (sym same) ∙ was.parts_are, was.comes)

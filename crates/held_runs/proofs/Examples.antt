@@ -1,8 +1,10 @@
 -- The definitions of what is asked of runs, on three runs and two groups.
 use Rattle.std.proofs.Common.{◌≡◌, ℕ, List, [], ◌∷◌, None, Some, codes, refl}
-use Rattle.prof_tables.specs.Tables.{Tables, RunLine, EventLine, GroupLine, MemberLine, new_tables, number}
-use Rattle.held_runs.specs.OwnSums.{events_of_run, own_shown, sums_from}
-use Rattle.held_runs.specs.RunNumbers.{numbers_in_tables, members_in_tables}
+use Rattle.plain_tables.specs.Tables.{Tables, RunLine, EventLine, GroupLine, MemberLine, new_tables}
+use Rattle.store_schema.specs.Tables.{number}
+use Rattle.run_stores.specs.OwnSums.{events_of_run}
+use Rattle.held_runs.specs.OwnSums.{own_shown, sum_rows}
+use Rattle.run_stores.specs.Lookups.{members_in_tables, numbers_in_tables}
 
 run : ℕ → RunLine
 run n = record { number = n; kind = 1; digest = n ∷ []; label = codes "x"; call_count = 0 }
@@ -46,7 +48,7 @@ events-of_three : events_of_run 3 three_runs ≡ event 3 0 5 50 ∷ event 3 1 0 
 unfolding three_runs event
 events-of_three = refl
 
-sums-by_place : sums_from 0 (5 ∷ 0 ∷ []) ≡ (number 0 ∷ number 5 ∷ []) ∷ (number 1 ∷ number 0 ∷ []) ∷ []
+sums-by_place : sum_rows (5 ∷ 0 ∷ []) ≡ (number 0 ∷ number 5 ∷ []) ∷ (number 1 ∷ number 0 ∷ []) ∷ []
 sums-by_place = refl
 
 own_shown-no_calls : own_shown (event 3 1 0 90) ≡ number 1 ∷ number 0 ∷ []

@@ -10,7 +10,8 @@ use Rattle.sqlite_keyed.proofs.ListLemmas.{map-map}
 use Rattle.sqlite_value.specs.Order.{Row}
 use Rattle.cg_formulas.specs.declared.heads.FileHead.{FileHead}
 use Rattle.held_runs.specs.HeadLines.{event_columns, derived_columns, coef_columns}
-use Rattle.held_runs.specs.HeldHeads.{States, PlacedName, placed, name_columns, EventSaid, events_from, said_columns, CoefSaid, coefs_at, coefs_from, times_columns, IsHeadOf, IsReadFrom, event_place, event_total, event_line_said, derived_place, coef_line_said}
+use Rattle.prof_books.specs.HeldHeads.{CoefSaid, EventSaid, PlacedName, coefs_at, coefs_from, events_from, placed}
+use Rattle.held_runs.specs.HeldHeads.{States, name_columns, said_columns, times_columns, IsHeadOf, IsReadFrom, event_place, event_total, event_line_said, derived_place, coef_line_said}
 use Rattle.held_runs.specs.declared.head_lines.HeadEvent.{HeadEvent}
 use Rattle.held_runs.specs.declared.head_lines.HeadDerived.{HeadDerived}
 use Rattle.held_runs.specs.declared.head_lines.HeadCoef.{HeadCoef}

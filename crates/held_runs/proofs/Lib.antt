@@ -7,7 +7,8 @@ pub mod LineWalks
 mod LookupFinds
 mod NameLists
 mod NumberLists
-pub mod OwnSumLists
+mod OwnSumLists
+mod PlainLines
 mod RunTexts
 pub mod RowSteps
 pub mod Said

@@ -6,10 +6,10 @@ use Rattle.sqlite_tied.proofs.RuleLemmas.{and_true}
 use Rattle.sqlite.specs.State.{State, QueriesRow}
 use Rattle.sql_tables.proofs.Queries.{shown_row}
 use Rattle.sql_tables.proofs.Selects.{selected_first}
-use Rattle.prof_tables.specs.Schema.{schema_two}
-use Rattle.prof_tables.specs.Tables.{number, number_or_null}
-use Rattle.prof_tables.specs.Texts.{kind_of_sql}
-use Rattle.prof_tables.proofs.Means.{kind_of_terms, kind_of_shown, kind_of_order, kind_of_means, kind_of_plain, kind_of_unlisted}
+use Rattle.store_schema.specs.Schema.{schema_two}
+use Rattle.store_schema.specs.Tables.{number, number_or_null}
+use Rattle.store_schema.specs.Texts.{kind_of_sql}
+use Rattle.store_schema.proofs.Means.{kind_of_terms, kind_of_shown, kind_of_order, kind_of_means, kind_of_plain, kind_of_unlisted}
 use Rattle.profile_records.specs.Kinds.{kind_number}
 use Rattle.profile_records.specs.declared.kinds.Kind.{Kind}
 use Rattle.held_runs.specs.Lookups.{IsKindAt, IsBaselineAt}

@@ -8,10 +8,10 @@ use Rattle.sqlite_trees.specs.Tree.{IsAscending}
 use Rattle.sqlite.specs.State.{State, Shown}
 use Rattle.sql_tables.proofs.Orders.{all_shown}
 use Rattle.sql_tables.proofs.Selects.{selected}
-use Rattle.prof_tables.specs.Schema.{schema_two}
-use Rattle.prof_tables.specs.Tables.{NameLine}
-use Rattle.prof_tables.specs.Texts.{names_sql}
-use Rattle.prof_tables.proofs.Means.{names_shown, names_order, names_means, names_plain, names_unlisted}
+use Rattle.store_schema.specs.Schema.{schema_two}
+use Rattle.plain_tables.specs.Tables.{NameLine}
+use Rattle.store_schema.specs.Texts.{names_sql}
+use Rattle.store_schema.proofs.Means.{names_shown, names_order, names_means, names_plain, names_unlisted}
 use Rattle.prof_books.specs.Book.{name_of, IsHeld}
 use Rattle.held_runs.specs.NameLines.{name_line, name_seen, name_shown, has_number}
 use Rattle.held_runs.specs.declared.held_names.HeldName.{HeldName}

@@ -4,7 +4,7 @@ use Rattle.std.specs.List.{AllByRecursion}
 use Rattle.sqlite_value.specs.declared.value.Value.TheVariants.{Text}
 use Rattle.sqlite_value.specs.Order.{Row}
 use Rattle.sqlite_value.specs.Keys.{plain}
-use Rattle.sqlite_trees.specs.Tree.{IsTable, IsAscending, rowid}
+use Rattle.sqlite_trees.specs.Tree.{IsTable, IsAscending}
 use Rattle.sqlite_schema.specs.Rules.{parent_key}
 use Rattle.sqlite_tied.proofs.RuleLemmas.{and_true}
 use Rattle.sqlite_tied.specs.Compute.{everything}
@@ -12,9 +12,9 @@ use Rattle.sqlite.specs.State.{State, Shown}
 use Rattle.sql_tables.proofs.Orders.{all_shown, answer_permutes}
 use Rattle.sql_tables.proofs.Rows.{passes, filter_same_on}
 use Rattle.sql_tables.proofs.Selects.{selected}
-use Rattle.prof_tables.specs.Schema.{schema_two, to}
-use Rattle.prof_tables.specs.Seen.{is_at, run_of_member_seen}
-use Rattle.prof_tables.proofs.Lists.{numbered_table}
+use Rattle.store_schema.specs.Schema.{schema_two, to}
+use Rattle.store_schema.specs.Seen.{is_at, run_of_member_seen}
+use Rattle.store_schema.proofs.Lists.{numbered_table}
 use Rattle.held_runs.specs.RunNumbers.{number_shown, numbers_in_rows, members_in_rows}
 use Rattle.held_runs.specs.RunTexts.{run_numbers_sql, members_of_sql}
 use Rattle.held_runs.proofs.RunTexts.{run_numbers_shown, run_numbers_order, run_numbers_means, run_numbers_plain, run_numbers_unlisted, members_of_terms, members_of_shown, members_of_order, members_of_means, members_of_plain, members_of_unlisted}

@@ -5,10 +5,9 @@ use Rattle.std.proofs.lemmas.Grind.{fold-append}
 use Rattle.std.proofs.lemmas.List.{map-append}
 use Rattle.cost_rows.specs.Plain.{plain_cell}
 use Rattle.cost_rows.specs.declared.rows.CellRow.{CellRow}
-use Rattle.prof_tables.specs.RunLines.{cells_in}
-use Rattle.prof_tables.specs.Tables.{Tables, NameLine, CellLine}
-use Rattle.prof_books.specs.Book.{cell_held, cells_held, CellIsNamed}
-use Rattle.held_runs.specs.HeldCells.{CellsCameTo}
+use Rattle.plain_tables.specs.Tables.{NameLine, CellLine}
+use Rattle.prof_books.specs.Book.{cell_held, CellIsNamed}
+use Rattle.run_stores.specs.Walks.{CellsCameTo}
 use Rattle.held_runs.proofs.LineLists.{all_append}
 
 -- one line more
@@ -27,7 +26,3 @@ module _ {M : Type 0} (names : List NameLine) (events : ℕ) (step : M → CellR
     of_events = all_append _ lines (line ∷ []) was.of_events (subst (λ (r : CellRow (List ℕ)). r.event < events) says counted, tt);
     comes = comes_more (cell_held names) step start came new lines line (plain_cell row) was.comes says steps;
   }
-
-  -- in the words of the book
-  pub cells_come : (run : ℕ) (t : Tables) (came : M) → CellsCameTo names events step start came (cells_in run t) → names ≡ t.names → came ≡ fold step start (cells_held run t)
-  cells_come run t came was same = was.comes ∙ ap (λ (n : List NameLine). fold step start (map (cell_held n) (cells_in run t))) same

@@ -10,7 +10,7 @@ use Rattle.sqlite.proofs.Callers.{IsPlain, command_of}
 use Rattle.sqlite_tied.specs.Compute.{everything}
 use Rattle.sql_tables.specs.Queries.{only, is, columns_at, by_rowid}
 use Rattle.sql_tables.proofs.Queries.{sorted_scan}
-use Rattle.prof_tables.specs.Schema.{schema_two, thread_cell_at, arc_at, stack_at}
+use Rattle.store_schema.specs.Schema.{schema_two, thread_cell_at, arc_at, stack_at}
 use Rattle.held_runs.specs.RunTexts.{run_numbers_sql, members_of_sql, own_sums_sql, baseline_of_sql, first_cell_sql, last_cell_sql, first_arc_sql, last_arc_sql, first_stack_sql, last_stack_sql}
 
 -- ---- the numbers of all runs

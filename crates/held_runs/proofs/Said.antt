@@ -1,10 +1,10 @@
 -- What is found in rows of runs tells of the lines as which they are read.
-use Rattle.std.proofs.Common.{◌≡◌, ℕ, suc, ◌≤◌, ◌<◌, ◌^◌, ◌==◌, ◌&&◌, ◌||◌, List, [], ◌∷◌, map, filter, Bool, true, false, cond, eqb, bytes_eq, Option, Some, None, option_map, string_bytes, refl, sym, ap, subst, subst₂, ◌∙◌, codes, arith, IsPermutation}
+use Rattle.std.proofs.Common.{◌≡◌, ℕ, ◌≤◌, ◌<◌, ◌^◌, ◌==◌, ◌&&◌, ◌||◌, List, [], ◌∷◌, map, filter, Bool, true, false, cond, eqb, bytes_eq, Option, Some, None, option_map, string_bytes, refl, sym, ap, subst, subst₂, ◌∙◌, codes, arith, IsPermutation}
 use Rattle.std.specs.List.{AllByRecursion, AllZip, list_any}
 use Rattle.std.specs.declared.cmp.Ordering.TheVariants.{Less}
 use Rattle.std.proofs.lemmas.Bool.{and_parts, and_from}
 use Rattle.std.proofs.lemmas.Bool.Decides.{nat_tests}
-use Rattle.std.proofs.lemmas.List.Sorted.{IsPermutation-map, IsPermutation-sym}
+use Rattle.std.proofs.lemmas.List.Sorted.{IsPermutation-sym}
 use Rattle.std.proofs.lemmas.Slice.Eq.{bytes_eq-Decides}
 use Rattle.sqlite_keyed.proofs.ListLemmas.{map-map}
 use Rattle.sqlite_value.specs.declared.value.Value.TheVariants.{Text, Blob}
@@ -26,27 +26,32 @@ use Rattle.sql_tables.proofs.Orders.{same_permuted}
 use Rattle.sql_tables.proofs.Queries.{has_kept, kept_has, has_permuted}
 use Rattle.profile_records.specs.Kinds.{kind_number}
 use Rattle.profile_records.specs.declared.kinds.Kind.{Kind}
-use Rattle.prof_tables.specs.Changes.{is_member, has_member}
-use Rattle.prof_tables.specs.Schema.{schema_two, to, run_at, run_event_at, derived_at, coef_at, name_at, grp_at, member_at}
-use Rattle.prof_tables.specs.Seen.{is_at, event_seen, derived_seen, coef_seen, event_shown, derived_shown, coef_shown, run_of_member_seen}
-use Rattle.prof_tables.specs.Tables.{Tables, RunLine, EventLine, DerivedLine, CoefLine, MemberLine, run_columns, event_columns, derived_columns, coef_columns, name_columns, group_columns, member_columns, number, number_or_null, text_or_null}
+use Rattle.plain_tables.specs.Changes.{is_member, has_member}
+use Rattle.store_schema.specs.Schema.{schema_two, to, run_at, run_event_at, derived_at, coef_at, name_at, grp_at, member_at}
+use Rattle.store_schema.specs.Seen.{is_at, event_seen, derived_seen, coef_seen, event_shown, derived_shown, coef_shown, run_of_member_seen}
+use Rattle.plain_tables.specs.Tables.{Tables, RunLine, EventLine, DerivedLine, CoefLine, MemberLine}
+use Rattle.store_schema.specs.Tables.{run_columns, event_columns, derived_columns, coef_columns, name_columns, group_columns, member_columns, number, number_or_null, text_or_null}
 use Rattle.prof_store.specs.Readings.{as_read, IsSaidBy, RowsSay}
 use Rattle.prof_store.proofs.Listing.{map_injective}
+use Rattle.prof_store.proofs.Members.{plain_has}
 use Rattle.prof_store.proofs.RunLines.{of_run}
 use Rattle.prof_store.proofs.Told.{said}
 use Rattle.prof_store.proofs.Readings.{runs_rise as rows_rise, names_rise, cells_shaped, arcs_shaped, stacks_shaped, Says, SaysBehind, values_read, number_read, equals_read, not_null, number_at, text_at, picked_said, seen_said, line_of_row, row_of_line, shown_read, permutes_read, runs_said, events_said, derived_said, coefs_said, names_said, groups_said, members_said}
 use Rattle.held_runs.specs.HeadLines as heads
 use Rattle.held_runs.specs.HeadLines.{events_in_tables, derived_in_tables, coefs_in_tables, events_in_rows, derived_in_rows, coefs_in_rows}
-use Rattle.held_runs.specs.Lookups.{IsKindOf, IsKindAt, IsBaselineOf, IsBaselineAt}
+use Rattle.run_stores.specs.Lookups.{IsBaselineOf, IsKindOf, members_in_tables, numbers_in_tables}
+use Rattle.held_runs.specs.Lookups.{IsKindAt, IsBaselineAt}
 use Rattle.held_runs.specs.NameLines.{name_seen, name_shown}
-use Rattle.held_runs.specs.OwnSums.{own_seen, own_shown, sums_from, events_of_run, AreOwnSums, AreOwnSumsAt}
-use Rattle.held_runs.specs.RunNumbers.{first_one, number_shown, numbers_in_tables, numbers_in_rows, members_in_tables, members_in_rows}
+use Rattle.run_stores.specs.OwnSums.{AreOwnSums, events_of_run, sums_from}
+use Rattle.held_runs.specs.OwnSums.{own_seen, own_shown, sum_columns, AreOwnSumsAt}
+use Rattle.held_runs.specs.RunNumbers.{first_one, number_shown, numbers_in_rows, members_in_rows}
 use Rattle.held_runs.specs.Walks.{IsReady, tree_of}
 use Rattle.held_runs.specs.declared.head_lines.HeadEvent.{HeadEvent}
 use Rattle.held_runs.specs.declared.head_lines.HeadDerived.{HeadDerived}
 use Rattle.held_runs.specs.declared.head_lines.HeadCoef.{HeadCoef}
 use Rattle.held_runs.specs.declared.walks.Listed.{Listed}
 use Rattle.held_runs.specs.declared.walks.Listed.TheVariants.{Cells, Arcs, Stacks}
+use Rattle.held_runs.proofs.PlainLines.{own_told}
 use Rattle.held_runs.proofs.NumberLists.{Rise, parent_is, risen, same_number}
 
 -- such tables can be walked
@@ -72,10 +77,6 @@ module _ (far : ℕ → ℕ) where
       go : (text : Option (List ℕ)) → values_read far (number e.place ∷ Blob e.name.items ∷ text_or_null text ∷ []) ≡ number e.place ∷ Blob e.name.items ∷ text_or_null text ∷ []
       go None = refl
       go (Some text) = refl
-
-  sums_plain : (place : ℕ) (sums : List ℕ) → map (values_read far) (sums_from place sums) ≡ sums_from place sums
-  sums_plain place [] = refl
-  sums_plain place (sum ∷ sums) = ap (λ l. (number place ∷ number sum ∷ []) ∷ l) (sums_plain (suc place) sums)
 
 -- numbers that are read as they are stand in the order of their rows
 picked_table : (far : ℕ → ℕ) → ((n : ℕ) → 2 ^ 64 ≤ far n) → (p : ℕ → Bool) → ((n : ℕ) → p n ≡ true → n < 2 ^ 64) → (rows : List Row) (xs : List RunLine) → AllZip (Says far run_at run_columns) rows xs → IsTable rows
@@ -110,14 +111,14 @@ module _ (t : Tables) (db : Trees) (was : IsSaidBy t db) where
       let it = line_of_row (Says was.far run_at run_columns) (db 1) t.runs (runs_said t db was) at.0 at.1 in
       let named : eqb it.0.number run ≡ true = sym (number_at was.far at.0 0 was.is_far it.0.number run low (ap (λ l. column l 0) it.2)) ∙ at.2 in
       let kinds : number it.0.kind ≡ number (kind_number kind) = sym (ap (λ l. column l 2) it.2) ∙ ap (as_read was.far) at.3 in
-      (it.0, it.1, grind (arith, nat_tests), cc)
+      (it.0, plain_has t.runs it.0 it.1, grind (arith, nat_tests), cc)
 
   pub baseline_told : (name : List ℕ) (baseline : Option ℕ) → IsBaselineAt name db baseline → IsBaselineOf name t baseline
   baseline_told name baseline at =
       let it = line_of_row (SaysBehind was.far grp_at group_columns) (db 19) t.groups (groups_said t db was) at.0 at.1 in
       let named : bytes_eq it.0.name name ≡ true = sym (text_at was.far at.0 1 it.0.name name (ap (λ l. column l 1) it.2.1)) ∙ at.2 in
       let based : number_or_null it.0.baseline ≡ as_read was.far (number_or_null baseline) = sym (ap (λ l. column l 2) it.2.1) ∙ ap (as_read was.far) at.3 in
-      (it.0, it.1, (bytes_eq-Decides it.0.name name).0 named, same_baseline was.far it.0.baseline baseline based)
+      (it.0, plain_has t.groups it.0 it.1, (bytes_eq-Decides it.0.name name).0 named, same_baseline was.far it.0.baseline baseline based)
 
   -- ---- heads and own sums
 
@@ -141,10 +142,10 @@ module _ (t : Tables) (db : Trees) (was : IsSaidBy t db) where
 
   pub sums_told : (run : ℕ) → run < 2 ^ 64 → (sums : List ℕ) → AreOwnSumsAt run db sums → AreOwnSums (events_of_run run t) sums
   sums_told run low sums found =
-      subst₂ IsPermutation
+      own_told (events_of_run run t) sums
+      (permutes_read was.far sum_columns (λ s. refl) (map own_seen (filter (is_at 1 (number run)) (db 3))) (map own_shown (events_of_run run t)) (sums_from 0 sums)
       (picked_said (SaysBehind was.far run_event_at event_columns) was.far (is_at 1 (number run)) (λ (e : EventLine). e.run == run) (of_run t db was (SaysBehind was.far run_event_at event_columns) (λ e. e.run) (λ r x is. ap (λ l. column l 1) is.1) run low) own_seen own_shown
-      (λ r x is picked. ap own_seen is.1) (db 3) t.events (events_said t db was))
-      (sums_plain was.far 0 sums) (IsPermutation-map (values_read was.far) _ (sums_from 0 sums) found)
+      (λ r x is picked. ap own_seen is.1) (db 3) t.events (events_said t db was)) found)
 
   -- ---- names
 

@@ -14,9 +14,9 @@ use Rattle.sql_tables.proofs.Selects.{selected, selected_first}
 use Rattle.sql_tables.proofs.Windows.{window_params, window_found}
 use Rattle.sql_tables.proofs.Ends.{none_there, ends_found}
 use Rattle.sql_tables.proofs.Walks.{lie_nowhere}
-use Rattle.prof_tables.specs.Schema.{schema_two, thread_cell_at, arc_at, stack_at}
-use Rattle.prof_tables.specs.WalkTexts.{cell_window_sql, cell_ends_sql, cells_of, arc_window_sql, arc_ends_sql, arcs_of, stack_window_sql, stack_ends_sql, stacks_of}
-use Rattle.prof_tables.proofs.WalkTexts.{cell_window_means, cell_window_plain, cell_window_unlisted, cell_ends_means, cell_ends_plain, cell_ends_unlisted, arc_window_means, arc_window_plain, arc_window_unlisted, arc_ends_means, arc_ends_plain, arc_ends_unlisted, stack_window_means, stack_window_plain, stack_window_unlisted, stack_ends_means, stack_ends_plain, stack_ends_unlisted}
+use Rattle.store_schema.specs.Schema.{schema_two, thread_cell_at, arc_at, stack_at}
+use Rattle.store_schema.specs.WalkTexts.{cell_window_sql, cell_ends_sql, cells_of, arc_window_sql, arc_ends_sql, arcs_of, stack_window_sql, stack_ends_sql, stacks_of}
+use Rattle.store_schema.proofs.WalkTexts.{cell_window_means, cell_window_plain, cell_window_unlisted, cell_ends_means, cell_ends_plain, cell_ends_unlisted, arc_window_means, arc_window_plain, arc_window_unlisted, arc_ends_means, arc_ends_plain, arc_ends_unlisted, stack_window_means, stack_window_plain, stack_window_unlisted, stack_ends_means, stack_ends_plain, stack_ends_unlisted}
 use Rattle.held_runs.specs.declared.walks.Listed.{Listed}
 use Rattle.held_runs.specs.declared.walks.Listed.TheVariants.{Cells, Arcs, Stacks}
 use Rattle.held_runs.specs.declared.walks.End.{End}

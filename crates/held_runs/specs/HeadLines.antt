@@ -3,8 +3,9 @@ use Rattle.std.specs.Prelude.{ℕ, ◌==◌, List, [], ◌∷◌, map, filter, o
 use Rattle.sqlite_value.specs.declared.value.Value.TheVariants.{Blob}
 use Rattle.sqlite_value.specs.Order.{Row, column}
 use Rattle.sqlite_trees.specs.Tree.{Trees}
-use Rattle.prof_tables.specs.Seen.{is_at, event_seen, derived_seen, coef_seen, event_shown, derived_shown, coef_shown}
-use Rattle.prof_tables.specs.Tables.{Tables, EventLine, DerivedLine, CoefLine, number, text_or_null}
+use Rattle.store_schema.specs.Seen.{is_at, event_seen, derived_seen, coef_seen, event_shown, derived_shown, coef_shown}
+use Rattle.plain_tables.specs.Tables.{Tables, EventLine, DerivedLine, CoefLine}
+use Rattle.store_schema.specs.Tables.{number, text_or_null}
 use Rattle.held_runs.specs.declared.head_lines.HeadEvent.{HeadEvent}
 use Rattle.held_runs.specs.declared.head_lines.HeadDerived.{HeadDerived}
 use Rattle.held_runs.specs.declared.head_lines.HeadCoef.{HeadCoef}

@@ -1,29 +1,15 @@
 -- The calls of a run, handed on row by row with names in place.
-use Rattle.std.specs.Prelude.{◌≡◌, ◌≤◌, ℕ, suc, nat_lt, if◌then◌else◌, List, [], ◌∷◌, ◌++◌, map, flat_map, fold, length, Option, Some, None}
-use Rattle.std.specs.Borrow.{Bor}
-use Rattle.std.specs.List.{AllByRecursion}
+use Rattle.std.specs.Prelude.{◌≡◌, ◌≤◌, ℕ, suc, nat_lt, if◌then◌else◌, List, [], ◌∷◌, ◌++◌, length, Option, Some, None}
 use Rattle.sqlite_value.specs.Order.{Row}
 use Rattle.cost_rows.specs.declared.rows.ArcRow.{ArcRow}
-use Rattle.prof_tables.specs.Tables.{NameLine, ArcLine as Arc, arc_columns}
-use Rattle.prof_books.specs.Book.{name_of, part_held, parts_of, ArcIsNamed}
-use Rattle.store_columns.specs.Lines.{arc_line}
-use Rattle.store_columns.specs.declared.lines.ArcLine.{ArcLine}
+use Rattle.plain_tables.specs.Tables.{NameLine, ArcLine as Arc}
+use Rattle.store_schema.specs.Tables.{arc_columns}
+use Rattle.prof_books.specs.Book.{name_of}
+use Rattle.run_stores.specs.Walks.{CallsCameTo}
+use Rattle.store_schema.specs.Lines.{arc_line}
+use Rattle.store_schema.specs.declared.lines.ArcLine.{ArcLine}
 use Rattle.held_runs.specs.declared.walks.Listed.TheVariants.{Arcs}
 use Rattle.held_runs.specs.Walks.{AreAllRead}
-
--- a row as it is lent
-abbrev pub plain_given : ArcRow (Bor (List ℕ)) (List ℕ) → ArcRow (List ℕ) (List ℕ)
-plain_given r = record {
-  object = r.object.now;
-  file = r.file.now;
-  function = r.function.now;
-  line = r.line;
-  called_object = r.called_object.now;
-  called_file = r.called_file.now;
-  called_function = r.called_function.now;
-  count = r.count;
-  costs = r.costs;
-}
 
 -- the row of the calls whose count this line has
 abbrev pub row_of : List NameLine → Arc → List ℕ → ArcRow (List ℕ) (List ℕ)
@@ -48,15 +34,7 @@ abbrev pub lines_from : Arc → ℕ → List ℕ → List Arc
 lines_from first part [] = []
 lines_from first part (cost ∷ costs) = if nat_lt 0 cost then part_line first part cost ∷ lines_from first (suc part) costs else lines_from first (suc part) costs
 
--- these are the lines of rows whose names are held, each with a cost for each event, and the rows came to this, one after another
-pub record CallsCameTo {M : Type 0} (names : List NameLine) (events : ℕ) (step : M → ArcRow (List ℕ) (List ℕ) → M) (start came : M) (lines : List Arc) : Type 0 where
-  pub rows : List (ArcRow (List ℕ) (List ℕ))
-  pub parts_are : map (part_held names) lines ≡ flat_map parts_of rows
-  pub named : AllByRecursion (ArcIsNamed names) lines
-  pub long : AllByRecursion (λ (r : ArcRow (List ℕ) (List ℕ)). length r.costs ≡ events) rows
-  pub comes : came ≡ fold step start rows
-
--- the same of the lines that rows of the table show of a run
+-- the lines that rows of the table show of a run, and what their rows came to
 abbrev pub CallsCameFrom : {M : Type 0} → List Row → ℕ → List NameLine → ℕ → (M → ArcRow (List ℕ) (List ℕ) → M) → M → M → Type 0
 CallsCameFrom rows run names events step start came = (lines : List Arc) × AreAllRead Arcs arc_columns run rows lines × CallsCameTo names events step start came lines
 

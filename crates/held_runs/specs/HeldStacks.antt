@@ -2,7 +2,8 @@
 use Rattle.std.specs.Prelude.{◌≡◌, ℕ, List, map, fold}
 use Rattle.sqlite_value.specs.Order.{Row}
 use Rattle.cost_rows.specs.declared.rows.StackRow.{StackRow}
-use Rattle.prof_tables.specs.Tables.{StackLine, stack_columns}
+use Rattle.plain_tables.specs.Tables.{StackLine}
+use Rattle.store_schema.specs.Tables.{stack_columns}
 use Rattle.prof_books.specs.Book.{stack_held}
 use Rattle.held_runs.specs.declared.walks.Listed.TheVariants.{Stacks}
 use Rattle.held_runs.specs.Walks.{AreAllRead}

@@ -1,4 +1,3 @@
-pub mod HandedCalls
 pub mod HeadLines
 pub mod HeldArcs
 pub mod HeldCells

@@ -3,7 +3,8 @@ use Rattle.std.specs.Prelude.{◌≡◌, ◌<◌, ℕ, Bool, ◌==◌, List, [],
 use Rattle.std.specs.List.{list_any}
 use Rattle.sqlite_value.specs.declared.value.Value.TheVariants.{Blob}
 use Rattle.sqlite_value.specs.Order.{Row, column}
-use Rattle.prof_tables.specs.Tables.{NameLine, number}
+use Rattle.plain_tables.specs.Tables.{NameLine}
+use Rattle.store_schema.specs.Tables.{number}
 use Rattle.held_runs.specs.declared.held_names.HeldName.{HeldName}
 
 abbrev pub name_line : HeldName → NameLine

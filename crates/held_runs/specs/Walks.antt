@@ -8,10 +8,10 @@ use Rattle.sqlite_trees.specs.declared.store.Shape.TheVariants as shape
 use Rattle.sqlite_rules.specs.Lists.{Has}
 use Rattle.sqlite.specs.State.{State}
 use Rattle.sql_tables.specs.Walks.{Asked, Lie, Reads, HasReadAll, in_page, in_window, is_above, is_within}
-use Rattle.prof_tables.specs.Schema.{schema_two, thread_cell_at, arc_at, stack_at}
-use Rattle.prof_tables.specs.WalkTexts.{cell_window_sql, cell_ends_sql, cells_of, arc_window_sql, arc_ends_sql, arcs_of, stack_window_sql, stack_ends_sql, stacks_of}
+use Rattle.store_schema.specs.Schema.{schema_two, thread_cell_at, arc_at, stack_at}
+use Rattle.store_schema.specs.WalkTexts.{cell_window_sql, cell_ends_sql, cells_of, arc_window_sql, arc_ends_sql, arcs_of, stack_window_sql, stack_ends_sql, stacks_of}
 use Rattle.prof_store.specs.declared.store.Store.{Store}
-use Rattle.store_columns.specs.declared.errors.StoreError.{StoreError}
+use Rattle.plain_tables.specs.declared.errors.StoreError.{StoreError}
 use Rattle.held_runs.specs.declared.walks.Listed.{Listed}
 use Rattle.held_runs.specs.declared.walks.Listed.TheVariants.{Cells, Arcs, Stacks}
 use Rattle.held_runs.specs.declared.walks.End.{End}

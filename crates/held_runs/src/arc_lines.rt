@@ -1,12 +1,12 @@
 // The arcs of a run, as they lie in the table.
 ghost use Rattle.std.specs.Prelude.{◌≡◌, IfOk};
 ghost use Rattle.sql_tables.specs.Walks.{read_from};
-ghost use Rattle.prof_tables.specs.Tables.{arc_columns};
-ghost use Rattle.prof_tables.specs.WalkTexts.{arcs_of};
-ghost use Rattle.store_columns.specs.Lines.{arc_line};
+ghost use Rattle.store_schema.specs.Tables.{arc_columns};
+ghost use Rattle.store_schema.specs.WalkTexts.{arcs_of};
+ghost use Rattle.store_schema.specs.Lines.{arc_line};
 
 use sqlite::Row;
-use store_columns::{ArcLine, OutOfForm, number_at, whole_at};
+use store_schema::{ArcLine, OutOfForm, number_at, whole_at};
 
 /// Reads a row of a page, behind its rowid.
 pub(crate) fn read_arc(run: u32, row: &Row) -> Result<ArcLine, OutOfForm>

@@ -1,13 +1,14 @@
 // The rows of a run's calls, made of their lines.
 ghost use Rattle.std.specs.Prelude.{◌≡◌, ◌≤◌, ◌++◌, ◌∷◌, [], IfOk, OnOk, IsTrue, length};
 ghost use Rattle.prof_books.specs.Book.{ArcIsNamed};
-ghost use Rattle.held_runs.specs.HeldArcs.{lines_from, part_line, plain_given, row_of};
-ghost use Rattle.store_columns.specs.Lines.{arc_line};
+ghost use Rattle.run_stores.specs.Walks.{plain_given};
+ghost use Rattle.held_runs.specs.HeldArcs.{lines_from, part_line, row_of};
+ghost use Rattle.store_schema.specs.Lines.{arc_line};
 
 use crate::held_names::HeldNames;
 use cg_text::ListVec;
 use cost_rows::ArcRow;
-use store_columns::{ArcLine, OutOfForm, StoreError};
+use store_schema::{ArcLine, OutOfForm, StoreError};
 
 /// Adds zeros, up to a length.
 fn fill(costs: &mut ListVec<u128>, len: usize) -> Result<(), StoreError>

@@ -1,12 +1,12 @@
 // The cells of a run, as they lie in the table.
 ghost use Rattle.std.specs.Prelude.{◌≡◌, IfOk};
 ghost use Rattle.sql_tables.specs.Walks.{read_from};
-ghost use Rattle.prof_tables.specs.Tables.{cell_columns};
-ghost use Rattle.prof_tables.specs.WalkTexts.{cells_of};
-ghost use Rattle.store_columns.specs.Lines.{cell_line};
+ghost use Rattle.store_schema.specs.Tables.{cell_columns};
+ghost use Rattle.store_schema.specs.WalkTexts.{cells_of};
+ghost use Rattle.store_schema.specs.Lines.{cell_line};
 
 use sqlite::Row;
-use store_columns::{CellLine, OutOfForm, number_at, whole_at};
+use store_schema::{CellLine, OutOfForm, number_at, whole_at};
 
 /// Reads a row of a page, behind its rowid.
 pub(crate) fn read_cell(run: u32, row: &Row) -> Result<CellLine, OutOfForm>

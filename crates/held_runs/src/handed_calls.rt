@@ -1,10 +1,11 @@
 // The calls of a run, handed on row by row, with names in place.
 ghost use Rattle.std.specs.Prelude.{◌≡◌, ◌≢◌, List, None, OnOk, IfOk, IfErr};
 ghost use Rattle.std.specs.Result.{is_ok};
-ghost use Rattle.prof_tables.specs.RunLines.{arcs_in};
-ghost use Rattle.prof_tables.specs.Tables.{ArcLine as Arc};
+ghost use Rattle.plain_tables.specs.RunLines.{arcs_in};
+ghost use Rattle.plain_tables.specs.Tables.{ArcLine as Arc};
 ghost use Rattle.prof_store.specs.Shown.{Told};
-ghost use Rattle.held_runs.specs.HeldArcs.{CallsCameTo, CallsCameFrom, HasTakenCalls};
+ghost use Rattle.run_stores.specs.Walks.{CallsCameTo};
+ghost use Rattle.held_runs.specs.HeldArcs.{CallsCameFrom, HasTakenCalls};
 ghost use Rattle.held_runs.specs.declared.walks.Listed.TheVariants.{Arcs};
 ghost use Rattle.held_runs.specs.Walks.{rows_of, AsksIfOpen, OfReady};
 
@@ -12,14 +13,14 @@ use crate::arc_lines::read_arc;
 use crate::call_rows::{add_part, arc_row, filled, is_part_of};
 use crate::held_names::HeldNames;
 use crate::lines::{TakesLines, each_line};
-use crate::takers::TakesCalls;
 use crate::walks::Listed;
 use cg_text::ListVec;
 use prof_store::Store;
+use run_stores::TakesCalls;
 use sqlite::{Alter, Row};
 use std::alloc::Global;
 use std::mem;
-use store_columns::{ArcLine, OutOfForm, StoreError};
+use store_schema::{ArcLine, OutOfForm, StoreError};
 
 /// Refuses a row of calls whose first line is not their count, part 0.
 fn check_first(line: &ArcLine) -> Result<(), OutOfForm>
@@ -67,8 +68,9 @@ impl<T: TakesCalls> CallLines<'_, T> {
 
 impl<T: TakesCalls> TakesLines for CallLines<'_, T> {
     ghost use Rattle.std.specs.Prelude.{◌≡◌, ℕ, List};
-    ghost use Rattle.prof_tables.specs.RunLines.{arcs_in};
-    ghost use Rattle.prof_tables.specs.Tables.{NameLine, ArcLine as Arc, arc_columns};
+    ghost use Rattle.plain_tables.specs.RunLines.{arcs_in};
+    ghost use Rattle.plain_tables.specs.Tables.{NameLine, ArcLine as Arc};
+    ghost use Rattle.store_schema.specs.Tables.{arc_columns};
     ghost use Rattle.prof_store.proofs.RunLines.{arcs_all};
     ghost use Rattle.held_runs.specs.HeldArcs.{HasTakenCalls};
     ghost use Rattle.held_runs.specs.declared.walks.Listed.TheVariants.{Arcs};

@@ -3,22 +3,23 @@ ghost use Rattle.std.specs.Prelude.{◌≡◌, ◌<◌, IfOk, OnOk};
 ghost use Rattle.std.specs.Result.{is_ok};
 ghost use Rattle.cost_rows.specs.Plain.{plain_cell};
 ghost use Rattle.prof_books.specs.Book.{cell_held, CellIsNamed};
-ghost use Rattle.prof_tables.specs.RunLines.{cells_in};
-ghost use Rattle.store_columns.specs.Lines.{cell_line};
+ghost use Rattle.plain_tables.specs.RunLines.{cells_in};
+ghost use Rattle.store_schema.specs.Lines.{cell_line};
 ghost use Rattle.prof_store.specs.Shown.{Told};
-ghost use Rattle.held_runs.specs.HeldCells.{CellsCameTo, CellsCameFrom};
+ghost use Rattle.run_stores.specs.Walks.{CellsCameTo};
+ghost use Rattle.held_runs.specs.HeldCells.{CellsCameFrom};
 ghost use Rattle.held_runs.specs.declared.walks.Listed.TheVariants.{Cells};
 ghost use Rattle.held_runs.specs.Walks.{rows_of, AsksIfOpen, OfReady};
 
 use crate::cell_lines::read_cell;
 use crate::held_names::HeldNames;
 use crate::lines::{TakesLines, each_line};
-use crate::takers::TakesCells;
 use crate::walks::Listed;
 use cost_rows::CellRow;
 use prof_store::Store;
+use run_stores::TakesCells;
 use sqlite::{Alter, Row};
-use store_columns::{CellLine, OutOfForm, StoreError};
+use store_schema::{CellLine, OutOfForm, StoreError};
 
 /// A cell with its names, which have to be held, of one of so many events.
 fn cell_row<'n>(
@@ -58,10 +59,11 @@ struct CellLines<'n, T> {
 
 impl<T: TakesCells> TakesLines for CellLines<'_, T> {
     ghost use Rattle.std.specs.Prelude.{◌≡◌, ℕ, List};
-    ghost use Rattle.prof_tables.specs.RunLines.{cells_in};
-    ghost use Rattle.prof_tables.specs.Tables.{NameLine, CellLine, cell_columns};
+    ghost use Rattle.plain_tables.specs.RunLines.{cells_in};
+    ghost use Rattle.plain_tables.specs.Tables.{NameLine, CellLine};
+    ghost use Rattle.store_schema.specs.Tables.{cell_columns};
     ghost use Rattle.prof_store.proofs.RunLines.{cells_all};
-    ghost use Rattle.held_runs.specs.HeldCells.{CellsCameTo};
+    ghost use Rattle.run_stores.specs.Walks.{CellsCameTo};
     ghost use Rattle.held_runs.specs.declared.walks.Listed.TheVariants.{Cells};
 
     ghost listed = { Cells };

@@ -3,7 +3,7 @@ ghost use Rattle.std.specs.Prelude.{◌≡◌, IfOk, fold};
 ghost use Rattle.std.specs.Result.{is_ok};
 ghost use Rattle.cost_rows.specs.Plain.{plain_stack};
 ghost use Rattle.prof_books.specs.Book.{stack_held, stacks_held};
-ghost use Rattle.store_columns.specs.Lines.{held_stack};
+ghost use Rattle.store_schema.specs.Lines.{held_stack};
 ghost use Rattle.prof_store.specs.Shown.{Told};
 ghost use Rattle.held_runs.specs.HeldStacks.{StacksCameFrom};
 ghost use Rattle.held_runs.specs.declared.walks.Listed.TheVariants.{Stacks};
@@ -11,12 +11,12 @@ ghost use Rattle.held_runs.specs.Walks.{rows_of, AsksIfOpen, OfReady};
 
 use crate::lines::{TakesLines, each_line};
 use crate::stack_lines::read_stack;
-use crate::takers::TakesStacks;
 use crate::walks::Listed;
 use cost_rows::StackRow;
 use prof_store::Store;
+use run_stores::TakesStacks;
 use sqlite::{Alter, Row};
-use store_columns::{HeldStack, StoreError};
+use store_schema::{HeldStack, StoreError};
 
 /// A stack that is held, as it is lent.
 fn lent_stack(line: &HeldStack) -> StackRow<&[u8]>
@@ -37,8 +37,9 @@ struct StackLines<T> {
 impl<T: TakesStacks> TakesLines for StackLines<T> {
     ghost use Rattle.std.specs.Prelude.{◌≡◌, fold, map};
     ghost use Rattle.prof_books.specs.Book.{stack_held};
-    ghost use Rattle.prof_tables.specs.RunLines.{stacks_in};
-    ghost use Rattle.prof_tables.specs.Tables.{StackLine, stack_columns};
+    ghost use Rattle.plain_tables.specs.RunLines.{stacks_in};
+    ghost use Rattle.plain_tables.specs.Tables.{StackLine};
+    ghost use Rattle.store_schema.specs.Tables.{stack_columns};
     ghost use Rattle.prof_store.proofs.RunLines.{stacks_all};
     ghost use Rattle.held_runs.specs.declared.walks.Listed.TheVariants.{Stacks};
 

@@ -1,15 +1,13 @@
 // The lines of a run that its head is made of.
 ghost use Rattle.std.specs.Prelude.{map, IsPermutation};
 ghost use Rattle.std.specs.Result.{is_ok};
-ghost use Rattle.held_runs.specs.HeadLines.{event_columns, derived_columns, coef_columns};
-ghost use Rattle.held_runs.specs.HeadLines.{events_in_tables, derived_in_tables, coefs_in_tables, events_in_rows, derived_in_rows, coefs_in_rows};
-ghost use Rattle.prof_store.specs.Shown.{Told, Found};
-ghost use Rattle.prof_store.specs.Shown.{Asks};
+ghost use Rattle.held_runs.specs.HeadLines.{event_columns, derived_columns, coef_columns, events_in_tables, derived_in_tables, coefs_in_tables, events_in_rows, derived_in_rows, coefs_in_rows};
+ghost use Rattle.prof_store.specs.Shown.{Told, Found, Asks};
 
 use prof_store::{Store, select};
 use sqlite::{Alter, Row, params};
 use std::alloc::Global;
-use store_columns::{FromRow, StoreError, bytes_at, number_at, read_rows, sum_at, text_or_null_at};
+use store_schema::{FromRow, StoreError, bytes_at, number_at, read_rows, sum_at, text_or_null_at};
 
 /// An event of a run: its place, its name, and the total that the file states, in decimal.
 #[derive(Drop)]

@@ -1,9 +1,9 @@
 // The head of a run that is held.
 ghost use Rattle.std.specs.Prelude.{IfOk};
 ghost use Rattle.std.specs.Result.{is_ok};
-ghost use Rattle.held_runs.specs.HeldHeads.{IsHeadIn, IsHeadAt, IsReadIn, IsReadAt};
-ghost use Rattle.prof_store.specs.Shown.{Told, Found};
-ghost use Rattle.prof_store.specs.Shown.{Asks};
+ghost use Rattle.prof_books.specs.HeldHeads.{IsHeadIn};
+ghost use Rattle.held_runs.specs.HeldHeads.{IsHeadAt, IsReadIn, IsReadAt};
+ghost use Rattle.prof_store.specs.Shown.{Told, Found, Asks};
 
 use crate::head_lines::{coefs_of, derived_of, events_of};
 use crate::heads_held::head_in;
@@ -11,7 +11,7 @@ use cg_formulas::FileHead;
 use prof_store::Store;
 use sqlite::Alter;
 use std::alloc::Global;
-use store_columns::StoreError;
+use store_schema::StoreError;
 
 /// The head of a run whose number is held, as its lines say it.
 fn said_head<S: Alter>(

@@ -1,13 +1,14 @@
 // The head of a run, from its lines.
 ghost use Rattle.std.specs.Prelude.{◌≡◌, ◌≤◌, ◌++◌, [], ◌∷◌, map, take, length, Some, None, IfOk};
 ghost use Rattle.std.specs.Fmt.{decimal};
-ghost use Rattle.held_runs.specs.HeldHeads.{placed, event_place, event_total, States, derived_place, coef_line_said, coefs_at, coefs_from, IsReadFrom};
+ghost use Rattle.prof_books.specs.HeldHeads.{coefs_at, coefs_from, placed};
+ghost use Rattle.held_runs.specs.HeldHeads.{event_place, event_total, States, derived_place, coef_line_said, IsReadFrom};
 
 use crate::head_lines::{HeadCoef, HeadDerived, HeadEvent};
 use cg_formulas::{FileHead, Flat};
 use cg_text::{ListVec, are_distinct};
 use std::alloc::Global;
-use store_columns::StoreError;
+use store_schema::StoreError;
 
 /// A copy of a name whose place is the next.
 fn name_at(alloc: Global, place: u32, next: usize, name: &[u8]) -> Result<ListVec<u8>, StoreError>

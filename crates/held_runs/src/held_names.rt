@@ -5,14 +5,13 @@ ghost use Rattle.sqlite_trees.specs.Tree.{IsAscending};
 ghost use Rattle.prof_books.specs.Book.{name_of, IsHeld};
 ghost use Rattle.held_runs.specs.HeadLines.{first_two};
 ghost use Rattle.held_runs.specs.NameLines.{name_line, name_seen, name_shown, has_number, IsNameAt};
-ghost use Rattle.prof_store.specs.Shown.{Told, Found};
-ghost use Rattle.prof_store.specs.Shown.{Asks};
+ghost use Rattle.prof_store.specs.Shown.{Told, Found, Asks};
 
 use prof_store::{Store, select};
 use sqlite::{Alter, Row};
 use std::alloc::Global;
 use std::marker::Model;
-use store_columns::{FromRow, OutOfForm, Rises, StoreError, bytes_at, number_at, read_rising};
+use store_schema::{FromRow, OutOfForm, Rises, StoreError, bytes_at, number_at, read_rising};
 
 /// A name and its number.
 #[derive(Drop)]
@@ -30,7 +29,7 @@ pub struct HeldNames {
 impl Model for HeldNames {
     ghost use Rattle.std.specs.Prelude.{List, map, ◌<◌};
     ghost use Rattle.sqlite_trees.specs.Tree.{IsAscending};
-    ghost use Rattle.prof_tables.specs.Tables.{NameLine};
+    ghost use Rattle.plain_tables.specs.Tables.{NameLine};
 
     ghost Value = { List NameLine };
 

@@ -8,7 +8,7 @@ mod arc_lines;
 mod call_rows;
 // The cells of a run, as they lie in the table (specs/NameLines.antt).
 mod cell_lines;
-// Hands on the calls of a run (specs/HandedCalls.antt, HeldArcs.antt).
+// Hands on the calls of a run (specs/HeldArcs.antt).
 mod handed_calls;
 // Hands on each cell of a run (specs/HeldCells.antt).
 mod handed_cells;
@@ -32,8 +32,6 @@ mod numbers;
 mod own_sums;
 // The stacks of a run, as they lie in the table (specs/NameLines.antt).
 mod stack_lines;
-// What takes the rows of runs.
-mod takers;
 // Walks over windows of rowids.
 mod walks;
 
@@ -45,4 +43,4 @@ pub use held_names::{HeldNames, names_of};
 pub use lookups::{baseline_of, kind_of};
 pub use numbers::{members_of, run_numbers};
 pub use own_sums::sums_of;
-pub use takers::{TakesCalls, TakesCells, TakesStacks};
+pub use run_stores::{TakesCalls, TakesCells, TakesStacks};

@@ -7,7 +7,7 @@ ghost use Rattle.held_runs.specs.Walks.{rows_of, IsReady, AreAllRead, AsksIfOpen
 use crate::walks::{Listed, Walk, has_row};
 use prof_store::Store;
 use sqlite::{Alter, Row};
-use store_columns::StoreError;
+use store_schema::StoreError;
 
 /// Takes the lines of runs in one of the tables whose rows are lines of runs, one at a time.
 pub(crate) trait TakesLines {
@@ -15,7 +15,7 @@ pub(crate) trait TakesLines {
     ghost use Rattle.sqlite_value.specs.Order.{Row};
     ghost use Rattle.sqlite_trees.specs.Tree.{Trees};
     ghost use Rattle.sql_tables.specs.Walks.{read_from};
-    ghost use Rattle.prof_tables.specs.Tables.{Tables};
+    ghost use Rattle.plain_tables.specs.Tables.{Tables};
     ghost use Rattle.prof_store.specs.Readings.{RowsSay};
     ghost use Rattle.held_runs.specs.declared.walks.Listed.{Listed};
     ghost use Rattle.held_runs.specs.Walks.{asked, tree_of, AreAllRead};

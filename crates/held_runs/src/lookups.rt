@@ -1,13 +1,13 @@
 // The kind of a run, and the baseline of a group.
 ghost use Rattle.std.specs.Prelude.{◌≡◌, [], IfOk};
 ghost use Rattle.std.specs.Result.{is_ok};
-ghost use Rattle.held_runs.specs.Lookups.{IsKindOf, IsKindAt, IsBaselineOf, IsBaselineAt};
-ghost use Rattle.prof_store.specs.Shown.{Told, Found};
-ghost use Rattle.prof_store.specs.Shown.{Asks};
+ghost use Rattle.run_stores.specs.Lookups.{IsBaselineOf, IsKindOf};
+ghost use Rattle.held_runs.specs.Lookups.{IsKindAt, IsBaselineAt};
+ghost use Rattle.prof_store.specs.Shown.{Told, Found, Asks};
 
 use prof_store::{Kind, Store, select_row};
 use sqlite::{Alter, params};
-use store_columns::{StoreError, kind_at, number_or_null_at};
+use store_schema::{StoreError, kind_at, number_or_null_at};
 
 /// The kind of a run. `Store` where no such run is held, or its kind is none.
 pub fn kind_of<S: Alter>(store: &mut Store<S>, run: u32) -> Result<Kind, StoreError>

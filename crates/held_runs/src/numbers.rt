@@ -3,15 +3,15 @@ ghost use Rattle.std.specs.Prelude.{◌≡◌, ◌<◌, ◌^◌, [], map, IfOk, 
 ghost use Rattle.std.specs.List.{AllByRecursion};
 ghost use Rattle.std.specs.Result.{is_ok};
 ghost use Rattle.sqlite_trees.specs.Tree.{IsAscending};
-ghost use Rattle.held_runs.specs.RunNumbers.{first_one, number_shown, numbers_in_tables, numbers_in_rows, members_in_tables, members_in_rows};
-ghost use Rattle.prof_store.specs.Shown.{Told, Found};
-ghost use Rattle.prof_store.specs.Shown.{Asks};
+ghost use Rattle.run_stores.specs.Lookups.{members_in_tables, numbers_in_tables};
+ghost use Rattle.held_runs.specs.RunNumbers.{first_one, number_shown, numbers_in_rows, members_in_rows};
+ghost use Rattle.prof_store.specs.Shown.{Told, Found, Asks};
 
 use cg_text::ListVec;
 use prof_store::{Store, select};
 use sqlite::{Alter, Row, params};
 use std::alloc::Global;
-use store_columns::{StoreError, read_rising};
+use store_schema::{StoreError, read_rising};
 
 /// Numbers of runs are below each that a negative number of a row is read as. It does nothing.
 fn are_near(numbers: &[u32])

@@ -2,19 +2,19 @@
 ghost use Rattle.std.specs.Prelude.{◌≡◌, [], map, IfOk};
 ghost use Rattle.std.specs.Result.{is_ok};
 ghost use Rattle.held_runs.specs.HeadLines.{first_two};
-ghost use Rattle.held_runs.specs.OwnSums.{sums_from, events_of_run, AreOwnSums, AreOwnSumsAt};
-ghost use Rattle.prof_store.specs.Shown.{Told, Found};
-ghost use Rattle.prof_store.specs.Shown.{Asks};
+ghost use Rattle.run_stores.specs.OwnSums.{AreOwnSums, events_of_run};
+ghost use Rattle.held_runs.specs.OwnSums.{AreOwnSumsAt, sum_rows};
+ghost use Rattle.prof_store.specs.Shown.{Told, Found, Asks};
 
 use cg_text::ListVec;
 use prof_store::{Store, select};
 use sqlite::{Alter, Row, params};
 use std::alloc::Global;
-use store_columns::{StoreError, number_at, sum_at};
+use store_schema::{StoreError, number_at, sum_at};
 
 /// The sums in rows whose places go up from 0 by one.
 fn sums_in(alloc: Global, rows: &[Row]) -> Result<ListVec<u128>, StoreError>
-    ensures read { IfOk result (λ sums. sums_from 0 sums ≡ map first_two rows.now) }
+    ensures read { IfOk result (λ sums. sum_rows sums ≡ map first_two rows.now) }
 {
     let mut sums = ListVec::new(alloc);
     'rows: for row in rows {

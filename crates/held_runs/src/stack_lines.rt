@@ -1,12 +1,12 @@
 // The stacks of a run, as they lie in the table.
 ghost use Rattle.std.specs.Prelude.{◌≡◌, IfOk};
 ghost use Rattle.sql_tables.specs.Walks.{read_from};
-ghost use Rattle.prof_tables.specs.Tables.{stack_columns};
-ghost use Rattle.prof_tables.specs.WalkTexts.{stacks_of};
-ghost use Rattle.store_columns.specs.Lines.{held_stack};
+ghost use Rattle.store_schema.specs.Tables.{stack_columns};
+ghost use Rattle.store_schema.specs.WalkTexts.{stacks_of};
+ghost use Rattle.store_schema.specs.Lines.{held_stack};
 
 use sqlite::Row;
-use store_columns::{HeldStack, StoreError, bytes_at, whole_at};
+use store_schema::{HeldStack, StoreError, bytes_at, whole_at};
 
 /// Reads a row of a page, behind its rowid.
 pub(crate) fn read_stack(run: u32, row: &Row) -> Result<HeldStack, StoreError>

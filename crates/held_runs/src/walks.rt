@@ -9,7 +9,7 @@ ghost use Rattle.held_runs.specs.Walks.{window_sql_of, ends_sql_of, end_sql_of, 
 
 use prof_store::{Store, select, select_first, select_row};
 use sqlite::{Alter, Row, params};
-use store_columns::{OutOfForm, StoreError, number_at, number_or_null_at};
+use store_schema::{OutOfForm, StoreError, number_at, number_or_null_at};
 
 /// A table whose rows are lines of runs.
 #[derive(Clone, Copy, Debug, PartialEq, Eq)]

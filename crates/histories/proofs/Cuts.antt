@@ -1,9 +1,9 @@
 -- Imports of the same bytes make the same of a history, however they were cut into reads.
 use Rattle.std.proofs.Common.{◌≡◌, ℕ, List, [], ◌∷◌, ◌++◌, filter, Option, Some, None, refl, sym, ap, subst, ◌∙◌}
 use Rattle.histories.specs.Formats.{Format}
-use Rattle.prof_tables.specs.Tables.{Tables, GroupLine}
+use Rattle.plain_tables.specs.Tables.{Tables, GroupLine}
 use Rattle.prof_books.specs.Book.{book_of}
-use Rattle.sources.specs.Outcomes.{Outcome, bytes_of}
+use Rattle.byte_io.specs.Outcomes.{Outcome, bytes_of}
 use Rattle.histories.specs.History.{Import, Turn, History, File, held, next, groups, is_member, baseline}
 use Rattle.histories.specs.Legal.{IsLegal, IsHistory}
 use Rattle.histories.specs.Stands.{AreBooksOf, TablesTell}

@@ -3,10 +3,10 @@ use Rattle.std.proofs.Common.{◌≡◌, ℕ, Bool, true, false, not, nat_lt, na
 use Rattle.std.specs.List.{list_any}
 use Rattle.sha2.specs.Sha256.{sha256}
 use Rattle.cg_text.specs.declared.faults.Fault as faults
-use Rattle.prof_tables.specs.Labels.{IsGroupName}
+use Rattle.plain_tables.specs.Labels.{IsGroupName}
 use Rattle.histories.specs.Formats.{Format}
 use Rattle.histories.specs.Files.{fault_of}
-use Rattle.sources.specs.Outcomes.{Outcome, bytes_of, is_failed, is_end}
+use Rattle.byte_io.specs.Outcomes.{Outcome, bytes_of, is_failed, is_end}
 use Rattle.histories.specs.History.{Said, Import, MakeGroup, Join, SetBaseline, History, held, next, groups}
 use Rattle.histories.specs.Legal.{IsLegal, IsInForm, expected_answer, file_due, first_or, when, faulty, number_of, has_run, has_group}
 use Rattle.histories.specs.Sums.{excess_of}

@@ -1,12 +1,12 @@
 -- The first sum that passes its bound, by the sums of tables and by the files that are held.
 use Rattle.std.proofs.Common.{◌≡◌, ℕ, suc, ◌+◌, ◌<◌, Bool, true, false, nat_lt, if◌then◌else◌, List, [], ◌∷◌, ◌++◌, map, length, slice_index, slice_index_or, Some, option_map, refl, sym, ap, ap₂, subst, ◌∙◌, arith}
-use Rattle.sqlite_trees.specs.Tree.{Trees}
 use Rattle.cost_rows.specs.Admit as admit
 use Rattle.cost_rows.specs.Admit.{bound, column_sums, sums_of, overflow_of}
 use Rattle.cost_rows.specs.Totals.{AreTotals}
 use Rattle.cost_rows.specs.declared.limits.Side.TheVariants as sides
 use Rattle.cost_rows.specs.declared.rows.FileTotals.{FileTotals}
-use Rattle.prof_tables.specs.Tables.{Tables, Holds}
+use Rattle.plain_tables.specs.Tables.{Tables}
+use Rattle.plain_tables.specs.Sound.{AreSound}
 use Rattle.prof_books.specs.Totals.{held_self, held_calls, IsHeldIn}
 use Rattle.profile_records.specs.declared.kinds.Kind.{Kind}
 use Rattle.histories.specs.Formats.{today}
@@ -94,21 +94,21 @@ none_first : (j : ℕ) → 0 + j ≡ j
 none_first j = omega arith
 
 -- what does not fit beside the sums of the tables is what does not fit beside the files that are held
-pub tells_excess : (h : History) (t : Tables) (db : Trees) (kind : Kind) (bytes : List ℕ) (held_totals file_totals : FileTotals) → Holds t db → TablesTell h t → IsHeldIn t (events_of (today kind) bytes) held_totals
+pub tells_excess : (h : History) (t : Tables) (kind : Kind) (bytes : List ℕ) (held_totals file_totals : FileTotals) → AreSound t → TablesTell h t → IsHeldIn t (events_of (today kind) bytes) held_totals
     → AreTotals file_totals (rows_of kind bytes) (length (events_of (today kind) bytes)) → excess_of (held h) (today kind) bytes ≡ option_map (excess_at (events_of (today kind) bytes)) (overflow_of held_totals file_totals)
-tells_excess h t db kind bytes held_totals file_totals was tell in_tables in_file =
+tells_excess h t kind bytes held_totals file_totals was tell in_tables in_file =
     let events : List (List ℕ) = events_of (today kind) bytes in
     let all = rows_come kind bytes in
     let own : AreSame events (column_sums sides.SelfCost 0 held_totals.self_cost file_totals.self_cost) (own_sums (held h) (own_column (today kind) bytes) 0 events) =
     subst (λ l. AreSame events (column_sums sides.SelfCost 0 l file_totals.self_cost) (own_sums (held h) (own_column (today kind) bytes) 0 events)) (sym in_tables.self_cost)
-    (own_same events (own_column (today kind) bytes) (held h) t (tells_self h t db was tell) 0 events file_totals.self_cost (record {
+    (own_same events (own_column (today kind) bytes) (held h) t (tells_self h t was tell) 0 events file_totals.self_cost (record {
       names = λ j low. ap (λ n. slice_index_or events n []) (none_first j);
       many = in_file.self_columns;
       are = λ j low. in_file.self_cost j low ∙ all.cells (λ _. true) j ∙ ap (own_column (today kind) bytes) (sym (none_first j));
     })) in
     let calls : AreSame events (column_sums sides.CallCost 0 held_totals.call_cost file_totals.call_cost) (call_sums (held h) (call_column (today kind) bytes) 0 events) =
     subst (λ l. AreSame events (column_sums sides.CallCost 0 l file_totals.call_cost) (call_sums (held h) (call_column (today kind) bytes) 0 events)) (sym in_tables.call_cost)
-    (call_same events (call_column (today kind) bytes) (held h) t (tells_calls h t db was tell) 0 events file_totals.call_cost (record {
+    (call_same events (call_column (today kind) bytes) (held h) t (tells_calls h t was tell) 0 events file_totals.call_cost (record {
       names = λ j low. ap (λ n. slice_index_or events n []) (none_first j);
       many = in_file.call_columns;
       are = λ j low. in_file.call_cost j low ∙ all.arcs (λ _ _. true) j ∙ ap (call_column (today kind) bytes) (sym (none_first j));

@@ -11,7 +11,7 @@ use Rattle.cg_text.specs.Subpositions.{subpos_of}
 use Rattle.folded_reader.specs.Lines.{reading_of as stack_of}
 use Rattle.profile_records.specs.declared.kinds.Kind.{Kind}
 use Rattle.profile_records.specs.declared.kinds.Kind.TheVariants.{Callgrind, Folded}
-use Rattle.sources.specs.Outcomes.{Outcome, Gave, Failed}
+use Rattle.byte_io.specs.Outcomes.{Outcome, Gave, Failed}
 use Rattle.histories.specs.Formats.{today}
 use Rattle.histories.specs.History.{Annotate, History, Import, Turn}
 use Rattle.histories.specs.Legal.{expected_answer, expected_of_query}

@@ -9,7 +9,7 @@ use Rattle.cg_text.specs.Distinct.{are_distinct}
 use Rattle.cost_rows.specs.Admit.{bound}
 use Rattle.cost_rows.proofs.NamingLemmas.{same_bytes}
 use Rattle.histories.specs.Formats.{Format}
-use Rattle.sources.specs.Outcomes.{bytes_of}
+use Rattle.byte_io.specs.Outcomes.{bytes_of}
 use Rattle.histories.specs.Files.{events_of}
 use Rattle.histories.specs.History.{Said, Import, History, File, held}
 use Rattle.histories.specs.Legal.{IsLegal, IsHistory}

@@ -5,8 +5,8 @@ use Rattle.std.specs.Str.{bytes_eq}
 use Rattle.std.proofs.lemmas.Bool.{eqb-true, and_parts, or_parts, or_cases, not-true}
 use Rattle.sha2.specs.Sha256.{sha256}
 use Rattle.cost_rows.proofs.NamingLemmas.{same_bytes}
-use Rattle.prof_tables.specs.Labels.{IsGroupName}
-use Rattle.sources.specs.Outcomes.{bytes_of}
+use Rattle.plain_tables.specs.Labels.{IsGroupName}
+use Rattle.byte_io.specs.Outcomes.{bytes_of}
 use Rattle.histories.specs.History.{Said, Import, Remove, MakeGroup, DropGroup, Join, SetBaseline, Turn, History, File, held, next, groups, removes, drops, joins, parts, is_member, based_by, unbases, baseline}
 use Rattle.histories.specs.Legal.{AreThere, IsLegal, IsHistory, number_of, has_run, has_group}
 use Rattle.histories.specs.declared.answers.Answer.{Answer}

@@ -15,13 +15,14 @@ pub mod Lists
 mod MarkExamples
 pub mod Marks
 pub mod Members
-pub mod Parents
 pub mod Put
 pub mod ReadsDue
 pub mod ReportExamples
 pub mod Rows
 pub mod Runs
 pub mod Selections
+pub mod Short
+pub mod Stated
 pub mod Steps
 pub mod Tells
 pub mod Tests

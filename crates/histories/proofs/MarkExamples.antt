@@ -11,7 +11,7 @@ use Rattle.cg_text.specs.Subpositions.{subpos_of}
 use Rattle.cg_text.specs.declared.faults.Fault.TheVariants.{BadNumber}
 use Rattle.callgrind_reader.specs.Grammars.{Grammar, First, Second}
 use Rattle.cost_rows.specs.Sums.{own_sum}
-use Rattle.sources.specs.Outcomes.{Gave}
+use Rattle.byte_io.specs.Outcomes.{Gave}
 use Rattle.histories.specs.Files.{records_of}
 use Rattle.histories.specs.Formats.{Callgrind}
 use Rattle.histories.specs.History.{Said, Import, Remove, Turn, History, File, held}

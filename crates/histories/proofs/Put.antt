@@ -2,15 +2,15 @@
 use Rattle.std.proofs.Common.{◌≡◌, ℕ, suc, true, List, [], ◌∷◌, ◌++◌, map, refl, sym, ap, ap₂, subst, ◌∙◌}
 use Rattle.std.specs.List.{list_any, AllByRecursion}
 use Rattle.sha2.specs.Sha256.{sha256}
-use Rattle.sqlite_trees.specs.Tree.{Trees}
 use Rattle.cg_formulas.specs.declared.heads.FileHead.{FileHead}
 use Rattle.cost_rows.specs.Content.{Content}
 use Rattle.cost_rows.specs.Held.{AreHeld}
 use Rattle.cost_rows.specs.Walks.{arc_rows}
 use Rattle.cost_rows.proofs.AboveLemmas.{cells-above, stacks-above}
 use Rattle.cost_rows.proofs.WalkSumsLemmas.{walked-cells, walked-costs, walked-counts, walked-calls, walked-stacks}
-use Rattle.prof_tables.specs.Tables.{Tables, Holds, GroupLine}
-use Rattle.prof_tables.specs.Changes as changes
+use Rattle.plain_tables.specs.Tables.{Tables, GroupLine}
+use Rattle.plain_tables.specs.Sound.{AreSound}
+use Rattle.plain_tables.specs.Changes as changes
 use Rattle.prof_books.specs.Book.{Book, book_of, with_run_book}
 use Rattle.prof_books.specs.Heads as heads
 use Rattle.prof_books.specs.Heads.{event_lines, derived_lines, coef_lines, derived_lines_from, coef_lines_from, stated_at}
@@ -23,7 +23,7 @@ use Rattle.prof_books.proofs.Filed.{head_of_run}
 use Rattle.prof_books.proofs.Parts.{counts_are, costs_are, calls_are}
 use Rattle.histories.specs.Formats.{kind_in, today}
 use Rattle.histories.specs.Files.{events_of, derived_of, stated_of, IsHeadOf, rows_of}
-use Rattle.sources.specs.Outcomes.{Outcome, bytes_of}
+use Rattle.byte_io.specs.Outcomes.{Outcome, bytes_of}
 use Rattle.histories.specs.History.{Import, History, File, held, baseline}
 use Rattle.histories.specs.Legal.{IsLegal}
 use Rattle.histories.specs.Stands.{IsBookOf, AreBooksOf, TablesTell, event_lines_from}
@@ -95,7 +95,7 @@ module _ (number : ℕ) (kind : Kind) (label bytes : List ℕ) (head : FileHead)
 
 -- ---- the tables
 
-module _ (limits : Limits) (h : History) (kind : Kind) (label : List ℕ) (outcomes : List Outcome) (head : FileHead) (c : Content) (t : Tables) (db next : Trees) where
+module _ (limits : Limits) (h : History) (kind : Kind) (label : List ℕ) (outcomes : List Outcome) (head : FileHead) (c : Content) (t : Tables) where
   abbrev digest : List ℕ
   digest = sha256 (bytes_of outcomes)
 
@@ -105,7 +105,7 @@ module _ (limits : Limits) (h : History) (kind : Kind) (label : List ℕ) (outco
   abbrev later : History
   later = h ++ record { said = Import (today kind) label outcomes; answer = Run t.next } ∷ []
 
-  pub tell_put : Holds t db → Holds (with_file t.next kind (sha256 (bytes_of outcomes)) label head c t) next → TablesTell h t → IsLegal limits h (Import (today kind) label outcomes) (Run t.next)
+  pub tell_put : AreSound t → AreSound (with_file t.next kind (sha256 (bytes_of outcomes)) label head c t) → TablesTell h t → IsLegal limits h (Import (today kind) label outcomes) (Run t.next)
       → IsHeadOf kind head (bytes_of outcomes) → c ≡ rows_of kind (bytes_of outcomes)
       → TablesTell (h ++ record { said = Import (today kind) label outcomes; answer = Run t.next } ∷ []) (with_file t.next kind (sha256 (bytes_of outcomes)) label head c t)
   tell_put was is tell legal has rows_are =
@@ -113,13 +113,13 @@ module _ (limits : Limits) (h : History) (kind : Kind) (label : List ℕ) (outco
       let lines = head_of_run t.next head c in
       let run = run_line_of t.next kind digest label c in
       let book : book_of after ≡ with_run_book (file_book t.next kind digest label head c) (book_of t) =
-      book_put run (event_lines t.next head c) (derived_lines t.next head) (coef_lines t.next head) c t db next was is tell.named names refl lines in
+      book_put run (event_lines t.next head c) (derived_lines t.next head) (coef_lines t.next head) c t was is tell.named names refl lines in
       let one : IsBookOf (record { number = t.next; format = today kind; label = label; bytes = bytes_of outcomes }) (file_book t.next kind digest label head c) =
       subst (λ rows. IsBookOf (record { number = t.next; format = today kind; label = label; bytes = bytes_of outcomes }) (file_book t.next kind digest label head rows)) (sym rows_are)
       (book_of_file t.next kind label (bytes_of outcomes) head has) in
       record {
         legal = history_more limits h (Import (today kind) label outcomes) (Run t.next) tell.legal legal;
-        named = named_put run (event_lines t.next head c) (derived_lines t.next head) (coef_lines t.next head) c t db next was is tell.named names refl lines;
+        named = named_put run (event_lines t.next head c) (derived_lines t.next head) (coef_lines t.next head) c t was is tell.named names refl lines;
         next = ap (λ (b : Book). b.next) book ∙ ap suc tell.next ∙ sym (next_run h (Import (today kind) label outcomes) t.next);
         runs =
             subst (λ (b : Book). AreBooksOf (held later) b.runs) (sym book)

@@ -2,7 +2,7 @@
 use Rattle.std.proofs.Common.{◌≡◌, ℕ, ◌<◌, ◌≤◌, Bool, true, false, if◌then◌else◌, List, length, Option, Some, None, ap, ap₂, ◌∙◌}
 use Rattle.std.specs.List.{list_any}
 use Rattle.std.proofs.lemmas.Bool.{lt-ltb, le-ltb}
-use Rattle.sources.specs.Outcomes.{Outcome, bytes_of, is_failed, is_end}
+use Rattle.byte_io.specs.Outcomes.{Outcome, bytes_of, is_failed, is_end}
 use Rattle.histories.specs.Legal.{once_read}
 use Rattle.histories.specs.declared.answers.Answer.{Answer}
 use Rattle.histories.specs.declared.answers.Answer.TheVariants.{Refused}

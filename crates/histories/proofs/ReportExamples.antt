@@ -9,14 +9,14 @@ use Rattle.cg_text.specs.Readings.{reading_of}
 use Rattle.cg_text.specs.Subpositions.{subpos_of}
 use Rattle.cg_formulas.specs.EventLines.{event_of, formula_of, term_of}
 use Rattle.folded_reader.specs.Lines.{reading_of as stack_of}
-use Rattle.cost_reports.specs.declared.call_sides.CallSide.{CallSide}
-use Rattle.cost_reports.specs.declared.call_sides.CallSide.TheVariants as sides
-use Rattle.cost_reports.specs.declared.cuts.Cut.{Cut}
+use Rattle.report_texts.specs.declared.call_sides.CallSide.{CallSide}
+use Rattle.report_texts.specs.declared.call_sides.CallSide.TheVariants as sides
+use Rattle.report_texts.specs.declared.cuts.Cut.{Cut}
 use Rattle.cost_rows.specs.declared.keys.Key.{Key}
 use Rattle.cost_rows.specs.declared.keys.Key.TheVariants as keys
 use Rattle.profile_records.specs.declared.kinds.Kind.{Kind}
 use Rattle.profile_records.specs.declared.kinds.Kind.TheVariants.{Callgrind, Folded}
-use Rattle.sources.specs.Outcomes.{Gave}
+use Rattle.byte_io.specs.Outcomes.{Gave}
 use Rattle.histories.specs.Formats.{today}
 use Rattle.histories.specs.History.{History, Import, Remove, MakeGroup, Join, SetBaseline, Turn}
 use Rattle.histories.specs.Legal.{expected_of_query}

@@ -2,10 +2,10 @@
 use Rattle.std.proofs.Common.{◌≡◌, ℕ, suc, true, ◌==◌, eqb, List, [], ◌∷◌, map, refl, sym, ap, subst, ◌∙◌, inl, inr}
 use Rattle.std.specs.List.{list_any, AllByRecursion}
 use Rattle.std.proofs.lemmas.Bool.{eqb-true, or_cases}
-use Rattle.sqlite_rules.specs.Lists.{Has}
+use Rattle.plain_tables.specs.Lists.{Has}
 use Rattle.cost_rows.specs.Sums.{call_sum, count_sum, has_call}
-use Rattle.prof_tables.specs.Tables.{Tables, RunLine, GroupLine}
-use Rattle.prof_tables.specs.Changes as changes
+use Rattle.plain_tables.specs.Tables.{Tables, RunLine, GroupLine}
+use Rattle.plain_tables.specs.Changes as changes
 use Rattle.prof_books.specs.Book.{run_held}
 use Rattle.prof_books.specs.Parts.{parts_sum, has_part}
 use Rattle.prof_books.proofs.Parts.{counts_are, costs_are, calls_are}

@@ -6,7 +6,7 @@ use Rattle.std.specs.List.Sorted.{IsStrictlySortedBy}
 use Rattle.std.specs.Ordering.{nat_cmp}
 use Rattle.std.specs.declared.cmp.Ordering.TheVariants.{Less}
 use Rattle.std.proofs.lemmas.Bool.{eqb-true, ne_eqb}
-use Rattle.prof_tables.specs.Tables.{Tables, RunLine}
+use Rattle.plain_tables.specs.Tables.{Tables, RunLine}
 use Rattle.prof_books.specs.Book.{run_held}
 use Rattle.histories.specs.History.{History, File, held, is_member, members}
 use Rattle.histories.specs.Legal.{IsHistory, has_run}

@@ -4,9 +4,9 @@ use Rattle.std.specs.List.{AllByRecursion}
 use Rattle.std.specs.Str.{bytes_eq}
 use Rattle.std.proofs.lemmas.Bool.{and_parts, eqb-true}
 use Rattle.cost_rows.proofs.NamingLemmas.{same_bytes}
-use Rattle.prof_tables.specs.Tables.{Tables, GroupLine, MemberLine, new_tables}
-use Rattle.prof_tables.specs.Changes as changes
-use Rattle.prof_tables.specs.Changes.{without_run, has_baseline, is_baseline, unbased, is_named, with_group, without_group, joined, with_member, without_member, rebased, with_baseline, has_member}
+use Rattle.plain_tables.specs.Tables.{Tables, GroupLine, MemberLine, new_tables}
+use Rattle.plain_tables.specs.Changes as changes
+use Rattle.plain_tables.specs.Changes.{without_run, has_baseline, is_baseline, unbased, is_named, with_group, without_group, joined, with_member, without_member, rebased, with_baseline, has_member}
 use Rattle.prof_books.specs.Book.{book_of, Book}
 use Rattle.prof_books.proofs.Books.{book_dropped, named_dropped, named_grouped, named_new}
 use Rattle.histories.specs.History.{Said, Remove, MakeGroup, DropGroup, Join, Leave, SetBaseline, History, with_turn, held, is_member, baseline}

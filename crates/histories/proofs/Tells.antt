@@ -5,10 +5,10 @@ use Rattle.std.specs.Option.{MatchOption}
 use Rattle.std.specs.Str.{bytes_eq}
 use Rattle.std.proofs.lemmas.List.{length-map}
 use Rattle.sha2.specs.Sha256.{sha256}
-use Rattle.sqlite_rules.specs.Lists.{Has}
+use Rattle.plain_tables.specs.Lists.{Has}
 use Rattle.cost_rows.proofs.NamingLemmas.{bytes-same}
-use Rattle.prof_tables.specs.Tables.{Tables, RunLine, GroupLine}
-use Rattle.prof_tables.specs.Changes as changes
+use Rattle.plain_tables.specs.Tables.{Tables, RunLine, GroupLine}
+use Rattle.plain_tables.specs.Changes as changes
 use Rattle.prof_books.specs.Book.{run_held}
 use Rattle.prof_books.specs.Entries.{held_run}
 use Rattle.histories.specs.History.{History, File, held, next, groups}

@@ -10,8 +10,8 @@ use Rattle.std.proofs.lemmas.List.Elements.{All-from_recursion, recursion_from_A
 use Rattle.std.proofs.lemmas.List.Sorted.{All-permutation, IsPermutation-map, list_any-IsPermutation}
 use Rattle.cost_rows.proofs.NamingLemmas.{same_bytes}
 use Rattle.sha2.specs.Sha256.{sha256}
-use Rattle.prof_tables.specs.Tables.{Tables, GroupLine, MemberLine}
-use Rattle.prof_tables.specs.Changes as changes
+use Rattle.plain_tables.specs.Tables.{Tables, GroupLine, MemberLine}
+use Rattle.plain_tables.specs.Changes as changes
 use Rattle.prof_books.specs.Entries.{HeldRun, held_run}
 use Rattle.profile_records.specs.Kinds.{kind_number}
 use Rattle.profile_records.specs.declared.kinds.Kind.{Kind}

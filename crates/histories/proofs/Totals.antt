@@ -5,8 +5,8 @@ use Rattle.std.specs.Str.{bytes_eq}
 use Rattle.std.proofs.lemmas.List.Sums.{sum_by-cons}
 use Rattle.std.proofs.lemmas.Bool.{eqb-true, ne_eqb}
 use Rattle.std.proofs.lemmas.Bool.Decides.{nat_tests}
-use Rattle.sqlite_trees.specs.Tree.{Trees}
-use Rattle.prof_tables.specs.Tables.{Tables, Holds, RunLine, EventLine}
+use Rattle.plain_tables.specs.Tables.{Tables, RunLine, EventLine}
+use Rattle.plain_tables.specs.Sound.{AreSound}
 use Rattle.prof_books.specs.Book.{run_held}
 use Rattle.prof_books.specs.Totals.{held_self, held_calls, held_count, lines_named}
 use Rattle.prof_books.specs.Heads.{stated_at}
@@ -15,7 +15,6 @@ use Rattle.histories.specs.History.{History, File, held}
 use Rattle.histories.specs.Stands.{AreBooksOf, TablesTell, event_lines_from}
 use Rattle.histories.specs.Sums.{own_column, call_column, calls_of, column_named, own_held, calls_cost_held, calls_held}
 use Rattle.histories.proofs.Invariants.{IsBefore, numbered}
-use Rattle.histories.proofs.Parents.{events_held}
 use Rattle.histories.proofs.Tests.{Pairs, all_on}
 
 -- ---- sums of parts
@@ -139,12 +138,12 @@ module _ (t : Tables) where
   counts_of (r ∷ runs) (f ∷ files) all =
       sum_by-cons (λ (r : RunLine). r.call_count) r runs ∙ ap₂ ◌+◌ all.0.call_count (counts_of runs files all.1) ∙ sym (sum_by-cons (λ (f : File). calls_of f.format f.bytes) f files)
 
-module _ (h : History) (t : Tables) (db : Trees) (was : Holds t db) (tell : TablesTell h t) where
+module _ (h : History) (t : Tables) (was : AreSound t) (tell : TablesTell h t) where
   sums : (m : EventLine → ℕ) (column : File → ℕ → ℕ) (name : List ℕ) → ((f : File) (place : ℕ) (event : List ℕ) → m (event_line f place event) ≡ column f place)
       → sum_by m (lines_named name t) ≡ sum_by (λ (f : File). column_named name (column f) 0 (events_of f.format f.bytes)) (held h)
   sums m column name is =
       sum_filter m (λ (e : EventLine). bytes_eq e.name name) t.events
-      ∙ per_run (λ (e : EventLine). part (bytes_eq e.name name) (m e)) t.runs t.events (earlier_of t t.runs (held h) tell.runs (numbered h tell.legal).rising) (events_held t db was)
+      ∙ per_run (λ (e : EventLine). part (bytes_eq e.name name) (m e)) t.runs t.events (earlier_of t t.runs (held h) tell.runs (numbered h tell.legal).rising) was.events
       ∙ sums_of t m column name t.runs (held h) is tell.runs
 
   pub tells_self : (name : List ℕ) → held_self t name ≡ own_held (held h) name

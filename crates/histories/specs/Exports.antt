@@ -1,8 +1,8 @@
 -- Annotated sources and exports over the files that a selection names.
 use Rattle.std.specs.Prelude.{ℕ, Bool, List, flat_map, map}
-use Rattle.cost_exports.specs.Annotations.{annotation_of_records, annotation_text, knows_file}
-use Rattle.cost_exports.specs.Csv.{NamedRecords, csv_of_records, csv_text}
-use Rattle.cost_exports.specs.Folded.{folded_of_stacks, folded_text}
+use Rattle.report_texts.specs.Annotations.{annotation_of_records, annotation_text, knows_file}
+use Rattle.report_texts.specs.Csv.{NamedRecords, csv_of_records, csv_text}
+use Rattle.report_texts.specs.Folded.{folded_of_stacks, folded_text}
 use Rattle.profile_records.specs.Stacks.{Seen}
 use Rattle.histories.specs.Files.{events_of, records_of, stacks_of}
 use Rattle.histories.specs.History.{File}

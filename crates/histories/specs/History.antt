@@ -2,7 +2,7 @@
 use Rattle.std.specs.Prelude.{ℕ, suc, Bool, true, false, not, ◌&&◌, ◌||◌, ◌==◌, bytes_eq, if◌then◌else◌, List, [], ◌∷◌, ◌++◌, map, filter, length, Option, Some, None}
 use Rattle.std.specs.List.{list_any}
 use Rattle.histories.specs.Formats.{Format}
-use Rattle.sources.specs.Outcomes.{Outcome, bytes_of}
+use Rattle.byte_io.specs.Outcomes.{Outcome, bytes_of}
 use Rattle.histories.specs.declared.answers.Answer.{Answer}
 use Rattle.histories.specs.declared.answers.Answer.TheVariants.{Run, Done}
 use Rattle.histories.specs.declared.answers.Query.{Query}

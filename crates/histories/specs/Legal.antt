@@ -3,13 +3,13 @@ use Rattle.std.specs.Prelude.{◌≡◌, ◌⊎◌, ℕ, ◌==◌, Bool, true, f
 use Rattle.std.specs.List.{list_any, AllByRecursion}
 use Rattle.std.specs.Str.{IsUtf8}
 use Rattle.sha2.specs.Sha256.{sha256}
-use Rattle.cost_reports.specs.Functions.{function_spot}
+use Rattle.report_texts.specs.Functions.{function_spot}
 use Rattle.cost_rows.specs.Sums.{Spot}
 use Rattle.cg_text.specs.declared.faults.Fault as faults
-use Rattle.prof_tables.specs.Labels.{IsLabel, IsGroupName}
+use Rattle.plain_tables.specs.Labels.{IsLabel, IsGroupName}
 use Rattle.histories.specs.Formats.{Format}
 use Rattle.histories.specs.Files.{fault_of}
-use Rattle.sources.specs.Outcomes.{Outcome, bytes_of, is_failed, is_end}
+use Rattle.byte_io.specs.Outcomes.{Outcome, bytes_of, is_failed, is_end}
 use Rattle.histories.specs.History.{Said, Import, Remove, MakeGroup, DropGroup, Join, Leave, SetBaseline, Ask, Annotate, History, File, held, next, groups, is_member, baseline}
 use Rattle.histories.specs.Sums.{excess_of}
 use Rattle.histories.specs.Exports.{annotated_text, csv_of_files, folded_of_files, knows_source}

@@ -8,6 +8,7 @@ pub mod Marks
 pub mod Reports
 pub mod SelectedRuns
 pub mod Selections
+pub mod Standard
 pub mod Stands
 pub mod Sums
 pub mod Texts

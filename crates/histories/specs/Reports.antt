@@ -8,16 +8,16 @@ use Rattle.cg_formulas.specs.Flats.{row_in}
 use Rattle.cost_rows.specs.declared.keys.Key.{Key}
 use Rattle.cost_rows.specs.KeySums.{total_of}
 use Rattle.cost_rows.specs.Sums.{Spot, spot_of, callee_spot}
-use Rattle.cost_reports.specs.Calls.{CallsOfFunction, all_calls, call_report_of, call_report_text, calls_by}
-use Rattle.cost_reports.specs.Costs.{EventRecords, all_costs, costs_by}
-use Rattle.cost_reports.specs.Differences.{DifferenceByKey, difference_of, difference_text}
-use Rattle.cost_reports.specs.Functions.{is_one_function}
-use Rattle.cost_reports.specs.Inclusive.{InclusiveCosts, inclusive_costs, inclusive_report, inclusive_text, is_frame}
-use Rattle.cost_reports.specs.KeyReports.{ReportByKey, report_of}
-use Rattle.cost_reports.specs.KeyTexts.{key_report_text}
-use Rattle.cost_reports.specs.Verifying.{verified, verify_text}
-use Rattle.cost_reports.specs.declared.call_sides.CallSide.{CallSide}
-use Rattle.cost_reports.specs.declared.cuts.Cut.{Cut}
+use Rattle.report_texts.specs.Calls.{CallsOfFunction, all_calls, call_report_of, call_report_text, calls_by}
+use Rattle.report_texts.specs.Costs.{EventRecords, all_costs, costs_by}
+use Rattle.report_texts.specs.Differences.{DifferenceByKey, difference_of, difference_text}
+use Rattle.report_texts.specs.Functions.{is_one_function}
+use Rattle.report_texts.specs.Inclusive.{InclusiveCosts, inclusive_costs, inclusive_report, inclusive_text, is_frame}
+use Rattle.report_texts.specs.KeyReports.{ReportByKey, report_of}
+use Rattle.report_texts.specs.KeyTexts.{key_report_text}
+use Rattle.report_texts.specs.Verifying.{verified, verify_text}
+use Rattle.report_texts.specs.declared.call_sides.CallSide.{CallSide}
+use Rattle.report_texts.specs.declared.cuts.Cut.{Cut}
 use Rattle.profile_records.specs.Records.{Record, Own, Called}
 use Rattle.profile_records.specs.Stacks.{Seen}
 use Rattle.histories.specs.Formats.{Format, Callgrind, Folded}

@@ -2,8 +2,8 @@
 use Rattle.std.specs.Prelude.{◌≡◌, ℕ, Bool, true, ◌==◌, List, [], ◌∷◌, map, filter}
 use Rattle.std.specs.List.Sorted.{IsStrictlySortedBy}
 use Rattle.std.specs.Ordering.{nat_cmp}
-use Rattle.prof_tables.specs.Changes.{has_member}
-use Rattle.prof_tables.specs.Tables.{Tables, RunLine}
+use Rattle.plain_tables.specs.Changes.{has_member}
+use Rattle.plain_tables.specs.Tables.{Tables, RunLine}
 use Rattle.prof_books.specs.Book.{run_held}
 use Rattle.histories.specs.History.{History, File, held, members}
 use Rattle.histories.specs.Legal.{has_run}

@@ -7,18 +7,19 @@ use Rattle.cost_rows.specs.Sums.{Spot, own_sum, call_sum, count_sum, has_call}
 use Rattle.cost_rows.specs.StackSums.{frames_sum}
 use Rattle.cost_rows.specs.WalkSums.{rows_cost, stacks_count}
 use Rattle.cost_rows.specs.Walks.{HaveCosts, HaveCounts}
-use Rattle.prof_tables.specs.Changes.{has_member}
-use Rattle.prof_tables.specs.Tables.{Tables, EventLine, GroupLine}
+use Rattle.plain_tables.specs.Changes.{has_member}
+use Rattle.plain_tables.specs.Tables.{Tables, EventLine, GroupLine}
 use Rattle.prof_books.specs.Book.{RunBook, book_of, IsNamed}
 use Rattle.prof_books.specs.Entries.{HeldRun}
 use Rattle.prof_books.specs.Heads.{stated_at, derived_lines_from, coef_lines_from}
-use Rattle.prof_books.specs.Runs.{CanBeHeld, with_file}
+use Rattle.plain_tables.specs.Sound.{AreSound}
+use Rattle.prof_books.specs.Runs.{with_file}
 use Rattle.profile_records.specs.Kinds.{kind_number}
 use Rattle.profile_records.specs.declared.kinds.Kind.{Kind}
 use Rattle.prof_books.specs.Parts.{parts_sum, has_part, AreOfRows}
 use Rattle.histories.specs.Formats.{kind_in, today}
 use Rattle.histories.specs.Files.{events_of, derived_of, stated_of, records_of, stacks_of, rows_of, IsHeadOf}
-use Rattle.sources.specs.Outcomes.{Outcome, bytes_of}
+use Rattle.byte_io.specs.Outcomes.{Outcome, bytes_of}
 use Rattle.histories.specs.History.{Said, Import, History, File, with_turn, held, next, groups, is_member, baseline}
 use Rattle.histories.specs.Legal.{IsHistory, IsLegal}
 use Rattle.histories.specs.Sums.{own_column, call_column, calls_of}
@@ -98,10 +99,10 @@ with_import kind label outcomes head t =
     let bytes = bytes_of outcomes in
     with_file t.next kind (sha256 bytes) label head (rows_of kind bytes) t
 
--- a database can hold them, as it did before, and the head is that of the file
+-- the lines are sound, as they were before, and the head is that of the file
 pub record IsPut (kind : Kind) (label : List ℕ) (outcomes : List Outcome) (head : FileHead) (t : Tables) : Type 0 where
-  pub was : CanBeHeld t
-  pub is : CanBeHeld (with_import kind label outcomes head t)
+  pub was : AreSound t
+  pub is : AreSound (with_import kind label outcomes head t)
   pub head_is : IsHeadOf kind head (bytes_of outcomes)
 
 -- a file that is put is the import of it

@@ -2,11 +2,10 @@
 use Rattle.std.specs.Prelude.{◌≡◌, ◌≢◌, ◌≤◌, ◌<◌, ℕ, Bool, ◌==◌, List, Option, length, map, filter, flat_map, option_map, bytes_eq, IsPermutation}
 use Rattle.std.specs.List.{AllAdjacentBelow}
 use Rattle.std.specs.Option.{MatchOption}
-use Rattle.sqlite_rules.specs.Lists.{Has}
+use Rattle.plain_tables.specs.Lists.{Has}
 use Rattle.cg_formulas.specs.declared.heads.FileHead.{FileHead}
 use Rattle.profile_records.specs.Records.{Record}
 use Rattle.cost_rows.specs.Admit.{bound, overflow_of}
-use Rattle.cost_rows.specs.Content.{empty}
 use Rattle.cost_rows.specs.StackSums.{frames_sum}
 use Rattle.cost_rows.specs.Sums.{Spot, own_sum, call_sum, count_sum, has_call}
 use Rattle.cost_rows.specs.Totals.{AreTotals}
@@ -14,17 +13,15 @@ use Rattle.cost_rows.specs.WalkSums.{rows_cost, calls_cost, calls_count, has_cal
 use Rattle.cost_rows.specs.Walks.{HaveCosts, HaveCounts}
 use Rattle.cost_rows.specs.declared.rows.ArcRow.{ArcRow}
 use Rattle.cost_rows.specs.declared.rows.FileTotals.{FileTotals}
-use Rattle.prof_tables.specs.Changes as changes
-use Rattle.prof_tables.specs.Seen.{event_shown, derived_shown, coef_shown}
-use Rattle.prof_tables.specs.Tables.{Tables, RunLine, EventLine, DerivedLine, CoefLine, GroupLine, MemberLine}
+use Rattle.plain_tables.specs.Changes as changes
+use Rattle.plain_tables.specs.Tables.{Tables, RunLine, EventLine, DerivedLine, CoefLine, GroupLine, MemberLine}
 use Rattle.prof_books.specs.Book.{cells_held, parts_held, parts_of, run_held, stacks_held}
 use Rattle.prof_books.specs.Entries.{held_run}
-use Rattle.prof_books.specs.Heads.{event_lines, derived_lines, coef_lines}
 use Rattle.prof_books.specs.Parts.{AreOfRows}
 use Rattle.prof_books.specs.Totals.{held_self, held_calls, IsHeldIn}
 use Rattle.profile_records.specs.declared.kinds.Kind.{Kind}
 use Rattle.histories.specs.Formats.{today}
-use Rattle.histories.specs.Files.{events_of, derived_of, records_of, rows_of, stacks_of}
+use Rattle.histories.specs.Files.{events_of, derived_of, records_of, rows_of, stacks_of, stated_of}
 use Rattle.histories.specs.History.{History, File, held, next, groups, is_member, members, baseline}
 use Rattle.histories.specs.Legal.{number_of, has_run, has_group}
 use Rattle.histories.specs.Stands.{IsBookOf, file_run}
@@ -89,17 +86,12 @@ pub record TellsRows (f : File) (t : Tables) : Type 0 where
 
 -- ---- the head of a run
 
--- a head over its own events, whose lines show what those of the run show, in whatever order
-pub record IsHeadOfRun (run : ℕ) (head : FileHead) (t : Tables) : Type 0 where
-  pub own : head.derived.events ≡ head.events
-  pub events : IsPermutation (map event_shown (filter (λ (e : EventLine). e.run == run) t.events)) (map event_shown (event_lines run head empty))
-  pub derived : IsPermutation (map derived_shown (filter (λ (d : DerivedLine). d.run == run) t.derived)) (map derived_shown (derived_lines run head))
-  pub coefs : IsPermutation (map coef_shown (filter (λ (c : CoefLine). c.run == run) t.coefs)) (map coef_shown (coef_lines run head))
-
--- it has the events of the file, and its derived events with their coefficients
+-- its events and its derived events are those of the file, with coefficients for just these events, and so are the totals that it states, where it has an event
 pub record TellsHead (f : File) (head : FileHead) : Type 0 where
   pub events : head.events ≡ events_of f.format f.bytes
+  pub wide : head.derived.events ≡ head.events
   pub derived : head.derived.derived ≡ derived_of f.format f.bytes
+  pub stated : 0 < length head.events → head.stated ≡ stated_of f.format f.bytes
 
 -- ---- one group
 

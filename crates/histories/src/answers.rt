@@ -1,7 +1,7 @@
 // What commands are answered.
 use cg_text::{Fault, ListVec};
-use cost_reports::{CallSide, Cut};
 use cost_rows::Key;
+use report_texts::{CallSide, Cut};
 
 /// A sum over all runs that would pass 2^63-1.
 #[derive(Drop)]

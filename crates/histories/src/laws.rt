@@ -2,25 +2,27 @@
 // the contract of a function that does nothing.
 ghost use Rattle.std.specs.Prelude.{◌≡◌, ℕ, ◌++◌, [], ◌∷◌, List, true};
 ghost use Rattle.std.specs.List.{AllByRecursion};
-ghost use Rattle.sqlite_rules.specs.Lists.{Has};
-ghost use Rattle.sqlite_trees.specs.Tree.{Trees};
+ghost use Rattle.plain_tables.specs.Lists.{Has};
+ghost use Rattle.plain_tables.specs.Sound.{AreSound};
 ghost use Rattle.callgrind_reader.specs.Grammars.{First, Second};
 ghost use Rattle.cg_formulas.specs.declared.heads.FileHead.{FileHead};
-ghost use Rattle.prof_tables.specs.Changes.{has_run, joined, with_baseline, with_group, without_group, without_member, without_run};
-ghost use Rattle.prof_tables.specs.Tables.{Tables, Holds, new_tables};
+ghost use Rattle.report_texts.specs.Verifying.{verified};
+ghost use Rattle.plain_tables.specs.Changes.{has_run, joined, with_baseline, with_group, without_group, without_member, without_run};
+ghost use Rattle.plain_tables.specs.Tables.{Tables, new_tables};
+ghost use Rattle.prof_books.specs.HeldHeads.{IsHeadIn};
 ghost use Rattle.prof_books.specs.Totals.{held_count};
 ghost use Rattle.profile_records.specs.declared.kinds.Kind.{Kind};
-ghost use Rattle.sources.specs.Outcomes.{Outcome};
+ghost use Rattle.byte_io.specs.Outcomes.{Outcome};
 ghost use Rattle.histories.specs.Entries.{GroupShown, ListsGroups, ListsRuns, RunShown};
 ghost use Rattle.histories.specs.Formats.{Format, Callgrind};
 ghost use Rattle.histories.specs.History.{Said, Import, Remove, MakeGroup, DropGroup, Join, Leave, SetBaseline, Turn, History, File, held};
 ghost use Rattle.histories.specs.Legal.{AreAlike, AreDueAlike, GaveSame, AreLegal, IsHistory, IsLegal, IsTidy};
-ghost use Rattle.histories.specs.Files.{records_of};
+ghost use Rattle.histories.specs.Files.{events_of, records_of, stated_of};
 ghost use Rattle.histories.specs.Marks.{AreBy, AreReadAlike, HasNoThread, HasNoThreadLine, IsMarked};
 ghost use Rattle.histories.specs.SelectedRuns.{AreSelected, TellsSelected};
 ghost use Rattle.histories.specs.Stands.{AreToldAlike, IsImport, TablesTell, TurnsInto};
 ghost use Rattle.histories.specs.Sums.{calls_held};
-ghost use Rattle.histories.specs.Told.{IsHeldAs, IsHeadOfRun, SumsFit, TellsGroup, TellsHead, TellsHeld, TellsRows, TellsSums};
+ghost use Rattle.histories.specs.Told.{IsHeldAs, SumsFit, TellsGroup, TellsHead, TellsHeld, TellsRows, TellsSums};
 ghost use Rattle.histories.specs.declared.answers.Answer.TheVariants.{Held, Done, Text, Refused};
 ghost use Rattle.histories.specs.declared.answers.Refusal.{Refusal};
 ghost use Rattle.histories.specs.declared.answers.Selection.{Selection};
@@ -73,7 +75,7 @@ pub fn tables_tell_what_is_held()
 /// Their sums are those over the files that are held, and what does not fit beside the one does not
 /// beside the other.
 pub fn tables_tell_the_sums()
-    ensures sums { (h : History) (t : Tables) (db : Trees) → Holds t db → TablesTell h t → TellsSums h t }
+    ensures sums { (h : History) (t : Tables) → AreSound t → TablesTell h t → TellsSums h t }
     ensures call_count { (h : History) (t : Tables) → TablesTell h t → held_count t ≡ calls_held (held h) }
 {}
 
@@ -85,10 +87,13 @@ pub fn tables_tell_each_run()
     ensures rows { (h : History) (t : Tables) (f : File) → TablesTell h t → Has (held h) f → TellsRows f t }
 {}
 
-/// A head whose lines show what those of a held run show, in whatever order, has the events and the
-/// derived events of its file.
+/// In tables that stand for a history, the head that the lines of a run say is what its file says: its
+/// events, its derived events with their coefficients, and the totals that it states. What is verified
+/// by such a head is what is verified by the file.
 pub fn tables_tell_each_head()
-    ensures { (h : History) (t : Tables) (f : File) (head : FileHead) → TablesTell h t → Has (held h) f → IsHeadOfRun f.number head t → TellsHead f head }
+    ensures told { (h : History) (t : Tables) (f : File) (head : FileHead) → TablesTell h t → Has (held h) f → IsHeadIn f.number t head → TellsHead f head }
+    ensures verified { (f : File) (head : FileHead) (run : ℕ) (sums : List ℕ)
+        → TellsHead f head → verified run head.events sums head.stated ≡ verified run (events_of f.format f.bytes) sums (stated_of f.format f.bytes) }
 {}
 
 /// The lines of a group tell its members and its baseline.

@@ -2,20 +2,19 @@
 use Rattle.std.proofs.Common.{◌≡◌, ℕ, ◌<◌, suc, List, [], ◌∷◌, ◌++◌, map, filter, Bool, true, false, not, ◌==◌, eqb, if◌then◌else◌, refl, sym, ap, ap₂, subst, ◌∙◌, arith, append-nil}
 use Rattle.std.proofs.lemmas.Bool.Decides.{nat_tests}
 use Rattle.std.specs.List.{AllByRecursion}
-use Rattle.sqlite_trees.specs.Tree.{Trees}
-use Rattle.sqlite_keyed.proofs.ListLemmas.{all-append}
-use Rattle.sql_tables.proofs.Rows.{map-append}
+use Rattle.plain_tables.proofs.Lists.{all-append, map-append}
 use Rattle.cost_rows.specs.Content.{Content}
 use Rattle.cost_rows.specs.Held.{AreHeld}
-use Rattle.prof_tables.specs.Tables.{Tables, Holds, RunLine, EventLine, DerivedLine, CoefLine, NameLine, CellLine, ArcLine, StackLine, GroupLine, MemberLine, new_tables}
-use Rattle.prof_tables.specs.Changes.{without_run, has_baseline, unbased}
-use Rattle.prof_tables.specs.Files.{all_named, numbers_in}
-use Rattle.prof_tables.specs.RunLines.{cells_in, arcs_in, stacks_in}
-use Rattle.prof_tables.proofs.Numbering.{AllHeld, all_held}
-use Rattle.prof_tables.proofs.Parents.{events_below, derived_below, coefs_below, cells_below, arcs_below, stacks_below}
+use Rattle.plain_tables.specs.Tables.{Tables, RunLine, EventLine, DerivedLine, CoefLine, NameLine, CellLine, ArcLine, StackLine, GroupLine, MemberLine, new_tables}
+use Rattle.plain_tables.specs.Sound.{AreSound}
+use Rattle.plain_tables.specs.Changes.{without_run, has_baseline, unbased}
+use Rattle.plain_tables.specs.Files.{all_named, numbers_in}
+use Rattle.plain_tables.specs.RunLines.{cells_in, arcs_in, stacks_in}
+use Rattle.plain_tables.proofs.Numbering.{AllHeld, all_held}
+use Rattle.plain_tables.proofs.Runs.{lines_below}
 use Rattle.prof_books.specs.Book.{AreOf, Book, RunBook, book_of, run_held, run_book, with_run_book, without_run_book, new_book, cell_held, part_held, stack_held, IsNamed, CellIsNamed, ArcIsNamed}
 use Rattle.prof_books.specs.Files.{with_head, with_rows, cell_lines, arc_lines, stack_lines}
-use Rattle.prof_books.proofs.Names.{Rising, names_rise, name_kept, held_more, all_grown}
+use Rattle.prof_books.proofs.Names.{Rising, name_kept, held_more, all_grown}
 use Rattle.prof_books.proofs.Rows.{cells_are, parts_are, cells_named, calls_named, stacks_are, cells_of_run, calls_of_run, stacks_of_run}
 
 -- ---- lines of one run among those of others
@@ -164,9 +163,9 @@ module _ (r : RunLine) (events : List EventLine) (derived : List DerivedLine) (c
       (λ (u : Tables). let v : Tables = record u { cells = u.cells ++ cell_lines r.number numbers c.cells; arcs = u.arcs ++ arc_lines r.number numbers c.arcs; stacks = u.stacks ++ stack_lines r.number c.stacks } in v)
       known_is
 
-  module _ (db next : Trees) (was : Holds t db) (is : Holds after next) (named : IsNamed t) (held : AreHeld c) (number : r.number ≡ t.next) (of : AreOf r.number events derived coefs) where
+  module _ (was : AreSound t) (is : AreSound after) (named : IsNamed t) (held : AreHeld c) (number : r.number ≡ t.next) (of : AreOf r.number events derived coefs) where
     up : Rising known.names
-    up = names_rise after next is
+    up = is.names_rise
 
     all : AllHeld known c.names
     all = all_held head c.names
@@ -204,18 +203,18 @@ module _ (r : RunLine) (events : List EventLine) (derived : List DerivedLine) (c
     new_same : run_held whole r ≡ run_book r events derived coefs c
     new_same =
         let cells =
-        ap (map (cell_held known.names)) (new_lines (λ l. l.run) r.number t.cells (cell_lines r.number numbers c.cells) (below (λ l. l.run) t.cells (cells_below t db was)) (cells_of_run r.number numbers c.cells))
+        ap (map (cell_held known.names)) (new_lines (λ l. l.run) r.number t.cells (cell_lines r.number numbers c.cells) (below (λ l. l.run) t.cells (lines_below t was (λ l. l.run) t.cells was.cells)) (cells_of_run r.number numbers c.cells))
         ∙ cells_are known.names up r.number c.names all c.cells held.cells in
         let parts =
-        ap (map (part_held known.names)) (new_lines (λ l. l.run) r.number t.arcs (arc_lines r.number numbers c.arcs) (below (λ l. l.run) t.arcs (arcs_below t db was)) (calls_of_run r.number numbers c.arcs))
+        ap (map (part_held known.names)) (new_lines (λ l. l.run) r.number t.arcs (arc_lines r.number numbers c.arcs) (below (λ l. l.run) t.arcs (lines_below t was (λ l. l.run) t.arcs was.arcs)) (calls_of_run r.number numbers c.arcs))
         ∙ parts_are known.names up r.number c.names all c.arcs held.arcs in
         let stacks =
-        ap (map stack_held) (new_lines (λ l. l.run) r.number t.stacks (stack_lines r.number c.stacks) (below (λ l. l.run) t.stacks (stacks_below t db was)) (stacks_of_run r.number c.stacks))
+        ap (map stack_held) (new_lines (λ l. l.run) r.number t.stacks (stack_lines r.number c.stacks) (below (λ l. l.run) t.stacks (lines_below t was (λ l. l.run) t.stacks was.stacks)) (stacks_of_run r.number c.stacks))
         ∙ stacks_are r.number c.stacks in
         cc (
-          new_lines (λ l. l.run) r.number t.events events (below (λ l. l.run) t.events (events_below t db was)) of.events_of,
-          new_lines (λ l. l.run) r.number t.derived derived (below (λ l. l.run) t.derived (derived_below t db was)) of.derived_of,
-          new_lines (λ l. l.run) r.number t.coefs coefs (below (λ l. l.run) t.coefs (coefs_below t db was)) of.coefs_of,
+          new_lines (λ l. l.run) r.number t.events events (below (λ l. l.run) t.events (lines_below t was (λ l. l.run) t.events was.events)) of.events_of,
+          new_lines (λ l. l.run) r.number t.derived derived (below (λ l. l.run) t.derived (lines_below t was (λ l. l.run) t.derived was.derived)) of.derived_of,
+          new_lines (λ l. l.run) r.number t.coefs coefs (below (λ l. l.run) t.coefs (lines_below t was (λ l. l.run) t.coefs was.coefs)) of.coefs_of,
           cells,
           parts,
           stacks,

@@ -1,10 +1,10 @@
 -- A file that is put is in the book.
 use Rattle.std.proofs.Common.{◌≡◌, ℕ, suc, List, [], ◌∷◌, nat_lt, if◌then◌else◌, Bool, true, false, refl}
 use Rattle.std.specs.List.{AllByRecursion}
-use Rattle.sqlite_keyed.proofs.ListLemmas.{all-append}
+use Rattle.plain_tables.proofs.Lists.{all-append}
 use Rattle.cg_formulas.specs.declared.heads.FileHead.{FileHead}
 use Rattle.cost_rows.specs.Content.{Content}
-use Rattle.prof_tables.specs.Tables.{EventLine, DerivedLine, CoefLine}
+use Rattle.plain_tables.specs.Tables.{EventLine, DerivedLine, CoefLine}
 use Rattle.prof_books.specs.Book.{AreOf}
 use Rattle.prof_books.specs.Runs.{Filed, GoesInBook, IsOfItsRun}
 use Rattle.prof_books.proofs.Books.{book_put, named_put}
@@ -30,6 +30,6 @@ head_of_run run head c = record { events_of = events_of_run run head c 0 head.ev
 -- what is written under the next number is in the book
 pub goes_in_book : (f : Filed) → IsOfItsRun f → GoesInBook f
 goes_in_book f of t next = record {
-  book = book_put f.line f.events f.derived f.coefs f.rows t next.was.0 next.is.0 next.was.1 next.is.1 next.named next.held next.number of;
-  named = named_put f.line f.events f.derived f.coefs f.rows t next.was.0 next.is.0 next.was.1 next.is.1 next.named next.held next.number of;
+  book = book_put f.line f.events f.derived f.coefs f.rows t next.was next.is next.named next.held next.number of;
+  named = named_put f.line f.events f.derived f.coefs f.rows t next.was next.is next.named next.held next.number of;
 }

@@ -1,38 +1,19 @@
 -- Names found by their numbers, while further names come.
 use Rattle.std.proofs.Common.{◌≡◌, inl, inr, ℕ, ◌<◌, List, [], ◌∷◌, ◌++◌, map, Bool, true, false, ◌||◌, ◌==◌, bytes_eq, if◌then◌else◌, refl, sym, ap, subst, ◌∙◌, arith, eqb, append_assoc, append-nil}
 use Rattle.std.proofs.lemmas.Bool.Decides.{nat_tests}
-use Rattle.std.proofs.lemmas.Int.{ints}
 use Rattle.std.proofs.lemmas.Slice.Eq.{bytes_eq-Decides}
 use Rattle.std.specs.List.{AllByRecursion, list_any}
-use Rattle.std.specs.declared.cmp.Ordering.TheVariants.{Less}
-use Rattle.sqlite_value.specs.Order.{Row, value_cmp}
-use Rattle.sqlite_value.proofs.OrderLemmas.{value_cmp-Int}
-use Rattle.sqlite_trees.specs.Tree.{Trees, rowid, IsAscending, IsTable}
-use Rattle.sqlite_rules.specs.Lists.{Has}
-use Rattle.sqlite_rules.proofs.ListLemmas.{all_has}
-use Rattle.prof_tables.specs.Tables.{Tables, Holds, NameLine, name_columns, number}
-use Rattle.prof_tables.specs.Changes.{has_name, named, with_new_name, next_name}
-use Rattle.prof_tables.specs.Files.{number_in, all_named}
+use Rattle.plain_tables.specs.Lists.{Has, IsAscending}
+use Rattle.plain_tables.proofs.Lists.{all_has}
+use Rattle.plain_tables.specs.Tables.{Tables, NameLine}
+use Rattle.plain_tables.specs.Changes.{has_name, named, with_new_name, next_name}
+use Rattle.plain_tables.specs.Files.{number_in, all_named}
 use Rattle.prof_books.specs.Book.{name_of}
 
 -- ---- numbers of names rise
 
 abbrev pub Rising : List NameLine → Type 0
 Rising = IsAscending (λ a b. a.number < b.number)
-
-below_is : (a b : ℕ) → value_cmp (number a) (number b) ≡ Less → a < b
-below_is a b h = grind (arith, ints, sym (value_cmp-Int _ _) ∙ h)
-
-all_below : (line : NameLine) (lines : List NameLine) → AllByRecursion (λ (r : Row). value_cmp (rowid (name_columns line)) (rowid r) ≡ Less) (map name_columns lines) → AllByRecursion (λ (l : NameLine). line.number < l.number) lines
-all_below line [] h = tt
-all_below line (l ∷ lines) h = (below_is line.number l.number h.0, all_below line lines h.1)
-
-lines_rise : (lines : List NameLine) → IsTable (map name_columns lines) → Rising lines
-lines_rise [] h = tt
-lines_rise (line ∷ lines) h = (all_below line lines h.0, lines_rise lines h.1)
-
-pub names_rise : (t : Tables) (db : Trees) → Holds t db → Rising t.names
-names_rise t db was = let content = was.contain.contents_are.1.1.1.1.1.0 in lines_rise t.names (subst IsTable content.rows_are content.numbered.0)
 
 -- ---- a number's name
 

@@ -2,7 +2,7 @@
 use Rattle.std.proofs.Common.{◌≡◌, ℕ, ◌+◌, zero, suc, Bool, true, false, ◌&&◌, ◌||◌, ◌==◌, List, [], ◌∷◌, ◌++◌, flat_map, slice_index, if◌then◌else◌, refl, sym, ap, ap₂, subst, ◌∙◌, inl, inr, ◌⊎◌, ◌<◌, arith, eqb}
 use Rattle.std.proofs.lemmas.Bool.Decides.{nat_tests}
 use Rattle.std.specs.List.{AllByRecursion}
-use Rattle.sqlite_keyed.proofs.ListLemmas.{all-append}
+use Rattle.plain_tables.proofs.Lists.{all-append}
 use Rattle.cost_rows.specs.Sums.{Spot}
 use Rattle.cost_rows.specs.WalkSums.{caller_of_row, callee_of_row, calls_cost, calls_count, has_calls}
 use Rattle.cost_rows.specs.declared.rows.ArcRow.{ArcRow}

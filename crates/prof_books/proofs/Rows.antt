@@ -2,8 +2,8 @@
 use Rattle.std.proofs.Common.{◌≡◌, ℕ, ◌<◌, zero, suc, List, [], ◌∷◌, ◌++◌, map, length, flat_map, Bool, true, false, nat_lt, ◌==◌, bytes_eq, if◌then◌else◌, refl, sym, ap, ap₂, ◌∙◌, arith}
 use Rattle.std.specs.List.{AllByRecursion, list_any}
 use Rattle.std.specs.Map.{keys_of}
-use Rattle.sqlite_keyed.proofs.ListLemmas.{all-append}
-use Rattle.sql_tables.proofs.Rows.{map-append}
+use Rattle.plain_tables.proofs.Lists.{all-append}
+use Rattle.plain_tables.proofs.Lists.{map-append}
 use Rattle.cost_rows.specs.Held.{CellHeld, CallHeld}
 use Rattle.cost_rows.specs.Sums.{name_at}
 use Rattle.cost_rows.specs.ByNumber.{numbered_cell, numbered_at, numbered_cells, numbered_arc}
@@ -13,8 +13,8 @@ use Rattle.cost_rows.specs.declared.places.Call.{Call}
 use Rattle.cost_rows.specs.declared.calls.Calls.{Calls}
 use Rattle.cost_rows.specs.declared.rows.CellRow.{CellRow}
 use Rattle.cost_rows.proofs.AboveLemmas.{all-above, map-above}
-use Rattle.prof_tables.specs.Tables.{NameLine, CellLine, ArcLine, StackLine}
-use Rattle.prof_tables.specs.Files.{number_in}
+use Rattle.plain_tables.specs.Tables.{NameLine, CellLine, ArcLine, StackLine}
+use Rattle.plain_tables.specs.Files.{number_in}
 use Rattle.prof_books.specs.Book.{name_of, cell_held, part_held, CallPart, part_of, parts_from, parts_of, stack_held, IsHeld, CellIsNamed, ArcIsNamed}
 use Rattle.prof_books.specs.Files.{numbered, cell_line_of, cell_lines_at, cell_lines, arc_line_of, arc_lines_from, arc_lines_at, arc_lines, stack_lines}
 use Rattle.prof_books.proofs.Names.{Rising, name_back, number_held}

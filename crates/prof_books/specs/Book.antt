@@ -8,9 +8,9 @@ use Rattle.cost_rows.specs.Walks.{cell_rows, arc_rows, stack_rows}
 use Rattle.cost_rows.specs.declared.rows.CellRow.{CellRow}
 use Rattle.cost_rows.specs.declared.rows.ArcRow.{ArcRow}
 use Rattle.cost_rows.specs.declared.rows.StackRow.{StackRow}
-use Rattle.prof_tables.specs.Tables.{Tables, RunLine, EventLine, DerivedLine, CoefLine, NameLine, CellLine, ArcLine, StackLine, GroupLine, MemberLine}
-use Rattle.prof_tables.specs.RunLines.{cells_in, arcs_in, stacks_in}
-use Rattle.prof_tables.specs.Changes.{has_baseline, unbased}
+use Rattle.plain_tables.specs.Tables.{Tables, RunLine, EventLine, DerivedLine, CoefLine, NameLine, CellLine, ArcLine, StackLine, GroupLine, MemberLine}
+use Rattle.plain_tables.specs.RunLines.{cells_in, arcs_in, stacks_in}
+use Rattle.plain_tables.specs.Changes.{has_baseline, unbased}
 
 -- the name of a number, empty where there is none
 abbrev pub name_of : List NameLine → ℕ → List ℕ

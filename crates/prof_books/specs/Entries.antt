@@ -1,6 +1,6 @@
 -- What is told of the runs that are held.
 use Rattle.std.specs.Prelude.{ℕ, List}
-use Rattle.prof_tables.specs.Tables.{RunLine}
+use Rattle.plain_tables.specs.Tables.{RunLine}
 
 -- what is told of a run
 pub record HeldRun : Type 0 where

@@ -5,9 +5,9 @@ use Rattle.cost_rows.specs.declared.places.Call.{Call}
 use Rattle.cost_rows.specs.declared.calls.Calls.{Calls}
 use Rattle.cost_rows.specs.Above.{rows_above}
 use Rattle.cost_rows.specs.Content.{Content}
-use Rattle.prof_tables.specs.Tables.{Tables, RunLine, EventLine, DerivedLine, CoefLine, CellLine, ArcLine, StackLine}
-use Rattle.prof_tables.specs.Changes.{with_next, with_run, with_events, with_derived, with_coefs, with_cells, with_arcs, with_stacks}
-use Rattle.prof_tables.specs.Files.{all_named, numbers_in}
+use Rattle.plain_tables.specs.Tables.{Tables, RunLine, EventLine, DerivedLine, CoefLine, CellLine, ArcLine, StackLine}
+use Rattle.plain_tables.specs.Changes.{with_next, with_run, with_events, with_derived, with_coefs, with_cells, with_arcs, with_stacks}
+use Rattle.plain_tables.specs.Files.{all_named, numbers_in}
 
 -- the table's number of a name that the file has under a number of its own
 abbrev pub numbered : List ℕ → ℕ → ℕ

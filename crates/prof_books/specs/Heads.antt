@@ -5,7 +5,7 @@ use Rattle.cg_formulas.specs.declared.heads.FileHead.{FileHead}
 use Rattle.cost_rows.specs.Above.{rows_above}
 use Rattle.cost_rows.specs.Content.{Content}
 use Rattle.cost_rows.specs.Totals.{cell_total, arc_total}
-use Rattle.prof_tables.specs.Tables.{EventLine, DerivedLine, CoefLine}
+use Rattle.plain_tables.specs.Tables.{EventLine, DerivedLine, CoefLine}
 
 -- the total that a file states of a column, in decimal, if it states any
 abbrev pub stated_at : Option (List ℕ) → ℕ → Option (List ℕ)

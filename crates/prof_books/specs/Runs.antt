@@ -1,11 +1,11 @@
 -- What is written of a file, and what it makes of the tables and of the book.
 use Rattle.std.specs.Prelude.{◌≡◌, ℕ, List}
-use Rattle.sqlite_trees.specs.Tree.{Trees}
 use Rattle.cg_formulas.specs.declared.heads.FileHead.{FileHead}
 use Rattle.cost_rows.specs.Content.{Content}
 use Rattle.cost_rows.specs.Held.{AreHeld}
 use Rattle.cost_rows.specs.Totals.{count_total}
-use Rattle.prof_tables.specs.Tables.{Tables, Holds, RunLine, EventLine, DerivedLine, CoefLine}
+use Rattle.plain_tables.specs.Tables.{Tables, RunLine, EventLine, DerivedLine, CoefLine}
+use Rattle.plain_tables.specs.Sound.{AreSound}
 use Rattle.prof_books.specs.Book.{AreOf, RunBook, IsNamed, book_of, run_book, with_run_book}
 use Rattle.prof_books.specs.Files.{with_rows, with_head}
 use Rattle.prof_books.specs.Heads.{event_lines, derived_lines, coef_lines}
@@ -52,18 +52,14 @@ file_book number kind digest label head c = filed_book (filed number kind digest
 
 -- ---- in the book
 
--- a database can hold these tables
-abbrev pub CanBeHeld : Tables → Type 0
-CanBeHeld t = (db : Trees) × Holds t db
-
 -- each line of its head says its run
 abbrev pub IsOfItsRun : Filed → Type 0
 IsOfItsRun f = AreOf f.line.number f.events f.derived f.coefs
 
 -- it comes under the next number, and each number of its rows has a name
 pub record IsNext (f : Filed) (t : Tables) : Type 0 where
-  pub was : CanBeHeld t
-  pub is : CanBeHeld (with_filed f t)
+  pub was : AreSound t
+  pub is : AreSound (with_filed f t)
   pub named : IsNamed t
   pub held : AreHeld f.rows
   pub number : f.line.number ≡ t.next

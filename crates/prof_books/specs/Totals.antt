@@ -1,7 +1,7 @@
 -- Sums over all runs that are held, in the tables.
 use Rattle.std.specs.Prelude.{◌≡◌, ℕ, List, map, filter, sum_by, bytes_eq}
 use Rattle.cost_rows.specs.declared.rows.FileTotals.{FileTotals}
-use Rattle.prof_tables.specs.Tables.{Tables, EventLine, RunLine}
+use Rattle.plain_tables.specs.Tables.{Tables, EventLine, RunLine}
 
 abbrev pub lines_named : List ℕ → Tables → List EventLine
 lines_named name t = filter (λ (e : EventLine). bytes_eq e.name name) t.events

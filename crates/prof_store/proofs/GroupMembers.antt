@@ -8,9 +8,9 @@ use Rattle.std.specs.List.{AllByRecursion, AllAdjacentBelow}
 use Rattle.std.proofs.lemmas.Slice.Eq.{bytes_eq-Decides}
 use Rattle.sqlite_trees.specs.Tree.{IsAscending}
 use Rattle.sqlite_trees.proofs.ListLemmas.{IsPermutation-filter}
-use Rattle.prof_tables.specs.Tables.{MemberLine}
-use Rattle.prof_store.specs.Groups.{IsBefore, entry_members, member_of, members_in}
-use Rattle.prof_store.specs.declared.entries.GroupEntry.{GroupEntry}
+use Rattle.plain_tables.specs.Tables.{MemberLine}
+use Rattle.run_stores.specs.Entries.{IsBefore, entry_members, member_of, members_in}
+use Rattle.run_stores.specs.declared.entries.GroupEntry.{GroupEntry}
 
 abbrev cmp : List ℕ → List ℕ → Ordering
 cmp = slice_cmp nat_cmp

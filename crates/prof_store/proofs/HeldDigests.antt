@@ -20,11 +20,12 @@ use Rattle.sqlite_rules.proofs.ProbeLemmas.{mapped_has}
 use Rattle.sqlite_tied.proofs.RuleLemmas.{and_true}
 use Rattle.cg_formulas.specs.declared.heads.FileHead.{FileHead}
 use Rattle.cost_rows.specs.Content.{Content}
-use Rattle.prof_tables.specs.Schema.{schema_two, run_at}
-use Rattle.prof_tables.specs.Tables.{Tables, Holds, RunLine, run_columns, number}
-use Rattle.prof_tables.specs.Changes.{named, has_name, with_new_name}
-use Rattle.prof_tables.specs.Files.{all_named}
-use Rattle.prof_tables.proofs.Values.{blobs_equal}
+use Rattle.store_schema.specs.Schema.{schema_two, run_at}
+use Rattle.plain_tables.specs.Tables.{Tables, RunLine}
+use Rattle.store_schema.specs.Tables.{Holds, run_columns, number}
+use Rattle.plain_tables.specs.Changes.{named, has_name, with_new_name}
+use Rattle.plain_tables.specs.Files.{all_named}
+use Rattle.store_schema.proofs.Values.{blobs_equal}
 use Rattle.prof_books.specs.Runs.{with_file, run_line_of}
 use Rattle.profile_records.specs.declared.kinds.Kind.{Kind}
 

@@ -7,7 +7,7 @@ use Rattle.std.proofs.lemmas.List.Sorted.{sum_by-IsPermutation, All-permutation,
 use Rattle.sqlite_keyed.proofs.ListLemmas.{map-map}
 use Rattle.sqlite_value.specs.declared.value.Value.TheVariants.{Int}
 use Rattle.sqlite_value.specs.Order.{Row, column}
-use Rattle.prof_tables.specs.Tables.{number}
+use Rattle.store_schema.specs.Tables.{number}
 use Rattle.sqlite_trees.specs.Tree.{Trees}
 use Rattle.prof_store.specs.Totals.{number_in, IsNumber, IsSum, AreSums, HasNumbers, column_sum, rows_named}
 use Rattle.prof_store.proofs.Listing.{read_on}

@@ -3,6 +3,7 @@ pub mod HeldDigests
 mod HeldSums
 mod Lines
 pub mod Listing
+pub mod Members
 mod Opening
 pub mod Reading
 pub mod Readings

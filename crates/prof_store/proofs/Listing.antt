@@ -7,7 +7,8 @@ use Rattle.sqlite_keyed.proofs.ListLemmas.{map-map}
 use Rattle.sqlite_value.specs.declared.value.Value.{Value}
 use Rattle.sqlite_value.specs.declared.value.Value.TheVariants.{Int, Text}
 use Rattle.sqlite_value.specs.Order.{Row, column}
-use Rattle.prof_tables.specs.Tables.{GroupLine, MemberLine, group_columns, member_columns, number_or_null}
+use Rattle.plain_tables.specs.Tables.{GroupLine, MemberLine}
+use Rattle.store_schema.specs.Tables.{group_columns, member_columns, number_or_null}
 
 -- an answer from which values were read
 pub read_permutes : {X : Type 0} (seen first : Row → Row) (columns : X → Row) → ((r : Row) → first (seen r) ≡ seen r) → (rows answer : List Row) (xs : List X) → IsPermutation (map seen rows) answer → map columns xs ≡ map first answer

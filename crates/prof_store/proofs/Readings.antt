@@ -21,11 +21,12 @@ use Rattle.sqlite_sql.specs.declared.ops.BinaryOp.TheVariants.{Compare}
 use Rattle.sqlite_sql.specs.declared.ops.CompareOp.TheVariants.{Eq}
 use Rattle.sqlite_rules.specs.Lists.{Has}
 use Rattle.sqlite_schema.specs.declared.schema.Table.{Table}
-use Rattle.prof_tables.specs.Schema.{meta_at, run_at, run_event_at, derived_at, coef_at, name_at, thread_cell_at, arc_at, stack_at, grp_at, member_at}
+use Rattle.store_schema.specs.Schema.{meta_at, run_at, run_event_at, derived_at, coef_at, name_at, thread_cell_at, arc_at, stack_at, grp_at, member_at}
 use Rattle.sql_tables.proofs.Rows.{numbers_equal, texts_equal}
-use Rattle.prof_tables.proofs.Values.{blobs_equal}
-use Rattle.prof_tables.specs.Seen.{is_at}
-use Rattle.prof_tables.specs.Tables.{Tables, meta_columns, run_columns, event_columns, derived_columns, coef_columns, name_columns, cell_columns, arc_columns, stack_columns, group_columns, member_columns, number}
+use Rattle.store_schema.proofs.Values.{blobs_equal}
+use Rattle.store_schema.specs.Seen.{is_at}
+use Rattle.plain_tables.specs.Tables.{Tables}
+use Rattle.store_schema.specs.Tables.{meta_columns, run_columns, event_columns, derived_columns, coef_columns, name_columns, cell_columns, arc_columns, stack_columns, group_columns, member_columns, number}
 use Rattle.prof_store.specs.Readings.{as_read, row_read, IsSaidBy}
 
 -- ---- values

@@ -5,12 +5,13 @@ use Rattle.std.proofs.lemmas.Bool.Decides.{nat_tests}
 use Rattle.sqlite_value.specs.Order.{Row, column}
 use Rattle.sqlite_trees.specs.Tree.{Trees}
 use Rattle.sql_tables.specs.Walks.{Asked, HasReadAll, is_asked, said}
-use Rattle.prof_tables.specs.RunLines.{cells_in, arcs_in, stacks_in}
-use Rattle.prof_tables.specs.Schema.{thread_cell_at, arc_at, stack_at}
-use Rattle.prof_tables.specs.Seen.{is_at}
-use Rattle.prof_tables.specs.Tables.{Tables, CellLine, ArcLine, StackLine, cell_columns, arc_columns, stack_columns, number}
-use Rattle.prof_tables.specs.WalkTexts.{cells_of, arcs_of, stacks_of}
-use Rattle.prof_tables.proofs.RunLines.{one_cell, one_arc, one_stack}
+use Rattle.plain_tables.specs.RunLines.{cells_in, arcs_in, stacks_in}
+use Rattle.store_schema.specs.Schema.{thread_cell_at, arc_at, stack_at}
+use Rattle.store_schema.specs.Seen.{is_at}
+use Rattle.plain_tables.specs.Tables.{Tables, CellLine, ArcLine, StackLine}
+use Rattle.store_schema.specs.Tables.{cell_columns, arc_columns, stack_columns, number}
+use Rattle.store_schema.specs.WalkTexts.{cells_of, arcs_of, stacks_of}
+use Rattle.store_schema.proofs.RunLines.{one_cell, one_arc, one_stack}
 use Rattle.prof_store.specs.Readings.{as_read, IsSaidBy, RowsSay}
 use Rattle.prof_store.proofs.Listing.{map_injective}
 use Rattle.prof_store.proofs.Readings.{SaysBehind, number_at, picked_said, shown_read, values_read, cells_said, arcs_said, stacks_said}

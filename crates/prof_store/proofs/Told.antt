@@ -17,18 +17,21 @@ use Rattle.sql_tables.proofs.InPlace.{map_table}
 use Rattle.sql_tables.proofs.Orders.{same_permuted, seen_columns}
 use Rattle.sql_tables.proofs.Rows.{Numbered}
 use Rattle.sqlite.specs.State.{State}
-use Rattle.prof_tables.specs.Changes.{has_run, has_group, has_member, is_member, is_named}
-use Rattle.prof_tables.specs.Schema.{schema_two, meta_at, run_at, run_event_at, derived_at, coef_at, name_at, thread_cell_at, arc_at, stack_at, grp_at, member_at}
-use Rattle.prof_tables.specs.Seen.{is_at, run_seen, group_seen, member_seen, is_member_row}
-use Rattle.prof_tables.specs.Tables.{Tables, Holds, RunLine, EventLine, GroupLine, MemberLine, meta_columns, run_columns, event_columns, derived_columns, coef_columns, name_columns, cell_columns, arc_columns, stack_columns, group_columns, member_columns, number, number_or_null, text_or_null}
+use Rattle.plain_tables.specs.Changes.{has_run, has_group, has_member, is_member, is_named}
+use Rattle.store_schema.specs.Schema.{schema_two, meta_at, run_at, run_event_at, derived_at, coef_at, name_at, thread_cell_at, arc_at, stack_at, grp_at, member_at}
+use Rattle.store_schema.specs.Seen.{is_at, run_seen, group_seen, member_seen, is_member_row}
+use Rattle.plain_tables.specs.Tables.{Tables, RunLine, EventLine, GroupLine, MemberLine}
+use Rattle.store_schema.specs.Tables.{Holds, meta_columns, run_columns, event_columns, derived_columns, coef_columns, name_columns, cell_columns, arc_columns, stack_columns, group_columns, member_columns, number, number_or_null, text_or_null}
 use Rattle.prof_books.specs.Totals.{held_self, held_calls, held_count}
-use Rattle.prof_store.specs.Digests.{IsRowOf, IsRunOf}
+use Rattle.prof_store.specs.Digests.{IsRowOf}
+use Rattle.run_stores.specs.Lookups.{IsRunOf}
 use Rattle.prof_store.specs.Groups.{AreGroupsIn, AreMembersIn}
 use Rattle.prof_store.specs.Readings.{as_read, row_read, IsSaidBy, RowsSay}
 use Rattle.prof_store.specs.Totals.{number_in, IsNumber, HasNumbers, IsSum, IsSumAt, IsSumIn, rows_named}
 use Rattle.prof_store.specs.declared.totals.EventSums.{EventSums}
 use Rattle.prof_store.proofs.HeldSums.{sum_by-map, sum_by-same}
 use Rattle.prof_store.proofs.Listing.{read_back, group_back, group_read, member_back, member_read}
+use Rattle.prof_store.proofs.Members.{kit_has, plain_has}
 use Rattle.prof_store.proofs.Readings.{Says, SaysBehind, values_read, blob_read, number_at, text_at, blob_at, any_said, picked_said, seen_said, line_of_row, row_of_line, length_said, permutes_read, meta_said, runs_rise, runs_said, events_said, groups_said, members_said}
 
 -- ---- sums
@@ -115,13 +118,13 @@ module _ (t : Tables) (db : Trees) (was : IsSaidBy t db) where
 
   pub digest_told : (digest : List ℕ) (found : Option ℕ) → IsRowOf digest db found → IsRunOf digest t found
   digest_told digest None none = λ line there is.
-      let row = row_of_line (Says was.far run_at run_columns) (db 1) t.runs (runs_said t db was) line there in
+      let row = row_of_line (Says was.far run_at run_columns) (db 1) t.runs (runs_said t db was) line (kit_has t.runs line there) in
       none row.0 row.1 (blob_read was.far (column row.0 3) digest (ap (λ l. column l 3) row.2 ∙ ap Blob is))
   digest_told digest (Some n) some =
       let line = line_of_row (Says was.far run_at run_columns) (db 1) t.runs (runs_said t db was) some.0 some.1 in
       let digests : Blob digest ≡ Blob line.0.digest = sym (ap (as_read was.far) some.2) ∙ ap (λ l. column l 3) line.2 in
       let numbers : number n ≡ number line.0.number = sym (ap (as_read was.far) some.3) ∙ ap (λ l. column l 0) line.2 in
-      (line.0, line.1, cc, cc)
+      (line.0, plain_has t.runs line.0 line.1, cc, cc)
 
   -- ---- sums over all runs
 

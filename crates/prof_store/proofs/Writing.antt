@@ -4,8 +4,9 @@ use Rattle.sqlite_trees.specs.Tree.{Trees}
 use Rattle.sqlite.specs.State.{State}
 use Rattle.sql_tables.specs.Calls.{Changed}
 use Rattle.sql_tables.proofs.Calls.{changed_as, rests_as}
-use Rattle.prof_tables.specs.Schema.{schema_two}
-use Rattle.prof_tables.specs.Tables.{Tables, Holds}
+use Rattle.store_schema.specs.Schema.{schema_two}
+use Rattle.plain_tables.specs.Tables.{Tables}
+use Rattle.store_schema.specs.Tables.{Holds}
 
 -- a change of tables in any state
 pub of_any : (After : Tables → Trees → Type 0) (answered done : Bool) (old new : State) → Changed schema_two (λ t db. (true ≡ true) × Holds t db) After answered done old new → Changed schema_two Holds After answered done old new

@@ -1,5 +1,5 @@
 -- The version that a database says it is of, and what opening makes of it.
-use Rattle.std.specs.Prelude.{◌≡◌, ◌≢◌, ◌↔◌, ℕ, pos, [], Ok, Err, Result, IfErr, Bool, false, IsTrue}
+use Rattle.std.specs.Prelude.{◌≡◌, ◌≢◌, ◌↔◌, pos, [], Ok, Err, Result, IfErr, Bool, false, IsTrue}
 use Rattle.std.specs.Result.{is_ok}
 use Rattle.sqlite_value.specs.declared.value.Value.TheVariants.{Int}
 use Rattle.sqlite_value.specs.Order.{Row, column}
@@ -12,14 +12,15 @@ use Rattle.sqlite.specs.Held.{Held, state}
 use Rattle.sqlite.specs.State.{State, HasCleanDisk, QueriesRow}
 use Rattle.sql_tables.specs.Calls.{Asked, IsAsBefore, IsSettled, KeepsIfShut, Stays}
 use Rattle.sql_tables.specs.States.{LeavesOnly, Rests}
-use Rattle.store_columns.specs.declared.errors.OpenError.{OpenError}
-use Rattle.store_columns.specs.declared.errors.OpenError.TheVariants as ends
-use Rattle.store_columns.specs.Errors.{error_for, opening}
-use Rattle.prof_tables.specs.First.{HoldsFirst}
-use Rattle.prof_tables.specs.Schema.{schema_one, schema_two}
-use Rattle.prof_tables.specs.Tables.{Tables, Holds}
-use Rattle.prof_tables.specs.Texts.{schema_sql}
-use Rattle.table_making.specs.Migrated.{Migrates}
+use Rattle.store_schema.specs.declared.errors.OpenError.{OpenError}
+use Rattle.store_schema.specs.declared.errors.OpenError.TheVariants as ends
+use Rattle.store_schema.specs.Errors.{error_for, opening}
+use Rattle.store_schema.specs.First.{HoldsFirst}
+use Rattle.store_schema.specs.Schema.{schema_one, schema_two}
+use Rattle.plain_tables.specs.Tables.{Tables}
+use Rattle.store_schema.specs.Tables.{Holds}
+use Rattle.store_schema.specs.Texts.{schema_sql}
+use Rattle.store_schema.specs.Migrated.{Migrates}
 use Rattle.prof_store.specs.declared.open.Version.{Version}
 use Rattle.prof_store.specs.declared.open.Version.TheVariants as versions
 

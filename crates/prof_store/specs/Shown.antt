@@ -7,8 +7,9 @@ use Rattle.sqlite.specs.State.{HasCleanDisk, State}
 use Rattle.sql_tables.specs.States.{Rests, LeavesOnly as Leaves, LeavesJust as Just}
 use Rattle.sql_tables.specs.Calls as calls
 use Rattle.sql_tables.specs.Calls.{Asked, Changed}
-use Rattle.prof_tables.specs.Schema.{schema_two}
-use Rattle.prof_tables.specs.Tables.{Tables, Holds}
+use Rattle.store_schema.specs.Schema.{schema_two}
+use Rattle.plain_tables.specs.Tables.{Tables}
+use Rattle.store_schema.specs.Tables.{Holds}
 use Rattle.prof_store.specs.Readings.{RowsSay}
 use Rattle.prof_store.specs.declared.store.Store.{Store}
 

@@ -9,8 +9,8 @@ use Rattle.sqlite.specs.Given.{IsPlain}
 use Rattle.sqlite.specs.Listing.{understood}
 use Rattle.sqlite.specs.State.{State, HasCleanDisk, QueriesRow, Shown}
 use Rattle.sql_tables.specs.Calls.{Asked}
-use Rattle.prof_tables.specs.Schema.{schema_two}
-use Rattle.store_columns.specs.declared.errors.StoreError.{StoreError}
+use Rattle.store_schema.specs.Schema.{schema_two}
+use Rattle.plain_tables.specs.declared.errors.StoreError.{StoreError}
 
 -- what a query for one row answers
 abbrev pub row_or_none : Option Row → Result Row Error

@@ -5,8 +5,9 @@ use Rattle.sqlite_value.specs.declared.value.Value.TheVariants.{Int, Blob}
 use Rattle.sqlite_value.specs.Order.{Row, column}
 use Rattle.sqlite_trees.specs.Tree.{Trees}
 use Rattle.cost_rows.specs.declared.rows.FileTotals.{FileTotals}
-use Rattle.prof_tables.specs.Seen.{is_at}
-use Rattle.prof_tables.specs.Tables.{Tables, number}
+use Rattle.store_schema.specs.Seen.{is_at}
+use Rattle.plain_tables.specs.Tables.{Tables}
+use Rattle.store_schema.specs.Tables.{number}
 use Rattle.prof_books.specs.Totals.{held_self, held_calls}
 use Rattle.prof_store.specs.declared.totals.EventSums.{EventSums}
 

@@ -8,7 +8,7 @@ ghost use Rattle.prof_store.specs.Shown.{Asks, Found, Told};
 use crate::statements::select_row;
 use crate::store::Store;
 use sqlite::{Alter, Row};
-use store_columns::{OutOfForm, StoreError, sum_at};
+use store_schema::{OutOfForm, StoreError, sum_at};
 
 /// SQL counts no further.
 const MOST: u64 = 0x7fff_ffff_ffff_ffff;

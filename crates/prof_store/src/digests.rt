@@ -3,13 +3,14 @@ ghost use Rattle.std.specs.Prelude.{◌≡◌, pos, IfOk, MatchOption};
 ghost use Rattle.std.specs.Result.{is_ok};
 ghost use Rattle.sqlite_value.specs.declared.value.Value.TheVariants.{Int};
 ghost use Rattle.sqlite_value.specs.Order.{column};
-ghost use Rattle.prof_store.specs.Digests.{IsRunOf, IsRowOf};
+ghost use Rattle.prof_store.specs.Digests.{IsRowOf};
+ghost use Rattle.run_stores.specs.Lookups.{IsRunOf};
 ghost use Rattle.prof_store.specs.Shown.{Asks, Found, Told, shown};
 
 use crate::statements::select_first;
 use crate::store::Store;
 use sqlite::{Alter, Row, params};
-use store_columns::{OutOfForm, StoreError, number_at};
+use store_schema::{OutOfForm, StoreError, number_at};
 
 /// The number in a row of one column, if there is a row.
 fn number_in(row: Option<Row>) -> Result<Option<u32>, OutOfForm>

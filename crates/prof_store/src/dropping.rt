@@ -1,13 +1,13 @@
 // A run is dropped.
 ghost use Rattle.std.specs.Prelude.{◌≡◌, true};
 ghost use Rattle.std.specs.Result.{is_ok};
-ghost use Rattle.prof_tables.specs.Changes.{has_run, without_run};
+ghost use Rattle.plain_tables.specs.Changes.{has_run, without_run};
 ghost use Rattle.prof_store.specs.Shown.{ChangesIf, KeepsShut};
 
 use crate::statements::write;
 use crate::store::Store;
 use sqlite::{Alter, params};
-use store_columns::StoreError;
+use store_schema::StoreError;
 
 impl<S: Alter> Store<S> {
     /// Drops a run that is held, with all its lines. Groups lose it as a member and as a baseline;

@@ -1,14 +1,14 @@
 // Groups, their members and baselines.
 ghost use Rattle.std.specs.Prelude.{◌≡◌, true};
 ghost use Rattle.std.specs.Result.{is_ok};
-ghost use Rattle.prof_tables.specs.Changes.{has_group, with_group, without_group, without_member, with_baseline};
-ghost use Rattle.prof_tables.specs.Labels.{IsGroupName};
+ghost use Rattle.plain_tables.specs.Changes.{has_group, with_group, without_group, without_member, with_baseline};
+ghost use Rattle.plain_tables.specs.Labels.{IsGroupName};
 ghost use Rattle.prof_store.specs.Shown.{Changes, ChangesIf, KeepsShut};
 
 use crate::statements::write;
 use crate::store::Store;
 use sqlite::{Alter, params};
-use store_columns::StoreError;
+use store_schema::StoreError;
 
 impl<S: Alter> Store<S> {
     /// Makes a group with no member and no baseline. The name is in form (`is_group_name`).

@@ -1,21 +1,22 @@
 // The groups with their members.
-ghost use Rattle.std.specs.Prelude.{◌≡◌, ◌≤◌, [], map, flat_map, length, take, IfOk, IsPermutation};
+ghost use Rattle.std.specs.Prelude.{◌≡◌, ◌≤◌, ◌↔◌, [], map, flat_map, length, take, IfOk, IsTrue, IsPermutation};
 ghost use Rattle.std.specs.List.{AllAdjacentBelow};
 ghost use Rattle.std.specs.Result.{is_ok};
-ghost use Rattle.prof_tables.specs.Tables.{group_columns};
-ghost use Rattle.prof_store.specs.Groups.{first_two, AreGroups, AreGroupsIn, AreMembersIn, IsBefore, entry_group, entry_members, member_of, member_line};
+ghost use Rattle.store_schema.specs.Tables.{group_columns};
+ghost use Rattle.prof_store.specs.Groups.{first_two, AreGroupsIn, AreMembersIn, member_line};
+ghost use Rattle.run_stores.specs.Entries.{AreGroups, IsBefore, entry_group, entry_members, member_of};
 ghost use Rattle.prof_store.specs.Shown.{Asks, Found, Told};
 
-use crate::entries::GroupEntry;
 use crate::statements::select;
 use crate::store::Store;
 use cg_text::ListVec;
+use run_stores::GroupEntry;
 use sqlite::{Alter, Row};
 use std::alloc::Global;
 use std::cmp::Ordering;
-use store_columns::{
-    FromRow, OutOfForm, Rises, StoreError, is_group_name, number_at, number_or_null_at, read_rows,
-    rise, text_at,
+use store_schema::{
+    FromRow, OutOfForm, StoreError, is_group_name, number_at, number_or_null_at, read_rows, rise,
+    text_at,
 };
 
 /// A run that is in a group.
@@ -26,7 +27,7 @@ pub(crate) struct Member {
 }
 
 impl FromRow for Member {
-    ghost use Rattle.prof_tables.specs.Tables.{member_columns};
+    ghost use Rattle.store_schema.specs.Tables.{member_columns};
     ghost use Rattle.prof_store.specs.Groups.{first_two, member_line};
 
     ghost seen = { first_two };
@@ -37,20 +38,6 @@ impl FromRow for Member {
         let group = text_at(row, 0)?;
         let run = number_at(row, 1)?;
         Ok(Member { group, run })
-    }
-}
-
-/// By the bytes of their names, of which none comes twice.
-impl Rises for GroupEntry {
-    ghost use Rattle.prof_store.specs.Groups.{IsBefore};
-
-    ghost Below = { IsBefore };
-
-    fn is_below(&self, other: &GroupEntry) -> bool {
-        match self.name.as_str().cmp(other.name.as_str()) {
-            Ordering::Less => true,
-            _ => false,
-        }
     }
 }
 
@@ -113,6 +100,28 @@ fn joined(alloc: Global, rows: &[Row], members: &[Member]) -> Result<Vec<GroupEn
     }
 }
 
+/// Whether a group is before another, by the bytes of their names.
+fn is_before(entry: &GroupEntry, other: &GroupEntry) -> bool
+    ensures { IsTrue result ↔ IsBefore entry.now other.now }
+{
+    match entry.name.as_str().cmp(other.name.as_str()) {
+        Ordering::Less => true,
+        _ => false,
+    }
+}
+
+/// Whether the names of groups rise, so that none comes twice.
+fn names_rise(entries: &[GroupEntry]) -> bool
+    ensures { IsTrue result ↔ AllAdjacentBelow IsBefore entries.now (length entries.now) }
+{
+    for k in 1..entries.len() {
+        if !is_before(&entries[k - 1], &entries[k]) {
+            return false;
+        }
+    }
+    true
+}
+
 /// The groups in rows, of which none comes twice, each with its members.
 fn groups_in(alloc: Global, rows: &[Row], members: &[Member]) -> Result<Vec<GroupEntry>, StoreError>
     ensures groups { IfOk result (λ entries. map (λ e. group_columns (entry_group e)) entries.items ≡ map first_two rows.now) }
@@ -120,7 +129,7 @@ fn groups_in(alloc: Global, rows: &[Row], members: &[Member]) -> Result<Vec<Grou
     ensures rising { IfOk result (λ entries. AllAdjacentBelow IsBefore entries.items (length entries.items)) }
 {
     let entries = joined(alloc, rows, members)?;
-    if rise(&entries) {
+    if names_rise(&entries) {
         Ok(entries)
     } else {
         Err(StoreError::Store)

@@ -2,14 +2,14 @@
 ghost use Rattle.std.specs.Prelude.{◌≡◌};
 ghost use Rattle.std.specs.List.{list_any};
 ghost use Rattle.std.specs.Result.{is_ok};
-ghost use Rattle.prof_tables.specs.Changes.{has_member, joined, with_member};
-ghost use Rattle.prof_tables.specs.Seen.{is_member_row};
+ghost use Rattle.plain_tables.specs.Changes.{has_member, joined, with_member};
+ghost use Rattle.store_schema.specs.Seen.{is_member_row};
 ghost use Rattle.prof_store.specs.Shown.{Asks, Changes, Found, KeepsShut, Told};
 
 use crate::statements::{select, write};
 use crate::store::Store;
 use sqlite::{Alter, params};
-use store_columns::StoreError;
+use store_schema::StoreError;
 
 impl<S: Alter> Store<S> {
     /// Whether a run is in a group.

@@ -9,8 +9,6 @@ mod create;
 mod digests;
 // Drops a run.
 mod dropping;
-// The entries of lists.
-mod entries;
 // Groups are made and dropped; runs leave them and become baselines.
 mod group_changes;
 // The groups with their members.
@@ -36,12 +34,12 @@ mod sums;
 // The sums over all runs.
 mod totals;
 
-pub use entries::{GroupEntry, RunEntry};
 pub use laws::{
     rows_say_lines, stores_say_their_version, what_is_left_is_taken_up, what_stands_survives,
 };
 pub use profile_records::Kind;
+pub use run_stores::{GroupEntry, RunEntry};
 pub use sqlite::Alter;
 pub use statements::{select, select_first, select_row};
 pub use store::Store;
-pub use store_columns::{OpenError, StoreError, is_group_name, is_label};
+pub use store_schema::{OpenError, StoreError, is_group_name, is_label};

@@ -3,15 +3,15 @@ ghost use Rattle.std.specs.Prelude.{◌≡◌, IfOk};
 ghost use Rattle.std.specs.List.{list_any};
 ghost use Rattle.std.specs.Result.{is_ok};
 ghost use Rattle.sqlite_value.specs.declared.value.Value.TheVariants.{Text};
-ghost use Rattle.prof_tables.specs.Changes.{has_run, has_group};
-ghost use Rattle.prof_tables.specs.Seen.{is_at};
-ghost use Rattle.prof_tables.specs.Tables.{number};
+ghost use Rattle.plain_tables.specs.Changes.{has_run, has_group};
+ghost use Rattle.store_schema.specs.Seen.{is_at};
+ghost use Rattle.store_schema.specs.Tables.{number};
 ghost use Rattle.prof_store.specs.Shown.{Asks, Found, Told};
 
 use crate::statements::select;
 use crate::store::Store;
 use sqlite::{Alter, params};
-use store_columns::StoreError;
+use store_schema::StoreError;
 
 impl<S: Alter> Store<S> {
     /// Whether a run is held.

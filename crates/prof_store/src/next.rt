@@ -9,7 +9,7 @@ ghost use Rattle.prof_store.specs.Shown.{Asks, Found, Told};
 use crate::statements::select_row;
 use crate::store::Store;
 use sqlite::Alter;
-use store_columns::{StoreError, number_at};
+use store_schema::{StoreError, number_at};
 
 impl<S: Alter> Store<S> {
     /// The number that the next run gets.

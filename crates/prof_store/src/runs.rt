@@ -1,50 +1,72 @@
 // The runs that are held.
-ghost use Rattle.std.specs.Prelude.{◌≡◌, ◌<◌, [], map, length, IfOk, IsPermutation};
+ghost use Rattle.std.specs.Prelude.{◌≡◌, ◌<◌, ◌↔◌, [], map, length, IfOk, IsTrue, IsPermutation};
 ghost use Rattle.std.specs.List.{AllAdjacentBelow};
 ghost use Rattle.std.specs.Result.{is_ok};
-ghost use Rattle.prof_tables.specs.Seen.{run_seen};
-ghost use Rattle.prof_store.specs.Entries.{entry_columns, entry_run};
+ghost use Rattle.store_schema.specs.Seen.{run_seen};
+ghost use Rattle.prof_store.specs.Entries.{entry_columns, first_four};
+ghost use Rattle.run_stores.specs.Entries.{entry_run};
 ghost use Rattle.prof_books.specs.Entries.{held_run};
 ghost use Rattle.prof_store.specs.Shown.{Asks, Found, Told};
 
-use crate::entries::RunEntry;
 use crate::statements::select;
 use crate::store::Store;
+use run_stores::RunEntry;
 use sqlite::{Alter, Row};
 use std::alloc::Global;
-use store_columns::{
-    FromRow, Rises, StoreError, digest_at, kind_at, label_at, number_at, read_rising,
-};
+use store_schema::{StoreError, digest_at, kind_at, label_at, number_at};
 
-impl FromRow for RunEntry {
-    ghost use Rattle.prof_store.specs.Entries.{first_four, entry_columns};
-
-    ghost seen = { first_four };
-
-    ghost columns = { entry_columns };
-
-    fn from_row(row: &Row) -> Result<RunEntry, StoreError> {
-        let number = number_at(row, 0)?;
-        let kind = kind_at(row, 1)?;
-        let digest = digest_at(row, 2)?;
-        let label = label_at(row, 3)?;
-        Ok(RunEntry {
-            number,
-            kind,
-            digest,
-            label,
-        })
-    }
+/// The run that a row shows.
+fn run_in(row: &Row) -> Result<RunEntry, StoreError>
+    ensures read { IfOk result (λ entry. entry_columns entry ≡ first_four row.now) }
+{
+    let number = number_at(row, 0)?;
+    let kind = kind_at(row, 1)?;
+    let digest = digest_at(row, 2)?;
+    let label = label_at(row, 3)?;
+    Ok(RunEntry {
+        number,
+        kind,
+        digest,
+        label,
+    })
 }
 
-/// By their numbers, of which none comes twice.
-impl Rises for RunEntry {
-    ghost use Rattle.std.specs.Prelude.{◌<◌};
+/// The runs that rows show, one after another.
+fn read_runs(alloc: Global, rows: &[Row]) -> Result<Vec<RunEntry>, StoreError>
+    ensures read { IfOk result (λ entries. map entry_columns entries.items ≡ map first_four rows.now) }
+{
+    let mut entries = Vec::new(alloc);
+    'rows: for row in rows {
+        let entry = run_in(row)?;
+        if entries.push(entry).is_err() {
+            return Err(StoreError::Memory);
+        }
+    }
+    Ok(entries)
+}
 
-    ghost Below = { λ a b. a.number < b.number };
+/// Whether the numbers of runs rise, so that none comes twice.
+fn numbers_rise(entries: &[RunEntry]) -> bool
+    ensures { IsTrue result ↔ AllAdjacentBelow (λ a b. a.number < b.number) entries.now (length entries.now) }
+{
+    for k in 1..entries.len() {
+        if entries[k - 1].number >= entries[k].number {
+            return false;
+        }
+    }
+    true
+}
 
-    fn is_below(&self, other: &RunEntry) -> bool {
-        self.number < other.number
+/// The runs in rows, of which none comes twice.
+fn runs_in(alloc: Global, rows: &[Row]) -> Result<Vec<RunEntry>, StoreError>
+    ensures read { IfOk result (λ entries. map entry_columns entries.items ≡ map first_four rows.now) }
+    ensures rising { IfOk result (λ entries. AllAdjacentBelow (λ a b. a.number < b.number) entries.items (length entries.items)) }
+{
+    let entries = read_runs(alloc, rows)?;
+    if numbers_rise(&entries) {
+        Ok(entries)
+    } else {
+        Err(StoreError::Store)
     }
 }
 
@@ -61,6 +83,6 @@ impl<S: Alter> Store<S> {
             "SELECT run, kind, digest, label FROM run ORDER BY run",
             &[],
         )?;
-        read_rising(alloc, &rows)
+        runs_in(alloc, &rows)
     }
 }

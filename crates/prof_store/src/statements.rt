@@ -1,15 +1,15 @@
 // Every statement that a store runs outside a transaction goes through one of these calls.
 ghost use Rattle.std.specs.Prelude.{◌≡◌, Bool, true, false};
-ghost use Rattle.prof_tables.specs.Tables.{Tables};
+ghost use Rattle.plain_tables.specs.Tables.{Tables};
 ghost use Rattle.std.specs.Result.{is_ok};
 ghost use Rattle.sqlite.specs.Held.{state};
 ghost use Rattle.sqlite.specs.Values.{bound};
 ghost use Rattle.prof_store.specs.Statements.{AsksBy, ShowsAll, ShowsFirst, ShowsRow};
-ghost use Rattle.store_columns.specs.Within.{CommitsIf, CommitsUnlessShut, TextMakes};
+ghost use Rattle.store_schema.specs.Within.{CommitsIf, CommitsUnlessShut, TextMakes};
 
 use sqlite::types::ValueRef;
 use sqlite::{Alter, Connection, Error, Row};
-use store_columns::{StoreError, error_of, write_inside};
+use store_schema::{StoreError, error_of, write_inside};
 
 /// All rows that a query shows.
 pub fn select<S: Alter>(

@@ -3,7 +3,7 @@ ghost use Rattle.std.specs.Prelude.{◌<◌, ◌^◌, IfOk};
 ghost use Rattle.prof_store.specs.Totals.{IsSum};
 
 use sqlite::Row;
-use store_columns::{OutOfForm, sum_at};
+use store_schema::{OutOfForm, sum_at};
 
 /// Sums of 2^112 and more are refused.
 const SUM_END: u128 = 1 << 112;

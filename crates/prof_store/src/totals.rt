@@ -12,7 +12,7 @@ use cg_text::ListVec;
 use cost_rows::FileTotals;
 use sqlite::{Alter, Row, params};
 use std::alloc::Global;
-use store_columns::{OutOfForm, StoreError};
+use store_schema::{OutOfForm, StoreError};
 
 /// The sums of an event over all runs: of own costs, and of the costs of calls.
 #[derive(Drop)]

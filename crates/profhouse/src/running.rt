@@ -1,10 +1,10 @@
 // What a plan says is done, over the files that it names.
 use command_line::Plan;
-use file_totals::total_file;
-use http_serving::{Service, serve_in};
+use file_reading::total_file;
+use http_service::Service;
 use prof_store::OpenError;
-use program_files::{StoreFile, database_at, error_line, is_new_at};
-use sessions::{Task, Work, print_total, task_of, work_in};
+use program_stores::{database_at, error_line, is_new_at, serve_in, work_in};
+use sessions::{Task, Work, print_total, task_of};
 use sqlite::{Alter, Connection};
 use std::io;
 use std::process::ExitCode;
@@ -43,25 +43,15 @@ fn work_on<'a, S: Alter>(
     }
 }
 
-/// Does a job over a database in a file, and closes it: what was committed is copied from the log into
-/// the file; where that fails, it stands in the log, and the next opening finds it there. No guarantee:
-/// nothing of the database comes back.
-fn work_and_close<'a>(
-    rt: &'a HostRuntime,
-    conn: Connection<StoreFile>,
-    is_new: bool,
-    job: Job<'a>,
-) -> Result<io::Result<u8>, OpenError> {
-    let (came_to, conn) = work_on(rt, conn, is_new, job);
-    let _closed = conn.close();
-    came_to
-}
-
-/// Does a job over the store at a path. No guarantee: as `run_over`.
+/// Does a job over the store at a path, and closes that: what was committed is copied from the log into the
+/// file; where that fails, it stands in the log, and the next opening finds it there. No guarantee: as
+/// `run_over`.
 fn work_at<'a>(rt: &'a HostRuntime, db: &str, job: Job<'a>) -> Result<io::Result<u8>, OpenError> {
     let is_new = is_new_at(rt, db)?;
     let conn = database_at(rt, db)?;
-    work_and_close(rt, conn, is_new, job)
+    let (came_to, conn) = work_on(rt, conn, is_new, job);
+    let _closed = conn.close();
+    came_to
 }
 
 /// Does a job over the store at a path, and prints why that was not opened. No guarantee: which history the

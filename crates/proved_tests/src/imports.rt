@@ -1,7 +1,8 @@
 // Imports into a warehouse of small limits.
 use crate::given::Given;
-use crate::stores::empty;
+use crate::stores::empty_runs;
 use prof_store::StoreError;
+use sql_runs::SqlRuns;
 use sqlite::MemStore;
 use std::alloc::{AllocError, Global};
 use std::test::Fail;
@@ -30,19 +31,19 @@ fn word(answer: &Answer) -> &'static str {
 }
 
 /// An empty warehouse that imports files of so many bytes, two runs, one group, and three numbers.
-fn small_house(alloc: Global, bytes: u16) -> Result<Warehouse<MemStore>, StoreError> {
+fn small_house(alloc: Global, bytes: u16) -> Result<Warehouse<SqlRuns<MemStore>>, StoreError> {
     let limits = Limits {
         bytes: u64::from(bytes),
         runs: 2,
         groups: 1,
         numbers: 3,
     };
-    Ok(Warehouse::new(empty(alloc, false)?, limits))
+    Ok(Warehouse::new(empty_runs(alloc, false)?, limits))
 }
 
 /// What the import of a source is answered.
 fn import<R: Source + Drop>(
-    house: &mut Warehouse<MemStore>,
+    house: &mut Warehouse<SqlRuns<MemStore>>,
     alloc: Global,
     mut source: R,
 ) -> &'static str {
@@ -51,7 +52,7 @@ fn import<R: Source + Drop>(
 
 /// What the making of a group is answered.
 fn make_group(
-    house: &mut Warehouse<MemStore>,
+    house: &mut Warehouse<SqlRuns<MemStore>>,
     alloc: Global,
     name: &[u8],
 ) -> Result<&'static str, AllocError> {
@@ -61,7 +62,7 @@ fn make_group(
 
 /// Whether run 1 is removed, a group is made, and a second one finds no room.
 fn removes_and_makes_one_group(
-    house: &mut Warehouse<MemStore>,
+    house: &mut Warehouse<SqlRuns<MemStore>>,
     alloc: Global,
 ) -> Result<bool, AllocError> {
     let removed = word(&house.apply::<Given>(alloc, Command::Remove(1)));
@@ -121,10 +122,10 @@ fn limits_made_small(rt: HostRuntime) -> Result<(), Fail> {
 #[test]
 fn nothing_is_put_within_a_transaction(rt: HostRuntime) -> Result<(), Fail> {
     let alloc = rt.alloc();
-    let mut house = Warehouse::new(empty(alloc, true)?, Limits::standard());
+    let mut house = Warehouse::new(empty_runs(alloc, true)?, Limits::standard());
     let answer = import(&mut house, alloc, Given::sound(SMALL, 100));
     assert_eq!(rt; answer, "store failed");
-    let runs = house.into_store().runs(alloc)?;
+    let runs = house.into_store().store.runs(alloc)?;
     assert!(rt; runs.is_empty());
     Ok(())
 }

@@ -1,6 +1,6 @@
 // Public calls that a library's user has and the program does not make.
 use crate::given::Given;
-use crate::stores::empty;
+use crate::stores::empty_runs;
 use callgrind_reader::Reader;
 use cg_formulas::{FileHead, Flat};
 use cg_text::{ListVec, fields};
@@ -138,7 +138,7 @@ fn is_wanted(at: usize, answer: &Answer) -> bool {
 #[test]
 fn a_list_of_commands_is_answered(rt: HostRuntime) -> Result<(), Fail> {
     let alloc = rt.alloc();
-    let mut house = Warehouse::new(empty(alloc, false)?, Limits::standard());
+    let mut house = Warehouse::new(empty_runs(alloc, false)?, Limits::standard());
     let answers = house.run(alloc, commands(alloc)?)?;
     assert_eq!(rt; answers.len(), 6);
     for (at, answer) in answers.iter().enumerate() {

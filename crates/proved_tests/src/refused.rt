@@ -1,10 +1,11 @@
 // A list of commands of which one allocation is refused, by tests/by_hand/refuse_each: what meets it is refused as
 // out of memory and changes nothing, the others are answered, and the next call is whole.
 use crate::given::Given;
-use crate::stores::empty;
+use crate::stores::empty_runs;
 use cg_text::ListVec;
-use cost_reports::Cut;
 use cost_rows::Key;
+use report_texts::Cut;
+use sql_runs::SqlRuns;
 use sqlite::MemStore;
 use std::alloc::{AllocError, Global};
 use std::test::Fail;
@@ -73,7 +74,7 @@ fn letter(answer: &Answer) -> u8 {
 }
 
 /// The letters of the answers to the list, or none where the list was refused.
-fn ran(alloc: Global, house: &mut Warehouse<MemStore>) -> Result<[u8; 5], AllocError> {
+fn ran(alloc: Global, house: &mut Warehouse<SqlRuns<MemStore>>) -> Result<[u8; 5], AllocError> {
     let answers = house.run(alloc, commands(alloc)?)?;
     let mut letters = [b'?'; 5];
     for (place, answer) in letters.iter_mut().zip(answers.iter()) {
@@ -105,9 +106,9 @@ fn wanted(first: Result<[u8; 5], AllocError>) -> [u8; 5] {
 #[test]
 fn memory_refused_to_run(rt: HostRuntime) -> Result<(), Fail> {
     let alloc = rt.alloc();
-    let store = match empty(alloc, false) {
+    let store = match empty_runs(alloc, false) {
         Ok(store) => store,
-        Err(_) => empty(alloc, false)?,
+        Err(_) => empty_runs(alloc, false)?,
     };
     let mut house = Warehouse::new(store, Limits::standard());
     let first = ran(alloc, &mut house);

@@ -4,9 +4,10 @@ use crate::disk::Stopping;
 use crate::given::Given;
 use crate::refused::CALLS;
 use cg_text::ListVec;
-use cost_reports::Cut;
 use cost_rows::Key;
 use prof_store::Store;
+use report_texts::Cut;
+use sql_runs::SqlRuns;
 use sqlite::{Connection, FileStore, Files, Options};
 use sqlite_disk::Disk;
 use std::alloc::{AllocError, Global};
@@ -119,9 +120,9 @@ fn closed(conn: Held) -> Files<Stopping> {
     }
 }
 
-fn house_over(alloc: Global, conn: Held) -> Result<Warehouse<FileStore<Stopping>>, Held> {
+fn house_over(alloc: Global, conn: Held) -> Result<Warehouse<SqlRuns<FileStore<Stopping>>>, Held> {
     match Store::open(alloc, conn) {
-        Ok(store) => Ok(Warehouse::new(store, Limits::standard())),
+        Ok(store) => Ok(Warehouse::new(SqlRuns { store }, Limits::standard())),
         Err((_, conn)) => Err(conn),
     }
 }
@@ -142,7 +143,7 @@ fn command_of(alloc: Global, step: Step) -> Result<Command<Given>, AllocError> {
 /// Whether a command is answered as done.
 fn is_answered(
     alloc: Global,
-    house: &mut Warehouse<FileStore<Stopping>>,
+    house: &mut Warehouse<SqlRuns<FileStore<Stopping>>>,
     step: Step,
 ) -> Result<bool, AllocError> {
     let answer = house.apply(alloc, command_of(alloc, step)?);
@@ -234,7 +235,7 @@ fn by_function(alloc: Global, event: &[u8]) -> Result<Query, AllocError> {
 /// Adds what a question is answered: a text behind a 1, or a 2 for a refusal.
 fn ask(
     alloc: Global,
-    house: &mut Warehouse<FileStore<Stopping>>,
+    house: &mut Warehouse<SqlRuns<FileStore<Stopping>>>,
     query: Query,
     told: &mut Vec<u8>,
 ) -> Result<(), AllocError> {

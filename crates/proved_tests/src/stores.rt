@@ -1,6 +1,7 @@
 // A store in memory whose rows are written by hand. No guarantees: what the tests over it want fails where it is
 // another.
 use prof_store::{Store, StoreError};
+use sql_runs::SqlRuns;
 use sqlite::{Connection, MemStore, params};
 use std::alloc::Global;
 
@@ -51,4 +52,10 @@ pub(crate) fn empty(alloc: Global, is_within: bool) -> Result<Store<MemStore>, S
         Ok(store) => Ok(store),
         Err(_) => Err(StoreError::Store),
     }
+}
+
+/// The same as a store of runs, empty.
+pub(crate) fn empty_runs(alloc: Global, is_within: bool) -> Result<SqlRuns<MemStore>, StoreError> {
+    let store = empty(alloc, is_within)?;
+    Ok(SqlRuns { store })
 }

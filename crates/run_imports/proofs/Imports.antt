@@ -1,6 +1,5 @@
 -- What is due for a file that was read to its end.
 use Rattle.std.proofs.Common.{◌≡◌, ℕ, Bool, true, false, nat_le, if◌then◌else◌, List, [], ◌∷◌, length, Option, Some, None, Result, Ok, Err, option_map, refl, sym, ap, ap₂, subst, ◌∙◌}
-use Rattle.sqlite_trees.specs.Tree.{Trees}
 use Rattle.sha2.specs.Sha256.{sha256}
 use Rattle.cg_text.specs.declared.faults.Fault as faults
 use Rattle.cg_formulas.specs.declared.heads.FileHead.{FileHead}
@@ -8,13 +7,14 @@ use Rattle.cost_rows.specs.Admit.{overflow_of}
 use Rattle.cost_rows.specs.Content.{Content}
 use Rattle.cost_rows.specs.Totals.{AreTotals}
 use Rattle.cost_rows.specs.declared.rows.FileTotals.{FileTotals}
-use Rattle.prof_tables.specs.Tables.{Tables, Holds}
+use Rattle.plain_tables.specs.Sound.{AreSound}
+use Rattle.plain_tables.specs.Tables.{Tables}
 use Rattle.prof_books.specs.Totals.{IsHeldIn}
 use Rattle.profile_records.specs.declared.kinds.Kind.{Kind}
 use Rattle.profile_records.specs.declared.kinds.Kind.TheVariants.{Callgrind, Folded}
 use Rattle.histories.specs.Formats.{today}
 use Rattle.histories.specs.Files.{IsHeadOf, rows_of, events_of, fault_of}
-use Rattle.sources.specs.Outcomes.{Outcome, bytes_of}
+use Rattle.byte_io.specs.Outcomes.{Outcome, bytes_of}
 use Rattle.histories.proofs.ReadsDue as by_reads
 use Rattle.histories.specs.History.{History, Import, held, next}
 use Rattle.histories.specs.Legal.{expected_answer, file_due, number_of, faulty, first_or, when}
@@ -28,7 +28,7 @@ use Rattle.histories.specs.declared.answers.Refusal.TheVariants as reasons
 use Rattle.histories.specs.declared.limits.Limits.{Limits}
 use Rattle.histories.proofs.Excesses.{tells_excess}
 use Rattle.histories.proofs.Tells.{tells_many}
-use Rattle.sources.specs.Reads.{HasEnded}
+use Rattle.byte_io.specs.Reads.{HasEnded}
 use Rattle.run_imports.specs.FromTables.{IsExcess, IsNumber}
 use Rattle.run_imports.specs.Refused.{no_room, number_unless, room_refusal}
 use Rattle.store_histories.specs.Refusals.{refused_or}
@@ -39,13 +39,13 @@ pub head_events : (kind : Kind) (head : FileHead) (bytes : List ℕ) → IsHeadO
 head_events Callgrind head bytes is = is.events
 head_events Folded head bytes is = is.events
 
-module _ (h : History) (t : Tables) (db : Trees) (kind : Kind) (bytes : List ℕ) (head : FileHead) (c : Content) (was : Holds t db) (tell : TablesTell h t) (is : IsHeadOf kind head bytes) (rows_are : c ≡ rows_of kind bytes) where
+module _ (h : History) (t : Tables) (kind : Kind) (bytes : List ℕ) (head : FileHead) (c : Content) (was : AreSound t) (tell : TablesTell h t) (is : IsHeadOf kind head bytes) (rows_are : c ≡ rows_of kind bytes) where
   excess_told : (excess : Option Excess) → IsExcess head c t excess → excess ≡ excess_of (held h) (today kind) bytes
   excess_told excess it =
       let named = head_events kind head bytes is in
       it.excess_is
       ∙ ap (λ l. option_map (excess_at l) (overflow_of it.held it.added)) named
-      ∙ sym (tells_excess h t db kind bytes it.held it.added was tell (subst (λ l. IsHeldIn t l it.held) named it.are_held)
+      ∙ sym (tells_excess h t kind bytes it.held it.added was tell (subst (λ l. IsHeldIn t l it.held) named it.are_held)
       (subst (λ n. AreTotals it.added (rows_of kind bytes) n) (ap length named) (subst (λ x. AreTotals it.added x (length head.events)) rows_are it.are_added)))
 
   -- where the lines stand for a history, the number is what follows from it

@@ -10,8 +10,8 @@ use Rattle.cost_rows.specs.declared.file_rows.FileRows.{FileRows}
 use Rattle.cost_rows.specs.declared.rows.FileTotals.{FileTotals}
 use Rattle.prof_books.specs.Runs.{with_file}
 use Rattle.prof_books.specs.Totals.{IsHeldIn}
-use Rattle.prof_store.specs.Digests.{IsRunOf}
-use Rattle.prof_tables.specs.Tables.{Tables}
+use Rattle.run_stores.specs.Lookups.{IsRunOf}
+use Rattle.plain_tables.specs.Tables.{Tables}
 use Rattle.profile_records.specs.declared.kinds.Kind.{Kind}
 use Rattle.histories.specs.Legal.{faulty}
 use Rattle.histories.specs.Sums.{excess_at}
@@ -20,7 +20,7 @@ use Rattle.histories.specs.declared.answers.Answer.TheVariants as answers
 use Rattle.histories.specs.declared.answers.Excess.{Excess}
 use Rattle.histories.specs.declared.answers.Refusal.{Refusal}
 use Rattle.histories.specs.declared.limits.Limits.{Limits}
-use Rattle.file_intake.specs.declared.intake.Taken.{Taken}
+use Rattle.file_reading.specs.declared.intake.Taken.{Taken}
 use Rattle.run_imports.specs.Refused.{no_room, number_unless}
 
 -- what would pass its bound with the file beside the runs of these lines

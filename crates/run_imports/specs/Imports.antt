@@ -2,23 +2,21 @@
 use Rattle.std.specs.Prelude.{◌≡◌, ℕ, List, None, Result}
 use Rattle.std.specs.Result.{is_ok}
 use Rattle.sha2.specs.Sha256.{sha256}
-use Rattle.sqlite_trees.specs.declared.store.Store.{Ghosts}
-use Rattle.sql_tables.specs.Calls.{Changed}
-use Rattle.prof_tables.specs.Schema.{schema_two}
-use Rattle.prof_store.specs.Shown.{shown, IsFaithful}
-use Rattle.prof_store.specs.declared.store.Store.{Store}
-use Rattle.store_columns.specs.declared.errors.StoreError.{StoreError}
+use Rattle.run_stores.specs.declared.states.StoreState.{Ghosts}
+use Rattle.run_stores.specs.Calls.{Changed, IsFaithful}
+use Rattle.plain_tables.specs.declared.errors.StoreError.{StoreError}
 use Rattle.cg_formulas.specs.declared.heads.FileHead.{FileHead}
 use Rattle.cost_rows.specs.Rows.{content_of}
 use Rattle.cost_rows.specs.declared.file_rows.FileRows.{FileRows}
 use Rattle.profile_records.specs.declared.kinds.Kind.{Kind}
 use Rattle.histories.specs.Formats.{today}
 use Rattle.histories.specs.Files.{IsHeadOf, rows_of, fault_of}
-use Rattle.sources.specs.Outcomes.{Outcome, bytes_of}
+use Rattle.byte_io.specs.Outcomes.{Outcome, bytes_of}
 use Rattle.histories.specs.History.{History, Import, held}
 use Rattle.histories.specs.declared.answers.Answer.{Answer}
 use Rattle.histories.specs.declared.limits.Limits.{Limits}
-use Rattle.store_histories.specs.Answered.{TellsHistory, Follows, has_changed}
+use Rattle.histories.specs.Stands.{TablesTell}
+use Rattle.store_histories.specs.Answered.{Follows, has_changed}
 use Rattle.histories.specs.Legal.{number_of}
 
 -- its digest, its head and its rows, where it has no fault and no file that is held has its digest
@@ -30,6 +28,6 @@ pub record IsNewFile (h : History) (kind : Kind) (bytes digest : List ℕ) (head
   pub rows_are : content_of rows ≡ rows_of kind bytes
 
 -- what a call leaves that puts such a file as a run, whatever the history
-abbrev pub PutsNew : {S : Type 0} → Ghosts S → Limits → Kind → List ℕ → List Outcome → List ℕ → FileHead → FileRows → Result Answer StoreError → Store S → Store S → Type 0
+abbrev pub PutsNew : {S : Type 0} → Ghosts S → Limits → Kind → List ℕ → List Outcome → List ℕ → FileHead → FileRows → Result Answer StoreError → S → S → Type 0
 PutsNew g limits kind label outcomes digest head rows result old new =
-    IsFaithful g new → Changed schema_two (λ h db. IsNewFile h kind (bytes_of outcomes) digest head rows × TellsHistory h db) (Follows limits (Import (today kind) label outcomes)) (is_ok result) (has_changed result) (shown g old) (shown g new)
+    IsFaithful g new → Changed g (λ h t. IsNewFile h kind (bytes_of outcomes) digest head rows × TablesTell h t) (Follows limits (Import (today kind) label outcomes)) (is_ok result) (has_changed result) old new

@@ -4,26 +4,24 @@ ghost use Rattle.std.specs.Prelude.{◌≡◌, List, MatchOption, IfOk};
 ghost use Rattle.std.specs.Result.{is_ok};
 ghost use Rattle.std.specs.Str.{IsUtf8};
 ghost use Rattle.cost_rows.specs.Rows.{content_of};
-ghost use Rattle.prof_tables.specs.Labels.{IsLabel};
-ghost use Rattle.prof_store.specs.Shown.{IsFaithful, Asks, KeepsShut, Made, StandsFor, Told};
-ghost use Rattle.sources.specs.Outcomes.{Outcome, bytes_of};
+ghost use Rattle.plain_tables.specs.Labels.{IsLabel};
+ghost use Rattle.run_stores.specs.Calls.{IsFaithful, Asks, KeepsShut, Made, StandsFor, Told};
+ghost use Rattle.byte_io.specs.Outcomes.{Outcome, bytes_of};
 ghost use Rattle.histories.specs.Formats.{today};
 ghost use Rattle.histories.specs.History.{History, Import};
 ghost use Rattle.histories.specs.Sums as sums;
 ghost use Rattle.store_histories.specs.Answered.{StandsForHistory, WasDue, TurnsIf, has_changed};
 ghost use Rattle.run_imports.specs.FromTables.{IsExcess, IsNumber, IsPutIn, IsTakenIn};
 ghost use Rattle.run_imports.specs.Imports.{IsNewFile, PutsNew};
-ghost use Rattle.file_intake.specs.Intakes.{IsTakenOf};
-ghost use Rattle.sources.specs.Reads.{HasEnded};
+ghost use Rattle.file_reading.specs.Intakes.{IsTakenOf};
+ghost use Rattle.byte_io.specs.Reads.{HasEnded};
 
 use cg_text::ListVec;
 use cost_rows::{Overflow, Side, admit};
-use file_intake::Taken;
+use file_reading::Taken;
 use histories::{Answer, Excess, Limits, Refusal};
-use prof_store::{Store, StoreError, is_label};
 use profile_records::Kind;
-use run_putting::{SummedFile, put_run};
-use sqlite::Alter;
+use run_stores::{RunStore, StoreError, SummedFile, is_label};
 use std::alloc::{AllocError, Global};
 
 /// What would pass its bound, by the name of its event.
@@ -62,13 +60,13 @@ pub fn label_of(bytes: &[u8]) -> Option<&str>
 }
 
 /// What would pass its bound with a file's sums beside those that are held.
-fn excess_with<S: Alter>(
-    store: &mut Store<S>,
+fn excess_with<S: RunStore>(
+    store: &mut S,
     alloc: Global,
     file: &SummedFile<'_>,
 ) -> Result<Option<Excess>, StoreError>
-    ensures told { Told S.Store result store.old store.new (IsExcess file.now.head.now (content_of file.now.rows.now)) }
-    ensures asks { Asks S.Store (is_ok result) store.old store.new }
+    ensures told { Told S.StoreState result store.old store.new (IsExcess file.now.head.now (content_of file.now.rows.now)) }
+    ensures asks { Asks S.StoreState (is_ok result) store.old store.new }
 {
     let totals = store.totals_of(alloc, file.head.events.as_slice())?;
     match admit(&totals, &file.totals) {
@@ -81,14 +79,14 @@ fn excess_with<S: Alter>(
 }
 
 /// The number under which a file is put that has no fault and is not held, or why there is no room for it.
-fn number_for<S: Alter>(
-    store: &mut Store<S>,
+fn number_for<S: RunStore>(
+    store: &mut S,
     alloc: Global,
     limits: Limits,
     file: &SummedFile<'_>,
 ) -> Result<Result<u32, Refusal>, StoreError>
-    ensures told { Told S.Store result store.old store.new (IsNumber limits file.now.head.now (content_of file.now.rows.now)) }
-    ensures asks { Asks S.Store (is_ok result) store.old store.new }
+    ensures told { Told S.StoreState result store.old store.new (IsNumber limits file.now.head.now (content_of file.now.rows.now)) }
+    ensures asks { Asks S.StoreState (is_ok result) store.old store.new }
 {
     if let Some(excess) = excess_with(store, alloc, file)? {
         return Ok(Err(Refusal::Overflow(excess)));
@@ -104,8 +102,8 @@ fn number_for<S: Alter>(
 }
 
 /// Puts a file that has no fault and is not held, if there is room for it.
-fn put_file<S: Alter>(
-    store: &mut Store<S>,
+fn put_file<S: RunStore>(
+    store: &mut S,
     alloc: Global,
     limits: Limits,
     kind: Kind,
@@ -114,19 +112,19 @@ fn put_file<S: Alter>(
     file: &SummedFile<'_>,
 ) -> Result<Answer, StoreError>
     requires { IsLabel label.now }
-    ensures answered { IsFaithful S.Store store.new → (h : History) (outcomes : List Outcome) → StandsForHistory S.Store h store.old
+    ensures answered { IsFaithful S.StoreState store.new → (h : History) (outcomes : List Outcome) → StandsForHistory S.StoreState h store.old
         → HasEnded limits.bytes outcomes → IsNewFile h kind (bytes_of outcomes) digest.now file.now.head.now file.now.rows.now
-        → IfOk result (λ answer. WasDue S.Store limits h (Import (today kind) label.now outcomes) answer store.new) }
-    ensures told { Told S.Store result store.old store.new
+        → IfOk result (λ answer. WasDue S.StoreState limits h (Import (today kind) label.now outcomes) answer store.new) }
+    ensures told { Told S.StoreState result store.old store.new
         (IsPutIn limits kind label.now digest.now (λ _. ⊤) file.now.head.now (content_of file.now.rows.now)) }
-    ensures made { Made S.Store result store.old store.new
-        (IsPutIn limits kind label.now digest.now (λ left. StandsFor S.Store left store.new) file.now.head.now (content_of file.now.rows.now)) }
+    ensures made { Made S.StoreState result store.old store.new
+        (IsPutIn limits kind label.now digest.now (λ left. StandsFor S.StoreState left store.new) file.now.head.now (content_of file.now.rows.now)) }
     ensures turns { (outcomes : List Outcome) → HasEnded limits.bytes outcomes
-        → PutsNew S.Store limits kind label.now outcomes digest.now file.now.head.now file.now.rows.now result store.old store.new }
+        → PutsNew S.StoreState limits kind label.now outcomes digest.now file.now.head.now file.now.rows.now result store.old store.new }
 {
     match number_for(store, alloc, limits, file)? {
         Ok(number) => {
-            put_run(store, alloc, number, kind, digest, label, file)?;
+            store.put_run(alloc, number, kind, digest, label, file)?;
             Ok(Answer::Run(number))
         }
         Err(refusal) => Ok(Answer::Refused(refusal)),
@@ -134,8 +132,8 @@ fn put_file<S: Alter>(
 }
 
 /// Imports a file that was read to its end.
-pub fn take_in<S: Alter>(
-    store: &mut Store<S>,
+pub fn take_in<S: RunStore>(
+    store: &mut S,
     alloc: Global,
     limits: Limits,
     kind: Kind,
@@ -143,14 +141,14 @@ pub fn take_in<S: Alter>(
     taken: &Taken,
 ) -> Result<Answer, StoreError>
     requires { IsLabel label.now }
-    ensures answered { IsFaithful S.Store store.new → (h : History) (outcomes : List Outcome) → StandsForHistory S.Store h store.old
+    ensures answered { IsFaithful S.StoreState store.new → (h : History) (outcomes : List Outcome) → StandsForHistory S.StoreState h store.old
         → HasEnded limits.bytes outcomes → IsTakenOf kind (bytes_of outcomes) taken.now
-        → IfOk result (λ answer. WasDue S.Store limits h (Import (today kind) label.now outcomes) answer store.new) }
-    ensures told { Told S.Store result store.old store.new (IsTakenIn limits kind label.now taken.now (λ _. ⊤)) }
-    ensures made { Made S.Store result store.old store.new (IsTakenIn limits kind label.now taken.now (λ left. StandsFor S.Store left store.new)) }
+        → IfOk result (λ answer. WasDue S.StoreState limits h (Import (today kind) label.now outcomes) answer store.new) }
+    ensures told { Told S.StoreState result store.old store.new (IsTakenIn limits kind label.now taken.now (λ _. ⊤)) }
+    ensures made { Made S.StoreState result store.old store.new (IsTakenIn limits kind label.now taken.now (λ left. StandsFor S.StoreState left store.new)) }
     ensures turns { (outcomes : List Outcome) → HasEnded limits.bytes outcomes → IsTakenOf kind (bytes_of outcomes) taken.now
-        → TurnsIf S.Store limits (Import (today kind) label.now outcomes) (is_ok result) (has_changed result) store.old store.new }
-    ensures shut { KeepsShut S.Store store.old store.new }
+        → TurnsIf S.StoreState limits (Import (today kind) label.now outcomes) (is_ok result) (has_changed result) store.old store.new }
+    ensures shut { KeepsShut S.StoreState store.old store.new }
 {
     if let Some(number) = store.run_of_digest(&taken.digest)? {
         return Ok(Answer::Held(number));

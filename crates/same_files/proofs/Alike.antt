@@ -12,12 +12,12 @@ use Rattle.cost_rows.specs.Merging.{sum_where, TellsApart}
 use Rattle.cost_rows.specs.Sums.{Spot}
 use Rattle.cost_rows.specs.declared.keys.Key.{Key}
 use Rattle.cost_rows.proofs.KeysLemmas.{named_cmp-total, named_cmp-apart}
-use Rattle.cost_reports.specs.Pairs.{pairs_by}
-use Rattle.cost_reports.specs.declared.pairs.Pair.{Pair}
+use Rattle.report_texts.specs.Pairs.{pairs_by}
+use Rattle.report_texts.specs.declared.pairs.Pair.{Pair}
 use Rattle.cost_reports.proofs.KeyLemmas.{same_by_key}
 use Rattle.cost_reports.proofs.PairLemmas.{measure, told, firsts_by, seconds_by, keys_by, sorted_by}
 use Rattle.cost_reports.proofs.SameSums.{same_merged}
-use Rattle.cost_exports.specs.Amounts.{amounts_by}
+use Rattle.report_texts.specs.Amounts.{amounts_by}
 use Rattle.cost_exports.proofs.AmountLemmas.{same_amounts}
 
 abbrev pub Alike : {A : Type 0} → List A → List A → Type 0

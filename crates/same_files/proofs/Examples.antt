@@ -3,7 +3,7 @@ use Rattle.std.proofs.Common.{◌≡◌, ℕ, ◌<◌, List, [], ◌∷◌, code
 use Rattle.std.proofs.lemmas.List.Sorted.{length_permutation}
 use Rattle.profile_records.specs.declared.kinds.Kind.{Kind}
 use Rattle.profile_records.specs.declared.kinds.Kind.TheVariants.{Callgrind, Folded}
-use Rattle.sources.specs.Outcomes.{Gave}
+use Rattle.byte_io.specs.Outcomes.{Gave}
 use Rattle.histories.specs.Formats.{today}
 use Rattle.histories.specs.History.{Said, Import, Remove, MakeGroup, Join, Turn, History}
 use Rattle.histories.specs.Selections.{selected}

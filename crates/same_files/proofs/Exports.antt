@@ -4,10 +4,10 @@ use Rattle.std.specs.Str.Lines.{strip_carriage_return}
 use Rattle.cg_text.specs.Lines.{lines_of, numbered}
 use Rattle.cost_rows.specs.Sums.{Spot}
 use Rattle.cost_rows.proofs.StacksLemmas.{bytes_cmp-total}
-use Rattle.cost_reports.specs.Costs.{all_costs}
-use Rattle.cost_exports.specs.Annotations.{SourceLine, annotation_of, annotation_text, costs_in, is_outside, source_lines}
-use Rattle.cost_exports.specs.Csv.{EventSpot, all_named, csv_text, named_costs}
-use Rattle.cost_exports.specs.Folded.{counts_of, folded_text}
+use Rattle.report_texts.specs.Costs.{all_costs}
+use Rattle.report_texts.specs.Annotations.{SourceLine, annotation_of, annotation_text, costs_in, is_outside, source_lines}
+use Rattle.report_texts.specs.Csv.{EventSpot, all_named, csv_text, named_costs}
+use Rattle.report_texts.specs.Folded.{counts_of, folded_text}
 use Rattle.cost_exports.proofs.SpreadLemmas.{event_spot-apart, event_spot-total}
 use Rattle.cost_exports.proofs.StackLemmas.{bytes_apart}
 use Rattle.profile_records.specs.Stacks.{Seen}

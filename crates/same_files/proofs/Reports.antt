@@ -4,16 +4,16 @@ use Rattle.std.proofs.lemmas.List.Sums.{sum_by-cons}
 use Rattle.cost_rows.specs.Sums.{Spot}
 use Rattle.cost_rows.specs.declared.keys.Key.{Key}
 use Rattle.cost_rows.specs.declared.keys.Key.TheVariants.{Function}
-use Rattle.cost_reports.specs.Calls.{Calls, all_calls, asked, call_report_of, call_report_text, calls_at, calls_of, other}
-use Rattle.cost_reports.specs.Costs.{EventRecords, all_costs, costs_of}
-use Rattle.cost_reports.specs.Differences.{difference_of, difference_text}
-use Rattle.cost_reports.specs.Functions.{is_one_function}
-use Rattle.cost_reports.specs.Inclusive.{count_of, frame_costs, functions_in, inclusive_costs, inclusive_report, inclusive_text, names_costs, outward_costs}
-use Rattle.cost_reports.specs.KeyReports.{report_of}
-use Rattle.cost_reports.specs.KeyTexts.{key_report_text}
-use Rattle.cost_reports.specs.declared.call_sides.CallSide.{CallSide}
-use Rattle.cost_reports.specs.declared.cuts.Cut.{Cut}
-use Rattle.cost_reports.specs.declared.pairs.Pair.{Pair}
+use Rattle.report_texts.specs.Calls.{Calls, all_calls, asked, call_report_of, call_report_text, calls_at, calls_of, other}
+use Rattle.report_texts.specs.Costs.{EventRecords, all_costs, costs_of}
+use Rattle.report_texts.specs.Differences.{difference_of, difference_text}
+use Rattle.report_texts.specs.Functions.{is_one_function}
+use Rattle.report_texts.specs.Inclusive.{count_of, frame_costs, functions_in, inclusive_costs, inclusive_report, inclusive_text, names_costs, outward_costs}
+use Rattle.report_texts.specs.KeyReports.{report_of}
+use Rattle.report_texts.specs.KeyTexts.{key_report_text}
+use Rattle.report_texts.specs.declared.call_sides.CallSide.{CallSide}
+use Rattle.report_texts.specs.declared.cuts.Cut.{Cut}
+use Rattle.report_texts.specs.declared.pairs.Pair.{Pair}
 use Rattle.profile_records.specs.Stacks.{Seen}
 use Rattle.histories.specs.History.{File}
 use Rattle.histories.specs.Legal.{no_event, no_name, when}

@@ -1,13 +1,13 @@
 // Laws of the definitions, each the contract of a function that does nothing.
 ghost use Rattle.std.specs.Prelude.{List, ℕ, Option};
-ghost use Rattle.cost_reports.specs.declared.call_sides.CallSide.{CallSide};
-ghost use Rattle.cost_reports.specs.declared.cuts.Cut.{Cut};
+ghost use Rattle.report_texts.specs.declared.call_sides.CallSide.{CallSide};
+ghost use Rattle.report_texts.specs.declared.cuts.Cut.{Cut};
 ghost use Rattle.cost_rows.specs.declared.keys.Key.{Key};
 ghost use Rattle.histories.specs.History.{Ask, Annotate, History};
 ghost use Rattle.histories.specs.declared.answers.Query.TheVariants as queries;
 ghost use Rattle.histories.specs.declared.answers.Selection.{Selection};
 ghost use Rattle.same_files.specs.SameFiles.{AreAnsweredAlike, CompareSameFiles, NameSameFiles};
-ghost use Rattle.sources.specs.Outcomes.{Outcome};
+ghost use Rattle.byte_io.specs.Outcomes.{Outcome};
 
 /// Two selections, each after a history of its own, name the same files, in whatever order and under
 /// whatever numbers and labels: then a report by key, one of inclusive costs, and one of callers or

@@ -1,7 +1,7 @@
 -- One of a list of which a test holds.
 use Rattle.std.proofs.Common.{◌≡◌, Bool, true, false, ◌||◌, List, [], ◌∷◌, inl, inr, refl, sym, ap, ◌∙◌}
 use Rattle.std.specs.List.{list_any}
-use Rattle.sqlite_rules.specs.Lists.{Has}
+use Rattle.plain_tables.specs.Lists.{Has}
 
 pub any_of : {X : Type 0} (p : X → Bool) (xs : List X) (x : X) → Has xs x → p x ≡ true → list_any p xs ≡ true
 any_of p [] x there is = absurd there

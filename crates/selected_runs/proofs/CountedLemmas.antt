@@ -1,6 +1,6 @@
 -- Runs that are counted one after another.
 use Rattle.std.proofs.Common.{◌≡◌, ℕ, List, [], ◌∷◌, ◌++◌, append_assoc, append-nil, sym, ap, ◌∙◌}
-use Rattle.prof_tables.specs.Tables.{Tables}
+use Rattle.plain_tables.specs.Tables.{Tables}
 use Rattle.selected_runs.specs.Added.{AreAdded}
 use Rattle.selected_runs.specs.Counted.{AddsCounted, AreCounted}
 use Rattle.selected_runs.specs.declared.counting.Counted.{Counted}

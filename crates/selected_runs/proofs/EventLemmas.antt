@@ -1,7 +1,7 @@
 -- Runs that an event is asked of.
 use Rattle.std.proofs.Common.{◌≡◌, ℕ, Bool, true, false, not, List, [], ◌∷◌, Option, Result, Ok, Err, inl, inr, refl, sym, ap, ap₂, subst, ◌∙◌}
 use Rattle.std.specs.List.{list_any}
-use Rattle.prof_tables.specs.Tables.{Tables}
+use Rattle.plain_tables.specs.Tables.{Tables}
 use Rattle.histories.specs.History.{History}
 use Rattle.histories.specs.Legal.{first_or, no_event, no_selection, when}
 use Rattle.histories.specs.Selections.{selected}

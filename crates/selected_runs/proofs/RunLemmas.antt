@@ -3,17 +3,17 @@ use Rattle.std.proofs.Common.{◌≡◌, ℕ, Bool, ◌||◌, List, [], ◌∷�
 use Rattle.std.specs.Prelude.{unwrap_or}
 use Rattle.std.specs.List.{AllByRecursion, list_any}
 use Rattle.std.specs.Option.{is_some}
-use Rattle.sqlite_rules.specs.Lists.{Has}
-use Rattle.sql_tables.proofs.Queries.{has_kept}
+use Rattle.plain_tables.specs.Lists.{Has}
+use Rattle.plain_tables.proofs.Lists.{has_kept}
 use Rattle.cg_formulas.specs.Flats.{row_in, row_of}
 use Rattle.cg_formulas.specs.declared.heads.FileHead.{FileHead}
 use Rattle.cost_rows.specs.declared.keys.Key.{Key}
 use Rattle.cost_rows.specs.KeySums.{sums_by}
-use Rattle.cost_reports.specs.Costs.{StandForEach, all_rows, costs_by}
+use Rattle.report_texts.specs.Costs.{StandForEach, all_rows, costs_by}
 use Rattle.cost_reports.proofs.CostLemmas.{cells_are_records}
 use Rattle.cost_rows.specs.WalkSums.{rows_cost}
 use Rattle.prof_books.specs.Book.{cells_held}
-use Rattle.prof_tables.specs.Tables.{Tables}
+use Rattle.plain_tables.specs.Tables.{Tables}
 use Rattle.histories.specs.History.{History, File, held}
 use Rattle.histories.specs.Reports.{counts_of, event_records, has_event}
 use Rattle.histories.specs.Selections.{numbers_of, selected, selects}
@@ -22,8 +22,8 @@ use Rattle.histories.specs.declared.answers.Selection.{Selection}
 use Rattle.histories.proofs.Runs.{tells_rows}
 use Rattle.selected_runs.specs.Counted.{AreCounted, IsCounted, event_cells, has_counts}
 use Rattle.selected_runs.specs.declared.counting.Counted.{Counted}
-use Rattle.selected_runs.specs.Heads.{TellsHead}
-use Rattle.selected_runs.proofs.HeadLemmas.{held_head_told}
+use Rattle.histories.specs.Told.{TellsHead}
+use Rattle.histories.proofs.Heads.{held_head_told}
 
 -- ---- one run
 

@@ -1,11 +1,11 @@
 -- The numbers that tables tell of a selection are those of its files.
 use Rattle.std.proofs.Common.{◌≡◌, ◌⊎◌, ℕ, Bool, true, false, not, if◌then◌else◌, List, [], ◌∷◌, map, filter, Result, Ok, Err, inl, inr, refl, sym, ap, ap₂, subst, ◌∙◌, arith}
-use Rattle.sql_tables.proofs.Rows.{filter_same_on}
-use Rattle.prof_tables.specs.Changes as tables
-use Rattle.prof_tables.specs.Labels.{IsGroupName}
-use Rattle.prof_tables.specs.Tables.{Tables, RunLine}
+use Rattle.plain_tables.proofs.Lists.{filter_same_on}
+use Rattle.plain_tables.specs.Changes as tables
+use Rattle.plain_tables.specs.Labels.{IsGroupName}
+use Rattle.plain_tables.specs.Tables.{Tables, RunLine}
 use Rattle.prof_books.specs.Book.{run_held}
-use Rattle.held_runs.specs.RunNumbers.{members_in_tables, numbers_in_tables}
+use Rattle.run_stores.specs.Lookups.{members_in_tables, numbers_in_tables}
 use Rattle.histories.specs.History.{History, File, held, is_member}
 use Rattle.histories.specs.Legal.{has_group, has_run, when}
 use Rattle.histories.specs.Selections.{numbers_of}

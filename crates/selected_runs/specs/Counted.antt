@@ -3,10 +3,10 @@ use Rattle.std.specs.Prelude.{◌≡◌, ℕ, Bool, List, [], ◌∷◌, ◌++�
 use Rattle.std.specs.Option.{is_some}
 use Rattle.cg_formulas.specs.Flats.{row_of}
 use Rattle.cg_formulas.specs.declared.heads.FileHead.{FileHead}
-use Rattle.cost_reports.specs.Costs.{EventCells}
+use Rattle.report_texts.specs.Costs.{EventCells}
 use Rattle.prof_books.specs.Book.{cells_held}
-use Rattle.prof_tables.specs.Tables.{Tables}
-use Rattle.held_runs.specs.HeldHeads.{IsHeadIn}
+use Rattle.plain_tables.specs.Tables.{Tables}
+use Rattle.prof_books.specs.HeldHeads.{IsHeadIn}
 use Rattle.selected_runs.specs.declared.counting.Counted.{Counted}
 
 -- a run of the tables, by its head

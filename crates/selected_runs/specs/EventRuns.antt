@@ -1,7 +1,7 @@
 -- The runs of a selection that an event is asked of.
 use Rattle.std.specs.Prelude.{◌≡◌, ◌⊎◌, ℕ, true, false, List, ◌∷◌, Option, None, Result, Ok, Err}
 use Rattle.std.specs.List.{list_any}
-use Rattle.prof_tables.specs.Tables.{Tables}
+use Rattle.plain_tables.specs.Tables.{Tables}
 use Rattle.histories.specs.History.{History}
 use Rattle.histories.specs.Legal.{first_or, no_event, no_selection}
 use Rattle.histories.specs.Selections.{numbers_of, selected}

@@ -1,9 +1,9 @@
 -- The runs that a selection names, by their numbers.
 use Rattle.std.specs.Prelude.{◌≡◌, ◌⊎◌, if◌then◌else◌, ℕ, List, [], ◌∷◌, Some, None, Result, Ok, Err}
-use Rattle.prof_tables.specs.Changes.{has_group, has_run}
-use Rattle.prof_tables.specs.Labels.{IsGroupName}
-use Rattle.prof_tables.specs.Tables.{Tables}
-use Rattle.held_runs.specs.RunNumbers.{members_in_tables, numbers_in_tables}
+use Rattle.plain_tables.specs.Changes.{has_group, has_run}
+use Rattle.plain_tables.specs.Labels.{IsGroupName}
+use Rattle.plain_tables.specs.Tables.{Tables}
+use Rattle.run_stores.specs.Lookups.{members_in_tables, numbers_in_tables}
 use Rattle.histories.specs.History.{History}
 use Rattle.histories.specs.Legal.{no_selection}
 use Rattle.histories.specs.Selections.{numbers_of, selected}

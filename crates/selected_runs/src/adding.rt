@@ -1,18 +1,15 @@
 // Runs of a store, added one after another: the one loop over the runs of a selection.
 ghost use Rattle.std.specs.Result.{is_ok};
-ghost use Rattle.prof_store.specs.Shown.{Told};
-ghost use Rattle.held_runs.specs.Walks.{AsksIfOpen};
+ghost use Rattle.run_stores.specs.Calls.{Told, AsksIfOpen};
 ghost use Rattle.selected_runs.specs.Added.{AreAdded};
 
-use prof_store::{Store, StoreError};
-use sqlite::Alter;
+use run_stores::{RunStore, StoreError};
 
 /// Adds runs to what was made of those before.
-pub trait AddsRuns {
+pub trait AddsRuns<S: RunStore> {
     ghost use Rattle.std.specs.Result.{is_ok};
-    ghost use Rattle.prof_tables.specs.Tables.{Tables};
-    ghost use Rattle.prof_store.specs.Shown.{Told};
-    ghost use Rattle.held_runs.specs.Walks.{AsksIfOpen};
+    ghost use Rattle.plain_tables.specs.Tables.{Tables};
+    ghost use Rattle.run_stores.specs.Calls.{Told, AsksIfOpen};
 
     /// What stands for a run: its number, or what is known of it.
     type Run;
@@ -24,25 +21,25 @@ pub trait AddsRuns {
     ghost Step: { Self → Tables → Self.Run → Self.Sums → Self.Sums → Type 0 };
 
     /// Adds a run. An error ends the loop.
-    fn add<S: Alter>(
+    fn add(
         &self,
-        store: &mut Store<S>,
+        store: &mut S,
         run: &Self::Run,
         sums: Self::Sums,
     ) -> Result<Self::Sums, StoreError>
-        ensures told { Told S.Store result store.old store.new (λ t all. Step self.now t run.now sums all) }
-        ensures asks { AsksIfOpen S.Store (is_ok result) store.old store.new };
+        ensures told { Told S.StoreState result store.old store.new (λ t all. Step self.now t run.now sums all) }
+        ensures asks { AsksIfOpen S.StoreState (is_ok result) store.old store.new };
 }
 
 /// Adds runs, one after another.
-pub fn add_runs<S: Alter, A: AddsRuns>(
-    store: &mut Store<S>,
+pub fn add_runs<S: RunStore, A: AddsRuns<S>>(
+    store: &mut S,
     adder: &A,
     runs: &[A::Run],
     sums: A::Sums,
 ) -> Result<A::Sums, StoreError>
-    ensures told { Told S.Store result store.old store.new (λ t all. AreAdded (A.Step adder.now t) runs.now sums all) }
-    ensures asks { AsksIfOpen S.Store (is_ok result) store.old store.new }
+    ensures told { Told S.StoreState result store.old store.new (λ t all. AreAdded (A.Step adder.now t) runs.now sums all) }
+    ensures asks { AsksIfOpen S.StoreState (is_ok result) store.old store.new }
 {
     let mut sums = sums;
     for run in runs {

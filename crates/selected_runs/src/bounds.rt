@@ -2,7 +2,7 @@
 // sum is compared with its bound.
 ghost use Rattle.std.specs.Prelude.{◌≡◌, ◌+◌, ◌*◌, ◌<◌, ◌≤◌, ◌^◌, false, None, IfSome, IsTrue, slice_index};
 ghost use Rattle.cost_rows.specs.Plain.{plain_cell};
-ghost use Rattle.cost_reports.specs.Costs.{weighted};
+ghost use Rattle.report_texts.specs.Costs.{weighted};
 
 use cost_rows::CellRow;
 

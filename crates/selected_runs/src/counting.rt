@@ -1,15 +1,12 @@
 // How often the events of runs count in the event that is asked.
 ghost use Rattle.std.specs.Prelude.{◌≡◌, ◌∷◌, [], map, take, unwrap_or, IfOk};
 ghost use Rattle.std.specs.Result.{is_ok};
-ghost use Rattle.prof_store.specs.Shown.{Told, Asks};
-ghost use Rattle.held_runs.specs.Walks.{AsksIfOpen};
+ghost use Rattle.run_stores.specs.Calls.{Told, Asks, AsksIfOpen};
 ghost use Rattle.selected_runs.specs.Counted.{IsCounted, AreCounted};
 
 use crate::adding::{AddsRuns, add_runs};
 use cg_text::ListVec;
-use held_runs::head_of;
-use prof_store::{Store, StoreError};
-use sqlite::Alter;
+use run_stores::{RunStore, StoreError};
 use std::alloc::Global;
 
 /// A run, and how often each of its events counts in the one that is asked, if it has that.
@@ -34,16 +31,16 @@ impl Counted {
 }
 
 /// A run of this number, by its head.
-fn count_run<S: Alter>(
-    store: &mut Store<S>,
+fn count_run<S: RunStore>(
+    store: &mut S,
     alloc: Global,
     number: u32,
     event: &[u8],
 ) -> Result<Counted, StoreError>
-    ensures told { Told S.Store result store.old store.new (λ t run. IsCounted t event.now number run) }
-    ensures asks { Asks S.Store (is_ok result) store.old store.new }
+    ensures told { Told S.StoreState result store.old store.new (λ t run. IsCounted t event.now number run) }
+    ensures asks { Asks S.StoreState (is_ok result) store.old store.new }
 {
-    let head = head_of(store, alloc, number)?;
+    let head = store.head_of(alloc, number)?;
     let counts = head.derived.row(alloc, event)?;
     let events = head.events.len();
     Ok(Counted {
@@ -60,7 +57,7 @@ struct EventCounts<'a> {
     event: &'a [u8],
 }
 
-impl AddsRuns for EventCounts<'_> {
+impl<S: RunStore> AddsRuns<S> for EventCounts<'_> {
     ghost use Rattle.selected_runs.specs.Counted.{AddsCounted};
 
     type Run = u32;
@@ -69,9 +66,9 @@ impl AddsRuns for EventCounts<'_> {
 
     ghost Step = { λ s t number old new. AddsCounted t s.event.now number old.items new.items };
 
-    fn add<S: Alter>(
+    fn add(
         &self,
-        store: &mut Store<S>,
+        store: &mut S,
         number: &u32,
         runs: Vec<Counted>,
     ) -> Result<Vec<Counted>, StoreError> {
@@ -85,14 +82,14 @@ impl AddsRuns for EventCounts<'_> {
 }
 
 /// The runs of these numbers.
-pub fn count_runs<S: Alter>(
-    store: &mut Store<S>,
+pub fn count_runs<S: RunStore>(
+    store: &mut S,
     alloc: Global,
     numbers: &[u32],
     event: &[u8],
 ) -> Result<Vec<Counted>, StoreError>
-    ensures told { Told S.Store result store.old store.new (λ t runs. AreCounted t event.now numbers.now runs.items) }
-    ensures asks { AsksIfOpen S.Store (is_ok result) store.old store.new }
+    ensures told { Told S.StoreState result store.old store.new (λ t runs. AreCounted t event.now numbers.now runs.items) }
+    ensures asks { AsksIfOpen S.StoreState (is_ok result) store.old store.new }
 {
     let counts = EventCounts { alloc, event };
     add_runs(store, &counts, numbers, Vec::new(alloc))

@@ -2,24 +2,18 @@
 // a function that does nothing.
 ghost use Rattle.std.specs.Prelude.{◌≡◌, ℕ, List, Result, map};
 ghost use Rattle.std.specs.List.{list_any};
-ghost use Rattle.sqlite_rules.specs.Lists.{Has};
-ghost use Rattle.cg_formulas.specs.declared.heads.FileHead.{FileHead};
 ghost use Rattle.cost_rows.specs.KeySums.{sums_by};
 ghost use Rattle.cost_rows.specs.declared.keys.Key.{Key};
-ghost use Rattle.cost_reports.specs.Costs.{all_rows, costs_by};
-ghost use Rattle.cost_reports.specs.Verifying.{verified};
-ghost use Rattle.prof_tables.specs.Tables.{Tables};
-ghost use Rattle.histories.specs.Files.{events_of, stated_of};
-ghost use Rattle.histories.specs.History.{History, File, held};
+ghost use Rattle.report_texts.specs.Costs.{all_rows, costs_by};
+ghost use Rattle.plain_tables.specs.Tables.{Tables};
+ghost use Rattle.histories.specs.History.{History};
 ghost use Rattle.histories.specs.Reports.{event_records, has_event};
 ghost use Rattle.histories.specs.Selections.{numbers_of, selected};
 ghost use Rattle.histories.specs.Stands.{TablesTell};
 ghost use Rattle.histories.specs.declared.answers.Refusal.{Refusal};
 ghost use Rattle.histories.specs.declared.answers.Selection.{Selection};
-ghost use Rattle.held_runs.specs.HeldHeads.{IsHeadIn};
 ghost use Rattle.selected_runs.specs.Counted.{AreCounted, event_cells, has_counts};
 ghost use Rattle.selected_runs.specs.EventRuns.{AreEventRuns, AreEventRunsIn};
-ghost use Rattle.selected_runs.specs.Heads.{TellsHead};
 ghost use Rattle.selected_runs.specs.Selected.{AreSelected, AreSelectedIn};
 ghost use Rattle.selected_runs.specs.declared.counting.Counted.{Counted};
 
@@ -30,15 +24,6 @@ pub fn selections_are_told()
         → TablesTell h t → AreSelectedIn t s found → AreSelected h s found }
     ensures event { (h : History) (t : Tables) (s : Selection) (event : List ℕ) (found : Result (List Counted) Refusal) → TablesTell h t
         → AreEventRunsIn t s event found → AreEventRuns h t s event found }
-{}
-
-/// In tables that stand for a history, the head that the lines of a run say is what its file says: its
-/// events, its derived events with their coefficients, and the totals that it states. What is verified
-/// by such a head is what is verified by the file.
-pub fn heads_are_told()
-    ensures told { (h : History) (t : Tables) (f : File) (head : FileHead) → TablesTell h t → Has (held h) f → IsHeadIn f.number t head → TellsHead f head }
-    ensures verified { (f : File) (head : FileHead) (run : ℕ) (sums : List ℕ)
-        → TellsHead f head → verified run head.events sums head.stated ≡ verified run (events_of f.format f.bytes) sums (stated_of f.format f.bytes) }
 {}
 
 /// Runs that are counted by their heads, those of a selection: one of them has the event where a file that

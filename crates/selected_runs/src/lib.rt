@@ -7,7 +7,7 @@ mod adding;
 mod bounds;
 // How often the columns of runs count in the event (specs/Counted.antt).
 mod counting;
-// Laws: what runs that are held tell of their files (specs/Heads.antt).
+// Laws: what runs that are held tell of their files (specs/Counted.antt).
 mod laws;
 // The runs of a selection that an event is asked of (specs/EventRuns.antt).
 mod runs_asked;
@@ -17,6 +17,6 @@ mod selecting;
 pub use adding::{AddsRuns, add_runs};
 pub use bounds::{cost_within, is_within, weighted_within};
 pub use counting::{Counted, count_runs};
-pub use laws::{heads_are_told, runs_cost_what_files_cost, selections_are_told};
+pub use laws::{runs_cost_what_files_cost, selections_are_told};
 pub use runs_asked::{EventRuns, event_runs, have_event};
 pub use selecting::{Numbers, name_text, one_run, select_runs};

@@ -2,7 +2,7 @@
 ghost use Rattle.std.specs.Prelude.{◌≡◌};
 ghost use Rattle.std.specs.List.{list_any};
 ghost use Rattle.std.specs.Result.{is_ok};
-ghost use Rattle.prof_store.specs.Shown.{Asks, Told};
+ghost use Rattle.run_stores.specs.Calls.{Asks, Told};
 ghost use Rattle.selected_runs.specs.Counted.{has_counts};
 ghost use Rattle.selected_runs.specs.EventRuns.{AreEventRunsIn};
 
@@ -10,8 +10,7 @@ use crate::counting::{Counted, count_runs};
 use crate::selecting::select_runs;
 use cg_text::ListVec;
 use histories::{Refusal, Selection};
-use prof_store::{Store, StoreError};
-use sqlite::Alter;
+use run_stores::{RunStore, StoreError};
 use std::alloc::Global;
 
 /// Runs, of which one has the event that is asked, or why there are none.
@@ -25,14 +24,14 @@ pub fn have_event(runs: &[Counted]) -> bool
 }
 
 /// The runs of a selection, with how often their events count in the one that is asked.
-pub fn event_runs<S: Alter>(
-    store: &mut Store<S>,
+pub fn event_runs<S: RunStore>(
+    store: &mut S,
     alloc: Global,
     selection: &Selection,
     event: &[u8],
 ) -> Result<EventRuns, StoreError>
-    ensures told { Told S.Store result store.old store.new (λ t found. AreEventRunsIn t selection.now event.now found) }
-    ensures asks { Asks S.Store (is_ok result) store.old store.new }
+    ensures told { Told S.StoreState result store.old store.new (λ t found. AreEventRunsIn t selection.now event.now found) }
+    ensures asks { Asks S.StoreState (is_ok result) store.old store.new }
 {
     let numbers = match select_runs(store, alloc, selection)? {
         Ok(numbers) => numbers,

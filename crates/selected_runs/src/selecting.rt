@@ -1,38 +1,36 @@
 // The runs that a selection names.
 ghost use Rattle.std.specs.Prelude.{◌≡◌, ◌⊎◌, []};
 ghost use Rattle.std.specs.Result.{is_ok};
-ghost use Rattle.prof_tables.specs.Labels.{IsGroupName};
-ghost use Rattle.prof_store.specs.Shown.{Asks, Told};
+ghost use Rattle.plain_tables.specs.Labels.{IsGroupName};
+ghost use Rattle.run_stores.specs.Calls.{Asks, Told};
 ghost use Rattle.histories.specs.declared.answers.Selection.TheVariants as selections;
 ghost use Rattle.selected_runs.specs.Selected.{AreSelectedIn};
 
 use cg_text::ListVec;
-use held_runs::{members_of, run_numbers};
 use histories::{Refusal, Selection};
-use prof_store::{Store, StoreError};
-use sqlite::Alter;
+use run_stores::{RunStore, StoreError};
 use std::alloc::Global;
 
 /// Numbers of runs, or why there are none.
 pub type Numbers = Result<ListVec<u32>, Refusal>;
 
 /// All runs.
-fn all_runs<S: Alter>(store: &mut Store<S>, alloc: Global) -> Result<Numbers, StoreError>
-    ensures told { Told S.Store result store.old store.new (λ t found. AreSelectedIn t selections.All found) }
-    ensures asks { Asks S.Store (is_ok result) store.old store.new }
+fn all_runs<S: RunStore>(store: &mut S, alloc: Global) -> Result<Numbers, StoreError>
+    ensures told { Told S.StoreState result store.old store.new (λ t found. AreSelectedIn t selections.All found) }
+    ensures asks { Asks S.StoreState (is_ok result) store.old store.new }
 {
-    let numbers = run_numbers(store, alloc)?;
+    let numbers = store.run_numbers(alloc)?;
     Ok(Ok(numbers))
 }
 
 /// A run, if it is held.
-pub fn one_run<S: Alter>(
-    store: &mut Store<S>,
+pub fn one_run<S: RunStore>(
+    store: &mut S,
     alloc: Global,
     number: u32,
 ) -> Result<Numbers, StoreError>
-    ensures told { Told S.Store result store.old store.new (λ t found. AreSelectedIn t (selections.Run number) found) }
-    ensures asks { Asks S.Store (is_ok result) store.old store.new }
+    ensures told { Told S.StoreState result store.old store.new (λ t found. AreSelectedIn t (selections.Run number) found) }
+    ensures asks { Asks S.StoreState (is_ok result) store.old store.new }
 {
     if !store.has_run(number)? {
         return Ok(Err(Refusal::NoSuchRun));
@@ -55,30 +53,26 @@ pub fn name_text(name: &[u8]) -> &str
 }
 
 /// The members of a group, if it is there.
-fn of_group<S: Alter>(
-    store: &mut Store<S>,
-    alloc: Global,
-    name: &[u8],
-) -> Result<Numbers, StoreError>
-    ensures told { Told S.Store result store.old store.new (λ t found. AreSelectedIn t (selections.Group name.now) found) }
-    ensures asks { Asks S.Store (is_ok result) store.old store.new }
+fn of_group<S: RunStore>(store: &mut S, alloc: Global, name: &[u8]) -> Result<Numbers, StoreError>
+    ensures told { Told S.StoreState result store.old store.new (λ t found. AreSelectedIn t (selections.Group name.now) found) }
+    ensures asks { Asks S.StoreState (is_ok result) store.old store.new }
 {
     let name = name_text(name);
     if !store.has_group(name)? {
         return Ok(Err(Refusal::NoSuchGroup));
     }
-    let numbers = members_of(store, alloc, name)?;
+    let numbers = store.members_of(alloc, name)?;
     Ok(Ok(numbers))
 }
 
 /// The runs that a selection names.
-pub fn select_runs<S: Alter>(
-    store: &mut Store<S>,
+pub fn select_runs<S: RunStore>(
+    store: &mut S,
     alloc: Global,
     selection: &Selection,
 ) -> Result<Numbers, StoreError>
-    ensures told { Told S.Store result store.old store.new (λ t found. AreSelectedIn t selection.now found) }
-    ensures asks { Asks S.Store (is_ok result) store.old store.new }
+    ensures told { Told S.StoreState result store.old store.new (λ t found. AreSelectedIn t selection.now found) }
+    ensures asks { Asks S.StoreState (is_ok result) store.old store.new }
 {
     match selection {
         Selection::All => all_runs(store, alloc),

@@ -6,13 +6,11 @@ use Rattle.std.proofs.Math.Seq.{take-add, take-length, take-append_seam, drop-ap
 use Rattle.std.specs.List.{list_any}
 use Rattle.std.proofs.lemmas.List.{map-append, drop_more}
 use Rattle.std.proofs.lemmas.List.Folds.{list_any-append}
-use Rattle.sqlite_trees.specs.declared.store.Store.{Ghosts}
+use Rattle.run_stores.specs.declared.states.StoreState.{Ghosts}
 use Rattle.profile_records.specs.declared.kinds.Kind.{Kind}
-use Rattle.sql_tables.proofs.Calls.{changed_none, shut_none}
-use Rattle.prof_tables.specs.Schema.{schema_two}
-use Rattle.prof_store.specs.Shown.{shown, IsFaithful}
-use Rattle.prof_store.specs.declared.store.Store.{Store}
-use Rattle.sources.specs.Outcomes.{Outcome}
+use Rattle.run_stores.proofs.Calls.{changed_none, shut_none}
+use Rattle.run_stores.specs.Calls.{IsFaithful}
+use Rattle.byte_io.specs.Outcomes.{Outcome}
 use Rattle.histories.specs.Formats.{today}
 use Rattle.histories.specs.History.{History, Said, Turn, Import}
 use Rattle.histories.specs.Legal.{IsLegal}
@@ -20,12 +18,13 @@ use Rattle.histories.specs.declared.answers.Answer.{Answer}
 use Rattle.histories.specs.declared.answers.Answer.TheVariants.{Refused}
 use Rattle.histories.specs.declared.answers.Refusal.{Refusal}
 use Rattle.histories.specs.declared.limits.Limits.{Limits}
-use Rattle.store_histories.specs.Answered.{Answers, Links, TellsHistory, Follows}
+use Rattle.histories.specs.Stands.{TablesTell}
+use Rattle.store_histories.specs.Answered.{Answers, Links, Follows}
 use Rattle.store_histories.proofs.Links.{links_append, links_clean, links_legal, links_after}
 use Rattle.store_histories.proofs.Settled.{untouched}
-use Rattle.sources.specs.Reads.{Reads}
-use Rattle.program_files.specs.Imported.{FileReads, IsReadOf, WereRead}
-use Rattle.program_files.specs.declared.imported.FileSource.{FileSource}
+use Rattle.byte_io.specs.Reads.{Reads}
+use Rattle.byte_io.specs.Imported.{FileReads, IsReadOf, WereRead}
+use Rattle.byte_io.specs.declared.imported.FileSource.{FileSource}
 use Rattle.answer_lines.specs.Answers.{is_refused}
 use Rattle.sessions.specs.Sessions.{AreImports, AreLinesOf, ArePrinted, ArePrintedInPart, IsLineOf, Prints, Took, WasDone, WasCut, WasRun, WasTold, answers_of, commands_of, status_after}
 use Rattle.sessions.specs.declared.session.Session.{Session}
@@ -74,18 +73,18 @@ wrote (Err e) answer line a b is whole part = (line, part.0, (line, [], is, refl
 
 -- ---- the store is not asked
 
-pub refused : {S : Type 0} (g : Ghosts S) (limits : Limits) (said : Said) (refusal : Refusal) (store : Store S) → IsFaithful g store → ((h : History) → IsLegal limits h said (Refused refusal)) → Answers g limits said (Refused refusal) store store
+pub refused : {S : Type 0} (g : Ghosts S) (limits : Limits) (said : Said) (refusal : Refusal) (store : S) → IsFaithful g store → ((h : History) → IsLegal limits h said (Refused refusal)) → Answers g limits said (Refused refusal) store store
 refused g limits said refusal store clean legal = record {
-  turned = changed_none schema_two TellsHistory (Follows limits said) (shown g store) clean;
+  turned = changed_none g TablesTell (Follows limits said) store clean;
   answered = λ h has. untouched g limits h said store has clean (Refused refusal) tt (legal h);
   closes = λ usable. inl usable;
-  shut = shut_none (shown g store);
+  shut = shut_none g store;
 }
 
 -- ---- turns that were taken
 
-module _ {R W S : Type 0} (g : Ghosts S) where
-  took : (turns : History) (old new : Session R W S) → Links g old.warehouse.limits turns old.warehouse.store new.warehouse.store → new.status ≡ status_after old.status (answers_of turns) → Took g turns old new
+module _ {R W S N : Type 0} (g : Ghosts S) where
+  took : (turns : History) (old new : Session R W S N) → Links g old.warehouse.limits turns old.warehouse.store new.warehouse.store → new.status ≡ status_after old.status (answers_of turns) → Took g turns old new
   took turns old new links status = record {
     links = links;
     legal = λ h has. links_legal g old.warehouse.limits h turns old.warehouse.store new.warehouse.store links has;
@@ -93,47 +92,47 @@ module _ {R W S : Type 0} (g : Ghosts S) where
     status = status;
   }
 
-  took_none : (s : Session R W S) → Took g [] s s
+  took_none : (s : Session R W S N) → Took g [] s s
   took_none s = took [] s s refl refl
 
-  took_one : (said : Said) (answer : Answer) (old new : Session R W S) → Answers g old.warehouse.limits said answer old.warehouse.store new.warehouse.store → new.status ≡ status_after old.status (answer ∷ [])
+  took_one : (said : Said) (answer : Answer) (old new : Session R W S N) → Answers g old.warehouse.limits said answer old.warehouse.store new.warehouse.store → new.status ≡ status_after old.status (answer ∷ [])
       → Took g (record { said = said; answer = answer } ∷ []) old new
   took_one said answer old new is status = took (record { said = said; answer = answer } ∷ []) old new (new.warehouse.store, is, refl) status
 
-  took_on : (turns : History) (turn : Turn) (old mid new : Session R W S) → mid.warehouse.limits ≡ old.warehouse.limits → Took g turns old mid → Took g (turn ∷ []) mid new → Took g (turns ++ turn ∷ []) old new
+  took_on : (turns : History) (turn : Turn) (old mid new : Session R W S N) → mid.warehouse.limits ≡ old.warehouse.limits → Took g turns old mid → Took g (turn ∷ []) mid new → Took g (turns ++ turn ∷ []) old new
   took_on turns turn old mid new same first last =
       took (turns ++ turn ∷ []) old new
       (links_append g old.warehouse.limits turns (turn ∷ []) old.warehouse.store mid.warehouse.store new.warehouse.store first.links (subst (λ l. Links g l (turn ∷ []) mid.warehouse.store new.warehouse.store) same last.links))
       (last.status ∙ ap (λ s. status_after s (turn.answer ∷ [])) first.status ∙ status_on old.status (answers_of turns) (turn.answer ∷ []) ∙ ap (status_after old.status) (sym (map-append (λ (t : Turn). t.answer) turns (turn ∷ []))))
 
   -- the disk was faithful before
-  pub took_clean : (turns : History) (old new : Session R W S) → Took g turns old new → IsFaithful g new.warehouse.store → IsFaithful g old.warehouse.store
+  pub took_clean : (turns : History) (old new : Session R W S N) → Took g turns old new → IsFaithful g new.warehouse.store → IsFaithful g old.warehouse.store
   took_clean turns old new it clean = links_clean g old.warehouse.limits turns old.warehouse.store new.warehouse.store it.links clean
 
   -- ---- one command
 
-  pub told : (contents : W → Option (List ℕ)) (said : Said) (answer : Answer) {E : Type 0} (result : Result Unit E) (old new : Session R W S)
+  pub told : (contents : W → Option (List ℕ)) (said : Said) (answer : Answer) {E : Type 0} (result : Result Unit E) (old new : Session R W S N)
       → Answers g old.warehouse.limits said answer old.warehouse.store new.warehouse.store → new.status ≡ status_after old.status (answer ∷ [])
       → Prints result (answer ∷ []) (contents old.out) (contents new.out) → WasTold g contents said result old new
   told contents said answer result old new is status printed = record { answer = answer; took = took_one said answer old new is status; printed = printed }
 
   -- a work of one command
-  pub run_one : (contents : W → Option (List ℕ)) (said : Said) (wanted : List Said → Type 0) {E : Type 0} (result : Result Unit E) (old new : Session R W S) → wanted (said ∷ []) → WasTold g contents said result old new → WasRun g contents wanted result old new
+  pub run_one : (contents : W → Option (List ℕ)) (said : Said) (wanted : List Said → Type 0) {E : Type 0} (result : Result Unit E) (old new : Session R W S N) → wanted (said ∷ []) → WasTold g contents said result old new → WasRun g contents wanted result old new
   run_one contents said wanted (Ok done) old new is w = record { turns = record { said = said; answer = w.answer } ∷ []; commands = is; took = w.took; printed = w.printed }
   run_one contents said wanted (Err e) old new is w = record { turns = record { said = said; answer = w.answer } ∷ []; rest = []; commands = is; took = w.took; printed = w.printed }
 
   -- ---- commands so far
 
-  pub record SoFar (contents : W → Option (List ℕ)) (list : List Said) (old new : Session R W S) : Type 0 where
+  pub record SoFar (contents : W → Option (List ℕ)) (list : List Said) (old new : Session R W S N) : Type 0 where
     pub turns : History
     pub commands : commands_of turns ≡ list
     pub took : Took g turns old new
     pub printed : ArePrinted (answers_of turns) (contents old.out) (contents new.out)
 
-  pub so_far_none : (contents : W → Option (List ℕ)) (s : Session R W S) → SoFar contents [] s s
+  pub so_far_none : (contents : W → Option (List ℕ)) (s : Session R W S N) → SoFar contents [] s s
   so_far_none contents s = record { turns = []; commands = refl; took = took_none s; printed = printed_none (contents s.out) }
 
-  pub so_far_on : (contents : W → Option (List ℕ)) (list : List Said) (said : Said) {E : Type 0} (done : Unit {0}) (old mid new : Session R W S) → mid.warehouse.limits ≡ old.warehouse.limits
+  pub so_far_on : (contents : W → Option (List ℕ)) (list : List Said) (said : Said) {E : Type 0} (done : Unit {0}) (old mid new : Session R W S N) → mid.warehouse.limits ≡ old.warehouse.limits
       → (w : SoFar contents list old mid) → WasTold g contents said {E = E} (Ok done) mid new → SoFar contents (list ++ said ∷ []) old new
   so_far_on contents list said done old mid new same w t =
       let turn : Turn = record { said = said; answer = t.answer } in record {
@@ -144,7 +143,7 @@ module _ {R W S : Type 0} (g : Ghosts S) where
             (printed_on (answers_of w.turns) (t.answer ∷ []) (contents old.out) (contents mid.out) (contents new.out) w.printed t.printed);
       }
 
-  pub so_far_cut : (contents : W → Option (List ℕ)) (list rest : List Said) (said : Said) (wanted : List Said → Type 0) {E : Type 0} (result : Result Unit E) (old mid new : Session R W S) → mid.warehouse.limits ≡ old.warehouse.limits
+  pub so_far_cut : (contents : W → Option (List ℕ)) (list rest : List Said) (said : Said) (wanted : List Said → Type 0) {E : Type 0} (result : Result Unit E) (old mid new : Session R W S N) → mid.warehouse.limits ≡ old.warehouse.limits
       → (w : SoFar contents list old mid) → WasTold g contents said result mid new → wanted (list ++ said ∷ rest) → WasCut g contents wanted old new
   so_far_cut contents list rest said wanted result old mid new same w t is =
       let turn : Turn = record { said = said; answer = t.answer } in record {
@@ -156,7 +155,7 @@ module _ {R W S : Type 0} (g : Ghosts S) where
             (part_on (answers_of w.turns) (t.answer ∷ []) (contents old.out) (contents mid.out) (contents new.out) w.printed (in_part result (t.answer ∷ []) (contents mid.out) (contents new.out) t.printed));
       }
 
-  pub so_far_done : (contents : W → Option (List ℕ)) (list : List Said) (wanted : List Said → Type 0) (old new : Session R W S) → SoFar contents list old new → wanted list → WasDone g contents wanted old new
+  pub so_far_done : (contents : W → Option (List ℕ)) (list : List Said) (wanted : List Said → Type 0) (old new : Session R W S N) → SoFar contents list old new → wanted list → WasDone g contents wanted old new
   so_far_done contents list wanted old new w is = record { turns = w.turns; commands = subst wanted (sym w.commands) is; took = w.took; printed = w.printed }
 
 -- ---- imports
@@ -174,7 +173,7 @@ imports_next : {X : Type 0} (reads : List Outcome → Type 0) (now : X → List 
 imports_next reads now kind paths i d outcomes rest low read all =
     subst (λ l. AreImports reads kind (map now l) (Import (today kind) (now (get_or paths i d)) outcomes ∷ rest)) (sym (drop_more paths i d low)) (outcomes, read, refl, all)
 
-module _ {R W S X : Type 0} (g : Ghosts S) (contents : W → Option (List ℕ)) (reads : List Outcome → Type 0) (now : X → List ℕ) (kind : Kind) (paths : List X) (i : ℕ) (d : X) (list : List Said) (old mid new : Session R W S) where
+module _ {R W S N X : Type 0} (g : Ghosts S) (contents : W → Option (List ℕ)) (reads : List Outcome → Type 0) (now : X → List ℕ) (kind : Kind) (paths : List X) (i : ℕ) (d : X) (list : List Said) (old mid new : Session R W S N) where
   -- the imports so far fit those of all paths, with the others behind them
   abbrev pub Fits : List Said → ℕ → Type 0
   Fits done n = (rest : List Said) → AreImports reads kind (map now (drop n paths)) rest → AreImports reads kind (map now paths) (done ++ rest)

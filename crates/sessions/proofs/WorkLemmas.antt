@@ -1,19 +1,18 @@
 -- From a session to what a work over a store comes to.
 use Rattle.std.proofs.Common.{◌≡◌, ◌∙◌, ℕ, List, [], Option, Result, Ok, Err, refl, sym, ap, subst, append-nil}
 use Rattle.std.specs.Result.{result_and}
-use Rattle.sqlite_trees.specs.declared.store.Store.{Ghosts}
-use Rattle.prof_store.specs.Shown.{IsFaithful}
-use Rattle.prof_store.specs.declared.store.Store.{Store}
+use Rattle.run_stores.specs.declared.states.StoreState.{Ghosts}
+use Rattle.run_stores.specs.Calls.{IsFaithful}
 use Rattle.histories.specs.History.{Said}
 use Rattle.store_histories.proofs.Links.{links_clean}
 use Rattle.sessions.specs.Sessions.{WasRun, answers_of, commands_of, status_after}
-use Rattle.program_files.specs.Standard.{IsStandard}
+use Rattle.histories.specs.Standard.{IsStandard}
 use Rattle.sessions.specs.Works.{CameTo}
 use Rattle.sessions.specs.declared.session.Session.{Session}
 
 module _ {W S : Type 0} (g : Ghosts S) (contents : W → Option (List ℕ)) (wanted : List Said → Type 0) where
   -- a session that began with status 0
-  pub came_to : {R E : Type 0} (ended : Result Unit E) (old new : Session R W S) → IsStandard old.warehouse.limits → old.status ≡ 0 → WasRun g contents wanted ended old new
+  pub came_to : {R N E : Type 0} (ended : Result Unit E) (old new : Session R W S N) → IsStandard old.warehouse.limits → old.status ≡ 0 → WasRun g contents wanted ended old new
       → CameTo g contents wanted (result_and ended (Ok new.status)) old.out new.out old.warehouse.store new.warehouse.store
   came_to (Ok done) old new standard zero w = record {
     limits = old.warehouse.limits;
@@ -39,7 +38,7 @@ module _ {W S : Type 0} (g : Ghosts S) (contents : W → Option (List ℕ)) (wan
   }
 
   -- the same by what went into the session and came out of it
-  pub came_from : {R E : Type 0} (ended : Result Unit E) (old new : Session R W S) (status : ℕ) (from to : W) (before after : Store S) → CameTo g contents wanted (result_and ended (Ok new.status)) old.out new.out old.warehouse.store new.warehouse.store
+  pub came_from : {R N E : Type 0} (ended : Result Unit E) (old new : Session R W S N) (status : ℕ) (from to : W) (before after : S) → CameTo g contents wanted (result_and ended (Ok new.status)) old.out new.out old.warehouse.store new.warehouse.store
       → status ≡ new.status → old.out ≡ from → to ≡ new.out → old.warehouse.store ≡ before → after ≡ new.warehouse.store → CameTo g contents wanted (result_and ended (Ok status)) from to before after
   came_from ended old new status from to before after it a b c d e =
       subst (λ s. CameTo g contents wanted (result_and ended (Ok s)) from to before after) (sym a)
@@ -49,5 +48,5 @@ module _ {W S : Type 0} (g : Ghosts S) (contents : W → Option (List ℕ)) (wan
       (subst (λ s. CameTo g contents wanted (result_and ended (Ok new.status)) old.out new.out old.warehouse.store s) (sym e) it))))
 
   -- the disk was faithful before
-  pub came_clean : {E : Type 0} (result : Result ℕ E) (from to : W) (before after : Store S) → CameTo g contents wanted result from to before after → IsFaithful g after → IsFaithful g before
+  pub came_clean : {E : Type 0} (result : Result ℕ E) (from to : W) (before after : S) → CameTo g contents wanted result from to before after → IsFaithful g after → IsFaithful g before
   came_clean result from to before after it clean = links_clean g it.limits it.turns before after it.links clean

@@ -2,18 +2,18 @@
 use Rattle.std.specs.Prelude.{◌≡◌, ◌⊎◌, ℕ, IsTrue, if◌then◌else◌, List, [], ◌∷◌, ◌++◌, map, Option, take, Result, MatchResult}
 use Rattle.std.specs.Io.KnownBytes.{Appends}
 use Rattle.std.specs.List.{list_any}
-use Rattle.sqlite_trees.specs.declared.store.Store.{Ghosts}
+use Rattle.run_stores.specs.declared.states.StoreState.{Ghosts}
 use Rattle.profile_records.specs.declared.kinds.Kind.{Kind}
 use Rattle.histories.specs.Formats.{today}
 use Rattle.histories.specs.History as history
-use Rattle.sources.specs.Outcomes.{Outcome}
+use Rattle.byte_io.specs.Outcomes.{Outcome}
 use Rattle.histories.specs.History.{History, Said, Turn}
 use Rattle.histories.specs.Legal.{AreLegal}
 use Rattle.histories.specs.declared.answers.Answer.{Answer}
 use Rattle.histories.specs.declared.answers.Answer.TheVariants.{Refused}
 use Rattle.histories.specs.declared.answers.Refusal.TheVariants.{Memory}
 use Rattle.store_histories.specs.Answered.{HasHistory, Links}
-use Rattle.program_files.specs.Imported.{WereRead}
+use Rattle.byte_io.specs.Imported.{WereRead}
 use Rattle.store_commands.specs.Changes.{change_said}
 use Rattle.answer_lines.specs.Answers.{is_refused, line_text, takes_memory}
 use Rattle.histories.specs.declared.answers.Selection.{Selection}
@@ -80,34 +80,34 @@ Prints result answers old new = MatchResult result (λ done. ArePrinted answers 
 
 -- ---- what is done
 
-module _ {R W S : Type 0} (g : Ghosts S) where
+module _ {R W S N : Type 0} (g : Ghosts S) where
   -- these turns were taken, each from the store that the one before left: after a history that the store has each answer is legal, and the store has the history with all of them; the status is 1 where one is a refusal, else what it was
-  pub record Took (turns : History) (old new : Session R W S) : Type 0 where
+  pub record Took (turns : History) (old new : Session R W S N) : Type 0 where
     pub links : Links g old.warehouse.limits turns old.warehouse.store new.warehouse.store
     pub legal : (h : History) → HasHistory g h old.warehouse.store → AreLegal old.warehouse.limits h turns
     pub after : (h : History) → HasHistory g h old.warehouse.store → HasHistory g (h ++ turns) new.warehouse.store
     pub status : new.status ≡ status_after old.status (answers_of turns)
 
   -- what was wanted is done: its commands are those of turns that were taken, and their answers were printed
-  pub record WasDone (contents : W → Option (List ℕ)) (wanted : List Said → Type 0) (old new : Session R W S) : Type 0 where
+  pub record WasDone (contents : W → Option (List ℕ)) (wanted : List Said → Type 0) (old new : Session R W S N) : Type 0 where
     pub turns : History
     pub commands : wanted (commands_of turns)
     pub took : Took turns old new
     pub printed : ArePrinted (answers_of turns) (contents old.out) (contents new.out)
 
   -- what was wanted is done as far as answers could be printed: the commands of the turns that were taken are the first of its commands
-  pub record WasCut (contents : W → Option (List ℕ)) (wanted : List Said → Type 0) (old new : Session R W S) : Type 0 where
+  pub record WasCut (contents : W → Option (List ℕ)) (wanted : List Said → Type 0) (old new : Session R W S N) : Type 0 where
     pub turns : History
     pub rest : List Said
     pub commands : wanted (commands_of turns ++ rest)
     pub took : Took turns old new
     pub printed : ArePrintedInPart (answers_of turns) (contents old.out) (contents new.out)
 
-  abbrev pub WasRun : (W → Option (List ℕ)) → (List Said → Type 0) → {E : Type 0} → Result Unit E → Session R W S → Session R W S → Type 0
+  abbrev pub WasRun : (W → Option (List ℕ)) → (List Said → Type 0) → {E : Type 0} → Result Unit E → Session R W S N → Session R W S N → Type 0
   WasRun contents wanted result old new = MatchResult result (λ done. WasDone contents wanted old new) (λ e. WasCut contents wanted old new)
 
   -- a command was answered, and the answer printed, whole or in part
-  pub record WasTold (contents : W → Option (List ℕ)) (said : Said) {E : Type 0} (result : Result Unit E) (old new : Session R W S) : Type 0 where
+  pub record WasTold (contents : W → Option (List ℕ)) (said : Said) {E : Type 0} (result : Result Unit E) (old new : Session R W S N) : Type 0 where
     pub answer : Answer
     pub took : Took (record { said = said; answer = answer } ∷ []) old new
     pub printed : Prints result (answer ∷ []) (contents old.out) (contents new.out)

@@ -4,9 +4,9 @@ use Rattle.command_line.specs.declared.plans.Plan.{Plan}
 use Rattle.command_line.specs.declared.plans.Plan.TheVariants as plans
 use Rattle.histories.specs.History.{Said, Remove, MakeGroup, DropGroup, Join, Leave, SetBaseline, Ask}
 use Rattle.histories.specs.declared.answers.Query.TheVariants.{Runs, Groups, By, Verify, Inclusive, Calls, Subtract, Csv, Folded}
-use Rattle.cost_reports.specs.declared.call_sides.CallSide.TheVariants as sides
-use Rattle.cost_reports.specs.declared.cuts.Cut.{Cut}
-use Rattle.sources.specs.Outcomes.{Outcome}
+use Rattle.report_texts.specs.declared.call_sides.CallSide.TheVariants as sides
+use Rattle.report_texts.specs.declared.cuts.Cut.{Cut}
+use Rattle.byte_io.specs.Outcomes.{Outcome}
 use Rattle.sessions.specs.Questions.{selection_said}
 use Rattle.sessions.specs.Sessions.{AreImports, AreOf, IsAnnotation}
 use Rattle.sessions.specs.declared.tasks.Task.{Task}
@@ -51,17 +51,17 @@ Exports (plans.Folded db selected) = Unit {0}
 Exports plan = ⊥
 
 -- the plans that ask for a report, an annotated source or an export
-abbrev pub Asks : Plan → Type 0
-Asks (plans.By db selected event limit threshold key) = Unit {0}
-Asks (plans.Inclusive db selected event) = Unit {0}
-Asks (plans.Callers db selected event object function) = Unit {0}
-Asks (plans.Callees db selected event object function) = Unit {0}
-Asks (plans.Subtract db selected less event key) = Unit {0}
-Asks (plans.Verify db selected) = Unit {0}
-Asks (plans.Annotate db selected event file source) = Unit {0}
-Asks (plans.Csv db selected) = Unit {0}
-Asks (plans.Folded db selected) = Unit {0}
-Asks plan = ⊥
+abbrev pub IsQuestion : Plan → Type 0
+IsQuestion (plans.By db selected event limit threshold key) = Unit {0}
+IsQuestion (plans.Inclusive db selected event) = Unit {0}
+IsQuestion (plans.Callers db selected event object function) = Unit {0}
+IsQuestion (plans.Callees db selected event object function) = Unit {0}
+IsQuestion (plans.Subtract db selected less event key) = Unit {0}
+IsQuestion (plans.Verify db selected) = Unit {0}
+IsQuestion (plans.Annotate db selected event file source) = Unit {0}
+IsQuestion (plans.Csv db selected) = Unit {0}
+IsQuestion (plans.Folded db selected) = Unit {0}
+IsQuestion plan = ⊥
 
 -- a task does what a plan says: a total for a total, a server for a server, and over the store of the plan commands that it says,
 -- whatever is asked of the reads of files

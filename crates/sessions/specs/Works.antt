@@ -1,18 +1,14 @@
 -- What a work over a store comes to.
-use Rattle.std.specs.Prelude.{◌≡◌, ℕ, Bool, if◌then◌else◌, List, [], ◌++◌, codes, Option, take, Result, Ok, Err, MatchResult}
+use Rattle.std.specs.Prelude.{◌≡◌, ℕ, if◌then◌else◌, List, [], ◌++◌, codes, Option, take, Result, Ok, Err, MatchResult}
 use Rattle.std.specs.Io.KnownBytes.{Appends}
 use Rattle.std.specs.declared.alloc.AllocError.{AllocError}
-use Rattle.sqlite_trees.specs.declared.store.Store.{Ghosts}
-use Rattle.sqlite.specs.declared.connection.Connection.{Connection}
-use Rattle.prof_store.specs.declared.store.Store.{Store}
-use Rattle.file_totals.specs.declared.total.TotalText.{TotalText}
+use Rattle.run_stores.specs.declared.states.StoreState.{Ghosts}
+use Rattle.file_reading.specs.declared.total.TotalText.{TotalText}
 use Rattle.histories.specs.History.{History, Said}
 use Rattle.histories.specs.Legal.{AreLegal}
 use Rattle.histories.specs.declared.limits.Limits.{Limits}
 use Rattle.store_histories.specs.Answered.{HasHistory, Links}
-use Rattle.program_files.specs.Standard.{IsStandard}
-use Rattle.program_files.specs.Stores.{TakesUp, Refuses}
-use Rattle.store_columns.specs.declared.errors.OpenError.{OpenError}
+use Rattle.histories.specs.Standard.{IsStandard}
 use Rattle.sessions.specs.Sessions.{ArePrinted, ArePrintedInPart, answers_of, commands_of, status_after}
 
 -- ---- a total
@@ -36,7 +32,7 @@ TotalPrinted total result old new =
 
 module _ {W S : Type 0} (g : Ghosts S) (contents : W → Option (List ℕ)) (wanted : List Said → Type 0) where
   -- under the standard limits turns were taken, each from the store that the one before left: their commands are the first of those wanted, and all where a status came of it, which is 1 where an answer is a refusal and else 0; their answers are printed, as far as they could be
-  pub record CameTo {E : Type 0} (result : Result ℕ E) (from to : W) (old new : Store S) : Type 0 where
+  pub record CameTo {E : Type 0} (result : Result ℕ E) (from to : W) (old new : S) : Type 0 where
     pub limits : Limits
     pub standard : IsStandard limits
     pub turns : History
@@ -48,9 +44,3 @@ module _ {W S : Type 0} (g : Ghosts S) (contents : W → Option (List ℕ)) (wan
     pub told : MatchResult result
         (λ status. (rest ≡ []) × (status ≡ status_after 0 (answers_of turns)) × ArePrinted (answers_of turns) (contents from) (contents to))
         (λ e. ArePrintedInPart (answers_of turns) (contents from) (contents to))
-
-  -- a store was made or found in a database, and the work done over it; or there was none to be had, and all is as it was
-  abbrev pub WasWorked : {E : Type 0} → Bool → Result (Result ℕ E) OpenError → W → Connection S → Connection S → Type 0
-  WasWorked is_new result from old new = MatchResult result
-      (λ printed. (to : W) × (opened : Store S) × (closed : Store S) × (closed.conn ≡ new) × TakesUp g is_new old opened.conn × CameTo printed from to opened closed)
-      (λ end. Refuses g is_new end old new)

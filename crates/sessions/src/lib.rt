@@ -4,7 +4,7 @@
 
 // Questions, from the words of a command line.
 mod questions;
-// A total is printed, and a work done over the store of a database (specs/Works.antt).
+// A total is printed, and a work done over an opened store (specs/Works.antt).
 mod running;
 // Runs commands over the store, and prints each answer as it is there (specs/Sessions.antt).
 mod session;
@@ -12,6 +12,6 @@ mod session;
 mod tasks;
 
 pub use questions::Question;
-pub use running::{print_total, work_in};
+pub use running::{print_total, work_over};
 pub use session::{Session, Work};
 pub use tasks::{Task, task_of};

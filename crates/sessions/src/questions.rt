@@ -5,9 +5,9 @@ ghost use Rattle.sessions.specs.Questions.{query_said, selection_said};
 
 use cg_text::ListVec;
 use command_line::Selected;
-use cost_reports::{CallSide, Cut};
 use cost_rows::Key;
 use histories::{Query, Selection};
+use report_texts::{CallSide, Cut};
 use std::alloc::{AllocError, Global};
 
 /// A question to the store.

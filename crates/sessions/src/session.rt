@@ -1,33 +1,31 @@
 // Commands over an opened store, each with its answer printed as it is there.
 ghost use Rattle.std.specs.Prelude.{◌≡◌, ◌↔◌, IfOk, IsTrue, List, [], ◌∷◌, map};
-ghost use Rattle.prof_store.specs.Shown.{IsFaithful, IsUsable};
-ghost use Rattle.sources.specs.Outcomes.{Outcome};
+ghost use Rattle.run_stores.specs.Calls.{IsFaithful, IsUsable};
+ghost use Rattle.byte_io.specs.Outcomes.{Outcome};
 ghost use Rattle.histories.specs.Formats.{today};
 ghost use Rattle.histories.specs.History.{History, Said, Annotate, Ask, Import, Remove};
 ghost use Rattle.histories.specs.Legal.{IsInForm, IsLegal};
 ghost use Rattle.histories.specs.declared.answers.Answer.TheVariants as answers;
 ghost use Rattle.store_histories.specs.Answered.{HasHistory};
 ghost use Rattle.warehouse.specs.Answered.{Says};
-ghost use Rattle.program_files.specs.Imported.{FileReads, WereRead};
+ghost use Rattle.byte_io.specs.Imported.{FileReads, WereRead};
 ghost use Rattle.sessions.specs.Questions.{query_said, selection_said};
 ghost use Rattle.store_commands.specs.Changes.{change_said};
 ghost use Rattle.sessions.specs.Sessions.{AreImports, Prints, Wants, WasRun, WasTold, status_after};
 
 use crate::questions::{Question, bytes_of, query_of, selection_of};
 use answer_lines::{is_refused, line_of};
+use byte_io::{FileSource, write_text};
 use cg_text::ListVec;
 use command_line::Selected;
 use histories::{Answer, Refusal, Selection};
-use prof_store::is_group_name;
 use profile_records::Kind;
-use program_files::FileSource;
-use sqlite::Alter;
+use run_stores::{RunStore, is_group_name};
 use std::alloc::{AllocError, Global};
 use std::io;
 use std::io::Write;
 use std::rt::Files;
 use warehouse::{Command, GroupChange, Warehouse};
-use written_texts::write_text;
 
 /// What is done over an opened store.
 #[derive(Drop)]
@@ -105,14 +103,14 @@ fn is_in_form(name: &str, change: GroupChange) -> bool
 
 /// A warehouse, where its answers are printed, and the status that those so far come to.
 #[derive(Drop)]
-pub struct Session<'a, R, W: Drop, S: Alter> {
+pub struct Session<'a, R, W: Drop, S: RunStore> {
     rt: &'a R,
     out: W,
     warehouse: Warehouse<S>,
     status: u8,
 }
 
-impl<'a, R: Files + AllocGlobal, W: Write + Drop, S: Alter> Session<'a, R, W, S> {
+impl<'a, R: Files + AllocGlobal, W: Write + Drop, S: RunStore> Session<'a, R, W, S> {
     /// No command was run yet.
     pub fn new(rt: &'a R, out: W, warehouse: Warehouse<S>) -> Session<'a, R, W, S>
         ensures warehouse { result.warehouse ≡ warehouse }
@@ -157,8 +155,8 @@ impl<'a, R: Files + AllocGlobal, W: Write + Drop, S: Alter> Session<'a, R, W, S>
     /// Refuses a command that the warehouse is not asked.
     fn refuse(&mut self, refusal: Refusal) -> io::Result<()>
         ensures limits { self.new.warehouse.limits ≡ self.old.warehouse.limits }
-        ensures answered { IsFaithful S.Store self.new.warehouse.store → (said : Said)
-            → ((h : History) → IsLegal self.old.warehouse.limits h said (answers.Refused refusal)) → WasTold S.Store W.contents said result self.old self.new }
+        ensures answered { IsFaithful S.StoreState self.new.warehouse.store → (said : Said)
+            → ((h : History) → IsLegal self.old.warehouse.limits h said (answers.Refused refusal)) → WasTold S.StoreState W.contents said result self.old self.new }
         ensures store { self.new.warehouse.store ≡ self.old.warehouse.store }
     {
         self.tell(Answer::Refused(refusal))
@@ -167,8 +165,8 @@ impl<'a, R: Files + AllocGlobal, W: Write + Drop, S: Alter> Session<'a, R, W, S>
     /// Runs a command that reads no file.
     fn apply(&mut self, command: Command<FileSource<'a, R>>) -> io::Result<()>
         ensures limits { self.new.warehouse.limits ≡ self.old.warehouse.limits }
-        ensures answered { IsFaithful S.Store self.new.warehouse.store → (said : Said) × Says (FileReads R.File.remaining) command.entry said
-            × WasTold S.Store W.contents said result self.old self.new }
+        ensures answered { IsFaithful S.StoreState self.new.warehouse.store → (said : Said) × Says (FileReads R.File.remaining) command.entry said
+            × WasTold S.StoreState W.contents said result self.old self.new }
     {
         let answer = self.warehouse.apply(self.rt.alloc(), command);
         self.tell(answer)
@@ -177,8 +175,8 @@ impl<'a, R: Files + AllocGlobal, W: Write + Drop, S: Alter> Session<'a, R, W, S>
     /// Imports a file, under its path as its label.
     fn import_file(&mut self, kind: Kind, path: &'a str) -> io::Result<()>
         ensures limits { self.new.warehouse.limits ≡ self.old.warehouse.limits }
-        ensures answered { IsFaithful S.Store self.new.warehouse.store → (outcomes : List Outcome) × WereRead R.File.remaining outcomes
-            × WasTold S.Store W.contents (Import (today kind) path.now outcomes) result self.old self.new }
+        ensures answered { IsFaithful S.StoreState self.new.warehouse.store → (outcomes : List Outcome) × WereRead R.File.remaining outcomes
+            × WasTold S.StoreState W.contents (Import (today kind) path.now outcomes) result self.old self.new }
     {
         let mut source = FileSource::new(self.rt, path);
         let label = path.as_bytes();
@@ -191,8 +189,8 @@ impl<'a, R: Files + AllocGlobal, W: Write + Drop, S: Alter> Session<'a, R, W, S>
     /// Imports files, each under its path as its label.
     fn import(&mut self, kind: Kind, paths: &[&'a str]) -> io::Result<()>
         ensures limits { self.new.warehouse.limits ≡ self.old.warehouse.limits }
-        ensures done { IsFaithful S.Store self.new.warehouse.store
-            → WasRun S.Store W.contents (AreImports (WereRead R.File.remaining) kind (map (λ path. path.now) paths.now)) result self.old self.new }
+        ensures done { IsFaithful S.StoreState self.new.warehouse.store
+            → WasRun S.StoreState W.contents (AreImports (WereRead R.File.remaining) kind (map (λ path. path.now) paths.now)) result self.old self.new }
     {
         for path in paths {
             self.import_file(kind, path)?;
@@ -203,8 +201,8 @@ impl<'a, R: Files + AllocGlobal, W: Write + Drop, S: Alter> Session<'a, R, W, S>
     /// Removes runs.
     fn remove(&mut self, numbers: &[u32]) -> io::Result<()>
         ensures limits { self.new.warehouse.limits ≡ self.old.warehouse.limits }
-        ensures done { IsFaithful S.Store self.new.warehouse.store
-            → WasRun S.Store W.contents (λ list. list ≡ map Remove numbers.now) result self.old self.new }
+        ensures done { IsFaithful S.StoreState self.new.warehouse.store
+            → WasRun S.StoreState W.contents (λ list. list ≡ map Remove numbers.now) result self.old self.new }
     {
         for number in numbers {
             self.apply(Command::Remove(*number))?;
@@ -215,7 +213,7 @@ impl<'a, R: Files + AllocGlobal, W: Write + Drop, S: Alter> Session<'a, R, W, S>
     /// Changes a group. A new group's name is looked at before memory is asked for it.
     fn change_group(&mut self, name: &str, change: GroupChange) -> io::Result<()>
         ensures limits { self.new.warehouse.limits ≡ self.old.warehouse.limits }
-        ensures answered { IsFaithful S.Store self.new.warehouse.store → WasTold S.Store W.contents (change_said change name.now) result self.old self.new }
+        ensures answered { IsFaithful S.StoreState self.new.warehouse.store → WasTold S.StoreState W.contents (change_said change name.now) result self.old self.new }
     {
         if !is_in_form(name, change) {
             return self.refuse(Refusal::BadName);
@@ -229,7 +227,7 @@ impl<'a, R: Files + AllocGlobal, W: Write + Drop, S: Alter> Session<'a, R, W, S>
     /// Asks a question.
     fn ask(&mut self, question: Question<'a>) -> io::Result<()>
         ensures limits { self.new.warehouse.limits ≡ self.old.warehouse.limits }
-        ensures answered { IsFaithful S.Store self.new.warehouse.store → WasTold S.Store W.contents (Ask (query_said question.entry)) result self.old self.new }
+        ensures answered { IsFaithful S.StoreState self.new.warehouse.store → WasTold S.StoreState W.contents (Ask (query_said question.entry)) result self.old self.new }
     {
         match query_of(self.rt.alloc(), question) {
             Ok(query) => self.apply(Command::Ask(query)),
@@ -246,8 +244,8 @@ impl<'a, R: Files + AllocGlobal, W: Write + Drop, S: Alter> Session<'a, R, W, S>
         path: &'a str,
     ) -> io::Result<()>
         ensures limits { self.new.warehouse.limits ≡ self.old.warehouse.limits }
-        ensures answered { IsFaithful S.Store self.new.warehouse.store → (outcomes : List Outcome) × WereRead R.File.remaining outcomes
-            × WasTold S.Store W.contents (Annotate (selection_said selected.entry) event.now file.now outcomes) result self.old self.new }
+        ensures answered { IsFaithful S.StoreState self.new.warehouse.store → (outcomes : List Outcome) × WereRead R.File.remaining outcomes
+            × WasTold S.StoreState W.contents (Annotate (selection_said selected.entry) event.now file.now outcomes) result self.old self.new }
     {
         let alloc = self.rt.alloc();
         let Ok(asked) = asked_of(alloc, selected, event, file) else {
@@ -267,7 +265,7 @@ impl<'a, R: Files + AllocGlobal, W: Write + Drop, S: Alter> Session<'a, R, W, S>
     /// Runs the commands that a work comes to, and prints their answers. It stops where printing fails.
     pub fn run(&mut self, work: Work<'a>) -> io::Result<()>
         ensures limits { self.new.warehouse.limits ≡ self.old.warehouse.limits }
-        ensures done { IsFaithful S.Store self.new.warehouse.store → WasRun S.Store W.contents (Wants R.File.remaining work.entry) result self.old self.new }
+        ensures done { IsFaithful S.StoreState self.new.warehouse.store → WasRun S.StoreState W.contents (Wants R.File.remaining work.entry) result self.old self.new }
     {
         match work {
             Work::Import(kind, paths) => self.import(kind, paths.as_slice()),

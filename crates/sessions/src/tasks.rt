@@ -1,6 +1,6 @@
 // What is to be done for a plan.
 ghost use Rattle.std.specs.Prelude.{◌≡◌};
-ghost use Rattle.sessions.specs.Tasks.{Asks, Exports, IsTaskOf, cut_said};
+ghost use Rattle.sessions.specs.Tasks.{Exports, IsQuestion, IsTaskOf, cut_said};
 ghost use Rattle.sessions.specs.declared.questions.Question.TheVariants.{By, Calls, Subtract};
 ghost use Rattle.sessions.specs.declared.session.Work.TheVariants.{Ask};
 ghost use Rattle.sessions.specs.declared.tasks.Task.TheVariants.{Over};
@@ -8,8 +8,8 @@ ghost use Rattle.sessions.specs.declared.tasks.Task.TheVariants.{Over};
 use crate::questions::Question;
 use crate::session::Work;
 use command_line::{Plan, Selected};
-use cost_reports::{CallSide, Cut};
 use cost_rows::Key;
+use report_texts::{CallSide, Cut};
 use warehouse::GroupChange;
 
 /// What is to be done.
@@ -117,7 +117,7 @@ fn export_task<'a>(plan: Plan<'a>) -> Task<'a>
 
 /// The task of a plan that asks for a report.
 fn report_task<'a>(plan: Plan<'a>) -> Task<'a>
-    requires { Asks plan }
+    requires { IsQuestion plan }
     ensures { IsTaskOf plan.entry result }
 {
     match plan {

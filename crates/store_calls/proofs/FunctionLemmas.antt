@@ -4,7 +4,7 @@ use Rattle.std.specs.Prelude.{unwrap_or}
 use Rattle.std.specs.List.{list_any, AllByRecursion}
 use Rattle.std.proofs.lemmas.Bool.Decides.{nat_tests}
 use Rattle.std.proofs.lemmas.Grind.{fold-append}
-use Rattle.sqlite_rules.specs.Lists.{Has}
+use Rattle.plain_tables.specs.Lists.{Has}
 use Rattle.cost_rows.specs.Keys.{place_of_row}
 use Rattle.cost_rows.specs.StackSums.{frames_sum}
 use Rattle.cost_rows.specs.Sums.{Spot, callee_spot, caller_spot, has_call, own_sum, spot_of}
@@ -13,17 +13,17 @@ use Rattle.cost_rows.specs.Walks.{HaveCosts, HaveCounts}
 use Rattle.cost_rows.specs.declared.rows.ArcRow.{ArcRow}
 use Rattle.cost_rows.specs.declared.rows.CellRow.{CellRow}
 use Rattle.cost_rows.specs.declared.rows.StackRow.{StackRow}
-use Rattle.cost_reports.specs.Calls.{Calls, CallsStandForEach, EventArcs, all_arcs, all_calls, call_report_of, call_report_text, calls_by, weighted_calls, with_calls}
-use Rattle.cost_reports.specs.Functions.{function_spot, is_one_function}
-use Rattle.cost_reports.specs.Inclusive.{is_frame}
-use Rattle.cost_reports.specs.declared.call_sides.CallSide.{CallSide}
+use Rattle.report_texts.specs.Calls.{Calls, CallsStandForEach, EventArcs, all_arcs, all_calls, call_report_of, call_report_text, calls_by, weighted_calls, with_calls}
+use Rattle.report_texts.specs.Functions.{function_spot, is_one_function}
+use Rattle.report_texts.specs.Inclusive.{is_frame}
+use Rattle.report_texts.specs.declared.call_sides.CallSide.{CallSide}
 use Rattle.cost_reports.proofs.AddedLemmas.{calls_come_to}
 use Rattle.cost_reports.proofs.CallCostLemmas.{calls_are_records}
 use Rattle.prof_books.specs.Book.{cells_held, stacks_held}
-use Rattle.prof_tables.specs.Tables.{Tables}
+use Rattle.plain_tables.specs.Tables.{Tables}
 use Rattle.profile_records.specs.Records.{Record, Own, Called}
 use Rattle.profile_records.specs.Stacks.{Seen}
-use Rattle.held_runs.specs.HandedCalls.{AreCallsOf}
+use Rattle.run_stores.specs.Walks.{AreCallsOf}
 use Rattle.histories.specs.Files.{records_of, stacks_of}
 use Rattle.histories.specs.History.{History, File, held}
 use Rattle.histories.specs.Legal.{expected_of_query, first_or, no_name, when}

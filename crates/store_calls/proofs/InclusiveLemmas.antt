@@ -1,10 +1,10 @@
 -- The rows of runs that are added to inclusive costs come to the files of a selection.
 use Rattle.std.proofs.Common.{◌≡◌, ℕ, ◌+◌, ◌*◌, ◌<◌, Bool, true, false, if◌then◌else◌, List, [], ◌∷◌, ◌++◌, map, fold, flat_map, length, get_or, take, Option, Some, None, append-nil, append_assoc, refl, sym, ap, ap₂, subst, ◌∙◌, arith}
-use Rattle.std.specs.Prelude.{unwrap_or}
+use Rattle.std.specs.Prelude.{unwrap_or, Result, Ok, Err}
 use Rattle.std.specs.List.{AllByRecursion}
 use Rattle.std.specs.Option.{is_some, MatchOption}
 use Rattle.std.proofs.lemmas.Grind.{fold-append}
-use Rattle.sqlite_rules.specs.Lists.{Has}
+use Rattle.plain_tables.specs.Lists.{Has}
 use Rattle.cost_rows.specs.KeySums.{rows_of, with_row}
 use Rattle.cost_rows.specs.StackSums.{frames_sum}
 use Rattle.cost_rows.specs.Sums.{call_sum, count_sum, has_call, own_sum}
@@ -12,19 +12,19 @@ use Rattle.cost_rows.specs.WalkSums.{stacks_count}
 use Rattle.cost_rows.specs.declared.rows.ArcRow.{ArcRow}
 use Rattle.cost_rows.specs.declared.rows.CellRow.{CellRow}
 use Rattle.cost_rows.specs.declared.rows.StackRow.{StackRow}
-use Rattle.cost_reports.specs.Calls.{CallsStandFor, CallsStandForEach, EventArcs, all_arcs, weighted_calls}
-use Rattle.cost_reports.specs.Costs.{EventCells, StandForEach, StandsFor, all_rows, weighted}
-use Rattle.cost_reports.specs.Functions.{is_one_function}
-use Rattle.cost_reports.specs.Inclusive.{InclusiveCosts, InclusiveRow, OfOwn, OfCalls, OfStack, SameStacks, by_function, calls_in, inclusive_report, inclusive_rows, inclusive_text, no_costs, own_in, stacks_in, with_inclusive, with_outward, with_own}
+use Rattle.report_texts.specs.Calls.{CallsStandFor, CallsStandForEach, EventArcs, all_arcs, weighted_calls}
+use Rattle.report_texts.specs.Costs.{EventCells, StandForEach, StandsFor, all_rows, weighted}
+use Rattle.report_texts.specs.Functions.{is_one_function}
+use Rattle.report_texts.specs.Inclusive.{InclusiveCosts, InclusiveRow, OfOwn, OfCalls, OfStack, SameStacks, by_function, calls_in, inclusive_report, inclusive_rows, inclusive_text, no_costs, own_in, stacks_in, with_inclusive, with_outward, with_own}
 use Rattle.cost_reports.proofs.AddedLemmas.{inclusive_come_to}
 use Rattle.cost_reports.proofs.InclusiveLemmas.{inclusive_are_records}
 use Rattle.prof_books.specs.Book.{cells_held, stacks_held}
-use Rattle.prof_tables.specs.Tables.{Tables}
+use Rattle.plain_tables.specs.Tables.{Tables}
 use Rattle.profile_records.specs.Stacks.{Seen}
 use Rattle.profile_records.specs.declared.kinds.Kind.{Kind}
 use Rattle.profile_records.specs.declared.kinds.Kind.TheVariants.{Callgrind, Folded}
-use Rattle.held_runs.specs.HandedCalls.{AreCallsOf}
-use Rattle.held_runs.specs.Lookups.{IsKindOf}
+use Rattle.run_stores.specs.Walks.{AreCallsOf}
+use Rattle.run_stores.specs.Lookups.{IsKindOf}
 use Rattle.histories.specs.Formats as formats
 use Rattle.histories.specs.Formats.{Format, kind_in}
 use Rattle.histories.specs.Files.{records_of, stacks_of}
@@ -40,7 +40,6 @@ use Rattle.histories.specs.declared.answers.Query.TheVariants.{Inclusive}
 use Rattle.histories.specs.declared.answers.Refusal.{Refusal}
 use Rattle.histories.specs.declared.answers.Selection.{Selection}
 use Rattle.histories.proofs.Runs.{tells_rows}
-use Rattle.std.specs.Prelude.{Result, Ok, Err}
 use Rattle.store_histories.specs.FromTables.{AnswersFor, ShowsText}
 use Rattle.selected_runs.specs.Added.{AreAdded}
 use Rattle.selected_runs.specs.EventRuns.{AreEventRuns, AreEventRunsIn}

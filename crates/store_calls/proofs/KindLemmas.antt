@@ -1,14 +1,14 @@
 -- The kind that the tables tell of a run is that of its file.
 use Rattle.std.proofs.Common.{◌≡◌, ℕ, Bool, true, ◌==◌, List, [], ◌∷◌, map, inl, inr, refl, sym, ap, subst, ◌∙◌, arith}
 use Rattle.std.proofs.lemmas.Bool.Decides.{nat_tests}
-use Rattle.sqlite_rules.specs.Lists.{Has}
-use Rattle.sql_tables.proofs.Queries.{kept_has}
+use Rattle.plain_tables.specs.Lists.{Has}
+use Rattle.plain_tables.proofs.Lists.{kept_has}
 use Rattle.prof_books.specs.Book.{run_held}
-use Rattle.prof_tables.specs.Tables.{Tables, RunLine}
+use Rattle.plain_tables.specs.Tables.{Tables, RunLine}
 use Rattle.profile_records.specs.Kinds.{kind_number}
 use Rattle.profile_records.specs.declared.kinds.Kind.{Kind}
 use Rattle.profile_records.specs.declared.kinds.Kind.TheVariants.{Callgrind, Folded}
-use Rattle.held_runs.specs.Lookups.{IsKindOf}
+use Rattle.run_stores.specs.Lookups.{IsKindOf}
 use Rattle.histories.specs.Formats.{kind_in}
 use Rattle.histories.specs.History.{History, File, held}
 use Rattle.histories.specs.Stands.{AreBooksOf, IsBookOf, TablesTell}

@@ -6,13 +6,13 @@ use Rattle.cost_rows.specs.Sums.{Spot}
 use Rattle.cost_rows.specs.declared.rows.ArcRow.{ArcRow}
 use Rattle.cost_rows.specs.declared.rows.CellRow.{CellRow}
 use Rattle.cost_rows.specs.declared.rows.StackRow.{StackRow}
-use Rattle.cost_reports.specs.Calls.{Calls, CallsOfFunction, EventArcs, all_arcs, call_report_of, call_report_text, calls_by, weighted_calls, with_calls}
-use Rattle.cost_reports.specs.Functions.{function_spot, is_one_function}
-use Rattle.cost_reports.specs.Inclusive.{is_frame}
-use Rattle.cost_reports.specs.declared.call_sides.CallSide.{CallSide}
+use Rattle.report_texts.specs.Calls.{Calls, CallsOfFunction, EventArcs, all_arcs, call_report_of, call_report_text, calls_by, weighted_calls, with_calls}
+use Rattle.report_texts.specs.Functions.{function_spot, is_one_function}
+use Rattle.report_texts.specs.Inclusive.{is_frame}
+use Rattle.report_texts.specs.declared.call_sides.CallSide.{CallSide}
 use Rattle.prof_books.specs.Book.{cells_held, stacks_held}
-use Rattle.prof_tables.specs.Tables.{Tables}
-use Rattle.held_runs.specs.HandedCalls.{AreCallsOf}
+use Rattle.plain_tables.specs.Tables.{Tables}
+use Rattle.run_stores.specs.Walks.{AreCallsOf}
 use Rattle.histories.specs.declared.answers.Answer.{Answer}
 use Rattle.histories.specs.declared.answers.Selection.{Selection}
 use Rattle.store_histories.specs.FromTables.{AnswersBy, text_or_no_name}

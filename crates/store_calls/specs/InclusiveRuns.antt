@@ -4,15 +4,15 @@ use Rattle.std.specs.Option.{MatchOption}
 use Rattle.cost_rows.specs.declared.rows.ArcRow.{ArcRow}
 use Rattle.cost_rows.specs.declared.rows.CellRow.{CellRow}
 use Rattle.cost_rows.specs.declared.rows.StackRow.{StackRow}
-use Rattle.cost_reports.specs.Calls.{weighted_calls}
-use Rattle.cost_reports.specs.Costs.{weighted}
-use Rattle.cost_reports.specs.Inclusive.{InclusiveCosts, InclusiveRow, OfOwn, OfCalls, OfStack, inclusive_report, inclusive_text, no_costs, with_inclusive, with_outward, with_own, with_stack}
+use Rattle.report_texts.specs.Calls.{weighted_calls}
+use Rattle.report_texts.specs.Costs.{weighted}
+use Rattle.report_texts.specs.Inclusive.{InclusiveCosts, InclusiveRow, OfOwn, OfCalls, OfStack, inclusive_report, inclusive_text, no_costs, with_inclusive, with_outward, with_own, with_stack}
 use Rattle.prof_books.specs.Book.{cells_held, stacks_held}
-use Rattle.prof_tables.specs.Tables.{Tables}
+use Rattle.plain_tables.specs.Tables.{Tables}
 use Rattle.profile_records.specs.declared.kinds.Kind.{Kind}
 use Rattle.profile_records.specs.declared.kinds.Kind.TheVariants.{Callgrind, Folded}
-use Rattle.held_runs.specs.HandedCalls.{AreCallsOf}
-use Rattle.held_runs.specs.Lookups.{IsKindOf}
+use Rattle.run_stores.specs.Walks.{AreCallsOf}
+use Rattle.run_stores.specs.Lookups.{IsKindOf}
 use Rattle.histories.specs.declared.answers.Answer.{Answer}
 use Rattle.histories.specs.declared.answers.Selection.{Selection}
 use Rattle.store_histories.specs.FromTables.{AnswersBy, ShowsText}

@@ -2,33 +2,30 @@
 ghost use Rattle.std.specs.Prelude.{◌≡◌, ◌||◌, IfOk};
 ghost use Rattle.std.specs.List.{list_any};
 ghost use Rattle.std.specs.Result.{is_ok};
-ghost use Rattle.cost_reports.specs.Calls.{call_report_of, call_report_text};
-ghost use Rattle.cost_reports.specs.Functions.{function_spot};
-ghost use Rattle.prof_store.specs.Shown.{Told};
-ghost use Rattle.held_runs.specs.Walks.{AsksIfOpen};
+ghost use Rattle.report_texts.specs.Calls.{call_report_of, call_report_text};
+ghost use Rattle.report_texts.specs.Functions.{function_spot};
+ghost use Rattle.run_stores.specs.Calls.{Told, AsksIfOpen};
 ghost use Rattle.histories.specs.declared.answers.Query.TheVariants.{Calls};
-ghost use Rattle.store_histories.specs.Answered.{Asks as AnswersAsked};
+ghost use Rattle.store_histories.specs.Answered.{AnswersAsked};
 ghost use Rattle.store_calls.specs.FunctionCalls.{AreCallsShown, IsCallsText, is_in_rows, not_taken, taken_of, text_taken};
 
 use crate::function_calls::{CallRows, FunctionCalls};
 use crate::known_names::is_in_runs;
 use cg_text::ListVec;
 use cost_reports::{CallSide, CallSums, calls};
-use held_runs::{HeldNames, each_call, names_of};
 use histories::{Answer, Refusal, Selection};
-use prof_store::{Store, StoreError};
+use run_stores::{RunStore, StoreError};
 use selected_runs::{AddsRuns, Counted, add_runs, event_runs};
-use sqlite::Alter;
 use std::alloc::{AllocError, Global};
 
 /// Adds the calls of runs, by the names that are held.
 #[derive(Drop)]
-struct CallsOfRuns<'n> {
+struct CallsOfRuns<'n, N> {
     alloc: Global,
-    names: &'n HeldNames,
+    names: &'n N,
 }
 
-impl<'n> AddsRuns for CallsOfRuns<'n> {
+impl<'n, S: RunStore> AddsRuns<S> for CallsOfRuns<'n, S::Names> {
     ghost use Rattle.std.specs.Prelude.{◌≡◌};
     ghost use Rattle.store_calls.specs.FunctionCalls.{IsTakenFrom, taken_of};
 
@@ -36,17 +33,17 @@ impl<'n> AddsRuns for CallsOfRuns<'n> {
 
     type Sums = FunctionCalls<'n>;
 
-    ghost Step = { λ s t run old new. s.names.now ≡ t.names → IsTakenFrom t run (taken_of old) (taken_of new) };
+    ghost Step = { λ s t run old new. S.name_lines s.names.now ≡ t.names → IsTakenFrom t run (taken_of old) (taken_of new) };
 
-    fn add<S: Alter>(
+    fn add(
         &self,
-        store: &mut Store<S>,
+        store: &mut S,
         run: &Counted,
         calls: FunctionCalls<'n>,
     ) -> Result<FunctionCalls<'n>, StoreError> {
         let counts = run.event_counts();
         let rows = CallRows { counts, calls };
-        let all = each_call(store, self.alloc, run.number, self.names, run.events, rows)?;
+        let all = store.each_call(self.alloc, run.number, self.names, run.events, rows)?;
         let CallRows { counts: _, calls } = all;
         Ok(calls)
     }
@@ -70,17 +67,17 @@ fn no_calls<'n>(
 }
 
 /// Whether some runs know a function: a call of it was seen, or it has own costs or a frame in a stack.
-fn is_known<S: Alter>(
-    store: &mut Store<S>,
-    names: &HeldNames,
+fn is_known<S: RunStore>(
+    store: &mut S,
+    names: &S::Names,
     runs: &[Counted],
     is_called: bool,
     object: &[u8],
     name: &[u8],
 ) -> Result<bool, StoreError>
-    ensures told { Told S.Store result store.old store.new (λ t known. names.now ≡ t.names
+    ensures told { Told S.StoreState result store.old store.new (λ t known. S.name_lines names.now ≡ t.names
         → known ≡ is_called || list_any (is_in_rows t (function_spot object.now name.now)) runs.now) }
-    ensures asks { AsksIfOpen S.Store (is_ok result) store.old store.new }
+    ensures asks { AsksIfOpen S.StoreState (is_ok result) store.old store.new }
 {
     if is_called {
         return Ok(true);
@@ -97,16 +94,16 @@ fn text_of_sums(alloc: Global, sums: &CallSums, event: &[u8]) -> Result<ListVec<
 }
 
 /// The text of the calls that were taken of some runs, if one of them knows the function.
-fn text_if_known<S: Alter>(
-    store: &mut Store<S>,
+fn text_if_known<S: RunStore>(
+    store: &mut S,
     alloc: Global,
-    names: &HeldNames,
+    names: &S::Names,
     runs: &[Counted],
     calls: &FunctionCalls<'_>,
     event: &[u8],
 ) -> Result<Option<ListVec<u8>>, StoreError>
-    ensures told { Told S.Store result store.old store.new (λ t text. names.now ≡ t.names → text ≡ text_taken t runs.now event.now (taken_of calls.now)) }
-    ensures asks { AsksIfOpen S.Store (is_ok result) store.old store.new }
+    ensures told { Told S.StoreState result store.old store.new (λ t text. S.name_lines names.now ≡ t.names → text ≡ text_taken t runs.now event.now (taken_of calls.now)) }
+    ensures asks { AsksIfOpen S.StoreState (is_ok result) store.old store.new }
 {
     if !is_known(store, names, runs, calls.known, calls.object, calls.name)? {
         return Ok(None);
@@ -116,8 +113,8 @@ fn text_if_known<S: Alter>(
 }
 
 /// The text of the calls of a function over some runs, if one of them knows it.
-fn calls_text<S: Alter>(
-    store: &mut Store<S>,
+fn calls_text<S: RunStore>(
+    store: &mut S,
     alloc: Global,
     runs: &[Counted],
     side: CallSide,
@@ -125,11 +122,11 @@ fn calls_text<S: Alter>(
     object: &[u8],
     name: &[u8],
 ) -> Result<Option<ListVec<u8>>, StoreError>
-    ensures told { Told S.Store result store.old store.new (λ t text. IsCallsText t runs.now side (function_spot object.now name.now) event.now text) }
-    ensures asks { AsksIfOpen S.Store (is_ok result) store.old store.new }
+    ensures told { Told S.StoreState result store.old store.new (λ t text. IsCallsText t runs.now side (function_spot object.now name.now) event.now text) }
+    ensures asks { AsksIfOpen S.StoreState (is_ok result) store.old store.new }
 {
     let none = no_calls(alloc, side, object, name)?;
-    let names = names_of(store, alloc)?;
+    let names = store.names_of(alloc)?;
     let adder = CallsOfRuns {
         alloc,
         names: &names,
@@ -141,8 +138,8 @@ fn calls_text<S: Alter>(
 /// Answers who calls a function of an object, or whom it calls, over the runs of a selection: a text, or
 /// the refusal of a run or a group that is not held, of an event that none of the runs has, or of a
 /// function that none of them knows. Errors: `Memory`; and `Store` as for a report by key.
-pub fn calls_answer<S: Alter>(
-    store: &mut Store<S>,
+pub fn calls_answer<S: RunStore>(
+    store: &mut S,
     alloc: Global,
     selection: &Selection,
     side: CallSide,
@@ -150,7 +147,7 @@ pub fn calls_answer<S: Alter>(
     object: &ListVec<u8>,
     function: &ListVec<u8>,
 ) -> Result<Answer, StoreError>
-    ensures { AnswersAsked S.Store (λ t. AreCallsShown t selection.now side event.now object.now function.now)
+    ensures { AnswersAsked S.StoreState (λ t. AreCallsShown t selection.now side event.now object.now function.now)
         (Calls selection.now side event.now object.now function.now) result store.old store.new }
 {
     let event = event.as_slice();

@@ -1,15 +1,14 @@
 // The calls of a function, added up row by row.
 ghost use Rattle.std.specs.Prelude.{◌≡◌, OnOk};
-ghost use Rattle.cost_reports.specs.Calls.{calls_of_row};
-ghost use Rattle.cost_reports.specs.Functions.{function_spot};
+ghost use Rattle.report_texts.specs.Calls.{calls_of_row};
+ghost use Rattle.report_texts.specs.Functions.{function_spot};
 ghost use Rattle.store_calls.specs.FunctionCalls.{taken_of, touches, with_call};
 
 use crate::weights::{weighed_within, with_cost};
 use cg_text::ListVec;
 use cost_reports::CallSums;
 use cost_rows::ArcRow;
-use held_runs::TakesCalls;
-use prof_store::StoreError;
+use run_stores::{StoreError, TakesCalls};
 use selected_runs::is_within;
 
 /// The calls of a function that are asked, and whether any call was from it or to it.

@@ -2,77 +2,74 @@
 ghost use Rattle.std.specs.Prelude.{◌≡◌, IfOk};
 ghost use Rattle.std.specs.List.{AllByRecursion};
 ghost use Rattle.std.specs.Result.{is_ok};
-ghost use Rattle.cost_reports.specs.Inclusive.{inclusive_report, inclusive_text};
+ghost use Rattle.report_texts.specs.Inclusive.{inclusive_report, inclusive_text};
 ghost use Rattle.profile_records.specs.declared.kinds.Kind.TheVariants.{Callgrind, Folded};
-ghost use Rattle.prof_tables.specs.RunLines.{cells_in};
-ghost use Rattle.prof_store.specs.Shown.{Told};
-ghost use Rattle.held_runs.specs.HeldCells.{IsOfAnEvent};
-ghost use Rattle.held_runs.specs.Walks.{AsksIfOpen};
+ghost use Rattle.plain_tables.specs.RunLines.{cells_in};
+ghost use Rattle.run_stores.specs.Calls.{Told, AsksIfOpen};
+ghost use Rattle.run_stores.specs.Walks.{IsOfAnEvent};
 ghost use Rattle.histories.specs.declared.answers.Query.TheVariants.{Inclusive};
-ghost use Rattle.store_histories.specs.Answered.{Asks as AnswersAsked};
+ghost use Rattle.store_histories.specs.Answered.{AnswersAsked};
 ghost use Rattle.store_calls.specs.InclusiveRuns.{Adds, AreRowsCounted, AreRowsOfKind, IsInclusive, IsInclusiveText};
 
 use crate::inclusive_sums::InclusiveRows;
 use cg_text::ListVec;
 use cost_reports::{InclusiveSums, inclusive};
-use held_runs::{HeldNames, each_call, each_cell, each_stack, kind_of, names_of};
 use histories::{Answer, Selection};
-use prof_store::{Store, StoreError};
 use profile_records::Kind;
+use run_stores::{RunStore, StoreError};
 use selected_runs::{AddsRuns, Counted, add_runs, event_runs};
-use sqlite::Alter;
 use std::alloc::{AllocError, Global};
 
 /// Adds the own costs and the calls of a Callgrind run.
-fn add_callgrind<S: Alter>(
-    store: &mut Store<S>,
+fn add_callgrind<S: RunStore>(
+    store: &mut S,
     alloc: Global,
-    names: &HeldNames,
+    names: &S::Names,
     run: &Counted,
     counts: &[u64],
     sums: InclusiveSums,
 ) -> Result<InclusiveSums, StoreError>
-    ensures told { Told S.Store result store.old store.new (λ t all. names.now ≡ t.names
+    ensures told { Told S.StoreState result store.old store.new (λ t all. S.name_lines names.now ≡ t.names
         → Adds (AreRowsOfKind Callgrind t run.now.number counts.now) sums all) }
-    ensures of_events { Told S.Store result store.old store.new (λ t _. AllByRecursion (IsOfAnEvent run.now.events) (cells_in run.now.number t)) }
-    ensures asks { AsksIfOpen S.Store (is_ok result) store.old store.new }
+    ensures of_events { Told S.StoreState result store.old store.new (λ t _. AllByRecursion (IsOfAnEvent run.now.events) (cells_in run.now.number t)) }
+    ensures asks { AsksIfOpen S.StoreState (is_ok result) store.old store.new }
 {
     let rows = InclusiveRows { counts, sums };
-    let own = each_cell(store, run.number, names, run.events, rows)?;
-    let all = each_call(store, alloc, run.number, names, run.events, own)?;
+    let own = store.each_cell(run.number, names, run.events, rows)?;
+    let all = store.each_call(alloc, run.number, names, run.events, own)?;
     let InclusiveRows { counts: _, sums } = all;
     Ok(sums)
 }
 
 /// Adds the stacks of a folded run.
-fn add_folded<S: Alter>(
-    store: &mut Store<S>,
+fn add_folded<S: RunStore>(
+    store: &mut S,
     run: &Counted,
     counts: &[u64],
     sums: InclusiveSums,
 ) -> Result<InclusiveSums, StoreError>
-    ensures told { Told S.Store result store.old store.new (λ t all. Adds (AreRowsOfKind Folded t run.now.number counts.now) sums all) }
-    ensures asks { AsksIfOpen S.Store (is_ok result) store.old store.new }
+    ensures told { Told S.StoreState result store.old store.new (λ t all. Adds (AreRowsOfKind Folded t run.now.number counts.now) sums all) }
+    ensures asks { AsksIfOpen S.StoreState (is_ok result) store.old store.new }
 {
     let rows = InclusiveRows { counts, sums };
-    let all = each_stack(store, run.number, rows)?;
+    let all = store.each_stack(run.number, rows)?;
     let InclusiveRows { counts: _, sums } = all;
     Ok(sums)
 }
 
 /// Adds the rows of a run of its kind.
-fn add_rows<S: Alter>(
-    store: &mut Store<S>,
+fn add_rows<S: RunStore>(
+    store: &mut S,
     alloc: Global,
-    names: &HeldNames,
+    names: &S::Names,
     run: &Counted,
     counts: &[u64],
     sums: InclusiveSums,
 ) -> Result<InclusiveSums, StoreError>
-    ensures told { Told S.Store result store.old store.new (λ t all. names.now ≡ t.names → Adds (AreRowsCounted t run.now.number counts.now) sums all) }
-    ensures asks { AsksIfOpen S.Store (is_ok result) store.old store.new }
+    ensures told { Told S.StoreState result store.old store.new (λ t all. S.name_lines names.now ≡ t.names → Adds (AreRowsCounted t run.now.number counts.now) sums all) }
+    ensures asks { AsksIfOpen S.StoreState (is_ok result) store.old store.new }
 {
-    match kind_of(store, run.number)? {
+    match store.kind_of(run.number)? {
         Kind::Callgrind => add_callgrind(store, alloc, names, run, counts, sums),
         Kind::Folded => add_folded(store, run, counts, sums),
     }
@@ -80,12 +77,12 @@ fn add_rows<S: Alter>(
 
 /// Adds runs to inclusive costs, by the names that are held. One without the event costs nothing.
 #[derive(Drop)]
-struct InclusiveOfRuns<'n> {
+struct InclusiveOfRuns<'n, N> {
     alloc: Global,
-    names: &'n HeldNames,
+    names: &'n N,
 }
 
-impl AddsRuns for InclusiveOfRuns<'_> {
+impl<S: RunStore> AddsRuns<S> for InclusiveOfRuns<'_, S::Names> {
     ghost use Rattle.std.specs.Prelude.{◌≡◌};
     ghost use Rattle.store_calls.specs.InclusiveRuns.{Adds, AreRowsOf};
 
@@ -93,11 +90,11 @@ impl AddsRuns for InclusiveOfRuns<'_> {
 
     type Sums = InclusiveSums;
 
-    ghost Step = { λ s t run old new. s.names.now ≡ t.names → Adds (AreRowsOf t run) old new };
+    ghost Step = { λ s t run old new. S.name_lines s.names.now ≡ t.names → Adds (AreRowsOf t run) old new };
 
-    fn add<S: Alter>(
+    fn add(
         &self,
-        store: &mut Store<S>,
+        store: &mut S,
         run: &Counted,
         sums: InclusiveSums,
     ) -> Result<InclusiveSums, StoreError> {
@@ -121,15 +118,15 @@ fn text_of_sums(
 }
 
 /// The text of the inclusive costs of some runs, by the names that are held.
-fn text_of_runs<S: Alter>(
-    store: &mut Store<S>,
+fn text_of_runs<S: RunStore>(
+    store: &mut S,
     alloc: Global,
-    names: &HeldNames,
+    names: &S::Names,
     runs: &[Counted],
     event: &[u8],
 ) -> Result<ListVec<u8>, StoreError>
-    ensures told { Told S.Store result store.old store.new (λ t text. names.now ≡ t.names → IsInclusiveText t runs.now event.now text) }
-    ensures asks { AsksIfOpen S.Store (is_ok result) store.old store.new }
+    ensures told { Told S.StoreState result store.old store.new (λ t text. S.name_lines names.now ≡ t.names → IsInclusiveText t runs.now event.now text) }
+    ensures asks { AsksIfOpen S.StoreState (is_ok result) store.old store.new }
 {
     let adder = InclusiveOfRuns { alloc, names };
     let sums = add_runs(store, &adder, runs, InclusiveSums::new(alloc))?;
@@ -137,29 +134,29 @@ fn text_of_runs<S: Alter>(
 }
 
 /// The text of the inclusive costs of some runs.
-fn inclusive_text<S: Alter>(
-    store: &mut Store<S>,
+fn inclusive_text<S: RunStore>(
+    store: &mut S,
     alloc: Global,
     runs: &[Counted],
     event: &[u8],
 ) -> Result<ListVec<u8>, StoreError>
-    ensures told { Told S.Store result store.old store.new (λ t text. IsInclusiveText t runs.now event.now text) }
-    ensures asks { AsksIfOpen S.Store (is_ok result) store.old store.new }
+    ensures told { Told S.StoreState result store.old store.new (λ t text. IsInclusiveText t runs.now event.now text) }
+    ensures asks { AsksIfOpen S.StoreState (is_ok result) store.old store.new }
 {
-    let names = names_of(store, alloc)?;
+    let names = store.names_of(alloc)?;
     text_of_runs(store, alloc, &names, runs, event)
 }
 
 /// Answers what functions cost with all that they call, over the runs of a selection: a text, or the
 /// refusal of a run or a group that is not held, or of an event that none of the runs has. Errors:
 /// `Memory`; and `Store` as for a report by key.
-pub fn inclusive_answer<S: Alter>(
-    store: &mut Store<S>,
+pub fn inclusive_answer<S: RunStore>(
+    store: &mut S,
     alloc: Global,
     selection: &Selection,
     event: &ListVec<u8>,
 ) -> Result<Answer, StoreError>
-    ensures { AnswersAsked S.Store (λ t. IsInclusive t selection.now event.now) (Inclusive selection.now event.now) result store.old store.new }
+    ensures { AnswersAsked S.StoreState (λ t. IsInclusive t selection.now event.now) (Inclusive selection.now event.now) result store.old store.new }
 {
     let event = event.as_slice();
     let runs = match event_runs(store, alloc, selection, event)? {

@@ -3,8 +3,7 @@ use crate::weights::{most_of, weighed_within, with_cost};
 use cg_text::ListVec;
 use cost_reports::InclusiveSums;
 use cost_rows::{ArcRow, CellRow, StackRow};
-use held_runs::{TakesCalls, TakesCells, TakesStacks};
-use prof_store::StoreError;
+use run_stores::{StoreError, TakesCalls, TakesCells, TakesStacks};
 use selected_runs::{is_within, weighted_within};
 
 /// Inclusive costs, and how often each column of the run that is read counts in the event.
@@ -16,7 +15,7 @@ pub(crate) struct InclusiveRows<'a> {
 
 impl TakesCells for InclusiveRows<'_> {
     ghost use Rattle.std.specs.Prelude.{List, ℕ};
-    ghost use Rattle.cost_reports.specs.Inclusive.{InclusiveCosts};
+    ghost use Rattle.report_texts.specs.Inclusive.{InclusiveCosts};
     ghost use Rattle.store_calls.specs.InclusiveRuns.{with_own_row};
 
     ghost Meaning = { List ℕ × InclusiveCosts };
@@ -39,7 +38,7 @@ impl TakesCells for InclusiveRows<'_> {
 
 impl TakesCalls for InclusiveRows<'_> {
     ghost use Rattle.std.specs.Prelude.{List, ℕ};
-    ghost use Rattle.cost_reports.specs.Inclusive.{InclusiveCosts};
+    ghost use Rattle.report_texts.specs.Inclusive.{InclusiveCosts};
     ghost use Rattle.store_calls.specs.InclusiveRuns.{with_call_row};
 
     ghost Meaning = { List ℕ × InclusiveCosts };
@@ -62,7 +61,7 @@ impl TakesCalls for InclusiveRows<'_> {
 
 impl TakesStacks for InclusiveRows<'_> {
     ghost use Rattle.std.specs.Prelude.{List, ℕ};
-    ghost use Rattle.cost_reports.specs.Inclusive.{InclusiveCosts};
+    ghost use Rattle.report_texts.specs.Inclusive.{InclusiveCosts};
     ghost use Rattle.store_calls.specs.InclusiveRuns.{with_stack_row};
 
     ghost Meaning = { List ℕ × InclusiveCosts };

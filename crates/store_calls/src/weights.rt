@@ -1,8 +1,8 @@
 // What rows of calls and stacks cost in the event that is asked, within the bound of sums.
 ghost use Rattle.std.specs.Prelude.{◌≡◌, ◌+◌, ◌*◌, ◌<◌, ◌^◌, IfSome, slice_index};
 ghost use Rattle.cg_formulas.specs.Formulas.{weighed};
-ghost use Rattle.cost_reports.specs.Calls.{calls_of_row};
-ghost use Rattle.held_runs.specs.HeldArcs.{plain_given};
+ghost use Rattle.report_texts.specs.Calls.{calls_of_row};
+ghost use Rattle.run_stores.specs.Walks.{plain_given};
 ghost use Rattle.store_calls.specs.FunctionCalls.{calls_costing};
 
 use cg_text::ListVec;

@@ -1,17 +1,12 @@
 -- What is due to removals and changes of groups.
 use Rattle.std.proofs.Common.{◌≡◌, sym, subst, None, ℕ, inl, Bool, true, false, not, nat_le, List, [], ◌∷◌, length, Option, Some, refl, ap, ap₂, ◌∙◌}
-use Rattle.sqlite_trees.specs.Tree.{Trees}
-use Rattle.sqlite_trees.specs.declared.store.Store.{Ghosts}
-use Rattle.sqlite.specs.State.{State}
-use Rattle.sql_tables.specs.Calls.{Asked, Changed}
-use Rattle.sql_tables.proofs.Calls.{asked_rests, rests_as, changed_as}
-use Rattle.prof_store.specs.Shown.{StandsFor, shown}
-use Rattle.prof_store.specs.declared.store.Store.{Store}
-use Rattle.prof_tables.specs.Changes as tables
-use Rattle.prof_tables.specs.Labels.{IsGroupName}
-use Rattle.prof_tables.specs.Schema.{schema_two}
-use Rattle.prof_tables.specs.Tables.{Tables, Holds}
-use Rattle.histories.specs.History.{History, Remove, MakeGroup, groups}
+use Rattle.run_stores.specs.declared.states.StoreState.{Ghosts}
+use Rattle.run_stores.specs.Calls.{Asked, Changed, StandsFor, Given, Become}
+use Rattle.run_stores.proofs.Calls.{asked_stands, become_at, changed_as, given_at}
+use Rattle.plain_tables.specs.Changes as tables
+use Rattle.plain_tables.specs.Labels.{IsGroupName}
+use Rattle.plain_tables.specs.Tables.{Tables}
+use Rattle.histories.specs.History.{History, Remove, MakeGroup, groups, with_turn}
 use Rattle.histories.specs.Legal.{IsHistory, IsInForm, IsLegal, expected_answer, when, first_or, has_run, has_group}
 use Rattle.histories.specs.Stands.{TablesTell}
 use Rattle.histories.specs.declared.answers.Answer.{Answer}
@@ -21,7 +16,6 @@ use Rattle.histories.specs.declared.answers.Refusal.TheVariants as reasons
 use Rattle.histories.specs.declared.limits.Limits.{Limits}
 use Rattle.histories.proofs.Tells.{tells_run, tells_group, tells_groups}
 use Rattle.histories.proofs.Steps.{tell_made, tell_dropped, tell_joined, tell_left, tell_based}
-use Rattle.store_histories.specs.Answered.{with_turn}
 use Rattle.store_histories.specs.Refusals.{missing_of, refused_or}
 use Rattle.store_histories.proofs.Settled.{bad_name, no_group_named}
 use Rattle.store_commands.specs.Changes.{IsDoneIn, changed, change_said, refusal_for, unmade_for, unnamed_for}
@@ -105,12 +99,19 @@ drop_held limits name t is = go (tables.has_group t name) is
     go true is = refl
     go false is = absurd cc
 
--- a change of tables in some state is one of those in a narrower one
-pub given_less : (P Q : Tables → Type 0) (After : Tables → Trees → Type 0) (answered done : Bool) (old new : State) → ((t : Tables) → P t → Q t)
-    → Changed schema_two (λ t db. Q t × Holds t db) After answered done old new → Changed schema_two (λ t db. P t × Holds t db) After answered done old new
-given_less P Q After answered done old new less h =
-    changed_as schema_two (λ t db. Q t × Holds t db) After (λ t db. P t × Holds t db) After answered done old new
-    (λ t was. (t, rests_as schema_two (λ db. P t × Holds t db) (λ db. Q t × Holds t db) old was (less t was.holds.0, was.holds.1), λ next k. k)) h
+-- a change of lines in some state is one of those in a narrower one
+pub given_less : {S : Type 0} (g : Ghosts S) (P Q : Tables → Type 0) (After : Tables → Tables → Type 0) (answered done : Bool) (old new : S) → ((t : Tables) → P t → Q t)
+    → Changed g (Given Q) After answered done old new → Changed g (Given P) After answered done old new
+given_less g P Q After answered done old new less h =
+    changed_as g (Given Q) After (Given P) After answered done old new (λ t was. (t, record { t = was.t; holds = (less t was.holds.0, was.holds.1); stands = was.stands }, λ next k. k)) h
+
+-- a change of one kind, told of the kind that was asked for
+module _ {S : Type 0} (g : Ghosts S) (limits : Limits) (how : GroupChange) (name : List ℕ) where
+  abbrev FreeOf : GroupChange → Bool → S → S → Type 0
+  FreeOf c done old new = Changed g (Given (λ t. refusal_for limits c name t ≡ None)) (Become (changed c name)) done done old new
+
+  pub free_as : (c : GroupChange) (done : Bool) (old new : S) → how ≡ c → FreeOf c done old new → FreeOf how done old new
+  free_as c done old new is made = subst (λ k. FreeOf k done old new) (sym is) made
 
 -- ---- what becomes of lines, whatever they stand for
 
@@ -121,12 +122,12 @@ module _ (Left : Tables → Type 0) (t : Tables) (found : Option Refusal) (chang
   pub changed_in : found ≡ None → Left (change t) → IsDoneIn Left found change t answers.Done
   changed_in is left = subst (λ r. IsDoneIn Left r change t answers.Done) (sym is) (refl, left)
 
-module _ {S : Type 0} (g : Ghosts S) (t : Tables) (old mid new : Store S) (asked : Asked schema_two true (shown g old) (shown g mid)) (stands : StandsFor g t old) where
+module _ {S : Type 0} (g : Ghosts S) (t : Tables) (old mid new : S) (asked : Asked g true old mid) (stands : StandsFor g t old) where
   pub stays_in : (refusal : Refusal) (found : Option Refusal) (change : Tables → Tables) → found ≡ Some refusal → IsDoneIn (λ l. StandsFor g l mid) found change t (answers.Refused refusal)
-  stays_in refusal found change is = refused_in (λ l. StandsFor g l mid) t found change refusal is (asked_rests schema_two (Holds t) (shown g old) (shown g mid) asked stands)
+  stays_in refusal found change is = refused_in (λ l. StandsFor g l mid) t found change refusal is (asked_stands g t old mid asked stands)
 
   pub done_in : (P : Tables → Type 0) (found : Option Refusal) (change : Tables → Tables) → P t → found ≡ None
-      → Changed schema_two (λ t db. P t × Holds t db) (λ t. Holds (change t)) true true (shown g mid) (shown g new) → IsDoneIn (λ l. StandsFor g l new) found change t answers.Done
+      → Changed g (Given P) (Become change) true true mid new → IsDoneIn (λ l. StandsFor g l new) found change t answers.Done
   done_in P found change held is made =
-      let mid_stands = asked_rests schema_two (Holds t) (shown g old) (shown g mid) asked stands in
-      changed_in (λ l. StandsFor g l new) t found change is (made.done refl t (rests_as schema_two (Holds t) (λ db. P t × Holds t db) (shown g mid) mid_stands (held, mid_stands.holds)))
+      let mid_stands = asked_stands g t old mid asked stands in
+      changed_in (λ l. StandsFor g l new) t found change is (become_at g change t new (made.done refl t (given_at g P t mid held mid_stands)))

@@ -1,8 +1,8 @@
 -- Lists of what stands for a history are those that are expected after it.
 use Rattle.std.proofs.Common.{◌≡◌, sym, ap, ◌∙◌, string_bytes}
-use Rattle.prof_tables.specs.Tables.{Tables}
-use Rattle.prof_store.specs.declared.entries.GroupEntry.{GroupEntry}
-use Rattle.prof_store.specs.declared.entries.RunEntry.{RunEntry}
+use Rattle.plain_tables.specs.Tables.{Tables}
+use Rattle.run_stores.specs.declared.entries.GroupEntry.{GroupEntry}
+use Rattle.run_stores.specs.declared.entries.RunEntry.{RunEntry}
 use Rattle.histories.specs.History.{History}
 use Rattle.histories.specs.Legal.{expected_of_query}
 use Rattle.histories.specs.Stands.{TablesTell}

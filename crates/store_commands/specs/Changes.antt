@@ -1,7 +1,7 @@
 -- What is done to a group by its name.
 use Rattle.std.specs.Prelude.{◌≡◌, Bool, true, false, List, ℕ, nat_le, length, Option, Some, None}
-use Rattle.prof_tables.specs.Changes.{has_group, has_run, with_group, without_group, without_run, joined, without_member, with_baseline}
-use Rattle.prof_tables.specs.Tables.{Tables}
+use Rattle.plain_tables.specs.Changes.{has_group, has_run, with_group, without_group, without_run, joined, without_member, with_baseline}
+use Rattle.plain_tables.specs.Tables.{Tables}
 use Rattle.histories.specs.History as history
 use Rattle.histories.specs.History.{Said}
 use Rattle.histories.specs.declared.answers.Answer.{Answer}

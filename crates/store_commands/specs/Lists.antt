@@ -1,12 +1,11 @@
 -- The lines of what a store tells of its runs and groups.
 use Rattle.std.specs.Prelude.{◌≡◌, ℕ, List, map, flat_map, length, string_bytes}
 use Rattle.std.specs.List.{AllAdjacentBelow}
-use Rattle.prof_tables.specs.Tables.{Tables}
+use Rattle.plain_tables.specs.Tables.{Tables}
 use Rattle.prof_books.specs.Entries.{held_run}
-use Rattle.prof_store.specs.Entries.{entry_run}
-use Rattle.prof_store.specs.Groups.{AreGroups, IsBefore}
-use Rattle.prof_store.specs.declared.entries.RunEntry.{RunEntry}
-use Rattle.prof_store.specs.declared.entries.GroupEntry.{GroupEntry}
+use Rattle.run_stores.specs.Entries.{entry_run, AreGroups, IsBefore}
+use Rattle.run_stores.specs.declared.entries.RunEntry.{RunEntry}
+use Rattle.run_stores.specs.declared.entries.GroupEntry.{GroupEntry}
 use Rattle.histories.specs.Texts.{run_text, group_line}
 
 abbrev pub entry_line : RunEntry → List ℕ

@@ -2,9 +2,9 @@
 ghost use Rattle.std.specs.Prelude.{◌≡◌, MatchOption, IfOk, None, true, nat_le, length};
 ghost use Rattle.std.specs.Bool.{⊤};
 ghost use Rattle.std.specs.Result.{is_ok};
-ghost use Rattle.prof_tables.specs.Changes.{has_run, has_group};
-ghost use Rattle.prof_tables.specs.Labels.{IsGroupName};
-ghost use Rattle.prof_store.specs.Shown.{Asks, ChangesIf, IsFaithful, KeepsShut, Made, StandsFor, Told};
+ghost use Rattle.plain_tables.specs.Changes.{has_run, has_group};
+ghost use Rattle.plain_tables.specs.Labels.{IsGroupName};
+ghost use Rattle.run_stores.specs.Calls.{Asks, ChangesIf, IsFaithful, KeepsShut, Made, StandsFor, Told};
 ghost use Rattle.histories.specs.History.{History, Remove};
 ghost use Rattle.histories.specs.declared.limits.Limits.{Limits};
 ghost use Rattle.store_histories.specs.Answered.{StandsForHistory, WasDue, TurnsIf, has_changed};
@@ -12,8 +12,7 @@ ghost use Rattle.store_histories.specs.Refusals.{missing_of};
 ghost use Rattle.store_commands.specs.Changes.{GroupsIn, RemovesIn, changed, change_said, refusal_for, unmade_for, unnamed_for};
 
 use histories::{Answer, Limits, Refusal};
-use prof_store::{Store, StoreError, is_group_name};
-use sqlite::Alter;
+use run_stores::{RunStore, StoreError, is_group_name};
 
 /// The name of a group that bytes are, if they are in form.
 pub(crate) fn group_name(bytes: &[u8]) -> Option<&str>
@@ -45,13 +44,13 @@ pub enum GroupChange {
 }
 
 /// Drops a run.
-pub(crate) fn remove<S: Alter>(store: &mut Store<S>, number: u32) -> Result<Answer, StoreError>
-    ensures answered { IsFaithful S.Store store.new → (limits : Limits) (h : History) → StandsForHistory S.Store h store.old
-        → IfOk result (λ answer. WasDue S.Store limits h (Remove number) answer store.new) }
-    ensures turns { (limits : Limits) → TurnsIf S.Store limits (Remove number) (is_ok result) (has_changed result) store.old store.new }
-    ensures shut { KeepsShut S.Store store.old store.new }
-    ensures told { Told S.Store result store.old store.new (RemovesIn number (λ _. ⊤)) }
-    ensures made { Made S.Store result store.old store.new (RemovesIn number (λ left. StandsFor S.Store left store.new)) }
+pub(crate) fn remove<S: RunStore>(store: &mut S, number: u32) -> Result<Answer, StoreError>
+    ensures answered { IsFaithful S.StoreState store.new → (limits : Limits) (h : History) → StandsForHistory S.StoreState h store.old
+        → IfOk result (λ answer. WasDue S.StoreState limits h (Remove number) answer store.new) }
+    ensures turns { (limits : Limits) → TurnsIf S.StoreState limits (Remove number) (is_ok result) (has_changed result) store.old store.new }
+    ensures shut { KeepsShut S.StoreState store.old store.new }
+    ensures told { Told S.StoreState result store.old store.new (RemovesIn number (λ _. ⊤)) }
+    ensures made { Made S.StoreState result store.old store.new (RemovesIn number (λ left. StandsFor S.StoreState left store.new)) }
 {
     if !store.has_run(number)? {
         return Ok(Answer::Refused(Refusal::NoSuchRun));
@@ -61,13 +60,13 @@ pub(crate) fn remove<S: Alter>(store: &mut Store<S>, number: u32) -> Result<Answ
 }
 
 /// Why a group cannot be made, if it cannot.
-fn unmade<S: Alter>(
-    store: &mut Store<S>,
+fn unmade<S: RunStore>(
+    store: &mut S,
     limits: Limits,
     name: &str,
 ) -> Result<Option<Refusal>, StoreError>
-    ensures told { Told S.Store result store.old store.new (λ t refusal. refusal ≡ unmade_for (has_group t name.now) (nat_le limits.groups (length t.groups))) }
-    ensures asks { Asks S.Store (is_ok result) store.old store.new }
+    ensures told { Told S.StoreState result store.old store.new (λ t refusal. refusal ≡ unmade_for (has_group t name.now) (nat_le limits.groups (length t.groups))) }
+    ensures asks { Asks S.StoreState (is_ok result) store.old store.new }
 {
     if store.has_group(name)? {
         return Ok(Some(Refusal::GroupTaken));
@@ -79,9 +78,9 @@ fn unmade<S: Alter>(
 }
 
 /// Why a group cannot be changed, if it is not held.
-fn no_group<S: Alter>(store: &mut Store<S>, name: &str) -> Result<Option<Refusal>, StoreError>
-    ensures told { Told S.Store result store.old store.new (λ t refusal. refusal ≡ missing_of (has_group t name.now) true) }
-    ensures asks { Asks S.Store (is_ok result) store.old store.new }
+fn no_group<S: RunStore>(store: &mut S, name: &str) -> Result<Option<Refusal>, StoreError>
+    ensures told { Told S.StoreState result store.old store.new (λ t refusal. refusal ≡ missing_of (has_group t name.now) true) }
+    ensures asks { Asks S.StoreState (is_ok result) store.old store.new }
 {
     if store.has_group(name)? {
         Ok(None)
@@ -91,13 +90,13 @@ fn no_group<S: Alter>(store: &mut Store<S>, name: &str) -> Result<Option<Refusal
 }
 
 /// Why a group and a run cannot be changed, if one of them is not held.
-fn missing<S: Alter>(
-    store: &mut Store<S>,
+fn missing<S: RunStore>(
+    store: &mut S,
     name: &str,
     number: u32,
 ) -> Result<Option<Refusal>, StoreError>
-    ensures told { Told S.Store result store.old store.new (λ t refusal. refusal ≡ missing_of (has_group t name.now) (has_run t number)) }
-    ensures asks { Asks S.Store (is_ok result) store.old store.new }
+    ensures told { Told S.StoreState result store.old store.new (λ t refusal. refusal ≡ missing_of (has_group t name.now) (has_run t number)) }
+    ensures asks { Asks S.StoreState (is_ok result) store.old store.new }
 {
     if !store.has_group(name)? {
         return Ok(Some(Refusal::NoSuchGroup));
@@ -109,14 +108,14 @@ fn missing<S: Alter>(
 }
 
 /// Why a change is refused, if it is.
-fn refusal_of<S: Alter>(
-    store: &mut Store<S>,
+fn refusal_of<S: RunStore>(
+    store: &mut S,
     limits: Limits,
     name: &str,
     change: GroupChange,
 ) -> Result<Option<Refusal>, StoreError>
-    ensures told { Told S.Store result store.old store.new (λ t refusal. refusal ≡ refusal_for limits change name.now t) }
-    ensures asks { Asks S.Store (is_ok result) store.old store.new }
+    ensures told { Told S.StoreState result store.old store.new (λ t refusal. refusal ≡ refusal_for limits change name.now t) }
+    ensures asks { Asks S.StoreState (is_ok result) store.old store.new }
 {
     match change {
         GroupChange::Make => unmade(store, limits, name),
@@ -127,14 +126,14 @@ fn refusal_of<S: Alter>(
 }
 
 /// Does a change that nothing refuses.
-fn change_free<S: Alter>(
-    store: &mut Store<S>,
+fn change_free<S: RunStore>(
+    store: &mut S,
     name: &str,
     change: GroupChange,
 ) -> Result<(), StoreError>
     requires { IsGroupName name.now }
     ensures changes { (limits : Limits)
-        → ChangesIf S.Store (is_ok result) (λ t. refusal_for limits change name.now t ≡ None) (changed change name.now) store.old store.new }
+        → ChangesIf S.StoreState (is_ok result) (λ t. refusal_for limits change name.now t ≡ None) (changed change name.now) store.old store.new }
 {
     match change {
         GroupChange::Make => store.put_group(name),
@@ -146,19 +145,19 @@ fn change_free<S: Alter>(
 }
 
 /// Changes a group.
-pub(crate) fn change_group<S: Alter>(
-    store: &mut Store<S>,
+pub(crate) fn change_group<S: RunStore>(
+    store: &mut S,
     limits: Limits,
     name: &str,
     change: GroupChange,
 ) -> Result<Answer, StoreError>
     requires { IsGroupName name.now }
-    ensures answered { IsFaithful S.Store store.new → (h : History) → StandsForHistory S.Store h store.old
-        → IfOk result (λ answer. WasDue S.Store limits h (change_said change name.now) answer store.new) }
-    ensures turns { TurnsIf S.Store limits (change_said change name.now) (is_ok result) (has_changed result) store.old store.new }
-    ensures shut { KeepsShut S.Store store.old store.new }
-    ensures told { Told S.Store result store.old store.new (GroupsIn limits change name.now (λ _. ⊤)) }
-    ensures made { Made S.Store result store.old store.new (GroupsIn limits change name.now (λ left. StandsFor S.Store left store.new)) }
+    ensures answered { IsFaithful S.StoreState store.new → (h : History) → StandsForHistory S.StoreState h store.old
+        → IfOk result (λ answer. WasDue S.StoreState limits h (change_said change name.now) answer store.new) }
+    ensures turns { TurnsIf S.StoreState limits (change_said change name.now) (is_ok result) (has_changed result) store.old store.new }
+    ensures shut { KeepsShut S.StoreState store.old store.new }
+    ensures told { Told S.StoreState result store.old store.new (GroupsIn limits change name.now (λ _. ⊤)) }
+    ensures made { Made S.StoreState result store.old store.new (GroupsIn limits change name.now (λ left. StandsFor S.StoreState left store.new)) }
 {
     if let Some(refusal) = refusal_of(store, limits, name, change)? {
         return Ok(Answer::Refused(refusal));

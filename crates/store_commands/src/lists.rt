@@ -2,18 +2,17 @@
 ghost use Rattle.std.specs.Prelude.{◌≡◌, ◌++◌, flat_map, codes, string_bytes, IfOk, OnOk};
 ghost use Rattle.std.specs.Result.{is_ok};
 ghost use Rattle.std.specs.Fmt.{decimal};
-ghost use Rattle.prof_store.specs.Shown.{Asks, Told};
+ghost use Rattle.run_stores.specs.Calls.{Asks, Told};
 ghost use Rattle.histories.specs.Texts as texts;
 ghost use Rattle.histories.specs.declared.answers.Query.TheVariants.{Runs, Groups};
-ghost use Rattle.store_histories.specs.Answered.{Asks as AnswersAsked};
+ghost use Rattle.store_histories.specs.Answered.{AnswersAsked};
 ghost use Rattle.store_histories.specs.FromTables.{ShowsText};
 ghost use Rattle.store_commands.specs.Lists.{IsListOfGroups, IsListOfRuns, entry_line, group_entry_line};
 
 use cg_text::ListVec;
 use histories::Answer;
-use prof_store::{GroupEntry, RunEntry, Store, StoreError};
 use profile_records::Kind;
-use sqlite::Alter;
+use run_stores::{GroupEntry, RunEntry, RunStore, StoreError};
 use std::alloc::{AllocError, Global};
 
 fn kind_text(kind: Kind) -> &'static str
@@ -120,34 +119,34 @@ fn groups_text(alloc: Global, groups: &[GroupEntry]) -> Result<ListVec<u8>, Allo
 }
 
 /// The list of the runs that are held.
-fn list_runs<S: Alter>(store: &mut Store<S>, alloc: Global) -> Result<ListVec<u8>, StoreError>
-    ensures told { Told S.Store result store.old store.new IsListOfRuns }
-    ensures asks { Asks S.Store (is_ok result) store.old store.new }
+fn list_runs<S: RunStore>(store: &mut S, alloc: Global) -> Result<ListVec<u8>, StoreError>
+    ensures told { Told S.StoreState result store.old store.new IsListOfRuns }
+    ensures asks { Asks S.StoreState (is_ok result) store.old store.new }
 {
     let runs = store.runs(alloc)?;
     Ok(runs_text(alloc, &runs)?)
 }
 
 /// The list of the groups.
-fn list_groups<S: Alter>(store: &mut Store<S>, alloc: Global) -> Result<ListVec<u8>, StoreError>
-    ensures told { Told S.Store result store.old store.new IsListOfGroups }
-    ensures asks { Asks S.Store (is_ok result) store.old store.new }
+fn list_groups<S: RunStore>(store: &mut S, alloc: Global) -> Result<ListVec<u8>, StoreError>
+    ensures told { Told S.StoreState result store.old store.new IsListOfGroups }
+    ensures asks { Asks S.StoreState (is_ok result) store.old store.new }
 {
     let groups = store.groups(alloc)?;
     Ok(groups_text(alloc, &groups)?)
 }
 
 /// Answers which runs are held.
-pub fn runs_answer<S: Alter>(store: &mut Store<S>, alloc: Global) -> Result<Answer, StoreError>
-    ensures { AnswersAsked S.Store (λ t. ShowsText (IsListOfRuns t)) Runs result store.old store.new }
+pub fn runs_answer<S: RunStore>(store: &mut S, alloc: Global) -> Result<Answer, StoreError>
+    ensures { AnswersAsked S.StoreState (λ t. ShowsText (IsListOfRuns t)) Runs result store.old store.new }
 {
     let text = list_runs(store, alloc)?;
     Ok(Answer::Text(text))
 }
 
 /// Answers which groups are there.
-pub fn groups_answer<S: Alter>(store: &mut Store<S>, alloc: Global) -> Result<Answer, StoreError>
-    ensures { AnswersAsked S.Store (λ t. ShowsText (IsListOfGroups t)) Groups result store.old store.new }
+pub fn groups_answer<S: RunStore>(store: &mut S, alloc: Global) -> Result<Answer, StoreError>
+    ensures { AnswersAsked S.StoreState (λ t. ShowsText (IsListOfGroups t)) Groups result store.old store.new }
 {
     let text = list_groups(store, alloc)?;
     Ok(Answer::Text(text))

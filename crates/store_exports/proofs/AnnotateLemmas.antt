@@ -4,16 +4,16 @@ use Rattle.std.specs.Prelude.{unwrap_or}
 use Rattle.std.specs.List.{AllByRecursion, list_any}
 use Rattle.std.specs.Ordering.{nat_cmp}
 use Rattle.std.proofs.lemmas.Grind.{fold-append}
-use Rattle.sqlite_rules.specs.Lists.{Has}
-use Rattle.cost_exports.specs.Amounts.{with_amount}
-use Rattle.cost_exports.specs.Annotations.{FileCosts, HaveCostsEach, annotation_of, annotation_text, know_file, no_lines, with_line}
+use Rattle.plain_tables.specs.Lists.{Has}
+use Rattle.report_texts.specs.Amounts.{with_amount}
+use Rattle.report_texts.specs.Annotations.{FileCosts, HaveCostsEach, annotation_of, annotation_text, know_file, no_lines, with_line}
 use Rattle.cost_exports.proofs.KnownLemmas.{known-records}
 use Rattle.cost_exports.proofs.LineLemmas.{annotation-records}
-use Rattle.cost_reports.specs.Costs.{all_rows, weighted}
+use Rattle.report_texts.specs.Costs.{all_rows, weighted}
 use Rattle.cost_rows.specs.Walks.{HaveCosts}
 use Rattle.cost_rows.specs.declared.rows.CellRow.{CellRow}
 use Rattle.prof_books.specs.Book.{cells_held}
-use Rattle.prof_tables.specs.Tables.{Tables}
+use Rattle.plain_tables.specs.Tables.{Tables}
 use Rattle.histories.specs.Exports.{annotated_text, knows_source}
 use Rattle.histories.specs.History.{History, File, held}
 use Rattle.histories.specs.Legal.{expected_of_query, first_or, no_source, when}

@@ -1,14 +1,14 @@
 -- What places cost by the names of events over runs, and what is answered of it.
 use Rattle.std.proofs.Common.{◌≡◌, ℕ, ◌+◌, ◌<◌, List, [], ◌∷◌, ◌++◌, map, fold, length, get_or, take, Result, Ok, Err, refl, sym, ap, subst, ◌∙◌}
 use Rattle.std.specs.List.{AllByRecursion}
-use Rattle.sqlite_rules.specs.Lists.{Has}
-use Rattle.cost_exports.specs.Csv.{EventSpot, NamedCells, NamesStandForEach, csv_of_cells, csv_text, with_cell_in, with_cells}
+use Rattle.plain_tables.specs.Lists.{Has}
+use Rattle.report_texts.specs.Csv.{EventSpot, NamedCells, NamesStandForEach, csv_of_cells, csv_text, with_cell_in, with_cells}
 use Rattle.cost_exports.proofs.ColumnLemmas.{csv-records}
 use Rattle.cost_rows.specs.Sums.{Spot}
 use Rattle.cost_rows.specs.WalkSums.{rows_cost}
 use Rattle.cost_rows.specs.declared.rows.CellRow.{CellRow}
 use Rattle.prof_books.specs.Book.{cells_held}
-use Rattle.prof_tables.specs.Tables.{Tables}
+use Rattle.plain_tables.specs.Tables.{Tables}
 use Rattle.histories.specs.Exports.{csv_of_files, named_records}
 use Rattle.histories.specs.History.{History, File, held}
 use Rattle.histories.specs.Legal.{expected_of_query, first_or}
@@ -23,7 +23,7 @@ use Rattle.histories.proofs.Runs.{tells_rows}
 use Rattle.store_histories.specs.FromTables.{AnswersFor, ShowsText}
 use Rattle.selected_runs.specs.Added.{AreAdded}
 use Rattle.selected_runs.specs.Selected.{AreSelected, AreSelectedIn}
-use Rattle.selected_runs.proofs.HeadLemmas.{held_head_told}
+use Rattle.histories.proofs.Heads.{held_head_told}
 use Rattle.selected_runs.proofs.RunLemmas.{selected_held}
 use Rattle.selected_runs.proofs.SelectLemmas.{selected_told}
 use Rattle.store_exports.specs.CsvRuns.{AddsRun, AreNamedCells, AreNamedRuns, AreSums, IsCsv, IsCsvText}

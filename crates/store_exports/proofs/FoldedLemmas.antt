@@ -3,15 +3,15 @@ use Rattle.std.proofs.Common.{◌≡◌, ℕ, ◌+◌, ◌<◌, List, [], ◌∷
 use Rattle.std.specs.Prelude.{flat_map}
 use Rattle.std.specs.List.{AllByRecursion}
 use Rattle.std.proofs.lemmas.Grind.{fold-append}
-use Rattle.sqlite_rules.specs.Lists.{Has}
-use Rattle.cost_exports.specs.Folded.{folded_of_rows, folded_text, with_stack}
+use Rattle.plain_tables.specs.Lists.{Has}
+use Rattle.report_texts.specs.Folded.{folded_of_rows, folded_text, with_stack}
 use Rattle.cost_exports.proofs.StackLemmas.{same_folded}
-use Rattle.cost_reports.specs.Inclusive.{SameStacks}
+use Rattle.report_texts.specs.Inclusive.{SameStacks}
 use Rattle.cost_rows.specs.StackSums.{frames_sum}
 use Rattle.cost_rows.specs.WalkSums.{stacks_count}
 use Rattle.cost_rows.specs.declared.rows.StackRow.{StackRow}
 use Rattle.prof_books.specs.Book.{stacks_held}
-use Rattle.prof_tables.specs.Tables.{Tables}
+use Rattle.plain_tables.specs.Tables.{Tables}
 use Rattle.profile_records.specs.Stacks.{Seen}
 use Rattle.histories.specs.Exports.{file_stacks, folded_of_files}
 use Rattle.histories.specs.History.{History, File, held}

@@ -1,9 +1,9 @@
 -- A source with what its lines cost over runs of the tables.
 use Rattle.std.specs.Prelude.{◌≡◌, ℕ, if◌then◌else◌, List, [], map, fold, Option, Some, None, unwrap_or}
-use Rattle.cost_exports.specs.Annotations.{FileCosts, annotation_of, annotation_text, no_lines, with_line}
-use Rattle.cost_reports.specs.Costs.{all_rows, weighted}
+use Rattle.report_texts.specs.Annotations.{FileCosts, annotation_of, annotation_text, no_lines, with_line}
+use Rattle.report_texts.specs.Costs.{all_rows, weighted}
 use Rattle.prof_books.specs.Book.{cells_held}
-use Rattle.prof_tables.specs.Tables.{Tables}
+use Rattle.plain_tables.specs.Tables.{Tables}
 use Rattle.histories.specs.declared.answers.Answer.{Answer}
 use Rattle.histories.specs.declared.answers.Selection.{Selection}
 use Rattle.store_histories.specs.FromTables.{AnswersBy, text_or_no_name}

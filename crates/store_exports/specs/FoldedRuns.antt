@@ -1,9 +1,9 @@
 -- Stacks with their counts over runs of the tables.
 use Rattle.std.specs.Prelude.{◌≡◌, ℕ, List, fold, flat_map}
-use Rattle.cost_exports.specs.Folded.{folded_of_rows, folded_text, with_stack}
+use Rattle.report_texts.specs.Folded.{folded_of_rows, folded_text, with_stack}
 use Rattle.cost_rows.specs.declared.rows.StackRow.{StackRow}
 use Rattle.prof_books.specs.Book.{stacks_held}
-use Rattle.prof_tables.specs.Tables.{Tables}
+use Rattle.plain_tables.specs.Tables.{Tables}
 use Rattle.histories.specs.declared.answers.Answer.{Answer}
 use Rattle.histories.specs.declared.answers.Answer.TheVariants.{Text}
 use Rattle.histories.specs.declared.answers.Selection.{Selection}

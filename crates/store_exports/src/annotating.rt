@@ -2,51 +2,48 @@
 ghost use Rattle.std.specs.Prelude.{◌≡◌};
 ghost use Rattle.std.specs.List.{AllByRecursion};
 ghost use Rattle.std.specs.Result.{is_ok};
-ghost use Rattle.prof_tables.specs.RunLines.{cells_in};
-ghost use Rattle.prof_store.specs.Shown.{Told};
-ghost use Rattle.held_runs.specs.HeldCells.{IsOfAnEvent};
-ghost use Rattle.held_runs.specs.Walks.{AsksIfOpen};
+ghost use Rattle.plain_tables.specs.RunLines.{cells_in};
+ghost use Rattle.run_stores.specs.Calls.{Told, AsksIfOpen};
+ghost use Rattle.run_stores.specs.Walks.{IsOfAnEvent};
 ghost use Rattle.histories.specs.declared.answers.Query.TheVariants.{Annotate};
-ghost use Rattle.store_histories.specs.Answered.{Asks as AnswersAsked};
+ghost use Rattle.store_histories.specs.Answered.{AnswersAsked};
 ghost use Rattle.store_exports.specs.Annotated.{IsAnnotated, annotated_over, lines_from};
 
 use crate::takers::LineRows;
 use cg_text::ListVec;
 use cost_exports::{LineSums, annotate};
-use held_runs::{HeldNames, each_cell, names_of};
 use histories::{Answer, Refusal, Selection};
-use prof_store::{Store, StoreError};
+use run_stores::{RunStore, StoreError};
 use selected_runs::{AddsRuns, Counted, add_runs, event_runs};
-use sqlite::Alter;
 use std::alloc::Global;
 
 /// Adds the cells of a run. Those of a run without the event cost nothing, but tell that it has the file.
-fn add_run<S: Alter>(
-    store: &mut Store<S>,
-    names: &HeldNames,
+fn add_run<S: RunStore>(
+    store: &mut S,
+    names: &S::Names,
     run: &Counted,
     sums: LineSums,
 ) -> Result<LineSums, StoreError>
-    ensures told { Told S.Store result store.old store.new (λ t all. names.now ≡ t.names → all ≡ lines_from t sums run.now) }
-    ensures of_events { Told S.Store result store.old store.new (λ t _. AllByRecursion (IsOfAnEvent run.now.events) (cells_in run.now.number t)) }
-    ensures asks { AsksIfOpen S.Store (is_ok result) store.old store.new }
+    ensures told { Told S.StoreState result store.old store.new (λ t all. S.name_lines names.now ≡ t.names → all ≡ lines_from t sums run.now) }
+    ensures of_events { Told S.StoreState result store.old store.new (λ t _. AllByRecursion (IsOfAnEvent run.now.events) (cells_in run.now.number t)) }
+    ensures asks { AsksIfOpen S.StoreState (is_ok result) store.old store.new }
 {
     let rows = LineRows {
         counts: run.event_counts(),
         sums,
     };
-    let all = each_cell(store, run.number, names, run.events, rows)?;
+    let all = store.each_cell(run.number, names, run.events, rows)?;
     let LineRows { counts: _, sums } = all;
     Ok(sums)
 }
 
 /// Adds runs to what the lines of a file cost, by the names that are held.
 #[derive(Drop)]
-struct LinesOfRuns<'n> {
-    names: &'n HeldNames,
+struct LinesOfRuns<'n, N> {
+    names: &'n N,
 }
 
-impl AddsRuns for LinesOfRuns<'_> {
+impl<S: RunStore> AddsRuns<S> for LinesOfRuns<'_, S::Names> {
     ghost use Rattle.std.specs.Prelude.{◌≡◌};
     ghost use Rattle.store_exports.specs.Annotated.{lines_from};
 
@@ -54,31 +51,26 @@ impl AddsRuns for LinesOfRuns<'_> {
 
     type Sums = LineSums;
 
-    ghost Step = { λ s t run old new. s.names.now ≡ t.names → new ≡ lines_from t old run };
+    ghost Step = { λ s t run old new. S.name_lines s.names.now ≡ t.names → new ≡ lines_from t old run };
 
-    fn add<S: Alter>(
-        &self,
-        store: &mut Store<S>,
-        run: &Counted,
-        sums: LineSums,
-    ) -> Result<LineSums, StoreError> {
+    fn add(&self, store: &mut S, run: &Counted, sums: LineSums) -> Result<LineSums, StoreError> {
         add_run(store, self.names, run, sums)
     }
 }
 
 /// The text of a source with what its lines cost over some runs, if one of them knows the file.
-fn annotated_text<S: Alter>(
-    store: &mut Store<S>,
+fn annotated_text<S: RunStore>(
+    store: &mut S,
     alloc: Global,
     runs: &[Counted],
     event: &[u8],
     name: &[u8],
     source: &[u8],
 ) -> Result<Option<ListVec<u8>>, StoreError>
-    ensures told { Told S.Store result store.old store.new (λ t text. text ≡ annotated_over t runs.now event.now name.now source.now) }
-    ensures asks { AsksIfOpen S.Store (is_ok result) store.old store.new }
+    ensures told { Told S.StoreState result store.old store.new (λ t text. text ≡ annotated_over t runs.now event.now name.now source.now) }
+    ensures asks { AsksIfOpen S.StoreState (is_ok result) store.old store.new }
 {
-    let names = names_of(store, alloc)?;
+    let names = store.names_of(alloc)?;
     let lines = LinesOfRuns { names: &names };
     let sums = add_runs(store, &lines, runs, LineSums::new(alloc, name)?)?;
     if !sums.is_known() {
@@ -92,15 +84,15 @@ fn annotated_text<S: Alter>(
 /// a text, or the refusal of a run or a group that is not held, of an event that none of the runs has, or of
 /// a file of which no line costs anything in them. Errors: `Memory`; and `Store` for a call of the database
 /// that fails, for rows out of form and for a sum of 2^112 or more, which no files that are held come to.
-pub fn annotate_answer<S: Alter>(
-    store: &mut Store<S>,
+pub fn annotate_answer<S: RunStore>(
+    store: &mut S,
     alloc: Global,
     selection: &Selection,
     event: &ListVec<u8>,
     name: &ListVec<u8>,
     source: &ListVec<u8>,
 ) -> Result<Answer, StoreError>
-    ensures { AnswersAsked S.Store (λ t. IsAnnotated t selection.now event.now name.now source.now)
+    ensures { AnswersAsked S.StoreState (λ t. IsAnnotated t selection.now event.now name.now source.now)
         (Annotate selection.now event.now name.now source.now) result store.old store.new }
 {
     let event = event.as_slice();

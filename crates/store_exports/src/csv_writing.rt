@@ -3,54 +3,51 @@ ghost use Rattle.std.specs.Prelude.{◌≡◌, length};
 ghost use Rattle.std.specs.List.{AllByRecursion};
 ghost use Rattle.std.specs.Result.{is_ok};
 ghost use Rattle.cg_formulas.specs.declared.heads.FileHead.{FileHead};
-ghost use Rattle.prof_tables.specs.RunLines.{cells_in};
-ghost use Rattle.prof_store.specs.Shown.{Told};
-ghost use Rattle.held_runs.specs.HeldCells.{IsOfAnEvent};
-ghost use Rattle.held_runs.specs.HeldHeads.{IsHeadIn};
-ghost use Rattle.held_runs.specs.Walks.{AsksIfOpen};
+ghost use Rattle.plain_tables.specs.RunLines.{cells_in};
+ghost use Rattle.run_stores.specs.Calls.{Told, AsksIfOpen};
+ghost use Rattle.run_stores.specs.Walks.{IsOfAnEvent};
+ghost use Rattle.prof_books.specs.HeldHeads.{IsHeadIn};
 ghost use Rattle.histories.specs.declared.answers.Query.TheVariants.{Csv};
-ghost use Rattle.store_histories.specs.Answered.{Asks as AnswersAsked};
+ghost use Rattle.store_histories.specs.Answered.{AnswersAsked};
 ghost use Rattle.store_exports.specs.CsvRuns.{AddsRun, IsCsv, IsCsvText};
 
 use crate::takers::NamedRows;
 use cg_text::ListVec;
 use cost_exports::{CellSums, csv_text};
-use held_runs::{HeldNames, each_cell, head_of, names_of};
 use histories::{Answer, Selection};
-use prof_store::{Store, StoreError};
+use run_stores::{RunStore, StoreError};
 use selected_runs::{AddsRuns, add_runs, select_runs};
-use sqlite::Alter;
 use std::alloc::Global;
 
 /// Adds the cells of a run, by the names of its events.
-fn add_run<S: Alter>(
-    store: &mut Store<S>,
+fn add_run<S: RunStore>(
+    store: &mut S,
     alloc: Global,
-    names: &HeldNames,
+    names: &S::Names,
     number: u32,
     sums: CellSums,
 ) -> Result<CellSums, StoreError>
-    ensures told { Told S.Store result store.old store.new (λ t all. names.now ≡ t.names → AddsRun t number sums all) }
-    ensures of_events { Told S.Store result store.old store.new (λ t _. (head : FileHead) × IsHeadIn number t head
+    ensures told { Told S.StoreState result store.old store.new (λ t all. S.name_lines names.now ≡ t.names → AddsRun t number sums all) }
+    ensures of_events { Told S.StoreState result store.old store.new (λ t _. (head : FileHead) × IsHeadIn number t head
         × AllByRecursion (IsOfAnEvent (length head.events)) (cells_in number t)) }
-    ensures asks { AsksIfOpen S.Store (is_ok result) store.old store.new }
+    ensures asks { AsksIfOpen S.StoreState (is_ok result) store.old store.new }
 {
-    let head = head_of(store, alloc, number)?;
+    let head = store.head_of(alloc, number)?;
     let events = head.events.as_slice();
     let rows = NamedRows { events, sums };
-    let all = each_cell(store, number, names, events.len(), rows)?;
+    let all = store.each_cell(number, names, events.len(), rows)?;
     let NamedRows { events: _, sums } = all;
     Ok(sums)
 }
 
 /// Adds runs to what places cost by the names of events, by the names that are held.
 #[derive(Drop)]
-struct CellsOfRuns<'n> {
+struct CellsOfRuns<'n, N> {
     alloc: Global,
-    names: &'n HeldNames,
+    names: &'n N,
 }
 
-impl AddsRuns for CellsOfRuns<'_> {
+impl<S: RunStore> AddsRuns<S> for CellsOfRuns<'_, S::Names> {
     ghost use Rattle.std.specs.Prelude.{◌≡◌};
     ghost use Rattle.store_exports.specs.CsvRuns.{AddsRun};
 
@@ -58,28 +55,23 @@ impl AddsRuns for CellsOfRuns<'_> {
 
     type Sums = CellSums;
 
-    ghost Step = { λ s t number old new. s.names.now ≡ t.names → AddsRun t number old new };
+    ghost Step = { λ s t number old new. S.name_lines s.names.now ≡ t.names → AddsRun t number old new };
 
-    fn add<S: Alter>(
-        &self,
-        store: &mut Store<S>,
-        number: &u32,
-        sums: CellSums,
-    ) -> Result<CellSums, StoreError> {
+    fn add(&self, store: &mut S, number: &u32, sums: CellSums) -> Result<CellSums, StoreError> {
         add_run(store, self.alloc, self.names, *number, sums)
     }
 }
 
 /// The self costs of some runs as CSV.
-fn text_of_runs<S: Alter>(
-    store: &mut Store<S>,
+fn text_of_runs<S: RunStore>(
+    store: &mut S,
     alloc: Global,
     numbers: &[u32],
 ) -> Result<ListVec<u8>, StoreError>
-    ensures told { Told S.Store result store.old store.new (λ t text. IsCsvText t numbers.now text) }
-    ensures asks { AsksIfOpen S.Store (is_ok result) store.old store.new }
+    ensures told { Told S.StoreState result store.old store.new (λ t text. IsCsvText t numbers.now text) }
+    ensures asks { AsksIfOpen S.StoreState (is_ok result) store.old store.new }
 {
-    let names = names_of(store, alloc)?;
+    let names = store.names_of(alloc)?;
     let cells = CellsOfRuns {
         alloc,
         names: &names,
@@ -92,12 +84,12 @@ fn text_of_runs<S: Alter>(
 /// a text of CSV, or the refusal of a run or a group that is not held. Errors: `Memory`; and `Store` for a
 /// call of the database that fails, for rows out of form and for sums of 2^112 or more, which no files that
 /// are held come to.
-pub fn csv_answer<S: Alter>(
-    store: &mut Store<S>,
+pub fn csv_answer<S: RunStore>(
+    store: &mut S,
     alloc: Global,
     selection: &Selection,
 ) -> Result<Answer, StoreError>
-    ensures { AnswersAsked S.Store (λ t. IsCsv t selection.now) (Csv selection.now) result store.old store.new }
+    ensures { AnswersAsked S.StoreState (λ t. IsCsv t selection.now) (Csv selection.now) result store.old store.new }
 {
     let numbers = match select_runs(store, alloc, selection)? {
         Ok(numbers) => numbers,

@@ -3,8 +3,7 @@
 use cg_text::ListVec;
 use cost_exports::{CellSums, LineSums, StackSums};
 use cost_rows::{CellRow, StackRow};
-use held_runs::{TakesCells, TakesStacks};
-use prof_store::StoreError;
+use run_stores::{StoreError, TakesCells, TakesStacks};
 use selected_runs::{is_within, weighted_within};
 
 /// What the lines of a file cost, and how often each column of the run that is read counts in the event.
@@ -16,8 +15,8 @@ pub(crate) struct LineRows<'a> {
 
 impl TakesCells for LineRows<'_> {
     ghost use Rattle.std.specs.Prelude.{List, ℕ};
-    ghost use Rattle.cost_exports.specs.Annotations.{FileCosts, with_line};
-    ghost use Rattle.cost_reports.specs.Costs.{weighted};
+    ghost use Rattle.report_texts.specs.Annotations.{FileCosts, with_line};
+    ghost use Rattle.report_texts.specs.Costs.{weighted};
 
     ghost Meaning = { List ℕ × FileCosts };
 
@@ -43,7 +42,7 @@ pub(crate) struct NamedRows<'a> {
 
 impl TakesCells for NamedRows<'_> {
     ghost use Rattle.std.specs.Prelude.{List, ℕ};
-    ghost use Rattle.cost_exports.specs.Csv.{EventSpot, with_cell_in};
+    ghost use Rattle.report_texts.specs.Csv.{EventSpot, with_cell_in};
 
     ghost Meaning = { List (List ℕ) × List (EventSpot × ℕ) };
 
@@ -71,7 +70,7 @@ pub(crate) struct StackRows {
 
 impl TakesStacks for StackRows {
     ghost use Rattle.std.specs.Prelude.{List, ℕ};
-    ghost use Rattle.cost_exports.specs.Folded.{with_stack};
+    ghost use Rattle.report_texts.specs.Folded.{with_stack};
 
     ghost Meaning = { List (List ℕ × ℕ) };
 

@@ -6,7 +6,7 @@ use Rattle.std.specs.Str.{IsUtf8}
 use Rattle.std.proofs.lemmas.List.Elements.{recursion_from_All}
 use Rattle.std.proofs.lemmas.Str.{IsUtf8-from_ascii}
 use Rattle.std.proofs.lemmas.Bool.Decides.{nat_tests}
-use Rattle.prof_tables.specs.Labels.{IsGroupName, is_name_byte}
+use Rattle.plain_tables.specs.Labels.{IsGroupName, is_name_byte}
 
 small : (b : ℕ) → is_name_byte b ≡ true → b < 128
 small b is = grind (arith, nat_tests)

@@ -1,16 +1,12 @@
 -- A question that was answered, as a command.
 use Rattle.std.specs.Result.{is_ok}
 use Rattle.std.proofs.Common.{◌≡◌, ◌∙◌, Bool, false, Result, Ok, Err, IfOk, Some, inl, inr, ap, refl, sym, subst}
-use Rattle.sqlite_trees.specs.declared.store.Store.{Ghosts}
-use Rattle.sql_tables.specs.Calls.{Asked, Changed}
-use Rattle.sql_tables.proofs.Calls.{asked_rests, changed_asked, shut_asked}
-use Rattle.prof_tables.specs.Schema.{schema_two}
-use Rattle.prof_tables.specs.Tables.{Tables, Holds}
-use Rattle.prof_store.proofs.Told.{rests_said}
-use Rattle.prof_store.specs.Shown.{ReadsAs, shown}
-use Rattle.prof_store.specs.declared.store.Store.{Store}
-use Rattle.store_columns.specs.declared.errors.StoreError.{StoreError}
-use Rattle.store_columns.specs.declared.errors.StoreError.TheVariants as ends
+use Rattle.run_stores.specs.declared.states.StoreState.{Ghosts}
+use Rattle.run_stores.specs.Calls.{Asked, Changed, ReadsAs}
+use Rattle.run_stores.proofs.Calls.{asked_stands, changed_asked, shut_asked}
+use Rattle.plain_tables.specs.Tables.{Tables}
+use Rattle.plain_tables.specs.declared.errors.StoreError.{StoreError}
+use Rattle.plain_tables.specs.declared.errors.StoreError.TheVariants as ends
 use Rattle.histories.specs.History.{History, Said, Ask}
 use Rattle.histories.specs.Legal.{IsInForm, expected_answer, expected_of_query}
 use Rattle.histories.specs.Stands.{TablesTell}
@@ -19,7 +15,7 @@ use Rattle.histories.specs.declared.answers.Answer.TheVariants as answers
 use Rattle.histories.specs.declared.answers.Query.{Query}
 use Rattle.histories.specs.declared.limits.Limits.{Limits}
 use Rattle.histories.proofs.Held.{IsStill}
-use Rattle.store_histories.specs.Answered.{Answers, Follows, StandsForHistory, TellsHistory, WasAsked, WasDue, answer_for, has_changed, is_accepted}
+use Rattle.store_histories.specs.Answered.{Answers, Follows, StandsForHistory, WasAsked, WasDue, answer_for, has_changed, is_accepted}
 use Rattle.store_histories.specs.FromTables.{OrFailed}
 use Rattle.store_histories.proofs.Due.{was_still}
 use Rattle.store_histories.proofs.Settled.{closes_for, settled, turns_answer}
@@ -40,11 +36,11 @@ pub if_ok_so : {T E : Type 0} {P Q : T → Type 0} (r : Result T E) → ((x : T)
 if_ok_so (Ok x) so is = so x is
 if_ok_so (Err e) so is = tt
 
-pub asked_once : {S : Type 0} (g : Ghosts S) (Shows : Tables → Answer → Type 0) (query : Query) → IsTold Shows query → (result : Result Answer StoreError) (old new : Store S)
-    → has_changed result ≡ false → Asked schema_two (is_ok result) (shown g old) (shown g new) → ((t : Tables) → ReadsAs g t old → IfOk result (Shows t)) → WasAsked g Shows query result old new
+pub asked_once : {S : Type 0} (g : Ghosts S) (Shows : Tables → Answer → Type 0) (query : Query) → IsTold Shows query → (result : Result Answer StoreError) (old new : S)
+    → has_changed result ≡ false → Asked g (is_ok result) old new → ((t : Tables) → ReadsAs g t old → IfOk result (Shows t)) → WasAsked g Shows query result old new
 asked_once g Shows query law result old new still asks told = record {
   told = told;
-  expected_answer = λ h s. if_ok_so result (λ answer. law h s.t answer s.tells) (told s.t (rests_said s.t (shown g old) s.stands));
+  expected_answer = λ h s. if_ok_so result (λ answer. law h s.t answer s.tells) (told s.t (g.said s.t old s.stands));
   still = still;
   asks = asks;
 }
@@ -56,23 +52,23 @@ or_failed Shows (Err ends.Store) is = inr (inr refl)
 
 -- ---- a command that is due what a question is
 
-module _ {S : Type 0} (g : Ghosts S) (limits : Limits) (Shows : Tables → Answer → Type 0) (query : Query) (said : Said) (form : IsInForm said) (due : (h : History) → expected_answer limits h said ≡ Some (expected_of_query h query)) (old new : Store S) where
+module _ {S : Type 0} (g : Ghosts S) (limits : Limits) (Shows : Tables → Answer → Type 0) (query : Query) (said : Said) (form : IsInForm said) (due : (h : History) → expected_answer limits h said ≡ Some (expected_of_query h query)) (old new : S) where
   was_due : (result : Result Answer StoreError) → WasAsked g Shows query result old new → (h : History) → StandsForHistory g h old → IfOk result (λ answer. WasDue g limits h said answer new)
   was_due (Err end) asked h s = tt
   was_due (Ok answer) asked h s =
       was_still limits h said form g old new answer (stays_still answer asked.still) (due h ∙ ap (λ a. Some a) (sym (asked.expected_answer h s))) s
-      (asked_rests schema_two (Holds s.t) (shown g old) (shown g new) asked.asks s.stands)
+      (asked_stands g s.t old new asked.asks s.stands)
 
   pub answered_as : (result : Result Answer StoreError) → WasAsked g Shows query result old new → Answers g limits said (answer_for result) old new
   answered_as result asked =
-      let unchanged = changed_asked schema_two TellsHistory (Follows limits said) (is_ok result) (shown g old) (shown g new) asked.asks in
-      let turned = subst (λ (done : Bool). Changed schema_two TellsHistory (Follows limits said) (is_ok result) done (shown g old) (shown g new)) (sym asked.still) unchanged in
+      let unchanged = changed_asked g TablesTell (Follows limits said) (is_ok result) old new asked.asks in
+      let turned = subst (λ (done : Bool). Changed g TablesTell (Follows limits said) (is_ok result) done old new) (sym asked.still) unchanged in
       record {
-        turned = turns_answer limits said result (shown g old) (shown g new) turned;
+        turned = turns_answer g limits said result old new turned;
         answered = λ h has. settled g limits h said old new has result form (was_due result asked h) turned;
-        closes = closes_for result (shown g old) (shown g new) asked.asks.stays;
-        shut = shut_asked schema_two (is_ok result) (shown g old) (shown g new) asked.asks;
+        closes = closes_for g result old new asked.asks.stays;
+        shut = shut_asked g (is_ok result) old new asked.asks;
       }
 
-pub question_answered : {S : Type 0} (g : Ghosts S) (limits : Limits) (Shows : Tables → Answer → Type 0) (query : Query) (old new : Store S) (result : Result Answer StoreError) → WasAsked g Shows query result old new → Answers g limits (Ask query) (answer_for result) old new
+pub question_answered : {S : Type 0} (g : Ghosts S) (limits : Limits) (Shows : Tables → Answer → Type 0) (query : Query) (old new : S) (result : Result Answer StoreError) → WasAsked g Shows query result old new → Answers g limits (Ask query) (answer_for result) old new
 question_answered g limits Shows query old new result asked = answered_as g limits Shows query (Ask query) tt (λ h. refl) old new result asked

@@ -1,21 +1,17 @@
 -- An answer and what it leaves, whatever came of the calls below.
 use Rattle.std.specs.Result.{is_ok, IsErr}
-use Rattle.std.proofs.Common.{◌≡◌, ◌⊎◌, IsTrue, ℕ, Bool, false, List, [], ◌∷◌, bytes_eq, ◌||◌, Result, Ok, Err, IfOk, inl, inr, refl, ap₂, subst}
+use Rattle.std.proofs.Common.{◌≡◌, ◌⊎◌, ℕ, Bool, false, List, [], ◌∷◌, bytes_eq, ◌||◌, Result, Ok, Err, IfOk, inl, inr, refl, ap₂, subst}
 use Rattle.std.specs.List.{AllByRecursion, list_any}
-use Rattle.sqlite_trees.specs.declared.store.Store.{Ghosts}
-use Rattle.sqlite.specs.State.{State}
-use Rattle.sqlite_trees.specs.Tree.{Trees}
-use Rattle.sql_tables.specs.Calls.{Changed, Stays}
-use Rattle.sql_tables.proofs.Calls.{settled_of, rests_before, stays_if, changed_none}
-use Rattle.prof_tables.specs.Schema.{schema_two}
-use Rattle.prof_tables.specs.Tables.{Holds}
-use Rattle.prof_tables.specs.Labels.{IsGroupName}
-use Rattle.prof_store.specs.Shown.{shown, IsFaithful}
-use Rattle.store_columns.specs.declared.errors.StoreError.{StoreError}
-use Rattle.store_columns.specs.declared.errors.StoreError.TheVariants as ends
-use Rattle.prof_store.specs.declared.store.Store.{Store}
-use Rattle.histories.specs.History.{History, Said, groups}
-use Rattle.histories.specs.Legal.{IsInForm, IsUnread, IsLegal, IsHistory, has_group}
+use Rattle.run_stores.specs.declared.states.StoreState.{Ghosts}
+use Rattle.run_stores.specs.Calls.{Changed, IsFaithful, IsUsable, Stays}
+use Rattle.run_stores.proofs.Calls.{changed_none, stays_if}
+use Rattle.plain_tables.specs.Labels.{IsGroupName}
+use Rattle.plain_tables.specs.Tables.{Tables}
+use Rattle.plain_tables.specs.declared.errors.StoreError.{StoreError}
+use Rattle.plain_tables.specs.declared.errors.StoreError.TheVariants as ends
+use Rattle.histories.specs.History.{History, Said, groups, with_turn}
+use Rattle.histories.specs.Legal.{IsFailure, IsInForm, IsUnread, IsLegal, IsHistory, has_group}
+use Rattle.histories.specs.Stands.{TablesTell}
 use Rattle.histories.specs.declared.answers.Answer.{Answer}
 use Rattle.histories.specs.declared.answers.Answer.TheVariants as answers
 use Rattle.histories.specs.declared.answers.Refusal.TheVariants as reasons
@@ -25,59 +21,59 @@ use Rattle.histories.proofs.Invariants.{groups_named}
 use Rattle.histories.proofs.Steps.{tell_same}
 use Rattle.histories.proofs.Tests.{bytes_apart}
 use Rattle.histories.proofs.Turns.{history_more}
-use Rattle.store_histories.specs.Answered.{with_turn, is_accepted, has_changed, TellsHistory, Follows, StandsForHistory, HasHistory, WasDue, IsAnswered, IsFailure, answer_for}
+use Rattle.store_histories.specs.Answered.{is_accepted, has_changed, Follows, StandsForHistory, HasHistory, WasDue, IsAnswered, answer_for}
 
-module _ {S : Type 0} (g : Ghosts S) (limits : Limits) (h : History) (said : Said) (old new : Store S) (has : HasHistory g h old) where
+module _ {S : Type 0} (g : Ghosts S) (limits : Limits) (h : History) (said : Said) (old new : S) (has : HasHistory g h old) where
   -- what was there stays, if a legal answer says that nothing changed
-  pub still_answered : (answered : Bool) (answer : Answer) → IsStill answer → IsLegal limits h said answer → Changed schema_two TellsHistory (Follows limits said) answered false (shown g old) (shown g new) → IsAnswered g limits h said answer new
+  pub still_answered : (answered : Bool) (answer : Answer) → IsStill answer → IsLegal limits h said answer → Changed g TablesTell (Follows limits said) answered false old new → IsAnswered g limits h said answer new
   still_answered answered answer still legal turned = record {
     legal = legal;
     after = record {
       legal = history_more limits h said answer has.legal legal;
       stands = λ usable.
-          let s = has.stands (turned.stays.was_open usable) in
-          let kept = turned.kept refl (settled_of schema_two (Holds s.t) (shown g old) s.stands) usable in
-          record { t = s.t; stands = rests_before schema_two (Holds s.t) (shown g old) (shown g new) s.stands usable kept; tells = tell_same limits h said answer s.t still s.tells legal };
+          let s = has.stands (turned.stays.was_usable usable) in
+          record { t = s.t; stands = (turned.kept refl).stands s.t s.stands usable; tells = tell_same limits h said answer s.t still s.tells legal };
     };
   }
 
   pub settled : (result : Result Answer StoreError) → IsInForm said → (StandsForHistory g h old → IfOk result (λ answer. WasDue g limits h said answer new))
-      → Changed schema_two TellsHistory (Follows limits said) (is_ok result) (has_changed result) (shown g old) (shown g new) → IsAnswered g limits h said (answer_for result) new
+      → Changed g TablesTell (Follows limits said) (is_ok result) (has_changed result) old new → IsAnswered g limits h said (answer_for result) new
   settled (Ok answer) form answered turned =
-      let it = answered (has.stands (turned.stays.was_open (turned.stays.is_open refl))) in
+      let it = answered (has.stands (turned.stays.was_usable (turned.stays.is_usable refl))) in
       let legal : IsLegal limits h said answer = inl (form, inl it.is_due) in
       record { legal = legal; after = record { legal = history_more limits h said answer has.legal legal; stands = λ u. it.after } }
   settled (Err ends.Memory) form answered turned = still_answered false (answers.Refused reasons.Memory) tt (inl (form, inr (inl refl))) turned
   settled (Err ends.Store) form answered turned = still_answered false (answers.Refused reasons.Store) tt (inl (form, inr (inr refl))) turned
 
--- of a call that is refused
-pub turns_err_from : (limits : Limits) (said : Said) (Before : History → Trees → Type 0) (result : Result Answer StoreError) (old new : State) → IsErr result → Changed schema_two Before (Follows limits said) false false old new
-    → Changed schema_two Before (Follows limits said) (is_ok result) (has_changed result) old new
-turns_err_from limits said Before (Ok answer) old new is h = absurd (cc is)
-turns_err_from limits said Before (Err end) old new is h = h
+module _ {S : Type 0} (g : Ghosts S) (limits : Limits) (said : Said) where
+  -- of a call that is refused
+  pub turns_err_from : (Before : History → Tables → Type 0) (result : Result Answer StoreError) (old new : S) → IsErr result → Changed g Before (Follows limits said) false false old new
+      → Changed g Before (Follows limits said) (is_ok result) (has_changed result) old new
+  turns_err_from Before (Ok answer) old new is h = absurd (cc is)
+  turns_err_from Before (Err end) old new is h = h
 
-pub turns_err : (limits : Limits) (said : Said) (result : Result Answer StoreError) (old new : State) → IsErr result → Changed schema_two TellsHistory (Follows limits said) false false old new
-    → Changed schema_two TellsHistory (Follows limits said) (is_ok result) (has_changed result) old new
-turns_err limits said result old new is h = turns_err_from limits said TellsHistory result old new is h
+  pub turns_err : (result : Result Answer StoreError) (old new : S) → IsErr result → Changed g TablesTell (Follows limits said) false false old new
+      → Changed g TablesTell (Follows limits said) (is_ok result) (has_changed result) old new
+  turns_err result old new is h = turns_err_from TablesTell result old new is h
 
--- what a call leaves is what its answer leaves
-pub turns_answer : (limits : Limits) (said : Said) (result : Result Answer StoreError) (old new : State) → Changed schema_two TellsHistory (Follows limits said) (is_ok result) (has_changed result) old new
-    → Changed schema_two TellsHistory (Follows limits said) (is_accepted (answer_for result)) (is_accepted (answer_for result)) old new
-turns_answer limits said (Ok answer) old new h = record { stays = stays_if (is_accepted answer) old new h.stays; done = h.done; kept = h.kept; crash = h.crash }
-turns_answer limits said (Err ends.Memory) old new h = h
-turns_answer limits said (Err ends.Store) old new h = h
+  -- what a call leaves is what its answer leaves
+  pub turns_answer : (result : Result Answer StoreError) (old new : S) → Changed g TablesTell (Follows limits said) (is_ok result) (has_changed result) old new
+      → Changed g TablesTell (Follows limits said) (is_accepted (answer_for result)) (is_accepted (answer_for result)) old new
+  turns_answer (Ok answer) old new h = record { stays = stays_if g (is_accepted answer) old new h.stays; done = h.done; kept = h.kept; crash = h.crash }
+  turns_answer (Err ends.Memory) old new h = h
+  turns_answer (Err ends.Store) old new h = h
 
--- a call that fails may shut the store
-pub closes_for : (result : Result Answer StoreError) (old new : State) → Stays (is_ok result) old new → IsTrue old.is_open → IsTrue new.is_open ⊎ IsFailure (answer_for result)
-closes_for (Ok answer) old new h usable = inl (h.is_open refl)
-closes_for (Err ends.Memory) old new h usable = inr (inl refl)
-closes_for (Err ends.Store) old new h usable = inr (inr refl)
+-- a call that fails may make the store unusable
+pub closes_for : {S : Type 0} (g : Ghosts S) (result : Result Answer StoreError) (old new : S) → Stays g (is_ok result) old new → IsUsable g old → IsUsable g new ⊎ IsFailure (answer_for result)
+closes_for g (Ok answer) old new h usable = inl (h.is_usable refl)
+closes_for g (Err ends.Memory) old new h usable = inr (inl refl)
+closes_for g (Err ends.Store) old new h usable = inr (inr refl)
 
 -- ---- the store is not asked
 
-module _ {S : Type 0} (g : Ghosts S) (limits : Limits) (h : History) (said : Said) (store : Store S) (has : HasHistory g h store) where
+module _ {S : Type 0} (g : Ghosts S) (limits : Limits) (h : History) (said : Said) (store : S) (has : HasHistory g h store) where
   pub untouched : IsFaithful g store → (answer : Answer) → IsStill answer → IsLegal limits h said answer → IsAnswered g limits h said answer store
-  untouched clean answer still legal = still_answered g limits h said store store has false answer still legal (changed_none schema_two TellsHistory (Follows limits said) (shown g store) clean)
+  untouched clean answer still legal = still_answered g limits h said store store has false answer still legal (changed_none g TablesTell (Follows limits said) store clean)
 
 -- ---- names out of form
 

@@ -1,15 +1,14 @@
 -- What is answered by what is found in tables, whatever they stand for.
 use Rattle.std.specs.Prelude.{◌≡◌, ◌⊎◌, ℕ, List, Option, Some, None, Result, Ok, Err}
 use Rattle.std.specs.Bool.{⊤}
-use Rattle.sqlite_trees.specs.declared.store.Store.{Ghosts}
-use Rattle.prof_store.specs.Shown.{MakesOf, StandsFor, Tells}
-use Rattle.prof_store.specs.declared.store.Store.{Store}
-use Rattle.prof_tables.specs.Tables.{Tables}
+use Rattle.run_stores.specs.declared.states.StoreState.{Ghosts}
+use Rattle.run_stores.specs.Calls.{MakesOf, StandsFor, Tells}
+use Rattle.plain_tables.specs.Tables.{Tables}
 use Rattle.histories.specs.declared.answers.Answer.{Answer}
 use Rattle.histories.specs.declared.answers.Answer.TheVariants as answers
 use Rattle.histories.specs.declared.answers.Refusal.{Refusal}
 use Rattle.histories.specs.declared.answers.Refusal.TheVariants as reasons
-use Rattle.store_histories.specs.Answered.{IsFailure}
+use Rattle.histories.specs.Legal.{IsFailure}
 
 -- what is found is shown, and what is not there is refused
 abbrev pub AnswersFor : {T : Type 0} → (T → Answer → Type 0) → Result T Refusal → Answer → Type 0
@@ -35,6 +34,6 @@ abbrev pub OrFailed : (Answer → Type 0) → Answer → Type 0
 OrFailed Shows answer = Shows answer ⊎ IsFailure answer
 
 -- a command that changes the tables is answered by the lines as which their rows are read, and makes of the lines that they hold what it says
-pub record WasChangedIn {S : Type 0} (g : Ghosts S) (Says : (Tables → Type 0) → Tables → Answer → Type 0) (answer : Answer) (old new : Store S) : Type 0 where
+pub record WasChangedIn {S : Type 0} (g : Ghosts S) (Says : (Tables → Type 0) → Tables → Answer → Type 0) (answer : Answer) (old new : S) : Type 0 where
   pub told : Tells g old new (λ t. OrFailed (Says (λ _. ⊤) t) answer)
   pub made : MakesOf g old new (λ t. OrFailed (Says (λ left. StandsFor g left new) t) answer)

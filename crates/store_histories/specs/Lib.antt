@@ -1,5 +1,4 @@
 pub mod Answered
-pub mod First
 pub mod FromTables
 pub mod Left
 pub mod Refusals

@@ -3,7 +3,7 @@ ghost use Rattle.std.specs.Prelude.{◌≡◌};
 ghost use Rattle.store_histories.specs.Answered.{answer_for};
 
 use histories::{Answer, Refusal};
-use prof_store::StoreError;
+use plain_tables::StoreError;
 
 /// The answer that is due, or the refusal because of memory or the store.
 pub fn answer_of(outcome: Result<Answer, StoreError>) -> Answer

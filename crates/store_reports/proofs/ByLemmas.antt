@@ -1,10 +1,10 @@
 -- The answers to questions by key.
 use Rattle.std.proofs.Common.{◌≡◌, ℕ, List, [], Result, Ok, Err, refl, sym, ap, ◌∙◌}
 use Rattle.cost_rows.specs.declared.keys.Key.{Key}
-use Rattle.cost_reports.specs.KeyReports.{report_of}
-use Rattle.cost_reports.specs.KeyTexts.{key_report_text}
-use Rattle.cost_reports.specs.declared.cuts.Cut.{Cut}
-use Rattle.prof_tables.specs.Tables.{Tables}
+use Rattle.report_texts.specs.KeyReports.{report_of}
+use Rattle.report_texts.specs.KeyTexts.{key_report_text}
+use Rattle.report_texts.specs.declared.cuts.Cut.{Cut}
+use Rattle.plain_tables.specs.Tables.{Tables}
 use Rattle.histories.specs.History.{History}
 use Rattle.histories.specs.Legal.{expected_of_query}
 use Rattle.histories.specs.Reports.{by_text}

@@ -1,11 +1,10 @@
 -- The lines of runs that are checked are those of the files of a selection.
-use Rattle.std.proofs.Common.{◌≡◌, ℕ, suc, ◌+◌, ◌<◌, List, [], ◌∷◌, ◌++◌, map, length, get_or, take, Result, Ok, Err, append_assoc, append-nil, refl, sym, ap, ap₂, subst, ◌∙◌}
+use Rattle.std.proofs.Common.{◌≡◌, ℕ, suc, ◌+◌, ◌<◌, List, [], ◌∷◌, ◌++◌, map, length, get_or, take, Result, Ok, Err, append_assoc, append-nil, refl, sym, ap, ap₂, subst, ◌∙◌, IsPermutation}
 use Rattle.std.specs.List.{AllByRecursion}
-use Rattle.sqlite_rules.specs.Lists.{Has}
-use Rattle.cost_reports.specs.Verifying.{verified, verify_text}
-use Rattle.prof_tables.specs.Tables.{Tables, EventLine}
-use Rattle.held_runs.specs.OwnSums.{AreOwnSums, IsByPlace, events_of_run}
-use Rattle.held_runs.proofs.OwnSumLists.{own_sums_by_place}
+use Rattle.plain_tables.specs.Lists.{Has}
+use Rattle.report_texts.specs.Verifying.{verified, verify_text}
+use Rattle.plain_tables.specs.Tables.{Tables}
+use Rattle.run_stores.specs.OwnSums.{AreOwnSums, PlacedSum, events_of_run, self_of_line, sums_from}
 use Rattle.histories.specs.Files.{events_of}
 use Rattle.histories.specs.History.{History, File, held}
 use Rattle.histories.specs.Legal.{expected_of_query, first_or}
@@ -22,7 +21,8 @@ use Rattle.store_reports.specs.Checked.{IsChecked, IsRunChecked, IsVerified, Are
 use Rattle.store_histories.specs.FromTables.{AnswersFor, ShowsText}
 use Rattle.selected_runs.specs.Added.{AreAdded}
 use Rattle.selected_runs.specs.Selected.{AreSelected, AreSelectedIn}
-use Rattle.selected_runs.proofs.HeadLemmas.{held_head_told, line_of, verified_told}
+use Rattle.histories.proofs.Heads.{Count, held_head_told, same_order, verified_told}
+use Rattle.histories.proofs.Runs.{run_of}
 use Rattle.selected_runs.proofs.RunLemmas.{selected_held}
 use Rattle.selected_runs.proofs.SelectLemmas.{selected_told}
 
@@ -38,20 +38,28 @@ lines_added items t (number ∷ numbers) before after all =
 
 -- ---- of one file
 
-lines_by_place : (f : File) (place : ℕ) (events : List (List ℕ)) → IsByPlace place (event_lines_from f place events)
-lines_by_place f place [] = tt
-lines_by_place f place (event ∷ events) = (refl, lines_by_place f (suc place) events)
-
-lines_own : (f : File) (place : ℕ) (events : List (List ℕ)) → map (λ (e : EventLine). e.self_cost) (event_lines_from f place events) ≡ own_columns_from f place events
+-- the lines of a file have the sums of its columns, by place
+lines_own : (f : File) (place : ℕ) (events : List (List ℕ)) → map self_of_line (event_lines_from f place events) ≡ sums_from place (own_columns_from f place events)
 lines_own f place [] = refl
-lines_own f place (event ∷ events) = ap (λ l. own_column f.format f.bytes place ∷ l) (lines_own f (suc place) events)
+lines_own f place (event ∷ events) = ap (λ l. let s : PlacedSum = record { place = place; sum = own_column f.format f.bytes place } in s ∷ l) (lines_own f (suc place) events)
+
+sums_count : (place : ℕ) (sums : List ℕ) → Count (λ (s : PlacedSum). s.place) place (sums_from place sums)
+sums_count place [] = tt
+sums_count place (sum ∷ sums) = (refl, sums_count (suc place) sums)
+
+sums_back : (place : ℕ) (sums : List ℕ) → map (λ (s : PlacedSum). s.sum) (sums_from place sums) ≡ sums
+sums_back place [] = refl
+sums_back place (sum ∷ sums) = ap (λ l. sum ∷ l) (sums_back (suc place) sums)
 
 own_told : (h : History) (t : Tables) (f : File) (sums : List ℕ) → TablesTell h t → Has (held h) f → AreOwnSums (events_of_run f.number t) sums → sums ≡ own_columns f
 own_told h t f sums tell there are =
-    let run = line_of t t.runs (held h) f tell.runs there in
+    let run = run_of t t.runs (held h) f tell.runs there in
     let events = events_of f.format f.bytes in
-    let lines : events_of_run f.number t ≡ event_lines_from f 0 events = ap (λ n. events_of_run n t) (sym run.1.number) ∙ run.1.events in
-    own_sums_by_place (event_lines_from f 0 events) sums (lines_by_place f 0 events) (subst (λ l. AreOwnSums l sums) lines are) ∙ lines_own f 0 events
+    let lines : events_of_run f.number t ≡ event_lines_from f 0 events = ap (λ n. events_of_run n t) (sym run.book.number) ∙ run.book.events in
+    let mixed : IsPermutation (sums_from 0 (own_columns f)) (sums_from 0 sums) =
+    subst (λ l. IsPermutation l (sums_from 0 sums)) (lines_own f 0 events) (subst (λ l. AreOwnSums l sums) lines are) in
+    let same = same_order (λ (s : PlacedSum). s.place) 0 (sums_from 0 (own_columns f)) (sums_from 0 sums) (sums_count 0 (own_columns f)) (sums_count 0 sums) mixed in
+    sym (sums_back 0 sums) ∙ sym (ap (map (λ (s : PlacedSum). s.sum)) same) ∙ sums_back 0 (own_columns f)
 
 run_told : (h : History) (t : Tables) (f : File) (lines : List ℕ) → TablesTell h t → Has (held h) f → IsRunChecked t f.number lines → lines ≡ file_verified f
 run_told h t f lines tell there run =

@@ -3,11 +3,11 @@ use Rattle.std.proofs.Common.{◌≡◌, ◌⊎◌, ℕ, Bool, true, false, not,
 use Rattle.std.specs.List.{list_any}
 use Rattle.std.specs.Str.{bytes_eq}
 use Rattle.cost_rows.specs.declared.keys.Key.{Key}
-use Rattle.cost_reports.specs.Differences.{difference_of, difference_text}
-use Rattle.prof_tables.specs.Changes as tables
-use Rattle.prof_tables.specs.Labels.{IsGroupName}
-use Rattle.prof_tables.specs.Tables.{Tables}
-use Rattle.held_runs.specs.Lookups.{IsBaselineOf}
+use Rattle.report_texts.specs.Differences.{difference_of, difference_text}
+use Rattle.plain_tables.specs.Changes as tables
+use Rattle.plain_tables.specs.Labels.{IsGroupName}
+use Rattle.plain_tables.specs.Tables.{Tables}
+use Rattle.run_stores.specs.Lookups.{IsBaselineOf}
 use Rattle.histories.specs.History.{History, File, baseline}
 use Rattle.histories.specs.Legal.{compared, expected_of_query, files_of, first_or, no_event, no_second, no_selection, when}
 use Rattle.histories.specs.Reports.{has_event, subtract_text}

@@ -6,12 +6,12 @@ use Rattle.cost_rows.specs.KeySums.{Sums, sums_with, with_row}
 use Rattle.cost_rows.specs.Keys.{part_of, place_of_row}
 use Rattle.cost_rows.specs.declared.rows.CellRow.{CellRow}
 use Rattle.cost_rows.specs.declared.keys.Key.{Key}
-use Rattle.cost_reports.specs.Costs.{all_rows, weighted}
-use Rattle.cost_reports.specs.KeyReports.{report_of}
-use Rattle.cost_reports.specs.KeyTexts.{key_report_text}
-use Rattle.cost_reports.specs.declared.cuts.Cut.{Cut}
+use Rattle.report_texts.specs.Costs.{all_rows, weighted}
+use Rattle.report_texts.specs.KeyReports.{report_of}
+use Rattle.report_texts.specs.KeyTexts.{key_report_text}
+use Rattle.report_texts.specs.declared.cuts.Cut.{Cut}
 use Rattle.prof_books.specs.Book.{cells_held}
-use Rattle.prof_tables.specs.Tables.{Tables}
+use Rattle.plain_tables.specs.Tables.{Tables}
 use Rattle.store_reports.specs.Compared.{costs_over}
 use Rattle.selected_runs.specs.Counted.{event_cells}
 use Rattle.store_reports.specs.Reported.{merged_from, report_over}

@@ -1,10 +1,10 @@
 -- The sums of runs beside the totals that their files state.
 use Rattle.std.specs.Prelude.{◌≡◌, ℕ, List, [], ◌∷◌, ◌++◌}
 use Rattle.cg_formulas.specs.declared.heads.FileHead.{FileHead}
-use Rattle.cost_reports.specs.Verifying.{verified, verify_text}
-use Rattle.prof_tables.specs.Tables.{Tables}
-use Rattle.held_runs.specs.HeldHeads.{IsHeadIn}
-use Rattle.held_runs.specs.OwnSums.{AreOwnSums, events_of_run}
+use Rattle.report_texts.specs.Verifying.{verified, verify_text}
+use Rattle.plain_tables.specs.Tables.{Tables}
+use Rattle.prof_books.specs.HeldHeads.{IsHeadIn}
+use Rattle.run_stores.specs.OwnSums.{AreOwnSums, events_of_run}
 use Rattle.histories.specs.declared.answers.Answer.{Answer}
 use Rattle.histories.specs.declared.answers.Selection.{Selection}
 use Rattle.store_histories.specs.FromTables.{AnswersBy, ShowsText}

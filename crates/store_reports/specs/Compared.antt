@@ -4,10 +4,10 @@ use Rattle.std.specs.List.{list_any}
 use Rattle.cost_rows.specs.KeySums.{sums_by}
 use Rattle.cost_rows.specs.Sums.{Spot}
 use Rattle.cost_rows.specs.declared.keys.Key.{Key}
-use Rattle.cost_reports.specs.Costs.{all_rows}
-use Rattle.cost_reports.specs.Differences.{difference_of, difference_text}
-use Rattle.prof_tables.specs.Tables.{Tables}
-use Rattle.held_runs.specs.Lookups.{IsBaselineOf}
+use Rattle.report_texts.specs.Costs.{all_rows}
+use Rattle.report_texts.specs.Differences.{difference_of, difference_text}
+use Rattle.plain_tables.specs.Tables.{Tables}
+use Rattle.run_stores.specs.Lookups.{IsBaselineOf}
 use Rattle.histories.specs.History.{History}
 use Rattle.histories.specs.Legal.{files_of, no_second}
 use Rattle.histories.specs.Selections.{numbers_of}

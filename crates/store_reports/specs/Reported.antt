@@ -2,12 +2,12 @@
 use Rattle.std.specs.Prelude.{◌≡◌, ℕ, List, [], map, fold, unwrap_or}
 use Rattle.cost_rows.specs.KeySums.{Sums, sums_by, with_row}
 use Rattle.cost_rows.specs.declared.keys.Key.{Key}
-use Rattle.cost_reports.specs.Costs.{all_rows, weighted}
-use Rattle.cost_reports.specs.KeyReports.{report_of}
-use Rattle.cost_reports.specs.KeyTexts.{key_report_text}
-use Rattle.cost_reports.specs.declared.cuts.Cut.{Cut}
+use Rattle.report_texts.specs.Costs.{all_rows, weighted}
+use Rattle.report_texts.specs.KeyReports.{report_of}
+use Rattle.report_texts.specs.KeyTexts.{key_report_text}
+use Rattle.report_texts.specs.declared.cuts.Cut.{Cut}
 use Rattle.prof_books.specs.Book.{cells_held}
-use Rattle.prof_tables.specs.Tables.{Tables}
+use Rattle.plain_tables.specs.Tables.{Tables}
 use Rattle.histories.specs.declared.answers.Answer.{Answer}
 use Rattle.histories.specs.declared.answers.Answer.TheVariants.{Text}
 use Rattle.histories.specs.declared.answers.Selection.{Selection}

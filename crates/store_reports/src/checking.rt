@@ -1,22 +1,19 @@
 // The answers to questions of what files state.
 ghost use Rattle.std.specs.Prelude.{◌≡◌, ◌++◌, flat_map, OnOk};
 ghost use Rattle.std.specs.Result.{is_ok};
-ghost use Rattle.cost_reports.specs.Verifying.{verified, verify_text};
-ghost use Rattle.prof_store.specs.Shown.{Asks, Told};
-ghost use Rattle.held_runs.specs.HeldHeads.{IsHeadIn};
-ghost use Rattle.held_runs.specs.Walks.{AsksIfOpen};
+ghost use Rattle.report_texts.specs.Verifying.{verified, verify_text};
+ghost use Rattle.run_stores.specs.Calls.{Asks, Told, AsksIfOpen};
+ghost use Rattle.prof_books.specs.HeldHeads.{IsHeadIn};
 ghost use Rattle.histories.specs.declared.answers.Query.TheVariants.{Verify};
-ghost use Rattle.store_histories.specs.Answered.{Asks as AnswersAsked};
+ghost use Rattle.store_histories.specs.Answered.{AnswersAsked};
 ghost use Rattle.store_reports.specs.Checked.{IsChecked, IsVerified, AreChecked};
 
 use cg_formulas::FileHead;
 use cg_text::ListVec;
 use cost_reports::verify;
-use held_runs::{head_of, sums_of};
 use histories::{Answer, Selection};
-use prof_store::{Store, StoreError};
+use run_stores::{RunStore, StoreError};
 use selected_runs::{AddsRuns, add_runs, select_runs};
-use sqlite::Alter;
 use std::alloc::{AllocError, Global};
 
 /// Adds the lines of a run: the sums of its events beside what its head states.
@@ -34,32 +31,32 @@ fn push_lines(
 }
 
 /// Adds the lines of a run of this head.
-fn push_sums<S: Alter>(
-    store: &mut Store<S>,
+fn push_sums<S: RunStore>(
+    store: &mut S,
     alloc: Global,
     number: u32,
     head: &FileHead,
     text: &mut Vec<u8>,
 ) -> Result<(), StoreError>
-    ensures told { Told S.Store result store.old store.new (λ t _. IsHeadIn number t head.now → IsChecked t number text.old.items text.new.items) }
-    ensures asks { Asks S.Store (is_ok result) store.old store.new }
+    ensures told { Told S.StoreState result store.old store.new (λ t _. IsHeadIn number t head.now → IsChecked t number text.old.items text.new.items) }
+    ensures asks { Asks S.StoreState (is_ok result) store.old store.new }
 {
-    let sums = sums_of(store, alloc, number)?;
+    let sums = store.sums_of(alloc, number)?;
     push_lines(text, alloc, number, head, sums.as_slice())?;
     Ok(())
 }
 
 /// Adds the lines of a run: the sums of its events beside the totals that its file states.
-fn check_run<S: Alter>(
-    store: &mut Store<S>,
+fn check_run<S: RunStore>(
+    store: &mut S,
     alloc: Global,
     number: u32,
     text: &mut Vec<u8>,
 ) -> Result<(), StoreError>
-    ensures told { Told S.Store result store.old store.new (λ t _. IsChecked t number text.old.items text.new.items) }
-    ensures asks { Asks S.Store (is_ok result) store.old store.new }
+    ensures told { Told S.StoreState result store.old store.new (λ t _. IsChecked t number text.old.items text.new.items) }
+    ensures asks { Asks S.StoreState (is_ok result) store.old store.new }
 {
-    let head = head_of(store, alloc, number)?;
+    let head = store.head_of(alloc, number)?;
     push_sums(store, alloc, number, &head, text)
 }
 
@@ -69,7 +66,7 @@ struct ChecksOfRuns {
     alloc: Global,
 }
 
-impl AddsRuns for ChecksOfRuns {
+impl<S: RunStore> AddsRuns<S> for ChecksOfRuns {
     ghost use Rattle.store_reports.specs.Checked.{IsChecked};
 
     type Run = u32;
@@ -78,12 +75,7 @@ impl AddsRuns for ChecksOfRuns {
 
     ghost Step = { λ s t number old new. IsChecked t number old.items new.items };
 
-    fn add<S: Alter>(
-        &self,
-        store: &mut Store<S>,
-        number: &u32,
-        text: Vec<u8>,
-    ) -> Result<Vec<u8>, StoreError> {
+    fn add(&self, store: &mut S, number: &u32, text: Vec<u8>) -> Result<Vec<u8>, StoreError> {
         let mut text = text;
         check_run(store, self.alloc, *number, &mut text)?;
         Ok(text)
@@ -91,13 +83,13 @@ impl AddsRuns for ChecksOfRuns {
 }
 
 /// The lines of runs.
-fn check_runs<S: Alter>(
-    store: &mut Store<S>,
+fn check_runs<S: RunStore>(
+    store: &mut S,
     alloc: Global,
     numbers: &[u32],
 ) -> Result<ListVec<u8>, StoreError>
-    ensures told { Told S.Store result store.old store.new (λ t text. AreChecked t numbers.now text) }
-    ensures asks { AsksIfOpen S.Store (is_ok result) store.old store.new }
+    ensures told { Told S.StoreState result store.old store.new (λ t text. AreChecked t numbers.now text) }
+    ensures asks { AsksIfOpen S.StoreState (is_ok result) store.old store.new }
 {
     let checks = ChecksOfRuns { alloc };
     let text = add_runs(store, &checks, numbers, Vec::new(alloc))?;
@@ -107,12 +99,12 @@ fn check_runs<S: Alter>(
 /// Answers what the sums of the events are beside the totals that the files state, for the runs of
 /// a selection: a text, or the refusal of a run or a group that is not held. Errors: `Memory`; and
 /// `Store` for a call of the database that fails and for rows out of form.
-pub fn verify_answer<S: Alter>(
-    store: &mut Store<S>,
+pub fn verify_answer<S: RunStore>(
+    store: &mut S,
     alloc: Global,
     selection: &Selection,
 ) -> Result<Answer, StoreError>
-    ensures { AnswersAsked S.Store (λ t. IsVerified t selection.now) (Verify selection.now) result store.old store.new }
+    ensures { AnswersAsked S.StoreState (λ t. IsVerified t selection.now) (Verify selection.now) result store.old store.new }
 {
     let numbers = match select_runs(store, alloc, selection)? {
         Ok(numbers) => numbers,

@@ -1,48 +1,45 @@
 // The answers to questions of differences.
 ghost use Rattle.std.specs.Prelude.{◌≡◌, false, IfOk};
 ghost use Rattle.std.specs.Result.{is_ok};
-ghost use Rattle.cost_reports.specs.Differences.{difference_of, difference_text};
-ghost use Rattle.prof_store.specs.Shown.{Asks, Told};
-ghost use Rattle.held_runs.specs.Walks.{AsksIfOpen};
+ghost use Rattle.report_texts.specs.Differences.{difference_of, difference_text};
+ghost use Rattle.run_stores.specs.Calls.{Asks, Told, AsksIfOpen};
 ghost use Rattle.histories.specs.declared.answers.Query.TheVariants.{Subtract};
-ghost use Rattle.store_histories.specs.Answered.{Asks as AnswersAsked, has_changed};
+ghost use Rattle.store_histories.specs.Answered.{AnswersAsked, has_changed};
 ghost use Rattle.store_reports.specs.Compared.{AnswersDifference, AreBaselineIn, AreComparedIn, IsSubtracted, costs_over, difference_over};
 
 use crate::merging::merge_runs;
 use cg_text::ListVec;
 use cost_reports::subtract;
 use cost_rows::{Key, Merged};
-use held_runs::{HeldNames, baseline_of, names_of};
 use histories::{Answer, Refusal, Selection};
-use prof_store::{Store, StoreError};
+use run_stores::{RunStore, StoreError};
 use selected_runs::{Counted, Numbers, count_runs, have_event, name_text, one_run, select_runs};
-use sqlite::Alter;
 use std::alloc::{AllocError, Global};
 
 /// The baseline of a group, as a selection of one run.
-fn baseline_run<S: Alter>(
-    store: &mut Store<S>,
+fn baseline_run<S: RunStore>(
+    store: &mut S,
     alloc: Global,
     name: &[u8],
 ) -> Result<Numbers, StoreError>
-    ensures told { Told S.Store result store.old store.new (λ t found. AreBaselineIn t name.now found) }
-    ensures asks { Asks S.Store (is_ok result) store.old store.new }
+    ensures told { Told S.StoreState result store.old store.new (λ t found. AreBaselineIn t name.now found) }
+    ensures asks { Asks S.StoreState (is_ok result) store.old store.new }
 {
-    match baseline_of(store, name_text(name))? {
+    match store.baseline_of(name_text(name))? {
         Some(number) => one_run(store, alloc, number),
         None => Ok(Err(Refusal::NoBaseline)),
     }
 }
 
 /// The runs that a selection is compared with: those of the second one, or the baseline of the first.
-fn compared_runs<S: Alter>(
-    store: &mut Store<S>,
+fn compared_runs<S: RunStore>(
+    store: &mut S,
     alloc: Global,
     first: &Selection,
     second: &Option<Selection>,
 ) -> Result<Numbers, StoreError>
-    ensures told { Told S.Store result store.old store.new (λ t found. AreComparedIn t first.now second.now found) }
-    ensures asks { AsksIfOpen S.Store (is_ok result) store.old store.new }
+    ensures told { Told S.StoreState result store.old store.new (λ t found. AreComparedIn t first.now second.now found) }
+    ensures asks { AsksIfOpen S.StoreState (is_ok result) store.old store.new }
 {
     if let Some(second) = second {
         return select_runs(store, alloc, second);
@@ -67,51 +64,51 @@ fn text_of_sums(
 }
 
 /// The text of what some sums are less those of runs, by the same key.
-fn text_less_runs<S: Alter>(
-    store: &mut Store<S>,
+fn text_less_runs<S: RunStore>(
+    store: &mut S,
     alloc: Global,
-    names: &HeldNames,
+    names: &S::Names,
     first: &Merged,
     seconds: &[Counted],
     event: &[u8],
 ) -> Result<ListVec<u8>, StoreError>
-    ensures told { Told S.Store result store.old store.new (λ t text. names.now ≡ t.names
+    ensures told { Told S.StoreState result store.old store.new (λ t text. S.name_lines names.now ≡ t.names
         → text ≡ difference_text event.now (difference_of first.now.key first.now.sums (costs_over t first.now.key seconds.now))) }
-    ensures asks { AsksIfOpen S.Store (is_ok result) store.old store.new }
+    ensures asks { AsksIfOpen S.StoreState (is_ok result) store.old store.new }
 {
     let second = merge_runs(store, alloc, names, seconds, first.key())?;
     Ok(text_of_sums(alloc, first, &second, event)?)
 }
 
 /// The text of the difference between some runs and others.
-fn difference_text<S: Alter>(
-    store: &mut Store<S>,
+fn difference_text<S: RunStore>(
+    store: &mut S,
     alloc: Global,
     firsts: &[Counted],
     seconds: &[Counted],
     key: Key,
     event: &[u8],
 ) -> Result<ListVec<u8>, StoreError>
-    ensures told { Told S.Store result store.old store.new (λ t text. text ≡ difference_over t firsts.now seconds.now key event.now) }
-    ensures asks { AsksIfOpen S.Store (is_ok result) store.old store.new }
+    ensures told { Told S.StoreState result store.old store.new (λ t text. text ≡ difference_over t firsts.now seconds.now key event.now) }
+    ensures asks { AsksIfOpen S.StoreState (is_ok result) store.old store.new }
 {
-    let names = names_of(store, alloc)?;
+    let names = store.names_of(alloc)?;
     let first = merge_runs(store, alloc, &names, firsts, key)?;
     text_less_runs(store, alloc, &names, &first, seconds, event)
 }
 
 /// The answer over the runs of some numbers and those of others.
-fn answer_difference<S: Alter>(
-    store: &mut Store<S>,
+fn answer_difference<S: RunStore>(
+    store: &mut S,
     alloc: Global,
     numbers: &[u32],
     others: &[u32],
     key: Key,
     event: &[u8],
 ) -> Result<Answer, StoreError>
-    ensures told { Told S.Store result store.old store.new (λ t answer. AnswersDifference t numbers.now others.now key event.now answer) }
+    ensures told { Told S.StoreState result store.old store.new (λ t answer. AnswersDifference t numbers.now others.now key event.now answer) }
     ensures still { has_changed result ≡ false }
-    ensures asks { AsksIfOpen S.Store (is_ok result) store.old store.new }
+    ensures asks { AsksIfOpen S.StoreState (is_ok result) store.old store.new }
 {
     let firsts = count_runs(store, alloc, numbers, event)?;
     let seconds = count_runs(store, alloc, others, event)?;
@@ -126,15 +123,15 @@ fn answer_difference<S: Alter>(
 /// no second one is given, less the baseline of the group that is the first: a text, or the refusal of a
 /// run or a group that is not held, of a first selection without a baseline, or of an event that none of
 /// the runs has. Errors: `Memory`; and `Store` as for a report by key.
-pub fn subtract_answer<S: Alter>(
-    store: &mut Store<S>,
+pub fn subtract_answer<S: RunStore>(
+    store: &mut S,
     alloc: Global,
     first: &Selection,
     second: &Option<Selection>,
     key: Key,
     event: &ListVec<u8>,
 ) -> Result<Answer, StoreError>
-    ensures { AnswersAsked S.Store (λ t. IsSubtracted t first.now second.now key event.now)
+    ensures { AnswersAsked S.StoreState (λ t. IsSubtracted t first.now second.now key event.now)
         (Subtract first.now second.now key event.now) result store.old store.new }
 {
     let numbers = match select_runs(store, alloc, first)? {

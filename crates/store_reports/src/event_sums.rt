@@ -1,7 +1,6 @@
 // The cells of runs, added up by key in the event that is asked.
 use cost_rows::{CellRow, Merged};
-use held_runs::TakesCells;
-use prof_store::StoreError;
+use run_stores::{StoreError, TakesCells};
 use selected_runs::weighted_within;
 
 /// Sums by key, and how often each column of the run that is read counts in the event.
@@ -14,7 +13,7 @@ pub(crate) struct EventSums<'a> {
 impl TakesCells for EventSums<'_> {
     ghost use Rattle.std.specs.Prelude.{List, ℕ};
     ghost use Rattle.cost_rows.specs.KeySums.{Sums, with_row};
-    ghost use Rattle.cost_reports.specs.Costs.{weighted};
+    ghost use Rattle.report_texts.specs.Costs.{weighted};
 
     ghost Meaning = { List ℕ × Sums };
 

@@ -2,7 +2,7 @@
 ghost use Rattle.std.specs.Prelude.{◌≡◌, ◌+◌, List, ℕ};
 ghost use Rattle.cost_rows.specs.KeySums.{total_of};
 ghost use Rattle.cost_rows.specs.declared.keys.Key.{Key};
-ghost use Rattle.cost_reports.specs.declared.cuts.Cut.{Cut};
+ghost use Rattle.report_texts.specs.declared.cuts.Cut.{Cut};
 ghost use Rattle.histories.specs.History.{History};
 ghost use Rattle.histories.specs.Reports.{report_by, self_costs};
 ghost use Rattle.histories.specs.Selections.{selected};

@@ -1,10 +1,9 @@
 -- One command more is run.
 use Rattle.std.proofs.Common.{◌≡◌, List, [], ◌∷◌, ◌++◌, length, arith, refl, sym, ap, subst, ◌∙◌, append-nil}
-use Rattle.sqlite_trees.specs.declared.store.Store.{Ghosts}
-use Rattle.sql_tables.proofs.Rows.{map-append}
-use Rattle.prof_store.specs.Shown.{IsFaithful}
-use Rattle.prof_store.specs.declared.store.Store.{Store}
-use Rattle.sources.specs.Outcomes.{Outcome}
+use Rattle.run_stores.specs.declared.states.StoreState.{Ghosts}
+use Rattle.plain_tables.proofs.Lists.{map-append}
+use Rattle.run_stores.specs.Calls.{IsFaithful}
+use Rattle.byte_io.specs.Outcomes.{Outcome}
 use Rattle.histories.specs.History.{History, Turn}
 use Rattle.histories.specs.declared.answers.Answer.{Answer}
 use Rattle.histories.specs.declared.limits.Limits.{Limits}
@@ -21,10 +20,10 @@ module _ {R : Type 0} (reads : R → Outcome → R → Type 0) where
   said_on (c ∷ list) (t ∷ turns) one turn all is = (all.0, said_on list turns one turn all.1 is)
 
 module _ {S R : Type 0} (g : Ghosts S) (reads : R → Outcome → R → Type 0) (limits : Limits) where
-  pub run_nothing : (store : Store S) → WasRun g reads limits [] [] store store
+  pub run_nothing : (store : S) → WasRun g reads limits [] [] store store
   run_nothing store = record { turns = []; said = tt; answered = refl; links = refl; legal = λ h has. tt; after = λ h has. subst (λ l. HasHistory g l store) (sym (append-nil h)) has }
 
-  pub run_on : (list : List (commands.Command R)) (given : List Answer) (old mid new : Store S) → WasRun g reads limits list given old mid → (one : commands.Command R) (answer : Answer) → WasAnswered g reads limits one answer mid new → IsFaithful g new
+  pub run_on : (list : List (commands.Command R)) (given : List Answer) (old mid new : S) → WasRun g reads limits list given old mid → (one : commands.Command R) (answer : Answer) → WasAnswered g reads limits one answer mid new → IsFaithful g new
       → WasRun g reads limits (list ++ one ∷ []) (given ++ answer ∷ []) old new
   run_on list given old mid new w one answer is clean =
       let turn : Turn = record { said = is.said; answer = answer } in

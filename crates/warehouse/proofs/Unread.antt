@@ -1,12 +1,9 @@
 -- Sources that were not read to their end.
 use Rattle.std.proofs.Common.{◌≡◌, ◌∙◌, ℕ, false, List, inl, inr, refl}
-use Rattle.sql_tables.specs.Calls.{Changed}
-use Rattle.sql_tables.proofs.Calls.{changed_none, shut_none}
-use Rattle.prof_tables.specs.Schema.{schema_two}
-use Rattle.prof_store.specs.Shown.{shown, IsFaithful}
-use Rattle.sqlite_trees.specs.declared.store.Store.{Ghosts}
-use Rattle.prof_store.specs.declared.store.Store.{Store}
-use Rattle.sources.specs.Outcomes.{Outcome}
+use Rattle.run_stores.specs.Calls.{Changed, IsFaithful}
+use Rattle.run_stores.proofs.Calls.{changed_none, shut_none}
+use Rattle.run_stores.specs.declared.states.StoreState.{Ghosts}
+use Rattle.byte_io.specs.Outcomes.{Outcome}
 use Rattle.histories.specs.History.{History, Said}
 use Rattle.histories.specs.Legal.{IsInForm, IsLegal, expected_answer, once_read}
 use Rattle.histories.specs.declared.answers.Answer.{Answer}
@@ -15,13 +12,14 @@ use Rattle.histories.specs.declared.answers.Refusal.TheVariants as reasons
 use Rattle.histories.specs.declared.limits.Limits.{Limits}
 use Rattle.histories.proofs.ReadsDue.{failed_due, long_due}
 use Rattle.histories.proofs.Held.{IsStill}
-use Rattle.store_histories.specs.Answered.{Answers, TellsHistory, Follows, is_accepted}
+use Rattle.histories.specs.Stands.{TablesTell}
+use Rattle.store_histories.specs.Answered.{Answers, Follows, is_accepted}
 use Rattle.store_histories.proofs.Settled.{untouched}
 use Rattle.warehouse.specs.Answered.{unread_for}
-use Rattle.sources.proofs.Outcomes.{failed_within, failed_is}
-use Rattle.sources.specs.Reads.{IsUnreadFor}
-use Rattle.sources.specs.declared.reading.Unread.{Unread}
-use Rattle.sources.specs.declared.reading.Unread.TheVariants as unreads
+use Rattle.byte_io.proofs.Outcomes.{failed_within, failed_is}
+use Rattle.byte_io.specs.Reads.{IsUnreadFor}
+use Rattle.byte_io.specs.declared.reading.Unread.{Unread}
+use Rattle.byte_io.specs.declared.reading.Unread.TheVariants as unreads
 
 unread_still : (unread : Unread) → IsStill (unread_for unread)
 unread_still unreads.Memory = tt
@@ -35,18 +33,18 @@ module _ (limits : Limits) (said : Said) (form : IsInForm said) (limit : ℕ) (o
   unread_legal h unreads.Failed is = inl (form, inl (waits h ∙ failed_due limit outcomes (due h) (failed_within limit outcomes is) (failed_is limit outcomes is)))
   unread_legal h unreads.TooLong is = inl (form, inl (waits h ∙ long_due limit outcomes (due h) is))
 
-  pub unread_answered : {S : Type 0} (g : Ghosts S) (store : Store S) → IsFaithful g store → (unread : Unread) → IsUnreadFor limit outcomes unread → Answers g limits said (unread_for unread) store store
+  pub unread_answered : {S : Type 0} (g : Ghosts S) (store : S) → IsFaithful g store → (unread : Unread) → IsUnreadFor limit outcomes unread → Answers g limits said (unread_for unread) store store
   unread_answered g store clean unread is = record {
     turned = turned unread;
     answered = λ h has. untouched g limits h said store has clean (unread_for unread) (unread_still unread) (unread_legal h unread is);
     closes = λ usable. inl usable;
-    shut = shut_none (shown g store);
+    shut = shut_none g store;
   }
     where
-      none : Changed schema_two TellsHistory (Follows limits said) false false (shown g store) (shown g store)
-      none = changed_none schema_two TellsHistory (Follows limits said) (shown g store) clean
+      none : Changed g TablesTell (Follows limits said) false false store store
+      none = changed_none g TablesTell (Follows limits said) store clean
 
-      turned : (unread : Unread) → Changed schema_two TellsHistory (Follows limits said) (is_accepted (unread_for unread)) (is_accepted (unread_for unread)) (shown g store) (shown g store)
+      turned : (unread : Unread) → Changed g TablesTell (Follows limits said) (is_accepted (unread_for unread)) (is_accepted (unread_for unread)) store store
       turned unreads.Memory = none
       turned unreads.Failed = none
       turned unreads.TooLong = none

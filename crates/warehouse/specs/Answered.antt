@@ -1,9 +1,8 @@
 -- What commands say, and what a list of them is answered and leaves.
 use Rattle.std.specs.Prelude.{◌≡◌, map, List, [], ◌∷◌, ◌++◌}
-use Rattle.sqlite_trees.specs.declared.store.Store.{Ghosts}
-use Rattle.prof_store.specs.Shown.{IsFaithful}
-use Rattle.prof_store.specs.declared.store.Store.{Store}
-use Rattle.sources.specs.Outcomes.{Outcome}
+use Rattle.run_stores.specs.declared.states.StoreState.{Ghosts}
+use Rattle.run_stores.specs.Calls.{IsFaithful}
+use Rattle.byte_io.specs.Outcomes.{Outcome}
 use Rattle.histories.specs.Formats.{today}
 use Rattle.histories.specs.History.{History, Said, Turn, Import, Remove, Ask, Annotate}
 use Rattle.histories.specs.Legal.{AreLegal}
@@ -11,9 +10,9 @@ use Rattle.histories.specs.declared.answers.Answer.{Answer}
 use Rattle.histories.specs.declared.answers.Answer.TheVariants as answers
 use Rattle.histories.specs.declared.answers.Refusal.TheVariants as reasons
 use Rattle.histories.specs.declared.limits.Limits.{Limits}
-use Rattle.sources.specs.Reads.{Reads}
-use Rattle.sources.specs.declared.reading.Unread.{Unread}
-use Rattle.sources.specs.declared.reading.Unread.TheVariants as unread
+use Rattle.byte_io.specs.Reads.{Reads}
+use Rattle.byte_io.specs.declared.reading.Unread.{Unread}
+use Rattle.byte_io.specs.declared.reading.Unread.TheVariants as unread
 use Rattle.store_histories.specs.Answered.{HasHistory, Answers, Links}
 use Rattle.store_commands.specs.Changes.{change_said}
 use Rattle.warehouse.specs.declared.command.Command as commands
@@ -37,19 +36,19 @@ module _ {R : Type 0} (reads : R → Outcome → R → Type 0) where
 
 module _ {S R : Type 0} (g : Ghosts S) (reads : R → Outcome → R → Type 0) where
   -- a command was answered, whatever its source came to; that holds over every disk, and where the disk returned what was written, the answer is one of the history
-  pub record WasAnswered (limits : Limits) (one : commands.Command R) (answer : Answer) (old new : Store S) : Type 0 where
+  pub record WasAnswered (limits : Limits) (one : commands.Command R) (answer : Answer) (old new : S) : Type 0 where
     pub said : Said
     pub says : Says reads one said
     pub answers : IsFaithful g new → Answers g limits said answer old new
 
   -- the same of a command that reads a source: the reads came to these outcomes, and left the source so
-  pub record WasAnsweredOver (limits : Limits) (said : List Outcome → Said) (source to : R) (answer : Answer) (old new : Store S) : Type 0 where
+  pub record WasAnsweredOver (limits : Limits) (said : List Outcome → Said) (source to : R) (answer : Answer) (old new : S) : Type 0 where
     pub outcomes : List Outcome
     pub came : Reads reads source outcomes to
     pub answers : IsFaithful g new → Answers g limits (said outcomes) answer old new
 
   -- commands were run: each is a turn from the store that the one before left, and is given its answer; after a history that the store has, each answer is legal, and the store has the history with all turns
-  pub record WasRun (limits : Limits) (list : List (commands.Command R)) (given : List Answer) (old new : Store S) : Type 0 where
+  pub record WasRun (limits : Limits) (list : List (commands.Command R)) (given : List Answer) (old new : S) : Type 0 where
     pub turns : History
     pub said : AreSaid reads list turns
     pub answered : map (λ (turn : Turn). turn.answer) turns ≡ given

@@ -1,13 +1,12 @@
 -- What commands are answered over any tables, by the lines as which their rows are read.
 use Rattle.std.specs.Prelude.{◌≡◌, ◌⊎◌, ℕ, List, []}
 use Rattle.std.specs.Str.{IsUtf8}
-use Rattle.sqlite_trees.specs.declared.store.Store.{Ghosts}
-use Rattle.prof_store.specs.Shown.{Tells}
-use Rattle.prof_store.specs.declared.store.Store.{Store}
-use Rattle.prof_tables.specs.Tables.{Tables}
-use Rattle.sources.specs.Outcomes.{Outcome, bytes_of}
-use Rattle.sources.specs.Reads.{HasEnded, IsUnreadFor, Reads}
-use Rattle.sources.specs.declared.reading.Unread.{Unread}
+use Rattle.run_stores.specs.declared.states.StoreState.{Ghosts}
+use Rattle.run_stores.specs.Calls.{Tells}
+use Rattle.plain_tables.specs.Tables.{Tables}
+use Rattle.byte_io.specs.Outcomes.{Outcome, bytes_of}
+use Rattle.byte_io.specs.Reads.{HasEnded, IsUnreadFor, Reads}
+use Rattle.byte_io.specs.declared.reading.Unread.{Unread}
 use Rattle.histories.specs.Legal.{most_of_source}
 use Rattle.histories.specs.declared.answers.Answer.{Answer}
 use Rattle.histories.specs.declared.answers.Answer.TheVariants as answers
@@ -17,10 +16,10 @@ use Rattle.histories.specs.declared.answers.Refusal.TheVariants as reasons
 use Rattle.histories.specs.declared.answers.Selection.{Selection}
 use Rattle.store_calls.specs.FunctionCalls.{AreCallsShown}
 use Rattle.store_calls.specs.InclusiveRuns.{IsInclusive}
-use Rattle.prof_tables.specs.Labels.{IsGroupName, IsLabel}
+use Rattle.plain_tables.specs.Labels.{IsGroupName, IsLabel}
 use Rattle.profile_records.specs.declared.kinds.Kind.{Kind}
-use Rattle.file_intake.specs.Intakes.{IsTakenOf}
-use Rattle.file_intake.specs.declared.intake.Taken.{Taken}
+use Rattle.file_reading.specs.Intakes.{IsTakenOf}
+use Rattle.file_reading.specs.declared.intake.Taken.{Taken}
 use Rattle.run_imports.specs.FromTables.{IsTakenIn}
 use Rattle.histories.specs.declared.limits.Limits.{Limits}
 use Rattle.store_commands.specs.Changes.{GroupsIn, RemovesIn}
@@ -51,14 +50,14 @@ AnswersIn (queries.Folded selection) t answer = IsFolded t selection answer
 
 module _ {S R : Type 0} (g : Ghosts S) (reads : R → Outcome → R → Type 0) where
   -- a source was not read through; or what it gave is annotated by what the lines say
-  pub record WasAnnotated (selection : Selection) (event file : List ℕ) (source to : R) (answer : Answer) (old new : Store S) : Type 0 where
+  pub record WasAnnotated (selection : Selection) (event file : List ℕ) (source to : R) (answer : Answer) (old new : S) : Type 0 where
     pub outcomes : List Outcome
     pub came : Reads reads source outcomes to
     pub answered : ((unread : Unread) × IsUnreadFor most_of_source outcomes unread × (answer ≡ unread_for unread))
         ⊎ (HasEnded most_of_source outcomes × Tells g old new (λ t. OrFailed (AnswersIn (queries.Annotate selection event file (bytes_of outcomes)) t) answer))
 
   -- under a label out of form a source is not read; one that was not read through is refused as such; what another gave is taken in by what the lines say
-  pub record WasImported (limits : Limits) (kind : Kind) (label : List ℕ) (source to : R) (answer : Answer) (old new : Store S) : Type 0 where
+  pub record WasImported (limits : Limits) (kind : Kind) (label : List ℕ) (source to : R) (answer : Answer) (old new : S) : Type 0 where
     pub outcomes : List Outcome
     pub came : Reads reads source outcomes to
     pub answered : ((IsUtf8 label × IsLabel label → ⊥) × (outcomes ≡ []) × (answer ≡ answers.Refused reasons.BadName))
@@ -66,7 +65,7 @@ module _ {S R : Type 0} (g : Ghosts S) (reads : R → Outcome → R → Type 0) 
         ⊎ ((taken : Taken) × HasEnded limits.bytes outcomes × IsTakenOf kind (bytes_of outcomes) taken × WasChangedIn g (IsTakenIn limits kind label taken) answer old new)
 
   -- each command is answered by what the lines say; and where the tables hold these lines, what it imports, removes or makes of groups is made of them
-  abbrev pub IsFoundIn : Limits → commands.Command R → Answer → Store S → Store S → Type 0
+  abbrev pub IsFoundIn : Limits → commands.Command R → Answer → S → S → Type 0
   IsFoundIn limits (command.Ask query) answer old new = Tells g old new (λ t. OrFailed (AnswersIn query t) answer)
   IsFoundIn limits (command.Annotate selection event file source) answer old new = (to : R) × WasAnnotated selection event file source to answer old new
   IsFoundIn limits (command.Remove n) answer old new = WasChangedIn g (RemovesIn n) answer old new

@@ -1,22 +1,21 @@
 // Files are imported and sources annotated, each with its answer.
-ghost use Rattle.prof_tables.specs.Labels.{IsLabel};
-ghost use Rattle.prof_store.specs.Shown.{IsFaithful, Tells};
+ghost use Rattle.plain_tables.specs.Labels.{IsLabel};
+ghost use Rattle.run_stores.specs.Calls.{IsFaithful, Tells};
 ghost use Rattle.histories.specs.Formats.{today};
 ghost use Rattle.histories.specs.History.{Annotate, Ask, Import};
-ghost use Rattle.store_histories.specs.Answered.{Answers, Asks};
+ghost use Rattle.store_histories.specs.Answered.{Answers, AnswersAsked};
 ghost use Rattle.store_histories.specs.FromTables.{OrFailed};
 ghost use Rattle.warehouse.specs.Answered.{WasAnsweredOver};
 ghost use Rattle.warehouse.specs.FromTables.{AnswersIn, WasAnnotated, WasImported};
 
 use crate::refusals::unread_answer;
+use byte_io::{Source, read_whole};
 use cg_text::ListVec;
-use file_intake::take_file;
+use file_reading::take_file;
 use histories::{Answer, Limits, Query, Refusal, Selection};
-use prof_store::{Store, StoreError};
 use profile_records::Kind;
 use run_imports::{label_of, take_in};
-use sources::{Source, read_whole};
-use sqlite::Alter;
+use run_stores::{RunStore, StoreError};
 use std::alloc::Global;
 use store_calls::{calls_answer, inclusive_answer};
 use store_commands::{groups_answer, runs_answer};
@@ -28,8 +27,8 @@ use store_reports::{by_answer, subtract_answer, verify_answer};
 const SOURCE_BYTES: u64 = 16_777_216;
 
 /// Imports the file that a source gives, under a label in form.
-fn import_labelled<S: Alter, R: Source>(
-    store: &mut Store<S>,
+fn import_labelled<S: RunStore, R: Source>(
+    store: &mut S,
     alloc: Global,
     limits: Limits,
     kind: Kind,
@@ -37,8 +36,8 @@ fn import_labelled<S: Alter, R: Source>(
     source: &mut R,
 ) -> Answer
     requires { IsLabel label.now }
-    ensures answered { WasAnsweredOver S.Store R.reads limits (Import (today kind) label.now) source.old source.new result store.old store.new }
-    ensures found { WasImported S.Store R.reads limits kind label.now source.old source.new result store.old store.new }
+    ensures answered { WasAnsweredOver S.StoreState R.reads limits (Import (today kind) label.now) source.old source.new result store.old store.new }
+    ensures found { WasImported S.StoreState R.reads limits kind label.now source.old source.new result store.old store.new }
 {
     match take_file(alloc, kind, limits.bytes, source) {
         Ok(taken) => answer_of(take_in(store, alloc, limits, kind, label, &taken)),
@@ -47,16 +46,16 @@ fn import_labelled<S: Alter, R: Source>(
 }
 
 /// Imports the file that a source gives.
-pub(crate) fn import_in<S: Alter, R: Source>(
-    store: &mut Store<S>,
+pub(crate) fn import_in<S: RunStore, R: Source>(
+    store: &mut S,
     alloc: Global,
     limits: Limits,
     kind: Kind,
     label: &[u8],
     source: &mut R,
 ) -> Answer
-    ensures answered { WasAnsweredOver S.Store R.reads limits (Import (today kind) label.now) source.old source.new result store.old store.new }
-    ensures found { WasImported S.Store R.reads limits kind label.now source.old source.new result store.old store.new }
+    ensures answered { WasAnsweredOver S.StoreState R.reads limits (Import (today kind) label.now) source.old source.new result store.old store.new }
+    ensures found { WasImported S.StoreState R.reads limits kind label.now source.old source.new result store.old store.new }
 {
     match label_of(label) {
         Some(label) => import_labelled(store, alloc, limits, kind, label, source),
@@ -65,8 +64,8 @@ pub(crate) fn import_in<S: Alter, R: Source>(
 }
 
 /// What a question is answered.
-fn answer<S: Alter>(store: &mut Store<S>, alloc: Global, query: Query) -> Result<Answer, StoreError>
-    ensures { Asks S.Store (AnswersIn query) query result store.old store.new }
+fn answer<S: RunStore>(store: &mut S, alloc: Global, query: Query) -> Result<Answer, StoreError>
+    ensures { AnswersAsked S.StoreState (AnswersIn query) query result store.old store.new }
 {
     match query {
         Query::Runs => runs_answer(store, alloc),
@@ -104,16 +103,16 @@ fn answer<S: Alter>(store: &mut Store<S>, alloc: Global, query: Query) -> Result
 }
 
 /// Answers a question.
-pub(crate) fn ask_in<S: Alter>(store: &mut Store<S>, alloc: Global, query: Query) -> Answer
-    ensures answered { (limits : _) → IsFaithful S.Store store.new → Answers S.Store limits (Ask query) result store.old store.new }
-    ensures found { Tells S.Store store.old store.new (λ t. OrFailed (AnswersIn query t) result) }
+pub(crate) fn ask_in<S: RunStore>(store: &mut S, alloc: Global, query: Query) -> Answer
+    ensures answered { (limits : _) → IsFaithful S.StoreState store.new → Answers S.StoreState limits (Ask query) result store.old store.new }
+    ensures found { Tells S.StoreState store.old store.new (λ t. OrFailed (AnswersIn query t) result) }
 {
     answer_of(answer(store, alloc, query))
 }
 
 /// Shows what each line of a source costs. It is read first.
-pub(crate) fn annotate_in<S: Alter, R: Source>(
-    store: &mut Store<S>,
+pub(crate) fn annotate_in<S: RunStore, R: Source>(
+    store: &mut S,
     alloc: Global,
     selection: Selection,
     event: ListVec<u8>,
@@ -121,8 +120,8 @@ pub(crate) fn annotate_in<S: Alter, R: Source>(
     source: &mut R,
 ) -> Answer
     ensures answered { (limits : _)
-        → WasAnsweredOver S.Store R.reads limits (Annotate selection event file) source.old source.new result store.old store.new }
-    ensures found { WasAnnotated S.Store R.reads selection event file source.old source.new result store.old store.new }
+        → WasAnsweredOver S.StoreState R.reads limits (Annotate selection event file) source.old source.new result store.old store.new }
+    ensures found { WasAnnotated S.StoreState R.reads selection event file source.old source.new result store.old store.new }
 {
     match read_whole(alloc, SOURCE_BYTES, source) {
         Ok(text) => {

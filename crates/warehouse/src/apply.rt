@@ -1,6 +1,6 @@
 // Commands, one by one and in lists.
 ghost use Rattle.std.specs.Prelude.{◌≡◌, IfOk, OnErr};
-ghost use Rattle.prof_store.specs.Shown.{IsFaithful};
+ghost use Rattle.run_stores.specs.Calls.{IsFaithful};
 ghost use Rattle.histories.specs.Formats.{today};
 ghost use Rattle.histories.specs.History.{Annotate, Import};
 ghost use Rattle.warehouse.specs.Answered.{WasAnswered, WasAnsweredOver, WasRun};
@@ -9,16 +9,16 @@ ghost use Rattle.warehouse.specs.FromTables.{IsFoundIn, WasAnnotated, WasImporte
 use crate::answering::{annotate_in, ask_in, import_in};
 use crate::command::Command;
 use crate::warehouse::Warehouse;
+use byte_io::Source;
 use cg_text::ListVec;
 use histories::{Answer, Selection};
 use profile_records::Kind;
-use sources::Source;
-use sqlite::Alter;
+use run_stores::RunStore;
 use std::alloc::{AllocError, Global};
 use std::collections::VecDeque;
 use store_commands::{change_in, remove_in};
 
-impl<S: Alter> Warehouse<S> {
+impl<S: RunStore> Warehouse<S> {
     /// Imports the file that a source gives, a piece at a time. The source is read to its end even
     /// after a fault of the file, unless a read fails, memory is refused or the file is too long; under
     /// a label out of form it is not read.
@@ -30,9 +30,9 @@ impl<S: Alter> Warehouse<S> {
         source: &mut R,
     ) -> Answer
         ensures limits { self.new.limits ≡ self.old.limits }
-        ensures answered { WasAnsweredOver S.Store R.reads self.old.limits (Import (today kind) label.now) source.old source.new
+        ensures answered { WasAnsweredOver S.StoreState R.reads self.old.limits (Import (today kind) label.now) source.old source.new
             result self.old.store self.new.store }
-        ensures found { WasImported S.Store R.reads self.old.limits kind label.now source.old source.new result self.old.store self.new.store }
+        ensures found { WasImported S.StoreState R.reads self.old.limits kind label.now source.old source.new result self.old.store self.new.store }
     {
         import_in(&mut self.store, alloc, self.limits, kind, label, source)
     }
@@ -49,9 +49,9 @@ impl<S: Alter> Warehouse<S> {
         source: &mut R,
     ) -> Answer
         ensures limits { self.new.limits ≡ self.old.limits }
-        ensures answered { WasAnsweredOver S.Store R.reads self.old.limits (Annotate selection event file) source.old source.new
+        ensures answered { WasAnsweredOver S.StoreState R.reads self.old.limits (Annotate selection event file) source.old source.new
             result self.old.store self.new.store }
-        ensures found { WasAnnotated S.Store R.reads selection event file source.old source.new result self.old.store self.new.store }
+        ensures found { WasAnnotated S.StoreState R.reads selection event file source.old source.new result self.old.store self.new.store }
     {
         annotate_in(&mut self.store, alloc, selection, event, file, source)
     }
@@ -61,8 +61,8 @@ impl<S: Alter> Warehouse<S> {
     /// say, and an import, a removal or a change of a group makes of them what it says; or it is refused.
     pub fn apply<R: Source + Drop>(&mut self, alloc: Global, command: Command<R>) -> Answer
         ensures limits { self.new.limits ≡ self.old.limits }
-        ensures answered { WasAnswered S.Store R.reads self.old.limits command result self.old.store self.new.store }
-        ensures found { IsFoundIn S.Store R.reads self.old.limits command result self.old.store self.new.store }
+        ensures answered { WasAnswered S.StoreState R.reads self.old.limits command result self.old.store self.new.store }
+        ensures found { IsFoundIn S.StoreState R.reads self.old.limits command result self.old.store self.new.store }
     {
         let store = &mut self.store;
         match command {
@@ -98,8 +98,8 @@ impl<S: Alter> Warehouse<S> {
         commands: Vec<Command<R>>,
     ) -> Result<Vec<Answer>, AllocError>
         ensures limits { self.new.limits ≡ self.old.limits }
-        ensures answered { IsFaithful S.Store self.new.store
-            → IfOk result (λ answers. WasRun S.Store R.reads self.old.limits commands.items answers.items self.old.store self.new.store) }
+        ensures answered { IsFaithful S.StoreState self.new.store
+            → IfOk result (λ answers. WasRun S.StoreState R.reads self.old.limits commands.items answers.items self.old.store self.new.store) }
         ensures err { OnErr result (self.new ≡ self.old) }
     {
         let count = commands.len();

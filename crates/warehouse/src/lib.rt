@@ -14,13 +14,10 @@ mod refusals;
 // The warehouse: a store of runs under limits.
 mod warehouse;
 
+pub use byte_io::{ReadFault, Source};
 pub use command::Command;
 pub use histories::{Answer, Excess, Limits, Query, Refusal, Selection};
-pub use laws::{
-    commands_keep_the_mark, crashes_leave_a_history, histories_survive, memory_never_fails,
-    migrated_stores_have_their_history,
-};
+pub use laws::{commands_keep_the_mark, crashes_leave_a_history, histories_survive};
 pub use profile_records::Kind;
-pub use sources::{ReadFault, Source};
 pub use store_commands::GroupChange;
 pub use warehouse::Warehouse;

@@ -2,8 +2,8 @@
 ghost use Rattle.std.specs.Prelude.{◌≡◌};
 ghost use Rattle.warehouse.specs.Answered.{unread_for};
 
+use byte_io::Unread;
 use histories::{Answer, Refusal};
-use sources::Unread;
 
 /// The refusal of a source that was not read to its end.
 pub(crate) fn unread_answer(unread: Unread) -> Answer

@@ -2,19 +2,18 @@
 ghost use Rattle.std.specs.Prelude.{◌≡◌};
 
 use histories::Limits;
-use prof_store::Store;
-use sqlite::Alter;
+use run_stores::RunStore;
 
 /// A store of runs under limits. It keeps no file and no history.
 #[derive(Drop)]
-pub struct Warehouse<S: Alter> {
-    pub(crate) store: Store<S>,
+pub struct Warehouse<S: RunStore> {
+    pub(crate) store: S,
     pub(crate) limits: Limits,
 }
 
-impl<S: Alter> Warehouse<S> {
+impl<S: RunStore> Warehouse<S> {
     /// A warehouse over a store. Takes no memory.
-    pub fn new(store: Store<S>, limits: Limits) -> Warehouse<S>
+    pub fn new(store: S, limits: Limits) -> Warehouse<S>
         ensures store { result.store ≡ store }
         ensures limits { result.limits ≡ limits }
     {
@@ -29,7 +28,7 @@ impl<S: Alter> Warehouse<S> {
     }
 
     /// Hands the store back as it stands.
-    pub fn into_store(self) -> Store<S>
+    pub fn into_store(self) -> S
         ensures { result ≡ self.store }
     {
         let Warehouse { store, limits: _ } = self;

@@ -1,6 +1,6 @@
 use Rattle.std.proofs.Common.{◌+◌, ◌++◌, length, sym, ap, ◌∙◌}
 use Rattle.cg_text.specs.Lines.{lines_of}
-use Rattle.cost_exports.specs.Annotations.{cost_of_lines, outside_cost, source_lines, source_text}
+use Rattle.report_texts.specs.Annotations.{cost_of_lines, outside_cost, source_lines, source_text}
 use Rattle.cost_exports.proofs.LineLemmas.{total-shown}
 use Rattle.cost_exports.proofs.annotations.push_lines.Goals as goal
 

@@ -1,6 +1,6 @@
 use Rattle.std.proofs.Common.{◌≡◌, ◌+◌, ◌++◌, length}
 use Rattle.cg_text.specs.Lines.{lines_of, numbered}
-use Rattle.cost_exports.specs.Annotations.{cost_of_lines, outside_cost, source_lines, source_text}
+use Rattle.report_texts.specs.Annotations.{cost_of_lines, outside_cost, source_lines, source_text}
 use Rattle.cost_exports.proofs.annotations.push_lines.Given as goal
 
 -- the lines so far, and those to come; what these cost, and what is outside

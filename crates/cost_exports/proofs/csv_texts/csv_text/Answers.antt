@@ -1,6 +1,6 @@
 use Rattle.std.proofs.Common.{◌++◌, [], List, ℕ, unwrap_or, refl, ap, ◌∙◌}
 use Rattle.csv.specs.Writing.{default_writer, row_text}
-use Rattle.cost_exports.specs.Csv.{EventSpot, csv_header, csv_rows}
+use Rattle.report_texts.specs.Csv.{EventSpot, csv_header, csv_rows}
 use Rattle.cost_exports.specs.Views.{HasWritten}
 use Rattle.cost_exports.proofs.csv_texts.csv_text.Goals as goal
 

@@ -1,6 +1,6 @@
 use Rattle.std.proofs.Common.{◌++◌, sym, ap, subst, ◌∙◌}
 use Rattle.std.proofs.lemmas.List.{append-nil, append_assoc}
-use Rattle.cost_exports.specs.Csv.{csv_row, csv_rows}
+use Rattle.report_texts.specs.Csv.{csv_row, csv_rows}
 use Rattle.cost_exports.specs.Views.{HasWritten, held_line, held_lines, held_names, placed, spot_with}
 use Rattle.cost_exports.proofs.csv_texts.write_lines.Goals as goal
 

@@ -1,5 +1,5 @@
 use Rattle.std.proofs.Common.{◌≡◌, ◌++◌, ℕ, List}
-use Rattle.cost_exports.specs.Csv.{csv_rows}
+use Rattle.report_texts.specs.Csv.{csv_rows}
 use Rattle.cost_exports.specs.Views.{HasWritten, held_lines, held_names, placed}
 use Rattle.cost_exports.proofs.csv_texts.write_lines.Given as goal
 

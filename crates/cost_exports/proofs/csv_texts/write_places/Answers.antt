@@ -1,7 +1,7 @@
 use Rattle.std.proofs.Common.{◌≡◌, ◌++◌, [], slice_index_or, unwrap_or, sym, ap, subst, ◌∙◌}
 use Rattle.std.proofs.lemmas.Grind.{flat_map-append}
 use Rattle.std.proofs.lemmas.List.{append-nil, append_assoc}
-use Rattle.cost_exports.specs.Csv.{csv_row, csv_rows}
+use Rattle.report_texts.specs.Csv.{csv_row, csv_rows}
 use Rattle.cost_exports.specs.Views.{HasWritten, held_names, held_slots, placed, spread, with_lines}
 use Rattle.cost_exports.proofs.SlotLemmas.{Lines, slot-lines}
 use Rattle.cost_exports.proofs.csv_texts.write_places.Goals as goal

@@ -1,6 +1,6 @@
 use Rattle.std.proofs.Common.{◌≡◌, ◌++◌}
 use Rattle.cost_rows.specs.Stacks.{by_bytes}
-use Rattle.cost_exports.specs.Folded.{folded_text}
+use Rattle.report_texts.specs.Folded.{folded_text}
 use Rattle.cost_exports.proofs.folded_texts.folded_text.Given as goal
 
 -- the lines so far, and those to come

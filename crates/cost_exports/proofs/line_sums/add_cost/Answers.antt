@@ -5,7 +5,7 @@ use Rattle.std.specs.Ordering.{nat_cmp}
 use Rattle.cost_rows.specs.Stacks.{counts_added}
 use Rattle.cost_rows.proofs.MergeLemmas.{merge-new, merge-written}
 use Rattle.cost_rows.proofs.SeenLemmas.{held-least}
-use Rattle.cost_exports.specs.Amounts.{amount_of}
+use Rattle.report_texts.specs.Amounts.{amount_of}
 use Rattle.cost_exports.proofs.AmountLemmas.{amount-with, with_some}
 use Rattle.cost_exports.proofs.LineLemmas.{nat_apart}
 use Rattle.cost_exports.proofs.line_sums.add_cost.Goals as goal

@@ -2,7 +2,7 @@ use Rattle.std.proofs.Common.{◌+◌, sym, refl, ap, ◌∙◌, arith}
 use Rattle.std.specs.BTreeMap.{is_at, insert_entry}
 use Rattle.cost_rows.specs.Stacks.{bytes_cmp, by_bytes}
 use Rattle.cost_rows.proofs.SeenLemmas.{held-least}
-use Rattle.cost_exports.specs.Amounts.{amount_of}
+use Rattle.report_texts.specs.Amounts.{amount_of}
 use Rattle.cost_exports.proofs.AmountLemmas.{amount-with, with_some}
 use Rattle.cost_exports.proofs.StackLemmas.{bytes_apart}
 use Rattle.cost_exports.proofs.StackWrittenLemmas.{vec_cmp, stack-found, stack-written, stack-new}

@@ -1,5 +1,5 @@
 use Rattle.std.proofs.Common.{◌≡◌, ◌++◌}
-use Rattle.cost_reports.specs.Pairs.{held_pairs}
+use Rattle.cost_reports.specs.Places.{held_pairs}
 use Rattle.cost_reports.specs.Rows.{plain_calls}
 use Rattle.cost_reports.proofs.call_reports.call_rows.Given as goal
 

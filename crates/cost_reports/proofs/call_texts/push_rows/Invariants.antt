@@ -1,5 +1,5 @@
 use Rattle.std.proofs.Common.{◌≡◌, ◌++◌, drop}
-use Rattle.cost_reports.specs.Calls.{call_lines}
+use Rattle.report_texts.specs.Calls.{call_lines}
 use Rattle.cost_reports.specs.Rows.{plain_calls}
 use Rattle.cost_reports.proofs.call_texts.push_rows.Given as goal
 

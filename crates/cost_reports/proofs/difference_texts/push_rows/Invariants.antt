@@ -1,5 +1,5 @@
 use Rattle.std.proofs.Common.{◌≡◌, ◌++◌, drop}
-use Rattle.cost_reports.specs.Differences.{difference_lines}
+use Rattle.report_texts.specs.Differences.{difference_lines}
 use Rattle.cost_reports.specs.Rows.{plain_differences}
 use Rattle.cost_reports.proofs.difference_texts.push_rows.Given as goal
 

@@ -1,5 +1,5 @@
 use Rattle.std.proofs.Common.{◌≡◌, ◌++◌, ◌∷◌, List, map, Some, refl, sym, ap, ap₂, subst, ◌∙◌}
-use Rattle.cost_reports.specs.Differences.{beside, differing}
+use Rattle.report_texts.specs.Differences.{beside, differing}
 use Rattle.cost_reports.specs.InStep.{from_row, left_of, ComesNext, IsInOrder}
 use Rattle.cost_reports.specs.Rows.{lent_place, plain_differences, sum_of_row}
 use Rattle.cost_reports.specs.declared.rows.DifferenceRow.{DifferenceRow}

@@ -1,5 +1,5 @@
 use Rattle.std.proofs.Common.{◌≡◌, ◌++◌, length, map}
-use Rattle.cost_reports.specs.Differences.{beside, differing}
+use Rattle.report_texts.specs.Differences.{beside, differing}
 use Rattle.cost_reports.specs.InStep.{from_row, IsInOrder}
 use Rattle.cost_reports.specs.Rows.{plain_differences, sum_of_row}
 use Rattle.cost_reports.proofs.differences.differing_rows.Given as goal

@@ -4,7 +4,7 @@ use Rattle.std.proofs.lemmas.List.{take_all, length-drop}
 use Rattle.memchr.specs.Find.{IsFirstByte}
 use Rattle.cost_rows.specs.Stacks.{bytes_cmp}
 use Rattle.profile_records.specs.Frames.{is_semicolon, function_of, functions_of}
-use Rattle.cost_reports.specs.Inclusive.{names_in}
+use Rattle.report_texts.specs.Inclusive.{names_in}
 use Rattle.cost_reports.proofs.FrameLemmas.{functions_first, names_insert, no_more_frames}
 use Rattle.cost_reports.proofs.frames.functions_in.Goals as goal
 

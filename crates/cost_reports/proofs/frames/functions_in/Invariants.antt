@@ -2,7 +2,7 @@ use Rattle.std.proofs.Common.{◌≡◌, fold, length}
 use Rattle.std.specs.BTreeSet.{insert_key}
 use Rattle.cost_rows.specs.Stacks.{bytes_cmp}
 use Rattle.profile_records.specs.Frames.{functions_of}
-use Rattle.cost_reports.specs.Inclusive.{functions_in, names_in}
+use Rattle.report_texts.specs.Inclusive.{functions_in, names_in}
 use Rattle.cost_reports.proofs.frames.functions_in.Given as goal
 
 -- the functions so far with those to come are all

@@ -1,6 +1,6 @@
 use Rattle.std.proofs.Common.{◌≡◌, ◌+◌, ◌<◌, ◌^◌, fold}
 use Rattle.cost_rows.specs.KeySums.{rows_of, total_of, with_row}
-use Rattle.cost_reports.specs.Inclusive.{names_costs, names_in}
+use Rattle.report_texts.specs.Inclusive.{names_costs, names_in}
 use Rattle.cost_reports.proofs.inclusives.add_functions.Given as goal
 
 -- what is held with the counts to come is all

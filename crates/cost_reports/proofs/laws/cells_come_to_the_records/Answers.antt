@@ -1,4 +1,4 @@
-use Rattle.cost_reports.specs.Costs.{all_costs}
+use Rattle.report_texts.specs.Costs.{all_costs}
 use Rattle.cost_reports.proofs.CostLemmas.{cells_are_records}
 use Rattle.cost_reports.proofs.KeyLemmas.{total_of_rows}
 use Rattle.cost_reports.proofs.laws.cells_come_to_the_records.Goals as goal

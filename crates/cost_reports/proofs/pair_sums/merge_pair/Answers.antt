@@ -3,8 +3,9 @@ use Rattle.std.specs.BTreeMap.{is_at, insert_entry}
 use Rattle.cost_rows.specs.Keys.{named_cmp}
 use Rattle.cost_rows.proofs.KeysLemmas.{named_cmp-total}
 use Rattle.cost_rows.proofs.SeenLemmas.{key_cmp, seen-lookup}
-use Rattle.cost_reports.specs.Pairs.{pairs_added, pair_total, held_place, held_pairs}
-use Rattle.cost_reports.specs.declared.pairs.Pair.{Pair}
+use Rattle.report_texts.specs.Pairs.{pairs_added, pair_total}
+use Rattle.report_texts.specs.declared.pairs.Pair.{Pair}
+use Rattle.cost_reports.specs.Places.{held_place, held_pairs}
 use Rattle.cost_reports.proofs.PairLemmas.{pair_least, total_with}
 use Rattle.cost_reports.proofs.WrittenLemmas.{seen-written, seen-new}
 use Rattle.cost_reports.proofs.pair_sums.merge_pair.Goals as goal

@@ -1,6 +1,6 @@
 use Rattle.std.proofs.Common.{◌≡◌, ◌<◌, ◌^◌, ◌+◌, ◌++◌, take, drop}
 use Rattle.cost_rows.specs.KeySums.{total_of}
-use Rattle.cost_reports.specs.KeyReports.{reaching}
+use Rattle.report_texts.specs.KeyReports.{reaching}
 use Rattle.cost_reports.specs.Rows.{plain_rows}
 use Rattle.cost_reports.proofs.ranks.count_reaching.Given as goal
 

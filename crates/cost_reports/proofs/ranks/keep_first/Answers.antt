@@ -1,6 +1,6 @@
 use Rattle.std.proofs.Common.{sym, ap, ◌∙◌}
 use Rattle.std.proofs.lemmas.List.{take-map}
-use Rattle.cost_reports.specs.KeyReports.{limited}
+use Rattle.report_texts.specs.KeyReports.{limited}
 use Rattle.cost_reports.specs.Rows.{plain_row, plain_rows}
 use Rattle.cost_reports.proofs.ranks.keep_first.Goals as goal
 

@@ -1,6 +1,6 @@
 use Rattle.std.proofs.Common.{◌≡◌, ◌*◌, ap, ap₂, ◌∙◌, arith}
 use Rattle.cost_rows.specs.KeySums.{total_of}
-use Rattle.cost_reports.specs.KeyReports.{reaching, limited, shown}
+use Rattle.report_texts.specs.KeyReports.{reaching, limited, shown}
 use Rattle.cost_reports.specs.Rows.{plain_rows}
 use Rattle.cost_reports.proofs.CutLemmas.{shown_within}
 use Rattle.cost_reports.proofs.ranks.shown_rows.Goals as goal

@@ -1,5 +1,6 @@
 use Rattle.std.proofs.Common.{◌≡◌, ◌++◌, drop, map}
-use Rattle.cost_reports.specs.Verifying.{checks_from, plain_check}
+use Rattle.report_texts.specs.Verifying.{checks_from}
+use Rattle.cost_reports.specs.Rows.{plain_check}
 use Rattle.cost_reports.proofs.verifying.checks_of.Given as goal
 
 -- the checks so far, and those to come

@@ -1,5 +1,6 @@
 use Rattle.std.proofs.Common.{◌≡◌, ◌++◌, drop, map}
-use Rattle.cost_reports.specs.Verifying.{check_lines, plain_check}
+use Rattle.report_texts.specs.Verifying.{check_lines}
+use Rattle.cost_reports.specs.Rows.{plain_check}
 use Rattle.cost_reports.proofs.verifying.push_checks.Given as goal
 
 -- the lines so far, and those to come

@@ -1,5 +1,5 @@
 use Rattle.std.proofs.Common.{◌≡◌, ℕ, length}
-use Rattle.prof_tables.specs.Tables.{ArcLine}
+use Rattle.plain_tables.specs.Tables.{ArcLine}
 use Rattle.held_runs.specs.HeldArcs.{lines_from}
 use Rattle.held_runs.proofs.call_rows.fill.Given as goal
 

@@ -1,7 +1,8 @@
 use Rattle.std.proofs.Common.{[], List, ℕ, None, refl, sym, subst, subst₂}
-use Rattle.prof_tables.specs.RunLines.{arcs_in}
-use Rattle.prof_tables.specs.Tables.{NameLine}
-use Rattle.held_runs.specs.HeldArcs.{CallsCameTo, HasTakenCalls}
+use Rattle.plain_tables.specs.RunLines.{arcs_in}
+use Rattle.plain_tables.specs.Tables.{NameLine}
+use Rattle.run_stores.specs.Walks.{CallsCameTo}
+use Rattle.held_runs.specs.HeldArcs.{HasTakenCalls}
 use Rattle.held_runs.proofs.ArcRows.{no_line, all_handed}
 use Rattle.held_runs.proofs.handed_calls.each_call.Goals as goal
 

@@ -2,10 +2,10 @@ use Rattle.std.specs.Result.{is_ok}
 use Rattle.std.proofs.Common.{◌∙◌, map, ap, refl, arith}
 use Rattle.sqlite_exec.proofs.MarkLemmas.{if_ok_then}
 use Rattle.sql_tables.proofs.Calls.{asked_err, asked_if}
-use Rattle.prof_tables.specs.Schema.{schema_two}
-use Rattle.prof_tables.specs.Seen.{coef_seen}
-use Rattle.prof_tables.proofs.Means.{coefs_of_plain}
-use Rattle.prof_tables.proofs.RunLists.{coefs_listed}
+use Rattle.store_schema.specs.Schema.{schema_two}
+use Rattle.store_schema.specs.Seen.{coef_seen}
+use Rattle.store_schema.proofs.Means.{coefs_of_plain}
+use Rattle.store_schema.proofs.RunLists.{coefs_listed}
 use Rattle.held_runs.specs.HeadLines.{coef_columns, first_three}
 use Rattle.prof_store.proofs.Listing.{read_permutes}
 use Rattle.held_runs.proofs.Said.{coefs_told}

@@ -3,7 +3,7 @@ use Rattle.std.proofs.Common.{◌∙◌, map, ap, refl, subst, IsPermutation}
 use Rattle.sqlite_exec.proofs.MarkLemmas.{if_ok_then}
 use Rattle.sqlite.specs.Effect.{Database}
 use Rattle.sql_tables.proofs.Calls.{asked_err, asked_if, asked_rests, asked_then}
-use Rattle.prof_tables.specs.Schema.{schema_two}
+use Rattle.store_schema.specs.Schema.{schema_two}
 use Rattle.prof_store.specs.Readings.{RowsSay}
 use Rattle.held_runs.specs.HeadLines.{derived_columns, coef_columns, derived_in_rows, coefs_in_rows}
 use Rattle.held_runs.proofs.HeadReading.{is_head_of, read_from_same}

@@ -1,7 +1,8 @@
 use Rattle.std.proofs.Common.{◌≡◌, ◌∙◌, ◌++◌, ◌∷◌, [], ℕ, List, map, length, sym, ap, ap₂}
 use Rattle.std.proofs.lemmas.List.{length-map}
 use Rattle.sql_tables.proofs.Rows.{map-append}
-use Rattle.held_runs.specs.HeldHeads.{placed, derived_place, coef_line_said, coefs_at, coefs_from}
+use Rattle.prof_books.specs.HeldHeads.{coefs_at, coefs_from, placed}
+use Rattle.held_runs.specs.HeldHeads.{derived_place, coef_line_said}
 use Rattle.prof_store.proofs.Listing.{read_on}
 use Rattle.held_runs.proofs.HeadReading.{at_place, placed-one_more, coefs_from-one_more, read_part, part_within}
 use Rattle.prof_store.proofs.Reading.{is_ok_then}

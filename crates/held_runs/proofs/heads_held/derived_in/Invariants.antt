@@ -1,5 +1,6 @@
 use Rattle.std.proofs.Common.{◌≡◌, ◌≤◌, map, take, length}
-use Rattle.held_runs.specs.HeldHeads.{placed, derived_place, coef_line_said, coefs_from}
+use Rattle.prof_books.specs.HeldHeads.{coefs_from, placed}
+use Rattle.held_runs.specs.HeldHeads.{derived_place, coef_line_said}
 use Rattle.held_runs.proofs.heads_held.derived_in.Given as goal
 
 abbrev pub invariant-lines : goal.invariant-lines

@@ -1,5 +1,6 @@
 use Rattle.std.proofs.Common.{◌≡◌, ◌∙◌, ◌++◌, ◌∷◌, [], length, sym, ap, ap₂}
-use Rattle.held_runs.specs.HeldHeads.{placed, event_place}
+use Rattle.prof_books.specs.HeldHeads.{placed}
+use Rattle.held_runs.specs.HeldHeads.{event_place}
 use Rattle.prof_store.proofs.Listing.{read_on}
 use Rattle.held_runs.proofs.HeadReading.{at_place, placed-one_more}
 use Rattle.prof_store.proofs.Reading.{is_ok_then}

@@ -1,5 +1,6 @@
 use Rattle.std.proofs.Common.{◌≡◌, map, take}
-use Rattle.held_runs.specs.HeldHeads.{placed, event_place}
+use Rattle.prof_books.specs.HeldHeads.{placed}
+use Rattle.held_runs.specs.HeldHeads.{event_place}
 use Rattle.held_runs.proofs.heads_held.event_names.Given as goal
 
 abbrev pub invariant-lines : goal.invariant-lines

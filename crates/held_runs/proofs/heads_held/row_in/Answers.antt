@@ -1,6 +1,7 @@
 use Rattle.std.proofs.Common.{◌≡◌, ◌∙◌, ◌++◌, ◌∷◌, [], length, sym, ap, arith}
 use Rattle.std.proofs.lemmas.List.{length_push}
-use Rattle.held_runs.specs.HeldHeads.{coef_line_said, coefs_at}
+use Rattle.prof_books.specs.HeldHeads.{coefs_at}
+use Rattle.held_runs.specs.HeldHeads.{coef_line_said}
 use Rattle.held_runs.proofs.HeadReading.{coefs_at-one_more, read_part, part_within}
 use Rattle.prof_store.proofs.Reading.{is_ok_then}
 use Rattle.held_runs.proofs.heads_held.row_in.Goals as goal

@@ -1,5 +1,6 @@
 use Rattle.std.proofs.Common.{◌≡◌, ◌≤◌, map, take, length}
-use Rattle.held_runs.specs.HeldHeads.{coef_line_said, coefs_at}
+use Rattle.prof_books.specs.HeldHeads.{coefs_at}
+use Rattle.held_runs.specs.HeldHeads.{coef_line_said}
 use Rattle.held_runs.proofs.heads_held.row_in.Given as goal
 
 abbrev pub invariant-events : goal.invariant-events

@@ -2,10 +2,10 @@ use Rattle.std.specs.Result.{is_ok}
 use Rattle.std.proofs.Common.{◌∙◌, map, ap, refl}
 use Rattle.sqlite_exec.proofs.MarkLemmas.{if_ok_then}
 use Rattle.sql_tables.proofs.Calls.{asked_err, asked_if}
-use Rattle.prof_tables.specs.Schema.{schema_two}
-use Rattle.prof_tables.specs.Tables.{NameLine}
-use Rattle.prof_tables.proofs.Lists.{numbered_table}
-use Rattle.prof_tables.proofs.Means.{names_plain}
+use Rattle.store_schema.specs.Schema.{schema_two}
+use Rattle.plain_tables.specs.Tables.{NameLine}
+use Rattle.store_schema.proofs.Lists.{numbered_table}
+use Rattle.store_schema.proofs.Means.{names_plain}
 use Rattle.held_runs.specs.HeadLines.{first_two}
 use Rattle.held_runs.specs.NameLines.{name_seen, name_shown}
 use Rattle.prof_store.proofs.Listing.{read_permutes, map_injective}

@@ -1,6 +1,6 @@
 use Rattle.std.proofs.Common.{◌++◌, ◌∷◌, [], true, arith, subst, sym, ◌∙◌}
 use Rattle.sql_tables.proofs.Calls.{asked_rests_yet}
-use Rattle.prof_tables.specs.Schema.{schema_two}
+use Rattle.store_schema.specs.Schema.{schema_two}
 use Rattle.prof_store.specs.Readings.{RowsSay}
 use Rattle.held_runs.specs.Walks.{rows_of, AreAllRead, HandsOn}
 use Rattle.held_runs.proofs.Asking.{asked_open_then}

@@ -1,6 +1,6 @@
 use Rattle.std.proofs.Common.{◌≡◌, List, [], map}
 use Rattle.sql_tables.specs.Calls.{Asked}
-use Rattle.prof_tables.specs.Schema.{schema_two}
+use Rattle.store_schema.specs.Schema.{schema_two}
 use Rattle.prof_store.specs.Shown.{shown, IsFaithful}
 use Rattle.held_runs.specs.Walks.{IsReady, Gives}
 use Rattle.held_runs.proofs.lines.each_line.Given as goal

@@ -1,5 +1,5 @@
 use Rattle.sql_tables.proofs.Calls.{asked_err, asked_if}
-use Rattle.prof_tables.specs.Schema.{schema_two}
+use Rattle.store_schema.specs.Schema.{schema_two}
 use Rattle.held_runs.proofs.RunTexts.{baseline_of_plain}
 use Rattle.held_runs.proofs.LookupFinds.{baseline_found}
 use Rattle.held_runs.proofs.Said.{baseline_told}

@@ -1,6 +1,6 @@
 use Rattle.sql_tables.proofs.Calls.{asked_err, asked_if}
-use Rattle.prof_tables.specs.Schema.{schema_two}
-use Rattle.prof_tables.proofs.Means.{kind_of_plain}
+use Rattle.store_schema.specs.Schema.{schema_two}
+use Rattle.store_schema.proofs.Means.{kind_of_plain}
 use Rattle.held_runs.proofs.LookupFinds.{kind_found}
 use Rattle.held_runs.proofs.Said.{kind_told}
 use Rattle.std.proofs.Common.{arith}

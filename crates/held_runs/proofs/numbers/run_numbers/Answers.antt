@@ -2,7 +2,7 @@ use Rattle.std.specs.Result.{is_ok}
 use Rattle.std.proofs.Common.{◌∙◌, map, ap, refl}
 use Rattle.sqlite_exec.proofs.MarkLemmas.{if_ok_then}
 use Rattle.sql_tables.proofs.Calls.{asked_err, asked_if}
-use Rattle.prof_tables.specs.Schema.{schema_two}
+use Rattle.store_schema.specs.Schema.{schema_two}
 use Rattle.held_runs.specs.RunNumbers.{first_one, number_shown}
 use Rattle.prof_store.proofs.Listing.{read_permutes}
 use Rattle.prof_store.proofs.Reading.{both_ok}

@@ -1,7 +1,7 @@
 use Rattle.std.proofs.Common.{◌≡◌, ◌+◌, ◌++◌, ◌∷◌, ◌∙◌, [], length, map, take, ap, subst, sym}
 use Rattle.prof_store.proofs.Reading.{is_ok_then}
 use Rattle.held_runs.specs.HeadLines.{first_two}
-use Rattle.held_runs.specs.OwnSums.{sums_from}
+use Rattle.held_runs.specs.OwnSums.{sum_rows}
 use Rattle.held_runs.proofs.OwnSumLists.{sums_more}
 use Rattle.held_runs.proofs.own_sums.sums_in.Goals as goal
 
@@ -14,4 +14,4 @@ rows-preserved c =
     let place = c.in_ok-place.place in
     let at : place ≡ length sums = c.if-place-len.false ∙ c.len.ensures in
     let pushed : c.push.new.self ≡ sums ++ sum ∷ [] = is_ok_then c.push.result c.if-is_err.ensures.negation c.push.ensures.ok ∙ ap (λ n. sums ++ n ∷ []) c.from.ensures in
-    subst (λ l. sums_from 0 l ≡ map first_two (take (k + 1) rows)) (sym pushed) (sums_more rows k c.row-item.result sums place sum c.rows-test.true c.row-item.is c.in_ok-place.ensures.read at c.in_ok-sum.ensures.read c.rows.invariant)
+    subst (λ l. sum_rows l ≡ map first_two (take (k + 1) rows)) (sym pushed) (sums_more rows k c.row-item.result sums place sum c.rows-test.true c.row-item.is c.in_ok-place.ensures.read at c.in_ok-sum.ensures.read c.rows.invariant)

@@ -1,7 +1,7 @@
 use Rattle.std.proofs.Common.{◌≡◌, map, take}
 use Rattle.held_runs.specs.HeadLines.{first_two}
-use Rattle.held_runs.specs.OwnSums.{sums_from}
+use Rattle.held_runs.specs.OwnSums.{sum_rows}
 use Rattle.held_runs.proofs.own_sums.sums_in.Given as goal
 
 abbrev pub invariant-rows : goal.invariant-rows
-invariant-rows l = sums_from 0 l.sums ≡ map first_two (take l.row-index l.rows)
+invariant-rows l = sum_rows l.sums ≡ map first_two (take l.row-index l.rows)

@@ -2,7 +2,7 @@ use Rattle.std.specs.Result.{is_ok}
 use Rattle.std.proofs.Common.{◌∙◌, map, ap, arith}
 use Rattle.sqlite_exec.proofs.MarkLemmas.{if_ok_then}
 use Rattle.sql_tables.proofs.Calls.{asked_err, asked_if}
-use Rattle.prof_tables.specs.Schema.{schema_two}
+use Rattle.store_schema.specs.Schema.{schema_two}
 use Rattle.held_runs.specs.HeadLines.{first_two}
 use Rattle.held_runs.proofs.OwnSumLists.{sums_listed, sums_read}
 use Rattle.held_runs.proofs.RunTexts.{own_sums_plain}

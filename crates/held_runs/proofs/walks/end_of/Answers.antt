@@ -2,7 +2,7 @@ use Rattle.std.proofs.Common.{[], subst}
 use Rattle.std.proofs.lemmas.Option.{IfSome_then}
 use Rattle.sqlite.specs.Held.{state}
 use Rattle.sqlite.specs.State.{QueriesRow}
-use Rattle.prof_tables.specs.Schema.{schema_two}
+use Rattle.store_schema.specs.Schema.{schema_two}
 use Rattle.prof_store.specs.Statements.{row_or_none}
 use Rattle.prof_store.specs.Shown.{shown}
 use Rattle.sql_tables.proofs.Calls.{asked_err}

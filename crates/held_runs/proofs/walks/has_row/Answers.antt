@@ -1,6 +1,6 @@
 use Rattle.std.proofs.Common.{rules, ◌≡◌, true, false, [], drop, ◌∙◌}
 use Rattle.std.proofs.lemmas.List.{drop_all}
-use Rattle.prof_tables.specs.Schema.{schema_two}
+use Rattle.store_schema.specs.Schema.{schema_two}
 use Rattle.held_runs.proofs.Asking.{asked_open_then}
 use Rattle.held_runs.proofs.walks.has_row.Goals as goal
 

@@ -1,7 +1,7 @@
 use Rattle.std.proofs.Common.{List}
 use Rattle.sqlite_value.specs.Order.{Row}
 use Rattle.sql_tables.specs.Calls.{Asked}
-use Rattle.prof_tables.specs.Schema.{schema_two}
+use Rattle.store_schema.specs.Schema.{schema_two}
 use Rattle.prof_store.specs.Shown.{shown, IsFaithful}
 use Rattle.held_runs.specs.Walks.{IsSameWalk, Walks}
 use Rattle.held_runs.proofs.walks.has_row.Given as goal

@@ -1,7 +1,7 @@
 use Rattle.std.proofs.Common.{subst}
 use Rattle.sqlite_trees.specs.Tree.{IsTable}
 use Rattle.sql_tables.proofs.Calls.{asked_err, asked_if}
-use Rattle.prof_tables.specs.Schema.{schema_two}
+use Rattle.store_schema.specs.Schema.{schema_two}
 use Rattle.held_runs.proofs.WalkTables.{window_plain_as, window_is}
 use Rattle.held_runs.proofs.walks.load.Goals as goal
 

@@ -2,7 +2,7 @@ use Rattle.std.proofs.Common.{refl, sym, subst}
 use Rattle.sqlite.specs.Effect.{Database}
 use Rattle.sql_tables.specs.Walks.{Lie}
 use Rattle.sql_tables.proofs.Calls.{asked_err, asked_if}
-use Rattle.prof_tables.specs.Schema.{schema_two}
+use Rattle.store_schema.specs.Schema.{schema_two}
 use Rattle.held_runs.specs.Walks.{tree_of, asked}
 use Rattle.held_runs.proofs.WalkTables.{ends_plain_as, span_is}
 use Rattle.held_runs.proofs.walks.run_span.Goals as goal

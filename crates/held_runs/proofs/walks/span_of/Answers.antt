@@ -1,7 +1,7 @@
 use Rattle.std.specs.Result.{is_ok}
 use Rattle.std.proofs.Common.{refl}
 use Rattle.sql_tables.proofs.Calls.{asked_then}
-use Rattle.prof_tables.specs.Schema.{schema_two}
+use Rattle.store_schema.specs.Schema.{schema_two}
 use Rattle.prof_store.specs.Shown.{shown}
 use Rattle.held_runs.proofs.WalkSteps.{ready_if_now}
 use Rattle.held_runs.proofs.walks.span_of.Goals as goal

@@ -1,6 +1,6 @@
 use Rattle.std.proofs.Common.{◌≡◌, ◌≤◌, true, false, drop, ap₂, refl, ◌∙◌, arith}
 use Rattle.sql_tables.proofs.Calls.{asked_more}
-use Rattle.prof_tables.specs.Schema.{schema_two}
+use Rattle.store_schema.specs.Schema.{schema_two}
 use Rattle.held_runs.proofs.WalkSteps.{ended_step, turned_step}
 use Rattle.held_runs.proofs.walks.turn.Goals.{then-walk-gt-WINDOW, else-walk-gt-WINDOW}
 use Rattle.held_runs.proofs.walks.turn.Goals as goal

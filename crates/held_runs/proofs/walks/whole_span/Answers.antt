@@ -1,7 +1,7 @@
 use Rattle.std.proofs.Common.{true, refl}
 use Rattle.std.proofs.lemmas.Option.{IfSome_then}
 use Rattle.sql_tables.proofs.Calls.{asked_then}
-use Rattle.prof_tables.specs.Schema.{schema_two}
+use Rattle.store_schema.specs.Schema.{schema_two}
 use Rattle.prof_store.specs.Shown.{shown}
 use Rattle.held_runs.proofs.WalkSteps.{ready_if_now, whole_step}
 use Rattle.held_runs.proofs.walks.whole_span.Goals as goal

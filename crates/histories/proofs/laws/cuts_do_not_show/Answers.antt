@@ -1,7 +1,7 @@
 use Rattle.std.proofs.Common.{ℕ, Bool, nat_lt, length, if◌then◌else◌, List, Option, Some, None, ap, ap₂, ◌∙◌}
 use Rattle.std.specs.List.{list_any}
 use Rattle.histories.specs.Formats.{Format}
-use Rattle.sources.specs.Outcomes.{bytes_of, is_failed, is_end}
+use Rattle.byte_io.specs.Outcomes.{bytes_of, is_failed, is_end}
 use Rattle.histories.specs.History.{History}
 use Rattle.histories.specs.Legal.{file_due}
 use Rattle.histories.specs.declared.answers.Answer.{Answer}

@@ -3,10 +3,10 @@ use Rattle.histories.proofs.Totals.{tells_self, tells_calls, tells_count}
 use Rattle.histories.proofs.laws.tables_tell_the_sums.Goals as goal
 
 pub returns-clause-sums : goal.returns-clause-sums
-returns-clause-sums c = λ h t db holds tell. record {
-  self_cost = tells_self h t db holds tell;
-  call_cost = tells_calls h t db holds tell;
-  excess = λ kind bytes held_totals file_totals. tells_excess h t db kind bytes held_totals file_totals holds tell;
+returns-clause-sums c = λ h t sound tell. record {
+  self_cost = tells_self h t sound tell;
+  call_cost = tells_calls h t sound tell;
+  excess = λ kind bytes held_totals file_totals. tells_excess h t kind bytes held_totals file_totals sound tell;
 }
 
 pub returns-clause-call_count : goal.returns-clause-call_count

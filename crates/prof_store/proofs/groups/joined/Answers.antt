@@ -1,8 +1,9 @@
 use Rattle.std.proofs.Common.{◌≡◌, ◌≤◌, ◌-◌, ◌∙◌, ◌++◌, ◌∷◌, [], ℕ, List, if◌then◌else◌, string_bytes, drop, take, length, ◌+◌, map, flat_map, sym, ap, ap₂, arith}
 use Rattle.std.proofs.lemmas.List.{take_all, length-drop}
-use Rattle.prof_tables.specs.Tables.{group_columns}
-use Rattle.prof_store.specs.Groups.{member_of, member_line, entry_members, entry_group, first_two}
-use Rattle.prof_store.specs.declared.entries.GroupEntry.{GroupEntry}
+use Rattle.store_schema.specs.Tables.{group_columns}
+use Rattle.prof_store.specs.Groups.{member_line, first_two}
+use Rattle.run_stores.specs.Entries.{entry_group, entry_members, member_of}
+use Rattle.run_stores.specs.declared.entries.GroupEntry.{GroupEntry}
 use Rattle.prof_store.proofs.Listing.{read_more, joined_more}
 use Rattle.prof_store.proofs.groups.joined.Goals as goal
 

@@ -1,6 +1,7 @@
 use Rattle.std.proofs.Common.{◌≡◌, ◌≤◌, length, map, flat_map, take}
-use Rattle.prof_tables.specs.Tables.{group_columns}
-use Rattle.prof_store.specs.Groups.{entry_group, entry_members, member_line, first_two}
+use Rattle.store_schema.specs.Tables.{group_columns}
+use Rattle.prof_store.specs.Groups.{member_line, first_two}
+use Rattle.run_stores.specs.Entries.{entry_group, entry_members}
 use Rattle.prof_store.proofs.groups.joined.Given as goal
 
 abbrev pub invariant-rows : goal.invariant-rows

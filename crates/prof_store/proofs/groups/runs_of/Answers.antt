@@ -1,7 +1,8 @@
 use Rattle.std.proofs.Common.{◌≡◌, ◌∙◌, ◌++◌, ◌∷◌, [], Bool, true, false, not, map, length, string_bytes, refl, sym, ap, arith}
 use Rattle.std.proofs.lemmas.List.{length_push}
 use Rattle.std.proofs.lemmas.Slice.Eq.{bytes_eq-Decides}
-use Rattle.prof_store.specs.Groups.{member_of, member_line}
+use Rattle.prof_store.specs.Groups.{member_line}
+use Rattle.run_stores.specs.Entries.{member_of}
 use Rattle.prof_store.proofs.Listing.{read_more}
 use Rattle.prof_store.proofs.Reading.{is_ok_then}
 use Rattle.prof_store.proofs.groups.runs_of.Goals as goal

@@ -1,5 +1,6 @@
 use Rattle.std.proofs.Common.{◌≡◌, map, take, length}
-use Rattle.prof_store.specs.Groups.{member_line, member_of}
+use Rattle.prof_store.specs.Groups.{member_line}
+use Rattle.run_stores.specs.Entries.{member_of}
 use Rattle.prof_store.proofs.groups.runs_of.Given as goal
 
 abbrev pub invariant-members : goal.invariant-members

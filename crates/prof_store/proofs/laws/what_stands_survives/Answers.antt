@@ -1,7 +1,7 @@
 use Rattle.std.proofs.Common.{◌≡◌, sym, subst, ap, ◌∙◌}
 use Rattle.sqlite.specs.Effect.{Database}
-use Rattle.prof_tables.specs.First.{HoldsFirst}
-use Rattle.prof_tables.specs.Tables.{Holds}
+use Rattle.store_schema.specs.First.{HoldsFirst}
+use Rattle.store_schema.specs.Tables.{Holds}
 use Rattle.prof_store.proofs.laws.what_stands_survives.Goals as goal
 
 pub returns-clause-second : goal.returns-clause-second

@@ -1,4 +1,4 @@
-use Rattle.prof_tables.specs.Schema.{schema_two}
+use Rattle.store_schema.specs.Schema.{schema_two}
 use Rattle.sqlite.specs.Values.{bound}
 use Rattle.sql_tables.proofs.Calls.{row_asks, row_refused}
 use Rattle.prof_store.proofs.statements.select_row.Goals as goal

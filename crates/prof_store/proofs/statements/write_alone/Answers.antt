@@ -1,6 +1,6 @@
 use Rattle.std.proofs.Common.{rules, ◌≡◌, true}
-use Rattle.prof_tables.specs.Tables.{Tables}
-use Rattle.store_columns.proofs.Within.{text_writes}
+use Rattle.plain_tables.specs.Tables.{Tables}
+use Rattle.store_schema.proofs.Within.{text_writes}
 use Rattle.prof_store.proofs.statements.write_alone.Goals as goal
 
 pub returns-in-Ok-clause-commits : goal.returns-in-Ok-clause-commits

@@ -1,7 +1,5 @@
 use Rattle.std.proofs.Common.{rules, length, subst}
-use Rattle.sql_tables.proofs.Calls.{asked_rests}
-use Rattle.prof_tables.specs.Schema.{schema_two}
-use Rattle.prof_store.specs.Readings.{RowsSay}
+use Rattle.run_stores.proofs.Calls.{asked_reads}
 use Rattle.cost_rows.specs.Rows.{content_of}
 use Rattle.store_histories.proofs.Due.{has_room, has_none}
 use Rattle.run_imports.specs.FromTables.{IsExcess}
@@ -17,8 +15,8 @@ returns-in-Some-clause-told g c clean t stands =
 pub returns-then-branch-from-clause-told : goal.returns-then-branch-from-clause-told
 returns-then-branch-from-clause-told g c clean t stands =
     let file = c.args.file.now in
-    let first = (c.run_count.ensures.asks clean).stays.was_clean in
-    let once = asked_rests schema_two (RowsSay t) _ _ (c.in_ok-excess.ensures.asks first) stands in
+    let first = (c.run_count.ensures.asks clean).stays.was_faithful in
+    let once = asked_reads g.S.StoreState t _ _ (c.in_ok-excess.ensures.asks first) stands in
     let fits = subst (IsExcess file.head.now (content_of file.rows.now) t) c.in_default.is (c.in_ok-excess.ensures.told first t stands) in
     number_full c.args.limits file.head.now (content_of file.rows.now) t fits
     (has_none c.args.limits.runs c.in_ok-run_count.field-0 (length t.runs) (c.in_ok-run_count.ensures.told clean t once) (search (rules, c.if-branch-from.true)))
@@ -26,10 +24,10 @@ returns-then-branch-from-clause-told g c clean t stands =
 pub returns-then-number-limits-clause-told : goal.returns-then-number-limits-clause-told
 returns-then-number-limits-clause-told g c clean t stands =
     let file = c.args.file.now in
-    let second = (c.in_ok-number.ensures.asks clean).stays.was_clean in
-    let first = (c.run_count.ensures.asks second).stays.was_clean in
-    let once = asked_rests schema_two (RowsSay t) _ _ (c.in_ok-excess.ensures.asks first) stands in
-    let twice = asked_rests schema_two (RowsSay t) _ _ (c.in_ok-run_count.ensures.asks second) once in
+    let second = (c.in_ok-number.ensures.asks clean).stays.was_faithful in
+    let first = (c.run_count.ensures.asks second).stays.was_faithful in
+    let once = asked_reads g.S.StoreState t _ _ (c.in_ok-excess.ensures.asks first) stands in
+    let twice = asked_reads g.S.StoreState t _ _ (c.in_ok-run_count.ensures.asks second) once in
     let fits = subst (IsExcess file.head.now (content_of file.rows.now) t) c.in_default.is (c.in_ok-excess.ensures.told first t stands) in
     let few = has_room c.args.limits.runs c.in_ok-run_count.field-0 (length t.runs) (c.in_ok-run_count.ensures.told second t once) (search (rules, c.if-branch-from.false)) in
     number_spent c.args.limits file.head.now (content_of file.rows.now) t fits few
@@ -38,10 +36,10 @@ returns-then-number-limits-clause-told g c clean t stands =
 pub returns-clause-told : goal.returns-clause-told
 returns-clause-told g c clean t stands =
     let file = c.args.file.now in
-    let second = (c.in_ok-number.ensures.asks clean).stays.was_clean in
-    let first = (c.run_count.ensures.asks second).stays.was_clean in
-    let once = asked_rests schema_two (RowsSay t) _ _ (c.in_ok-excess.ensures.asks first) stands in
-    let twice = asked_rests schema_two (RowsSay t) _ _ (c.in_ok-run_count.ensures.asks second) once in
+    let second = (c.in_ok-number.ensures.asks clean).stays.was_faithful in
+    let first = (c.run_count.ensures.asks second).stays.was_faithful in
+    let once = asked_reads g.S.StoreState t _ _ (c.in_ok-excess.ensures.asks first) stands in
+    let twice = asked_reads g.S.StoreState t _ _ (c.in_ok-run_count.ensures.asks second) once in
     let fits = subst (IsExcess file.head.now (content_of file.rows.now) t) c.in_default.is (c.in_ok-excess.ensures.told first t stands) in
     let few = has_room c.args.limits.runs c.in_ok-run_count.field-0 (length t.runs) (c.in_ok-run_count.ensures.told second t once) (search (rules, c.if-branch-from.false)) in
     let is_next = c.in_ok-number.ensures.told clean t twice in

@@ -1,10 +1,9 @@
 use Rattle.std.specs.Bool.{⊤}
 use Rattle.std.proofs.Common.{◌≡◌, true, false, Some, None, Ok, refl, sym, ap, subst, subst₂, ◌∙◌}
 use Rattle.sha2.specs.Sha256.{sha256}
-use Rattle.sql_tables.proofs.Calls.{asked_refused, asked_rests, changed_asked, shut_answered, shut_asked}
-use Rattle.prof_tables.specs.Schema.{schema_two}
-use Rattle.prof_tables.specs.Tables.{Tables, Holds}
-use Rattle.sources.specs.Outcomes.{bytes_of}
+use Rattle.run_stores.proofs.Calls.{asked_reads, asked_refused, asked_stands, changed_asked, shut_answered, shut_asked}
+use Rattle.plain_tables.specs.Tables.{Tables}
+use Rattle.byte_io.specs.Outcomes.{bytes_of}
 use Rattle.cost_rows.specs.Rows.{content_of}
 use Rattle.histories.specs.Formats.{today}
 use Rattle.histories.specs.Files.{IsHeadOf, fault_of}
@@ -13,42 +12,41 @@ use Rattle.histories.specs.Legal.{number_of}
 use Rattle.histories.specs.declared.answers.Answer.TheVariants.{Held, Refused}
 use Rattle.histories.specs.declared.answers.Refusal.TheVariants.{File}
 use Rattle.histories.proofs.Tells.{tells_digest}
-use Rattle.store_histories.specs.Answered.{StandsForHistory, TellsHistory, Follows}
+use Rattle.histories.specs.Stands.{TablesTell}
+use Rattle.store_histories.specs.Answered.{StandsForHistory, Follows}
 use Rattle.store_histories.proofs.Due.{was_still}
 use Rattle.store_histories.proofs.Questions.{if_ok_so}
 use Rattle.store_histories.proofs.Settled.{turns_err}
-use Rattle.prof_store.specs.Digests.{IsRunOf}
-use Rattle.prof_store.specs.Shown.{StandsFor, shown}
+use Rattle.run_stores.specs.Lookups.{IsRunOf}
+use Rattle.run_stores.specs.Calls.{StandsFor}
 use Rattle.run_imports.specs.FromTables.{IsPutIn, TakesIn}
 use Rattle.run_imports.specs.Imports.{IsNewFile}
-use Rattle.file_intake.specs.Intakes.{IsFileOf}
+use Rattle.file_reading.specs.Intakes.{IsFileOf}
 use Rattle.run_imports.proofs.Imports.{held_due, fault_due}
 use Rattle.run_imports.proofs.Puts.{ended_at_once, new_turns}
-use Rattle.prof_store.proofs.Told.{rests_said}
-use Rattle.prof_store.specs.Readings.{RowsSay}
 use Rattle.run_imports.proofs.taking.take_in.Goals as goal
 
 pub returns-in_err-number-clause-turns : goal.returns-in_err-number-clause-turns
 returns-in_err-number-clause-turns g c outcomes ended is clean =
-    let said = Import (today c.args.kind) c.args.label.now outcomes in turns_err c.args.limits said c.from_residual.result _ _ c.from_residual.ensures.0 (changed_asked schema_two TellsHistory (Follows c.args.limits said) false _ _ (c.in_err-number.ensures.asks clean))
+    let said = Import (today c.args.kind) c.args.label.now outcomes in turns_err g.S.StoreState c.args.limits said c.from_residual.result _ _ c.from_residual.ensures.0 (changed_asked g.S.StoreState TablesTell (Follows c.args.limits said) false _ _ (c.in_err-number.ensures.asks clean))
 
 pub returns-in-Some-clause-answered : goal.returns-in-Some-clause-answered
 returns-in-Some-clause-answered g c clean h outcomes s ended is =
     let found : number_of (sha256 (bytes_of outcomes)) (held h) ≡ Some c.in-Some.number =
-    ap (λ d. number_of d (held h)) (sym is.digest) ∙ tells_digest h s.t s.tells c.args.taken.now.digest c.in_ok-number.field-0 (c.in_ok-number.ensures.told clean s.t (rests_said s.t _ s.stands)) ∙ c.in-Some.is in
-    was_still c.args.limits h (Import (today c.args.kind) c.args.label.now outcomes) (c.utf8.label, c.requires) g.S.Store c.args.store.now c.run_of_digest.new.self (Held c.in-Some.number) tt
-    (held_due c.args.limits h c.args.kind c.args.label.now outcomes ended c.in-Some.number found) s (asked_rests schema_two (Holds s.t) _ _ (c.in_ok-number.ensures.asks clean) s.stands)
+    ap (λ d. number_of d (held h)) (sym is.digest) ∙ tells_digest h s.t s.tells c.args.taken.now.digest c.in_ok-number.field-0 (c.in_ok-number.ensures.told clean s.t (g.S.StoreState.said s.t _ s.stands)) ∙ c.in-Some.is in
+    was_still c.args.limits h (Import (today c.args.kind) c.args.label.now outcomes) (c.utf8.label, c.requires) g.S.StoreState c.args.store.now c.run_of_digest.new.self (Held c.in-Some.number) tt
+    (held_due c.args.limits h c.args.kind c.args.label.now outcomes ended c.in-Some.number found) s (asked_stands g.S.StoreState s.t _ _ (c.in_ok-number.ensures.asks clean) s.stands)
 
 pub returns-in-Some-clause-turns : goal.returns-in-Some-clause-turns
-returns-in-Some-clause-turns g c outcomes ended is clean = changed_asked schema_two TellsHistory (Follows c.args.limits (Import (today c.args.kind) c.args.label.now outcomes)) true _ _ (c.in_ok-number.ensures.asks clean)
+returns-in-Some-clause-turns g c outcomes ended is clean = changed_asked g.S.StoreState TablesTell (Follows c.args.limits (Import (today c.args.kind) c.args.label.now outcomes)) true _ _ (c.in_ok-number.ensures.asks clean)
 
 pub returns-in_ok-file-in-Ok-clause-answered : goal.returns-in_ok-file-in-Ok-clause-answered
 returns-in_ok-file-in-Ok-clause-answered g c clean h outcomes s ended is =
-    let early = (c.put_file.ensures.turns outcomes ended clean).stays.was_clean in
+    let early = (c.put_file.ensures.turns outcomes ended clean).stays.was_faithful in
     let none : number_of (sha256 (bytes_of outcomes)) (held h) ≡ None =
-    ap (λ d. number_of d (held h)) (sym is.digest) ∙ tells_digest h s.t s.tells c.args.taken.now.digest c.in_ok-number.field-0 (c.in_ok-number.ensures.told early s.t (rests_said s.t _ s.stands)) ∙ c.in_default.is in
+    ap (λ d. number_of d (held h)) (sym is.digest) ∙ tells_digest h s.t s.tells c.args.taken.now.digest c.in_ok-number.field-0 (c.in_ok-number.ensures.told early s.t (g.S.StoreState.said s.t _ s.stands)) ∙ c.in_default.is in
     let whole : IsFileOf c.args.kind (bytes_of outcomes) (Ok (c.in-Ok.head, c.in-Ok.rows)) = subst (IsFileOf c.args.kind (bytes_of outcomes)) c.in-Ok.is is.file in
-    let there : StandsForHistory g.S.Store h c.run_of_digest.new.self = record { t = s.t; stands = asked_rests schema_two (Holds s.t) _ _ (c.in_ok-number.ensures.asks early) s.stands; tells = s.tells } in
+    let there : StandsForHistory g.S.StoreState h c.run_of_digest.new.self = record { t = s.t; stands = asked_stands g.S.StoreState s.t _ _ (c.in_ok-number.ensures.asks early) s.stands; tells = s.tells } in
     let file = c.in_ok-file-in-Ok.file in
     let same = c.in_ok-file-in-Ok.ensures in
     let new : IsNewFile h c.args.kind (bytes_of outcomes) c.args.taken.now.digest file.head.now file.rows.now = record { digest_is = is.digest; is_new = none; sound = whole.0; head_is = subst (λ x. IsHeadOf c.args.kind x (bytes_of outcomes)) (sym same.0) whole.1; rows_are = ap content_of same.1 ∙ whole.2 } in
@@ -57,15 +55,15 @@ returns-in_ok-file-in-Ok-clause-answered g c clean h outcomes s ended is =
 pub returns-in_ok-file-in-Ok-clause-turns : goal.returns-in_ok-file-in-Ok-clause-turns
 returns-in_ok-file-in-Ok-clause-turns g c outcomes ended is clean =
     let two = c.put_file.ensures.turns outcomes ended clean in
-    let early = two.stays.was_clean in
+    let early = two.stays.was_faithful in
     let whole : IsFileOf c.args.kind (bytes_of outcomes) (Ok (c.in-Ok.head, c.in-Ok.rows)) = subst (IsFileOf c.args.kind (bytes_of outcomes)) c.in-Ok.is is.file in
     let file = c.in_ok-file-in-Ok.file in
     let same = c.in_ok-file-in-Ok.ensures in
-    new_turns c.args.limits c.args.kind c.args.label.now outcomes c.args.taken.now.digest file.head.now file.rows.now g.S.Store c.args.store.now c.run_of_digest.new.self c.put_file.new.store c.put_file.result
+    new_turns c.args.limits c.args.kind c.args.label.now outcomes c.args.taken.now.digest file.head.now file.rows.now g.S.StoreState c.args.store.now c.run_of_digest.new.self c.put_file.new.store c.put_file.result
     (c.in_ok-number.ensures.asks early)
     (λ h s. record {
       digest_is = is.digest;
-      is_new = ap (λ d. number_of d (held h)) (sym is.digest) ∙ tells_digest h s.t s.tells c.args.taken.now.digest c.in_ok-number.field-0 (c.in_ok-number.ensures.told early s.t (rests_said s.t _ s.stands)) ∙ c.in_default.is;
+      is_new = ap (λ d. number_of d (held h)) (sym is.digest) ∙ tells_digest h s.t s.tells c.args.taken.now.digest c.in_ok-number.field-0 (c.in_ok-number.ensures.told early s.t (g.S.StoreState.said s.t _ s.stands)) ∙ c.in_default.is;
       sound = whole.0;
       head_is = subst (λ x. IsHeadOf c.args.kind x (bytes_of outcomes)) (sym same.0) whole.1;
       rows_are = ap content_of same.1 ∙ whole.2;
@@ -75,18 +73,18 @@ returns-in_ok-file-in-Ok-clause-turns g c outcomes ended is clean =
 pub returns-in-Err-clause-answered : goal.returns-in-Err-clause-answered
 returns-in-Err-clause-answered g c clean h outcomes s ended is =
     let none : number_of (sha256 (bytes_of outcomes)) (held h) ≡ None =
-    ap (λ d. number_of d (held h)) (sym is.digest) ∙ tells_digest h s.t s.tells c.args.taken.now.digest c.in_ok-number.field-0 (c.in_ok-number.ensures.told clean s.t (rests_said s.t _ s.stands)) ∙ c.in_default.is in
+    ap (λ d. number_of d (held h)) (sym is.digest) ∙ tells_digest h s.t s.tells c.args.taken.now.digest c.in_ok-number.field-0 (c.in_ok-number.ensures.told clean s.t (g.S.StoreState.said s.t _ s.stands)) ∙ c.in_default.is in
     let fault : fault_of (today c.args.kind) (bytes_of outcomes) ≡ Some (c.in-Err.fault, c.in-Err.line) = subst (IsFileOf c.args.kind (bytes_of outcomes)) c.in-Err.is is.file in
-    was_still c.args.limits h (Import (today c.args.kind) c.args.label.now outcomes) (c.utf8.label, c.requires) g.S.Store c.args.store.now c.run_of_digest.new.self (Refused (File c.in-Err.fault c.in-Err.line)) tt
-    (fault_due c.args.limits h c.args.kind c.args.label.now outcomes ended none (c.in-Err.fault, c.in-Err.line) fault) s (asked_rests schema_two (Holds s.t) _ _ (c.in_ok-number.ensures.asks clean) s.stands)
+    was_still c.args.limits h (Import (today c.args.kind) c.args.label.now outcomes) (c.utf8.label, c.requires) g.S.StoreState c.args.store.now c.run_of_digest.new.self (Refused (File c.in-Err.fault c.in-Err.line)) tt
+    (fault_due c.args.limits h c.args.kind c.args.label.now outcomes ended none (c.in-Err.fault, c.in-Err.line) fault) s (asked_stands g.S.StoreState s.t _ _ (c.in_ok-number.ensures.asks clean) s.stands)
 
 pub returns-in-Err-clause-turns : goal.returns-in-Err-clause-turns
-returns-in-Err-clause-turns g c outcomes ended is clean = changed_asked schema_two TellsHistory (Follows c.args.limits (Import (today c.args.kind) c.args.label.now outcomes)) true _ _ (c.in_ok-number.ensures.asks clean)
+returns-in-Err-clause-turns g c outcomes ended is clean = changed_asked g.S.StoreState TablesTell (Follows c.args.limits (Import (today c.args.kind) c.args.label.now outcomes)) true _ _ (c.in_ok-number.ensures.asks clean)
 
 pub returns-in_err-file-in-Ok-clause-turns : goal.returns-in_err-file-in-Ok-clause-turns
 returns-in_err-file-in-Ok-clause-turns g c outcomes ended is clean =
     let said = Import (today c.args.kind) c.args.label.now outcomes in
-    turns_err c.args.limits said c.from_residual-in_err-file-in-Ok.result _ _ c.from_residual-in_err-file-in-Ok.ensures.0 (changed_asked schema_two TellsHistory (Follows c.args.limits said) false _ _ (asked_refused schema_two true _ _ (c.in_ok-number.ensures.asks clean)))
+    turns_err g.S.StoreState c.args.limits said c.from_residual-in_err-file-in-Ok.result _ _ c.from_residual-in_err-file-in-Ok.ensures.0 (changed_asked g.S.StoreState TablesTell (Follows c.args.limits said) false _ _ (asked_refused g.S.StoreState true _ _ (c.in_ok-number.ensures.asks clean)))
 
 pub returns-in-Some-clause-told : goal.returns-in-Some-clause-told
 returns-in-Some-clause-told g c clean t was = record {
@@ -98,8 +96,8 @@ returns-in-Some-clause-told g c clean t was = record {
 pub returns-in_ok-file-in-Ok-clause-told : goal.returns-in_ok-file-in-Ok-clause-told
 returns-in_ok-file-in-Ok-clause-told g c clean t was =
     -- whatever the source gave: no fault of the disk is forgotten
-    let early = (c.put_file.ensures.turns _ (ended_at_once c.args.limits.bytes) clean).stays.was_clean in
-    let there = asked_rests schema_two (RowsSay t) _ _ (c.in_ok-number.ensures.asks early) was in
+    let early = (c.put_file.ensures.turns _ (ended_at_once c.args.limits.bytes) clean).stays.was_faithful in
+    let there = asked_reads g.S.StoreState t _ _ (c.in_ok-number.ensures.asks early) was in
     let taken = c.args.taken.now in
     let left : Tables → Type 0 = λ l. ⊤ in
     let same = c.in_ok-file-in-Ok.ensures in
@@ -125,23 +123,23 @@ returns-in-Err-clause-told g c clean t was =
 pub returns-in-Some-clause-made : goal.returns-in-Some-clause-made
 returns-in-Some-clause-made g c clean t stands = record {
   found = Some c.in-Some.number;
-  is_found = subst (IsRunOf c.args.taken.now.digest t) c.in-Some.is (c.in_ok-number.ensures.told clean t (rests_said t _ stands));
-  takes = (refl, asked_rests schema_two (Holds t) _ _ (c.in_ok-number.ensures.asks clean) stands);
+  is_found = subst (IsRunOf c.args.taken.now.digest t) c.in-Some.is (c.in_ok-number.ensures.told clean t (g.S.StoreState.said t _ stands));
+  takes = (refl, asked_stands g.S.StoreState t _ _ (c.in_ok-number.ensures.asks clean) stands);
 }
 
 pub returns-in_ok-file-in-Ok-clause-made : goal.returns-in_ok-file-in-Ok-clause-made
 returns-in_ok-file-in-Ok-clause-made g c clean t stands =
     -- whatever the source gave: no fault of the disk is forgotten
-    let early = (c.put_file.ensures.turns _ (ended_at_once c.args.limits.bytes) clean).stays.was_clean in
-    let there = asked_rests schema_two (Holds t) _ _ (c.in_ok-number.ensures.asks early) stands in
+    let early = (c.put_file.ensures.turns _ (ended_at_once c.args.limits.bytes) clean).stays.was_faithful in
+    let there = asked_stands g.S.StoreState t _ _ (c.in_ok-number.ensures.asks early) stands in
     let taken = c.args.taken.now in
-    let left : Tables → Type 0 = λ l. StandsFor g.S.Store l c.put_file.new.store in
+    let left : Tables → Type 0 = λ l. StandsFor g.S.StoreState l c.put_file.new.store in
     let same = c.in_ok-file-in-Ok.ensures in
     let takes = TakesIn c.args.limits c.args.kind c.args.label.now taken.digest left t None in
     if_ok_so c.put_file.result
     (λ answer is. record {
       found = None;
-      is_found = subst (IsRunOf taken.digest t) c.in_default.is (c.in_ok-number.ensures.told early t (rests_said t _ stands));
+      is_found = subst (IsRunOf taken.digest t) c.in_default.is (c.in_ok-number.ensures.told early t (g.S.StoreState.said t _ stands));
       takes = subst (λ f. takes f answer) (sym c.in-Ok.is) (subst₂ (λ head content. IsPutIn c.args.limits c.args.kind c.args.label.now taken.digest left head content t answer) same.0 (ap content_of same.1) is);
     })
     (c.put_file.ensures.made clean t there)
@@ -151,22 +149,22 @@ returns-in-Err-clause-made g c clean t stands =
     let taken = c.args.taken.now in
     record {
       found = None;
-      is_found = subst (IsRunOf taken.digest t) c.in_default.is (c.in_ok-number.ensures.told clean t (rests_said t _ stands));
-      takes = subst (λ f. TakesIn c.args.limits c.args.kind c.args.label.now taken.digest (λ l. StandsFor g.S.Store l c.run_of_digest.new.self) t None f (Refused (File c.in-Err.fault c.in-Err.line))) (sym c.in-Err.is)
-          (refl, asked_rests schema_two (Holds t) _ _ (c.in_ok-number.ensures.asks clean) stands);
+      is_found = subst (IsRunOf taken.digest t) c.in_default.is (c.in_ok-number.ensures.told clean t (g.S.StoreState.said t _ stands));
+      takes = subst (λ f. TakesIn c.args.limits c.args.kind c.args.label.now taken.digest (λ l. StandsFor g.S.StoreState l c.run_of_digest.new.self) t None f (Refused (File c.in-Err.fault c.in-Err.line))) (sym c.in-Err.is)
+          (refl, asked_stands g.S.StoreState t _ _ (c.in_ok-number.ensures.asks clean) stands);
     }
 
 pub returns-in_err-number-clause-shut : goal.returns-in_err-number-clause-shut
-returns-in_err-number-clause-shut g c clean = shut_asked schema_two false _ _ (c.in_err-number.ensures.asks clean)
+returns-in_err-number-clause-shut g c clean = shut_asked g.S.StoreState false _ _ (c.in_err-number.ensures.asks clean)
 
 pub returns-in-Some-clause-shut : goal.returns-in-Some-clause-shut
-returns-in-Some-clause-shut g c clean = shut_asked schema_two true _ _ (c.in_ok-number.ensures.asks clean)
+returns-in-Some-clause-shut g c clean = shut_asked g.S.StoreState true _ _ (c.in_ok-number.ensures.asks clean)
 
 pub returns-in_ok-file-in-Ok-clause-shut : goal.returns-in_ok-file-in-Ok-clause-shut
-returns-in_ok-file-in-Ok-clause-shut g c clean = shut_answered schema_two _ _ (shown g.S.Store c.put_file.new.store) (c.in_ok-number.ensures.asks (c.put_file.ensures.turns _ (ended_at_once c.args.limits.bytes) clean).stays.was_clean)
+returns-in_ok-file-in-Ok-clause-shut g c clean = shut_answered g.S.StoreState _ _ c.put_file.new.store (c.in_ok-number.ensures.asks (c.put_file.ensures.turns _ (ended_at_once c.args.limits.bytes) clean).stays.was_faithful)
 
 pub returns-in-Err-clause-shut : goal.returns-in-Err-clause-shut
-returns-in-Err-clause-shut g c clean = shut_asked schema_two true _ _ (c.in_ok-number.ensures.asks clean)
+returns-in-Err-clause-shut g c clean = shut_asked g.S.StoreState true _ _ (c.in_ok-number.ensures.asks clean)
 
 pub returns-in_err-file-in-Ok-clause-shut : goal.returns-in_err-file-in-Ok-clause-shut
-returns-in_err-file-in-Ok-clause-shut g c clean = shut_asked schema_two true _ _ (c.in_ok-number.ensures.asks clean)
+returns-in_err-file-in-Ok-clause-shut g c clean = shut_asked g.S.StoreState true _ _ (c.in_ok-number.ensures.asks clean)

@@ -2,7 +2,7 @@ use Rattle.std.proofs.Common.{ℕ, List, ◌∷◌, Option, Some, refl, ap, ap�
 use Rattle.histories.specs.Legal.{first_or, most_of_source, once_read}
 use Rattle.histories.specs.declared.answers.Answer.{Answer}
 use Rattle.histories.specs.declared.answers.Answer.TheVariants.{Text}
-use Rattle.sources.specs.Outcomes.{bytes_of}
+use Rattle.byte_io.specs.Outcomes.{bytes_of}
 use Rattle.same_files.proofs.Exports.{same_annotation, same_csv, same_folded, same_source}
 use Rattle.same_files.proofs.Reports.{same_event}
 use Rattle.same_files.proofs.laws.only_the_files_matter_to_exports.Goals as goal

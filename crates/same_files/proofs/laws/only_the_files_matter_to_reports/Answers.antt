@@ -1,5 +1,5 @@
 use Rattle.std.proofs.Common.{ℕ, List, ◌∷◌, Option, Some, refl, ap₂, sym, ◌∙◌}
-use Rattle.cost_reports.specs.Functions.{function_spot}
+use Rattle.report_texts.specs.Functions.{function_spot}
 use Rattle.histories.specs.Legal.{first_or}
 use Rattle.histories.specs.declared.answers.Answer.{Answer}
 use Rattle.histories.specs.declared.answers.Answer.TheVariants.{Text}

@@ -1,8 +1,5 @@
 use Rattle.std.proofs.Common.{◌<◌, true, length, subst, arith}
-use Rattle.sql_tables.proofs.Calls.{asked_rests_yet}
-use Rattle.prof_tables.specs.Schema.{schema_two}
-use Rattle.prof_store.specs.Readings.{RowsSay}
-use Rattle.held_runs.proofs.Asking.{asked_open_then}
+use Rattle.run_stores.proofs.Calls.{asked_open_then, asked_reads_yet}
 use Rattle.selected_runs.proofs.AddedLemmas.{added_so_far}
 use Rattle.selected_runs.proofs.adding.add_runs.Goals as goal
 
@@ -14,10 +11,10 @@ loop-run-preserved g c =
     let low : at < length runs = omega arith in
     let one = c.in_ok-sums.ensures in
     record {
-      asked = λ clean. let asks = one.asks clean in asked_open_then schema_two true _ _ _ (i.asked asks.stays.was_clean) asks;
+      asked = λ clean. let asks = one.asks clean in asked_open_then g.S.StoreState true _ _ _ (i.asked asks.stays.was_faithful) asks;
       told = λ clean t stands.
-          let early = (one.asks clean).stays.was_clean in
-          let mid = asked_rests_yet schema_two (RowsSay t) _ _ (i.asked early) stands in
+          let early = (one.asks clean).stays.was_faithful in
+          let mid = asked_reads_yet g.S.StoreState t _ _ (i.asked early) stands in
           let adds = g.A.AddsRuns.Step c.args.adder.now t in
           added_so_far adds runs at c.run-item.result c.args.sums c.loop-run.sums c.in_ok-sums.sums low (i.told early t stands)
           (subst (λ r. adds r c.loop-run.sums c.in_ok-sums.sums) c.run-item.is (one.told clean t mid));

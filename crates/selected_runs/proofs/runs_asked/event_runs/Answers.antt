@@ -1,7 +1,5 @@
 use Rattle.std.proofs.Common.{◌≡◌, Ok, inl, sym, subst, rules}
-use Rattle.sql_tables.proofs.Calls.{asked_rests}
-use Rattle.prof_tables.specs.Schema.{schema_two}
-use Rattle.prof_store.specs.Readings.{RowsSay}
+use Rattle.run_stores.proofs.Calls.{asked_reads}
 use Rattle.selected_runs.specs.Counted.{AreCounted}
 use Rattle.selected_runs.specs.EventRuns.{AreEventRunsIn}
 use Rattle.selected_runs.proofs.EventLemmas.{runs_found, runs_lacking}
@@ -13,9 +11,9 @@ returns-in-Err-clause-told g c clean t stands = inl (rw c.in-Err.is at (c.in_ok-
 pub returns-then-not-have_event-clause-told : goal.returns-then-not-have_event-clause-told
 returns-then-not-have_event-clause-told g c clean t stands =
     let event = c.args.event.now in
-    let early = (c.in_ok-runs.ensures.asks clean).stays.was_clean in
+    let early = (c.in_ok-runs.ensures.asks clean).stays.was_faithful in
     let found = rw c.in-Ok.is at (c.in_ok-numbers.ensures.told early t stands) in
-    let mid = asked_rests schema_two (RowsSay t) _ _ (c.in_ok-numbers.ensures.asks early) stands in
+    let mid = asked_reads g.S.StoreState t _ _ (c.in_ok-numbers.ensures.asks early) stands in
     let numbers : c.as_slice.result.now ≡ c.in-Ok.numbers = search rules in
     let runs : c.deref.result.now ≡ c.in_ok-runs.runs.items = search rules in
     let counted = subst (λ ns. AreCounted t event ns c.in_ok-runs.runs.items) numbers (c.in_ok-runs.ensures.told clean t mid) in
@@ -24,9 +22,9 @@ returns-then-not-have_event-clause-told g c clean t stands =
 pub returns-clause-told : goal.returns-clause-told
 returns-clause-told g c clean t stands =
     let event = c.args.event.now in
-    let early = (c.in_ok-runs.ensures.asks clean).stays.was_clean in
+    let early = (c.in_ok-runs.ensures.asks clean).stays.was_faithful in
     let found = rw c.in-Ok.is at (c.in_ok-numbers.ensures.told early t stands) in
-    let mid = asked_rests schema_two (RowsSay t) _ _ (c.in_ok-numbers.ensures.asks early) stands in
+    let mid = asked_reads g.S.StoreState t _ _ (c.in_ok-numbers.ensures.asks early) stands in
     let numbers : c.as_slice.result.now ≡ c.in-Ok.numbers = search rules in
     let counted = subst (λ ns. AreCounted t event ns c.in_ok-runs.runs.items) numbers (c.in_ok-runs.ensures.told clean t mid) in
     let same : c.from_vec.result ≡ c.in_ok-runs.runs.items = search rules in

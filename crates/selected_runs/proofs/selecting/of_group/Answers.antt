@@ -1,8 +1,6 @@
 use Rattle.std.proofs.Common.{Ok, Err, if◌then◌else◌, sym, ap, ◌∙◌}
-use Rattle.prof_tables.specs.Schema.{schema_two}
-use Rattle.prof_store.specs.Readings.{RowsSay}
-use Rattle.sql_tables.proofs.Calls.{asked_rests}
-use Rattle.held_runs.specs.RunNumbers.{members_in_tables}
+use Rattle.run_stores.proofs.Calls.{asked_reads}
+use Rattle.run_stores.specs.Lookups.{members_in_tables}
 use Rattle.histories.specs.declared.answers.Refusal.TheVariants.{NoSuchGroup}
 use Rattle.selected_runs.proofs.selecting.of_group.Goals as goal
 
@@ -17,8 +15,8 @@ returns-then-not-branch-clause-told g c clean t stands =
 pub returns-clause-told : goal.returns-clause-told
 returns-clause-told g c clean t stands =
     let text = c.name_text-name.result.now in
-    let early = (c.in_ok-numbers.ensures.asks clean).stays.was_clean in
-    let mid = asked_rests schema_two (RowsSay t) _ _ (c.in_ok-has_group.ensures.asks early) stands in (
+    let early = (c.in_ok-numbers.ensures.asks clean).stays.was_faithful in
+    let mid = asked_reads g.S.StoreState t _ _ (c.in_ok-has_group.ensures.asks early) stands in (
       text,
       record { named = c.name_text-name.ensures.named; other = c.name_text-name.ensures.other },
       ap Ok (c.in_ok-numbers.ensures.told clean t mid)

@@ -1,5 +1,5 @@
 use Rattle.std.proofs.Common.{◌≡◌, Ok, Err, Some, None, refl, subst, subst₂, rules}
-use Rattle.cost_reports.specs.Functions.{function_spot}
+use Rattle.report_texts.specs.Functions.{function_spot}
 use Rattle.selected_runs.specs.EventRuns.{AreEventRunsIn}
 use Rattle.store_calls.specs.FunctionCalls.{IsCallsText}
 use Rattle.store_histories.proofs.Questions.{asked_once}
@@ -11,7 +11,7 @@ pub returns-in-Err : goal.returns-in-Err
 returns-in-Err g c clean =
     let selection = c.args.selection.now in
     let event : c.as_slice-event.result.now ≡ c.args.event.now = search rules in
-    asked_once g.S.Store _ _ (calls_are_due selection c.args.side c.args.event.now c.args.object.now c.args.function.now) _ _ _ refl (c.in_ok-runs.ensures.asks clean) (λ t stands. record {
+    asked_once g.S.StoreState _ _ (calls_are_due selection c.args.side c.args.event.now c.args.object.now c.args.function.now) _ _ _ refl (c.in_ok-runs.ensures.asks clean) (λ t stands. record {
       found = Err c.in-Err.refusal;
       is_found = subst (λ e. AreEventRunsIn t selection e (Err c.in-Err.refusal)) event (rw c.in-Err.is at (c.in_ok-runs.ensures.told clean t stands));
       answer_is = refl;
@@ -25,7 +25,7 @@ returns-in-Some g c clean =
     let object : c.as_slice-object.result.now ≡ c.args.object.now = search rules in
     let name : c.as_slice-name.result.now ≡ c.args.function.now = search rules in
     let runs : c.as_slice.result.now ≡ c.in-Ok.runs = search rules in
-    asked_twice g.S.Store _ _ (calls_are_due selection side c.args.event.now c.args.object.now c.args.function.now) _ _ _ _ refl c.in_ok-runs.ensures.asks (c.in_ok-text.ensures.asks clean) (λ t stands early mid.
+    asked_twice g.S.StoreState _ _ (calls_are_due selection side c.args.event.now c.args.object.now c.args.function.now) _ _ _ _ refl c.in_ok-runs.ensures.asks (c.in_ok-text.ensures.asks clean) (λ t stands early mid.
     let told = rw c.in-Some.is at (c.in_ok-text.ensures.told clean t mid) in
     record {
       found = Ok c.in-Ok.runs;
@@ -46,7 +46,7 @@ returns g c clean =
     let object : c.as_slice-object.result.now ≡ c.args.object.now = search rules in
     let name : c.as_slice-name.result.now ≡ c.args.function.now = search rules in
     let runs : c.as_slice.result.now ≡ c.in-Ok.runs = search rules in
-    asked_twice g.S.Store _ _ (calls_are_due selection side c.args.event.now c.args.object.now c.args.function.now) _ _ _ _ refl c.in_ok-runs.ensures.asks (c.in_ok-text.ensures.asks clean) (λ t stands early mid.
+    asked_twice g.S.StoreState _ _ (calls_are_due selection side c.args.event.now c.args.object.now c.args.function.now) _ _ _ _ refl c.in_ok-runs.ensures.asks (c.in_ok-text.ensures.asks clean) (λ t stands early mid.
     let told = rw c.in-None.is at (c.in_ok-text.ensures.told clean t mid) in
     record {
       found = Ok c.in-Ok.runs;

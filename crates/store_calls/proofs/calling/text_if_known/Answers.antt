@@ -1,5 +1,5 @@
 use Rattle.std.proofs.Common.{Some, None, if◌then◌else◌, sym, ap, ◌∙◌}
-use Rattle.cost_reports.specs.Calls.{call_report_of, call_report_text}
+use Rattle.report_texts.specs.Calls.{call_report_of, call_report_text}
 use Rattle.store_calls.specs.FunctionCalls.{taken_of}
 use Rattle.store_calls.proofs.calling.text_if_known.Goals as goal
 

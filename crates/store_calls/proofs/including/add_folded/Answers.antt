@@ -1,5 +1,5 @@
 use Rattle.std.proofs.Common.{map, refl, ap, ◌∙◌}
-use Rattle.cost_reports.specs.Inclusive.{OfStack}
+use Rattle.report_texts.specs.Inclusive.{OfStack}
 use Rattle.prof_books.specs.Book.{stacks_held}
 use Rattle.store_calls.proofs.InclusiveLemmas.{stacks_taken}
 use Rattle.store_calls.proofs.including.add_folded.Goals as goal

@@ -1,5 +1,5 @@
 use Rattle.std.proofs.Common.{◌≡◌, subst}
-use Rattle.cost_reports.specs.Inclusive.{no_costs}
+use Rattle.report_texts.specs.Inclusive.{no_costs}
 use Rattle.store_calls.specs.InclusiveRuns.{Adds, AreRowsOfRuns}
 use Rattle.store_calls.proofs.InclusiveLemmas.{rows_added}
 use Rattle.store_calls.proofs.including.text_of_runs.Goals as goal

@@ -1,10 +1,8 @@
 use Rattle.std.proofs.Common.{false, fold, ap, ◌∙◌}
-use Rattle.sql_tables.proofs.Calls.{asked_rests_yet}
-use Rattle.cost_reports.specs.Functions.{function_spot}
-use Rattle.held_runs.proofs.RowSteps.{cells_come}
+use Rattle.run_stores.proofs.Calls.{asked_reads_yet}
+use Rattle.report_texts.specs.Functions.{function_spot}
+use Rattle.run_stores.proofs.Walks.{cells_come}
 use Rattle.prof_books.specs.Book.{cells_held, stacks_held}
-use Rattle.prof_tables.specs.Schema.{schema_two}
-use Rattle.prof_store.specs.Readings.{RowsSay}
 use Rattle.store_calls.specs.FunctionCalls.{is_in_cells, with_stack_sought}
 use Rattle.store_calls.proofs.FunctionLemmas.{cells_sought, stacks_sought}
 use Rattle.store_calls.proofs.known_names.is_in_run.Goals as goal
@@ -14,10 +12,10 @@ returns-clause-told g c clean t stands named =
     let f = function_spot c.args.object.now c.args.name.now in
     let cells = cells_held c.args.run.now.number t in
     let stacks = stacks_held c.args.run.now.number t in
-    let early = (c.in_ok-all.ensures.asks clean).stays.was_clean in
+    let early = (c.in_ok-all.ensures.asks clean).stays.was_faithful in
     let found = cells_come _ _ _ _ c.args.run.now.number t _ (c.in_ok-cells.ensures.told early t stands) named ∙ cells_sought f false cells in
-    let mid = asked_rests_yet schema_two (RowsSay t) _ _ (c.in_ok-cells.ensures.asks early) stands in
+    let mid = asked_reads_yet g.S.StoreState t _ _ (c.in_ok-cells.ensures.asks early) stands in
     ap (λ m. m.1) (c.in_ok-all.ensures.told clean t mid ∙ ap (λ m. fold with_stack_sought m stacks) found ∙ stacks_sought f (is_in_cells f cells) stacks)
 
 pub returns-clause-of_events : goal.returns-clause-of_events
-returns-clause-of_events g c clean t stands = (c.in_ok-cells.ensures.told (c.in_ok-all.ensures.asks clean).stays.was_clean t stands).of_events
+returns-clause-of_events g c clean t stands = (c.in_ok-cells.ensures.told (c.in_ok-all.ensures.asks clean).stays.was_faithful t stands).of_events

@@ -1,5 +1,5 @@
 use Rattle.std.proofs.Common.{false}
-use Rattle.cost_reports.specs.Functions.{function_spot}
+use Rattle.report_texts.specs.Functions.{function_spot}
 use Rattle.store_histories.proofs.Questions.{if_ok_so}
 use Rattle.store_calls.specs.FunctionCalls.{is_in_rows}
 use Rattle.store_calls.proofs.FunctionLemmas.{seen_added}

@@ -1,11 +1,10 @@
 use Rattle.std.proofs.Common.{inl, refl, ap, sym, subst, subst₂}
-use Rattle.sql_tables.proofs.Calls.{changed_none, shut_none}
-use Rattle.prof_tables.specs.Labels.{IsGroupName}
-use Rattle.prof_tables.specs.Schema.{schema_two}
-use Rattle.prof_store.specs.Shown.{shown}
+use Rattle.run_stores.proofs.Calls.{changed_none, shut_none}
+use Rattle.plain_tables.specs.Labels.{IsGroupName}
 use Rattle.histories.specs.Legal.{IsLegal}
 use Rattle.histories.specs.declared.answers.Answer.TheVariants.{Refused}
-use Rattle.store_histories.specs.Answered.{Answers, TellsHistory, Follows}
+use Rattle.histories.specs.Stands.{TablesTell}
+use Rattle.store_histories.specs.Answered.{Answers, Follows}
 use Rattle.store_histories.specs.FromTables.{WasChangedIn}
 use Rattle.store_histories.proofs.Questions.{or_failed}
 use Rattle.store_histories.proofs.Settled.{closes_for, settled, turns_answer, untouched}
@@ -21,15 +20,15 @@ returns-in-Some g c = record {
       let name = c.in-Some.name.now in
       let said = change_said how name in
       let turned = c.change_group.ensures.turns clean in
-      subst (λ l. Answers g.S.Store limits (change_said how l) c.answer_of.result c.args.store.now c.change_group.new.store) c.in-Some.ensures.0
-      (subst (λ a. Answers g.S.Store limits said a c.args.store.now c.change_group.new.store) (sym c.answer_of.ensures) (record {
-        turned = turns_answer limits said c.change_group.result _ _ turned;
-        answered = λ h has. settled g.S.Store limits h said c.args.store.now c.change_group.new.store has c.change_group.result (change_form how name (subst IsGroupName (sym c.in-Some.ensures.0) c.in-Some.ensures.1)) (c.change_group.ensures.answered clean h) turned;
-        closes = closes_for c.change_group.result _ _ turned.stays;
+      subst (λ l. Answers g.S.StoreState limits (change_said how l) c.answer_of.result c.args.store.now c.change_group.new.store) c.in-Some.ensures.0
+      (subst (λ a. Answers g.S.StoreState limits said a c.args.store.now c.change_group.new.store) (sym c.answer_of.ensures) (record {
+        turned = turns_answer g.S.StoreState limits said c.change_group.result _ _ turned;
+        answered = λ h has. settled g.S.StoreState limits h said c.args.store.now c.change_group.new.store has c.change_group.result (change_form how name (subst IsGroupName (sym c.in-Some.ensures.0) c.in-Some.ensures.1)) (c.change_group.ensures.answered clean h) turned;
+        closes = closes_for g.S.StoreState c.change_group.result _ _ turned.stays;
         shut = c.change_group.ensures.shut clean;
       }));
   found = λ named.
-      subst₂ (λ l a. WasChangedIn g.S.Store (GroupsIn c.args.limits c.args.change l) a c.args.store.now c.change_group.new.store) c.in-Some.ensures.0 (sym c.answer_of.ensures) (record {
+      subst₂ (λ l a. WasChangedIn g.S.StoreState (GroupsIn c.args.limits c.args.change l) a c.args.store.now c.change_group.new.store) c.in-Some.ensures.0 (sym c.answer_of.ensures) (record {
         told = λ clean t was. or_failed _ c.change_group.result (c.change_group.ensures.told clean t was);
         made = λ clean t stands. or_failed _ c.change_group.result (c.change_group.ensures.made clean t stands);
       });
@@ -44,11 +43,11 @@ returns-in-None g c = record {
       let name = c.args.name.now in
       let said = change_said how name in
       record {
-        turned = changed_none schema_two TellsHistory (Follows limits said) (shown g.S.Store c.args.store.now) clean;
-        answered = λ h has. untouched g.S.Store limits h said c.args.store.now has clean (Refused c.unnamed.result) tt
+        turned = changed_none g.S.StoreState TablesTell (Follows limits said) c.args.store.now clean;
+        answered = λ h has. untouched g.S.StoreState limits h said c.args.store.now has clean (Refused c.unnamed.result) tt
             (subst (λ r. IsLegal limits h said (Refused r)) (sym c.unnamed.ensures) (unnamed_legal limits h how name has.legal c.in-None.ensures));
         closes = λ usable. inl usable;
-        shut = shut_none (shown g.S.Store c.args.store.now);
+        shut = shut_none g.S.StoreState c.args.store.now;
       };
   found = λ named. absurd (c.in-None.ensures named);
   unnamed = λ none. (ap Refused c.unnamed.ensures, refl);

@@ -12,13 +12,13 @@ returns g c = record {
   answered = λ limits clean.
       let said = Remove c.args.number in
       let turned = c.remove.ensures.turns limits clean in
-      subst (λ a. Answers g.S.Store limits said a c.args.store.now c.remove.new.store) (sym c.answer_of.ensures) (record {
-        turned = turns_answer limits said c.remove.result _ _ turned;
-        answered = λ h has. settled g.S.Store limits h said c.args.store.now c.remove.new.store has c.remove.result tt (c.remove.ensures.answered clean limits h) turned;
-        closes = closes_for c.remove.result _ _ turned.stays;
+      subst (λ a. Answers g.S.StoreState limits said a c.args.store.now c.remove.new.store) (sym c.answer_of.ensures) (record {
+        turned = turns_answer g.S.StoreState limits said c.remove.result _ _ turned;
+        answered = λ h has. settled g.S.StoreState limits h said c.args.store.now c.remove.new.store has c.remove.result tt (c.remove.ensures.answered clean limits h) turned;
+        closes = closes_for g.S.StoreState c.remove.result _ _ turned.stays;
         shut = c.remove.ensures.shut clean;
       });
   found =
-      subst (λ a. WasChangedIn g.S.Store (RemovesIn c.args.number) a c.args.store.now c.remove.new.store) (sym c.answer_of.ensures)
+      subst (λ a. WasChangedIn g.S.StoreState (RemovesIn c.args.number) a c.args.store.now c.remove.new.store) (sym c.answer_of.ensures)
       (record { told = λ clean t was. or_failed _ c.remove.result (c.remove.ensures.told clean t was); made = λ clean t stands. or_failed _ c.remove.result (c.remove.ensures.made clean t stands) });
 }

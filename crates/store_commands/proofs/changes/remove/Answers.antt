@@ -1,88 +1,85 @@
 use Rattle.std.specs.Bool.{⊤}
 use Rattle.std.proofs.Common.{◌≡◌, true, false, sym, ap, ◌∙◌}
-use Rattle.sql_tables.proofs.Calls.{asked_rests, changed_asked, shut_answered, shut_asked}
-use Rattle.prof_tables.specs.Changes as tables
-use Rattle.prof_tables.specs.Changes.{without_run}
-use Rattle.prof_tables.specs.Schema.{schema_two}
-use Rattle.prof_tables.specs.Tables.{Holds}
-use Rattle.prof_store.specs.Shown.{shown}
+use Rattle.run_stores.proofs.Calls.{asked_stands, changed_asked, shut_answered, shut_asked}
+use Rattle.plain_tables.specs.Changes as tables
+use Rattle.plain_tables.specs.Changes.{without_run}
 use Rattle.histories.specs.History.{Remove}
 use Rattle.histories.specs.Legal.{has_run}
 use Rattle.histories.specs.declared.answers.Answer.TheVariants.{Refused}
 use Rattle.histories.specs.declared.answers.Refusal.TheVariants.{NoSuchRun}
 use Rattle.histories.proofs.Steps.{tell_removed}
 use Rattle.histories.proofs.Tells.{tells_run}
-use Rattle.store_histories.specs.Answered.{TellsHistory, Follows}
+use Rattle.histories.specs.Stands.{TablesTell}
+use Rattle.store_histories.specs.Answered.{Follows}
 use Rattle.store_histories.specs.Refusals.{missing_of}
 use Rattle.store_histories.proofs.After.{turns_after, done_after}
 use Rattle.store_histories.proofs.Due.{was_still}
 use Rattle.store_histories.proofs.Settled.{turns_err}
 use Rattle.store_commands.proofs.Dues.{changed_in, done_in, refused_in, remove_due, due_if_run, stays_in}
-use Rattle.prof_store.proofs.Told.{rests_said}
 use Rattle.store_commands.proofs.changes.remove.Goals as goal
 
 pub returns-in_err-has_run-clause-turns : goal.returns-in_err-has_run-clause-turns
 returns-in_err-has_run-clause-turns g c limits clean =
-    turns_err limits (Remove c.args.number) c.from_residual.result _ _ c.from_residual.ensures.0 (changed_asked schema_two TellsHistory (Follows limits (Remove c.args.number)) false _ _ (c.in_err-has_run.ensures.asks clean))
+    turns_err g.S.StoreState limits (Remove c.args.number) c.from_residual.result _ _ c.from_residual.ensures.0 (changed_asked g.S.StoreState TablesTell (Follows limits (Remove c.args.number)) false _ _ (c.in_err-has_run.ensures.asks clean))
 
 pub returns-then-not-branch-clause-answered : goal.returns-then-not-branch-clause-answered
 returns-then-not-branch-clause-answered g c clean limits h s =
-    let is : has_run h c.args.number ≡ false = sym (tells_run h s.t s.tells c.args.number) ∙ sym (c.in_ok-has_run.ensures.told clean s.t (rests_said s.t _ s.stands)) ∙ c.if-not-branch.true in
-    was_still limits h (Remove c.args.number) tt g.S.Store c.args.store.now c.has_run.new.self (Refused NoSuchRun) tt (remove_due limits h c.args.number false is) s (asked_rests schema_two (Holds s.t) _ _ (c.in_ok-has_run.ensures.asks clean) s.stands)
+    let is : has_run h c.args.number ≡ false = sym (tells_run h s.t s.tells c.args.number) ∙ sym (c.in_ok-has_run.ensures.told clean s.t (g.S.StoreState.said s.t _ s.stands)) ∙ c.if-not-branch.true in
+    was_still limits h (Remove c.args.number) tt g.S.StoreState c.args.store.now c.has_run.new.self (Refused NoSuchRun) tt (remove_due limits h c.args.number false is) s (asked_stands g.S.StoreState s.t _ _ (c.in_ok-has_run.ensures.asks clean) s.stands)
 
 pub returns-then-not-branch-clause-turns : goal.returns-then-not-branch-clause-turns
-returns-then-not-branch-clause-turns g c limits clean = changed_asked schema_two TellsHistory (Follows limits (Remove c.args.number)) true _ _ (c.in_ok-has_run.ensures.asks clean)
+returns-then-not-branch-clause-turns g c limits clean = changed_asked g.S.StoreState TablesTell (Follows limits (Remove c.args.number)) true _ _ (c.in_ok-has_run.ensures.asks clean)
 
 pub returns-in_err-drop_run-clause-turns : goal.returns-in_err-drop_run-clause-turns
 returns-in_err-drop_run-clause-turns g c limits clean =
     let n = c.args.number in
     let two = c.in_err-drop_run.ensures.changes clean in
-    let early = two.stays.was_clean in
-    turns_err limits (Remove n) c.from_residual-in_err-drop_run.result _ _ c.from_residual-in_err-drop_run.ensures.0
-    (turns_after limits (Remove n) tt (λ t. tables.has_run t n ≡ true) (without_run n) (λ h t. due_if_run limits h n t) (λ h t. tell_removed limits h n t) g.S.Store c.args.store.now c.has_run.new.self c.drop_run.new.self
+    let early = two.stays.was_faithful in
+    turns_err g.S.StoreState limits (Remove n) c.from_residual-in_err-drop_run.result _ _ c.from_residual-in_err-drop_run.ensures.0
+    (turns_after limits (Remove n) tt (λ t. tables.has_run t n ≡ true) (without_run n) (λ h t. due_if_run limits h n t) (λ h t. tell_removed limits h n t) g.S.StoreState c.args.store.now c.has_run.new.self c.drop_run.new.self
     (c.in_ok-has_run.ensures.asks early) (λ t was. sym (c.in_ok-has_run.ensures.told early t was) ∙ c.if-not-branch.false) false false two)
 
 pub returns-clause-answered : goal.returns-clause-answered
 returns-clause-answered g c clean limits h s =
     let n = c.args.number in
     let two = c.in_ok-drop_run.ensures.changes clean in
-    let early = two.stays.was_clean in
-    done_after limits (Remove n) tt (λ t. tables.has_run t n ≡ true) (without_run n) (λ h t. due_if_run limits h n t) (λ h t. tell_removed limits h n t) g.S.Store c.args.store.now c.has_run.new.self c.drop_run.new.self
+    let early = two.stays.was_faithful in
+    done_after limits (Remove n) tt (λ t. tables.has_run t n ≡ true) (without_run n) (λ h t. due_if_run limits h n t) (λ h t. tell_removed limits h n t) g.S.StoreState c.args.store.now c.has_run.new.self c.drop_run.new.self
     (c.in_ok-has_run.ensures.asks early) (λ t was. sym (c.in_ok-has_run.ensures.told early t was) ∙ c.if-not-branch.false) h s true two
 
 pub returns-clause-turns : goal.returns-clause-turns
 returns-clause-turns g c limits clean =
     let n = c.args.number in
     let two = c.in_ok-drop_run.ensures.changes clean in
-    let early = two.stays.was_clean in
-    turns_after limits (Remove n) tt (λ t. tables.has_run t n ≡ true) (without_run n) (λ h t. due_if_run limits h n t) (λ h t. tell_removed limits h n t) g.S.Store c.args.store.now c.has_run.new.self c.drop_run.new.self
+    let early = two.stays.was_faithful in
+    turns_after limits (Remove n) tt (λ t. tables.has_run t n ≡ true) (without_run n) (λ h t. due_if_run limits h n t) (λ h t. tell_removed limits h n t) g.S.StoreState c.args.store.now c.has_run.new.self c.drop_run.new.self
     (c.in_ok-has_run.ensures.asks early) (λ t was. sym (c.in_ok-has_run.ensures.told early t was) ∙ c.if-not-branch.false) true true two
 
 pub returns-then-not-branch-clause-made : goal.returns-then-not-branch-clause-made
 returns-then-not-branch-clause-made g c clean t stands =
-    let is : tables.has_run t c.args.number ≡ false = sym (c.in_ok-has_run.ensures.told clean t (rests_said t _ stands)) ∙ c.if-not-branch.true in
-    stays_in g.S.Store t c.args.store.now c.has_run.new.self c.has_run.new.self (c.in_ok-has_run.ensures.asks clean) stands NoSuchRun (missing_of true (tables.has_run t c.args.number)) (without_run c.args.number) (ap (missing_of true) is)
+    let is : tables.has_run t c.args.number ≡ false = sym (c.in_ok-has_run.ensures.told clean t (g.S.StoreState.said t _ stands)) ∙ c.if-not-branch.true in
+    stays_in g.S.StoreState t c.args.store.now c.has_run.new.self c.has_run.new.self (c.in_ok-has_run.ensures.asks clean) stands NoSuchRun (missing_of true (tables.has_run t c.args.number)) (without_run c.args.number) (ap (missing_of true) is)
 
 pub returns-clause-made : goal.returns-clause-made
 returns-clause-made g c clean t stands =
     let n = c.args.number in
     let two = c.in_ok-drop_run.ensures.changes clean in
-    let early = two.stays.was_clean in
-    let is : tables.has_run t n ≡ true = sym (c.in_ok-has_run.ensures.told early t (rests_said t _ stands)) ∙ c.if-not-branch.false in
-    done_in g.S.Store t c.args.store.now c.has_run.new.self c.drop_run.new.self (c.in_ok-has_run.ensures.asks early) stands (λ t. tables.has_run t n ≡ true) (missing_of true (tables.has_run t n)) (without_run n) is
+    let early = two.stays.was_faithful in
+    let is : tables.has_run t n ≡ true = sym (c.in_ok-has_run.ensures.told early t (g.S.StoreState.said t _ stands)) ∙ c.if-not-branch.false in
+    done_in g.S.StoreState t c.args.store.now c.has_run.new.self c.drop_run.new.self (c.in_ok-has_run.ensures.asks early) stands (λ t. tables.has_run t n ≡ true) (missing_of true (tables.has_run t n)) (without_run n) is
     (ap (missing_of true) is) two
 
 pub returns-in_err-has_run-clause-shut : goal.returns-in_err-has_run-clause-shut
-returns-in_err-has_run-clause-shut g c clean = shut_asked schema_two false _ _ (c.in_err-has_run.ensures.asks clean)
+returns-in_err-has_run-clause-shut g c clean = shut_asked g.S.StoreState false _ _ (c.in_err-has_run.ensures.asks clean)
 
 pub returns-then-not-branch-clause-shut : goal.returns-then-not-branch-clause-shut
-returns-then-not-branch-clause-shut g c clean = shut_asked schema_two true _ _ (c.in_ok-has_run.ensures.asks clean)
+returns-then-not-branch-clause-shut g c clean = shut_asked g.S.StoreState true _ _ (c.in_ok-has_run.ensures.asks clean)
 
 pub returns-in_err-drop_run-clause-shut : goal.returns-in_err-drop_run-clause-shut
-returns-in_err-drop_run-clause-shut g c clean = shut_answered schema_two _ _ (shown g.S.Store c.drop_run.new.self) (c.in_ok-has_run.ensures.asks (c.in_err-drop_run.ensures.changes clean).stays.was_clean)
+returns-in_err-drop_run-clause-shut g c clean = shut_answered g.S.StoreState _ _ c.drop_run.new.self (c.in_ok-has_run.ensures.asks (c.in_err-drop_run.ensures.changes clean).stays.was_faithful)
 
 pub returns-clause-shut : goal.returns-clause-shut
-returns-clause-shut g c clean = shut_answered schema_two _ _ (shown g.S.Store c.drop_run.new.self) (c.in_ok-has_run.ensures.asks (c.in_ok-drop_run.ensures.changes clean).stays.was_clean)
+returns-clause-shut g c clean = shut_answered g.S.StoreState _ _ c.drop_run.new.self (c.in_ok-has_run.ensures.asks (c.in_ok-drop_run.ensures.changes clean).stays.was_faithful)
 
 pub returns-then-not-branch-clause-told : goal.returns-then-not-branch-clause-told
 returns-then-not-branch-clause-told g c clean t was =
@@ -91,4 +88,4 @@ returns-then-not-branch-clause-told g c clean t was =
 pub returns-clause-told : goal.returns-clause-told
 returns-clause-told g c clean t was =
     changed_in (λ _. ⊤) t (missing_of true (tables.has_run t c.args.number)) (without_run c.args.number)
-    (ap (missing_of true) (sym (c.in_ok-has_run.ensures.told (c.in_ok-drop_run.ensures.changes clean).stays.was_clean t was) ∙ c.if-not-branch.false)) tt
+    (ap (missing_of true) (sym (c.in_ok-has_run.ensures.told (c.in_ok-drop_run.ensures.changes clean).stays.was_faithful t was) ∙ c.if-not-branch.false)) tt

@@ -4,4 +4,4 @@ use Rattle.store_commands.proofs.ListLemmas.{groups_are_due}
 use Rattle.store_commands.proofs.lists.groups_answer.Goals as goal
 
 pub returns : goal.returns
-returns g c clean = asked_once g.S.Store _ _ groups_are_due _ _ _ refl (c.in_ok-text.ensures.asks clean) (λ t stands. (c.in_ok-text.text, c.in_ok-text.ensures.told clean t stands, refl))
+returns g c clean = asked_once g.S.StoreState _ _ groups_are_due _ _ _ refl (c.in_ok-text.ensures.asks clean) (λ t stands. (c.in_ok-text.text, c.in_ok-text.ensures.told clean t stands, refl))

@@ -11,7 +11,7 @@ pub returns-in-Err : goal.returns-in-Err
 returns-in-Err g c clean =
     let selection = c.args.selection.now in
     let event : c.as_slice-event.result.now ≡ c.args.event.now = search rules in
-    asked_once g.S.Store _ _ (annotation_is_due selection c.args.event.now c.args.name.now c.args.source.now) _ _ _ refl (c.in_ok-runs.ensures.asks clean) (λ t stands. record {
+    asked_once g.S.StoreState _ _ (annotation_is_due selection c.args.event.now c.args.name.now c.args.source.now) _ _ _ refl (c.in_ok-runs.ensures.asks clean) (λ t stands. record {
       found = Err c.in-Err.refusal;
       is_found = subst (λ e. AreEventRunsIn t selection e (Err c.in-Err.refusal)) event (rw c.in-Err.is at (c.in_ok-runs.ensures.told clean t stands));
       answer_is = refl;
@@ -24,7 +24,7 @@ returns-in-Some g c clean =
     let name : c.as_slice-name.result.now ≡ c.args.name.now = search rules in
     let source : c.as_slice-source.result.now ≡ c.args.source.now = search rules in
     let runs : c.as_slice.result.now ≡ c.in-Ok.runs = search rules in
-    asked_twice g.S.Store _ _ (annotation_is_due selection c.args.event.now c.args.name.now c.args.source.now) _ _ _ _ refl c.in_ok-runs.ensures.asks (c.in_ok-text.ensures.asks clean) (λ t stands early mid.
+    asked_twice g.S.StoreState _ _ (annotation_is_due selection c.args.event.now c.args.name.now c.args.source.now) _ _ _ _ refl c.in_ok-runs.ensures.asks (c.in_ok-text.ensures.asks clean) (λ t stands early mid.
     let told = rw c.in-Some.is at (c.in_ok-text.ensures.told clean t mid) in
     record {
       found = Ok c.in-Ok.runs;
@@ -40,7 +40,7 @@ returns g c clean =
     let name : c.as_slice-name.result.now ≡ c.args.name.now = search rules in
     let source : c.as_slice-source.result.now ≡ c.args.source.now = search rules in
     let runs : c.as_slice.result.now ≡ c.in-Ok.runs = search rules in
-    asked_twice g.S.Store _ _ (annotation_is_due selection c.args.event.now c.args.name.now c.args.source.now) _ _ _ _ refl c.in_ok-runs.ensures.asks (c.in_ok-text.ensures.asks clean) (λ t stands early mid.
+    asked_twice g.S.StoreState _ _ (annotation_is_due selection c.args.event.now c.args.name.now c.args.source.now) _ _ _ _ refl c.in_ok-runs.ensures.asks (c.in_ok-text.ensures.asks clean) (λ t stands early mid.
     let told = rw c.in-None.is at (c.in_ok-text.ensures.told clean t mid) in
     record {
       found = Ok c.in-Ok.runs;

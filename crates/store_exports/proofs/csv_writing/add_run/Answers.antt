@@ -1,12 +1,10 @@
 use Rattle.std.proofs.Common.{◌≡◌, ℕ, List, fold, length, refl, ap, subst, ◌∙◌, rules}
 use Rattle.std.specs.List.{AllByRecursion}
-use Rattle.sql_tables.proofs.Calls.{asked_rests}
-use Rattle.prof_tables.specs.Schema.{schema_two}
-use Rattle.prof_tables.specs.RunLines.{cells_in}
-use Rattle.prof_store.specs.Readings.{RowsSay}
-use Rattle.cost_exports.specs.Csv.{with_cell_in}
-use Rattle.held_runs.specs.HeldCells.{IsOfAnEvent}
-use Rattle.held_runs.proofs.RowSteps.{cells_come}
+use Rattle.run_stores.proofs.Calls.{asked_reads}
+use Rattle.plain_tables.specs.RunLines.{cells_in}
+use Rattle.report_texts.specs.Csv.{with_cell_in}
+use Rattle.run_stores.specs.Walks.{IsOfAnEvent}
+use Rattle.run_stores.proofs.Walks.{cells_come}
 use Rattle.prof_books.specs.Book.{cells_held}
 use Rattle.store_exports.proofs.CsvLemmas.{cells_taken}
 use Rattle.store_exports.proofs.csv_writing.add_run.Goals as goal
@@ -15,8 +13,8 @@ pub returns-clause-told : goal.returns-clause-told
 returns-clause-told g c clean t stands named =
     let number = c.args.number in
     let head = c.in_ok-head.head in
-    let early = (c.in_ok-all.ensures.asks clean).stays.was_clean in
-    let mid = asked_rests schema_two (RowsSay t) _ _ (c.in_ok-head.ensures.asks early) stands in
+    let early = (c.in_ok-all.ensures.asks clean).stays.was_faithful in
+    let mid = asked_reads g.S.StoreState t _ _ (c.in_ok-head.ensures.asks early) stands in
     let cells = cells_held number t in
     let same : c.as_slice-events.result.now ≡ head.events = search rules in (
       record { events = head.events; cells = cells },
@@ -27,7 +25,7 @@ returns-clause-told g c clean t stands named =
 pub returns-clause-of_events : goal.returns-clause-of_events
 returns-clause-of_events g c clean t stands =
     let head = c.in_ok-head.head in
-    let early = (c.in_ok-all.ensures.asks clean).stays.was_clean in
-    let mid = asked_rests schema_two (RowsSay t) _ _ (c.in_ok-head.ensures.asks early) stands in
+    let early = (c.in_ok-all.ensures.asks clean).stays.was_faithful in
+    let mid = asked_reads g.S.StoreState t _ _ (c.in_ok-head.ensures.asks early) stands in
     let same : c.as_slice-events.result.now ≡ head.events = search rules in
     (head, c.in_ok-head.ensures.told early t stands, subst (λ (events : List (List ℕ)). AllByRecursion (IsOfAnEvent (length events)) (cells_in c.args.number t)) same (c.in_ok-all.ensures.told clean t mid).of_events)

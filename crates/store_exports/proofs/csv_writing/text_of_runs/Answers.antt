@@ -1,14 +1,12 @@
 use Rattle.std.proofs.Common.{fold, ap, ◌∙◌}
-use Rattle.cost_exports.specs.Csv.{with_cells}
-use Rattle.sql_tables.proofs.Calls.{asked_rests}
-use Rattle.prof_tables.specs.Schema.{schema_two}
-use Rattle.prof_store.specs.Readings.{RowsSay}
+use Rattle.report_texts.specs.Csv.{with_cells}
+use Rattle.run_stores.proofs.Calls.{asked_reads}
 use Rattle.store_exports.proofs.CsvLemmas.{cells_added}
 use Rattle.store_exports.proofs.csv_writing.text_of_runs.Goals as goal
 
 pub returns-clause-told : goal.returns-clause-told
 returns-clause-told g c clean t stands =
-    let early = (c.in_ok-sums.ensures.asks clean).stays.was_clean in
-    let mid = asked_rests schema_two (RowsSay t) _ _ (c.in_ok-names.ensures.asks early) stands in
+    let early = (c.in_ok-sums.ensures.asks clean).stays.was_faithful in
+    let mid = asked_reads g.S.StoreState t _ _ (c.in_ok-names.ensures.asks early) stands in
     let all = cells_added t (c.in_ok-names.ensures.told early t stands) c.args.numbers.now _ _ (c.in_ok-sums.ensures.told clean t mid) in
     (c.in_ok-sums.sums, (all.0, all.1, all.2 ∙ ap (λ sums. fold with_cells sums all.0) c.new.ensures), c.in_ok-csv_text.ensures)

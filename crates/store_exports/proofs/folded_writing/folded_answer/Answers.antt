@@ -7,7 +7,7 @@ use Rattle.store_exports.proofs.FoldedLemmas.{folded_is_due}
 use Rattle.store_exports.proofs.folded_writing.folded_answer.Goals as goal
 
 pub returns-in-Err : goal.returns-in-Err
-returns-in-Err g c clean = asked_once g.S.Store _ _ (folded_is_due c.args.selection.now) _ _ _ refl (c.in_ok-numbers.ensures.asks clean) (λ t stands. record {
+returns-in-Err g c clean = asked_once g.S.StoreState _ _ (folded_is_due c.args.selection.now) _ _ _ refl (c.in_ok-numbers.ensures.asks clean) (λ t stands. record {
   found = Err c.in-Err.refusal;
   is_found = rw c.in-Err.is at (c.in_ok-numbers.ensures.told clean t stands);
   answer_is = refl;
@@ -17,7 +17,7 @@ pub returns : goal.returns
 returns g c clean =
     let text = c.in_ok-text.text in
     let numbers : c.as_slice.result.now ≡ c.in-Ok.numbers = search rules in
-    asked_twice g.S.Store _ _ (folded_is_due c.args.selection.now) _ _ _ _ refl c.in_ok-numbers.ensures.asks (c.in_ok-text.ensures.asks clean) (λ t stands early mid. record {
+    asked_twice g.S.StoreState _ _ (folded_is_due c.args.selection.now) _ _ _ _ refl c.in_ok-numbers.ensures.asks (c.in_ok-text.ensures.asks clean) (λ t stands early mid. record {
       found = Ok c.in-Ok.numbers;
       is_found = rw c.in-Ok.is at (c.in_ok-numbers.ensures.told early t stands);
       answer_is = ap Text (subst (λ ns. text ≡ folded_over t ns) numbers (c.in_ok-text.ensures.told clean t mid));

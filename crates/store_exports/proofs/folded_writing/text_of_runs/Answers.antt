@@ -1,5 +1,5 @@
 use Rattle.std.proofs.Common.{fold, ap, ◌∙◌}
-use Rattle.cost_exports.specs.Folded.{folded_text, with_stack}
+use Rattle.report_texts.specs.Folded.{folded_text, with_stack}
 use Rattle.store_exports.specs.FoldedRuns.{stacks_over}
 use Rattle.store_exports.proofs.FoldedLemmas.{stacks_added}
 use Rattle.store_exports.proofs.folded_writing.text_of_runs.Goals as goal

@@ -1,5 +1,5 @@
 use Rattle.std.proofs.Common.{◌≡◌, ◌++◌, refl, ap, ◌∙◌, rules}
-use Rattle.cost_reports.specs.Verifying.{verified, verify_text}
+use Rattle.report_texts.specs.Verifying.{verified, verify_text}
 use Rattle.store_reports.proofs.checking.push_sums.Goals as goal
 
 pub returns-clause-told : goal.returns-clause-told

@@ -1,15 +1,13 @@
 use Rattle.std.proofs.Common.{Some, None, refl}
-use Rattle.sql_tables.proofs.Calls.{asked_rests}
-use Rattle.prof_tables.specs.Schema.{schema_two}
-use Rattle.prof_store.specs.Readings.{RowsSay}
+use Rattle.run_stores.proofs.Calls.{asked_reads}
 use Rattle.store_histories.proofs.Questions.{if_ok_so}
 use Rattle.store_reports.proofs.comparing.baseline_run.Goals as goal
 
 pub returns-in-Some-clause-told : goal.returns-in-Some-clause-told
 returns-in-Some-clause-told g c clean t stands =
-    let early = (c.one_run.ensures.asks clean).stays.was_clean in
+    let early = (c.one_run.ensures.asks clean).stays.was_faithful in
     let base = rw c.in-Some.is at (c.in_ok-number.ensures.told early t stands) in
-    let mid = asked_rests schema_two (RowsSay t) _ _ (c.in_ok-number.ensures.asks early) stands in
+    let mid = asked_reads g.S.StoreState t _ _ (c.in_ok-number.ensures.asks early) stands in
     if_ok_so c.one_run.result (λ found told. record {
       text = c.name_text.result.now;
       sought = record { named = c.name_text.ensures.named; other = c.name_text.ensures.other };

@@ -1,5 +1,5 @@
 use Rattle.std.proofs.Common.{ap, ◌∙◌}
-use Rattle.cost_reports.specs.Differences.{difference_of, difference_text}
+use Rattle.report_texts.specs.Differences.{difference_of, difference_text}
 use Rattle.store_reports.specs.Compared.{costs_over}
 use Rattle.store_reports.proofs.MergeLemmas.{merged_costs}
 use Rattle.store_reports.proofs.comparing.text_less_runs.Goals as goal

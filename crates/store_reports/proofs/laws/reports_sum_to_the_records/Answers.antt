@@ -1,7 +1,7 @@
 use Rattle.std.proofs.Common.{◌≡◌, ◌+◌, ◌-◌, ◌∙◌, map, arith}
 use Rattle.cost_rows.specs.KeySums.{total_of}
-use Rattle.cost_reports.specs.Costs.{all_costs, costs_by}
-use Rattle.cost_reports.specs.KeyReports.{shown}
+use Rattle.report_texts.specs.Costs.{all_costs, costs_by}
+use Rattle.report_texts.specs.KeyReports.{shown}
 use Rattle.cost_reports.proofs.CutLemmas.{shown_within}
 use Rattle.cost_reports.proofs.KeyLemmas.{total_of_rows}
 use Rattle.histories.specs.Reports.{event_records}

@@ -1,5 +1,5 @@
 use Rattle.std.proofs.Common.{ap, ◌∙◌}
-use Rattle.held_runs.proofs.RowSteps.{cells_come}
+use Rattle.run_stores.proofs.Walks.{cells_come}
 use Rattle.prof_books.specs.Book.{cells_held}
 use Rattle.store_reports.proofs.MergeLemmas.{cells_taken}
 use Rattle.store_reports.proofs.merging.add_cells.Goals as goal

@@ -1,11 +1,9 @@
-use Rattle.sql_tables.proofs.Calls.{asked_rests}
-use Rattle.prof_tables.specs.Schema.{schema_two}
-use Rattle.prof_store.specs.Readings.{RowsSay}
+use Rattle.run_stores.proofs.Calls.{asked_reads}
 use Rattle.store_histories.proofs.Questions.{if_ok_so}
 use Rattle.store_reports.proofs.reporting.report_text.Goals as goal
 
 pub returns-clause-told : goal.returns-clause-told
 returns-clause-told g c clean t stands =
-    let early = (c.text_of_runs.ensures.asks clean).stays.was_clean in
-    let mid = asked_rests schema_two (RowsSay t) _ _ (c.in_ok-names.ensures.asks early) stands in
+    let early = (c.text_of_runs.ensures.asks clean).stays.was_faithful in
+    let mid = asked_reads g.S.StoreState t _ _ (c.in_ok-names.ensures.asks early) stands in
     if_ok_so c.text_of_runs.result (λ _ told. told (c.in_ok-names.ensures.told early t stands)) (c.text_of_runs.ensures.told clean t mid)

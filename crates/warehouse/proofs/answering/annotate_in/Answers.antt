@@ -1,5 +1,5 @@
 use Rattle.std.proofs.Common.{◌≡◌, inl, inr, refl, sym, subst, subst₂, ◌∙◌}
-use Rattle.sources.specs.Outcomes.{bytes_of}
+use Rattle.byte_io.specs.Outcomes.{bytes_of}
 use Rattle.histories.specs.History.{Annotate}
 use Rattle.histories.specs.Legal.{expected_of_query, most_of_source}
 use Rattle.histories.specs.declared.answers.Query.TheVariants as queries
@@ -25,10 +25,10 @@ returns-in-Ok g c = record {
         outcomes = read.outcomes;
         came = read.came;
         answers = λ clean.
-            let asked = subst (λ x. WasAsked g.S.Store (λ t. IsAnnotated t s c.args.event c.args.file x) (queries.Annotate s c.args.event c.args.file x) c.annotate_answer.result c.args.store.now c.annotate_answer.new.store)
+            let asked = subst (λ x. WasAsked g.S.StoreState (λ t. IsAnnotated t s c.args.event c.args.file x) (queries.Annotate s c.args.event c.args.file x) c.annotate_answer.result c.args.store.now c.annotate_answer.new.store)
             text (c.annotate_answer.ensures clean) in
-            subst (λ a. Answers g.S.Store limits said a c.args.store.now c.annotate_answer.new.store) (sym c.answer_of.ensures)
-            (answered_as g.S.Store limits (λ t. IsAnnotated t s c.args.event c.args.file bytes) query said tt (λ h. ended_due most_of_source read.outcomes (expected_of_query h query) ended.reads.within ended.reads.unfailed ended.ended)
+            subst (λ a. Answers g.S.StoreState limits said a c.args.store.now c.annotate_answer.new.store) (sym c.answer_of.ensures)
+            (answered_as g.S.StoreState limits (λ t. IsAnnotated t s c.args.event c.args.file bytes) query said tt (λ h. ended_due most_of_source read.outcomes (expected_of_query h query) ended.reads.within ended.reads.unfailed ended.ended)
             c.args.store.now c.annotate_answer.new.store c.annotate_answer.result asked);
       };
   found =
@@ -54,8 +54,8 @@ returns g c = record {
       record {
         outcomes = read.outcomes;
         came = read.came;
-        answers = λ clean. subst (λ a. Answers g.S.Store limits said a c.args.store.now c.args.store.now) (sym c.unread_answer.ensures)
-            (unread_answered limits said tt most_of_source read.outcomes (λ h. expected_of_query h (queries.Annotate s c.args.event c.args.file (bytes_of read.outcomes))) (λ h. refl) g.S.Store c.args.store.now clean c.in-Err.unread read.read);
+        answers = λ clean. subst (λ a. Answers g.S.StoreState limits said a c.args.store.now c.args.store.now) (sym c.unread_answer.ensures)
+            (unread_answered limits said tt most_of_source read.outcomes (λ h. expected_of_query h (queries.Annotate s c.args.event c.args.file (bytes_of read.outcomes))) (λ h. refl) g.S.StoreState c.args.store.now clean c.in-Err.unread read.read);
       };
   found =
       let read = c.in-Err.ensures in

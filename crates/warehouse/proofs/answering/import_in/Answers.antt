@@ -3,10 +3,9 @@ use Rattle.histories.specs.Formats.{today}
 use Rattle.histories.specs.History.{Import}
 use Rattle.histories.specs.declared.answers.Answer.TheVariants.{Refused}
 use Rattle.histories.specs.declared.answers.Refusal.TheVariants.{BadName}
-use Rattle.sql_tables.proofs.Calls.{changed_none, shut_none}
-use Rattle.prof_tables.specs.Schema.{schema_two}
-use Rattle.prof_store.specs.Shown.{shown}
-use Rattle.store_histories.specs.Answered.{TellsHistory, Follows}
+use Rattle.run_stores.proofs.Calls.{changed_none, shut_none}
+use Rattle.histories.specs.Stands.{TablesTell}
+use Rattle.store_histories.specs.Answered.{Follows}
 use Rattle.store_histories.proofs.Settled.{untouched, bad_name}
 use Rattle.warehouse.proofs.answering.import_in.Goals as goal
 
@@ -19,10 +18,10 @@ returns-in-None g c = record {
         outcomes = [];
         came = refl;
         answers = λ clean. record {
-          turned = changed_none schema_two TellsHistory (Follows limits said) (shown g.S.Store c.args.store.now) clean;
-          answered = λ h has. untouched g.S.Store limits h said c.args.store.now has clean (Refused BadName) tt (bad_name limits h said c.in-None.ensures refl);
+          turned = changed_none g.S.StoreState TablesTell (Follows limits said) c.args.store.now clean;
+          answered = λ h has. untouched g.S.StoreState limits h said c.args.store.now has clean (Refused BadName) tt (bad_name limits h said c.in-None.ensures refl);
           closes = λ usable. inl usable;
-          shut = shut_none (shown g.S.Store c.args.store.now);
+          shut = shut_none g.S.StoreState c.args.store.now;
         };
       };
   found = record { outcomes = []; came = refl; answered = inl (c.in-None.ensures, refl, refl) };

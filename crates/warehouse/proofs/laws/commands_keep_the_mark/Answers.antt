@@ -3,7 +3,7 @@ use Rattle.std.specs.List.{AllByRecursion}
 use Rattle.callgrind_reader.specs.Grammars.{Second}
 use Rattle.profile_records.specs.declared.kinds.Kind.{Kind}
 use Rattle.profile_records.specs.declared.kinds.Kind.TheVariants as kinds
-use Rattle.sources.specs.Outcomes.{Outcome}
+use Rattle.byte_io.specs.Outcomes.{Outcome}
 use Rattle.histories.specs.Formats.{today}
 use Rattle.histories.specs.History.{Said, Import, History}
 use Rattle.histories.specs.Marks.{AreBy, IsBy}

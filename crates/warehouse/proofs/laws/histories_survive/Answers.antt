@@ -1,5 +1,5 @@
 use Rattle.histories.proofs.Steps.{tell_nothing}
-use Rattle.prof_tables.specs.Tables.{new_tables}
+use Rattle.plain_tables.specs.Tables.{new_tables}
 use Rattle.warehouse.proofs.laws.histories_survive.Goals as goal
 
 pub returns-clause-new : goal.returns-clause-new
@@ -15,9 +15,8 @@ returns-clause-opened g c h t store tells stands = record {
 }
 
 pub returns-clause-survives : goal.returns-clause-survives
-returns-clause-survives g c h store has usable db may =
-    let is = has.stands usable in (is.t, c.what_stands_survives.ensures.second is.t store is.stands db may, is.tells)
+returns-clause-survives g c h store has usable left may = let is = has.stands usable in record { t = is.t; holds = is.tells; is = g.met.S.RunStore.survives is.t store left is.stands may }
 
 pub returns-clause-durable : goal.returns-clause-durable
-returns-clause-durable g c limits said answer h old new answered accepted has db may =
-    let is = (answered.answered h has).after.stands (answered.turned.stays.is_open accepted) in record { t = is.t; holds = c.what_stands_survives.ensures.second is.t new is.stands db may; tells = is.tells }
+returns-clause-durable g c limits said answer h old new answered accepted has left may =
+    let is = (answered.answered h has).after.stands (answered.turned.stays.is_usable accepted) in record { t = is.t; holds = is.tells; is = g.met.S.RunStore.survives is.t new left is.stands may }

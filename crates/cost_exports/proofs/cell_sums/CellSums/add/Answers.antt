@@ -1,7 +1,7 @@
 use Rattle.std.proofs.Common.{List, ℕ, ap, ◌∙◌, arith}
 use Rattle.cost_rows.specs.Plain.{plain_cell}
-use Rattle.cost_exports.specs.Amounts.{amount_of}
-use Rattle.cost_exports.specs.Csv.{EventSpot}
+use Rattle.report_texts.specs.Amounts.{amount_of}
+use Rattle.report_texts.specs.Csv.{EventSpot}
 use Rattle.cost_exports.specs.Views.{held_line, names_of_row, spot_with, sums_in}
 use Rattle.cost_exports.proofs.AmountLemmas.{amount-merge}
 use Rattle.cost_exports.proofs.SpreadLemmas.{event_spot-apart}

@@ -4,7 +4,7 @@ use Rattle.cost_rows.specs.Merging.{merge}
 use Rattle.cost_rows.specs.Stacks.{counts_added}
 use Rattle.cost_reports.proofs.WrittenLemmas.{seen-new, seen-written}
 use Rattle.cost_rows.proofs.SeenLemmas.{held-least, key_cmp, seen-lookup}
-use Rattle.cost_exports.specs.Amounts.{amount_of}
+use Rattle.report_texts.specs.Amounts.{amount_of}
 use Rattle.cost_exports.specs.Views.{LineEvent, held_line, held_lines, line_cmp}
 use Rattle.cost_exports.proofs.SpreadLemmas.{line-total}
 use Rattle.cost_exports.proofs.line_costs.LineCosts.add.Goals as goal

@@ -1,5 +1,5 @@
 use Rattle.std.proofs.Common.{unwrap_or, ap, ◌∙◌}
-use Rattle.cost_exports.specs.Annotations.{FileCosts, cost_at}
+use Rattle.report_texts.specs.Annotations.{FileCosts, cost_at}
 use Rattle.cost_exports.proofs.LineLemmas.{cost-found}
 use Rattle.cost_exports.proofs.line_sums.LineSums.cost_at.Goals as goal
 

@@ -2,8 +2,8 @@ use Rattle.std.proofs.Common.{◌≡◌, ℕ, ◌<◌, List, Some, length, slice
 use Rattle.std.proofs.lemmas.List.{with_items_is}
 use Rattle.cost_rows.specs.Merging.{merge}
 use Rattle.cost_rows.specs.Stacks.{counts_added}
-use Rattle.cost_exports.specs.Amounts.{amount_of}
-use Rattle.cost_exports.specs.Csv.{event_spot_cmp}
+use Rattle.report_texts.specs.Amounts.{amount_of}
+use Rattle.report_texts.specs.Csv.{event_spot_cmp}
 use Rattle.cost_exports.specs.Views.{LineEvent, PlaceNames, Slotted, held_line, held_slots, line_cmp, slot_of, spot_with, spread, sums_in, with_lines}
 use Rattle.cost_exports.proofs.AmountLemmas.{on_ok_more}
 use Rattle.cost_exports.proofs.SlotLemmas.{slot-in_range, slot-least, slot-raised}

@@ -1,6 +1,6 @@
 use Rattle.std.proofs.Common.{◌≡◌, ap, arith}
 use Rattle.cost_rows.specs.KeySums.{total_of}
-use Rattle.cost_reports.specs.Inclusive.{InclusiveCosts, names_costs}
+use Rattle.report_texts.specs.Inclusive.{InclusiveCosts, names_costs}
 use Rattle.cost_reports.proofs.FrameLemmas.{total_in}
 use Rattle.cost_reports.proofs.inclusives.InclusiveSums.add_stack.Goals as goal
 

@@ -1,5 +1,5 @@
 use Rattle.std.proofs.Common.{◌≡◌, ◌≤◌, List, ℕ, [], Some, length, sym, ap, subst, subst₂, ◌∙◌}
-use Rattle.store_columns.specs.Lines.{arc_line}
+use Rattle.store_schema.specs.Lines.{arc_line}
 use Rattle.held_runs.specs.HeldArcs.{HasTakenCalls, lines_from}
 use Rattle.held_runs.proofs.ArcRows.{row_handed}
 use Rattle.held_runs.proofs.WalkSteps.{on_ok_then}

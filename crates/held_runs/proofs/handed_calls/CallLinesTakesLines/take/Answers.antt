@@ -1,6 +1,6 @@
 use Rattle.std.proofs.Common.{◌≤◌, ◌++◌, ◌∷◌, [], List, length, Result, Ok, Err, OnOk, Some, sym, subst, subst₂, ◌∙◌}
-use Rattle.prof_tables.specs.Tables.{NameLine}
-use Rattle.store_columns.specs.Lines.{arc_line}
+use Rattle.plain_tables.specs.Tables.{NameLine}
+use Rattle.store_schema.specs.Lines.{arc_line}
 use Rattle.held_runs.specs.HeldArcs.{HasTakenCalls}
 use Rattle.held_runs.proofs.ArcRows.{part_taken, row_begun}
 use Rattle.held_runs.proofs.handed_calls.CallLinesTakesLines.take.Goals as goal

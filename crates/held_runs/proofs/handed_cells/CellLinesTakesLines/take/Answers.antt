@@ -1,8 +1,8 @@
 use Rattle.std.proofs.Common.{◌≡◌, ◌<◌, List, subst}
 use Rattle.cost_rows.specs.Plain.{plain_cell}
 use Rattle.prof_books.specs.Book.{cell_held, CellIsNamed}
-use Rattle.prof_tables.specs.Tables.{NameLine}
-use Rattle.store_columns.specs.Lines.{cell_line}
+use Rattle.plain_tables.specs.Tables.{NameLine}
+use Rattle.store_schema.specs.Lines.{cell_line}
 use Rattle.held_runs.proofs.RowSteps.{one_cell}
 use Rattle.held_runs.proofs.WalkSteps.{on_ok_then}
 use Rattle.held_runs.proofs.handed_cells.CellLinesTakesLines.take.Goals as goal

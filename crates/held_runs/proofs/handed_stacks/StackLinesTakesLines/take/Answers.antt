@@ -1,5 +1,5 @@
 use Rattle.prof_books.specs.Book.{stack_held}
-use Rattle.store_columns.specs.Lines.{held_stack}
+use Rattle.store_schema.specs.Lines.{held_stack}
 use Rattle.held_runs.proofs.RowSteps.{comes_more}
 use Rattle.held_runs.proofs.WalkSteps.{on_ok_then}
 use Rattle.held_runs.proofs.handed_stacks.StackLinesTakesLines.take.Goals as goal

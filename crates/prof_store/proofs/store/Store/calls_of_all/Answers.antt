@@ -1,10 +1,10 @@
 use Rattle.std.proofs.Common.{refl, subst}
-use Rattle.prof_tables.specs.Seen.{calls_seen}
-use Rattle.prof_tables.proofs.Means.{call_counts_plain}
-use Rattle.prof_tables.proofs.Lists.{calls_listed}
+use Rattle.store_schema.specs.Seen.{calls_seen}
+use Rattle.store_schema.proofs.Means.{call_counts_plain}
+use Rattle.store_schema.proofs.Lists.{calls_listed}
 use Rattle.prof_store.specs.Totals.{IsSum}
 use Rattle.prof_store.proofs.HeldSums.{sum_permuted, sum_seen}
-use Rattle.prof_tables.specs.Schema.{schema_two}
+use Rattle.store_schema.specs.Schema.{schema_two}
 use Rattle.sql_tables.proofs.Calls.{asked_err, asked_if}
 use Rattle.prof_store.proofs.Told.{count_told, said}
 use Rattle.prof_store.proofs.store.Store.calls_of_all.Goals as goal

@@ -1,10 +1,10 @@
 use Rattle.std.proofs.Common.{◌≡◌, true, [], ◌∷◌}
 use Rattle.sqlite_value.specs.declared.value.Value.TheVariants.{Text}
-use Rattle.prof_tables.specs.Texts.{drop_group_sql}
-use Rattle.prof_tables.specs.Changes.{without_group, has_group}
-use Rattle.prof_tables.proofs.Means.{drop_group_means, drop_group_plain}
-use Rattle.prof_tables.proofs.Drops.{drops_group}
-use Rattle.store_columns.specs.Within.{TextMakes}
+use Rattle.store_schema.specs.Texts.{drop_group_sql}
+use Rattle.plain_tables.specs.Changes.{without_group, has_group}
+use Rattle.store_schema.proofs.Means.{drop_group_means, drop_group_plain}
+use Rattle.store_schema.proofs.Drops.{drops_group}
+use Rattle.store_schema.specs.Within.{TextMakes}
 use Rattle.prof_store.proofs.store.Store.drop_group.Goals as goal
 
 pub returns : goal.returns

@@ -1,10 +1,10 @@
 use Rattle.std.proofs.Common.{◌≡◌, true, [], ◌∷◌, pos}
 use Rattle.sqlite_value.specs.declared.value.Value.TheVariants.{Int}
-use Rattle.prof_tables.specs.Texts.{drop_run_sql}
-use Rattle.prof_tables.specs.Changes.{without_run, has_run}
-use Rattle.prof_tables.proofs.Means.{drop_run_means, drop_run_plain}
-use Rattle.prof_tables.proofs.Drops.{drops_run}
-use Rattle.store_columns.specs.Within.{TextMakes}
+use Rattle.store_schema.specs.Texts.{drop_run_sql}
+use Rattle.plain_tables.specs.Changes.{without_run, has_run}
+use Rattle.store_schema.proofs.Means.{drop_run_means, drop_run_plain}
+use Rattle.store_schema.proofs.Drops.{drops_run}
+use Rattle.store_schema.specs.Within.{TextMakes}
 use Rattle.prof_store.proofs.store.Store.drop_run.Goals as goal
 
 pub returns : goal.returns

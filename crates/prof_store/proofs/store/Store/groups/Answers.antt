@@ -2,9 +2,10 @@ use Rattle.std.proofs.Common.{refl, ◌∙◌, map, ap, sym, subst, IsPermutatio
 use Rattle.sqlite_exec.proofs.MarkLemmas.{if_ok_then}
 use Rattle.sqlite.specs.Effect.{Database}
 use Rattle.sql_tables.proofs.Calls.{asked_rests, asked_then, asked_err}
-use Rattle.prof_tables.specs.Schema.{schema_two}
+use Rattle.store_schema.specs.Schema.{schema_two}
 use Rattle.prof_store.specs.Readings.{RowsSay}
-use Rattle.prof_store.specs.Groups.{AreGroupsIn, AreMembersIn, entry_group, member_line}
+use Rattle.prof_store.specs.Groups.{AreGroupsIn, AreMembersIn, member_line}
+use Rattle.run_stores.specs.Entries.{entry_group}
 use Rattle.prof_store.proofs.GroupMembers.{members_told}
 use Rattle.prof_store.proofs.Reading.{both_ok}
 use Rattle.prof_store.specs.Shown.{shown}

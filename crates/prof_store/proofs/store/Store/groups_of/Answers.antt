@@ -2,14 +2,15 @@ use Rattle.std.specs.Result.{is_ok}
 use Rattle.std.proofs.Common.{◌∙◌, map, ap, refl, sym, subst, IsPermutation}
 use Rattle.sqlite_exec.proofs.MarkLemmas.{if_ok_then}
 use Rattle.sqlite_keyed.proofs.ListLemmas.{map-map}
-use Rattle.prof_tables.specs.Seen.{group_seen}
-use Rattle.prof_tables.specs.Tables.{group_columns}
-use Rattle.prof_tables.proofs.Means.{groups_plain}
-use Rattle.prof_tables.proofs.Lists.{groups_listed}
-use Rattle.prof_store.specs.Groups.{entry_group, first_two}
-use Rattle.prof_store.specs.declared.entries.GroupEntry.{GroupEntry}
+use Rattle.store_schema.specs.Seen.{group_seen}
+use Rattle.store_schema.specs.Tables.{group_columns}
+use Rattle.store_schema.proofs.Means.{groups_plain}
+use Rattle.store_schema.proofs.Lists.{groups_listed}
+use Rattle.prof_store.specs.Groups.{first_two}
+use Rattle.run_stores.specs.Entries.{entry_group}
+use Rattle.run_stores.specs.declared.entries.GroupEntry.{GroupEntry}
 use Rattle.prof_store.proofs.Listing.{read_permutes}
-use Rattle.prof_tables.specs.Schema.{schema_two}
+use Rattle.store_schema.specs.Schema.{schema_two}
 use Rattle.sql_tables.proofs.Calls.{asked_err, asked_if}
 use Rattle.prof_store.proofs.Told.{groups_told, said}
 use Rattle.prof_store.proofs.store.Store.groups_of.Goals as goal

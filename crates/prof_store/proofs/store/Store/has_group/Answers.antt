@@ -1,7 +1,7 @@
 use Rattle.std.proofs.Common.{◌∙◌, ◌==◌, length, not, ap}
-use Rattle.prof_tables.proofs.Means.{find_group_plain}
-use Rattle.prof_tables.proofs.GroupFinds.{group_listed}
-use Rattle.prof_tables.specs.Schema.{schema_two}
+use Rattle.store_schema.proofs.Means.{find_group_plain}
+use Rattle.store_schema.proofs.GroupFinds.{group_listed}
+use Rattle.store_schema.specs.Schema.{schema_two}
 use Rattle.sql_tables.proofs.Calls.{asked_err}
 use Rattle.prof_store.proofs.Told.{has_group_told, said}
 use Rattle.prof_store.proofs.store.Store.has_group.Goals as goal

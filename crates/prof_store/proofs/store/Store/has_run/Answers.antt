@@ -1,7 +1,7 @@
 use Rattle.std.proofs.Common.{◌∙◌, ◌==◌, length, not, ap, arith}
-use Rattle.prof_tables.proofs.Means.{kind_of_plain}
-use Rattle.prof_tables.proofs.RunFinds.{run_listed}
-use Rattle.prof_tables.specs.Schema.{schema_two}
+use Rattle.store_schema.proofs.Means.{kind_of_plain}
+use Rattle.store_schema.proofs.RunFinds.{run_listed}
+use Rattle.store_schema.specs.Schema.{schema_two}
 use Rattle.sql_tables.proofs.Calls.{asked_err}
 use Rattle.prof_store.proofs.Told.{has_run_told, said}
 use Rattle.prof_store.proofs.store.Store.has_run.Goals as goal

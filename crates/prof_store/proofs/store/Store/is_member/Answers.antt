@@ -1,7 +1,7 @@
 use Rattle.std.proofs.Common.{ap, not, length, ◌==◌, ◌∙◌, arith}
-use Rattle.prof_tables.proofs.MemberFinds.{member_listed}
-use Rattle.prof_tables.proofs.Means.{find_member_plain}
-use Rattle.prof_tables.specs.Schema.{schema_two}
+use Rattle.store_schema.proofs.MemberFinds.{member_listed}
+use Rattle.store_schema.proofs.Means.{find_member_plain}
+use Rattle.store_schema.specs.Schema.{schema_two}
 use Rattle.sql_tables.proofs.Calls.{asked_err}
 use Rattle.prof_store.proofs.Told.{is_member_told, said}
 use Rattle.prof_store.proofs.store.Store.is_member.Goals as goal

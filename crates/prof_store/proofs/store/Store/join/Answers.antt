@@ -1,9 +1,9 @@
 use Rattle.std.specs.Result.{is_ok}
 use Rattle.std.proofs.Common.{◌≡◌, ◌∙◌, true, false, if◌then◌else◌, sym, subst}
 use Rattle.sql_tables.proofs.Calls.{changed_asked, changed_then, changed_idle, changed_as, changed_err, shut_answered, shut_asked}
-use Rattle.prof_tables.specs.Changes.{has_member, joined, with_member}
-use Rattle.prof_tables.specs.Schema.{schema_two}
-use Rattle.prof_tables.specs.Tables.{Holds}
+use Rattle.plain_tables.specs.Changes.{has_member, joined, with_member}
+use Rattle.store_schema.specs.Schema.{schema_two}
+use Rattle.store_schema.specs.Tables.{Holds}
 use Rattle.prof_store.specs.Shown.{shown}
 use Rattle.prof_store.proofs.Told.{rests_said}
 use Rattle.prof_store.proofs.store.Store.join.Goals as goal

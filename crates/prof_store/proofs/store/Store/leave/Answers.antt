@@ -1,13 +1,13 @@
 use Rattle.std.specs.Result.{is_ok}
 use Rattle.std.proofs.Common.{◌≡◌, true, [], ◌∷◌, pos}
 use Rattle.sqlite_value.specs.declared.value.Value.TheVariants.{Int, Text}
-use Rattle.prof_tables.specs.Tables.{Holds}
-use Rattle.prof_tables.specs.Texts.{leave_sql}
-use Rattle.prof_tables.specs.Changes.{without_member}
-use Rattle.prof_tables.proofs.Means.{leave_means, leave_plain}
-use Rattle.prof_tables.proofs.Groups.{leaves}
+use Rattle.store_schema.specs.Tables.{Holds}
+use Rattle.store_schema.specs.Texts.{leave_sql}
+use Rattle.plain_tables.specs.Changes.{without_member}
+use Rattle.store_schema.proofs.Means.{leave_means, leave_plain}
+use Rattle.store_schema.proofs.Groups.{leaves}
 use Rattle.prof_store.proofs.Writing.{of_any}
-use Rattle.store_columns.specs.Within.{TextMakes}
+use Rattle.store_schema.specs.Within.{TextMakes}
 use Rattle.prof_store.proofs.store.Store.leave.Goals as goal
 
 pub returns : goal.returns

@@ -2,14 +2,14 @@ use Rattle.std.specs.Result.{is_ok}
 use Rattle.std.proofs.Common.{◌∙◌, map, ap, refl, sym, subst, IsPermutation}
 use Rattle.sqlite_exec.proofs.MarkLemmas.{if_ok_then}
 use Rattle.sqlite_keyed.proofs.ListLemmas.{map-map}
-use Rattle.prof_tables.specs.Seen.{member_seen}
-use Rattle.prof_tables.specs.Tables.{member_columns}
-use Rattle.prof_tables.proofs.Means.{members_plain}
-use Rattle.prof_tables.proofs.Lists.{members_listed}
+use Rattle.store_schema.specs.Seen.{member_seen}
+use Rattle.store_schema.specs.Tables.{member_columns}
+use Rattle.store_schema.proofs.Means.{members_plain}
+use Rattle.store_schema.proofs.Lists.{members_listed}
 use Rattle.prof_store.specs.Groups.{member_line, first_two}
 use Rattle.prof_store.specs.declared.groups.Member.{Member}
 use Rattle.prof_store.proofs.Listing.{read_permutes}
-use Rattle.prof_tables.specs.Schema.{schema_two}
+use Rattle.store_schema.specs.Schema.{schema_two}
 use Rattle.sql_tables.proofs.Calls.{asked_err, asked_if}
 use Rattle.prof_store.proofs.Told.{members_told, said}
 use Rattle.prof_store.proofs.store.Store.members.Goals as goal

@@ -1,7 +1,7 @@
 use Rattle.std.proofs.Common.{◌∙◌, sym}
-use Rattle.prof_tables.proofs.Means.{next_plain}
-use Rattle.prof_tables.proofs.Finds.{next_found}
-use Rattle.prof_tables.specs.Schema.{schema_two}
+use Rattle.store_schema.proofs.Means.{next_plain}
+use Rattle.store_schema.proofs.Finds.{next_found}
+use Rattle.store_schema.specs.Schema.{schema_two}
 use Rattle.sql_tables.proofs.Calls.{asked_err, asked_if}
 use Rattle.prof_store.proofs.Told.{next_told, said}
 use Rattle.prof_store.proofs.store.Store.next_run.Goals as goal

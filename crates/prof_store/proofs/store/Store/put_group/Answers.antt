@@ -1,13 +1,13 @@
 use Rattle.std.specs.Result.{is_ok}
 use Rattle.std.proofs.Common.{◌≡◌, true, [], ◌∷◌}
 use Rattle.sqlite_value.specs.declared.value.Value.TheVariants.{Text}
-use Rattle.prof_tables.specs.Tables.{Holds}
-use Rattle.prof_tables.specs.Texts.{put_group_sql}
-use Rattle.prof_tables.specs.Changes.{with_group}
-use Rattle.prof_tables.proofs.Means.{put_group_means, put_group_plain}
-use Rattle.prof_tables.proofs.Rows.{puts_group}
+use Rattle.store_schema.specs.Tables.{Holds}
+use Rattle.store_schema.specs.Texts.{put_group_sql}
+use Rattle.plain_tables.specs.Changes.{with_group}
+use Rattle.store_schema.proofs.Means.{put_group_means, put_group_plain}
+use Rattle.store_schema.proofs.Rows.{puts_group}
 use Rattle.prof_store.proofs.Writing.{of_any}
-use Rattle.store_columns.specs.Within.{TextMakes}
+use Rattle.store_schema.specs.Within.{TextMakes}
 use Rattle.prof_store.proofs.store.Store.put_group.Goals as goal
 
 pub returns : goal.returns

@@ -1,7 +1,7 @@
 use Rattle.std.proofs.Common.{◌∙◌, arith}
-use Rattle.prof_tables.proofs.Means.{run_count_plain}
-use Rattle.prof_tables.proofs.GroupFinds.{runs_counted}
-use Rattle.prof_tables.specs.Schema.{schema_two}
+use Rattle.store_schema.proofs.Means.{run_count_plain}
+use Rattle.store_schema.proofs.GroupFinds.{runs_counted}
+use Rattle.store_schema.specs.Schema.{schema_two}
 use Rattle.sql_tables.proofs.Calls.{asked_err, asked_if}
 use Rattle.prof_store.proofs.Told.{runs_many, said}
 use Rattle.prof_store.proofs.store.Store.run_count.Goals as goal

@@ -4,10 +4,10 @@ use Rattle.sqlite.specs.Held.{state}
 use Rattle.sqlite.specs.State.{QueriesRow}
 use Rattle.prof_store.specs.Shown.{shown}
 use Rattle.sql_tables.proofs.Failures.{none_there}
-use Rattle.prof_tables.proofs.Finds.{digest_found, digest_absent}
-use Rattle.prof_tables.specs.Schema.{schema_two}
-use Rattle.prof_tables.specs.Texts.{by_digest_sql}
-use Rattle.prof_tables.proofs.Means.{by_digest_means, by_digest_plain}
+use Rattle.store_schema.proofs.Finds.{digest_found, digest_absent}
+use Rattle.store_schema.specs.Schema.{schema_two}
+use Rattle.store_schema.specs.Texts.{by_digest_sql}
+use Rattle.store_schema.proofs.Means.{by_digest_means, by_digest_plain}
 use Rattle.prof_store.specs.Statements.{row_or_none}
 use Rattle.sql_tables.proofs.Calls.{asked_err, asked_if}
 use Rattle.prof_store.proofs.Reading.{either_found}

@@ -1,13 +1,13 @@
 use Rattle.std.specs.Result.{is_ok}
 use Rattle.std.proofs.Common.{◌≡◌, true, [], ◌∷◌, pos}
 use Rattle.sqlite_value.specs.declared.value.Value.TheVariants.{Int, Text}
-use Rattle.prof_tables.specs.Tables.{Holds}
-use Rattle.prof_tables.specs.Texts.{set_baseline_sql}
-use Rattle.prof_tables.specs.Changes.{with_baseline}
-use Rattle.prof_tables.proofs.Means.{set_baseline_means, set_baseline_plain}
-use Rattle.prof_tables.proofs.Groups.{sets_baseline}
+use Rattle.store_schema.specs.Tables.{Holds}
+use Rattle.store_schema.specs.Texts.{set_baseline_sql}
+use Rattle.plain_tables.specs.Changes.{with_baseline}
+use Rattle.store_schema.proofs.Means.{set_baseline_means, set_baseline_plain}
+use Rattle.store_schema.proofs.Groups.{sets_baseline}
 use Rattle.prof_store.proofs.Writing.{of_any}
-use Rattle.store_columns.specs.Within.{TextMakes}
+use Rattle.store_schema.specs.Within.{TextMakes}
 use Rattle.prof_store.proofs.store.Store.set_baseline.Goals as goal
 
 pub returns : goal.returns

@@ -1,10 +1,10 @@
 use Rattle.std.proofs.Common.{refl, subst}
-use Rattle.prof_tables.specs.Seen.{sums_seen}
-use Rattle.prof_tables.proofs.Means.{sums_of_plain}
-use Rattle.prof_tables.proofs.RunLists.{sums_listed}
+use Rattle.store_schema.specs.Seen.{sums_seen}
+use Rattle.store_schema.proofs.Means.{sums_of_plain}
+use Rattle.store_schema.proofs.RunLists.{sums_listed}
 use Rattle.prof_store.specs.Totals.{IsSum}
 use Rattle.prof_store.proofs.HeldSums.{sum_permuted, sum_seen}
-use Rattle.prof_tables.specs.Schema.{schema_two}
+use Rattle.store_schema.specs.Schema.{schema_two}
 use Rattle.sql_tables.proofs.Calls.{asked_err, asked_if}
 use Rattle.prof_store.proofs.Told.{sums_told, said}
 use Rattle.prof_store.proofs.store.Store.sums_of.Goals as goal

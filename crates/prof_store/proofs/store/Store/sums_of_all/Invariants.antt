@@ -1,7 +1,7 @@
 use Rattle.std.proofs.Common.{◌≡◌, ◌<◌, ◌^◌, map, take, length, All}
 use Rattle.sql_tables.specs.Calls.{Asked}
-use Rattle.prof_tables.specs.Schema.{schema_two}
-use Rattle.prof_tables.specs.Tables.{Tables}
+use Rattle.store_schema.specs.Schema.{schema_two}
+use Rattle.plain_tables.specs.Tables.{Tables}
 use Rattle.prof_store.specs.Shown.{shown, IsFaithful, ReadsAs}
 use Rattle.prof_store.specs.Totals.{AreSums}
 use Rattle.prof_books.specs.Totals.{held_self, held_calls}

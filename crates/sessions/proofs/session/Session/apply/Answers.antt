@@ -1,5 +1,5 @@
 use Rattle.std.proofs.Common.{sym, subst}
-use Rattle.prof_store.specs.Shown.{IsFaithful}
+use Rattle.run_stores.specs.Calls.{IsFaithful}
 use Rattle.sessions.proofs.SessionLemmas.{told}
 use Rattle.store_histories.specs.Answered.{Answers}
 use Rattle.sessions.proofs.session.Session.apply.Goals as goal
@@ -9,10 +9,10 @@ returns-clause-answered g c clean =
     let old = c.args.self.now in
     let new = c.tell.new.self in
     let same = c.tell.ensures.warehouse in
-    let early = subst (λ w. IsFaithful g.S.Store w.store) same clean in
+    let early = subst (λ w. IsFaithful g.S.StoreState w.store) same clean in
     let it = c.apply-answer.ensures.answered in (
       it.said,
       it.says,
-      told g.S.Store g.W.Write.contents it.said c.apply-answer.result c.tell.result old new
-          (subst (λ w. Answers g.S.Store old.warehouse.limits it.said c.apply-answer.result old.warehouse.store w.store) (sym same) (it.answers early)) c.tell.ensures.status c.tell.ensures.printed,
+      told g.S.StoreState g.W.Write.contents it.said c.apply-answer.result c.tell.result old new
+          (subst (λ w. Answers g.S.StoreState old.warehouse.limits it.said c.apply-answer.result old.warehouse.store w.store) (sym same) (it.answers early)) c.tell.ensures.status c.tell.ensures.printed,
     )

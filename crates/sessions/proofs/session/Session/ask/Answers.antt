@@ -7,7 +7,7 @@ use Rattle.sessions.proofs.session.Session.ask.Goals as goal
 pub returns-in-Ok-clause-answered : goal.returns-in-Ok-clause-answered
 returns-in-Ok-clause-answered g c clean =
     let it = c.apply.ensures.answered clean in
-    subst (λ said. WasTold g.S.Store g.W.Write.contents said c.apply.result c.args.self.now c.apply.new.self) (it.1 ∙ ap Ask c.in-Ok.ensures) it.2
+    subst (λ said. WasTold g.S.StoreState g.W.Write.contents said c.apply.result c.args.self.now c.apply.new.self) (it.1 ∙ ap Ask c.in-Ok.ensures) it.2
 
 pub returns-in-Err-clause-answered : goal.returns-in-Err-clause-answered
 returns-in-Err-clause-answered g c clean = c.refuse.ensures.answered clean (Ask (query_said c.args.question)) (λ h. inl (tt, inr (inl refl)))

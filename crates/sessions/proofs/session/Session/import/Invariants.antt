@@ -1,7 +1,7 @@
 use Rattle.std.proofs.Common.{◌≡◌, List, ◌++◌, drop, map}
-use Rattle.prof_store.specs.Shown.{IsFaithful}
+use Rattle.run_stores.specs.Calls.{IsFaithful}
 use Rattle.histories.specs.History.{Said}
-use Rattle.program_files.specs.Imported.{WereRead}
+use Rattle.byte_io.specs.Imported.{WereRead}
 use Rattle.sessions.specs.Sessions.{AreImports}
 use Rattle.sessions.proofs.SessionLemmas.{SoFar}
 use Rattle.sessions.proofs.session.Session.import.Given as goal
@@ -10,6 +10,6 @@ use Rattle.sessions.proofs.session.Session.import.Given as goal
 abbrev pub invariant-loop-path : goal.invariant-loop-path
 invariant-loop-path g l = record {
   limits : l.self.warehouse.limits ≡ l.fn.self.warehouse.limits;
-  so_far : IsFaithful g.S.Store l.self.warehouse.store
-      → (list : List Said) × ((rest : List Said) → AreImports (WereRead g.R.File.Read.remaining) l.kind (map (λ path. path.now) (drop l.path-index l.paths)) rest → AreImports (WereRead g.R.File.Read.remaining) l.kind (map (λ path. path.now) l.paths) (list ++ rest)) × SoFar g.S.Store g.W.Write.contents list l.fn.self l.self;
+  so_far : IsFaithful g.S.StoreState l.self.warehouse.store
+      → (list : List Said) × ((rest : List Said) → AreImports (WereRead g.R.File.Read.remaining) l.kind (map (λ path. path.now) (drop l.path-index l.paths)) rest → AreImports (WereRead g.R.File.Read.remaining) l.kind (map (λ path. path.now) l.paths) (list ++ rest)) × SoFar g.S.StoreState g.W.Write.contents list l.fn.self l.self;
 }

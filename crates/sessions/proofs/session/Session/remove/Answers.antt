@@ -9,7 +9,7 @@ use Rattle.sessions.proofs.session.Session.remove.Goals as goal
 pub loop-number-init : goal.loop-number-init
 loop-number-init g c = record {
   limits = refl;
-  so_far = λ clean. ([], refl, so_far_none g.S.Store g.W.Write.contents c.args.self.now);
+  so_far = λ clean. ([], refl, so_far_none g.S.StoreState g.W.Write.contents c.args.self.now);
 }
 
 pub loop-number-preserved : goal.loop-number-preserved
@@ -22,12 +22,12 @@ loop-number-preserved g c =
       limits = c.apply.ensures.limits ∙ i.limits;
       so_far = λ clean.
           let t = c.in_ok-apply.ensures.answered clean in
-          let it = i.so_far (took_clean g.S.Store _ c.loop-number.self c.apply.new.self t.2.took clean) in
+          let it = i.so_far (took_clean g.S.StoreState _ c.loop-number.self c.apply.new.self t.2.took clean) in
           let rest = map Remove (drop (at + 1) numbers) in
           let said : t.0 ≡ Remove (get_or numbers at 0) = t.1 in (
             it.0 ++ t.0 ∷ [],
             append_assoc it.0 (t.0 ∷ []) rest ∙ ap (λ s. it.0 ++ s ∷ rest) said ∙ ap (λ l. it.0 ++ map Remove l) (sym (drop_more numbers at 0 low)) ∙ it.1,
-            so_far_on g.S.Store g.W.Write.contents it.0 t.0 c.in_ok-apply.field-0 c.args.self.now c.loop-number.self c.apply.new.self i.limits it.2 t.2,
+            so_far_on g.S.StoreState g.W.Write.contents it.0 t.0 c.in_ok-apply.field-0 c.args.self.now c.loop-number.self c.apply.new.self i.limits it.2 t.2,
           );
     }
 
@@ -39,12 +39,12 @@ returns-in_err-apply-clause-done g c clean =
     let low : at < length numbers = omega arith in
     let p = err_from_is_err_and c.from_residual.result c.from_residual.ensures.1 in
     let t = c.apply.ensures.answered clean in
-    let it = i.so_far (took_clean g.S.Store _ c.loop-number.self c.apply.new.self t.2.took clean) in
+    let it = i.so_far (took_clean g.S.StoreState _ c.loop-number.self c.apply.new.self t.2.took clean) in
     let rest = map Remove (drop (at + 1) numbers) in
     let said : t.0 ≡ Remove (get_or numbers at 0) = t.1 in
     let fits : it.0 ++ t.0 ∷ rest ≡ map Remove numbers = ap (λ s. it.0 ++ s ∷ rest) said ∙ ap (λ l. it.0 ++ map Remove l) (sym (drop_more numbers at 0 low)) ∙ it.1 in
-    subst (λ r. WasRun g.S.Store g.W.Write.contents (λ list. list ≡ map Remove numbers) r c.args.self.now c.apply.new.self) (sym p.1)
-    (so_far_cut g.S.Store g.W.Write.contents it.0 rest t.0 (λ list. list ≡ map Remove numbers) c.apply.result c.args.self.now c.loop-number.self c.apply.new.self i.limits it.2 t.2 fits)
+    subst (λ r. WasRun g.S.StoreState g.W.Write.contents (λ list. list ≡ map Remove numbers) r c.args.self.now c.apply.new.self) (sym p.1)
+    (so_far_cut g.S.StoreState g.W.Write.contents it.0 rest t.0 (λ list. list ≡ map Remove numbers) c.apply.result c.args.self.now c.loop-number.self c.apply.new.self i.limits it.2 t.2 fits)
 
 pub returns-clause-done : goal.returns-clause-done
 returns-clause-done g c clean =
@@ -52,4 +52,4 @@ returns-clause-done g c clean =
     let numbers = c.args.numbers.now in
     let at = c.loop-number.number-index in
     let it = i.so_far clean in
-    so_far_done g.S.Store g.W.Write.contents it.0 (λ list. list ≡ map Remove numbers) c.args.self.now c.loop-number.self it.2 (sym (append-nil it.0) ∙ ap (λ l. it.0 ++ l) (sym (at_drop_all (map Remove) numbers at (omega arith))) ∙ it.1)
+    so_far_done g.S.StoreState g.W.Write.contents it.0 (λ list. list ≡ map Remove numbers) c.args.self.now c.loop-number.self it.2 (sym (append-nil it.0) ∙ ap (λ l. it.0 ++ l) (sym (at_drop_all (map Remove) numbers at (omega arith))) ∙ it.1)

@@ -1,7 +1,7 @@
 use Rattle.std.proofs.Common.{◌≡◌, refl, sym, ap, subst}
 use Rattle.histories.specs.Formats.{today}
 use Rattle.histories.specs.History.{Annotate, Import, Remove, Ask}
-use Rattle.prof_tables.specs.Labels.{IsGroupName}
+use Rattle.plain_tables.specs.Labels.{IsGroupName}
 use Rattle.store_histories.specs.FromTables.{WasChangedIn}
 use Rattle.store_commands.specs.Changes.{GroupsIn, change_said}
 use Rattle.warehouse.specs.Answered.{Says}
@@ -49,26 +49,26 @@ returns-in-Annotate-clause-answered g c =
     }
 
 pub returns-in-Ask-clause-found : goal.returns-in-Ask-clause-found
-returns-in-Ask-clause-found g c = subst (λ k. IsFoundIn g.S.Store g.R.Source.reads c.args.self.now.limits k c.ask_in.result c.args.self.now.store c.ask_in.new.store) (sym c.in-Ask.is) c.ask_in.ensures.found
+returns-in-Ask-clause-found g c = subst (λ k. IsFoundIn g.S.StoreState g.R.Source.reads c.args.self.now.limits k c.ask_in.result c.args.self.now.store c.ask_in.new.store) (sym c.in-Ask.is) c.ask_in.ensures.found
 
 pub returns-in-Annotate-clause-found : goal.returns-in-Annotate-clause-found
 returns-in-Annotate-clause-found g c =
-    subst (λ k. IsFoundIn g.S.Store g.R.Source.reads c.args.self.now.limits k c.annotate_in.result c.args.self.now.store c.annotate_in.new.store) (sym c.in-Annotate.is) (c.annotate_in.new.source, c.annotate_in.ensures.found)
+    subst (λ k. IsFoundIn g.S.StoreState g.R.Source.reads c.args.self.now.limits k c.annotate_in.result c.args.self.now.store c.annotate_in.new.store) (sym c.in-Annotate.is) (c.annotate_in.new.source, c.annotate_in.ensures.found)
 
 pub returns-in-Remove-clause-found : goal.returns-in-Remove-clause-found
 returns-in-Remove-clause-found g c =
-    subst (λ k. IsFoundIn g.S.Store g.R.Source.reads c.args.self.now.limits k c.remove_in.result c.args.self.now.store c.remove_in.new.store) (sym c.in-Remove.is) c.remove_in.ensures.found
+    subst (λ k. IsFoundIn g.S.StoreState g.R.Source.reads c.args.self.now.limits k c.remove_in.result c.args.self.now.store c.remove_in.new.store) (sym c.in-Remove.is) c.remove_in.ensures.found
 
 pub returns-in-Group-clause-found : goal.returns-in-Group-clause-found
 returns-in-Group-clause-found g c =
     let limits = c.args.self.now.limits in
     let name : c.as_slice-in-Group.result.now ≡ c.in-Group.name.items = c.as_slice-in-Group.ensures.value in
-    let found = subst (λ l. IsGroupName l → WasChangedIn g.S.Store (GroupsIn limits c.in-Group.change l) c.change_in.result c.args.self.now.store c.change_in.new.store)
+    let found = subst (λ l. IsGroupName l → WasChangedIn g.S.StoreState (GroupsIn limits c.in-Group.change l) c.change_in.result c.args.self.now.store c.change_in.new.store)
     name c.change_in.ensures.found in
-    subst (λ k. IsFoundIn g.S.Store g.R.Source.reads limits k c.change_in.result c.args.self.now.store c.change_in.new.store) (sym c.in-Group.is) found
+    subst (λ k. IsFoundIn g.S.StoreState g.R.Source.reads limits k c.change_in.result c.args.self.now.store c.change_in.new.store) (sym c.in-Group.is) found
 
 pub returns-in-Import-clause-found : goal.returns-in-Import-clause-found
 returns-in-Import-clause-found g c =
     let limits = c.args.self.now.limits in
-    let found = subst (λ l. WasImported g.S.Store g.R.Source.reads limits c.in-Import.kind l c.in-Import.source c.import_in.new.source c.import_in.result c.args.self.now.store c.import_in.new.store) c.as_slice.ensures.value c.import_in.ensures.found in
-    subst (λ k. IsFoundIn g.S.Store g.R.Source.reads limits k c.import_in.result c.args.self.now.store c.import_in.new.store) (sym c.in-Import.is) (c.import_in.new.source, found)
+    let found = subst (λ l. WasImported g.S.StoreState g.R.Source.reads limits c.in-Import.kind l c.in-Import.source c.import_in.new.source c.import_in.result c.args.self.now.store c.import_in.new.store) c.as_slice.ensures.value c.import_in.ensures.found in
+    subst (λ k. IsFoundIn g.S.StoreState g.R.Source.reads limits k c.import_in.result c.args.self.now.store c.import_in.new.store) (sym c.in-Import.is) (c.import_in.new.source, found)

@@ -9,7 +9,7 @@ commands-init g c = (
   c.in_ok-answers.ensures.len,
   c.in_ok-answers.ensures.exact,
   omega (arith, c.from-rest.ensures.1, c.len-count.ensures),
-  ([], sym c.from-rest.ensures.0, λ clean. subst (λ l. WasRun g.S.Store g.R.Source.reads c.args.self.now.limits [] l c.args.self.now.store c.args.self.now.store) (sym c.in_ok-answers.ensures.items) (run_nothing g.S.Store g.R.Source.reads c.args.self.now.limits c.args.self.now.store)),
+  ([], sym c.from-rest.ensures.0, λ clean. subst (λ l. WasRun g.S.StoreState g.R.Source.reads c.args.self.now.limits [] l c.args.self.now.store c.args.self.now.store) (sym c.in_ok-answers.ensures.items) (run_nothing g.S.StoreState g.R.Source.reads c.args.self.now.limits c.args.self.now.store)),
 )
 
 pub commands-preserved : goal.commands-preserved
@@ -27,11 +27,11 @@ commands-preserved g c =
         i.4.1 ∙ ap (λ l. front ++ l) c.in-Some.ensures.items ∙ sym (append_assoc front (one ∷ []) rest),
         λ clean.
             let it = c.apply-answer.ensures.answered in
-            let w = i.4.2 (it.answers clean).turned.stays.was_clean in
+            let w = i.4.2 (it.answers clean).turned.stays.was_faithful in
             let limits = c.args.self.now.limits in
-            let answered = subst (λ x. WasAnswered g.S.Store g.R.Source.reads x one c.apply-answer.result c.commands.self.store c.apply-answer.new.self.store) i.0 it in
-            subst (λ l. WasRun g.S.Store g.R.Source.reads limits (front ++ one ∷ []) l c.args.self.now.store c.apply-answer.new.self.store) (sym c.push_reserved.ensures.items)
-            (run_on g.S.Store g.R.Source.reads limits front c.commands.answers.items c.args.self.now.store c.commands.self.store c.apply-answer.new.self.store w one c.apply-answer.result answered clean),
+            let answered = subst (λ x. WasAnswered g.S.StoreState g.R.Source.reads x one c.apply-answer.result c.commands.self.store c.apply-answer.new.self.store) i.0 it in
+            subst (λ l. WasRun g.S.StoreState g.R.Source.reads limits (front ++ one ∷ []) l c.args.self.now.store c.apply-answer.new.self.store) (sym c.push_reserved.ensures.items)
+            (run_on g.S.StoreState g.R.Source.reads limits front c.commands.answers.items c.args.self.now.store c.commands.self.store c.apply-answer.new.self.store w one c.apply-answer.result answered clean),
       ),
     )
 
@@ -40,5 +40,5 @@ returns-clause-answered g c clean =
     let i = c.commands.invariant in
     let ok = c.commands.rest.ok in
     let none : length c.commands.rest.items ≡ 0 = omega (arith, ok, i.3, c.commands-test.false) in
-    subst (λ l. WasRun g.S.Store g.R.Source.reads c.args.self.now.limits l c.commands.answers.items c.args.self.now.store c.commands.self.store)
+    subst (λ l. WasRun g.S.StoreState g.R.Source.reads c.args.self.now.limits l c.commands.answers.items c.args.self.now.store c.commands.self.store)
     (sym (i.4.1 ∙ ap (λ l. i.4.0 ++ l) (no_items c.commands.rest.items none) ∙ append-nil i.4.0)) (i.4.2 clean)

@@ -1,0 +1,4 @@
+pub mod Examples
+pub mod Known
+pub mod Outcomes
+pub mod Writes

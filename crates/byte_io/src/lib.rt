@@ -1,0 +1,29 @@
+//! Bytes in and out: sources and the one loop that reads them, texts that are written whole or as far as
+//! could be, names as they are printed, and the files that the program is told of.
+#![tactic(auto)]
+
+// The bytes of a name, with escapes.
+mod escapes;
+// The source of a file for an import, opened at the first read.
+mod imported;
+// The source that a reader of std is (specs/Known.antt).
+mod opened;
+// Reads a source to its end (specs/Reads.antt).
+mod reading;
+// The trait of what gives bytes (specs/Outcomes.antt).
+mod source;
+// The trait of what takes bytes.
+mod takes;
+// Keeps the bytes of a source.
+mod whole;
+// Writes a text, whole or its first bytes.
+mod writing;
+
+pub use escapes::push_escaped;
+pub use imported::FileSource;
+pub use opened::Opened;
+pub use reading::{Unread, read_all};
+pub use source::{ReadFault, Source};
+pub use takes::TakesBytes;
+pub use whole::read_whole;
+pub use writing::write_text;

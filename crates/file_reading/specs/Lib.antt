@@ -1,0 +1,6 @@
+pub mod Intakes
+pub mod Readers
+pub mod Running
+pub mod Sums
+pub mod TotalLines
+pub mod Totals

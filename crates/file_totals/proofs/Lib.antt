@@ -1,4 +1,0 @@
-pub mod SumsLemmas
-pub mod TotalsLemmas
-pub mod ReadersLemmas
-pub mod Examples

@@ -1,9 +1,0 @@
-use Rattle.std.proofs.Common.{[]}
-use Rattle.file_totals.specs.Running.{HasTaken}
-use Rattle.file_totals.proofs.total.total_text.Goals as goal
-
-pub finish-requires : goal.finish-requires
-finish-requires c = let took : HasTaken c.feed.new.self c.args.bytes.now = c.in_ok-feed.ensures tt [] c.in_ok-total.ensures in took.ready
-
-pub returns : goal.returns
-returns c = let took : HasTaken c.feed.new.self c.args.bytes.now = c.in_ok-feed.ensures tt [] c.in_ok-total.ensures in c.finish.ensures c.args.bytes.now took.sums

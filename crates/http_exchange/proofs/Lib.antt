@@ -1,0 +1,6 @@
+pub mod BodyLemmas
+mod Examples
+pub mod HeadLemmas
+pub mod Steps
+mod StreamExamples
+pub mod TextsLemmas

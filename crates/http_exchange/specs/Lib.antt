@@ -1,0 +1,14 @@
+pub mod Asked
+pub mod Bodies
+pub mod Failings
+pub mod Heads
+pub mod Lengths
+pub mod Numbers
+pub mod Parameters
+pub mod Places
+pub mod Received
+pub mod Requests
+pub mod Responses
+pub mod Routes
+pub mod Streams
+pub mod Texts

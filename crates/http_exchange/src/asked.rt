@@ -1,0 +1,341 @@
+// What a request asks for (specs/Asked.antt).
+ghost use Rattle.std.specs.Prelude.{◌≡◌, ℕ, List, map, Option, Ok, Some, None};
+ghost use Rattle.percent_encoding.specs.Percent as percent;
+ghost use Rattle.http_exchange.specs.Texts.{shown};
+ghost use Rattle.http_exchange.specs.Failings.{IsMet};
+ghost use Rattle.http_exchange.specs.Asked as spec;
+
+use crate::failings::Failing;
+use crate::names::Name;
+use crate::numbers::{LIMIT_BOUND, RUN_BOUND, THRESHOLD_BOUND, number, run_in_path};
+use crate::parameters::Given;
+use crate::places::{Method, Place};
+use crate::texts::part;
+use cg_text::ListVec;
+use cost_rows::Key;
+use percent_encoding::percent_decode;
+use report_texts::{CallSide, Cut};
+use std::alloc::{AllocError, Global};
+
+/// Which runs a request is about.
+#[derive(Drop)]
+pub enum Selected {
+    All,
+    Run(u32),
+    /// The members of the group of this name.
+    Group(ListVec<u8>),
+}
+
+/// What a request asks for, but for its body.
+#[derive(Drop)]
+pub enum Asked {
+    /// The body is a Callgrind file, to be held under this label.
+    ImportCallgrind(ListVec<u8>),
+    /// The body is folded stacks, to be held under this label.
+    ImportFolded(ListVec<u8>),
+    Runs,
+    Groups,
+    /// A run is to be removed.
+    Remove(u32),
+    MakeGroup(ListVec<u8>),
+    DropGroup(ListVec<u8>),
+    /// The run is to be a member of the group.
+    Join(ListVec<u8>, u32),
+    Leave(ListVec<u8>, u32),
+    /// The run is to be the baseline of the group.
+    SetBaseline(ListVec<u8>, u32),
+    By {
+        selected: Selected,
+        key: Key,
+        event: ListVec<u8>,
+        cut: Cut,
+    },
+    Inclusive {
+        selected: Selected,
+        event: ListVec<u8>,
+    },
+    Calls {
+        selected: Selected,
+        side: CallSide,
+        event: ListVec<u8>,
+        object: ListVec<u8>,
+        function: ListVec<u8>,
+    },
+    /// The body is the source of this file.
+    Annotate {
+        selected: Selected,
+        event: ListVec<u8>,
+        file: ListVec<u8>,
+    },
+    Subtract {
+        first: Selected,
+        second: Option<Selected>,
+        key: Key,
+        event: ListVec<u8>,
+    },
+    Verify(Selected),
+    Csv(Selected),
+    Folded(Selected),
+}
+
+/// A text, percent-decoded.
+fn decoded(alloc: Global, text: &[u8]) -> Result<ListVec<u8>, Failing>
+    ensures { IsMet (Ok (percent.percent_decode text.now)) result }
+{
+    let mut bytes = Vec::new(alloc);
+    match percent_decode(text).append_to(&mut bytes) {
+        Ok(()) => Ok(ListVec::from_vec(bytes)),
+        Err(AllocError) => Err(Failing::NoMemory),
+    }
+}
+
+/// The value of a parameter that has to be there.
+fn text(alloc: Global, given: &Given<'_>, name: Name) -> Result<ListVec<u8>, Failing>
+    ensures { IsMet (spec.text_of (spec.value_of name given.now)) result }
+{
+    match given.value(name) {
+        Some(value) => decoded(alloc, value),
+        None => Err(Failing::BadRequest),
+    }
+}
+
+/// The number that the value of a parameter is.
+fn number_in(alloc: Global, bound: u64, value: &[u8]) -> Result<u64, Failing>
+    ensures { IsMet (spec.number_in bound value.now) result }
+{
+    let text = decoded(alloc, value)?;
+    number(bound, text.as_slice()).ok_or(Failing::BadRequest)
+}
+
+/// A run, by the value of a parameter.
+fn run(alloc: Global, value: &[u8]) -> Result<Option<Selected>, Failing>
+    ensures { IsMet (spec.some_run value.now) result }
+{
+    let number = number_in(alloc, RUN_BOUND, value)?;
+    Ok(Some(Selected::Run(number as u32)))
+}
+
+/// A run or a group, by the values of two parameters; `None` where neither is given.
+fn run_or_group(
+    alloc: Global,
+    run_value: Option<&[u8]>,
+    group_value: Option<&[u8]>,
+) -> Result<Option<Selected>, Failing>
+    ensures { IsMet (spec.run_or_group (shown run_value.entry) (shown group_value.entry)) result }
+{
+    match run_value {
+        Some(value) => match group_value {
+            Some(_) => Err(Failing::BadRequest),
+            None => run(alloc, value),
+        },
+        None => match group_value {
+            Some(value) => Ok(Some(Selected::Group(decoded(alloc, value)?))),
+            None => Ok(None),
+        },
+    }
+}
+
+/// Which runs the request is about.
+fn selected_by(alloc: Global, given: &Given<'_>) -> Result<Selected, Failing>
+    ensures { IsMet (spec.selected_by given.now) result }
+{
+    match run_or_group(alloc, given.value(Name::Run), given.value(Name::Group))? {
+        Some(one) => Ok(one),
+        None => Ok(Selected::All),
+    }
+}
+
+/// How much of a report is shown.
+fn cut(alloc: Global, given: &Given<'_>) -> Result<Cut, Failing>
+    ensures { IsMet (spec.cut_by given.now) result }
+{
+    let limit = limit(alloc, given.value(Name::Limit))?;
+    let threshold = threshold(alloc, given.value(Name::Threshold))?;
+    Ok(Cut { limit, threshold })
+}
+
+/// The limit of a report.
+fn limit(alloc: Global, value: Option<&[u8]>) -> Result<Option<u64>, Failing>
+    ensures { IsMet (spec.limit_in (shown value.entry)) result }
+{
+    match value {
+        Some(value) => {
+            let limit = number_in(alloc, LIMIT_BOUND, value)?;
+            Ok(Some(limit))
+        }
+        None => Ok(None),
+    }
+}
+
+/// The threshold of a report in percent, 100 where it is not given.
+fn threshold(alloc: Global, value: Option<&[u8]>) -> Result<u8, Failing>
+    ensures { IsMet (spec.threshold_in (shown value.entry)) result }
+{
+    match value {
+        Some(value) => {
+            let threshold = number_in(alloc, THRESHOLD_BOUND, value)?;
+            Ok(threshold as u8)
+        }
+        None => Ok(100),
+    }
+}
+
+/// A report by a key.
+fn by(alloc: Global, key: Key, given: &Given<'_>) -> Result<Asked, Failing>
+    ensures { IsMet (spec.report_by key given.now) result }
+{
+    let event = text(alloc, given, Name::Event)?;
+    let selected = selected_by(alloc, given)?;
+    let cut = cut(alloc, given)?;
+    Ok(Asked::By {
+        selected,
+        key,
+        event,
+        cut,
+    })
+}
+
+/// A report of inclusive costs.
+fn inclusive(alloc: Global, given: &Given<'_>) -> Result<Asked, Failing>
+    ensures { IsMet (spec.inclusive_by given.now) result }
+{
+    let event = text(alloc, given, Name::Event)?;
+    let selected = selected_by(alloc, given)?;
+    Ok(Asked::Inclusive { selected, event })
+}
+
+/// The object of a function, `???` where it is not given.
+fn object(alloc: Global, value: Option<&[u8]>) -> Result<ListVec<u8>, Failing>
+    ensures { IsMet (Ok (spec.object_in (shown value.entry))) result }
+{
+    match value {
+        Some(value) => decoded(alloc, value),
+        None => match Vec::from_slice(alloc, b"???") {
+            Ok(bytes) => Ok(ListVec::from_vec(bytes)),
+            Err(AllocError) => Err(Failing::NoMemory),
+        },
+    }
+}
+
+/// A report of the calls that have one side at a function.
+fn calls(alloc: Global, side: CallSide, given: &Given<'_>) -> Result<Asked, Failing>
+    ensures { IsMet (spec.calls_by side given.now) result }
+{
+    let event = text(alloc, given, Name::Event)?;
+    let function = text(alloc, given, Name::Function)?;
+    let object = object(alloc, given.value(Name::Object))?;
+    let selected = selected_by(alloc, given)?;
+    Ok(Asked::Calls {
+        selected,
+        side,
+        event,
+        object,
+        function,
+    })
+}
+
+/// The listing of a source, which is the body.
+fn annotate(alloc: Global, given: &Given<'_>) -> Result<Asked, Failing>
+    ensures { IsMet (spec.annotate_by given.now) result }
+{
+    let event = text(alloc, given, Name::Event)?;
+    let file = text(alloc, given, Name::File)?;
+    let selected = selected_by(alloc, given)?;
+    Ok(Asked::Annotate {
+        selected,
+        event,
+        file,
+    })
+}
+
+/// A report of differences by a key.
+fn subtract(alloc: Global, key: Key, given: &Given<'_>) -> Result<Asked, Failing>
+    ensures { IsMet (spec.subtract_by key given.now) result }
+{
+    let event = text(alloc, given, Name::Event)?;
+    let first = selected_by(alloc, given)?;
+    let less_run = given.value(Name::LessRun);
+    let less_group = given.value(Name::LessGroup);
+    let second = run_or_group(alloc, less_run, less_group)?;
+    Ok(Asked::Subtract {
+        first,
+        second,
+        key,
+        event,
+    })
+}
+
+/// Whether a method is `PUT`.
+fn is_put(method: Method) -> bool
+    ensures { result ≡ spec.is_put method }
+{
+    match method {
+        Method::Get => false,
+        Method::Post => false,
+        Method::Put => true,
+        Method::Delete => false,
+    }
+}
+
+/// What is asked of a group.
+fn of_group(alloc: Global, method: Method, path: &[u8]) -> Result<Asked, Failing>
+    ensures { IsMet (Ok (spec.of_group method path.now)) result }
+{
+    let group = decoded(alloc, part(path, 2))?;
+    if is_put(method) {
+        Ok(Asked::MakeGroup(group))
+    } else {
+        Ok(Asked::DropGroup(group))
+    }
+}
+
+/// What is asked of a run and a group.
+fn of_member(alloc: Global, method: Method, path: &[u8]) -> Result<Asked, Failing>
+    ensures { IsMet (Ok (spec.of_member method path.now)) result }
+{
+    let group = decoded(alloc, part(path, 2))?;
+    let number = run_in_path(part(path, 4));
+    if is_put(method) {
+        Ok(Asked::Join(group, number))
+    } else {
+        Ok(Asked::Leave(group, number))
+    }
+}
+
+/// The run that is to be the baseline of a group.
+fn baseline(alloc: Global, path: &[u8]) -> Result<Asked, Failing>
+    ensures { IsMet (Ok (spec.baseline_of path.now)) result }
+{
+    let group = decoded(alloc, part(path, 2))?;
+    Ok(Asked::SetBaseline(group, run_in_path(part(path, 4))))
+}
+
+/// What is asked at a place by one of its methods, with these parameters.
+pub(crate) fn asked_at(
+    alloc: Global,
+    place: Place,
+    method: Method,
+    path: &[u8],
+    given: &Given<'_>,
+) -> Result<Asked, Failing>
+    ensures { IsMet (spec.asked_of place method path.now given.now) result }
+{
+    match place {
+        Place::CallgrindRuns => Ok(Asked::ImportCallgrind(text(alloc, given, Name::Label)?)),
+        Place::FoldedRuns => Ok(Asked::ImportFolded(text(alloc, given, Name::Label)?)),
+        Place::Runs => Ok(Asked::Runs),
+        Place::Groups => Ok(Asked::Groups),
+        Place::OneRun => Ok(Asked::Remove(run_in_path(part(path, 2)))),
+        Place::OneGroup => of_group(alloc, method, path),
+        Place::Member => of_member(alloc, method, path),
+        Place::Baseline => baseline(alloc, path),
+        Place::Report(key) => by(alloc, key, given),
+        Place::Inclusive => inclusive(alloc, given),
+        Place::Calls(side) => calls(alloc, side, given),
+        Place::Annotate => annotate(alloc, given),
+        Place::Subtract(key) => subtract(alloc, key, given),
+        Place::Verify => Ok(Asked::Verify(selected_by(alloc, given)?)),
+        Place::Csv => Ok(Asked::Csv(selected_by(alloc, given)?)),
+        Place::Folded => Ok(Asked::Folded(selected_by(alloc, given)?)),
+    }
+}

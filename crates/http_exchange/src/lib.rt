@@ -1,0 +1,52 @@
+//! One HTTP exchange, without a store: the head of a request is read from a stream and becomes what is
+//! asked, its body is given a piece at a time, and an answer becomes the bytes of a response, which are
+//! written.
+#![tactic(auto)]
+
+// What a request asks for (specs/Asked.antt).
+mod asked;
+// The body of a request (specs/Bodies.antt).
+mod bodies;
+// The checks that a request can fail before its command (specs/Failings.antt).
+mod failings;
+// The head of a request, in the bytes that came so far (specs/Heads.antt).
+mod heads;
+// The length of a body (specs/Lengths.antt).
+mod lengths;
+// The names of parameters, and which of them a place takes (specs/Parameters.antt).
+mod names;
+// Decimal numbers of a request (specs/Numbers.antt).
+mod numbers;
+// The parameters of a target (specs/Parameters.antt).
+mod parameters;
+// The paths of the table of routes, and their methods (specs/Places.antt).
+mod places;
+// The head of a request is read (specs/Received.antt).
+mod receiving;
+// From a head to what is asked, by the checks in their order (specs/Requests.antt).
+mod requests;
+// The bytes of a response (specs/Responses.antt).
+mod responses;
+// The routes, as `matchit` keeps them (specs/Routes.antt).
+mod routing;
+// A response is written (specs/Streams.antt).
+mod sending;
+// The statuses of responses (specs/Responses.antt).
+mod statuses;
+// The trait of what bytes come from and go to (specs/Streams.antt).
+mod streams;
+// Texts cut at a byte (specs/Texts.antt).
+mod texts;
+
+pub use asked::{Asked, Selected};
+pub use bodies::{Body, body_comes};
+pub use failings::Failing;
+pub use heads::{FIELD_LIMIT, HEAD_LIMIT, Head, find_head};
+pub use places::{Method, Place};
+pub use receiving::{HeadEnd, read_head};
+pub use requests::{Request, SOURCE_LIMIT, read_request};
+pub use responses::{RESPONSE_HEAD_ROOM, put_head};
+pub use routing::routes;
+pub use sending::{send, write_all};
+pub use statuses::Status;
+pub use streams::{Stream, StreamFault};

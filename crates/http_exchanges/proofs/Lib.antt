@@ -1,2 +1,0 @@
-mod Examples
-pub mod TextsLemmas

@@ -1,6 +1,0 @@
-use Rattle.std.proofs.Common.{◌≡◌, ◌-◌, get_or, []}
-use Rattle.http_exchanges.specs.Texts.{parts_of}
-use Rattle.http_exchanges.proofs.texts.part.Given as goal
-
-abbrev pub invariant-slashes : goal.invariant-slashes
-invariant-slashes l = get_or (parts_of 47 l.path) l.number [] ≡ get_or (parts_of 47 l.rest) (l.number - l.step) []

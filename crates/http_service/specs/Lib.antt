@@ -1,0 +1,5 @@
+pub mod Exchanges
+pub mod Performed
+pub mod Replies
+pub mod Served
+pub mod Tasks

@@ -1,0 +1,59 @@
+-- Requests that were served, one after another.
+use mathlib.Core.Logic.{inl, inr}
+use Rattle.std.specs.Prelude.{◌≡◌, ℕ, ◌≤◌, List, [], ◌∷◌, ◌++◌, length, Result}
+use Rattle.run_stores.specs.declared.states.StoreState.{Ghosts}
+use Rattle.byte_io.specs.Outcomes.{Outcome}
+use Rattle.histories.specs.History.{History}
+use Rattle.histories.specs.Legal.{AreLegal}
+use Rattle.histories.specs.declared.limits.Limits.{Limits}
+use Rattle.histories.specs.Standard.{IsStandard}
+use Rattle.store_histories.specs.Answered.{HasHistory, Links}
+use Rattle.http_exchange.specs.declared.failings.Failing.{Failing}
+use Rattle.http_exchange.specs.declared.requests.Request.{Request}
+use Rattle.http_service.specs.Exchanges.{IsReplied, WasExchanged}
+use Rattle.http_service.specs.Tasks.{said_of}
+use Rattle.http_service.specs.declared.replies.Exchange.{Exchange}
+use Rattle.http_service.specs.declared.replies.Reply.{Reply}
+use Rattle.http_service.specs.declared.replies.Reply.TheVariants as replies
+
+module _ {S : Type 0} (g : Ghosts S) (limits : Limits) where
+  -- a request was read and responded to; of a socket nothing is known, so any bytes may have come and gone
+  abbrev pub WasExchangedWithAny : Exchange → S → S → Type 0
+  WasExchangedWithAny exchange old new = WasExchanged g limits {T = Unit {0}} (λ _ _ _. Unit {0}) (λ _ _ _. Unit {0}) (λ _ _. Unit {0}) exchange tt tt old new
+
+  -- such exchanges one after another, each over the store that the one before left
+  abbrev pub WereExchanged : List Exchange → S → S → Type 0
+  WereExchanged [] old new = old ≡ new
+  WereExchanged (exchange ∷ later) old new = (mid : S) × WasExchangedWithAny exchange old mid × WereExchanged later mid new
+
+  -- ---- the commands that were asked for
+
+  -- the command of a request, with its answer; a request that was turned away has none
+  abbrev pub turns_of_reply : (wanted : Result Request Failing) (after : List ℕ) (reads : List Outcome) (reply : Reply) (old new : S) → IsReplied g limits wanted after reads reply old new → History
+  turns_of_reply wanted after reads (replies.Answered answer) old new done = record { said = said_of done.request.asked done.outcomes; answer = answer } ∷ []
+  turns_of_reply wanted after reads (replies.Failed failing) old new away = []
+
+  -- what is no request, or did not come whole, has none either
+  abbrev pub turns_of_exchange : (exchange : Exchange) (old new : S) → WasExchangedWithAny exchange old new → History
+  turns_of_exchange exchange old new (inl served) = turns_of_reply _ served.after served.responded.body_reads served.responded.reply old new served.responded.replied
+  turns_of_exchange exchange old new (inr refused) = []
+
+  -- those of all
+  abbrev pub turns_of : (exchanges : List Exchange) (old new : S) → WereExchanged exchanges old new → History
+  turns_of [] old new same = []
+  turns_of (exchange ∷ later) old new were = turns_of_exchange exchange old were.0 were.1 ++ turns_of later were.0 new were.2
+
+-- so many clients were served, but for those that went away: the commands are those of their requests, in order; after a history that the store has, each answer is legal, and the store has the history with all of them
+pub record HasServed {S : Type 0} (g : Ghosts S) (limits : Limits) (requests : ℕ) (old new : S) : Type 0 where
+  pub exchanges : List Exchange
+  pub few : length exchanges ≤ requests
+  pub were : WereExchanged g limits exchanges old new
+  pub links : Links g limits (turns_of g limits exchanges old new were) old new
+  pub legal : (h : History) → HasHistory g h old → AreLegal limits h (turns_of g limits exchanges old new were)
+  pub after : (h : History) → HasHistory g h old → HasHistory g (h ++ turns_of g limits exchanges old new were) new
+
+-- under the standard limits so many requests were served
+pub record CameToServed {S : Type 0} (g : Ghosts S) (requests : ℕ) (old new : S) : Type 0 where
+  pub limits : Limits
+  pub standard : IsStandard limits
+  pub served : HasServed g limits requests old new

@@ -1,0 +1,208 @@
+// The exchange (specs/Exchanges.antt).
+ghost use Rattle.std.specs.Prelude.{◌≡◌, drop, List};
+ghost use Rattle.httparse.specs.Grammar.{RequestHead};
+ghost use Rattle.httparse.specs.Spans.{IsRequestWithin};
+ghost use Rattle.byte_io.specs.Outcomes.{Outcome};
+ghost use Rattle.byte_io.specs.Reads.{Reads};
+ghost use Rattle.histories.specs.Formats.{today};
+ghost use Rattle.histories.specs.History.{Annotate, Import};
+ghost use Rattle.warehouse.specs.Answered.{WasAnswered};
+ghost use Rattle.http_exchange.specs.Heads.{IsHeadAt};
+ghost use Rattle.http_exchange.specs.Requests.{request_of};
+ghost use Rattle.http_exchange.specs.Routes as spec;
+ghost use Rattle.http_exchange.specs.Bodies.{BodyRead};
+ghost use Rattle.http_service.specs.Exchanges.{IsReplied, IsResponded, WasExchanged};
+ghost use Rattle.http_service.specs.Performed.{IsDoneOver};
+ghost use Rattle.http_service.specs.Tasks.{task_said};
+
+use crate::replies::{Exchange, Reply, send_failing, send_reply};
+use crate::tasks::{Task, task_of};
+use cg_text::ListVec;
+use histories::{Answer, Selection};
+use http_exchange::{
+    Body, FIELD_LIMIT, Failing, HEAD_LIMIT, HeadEnd, Place, Stream, body_comes, read_head,
+    read_request,
+};
+use httparse::spans::{EMPTY_HEADER_SPAN, HeaderSpan, RequestSpans};
+use matchit::Router;
+use profile_records::Kind;
+use run_stores::RunStore;
+use std::alloc::Global;
+use warehouse::{Command, Warehouse};
+
+/// Imports a body, and hands the stream back.
+fn import<T: Stream + Drop, S: RunStore>(
+    alloc: Global,
+    warehouse: &mut Warehouse<S>,
+    kind: Kind,
+    label: &[u8],
+    body: Body<'_, T>,
+) -> (Answer, T)
+    ensures limits { warehouse.new.limits ≡ warehouse.old.limits }
+    ensures done { IsDoneOver S.StoreState T.reads warehouse.old.limits (Import (today kind) label.now) body.entry
+        result.0 result.1 warehouse.old.store warehouse.new.store }
+{
+    let mut body = body;
+    let answer = warehouse.import(alloc, kind, label, &mut body);
+    let Body { stream, .. } = body;
+    (answer, stream)
+}
+
+/// Annotates a body, and hands the stream back.
+fn annotate<T: Stream + Drop, S: RunStore>(
+    alloc: Global,
+    warehouse: &mut Warehouse<S>,
+    selection: Selection,
+    event: ListVec<u8>,
+    file: ListVec<u8>,
+    body: Body<'_, T>,
+) -> (Answer, T)
+    ensures limits { warehouse.new.limits ≡ warehouse.old.limits }
+    ensures done { IsDoneOver S.StoreState T.reads warehouse.old.limits (Annotate selection event file) body.entry
+        result.0 result.1 warehouse.old.store warehouse.new.store }
+{
+    let mut body = body;
+    let answer = warehouse.annotate(alloc, selection, event, file, &mut body);
+    let Body { stream, .. } = body;
+    (answer, stream)
+}
+
+/// Runs a command that reads no body, and hands the stream back.
+fn apply<T: Stream + Drop, S: RunStore>(
+    alloc: Global,
+    warehouse: &mut Warehouse<S>,
+    command: Command<Body<'_, T>>,
+    body: Body<'_, T>,
+) -> (Answer, T)
+    ensures limits { warehouse.new.limits ≡ warehouse.old.limits }
+    ensures answered { WasAnswered S.StoreState (BodyRead T.reads) warehouse.old.limits command.entry
+        result.0 warehouse.old.store warehouse.new.store }
+    ensures stream { result.1 ≡ body.entry.stream }
+{
+    let answer = warehouse.apply(alloc, command);
+    let Body { stream, .. } = body;
+    (answer, stream)
+}
+
+/// Does what is asked over a body, and hands the stream back.
+fn perform<T: Stream + Drop, S: RunStore>(
+    alloc: Global,
+    warehouse: &mut Warehouse<S>,
+    task: Task,
+    body: Body<'_, T>,
+) -> (Answer, T)
+    ensures limits { warehouse.new.limits ≡ warehouse.old.limits }
+    ensures done { IsDoneOver S.StoreState T.reads warehouse.old.limits (task_said task) body.entry
+        result.0 result.1 warehouse.old.store warehouse.new.store }
+{
+    match task {
+        Task::Import(kind, label) => import(alloc, warehouse, kind, label.as_slice(), body),
+        Task::Annotate {
+            selection,
+            event,
+            file,
+        } => annotate(alloc, warehouse, selection, event, file, body),
+        Task::Remove(number) => apply(alloc, warehouse, Command::Remove(number), body),
+        Task::Group(name, change) => {
+            let name = name.into_vec();
+            apply(alloc, warehouse, Command::Group(name, change), body)
+        }
+        Task::Ask(query) => apply(alloc, warehouse, Command::Ask(query), body),
+    }
+}
+
+/// Replies to the request whose head `read_head` found in these bytes: its command is done, over the body
+/// behind the head, or the check that it fails is said. Hands the stream back.
+fn reply_to<T: Stream + Drop, S: RunStore>(
+    alloc: Global,
+    router: &Router<Place>,
+    warehouse: &mut Warehouse<S>,
+    bytes: &[u8],
+    fields: &[HeaderSpan],
+    spans: RequestSpans,
+    stream: T,
+) -> (Reply, T)
+    requires router { router.now ≡ spec.routes }
+    requires within { IsRequestWithin bytes.now fields.now spans }
+    ensures limits { warehouse.new.limits ≡ warehouse.old.limits }
+    ensures replied { (head : RequestHead) → IsHeadAt bytes.now fields.now spans head
+        → (reads : List Outcome) × Reads T.reads stream reads result.1
+        × IsReplied S.StoreState warehouse.old.limits (request_of warehouse.old.limits.bytes head) (drop spans.len bytes.now) reads
+        result.0 warehouse.old.store warehouse.new.store }
+{
+    let limit = warehouse.limits().bytes;
+    match read_request(alloc, router, limit, bytes, fields, spans) {
+        Ok(request) => {
+            let body = Body {
+                stream,
+                held: &bytes[spans.len..],
+                left: request.length,
+            };
+            let (answer, stream) = perform(alloc, warehouse, task_of(request.asked), body);
+            (Reply::Answered(answer), stream)
+        }
+        Err(failing) => (Reply::Failed(failing), stream),
+    }
+}
+
+/// Serves the request whose head `read_head` found in these bytes, and hands the stream back.
+fn serve<T: Stream + Drop, S: RunStore>(
+    alloc: Global,
+    router: &Router<Place>,
+    warehouse: &mut Warehouse<S>,
+    bytes: &[u8],
+    fields: &[HeaderSpan],
+    spans: RequestSpans,
+    stream: T,
+) -> (Exchange, T)
+    requires router { router.now ≡ spec.routes }
+    requires within { IsRequestWithin bytes.now fields.now spans }
+    ensures limits { warehouse.new.limits ≡ warehouse.old.limits }
+    ensures responded { (head : RequestHead) → IsHeadAt bytes.now fields.now spans head
+        → IsResponded S.StoreState warehouse.old.limits T.reads T.writes T.hears (request_of warehouse.old.limits.bytes head)
+        (drop spans.len bytes.now) result.0 stream result.1 warehouse.old.store warehouse.new.store }
+{
+    let (reply, stream) = reply_to(alloc, router, warehouse, bytes, fields, spans, stream);
+    let mut stream = stream;
+    let exchange = send_reply(alloc, &mut stream, &reply);
+    (exchange, stream)
+}
+
+/// Reads a request from a stream, does its command over the warehouse, and sends the response; hands the
+/// stream back. The head of a request and that of its response stand on the stack, so they take no memory;
+/// the body of an import is handed to the warehouse as it is read. `router` is made by
+/// `http_exchange::routes` and may serve any number of exchanges.
+pub fn answer<T: Stream + Drop, S: RunStore>(
+    alloc: Global,
+    router: &Router<Place>,
+    stream: T,
+    warehouse: &mut Warehouse<S>,
+) -> (Exchange, T)
+    requires router { router.now ≡ spec.routes }
+    ensures limits { warehouse.new.limits ≡ warehouse.old.limits }
+    ensures exchanged { WasExchanged S.StoreState warehouse.old.limits T.reads T.writes T.hears
+        result.0 stream result.1 warehouse.old.store warehouse.new.store }
+{
+    let mut stream = stream;
+    let mut buffer = [0u8; HEAD_LIMIT];
+    let mut fields = [EMPTY_HEADER_SPAN; FIELD_LIMIT];
+    match read_head(&mut stream, &mut buffer, &mut fields) {
+        Ok((spans, filled)) => {
+            stream.head_came();
+            serve(
+                alloc,
+                router,
+                warehouse,
+                &buffer[..filled],
+                &fields,
+                spans,
+                stream,
+            )
+        }
+        Err(HeadEnd::Bad) => {
+            let exchange = send_failing(&mut stream, Failing::BadRequest);
+            (exchange, stream)
+        }
+        Err(HeadEnd::Failed) => (Exchange::ReadFault, stream),
+    }
+}

@@ -1,0 +1,20 @@
+//! A warehouse served over HTTP, to one client after another: a request is read, its command is done over
+//! the warehouse, and the response is sent.
+#![tactic(auto)]
+
+// A socket as a stream, with its deadlines.
+mod connection;
+// The exchange (specs/Exchanges.antt).
+mod exchange;
+// Lines about requests that were served.
+mod logging;
+// What is replied to a request, and how it is sent (specs/Replies.antt).
+mod replies;
+// Clients are served, one after another (specs/Served.antt).
+mod serving;
+// What the warehouse is asked for a request (specs/Tasks.antt).
+mod tasks;
+
+pub use exchange::answer;
+pub use replies::Exchange;
+pub use serving::{Service, serve, serve_on, serve_over};

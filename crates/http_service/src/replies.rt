@@ -1,0 +1,105 @@
+// What is replied to a request, and how it is sent (specs/Replies.antt).
+ghost use Rattle.std.specs.Prelude.{◌≡◌, ◌≤◌, length, List};
+ghost use Rattle.http_exchange.specs.Streams.{Written, Writes};
+ghost use Rattle.http_exchange.specs.Responses.{response_text};
+ghost use Rattle.http_service.specs.Replies as spec;
+
+use answer_lines::line_of;
+use histories::{Answer, Refusal};
+use http_exchange::{Failing, Status, Stream, send};
+use std::alloc::{AllocError, Global};
+
+/// What an exchange came to.
+#[derive(Clone, Copy, Debug, PartialEq, Eq)]
+pub enum Exchange {
+    /// A response of this status was written.
+    Sent(u16),
+    /// A read failed before a head was there. Nothing was written, and no command was run.
+    ReadFault,
+    /// A write of the response of this status failed, or took no byte. Its command stands.
+    WriteFault(u16),
+}
+
+/// What is replied to a request.
+#[derive(Drop)]
+pub enum Reply {
+    /// The check that it fails.
+    Failed(Failing),
+    /// What its command is answered.
+    Answered(Answer),
+}
+
+/// The status of a refusal.
+fn refused_status(refusal: &Refusal) -> Status
+    ensures { result ≡ spec.refused_status refusal.now }
+{
+    match refusal {
+        Refusal::Memory => Status::InsufficientStorage,
+        Refusal::Store => Status::InternalServerError,
+        Refusal::ReadFault | Refusal::BadName => Status::BadRequest,
+        Refusal::TooLong => Status::PayloadTooLarge,
+        Refusal::File(_, _) | Refusal::Overflow(_) => Status::UnprocessableEntity,
+        Refusal::Full | Refusal::NumbersSpent | Refusal::GroupTaken => Status::Conflict,
+        Refusal::NoSuchRun
+        | Refusal::NoSuchGroup
+        | Refusal::NoSuchEvent
+        | Refusal::NoSuchName
+        | Refusal::NoBaseline => Status::NotFound,
+    }
+}
+
+/// The status of an answer.
+fn status_of(answer: &Answer) -> Status
+    ensures { result ≡ spec.status_of answer.now }
+{
+    match answer {
+        Answer::Run(_) => Status::Created,
+        Answer::Held(_) | Answer::Done | Answer::Text(_) => Status::Okay,
+        Answer::Refused(refusal) => refused_status(refusal),
+    }
+}
+
+/// Sends a response, whose body is of this status.
+fn send_as<T: Stream>(stream: &mut T, status: Status, allow: &str, body: &[u8]) -> Exchange
+    requires { length allow.now ≤ 32 }
+    ensures { (writes : List Written) × Writes T.writes stream.old writes stream.new
+        × spec.IsSentAs status (response_text status allow.now body.now) result writes }
+{
+    if send(stream, status, allow, body) {
+        Exchange::Sent(status.code())
+    } else {
+        Exchange::WriteFault(status.code())
+    }
+}
+
+/// Sends the response of a check that failed. Takes no memory.
+pub(crate) fn send_failing<T: Stream>(stream: &mut T, failing: Failing) -> Exchange
+    ensures { (writes : List Written) × Writes T.writes stream.old writes stream.new × spec.IsFailingSent failing result writes }
+{
+    let body = failing.body().as_bytes();
+    send_as(stream, failing.status(), failing.allow(), body)
+}
+
+/// Sends the response of an answer: a text from where it lies, since it may be long.
+fn send_answer<T: Stream>(alloc: Global, stream: &mut T, answer: &Answer) -> Exchange
+    ensures { (writes : List Written) × Writes T.writes stream.old writes stream.new × spec.IsReplySent (Reply.Answered answer.now) result writes }
+{
+    let status = status_of(answer);
+    if let Answer::Text(text) = answer {
+        return send_as(stream, status, "", text.as_slice());
+    }
+    match line_of(alloc, answer) {
+        Ok(line) => send_as(stream, status, "", line.as_slice()),
+        Err(AllocError) => send_failing(stream, Failing::NoMemory),
+    }
+}
+
+/// Sends the response of a reply.
+pub(crate) fn send_reply<T: Stream>(alloc: Global, stream: &mut T, reply: &Reply) -> Exchange
+    ensures { (writes : List Written) × Writes T.writes stream.old writes stream.new × spec.IsReplySent reply.now result writes }
+{
+    match reply {
+        Reply::Failed(failing) => send_failing(stream, *failing),
+        Reply::Answered(answer) => send_answer(alloc, stream, answer),
+    }
+}

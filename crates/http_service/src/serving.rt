@@ -1,0 +1,152 @@
+// Clients are served, one after another (specs/Served.antt).
+ghost use Rattle.std.specs.Prelude.{◌≡◌, IfOk, IfSome};
+ghost use Rattle.run_stores.specs.Calls.{IsFaithful};
+ghost use Rattle.http_exchange.specs.Routes as spec;
+ghost use Rattle.http_service.specs.Served.{CameToServed, HasServed};
+
+use crate::connection::Connection;
+use crate::logging::log;
+use crate::{Exchange, answer};
+use histories::Limits;
+use http_exchange::{Place, routes};
+use matchit::Router;
+use run_stores::RunStore;
+use std::io;
+use std::io::ErrorKind;
+use std::net::{Ipv4Addr, SocketAddr, TcpListener};
+use std::rt::HostRuntime;
+use warehouse::Warehouse;
+
+/// How a warehouse is served.
+#[derive(Clone, Copy, Debug, PartialEq, Eq)]
+pub struct Service {
+    /// The port of 127.0.0.1; 0 is one that is free.
+    pub port: u16,
+    /// How many requests are answered.
+    pub requests: u32,
+    /// Whether each request is told on standard error.
+    pub log: bool,
+}
+
+/// The next client, where it did not go away again while it waited. No guarantee: of the network the checker
+/// knows nothing.
+fn next_client<'a>(
+    rt: &'a HostRuntime,
+    listener: &TcpListener,
+) -> io::Result<Option<(Connection<'a>, SocketAddr)>> {
+    match listener.accept() {
+        Ok((socket, address)) => match Connection::new(rt, socket) {
+            Ok(connection) => Ok(Some((connection, address))),
+            Err(_) => Ok(None),
+        },
+        Err(error) if error.kind() == ErrorKind::ConnectionAborted => Ok(None),
+        Err(error) => Err(error),
+    }
+}
+
+/// Serves one client, and ends the connection. One that went away is one of those that were served.
+fn serve_client<'a, S: RunStore>(
+    rt: &'a HostRuntime,
+    router: &Router<Place>,
+    warehouse: &mut Warehouse<S>,
+    client: Option<(Connection<'a>, SocketAddr)>,
+    is_logged: bool,
+)
+    requires router { router.now ≡ spec.routes }
+    ensures limits { warehouse.new.limits ≡ warehouse.old.limits }
+    ensures served { IsFaithful S.StoreState warehouse.new.store → HasServed S.StoreState warehouse.old.limits 1 warehouse.old.store warehouse.new.store }
+{
+    let Some((connection, address)) = client else {
+        return;
+    };
+    let (exchange, connection) = answer(rt.alloc(), router, connection, warehouse);
+    if is_logged {
+        // A log that cannot be written stops no service.
+        let _logged = log(rt, address, connection.first_line(), exchange);
+    }
+    // A request that was refused may have a body that nobody read.
+    let _closed = connection.close(matches!(exchange, Exchange::Sent(200 | 201)));
+}
+
+/// Answers so many clients, one after another. False where one could not be accepted.
+pub fn serve_on<S: RunStore>(
+    rt: &HostRuntime,
+    listener: &TcpListener,
+    router: &Router<Place>,
+    warehouse: &mut Warehouse<S>,
+    requests: u32,
+    is_logged: bool,
+) -> bool
+    requires router { router.now ≡ spec.routes }
+    ensures limits { warehouse.new.limits ≡ warehouse.old.limits }
+    ensures served { IsFaithful S.StoreState warehouse.new.store → HasServed S.StoreState warehouse.old.limits requests warehouse.old.store warehouse.new.store }
+{
+    'clients: for _client in 0..requests {
+        let Ok(client) = next_client(rt, listener) else {
+            return false;
+        };
+        serve_client(rt, router, warehouse, client, is_logged);
+    }
+    true
+}
+
+/// Listens at a port of 127.0.0.1. No guarantee: of the network the checker knows nothing.
+fn listener_at(rt: &HostRuntime, port: u16) -> io::Result<TcpListener> {
+    TcpListener::bind(rt, SocketAddr::from((Ipv4Addr::LOCALHOST, port)))
+}
+
+/// The routes, and what listens at a port of 127.0.0.1, and prints which; or prints why there is none: no
+/// memory, or a port that is taken, which is a failed read.
+fn listen(rt: &HostRuntime, port: u16) -> io::Result<Option<(Router<Place>, TcpListener)>>
+    ensures { IfOk result (λ found. IfSome found (λ at. at.0 ≡ spec.routes)) }
+{
+    let Ok(router) = routes(rt.alloc()) else {
+        println!(rt; "refused: out of memory")?;
+        return Ok(None);
+    };
+    let Ok(listener) = listener_at(rt, port) else {
+        println!(rt; "refused: read failed")?;
+        return Ok(None);
+    };
+    println!(rt; "listening {}", listener.local_addr()?)?;
+    Ok(Some((router, listener)))
+}
+
+/// Prints how a server ended, and answers the status. No guarantee: of what is printed the checker knows
+/// nothing.
+fn tell_end(rt: &HostRuntime, requests: u32, is_done: bool) -> io::Result<u8> {
+    if is_done {
+        println!(rt; "served {requests}")?;
+        return Ok(0);
+    }
+    println!(rt; "refused: read failed")?;
+    Ok(1)
+}
+
+/// Serves a warehouse on a port of 127.0.0.1: prints which, answers so many requests, prints that, and
+/// answers the status. A port that is taken, and a client that cannot be accepted, are a failed read.
+pub fn serve<S: RunStore>(
+    rt: &HostRuntime,
+    warehouse: &mut Warehouse<S>,
+    service: Service,
+) -> io::Result<u8>
+    ensures limits { warehouse.new.limits ≡ warehouse.old.limits }
+    ensures served { IsFaithful S.StoreState warehouse.new.store → HasServed S.StoreState warehouse.old.limits service.requests warehouse.old.store warehouse.new.store }
+{
+    let Some((router, listener)) = listen(rt, service.port)? else {
+        return Ok(1);
+    };
+    let requests = service.requests;
+    let is_done = serve_on(rt, &listener, &router, warehouse, requests, service.log);
+    tell_end(rt, requests, is_done)
+}
+
+/// Serves an opened store, under the standard limits. It hands back the status, where all that the server
+/// itself says was printed, and the store.
+pub fn serve_over<S: RunStore>(rt: &HostRuntime, store: S, service: Service) -> (io::Result<u8>, S)
+    ensures { IsFaithful S.StoreState result.1 → CameToServed S.StoreState service.requests store result.1 }
+{
+    let mut warehouse = Warehouse::new(store, Limits::standard());
+    let served = serve(rt, &mut warehouse, service);
+    (served, warehouse.into_store())
+}

@@ -1,4 +1,0 @@
-pub mod BodyLemmas
-mod Examples
-pub mod HeadLemmas
-pub mod Steps

@@ -1,5 +1,0 @@
-use Rattle.http_streams.proofs.BodyLemmas.{came_of}
-use Rattle.http_streams.proofs.bodies.body_comes.Goals as goal
-
-pub returns : goal.returns
-returns g c from to outcomes came = came_of g.T.Stream.reads from outcomes to came

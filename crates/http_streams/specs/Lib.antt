@@ -1,3 +1,0 @@
-pub mod Bodies
-pub mod Received
-pub mod Streams

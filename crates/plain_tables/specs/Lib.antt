@@ -1,0 +1,7 @@
+pub mod Changes
+pub mod Files
+pub mod Labels
+pub mod Lists
+pub mod RunLines
+pub mod Sound
+pub mod Tables

@@ -1,4 +1,0 @@
-mod Examples
-pub mod Heads
-pub mod Turns
-pub mod Unread

@@ -1,4 +1,0 @@
-pub mod Exchanges
-pub mod Performed
-pub mod Replies
-pub mod Tasks

@@ -1,3 +1,0 @@
-pub mod Imported
-pub mod Standard
-pub mod Stores

@@ -1,0 +1,24 @@
+-- What comes of a database in which a store is wanted, and what is printed where none is opened.
+use Rattle.std.specs.Prelude.{◌≡◌, ◌↔◌, ℕ, Bool, true, false, List, Ok, Err, codes}
+use Rattle.sqlite_trees.specs.declared.store.Store.{Ghosts}
+use Rattle.sqlite.specs.Held.{Held, state}
+use Rattle.store_schema.specs.Schema.{empty_schema}
+use Rattle.store_schema.specs.Created.{Creates}
+use Rattle.prof_store.specs.Schemas.{IsOpenedBy, Opened}
+use Rattle.store_schema.specs.declared.errors.OpenError.{OpenError}
+use Rattle.store_schema.specs.declared.errors.OpenError.TheVariants as ends
+
+-- a new store is made, or the one of the database is found, and left as it was or brought up to version 2
+abbrev pub TakesUp : {S : Type 0} → Ghosts S → Bool → Held S → Held S → Type 0
+TakesUp g true old new = Creates true (state g old) (state g new)
+TakesUp g false old new = IsOpenedBy g old new (Ok tt) × Opened true (state g old) (state g new)
+
+-- nothing is made: a wrong schema says that there are tables; or the database is left as it was, and refused for what it answered
+abbrev pub Refuses : {S : Type 0} → Ghosts S → Bool → OpenError → Held S → Held S → Type 0
+Refuses g true end old new = Creates false (state g old) (state g new) × ((end ≡ ends.WrongSchema) ↔ (¬ ((state g old).now.schema ≡ empty_schema)))
+Refuses g false end old new = IsOpenedBy g old new (Err end) × Opened false (state g old) (state g new)
+
+abbrev pub store_text : OpenError → List ℕ
+store_text ends.Memory = codes "store: out of memory"
+store_text ends.Store = codes "store: failed"
+store_text ends.WrongSchema = codes "store: wrong schema"

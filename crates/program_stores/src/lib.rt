@@ -1,0 +1,16 @@
+//! The store at a path: it is made, opened or migrated in a database, and worked over or served.
+#![tactic(auto)]
+
+// Laws: which history a store has that is in memory, or was of version 1.
+mod laws;
+// The store of a database is served (specs/Works.antt).
+mod serving;
+// Opens the database at a path, and makes or opens the store in it.
+mod stores;
+// Works over the store of a database (specs/Works.antt).
+mod working;
+
+pub use laws::{memory_keeps_its_history, migrated_stores_have_their_history};
+pub use serving::serve_in;
+pub use stores::{StoreFile, database_at, error_line, is_new_at, store_in};
+pub use working::work_in;

@@ -1,0 +1,109 @@
+// The store at a path.
+ghost use Rattle.std.specs.Prelude.{◌≡◌, IfOk, IfErr};
+ghost use Rattle.sqlite.specs.Held.{state};
+ghost use Rattle.sqlite.specs.State.{HasCleanDisk};
+ghost use Rattle.prof_store.specs.Shown.{shown, IsFaithful};
+ghost use Rattle.store_schema.specs.Errors.{error_for, opening};
+ghost use Rattle.program_stores.specs.Stores.{Refuses, TakesUp, store_text};
+
+use prof_store::{OpenError, Store};
+use sqlite::{Alter, Connection, Error, ErrorCode, File, FileStore};
+use sqlite_disk::Unknown;
+use sqlite_pager::Options;
+use sqlite_std_file::OpenError as PathError;
+use std::alloc::Global;
+use std::fs;
+use std::hash::{BuildHasher, RandomState};
+use std::io::ErrorKind;
+use std::rt::HostRuntime;
+
+/// How many pages that were read are kept in memory. An open checks each page and a report reads each
+/// once, so more would only have to be made: the database's own 2,000 are 8 MB, blank at each command.
+const CACHED_PAGES: usize = 100;
+
+/// What a database in a file is kept in.
+pub type StoreFile = FileStore<File>;
+
+/// Why the database is not opened.
+fn error_of_open(error: Error) -> OpenError
+    ensures { result ≡ opening (error_for error) }
+{
+    match error {
+        Error::SqliteFailure(ErrorCode::OutOfMemory) => OpenError::Memory,
+        _ => OpenError::Store,
+    }
+}
+
+/// How many bytes the file at a path has: none where there is no file.
+fn length_at(rt: &HostRuntime, path: &str) -> Result<u64, OpenError> {
+    match fs::metadata(rt, path) {
+        Ok(metadata) => Ok(metadata.len()),
+        Err(error) if error.kind() == ErrorKind::NotFound => Ok(0),
+        Err(error) if error.kind() == ErrorKind::OutOfMemory => Err(OpenError::Memory),
+        Err(_) => Err(OpenError::Store),
+    }
+}
+
+/// Whether a path is to become a new store: where there is no file, or an empty one. A file of one byte is
+/// no store, and is not opened: the database would take it for a new one that a stop left half made, and
+/// write over it. No guarantee: of the files at a path the checker knows nothing.
+pub fn is_new_at(rt: &HostRuntime, path: &str) -> Result<bool, OpenError> {
+    match length_at(rt, path)? {
+        0 => Ok(true),
+        1 => Err(OpenError::WrongSchema),
+        _ => Ok(false),
+    }
+}
+
+/// The database at a path, opened with few pages in its cache. No guarantee: of the files at a path the
+/// checker knows nothing.
+pub fn database_at(rt: &HostRuntime, path: &str) -> Result<Connection<StoreFile>, OpenError> {
+    if path == ":memory:" || path.starts_with("file:") {
+        return Err(OpenError::Store);
+    }
+    let files = match sqlite_std_file::open(rt, path, Unknown) {
+        Ok(files) => files,
+        Err(PathError::OutOfMemory) => return Err(OpenError::Memory),
+        Err(PathError::Io(error)) if error.kind() == ErrorKind::OutOfMemory => {
+            return Err(OpenError::Memory);
+        }
+        Err(_) => return Err(OpenError::Store),
+    };
+    let Ok(keys) = RandomState::new(rt) else {
+        return Err(OpenError::Store);
+    };
+    let mut options = Options::new(keys.hash_one(&0u8));
+    options.cache_pages = CACHED_PAGES;
+    match Connection::open_files_with(rt.alloc(), files, options, false) {
+        Ok(conn) => Ok(conn),
+        Err((error, _)) => Err(error_of_open(error)),
+    }
+}
+
+/// The store of a database: a new one where it is to become one, else the one that it holds. A refusal
+/// hands the connection back.
+pub fn store_in<S: Alter>(
+    alloc: Global,
+    conn: Connection<S>,
+    is_new: bool,
+) -> Result<Store<S>, (OpenError, Connection<S>)>
+    ensures taken_up { IfOk result (λ store. IsFaithful S.Store store → TakesUp S.Store is_new conn store.conn) }
+    ensures refused { IfErr result (λ e. HasCleanDisk (state S.Store e.1) → Refuses S.Store is_new e.0 conn e.1) }
+{
+    if is_new {
+        Store::create(alloc, conn)
+    } else {
+        Store::open(alloc, conn)
+    }
+}
+
+/// The line of a store that is not opened.
+pub fn error_line(end: OpenError) -> &'static str
+    ensures { result.now ≡ store_text end }
+{
+    match end {
+        OpenError::Memory => "store: out of memory",
+        OpenError::Store => "store: failed",
+        OpenError::WrongSchema => "store: wrong schema",
+    }
+}

@@ -1,0 +1,15 @@
+pub mod Amounts
+pub mod Annotations
+pub mod Calls
+pub mod Costs
+pub mod Csv
+pub mod Differences
+pub mod Folded
+pub mod Functions
+pub mod Inclusive
+pub mod KeyReports
+pub mod KeyTexts
+pub mod Pairs
+pub mod Percents
+pub mod Ranking
+pub mod Verifying

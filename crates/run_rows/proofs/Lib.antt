@@ -1,4 +1,0 @@
-pub mod Finding
-pub mod Queueing
-pub mod RowLines
-pub mod RowsWritten

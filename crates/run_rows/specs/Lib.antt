@@ -1,3 +1,0 @@
-pub mod FromRows
-pub mod LinePuts
-pub mod Queues

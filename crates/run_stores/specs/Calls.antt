@@ -1,0 +1,130 @@
+-- What a store of runs stands for, what a call leaves of it, whatever it answers, and what it tells.
+use Rattle.std.specs.Prelude.{◌≡◌, ◌≤◌, ◌+◌, ◌-◌, ◌^◌, ◌⊎◌, ◌&&◌, ℕ, min, Bool, false, IsTrue, Result, IfOk}
+use Rattle.plain_tables.specs.Tables.{Tables}
+use Rattle.run_stores.specs.declared.states.StoreState.{Ghosts}
+
+-- the count of failures rose, unless it is at its top
+abbrev pub MoreFaults : ℕ → ℕ → Type 0
+MoreFaults old new = min (old + 1) (2 ^ 64 - 1) ≤ new
+
+-- ---- the lines before a change and behind it
+
+abbrev pub Are : Tables → Tables → Type 0
+Are m t = t ≡ m
+
+-- those that are in a state for it
+abbrev pub Given : (Tables → Type 0) → Tables → Tables → Type 0
+Given P m t = P m × (t ≡ m)
+
+abbrev pub Become : (Tables → Tables) → Tables → Tables → Type 0
+Become change m t = t ≡ change m
+
+module _ {S : Type 0} (g : Ghosts S) where
+  -- so far what was written is what was read
+  abbrev pub IsFaithful : S → Type 0
+  IsFaithful store = g.is_faithful store
+
+  -- false once what keeps it has failed for good: then each call fails until it is opened again
+  abbrev pub IsUsable : S → Type 0
+  IsUsable store = IsTrue (g.is_usable store)
+
+  -- between calls it stands for these lines, and so does what it made lasting
+  abbrev pub StandsFor : Tables → S → Type 0
+  StandsFor t store = g.stands_for t store
+
+  -- what it keeps is read as these lines, whoever wrote it
+  abbrev pub ReadsAs : Tables → S → Type 0
+  ReadsAs t store = g.reads_as t store
+
+  -- between calls it stands for lines that P holds of
+  pub record Rests (P : Tables → Type 0) (store : S) : Type 0 where
+    pub t : Tables
+    pub holds : P t
+    pub stands : StandsFor t store
+
+  -- ---- what a crash may leave
+
+  -- lines that P holds of
+  pub record Holds (P : Tables → Type 0) (left : g.Left) : Type 0 where
+    pub t : Tables
+    pub holds : P t
+    pub is : g.holds t left
+
+  -- what it could leave before, or what P holds of
+  abbrev pub LeavesOnly : S → S → (g.Left → Type 0) → Type 0
+  LeavesOnly old new P = (left : g.Left) → g.may_leave new left → g.may_leave old left ⊎ P left
+
+  -- what P holds of
+  abbrev pub LeavesJust : S → (g.Left → Type 0) → Type 0
+  LeavesJust store P = (left : g.Left) → g.may_leave store left → P left
+
+  -- ---- what a call leaves
+
+  -- no failure is forgotten, and only a failure makes the store unusable; no call mends it, and a call that is answered leaves it usable
+  pub record Stays (answered : Bool) (old new : S) : Type 0 where
+    pub was_faithful : IsFaithful old
+    pub counts : g.faults old ≤ g.faults new
+    pub closes : IsUsable old → IsUsable new ⊎ MoreFaults (g.faults old) (g.faults new)
+    pub was_usable : IsUsable new → IsUsable old
+    pub is_usable : IsTrue answered → IsUsable new
+
+  -- what it stood for, what was read in it, and between calls all that it keeps are as before, as long as it can be used
+  pub record Keeps (old new : S) : Type 0 where
+    pub stands : (t : Tables) → StandsFor t old → IsUsable new → StandsFor t new
+    pub reads : (t : Tables) → ReadsAs t old → IsUsable new → ReadsAs t new
+    pub same : g.is_settled (g.kept old) → IsUsable new → g.kept new ≡ g.kept old
+
+  -- a call that asks: it changes nothing, and makes nothing lasting, be the store usable or not
+  pub record Asked (answered : Bool) (old new : S) : Type 0 where
+    pub stays : Stays answered old new
+    pub kept : Keeps old new
+    pub crash : LeavesOnly old new (λ _. ⊥)
+
+  -- over a store that could not be used nothing more is made lasting: a crash leaves what it could leave before
+  abbrev pub KeepsIfShut : S → S → Type 0
+  KeepsIfShut old new = (IsUsable old → ⊥) → LeavesOnly old new (λ _. ⊥)
+
+  -- a call that changes what the store stands for, at one moment: each meaning that the lines had becomes what is said of it afterwards; where it is not done, all is as before; a crash leaves what it could leave before, or the change
+  pub record Changed {M : Type 0} (Before After : M → Tables → Type 0) (answered is_done : Bool) (old new : S) : Type 0 where
+    pub stays : Stays answered old new
+    pub done : IsTrue is_done → (m : M) → Rests (Before m) old → Rests (After m) new
+    pub kept : is_done ≡ false → Keeps old new
+    pub crash : (m : M) → Rests (Before m) old → LeavesOnly old new (Holds (After m))
+
+  -- ---- as calls say it
+
+  abbrev pub Asks : Bool → S → S → Type 0
+  Asks answered old new = IsFaithful new → Asked answered old new
+
+  -- what may be answered by what was read ahead tells nothing of a store that could not be used
+  abbrev pub AsksIfOpen : Bool → S → S → Type 0
+  AsksIfOpen answered old new = Asks (answered && g.is_usable old) old new
+
+  -- a call that changes the lines, where they are in a state for it
+  abbrev pub ChangesIf : Bool → (Tables → Type 0) → (Tables → Tables) → S → S → Type 0
+  ChangesIf done given change old new = IsFaithful new → Changed (Given given) (Become change) done done old new
+
+  -- any lines
+  abbrev pub Changes : Bool → (Tables → Tables) → S → S → Type 0
+  Changes done change old new = IsFaithful new → Changed Are (Become change) done done old new
+
+  abbrev pub KeepsShut : S → S → Type 0
+  KeepsShut old new = IsFaithful new → KeepsIfShut old new
+
+  -- ---- what is told
+
+  -- what an answer tells of the lines as which the store was read before the call
+  abbrev pub Tells : S → S → (Tables → Type 0) → Type 0
+  Tells old new P = IsFaithful new → (t : Tables) → ReadsAs t old → P t
+
+  -- what an answer and what is left tell of the lines that it stood for before the call
+  abbrev pub MakesOf : S → S → (Tables → Type 0) → Type 0
+  MakesOf old new P = IsFaithful new → (t : Tables) → StandsFor t old → P t
+
+  -- what is answered tells of those lines
+  abbrev pub Told : {T E : Type 0} → Result T E → S → S → (Tables → T → Type 0) → Type 0
+  Told result old new P = Tells old new (λ t. IfOk result (P t))
+
+  -- what is answered and left tells of the lines that it stood for
+  abbrev pub Made : {T E : Type 0} → Result T E → S → S → (Tables → T → Type 0) → Type 0
+  Made result old new P = MakesOf old new (λ t. IfOk result (P t))

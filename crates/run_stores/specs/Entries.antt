@@ -1,0 +1,40 @@
+-- The entries of lists, beside the lines that they show.
+use Rattle.std.specs.Prelude.{◌≡◌, ℕ, List, bytes_eq, filter, map, flat_map, string_bytes, IsPermutation}
+use Rattle.std.specs.List.{AllByRecursion}
+use Rattle.std.specs.Ordering.{nat_cmp}
+use Rattle.std.specs.Cmp.Lexicographic.{slice_cmp}
+use Rattle.std.specs.declared.cmp.Ordering.TheVariants.{Less}
+use Rattle.plain_tables.specs.Tables.{Tables, GroupLine, MemberLine}
+use Rattle.prof_books.specs.Entries.{HeldRun}
+use Rattle.profile_records.specs.Kinds.{kind_number}
+use Rattle.run_stores.specs.declared.entries.GroupEntry.{GroupEntry}
+use Rattle.run_stores.specs.declared.entries.RunEntry.{RunEntry}
+
+abbrev pub entry_run : RunEntry → HeldRun
+entry_run e = record { number = e.number; kind = kind_number e.kind; digest = e.digest; label = string_bytes e.label }
+
+-- ---- groups
+
+abbrev pub member_of : List ℕ → ℕ → MemberLine
+member_of name run = record { group = name; run = run }
+
+abbrev pub entry_group : GroupEntry → GroupLine
+entry_group e = record { name = string_bytes e.name; baseline = e.baseline }
+
+-- the members of an entry, one line for each
+abbrev pub entry_members : GroupEntry → List MemberLine
+entry_members e = map (member_of (string_bytes e.name)) e.members
+
+-- the members of a group
+abbrev pub members_in : List ℕ → List MemberLine → List MemberLine
+members_in name lines = filter (λ (m : MemberLine). bytes_eq m.group name) lines
+
+-- the groups, each with its members
+pub record AreGroups (t : Tables) (entries : List GroupEntry) : Type 0 where
+  pub groups : IsPermutation t.groups (map entry_group entries)
+  pub members : IsPermutation t.members (flat_map entry_members entries)
+  pub each : AllByRecursion (λ (e : GroupEntry). IsPermutation (members_in (string_bytes e.name) t.members) (entry_members e)) entries
+
+-- by the bytes of the names
+abbrev pub IsBefore : GroupEntry → GroupEntry → Type 0
+IsBefore a b = slice_cmp nat_cmp (string_bytes a.name) (string_bytes b.name) ≡ Less

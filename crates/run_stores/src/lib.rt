@@ -1,0 +1,21 @@
+//! Stores of runs: what each call of one tells and leaves, whatever keeps the tables.
+#![tactic(auto)]
+
+// The entries of lists (specs/Entries.antt).
+mod entries;
+// What a store is, for contracts alone (specs/Calls.antt).
+mod states;
+// The calls of a store.
+mod stores;
+// A file with the sums of its rows.
+mod summed;
+// What takes the rows of runs.
+mod takers;
+
+pub use entries::{GroupEntry, RunEntry};
+pub use plain_tables::{StoreError, is_group_name, is_label};
+pub use profile_records::Kind;
+pub use states::StoreState;
+pub use stores::RunStore;
+pub use summed::SummedFile;
+pub use takers::{TakesCalls, TakesCells, TakesStacks};

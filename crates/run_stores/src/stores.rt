@@ -1,0 +1,220 @@
+// The calls of a store of runs.
+ghost use Rattle.std.specs.Prelude.{◌≡◌, true, length, map, fold, IfOk};
+ghost use Rattle.std.specs.List.{AllAdjacentBelow};
+ghost use Rattle.std.specs.Result.{is_ok};
+ghost use Rattle.prof_books.specs.Book.{stacks_held};
+ghost use Rattle.prof_books.specs.Entries.{held_run};
+ghost use Rattle.prof_books.specs.HeldHeads.{IsHeadIn};
+ghost use Rattle.prof_books.specs.Totals.{IsHeldIn};
+ghost use Rattle.plain_tables.specs.Changes.{has_group, has_run, joined, with_baseline, with_group, without_group, without_member, without_run};
+ghost use Rattle.plain_tables.specs.Labels.{IsGroupName};
+ghost use Rattle.plain_tables.specs.RunLines.{arcs_in, cells_in};
+ghost use Rattle.run_stores.specs.Calls.{Asks, AsksIfOpen, Changes, ChangesIf, KeepsShut, Told};
+ghost use Rattle.run_stores.specs.Entries.{AreGroups, IsBefore, entry_run};
+ghost use Rattle.run_stores.specs.Lookups.{IsBaselineOf, IsKindOf, IsRunOf, members_in_tables, numbers_in_tables};
+ghost use Rattle.run_stores.specs.OwnSums.{AreOwnSums, events_of_run};
+ghost use Rattle.run_stores.specs.Runs.{with_summed};
+ghost use Rattle.run_stores.specs.Walks.{CallsCameTo, CellsCameTo};
+
+use crate::entries::{GroupEntry, RunEntry};
+use crate::states::StoreState;
+use crate::summed::SummedFile;
+use crate::takers::{TakesCalls, TakesCells, TakesStacks};
+use cg_formulas::FileHead;
+use cg_text::ListVec;
+use cost_rows::FileTotals;
+use plain_tables::StoreError;
+use profile_records::Kind;
+use std::alloc::Global;
+
+/// A store of runs. `Memory` where a growth is refused, and `Store` where what keeps the store fails or holds
+/// what is out of form: each call may answer them.
+pub trait RunStore: StoreState {
+    ghost use Rattle.std.specs.Prelude.{List};
+    ghost use Rattle.plain_tables.specs.Tables.{Tables, NameLine};
+
+    /// The names that are held, read once for any number of walks.
+    type Names: Drop;
+
+    /// The names as lines.
+    ghost name_lines: { Self.Names → List NameLine };
+
+    // ---- what is held
+
+    /// Whether a run is held.
+    fn has_run(&mut self, run: u32) -> Result<bool, StoreError>
+        ensures told { Told Self.StoreState result self.old self.new (λ t is. is ≡ has_run t run) }
+        ensures asks { Asks Self.StoreState (is_ok result) self.old self.new };
+
+    /// Whether a group is held.
+    fn has_group(&mut self, name: &str) -> Result<bool, StoreError>
+        ensures told { Told Self.StoreState result self.old self.new (λ t is. is ≡ has_group t name.now) }
+        ensures asks { Asks Self.StoreState (is_ok result) self.old self.new };
+
+    /// How many runs are held.
+    fn run_count(&mut self) -> Result<u64, StoreError>
+        ensures told { Told Self.StoreState result self.old self.new (λ t n. n ≡ length t.runs) }
+        ensures asks { Asks Self.StoreState (is_ok result) self.old self.new };
+
+    /// How many groups are held.
+    fn group_count(&mut self) -> Result<u64, StoreError>
+        ensures told { Told Self.StoreState result self.old self.new (λ t n. n ≡ length t.groups) }
+        ensures asks { Asks Self.StoreState (is_ok result) self.old self.new };
+
+    /// The number that the next run gets.
+    fn next_run(&mut self) -> Result<u32, StoreError>
+        ensures told { Told Self.StoreState result self.old self.new (λ t n. n ≡ t.next) }
+        ensures asks { Asks Self.StoreState (is_ok result) self.old self.new };
+
+    /// The run that has a digest, if one is held.
+    fn run_of_digest(&mut self, digest: &[u8]) -> Result<Option<u32>, StoreError>
+        ensures told { Told Self.StoreState result self.old self.new (IsRunOf digest.now) }
+        ensures asks { Asks Self.StoreState (is_ok result) self.old self.new };
+
+    /// The runs that are held, in the order of their numbers.
+    fn runs(&mut self, alloc: Global) -> Result<Vec<RunEntry>, StoreError>
+        ensures told { Told Self.StoreState result self.old self.new (λ t entries. map entry_run entries.items ≡ map held_run t.runs) }
+        ensures asks { Asks Self.StoreState (is_ok result) self.old self.new };
+
+    /// The groups with their members, by name.
+    fn groups(&mut self, alloc: Global) -> Result<Vec<GroupEntry>, StoreError>
+        ensures told { Told Self.StoreState result self.old self.new (λ t entries. AreGroups t entries.items) }
+        ensures rising { IfOk result (λ entries. AllAdjacentBelow IsBefore entries.items (length entries.items)) }
+        ensures asks { Asks Self.StoreState (is_ok result) self.old self.new };
+
+    /// The numbers of all runs, rising.
+    fn run_numbers(&mut self, alloc: Global) -> Result<ListVec<u32>, StoreError>
+        ensures told { Told Self.StoreState result self.old self.new (λ t numbers. numbers ≡ numbers_in_tables t) }
+        ensures asks { Asks Self.StoreState (is_ok result) self.old self.new };
+
+    /// The numbers of the runs that are in a group, rising: none where there is no such group.
+    fn members_of(&mut self, alloc: Global, name: &str) -> Result<ListVec<u32>, StoreError>
+        ensures told { Told Self.StoreState result self.old self.new (λ t numbers. numbers ≡ members_in_tables name.now t) }
+        ensures asks { Asks Self.StoreState (is_ok result) self.old self.new };
+
+    /// The kind of a run. `Store` where no such run is held.
+    fn kind_of(&mut self, run: u32) -> Result<Kind, StoreError>
+        ensures told { Told Self.StoreState result self.old self.new (IsKindOf run) }
+        ensures asks { Asks Self.StoreState (is_ok result) self.old self.new };
+
+    /// The baseline of a group, if it has one. `Store` where no such group is held.
+    fn baseline_of(&mut self, name: &str) -> Result<Option<u32>, StoreError>
+        ensures told { Told Self.StoreState result self.old self.new (IsBaselineOf name.now) }
+        ensures asks { Asks Self.StoreState (is_ok result) self.old self.new };
+
+    // ---- sums
+
+    /// For each of these event names the sum of its self costs and of the costs of its calls, over all
+    /// runs that are held and have it, and the number of calls of all runs. `Store` where a sum is
+    /// 2^112 or more.
+    fn totals_of(&mut self, alloc: Global, events: &[ListVec<u8>]) -> Result<FileTotals, StoreError>
+        ensures told { Told Self.StoreState result self.old self.new (λ t. IsHeldIn t events.now) }
+        ensures columns { IfOk result (λ totals. (length totals.self_cost ≡ length events.now) × (length totals.call_cost ≡ length events.now)) }
+        ensures asks { Asks Self.StoreState (is_ok result) self.old self.new };
+
+    /// The sums of a run's self costs, one for each event, in the order of their places: none where no
+    /// such run is held.
+    fn sums_of(&mut self, alloc: Global, run: u32) -> Result<ListVec<u128>, StoreError>
+        ensures told { Told Self.StoreState result self.old self.new (λ t. AreOwnSums (events_of_run run t)) }
+        ensures asks { Asks Self.StoreState (is_ok result) self.old self.new };
+
+    // ---- one run
+
+    /// What the file of a run that is held says of itself: its events, its derived events with their
+    /// coefficients, and the totals that it states. `Store` where no such run is held, or where its
+    /// lines are no head.
+    fn head_of(&mut self, alloc: Global, run: u32) -> Result<FileHead, StoreError>
+        ensures told { Told Self.StoreState result self.old self.new (λ t. IsHeadIn run t) }
+        ensures asks { Asks Self.StoreState (is_ok result) self.old self.new };
+
+    /// The names that are held: read once, for any number of walks.
+    fn names_of(&mut self, alloc: Global) -> Result<Self::Names, StoreError>
+        ensures told { Told Self.StoreState result self.old self.new (λ t names. name_lines names ≡ t.names) }
+        ensures asks { Asks Self.StoreState (is_ok result) self.old self.new };
+
+    /// Hands on the cells of a run, with so many events and these names: those of this store. What took
+    /// them all is handed back. `Store` also for a name that is not held and for a cell of none of the
+    /// events; and the errors of the taker.
+    fn each_cell<T: TakesCells + Drop>(
+        &mut self,
+        run: u32,
+        names: &Self::Names,
+        events: usize,
+        taker: T,
+    ) -> Result<T, StoreError>
+        ensures told { Told Self.StoreState result self.old self.new (λ t taken.
+            CellsCameTo (name_lines names.now) events T.step (T.meaning taker) (T.meaning taken) (cells_in run t)) }
+        ensures asks { AsksIfOpen Self.StoreState (is_ok result) self.old self.new };
+
+    /// Hands on the calls of a run, row by row, as `each_cell` its cells. `Store` also where the parts of
+    /// a row are out of form.
+    fn each_call<T: TakesCalls + Drop>(
+        &mut self,
+        alloc: Global,
+        run: u32,
+        names: &Self::Names,
+        events: usize,
+        taker: T,
+    ) -> Result<T, StoreError>
+        ensures told { Told Self.StoreState result self.old self.new (λ t taken.
+            CallsCameTo (name_lines names.now) events T.step (T.meaning taker) (T.meaning taken) (arcs_in run t)) }
+        ensures asks { AsksIfOpen Self.StoreState (is_ok result) self.old self.new };
+
+    /// Hands on the stacks of a run, as `each_cell` its cells.
+    fn each_stack<T: TakesStacks + Drop>(&mut self, run: u32, taker: T) -> Result<T, StoreError>
+        ensures told { Told Self.StoreState result self.old self.new (λ t taken. T.meaning taken ≡ fold T.step (T.meaning taker) (stacks_held run t)) }
+        ensures asks { AsksIfOpen Self.StoreState (is_ok result) self.old self.new };
+
+    // ---- changes
+
+    /// Puts a file as the run of a number, which no run had before (`next_run`): what its head says and the
+    /// sums of its rows. `digest` is the SHA-256 of the file, `label` a text in form (`is_label`). `Store`
+    /// also for a digest that is held, a sum of a column or a number of calls above 2^63-1, and a head that
+    /// states a total for some events alone.
+    fn put_run(
+        &mut self,
+        alloc: Global,
+        number: u32,
+        kind: Kind,
+        digest: &[u8; 32],
+        label: &str,
+        file: &SummedFile<'_>,
+    ) -> Result<(), StoreError>
+        ensures changes { ChangesIf Self.StoreState (is_ok result) (λ t. t.next ≡ number) (with_summed number kind digest.now label.now file.now) self.old self.new }
+        ensures shut { KeepsShut Self.StoreState self.old self.new };
+
+    /// Drops a run that is held, with all its lines. Groups lose it as a member and as a baseline;
+    /// its number is not used again, and names stay.
+    fn drop_run(&mut self, run: u32) -> Result<(), StoreError>
+        ensures changes { ChangesIf Self.StoreState (is_ok result) (λ t. has_run t run ≡ true) (without_run run) self.old self.new }
+        ensures shut { KeepsShut Self.StoreState self.old self.new };
+
+    /// Makes a group with no member and no baseline. The name is in form (`is_group_name`).
+    fn put_group(&mut self, name: &str) -> Result<(), StoreError>
+        requires { IsGroupName name.now }
+        ensures changes { Changes Self.StoreState (is_ok result) (with_group name.now) self.old self.new }
+        ensures shut { KeepsShut Self.StoreState self.old self.new };
+
+    /// Drops a group that is held, with its members; the runs stay.
+    fn drop_group(&mut self, name: &str) -> Result<(), StoreError>
+        ensures changes { ChangesIf Self.StoreState (is_ok result) (λ t. has_group t name.now ≡ true) (without_group name.now) self.old self.new }
+        ensures shut { KeepsShut Self.StoreState self.old self.new };
+
+    /// Takes a run into a group, where it may be already.
+    fn join(&mut self, name: &str, run: u32) -> Result<(), StoreError>
+        ensures changes { Changes Self.StoreState (is_ok result) (joined name.now run) self.old self.new }
+        ensures shut { KeepsShut Self.StoreState self.old self.new };
+
+    /// Takes a run out of a group.
+    fn leave(&mut self, name: &str, run: u32) -> Result<(), StoreError>
+        ensures changes { Changes Self.StoreState (is_ok result) (without_member name.now run) self.old self.new }
+        ensures shut { KeepsShut Self.StoreState self.old self.new };
+
+    /// Makes a run the baseline of a group, in place of an older one.
+    fn set_baseline(&mut self, name: &str, run: u32) -> Result<(), StoreError>
+        ensures changes { Changes Self.StoreState (is_ok result) (with_baseline name.now run) self.old self.new }
+        ensures shut { KeepsShut Self.StoreState self.old self.new };
+
+    /// What stands survives a crash.
+    ghost survives: { (t : Tables) (store : Self) (left : Self.Left) → Self.stands_for t store → Self.may_leave store left → Self.holds t left };
+}

@@ -1,0 +1,6 @@
+pub mod FilePuts
+pub mod Finding
+pub mod Queueing
+pub mod RowLines
+pub mod RowsWritten
+pub mod RunPuts

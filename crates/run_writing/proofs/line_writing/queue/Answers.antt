@@ -1,0 +1,13 @@
+use Rattle.std.proofs.Common.{true, [], ◌∷◌, ◌++◌, not, if◌then◌else◌, ap, subst, ◌∙◌}
+use Rattle.run_writing.specs.Queues.{Queues}
+use Rattle.run_writing.proofs.Queueing.{queues_waiting}
+use Rattle.run_writing.proofs.line_writing.queue.Goals as goal
+
+pub returns-else-len-eq50 : goal.returns-else-len-eq50
+returns-else-len-eq50 g c taken said =
+    let line = c.in-Some.line in
+    let held = c.args.waiting.now.items in
+    let waits = c.push.new.self.items in
+    let pushed = c.push.ensures.items ∙ ap (λ b. if b then held ++ line ∷ [] else held) (c.is_err.ensures.negation ∙ ap not c.if-is_err.false) in
+    subst (λ l. Queues g.S.Store g.L.Line.plain g.L.Line.with_lines true held (l ∷ []) waits c.args.tx.now c.args.tx.now) (rw c.in-Some.is at said)
+    (queues_waiting g.S.Store g.L.Line.with_lines g.L.Line.plain g.met.L.Line.none true held line waits c.args.tx.now pushed)

@@ -1,0 +1,13 @@
+use Rattle.std.proofs.Common.{true, take, ◌∷◌}
+use Rattle.store_schema.specs.Lines.{arc_line}
+use Rattle.plain_tables.specs.Changes.{with_arcs}
+use Rattle.prof_books.specs.Files.{arc_lines_from}
+use Rattle.run_writing.specs.FromRows.{call_of_arc, part_line}
+use Rattle.run_writing.specs.Queues.{Queues}
+use Rattle.run_writing.proofs.row_lines.ArcRowU32RefSliceU128BecomesLinesArcLine.queue_lines.Given as goal
+
+-- the calls' number and the costs so far are taken up
+abbrev pub invariant-costs : goal.invariant-costs
+invariant-costs g l =
+    let so_far = part_line l.run l.numbers l.self 0 l.self.count ∷ arc_lines_from l.run l.numbers (call_of_arc l.self) 1 (take l.column l.costs) in
+    Queues g.S.Store arc_line with_arcs true l.fn.waiting.items so_far l.waiting.items l.fn.tx l.tx

@@ -1,0 +1,5 @@
+pub mod FromRows
+pub mod LinePuts
+pub mod Queues
+pub mod Runs
+pub mod Sums

@@ -1,0 +1,122 @@
+// The rows of a file, and the lines that each becomes.
+ghost use Rattle.std.specs.Result.{is_ok};
+ghost use Rattle.run_writing.specs.FromRows.{cost_lines};
+ghost use Rattle.run_writing.specs.Queues.{QueuesArcs};
+
+use crate::file_lines::{arc_of, cell_of, stack_of};
+use crate::line_writing::queue;
+use crate::lines::LineOfMany;
+use cost_rows::{ArcRow, CellRow, StackRow};
+use sqlite::{Alter, Transaction};
+use std::alloc::Global;
+use store_schema::{ArcLine, CellLine, StackLine, StoreError};
+
+/// A row of a file, which becomes lines of a table.
+pub(crate) trait BecomesLines<L: LineOfMany + Drop> {
+    ghost use Rattle.std.specs.Prelude.{◌≡◌, ℕ, List};
+    ghost use Rattle.std.specs.Result.{is_ok};
+    ghost use Rattle.plain_tables.specs.Tables.{Tables};
+    ghost use Rattle.run_writing.specs.Queues.{Queues};
+
+    /// What its lines make of the tables, by the number of the run and the tables' numbers of the file's names.
+    ghost change: { ℕ → List ℕ → Self → Tables → Tables };
+
+    /// Takes up the lines of the row.
+    fn queue_lines<S: Alter>(
+        &self,
+        tx: &mut Transaction<'_, S>,
+        alloc: Global,
+        waiting: &mut Vec<L>,
+        run: u32,
+        numbers: &[u32],
+    ) -> Result<(), StoreError>
+        ensures { (lines : List L.Plain) × (L.with_lines lines ≡ change run numbers.now self.now)
+            × Queues S.Store L.plain L.with_lines (is_ok result) waiting.old.items lines waiting.new.items tx.old tx.new };
+}
+
+impl BecomesLines<CellLine> for CellRow<u32> {
+    ghost use Rattle.std.specs.Prelude.{◌∷◌, []};
+    ghost use Rattle.plain_tables.specs.Changes.{with_cells};
+    ghost use Rattle.run_writing.specs.FromRows.{line_of_cell};
+
+    ghost change = { λ run numbers row. with_cells (line_of_cell run numbers row ∷ []) };
+
+    fn queue_lines<S: Alter>(
+        &self,
+        tx: &mut Transaction<'_, S>,
+        alloc: Global,
+        waiting: &mut Vec<CellLine>,
+        run: u32,
+        numbers: &[u32],
+    ) -> Result<(), StoreError> {
+        queue(tx, alloc, waiting, cell_of(run, numbers, self))
+    }
+}
+
+impl<'a> BecomesLines<StackLine<'a>> for StackRow<&'a [u8]> {
+    ghost use Rattle.std.specs.Prelude.{◌∷◌, []};
+    ghost use Rattle.plain_tables.specs.Changes.{with_stacks};
+    ghost use Rattle.run_writing.specs.FromRows.{line_of_stack};
+
+    ghost change = { λ run numbers row. with_stacks (line_of_stack run row ∷ []) };
+
+    fn queue_lines<S: Alter>(
+        &self,
+        tx: &mut Transaction<'_, S>,
+        alloc: Global,
+        waiting: &mut Vec<StackLine<'a>>,
+        run: u32,
+        _numbers: &[u32],
+    ) -> Result<(), StoreError> {
+        queue(tx, alloc, waiting, stack_of(run, self))
+    }
+}
+
+/// Takes up a cost of the calls of a row, unless it is 0.
+fn put_cost<S: Alter>(
+    tx: &mut Transaction<'_, S>,
+    alloc: Global,
+    waiting: &mut Vec<ArcLine>,
+    run: u32,
+    numbers: &[u32],
+    row: &ArcRow<u32, &[u128]>,
+    part: usize,
+    cost: u128,
+) -> Result<(), StoreError>
+    ensures { QueuesArcs S.Store (is_ok result) waiting.old.items (cost_lines run numbers.now row.now part cost) waiting.new.items tx.old tx.new }
+{
+    if cost > 0 {
+        queue(tx, alloc, waiting, arc_of(run, numbers, row, part, cost))
+    } else {
+        Ok(())
+    }
+}
+
+/// Their number, and each cost above 0.
+impl BecomesLines<ArcLine> for ArcRow<u32, &[u128]> {
+    ghost use Rattle.plain_tables.specs.Changes.{with_arcs};
+    ghost use Rattle.run_writing.specs.FromRows.{row_lines};
+
+    ghost change = { λ run numbers row. with_arcs (row_lines run numbers row) };
+
+    fn queue_lines<S: Alter>(
+        &self,
+        tx: &mut Transaction<'_, S>,
+        alloc: Global,
+        waiting: &mut Vec<ArcLine>,
+        run: u32,
+        numbers: &[u32],
+    ) -> Result<(), StoreError> {
+        queue(
+            tx,
+            alloc,
+            waiting,
+            arc_of(run, numbers, self, 0, self.count),
+        )?;
+        let costs = self.costs;
+        'costs: for (column, cost) in costs.iter().enumerate() {
+            put_cost(tx, alloc, waiting, run, numbers, self, column + 1, *cost)?;
+        }
+        Ok(())
+    }
+}

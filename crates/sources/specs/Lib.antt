@@ -1,4 +1,0 @@
-pub mod Outcomes
-pub mod Takes
-pub mod Reads
-pub mod Known

@@ -1,0 +1,213 @@
+// The store of runs over SQLite tables.
+ghost use Rattle.std.specs.Prelude.{◌≡◌};
+
+use cg_formulas::FileHead;
+use cg_text::ListVec;
+use cost_rows::FileTotals;
+use held_runs::HeldNames;
+use prof_store::Store;
+use profile_records::Kind;
+use run_stores::{
+    GroupEntry, RunEntry, RunStore, StoreError, StoreState, SummedFile, TakesCalls, TakesCells,
+    TakesStacks,
+};
+use sqlite::{Alter, Connection};
+use std::alloc::Global;
+
+/// A store of runs in the tables of schema 2.
+#[derive(Drop)]
+pub struct SqlRuns<S: Alter> {
+    pub store: Store<S>,
+}
+
+impl<S: Alter> SqlRuns<S> {
+    /// Hands the connection back.
+    pub fn into_connection(self) -> Connection<S>
+        ensures { result ≡ self.store.conn }
+    {
+        let SqlRuns { store } = self;
+        store.into_connection()
+    }
+}
+
+impl<S: Alter> StoreState for SqlRuns<S> {
+    ghost use Rattle.sqlite_trees.specs.Tree.{Trees};
+    ghost use Rattle.store_schema.specs.Tables.{Holds};
+    ghost use Rattle.store_schema.proofs.Sound.{sound_of};
+    ghost use Rattle.prof_store.specs.Shown.{shown, IsFaithful, ReadsAs, StandsFor};
+    ghost use Rattle.prof_store.proofs.Told.{rests_said};
+    ghost use Rattle.sql_runs.specs.States.{IsSettled, Kept, kept_in};
+
+    ghost Kept = { Kept };
+
+    ghost kept = { kept_in S.Store };
+
+    ghost is_settled = { IsSettled };
+
+    ghost Left = { Trees };
+
+    ghost holds = { Holds };
+
+    ghost may_leave = { λ s. (shown S.Store s.store).may_leave };
+
+    ghost stands_for = { λ t s. StandsFor S.Store t s.store };
+
+    ghost reads_as = { λ t s. ReadsAs S.Store t s.store };
+
+    ghost is_faithful = { λ s. IsFaithful S.Store s.store };
+
+    ghost is_usable = { λ s. (shown S.Store s.store).is_open };
+
+    ghost faults = { λ s. (shown S.Store s.store).faults };
+
+    ghost usable = { λ t s stands. stands.usable };
+
+    ghost said = { λ t s stands. rests_said t (shown S.Store s.store) stands };
+
+    ghost readable = { λ t s reads. reads.usable };
+
+    ghost sound = { λ t s stands. sound_of t (shown S.Store s.store).now.trees stands.holds };
+
+    ghost left_sound = { sound_of };
+}
+
+impl<S: Alter> RunStore for SqlRuns<S> {
+    type Names = HeldNames;
+
+    ghost name_lines = { λ names. names };
+
+    fn has_run(&mut self, run: u32) -> Result<bool, StoreError> {
+        self.store.has_run(run)
+    }
+
+    fn has_group(&mut self, name: &str) -> Result<bool, StoreError> {
+        self.store.has_group(name)
+    }
+
+    fn run_count(&mut self) -> Result<u64, StoreError> {
+        self.store.run_count()
+    }
+
+    fn group_count(&mut self) -> Result<u64, StoreError> {
+        self.store.group_count()
+    }
+
+    fn next_run(&mut self) -> Result<u32, StoreError> {
+        self.store.next_run()
+    }
+
+    fn run_of_digest(&mut self, digest: &[u8]) -> Result<Option<u32>, StoreError> {
+        self.store.run_of_digest(digest)
+    }
+
+    fn runs(&mut self, alloc: Global) -> Result<Vec<RunEntry>, StoreError> {
+        self.store.runs(alloc)
+    }
+
+    fn groups(&mut self, alloc: Global) -> Result<Vec<GroupEntry>, StoreError> {
+        self.store.groups(alloc)
+    }
+
+    fn run_numbers(&mut self, alloc: Global) -> Result<ListVec<u32>, StoreError> {
+        held_runs::run_numbers(&mut self.store, alloc)
+    }
+
+    fn members_of(&mut self, alloc: Global, name: &str) -> Result<ListVec<u32>, StoreError> {
+        held_runs::members_of(&mut self.store, alloc, name)
+    }
+
+    fn kind_of(&mut self, run: u32) -> Result<Kind, StoreError> {
+        held_runs::kind_of(&mut self.store, run)
+    }
+
+    fn baseline_of(&mut self, name: &str) -> Result<Option<u32>, StoreError> {
+        held_runs::baseline_of(&mut self.store, name)
+    }
+
+    fn totals_of(
+        &mut self,
+        alloc: Global,
+        events: &[ListVec<u8>],
+    ) -> Result<FileTotals, StoreError> {
+        self.store.totals_of(alloc, events)
+    }
+
+    fn sums_of(&mut self, alloc: Global, run: u32) -> Result<ListVec<u128>, StoreError> {
+        held_runs::sums_of(&mut self.store, alloc, run)
+    }
+
+    fn head_of(&mut self, alloc: Global, run: u32) -> Result<FileHead, StoreError> {
+        held_runs::head_of(&mut self.store, alloc, run)
+    }
+
+    fn names_of(&mut self, alloc: Global) -> Result<HeldNames, StoreError> {
+        held_runs::names_of(&mut self.store, alloc)
+    }
+
+    fn each_cell<T: TakesCells + Drop>(
+        &mut self,
+        run: u32,
+        names: &HeldNames,
+        events: usize,
+        taker: T,
+    ) -> Result<T, StoreError> {
+        held_runs::each_cell(&mut self.store, run, names, events, taker)
+    }
+
+    fn each_call<T: TakesCalls + Drop>(
+        &mut self,
+        alloc: Global,
+        run: u32,
+        names: &HeldNames,
+        events: usize,
+        taker: T,
+    ) -> Result<T, StoreError> {
+        held_runs::each_call(&mut self.store, alloc, run, names, events, taker)
+    }
+
+    fn each_stack<T: TakesStacks + Drop>(&mut self, run: u32, taker: T) -> Result<T, StoreError> {
+        held_runs::each_stack(&mut self.store, run, taker)
+    }
+
+    fn put_run(
+        &mut self,
+        alloc: Global,
+        number: u32,
+        kind: Kind,
+        digest: &[u8; 32],
+        label: &str,
+        file: &SummedFile<'_>,
+    ) -> Result<(), StoreError> {
+        run_writing::put_run(&mut self.store, alloc, number, kind, digest, label, file)
+    }
+
+    fn drop_run(&mut self, run: u32) -> Result<(), StoreError> {
+        self.store.drop_run(run)
+    }
+
+    fn put_group(&mut self, name: &str) -> Result<(), StoreError> {
+        self.store.put_group(name)
+    }
+
+    fn drop_group(&mut self, name: &str) -> Result<(), StoreError> {
+        self.store.drop_group(name)
+    }
+
+    fn join(&mut self, name: &str, run: u32) -> Result<(), StoreError> {
+        self.store.join(name, run)
+    }
+
+    fn leave(&mut self, name: &str, run: u32) -> Result<(), StoreError> {
+        self.store.leave(name, run)
+    }
+
+    fn set_baseline(&mut self, name: &str, run: u32) -> Result<(), StoreError> {
+        self.store.set_baseline(name, run)
+    }
+
+    ghost use Rattle.std.proofs.Common.{sym, subst, ap, ◌∙◌};
+    ghost use Rattle.sqlite.specs.Effect.{Database};
+    ghost use Rattle.store_schema.specs.Tables.{Holds};
+
+    ghost survives = { λ t s db was may. subst (Holds t) (sym (S.settled s.store.conn.store db was.usable may ∙ ap (λ (d : Database). d.trees) was.settled)) was.holds };
+}

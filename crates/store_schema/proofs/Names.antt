@@ -1,0 +1,113 @@
+-- The table tells names apart, and a query finds the number of one.
+use Rattle.std.proofs.Common.{◌≡◌, inl, inr, ℕ, List, [], ◌∷◌, map, pos, Bool, true, false, not, ◌&&◌, bytes_eq, Some, refl, sym, ap, ap₂, subst, ◌∙◌, arith, eqb, int_cmp, if◌then◌else◌}
+use Rattle.std.proofs.lemmas.Bool.{and_parts}
+use Rattle.std.proofs.lemmas.Bool.Decides.{nat_tests}
+use Rattle.std.proofs.lemmas.Int.{ints}
+use Rattle.std.proofs.lemmas.Slice.Eq.{bytes_eq-Decides}
+use Rattle.std.specs.declared.cmp.Ordering.{Ordering}
+use Rattle.std.specs.declared.cmp.Ordering.TheVariants.{Less, Equal, Greater}
+use Rattle.std.specs.Ordering.{is_ne}
+use Rattle.sqlite_value.specs.Order.{Row, value_cmp, column}
+use Rattle.sqlite_value.specs.Keys.{first_key, plain}
+use Rattle.sqlite_value.specs.declared.value.Value.TheVariants.{Blob}
+use Rattle.sqlite_value.proofs.OrderLemmas.{value_cmp-Int}
+use Rattle.sqlite_trees.specs.Tree.{Trees}
+use Rattle.sqlite_sql.specs.Ops.{binary, is_true, from_truth}
+use Rattle.sqlite_schema.specs.declared.schema.Constraint.TheVariants.{Unique}
+use Rattle.sqlite_schema.specs.Rules.{passes as obeys, clashes, differ, agree}
+use Rattle.sqlite_rules.specs.Lists.{Has}
+use Rattle.sqlite_rules.proofs.ListLemmas.{all_has, some_has, some_from}
+use Rattle.sqlite_rules.proofs.ProbeLemmas.{has_mapped, mapped_has}
+use Rattle.sqlite_tied.proofs.RuleLemmas.{and_true}
+use Rattle.sql_tables.proofs.Contents.{content_there}
+use Rattle.sql_tables.proofs.Rows.{passes}
+use Rattle.sql_tables.proofs.Queries.{Selects, shown_row, row_shown}
+use Rattle.store_schema.specs.Schema.{schema_two, name_at}
+use Rattle.plain_tables.specs.Tables.{Tables, NameLine}
+use Rattle.store_schema.specs.Tables.{Holds, contents_of, name_columns, number}
+use Rattle.plain_tables.specs.Changes.{has_name}
+use Rattle.plain_tables.specs.Files.{number_in}
+use Rattle.store_schema.proofs.Means.{id_of_name_terms, id_of_name_shown, id_of_name_order}
+use Rattle.store_schema.proofs.Values.{blobs_equal}
+
+-- the rows of the names
+name_rows : (t : Tables) (db : Trees) → Holds t db → db 11 ≡ map name_columns t.names
+name_rows t db h = (content_there schema_two.tables (contents_of t) db 5 name_at refl h.contain.contents_are).rows_are
+
+-- SQL's <> on two numbers
+numbers_differ : (a b : ℕ) → differ (number a) (number b) ≡ not (eqb a b)
+unfolding binary
+numbers_differ a b = go (value_cmp (number a) (number b)) ∙ ap is_ne (value_cmp-Int (pos a) (pos b)) ∙ same
+  where
+    go : (o : Ordering) → is_true (from_truth (Some (is_ne o))) ≡ is_ne o
+    go Less = refl
+    go Equal = refl
+    go Greater = refl
+
+    same : is_ne (int_cmp (pos a) (pos b)) ≡ not (eqb a b)
+    same = grind (arith, ints, nat_tests)
+
+-- no row has the bytes of another
+unclashed : (db : Trees) (row : Row) → obeys Unique schema_two db name_at row ≡ true → not (clashes plain (2 ∷ []) (db 11) row) ≡ true
+unclashed db row h = (and_parts _ _ h).0
+
+agrees : (a b : NameLine) → agree plain (2 ∷ []) (name_columns a) (2 ∷ []) (name_columns b) ≡ bytes_eq a.name b.name
+unfolding first_key
+agrees a b = and_true _ ∙ blobs_equal a.name b.name
+
+-- lines of one name have one number
+same_number : (t : Tables) (db : Trees) → Holds t db → (a b : NameLine) → Has t.names a → Has t.names b → bytes_eq a.name b.name ≡ true → a.number ≡ b.number
+same_number t db h a b has_a has_b same = go (eqb a.number b.number) refl
+  where
+    at : (line : NameLine) → Has t.names line → Has (db 11) (name_columns line)
+    at line there = subst (λ rows. Has rows (name_columns line)) (sym (name_rows t db h)) (mapped_has name_columns t.names line there)
+
+    alone : not (clashes plain (2 ∷ []) (db 11) (name_columns b)) ≡ true
+    alone = unclashed db (name_columns b) (all_has _ (db 11) (name_columns b) (h.contain.sound.obeys.rules Unique).1.1.1.1.1.0 (at b has_b))
+
+    go : (c : Bool) → eqb a.number b.number ≡ c → a.number ≡ b.number
+    go true e = grind (arith, nat_tests)
+    go false e =
+        let clash : agree plain (2 ∷ []) (name_columns a) (2 ∷ []) (name_columns b) && differ (number a.number) (number b.number) ≡ true = ap₂ ◌&&◌ (agrees a b ∙ same) (numbers_differ a.number b.number ∙ ap not e) in
+        let found : clashes plain (2 ∷ []) (db 11) (name_columns b) ≡ true = some_from _ (db 11) (name_columns a) (at a has_a) clash in
+        absurd (let bad : false ≡ true = sym (ap not found) ∙ alone in cc)
+
+-- a line's number is its name's, where lines of that name have one number
+number_of_line : (lines : List NameLine) (name : List ℕ) (line : NameLine) → ((a : NameLine) → Has lines a → bytes_eq a.name name ≡ true → a.number ≡ line.number) → Has lines line → bytes_eq line.name name ≡ true → number_in lines name ≡ line.number
+number_of_line [] name line one there is = absurd there
+number_of_line (first ∷ lines) name line one there is = go (bytes_eq first.name name) refl there (λ later. number_of_line lines name line (λ a h. one a (inr h)) later is)
+  where
+    go : (b : Bool) → bytes_eq first.name name ≡ b → Has (first ∷ lines) line → (Has lines line → number_in lines name ≡ line.number) → (if b then first.number else number_in lines name) ≡ line.number
+    go true e h more = one first (inl refl) e
+    go false e (inl same) more = absurd (let bad : false ≡ true = sym e ∙ ap (λ (l : NameLine). bytes_eq l.name name) (sym same) ∙ is in cc)
+    go false e (inr later) more = more later
+
+-- names that equal a third are equal
+equal_both : (a b c : List ℕ) → bytes_eq a c ≡ true → bytes_eq b c ≡ true → bytes_eq a b ≡ true
+equal_both a b c x y = (bytes_eq-Decides a b).1 ((bytes_eq-Decides a c).0 x ∙ sym ((bytes_eq-Decides b c).0 y))
+
+-- the row's test is the name's
+name_passes : (name : List ℕ) (line : NameLine) → passes (Blob name ∷ []) id_of_name_terms (name_columns line) ≡ bytes_eq line.name name
+name_passes name line = and_true _ ∙ blobs_equal line.name name
+
+module _ (t : Tables) (db : Trees) (was : Holds t db) (name : List ℕ) where
+  -- a row of the answer shows the number of the name, which is held
+  pub shows_number : (answer : List Row) (row : Row) → Selects 11 id_of_name_terms id_of_name_shown id_of_name_order (db 11) (Blob name ∷ []) answer → Has answer row
+      → (has_name t name ≡ true) × (column row 0 ≡ number (number_in t.names name))
+  shows_number answer row s there =
+      let r = shown_row 11 id_of_name_terms id_of_name_shown id_of_name_order (db 11) (Blob name ∷ []) answer s row there in
+      let l = has_mapped name_columns t.names r.0 (subst (λ rows. Has rows r.0) (name_rows t db was) r.1) in
+      let is : bytes_eq l.0.name name ≡ true = sym (name_passes name l.0) ∙ ap (passes (Blob name ∷ []) id_of_name_terms) (sym l.2) ∙ r.2 in
+      let same = number_of_line t.names name l.0 (λ a h e. same_number t db was a l.0 h l.1 (equal_both a.name l.0.name name e is)) l.1 is in
+      (some_from _ t.names l.0 l.1 is, ap (λ o. column o 0) r.3 ∙ ap (λ o. column o 0) l.2 ∙ ap number (sym same))
+
+  -- where there is no row the name is not held
+  pub shows_none : Selects 11 id_of_name_terms id_of_name_shown id_of_name_order (db 11) (Blob name ∷ []) [] → has_name t name ≡ false
+  shows_none s = go (has_name t name) refl
+    where
+      go : (b : Bool) → has_name t name ≡ b → b ≡ false
+      go false e = refl
+      go true e =
+          let l = some_has (λ (line : NameLine). bytes_eq line.name name) t.names e in
+          let there = subst (λ rows. Has rows (name_columns l.0)) (sym (name_rows t db was)) (mapped_has name_columns t.names l.0 l.1) in
+          absurd (row_shown 11 id_of_name_terms id_of_name_shown id_of_name_order (db 11) (Blob name ∷ []) [] s (name_columns l.0) there (name_passes name l.0 ∙ l.2))

@@ -1,0 +1,15 @@
+pub mod Created
+pub mod Errors
+pub mod First
+pub mod Lines
+pub mod Making
+pub mod ManyTexts
+pub mod Migrated
+pub mod Names
+pub mod Schema
+pub mod Seen
+pub mod Steps
+pub mod Tables
+pub mod Texts
+pub mod WalkTexts
+pub mod Within

@@ -1,0 +1,42 @@
+//! The tables of a store of profiles: their schema, what they hold as plain lists and what each SQL text
+//! makes of them; what their columns may hold; and how they are made, or migrated from version 1, each in
+//! one transaction.
+#![tactic(auto)]
+
+// The values in the columns of a row (specs/Names.antt).
+mod columns;
+// Why the store refuses (specs/Errors.antt).
+mod errors;
+// The kinds of runs, as numbers.
+mod kinds;
+// Digests and labels in the columns of a row.
+mod labels;
+// The lines of the tables.
+mod lines;
+// Makes the tables of a new store (specs/Created.antt is what they are then).
+mod making;
+// Makes version 2 of a store of version 1 (specs/Migrated.antt is what its tables are then).
+mod moving;
+// Rows, read into lists.
+mod row_lists;
+// Whole numbers that a column can hold.
+mod whole;
+// The call through which every statement within a transaction goes (specs/Within.antt, Steps.antt).
+mod writing;
+
+pub use columns::{
+    bytes_at, first_number, number_at, number_or_null_at, sum_at, text_at, text_or_null_at,
+    whole_at,
+};
+pub use errors::{OpenError, OutOfForm, error_of};
+pub use kinds::{kind_at, number_of_kind};
+pub use labels::{digest_at, label_at};
+pub use lines::{
+    ArcLine, CellLine, CoefLine, DerivedLine, EventLine, HeadLines, HeldStack, RunLine, StackLine,
+};
+pub use making::create_tables;
+pub use moving::migrate;
+pub use plain_tables::{StoreError, is_group_name, is_label};
+pub use row_lists::{FromRow, Rises, read_rising, read_rows, rise};
+pub use whole::{Whole, small_of, whole_of};
+pub use writing::write_inside;

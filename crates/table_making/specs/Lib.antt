@@ -1,3 +1,0 @@
-pub mod Created
-pub mod Making
-pub mod Migrated
