@@ -24,6 +24,6 @@ pub use imported::FileSource;
 pub use opened::Opened;
 pub use reading::{Unread, read_all};
 pub use source::{ReadFault, Source};
-pub use takes::TakesBytes;
-pub use whole::read_whole;
+pub use takes::ByteSink;
+pub use whole::read_to_end;
 pub use writing::write_text;

@@ -4,7 +4,7 @@ ghost use Rattle.byte_io.specs.Takes.{HasRoom, Takes};
 ghost use Rattle.byte_io.specs.Reads.{WasRead};
 
 use crate::source::Source;
-use crate::takes::TakesBytes;
+use crate::takes::ByteSink;
 use std::alloc::{AllocError, Global};
 
 /// How many bytes are read at a time.
@@ -30,7 +30,7 @@ impl From<AllocError> for Unread {
 }
 
 /// Hands on what a source gives, by way of a buffer.
-fn read_through<S: Source, T: TakesBytes>(
+fn read_through<S: Source, T: ByteSink>(
     source: &mut S,
     buffer: &mut [u8],
     limit: u64,
@@ -59,7 +59,7 @@ fn read_through<S: Source, T: TakesBytes>(
 
 /// Hands on what a source gives to its end, or until that is more than `limit` bytes. Every error of
 /// a read is a failed read, an interrupted one too.
-pub fn read_all<S: Source, T: TakesBytes>(
+pub fn read_all<S: Source, T: ByteSink>(
     alloc: Global,
     limit: u64,
     source: &mut S,

@@ -4,7 +4,7 @@ ghost use Rattle.std.specs.Prelude.{OnOk, length};
 use std::alloc::AllocError;
 
 /// Takes the bytes of a file, a piece at a time.
-pub trait TakesBytes {
+pub trait ByteSink {
     ghost use Rattle.std.specs.Prelude.{ℕ, List};
     ghost use Rattle.byte_io.specs.Takes.{HasRoom, Takes};
 

@@ -4,7 +4,7 @@ ghost use Rattle.byte_io.specs.Reads.{WasRead};
 
 use crate::reading::{Unread, read_all};
 use crate::source::Source;
-use crate::takes::TakesBytes;
+use crate::takes::ByteSink;
 use std::alloc::{AllocError, Global};
 
 /// The bytes that were read so far.
@@ -13,7 +13,7 @@ struct Gathered {
     bytes: Vec<u8>,
 }
 
-impl TakesBytes for Gathered {
+impl ByteSink for Gathered {
     ghost use Rattle.std.specs.Prelude.{◌≡◌};
 
     ghost Form = { Unit {0} };
@@ -28,7 +28,7 @@ impl TakesBytes for Gathered {
 
 /// The bytes that a source gives to its end, or until that is more than `limit` bytes. Every error of a
 /// read is a failed read, an interrupted one too.
-pub fn read_whole<S: Source>(alloc: Global, limit: u64, source: &mut S) -> Result<Vec<u8>, Unread>
+pub fn read_to_end<S: Source>(alloc: Global, limit: u64, source: &mut S) -> Result<Vec<u8>, Unread>
     requires { limit ≤ 1073741824 }
     ensures { WasRead S.reads limit source.old source.new result (λ bytes whole. whole.items ≡ bytes) }
 {

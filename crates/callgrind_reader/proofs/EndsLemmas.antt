@@ -1,4 +1,4 @@
--- What a file comes to.
+-- What a file is read as.
 use Rattle.std.proofs.Common.{◌≡◌, ℕ, List, map, Result, Ok, Err, IsErrAnd, ◌∙◌}
 use Rattle.cg_text.specs.Lines.{lines_of}
 use Rattle.cg_text.specs.Readings.{reading_of}
@@ -10,7 +10,7 @@ use Rattle.callgrind_reader.specs.Ends.{Comes}
 use Rattle.callgrind_reader.specs.Reads.{Ended, MatchMemory}
 use Rattle.callgrind_reader.proofs.ExactLemmas.{exact-fault}
 
--- what the lines of a file come to is what the file comes to
+-- what the lines of a file are read as is what the file is read as
 pub ended : (r : Result FileHead ReadError) (text : List ℕ) → Comes r (end_of text) → Ended r text
 ended (Ok head) text h = (exact-fault (map reading_of (lines_of text)) ∙ h.0, record { events = h.1.events; own = h.1.derived.events; derived = h.1.derived.derived; stated = h.1.stated })
 ended (Err (ends.Fault fault line)) text h = exact-fault (map reading_of (lines_of text)) ∙ h

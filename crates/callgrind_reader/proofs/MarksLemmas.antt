@@ -14,7 +14,7 @@ use Rattle.callgrind_reader.specs.Calls.{number_after, called, callee_of}
 use Rattle.callgrind_reader.specs.Lines.{cost_of}
 use Rattle.callgrind_reader.specs.Threads.{thread_of}
 use Rattle.callgrind_reader.specs.Names.{in_force}
-use Rattle.callgrind_reader.specs.Stands.{NamesAre}
+use Rattle.callgrind_reader.specs.Representation.{NamesAre}
 use Rattle.callgrind_reader.specs.Marks.{AreLent, AreOwn, AreCalled, own_text, IsLent, StillIs, KnownHolds, MarksStay, space_of}
 use Rattle.callgrind_reader.specs.declared.names.Names.{Names}
 use Rattle.callgrind_reader.specs.declared.spaces.Space.{Space}

@@ -66,8 +66,8 @@ fault_is (Some f) row front (Err e) is = let same : f ≡ e = cc in ap Some same
 pub stated_refused : (line : ℕ) (key : StatedKey) (value row front : List ℕ) (old new : headers.Header) (fault : Option Fault) → list_or fault row ≡ with_front front (each amount_of (fields_of value)) → is_some fault ≡ true → TakesHeader line (header_key key) value old fault new
 stated_refused line key value row front old new None is some = cc
 stated_refused line key value row front old new (Some f) is some = record {
-  fault_is = λ back stands. fault_is (Some f) row front (each amount_of (fields_of value)) is ∙ sym (stated_fault key value back);
-  stands = λ back stands at none. cc;
+  fault_is = λ back represents. fault_is (Some f) row front (each amount_of (fields_of value)) is ∙ sym (stated_fault key value back);
+  represents = λ back represents at none. cc;
 }
 
 -- ---- as a list

@@ -1,4 +1,4 @@
--- A column of positions as it is read, there or not, after a position that stands for offsets: those up less those down.
+-- A column of positions as it is read, there or not, after a position that represents offsets: those up less those down.
 use Rattle.std.specs.Prelude.{◌≡◌, ℕ, ◌+◌, ◌<◌, Bool, true, if◌then◌else◌, List, length, Ok, Err}
 use Rattle.cg_text.specs.declared.faults.Fault.{Fault}
 use Rattle.callgrind_reader.specs.Positions.{up, down, moved, placed, column, behind}

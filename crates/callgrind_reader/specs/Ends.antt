@@ -1,4 +1,4 @@
--- What the lines so far come to if no more come.
+-- What the lines so far are read as if no more come.
 use Rattle.std.specs.Prelude.{◌≡◌, ℕ, List, length, Option, Some, None, Result, Ok, Err}
 use Rattle.cg_formulas.specs.Flats.{FlatOf}
 use Rattle.cg_text.specs.Readings.{Reading}

@@ -7,7 +7,7 @@ use Rattle.cg_text.specs.declared.words.HeaderKey.{HeaderKey}
 use Rattle.callgrind_reader.specs.Calls.{number_after}
 use Rattle.callgrind_reader.specs.Files.{names_or_none}
 use Rattle.callgrind_reader.specs.Lines.{header_fault}
-use Rattle.callgrind_reader.specs.Stands.{HeaderIs}
+use Rattle.callgrind_reader.specs.Representation.{HeaderIs}
 use Rattle.callgrind_reader.specs.Stated.{stated_lines}
 use Rattle.callgrind_reader.specs.Totals.{stated_of}
 use Rattle.callgrind_reader.specs.declared.header.Header.{Header}
@@ -17,10 +17,10 @@ pub record HeaderKeeps (old new : Header) : Type 0 where
   pub events : IfSome old.events.names (λ names. new.events.names ≡ Some names)
   pub lines : stated_lines new.stated ≤ stated_lines old.stated + 1
 
--- a header line of this number was read: this is its fault, and with none the header stands for the lines with it
+-- a header line of this number was read: this is its fault, and with none the header represents the lines with it
 pub record TakesHeader (line : ℕ) (key : HeaderKey) (value : List ℕ) (old : Header) (fault : Option Fault) (new : Header) : Type 0 where
   pub fault_is : (back : List Reading) → HeaderIs old back → fault ≡ header_fault key value back
-  pub stands : (back : List Reading) → HeaderIs old back → line ≡ number_after back → fault ≡ None → HeaderIs new (Ok (kinds.Header key value) ∷ back)
+  pub represents : (back : List Reading) → HeaderIs old back → line ≡ number_after back → fault ≡ None → HeaderIs new (Ok (kinds.Header key value) ∷ back)
 
 -- the totals that are stated, one for each event
 abbrev pub StatesTotals : Header → Option (List ℕ) → Type 0

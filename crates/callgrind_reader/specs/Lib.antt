@@ -22,7 +22,7 @@ pub mod Places
 pub mod Parts
 pub mod Accept
 pub mod Stated
-pub mod Stands
+pub mod Representation
 pub mod Headers
 pub mod Steps
 pub mod Cut

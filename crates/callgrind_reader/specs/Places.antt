@@ -1,4 +1,4 @@
--- When kept positions stand for offsets, and what is read after them.
+-- When kept positions represent offsets, and what is read after them.
 use Rattle.std.specs.Prelude.{◌≡◌, ℕ, ◌+◌, ◌≤◌, List, length, drop, Result, Ok, Err, IfOk}
 use Rattle.cg_text.specs.Fields.{fields_of}
 use Rattle.cg_text.specs.declared.faults.Fault.{Fault}
@@ -15,7 +15,7 @@ abbrev pub line_said : Result PlacedLine Fault → Result ℕ Fault
 line_said (Ok p) = Ok p.line
 line_said (Err fault) = Err fault
 
--- the positions after the line stand for the offsets after it
+-- the positions after the line represent the offsets after it
 abbrev pub MovesOn : Layout → Places → List (List ℕ) → Result PlacedLine Fault → Type 0
 MovesOn layout before fields result = IfOk result (λ p. (o : Offsets) → IsPlaced before o → IsPlaced p.places (offsets_after layout fields o))
 

@@ -1,4 +1,4 @@
--- When a reader stands for a text, having handed out some records; and what a file comes to.
+-- When a reader represents a text, having handed out some records; and what a file is read as.
 use Rattle.std.specs.Prelude.{◌≡◌, ℕ, ◌+◌, ◌≤◌, List, [], ◌++◌, Option, Some, None, IfSome, Result, Ok, Err}
 use Rattle.cg_formulas.specs.declared.heads.FileHead.{FileHead}
 use Rattle.cg_text.specs.Readings.{reading_of}
@@ -10,13 +10,13 @@ use Rattle.profile_records.specs.declared.marks.Mark.{Mark}
 use Rattle.cg_text.specs.declared.words.Namespace.{Namespace}
 use Rattle.callgrind_reader.specs.Files.{records_of_file, sound_records, fault_of_file, events_of_file, derived_of_file, stated_of_file}
 use Rattle.text_pieces.specs.Kept as pieces
-use Rattle.text_pieces.specs.Readers.{StandsFor, HandsAll, HandsPart}
+use Rattle.text_pieces.specs.Readers.{Represents, HandsAll, HandsPart}
 use Rattle.callgrind_reader.specs.Marks.{KnownHolds}
-use Rattle.callgrind_reader.specs.Stands.{StandsAfter, count_of}
+use Rattle.callgrind_reader.specs.Representation.{RepresentsAfter, count_of}
 
--- the reader stands for the text so far, and has handed out these records
+-- the reader represents the text so far, and has handed out these records
 abbrev pub Reads : Reader → List ℕ → List Record → Type 0
-Reads r = StandsFor reading_of (sound_records []) StandsAfter r.pieces r.state
+Reads r = Represents reading_of (sound_records []) RepresentsAfter r.pieces r.state
 
 -- a sink with this last line and this width of records, which knows this of marks, would take the next record
 abbrev pub Takes : Reader → ℕ → Option ℕ → (Namespace → Mark → Option (List ℕ)) → Type 0

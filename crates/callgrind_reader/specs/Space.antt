@@ -1,4 +1,4 @@
--- When what is kept of a name space stands for the lines before.
+-- When what is kept of a name space represents the lines before.
 use Rattle.std.specs.Prelude.{◌≡◌, ℕ, List, Result, Option, Some, None, if◌then◌else◌}
 use Rattle.cg_text.specs.Readings.{Reading}
 use Rattle.cg_text.specs.Names.{Spec}

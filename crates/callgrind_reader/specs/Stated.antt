@@ -1,4 +1,4 @@
--- When sums stand for the totals that lines have stated.
+-- When sums represent the totals that lines have stated.
 use Rattle.std.specs.Prelude.{◌≡◌, ℕ, ◌+◌, ◌<◌, Bool, List, ◌∷◌, Ok, nat_lt, slice_index}
 use Rattle.cg_text.specs.Readings.{Reading}
 use Rattle.cg_text.specs.Kinds.{Header}

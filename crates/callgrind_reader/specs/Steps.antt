@@ -11,7 +11,7 @@ use Rattle.callgrind_reader.specs.Costs.{AreAmounts}
 use Rattle.callgrind_reader.specs.Lines.{record_of}
 use Rattle.callgrind_reader.specs.Marks.{KnownHolds, MarksStay}
 use Rattle.callgrind_reader.specs.Stated.{stated_lines}
-use Rattle.callgrind_reader.specs.Stands.{Live, StandsAfter, Follows, count_of}
+use Rattle.callgrind_reader.specs.Representation.{Live, RepresentsAfter, Follows, count_of}
 use Rattle.callgrind_reader.specs.declared.state.State.{State}
 
 -- the line at hand is counted, and has stated no totals yet
@@ -66,8 +66,8 @@ module _ {S : Type 0} (g : Ghosts S) where
 
   -- one line more was read, and the sink was told what it adds; or that was refused
   pub record ReadsOn (s s' : State) (r : Reading) (result : Result Unit AllocError) (old new : S) : Type 0 where
-    pub stands : OnOk result ((back : List Reading) → StandsAfter s back → StandsAfter s' (r ∷ back))
-    pub told : OnOk result ((back : List Reading) → StandsAfter s back → g.meaning new ≡ fold g.step (g.meaning old) (adds r back))
+    pub represents : OnOk result ((back : List Reading) → RepresentsAfter s back → RepresentsAfter s' (r ∷ back))
+    pub told : OnOk result ((back : List Reading) → RepresentsAfter s back → g.meaning new ≡ fold g.step (g.meaning old) (adds r back))
     pub fits : OnOk result (Fits s' new)
     pub refused : OnErr result (g.meaning new ≡ g.meaning old)
     pub lines : s'.lines ≡ s.lines + 1

@@ -27,7 +27,7 @@ pub struct Header {
 }
 
 impl Header {
-    ghost use Rattle.callgrind_reader.specs.Stands.{HeaderIs};
+    ghost use Rattle.callgrind_reader.specs.Representation.{HeaderIs};
     ghost use Rattle.callgrind_reader.specs.Stated.{stated_lines};
     ghost use Rattle.callgrind_reader.specs.Headers.{HeaderKeeps, TakesHeader, StatesTotals, Settles};
     ghost use Rattle.callgrind_reader.specs.Ends.{ComesBy};

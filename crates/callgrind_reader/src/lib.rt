@@ -5,7 +5,7 @@
 //!   Threads and Definitions, one idea each; Lines has the record and the fault of a line, Files those of a file,
 //!   Grammars how a line was read before threads were, and Faulty the values in whose place a fault may stand;
 //! - the same line by line, and for a text that may go on: Accept, Cut, Ends;
-//! - when what the code keeps stands for lines: Table, Space, Places, Stated, Stands, Reads;
+//! - when what the code keeps represents lines: Table, Space, Places, Stated, Stands, Reads;
 //! - what reading a part of a line makes of it: Columns, Parts, Headers, Steps.
 #![tactic(auto)]
 

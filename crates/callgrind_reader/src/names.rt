@@ -15,7 +15,7 @@ pub struct Names {
 }
 
 impl Names {
-    ghost use Rattle.callgrind_reader.specs.Stands.{NamesAre, TakesWord, ForgetsCalled};
+    ghost use Rattle.callgrind_reader.specs.Representation.{NamesAre, TakesWord, ForgetsCalled};
     ghost use Rattle.callgrind_reader.specs.Marks.{AreOwn, AreCalled, AreLent, MarksStay};
 
     /// Nothing is named yet.

@@ -19,7 +19,7 @@ use cg_formulas::FileHead;
 use cg_text::{Fault, HeaderKey, LineKind, NameWord, ReadError, read_line};
 use profile_records::{CallCost, SelfCost, Sink};
 use std::alloc::{AllocError, Global};
-use text_pieces::{Line, TakesLines};
+use text_pieces::{Line, LineSink};
 
 /// What a reader knows of the lines so far.
 #[derive(Drop)]
@@ -51,20 +51,20 @@ fn reading(line: Line<'_>) -> Result<LineKind<'_>, Fault>
     ensures { (text : List ℕ) → IsLine line.entry text → kind_is result ≡ reading_of text }
 {
     match line {
-        Line::Whole(bytes) => read_line(bytes),
+        Line::Complete(bytes) => read_line(bytes),
         Line::TooLong => Err(Fault::LineTooLong),
     }
 }
 
 impl State {
-    ghost use Rattle.callgrind_reader.specs.Stands.{NamesAre, Live, StandsAfter};
+    ghost use Rattle.callgrind_reader.specs.Representation.{NamesAre, Live, RepresentsAfter};
     ghost use Rattle.callgrind_reader.specs.Steps.{IsCounted, SameLine, Takes, Fits, FitsNow, FitsRow, Hands, ReadsLine, ReadsOn};
     ghost use Rattle.callgrind_reader.specs.Ends.{Comes};
     ghost use Rattle.callgrind_reader.specs.Marks.{MarksStay};
 
     /// No line was read.
     pub fn new(alloc: Global) -> Result<State, AllocError>
-        ensures stands { IfOk result (λ s. StandsAfter s []) }
+        ensures represents { IfOk result (λ s. RepresentsAfter s []) }
         ensures lines { IfOk result (λ s. s.lines ≡ 0) }
         ensures events { IfOk result (λ s. s.header.events.names ≡ None) }
     {
@@ -141,7 +141,7 @@ impl State {
     }
 
     /// Hands on the record of a cost line that is no call's, whose costs stand in the row.
-    fn hand_own<S: Sink>(&self, line: u64, sink: &mut S) -> Result<(), AllocError>
+    fn hand_self<S: Sink>(&self, line: u64, sink: &mut S) -> Result<(), AllocError>
         requires { FitsRow S.Sink self.now sink.old }
         ensures { Hands S.Sink self.now (λ back. Own (cost_of line self.now.row.items back)) result sink.old sink.new }
     {
@@ -170,7 +170,7 @@ impl State {
                 self.hand_call(line, count, sink)?;
                 self.names.forget_called();
             }
-            None => self.hand_own(line, sink)?,
+            None => self.hand_self(line, sink)?,
         }
         Ok(())
     }
@@ -271,9 +271,9 @@ impl State {
         Ok(())
     }
 
-    /// What the file comes to if no more lines come: its head, or its first fault.
+    /// What the file is read as if no more lines come: its head, or its first fault.
     pub fn head(self) -> Result<FileHead, ReadError>
-        ensures comes { (back : List Reading) → StandsAfter self back → Comes result back }
+        ensures comes { (back : List Reading) → RepresentsAfter self back → Comes result back }
         ensures few { IfOk result (λ head. length head.events ≤ 64) }
     {
         if let Some((fault, line)) = self.fault {
@@ -286,9 +286,9 @@ impl State {
     }
 }
 
-impl<S: Sink> TakesLines<S> for State {
+impl<S: Sink> LineSink<S> for State {
     ghost use Rattle.profile_records.specs.Records.{Record};
-    ghost use Rattle.callgrind_reader.specs.Stands.{StandsAfter};
+    ghost use Rattle.callgrind_reader.specs.Representation.{RepresentsAfter};
     ghost use Rattle.callgrind_reader.specs.Steps.{Fits};
 
     ghost Reading = { Reading };
@@ -299,7 +299,7 @@ impl<S: Sink> TakesLines<S> for State {
 
     ghost adds = { adds };
 
-    ghost stands = { StandsAfter };
+    ghost represents = { RepresentsAfter };
 
     ghost lines = { λ s. s.lines };
 

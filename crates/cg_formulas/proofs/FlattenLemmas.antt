@@ -1,4 +1,4 @@
--- What all definitions come to, from what is kept of them.
+-- What all definitions yield, from what is kept of them.
 use Rattle.std.proofs.Common.{ℕ, ◌≡◌, ◌+◌, ◌<◌, false, List, [], ◌∷◌, ◌++◌, map, reverse, length, take, drop, get_or, Option, Some, None, Err, sym, ap, ◌∙◌, subst}
 use Rattle.std.proofs.lemmas.List.{map-append, reverse-append, take-append-drop, take_more}
 use Rattle.cg_formulas.specs.Formulas.{Definition, is_defined, first_or, formula_fault}
@@ -48,17 +48,17 @@ fault-at events ds i d x inside h =
 
 -- ---- all of them
 
-stands-fault : (events : List (List ℕ)) (o : Option ℕ) (es ds : List Definition) (x : faults.Fault × ℕ) → Stands o es ds → formula_fault events es ≡ Some x → formula_fault events ds ≡ Some x
-stands-fault events None es ds x stands h = stands.fault events ∙ h
-stands-fault events (Some line) es ds x stands h = stands events ∙ ap (λ o. first_or o (Some EventTwice) line) h
+represents-fault : (events : List (List ℕ)) (o : Option ℕ) (es ds : List Definition) (x : faults.Fault × ℕ) → Stands o es ds → formula_fault events es ≡ Some x → formula_fault events ds ≡ Some x
+represents-fault events None es ds x represents h = represents.fault events ∙ h
+represents-fault events (Some line) es ds x represents h = represents events ∙ ap (λ o. first_or o (Some EventTwice) line) h
 
 flat_err : (e : FlatError) (flat : Flat) (events : List (List ℕ)) (o : Option ℕ) (ks : List kept.Definition) (i : ℕ) (d : kept.Definition) (ds : List Definition) → flat.events ≡ events → i < length ks
     → Stands o (plain_back ks) ds → Defines (Err e) flat (get_or ks i d) (plain_back (take i ks)) → FlatIs (Err e) events ds
-flat_err Memory flat events o ks i d ds same inside stands h = h
-flat_err (Fault f line) flat events o ks i d ds same inside stands h =
-    stands-fault events o (plain_back ks) ds (f, line) stands
+flat_err Memory flat events o ks i d ds same inside represents h = h
+flat_err (Fault f line) flat events o ks i d ds same inside represents h =
+    represents-fault events o (plain_back ks) ds (f, line) represents
     (fault-at events ks i d (f, line) inside (subst (λ ns. formula_fault ns (plain_definition (get_or ks i d) ∷ plain_back (take i ks)) ≡ Some (f, line)) same h))
 
 pub flat-err : (f : Formulas) (e : FlatError) (flat : Flat) (events : List (List ℕ)) (i : ℕ) (d : kept.Definition) (ds : List Definition) → flat.events ≡ events → i < length f.definitions
     → Holds f ds → Defines (Err e) flat (get_or f.definitions i d) (plain_back (take i f.definitions)) → FlatIs (Err e) events ds
-flat-err f e flat events i d ds same inside holds h = flat_err e flat events f.changed f.definitions i d ds same inside holds.stands h
+flat-err f e flat events i d ds same inside holds h = flat_err e flat events f.changed f.definitions i d ds same inside holds.represents h

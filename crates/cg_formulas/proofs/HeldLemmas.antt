@@ -1,4 +1,4 @@
--- What is kept of definitions stands for all of them.
+-- What is kept of definitions represents all of them.
 use Rattle.std.proofs.Common.{inl, inr, ℕ, zero, suc, get_or, set, ◌≡◌, ◌+◌, ◌*◌, ◌<◌, Bool, true, false, not, ◌||◌, List, [], ◌∷◌, ◌++◌, map, reverse, length, sum, sum_by, Option, Some, None, is_some, if◌then◌else◌, ◌⊎◌, nat_lt, refl, sym, ap, ◌∙◌, subst, arith}
 use Rattle.std.specs.List.{list_any, list_all}
 use Rattle.std.specs.Str.{bytes_eq}
@@ -175,8 +175,8 @@ alike-repeat d es ds a here same =
 
 -- ---- one more definition, of a name that has other terms
 
-pub changed-stands : (d : Definition) (es ds : List Definition) → Alike es ds → is_changed d es ≡ true → Stands (Some d.line) es (d ∷ ds)
-changed-stands d es ds a changed events = elim (fault_cases (formula_fault events es)) [
+pub changed-represents : (d : Definition) (es ds : List Definition) → Alike es ds → is_changed d es ≡ true → Stands (Some d.line) es (d ∷ ds)
+changed-represents d es ds a changed events = elim (fault_cases (formula_fault events es)) [
   | inl free ↦
       let own : definition_fault events d es ≡ Some EventTwice = rw (changed, or-true (list_any (bytes_eq d.name) events)) refl in
       (alike-push d es ds a).fault events ∙ ap (λ o. first_or (formula_fault events es) o d.line) own
@@ -245,47 +245,47 @@ set-same ds i d e same = ap reverse (maps-set ds i d e same)
 pub length-plain_back : (ds : List kept.Definition) → length (plain_back ds) ≡ length ds
 length-plain_back ds = grind (arith, common_steps)
 
--- ---- what is kept stands for one more definition
+-- ---- what is kept represents one more definition
 
 stands_later : (o : Option ℕ) (d : Definition) (es ds : List Definition) → AreFresh es → (is_some o ≡ true) ⊎ (64 < length es) → Stands o es ds → Stands o es (d ∷ ds)
-stands_later (Some line) d es ds fresh why stands = changed-stays line d es ds stands
-stands_later None d es ds fresh (inl some) stands = cc
-stands_later None d es ds fresh (inr many) stands = alike-many d es ds fresh many stands
+stands_later (Some line) d es ds fresh why represents = changed-stays line d es ds represents
+stands_later None d es ds fresh (inl some) represents = cc
+stands_later None d es ds fresh (inr many) represents = alike-many d es ds fresh many represents
 
 pub holds-later : (f : Formulas) (d : Definition) (ds : List Definition) → (is_some f.changed ≡ true) ⊎ (64 < length f.definitions) → Holds f ds → Holds f (d ∷ ds)
 holds-later f d ds why holds = record {
   fresh = holds.fresh;
-  stands = stands_later f.changed d (kept_of f) ds holds.fresh (elim why [ inl some ↦ inl some | inr many ↦ inr (subst (λ n. 64 < n) (sym (length-plain_back f.definitions)) many) ]) holds.stands;
+  represents = stands_later f.changed d (kept_of f) ds holds.fresh (elim why [ inl some ↦ inl some | inr many ↦ inr (subst (λ n. 64 < n) (sym (length-plain_back f.definitions)) many) ]) holds.represents;
 }
 
 stands_new : (o : Option ℕ) (d : Definition) (es ds : List Definition) → is_some o ≡ false → Stands o es ds → Stands o (d ∷ es) (d ∷ ds)
-stands_new (Some line) d es ds none stands = cc
-stands_new None d es ds none stands = alike-push d es ds stands
+stands_new (Some line) d es ds none represents = cc
+stands_new None d es ds none represents = alike-push d es ds represents
 
 pub holds-new : (f g : Formulas) (d : kept.Definition) (ds : List Definition) → is_some f.changed ≡ false → g.changed ≡ f.changed → g.definitions ≡ f.definitions ++ d ∷ [] → is_defined d.name (kept_of f) ≡ false → Holds f ds → Holds g (plain_definition d ∷ ds)
 holds-new f g d ds none same pushed new holds =
     let kept : kept_of g ≡ plain_definition d ∷ kept_of f = ap plain_back pushed ∙ plain_back-push f.definitions d in
     record {
       fresh = subst AreFresh (sym kept) (new, holds.fresh);
-      stands = subst (λ o. Stands o (kept_of g) (plain_definition d ∷ ds)) (sym same) (subst (λ es. Stands f.changed es (plain_definition d ∷ ds)) (sym kept) (stands_new f.changed (plain_definition d) (kept_of f) ds none holds.stands));
+      represents = subst (λ o. Stands o (kept_of g) (plain_definition d ∷ ds)) (sym same) (subst (λ es. Stands f.changed es (plain_definition d ∷ ds)) (sym kept) (stands_new f.changed (plain_definition d) (kept_of f) ds none holds.represents));
     }
 
 stands_repeat : (o : Option ℕ) (d : Definition) (es ds : List Definition) → is_some o ≡ false → is_defined d.name es ≡ true → is_changed d es ≡ false → Stands o es ds → Stands o es (d ∷ ds)
-stands_repeat (Some line) d es ds none here same stands = cc
-stands_repeat None d es ds none here same stands = alike-repeat d es ds stands here same
+stands_repeat (Some line) d es ds none here same represents = cc
+stands_repeat None d es ds none here same represents = alike-repeat d es ds represents here same
 
 pub holds-repeat : (f g : Formulas) (d : Definition) (ds : List Definition) → is_some f.changed ≡ false → kept_of g ≡ kept_of f → g.changed ≡ f.changed → is_defined d.name (kept_of f) ≡ true → is_changed d (kept_of f) ≡ false → Holds f ds → Holds g (d ∷ ds)
 holds-repeat f g d ds none kept as_before here same holds = record {
   fresh = subst AreFresh (sym kept) holds.fresh;
-  stands = subst (λ o. Stands o (kept_of g) (d ∷ ds)) (sym as_before) (subst (λ es. Stands f.changed es (d ∷ ds)) (sym kept) (stands_repeat f.changed d (kept_of f) ds none here same holds.stands));
+  represents = subst (λ o. Stands o (kept_of g) (d ∷ ds)) (sym as_before) (subst (λ es. Stands f.changed es (d ∷ ds)) (sym kept) (stands_repeat f.changed d (kept_of f) ds none here same holds.represents));
 }
 
 stands_changed : (o : Option ℕ) (d : Definition) (es ds : List Definition) → is_some o ≡ false → is_changed d es ≡ true → Stands o es ds → Stands (Some d.line) es (d ∷ ds)
-stands_changed (Some line) d es ds none changed stands = cc
-stands_changed None d es ds none changed stands = changed-stands d es ds stands changed
+stands_changed (Some line) d es ds none changed represents = cc
+stands_changed None d es ds none changed represents = changed-represents d es ds represents changed
 
 pub holds-changed : (f g : Formulas) (d : Definition) (ds : List Definition) → is_some f.changed ≡ false → kept_of g ≡ kept_of f → g.changed ≡ Some d.line → is_changed d (kept_of f) ≡ true → Holds f ds → Holds g (d ∷ ds)
 holds-changed f g d ds none kept now changed holds = record {
   fresh = subst AreFresh (sym kept) holds.fresh;
-  stands = subst (λ o. Stands o (kept_of g) (d ∷ ds)) (sym now) (subst (λ es. Stands (Some d.line) es (d ∷ ds)) (sym kept) (stands_changed f.changed d (kept_of f) ds none changed holds.stands));
+  represents = subst (λ o. Stands o (kept_of g) (d ∷ ds)) (sym now) (subst (λ es. Stands (Some d.line) es (d ∷ ds)) (sym kept) (stands_changed f.changed d (kept_of f) ds none changed holds.represents));
 }

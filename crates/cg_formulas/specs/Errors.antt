@@ -1,4 +1,4 @@
--- What is printed where an `event:` line is not read, and where formulas come to no coefficients.
+-- What is printed where an `event:` line is not read, and where formulas yield no coefficients.
 use Rattle.std.specs.Prelude.{ℕ, List, codes}
 use Rattle.cg_text.specs.Faults.{fault_text}
 use Rattle.cg_text.specs.Errors.{error_text}

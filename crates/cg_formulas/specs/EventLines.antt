@@ -1,4 +1,4 @@
--- `event:` lines: a name and, if it stands for one, a formula over other events.
+-- `event:` lines: a name and, if it represents one, a formula over other events.
 use Rattle.std.specs.Prelude.{ℕ, ◌-◌, ◌^◌, min, Bool, false, not, ◌||◌, ◌&&◌, List, [], ◌∷◌, map, drop, take_while, ◌==◌, if◌then◌else◌, Option, Some, None, Result, Ok, Err}
 use Rattle.std.specs.List.{list_all, prefix_len, slice_split}
 use Rattle.cg_text.specs.Bytes.{star, plus, colon, equals}

@@ -20,7 +20,7 @@ row_in events derived name = if list_any (bytes_eq name) events then Some (coeff
 abbrev pub row_of : Flat → List ℕ → Option (List ℕ)
 row_of flat name = row_in flat.events flat.derived name
 
--- no event stands twice, and each derived event has a coefficient for each event, which come to 1,000,000 at most
+-- no event stands twice, and each derived event has a coefficient for each event, which yield 1,000,000 at most
 abbrev pub IsFlat : List (List ℕ) → List (List ℕ × List ℕ) → Type 0
 IsFlat events derived = (are_distinct events ≡ true) × All (λ d. (length d.1 ≡ length events) × (sum d.1 ≤ 1000000)) derived
 
@@ -77,7 +77,7 @@ DefinesNew result old d new = (back : List Definition) → Flattens old back →
 
 -- ---- at the end
 
--- what definitions come to: coefficients exactly where they have no fault, else the first one, unless memory was refused
+-- what definitions yield: coefficients exactly where they have no fault, else the first one, unless memory was refused
 abbrev pub FlatIs : Result Flat FlatError → List (List ℕ) → List Definition → Type 0
 FlatIs (Ok flat) events back = (formula_fault events back ≡ None) × FlatOf flat events back
 FlatIs (Err (Fault fault line)) events back = formula_fault events back ≡ Some (fault, line)

@@ -1,4 +1,4 @@
--- Derived events: what the formulas of `event:` lines come to over the events of a file.
+-- Derived events: what the formulas of `event:` lines yield over the events of a file.
 use Rattle.std.specs.Prelude.{◌≡◌, ℕ, ◌+◌, ◌*◌, Bool, true, false, not, ◌||◌, ◌&&◌, List, [], ◌∷◌, ◌++◌, map, length, sum, sum_by, zip, nat_lt, ◌==◌, if◌then◌else◌, Option, Some, None}
 use Rattle.std.specs.List.{list_any, list_all}
 use Rattle.std.specs.Str.{bytes_eq}
@@ -6,7 +6,7 @@ use Rattle.cg_formulas.specs.EventLines.{Term, Event}
 use Rattle.cg_text.specs.declared.faults.Fault.{Fault}
 use Rattle.cg_text.specs.declared.faults.Fault.TheVariants.{EventTwice, TooManyEvents, FormulaUnknown, FormulaTooLarge}
 
--- a name, the terms that it stands for, and the line that says so
+-- a name, the terms that it represents, and the line that says so
 pub record Definition : Type 0 where
   pub line : ℕ
   pub name : List ℕ

@@ -1,4 +1,4 @@
--- When what is kept of formulas stands for the definitions of all lines so far.
+-- When what is kept of formulas represents the definitions of all lines so far.
 use Rattle.std.specs.Prelude.{◌≡◌, ◌<◌, ℕ, true, false, not, List, [], ◌∷◌, map, length, get_or, if◌then◌else◌, Option, Some, None, ⊤}
 use Rattle.cg_formulas.specs.EventLines.{Term}
 use Rattle.cg_formulas.specs.EventViews.{terms_in}
@@ -47,7 +47,7 @@ abbrev pub AreFresh : List Definition → Type 0
 AreFresh [] = ⊤
 AreFresh (d ∷ back) = (is_defined d.name back ≡ false) × AreFresh back
 
--- what is kept stands for these definitions
+-- what is kept represents these definitions
 pub record Holds (f : Formulas) (ds : List Definition) : Type 0 where
   pub fresh : AreFresh (kept_of f)
-  pub stands : Stands f.changed (kept_of f) ds
+  pub represents : Stands f.changed (kept_of f) ds

@@ -2,7 +2,7 @@
 use crate::event_lines::Formula;
 use cg_text::ListVec;
 
-/// A name and what it stands for, and the line that says so.
+/// A name and what it represents, and the line that says so.
 #[derive(Drop)]
 pub(crate) struct Definition {
     pub(crate) line: u64,

@@ -18,7 +18,7 @@ pub struct Formula {
     pub text: ListVec<u8>,
 }
 
-/// What an `event:` line says: a name, and the formula that it stands for, if there is one.
+/// What an `event:` line says: a name, and the formula that it represents, if there is one.
 #[derive(Drop)]
 pub struct EventLine {
     pub name: ListVec<u8>,

@@ -35,7 +35,7 @@ pub struct Flat {
     ghost small: { All (λ d. sum d.1 ≤ 1000000) derived },
 }
 
-/// Why formulas come to no coefficients: their first fault with its line, or out of memory. Printed
+/// Why formulas yield no coefficients: their first fault with its line, or out of memory. Printed
 /// as `line 4: F18 formula too large` or `out of memory`.
 #[derive(Clone, Copy, Debug, PartialEq, Eq)]
 pub enum FlatError {
@@ -81,7 +81,7 @@ fn copied(alloc: Global, names: &[ListVec<u8>]) -> Result<ListVec<ListVec<u8>>, 
     Ok(copies)
 }
 
-/// Whether a derived event has one coefficient for each event, and they come to no more than the
+/// Whether a derived event has one coefficient for each event, and they yield no more than the
 /// most.
 fn is_row(row: &[u64], events: usize) -> bool
     ensures { IsTrue result ↔ ((length row.now ≡ events) × (sum row.now ≤ 1000000)) }
@@ -89,7 +89,7 @@ fn is_row(row: &[u64], events: usize) -> bool
     row.len() == events && total(row) <= MOST_COUNTS
 }
 
-/// Whether each derived event has a coefficient for each event, and none comes to more than the most.
+/// Whether each derived event has a coefficient for each event, and none yields more than the most.
 fn are_rows(derived: &[(ListVec<u8>, ListVec<u64>)], events: usize) -> bool
     ensures { IsTrue result ↔ All (λ d. (length d.1 ≡ events) × (sum d.1 ≤ 1000000)) derived.now }
 {
@@ -113,7 +113,7 @@ impl Flat {
     ghost use Rattle.cg_formulas.specs.Flats.{flat_value, row_of, Flattens, TellsKnown, AddsName, AddsTerms, CountsTerms, DefinesNew, IsFlat};
 
     /// The coefficients that are given, if no event stands twice and each derived event has one for
-    /// each event, which come to 1,000,000 at most. Takes no memory.
+    /// each event, which yield 1,000,000 at most. Takes no memory.
     pub fn of(
         events: ListVec<ListVec<u8>>,
         derived: ListVec<(ListVec<u8>, ListVec<u64>)>,

@@ -1,4 +1,4 @@
-//! The formulas of derived events: what `event:` lines say, the coefficients that they come to over the
+//! The formulas of derived events: what `event:` lines say, the coefficients that they yield over the
 //! events of a file, and what an accepted file says of itself.
 #![tactic(auto)]
 

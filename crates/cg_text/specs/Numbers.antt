@@ -12,11 +12,11 @@ is_digit b = nat_le 48 b && nat_le b 57
 abbrev pub is_hex_digit : ℕ → Bool
 is_hex_digit b = is_digit b || ((nat_le 65 b && nat_le b 70) || (nat_le 97 b && nat_le b 102))
 
--- what a digit stands for
+-- what a digit represents
 abbrev pub digit_value : ℕ → ℕ
 digit_value b = if nat_le b 57 then b - 48 else (if nat_le b 70 then b - 55 else b - 87)
 
--- what digits stand for in a base, the first the most
+-- what digits represent in a base, the first the most
 abbrev pub value_in : ℕ → List ℕ → ℕ
 value_in base digits = fold (λ n b. n * base + digit_value b) 0 digits
 

@@ -21,7 +21,7 @@ fn is_hex_digit(b: u8) -> bool
     is_digit(b) || (b'A' <= b && b <= b'F') || (b'a' <= b && b <= b'f')
 }
 
-/// What a digit stands for.
+/// What a digit represents.
 fn digit_value(b: u8) -> u64
     ensures { result ≡ digit_value b }
 {
@@ -34,7 +34,7 @@ fn digit_value(b: u8) -> u64
     }
 }
 
-/// What digits stand for in a base, or nothing where that is 2^64 or more.
+/// What digits represent in a base, or nothing where that is 2^64 or more.
 pub fn value_in(base: u64, digits: &[u8]) -> Option<u64>
     requires { 0 < base }
     ensures { MatchOption result (2 ^ 64 ≤ value_in base digits.now) (λ n. n ≡ value_in base digits.now) }

@@ -19,7 +19,7 @@ pub const LAST_RUN: u32 = 2_147_483_647;
 pub const MOST_REQUESTS: u32 = 1_000_000;
 
 /// What a threshold is a part of, in percent.
-pub const WHOLE: u8 = 100;
+pub const MAX_PERCENT: u8 = 100;
 
 /// The words of keys.
 static KEYS: [&str; 5] = ["object", "file", "function", "line", "thread"];
@@ -123,7 +123,7 @@ fn threshold<'a>(alloc: Global) -> Arg<'a>
     ensures local { result.global ≡ false }
 {
     let help = "Show rows until they make up this percentage of the total, and the rest as one";
-    let percents = value_parser!(u8).range(0..=i64::from(WHOLE));
+    let percents = value_parser!(u8).range(0..=i64::from(MAX_PERCENT));
     option(alloc, "threshold", "T", help)
         .value_parser(percents)
         .default_value("100")

@@ -130,7 +130,7 @@ pub enum Plan<'a> {
         selected: Selected<'a>,
     },
     /// Answer so many requests over HTTP at a port, each with a line on standard error where `log` is true.
-    /// Port 0 stands for any that is free.
+    /// Port 0 means any that is free.
     Serve {
         db: &'a str,
         port: u16,

@@ -5,7 +5,7 @@ ghost use Rattle.command_line.specs.Plans.{IsRequestCount, IsRunNumber, IsSoundS
 ghost use Rattle.command_line.specs.Plans.{HasWord, HasNumber, HasRun, HaveRuns, IsFlag, NamesBoth, SaysNumber};
 ghost use Rattle.command_line.specs.Plans.{HasSelection, HasSelectionBy, HasLess};
 
-use crate::grammar::{LAST_RUN, MOST_REQUESTS, WHOLE};
+use crate::grammar::{LAST_RUN, MAX_PERCENT, MOST_REQUESTS};
 use crate::plans::Selected;
 use cg_text::ListVec;
 use clap::ArgMatches;
@@ -174,7 +174,7 @@ pub fn threshold(words: &ArgMatches<'_>) -> Option<u8>
     ensures number { IfSome result (λ percent. HasNumber (rows_of (found_of words.now)) (codes "threshold") (Some percent)) }
 {
     match words.get_one::<u8>("threshold") {
-        Some(percent) if percent <= WHOLE => Some(percent),
+        Some(percent) if percent <= MAX_PERCENT => Some(percent),
         _ => None,
     }
 }

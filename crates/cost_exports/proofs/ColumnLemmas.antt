@@ -1,11 +1,11 @@
--- Cells that come to records come to their costs by the names of events.
+-- Cells that sum to records sum to their costs by the names of events.
 use Rattle.std.proofs.Common.{zero, suc, ◌≡◌, ℕ, ◌+◌, Bool, true, false, ◌&&◌, ◌==◌, if◌then◌else◌, List, [], ◌∷◌, ◌++◌, fold, slice_get, slice_index, Option, Some, None, refl, sym, ap, ap₂, ◌∙◌, arith}
 use Rattle.std.proofs.lemmas.Bool.Decides.{nat_tests}
 use Rattle.cost_rows.specs.Keys.{place_of_row}
 use Rattle.cost_rows.specs.Merging.{sum_where}
-use Rattle.cost_rows.specs.Sums.{Spot, any_thread, spot_of, own_sum}
+use Rattle.cost_rows.specs.Sums.{Spot, any_thread, spot_of, self_sum}
 use Rattle.cost_rows.specs.WalkSums.{rows_cost}
-use Rattle.cost_rows.specs.declared.rows.CellRow.{CellRow}
+use Rattle.cost_rows.specs.declared.rows.Cell.{Cell}
 use Rattle.profile_records.specs.Records.{Cost, Record, Own, Called}
 use Rattle.cost_reports.proofs.CostLemmas.{swap_sums}
 use Rattle.report_texts.specs.Amounts.{with_amount}
@@ -15,11 +15,11 @@ use Rattle.cost_exports.proofs.SpreadLemmas.{event_spot-apart, event_spot-total}
 
 -- ---- the amounts of rows
 
-amount_named : CellRow (List ℕ) → Option (List ℕ) → List (EventSpot × ℕ)
+amount_named : Cell (List ℕ) → Option (List ℕ) → List (EventSpot × ℕ)
 amount_named r None = []
 amount_named r (Some event) = (record { spot = any_thread (place_of_row r); event = event }, r.cost) ∷ []
 
-amounts_of : List (List ℕ) → List (CellRow (List ℕ)) → List (EventSpot × ℕ)
+amounts_of : List (List ℕ) → List (Cell (List ℕ)) → List (EventSpot × ℕ)
 amounts_of events [] = []
 amounts_of events (r ∷ cells) = amount_named r (slice_get events r.event) ++ amounts_of events cells
 
@@ -34,12 +34,12 @@ added-append : (sums xs ys : List (EventSpot × ℕ)) → added sums (xs ++ ys) 
 added-append sums [] ys = refl
 added-append sums (x ∷ xs) ys = added-append (with_amount event_spot_cmp sums x.0 x.1) xs ys
 
-one_added : (sums : List (EventSpot × ℕ)) (r : CellRow (List ℕ)) (event : Option (List ℕ)) → with_cell_of sums r event ≡ added sums (amount_named r event)
+one_added : (sums : List (EventSpot × ℕ)) (r : Cell (List ℕ)) (event : Option (List ℕ)) → with_cell_of sums r event ≡ added sums (amount_named r event)
 unfolding amount_named
 one_added sums r None = refl
 one_added sums r (Some event) = refl
 
-cells_added : (events : List (List ℕ)) (sums : List (EventSpot × ℕ)) (cells : List (CellRow (List ℕ))) → fold (with_cell_in events) sums cells ≡ added sums (amounts_of events cells)
+cells_added : (events : List (List ℕ)) (sums : List (EventSpot × ℕ)) (cells : List (Cell (List ℕ))) → fold (with_cell_in events) sums cells ≡ added sums (amounts_of events cells)
 unfolding amounts_of
 cells_added events sums [] = refl
 cells_added events sums (r ∷ cells) =
@@ -93,12 +93,12 @@ module _ (test : EventSpot → Bool) where
   one_record cost k [] = refl
   one_record cost k (event ∷ events) = ap (λ n. (if at event (spot_of cost) then slice_index cost.costs k else 0) + n) (one_record cost (k + 1) events)
 
-  of_records : (events : List (List ℕ)) (records : List Record) → sum (named_costs events records) ≡ over 0 events (λ passes k. own_sum passes k records)
+  of_records : (events : List (List ℕ)) (records : List Record) → sum (named_costs events records) ≡ over 0 events (λ passes k. self_sum passes k records)
   of_records events [] = sym (over-none 0 events)
   of_records events (Own cost ∷ records) =
       sum-append test (costs_from cost 0 events) (named_costs events records)
       ∙ ap₂ ◌+◌ (one_record cost 0 events) (of_records events records)
-      ∙ sym (over-sum 0 events (λ passes k. if passes (spot_of cost) then slice_index cost.costs k else 0) (λ passes k. own_sum passes k records))
+      ∙ sym (over-sum 0 events (λ passes k. if passes (spot_of cost) then slice_index cost.costs k else 0) (λ passes k. self_sum passes k records))
   of_records events (Called callee cost ∷ records) = of_records events records
 
   -- ---- rows
@@ -165,12 +165,12 @@ module _ (test : EventSpot → Bool) where
       further : (m j : ℕ) → (m + 1) + j ≡ m + suc j
       further m j = omega arith
 
-  sum_named : (r : CellRow (List ℕ)) (event : Option (List ℕ)) → sum (amount_named r event) ≡ named (place_of_row r) r.cost event
+  sum_named : (r : Cell (List ℕ)) (event : Option (List ℕ)) → sum (amount_named r event) ≡ named (place_of_row r) r.cost event
   unfolding amount_named
   sum_named r None = refl
   sum_named r (Some event) = no_more (if at event (place_of_row r) then r.cost else 0)
 
-  of_cells : (events : List (List ℕ)) (cells : List (CellRow (List ℕ))) → sum (amounts_of events cells) ≡ over 0 events (λ passes k. rows_cost passes k cells)
+  of_cells : (events : List (List ℕ)) (cells : List (Cell (List ℕ))) → sum (amounts_of events cells) ≡ over 0 events (λ passes k. rows_cost passes k cells)
   unfolding amounts_of
   of_cells events [] = sym (over-none 0 events)
   of_cells events (r ∷ cells) =
@@ -187,8 +187,8 @@ module _ (test : EventSpot → Bool) where
       sum-append test (amounts_of r.events r.cells) (amounts_of_runs runs)
       ∙ ap₂ ◌+◌
       (of_cells r.events r.cells
-      ∙ over-same 0 r.events (λ passes k. rows_cost passes k r.cells) (λ passes k. own_sum passes k f.records) stand.0.cells
-      ∙ ap (λ events. over 0 events (λ passes k. own_sum passes k f.records)) stand.0.events
+      ∙ over-same 0 r.events (λ passes k. rows_cost passes k r.cells) (λ passes k. self_sum passes k f.records) stand.0.cells
+      ∙ ap (λ events. over 0 events (λ passes k. self_sum passes k f.records)) stand.0.events
       ∙ sym (of_records f.events f.records))
       (of_runs files runs stand.1)
       ∙ sym (sum-append test (named_costs f.events f.records) (all_named files))

@@ -24,7 +24,7 @@ use Rattle.cost_exports.specs.ReadBack.{AreReadable, IsReadable, ReadsAs}
 
 -- ---- digits
 
--- digits, of which there are some, and what they stand for
+-- digits, of which there are some, and what they represent
 record AreDigits (n : ℕ) (digits : List ℕ) : Type 0 where
   all : list_all is_digit digits ≡ true
   value : value_in 10 digits ≡ n

@@ -7,7 +7,7 @@ ghost use Rattle.cost_exports.specs.Views.{held_names, names_of_row, slot_of, su
 
 use crate::cells::{HeldLine, HeldNames};
 use crate::places::Places;
-use cost_rows::CellRow;
+use cost_rows::Cell;
 use std::alloc::{AllocError, Global};
 use std::marker::Model;
 
@@ -18,7 +18,7 @@ fn slot_of_row(
     names: &mut HeldNames,
     recent: &mut Option<usize>,
     places: &mut Places,
-    row: &CellRow<&[u8]>,
+    row: &Cell<&[u8]>,
 ) -> Result<usize, AllocError>
     requires recent { IfSome recent.old (λ slot. slot_of (held_names names.old) places.old.slots ≡ Some slot) }
     ensures recent { IfSome recent.new (λ slot. slot_of (held_names names.new) places.new.slots ≡ Some slot) }
@@ -82,7 +82,7 @@ impl CellSums {
         }
     }
 
-    /// What all costs come to, whatever their events.
+    /// What all costs sum to, whatever their events.
     pub fn total(&self) -> u128
         ensures value { result ≡ amount_of self.now }
         ensures small { result < 2 ^ 112 }
@@ -92,7 +92,7 @@ impl CellSums {
 
     /// Adds a cell's cost to that of its place in an event, whose name is given; a cost of 0 adds nothing.
     /// A refusal leaves the sums as they were.
-    pub fn add(&mut self, row: &CellRow<&[u8]>, event: &[u8]) -> Result<(), AllocError>
+    pub fn add(&mut self, row: &Cell<&[u8]>, event: &[u8]) -> Result<(), AllocError>
         requires small { amount_of self.old + row.now.cost < 2 ^ 112 }
         ensures ok { OnOk result (self.new ≡ with_cell self.old (plain_cell row.now) event.now) }
         ensures err { OnErr result (self.new ≡ self.old) }

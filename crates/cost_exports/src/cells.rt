@@ -3,7 +3,7 @@ ghost use Rattle.std.specs.Prelude.{◌≡◌, [], IsTrue, OnOk, IfOk};
 ghost use Rattle.cost_rows.specs.Plain.{plain_cell};
 ghost use Rattle.cost_exports.specs.Views.{held_line, held_names, names_of_row};
 
-use cost_rows::CellRow;
+use cost_rows::Cell;
 use std::alloc::{AllocError, Global};
 
 /// Replaces a name.
@@ -36,7 +36,7 @@ impl HeldNames {
     }
 
     /// Whether these are the names of a row. Most rows that differ do so in the function.
-    pub(crate) fn are_of(&self, row: &CellRow<&[u8]>) -> bool
+    pub(crate) fn are_of(&self, row: &Cell<&[u8]>) -> bool
         ensures { IsTrue result → held_names self.now ≡ names_of_row (plain_cell row.now) }
     {
         self.function.as_slice() == row.function
@@ -45,7 +45,7 @@ impl HeldNames {
     }
 
     /// Becomes the names of a row.
-    pub(crate) fn set(&mut self, row: &CellRow<&[u8]>) -> Result<(), AllocError>
+    pub(crate) fn set(&mut self, row: &Cell<&[u8]>) -> Result<(), AllocError>
         ensures { OnOk result (held_names self.new ≡ names_of_row (plain_cell row.now)) }
     {
         replace(&mut self.object, row.object)?;

@@ -1,7 +1,7 @@
 // Laws of the definitions, each the contract of a function that does nothing.
 ghost use Rattle.std.specs.Prelude.{◌≡◌, ℕ, ◌+◌, List, [], ◌∷◌, fold, map};
 ghost use Rattle.csv.specs.Reading.{default_config, records};
-ghost use Rattle.cost_rows.specs.declared.rows.StackRow.{StackRow};
+ghost use Rattle.cost_rows.specs.declared.rows.StackCount.{StackCount};
 ghost use Rattle.report_texts.specs.Costs.{EventCells, EventRecords, StandForEach, all_rows};
 ghost use Rattle.report_texts.specs.Inclusive.{SameStacks};
 ghost use Rattle.profile_records.specs.Stacks.{Seen};
@@ -10,14 +10,14 @@ ghost use Rattle.report_texts.specs.Csv.{EventSpot, NamedCells, NamedRecords, Na
 ghost use Rattle.report_texts.specs.Folded.{folded_of_rows, folded_of_stacks, folded_text};
 ghost use Rattle.cost_exports.specs.ReadBack.{AreReadable, ReadsAs};
 
-/// What the lines of a source cost, and what is outside, come to the total, whatever the source.
+/// What the lines of a source cost, and what is outside, sum to the total, whatever the source.
 pub fn shown_and_outside_are_the_total()
     ensures { (file source : List ℕ) (costs : List (ℕ × ℕ)) → let a = annotation_of file source costs in cost_of_lines a.lines + a.outside ≡ a.total }
 {}
 
-/// Where the cells of each run come to the self records of its file, for every test of places and each
+/// Where the cells of each run sum to the self records of its file, for every test of places and each
 /// column, the lines of a source cost by the rows of the cells what they cost by the records.
-pub fn annotations_come_to_the_records()
+pub fn annotations_sum_to_the_records()
     ensures { (file source : List ℕ) (files : List EventRecords) (runs : List EventCells) → StandForEach files runs
         → annotation_of file source (fold with_line (no_lines file) (all_rows runs)).costs ≡ annotation_of_records file source files }
 {}
@@ -29,9 +29,9 @@ pub fn files_are_known_by_their_rows()
         → (fold with_line (no_lines file) (all_rows runs)).known ≡ know_file file files }
 {}
 
-/// Where the cells of each run come to the self records of its file, what places cost by the names of
+/// Where the cells of each run sum to the self records of its file, what places cost by the names of
 /// events is by the cells what it is by the records, whatever the columns.
-pub fn csv_rows_come_to_the_records()
+pub fn csv_rows_sum_to_the_records()
     ensures { (files : List NamedRecords) (runs : List NamedCells) → NamesStandForEach files runs → csv_of_cells runs ≡ csv_of_records files }
 {}
 
@@ -41,10 +41,10 @@ pub fn csv_texts_read_back()
     ensures { (sums : List (EventSpot × ℕ)) → records default_config (csv_text sums) ≡ csv_header ∷ map csv_fields sums }
 {}
 
-/// Where rows of stacks come to the stacks that were seen, for every test of their frames, they are the
+/// Where rows of stacks sum to the stacks that were seen, for every test of their frames, they are the
 /// same stacks with the same counts.
-pub fn folded_stacks_come_to_the_stacks()
-    ensures { (rows : List (StackRow (List ℕ))) (seen : List Seen) → SameStacks rows seen → folded_of_rows rows ≡ folded_of_stacks seen }
+pub fn folded_stacks_sum_to_the_stacks()
+    ensures { (rows : List (StackCount (List ℕ))) (seen : List Seen) → SameStacks rows seen → folded_of_rows rows ≡ folded_of_stacks seen }
 {}
 
 /// The text of stacks is accepted as a folded file, and is read as these stacks with these counts, line by

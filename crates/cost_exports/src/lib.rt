@@ -13,7 +13,7 @@ mod cell_sums;
 mod csv_texts;
 // The text of stacks (report_texts/specs/Folded.antt).
 mod folded_texts;
-// Laws: what exports come to, from rows to records, and that the folded one reads back.
+// Laws: what exports sum to, from rows to records, and that the folded one reads back.
 mod laws;
 // What the lines of a place cost by the names of events (specs/Views.antt).
 mod line_costs;
@@ -31,8 +31,8 @@ pub use cell_sums::CellSums;
 pub use csv_texts::csv_text;
 pub use folded_texts::folded_text;
 pub use laws::{
-    annotations_come_to_the_records, csv_rows_come_to_the_records, csv_texts_read_back,
-    files_are_known_by_their_rows, folded_stacks_come_to_the_stacks, folded_texts_read_back,
+    annotations_sum_to_the_records, csv_rows_sum_to_the_records, csv_texts_read_back,
+    files_are_known_by_their_rows, folded_stacks_sum_to_the_stacks, folded_texts_read_back,
     shown_and_outside_are_the_total,
 };
 pub use line_sums::LineSums;

@@ -1,4 +1,4 @@
--- Rows of calls that come to records, column by column, come to their callers and callees.
+-- Rows of calls that sum to records, column by column, sum to their callers and callees.
 use Rattle.std.proofs.Common.{◌≡◌, ℕ, zero, suc, ◌+◌, Bool, true, false, ◌&&◌, ◌||◌, if◌then◌else◌, List, [], ◌∷◌, ◌++◌, map, slice_index, refl, sym, ap, ap₂, ◌∙◌, arith}
 use Rattle.std.specs.List.{list_any}
 use Rattle.std.specs.Map.{keys_of}
@@ -7,9 +7,9 @@ use Rattle.profile_records.specs.Records.{Record, Own, Called}
 use Rattle.cost_rows.specs.Merging.{sum_where}
 use Rattle.cost_rows.specs.Sums.{Spot, caller_spot, callee_spot, call_sum, count_sum, has_call}
 use Rattle.cost_rows.specs.WalkSums.{caller_of_row, callee_of_row, calls_cost, calls_count, has_calls}
-use Rattle.cost_rows.specs.declared.rows.ArcRow.{ArcRow}
+use Rattle.cost_rows.specs.declared.rows.CallEdge.{CallEdge}
 use Rattle.cost_rows.proofs.KeysLemmas.{named_cmp-total, named_cmp-apart}
-use Rattle.report_texts.specs.Calls.{Calls, CallsStandFor, CallsStandForEach, EventArcs, all_arcs, all_calls, asked, other, calls_at, calls_by, calls_of, weighted_calls}
+use Rattle.report_texts.specs.Calls.{Calls, CallsRepresent, CallsRepresentEach, EventEdges, all_edges, all_calls, asked, other, calls_at, calls_by, calls_of, weighted_calls}
 use Rattle.report_texts.specs.Costs.{EventRecords}
 use Rattle.report_texts.specs.Functions.{function_spot, is_one_function}
 use Rattle.report_texts.specs.declared.call_sides.CallSide.{CallSide}
@@ -90,14 +90,14 @@ module _ (side : CallSide) (f : Spot) (passes : Spot → Bool) where
       → chosen (record { caller = function_spot caller.object caller.function; callee = function_spot callee.object callee.function; sum = sum }) ≡ tests caller callee
   chosen_is caller callee sum = chosen_sides caller callee sum side refl
 
-  rows_value : (coefs : List ℕ) (arcs : List (ArcRow (List ℕ) (List ℕ))) → sum_chosen first (map (weighted_calls coefs) arcs) ≡ value coefs (λ k. calls_cost tests k arcs)
+  rows_value : (coefs : List ℕ) (edges : List (CallEdge (List ℕ) (List ℕ))) → sum_chosen first (map (weighted_calls coefs) edges) ≡ value coefs (λ k. calls_cost tests k edges)
   rows_value coefs [] = sym (value_none coefs)
-  rows_value coefs (r ∷ arcs) =
+  rows_value coefs (r ∷ edges) =
       ap₂ ◌+◌
       (ap (λ b. if b then weighed coefs r.costs else 0) (chosen_is (caller_of_row r) (callee_of_row r) (weighted_calls coefs r).sum)
       ∙ record_where (tests (caller_of_row r) (callee_of_row r)) coefs r.costs)
-      (rows_value coefs arcs)
-      ∙ sym (value_sum coefs (λ k. if tests (caller_of_row r) (callee_of_row r) then slice_index r.costs k else 0) (λ k. calls_cost tests k arcs))
+      (rows_value coefs edges)
+      ∙ sym (value_sum coefs (λ k. if tests (caller_of_row r) (callee_of_row r) then slice_index r.costs k else 0) (λ k. calls_cost tests k edges))
 
   records_value : (coefs : List ℕ) (records : List Record) → sum_chosen first (calls_of coefs records) ≡ value coefs (λ k. call_sum tests k records)
   records_value coefs [] = sym (value_none coefs)
@@ -109,10 +109,10 @@ module _ (side : CallSide) (f : Spot) (passes : Spot → Bool) where
       (records_value coefs records)
       ∙ sym (value_sum coefs (λ k. if tests (caller_spot cost) (callee_spot callee) then slice_index cost.costs k else 0) (λ k. call_sum tests k records))
 
-  rows_count : (coefs : List ℕ) (arcs : List (ArcRow (List ℕ) (List ℕ))) → sum_chosen second (map (weighted_calls coefs) arcs) ≡ calls_count tests arcs
+  rows_count : (coefs : List ℕ) (edges : List (CallEdge (List ℕ) (List ℕ))) → sum_chosen second (map (weighted_calls coefs) edges) ≡ calls_count tests edges
   rows_count coefs [] = refl
-  rows_count coefs (r ∷ arcs) =
-      ap₂ ◌+◌ (ap (λ b. if b then r.count else 0) (chosen_is (caller_of_row r) (callee_of_row r) (weighted_calls coefs r).sum)) (rows_count coefs arcs)
+  rows_count coefs (r ∷ edges) =
+      ap₂ ◌+◌ (ap (λ b. if b then r.count else 0) (chosen_is (caller_of_row r) (callee_of_row r) (weighted_calls coefs r).sum)) (rows_count coefs edges)
 
   records_count : (coefs : List ℕ) (records : List Record) → sum_chosen second (calls_of coefs records) ≡ count_sum tests records
   records_count coefs [] = refl
@@ -120,9 +120,9 @@ module _ (side : CallSide) (f : Spot) (passes : Spot → Bool) where
   records_count coefs (Called callee cost ∷ records) =
       ap₂ ◌+◌ (ap (λ b. if b then callee.count else 0) (chosen_is (caller_spot cost) (callee_spot callee) (pair (weighed coefs cost.costs) callee.count))) (records_count coefs records)
 
-  rows_any : (coefs : List ℕ) (arcs : List (ArcRow (List ℕ) (List ℕ))) → any_chosen (map (weighted_calls coefs) arcs) ≡ has_calls tests arcs
+  rows_any : (coefs : List ℕ) (edges : List (CallEdge (List ℕ) (List ℕ))) → any_chosen (map (weighted_calls coefs) edges) ≡ has_calls tests edges
   rows_any coefs [] = refl
-  rows_any coefs (r ∷ arcs) = ap₂ ◌||◌ (chosen_is (caller_of_row r) (callee_of_row r) (weighted_calls coefs r).sum) (rows_any coefs arcs)
+  rows_any coefs (r ∷ edges) = ap₂ ◌||◌ (chosen_is (caller_of_row r) (callee_of_row r) (weighted_calls coefs r).sum) (rows_any coefs edges)
 
   records_any : (coefs : List ℕ) (records : List Record) → any_chosen (calls_of coefs records) ≡ has_call tests records
   records_any coefs [] = refl
@@ -132,63 +132,63 @@ module _ (side : CallSide) (f : Spot) (passes : Spot → Bool) where
 
   -- ---- run by run
 
-  one_cost : (e : EventRecords) (r : EventArcs) → CallsStandFor e r → sum_chosen first (map (weighted_calls r.coefs) r.arcs) ≡ sum_chosen first (calls_of e.coefs e.records)
+  one_cost : (e : EventRecords) (r : EventEdges) → CallsRepresent e r → sum_chosen first (map (weighted_calls r.coefs) r.calls) ≡ sum_chosen first (calls_of e.coefs e.records)
   one_cost e r stand =
-      rows_value r.coefs r.arcs
-      ∙ value_same r.coefs (λ k. calls_cost tests k r.arcs) (λ k. call_sum tests k e.records) (λ k. stand.costs tests k)
+      rows_value r.coefs r.calls
+      ∙ value_same r.coefs (λ k. calls_cost tests k r.calls) (λ k. call_sum tests k e.records) (λ k. stand.costs tests k)
       ∙ ap (λ coefs. value coefs (λ k. call_sum tests k e.records)) stand.coefs
       ∙ sym (records_value e.coefs e.records)
 
-  one_count : (e : EventRecords) (r : EventArcs) → CallsStandFor e r → sum_chosen second (map (weighted_calls r.coefs) r.arcs) ≡ sum_chosen second (calls_of e.coefs e.records)
-  one_count e r stand = rows_count r.coefs r.arcs ∙ stand.counts tests ∙ sym (records_count e.coefs e.records)
+  one_count : (e : EventRecords) (r : EventEdges) → CallsRepresent e r → sum_chosen second (map (weighted_calls r.coefs) r.calls) ≡ sum_chosen second (calls_of e.coefs e.records)
+  one_count e r stand = rows_count r.coefs r.calls ∙ stand.counts tests ∙ sym (records_count e.coefs e.records)
 
-  one_any : (e : EventRecords) (r : EventArcs) → CallsStandFor e r → any_chosen (map (weighted_calls r.coefs) r.arcs) ≡ any_chosen (calls_of e.coefs e.records)
-  one_any e r stand = rows_any r.coefs r.arcs ∙ stand.called tests ∙ sym (records_any e.coefs e.records)
+  one_any : (e : EventRecords) (r : EventEdges) → CallsRepresent e r → any_chosen (map (weighted_calls r.coefs) r.calls) ≡ any_chosen (calls_of e.coefs e.records)
+  one_any e r stand = rows_any r.coefs r.calls ∙ stand.called tests ∙ sym (records_any e.coefs e.records)
 
-  all_sums : (m : Pair → ℕ) → ((e : EventRecords) (r : EventArcs) → CallsStandFor e r → sum_chosen m (map (weighted_calls r.coefs) r.arcs) ≡ sum_chosen m (calls_of e.coefs e.records))
-      → (files : List EventRecords) (runs : List EventArcs) → CallsStandForEach files runs → sum_chosen m (all_arcs runs) ≡ sum_chosen m (all_calls files)
+  all_sums : (m : Pair → ℕ) → ((e : EventRecords) (r : EventEdges) → CallsRepresent e r → sum_chosen m (map (weighted_calls r.coefs) r.calls) ≡ sum_chosen m (calls_of e.coefs e.records))
+      → (files : List EventRecords) (runs : List EventEdges) → CallsRepresentEach files runs → sum_chosen m (all_edges runs) ≡ sum_chosen m (all_calls files)
   all_sums m one [] [] stand = refl
   all_sums m one [] (r ∷ runs) stand = absurd stand
   all_sums m one (e ∷ files) [] stand = absurd stand
   all_sums m one (e ∷ files) (r ∷ runs) stand =
-      sum_append m (map (weighted_calls r.coefs) r.arcs) (all_arcs runs)
+      sum_append m (map (weighted_calls r.coefs) r.calls) (all_edges runs)
       ∙ ap₂ ◌+◌ (one e r stand.0) (all_sums m one files runs stand.1)
       ∙ sym (sum_append m (calls_of e.coefs e.records) (all_calls files))
 
-  any_same : (files : List EventRecords) (runs : List EventArcs) → CallsStandForEach files runs → any_chosen (all_arcs runs) ≡ any_chosen (all_calls files)
+  any_same : (files : List EventRecords) (runs : List EventEdges) → CallsRepresentEach files runs → any_chosen (all_edges runs) ≡ any_chosen (all_calls files)
   any_same [] [] stand = refl
   any_same [] (r ∷ runs) stand = absurd stand
   any_same (e ∷ files) [] stand = absurd stand
   any_same (e ∷ files) (r ∷ runs) stand =
-      any_append (map (weighted_calls r.coefs) r.arcs) (all_arcs runs)
+      any_append (map (weighted_calls r.coefs) r.calls) (all_edges runs)
       ∙ ap₂ ◌||◌ (one_any e r stand.0) (any_same files runs stand.1)
       ∙ sym (any_append (calls_of e.coefs e.records) (all_calls files))
 
-  pub same_firsts : (files : List EventRecords) (runs : List EventArcs) → CallsStandForEach files runs
-      → sum_where passes (λ (p : Pair). p.first) (calls_by side f (all_arcs runs)) ≡ sum_where passes (λ (p : Pair). p.first) (calls_by side f (all_calls files))
+  pub same_firsts : (files : List EventRecords) (runs : List EventEdges) → CallsRepresentEach files runs
+      → sum_where passes (λ (p : Pair). p.first) (calls_by side f (all_edges runs)) ≡ sum_where passes (λ (p : Pair). p.first) (calls_by side f (all_calls files))
   same_firsts files runs stand =
-      firsts_by passes (calls_at side f (all_arcs runs)) ∙ sum_at first (all_arcs runs) ∙ all_sums first one_cost files runs stand
+      firsts_by passes (calls_at side f (all_edges runs)) ∙ sum_at first (all_edges runs) ∙ all_sums first one_cost files runs stand
       ∙ sym (sum_at first (all_calls files)) ∙ sym (firsts_by passes (calls_at side f (all_calls files)))
 
-  pub same_seconds : (files : List EventRecords) (runs : List EventArcs) → CallsStandForEach files runs
-      → sum_where passes (λ (p : Pair). p.second) (calls_by side f (all_arcs runs)) ≡ sum_where passes (λ (p : Pair). p.second) (calls_by side f (all_calls files))
+  pub same_seconds : (files : List EventRecords) (runs : List EventEdges) → CallsRepresentEach files runs
+      → sum_where passes (λ (p : Pair). p.second) (calls_by side f (all_edges runs)) ≡ sum_where passes (λ (p : Pair). p.second) (calls_by side f (all_calls files))
   same_seconds files runs stand =
-      seconds_by passes (calls_at side f (all_arcs runs)) ∙ sum_at second (all_arcs runs) ∙ all_sums second one_count files runs stand
+      seconds_by passes (calls_at side f (all_edges runs)) ∙ sum_at second (all_edges runs) ∙ all_sums second one_count files runs stand
       ∙ sym (sum_at second (all_calls files)) ∙ sym (seconds_by passes (calls_at side f (all_calls files)))
 
-  pub same_keys : (files : List EventRecords) (runs : List EventArcs) → CallsStandForEach files runs
-      → list_any passes (keys_of (calls_by side f (all_arcs runs))) ≡ list_any passes (keys_of (calls_by side f (all_calls files)))
+  pub same_keys : (files : List EventRecords) (runs : List EventEdges) → CallsRepresentEach files runs
+      → list_any passes (keys_of (calls_by side f (all_edges runs))) ≡ list_any passes (keys_of (calls_by side f (all_calls files)))
   same_keys files runs stand =
-      keys_by passes (calls_at side f (all_arcs runs)) ∙ any_at (all_arcs runs) ∙ any_same files runs stand
+      keys_by passes (calls_at side f (all_edges runs)) ∙ any_at (all_edges runs) ∙ any_same files runs stand
       ∙ sym (any_at (all_calls files)) ∙ sym (keys_by passes (calls_at side f (all_calls files)))
 
 -- the callers and callees of rows are those of the records
-pub calls_are_records : (side : CallSide) (f : Spot) (files : List EventRecords) (runs : List EventArcs) → CallsStandForEach files runs → calls_by side f (all_arcs runs) ≡ calls_by side f (all_calls files)
+pub calls_are_records : (side : CallSide) (f : Spot) (files : List EventRecords) (runs : List EventEdges) → CallsRepresentEach files runs → calls_by side f (all_edges runs) ≡ calls_by side f (all_calls files)
 calls_are_records side f files runs stand =
-    same_merged named_cmp-total named_cmp-apart measure told (calls_by side f (all_arcs runs)) (calls_by side f (all_calls files))
-    (sorted_by (calls_at side f (all_arcs runs))) (sorted_by (calls_at side f (all_calls files)))
+    same_merged named_cmp-total named_cmp-apart measure told (calls_by side f (all_edges runs)) (calls_by side f (all_calls files))
+    (sorted_by (calls_at side f (all_edges runs))) (sorted_by (calls_at side f (all_calls files)))
     (λ passes. same_keys side f passes files runs stand) sums
   where
-    sums : (i : ℕ) (passes : Spot → Bool) → sum_where passes (measure i) (calls_by side f (all_arcs runs)) ≡ sum_where passes (measure i) (calls_by side f (all_calls files))
+    sums : (i : ℕ) (passes : Spot → Bool) → sum_where passes (measure i) (calls_by side f (all_edges runs)) ≡ sum_where passes (measure i) (calls_by side f (all_calls files))
     sums zero passes = same_firsts side f passes files runs stand
     sums (suc i) passes = same_seconds side f passes files runs stand

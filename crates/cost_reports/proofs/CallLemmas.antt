@@ -1,4 +1,4 @@
--- Over all functions, callers and callees come to the calls.
+-- Over all functions, callers and callees sum to the calls.
 use Rattle.std.proofs.Common.{◌≡◌, ℕ, ◌+◌, Bool, true, false, List, [], ◌∷◌, if◌then◌else◌, refl, sym, ap, ap₂, ◌∙◌, arith}
 use Rattle.cost_rows.specs.Merging.{sum_where}
 use Rattle.cost_rows.specs.Sums.{Spot}
@@ -32,7 +32,7 @@ at_one f n (g ∷ functions) one = go (is_one_function g f) (times_in functions 
     go false t none rest one = let e = rest (omega (arith, one)) in omega (arith, e)
 
 module _ (measure : Pair → ℕ) where
-  -- what the calls of a function come to
+  -- what the calls of a function sum to
   abbrev calls_sum : CallSide → List Calls → Spot → ℕ
   calls_sum side calls f = sum_where (λ _. true) measure (calls_at side f calls)
 

@@ -1,4 +1,4 @@
--- Cells that come to records, column by column, come to their costs by key.
+-- Cells that sum to records, column by column, sum to their costs by key.
 use Rattle.std.proofs.Common.{◌≡◌, ℕ, zero, suc, ◌+◌, ◌*◌, Bool, true, false, ◌&&◌, ◌==◌, if◌then◌else◌, List, [], ◌∷◌, map, slice_index, refl, sym, ap, ap₂, ◌∙◌, arith}
 use Rattle.std.proofs.Math.Nat.{mul-add, mul-zero}
 use Rattle.std.proofs.Math.Dec.{eqb-suc-zero, eqb-zero-suc, eqb-suc-suc}
@@ -8,10 +8,10 @@ use Rattle.cg_formulas.specs.Formulas.{product, weighed}
 use Rattle.profile_records.specs.Records.{Record, Own, Called}
 use Rattle.cost_rows.specs.KeySums.{rows_of, sums_by, cost_where}
 use Rattle.cost_rows.specs.Keys.{part_of, place_of_row}
-use Rattle.cost_rows.specs.Sums.{Spot, spot_of, own_sum}
+use Rattle.cost_rows.specs.Sums.{Spot, spot_of, self_sum}
 use Rattle.cost_rows.specs.WalkSums.{rows_cost}
 use Rattle.cost_rows.specs.declared.keys.Key.{Key}
-use Rattle.cost_rows.specs.declared.rows.CellRow.{CellRow}
+use Rattle.cost_rows.specs.declared.rows.Cell.{Cell}
 use Rattle.report_texts.specs.Costs.{EventRecords, EventCells, StandForEach, costs_of, all_costs, costs_by, weighted, all_rows}
 use Rattle.cost_reports.proofs.KeyLemmas.{no_more, same_by_key, where_append, rows_append}
 
@@ -81,17 +81,17 @@ module _ (key : Key) (passes : Spot → Bool) where
   abbrev tests : Spot → Bool
   tests p = passes (part_of key p)
 
-  rows_value : (coefs : List ℕ) (cells : List (CellRow (List ℕ))) → cost_where key passes (map (weighted coefs) cells) ≡ value coefs (λ k. rows_cost tests k cells)
+  rows_value : (coefs : List ℕ) (cells : List (Cell (List ℕ))) → cost_where key passes (map (weighted coefs) cells) ≡ value coefs (λ k. rows_cost tests k cells)
   rows_value coefs [] = sym (value_none coefs)
   rows_value coefs (r ∷ cells) =
       ap₂ ◌+◌ (row_where (tests (place_of_row r)) coefs r.event r.cost) (rows_value coefs cells)
       ∙ sym (value_sum coefs (λ k. if tests (place_of_row r) && (r.event == k) then r.cost else 0) (λ k. rows_cost tests k cells))
 
-  records_value : (coefs : List ℕ) (records : List Record) → cost_where key passes (rows_of (costs_of coefs records)) ≡ value coefs (λ k. own_sum tests k records)
+  records_value : (coefs : List ℕ) (records : List Record) → cost_where key passes (rows_of (costs_of coefs records)) ≡ value coefs (λ k. self_sum tests k records)
   records_value coefs [] = sym (value_none coefs)
   records_value coefs (Own cost ∷ records) =
       ap₂ ◌+◌ (record_where (tests (spot_of cost)) coefs cost.costs) (records_value coefs records)
-      ∙ sym (value_sum coefs (λ k. if tests (spot_of cost) then slice_index cost.costs k else 0) (λ k. own_sum tests k records))
+      ∙ sym (value_sum coefs (λ k. if tests (spot_of cost) then slice_index cost.costs k else 0) (λ k. self_sum tests k records))
   records_value coefs (Called callee cost ∷ records) = records_value coefs records
 
   pub same_costs : (files : List EventRecords) (runs : List EventCells) → StandForEach files runs → cost_where key passes (all_rows runs) ≡ cost_where key passes (rows_of (all_costs files))
@@ -101,11 +101,11 @@ module _ (key : Key) (passes : Spot → Bool) where
   same_costs (f ∷ files) (r ∷ runs) stand =
       where_append key passes (map (weighted r.coefs) r.cells) (all_rows runs)
       ∙ ap₂ ◌+◌
-      (rows_value r.coefs r.cells ∙ value_same r.coefs (λ k. rows_cost tests k r.cells) (λ k. own_sum tests k f.records) (λ k. stand.0.cells tests k) ∙ ap (λ coefs. value coefs (λ k. own_sum tests k f.records)) stand.0.coefs ∙ sym (records_value f.coefs f.records))
+      (rows_value r.coefs r.cells ∙ value_same r.coefs (λ k. rows_cost tests k r.cells) (λ k. self_sum tests k f.records) (λ k. stand.0.cells tests k) ∙ ap (λ coefs. value coefs (λ k. self_sum tests k f.records)) stand.0.coefs ∙ sym (records_value f.coefs f.records))
       (same_costs files runs stand.1)
       ∙ sym (where_append key passes (rows_of (costs_of f.coefs f.records)) (rows_of (all_costs files)))
       ∙ ap (cost_where key passes) (sym (rows_append (costs_of f.coefs f.records) (all_costs files)))
 
--- what the cells of runs come to by key is what the records come to
+-- what the cells of runs sum to by key is what the records sum to
 pub cells_are_records : (key : Key) (files : List EventRecords) (runs : List EventCells) → StandForEach files runs → sums_by key (all_rows runs) ≡ costs_by key files
 cells_are_records key files runs stand = same_by_key key (all_rows runs) (rows_of (all_costs files)) (λ passes. same_costs key passes files runs stand)

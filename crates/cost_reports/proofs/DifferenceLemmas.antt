@@ -1,4 +1,4 @@
--- Differences: what their rows come to, and the same backwards.
+-- Differences: what their rows sum to, and the same backwards.
 use Rattle.std.proofs.Common.{inl, inr, ◌≡◌, ℕ, zero, suc, ◌+◌, ◌-◌, ◌==◌, ◌≤◌, nat_lt, Bool, true, false, not, ◌&&◌, ◌||◌, List, [], ◌∷◌, ◌++◌, map, drop, if◌then◌else◌, refl, sym, ap, ap₂, subst, ◌∙◌, arith}
 use Rattle.std.specs.declared.cmp.Ordering.{Ordering}
 use Rattle.std.specs.declared.cmp.Ordering.TheVariants.{Less, Equal, Greater}
@@ -244,7 +244,7 @@ less_backwards key firsts seconds =
     ∙ ranked_back (differing (beside firsts seconds)) (rising_differing (beside firsts seconds) (sorted_by (map (on_side First) firsts ++ map (on_side Second) seconds))))
     (less_back (total_of firsts) (total_of seconds))
 
--- ---- what rows come to
+-- ---- what rows sum to
 
 module _ (measure : Spot × Signed → ℕ) where
   abbrev rows_sum : List (Spot × Signed) → ℕ

@@ -24,7 +24,7 @@ use Rattle.cost_rows.proofs.StacksLemmas.{bytes_cmp-total}
 use Rattle.report_texts.specs.Calls.{Calls, all_calls}
 use Rattle.report_texts.specs.Costs.{EventRecords, all_costs}
 use Rattle.report_texts.specs.Functions.{function_spot, is_one_function}
-use Rattle.report_texts.specs.Inclusive.{frame_costs, frame_count, functions_in, inclusive_cost, inclusive_costs, is_frame, names_costs, outward_cost, outward_costs, own_cost}
+use Rattle.report_texts.specs.Inclusive.{frame_costs, frame_count, functions_in, inclusive_cost, inclusive_costs, is_frame, names_costs, outward_cost, outward_costs, self_cost}
 use Rattle.cost_reports.proofs.InclusiveLemmas.{how_many, names_where, times}
 use Rattle.cost_reports.proofs.KeyLemmas.{rows_append, sums_cost, where_append}
 
@@ -126,9 +126,9 @@ module _ (f : Spot) where
   frames_at [] = refl
   frames_at (s ∷ seen) = both (names_costs s.stack.count (functions_in s.stack.frames)) (frame_costs seen) ∙ ap₂ ◌+◌ (stack_at s.stack.frames s.stack.count) (frames_at seen)
 
-  own_at : (costs : List (Spot × ℕ)) → cost_where Function is_f (rows_of costs) ≡ own_cost f costs
-  own_at [] = refl
-  own_at (e ∷ costs) = ap (λ n. (if is_f e.0 then e.1 else 0) + n) (own_at costs)
+  self_at : (costs : List (Spot × ℕ)) → cost_where Function is_f (rows_of costs) ≡ self_cost f costs
+  self_at [] = refl
+  self_at (e ∷ costs) = ap (λ n. (if is_f e.0 then e.1 else 0) + n) (self_at costs)
 
   outward_at : (calls : List Calls) → cost_where Function is_f (rows_of (outward_costs calls)) ≡ outward_cost f calls
   outward_at [] = refl
@@ -143,4 +143,4 @@ module _ (f : Spot) where
   costs_of_function files seen =
       sums_cost Function is_f (rows_of (all_costs files ++ (outward_costs (all_calls files) ++ frame_costs seen)))
       ∙ both (all_costs files) (outward_costs (all_calls files) ++ frame_costs seen)
-      ∙ ap₂ ◌+◌ (own_at (all_costs files)) (both (outward_costs (all_calls files)) (frame_costs seen) ∙ ap₂ ◌+◌ (outward_at (all_calls files)) (frames_at seen))
+      ∙ ap₂ ◌+◌ (self_at (all_costs files)) (both (outward_costs (all_calls files)) (frame_costs seen) ∙ ap₂ ◌+◌ (outward_at (all_calls files)) (frames_at seen))

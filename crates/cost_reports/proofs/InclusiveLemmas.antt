@@ -1,4 +1,4 @@
--- Rows that come to records and stacks come to their inclusive costs.
+-- Rows that sum to records and stacks sum to their inclusive costs.
 use Rattle.std.proofs.Common.{zero, suc, pred, ◌≡◌, ℕ, ◌+◌, ◌≤◌, Bool, true, false, not, ◌&&◌, nat_lt, if◌then◌else◌, List, [], ◌∷◌, ◌++◌, map, slice_index, refl, sym, ap, ap₂, ◌∙◌, arith}
 use Rattle.std.specs.List.{AllByRecursion}
 use Rattle.std.proofs.lemmas.Bool.{lt-ltb}
@@ -10,9 +10,9 @@ use Rattle.cost_rows.specs.Sums.{Spot, caller_spot, callee_spot, call_sum}
 use Rattle.cost_rows.specs.StackSums.{frames_sum}
 use Rattle.cost_rows.specs.WalkSums.{caller_of_row, callee_of_row, calls_cost, stacks_count}
 use Rattle.cost_rows.specs.declared.keys.Key.TheVariants.{Function}
-use Rattle.cost_rows.specs.declared.rows.ArcRow.{ArcRow}
-use Rattle.cost_rows.specs.declared.rows.StackRow.{StackRow}
-use Rattle.report_texts.specs.Calls.{Calls, CallsStandForEach, EventArcs, all_arcs, all_calls, calls_of, weighted_calls}
+use Rattle.cost_rows.specs.declared.rows.CallEdge.{CallEdge}
+use Rattle.cost_rows.specs.declared.rows.StackCount.{StackCount}
+use Rattle.report_texts.specs.Calls.{Calls, CallsRepresentEach, EventEdges, all_edges, all_calls, calls_of, weighted_calls}
 use Rattle.report_texts.specs.Costs.{EventCells, EventRecords, StandForEach, all_costs, all_rows}
 use Rattle.report_texts.specs.Functions.{function_spot, is_one_function}
 use Rattle.report_texts.specs.Inclusive.{SameStacks, frame_costs, functions_in, inclusive_costs, inclusive_rows, names_costs, outward_costs, row_costs, rows_count, count_of}
@@ -88,13 +88,13 @@ same_weights weight xs ys same =
 
 -- ---- the functions of stacks
 
-abbrev of_rows : List (StackRow (List ℕ)) → List (List ℕ × ℕ)
-of_rows rows = map (λ (r : StackRow (List ℕ)). (r.stack, r.count)) rows
+abbrev of_rows : List (StackCount (List ℕ)) → List (List ℕ × ℕ)
+of_rows rows = map (λ (r : StackCount (List ℕ)). (r.stack, r.count)) rows
 
 abbrev of_seen : List Seen → List (List ℕ × ℕ)
 of_seen seen = map (λ (s : Seen). (s.stack.frames, s.stack.count)) seen
 
-tests_of_rows : (test : List ℕ → Bool) (rows : List (StackRow (List ℕ))) → test_sum test (of_rows rows) ≡ stacks_count test rows
+tests_of_rows : (test : List ℕ → Bool) (rows : List (StackCount (List ℕ))) → test_sum test (of_rows rows) ≡ stacks_count test rows
 tests_of_rows test [] = refl
 tests_of_rows test (r ∷ rows) = ap (λ n. (if test r.stack then r.count else 0) + n) (tests_of_rows test rows)
 
@@ -102,10 +102,10 @@ tests_of_seen : (test : List ℕ → Bool) (seen : List Seen) → test_sum test 
 tests_of_seen test [] = refl
 tests_of_seen test (s ∷ seen) = ap (λ n. (if test s.stack.frames then s.stack.count else 0) + n) (tests_of_seen test seen)
 
-same_tests : (rows : List (StackRow (List ℕ))) (seen : List Seen) → SameStacks rows seen → (test : List ℕ → Bool) → test_sum test (of_rows rows) ≡ test_sum test (of_seen seen)
+same_tests : (rows : List (StackCount (List ℕ))) (seen : List Seen) → SameStacks rows seen → (test : List ℕ → Bool) → test_sum test (of_rows rows) ≡ test_sum test (of_seen seen)
 same_tests rows seen same test = tests_of_rows test rows ∙ same test ∙ sym (tests_of_seen test seen)
 
-counts_of_rows : (rows : List (StackRow (List ℕ))) → rows_count rows ≡ test_sum (λ _. true) (of_rows rows)
+counts_of_rows : (rows : List (StackCount (List ℕ))) → rows_count rows ≡ test_sum (λ _. true) (of_rows rows)
 counts_of_rows [] = refl
 counts_of_rows (r ∷ rows) = ap (λ n. r.count + n) (counts_of_rows rows)
 
@@ -130,7 +130,7 @@ module _ (passes : Spot → Bool) where
   abbrev weight : List ℕ → ℕ
   weight frames = how_many (functions_in frames)
 
-  rows_where : (rows : List (StackRow (List ℕ))) → cost_where Function passes (rows_of (row_costs rows)) ≡ weight_sum weight (of_rows rows)
+  rows_where : (rows : List (StackCount (List ℕ))) → cost_where Function passes (rows_of (row_costs rows)) ≡ weight_sum weight (of_rows rows)
   rows_where [] = refl
   rows_where (r ∷ rows) =
       ap (cost_where Function passes) (rows_append (names_costs r.count (functions_in r.stack)) (row_costs rows))
@@ -144,7 +144,7 @@ module _ (passes : Spot → Bool) where
       ∙ where_append Function passes (rows_of (names_costs s.stack.count (functions_in s.stack.frames))) (rows_of (frame_costs seen))
       ∙ ap₂ ◌+◌ (names_where s.stack.count (functions_in s.stack.frames)) (seen_where seen)
 
-  same_frames : (rows : List (StackRow (List ℕ))) (seen : List Seen) → SameStacks rows seen
+  same_frames : (rows : List (StackCount (List ℕ))) (seen : List Seen) → SameStacks rows seen
       → cost_where Function passes (rows_of (row_costs rows)) ≡ cost_where Function passes (rows_of (frame_costs seen))
   same_frames rows seen same = rows_where rows ∙ same_weights weight (of_rows rows) (of_seen seen) (same_tests rows seen same) ∙ sym (seen_where seen)
 
@@ -172,11 +172,11 @@ module _ (passes : Spot → Bool) where
   sum_append [] ys = none_first (outward_sum ys)
   sum_append (x ∷ xs) ys = let rest = sum_append xs ys in omega (arith, rest)
 
-  arcs_value : (coefs : List ℕ) (arcs : List (ArcRow (List ℕ) (List ℕ))) → outward_sum (map (weighted_calls coefs) arcs) ≡ value coefs (λ k. calls_cost outward k arcs)
-  arcs_value coefs [] = sym (value_none coefs)
-  arcs_value coefs (r ∷ arcs) =
-      ap₂ ◌+◌ (record_where (outward (caller_of_row r) (callee_of_row r)) coefs r.costs) (arcs_value coefs arcs)
-      ∙ sym (value_sum coefs (λ k. if outward (caller_of_row r) (callee_of_row r) then slice_index r.costs k else 0) (λ k. calls_cost outward k arcs))
+  edges_value : (coefs : List ℕ) (edges : List (CallEdge (List ℕ) (List ℕ))) → outward_sum (map (weighted_calls coefs) edges) ≡ value coefs (λ k. calls_cost outward k edges)
+  edges_value coefs [] = sym (value_none coefs)
+  edges_value coefs (r ∷ edges) =
+      ap₂ ◌+◌ (record_where (outward (caller_of_row r) (callee_of_row r)) coefs r.costs) (edges_value coefs edges)
+      ∙ sym (value_sum coefs (λ k. if outward (caller_of_row r) (callee_of_row r) then slice_index r.costs k else 0) (λ k. calls_cost outward k edges))
 
   calls_value : (coefs : List ℕ) (records : List Record) → outward_sum (calls_of coefs records) ≡ value coefs (λ k. call_sum outward k records)
   calls_value coefs [] = sym (value_none coefs)
@@ -185,15 +185,15 @@ module _ (passes : Spot → Bool) where
       ap₂ ◌+◌ (record_where (outward (caller_spot cost) (callee_spot callee)) coefs cost.costs) (calls_value coefs records)
       ∙ sym (value_sum coefs (λ k. if outward (caller_spot cost) (callee_spot callee) then slice_index cost.costs k else 0) (λ k. call_sum outward k records))
 
-  same_outward : (files : List EventRecords) (runs : List EventArcs) → CallsStandForEach files runs → outward_sum (all_arcs runs) ≡ outward_sum (all_calls files)
+  same_outward : (files : List EventRecords) (runs : List EventEdges) → CallsRepresentEach files runs → outward_sum (all_edges runs) ≡ outward_sum (all_calls files)
   same_outward [] [] stand = refl
   same_outward [] (r ∷ runs) stand = absurd stand
   same_outward (e ∷ files) [] stand = absurd stand
   same_outward (e ∷ files) (r ∷ runs) stand =
-      sum_append (map (weighted_calls r.coefs) r.arcs) (all_arcs runs)
+      sum_append (map (weighted_calls r.coefs) r.calls) (all_edges runs)
       ∙ ap₂ ◌+◌
-      (arcs_value r.coefs r.arcs
-      ∙ value_same r.coefs (λ k. calls_cost outward k r.arcs) (λ k. call_sum outward k e.records) (λ k. stand.0.costs outward k)
+      (edges_value r.coefs r.calls
+      ∙ value_same r.coefs (λ k. calls_cost outward k r.calls) (λ k. call_sum outward k e.records) (λ k. stand.0.costs outward k)
       ∙ ap (λ coefs. value coefs (λ k. call_sum outward k e.records)) stand.0.coefs
       ∙ sym (calls_value e.coefs e.records))
       (same_outward files runs stand.1)
@@ -201,15 +201,15 @@ module _ (passes : Spot → Bool) where
 
   -- ---- all together
 
-  same_where : (files : List EventRecords) (cells : List EventCells) (arcs : List EventArcs) (rows : List (StackRow (List ℕ))) (seen : List Seen)
-      → StandForEach files cells → CallsStandForEach files arcs → SameStacks rows seen
-      → cost_where Function passes (all_rows cells ++ rows_of (outward_costs (all_arcs arcs) ++ row_costs rows))
+  same_where : (files : List EventRecords) (cells : List EventCells) (edges : List EventEdges) (rows : List (StackCount (List ℕ))) (seen : List Seen)
+      → StandForEach files cells → CallsRepresentEach files edges → SameStacks rows seen
+      → cost_where Function passes (all_rows cells ++ rows_of (outward_costs (all_edges edges) ++ row_costs rows))
       ≡ cost_where Function passes (rows_of (all_costs files ++ (outward_costs (all_calls files) ++ frame_costs seen)))
-  same_where files cells arcs rows seen own calls stacks =
-      where_append Function passes (all_rows cells) (rows_of (outward_costs (all_arcs arcs) ++ row_costs rows))
+  same_where files cells edges rows seen own calls stacks =
+      where_append Function passes (all_rows cells) (rows_of (outward_costs (all_edges edges) ++ row_costs rows))
       ∙ ap₂ ◌+◌ (same_costs Function passes files cells own)
-      (both (outward_costs (all_arcs arcs)) (row_costs rows)
-      ∙ ap₂ ◌+◌ (outward_where (all_arcs arcs) ∙ same_outward files arcs calls ∙ sym (outward_where (all_calls files))) (same_frames rows seen stacks)
+      (both (outward_costs (all_edges edges)) (row_costs rows)
+      ∙ ap₂ ◌+◌ (outward_where (all_edges edges) ∙ same_outward files edges calls ∙ sym (outward_where (all_calls files))) (same_frames rows seen stacks)
       ∙ sym (both (outward_costs (all_calls files)) (frame_costs seen)))
       ∙ sym (both (all_costs files) (outward_costs (all_calls files) ++ frame_costs seen))
     where
@@ -217,11 +217,11 @@ module _ (passes : Spot → Bool) where
       both xs ys = ap (cost_where Function passes) (rows_append xs ys) ∙ where_append Function passes (rows_of xs) (rows_of ys)
 
 -- the inclusive costs of rows are those of the records and the stacks
-pub inclusive_are_records : (files : List EventRecords) (seen : List Seen) (cells : List EventCells) (arcs : List EventArcs) (rows : List (StackRow (List ℕ)))
-    → StandForEach files cells → CallsStandForEach files arcs → SameStacks rows seen → inclusive_rows (all_rows cells) (all_arcs arcs) rows ≡ inclusive_costs files seen
-inclusive_are_records files seen cells arcs rows own calls stacks =
+pub inclusive_are_records : (files : List EventRecords) (seen : List Seen) (cells : List EventCells) (edges : List EventEdges) (rows : List (StackCount (List ℕ)))
+    → StandForEach files cells → CallsRepresentEach files edges → SameStacks rows seen → inclusive_rows (all_rows cells) (all_edges edges) rows ≡ inclusive_costs files seen
+inclusive_are_records files seen cells edges rows own calls stacks =
     ap₂ (λ sums total. record { sums = sums; total = total })
-    (same_by_key Function (all_rows cells ++ rows_of (outward_costs (all_arcs arcs) ++ row_costs rows)) (rows_of (all_costs files ++ (outward_costs (all_calls files) ++ frame_costs seen)))
-    (λ passes. same_where passes files cells arcs rows seen own calls stacks))
+    (same_by_key Function (all_rows cells ++ rows_of (outward_costs (all_edges edges) ++ row_costs rows)) (rows_of (all_costs files ++ (outward_costs (all_calls files) ++ frame_costs seen)))
+    (λ passes. same_where passes files cells edges rows seen own calls stacks))
     (ap₂ ◌+◌ (sym (total_by_key Function (all_rows cells)) ∙ ap total_of (cells_are_records Function files cells own) ∙ total_of_rows Function (all_costs files))
     (counts_of_rows rows ∙ same_tests rows seen stacks (λ _. true) ∙ sym (counts_of_seen seen)))

@@ -2,7 +2,7 @@
 use Rattle.std.specs.Prelude.{ℕ, List, map}
 use Rattle.cost_rows.specs.Keys.{place_of_row}
 use Rattle.cost_rows.specs.Sums.{Spot}
-use Rattle.cost_rows.specs.declared.rows.CellRow.{CellRow}
+use Rattle.cost_rows.specs.declared.rows.Cell.{Cell}
 use Rattle.report_texts.specs.Verifying.{Checked}
 use Rattle.report_texts.specs.declared.pairs.Pair.{Pair}
 use Rattle.report_texts.specs.declared.signed.Signed.{Signed}
@@ -38,5 +38,5 @@ abbrev pub plain_check : Check → Checked
 plain_check c = record { event = c.event.now; sum = c.sum; stated = c.stated }
 
 -- the sum that a merged row has
-abbrev pub sum_of_row : CellRow (List ℕ) → Spot × ℕ
+abbrev pub sum_of_row : Cell (List ℕ) → Spot × ℕ
 sum_of_row r = (place_of_row r, r.cost)

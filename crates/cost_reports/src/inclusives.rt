@@ -4,14 +4,14 @@ ghost use Rattle.cost_rows.specs.KeySums.{total_of, with_row, rows_of};
 ghost use Rattle.cost_rows.specs.Plain.{plain_cell, plain_stack};
 ghost use Rattle.cost_rows.specs.declared.keys.Key.TheVariants.{Function};
 ghost use Rattle.report_texts.specs.Calls.{calls_of_row};
-ghost use Rattle.report_texts.specs.Inclusive.{inclusive_report, names_in, names_costs, with_own, with_outward, with_stack};
+ghost use Rattle.report_texts.specs.Inclusive.{inclusive_report, names_in, names_costs, with_self, with_outward, with_stack};
 ghost use Rattle.report_texts.specs.Pairs.{AreBelow};
 ghost use Rattle.cost_reports.specs.Rows.{plain_rows};
 
 use crate::frames::functions_in;
 use crate::ranks::ranked_rows;
 use crate::rows::Row;
-use cost_rows::{ArcRow, CellRow, Key, Merged, StackRow};
+use cost_rows::{CallEdge, Cell, Key, Merged, StackCount};
 use std::alloc::{AllocError, Global};
 use std::collections::BTreeSet;
 use std::marker::Model;
@@ -46,7 +46,7 @@ fn add_functions(
     ensures key { merged.new.key ≡ merged.old.key }
 {
     for function in functions.iter() {
-        merged.add(&CellRow {
+        merged.add(&Cell {
             object: b"???".as_slice(),
             file: b"???".as_slice(),
             function: *function,
@@ -88,10 +88,10 @@ impl InclusiveSums {
         self.merged.total()
     }
 
-    /// Adds a row of own costs of a Callgrind run. Those of a folded run are in its stacks.
-    pub fn add_own(&mut self, row: &CellRow<&[u8]>) -> Result<(), AllocError>
+    /// Adds a row of self costs of a Callgrind run. Those of a folded run are in its stacks.
+    pub fn add_self(&mut self, row: &Cell<&[u8]>) -> Result<(), AllocError>
         requires small { AreBelow (total_of self.old.sums + row.now.cost) (self.old.total + row.now.cost) }
-        ensures { OnOk result (self.new ≡ with_own self.old (plain_cell row.now)) }
+        ensures { OnOk result (self.new ≡ with_self self.old (plain_cell row.now)) }
     {
         self.merged.add(row)?;
         self.total += row.cost;
@@ -100,14 +100,14 @@ impl InclusiveSums {
 
     /// Adds a row of calls, which costs its caller what the calls cost, unless they are of the caller
     /// itself.
-    pub fn add_calls(&mut self, row: &ArcRow<&[u8], u128>) -> Result<(), AllocError>
+    pub fn add_calls(&mut self, row: &CallEdge<&[u8], u128>) -> Result<(), AllocError>
         requires small { total_of self.old.sums + row.now.costs < 2 ^ 112 }
         ensures { OnOk result (self.new ≡ with_outward self.old (calls_of_row row.now)) }
     {
         if row.object == row.called_object && row.function == row.called_function {
             return Ok(());
         }
-        self.merged.add(&CellRow {
+        self.merged.add(&Cell {
             object: row.object,
             file: b"???".as_slice(),
             function: row.function,
@@ -120,7 +120,7 @@ impl InclusiveSums {
 
     /// Adds a row of stacks of a folded run: its count once for each function that has a frame in it.
     /// They are at most as many as the frames have bytes, and one more: so much room is asked for.
-    pub fn add_stack(&mut self, row: &StackRow<&[u8]>) -> Result<(), AllocError>
+    pub fn add_stack(&mut self, row: &StackCount<&[u8]>) -> Result<(), AllocError>
         requires sum { total_of self.old.sums + (length row.now.stack.now + 1) * row.now.count < 2 ^ 112 }
         requires total { self.old.total + row.now.count < 2 ^ 112 }
         ensures { OnOk result (self.new ≡ with_stack self.old (plain_stack row.now)) }

@@ -20,7 +20,7 @@ mod inclusives;
 mod key_reports;
 // The text of a report by key (report_texts/specs/KeyTexts.antt).
 mod key_texts;
-// Laws: what reports come to, from the rows of runs to the records of their files.
+// Laws: what reports sum to, from the rows of runs to the records of their files.
 mod laws;
 // What is printed of a number.
 mod numbers;
@@ -47,11 +47,10 @@ pub use frames::is_frame;
 pub use inclusives::{InclusiveReport, InclusiveSums, inclusive};
 pub use key_reports::{Report, by};
 pub use laws::{
-    added_rows_come_to_the_reports, callers_and_callees_come_to_the_calls,
-    calls_come_to_the_records, cells_come_to_the_records, differences_come_to_the_total,
-    differences_turn_round, equal_costs_have_equal_sums,
-    inclusive_costs_are_those_of_each_function, inclusive_costs_come_to_the_records,
-    shown_and_rest_are_the_total, the_fewest_rows_are_shown,
+    added_rows_sum_to_the_reports, callers_and_callees_sum_to_the_calls, calls_sum_to_the_records,
+    cells_sum_to_the_records, differences_sum_to_the_total, differences_turn_round,
+    equal_costs_have_equal_sums, inclusive_costs_are_those_of_each_function,
+    inclusive_costs_sum_to_the_records, shown_and_rest_are_the_total, the_fewest_rows_are_shown,
 };
 pub use report_texts::{CallSide, Cut};
 pub use verifying::{Verification, verify};

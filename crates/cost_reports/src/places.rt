@@ -6,7 +6,7 @@ ghost use Rattle.report_texts.specs.Functions.{function_spot};
 ghost use Rattle.cost_reports.specs.Places.{held_place, no_place};
 ghost use Rattle.cost_reports.specs.Rows.{lent_place};
 
-use cost_rows::CellRow;
+use cost_rows::Cell;
 use std::alloc::{AllocError, Global};
 
 /// A place by names that are lent; the parts outside a key are `???` and 0.
@@ -20,7 +20,7 @@ pub(crate) struct LentPlace<'a> {
 }
 
 /// The place of a row.
-pub(crate) fn place_of_row<'a>(row: &CellRow<&'a [u8]>) -> LentPlace<'a>
+pub(crate) fn place_of_row<'a>(row: &Cell<&'a [u8]>) -> LentPlace<'a>
     ensures { lent_place result ≡ place_of_row (plain_cell row.now) }
 {
     LentPlace {

@@ -8,13 +8,13 @@ ghost use Rattle.cost_reports.specs.Rows.{plain_row, plain_rows, sum_of_row};
 
 use crate::places::place_of_row;
 use crate::rows::Row;
-use cost_rows::{CellRow, Merged};
+use cost_rows::{Cell, Merged};
 use report_texts::Cut;
 use std::alloc::{AllocError, Global};
 use std::cmp::Reverse;
 
 /// A sum as a row.
-pub(crate) fn row_of<'a>(row: &CellRow<&'a [u8]>) -> Row<'a>
+pub(crate) fn row_of<'a>(row: &Cell<&'a [u8]>) -> Row<'a>
     ensures { plain_row result ≡ sum_of_row (plain_cell row.now) }
 {
     Row {
@@ -51,7 +51,7 @@ pub(crate) fn ranked_rows<'a>(alloc: Global, merged: &'a Merged) -> Result<Vec<R
     Ok(rows)
 }
 
-/// How many rows it takes until they come to a hundredth of what is needed.
+/// How many rows it takes until they sum to a hundredth of what is needed.
 fn count_reaching(rows: &[Row<'_>], need: u128) -> usize
     requires { total_of (plain_rows rows.now) < 2 ^ 112 }
     ensures { plain_rows (take result rows.now) ≡ reaching need 0 (plain_rows rows.now) }
@@ -66,7 +66,7 @@ fn count_reaching(rows: &[Row<'_>], need: u128) -> usize
     rows.len()
 }
 
-/// Keeps rows until they come to a hundredth of what is needed.
+/// Keeps rows until they sum to a hundredth of what is needed.
 fn keep_enough(rows: &mut Vec<Row<'_>>, need: u128)
     requires { total_of (plain_rows rows.old.items) < 2 ^ 112 }
     ensures { plain_rows rows.new.items ≡ reaching need 0 (plain_rows rows.old.items) }
@@ -99,7 +99,7 @@ pub(crate) fn shown_rows<'a>(
     Ok(rows)
 }
 
-/// What rows come to.
+/// What rows sum to.
 pub(crate) fn cost_of(rows: &[Row<'_>]) -> u128
     requires { total_of (plain_rows rows.now) < 2 ^ 112 }
     ensures { result ≡ total_of (plain_rows rows.now) }

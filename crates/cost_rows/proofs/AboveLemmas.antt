@@ -2,10 +2,10 @@
 use Rattle.std.proofs.Common.{◌≡◌, ℕ, zero, suc, ◌<◌, Bool, true, false, List, [], ◌∷◌, ◌++◌, map, nat_lt, if◌then◌else◌, refl, ap₂, arith}
 use Rattle.std.specs.List.{AllByRecursion}
 use Rattle.cost_rows.specs.Above.{rows_above}
-use Rattle.cost_rows.specs.Walks.{HaveCosts, HaveCounts, cell_named, cell_rows, stack_rows}
+use Rattle.cost_rows.specs.Walks.{HaveCosts, HaveCounts, cell_named, named_cells, counted_stacks}
 use Rattle.cost_rows.specs.ByNumber.{numbered_cell, numbered_at, numbered_cells}
 use Rattle.cost_rows.specs.declared.places.CellPlace.{CellPlace}
-use Rattle.cost_rows.specs.declared.rows.CellRow.{CellRow}
+use Rattle.cost_rows.specs.declared.rows.Cell.{Cell}
 
 -- what holds of each row of an amount above 0 holds of all
 pub all-above : {R : Type 0} (P : R → Type 0) (row : ℕ → ℕ → R) → ((k n : ℕ) → 0 < n → P (row k n)) → (place : ℕ) (ns : List ℕ) → AllByRecursion P (rows_above row place ns)
@@ -29,29 +29,29 @@ map-above f row other each place (n ∷ ns) = go (nat_lt 0 n) (map-above f row o
 
 -- ---- what is walked
 
-named-costs : (names : List (List ℕ)) (rows : List (CellRow ℕ)) → AllByRecursion (λ (r : CellRow ℕ). 0 < r.cost) rows → HaveCosts (map (cell_named names) rows)
+named-costs : (names : List (List ℕ)) (rows : List (Cell ℕ)) → AllByRecursion (λ (r : Cell ℕ). 0 < r.cost) rows → HaveCosts (map (cell_named names) rows)
 named-costs names [] all = tt
 named-costs names (r ∷ rows) all = (all.0, named-costs names rows all.1)
 
-both-have : (xs ys : List (CellRow ℕ)) → AllByRecursion (λ (r : CellRow ℕ). 0 < r.cost) xs → AllByRecursion (λ (r : CellRow ℕ). 0 < r.cost) ys → AllByRecursion (λ (r : CellRow ℕ). 0 < r.cost) (xs ++ ys)
+both-have : (xs ys : List (Cell ℕ)) → AllByRecursion (λ (r : Cell ℕ). 0 < r.cost) xs → AllByRecursion (λ (r : Cell ℕ). 0 < r.cost) ys → AllByRecursion (λ (r : Cell ℕ). 0 < r.cost) (xs ++ ys)
 both-have [] ys some more = more
 both-have (x ∷ xs) ys some more = (some.0, both-have xs ys some.1 more)
 
-numbered-costs : (cells : List (CellPlace × List ℕ)) → AllByRecursion (λ (r : CellRow ℕ). 0 < r.cost) (numbered_cells cells)
+numbered-costs : (cells : List (CellPlace × List ℕ)) → AllByRecursion (λ (r : Cell ℕ). 0 < r.cost) (numbered_cells cells)
 numbered-costs [] = tt
 numbered-costs (e ∷ cells) =
-    both-have (numbered_at e.0 0 e.1) (numbered_cells cells) (all-above (λ (r : CellRow ℕ). 0 < r.cost) (numbered_cell e.0) (λ event cost above. above) 0 e.1) (numbered-costs cells)
+    both-have (numbered_at e.0 0 e.1) (numbered_cells cells) (all-above (λ (r : Cell ℕ). 0 < r.cost) (numbered_cell e.0) (λ event cost above. above) 0 e.1) (numbered-costs cells)
 
 -- no cell that is walked costs 0
-pub cells-above : (names : List (List ℕ)) (cells : List (CellPlace × List ℕ)) → HaveCosts (cell_rows names cells)
+pub cells-above : (names : List (List ℕ)) (cells : List (CellPlace × List ℕ)) → HaveCosts (named_cells names cells)
 cells-above names cells = named-costs names (numbered_cells cells) (numbered-costs cells)
 
 -- and no stack counts 0
-pub stacks-above : (stacks : List (List ℕ × ℕ)) → HaveCounts (stack_rows stacks)
+pub stacks-above : (stacks : List (List ℕ × ℕ)) → HaveCounts (counted_stacks stacks)
 stacks-above [] = tt
 stacks-above ((frames, zero) ∷ stacks) = stacks-above stacks
 stacks-above ((frames, suc n) ∷ stacks) = go (nat_lt 0 (suc n)) (stacks-above stacks)
   where
-    go : (b : Bool) → HaveCounts (stack_rows stacks) → HaveCounts (if b then record { stack = frames; count = suc n } ∷ stack_rows stacks else stack_rows stacks)
+    go : (b : Bool) → HaveCounts (counted_stacks stacks) → HaveCounts (if b then record { stack = frames; count = suc n } ∷ counted_stacks stacks else counted_stacks stacks)
     go true rest = (omega arith, rest)
     go false rest = rest

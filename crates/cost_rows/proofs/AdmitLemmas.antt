@@ -1,4 +1,4 @@
--- The first sum above the bound, where own costs come before the costs of calls, and these before their number.
+-- The first sum above the bound, where self costs come before the costs of calls, and these before their number.
 use Rattle.std.proofs.Common.{◌≡◌, inl, inr, ℕ, ◌+◌, ◌<◌, ◌≤◌, List, [], ◌∷◌, ◌++◌, nat_lt, Option, Some, None, refl, sym, ap, ◌∙◌}
 use Rattle.std.proofs.lemmas.Bool.{cases_Bool, lt-ltb, le-ltb}
 use Rattle.cost_rows.specs.Admit.{Sum, bound, column_sums, first_above, overflow_of}

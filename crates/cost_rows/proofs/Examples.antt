@@ -6,8 +6,8 @@ use Rattle.cost_rows.specs.Naming.{place_of, with_name, names_among}
 use Rattle.profile_records.specs.Records.{Record, Own, Called}
 use Rattle.profile_records.specs.Stacks.{Seen}
 use Rattle.cost_rows.specs.Content.{Content, empty, with_record, with_stack}
-use Rattle.cost_rows.specs.Walks.{cell_rows, arc_rows, stack_rows}
-use Rattle.cost_rows.specs.Sums.{own_sum}
+use Rattle.cost_rows.specs.Walks.{named_cells, named_calls, counted_stacks}
+use Rattle.cost_rows.specs.Sums.{self_sum}
 use Rattle.cost_rows.specs.WalkSums.{rows_cost, calls_cost, calls_count, stacks_count}
 use Rattle.cost_rows.specs.declared.places.Place.{Place}
 use Rattle.cost_rows.specs.Merging.{merge_all, sum_where}
@@ -130,36 +130,36 @@ place line = record { object = 0; file = 1; function = 2; line = line }
 content-cells : content.cells ≡ (record { place = place 2; thread = 0 }, 0 ∷ 5 ∷ []) ∷ (record { place = place 3; thread = 0 }, 5 ∷ 2 ∷ 7 ∷ []) ∷ []
 content-cells = refl
 
-content-arcs : content.arcs ≡ (record { place = place 3; object = 0; file = 3; function = 4 }, record { count = 3; costs = 30 ∷ 3 ∷ [] }) ∷ []
-content-arcs = refl
+content-edges : content.calls ≡ (record { place = place 3; object = 0; file = 3; function = 4 }, record { count = 3; costs = 30 ∷ 3 ∷ [] }) ∷ []
+content-edges = refl
 
 -- a cell whose sum is 0 is no row
-rows-cells : map {B = ℕ × ℕ × ℕ} (λ r. (r.line, r.event, r.cost)) (cell_rows content.names content.cells) ≡ (2, 1, 5) ∷ (3, 0, 5) ∷ (3, 1, 2) ∷ (3, 2, 7) ∷ []
+rows-cells : map {B = ℕ × ℕ × ℕ} (λ r. (r.line, r.event, r.cost)) (named_cells content.names content.cells) ≡ (2, 1, 5) ∷ (3, 0, 5) ∷ (3, 1, 2) ∷ (3, 2, 7) ∷ []
 rows-cells = refl
 
-rows-functions : map (λ r. r.function) (cell_rows content.names content.cells) ≡ codes "f" ∷ codes "f" ∷ codes "f" ∷ codes "f" ∷ []
+rows-functions : map (λ r. r.function) (named_cells content.names content.cells) ≡ codes "f" ∷ codes "f" ∷ codes "f" ∷ codes "f" ∷ []
 rows-functions = refl
 
-rows-called : map {B = List ℕ × List ℕ × ℕ} (λ r. (r.called_file, r.called_function, r.count)) (arc_rows content.names content.arcs) ≡ (codes "b.c", codes "g", 3) ∷ []
+rows-called : map {B = List ℕ × List ℕ × ℕ} (λ r. (r.called_file, r.called_function, r.count)) (named_calls content.names content.calls) ≡ (codes "b.c", codes "g", 3) ∷ []
 rows-called = refl
 
-sum-second_column : own_sum (λ s. true) 1 records ≡ 7
+sum-second_column : self_sum (λ s. true) 1 records ≡ 7
 sum-second_column = refl
 
-sum-line_three : own_sum (λ s. s.line == 3) 0 records ≡ 5
+sum-line_three : self_sum (λ s. s.line == 3) 0 records ≡ 5
 sum-line_three = refl
 
 -- the same of the rows that are walked
-walked-second_column : rows_cost (λ s. true) 1 (cell_rows content.names content.cells) ≡ 7
+walked-second_column : rows_cost (λ s. true) 1 (named_cells content.names content.cells) ≡ 7
 walked-second_column = refl
 
-walked-line_three : rows_cost (λ s. s.line == 3) 0 (cell_rows content.names content.cells) ≡ 5
+walked-line_three : rows_cost (λ s. s.line == 3) 0 (named_cells content.names content.cells) ≡ 5
 walked-line_three = refl
 
-walked-calls : calls_cost (λ caller callee. true) 0 (arc_rows content.names content.arcs) ≡ 30
+walked-calls : calls_cost (λ caller callee. true) 0 (named_calls content.names content.calls) ≡ 30
 walked-calls = refl
 
-walked-count : calls_count (λ caller callee. callee.line == 0) (arc_rows content.names content.arcs) ≡ 3
+walked-count : calls_count (λ caller callee. callee.line == 0) (named_calls content.names content.calls) ≡ 3
 walked-count = refl
 
 -- ---- the rows of a folded file
@@ -177,11 +177,11 @@ folded-stacks : folded.stacks ≡ (codes "main", 1) ∷ (codes "main;", 0) ∷ (
 folded-stacks = refl
 
 -- the last frames; one without a name is `???`
-folded-cells : map {B = List ℕ × ℕ} (λ r. (r.function, r.cost)) (cell_rows folded.names folded.cells) ≡ (codes "f", 9) ∷ (codes "main", 1) ∷ []
+folded-cells : map {B = List ℕ × ℕ} (λ r. (r.function, r.cost)) (named_cells folded.names folded.cells) ≡ (codes "f", 9) ∷ (codes "main", 1) ∷ []
 folded-cells = refl
 
-folded-rows : map (λ r. r.count) (stack_rows folded.stacks) ≡ 1 ∷ 5 ∷ 4 ∷ []
+folded-rows : map (λ r. r.count) (counted_stacks folded.stacks) ≡ 1 ∷ 5 ∷ 4 ∷ []
 folded-rows = refl
 
-walked-stacks : stacks_count (λ frames. true) (stack_rows folded.stacks) ≡ 10
+walked-stacks : stacks_count (λ frames. true) (counted_stacks folded.stacks) ≡ 10
 walked-stacks = refl

@@ -22,7 +22,7 @@ distinct-three names a b d h = distinct-with (with_name b (with_name a names)) d
 order-cost : (c : Content) (cost : Cost) → IsInOrder c → IsInOrder (with_cost c cost)
 order-cost c cost is = record {
   cells = sorted-merge cell_cmp-total added c.cells (cell_of (names_with_cost cost c.names) cost) cost.costs is.cells;
-  arcs = is.arcs;
+  calls = is.calls;
   stacks = is.stacks;
   names = distinct-three c.names cost.object cost.file cost.function is.names;
 }
@@ -32,7 +32,7 @@ order-call c callee cost is =
     let mid = names_with_cost cost c.names in
     record {
       cells = is.cells;
-      arcs = sorted-merge call_cmp-total calls_added c.arcs (call_of (names_with_callee callee mid) callee cost) (calls_of callee cost) is.arcs;
+      calls = sorted-merge call_cmp-total calls_added c.calls (call_of (names_with_callee callee mid) callee cost) (calls_of callee cost) is.calls;
       stacks = is.stacks;
       names = distinct-three mid callee.object callee.file callee.function (distinct-three c.names cost.object cost.file cost.function is.names);
     }
@@ -42,14 +42,14 @@ order-stack c s is =
     let own = order-cost c (leaf_cost s) is in
     record {
       cells = own.cells;
-      arcs = own.arcs;
+      calls = own.calls;
       stacks = sorted-merge bytes_cmp-total counts_added c.stacks s.stack.frames s.stack.count is.stacks;
       names = own.names;
     }
 
 none_in_order : IsInOrder empty
 unfolding IsStrictlySortedBy
-none_in_order = record { cells = tt; arcs = tt; stacks = tt; names = refl }
+none_in_order = record { cells = tt; calls = tt; stacks = tt; names = refl }
 
 more-records : (records : List Record) (c : Content) → IsInOrder c → IsInOrder (fold with_record c records)
 more-records [] c is = is

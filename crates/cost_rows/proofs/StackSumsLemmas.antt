@@ -1,11 +1,11 @@
--- The rows of stacks come to what the stacks count.
+-- The rows of stacks sum to what the stacks count.
 use Rattle.std.proofs.Common.{◌≡◌, ℕ, ◌+◌, suc, Bool, true, false, List, [], ◌∷◌, fold, slice_index, if◌then◌else◌, refl, ap, ◌∙◌, add_assoc}
 use Rattle.profile_records.specs.Stacks.{Seen}
 use Rattle.cost_rows.specs.Content.{Content, empty, leaf_cost, with_stack}
 use Rattle.cost_rows.specs.Merging.{TellsApart}
 use Rattle.cost_rows.specs.Stacks.{bytes_cmp, counts_added}
 use Rattle.cost_rows.specs.Sums.{Spot, spot_of, cells_where, stacks_where}
-use Rattle.cost_rows.specs.StackSums.{leaf_sum, frames_sum, content_of_stacks, ComesToStacks}
+use Rattle.cost_rows.specs.StackSums.{leaf_sum, frames_sum, content_of_stacks, SumsToStacks}
 use Rattle.std.specs.Ordering.{is_eq}
 use Rattle.cost_rows.proofs.MergeLemmas.{sum-merge}
 use Rattle.cost_rows.proofs.NumberedLemmas.{equal-bytes}
@@ -16,17 +16,17 @@ bytes_cmp-apart : TellsApart bytes_cmp
 bytes_cmp-apart x y h = equal-bytes x y (ap is_eq h)
 
 held-stack : (c : Content) (s : Seen) → AreHeld c → AreHeld (with_stack c s)
-held-stack c s held = let is = held-cost c (leaf_cost s) held in record { cells = is.cells; arcs = is.arcs }
+held-stack c s held = let is = held-cost c (leaf_cost s) held in record { cells = is.cells; calls = is.calls }
 
 held-all : (seen : List Seen) (c : Content) → AreHeld c → AreHeld (fold with_stack c seen)
 held-all [] c held = held
 held-all (s ∷ seen) c held = held-all seen (with_stack c s) (held-stack c s held)
 
--- each number of the rows of a folded file stands for a name
+-- each number of the rows of a folded file represents a name
 pub held-stacks : (seen : List Seen) → AreHeld (content_of_stacks seen)
 held-stacks seen = held-all seen empty none_held
 
--- what column k of these stacks comes to
+-- what column k of these stacks sums to
 abbrev column_sum : (Spot → Bool) → ℕ → List Seen → ℕ
 column_sum passes k [] = 0
 column_sum passes k (s ∷ seen) = (if passes (spot_of (leaf_cost s)) then slice_index (leaf_cost s).costs k else 0) + column_sum passes k seen
@@ -61,14 +61,14 @@ law-frames passes (s ∷ seen) c =
     ∙ ap (λ n. n + frames_sum passes seen) (sum-merge bytes_cmp-apart counts_added passes (λ count. count) (λ x y. refl) c.stacks s.stack.frames s.stack.count)
     ∙ add_assoc (stacks_where passes c) (if passes s.stack.frames then s.stack.count else 0) (frames_sum passes seen)
 
-no_calls : (seen : List Seen) (c : Content) → (fold with_stack c seen).arcs ≡ c.arcs
+no_calls : (seen : List Seen) (c : Content) → (fold with_stack c seen).calls ≡ c.calls
 no_calls [] c = refl
 no_calls (s ∷ seen) c = no_calls seen (with_stack c s)
 
-pub sums-stacks : (seen : List Seen) → ComesToStacks (content_of_stacks seen) seen
+pub sums-stacks : (seen : List Seen) → SumsToStacks (content_of_stacks seen) seen
 sums-stacks seen = record {
   cells = λ passes. law-leaves passes 0 seen empty none_held ∙ none_plus (column_sum passes 0 seen) ∙ column-first passes seen;
   further = λ passes k. law-leaves passes (suc k) seen empty none_held ∙ none_plus (column_sum passes (suc k) seen) ∙ column-further passes k seen;
   stacks = λ passes. law-frames passes seen empty ∙ none_plus (frames_sum passes seen);
-  arcs = no_calls seen empty;
+  calls = no_calls seen empty;
 }

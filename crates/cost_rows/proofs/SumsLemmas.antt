@@ -1,4 +1,4 @@
--- The rows of merged records come to what the records come to.
+-- The rows of merged records sum to what the records sum to.
 use Rattle.std.proofs.Common.{◌≡◌, ℕ, ◌+◌, ◌<◌, ◌≤◌, zero, suc, Bool, true, false, ◌||◌, List, [], ◌∷◌, ◌++◌, length, fold, slice_index, Some, unwrap_or, if◌then◌else◌, refl, sym, ap, ap₂, ◌∙◌, subst, arith, add_assoc, length-append}
 use Rattle.std.specs.declared.cmp.Ordering.{Ordering}
 use Rattle.std.specs.declared.cmp.Ordering.TheVariants.{Less, Equal, Greater}
@@ -14,7 +14,7 @@ use Rattle.cost_rows.specs.Held.{IsHeld, CellHeld, CallHeld, AreHeld}
 use Rattle.cost_rows.specs.Merging.{merge, sum_where}
 use Rattle.cost_rows.specs.Places.{cell_cmp, call_cmp}
 use Rattle.cost_rows.specs.Content.{Content, empty, number_of, with_three, names_with_cost, names_with_callee, place_of_cost, cell_of, call_of, calls_of, with_cost, with_call, with_record}
-use Rattle.cost_rows.specs.Sums.{Spot, spot_of, callee_spot, name_at, spot_at, callee_at, passing_cell, passing_call, cells_where, calls_where, counts_where, content_of_records, ComesToRecords, own_sum, call_sum, count_sum, has_arc, has_call, cell_spot, caller_spot}
+use Rattle.cost_rows.specs.Sums.{Spot, spot_of, callee_spot, name_at, spot_at, callee_at, passing_cell, passing_call, cells_where, calls_where, counts_where, content_of_records, SumsToRecords, self_sum, call_sum, count_sum, has_edge, has_call, cell_spot, caller_spot}
 use Rattle.cost_rows.specs.declared.places.CellPlace.{CellPlace}
 use Rattle.cost_rows.specs.declared.places.Call.{Call}
 use Rattle.cost_rows.specs.declared.calls.Calls.{Calls}
@@ -96,27 +96,27 @@ cells-kept passes f names new cells grows held =
     (λ p h. ap (λ (s : Spot). passes (record s { thread = p.thread })) (spot-kept names new p.place.object p.place.file p.place.function p.place.line grows h)) held)
 
 -- a test of calls is answered the same among more names
-tests-kept : (passes : Spot → Spot → Bool) (names new : List (List ℕ)) (arcs : List (Call × Calls)) → Grows names new → AllByRecursion (CallHeld names) (keys_of arcs)
-    → AllByRecursion (λ a. passing_call passes new a ≡ passing_call passes names a) (keys_of arcs)
-tests-kept passes names new arcs grows held =
-    all-weaker (CallHeld names) (λ a. passing_call passes new a ≡ passing_call passes names a) (keys_of arcs)
+tests-kept : (passes : Spot → Spot → Bool) (names new : List (List ℕ)) (edges : List (Call × Calls)) → Grows names new → AllByRecursion (CallHeld names) (keys_of edges)
+    → AllByRecursion (λ a. passing_call passes new a ≡ passing_call passes names a) (keys_of edges)
+tests-kept passes names new edges grows held =
+    all-weaker (CallHeld names) (λ a. passing_call passes new a ≡ passing_call passes names a) (keys_of edges)
     (λ a h. ap (λ s. passes s (callee_at new a)) (spot-kept names new a.place.object a.place.file a.place.function a.place.line grows h.0)
     ∙ ap (passes (spot_at names a.place)) (spot-kept names new a.object a.file a.function 0 grows h.1)) held
 
-arcs-kept : (passes : Spot → Spot → Bool) (f : Calls → ℕ) (names new : List (List ℕ)) (arcs : List (Call × Calls)) → Grows names new → AllByRecursion (CallHeld names) (keys_of arcs)
-    → sum_where (passing_call passes new) f arcs ≡ sum_where (passing_call passes names) f arcs
-arcs-kept passes f names new arcs grows held = sum-same (passing_call passes new) (passing_call passes names) f arcs (tests-kept passes names new arcs grows held)
+edges-kept : (passes : Spot → Spot → Bool) (f : Calls → ℕ) (names new : List (List ℕ)) (edges : List (Call × Calls)) → Grows names new → AllByRecursion (CallHeld names) (keys_of edges)
+    → sum_where (passing_call passes new) f edges ≡ sum_where (passing_call passes names) f edges
+edges-kept passes f names new edges grows held = sum-same (passing_call passes new) (passing_call passes names) f edges (tests-kept passes names new edges grows held)
 
-has-kept : (passes : Spot → Spot → Bool) (names new : List (List ℕ)) (arcs : List (Call × Calls)) → Grows names new → AllByRecursion (CallHeld names) (keys_of arcs)
-    → list_any (passing_call passes new) (keys_of arcs) ≡ list_any (passing_call passes names) (keys_of arcs)
-has-kept passes names new arcs grows held = any-same (passing_call passes new) (passing_call passes names) (keys_of arcs) (tests-kept passes names new arcs grows held)
+has-kept : (passes : Spot → Spot → Bool) (names new : List (List ℕ)) (edges : List (Call × Calls)) → Grows names new → AllByRecursion (CallHeld names) (keys_of edges)
+    → list_any (passing_call passes new) (keys_of edges) ≡ list_any (passing_call passes names) (keys_of edges)
+has-kept passes names new edges grows held = any-same (passing_call passes new) (passing_call passes names) (keys_of edges) (tests-kept passes names new edges grows held)
 
 held-grows : (names new : List (List ℕ)) (cells : List (CellPlace × List ℕ)) → Grows names new → AllByRecursion (CellHeld names) (keys_of cells) → AllByRecursion (CellHeld new) (keys_of cells)
 held-grows names new cells grows held = all-weaker (CellHeld names) (CellHeld new) (keys_of cells) (λ p h. held-kept names new p.place.object p.place.file p.place.function grows h) held
 
-arcs-grow : (names new : List (List ℕ)) (arcs : List (Call × Calls)) → Grows names new → AllByRecursion (CallHeld names) (keys_of arcs) → AllByRecursion (CallHeld new) (keys_of arcs)
-arcs-grow names new arcs grows held =
-    all-weaker (CallHeld names) (CallHeld new) (keys_of arcs)
+edges-grow : (names new : List (List ℕ)) (edges : List (Call × Calls)) → Grows names new → AllByRecursion (CallHeld names) (keys_of edges) → AllByRecursion (CallHeld new) (keys_of edges)
+edges-grow names new edges grows held =
+    all-weaker (CallHeld names) (CallHeld new) (keys_of edges)
     (λ a h. (held-kept names new a.place.object a.place.file a.place.function grows h.0, held-kept names new a.object a.file a.function grows h.1)) held
 
 grows-three : (names : List (List ℕ)) (object file function : List ℕ) → Grows names (with_three object file function names)
@@ -125,7 +125,7 @@ grows-three names object file function =
     (grows-more names (with_name object names) (with_name file (with_name object names)) (grows-with names object) (grows-with (with_name object names) file))
     (grows-with (with_name file (with_name object names)) function)
 
--- the numbers of three held names stand for them
+-- the numbers of three held names represent them
 abbrev Named : List (List ℕ) → List ℕ → List ℕ → List ℕ → Type 0
 Named names object file function =
     (name_at names (number_of object names) ≡ object) × (name_at names (number_of file names) ≡ file) × (name_at names (number_of function names) ≡ function)
@@ -160,7 +160,7 @@ held-cost c cost held =
     let is = named-three c.names cost.object cost.file cost.function in
     record {
       cells = all-merge cell_cmp added (CellHeld new) c.cells (cell_of new cost) cost.costs (held-grows c.names new c.cells grows held.cells) is.3;
-      arcs = arcs-grow c.names new c.arcs grows held.arcs;
+      calls = edges-grow c.names new c.calls grows held.calls;
     }
 
 held-call : (c : Content) (callee : Callee) (cost : Cost) → AreHeld c → AreHeld (with_call c callee cost)
@@ -172,7 +172,7 @@ held-call c callee cost held =
     let called = named-three mid callee.object callee.file callee.function in
     record {
       cells = held-grows c.names new c.cells grows held.cells;
-      arcs = all-merge call_cmp calls_added (CallHeld new) c.arcs (call_of new callee cost) (calls_of callee cost) (arcs-grow c.names new c.arcs grows held.arcs) (caller.3, called.3);
+      calls = all-merge call_cmp calls_added (CallHeld new) c.calls (call_of new callee cost) (calls_of callee cost) (edges-grow c.names new c.calls grows held.calls) (caller.3, called.3);
     }
 
 pub cells-cost : (passes : Spot → Bool) (k : ℕ) (c : Content) (cost : Cost) → AreHeld c
@@ -203,20 +203,20 @@ call-grows c callee cost =
     let mid = names_with_cost cost c.names in
     grows-more c.names mid (names_with_callee callee mid) (grows-three c.names cost.object cost.file cost.function) (grows-three mid callee.object callee.file callee.function)
 
-arcs-call : (passes : Spot → Spot → Bool) (f : Calls → ℕ) (adds : (x y : Calls) → f (calls_added x y) ≡ f x + f y) (c : Content) (callee : Callee) (cost : Cost) → AreHeld c
-    → sum_where (passing_call passes (with_call c callee cost).names) f (with_call c callee cost).arcs ≡ sum_where (passing_call passes c.names) f c.arcs + (if passes (caller_spot cost) (callee_spot callee) then f (calls_of callee cost) else 0)
-arcs-call passes f adds c callee cost held =
+edges-call : (passes : Spot → Spot → Bool) (f : Calls → ℕ) (adds : (x y : Calls) → f (calls_added x y) ≡ f x + f y) (c : Content) (callee : Callee) (cost : Cost) → AreHeld c
+    → sum_where (passing_call passes (with_call c callee cost).names) f (with_call c callee cost).calls ≡ sum_where (passing_call passes c.names) f c.calls + (if passes (caller_spot cost) (callee_spot callee) then f (calls_of callee cost) else 0)
+edges-call passes f adds c callee cost held =
     let new = (with_call c callee cost).names in
     let more : Calls = calls_of callee cost in
-    sum-merge call_cmp-apart calls_added (passing_call passes new) f adds c.arcs (call_of new callee cost) more
-    ∙ ap₂ (λ n b. n + (if b then f more else 0)) (arcs-kept passes f c.names new c.arcs (call-grows c callee cost) held.arcs) (call-named passes c callee cost)
+    sum-merge call_cmp-apart calls_added (passing_call passes new) f adds c.calls (call_of new callee cost) more
+    ∙ ap₂ (λ n b. n + (if b then f more else 0)) (edges-kept passes f c.names new c.calls (call-grows c callee cost) held.calls) (call-named passes c callee cost)
 
 has-call : (passes : Spot → Spot → Bool) (c : Content) (callee : Callee) (cost : Cost) → AreHeld c
-    → has_arc passes (with_call c callee cost) ≡ passes (caller_spot cost) (callee_spot callee) || has_arc passes c
+    → has_edge passes (with_call c callee cost) ≡ passes (caller_spot cost) (callee_spot callee) || has_edge passes c
 has-call passes c callee cost held =
     let new = (with_call c callee cost).names in
-    keys-merge call_cmp-apart calls_added (passing_call passes new) c.arcs (call_of new callee cost) (calls_of callee cost)
-    ∙ ap₂ ◌||◌ (call-named passes c callee cost) (has-kept passes c.names new c.arcs (call-grows c callee cost) held.arcs)
+    keys-merge call_cmp-apart calls_added (passing_call passes new) c.calls (call_of new callee cost) (calls_of callee cost)
+    ∙ ap₂ ◌||◌ (call-named passes c callee cost) (has-kept passes c.names new c.calls (call-grows c callee cost) held.calls)
 
 -- ---- all records
 
@@ -224,32 +224,32 @@ pub plus_none : (n : ℕ) → n ≡ n + 0
 plus_none n = omega arith
 
 law-cells : (passes : Spot → Bool) (k : ℕ) (records : List Record) (c : Content) → AreHeld c
-    → cells_where passes k (fold with_record c records) ≡ cells_where passes k c + own_sum passes k records
+    → cells_where passes k (fold with_record c records) ≡ cells_where passes k c + self_sum passes k records
 law-cells passes k [] c held = plus_none _
 law-cells passes k (Own cost ∷ records) c held =
     law-cells passes k records (with_cost c cost) (held-cost c cost held)
-    ∙ ap (λ n. n + own_sum passes k records) (cells-cost passes k c cost held)
-    ∙ add_assoc (cells_where passes k c) (if passes (spot_of cost) then slice_index cost.costs k else 0) (own_sum passes k records)
+    ∙ ap (λ n. n + self_sum passes k records) (cells-cost passes k c cost held)
+    ∙ add_assoc (cells_where passes k c) (if passes (spot_of cost) then slice_index cost.costs k else 0) (self_sum passes k records)
 law-cells passes k (Called callee cost ∷ records) c held =
     law-cells passes k records (with_call c callee cost) (held-call c callee cost held)
-    ∙ ap (λ n. n + own_sum passes k records) (cells-kept passes (λ v. slice_index v k) c.names (with_call c callee cost).names c.cells (call-grows c callee cost) held.cells)
+    ∙ ap (λ n. n + self_sum passes k records) (cells-kept passes (λ v. slice_index v k) c.names (with_call c callee cost).names c.cells (call-grows c callee cost) held.cells)
 
--- what the call records come to by a measure
-abbrev arc_sum : (Calls → ℕ) → (Spot → Spot → Bool) → List Record → ℕ
-arc_sum f passes [] = 0
-arc_sum f passes (Own cost ∷ records) = arc_sum f passes records
-arc_sum f passes (Called callee cost ∷ records) = (if passes (caller_spot cost) (callee_spot callee) then f (calls_of callee cost) else 0) + arc_sum f passes records
+-- what the call records sum to by a measure
+abbrev edge_sum : (Calls → ℕ) → (Spot → Spot → Bool) → List Record → ℕ
+edge_sum f passes [] = 0
+edge_sum f passes (Own cost ∷ records) = edge_sum f passes records
+edge_sum f passes (Called callee cost ∷ records) = (if passes (caller_spot cost) (callee_spot callee) then f (calls_of callee cost) else 0) + edge_sum f passes records
 
-law-arcs : (passes : Spot → Spot → Bool) (f : Calls → ℕ) (adds : (x y : Calls) → f (calls_added x y) ≡ f x + f y) (records : List Record) (c : Content) → AreHeld c
-    → sum_where (passing_call passes (fold with_record c records).names) f (fold with_record c records).arcs ≡ sum_where (passing_call passes c.names) f c.arcs + arc_sum f passes records
-law-arcs passes f adds [] c held = plus_none _
-law-arcs passes f adds (Own cost ∷ records) c held =
-    law-arcs passes f adds records (with_cost c cost) (held-cost c cost held)
-    ∙ ap (λ n. n + arc_sum f passes records) (arcs-kept passes f c.names (names_with_cost cost c.names) c.arcs (grows-three c.names cost.object cost.file cost.function) held.arcs)
-law-arcs passes f adds (Called callee cost ∷ records) c held =
-    law-arcs passes f adds records (with_call c callee cost) (held-call c callee cost held)
-    ∙ ap (λ n. n + arc_sum f passes records) (arcs-call passes f adds c callee cost held)
-    ∙ add_assoc (sum_where (passing_call passes c.names) f c.arcs) (if passes (caller_spot cost) (callee_spot callee) then f (calls_of callee cost) else 0) (arc_sum f passes records)
+law-edges : (passes : Spot → Spot → Bool) (f : Calls → ℕ) (adds : (x y : Calls) → f (calls_added x y) ≡ f x + f y) (records : List Record) (c : Content) → AreHeld c
+    → sum_where (passing_call passes (fold with_record c records).names) f (fold with_record c records).calls ≡ sum_where (passing_call passes c.names) f c.calls + edge_sum f passes records
+law-edges passes f adds [] c held = plus_none _
+law-edges passes f adds (Own cost ∷ records) c held =
+    law-edges passes f adds records (with_cost c cost) (held-cost c cost held)
+    ∙ ap (λ n. n + edge_sum f passes records) (edges-kept passes f c.names (names_with_cost cost c.names) c.calls (grows-three c.names cost.object cost.file cost.function) held.calls)
+law-edges passes f adds (Called callee cost ∷ records) c held =
+    law-edges passes f adds records (with_call c callee cost) (held-call c callee cost held)
+    ∙ ap (λ n. n + edge_sum f passes records) (edges-call passes f adds c callee cost held)
+    ∙ add_assoc (sum_where (passing_call passes c.names) f c.calls) (if passes (caller_spot cost) (callee_spot callee) then f (calls_of callee cost) else 0) (edge_sum f passes records)
 
 or_none : (b : Bool) → b ≡ b || false
 or_none true = refl
@@ -261,35 +261,35 @@ turned true false d = refl
 turned false true d = refl
 turned false false d = refl
 
-law-called : (passes : Spot → Spot → Bool) (records : List Record) (c : Content) → AreHeld c → has_arc passes (fold with_record c records) ≡ has_arc passes c || has_call passes records
-law-called passes [] c held = or_none (has_arc passes c)
+law-called : (passes : Spot → Spot → Bool) (records : List Record) (c : Content) → AreHeld c → has_edge passes (fold with_record c records) ≡ has_edge passes c || has_call passes records
+law-called passes [] c held = or_none (has_edge passes c)
 law-called passes (Own cost ∷ records) c held =
     law-called passes records (with_cost c cost) (held-cost c cost held)
-    ∙ ap (λ b. b || has_call passes records) (has-kept passes c.names (names_with_cost cost c.names) c.arcs (grows-three c.names cost.object cost.file cost.function) held.arcs)
+    ∙ ap (λ b. b || has_call passes records) (has-kept passes c.names (names_with_cost cost c.names) c.calls (grows-three c.names cost.object cost.file cost.function) held.calls)
 law-called passes (Called callee cost ∷ records) c held =
     law-called passes records (with_call c callee cost) (held-call c callee cost held)
     ∙ ap (λ b. b || has_call passes records) (has-call passes c callee cost held)
-    ∙ turned (passes (caller_spot cost) (callee_spot callee)) (has_arc passes c) (has_call passes records)
+    ∙ turned (passes (caller_spot cost) (callee_spot callee)) (has_edge passes c) (has_call passes records)
 
-call_sum-is : (passes : Spot → Spot → Bool) (k : ℕ) (records : List Record) → arc_sum (λ calls. slice_index calls.costs k) passes records ≡ call_sum passes k records
+call_sum-is : (passes : Spot → Spot → Bool) (k : ℕ) (records : List Record) → edge_sum (λ calls. slice_index calls.costs k) passes records ≡ call_sum passes k records
 call_sum-is passes k [] = refl
 call_sum-is passes k (Own cost ∷ records) = call_sum-is passes k records
 call_sum-is passes k (Called callee cost ∷ records) = ap (λ n. (if passes (caller_spot cost) (callee_spot callee) then slice_index cost.costs k else 0) + n) (call_sum-is passes k records)
 
-count_sum-is : (passes : Spot → Spot → Bool) (records : List Record) → arc_sum (λ calls. calls.count) passes records ≡ count_sum passes records
+count_sum-is : (passes : Spot → Spot → Bool) (records : List Record) → edge_sum (λ calls. calls.count) passes records ≡ count_sum passes records
 count_sum-is passes [] = refl
 count_sum-is passes (Own cost ∷ records) = count_sum-is passes records
 count_sum-is passes (Called callee cost ∷ records) = ap (λ n. (if passes (caller_spot cost) (callee_spot callee) then callee.count else 0) + n) (count_sum-is passes records)
 
 pub none_held : AreHeld empty
-none_held = record { cells = tt; arcs = tt }
+none_held = record { cells = tt; calls = tt }
 
 held-all : (records : List Record) (c : Content) → AreHeld c → AreHeld (fold with_record c records)
 held-all [] c held = held
 held-all (Own cost ∷ records) c held = held-all records (with_cost c cost) (held-cost c cost held)
 held-all (Called callee cost ∷ records) c held = held-all records (with_call c callee cost) (held-call c callee cost held)
 
--- each number of the rows of a file stands for a name
+-- each number of the rows of a file represents a name
 pub held-records : (records : List Record) → AreHeld (content_of_records records)
 held-records records = held-all records empty none_held
 
@@ -297,28 +297,28 @@ pub none_plus : (n : ℕ) → 0 + n ≡ n
 none_plus n = omega arith
 
 pub sums-cells : (passes : Spot → Bool) (k : ℕ) (records : List Record)
-    → cells_where passes k (content_of_records records) ≡ own_sum passes k records
-sums-cells passes k records = law-cells passes k records empty none_held ∙ none_plus (own_sum passes k records)
+    → cells_where passes k (content_of_records records) ≡ self_sum passes k records
+sums-cells passes k records = law-cells passes k records empty none_held ∙ none_plus (self_sum passes k records)
 
-pub sums-arcs : (passes : Spot → Spot → Bool) (k : ℕ) (records : List Record)
+pub sums-edges : (passes : Spot → Spot → Bool) (k : ℕ) (records : List Record)
     → calls_where passes k (content_of_records records) ≡ call_sum passes k records
-sums-arcs passes k records =
-    law-arcs passes (λ calls. slice_index calls.costs k) (λ x y. slice_index-added x.costs y.costs k) records empty none_held
-    ∙ none_plus (arc_sum (λ calls. slice_index calls.costs k) passes records) ∙ call_sum-is passes k records
+sums-edges passes k records =
+    law-edges passes (λ calls. slice_index calls.costs k) (λ x y. slice_index-added x.costs y.costs k) records empty none_held
+    ∙ none_plus (edge_sum (λ calls. slice_index calls.costs k) passes records) ∙ call_sum-is passes k records
 
 pub sums-counts : (passes : Spot → Spot → Bool) (records : List Record)
     → counts_where passes (content_of_records records) ≡ count_sum passes records
 sums-counts passes records =
-    law-arcs passes (λ calls. calls.count) (λ x y. refl) records empty none_held
-    ∙ none_plus (arc_sum (λ calls. calls.count) passes records) ∙ count_sum-is passes records
+    law-edges passes (λ calls. calls.count) (λ x y. refl) records empty none_held
+    ∙ none_plus (edge_sum (λ calls. calls.count) passes records) ∙ count_sum-is passes records
 
-pub calls-there : (passes : Spot → Spot → Bool) (records : List Record) → has_arc passes (content_of_records records) ≡ has_call passes records
+pub calls-there : (passes : Spot → Spot → Bool) (records : List Record) → has_edge passes (content_of_records records) ≡ has_call passes records
 calls-there passes records = law-called passes records empty none_held
 
-pub sums-records : (records : List Record) → ComesToRecords (content_of_records records) records
+pub sums-records : (records : List Record) → SumsToRecords (content_of_records records) records
 sums-records records = record {
   cells = λ passes k. sums-cells passes k records;
-  arcs = λ passes k. sums-arcs passes k records;
+  calls = λ passes k. sums-edges passes k records;
   counts = λ passes. sums-counts passes records;
   called = λ passes. calls-there passes records;
 }

@@ -1,4 +1,4 @@
--- The rows that are walked come to the sums that are held.
+-- The rows that are walked sum to the sums that are held.
 use Rattle.std.proofs.Common.{◌≡◌, ℕ, ◌+◌, ◌<◌, zero, suc, Bool, true, false, ◌&&◌, ◌||◌, ◌==◌, nat_lt, List, [], ◌∷◌, ◌++◌, map, slice_index, if◌then◌else◌, refl, ap, ◌∙◌, arith}
 use Rattle.std.proofs.lemmas.Bool.Decides.{nat_tests}
 use Rattle.std.specs.List.{list_any}
@@ -6,9 +6,9 @@ use Rattle.std.specs.Map.{keys_of}
 use Rattle.cost_rows.specs.Merging.{sum_where}
 use Rattle.cost_rows.specs.Sums.{Spot, spot_at, callee_at, passing_cell, passing_call, cell_spot}
 use Rattle.cost_rows.specs.ByNumber.{numbered_cell, numbered_at, numbered_cells}
-use Rattle.cost_rows.specs.Walks.{cell_named, cell_rows, arc_rows, stack_rows}
+use Rattle.cost_rows.specs.Walks.{cell_named, named_cells, named_calls, counted_stacks}
 use Rattle.cost_rows.specs.WalkSums.{rows_cost, calls_cost, calls_count, has_calls, stacks_count}
-use Rattle.cost_rows.specs.declared.rows.CellRow.{CellRow}
+use Rattle.cost_rows.specs.declared.rows.Cell.{Cell}
 use Rattle.cost_rows.specs.declared.places.CellPlace.{CellPlace}
 use Rattle.cost_rows.specs.declared.places.Call.{Call}
 use Rattle.cost_rows.specs.declared.calls.Calls.{Calls}
@@ -70,7 +70,7 @@ rows-at passes k names p e (suc n ∷ costs) =
     ∙ ap (λ m. (if passes (cell_spot names p) && (e == k) then suc n else 0) + m) (rows-at passes k names p (suc e) costs)
     ∙ one_more (passes (cell_spot names p)) (e == k) (suc n) (column_from (suc e) k costs)
 
-rows-append : (passes : Spot → Bool) (k : ℕ) (xs ys : List (CellRow (List ℕ))) → rows_cost passes k (xs ++ ys) ≡ rows_cost passes k xs + rows_cost passes k ys
+rows-append : (passes : Spot → Bool) (k : ℕ) (xs ys : List (Cell (List ℕ))) → rows_cost passes k (xs ++ ys) ≡ rows_cost passes k xs + rows_cost passes k ys
 rows-append passes k [] ys = let n : ℕ = rows_cost passes k ys in let e : n ≡ 0 + n = omega arith in e
 rows-append passes k (x ∷ xs) ys =
     let n : ℕ = rows_cost passes k (x ∷ []) in
@@ -83,36 +83,36 @@ map-append : {X Y : Type 0} (f : X → Y) (xs ys : List X) → map f (xs ++ ys) 
 map-append f [] ys = refl
 map-append f (x ∷ xs) ys = ap (λ zs. f x ∷ zs) (map-append f xs ys)
 
-pub walked-cells : (passes : Spot → Bool) (k : ℕ) (names : List (List ℕ)) (cells : List (CellPlace × List ℕ)) → rows_cost passes k (cell_rows names cells) ≡ sum_where (passing_cell passes names) (λ costs. slice_index costs k) cells
+pub walked-cells : (passes : Spot → Bool) (k : ℕ) (names : List (List ℕ)) (cells : List (CellPlace × List ℕ)) → rows_cost passes k (named_cells names cells) ≡ sum_where (passing_cell passes names) (λ costs. slice_index costs k) cells
 walked-cells passes k names [] = refl
 walked-cells passes k names (e ∷ cells) =
     ap (rows_cost passes k) (map-append (cell_named names) (numbered_at e.0 0 e.1) (numbered_cells cells))
-    ∙ rows-append passes k (map (cell_named names) (numbered_at e.0 0 e.1)) (cell_rows names cells)
-    ∙ ap (λ n. n + rows_cost passes k (cell_rows names cells)) (rows-at passes k names e.0 0 e.1 ∙ ap (λ n. if passes (cell_spot names e.0) then n else 0) (column-at 0 k k e.1 (omega arith)))
+    ∙ rows-append passes k (map (cell_named names) (numbered_at e.0 0 e.1)) (named_cells names cells)
+    ∙ ap (λ n. n + rows_cost passes k (named_cells names cells)) (rows-at passes k names e.0 0 e.1 ∙ ap (λ n. if passes (cell_spot names e.0) then n else 0) (column-at 0 k k e.1 (omega arith)))
     ∙ ap (λ n. (if passes (cell_spot names e.0) then slice_index e.1 k else 0) + n) (walked-cells passes k names cells)
 
-pub walked-costs : (passes : Spot → Spot → Bool) (k : ℕ) (names : List (List ℕ)) (arcs : List (Call × Calls)) → calls_cost passes k (arc_rows names arcs) ≡ sum_where (passing_call passes names) (λ calls. slice_index calls.costs k) arcs
+pub walked-costs : (passes : Spot → Spot → Bool) (k : ℕ) (names : List (List ℕ)) (edges : List (Call × Calls)) → calls_cost passes k (named_calls names edges) ≡ sum_where (passing_call passes names) (λ calls. slice_index calls.costs k) edges
 walked-costs passes k names [] = refl
-walked-costs passes k names (e ∷ arcs) = ap (λ n. (if passes (spot_at names e.0.place) (callee_at names e.0) then slice_index e.1.costs k else 0) + n) (walked-costs passes k names arcs)
+walked-costs passes k names (e ∷ edges) = ap (λ n. (if passes (spot_at names e.0.place) (callee_at names e.0) then slice_index e.1.costs k else 0) + n) (walked-costs passes k names edges)
 
-pub walked-counts : (passes : Spot → Spot → Bool) (names : List (List ℕ)) (arcs : List (Call × Calls)) → calls_count passes (arc_rows names arcs) ≡ sum_where (passing_call passes names) (λ calls. calls.count) arcs
+pub walked-counts : (passes : Spot → Spot → Bool) (names : List (List ℕ)) (edges : List (Call × Calls)) → calls_count passes (named_calls names edges) ≡ sum_where (passing_call passes names) (λ calls. calls.count) edges
 walked-counts passes names [] = refl
-walked-counts passes names (e ∷ arcs) = ap (λ n. (if passes (spot_at names e.0.place) (callee_at names e.0) then e.1.count else 0) + n) (walked-counts passes names arcs)
+walked-counts passes names (e ∷ edges) = ap (λ n. (if passes (spot_at names e.0.place) (callee_at names e.0) then e.1.count else 0) + n) (walked-counts passes names edges)
 
-pub walked-calls : (passes : Spot → Spot → Bool) (names : List (List ℕ)) (arcs : List (Call × Calls)) → has_calls passes (arc_rows names arcs) ≡ list_any (passing_call passes names) (keys_of arcs)
+pub walked-calls : (passes : Spot → Spot → Bool) (names : List (List ℕ)) (edges : List (Call × Calls)) → has_calls passes (named_calls names edges) ≡ list_any (passing_call passes names) (keys_of edges)
 walked-calls passes names [] = refl
-walked-calls passes names (e ∷ arcs) = ap (λ b. passes (spot_at names e.0.place) (callee_at names e.0) || b) (walked-calls passes names arcs)
+walked-calls passes names (e ∷ edges) = ap (λ b. passes (spot_at names e.0.place) (callee_at names e.0) || b) (walked-calls passes names edges)
 
 none_counted : (b : Bool) (n : ℕ) → n ≡ (if b then 0 else 0) + n
 none_counted true n = omega arith
 none_counted false n = omega arith
 
-walked-stack : (passes : List ℕ → Bool) (frames : List ℕ) (count : ℕ) (stacks : List (List ℕ × ℕ)) → stacks_count passes (stack_rows stacks) ≡ sum_where passes (λ n. n) stacks → stacks_count passes (stack_rows ((frames, count) ∷ stacks)) ≡ sum_where passes (λ n. n) ((frames, count) ∷ stacks)
+walked-stack : (passes : List ℕ → Bool) (frames : List ℕ) (count : ℕ) (stacks : List (List ℕ × ℕ)) → stacks_count passes (counted_stacks stacks) ≡ sum_where passes (λ n. n) stacks → stacks_count passes (counted_stacks ((frames, count) ∷ stacks)) ≡ sum_where passes (λ n. n) ((frames, count) ∷ stacks)
 walked-stack passes frames zero stacks rest = rest ∙ none_counted (passes frames) (sum_where passes (λ n. n) stacks)
 walked-stack passes frames (suc n) stacks rest =
-    ap (λ b. stacks_count passes (if b then record { stack = frames; count = suc n } ∷ stack_rows stacks else stack_rows stacks)) (is_above n)
+    ap (λ b. stacks_count passes (if b then record { stack = frames; count = suc n } ∷ counted_stacks stacks else counted_stacks stacks)) (is_above n)
     ∙ ap (λ m. (if passes frames then suc n else 0) + m) rest
 
-pub walked-stacks : (passes : List ℕ → Bool) (stacks : List (List ℕ × ℕ)) → stacks_count passes (stack_rows stacks) ≡ sum_where passes (λ n. n) stacks
+pub walked-stacks : (passes : List ℕ → Bool) (stacks : List (List ℕ × ℕ)) → stacks_count passes (counted_stacks stacks) ≡ sum_where passes (λ n. n) stacks
 walked-stacks passes [] = refl
 walked-stacks passes (e ∷ stacks) = walked-stack passes e.0 e.1 stacks (walked-stacks passes stacks)

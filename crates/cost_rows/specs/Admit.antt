@@ -20,7 +20,7 @@ column_sums side k (held ∷ more_held) (file ∷ more_file) =
     record { of = record { side = side; column = k }; sum = held + file } ∷ column_sums side (suc k) more_held more_file
 column_sums side k held file = []
 
--- all sums: own costs by column, costs of calls by column, the number of calls
+-- all sums: self costs by column, costs of calls by column, the number of calls
 abbrev pub sums_of : FileTotals → FileTotals → List Sum
 sums_of held file =
     column_sums SelfCost 0 held.self_cost file.self_cost

@@ -15,16 +15,16 @@ use Rattle.cost_rows.specs.declared.places.CellPlace.{CellPlace}
 use Rattle.cost_rows.specs.declared.places.Call.{Call}
 use Rattle.cost_rows.specs.declared.calls.Calls.{Calls}
 
--- names in the order in which they first came; own costs by place, calls, and counts of stacks, each key once, in order
+-- names in the order in which they first came; self costs by place, calls, and counts of stacks, each key once, in order
 pub record Content : Type 0 where
   pub names : List (List ℕ)
   pub cells : List (CellPlace × List ℕ)
-  pub arcs : List (Call × Calls)
+  pub calls : List (Call × Calls)
   pub stacks : List (List ℕ × ℕ)
 
 -- before the first record
 abbrev pub empty : Content
-empty = record { names = []; cells = []; arcs = []; stacks = [] }
+empty = record { names = []; cells = []; calls = []; stacks = [] }
 
 -- the number of a name that is held
 abbrev pub number_of : List ℕ → List (List ℕ) → ℕ
@@ -48,7 +48,7 @@ names_with_callee callee names = with_three callee.object callee.file callee.fun
 abbrev pub place_of_cost : List (List ℕ) → Cost → Place
 place_of_cost names cost = place_in names cost.object cost.file cost.function cost.line
 
--- where own costs belong
+-- where self costs belong
 abbrev pub cell_of : List (List ℕ) → Cost → CellPlace
 cell_of names cost = record { place = place_of_cost names cost; thread = cost.thread }
 
@@ -64,13 +64,13 @@ call_of names callee cost = record {
 abbrev pub calls_of : Callee → Cost → Calls
 calls_of callee cost = record { count = callee.count; costs = cost.costs }
 
--- own costs are added at their place
+-- self costs are added at their place
 abbrev pub cells_with : List (List ℕ) → Cost → List (CellPlace × List ℕ) → List (CellPlace × List ℕ)
 cells_with names cost cells = merge cell_cmp added cells (cell_of names cost) cost.costs
 
 -- the costs of calls and their number are added at their calls
-abbrev pub arcs_with : List (List ℕ) → Callee → Cost → List (Call × Calls) → List (Call × Calls)
-arcs_with names callee cost arcs = merge call_cmp calls_added arcs (call_of names callee cost) (calls_of callee cost)
+abbrev pub calls_with : List (List ℕ) → Callee → Cost → List (Call × Calls) → List (Call × Calls)
+calls_with names callee cost calls = merge call_cmp calls_added calls (call_of names callee cost) (calls_of callee cost)
 
 -- a count is added to its stack
 abbrev pub stacks_with : List ℕ → ℕ → List (List ℕ × ℕ) → List (List ℕ × ℕ)
@@ -84,13 +84,13 @@ with_cost c cost =
 abbrev pub with_call : Content → Callee → Cost → Content
 with_call c callee cost =
     let names = names_with_callee callee (names_with_cost cost c.names) in
-    record c { names = names; arcs = arcs_with names callee cost c.arcs }
+    record c { names = names; calls = calls_with names callee cost c.calls }
 
 abbrev pub with_record : Content → Record → Content
 with_record c (Own cost) = with_cost c cost
 with_record c (Called callee cost) = with_call c callee cost
 
--- a stack's count is an own cost of the function that was running, of no known object, file or line
+-- a stack's count is a self cost of the function that was running, of no known object, file or line
 abbrev pub leaf_cost : Seen → Cost
 leaf_cost s = record { at = s.at; object = unknown; file = unknown; function = leaf_of s.stack.frames; line = 0; thread = 0; costs = s.stack.count ∷ [] }
 

@@ -1,4 +1,4 @@
--- Rows of which each number stands for a name that is held.
+-- Rows of which each number represents a name that is held.
 use Rattle.std.specs.Prelude.{ℕ, ◌<◌, List, length}
 use Rattle.std.specs.List.{AllByRecursion}
 use Rattle.std.specs.Map.{keys_of}
@@ -25,4 +25,4 @@ CallHeld names a = PlaceHeld names a.place × IsHeld names a.object a.file a.fun
 
 pub record AreHeld (c : Content) : Type 0 where
   pub cells : AllByRecursion (CellHeld c.names) (keys_of c.cells)
-  pub arcs : AllByRecursion (CallHeld c.names) (keys_of c.arcs)
+  pub calls : AllByRecursion (CallHeld c.names) (keys_of c.calls)

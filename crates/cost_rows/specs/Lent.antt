@@ -7,8 +7,8 @@ use Rattle.profile_records.specs.Records.{Cost, Callee}
 use Rattle.profile_records.specs.declared.sink.CallCost.{CallCost}
 use Rattle.profile_records.specs.declared.sink.SelfCost.{SelfCost}
 
-abbrev pub own_cost : SelfCost → Cost
-own_cost r = record { at = r.at; object = r.names.object.text.now; file = r.names.file.text.now; function = r.names.function.text.now; line = r.line; thread = r.thread; costs = r.costs.now }
+abbrev pub self_cost : SelfCost → Cost
+self_cost r = record { at = r.at; object = r.names.object.text.now; file = r.names.file.text.now; function = r.names.function.text.now; line = r.line; thread = r.thread; costs = r.costs.now }
 
 abbrev pub cost_of : CallCost → Cost
 cost_of r = record { at = r.at; object = r.names.object.text.now; file = r.names.file.text.now; function = r.names.function.text.now; line = r.line; thread = r.thread; costs = r.costs.now }

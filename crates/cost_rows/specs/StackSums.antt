@@ -1,4 +1,4 @@
--- What the stacks of a folded file come to, straight from the stacks.
+-- What the stacks of a folded file sum to, straight from the stacks.
 use Rattle.std.specs.Prelude.{◌≡◌, ℕ, suc, ◌+◌, Bool, List, [], ◌∷◌, fold, if◌then◌else◌}
 use Rattle.profile_records.specs.Stacks.{Seen}
 use Rattle.cost_rows.specs.Content.{Content, empty, leaf_cost, with_stack}
@@ -18,8 +18,8 @@ frames_sum passes (s ∷ seen) = (if passes s.stack.frames then s.stack.count el
 abbrev pub content_of_stacks : List Seen → Content
 content_of_stacks seen = fold with_stack empty seen
 
--- rows that come to what the stacks that were seen count
-pub record ComesToStacks (c : Content) (seen : List Seen) : Type 0 where
+-- rows that sum to what the stacks that were seen count
+pub record SumsToStacks (c : Content) (seen : List Seen) : Type 0 where
   -- the cells' first column is what the functions that were running count, for every test of places
   pub cells : (passes : Spot → Bool) → cells_where passes 0 c ≡ leaf_sum passes seen
   -- they have no other column
@@ -27,4 +27,4 @@ pub record ComesToStacks (c : Content) (seen : List Seen) : Type 0 where
   -- the stacks are what they count themselves, for every test of their frames
   pub stacks : (passes : List ℕ → Bool) → stacks_where passes c ≡ frames_sum passes seen
   -- and there are no calls
-  pub arcs : c.arcs ≡ []
+  pub calls : c.calls ≡ []

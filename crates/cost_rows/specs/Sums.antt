@@ -1,4 +1,4 @@
--- What the records of a file come to, straight from the records.
+-- What the records of a file sum to, straight from the records.
 use Rattle.std.specs.Prelude.{◌≡◌, ℕ, ◌+◌, Bool, true, false, ◌||◌, List, [], ◌∷◌, fold, slice_index, slice_index_or, if◌then◌else◌}
 use Rattle.std.specs.List.{list_any}
 use Rattle.std.specs.List.Sorted.{IsStrictlySortedBy}
@@ -21,7 +21,7 @@ pub record Spot : Type 0 where
   pub line : ℕ
   pub thread : ℕ
 
--- where own costs belong
+-- where self costs belong
 abbrev pub spot_of : Cost → Spot
 spot_of cost = record { object = cost.object; file = cost.file; function = cost.function; line = cost.line; thread = cost.thread }
 
@@ -63,25 +63,25 @@ cells_where passes k c = sum_where (passing_cell passes c.names) (λ costs. slic
 
 -- column k of the calls that pass by their names
 abbrev pub calls_where : (Spot → Spot → Bool) → ℕ → Content → ℕ
-calls_where passes k c = sum_where (passing_call passes c.names) (λ calls. slice_index calls.costs k) c.arcs
+calls_where passes k c = sum_where (passing_call passes c.names) (λ calls. slice_index calls.costs k) c.calls
 
 -- how many these are
 abbrev pub counts_where : (Spot → Spot → Bool) → Content → ℕ
-counts_where passes c = sum_where (passing_call passes c.names) (λ calls. calls.count) c.arcs
+counts_where passes c = sum_where (passing_call passes c.names) (λ calls. calls.count) c.calls
 
 -- whether there are calls that pass, of whatever number and cost
-abbrev pub has_arc : (Spot → Spot → Bool) → Content → Bool
-has_arc passes c = list_any (passing_call passes c.names) (keys_of c.arcs)
+abbrev pub has_edge : (Spot → Spot → Bool) → Content → Bool
+has_edge passes c = list_any (passing_call passes c.names) (keys_of c.calls)
 
 -- what the stacks that pass count
 abbrev pub stacks_where : (List ℕ → Bool) → Content → ℕ
 stacks_where passes c = sum_where passes (λ count. count) c.stacks
 
 -- the sum of column k over the self records at places that pass
-abbrev pub own_sum : (Spot → Bool) → ℕ → List Record → ℕ
-own_sum passes k [] = 0
-own_sum passes k (Own cost ∷ records) = (if passes (spot_of cost) then slice_index cost.costs k else 0) + own_sum passes k records
-own_sum passes k (Called callee cost ∷ records) = own_sum passes k records
+abbrev pub self_sum : (Spot → Bool) → ℕ → List Record → ℕ
+self_sum passes k [] = 0
+self_sum passes k (Own cost ∷ records) = (if passes (spot_of cost) then slice_index cost.costs k else 0) + self_sum passes k records
+self_sum passes k (Called callee cost ∷ records) = self_sum passes k records
 
 -- the sum of column k over the call records whose places and functions called pass
 abbrev pub call_sum : (Spot → Spot → Bool) → ℕ → List Record → ℕ
@@ -106,17 +106,17 @@ has_call passes (Called callee cost ∷ records) = passes (caller_spot cost) (ca
 abbrev pub content_of_records : List Record → Content
 content_of_records records = fold with_record empty records
 
--- rows that come to what the records come to: for every test of places and each column, and for every test of calls
-pub record ComesToRecords (c : Content) (records : List Record) : Type 0 where
-  pub cells : (passes : Spot → Bool) (k : ℕ) → cells_where passes k c ≡ own_sum passes k records
-  pub arcs : (passes : Spot → Spot → Bool) (k : ℕ) → calls_where passes k c ≡ call_sum passes k records
+-- rows that sum to what the records sum to: for every test of places and each column, and for every test of calls
+pub record SumsToRecords (c : Content) (records : List Record) : Type 0 where
+  pub cells : (passes : Spot → Bool) (k : ℕ) → cells_where passes k c ≡ self_sum passes k records
+  pub calls : (passes : Spot → Spot → Bool) (k : ℕ) → calls_where passes k c ≡ call_sum passes k records
   pub counts : (passes : Spot → Spot → Bool) → counts_where passes c ≡ count_sum passes records
   -- and calls are there exactly where call records are, those of count and cost 0 too
-  pub called : (passes : Spot → Spot → Bool) → has_arc passes c ≡ has_call passes records
+  pub called : (passes : Spot → Spot → Bool) → has_edge passes c ≡ has_call passes records
 
 -- each key stands once, in order, and no name stands twice
 pub record IsInOrder (c : Content) : Type 0 where
   pub cells : IsStrictlySortedBy cell_cmp (keys_of c.cells)
-  pub arcs : IsStrictlySortedBy call_cmp (keys_of c.arcs)
+  pub calls : IsStrictlySortedBy call_cmp (keys_of c.calls)
   pub stacks : IsStrictlySortedBy bytes_cmp (keys_of c.stacks)
   pub names : are_distinct c.names ≡ true

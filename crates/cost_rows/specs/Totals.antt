@@ -21,12 +21,12 @@ abbrev pub cell_total : ℕ → List (CellPlace × List ℕ) → ℕ
 cell_total k cells = column_total (λ costs. costs) k cells
 
 -- the sum of column k over all calls
-abbrev pub arc_total : ℕ → List (Call × Calls) → ℕ
-arc_total k arcs = column_total (λ calls. calls.costs) k arcs
+abbrev pub call_total : ℕ → List (Call × Calls) → ℕ
+call_total k edges = column_total (λ calls. calls.costs) k edges
 
 -- how many calls there were
 abbrev pub count_total : List (Call × Calls) → ℕ
-count_total arcs = sum_where (λ _. true) (λ calls. calls.count) arcs
+count_total edges = sum_where (λ _. true) (λ calls. calls.count) edges
 
 -- the sum of all stacks' counts
 abbrev pub stack_total : List (List ℕ × ℕ) → ℕ
@@ -37,12 +37,12 @@ pub record AreTotals (t : FileTotals) (c : Content) (events : ℕ) : Type 0 wher
   pub self_columns : length t.self_cost ≡ events
   pub self_cost : (k : ℕ) → k < events → slice_index t.self_cost k ≡ cell_total k c.cells
   pub call_columns : length t.call_cost ≡ events
-  pub call_cost : (k : ℕ) → k < events → slice_index t.call_cost k ≡ arc_total k c.arcs
-  pub call_count : t.call_count ≡ count_total c.arcs
+  pub call_cost : (k : ℕ) → k < events → slice_index t.call_cost k ≡ call_total k c.calls
+  pub call_count : t.call_count ≡ count_total c.calls
 
 -- each line so far added less than 2^63 to each sum
-pub record AreWithin (cells : List (CellPlace × List ℕ)) (arcs : List (Call × Calls)) (stacks : List (List ℕ × ℕ)) (lines : ℕ) : Type 0 where
+pub record AreWithin (cells : List (CellPlace × List ℕ)) (edges : List (Call × Calls)) (stacks : List (List ℕ × ℕ)) (lines : ℕ) : Type 0 where
   pub cells_fit : (k : ℕ) → cell_total k cells ≤ lines * 2 ^ 63
-  pub arcs_fit : (k : ℕ) → arc_total k arcs ≤ lines * 2 ^ 63
-  pub counts_fit : count_total arcs ≤ lines * 2 ^ 63
+  pub calls_fit : (k : ℕ) → call_total k edges ≤ lines * 2 ^ 63
+  pub counts_fit : count_total edges ≤ lines * 2 ^ 63
   pub stacks_fit : stack_total stacks ≤ lines * 2 ^ 63

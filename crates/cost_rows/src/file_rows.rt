@@ -11,13 +11,13 @@ use crate::guesses::{Guesses, NO_CELL};
 use crate::lent_names::take_back;
 use crate::marks::Marks;
 use crate::names::Names;
-use crate::numbered::{NumberedArcs, NumberedCells};
+use crate::numbered::{NumberedCalls, NumberedCells};
 use crate::places::{Call, CellPlace};
-use crate::records::{merge_call, merge_own};
+use crate::records::{merge_call, merge_self};
 use crate::rows::FileTotals;
 use crate::stack_counts::StackCounts;
 use crate::totals::{total_columns, total_count};
-use crate::walks::{ArcWalk, CellWalk, StackWalk, Walk};
+use crate::walks::{CallWalk, CellWalk, StackWalk, Walk};
 use cg_text::ListVec;
 use profile_records::{CallCost, SelfCost, Sink};
 use std::alloc::{AllocError, Global};
@@ -31,21 +31,21 @@ pub struct FileRows {
     pub(crate) alloc: Global,
     pub(crate) names: Names,
     pub(crate) cells: BTreeMap<CellPlace, Costs>,
-    pub(crate) arcs: BTreeMap<Call, Calls>,
+    pub(crate) calls: BTreeMap<Call, Calls>,
     pub(crate) stacks: StackCounts,
     marks: Marks,
     pub(crate) guesses: Guesses,
     pub(crate) last: u64,
     width: Option<u64>,
-    ghost within: { AreWithin cells.entries arcs.entries (sums_in stacks) last },
+    ghost within: { AreWithin cells.entries calls.entries (sums_in stacks) last },
     ghost named: { HaveNames names marks },
 }
 
 impl FileRows {
     ghost use Rattle.cost_rows.specs.Content.{empty};
     ghost use Rattle.cost_rows.specs.Rows.{content_of, known_of};
-    ghost use Rattle.cost_rows.specs.ByNumber.{numbered_cells, numbered_arcs};
-    ghost use Rattle.cost_rows.specs.Walks.{cell_named, cell_rows, arc_named, arc_rows, stack_rows};
+    ghost use Rattle.cost_rows.specs.ByNumber.{numbered_cells, numbered_calls};
+    ghost use Rattle.cost_rows.specs.Walks.{cell_named, named_cells, edge_named, named_calls, counted_stacks};
 
     /// No record was taken. Takes no memory.
     pub fn new(alloc: Global) -> FileRows
@@ -58,7 +58,7 @@ impl FileRows {
             alloc,
             names: Names::new(alloc),
             cells: BTreeMap::new(alloc),
-            arcs: BTreeMap::new(alloc),
+            calls: BTreeMap::new(alloc),
             stacks: StackCounts::new(alloc),
             marks: Marks::new(alloc),
             guesses: Guesses::new(alloc),
@@ -69,26 +69,26 @@ impl FileRows {
 
     /// The sums of calls, every one of them, in the order of the numbers of their names; the line
     /// comes after the caller's names. Takes no memory.
-    pub fn arcs(&self) -> ArcWalk<'_>
-        ensures { map (arc_named result.names.now) result.rest ≡ arc_rows (content_of self.now).names (content_of self.now).arcs }
+    pub fn calls(&self) -> CallWalk<'_>
+        ensures { map (edge_named result.names.now) result.rest ≡ named_calls (content_of self.now).names (content_of self.now).calls }
     {
         Walk {
             names: &self.names,
-            rest: self.numbered_arcs(),
+            rest: self.numbered_calls(),
         }
     }
 
     /// The counts of stacks above 0, by the bytes of their frames. Takes no memory.
     pub fn stacks(&self) -> StackWalk<'_>
-        ensures { result ≡ stack_rows (content_of self.now).stacks }
+        ensures { result ≡ counted_stacks (content_of self.now).stacks }
     {
         self.stacks.rows()
     }
 
-    /// The sums of own costs above 0, in the order of the numbers of their names, then by line, by
+    /// The sums of self costs above 0, in the order of the numbers of their names, then by line, by
     /// thread and by event. Takes no memory.
     pub fn cells(&self) -> CellWalk<'_>
-        ensures { map (cell_named result.names.now) result.rest ≡ cell_rows (content_of self.now).names (content_of self.now).cells }
+        ensures { map (cell_named result.names.now) result.rest ≡ named_cells (content_of self.now).names (content_of self.now).cells }
     {
         Walk {
             names: &self.names,
@@ -103,7 +103,7 @@ impl FileRows {
         &self.names
     }
 
-    /// The sums of own costs above 0 with names by their numbers, in the order of these, then by
+    /// The sums of self costs above 0 with names by their numbers, in the order of these, then by
     /// line, then by event. Takes no memory.
     pub fn numbered_cells(&self) -> NumberedCells<'_>
         ensures { result ≡ numbered_cells (content_of self.now).cells }
@@ -119,11 +119,11 @@ impl FileRows {
 
     /// The sums of calls, every one of them, with names by their numbers, in the order of these; the
     /// line comes after the caller's names. Takes no memory.
-    pub fn numbered_arcs(&self) -> NumberedArcs<'_>
-        ensures { result ≡ numbered_arcs (content_of self.now).arcs }
+    pub fn numbered_calls(&self) -> NumberedCalls<'_>
+        ensures { result ≡ numbered_calls (content_of self.now).calls }
     {
-        let rest = self.arcs.iter();
-        NumberedArcs { rest }
+        let rest = self.calls.iter();
+        NumberedCalls { rest }
     }
 
     /// The sums of all rows by column, of so many columns: as many as a record has costs, or more.
@@ -132,11 +132,11 @@ impl FileRows {
     {
         let _last = self.last;
         let self_cost = total_columns(alloc, &self.cells, events)?;
-        let call_cost = total_columns(alloc, &self.arcs, events)?;
+        let call_cost = total_columns(alloc, &self.calls, events)?;
         Ok(FileTotals {
             self_cost: ListVec::from_vec(self_cost),
             call_cost: ListVec::from_vec(call_cost),
-            call_count: total_count(&self.arcs),
+            call_count: total_count(&self.calls),
         })
     }
 }
@@ -159,7 +159,7 @@ impl Sink for FileRows {
 
     fn self_cost(&mut self, r: SelfCost<'_>) -> Result<(), AllocError> {
         let held = self.names.len();
-        if let Err(refused) = merge_own(
+        if let Err(refused) = merge_self(
             self.alloc,
             &mut self.names,
             &mut self.marks,
@@ -180,7 +180,7 @@ impl Sink for FileRows {
             self.alloc,
             &mut self.names,
             &mut self.marks,
-            &mut self.arcs,
+            &mut self.calls,
             r,
         ) {
             take_back(&mut self.names, &mut self.marks, held);

@@ -11,7 +11,7 @@ mod file_rows;
 mod guesses;
 // What reports add costs up by: object, file, function, line or thread.
 mod keys;
-// Laws: what rows come to is what the records come to.
+// Laws: what rows sum to is what the records sum to.
 mod laws;
 // The numbers of the names that a record is lent with: one whose mark is known costs no comparison.
 mod lent_names;
@@ -38,7 +38,7 @@ mod slots;
 // Counts by stack, each in a slot of its own (specs/StackCounts.antt, Stacks.antt).
 mod stack_counts;
 // The rows of a folded file (specs/StackSums.antt).
-mod stack_rows;
+mod counted_stacks;
 // Sums by key, as rows (specs/KeySums.antt).
 mod sum_rows;
 // One more amount at its key in an ordered map (specs/Merging.antt).
@@ -51,13 +51,13 @@ mod walks;
 pub use file_rows::FileRows;
 pub use keys::Key;
 pub use laws::{
-    merging_keeps_each_sum, numbers_tell_names_apart, rows_add_up_by_key, rows_come_to_the_records,
-    rows_come_to_the_stacks, rows_have_their_names, walked_rows_come_to_the_sums,
+    merging_keeps_each_sum, numbers_tell_names_apart, rows_add_up_by_key, rows_have_their_names,
+    rows_sum_to_the_records, rows_sum_to_the_stacks, walked_rows_sum_to_the_sums,
 };
 pub use limits::{Overflow, Side, admit};
 pub use merged::Merged;
 pub use names::Names;
-pub use numbered::{NumberedArcs, NumberedCells};
-pub use rows::{ArcRow, CellRow, FileTotals, StackRow};
+pub use numbered::{NumberedCalls, NumberedCells};
+pub use rows::{CallEdge, Cell, FileTotals, StackCount};
 pub use sum_rows::SumRows;
-pub use walks::{ArcWalk, CellWalk, GivesNames, StackWalk, Walk};
+pub use walks::{CallWalk, CellWalk, GivesNames, StackWalk, Walk};

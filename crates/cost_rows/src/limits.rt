@@ -7,7 +7,7 @@ use crate::rows::FileTotals;
 /// No sum of costs or counts that is kept may be greater.
 const SUM_LIMIT: u128 = (1 << 63) - 1;
 
-/// What a sum is of: own costs, costs of calls, or the number of calls.
+/// What a sum is of: self costs, costs of calls, or the number of calls.
 #[derive(Clone, Copy, Debug, PartialEq, Eq)]
 pub enum Side {
     SelfCost,
@@ -44,7 +44,7 @@ fn first_overflow(side: Side, held: &[u128], file: &[u128]) -> Option<Overflow>
 }
 
 /// Whether the sums of a file fit beside those that are held: refused exactly where a sum passes
-/// `SUM_LIMIT`, and then the first is named, own costs by column first, then costs of calls by
+/// `SUM_LIMIT`, and then the first is named, self costs by column first, then costs of calls by
 /// column, then the number of calls. Takes no memory.
 pub fn admit(held: &FileTotals, file: &FileTotals) -> Result<(), Overflow>
     requires self_cost { length held.now.self_cost ≡ length file.now.self_cost }

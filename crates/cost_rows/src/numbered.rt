@@ -3,40 +3,40 @@
 use crate::calls::Calls;
 use crate::costs::Costs;
 use crate::places::{Call, CellPlace};
-use crate::rows::{ArcRow, CellRow};
+use crate::rows::{CallEdge, Cell};
 use std::collections::btree_map::Iter;
 use std::marker::Model;
 
 /// The sums of calls with names by their numbers, in the order of these, the line after the caller's
 /// names. Takes no memory.
 #[derive(Drop)]
-pub struct NumberedArcs<'a> {
+pub struct NumberedCalls<'a> {
     pub(crate) rest: Iter<'a, Call, Calls>,
 }
 
-impl<'a> Model for NumberedArcs<'a> {
+impl<'a> Model for NumberedCalls<'a> {
     ghost use Rattle.std.specs.Prelude.{ℕ, List};
-    ghost use Rattle.cost_rows.specs.declared.rows.ArcRow.{ArcRow};
-    ghost use Rattle.cost_rows.specs.ByNumber.{numbered_arcs};
+    ghost use Rattle.cost_rows.specs.declared.rows.CallEdge.{CallEdge};
+    ghost use Rattle.cost_rows.specs.ByNumber.{numbered_calls};
 
-    ghost Value = { List (ArcRow ℕ (List ℕ)) };
+    ghost Value = { List (CallEdge ℕ (List ℕ)) };
 
-    ghost view = { λ a. numbered_arcs a.rest };
+    ghost view = { λ a. numbered_calls a.rest };
 }
 
-impl<'a> Iterator for NumberedArcs<'a> {
+impl<'a> Iterator for NumberedCalls<'a> {
     ghost use Rattle.std.specs.Iterator.{YieldsFirstBy, item_count};
     ghost use Rattle.cost_rows.specs.ByNumber.{plain_numbered};
 
-    type Item = ArcRow<u32, &'a [u128]>;
+    type Item = CallEdge<u32, &'a [u128]>;
 
     ghost next_gives = { YieldsFirstBy plain_numbered (λ s. s) };
 
     ghost remaining = { item_count (λ s. s) };
 
-    fn next(&mut self) -> Option<ArcRow<u32, &'a [u128]>> {
+    fn next(&mut self) -> Option<CallEdge<u32, &'a [u128]>> {
         let (call, calls) = self.rest.next()?;
-        Some(ArcRow {
+        Some(CallEdge {
             object: call.place.object,
             file: call.place.file,
             function: call.place.function,
@@ -50,7 +50,7 @@ impl<'a> Iterator for NumberedArcs<'a> {
     }
 }
 
-/// The sums of own costs above 0 with names by their numbers, in the order of these, then by line,
+/// The sums of self costs above 0 with names by their numbers, in the order of these, then by line,
 /// by thread and by event. Takes no memory.
 #[derive(Drop)]
 pub struct NumberedCells<'a> {
@@ -62,10 +62,10 @@ pub struct NumberedCells<'a> {
 
 impl<'a> Model for NumberedCells<'a> {
     ghost use Rattle.std.specs.Prelude.{ℕ, List, ◌+◌, ◌<◌, ◌^◌, ◌++◌, length};
-    ghost use Rattle.cost_rows.specs.declared.rows.CellRow.{CellRow};
+    ghost use Rattle.cost_rows.specs.declared.rows.Cell.{Cell};
     ghost use Rattle.cost_rows.specs.ByNumber.{numbered_at, numbered_cells};
 
-    ghost Value = { List (CellRow ℕ) };
+    ghost Value = { List (Cell ℕ) };
 
     ghost view = { λ a. numbered_at a.place a.event a.costs.now ++ numbered_cells a.rest };
 
@@ -75,13 +75,13 @@ impl<'a> Model for NumberedCells<'a> {
 impl<'a> Iterator for NumberedCells<'a> {
     ghost use Rattle.std.specs.Iterator.{YieldsFirst, item_count};
 
-    type Item = CellRow<u32>;
+    type Item = Cell<u32>;
 
     ghost next_gives = { YieldsFirst (λ s. s) };
 
     ghost remaining = { item_count (λ s. s) };
 
-    fn next(&mut self) -> Option<CellRow<u32>> {
+    fn next(&mut self) -> Option<Cell<u32>> {
         loop {
             match self.costs.split_first() {
                 Some((cost, more)) => {
@@ -90,7 +90,7 @@ impl<'a> Iterator for NumberedCells<'a> {
                     self.event += 1;
                     if *cost > 0 {
                         let place = self.place.place;
-                        return Some(CellRow {
+                        return Some(Cell {
                             object: place.object,
                             file: place.file,
                             function: place.function,

@@ -10,7 +10,7 @@ pub struct Place {
     pub line: u64,
 }
 
-/// Where own costs belong: the key of a cell, and a type of its own, apart from where calls are made.
+/// Where self costs belong: the key of a cell, and a type of its own, apart from where calls are made.
 #[derive(Clone, Copy, PartialEq, Eq, PartialOrd, Ord)]
 pub struct CellPlace {
     pub place: Place,

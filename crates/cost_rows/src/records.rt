@@ -5,9 +5,9 @@ ghost use Rattle.cost_rows.specs.Calls.{AreSmall};
 ghost use Rattle.cg_text.specs.Names.{unknown};
 ghost use Rattle.profile_records.specs.Columns.{added, AreLow, HaveRoom};
 ghost use Rattle.profile_records.specs.Marks.{Agrees, names_tell, call_tells};
-ghost use Rattle.cost_rows.specs.Content.{arcs_with, cells_with, names_with_callee, names_with_cost, with_three};
+ghost use Rattle.cost_rows.specs.Content.{calls_with, cells_with, names_with_callee, names_with_cost, with_three};
 ghost use Rattle.cost_rows.specs.Growing.{Grows};
-ghost use Rattle.cost_rows.specs.Lent.{callee_of, cost_of, own_cost, leaf_cell};
+ghost use Rattle.cost_rows.specs.Lent.{callee_of, cost_of, self_cost, leaf_cell};
 ghost use Rattle.cost_rows.specs.Marks.{HaveNames, known_by, LearnsNames};
 ghost use Rattle.cost_rows.specs.Merging.{merge};
 ghost use Rattle.cost_rows.specs.Places.{cell_cmp};
@@ -27,7 +27,7 @@ use std::collections::BTreeMap;
 
 /// Merges a self record. A refusal leaves the cells as they were, and may leave names of the record
 /// and their marks.
-pub(crate) fn merge_own(
+pub(crate) fn merge_self(
     alloc: Global,
     names: &mut Names,
     marks: &mut Marks,
@@ -38,8 +38,8 @@ pub(crate) fn merge_own(
     requires low { AreLow r.costs.now }
     requires named { HaveNames names.old marks.old }
     requires agrees { Agrees (known_by names.old marks.old) (names_tell r.names) }
-    ensures names { OnOk result (names.new ≡ names_with_cost (own_cost r.entry) names.old) }
-    ensures cells { OnOk result (cells.new.entries ≡ cells_with names.new (own_cost r.entry) cells.old.entries) }
+    ensures names { OnOk result (names.new ≡ names_with_cost (self_cost r.entry) names.old) }
+    ensures cells { OnOk result (cells.new.entries ≡ cells_with names.new (self_cost r.entry) cells.old.entries) }
     ensures learns { OnOk result (LearnsNames names.old marks.old (names_tell r.entry.names) names.new marks.new) }
     ensures grows { Grows names.old names.new }
     ensures err { OnErr result (cells.new.entries ≡ cells.old.entries) }
@@ -55,18 +55,18 @@ pub(crate) fn merge_call(
     alloc: Global,
     names: &mut Names,
     marks: &mut Marks,
-    arcs: &mut BTreeMap<Call, Calls>,
+    edges: &mut BTreeMap<Call, Calls>,
     r: CallCost<'_>,
 ) -> Result<(), AllocError>
-    requires small { All AreSmall (values arcs.old) }
+    requires small { All AreSmall (values edges.old) }
     requires low { AreLow r.costs.now }
     requires named { HaveNames names.old marks.old }
     requires agrees { Agrees (known_by names.old marks.old) (call_tells r) }
     ensures names { OnOk result (names.new ≡ names_with_callee (callee_of r.entry) (names_with_cost (cost_of r.entry) names.old)) }
-    ensures arcs { OnOk result (arcs.new.entries ≡ arcs_with names.new (callee_of r.entry) (cost_of r.entry) arcs.old.entries) }
+    ensures calls { OnOk result (edges.new.entries ≡ calls_with names.new (callee_of r.entry) (cost_of r.entry) edges.old.entries) }
     ensures learns { OnOk result (LearnsNames names.old marks.old (call_tells r.entry) names.new marks.new) }
     ensures grows { Grows names.old names.new }
-    ensures err { OnErr result (arcs.new.entries ≡ arcs.old.entries) }
+    ensures err { OnErr result (edges.new.entries ≡ edges.old.entries) }
 {
     let place = place_lent(names, marks, r.names, r.line)?;
     let called = place_lent(names, marks, r.called, 0)?;
@@ -80,7 +80,7 @@ pub(crate) fn merge_call(
         count: r.count,
         costs: r.costs,
     };
-    merge_sums(alloc, arcs, call, calls)
+    merge_sums(alloc, edges, call, calls)
 }
 
 /// Merges the costs of a stack into those of the function that was running. A refusal leaves the

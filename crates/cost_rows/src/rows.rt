@@ -2,9 +2,9 @@
 
 use cg_text::ListVec;
 
-/// The sum of an event's own costs at a place. Names are bytes, owned or borrowed.
+/// The sum of an event's self costs at a place. Names are bytes, owned or borrowed.
 #[derive(Drop)]
-pub struct CellRow<N> {
+pub struct Cell<N> {
     pub object: N,
     pub file: N,
     pub function: N,
@@ -21,7 +21,7 @@ pub struct CellRow<N> {
 /// The sums of the calls from a place to a function: how many there were, and what they cost. Names
 /// are bytes, owned or borrowed.
 #[derive(Drop)]
-pub struct ArcRow<N, C> {
+pub struct CallEdge<N, C> {
     pub object: N,
     pub file: N,
     pub function: N,
@@ -38,13 +38,13 @@ pub struct ArcRow<N, C> {
 
 /// How often a stack was seen: its frames, joined by `;` with the root first, as bytes.
 #[derive(Drop)]
-pub struct StackRow<N> {
+pub struct StackCount<N> {
     pub stack: N,
     /// The sum of its counts, below 2^127.
     pub count: u128,
 }
 
-/// The sums of some files by column: own costs, inclusive costs of calls, and the number of calls.
+/// The sums of some files by column: self costs, inclusive costs of calls, and the number of calls.
 #[derive(Drop)]
 pub struct FileTotals {
     pub self_cost: ListVec<u128>,

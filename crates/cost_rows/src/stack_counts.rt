@@ -7,7 +7,7 @@ ghost use Rattle.cost_rows.specs.Slots.{sums_in};
 ghost use Rattle.cost_rows.specs.StackCounts.{slot_of_stack, AreFound};
 ghost use Rattle.cost_rows.specs.Stacks.{bytes_cmp};
 ghost use Rattle.cost_rows.specs.Totals.{stack_total};
-ghost use Rattle.cost_rows.specs.Walks.{stack_rows};
+ghost use Rattle.cost_rows.specs.Walks.{counted_stacks};
 
 use crate::slots::raise;
 use crate::walks::StackWalk;
@@ -108,7 +108,7 @@ impl StackCounts {
 
     /// The counts above 0, by the bytes of their stacks. Takes no memory.
     pub(crate) fn rows(&self) -> StackWalk<'_>
-        ensures { result ≡ stack_rows (sums_in self.now) }
+        ensures { result ≡ counted_stacks (sums_in self.now) }
     {
         StackWalk {
             rest: self.slots.iter(),

@@ -48,12 +48,12 @@ pub(crate) fn total_columns<K: Ord, S: ByColumn>(
 }
 
 /// How many calls there were.
-pub(crate) fn total_count(arcs: &BTreeMap<Call, Calls>) -> u128
-    requires { count_total arcs.now.entries < 2 ^ 128 }
-    ensures { result ≡ count_total arcs.now.entries }
+pub(crate) fn total_count(edges: &BTreeMap<Call, Calls>) -> u128
+    requires { count_total edges.now.entries < 2 ^ 128 }
+    ensures { result ≡ count_total edges.now.entries }
 {
     let mut count = 0u128;
-    for calls in arcs.values() {
+    for calls in edges.values() {
         count += calls.count;
     }
     count

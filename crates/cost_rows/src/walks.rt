@@ -2,8 +2,8 @@
 ghost use Rattle.std.specs.Prelude.{◌≡◌};
 
 use crate::names::Names;
-use crate::numbered::{NumberedArcs, NumberedCells};
-use crate::rows::{ArcRow, CellRow, StackRow};
+use crate::numbered::{NumberedCalls, NumberedCells};
+use crate::rows::{CallEdge, Cell, StackCount};
 use crate::sum_rows::sum_in;
 use std::collections::btree_map::Iter;
 use std::marker::Model;
@@ -37,9 +37,9 @@ pub struct Walk<'a, W> {
 }
 
 /// The sums of calls, in the order of the numbers of their names, the line after the caller's names.
-pub type ArcWalk<'a> = Walk<'a, NumberedArcs<'a>>;
+pub type CallWalk<'a> = Walk<'a, NumberedCalls<'a>>;
 
-/// The sums of own costs above 0, in the order of the numbers of their names, then by line, by thread
+/// The sums of self costs above 0, in the order of the numbers of their names, then by line, by thread
 /// and by event.
 pub type CellWalk<'a> = Walk<'a, NumberedCells<'a>>;
 
@@ -57,23 +57,23 @@ impl<'a, W: GivesNames<'a> + Drop> Iterator for Walk<'a, W> {
     }
 }
 
-impl<'a> GivesNames<'a> for NumberedArcs<'a> {
+impl<'a> GivesNames<'a> for NumberedCalls<'a> {
     ghost use Rattle.std.specs.Prelude.{ℕ, List, map};
-    ghost use Rattle.cost_rows.specs.declared.rows.ArcRow as arcs;
-    ghost use Rattle.cost_rows.specs.Plain.{plain_arc};
-    ghost use Rattle.cost_rows.specs.Walks.{arc_named};
+    ghost use Rattle.cost_rows.specs.declared.rows.CallEdge as calls;
+    ghost use Rattle.cost_rows.specs.Plain.{plain_call};
+    ghost use Rattle.cost_rows.specs.Walks.{edge_named};
 
-    type Named = ArcRow<&'a [u8], &'a [u128]>;
+    type Named = CallEdge<&'a [u8], &'a [u128]>;
 
-    ghost Row = { arcs.ArcRow (List ℕ) (List ℕ) };
+    ghost Row = { calls.CallEdge (List ℕ) (List ℕ) };
 
-    ghost plain = { plain_arc };
+    ghost plain = { plain_call };
 
-    ghost rows = { λ names rest. map (arc_named names) rest };
+    ghost rows = { λ names rest. map (edge_named names) rest };
 
-    fn next_named(&mut self, names: &'a Names) -> Option<ArcRow<&'a [u8], &'a [u128]>> {
+    fn next_named(&mut self, names: &'a Names) -> Option<CallEdge<&'a [u8], &'a [u128]>> {
         let row = self.next()?;
-        Some(ArcRow {
+        Some(CallEdge {
             object: names.name_or_empty(row.object),
             file: names.name_or_empty(row.file),
             function: names.name_or_empty(row.function),
@@ -89,21 +89,21 @@ impl<'a> GivesNames<'a> for NumberedArcs<'a> {
 
 impl<'a> GivesNames<'a> for NumberedCells<'a> {
     ghost use Rattle.std.specs.Prelude.{ℕ, List, map};
-    ghost use Rattle.cost_rows.specs.declared.rows.CellRow as cells;
+    ghost use Rattle.cost_rows.specs.declared.rows.Cell as cells;
     ghost use Rattle.cost_rows.specs.Plain.{plain_cell};
     ghost use Rattle.cost_rows.specs.Walks.{cell_named};
 
-    type Named = CellRow<&'a [u8]>;
+    type Named = Cell<&'a [u8]>;
 
-    ghost Row = { cells.CellRow (List ℕ) };
+    ghost Row = { cells.Cell (List ℕ) };
 
     ghost plain = { plain_cell };
 
     ghost rows = { λ names rest. map (cell_named names) rest };
 
-    fn next_named(&mut self, names: &'a Names) -> Option<CellRow<&'a [u8]>> {
+    fn next_named(&mut self, names: &'a Names) -> Option<Cell<&'a [u8]>> {
         let row = self.next()?;
-        Some(CellRow {
+        Some(Cell {
             object: names.name_or_empty(row.object),
             file: names.name_or_empty(row.file),
             function: names.name_or_empty(row.function),
@@ -124,31 +124,31 @@ pub struct StackWalk<'a> {
 
 impl<'a> Model for StackWalk<'a> {
     ghost use Rattle.std.specs.Prelude.{ℕ, List};
-    ghost use Rattle.cost_rows.specs.declared.rows.StackRow.{StackRow};
+    ghost use Rattle.cost_rows.specs.declared.rows.StackCount.{StackCount};
     ghost use Rattle.cost_rows.specs.Slots.{with_sums};
     ghost use Rattle.cost_rows.specs.Stacks.{by_bytes};
-    ghost use Rattle.cost_rows.specs.Walks.{stack_rows};
+    ghost use Rattle.cost_rows.specs.Walks.{counted_stacks};
 
-    ghost Value = { List (StackRow (List ℕ)) };
+    ghost Value = { List (StackCount (List ℕ)) };
 
-    ghost view = { λ a. stack_rows (with_sums a.counts.now (by_bytes a.rest)) };
+    ghost view = { λ a. counted_stacks (with_sums a.counts.now (by_bytes a.rest)) };
 }
 
 impl<'a> Iterator for StackWalk<'a> {
     ghost use Rattle.std.specs.Iterator.{YieldsFirstBy, item_count};
     ghost use Rattle.cost_rows.specs.Plain.{plain_stack};
 
-    type Item = StackRow<&'a [u8]>;
+    type Item = StackCount<&'a [u8]>;
 
     ghost next_gives = { YieldsFirstBy plain_stack (λ s. s) };
 
     ghost remaining = { item_count (λ s. s) };
 
-    fn next(&mut self) -> Option<StackRow<&'a [u8]>> {
+    fn next(&mut self) -> Option<StackCount<&'a [u8]>> {
         while let Some((stack, slot)) = self.rest.next() {
             let count = sum_in(self.counts, *slot);
             if count > 0 {
-                return Some(StackRow {
+                return Some(StackCount {
                     stack: stack.as_slice(),
                     count,
                 });

@@ -21,9 +21,9 @@ use Rattle.histories.specs.Files.{content_of_text, content_of_folded}
 use Rattle.cost_rows.specs.declared.file_rows.FileRows.{FileRows}
 use Rattle.profile_records.specs.declared.kinds.Kind.{Kind}
 use Rattle.profile_records.specs.declared.kinds.Kind.TheVariants as kinds
-use Rattle.file_reading.specs.Intakes.{ReadsRecords, ReadsStacks, Stands, HasEndedAs}
-use Rattle.file_reading.specs.declared.intake.FileReader.{FileReader}
-use Rattle.file_reading.specs.declared.intake.FileReader.TheVariants as readers
+use Rattle.file_reading.specs.FileParsers.{ReadsRecords, ReadsStacks, Stands, HasEndedAs}
+use Rattle.file_reading.specs.declared.parser.FileReader.{FileReader}
+use Rattle.file_reading.specs.declared.parser.FileReader.TheVariants as readers
 
 -- the fold goes on where it stood
 folded_on : {X : Type 0} (step : Content → X → Content) (told more : List X) (before after : Content) → before ≡ fold step empty told → after ≡ fold step before more → after ≡ fold step empty (told ++ more)

@@ -1,4 +1,4 @@
-pub mod Intakes
+pub mod FileParsers
 pub mod Readers
 pub mod Running
 pub mod Sums

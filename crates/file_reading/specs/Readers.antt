@@ -20,8 +20,8 @@ pub record IsRefusal (reason : List ℕ) (t : TotalText) : Type 0 where
   pub accepted : t.accepted ≡ false
 
 -- a source that gave so much and ended: the total of its bytes
-abbrev pub IsWhole : List Outcome → TotalText → Type 0
-IsWhole outcomes t = HasEnded 1073741824 outcomes × IsTotalOf (bytes_of outcomes) t
+abbrev pub IsComplete : List Outcome → TotalText → Type 0
+IsComplete outcomes t = HasEnded 1073741824 outcomes × IsTotalOf (bytes_of outcomes) t
 
 -- a source that was not read to its end for this cause: that it was
 abbrev pub IsCut : Unread → List ℕ → List Outcome → TotalText → Type 0
@@ -29,7 +29,7 @@ IsCut cause reason outcomes t = IsUnreadFor 1073741824 outcomes cause × IsRefus
 
 -- what is answered after these reads: the total, or that more came than a file may have, or that the last read failed
 abbrev pub IsAnswer : List Outcome → TotalText → Type 0
-IsAnswer outcomes t = IsWhole outcomes t ⊎ (IsCut TooLong (codes "too long") outcomes t ⊎ IsCut Failed (codes "read failed") outcomes t)
+IsAnswer outcomes t = IsComplete outcomes t ⊎ (IsCut TooLong (codes "too long") outcomes t ⊎ IsCut Failed (codes "read failed") outcomes t)
 
 -- what is answered of a source that is to give these bytes: their total, or that they are too many, or that a read failed
 abbrev pub IsAnswerOf : List ℕ → TotalText → Type 0

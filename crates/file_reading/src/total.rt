@@ -6,7 +6,7 @@ ghost use Rattle.file_reading.specs.Readers.{IsTotalOf, IsRefusal};
 
 use crate::lines::{refused_line, total_lines};
 use crate::sums::CostSums;
-use byte_io::TakesBytes;
+use byte_io::ByteSink;
 use callgrind_reader::Reader;
 use cg_text::{Fault, ListVec, ReadError};
 use std::alloc::{AllocError, Global};
@@ -78,7 +78,7 @@ impl Total {
     }
 }
 
-impl TakesBytes for Total {
+impl ByteSink for Total {
     ghost use Rattle.file_reading.specs.Running.{HasTaken};
 
     ghost Form = { Unit {0} };

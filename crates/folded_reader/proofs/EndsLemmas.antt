@@ -1,4 +1,4 @@
--- What a file comes to.
+-- What a file is read as.
 use Rattle.std.proofs.Common.{◌≡◌, Result, Ok, Err, IsErrAnd}
 use Rattle.cg_formulas.specs.declared.heads.FileHead.{FileHead}
 use Rattle.cg_text.specs.declared.faults.ReadError.{ReadError}

@@ -2,6 +2,6 @@ pub mod Lines
 pub mod Views
 pub mod Files
 pub mod Looking
-pub mod Stands
+pub mod Representation
 pub mod Heads
 pub mod Reads

@@ -1,21 +1,21 @@
--- When a reader stands for a text, having handed out some stacks; and what a file comes to.
+-- When a reader represents a text, having handed out some stacks; and what a file is read as.
 use Rattle.std.specs.Prelude.{◌≡◌, ℕ, ◌+◌, ◌≤◌, List, Some, None, Result, Ok, Err}
 use Rattle.cg_formulas.specs.declared.heads.FileHead.{FileHead}
 use Rattle.cg_text.specs.declared.faults.ReadError.{ReadError}
 use Rattle.cg_text.specs.declared.faults.ReadError.TheVariants as ends
 use Rattle.text_pieces.specs.Backwards.{so_far}
 use Rattle.text_pieces.specs.Kept as pieces
-use Rattle.text_pieces.specs.Readers.{StandsFor}
+use Rattle.text_pieces.specs.Readers.{Represents}
 use Rattle.folded_reader.specs.declared.reader.FoldedReader.{FoldedReader}
 use Rattle.folded_reader.specs.Lines.{reading_of}
 use Rattle.profile_records.specs.Stacks.{Seen}
 use Rattle.folded_reader.specs.Files.{stacks_from, fault_of_file}
-use Rattle.folded_reader.specs.Stands.{StandsAfter}
+use Rattle.folded_reader.specs.Representation.{RepresentsAfter}
 use Rattle.folded_reader.specs.Heads.{HeadIs}
 
--- the reader stands for the text so far, and has handed out these stacks
+-- the reader represents the text so far, and has handed out these stacks
 abbrev pub Reads : FoldedReader → List ℕ → List Seen → Type 0
-Reads r = StandsFor reading_of (stacks_from 1) StandsAfter r.pieces r.state
+Reads r = Represents reading_of (stacks_from 1) RepresentsAfter r.pieces r.state
 
 -- the stacks of the lines that end in a line feed, before the first with a fault
 abbrev pub stacks_so_far : List ℕ → List Seen

@@ -10,7 +10,7 @@ use crate::stacks::{Stack, read_stack};
 use cg_text::Fault;
 use profile_records::StackSink;
 use std::alloc::AllocError;
-use text_pieces::{Line, TakesLines};
+use text_pieces::{Line, LineSink};
 
 /// How many lines there were, and the first fault of one, with its number.
 #[derive(Drop)]
@@ -27,17 +27,17 @@ fn reading(line: Line<'_>) -> Result<Option<Stack<'_>>, Fault>
     ensures small { IfOk result (λ said. IfSome said (λ s. s.count < 2 ^ 63)) }
 {
     match line {
-        Line::Whole(bytes) => read_stack(bytes),
+        Line::Complete(bytes) => read_stack(bytes),
         Line::TooLong => Err(Fault::LineTooLong),
     }
 }
 
 impl State {
-    ghost use Rattle.folded_reader.specs.Stands.{StandsAfter};
+    ghost use Rattle.folded_reader.specs.Representation.{RepresentsAfter};
 
     /// No line was read.
     pub fn new() -> State
-        ensures stands { StandsAfter result [] }
+        ensures represents { RepresentsAfter result [] }
         ensures lines { result.lines ≡ 0 }
     {
         State {
@@ -47,8 +47,8 @@ impl State {
     }
 }
 
-impl<S: StackSink> TakesLines<S> for State {
-    ghost use Rattle.folded_reader.specs.Stands.{StandsAfter};
+impl<S: StackSink> LineSink<S> for State {
+    ghost use Rattle.folded_reader.specs.Representation.{RepresentsAfter};
 
     ghost Reading = { Reading };
 
@@ -58,7 +58,7 @@ impl<S: StackSink> TakesLines<S> for State {
 
     ghost adds = { adds };
 
-    ghost stands = { StandsAfter };
+    ghost represents = { RepresentsAfter };
 
     ghost lines = { λ s. s.lines };
 

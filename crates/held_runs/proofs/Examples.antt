@@ -1,21 +1,21 @@
 -- The definitions of what is asked of runs, on three runs and two groups.
 use Rattle.std.proofs.Common.{◌≡◌, ℕ, List, [], ◌∷◌, None, Some, codes, refl}
-use Rattle.plain_tables.specs.Tables.{Tables, RunLine, EventLine, GroupLine, MemberLine, new_tables}
+use Rattle.plain_tables.specs.Tables.{Tables, RunRow, EventRow, GroupRow, MemberRow, new_tables}
 use Rattle.store_schema.specs.Tables.{number}
-use Rattle.run_stores.specs.OwnSums.{events_of_run}
-use Rattle.held_runs.specs.OwnSums.{own_shown, sum_rows}
+use Rattle.run_stores.specs.SelfSums.{events_of_run}
+use Rattle.held_runs.specs.SelfSums.{self_shown, sum_rows}
 use Rattle.run_stores.specs.Lookups.{members_in_tables, numbers_in_tables}
 
-run : ℕ → RunLine
+run : ℕ → RunRow
 run n = record { number = n; kind = 1; digest = n ∷ []; label = codes "x"; call_count = 0 }
 
-member : List ℕ → ℕ → MemberLine
+member : List ℕ → ℕ → MemberRow
 member group n = record { group = group; run = n }
 
-event : ℕ → ℕ → ℕ → ℕ → EventLine
+event : ℕ → ℕ → ℕ → ℕ → EventRow
 event n place own calls = record { run = n; place = place; name = place ∷ []; self_cost = own; call_cost = calls; stated = None }
 
-group : List ℕ → GroupLine
+group : List ℕ → GroupRow
 group name = record { name = name; baseline = Some 3 }
 
 -- run 2 is gone; the members of a group joined in another order than they arrived
@@ -51,6 +51,6 @@ events-of_three = refl
 sums-by_place : sum_rows (5 ∷ 0 ∷ []) ≡ (number 0 ∷ number 5 ∷ []) ∷ (number 1 ∷ number 0 ∷ []) ∷ []
 sums-by_place = refl
 
-own_shown-no_calls : own_shown (event 3 1 0 90) ≡ number 1 ∷ number 0 ∷ []
+self_shown-no_calls : self_shown (event 3 1 0 90) ≡ number 1 ∷ number 0 ∷ []
 unfolding event
-own_shown-no_calls = refl
+self_shown-no_calls = refl

@@ -9,12 +9,12 @@ use Rattle.prof_store.proofs.Listing.{take_sum}
 use Rattle.sqlite_keyed.proofs.ListLemmas.{map-map}
 use Rattle.sqlite_value.specs.Order.{Row}
 use Rattle.cg_formulas.specs.declared.heads.FileHead.{FileHead}
-use Rattle.held_runs.specs.HeadLines.{event_columns, derived_columns, coef_columns}
-use Rattle.prof_books.specs.HeldHeads.{CoefSaid, EventSaid, PlacedName, coefs_at, coefs_from, events_from, placed}
-use Rattle.held_runs.specs.HeldHeads.{States, name_columns, said_columns, times_columns, IsHeadOf, IsReadFrom, event_place, event_total, event_line_said, derived_place, coef_line_said}
-use Rattle.held_runs.specs.declared.head_lines.HeadEvent.{HeadEvent}
-use Rattle.held_runs.specs.declared.head_lines.HeadDerived.{HeadDerived}
-use Rattle.held_runs.specs.declared.head_lines.HeadCoef.{HeadCoef}
+use Rattle.held_runs.specs.HeadRows.{event_columns, derived_columns, coef_columns}
+use Rattle.prof_books.specs.HeldHeads.{CoefEntry, EventEntry, PlacedName, coefs_at, coefs_from, events_from, placed}
+use Rattle.held_runs.specs.HeldHeads.{States, name_columns, entry_columns, times_columns, IsHeadOf, IsReadFrom, event_place, event_total, entry_of_event, derived_place, entry_of_coef}
+use Rattle.held_runs.specs.declared.head_rows.HeadEvent.{HeadEvent}
+use Rattle.held_runs.specs.declared.head_rows.HeadDerived.{HeadDerived}
+use Rattle.held_runs.specs.declared.head_rows.HeadCoef.{HeadCoef}
 
 -- ---- names
 
@@ -35,10 +35,10 @@ placed_names at (name ∷ names) = ap (λ l. name ∷ l) (placed_names (suc at) 
 
 -- ---- events
 
-abbrev said : ℕ → List ℕ → EventSaid
+abbrev said : ℕ → List ℕ → EventEntry
 said place name = record { place = place; name = name; stated = None }
 
-pub said_without : (at : ℕ) (lines : List HeadEvent) (names : List (List ℕ)) → map event_place lines ≡ placed at names → All (λ (line : HeadEvent). line.stated ≡ None) lines → map event_line_said lines ≡ events_from at names []
+pub said_without : (at : ℕ) (lines : List HeadEvent) (names : List (List ℕ)) → map event_place lines ≡ placed at names → All (λ (line : HeadEvent). line.stated ≡ None) lines → map entry_of_event lines ≡ events_from at names []
 said_without at [] [] places none = refl
 said_without at [] (name ∷ names) places none = absurd cc
 said_without at (line ∷ lines) [] places none = absurd cc
@@ -48,10 +48,10 @@ said_without at (line ∷ lines) (name ∷ names) places none =
     let named : line.name.items ≡ name = ap (λ (p : PlacedName). p.name) same in
     let total : line.stated ≡ None = All-head (λ (x : HeadEvent). x.stated ≡ None) line lines none in
     let more : map event_place lines ≡ placed (suc at) names = cc in
-    let one : event_line_said line ≡ said at name = ap₂ (λ p n. record { place = p; name = n; stated = event_total line }) place named ∙ ap (λ s. record { place = at; name = name; stated = option_map string_bytes s }) total in
+    let one : entry_of_event line ≡ said at name = ap₂ (λ p n. record { place = p; name = n; stated = event_total line }) place named ∙ ap (λ s. record { place = at; name = name; stated = option_map string_bytes s }) total in
     ap₂ ◌∷◌ one (said_without (suc at) lines names more (All-tail (λ (x : HeadEvent). x.stated ≡ None) line lines none))
 
-pub said_with : (at : ℕ) (lines : List HeadEvent) (names : List (List ℕ)) (sums : List ℕ) → map event_place lines ≡ placed at names → map event_total lines ≡ map (λ n. Some (decimal n)) sums → map event_line_said lines ≡ events_from at names sums
+pub said_with : (at : ℕ) (lines : List HeadEvent) (names : List (List ℕ)) (sums : List ℕ) → map event_place lines ≡ placed at names → map event_total lines ≡ map (λ n. Some (decimal n)) sums → map entry_of_event lines ≡ events_from at names sums
 said_with at [] [] sums places totals = refl
 said_with at [] (name ∷ names) sums places totals = absurd cc
 said_with at (line ∷ lines) [] sums places totals = absurd cc
@@ -63,11 +63,11 @@ said_with at (line ∷ lines) (name ∷ names) (n ∷ sums) places totals =
     let total : event_total line ≡ Some (decimal n) = cc in
     let more_places : map event_place lines ≡ placed (suc at) names = cc in
     let more_totals : map event_total lines ≡ map (λ n. Some (decimal n)) sums = cc in
-    let one : event_line_said line ≡ record { place = at; name = name; stated = Some (decimal n) } =
+    let one : entry_of_event line ≡ record { place = at; name = name; stated = Some (decimal n) } =
     ap₂ (λ p m. record { place = p; name = m; stated = event_total line }) place named ∙ ap (λ s. record { place = at; name = name; stated = s }) total in
     ap₂ ◌∷◌ one (said_with (suc at) lines names sums more_places more_totals)
 
-pub said_events : (lines : List HeadEvent) (names : List (List ℕ)) (stated : Option (List ℕ)) → map event_place lines ≡ placed 0 names → States lines stated → map event_line_said lines ≡ events_from 0 names (unwrap_or stated [])
+pub said_events : (lines : List HeadEvent) (names : List (List ℕ)) (stated : Option (List ℕ)) → map event_place lines ≡ placed 0 names → States lines stated → map entry_of_event lines ≡ events_from 0 names (unwrap_or stated [])
 said_events lines names None places none = said_without 0 lines names places none
 said_events lines names (Some sums) places totals = said_with 0 lines names sums places totals
 
@@ -92,7 +92,7 @@ coefs_at-append : (place event : ℕ) (row : List ℕ) (times : ℕ) → coefs_a
 coefs_at-append place event [] times = ap (λ k. coefs_at place k (times ∷ [])) (omega arith)
 coefs_at-append place event (n ∷ row) times = go (nat_lt 0 n) (coefs_at-append place (suc event) row times ∙ ap (λ k. coefs_at place (suc event) row ++ coefs_at place k (times ∷ [])) (omega arith))
   where
-    one : CoefSaid
+    one : CoefEntry
     one = record { place = place; event = event; times = n }
 
     go : (b : Bool) → coefs_at place (suc event) (row ++ times ∷ []) ≡ coefs_at place (suc event) row ++ coefs_at place (event + suc (length row)) (times ∷ []) → (if b then one ∷ coefs_at place (suc event) (row ++ times ∷ []) else coefs_at place (suc event) (row ++ times ∷ []))
@@ -133,9 +133,9 @@ pub is_head_of : (head : FileHead) (events : List HeadEvent) (derived : List Hea
     → IsPermutation derived_rows (map derived_columns derived) → IsPermutation coef_rows (map coef_columns coefs) → IsReadFrom head events derived coefs → IsHeadOf head event_rows derived_rows coef_rows
 is_head_of head events derived coefs event_rows derived_rows coef_rows es ds cs read = record {
   sound = read.sound;
-  events_are = subst (IsPermutation event_rows) (sym (map-map said_columns event_line_said events) ∙ ap (map said_columns) read.events_are) es;
+  events_are = subst (IsPermutation event_rows) (sym (map-map entry_columns entry_of_event events) ∙ ap (map entry_columns) read.events_are) es;
   derived_are = subst (IsPermutation derived_rows) (sym (map-map name_columns derived_place derived) ∙ ap (map name_columns) read.derived_are) ds;
-  coefs_are = subst (IsPermutation coef_rows) (sym (map-map times_columns coef_line_said coefs) ∙ ap (map times_columns) read.coefs_are) cs;
+  coefs_are = subst (IsPermutation coef_rows) (sym (map-map times_columns entry_of_coef coefs) ∙ ap (map times_columns) read.coefs_are) cs;
 }
 
 pub read_from_same : (head : FileHead) (events events' : List HeadEvent) (derived derived' : List HeadDerived) (coefs coefs' : List HeadCoef) → events ≡ events' → derived ≡ derived' → coefs ≡ coefs' → IsReadFrom head events derived coefs

@@ -1,4 +1,4 @@
-pub mod ArcRows
+pub mod CallRows
 pub mod Asking
 pub mod Examples
 mod HeadReading
@@ -7,7 +7,7 @@ pub mod LineWalks
 mod LookupFinds
 mod NameLists
 mod NumberLists
-mod OwnSumLists
+mod SelfSumLists
 mod PlainLines
 mod RunTexts
 pub mod RowSteps

@@ -9,11 +9,11 @@ use Rattle.sqlite.specs.State.{State, Shown}
 use Rattle.sql_tables.proofs.Orders.{all_shown}
 use Rattle.sql_tables.proofs.Selects.{selected}
 use Rattle.store_schema.specs.Schema.{schema_two}
-use Rattle.plain_tables.specs.Tables.{NameLine}
+use Rattle.plain_tables.specs.Tables.{NameRow}
 use Rattle.store_schema.specs.Texts.{names_sql}
 use Rattle.store_schema.proofs.Means.{names_shown, names_order, names_means, names_plain, names_unlisted}
 use Rattle.prof_books.specs.Book.{name_of, IsHeld}
-use Rattle.held_runs.specs.NameLines.{name_line, name_seen, name_shown, has_number}
+use Rattle.held_runs.specs.NameRows.{name_row, name_seen, name_shown, has_number}
 use Rattle.held_runs.specs.declared.held_names.HeldName.{HeldName}
 
 -- ---- the query
@@ -22,7 +22,7 @@ pub names_listed : (old new : State) (rows : List Row) → old.now.schema ≡ sc
 names_listed old new rows has h =
     all_shown 11 names_shown names_order (old.now.trees 11) [] rows (selected schema_two names_sql 11 [] names_shown names_order _ names_means names_plain names_unlisted old new has refl [] rows h)
 
-pub same_line : (a b : NameLine) → name_shown a ≡ name_shown b → a ≡ b
+pub same_line : (a b : NameRow) → name_shown a ≡ name_shown b → a ≡ b
 same_line a b h =
     let number : a.number ≡ b.number = cc in
     let name : a.name ≡ b.name = cc in
@@ -33,11 +33,11 @@ same_line a b h =
 abbrev Rise : List HeldName → Type 0
 Rise = IsAscending (λ a b. a.number < b.number)
 
-pub lines_rise : (names : List HeldName) → Rise names → IsAscending (λ (a b : NameLine). a.number < b.number) (map name_line names)
+pub lines_rise : (names : List HeldName) → Rise names → IsAscending (λ (a b : NameRow). a.number < b.number) (map name_row names)
 lines_rise [] up = tt
 lines_rise (n ∷ names) up = (go names up.0, lines_rise names up.1)
   where
-    go : (xs : List HeldName) → AllByRecursion (λ (x : HeldName). n.number < x.number) xs → AllByRecursion (λ (x : NameLine). n.number < x.number) (map name_line xs)
+    go : (xs : List HeldName) → AllByRecursion (λ (x : HeldName). n.number < x.number) xs → AllByRecursion (λ (x : NameRow). n.number < x.number) (map name_row xs)
     go [] h = tt
     go (x ∷ xs) h = (h.0, go xs h.1)
 
@@ -63,7 +63,7 @@ differ_above a b h = grind (arith, nat_tests)
 
 -- a line of the number is the one that is found
 pub found_name : (names : List HeldName) → Rise names → (at n : ℕ) (name : List ℕ) → at < length names → ((d : HeldName) → ((get_or names at d).number ≡ n) × (name ≡ (get_or names at d).bytes.items))
-    → IsHeld (map name_line names) n × (name ≡ name_of (map name_line names) n)
+    → IsHeld (map name_row names) n × (name ≡ name_of (map name_row names) n)
 found_name [] up at n name within is = absurd (omega (arith, within))
 found_name (x ∷ names) up zero n name within is =
     let here : x.number ≡ n = (is x).0 in
@@ -75,7 +75,7 @@ found_name (x ∷ names) up (suc at) n name within is =
     let other : eqb x.number n ≡ false = differ x.number n (omega (arith, less, there)) in
     rw (other) (found_name names up.1 at n name (omega (arith, within)) is)
 
-none_above : (names : List HeldName) (low n : ℕ) → n ≤ low → AllByRecursion (λ (x : HeldName). low < x.number) names → has_number (map name_line names) n ≡ false
+none_above : (names : List HeldName) (low n : ℕ) → n ≤ low → AllByRecursion (λ (x : HeldName). low < x.number) names → has_number (map name_row names) n ≡ false
 none_above [] low n order h = refl
 none_above (x ∷ names) low n order h =
     let other : eqb x.number n ≡ false = differ_above x.number n (omega (arith, order, h.0)) in
@@ -83,7 +83,7 @@ none_above (x ∷ names) low n order h =
 
 -- between the lines below a number and those above it there is none
 pub no_name : (names : List HeldName) → Rise names → (at n : ℕ) → ((k : ℕ) (d : HeldName) → k < at → k < length names → (get_or names k d).number < n) → ((k : ℕ) (d : HeldName) → at ≤ k → k < length names → n ≤ (get_or names k d).number)
-    → ((d : HeldName) → at < length names → (get_or names at d).number ≢ n) → has_number (map name_line names) n ≡ false
+    → ((d : HeldName) → at < length names → (get_or names at d).number ≢ n) → has_number (map name_row names) n ≡ false
 no_name [] up at n below above missed = refl
 no_name (x ∷ names) up zero n below above missed =
     let from = above 0 x (omega arith) (omega arith) in

@@ -1,4 +1,4 @@
--- What the rows of a head and of own sums tell of plain lines: each row is read back.
+-- What the rows of a head and of self sums tell of plain lines: each row is read back.
 use Rattle.std.proofs.Common.{◌≡◌, ℕ, List, [], map, Option, Some, None, IsTrue, refl, sym, ap, subst, IsPermutation}
 use Rattle.sqlite_keyed.proofs.ListLemmas.{map-map}
 use Rattle.sqlite_value.specs.declared.value.Value.{Value}
@@ -6,14 +6,14 @@ use Rattle.sqlite_value.specs.declared.value.Value.TheVariants.{Blob, Text}
 use Rattle.sqlite_value.specs.Order.{Row, column}
 use Rattle.cg_formulas.specs.declared.heads.FileHead.{FileHead}
 use Rattle.plain_tables.specs.Changes.{has_run}
-use Rattle.plain_tables.specs.Tables.{Tables, EventLine}
+use Rattle.plain_tables.specs.Tables.{Tables, EventRow}
 use Rattle.store_schema.specs.Tables.{text_or_null}
-use Rattle.prof_books.specs.HeldHeads.{CoefSaid, EventSaid, IsHeadIn, PlacedName, coef_of_line, coefs_said, derived_said, event_of_line, events_said, name_of_line}
-use Rattle.run_stores.specs.OwnSums.{AreOwnSums, PlacedSum, self_of_line, sums_from}
+use Rattle.prof_books.specs.HeldHeads.{CoefEntry, EventEntry, IsHeadIn, PlacedName, coef_of_line, coef_entries, derived_entries, event_of_line, event_entries, name_of_line}
+use Rattle.run_stores.specs.SelfSums.{AreSelfSums, PlacedSum, self_of_line, sums_from}
 use Rattle.prof_store.specs.Totals.{number_in}
 use Rattle.prof_store.proofs.Listing.{read_back}
-use Rattle.held_runs.specs.HeldHeads.{IsReadIn, name_columns, said_columns, times_columns}
-use Rattle.held_runs.specs.OwnSums.{own_shown, sum_columns, sum_rows}
+use Rattle.held_runs.specs.HeldHeads.{IsReadIn, name_columns, entry_columns, times_columns}
+use Rattle.held_runs.specs.SelfSums.{self_shown, sum_columns, sum_rows}
 
 -- ---- values, read back
 
@@ -31,16 +31,16 @@ text_back None = refl
 
 -- ---- rows, read back
 
-abbrev event_in : Row → EventSaid
+abbrev event_in : Row → EventEntry
 event_in r = record { place = number_in (column r 0); name = bytes_in (column r 1); stated = text_in (column r 2) }
 
-event_back : (e : EventSaid) → event_in (said_columns e) ≡ e
-event_back e = ap (λ text. let said : EventSaid = record { place = e.place; name = e.name; stated = text } in said) (text_back e.stated)
+event_back : (e : EventEntry) → event_in (entry_columns e) ≡ e
+event_back e = ap (λ text. let said : EventEntry = record { place = e.place; name = e.name; stated = text } in said) (text_back e.stated)
 
 abbrev name_in : Row → PlacedName
 name_in r = record { place = number_in (column r 0); name = bytes_in (column r 1) }
 
-abbrev coef_in : Row → CoefSaid
+abbrev coef_in : Row → CoefEntry
 coef_in r = record { place = number_in (column r 0); event = number_in (column r 1); times = number_in (column r 2) }
 
 abbrev sum_in : Row → PlacedSum
@@ -56,10 +56,10 @@ pub head_told : (run : ℕ) (t : Tables) (head : FileHead) → IsTrue (has_run t
 head_told run t head held is = record {
   is_held = held;
   sound = is.sound;
-  events_are = lines_permuted said_columns event_in event_back event_of_line _ (events_said head) is.events_are;
-  derived_are = lines_permuted name_columns name_in (λ p. refl) name_of_line _ (derived_said head) is.derived_are;
-  coefs_are = lines_permuted times_columns coef_in (λ c. refl) coef_of_line _ (coefs_said head) is.coefs_are;
+  events_are = lines_permuted entry_columns event_in event_back event_of_line _ (event_entries head) is.events_are;
+  derived_are = lines_permuted name_columns name_in (λ p. refl) name_of_line _ (derived_entries head) is.derived_are;
+  coefs_are = lines_permuted times_columns coef_in (λ c. refl) coef_of_line _ (coef_entries head) is.coefs_are;
 }
 
-pub own_told : (lines : List EventLine) (sums : List ℕ) → IsPermutation (map own_shown lines) (sum_rows sums) → AreOwnSums lines sums
-own_told lines sums h = lines_permuted sum_columns sum_in (λ s. refl) self_of_line lines (sums_from 0 sums) h
+pub self_told : (lines : List EventRow) (sums : List ℕ) → IsPermutation (map self_shown lines) (sum_rows sums) → AreSelfSums lines sums
+self_told lines sums h = lines_permuted sum_columns sum_in (λ s. refl) self_of_line lines (sums_from 0 sums) h

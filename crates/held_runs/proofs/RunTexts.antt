@@ -11,7 +11,7 @@ use Rattle.sqlite_tied.specs.Compute.{everything}
 use Rattle.sql_tables.specs.Queries.{only, is, columns_at, by_rowid}
 use Rattle.sql_tables.proofs.Queries.{sorted_scan}
 use Rattle.store_schema.specs.Schema.{schema_two, thread_cell_at, arc_at, stack_at}
-use Rattle.held_runs.specs.RunTexts.{run_numbers_sql, members_of_sql, own_sums_sql, baseline_of_sql, first_cell_sql, last_cell_sql, first_arc_sql, last_arc_sql, first_stack_sql, last_stack_sql}
+use Rattle.held_runs.specs.RunTexts.{run_numbers_sql, members_of_sql, self_sums_sql, baseline_of_sql, first_cell_sql, last_cell_sql, first_call_sql, last_call_sql, first_stack_sql, last_stack_sql}
 
 -- ---- the numbers of all runs
 
@@ -56,28 +56,28 @@ pub members_of_unlisted : reads_listing schema_two members_of_sql ≡ false
 unfolding understood everything
 members_of_unlisted = refl
 
--- ---- the own sums of a run
+-- ---- the self sums of a run
 
-abbrev pub own_sums_terms : List Term
-own_sums_terms = is (col 1 1) (col 0 0) ∷ []
+abbrev pub self_sums_terms : List Term
+self_sums_terms = is (col 1 1) (col 0 0) ∷ []
 
-abbrev pub own_sums_shown : List Term
-own_sums_shown = col 1 2 ∷ col 1 4 ∷ []
+abbrev pub self_sums_shown : List Term
+self_sums_shown = col 1 2 ∷ col 1 4 ∷ []
 
-abbrev pub own_sums_order : List (Term × Key)
-own_sums_order = (col 1 2, ascending Binary) ∷ []
+abbrev pub self_sums_order : List (Term × Key)
+self_sums_order = (col 1 2, ascending Binary) ∷ []
 
-pub own_sums_means : command_of (understood schema_two own_sums_sql) ≡ Select (only (sorted_scan 3 own_sums_terms own_sums_shown own_sums_order)) (codes "pos" ∷ codes "self_cost" ∷ [])
+pub self_sums_means : command_of (understood schema_two self_sums_sql) ≡ Select (only (sorted_scan 3 self_sums_terms self_sums_shown self_sums_order)) (codes "pos" ∷ codes "self_cost" ∷ [])
 unfolding understood everything
-own_sums_means = refl
+self_sums_means = refl
 
-pub own_sums_plain : IsPlain (understood schema_two own_sums_sql)
+pub self_sums_plain : IsPlain (understood schema_two self_sums_sql)
 unfolding understood everything
-own_sums_plain = (refl, refl)
+self_sums_plain = (refl, refl)
 
-pub own_sums_unlisted : reads_listing schema_two own_sums_sql ≡ false
+pub self_sums_unlisted : reads_listing schema_two self_sums_sql ≡ false
 unfolding understood everything
-own_sums_unlisted = refl
+self_sums_unlisted = refl
 
 -- ---- the baseline of a group
 
@@ -137,29 +137,29 @@ pub last_cell_unlisted : reads_listing schema_two last_cell_sql ≡ false
 unfolding understood everything
 last_cell_unlisted = refl
 
-pub first_arc_means : command_of (understood schema_two first_arc_sql) ≡ Select (only (sorted_scan arc_at.tree [] end_shown by_rowid)) end_names
+pub first_call_means : command_of (understood schema_two first_call_sql) ≡ Select (only (sorted_scan arc_at.tree [] end_shown by_rowid)) end_names
 unfolding understood everything
-first_arc_means = refl
+first_call_means = refl
 
-pub first_arc_plain : IsPlain (understood schema_two first_arc_sql)
+pub first_call_plain : IsPlain (understood schema_two first_call_sql)
 unfolding understood everything
-first_arc_plain = (refl, refl)
+first_call_plain = (refl, refl)
 
-pub first_arc_unlisted : reads_listing schema_two first_arc_sql ≡ false
+pub first_call_unlisted : reads_listing schema_two first_call_sql ≡ false
 unfolding understood everything
-first_arc_unlisted = refl
+first_call_unlisted = refl
 
-pub last_arc_means : command_of (understood schema_two last_arc_sql) ≡ Select (only (sorted_scan arc_at.tree [] end_shown down_by_rowid)) end_names
+pub last_call_means : command_of (understood schema_two last_call_sql) ≡ Select (only (sorted_scan arc_at.tree [] end_shown down_by_rowid)) end_names
 unfolding understood everything
-last_arc_means = refl
+last_call_means = refl
 
-pub last_arc_plain : IsPlain (understood schema_two last_arc_sql)
+pub last_call_plain : IsPlain (understood schema_two last_call_sql)
 unfolding understood everything
-last_arc_plain = (refl, refl)
+last_call_plain = (refl, refl)
 
-pub last_arc_unlisted : reads_listing schema_two last_arc_sql ≡ false
+pub last_call_unlisted : reads_listing schema_two last_call_sql ≡ false
 unfolding understood everything
-last_arc_unlisted = refl
+last_call_unlisted = refl
 
 pub first_stack_means : command_of (understood schema_two first_stack_sql) ≡ Select (only (sorted_scan stack_at.tree [] end_shown by_rowid)) end_names
 unfolding understood everything

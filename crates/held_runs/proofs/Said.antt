@@ -29,29 +29,29 @@ use Rattle.profile_records.specs.declared.kinds.Kind.{Kind}
 use Rattle.plain_tables.specs.Changes.{is_member, has_member}
 use Rattle.store_schema.specs.Schema.{schema_two, to, run_at, run_event_at, derived_at, coef_at, name_at, grp_at, member_at}
 use Rattle.store_schema.specs.Seen.{is_at, event_seen, derived_seen, coef_seen, event_shown, derived_shown, coef_shown, run_of_member_seen}
-use Rattle.plain_tables.specs.Tables.{Tables, RunLine, EventLine, DerivedLine, CoefLine, MemberLine}
+use Rattle.plain_tables.specs.Tables.{Tables, RunRow, EventRow, DerivedRow, CoefRow, MemberRow}
 use Rattle.store_schema.specs.Tables.{run_columns, event_columns, derived_columns, coef_columns, name_columns, group_columns, member_columns, number, number_or_null, text_or_null}
 use Rattle.prof_store.specs.Readings.{as_read, IsSaidBy, RowsSay}
 use Rattle.prof_store.proofs.Listing.{map_injective}
 use Rattle.prof_store.proofs.Members.{plain_has}
-use Rattle.prof_store.proofs.RunLines.{of_run}
+use Rattle.prof_store.proofs.RunRows.{of_run}
 use Rattle.prof_store.proofs.Told.{said}
-use Rattle.prof_store.proofs.Readings.{runs_rise as rows_rise, names_rise, cells_shaped, arcs_shaped, stacks_shaped, Says, SaysBehind, values_read, number_read, equals_read, not_null, number_at, text_at, picked_said, seen_said, line_of_row, row_of_line, shown_read, permutes_read, runs_said, events_said, derived_said, coefs_said, names_said, groups_said, members_said}
-use Rattle.held_runs.specs.HeadLines as heads
-use Rattle.held_runs.specs.HeadLines.{events_in_tables, derived_in_tables, coefs_in_tables, events_in_rows, derived_in_rows, coefs_in_rows}
+use Rattle.prof_store.proofs.Readings.{runs_rise as rows_rise, names_rise, cells_shaped, calls_shaped, stacks_shaped, Says, SaysBehind, values_read, number_read, equals_read, not_null, number_at, text_at, picked_said, seen_said, line_of_row, row_of_line, shown_read, permutes_read, runs_said, event_entries, derived_entries, coef_entries, names_said, groups_said, members_said}
+use Rattle.held_runs.specs.HeadRows as heads
+use Rattle.held_runs.specs.HeadRows.{events_in_tables, derived_in_tables, coefs_in_tables, events_in_rows, derived_in_rows, coefs_in_rows}
 use Rattle.run_stores.specs.Lookups.{IsBaselineOf, IsKindOf, members_in_tables, numbers_in_tables}
 use Rattle.held_runs.specs.Lookups.{IsKindAt, IsBaselineAt}
-use Rattle.held_runs.specs.NameLines.{name_seen, name_shown}
-use Rattle.run_stores.specs.OwnSums.{AreOwnSums, events_of_run, sums_from}
-use Rattle.held_runs.specs.OwnSums.{own_seen, own_shown, sum_columns, AreOwnSumsAt}
+use Rattle.held_runs.specs.NameRows.{name_seen, name_shown}
+use Rattle.run_stores.specs.SelfSums.{AreSelfSums, events_of_run, sums_from}
+use Rattle.held_runs.specs.SelfSums.{self_seen, self_shown, sum_columns, AreSelfSumsAt}
 use Rattle.held_runs.specs.RunNumbers.{first_one, number_shown, numbers_in_rows, members_in_rows}
 use Rattle.held_runs.specs.Walks.{IsReady, tree_of}
-use Rattle.held_runs.specs.declared.head_lines.HeadEvent.{HeadEvent}
-use Rattle.held_runs.specs.declared.head_lines.HeadDerived.{HeadDerived}
-use Rattle.held_runs.specs.declared.head_lines.HeadCoef.{HeadCoef}
+use Rattle.held_runs.specs.declared.head_rows.HeadEvent.{HeadEvent}
+use Rattle.held_runs.specs.declared.head_rows.HeadDerived.{HeadDerived}
+use Rattle.held_runs.specs.declared.head_rows.HeadCoef.{HeadCoef}
 use Rattle.held_runs.specs.declared.walks.Listed.{Listed}
-use Rattle.held_runs.specs.declared.walks.Listed.TheVariants.{Cells, Arcs, Stacks}
-use Rattle.held_runs.proofs.PlainLines.{own_told}
+use Rattle.held_runs.specs.declared.walks.Listed.TheVariants.{Cells, Calls, Stacks}
+use Rattle.held_runs.proofs.PlainLines.{self_told}
 use Rattle.held_runs.proofs.NumberLists.{Rise, parent_is, risen, same_number}
 
 -- such tables can be walked
@@ -61,7 +61,7 @@ ready_for t s was =
     let is = said t db was.holds in
     record {
       schema_is = was.schema_is;
-      numbered = λ (table : Listed). elim table as (λ table. IsShaped shape.Table (db (tree_of table))) [ Cells ↦ cells_shaped t db is | Arcs ↦ arcs_shaped t db is | Stacks ↦ stacks_shaped t db is ];
+      numbered = λ (table : Listed). elim table as (λ table. IsShaped shape.Table (db (tree_of table))) [ Cells ↦ cells_shaped t db is | Calls ↦ calls_shaped t db is | Stacks ↦ stacks_shaped t db is ];
     }
 
 same_baseline : (far : ℕ → ℕ) (a b : Option ℕ) → number_or_null a ≡ as_read far (number_or_null b) → a ≡ b
@@ -79,27 +79,27 @@ module _ (far : ℕ → ℕ) where
       go (Some text) = refl
 
 -- numbers that are read as they are stand in the order of their rows
-picked_table : (far : ℕ → ℕ) → ((n : ℕ) → 2 ^ 64 ≤ far n) → (p : ℕ → Bool) → ((n : ℕ) → p n ≡ true → n < 2 ^ 64) → (rows : List Row) (xs : List RunLine) → AllZip (Says far run_at run_columns) rows xs → IsTable rows
-    → IsTable (map number_shown (filter p (map (λ (r : RunLine). r.number) xs)))
+picked_table : (far : ℕ → ℕ) → ((n : ℕ) → 2 ^ 64 ≤ far n) → (p : ℕ → Bool) → ((n : ℕ) → p n ≡ true → n < 2 ^ 64) → (rows : List Row) (xs : List RunRow) → AllZip (Says far run_at run_columns) rows xs → IsTable rows
+    → IsTable (map number_shown (filter p (map (λ (r : RunRow). r.number) xs)))
 picked_table far is_far p low [] [] all up = tt
 picked_table far is_far p low [] (x ∷ xs) all up = absurd all
 picked_table far is_far p low (r ∷ rows) [] all up = absurd all
 picked_table far is_far p low (r ∷ rows) (x ∷ xs) all up = go (p x.number) refl (picked_table far is_far p low rows xs all.1 up.1)
   where
-    id_is : (s : Row) (y : RunLine) → p y.number ≡ true → Says far run_at run_columns s y → rowid s ≡ number y.number
+    id_is : (s : Row) (y : RunRow) → p y.number ≡ true → Says far run_at run_columns s y → rowid s ≡ number y.number
     id_is s y picked says = number_read far is_far (column s 0) y.number (low y.number picked) (ap (λ l. column l 0) says)
 
-    above : p x.number ≡ true → AllByRecursion (λ z. value_cmp (number x.number) (rowid z) ≡ Less) (map number_shown (filter p (map (λ (l : RunLine). l.number) xs)))
+    above : p x.number ≡ true → AllByRecursion (λ z. value_cmp (number x.number) (rowid z) ≡ Less) (map number_shown (filter p (map (λ (l : RunRow). l.number) xs)))
     above picked = all_from _ _ (λ z there.
-        let n = has_mapped number_shown (filter p (map (λ (l : RunLine). l.number) xs)) z there in
-        let k = has_kept p (map (λ (l : RunLine). l.number) xs) n.0 n.1 in
-        let y = has_mapped (λ (l : RunLine). l.number) xs n.0 k.0 in
+        let n = has_mapped number_shown (filter p (map (λ (l : RunRow). l.number) xs)) z there in
+        let k = has_kept p (map (λ (l : RunRow). l.number) xs) n.0 n.1 in
+        let y = has_mapped (λ (l : RunRow). l.number) xs n.0 k.0 in
         let s = row_of_line (Says far run_at run_columns) rows xs all.1 y.0 y.1 in
         let less : value_cmp (rowid r) (rowid s.0) ≡ Less = all_has _ rows s.0 up.0 s.1 in
         let right : rowid s.0 ≡ rowid z = id_is s.0 y.0 (subst (λ m. p m ≡ true) y.2 k.1) s.2 ∙ sym (ap number y.2) ∙ sym (ap rowid n.2) in
         subst₂ (λ a b. value_cmp a b ≡ Less) (id_is r x picked all.0) right less)
 
-    go : (b : Bool) → p x.number ≡ b → IsTable (map number_shown (filter p (map (λ (l : RunLine). l.number) xs))) → IsTable (map number_shown (cond b (x.number ∷ filter p (map (λ (l : RunLine). l.number) xs)) (filter p (map (λ (l : RunLine). l.number) xs))))
+    go : (b : Bool) → p x.number ≡ b → IsTable (map number_shown (filter p (map (λ (l : RunRow). l.number) xs))) → IsTable (map number_shown (cond b (x.number ∷ filter p (map (λ (l : RunRow). l.number) xs)) (filter p (map (λ (l : RunRow). l.number) xs))))
     go true picked more = (above picked, more)
     go false picked more = more
 
@@ -120,32 +120,32 @@ module _ (t : Tables) (db : Trees) (was : IsSaidBy t db) where
       let based : number_or_null it.0.baseline ≡ as_read was.far (number_or_null baseline) = sym (ap (λ l. column l 2) it.2.1) ∙ ap (as_read was.far) at.3 in
       (it.0, plain_has t.groups it.0 it.1, (bytes_eq-Decides it.0.name name).0 named, same_baseline was.far it.0.baseline baseline based)
 
-  -- ---- heads and own sums
+  -- ---- heads and self sums
 
   pub events_told : (run : ℕ) → run < 2 ^ 64 → (lines : List HeadEvent) → IsPermutation (events_in_rows run db) (map heads.event_columns lines) → IsPermutation (events_in_tables run t) (map heads.event_columns lines)
   events_told run low lines =
       permutes_read was.far heads.event_columns (event_plain was.far) (events_in_rows run db) (events_in_tables run t) lines
-      (picked_said (SaysBehind was.far run_event_at event_columns) was.far (is_at 1 (number run)) (λ (e : EventLine). e.run == run) (of_run t db was (SaysBehind was.far run_event_at event_columns) (λ e. e.run) (λ r x is. ap (λ l. column l 1) is.1) run low) event_seen event_shown
-      (λ r x is picked. ap event_seen is.1) (db 3) t.events (events_said t db was))
+      (picked_said (SaysBehind was.far run_event_at event_columns) was.far (is_at 1 (number run)) (λ (e : EventRow). e.run == run) (of_run t db was (SaysBehind was.far run_event_at event_columns) (λ e. e.run) (λ r x is. ap (λ l. column l 1) is.1) run low) event_seen event_shown
+      (λ r x is picked. ap event_seen is.1) (db 3) t.events (event_entries t db was))
 
   pub derived_told : (run : ℕ) → run < 2 ^ 64 → (lines : List HeadDerived) → IsPermutation (derived_in_rows run db) (map heads.derived_columns lines) → IsPermutation (derived_in_tables run t) (map heads.derived_columns lines)
   derived_told run low lines =
       permutes_read was.far heads.derived_columns (λ d. refl) (derived_in_rows run db) (derived_in_tables run t) lines
-      (picked_said (SaysBehind was.far derived_at derived_columns) was.far (is_at 1 (number run)) (λ (d : DerivedLine). d.run == run) (of_run t db was (SaysBehind was.far derived_at derived_columns) (λ d. d.run) (λ r x is. ap (λ l. column l 1) is.1) run low) derived_seen derived_shown
-      (λ r x is picked. ap derived_seen is.1) (db 6) t.derived (derived_said t db was))
+      (picked_said (SaysBehind was.far derived_at derived_columns) was.far (is_at 1 (number run)) (λ (d : DerivedRow). d.run == run) (of_run t db was (SaysBehind was.far derived_at derived_columns) (λ d. d.run) (λ r x is. ap (λ l. column l 1) is.1) run low) derived_seen derived_shown
+      (λ r x is picked. ap derived_seen is.1) (db 6) t.derived (derived_entries t db was))
 
   pub coefs_told : (run : ℕ) → run < 2 ^ 64 → (lines : List HeadCoef) → IsPermutation (coefs_in_rows run db) (map heads.coef_columns lines) → IsPermutation (coefs_in_tables run t) (map heads.coef_columns lines)
   coefs_told run low lines =
       permutes_read was.far heads.coef_columns (λ c. refl) (coefs_in_rows run db) (coefs_in_tables run t) lines
-      (picked_said (SaysBehind was.far coef_at coef_columns) was.far (is_at 1 (number run)) (λ (c : CoefLine). c.run == run) (of_run t db was (SaysBehind was.far coef_at coef_columns) (λ c. c.run) (λ r x is. ap (λ l. column l 1) is.1) run low) coef_seen coef_shown
-      (λ r x is picked. ap coef_seen is.1) (db 9) t.coefs (coefs_said t db was))
+      (picked_said (SaysBehind was.far coef_at coef_columns) was.far (is_at 1 (number run)) (λ (c : CoefRow). c.run == run) (of_run t db was (SaysBehind was.far coef_at coef_columns) (λ c. c.run) (λ r x is. ap (λ l. column l 1) is.1) run low) coef_seen coef_shown
+      (λ r x is picked. ap coef_seen is.1) (db 9) t.coefs (coef_entries t db was))
 
-  pub sums_told : (run : ℕ) → run < 2 ^ 64 → (sums : List ℕ) → AreOwnSumsAt run db sums → AreOwnSums (events_of_run run t) sums
+  pub sums_told : (run : ℕ) → run < 2 ^ 64 → (sums : List ℕ) → AreSelfSumsAt run db sums → AreSelfSums (events_of_run run t) sums
   sums_told run low sums found =
-      own_told (events_of_run run t) sums
-      (permutes_read was.far sum_columns (λ s. refl) (map own_seen (filter (is_at 1 (number run)) (db 3))) (map own_shown (events_of_run run t)) (sums_from 0 sums)
-      (picked_said (SaysBehind was.far run_event_at event_columns) was.far (is_at 1 (number run)) (λ (e : EventLine). e.run == run) (of_run t db was (SaysBehind was.far run_event_at event_columns) (λ e. e.run) (λ r x is. ap (λ l. column l 1) is.1) run low) own_seen own_shown
-      (λ r x is picked. ap own_seen is.1) (db 3) t.events (events_said t db was)) found)
+      self_told (events_of_run run t) sums
+      (permutes_read was.far sum_columns (λ s. refl) (map self_seen (filter (is_at 1 (number run)) (db 3))) (map self_shown (events_of_run run t)) (sums_from 0 sums)
+      (picked_said (SaysBehind was.far run_event_at event_columns) was.far (is_at 1 (number run)) (λ (e : EventRow). e.run == run) (of_run t db was (SaysBehind was.far run_event_at event_columns) (λ e. e.run) (λ r x is. ap (λ l. column l 1) is.1) run low) self_seen self_shown
+      (λ r x is picked. ap self_seen is.1) (db 3) t.events (event_entries t db was)) found)
 
   -- ---- names
 
@@ -164,8 +164,8 @@ module _ (t : Tables) (db : Trees) (was : IsSaidBy t db) where
 
   runs_are : map (values_read was.far) (numbers_in_rows db) ≡ map number_shown (numbers_in_tables t)
   runs_are =
-      seen_said (Says was.far run_at run_columns) was.far first_one (λ (r : RunLine). number_shown r.number) (λ r x is. ap first_one is) (db 1) t.runs (runs_said t db was)
-      ∙ sym (map-map number_shown (λ (r : RunLine). r.number) t.runs)
+      seen_said (Says was.far run_at run_columns) was.far first_one (λ (r : RunRow). number_shown r.number) (λ r x is. ap first_one is) (db 1) t.runs (runs_said t db was)
+      ∙ sym (map-map number_shown (λ (r : RunRow). r.number) t.runs)
 
   -- and so do numbers that rise
   pub numbers_in_order : (numbers : List ℕ) → Rise numbers → IsPermutation (numbers_in_rows db) (map number_shown numbers) → numbers ≡ numbers_in_tables t
@@ -174,7 +174,7 @@ module _ (t : Tables) (db : Trees) (was : IsSaidBy t db) where
       (sym (shown_read was.far number_shown (λ n. refl) numbers) ∙ sym (ap (map (values_read was.far)) (same_permuted (numbers_in_rows db) (map number_shown numbers) runs_rise (risen numbers up) same)) ∙ runs_are)
 
   -- the run of a member is held
-  member_held : (m : MemberLine) → Has t.members m → (r : RunLine) × Has t.runs r × (r.number ≡ m.run)
+  member_held : (m : MemberRow) → Has t.members m → (r : RunRow) × Has t.runs r × (r.number ≡ m.run)
   unfolding first_key
   member_held m there =
       let at = row_of_line (SaysBehind was.far member_at member_columns) (db 21) t.members (members_said t db was) m there in
@@ -196,10 +196,10 @@ module _ (t : Tables) (db : Trees) (was : IsSaidBy t db) where
       other_is false b none one = one
 
   module _ (name : List ℕ) where
-    abbrev of_group : MemberLine → Bool
+    abbrev of_group : MemberRow → Bool
     of_group m = bytes_eq m.group name
 
-    abbrev shows : MemberLine → Row
+    abbrev shows : MemberRow → Row
     shows m = number_shown m.run
 
     -- the members of a group, as rows
@@ -216,7 +216,7 @@ module _ (t : Tables) (db : Trees) (was : IsSaidBy t db) where
         let run = member_held m.0 k.0 in
         let here : eqb m.0.run m.0.run ≡ true = grind (arith, nat_tests) in
         let is : has_member t name m.0.run ≡ true = some_from (is_member name m.0.run) t.members m.0 k.0 (and_from _ _ k.1 here) in
-        let listed : Has (numbers_in_tables t) m.0.run = subst (Has (numbers_in_tables t)) run.2 (mapped_has (λ (l : RunLine). l.number) t.runs run.0 run.1) in
+        let listed : Has (numbers_in_tables t) m.0.run = subst (Has (numbers_in_tables t)) run.2 (mapped_has (λ (l : RunRow). l.number) t.runs run.0 run.1) in
         subst (Has (map number_shown (members_in_tables name t))) (sym m.2) (mapped_has number_shown (members_in_tables name t) m.0.run (kept_has (has_member t name) (numbers_in_tables t) m.0.run listed is))
 
     -- and the other way round

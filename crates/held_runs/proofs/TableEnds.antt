@@ -37,7 +37,7 @@ IsWhole o = column o.0 0 ≡ Int (number o)
 
 -- a key by which one integer may stand before another only if it is at most that, in an order of integers
 module _ (tree : ℕ) (k : Key) (AtMost : ℤ → ℤ → Type 0) (self : (x : ℤ) → AtMost x x) (trans : (x y z : ℤ) → AtMost x y → AtMost y z → AtMost x z)
-    (stands : (x y : ℤ) → is_lt (ordering_then (by_key k (Int y) (Int x)) Equal) ≡ false → AtMost x y) where
+    (represents : (x y : ℤ) → is_lt (ordering_then (by_key k (Int y) (Int x)) Equal) ≡ false → AtMost x y) where
   abbrev order : List (Term × Key)
   order = (col 1 0, k) ∷ []
 
@@ -48,7 +48,7 @@ module _ (tree : ℕ) (k : Key) (AtMost : ℤ → ℤ → Type 0) (self : (x : �
   before x y = is_lt (output_cmp (sorted_scan tree [] end_shown order) y x) ≡ false
 
   at_most : (x y : Output) → IsWhole x → IsWhole y → before x y → AtMost (number x) (number y)
-  at_most x y one two h = stands (number x) (number y) (subst₂ (λ v w. is_lt (ordering_then (by_key k w v) Equal) ≡ false) one two h)
+  at_most x y one two h = represents (number x) (number y) (subst₂ (λ v w. is_lt (ordering_then (by_key k w v) Equal) ≡ false) one two h)
 
   later_sorted : (x : Output) (xs : List Output) → IsSorted (output_cmp (sorted_scan tree [] end_shown order)) (x ∷ xs) → IsSorted (output_cmp (sorted_scan tree [] end_shown order)) xs
   later_sorted x xs h j d low within =

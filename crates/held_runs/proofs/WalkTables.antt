@@ -15,33 +15,33 @@ use Rattle.sql_tables.proofs.Windows.{window_params, window_found}
 use Rattle.sql_tables.proofs.Ends.{none_there, ends_found}
 use Rattle.sql_tables.proofs.Walks.{lie_nowhere}
 use Rattle.store_schema.specs.Schema.{schema_two, thread_cell_at, arc_at, stack_at}
-use Rattle.store_schema.specs.WalkTexts.{cell_window_sql, cell_ends_sql, cells_of, arc_window_sql, arc_ends_sql, arcs_of, stack_window_sql, stack_ends_sql, stacks_of}
+use Rattle.store_schema.specs.WalkTexts.{cell_window_sql, cell_ends_sql, cells_of, arc_window_sql, arc_ends_sql, calls_of, stack_window_sql, stack_ends_sql, stacks_of}
 use Rattle.store_schema.proofs.WalkTexts.{cell_window_means, cell_window_plain, cell_window_unlisted, cell_ends_means, cell_ends_plain, cell_ends_unlisted, arc_window_means, arc_window_plain, arc_window_unlisted, arc_ends_means, arc_ends_plain, arc_ends_unlisted, stack_window_means, stack_window_plain, stack_window_unlisted, stack_ends_means, stack_ends_plain, stack_ends_unlisted}
 use Rattle.held_runs.specs.declared.walks.Listed.{Listed}
-use Rattle.held_runs.specs.declared.walks.Listed.TheVariants.{Cells, Arcs, Stacks}
+use Rattle.held_runs.specs.declared.walks.Listed.TheVariants.{Cells, Calls, Stacks}
 use Rattle.held_runs.specs.declared.walks.End.{End}
 use Rattle.held_runs.specs.declared.walks.End.TheVariants.{First, Last}
 use Rattle.held_runs.specs.declared.walks.Span.{Span}
 use Rattle.held_runs.specs.Walks.{tree_of, window_sql_of, ends_sql_of, end_sql_of, asked, page_of, IsEnd, IsSpanIn, IsReady}
-use Rattle.held_runs.specs.RunTexts.{first_cell_sql, last_cell_sql, first_arc_sql, last_arc_sql, first_stack_sql, last_stack_sql}
-use Rattle.held_runs.proofs.RunTexts.{end_shown, down_by_rowid, first_cell_means, first_cell_plain, first_cell_unlisted, last_cell_means, last_cell_plain, last_cell_unlisted, first_arc_means, first_arc_plain, first_arc_unlisted, last_arc_means, last_arc_plain, last_arc_unlisted, first_stack_means, first_stack_plain, first_stack_unlisted, last_stack_means, last_stack_plain, last_stack_unlisted}
+use Rattle.held_runs.specs.RunTexts.{first_cell_sql, last_cell_sql, first_call_sql, last_call_sql, first_stack_sql, last_stack_sql}
+use Rattle.held_runs.proofs.RunTexts.{end_shown, down_by_rowid, first_cell_means, first_cell_plain, first_cell_unlisted, last_cell_means, last_cell_plain, last_cell_unlisted, first_call_means, first_call_plain, first_call_unlisted, last_call_means, last_call_plain, last_call_unlisted, first_stack_means, first_stack_plain, first_stack_unlisted, last_stack_means, last_stack_plain, last_stack_unlisted}
 use Rattle.held_runs.proofs.TableEnds.{all_above, all_within}
 
 window_plain : (table : Listed) → IsPlain (understood schema_two (window_sql_of table))
 window_plain Cells = cell_window_plain
-window_plain Arcs = arc_window_plain
+window_plain Calls = arc_window_plain
 window_plain Stacks = stack_window_plain
 
 ends_plain : (table : Listed) → IsPlain (understood schema_two (ends_sql_of table))
 ends_plain Cells = cell_ends_plain
-ends_plain Arcs = arc_ends_plain
+ends_plain Calls = arc_ends_plain
 ends_plain Stacks = stack_ends_plain
 
 end_plain : (table : Listed) (end : End) → IsPlain (understood schema_two (end_sql_of table end))
 end_plain Cells First = first_cell_plain
 end_plain Cells Last = last_cell_plain
-end_plain Arcs First = first_arc_plain
-end_plain Arcs Last = last_arc_plain
+end_plain Calls First = first_call_plain
+end_plain Calls Last = last_call_plain
 end_plain Stacks First = first_stack_plain
 end_plain Stacks Last = last_stack_plain
 
@@ -62,10 +62,10 @@ window_is Cells run low high old new rows was h up =
     let a = cells_of run in
     let s = selected schema_two cell_window_sql thread_cell_at.tree (window_terms 1) (columns_at (0 ∷ a.places)) by_rowid _ cell_window_means cell_window_plain cell_window_unlisted old new was.schema_is refl (window_params a low high) rows h in
     window_found a thread_cell_at.tree low high (old.now.trees thread_cell_at.tree) rows (was.numbered Cells) s up
-window_is Arcs run low high old new rows was h up =
-    let a = arcs_of run in
+window_is Calls run low high old new rows was h up =
+    let a = calls_of run in
     let s = selected schema_two arc_window_sql arc_at.tree (window_terms 1) (columns_at (0 ∷ a.places)) by_rowid _ arc_window_means arc_window_plain arc_window_unlisted old new was.schema_is refl (window_params a low high) rows h in
-    window_found a arc_at.tree low high (old.now.trees arc_at.tree) rows (was.numbered Arcs) s up
+    window_found a arc_at.tree low high (old.now.trees arc_at.tree) rows (was.numbered Calls) s up
 window_is Stacks run low high old new rows was h up =
     let a = stacks_of run in
     let s = selected schema_two stack_window_sql stack_at.tree (window_terms 1) (columns_at (0 ∷ a.places)) by_rowid _ stack_window_means stack_window_plain stack_window_unlisted old new was.schema_is refl (window_params a low high) rows h in
@@ -82,14 +82,14 @@ module _ (run : ℕ) (old new : State) (row : Row) (was : IsReady old) where
   -- NULL says that a run has no row
   none_is : (table : Listed) → QueriesRow (ends_sql_of table) (Int (pos run) ∷ []) old new (Ok row) → column row 0 ≡ Null → (r : Row) → Has (old.now.trees (tree_of table)) r → is_asked (asked table run) r ≡ false
   none_is Cells h = none_there schema_two cell_ends_sql (cells_of run) thread_cell_at.tree _ cell_ends_means cell_ends_plain cell_ends_unlisted old new was.schema_is refl (was.numbered Cells) row h
-  none_is Arcs h = none_there schema_two arc_ends_sql (arcs_of run) arc_at.tree _ arc_ends_means arc_ends_plain arc_ends_unlisted old new was.schema_is refl (was.numbered Arcs) row h
+  none_is Calls h = none_there schema_two arc_ends_sql (calls_of run) arc_at.tree _ arc_ends_means arc_ends_plain arc_ends_unlisted old new was.schema_is refl (was.numbered Calls) row h
   none_is Stacks h = none_there schema_two stack_ends_sql (stacks_of run) stack_at.tree _ stack_ends_means stack_ends_plain stack_ends_unlisted old new was.schema_is refl (was.numbered Stacks) row h
 
   -- and two numbers where its rows lie
   some_is : (table : Listed) → QueriesRow (ends_sql_of table) (Int (pos run) ∷ []) old new (Ok row) → (span : Span) → (column row 0 ≡ Int (pos (span.low + 1))) × (column row 1 ≡ Int (pos span.top))
       → Lie (asked table run) (old.now.trees (tree_of table)) span.low span.top
   some_is Cells h span is = ends_found schema_two cell_ends_sql (cells_of run) thread_cell_at.tree _ cell_ends_means cell_ends_plain cell_ends_unlisted old new was.schema_is refl (was.numbered Cells) row h span.low span.top is.0 is.1
-  some_is Arcs h span is = ends_found schema_two arc_ends_sql (arcs_of run) arc_at.tree _ arc_ends_means arc_ends_plain arc_ends_unlisted old new was.schema_is refl (was.numbered Arcs) row h span.low span.top is.0 is.1
+  some_is Calls h span is = ends_found schema_two arc_ends_sql (calls_of run) arc_at.tree _ arc_ends_means arc_ends_plain arc_ends_unlisted old new was.schema_is refl (was.numbered Calls) row h span.low span.top is.0 is.1
   some_is Stacks h span is = ends_found schema_two stack_ends_sql (stacks_of run) stack_at.tree _ stack_ends_means stack_ends_plain stack_ends_unlisted old new was.schema_is refl (was.numbered Stacks) row h span.low span.top is.0 is.1
 
   pub span_is : (table : Listed) → QueriesRow (ends_sql_of table) (Int (pos run) ∷ []) old new (Ok row) → (span : Span) → IsSpanIn row span → Lie (asked table run) (old.now.trees (tree_of table)) span.low span.top
@@ -107,12 +107,12 @@ module _ (old new : State) (row : Row) (was : IsReady old) where
   end_is Cells Last h id is =
       let s = selected_first schema_two last_cell_sql thread_cell_at.tree [] end_shown down_by_rowid _ last_cell_means last_cell_plain last_cell_unlisted old new was.schema_is refl [] row h in
       all_within thread_cell_at.tree (old.now.trees thread_cell_at.tree) (was.numbered Cells) row s.0 id s.1 is
-  end_is Arcs First h id is = λ low next.
-      let s = selected_first schema_two first_arc_sql arc_at.tree [] end_shown by_rowid _ first_arc_means first_arc_plain first_arc_unlisted old new was.schema_is refl [] row h in
-      all_above arc_at.tree (old.now.trees arc_at.tree) (was.numbered Arcs) row s.0 low s.1 (is ∙ ap (λ n. Int (pos n)) next)
-  end_is Arcs Last h id is =
-      let s = selected_first schema_two last_arc_sql arc_at.tree [] end_shown down_by_rowid _ last_arc_means last_arc_plain last_arc_unlisted old new was.schema_is refl [] row h in
-      all_within arc_at.tree (old.now.trees arc_at.tree) (was.numbered Arcs) row s.0 id s.1 is
+  end_is Calls First h id is = λ low next.
+      let s = selected_first schema_two first_call_sql arc_at.tree [] end_shown by_rowid _ first_call_means first_call_plain first_call_unlisted old new was.schema_is refl [] row h in
+      all_above arc_at.tree (old.now.trees arc_at.tree) (was.numbered Calls) row s.0 low s.1 (is ∙ ap (λ n. Int (pos n)) next)
+  end_is Calls Last h id is =
+      let s = selected_first schema_two last_call_sql arc_at.tree [] end_shown down_by_rowid _ last_call_means last_call_plain last_call_unlisted old new was.schema_is refl [] row h in
+      all_within arc_at.tree (old.now.trees arc_at.tree) (was.numbered Calls) row s.0 id s.1 is
   end_is Stacks First h id is = λ low next.
       let s = selected_first schema_two first_stack_sql stack_at.tree [] end_shown by_rowid _ first_stack_means first_stack_plain first_stack_unlisted old new was.schema_is refl [] row h in
       all_above stack_at.tree (old.now.trees stack_at.tree) (was.numbered Stacks) row s.0 low s.1 (is ∙ ap (λ n. Int (pos n)) next)

@@ -8,22 +8,22 @@ use Rattle.sqlite_trees.specs.Tree.{Trees}
 use Rattle.cg_formulas.specs.declared.heads.FileHead.{FileHead}
 use Rattle.store_schema.specs.Seen.{is_at}
 use Rattle.plain_tables.specs.Tables.{Tables}
-use Rattle.prof_books.specs.HeldHeads.{CoefSaid, EventSaid, IsSound, PlacedName, coefs_said, derived_said, events_said}
+use Rattle.prof_books.specs.HeldHeads.{CoefEntry, EventEntry, IsSound, PlacedName, coef_entries, derived_entries, event_entries}
 use Rattle.store_schema.specs.Tables.{number, text_or_null}
-use Rattle.held_runs.specs.HeadLines.{events_in_tables, derived_in_tables, coefs_in_tables, events_in_rows, derived_in_rows, coefs_in_rows}
-use Rattle.held_runs.specs.declared.head_lines.HeadEvent.{HeadEvent}
-use Rattle.held_runs.specs.declared.head_lines.HeadDerived.{HeadDerived}
-use Rattle.held_runs.specs.declared.head_lines.HeadCoef.{HeadCoef}
+use Rattle.held_runs.specs.HeadRows.{events_in_tables, derived_in_tables, coefs_in_tables, events_in_rows, derived_in_rows, coefs_in_rows}
+use Rattle.held_runs.specs.declared.head_rows.HeadEvent.{HeadEvent}
+use Rattle.held_runs.specs.declared.head_rows.HeadDerived.{HeadDerived}
+use Rattle.held_runs.specs.declared.head_rows.HeadCoef.{HeadCoef}
 
 -- ---- what is said, as rows
 
-abbrev pub said_columns : EventSaid → Row
-said_columns e = number e.place ∷ Blob e.name ∷ text_or_null e.stated ∷ []
+abbrev pub entry_columns : EventEntry → Row
+entry_columns e = number e.place ∷ Blob e.name ∷ text_or_null e.stated ∷ []
 
 abbrev pub name_columns : PlacedName → Row
 name_columns p = number p.place ∷ Blob p.name ∷ []
 
-abbrev pub times_columns : CoefSaid → Row
+abbrev pub times_columns : CoefEntry → Row
 times_columns c = number c.place ∷ number c.event ∷ number c.times ∷ []
 
 -- ---- the head
@@ -31,9 +31,9 @@ times_columns c = number c.place ∷ number c.event ∷ number c.times ∷ []
 -- it is what these rows say: of events, of derived events, and of coefficients
 pub record IsHeadOf (head : FileHead) (events derived coefs : List Row) : Type 0 where
   pub sound : IsSound head
-  pub events_are : IsPermutation events (map said_columns (events_said head))
-  pub derived_are : IsPermutation derived (map name_columns (derived_said head))
-  pub coefs_are : IsPermutation coefs (map times_columns (coefs_said head))
+  pub events_are : IsPermutation events (map entry_columns (event_entries head))
+  pub derived_are : IsPermutation derived (map name_columns (derived_entries head))
+  pub coefs_are : IsPermutation coefs (map times_columns (coef_entries head))
 
 -- ---- the lines that are read
 
@@ -47,21 +47,21 @@ event_total e = option_map string_bytes e.stated
 abbrev pub States : List HeadEvent → Option (List ℕ) → Type 0
 States lines stated = MatchOption stated (All (λ (line : HeadEvent). line.stated ≡ None) lines) (λ sums. map event_total lines ≡ map (λ n. Some (decimal n)) sums)
 
-abbrev pub event_line_said : HeadEvent → EventSaid
-event_line_said e = record { place = e.place; name = e.name.items; stated = option_map string_bytes e.stated }
+abbrev pub entry_of_event : HeadEvent → EventEntry
+entry_of_event e = record { place = e.place; name = e.name.items; stated = option_map string_bytes e.stated }
 
 abbrev pub derived_place : HeadDerived → PlacedName
 derived_place d = record { place = d.place; name = d.name.items }
 
-abbrev pub coef_line_said : HeadCoef → CoefSaid
-coef_line_said c = record { place = c.place; event = c.event; times = c.times }
+abbrev pub entry_of_coef : HeadCoef → CoefEntry
+entry_of_coef c = record { place = c.place; event = c.event; times = c.times }
 
 -- it is what these lines say
 pub record IsReadFrom (head : FileHead) (events : List HeadEvent) (derived : List HeadDerived) (coefs : List HeadCoef) : Type 0 where
   pub sound : IsSound head
-  pub events_are : map event_line_said events ≡ events_said head
-  pub derived_are : map derived_place derived ≡ derived_said head
-  pub coefs_are : map coef_line_said coefs ≡ coefs_said head
+  pub events_are : map entry_of_event events ≡ event_entries head
+  pub derived_are : map derived_place derived ≡ derived_entries head
+  pub coefs_are : map entry_of_coef coefs ≡ coef_entries head
 
 -- ---- in the tables
 

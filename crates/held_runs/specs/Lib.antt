@@ -1,11 +1,11 @@
-pub mod HeadLines
-pub mod HeldArcs
+pub mod HeadRows
+pub mod HeldCalls
 pub mod HeldCells
 pub mod HeldHeads
 pub mod HeldStacks
 pub mod Lookups
-pub mod NameLines
-pub mod OwnSums
+pub mod NameRows
+pub mod SelfSums
 pub mod RunNumbers
 pub mod RunTexts
 pub mod Walks

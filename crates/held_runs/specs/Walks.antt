@@ -9,45 +9,45 @@ use Rattle.sqlite_rules.specs.Lists.{Has}
 use Rattle.sqlite.specs.State.{State}
 use Rattle.sql_tables.specs.Walks.{Asked, Lie, Reads, HasReadAll, in_page, in_window, is_above, is_within}
 use Rattle.store_schema.specs.Schema.{schema_two, thread_cell_at, arc_at, stack_at}
-use Rattle.store_schema.specs.WalkTexts.{cell_window_sql, cell_ends_sql, cells_of, arc_window_sql, arc_ends_sql, arcs_of, stack_window_sql, stack_ends_sql, stacks_of}
+use Rattle.store_schema.specs.WalkTexts.{cell_window_sql, cell_ends_sql, cells_of, arc_window_sql, arc_ends_sql, calls_of, stack_window_sql, stack_ends_sql, stacks_of}
 use Rattle.prof_store.specs.declared.store.Store.{Store}
 use Rattle.plain_tables.specs.declared.errors.StoreError.{StoreError}
 use Rattle.held_runs.specs.declared.walks.Listed.{Listed}
-use Rattle.held_runs.specs.declared.walks.Listed.TheVariants.{Cells, Arcs, Stacks}
+use Rattle.held_runs.specs.declared.walks.Listed.TheVariants.{Cells, Calls, Stacks}
 use Rattle.held_runs.specs.declared.walks.End.{End}
 use Rattle.held_runs.specs.declared.walks.End.TheVariants.{First, Last}
 use Rattle.held_runs.specs.declared.walks.Span.{Span}
 use Rattle.held_runs.specs.declared.walks.Walk.{Walk}
-use Rattle.held_runs.specs.RunTexts.{first_cell_sql, last_cell_sql, first_arc_sql, last_arc_sql, first_stack_sql, last_stack_sql}
+use Rattle.held_runs.specs.RunTexts.{first_cell_sql, last_cell_sql, first_call_sql, last_call_sql, first_stack_sql, last_stack_sql}
 use Rattle.prof_store.specs.Shown.{Asks, IsFaithful, shown}
 
 abbrev pub tree_of : Listed → ℕ
 tree_of Cells = thread_cell_at.tree
-tree_of Arcs = arc_at.tree
+tree_of Calls = arc_at.tree
 tree_of Stacks = stack_at.tree
 
 abbrev pub window_sql_of : Listed → List ℕ
 window_sql_of Cells = cell_window_sql
-window_sql_of Arcs = arc_window_sql
+window_sql_of Calls = arc_window_sql
 window_sql_of Stacks = stack_window_sql
 
 abbrev pub ends_sql_of : Listed → List ℕ
 ends_sql_of Cells = cell_ends_sql
-ends_sql_of Arcs = arc_ends_sql
+ends_sql_of Calls = arc_ends_sql
 ends_sql_of Stacks = stack_ends_sql
 
 abbrev pub end_sql_of : Listed → End → List ℕ
 end_sql_of Cells First = first_cell_sql
 end_sql_of Cells Last = last_cell_sql
-end_sql_of Arcs First = first_arc_sql
-end_sql_of Arcs Last = last_arc_sql
+end_sql_of Calls First = first_call_sql
+end_sql_of Calls Last = last_call_sql
 end_sql_of Stacks First = first_stack_sql
 end_sql_of Stacks Last = last_stack_sql
 
 -- the rows of a run, and of each its columns
 abbrev pub asked : Listed → ℕ → Asked
 asked Cells = cells_of
-asked Arcs = arcs_of
+asked Calls = calls_of
 asked Stacks = stacks_of
 
 -- what a window shows of the rows of a table

@@ -1,14 +1,14 @@
 // The rows of a run's calls, made of their lines.
 ghost use Rattle.std.specs.Prelude.{◌≡◌, ◌≤◌, ◌++◌, ◌∷◌, [], IfOk, OnOk, IsTrue, length};
-ghost use Rattle.prof_books.specs.Book.{ArcIsNamed};
+ghost use Rattle.prof_books.specs.Book.{CallIsNamed};
 ghost use Rattle.run_stores.specs.Walks.{plain_given};
-ghost use Rattle.held_runs.specs.HeldArcs.{lines_from, part_line, row_of};
-ghost use Rattle.store_schema.specs.Lines.{arc_line};
+ghost use Rattle.held_runs.specs.HeldCalls.{lines_from, part_line, row_of};
+ghost use Rattle.store_schema.specs.Lines.{call_row};
 
 use crate::held_names::HeldNames;
 use cg_text::ListVec;
-use cost_rows::ArcRow;
-use store_schema::{ArcLine, OutOfForm, StoreError};
+use cost_rows::CallEdge;
+use store_schema::{CallRow, OutOfForm, StoreError};
 
 /// Adds zeros, up to a length.
 fn fill(costs: &mut ListVec<u128>, len: usize) -> Result<(), StoreError>
@@ -26,7 +26,7 @@ fn fill(costs: &mut ListVec<u128>, len: usize) -> Result<(), StoreError>
 /// Adds a part at its column, and a 0 for each column before it that has none.
 pub(crate) fn add_part(
     costs: &mut ListVec<u128>,
-    line: &ArcLine,
+    line: &CallRow,
     events: usize,
 ) -> Result<(), StoreError>
     ensures lines { OnOk result ((first : _) → lines_from first 1 costs.new ≡ lines_from first 1 costs.old ++ part_line first line.now.part line.now.sum ∷ []) }
@@ -54,8 +54,8 @@ pub(crate) fn filled(mut costs: ListVec<u128>, events: usize) -> Result<ListVec<
 }
 
 /// Whether a line has a part of the same calls.
-pub(crate) fn is_part_of(first: &ArcLine, line: &ArcLine) -> bool
-    ensures { IsTrue result → arc_line line.now ≡ part_line (arc_line first.now) line.now.part line.now.sum }
+pub(crate) fn is_part_of(first: &CallRow, line: &CallRow) -> bool
+    ensures { IsTrue result → call_row line.now ≡ part_line (call_row first.now) line.now.part line.now.sum }
 {
     first.run == line.run
         && first.object == line.object
@@ -68,13 +68,13 @@ pub(crate) fn is_part_of(first: &ArcLine, line: &ArcLine) -> bool
 }
 
 /// A row of calls with its names, which have to be held.
-pub(crate) fn arc_row<'a>(
-    first: &ArcLine,
+pub(crate) fn call_edge<'a>(
+    first: &CallRow,
     names: &'a HeldNames,
     costs: ListVec<u128>,
-) -> Result<ArcRow<&'a [u8], ListVec<u128>>, OutOfForm>
-    ensures row { IfOk result (λ row. plain_given row ≡ row_of names.now (arc_line first.now) costs) }
-    ensures named { OnOk result (ArcIsNamed names.now (arc_line first.now)) }
+) -> Result<CallEdge<&'a [u8], ListVec<u128>>, OutOfForm>
+    ensures row { IfOk result (λ row. plain_given row ≡ row_of names.now (call_row first.now) costs) }
+    ensures named { OnOk result (CallIsNamed names.now (call_row first.now)) }
 {
     let object = names.held(first.object)?;
     let file = names.held(first.file)?;
@@ -82,7 +82,7 @@ pub(crate) fn arc_row<'a>(
     let called_object = names.held(first.called_object)?;
     let called_file = names.held(first.called_file)?;
     let called_function = names.held(first.called_function)?;
-    Ok(ArcRow {
+    Ok(CallEdge {
         object,
         file,
         function,

@@ -3,14 +3,14 @@ ghost use Rattle.std.specs.Prelude.{◌≡◌, IfOk};
 ghost use Rattle.sql_tables.specs.Walks.{read_from};
 ghost use Rattle.store_schema.specs.Tables.{cell_columns};
 ghost use Rattle.store_schema.specs.WalkTexts.{cells_of};
-ghost use Rattle.store_schema.specs.Lines.{cell_line};
+ghost use Rattle.store_schema.specs.Lines.{cell_row};
 
 use sqlite::Row;
-use store_schema::{CellLine, OutOfForm, number_at, whole_at};
+use store_schema::{CellRow, OutOfForm, number_at, whole_at};
 
 /// Reads a row of a page, behind its rowid.
-pub(crate) fn read_cell(run: u32, row: &Row) -> Result<CellLine, OutOfForm>
-    ensures { IfOk result (λ line. cell_columns (cell_line line) ≡ read_from (cells_of run) row.now) }
+pub(crate) fn read_cell(run: u32, row: &Row) -> Result<CellRow, OutOfForm>
+    ensures { IfOk result (λ line. cell_columns (cell_row line) ≡ read_from (cells_of run) row.now) }
 {
     let thread = whole_at(row, 1)?;
     let object = number_at(row, 2)?;
@@ -19,7 +19,7 @@ pub(crate) fn read_cell(run: u32, row: &Row) -> Result<CellLine, OutOfForm>
     let line = whole_at(row, 5)?;
     let event = number_at(row, 6)?;
     let cost = whole_at(row, 7)?;
-    Ok(CellLine {
+    Ok(CellRow {
         run,
         object,
         file,

@@ -1,29 +1,29 @@
 // The calls of a run, handed on row by row, with names in place.
 ghost use Rattle.std.specs.Prelude.{◌≡◌, ◌≢◌, List, None, OnOk, IfOk, IfErr};
 ghost use Rattle.std.specs.Result.{is_ok};
-ghost use Rattle.plain_tables.specs.RunLines.{arcs_in};
-ghost use Rattle.plain_tables.specs.Tables.{ArcLine as Arc};
+ghost use Rattle.plain_tables.specs.RunRows.{calls_in};
+ghost use Rattle.plain_tables.specs.Tables.{CallRow as Call};
 ghost use Rattle.prof_store.specs.Shown.{Told};
-ghost use Rattle.run_stores.specs.Walks.{CallsCameTo};
-ghost use Rattle.held_runs.specs.HeldArcs.{CallsCameFrom, HasTakenCalls};
-ghost use Rattle.held_runs.specs.declared.walks.Listed.TheVariants.{Arcs};
+ghost use Rattle.run_stores.specs.Walks.{CallsFoldTo};
+ghost use Rattle.held_runs.specs.HeldCalls.{CallsFoldFrom, HasTakenCalls};
+ghost use Rattle.held_runs.specs.declared.walks.Listed.TheVariants.{Calls};
 ghost use Rattle.held_runs.specs.Walks.{rows_of, AsksIfOpen, OfReady};
 
-use crate::arc_lines::read_arc;
-use crate::call_rows::{add_part, arc_row, filled, is_part_of};
+use crate::call_lines::read_call;
+use crate::call_rows::{add_part, call_edge, filled, is_part_of};
 use crate::held_names::HeldNames;
-use crate::lines::{TakesLines, each_line};
+use crate::lines::{RowSink, each_line};
 use crate::walks::Listed;
 use cg_text::ListVec;
 use prof_store::Store;
-use run_stores::TakesCalls;
+use run_stores::CallSink;
 use sqlite::{Alter, Row};
 use std::alloc::Global;
 use std::mem;
-use store_schema::{ArcLine, OutOfForm, StoreError};
+use store_schema::{CallRow, OutOfForm, StoreError};
 
 /// Refuses a row of calls whose first line is not their count, part 0.
-fn check_first(line: &ArcLine) -> Result<(), OutOfForm>
+fn check_first(line: &CallRow) -> Result<(), OutOfForm>
     ensures first { OnOk result (line.now.part ≡ 0) }
     ensures refused { IfErr result (λ _. line.now.part ≢ 0) }
 {
@@ -41,61 +41,61 @@ struct CallLines<'n, T> {
     alloc: Global,
     events: usize,
     /// The line with the count of the row that is not handed on yet.
-    first: Option<ArcLine>,
+    first: Option<CallRow>,
     /// Its costs.
     costs: ListVec<u128>,
-    taker: T,
+    sink: T,
 }
 
-impl<T: TakesCalls> CallLines<'_, T> {
+impl<T: CallSink> CallLines<'_, T> {
     /// Hands on the row that waits, if there is one.
     fn hand_on(&mut self) -> Result<(), StoreError>
         ensures same { (self.new.names.now ≡ self.old.names.now) × (self.new.events ≡ self.old.events) }
         ensures none { OnOk result (self.new.first ≡ None) }
-        ensures taken { OnOk result ((start : T.Meaning) (lines : List Arc)
-            → HasTakenCalls self.old.names.now self.old.events T.step start (T.meaning self.old.taker) self.old.first self.old.costs lines
-            → HasTakenCalls self.old.names.now self.old.events T.step start (T.meaning self.new.taker) self.new.first self.new.costs lines) }
+        ensures taken { OnOk result ((start : T.Meaning) (lines : List Call)
+            → HasTakenCalls self.old.names.now self.old.events T.step start (T.meaning self.old.sink) self.old.first self.old.costs lines
+            → HasTakenCalls self.old.names.now self.old.events T.step start (T.meaning self.new.sink) self.new.first self.new.costs lines) }
     {
         let Some(first) = self.first.take() else {
             return Ok(());
         };
         let costs = mem::replace(&mut self.costs, ListVec::new(self.alloc));
         let costs = filled(costs, self.events)?;
-        let row = arc_row(&first, self.names, costs)?;
-        self.taker.take(&row)
+        let row = call_edge(&first, self.names, costs)?;
+        self.sink.take(&row)
     }
 }
 
-impl<T: TakesCalls> TakesLines for CallLines<'_, T> {
+impl<T: CallSink> RowSink for CallLines<'_, T> {
     ghost use Rattle.std.specs.Prelude.{◌≡◌, ℕ, List};
-    ghost use Rattle.plain_tables.specs.RunLines.{arcs_in};
-    ghost use Rattle.plain_tables.specs.Tables.{NameLine, ArcLine as Arc};
+    ghost use Rattle.plain_tables.specs.RunRows.{calls_in};
+    ghost use Rattle.plain_tables.specs.Tables.{NameRow, CallRow as Call};
     ghost use Rattle.store_schema.specs.Tables.{arc_columns};
-    ghost use Rattle.prof_store.proofs.RunLines.{arcs_all};
-    ghost use Rattle.held_runs.specs.HeldArcs.{HasTakenCalls};
-    ghost use Rattle.held_runs.specs.declared.walks.Listed.TheVariants.{Arcs};
+    ghost use Rattle.prof_store.proofs.RunRows.{calls_all};
+    ghost use Rattle.held_runs.specs.HeldCalls.{HasTakenCalls};
+    ghost use Rattle.held_runs.specs.declared.walks.Listed.TheVariants.{Calls};
 
-    ghost listed = { Arcs };
+    ghost listed = { Calls };
 
-    ghost Line = { Arc };
+    ghost Line = { Call };
 
     ghost columns = { arc_columns };
 
-    ghost lines_in = { arcs_in };
+    ghost lines_in = { calls_in };
 
-    ghost Start = { List NameLine × ℕ × T.Meaning };
+    ghost Start = { List NameRow × ℕ × T.Meaning };
 
     ghost Has = { λ start lines s. (s.names.now ≡ start.0) × (s.events ≡ start.1)
-        × HasTakenCalls start.0 start.1 T.step start.2 (T.meaning s.taker) s.first s.costs lines };
+        × HasTakenCalls start.0 start.1 T.step start.2 (T.meaning s.sink) s.first s.costs lines };
 
     fn table() -> Listed
-        ensures { result ≡ Arcs }
+        ensures { result ≡ Calls }
     {
-        Listed::Arcs
+        Listed::Calls
     }
 
     fn take(&mut self, run: u32, row: &Row) -> Result<(), StoreError> {
-        let line = read_arc(run, row)?;
+        let line = read_call(run, row)?;
         if let Some(first) = &self.first
             && is_part_of(first, &line)
         {
@@ -107,25 +107,25 @@ impl<T: TakesCalls> TakesLines for CallLines<'_, T> {
         Ok(())
     }
 
-    ghost all_read = { arcs_all };
+    ghost all_read = { calls_all };
 }
 
 /// Hands on the calls of a run, row by row, with so many events and the names that `names` has: those of
 /// this store. What took them all is handed back. Errors: `Memory`; `Store` for a call of the database
 /// that fails, for rows out of form (parts without their count, parts that do not rise, a cost of 0 or of
 /// none of the events) and for a name that is not held; and those of the taker.
-pub fn each_call<S: Alter, T: TakesCalls + Drop>(
+pub fn each_call<S: Alter, T: CallSink + Drop>(
     store: &mut Store<S>,
     alloc: Global,
     run: u32,
     names: &HeldNames,
     events: usize,
-    taker: T,
+    sink: T,
 ) -> Result<T, StoreError>
     ensures found { OfReady S.Store store.old store.new (IfOk result (λ taken.
-        CallsCameFrom (rows_of S.Store Arcs store.new) run names.now events T.step (T.meaning taker) (T.meaning taken))) }
+        CallsFoldFrom (rows_of S.Store Calls store.new) run names.now events T.step (T.meaning sink) (T.meaning taken))) }
     ensures told { Told S.Store result store.old store.new (λ t taken.
-        CallsCameTo names.now events T.step (T.meaning taker) (T.meaning taken) (arcs_in run t)) }
+        CallsFoldTo names.now events T.step (T.meaning sink) (T.meaning taken) (calls_in run t)) }
     ensures asks { AsksIfOpen S.Store (is_ok result) store.old store.new }
 {
     let mut lines = CallLines {
@@ -134,7 +134,7 @@ pub fn each_call<S: Alter, T: TakesCalls + Drop>(
         events,
         first: None,
         costs: ListVec::new(alloc),
-        taker,
+        sink,
     };
     each_line(store, run, &mut lines)?;
     lines.hand_on()?;
@@ -144,7 +144,7 @@ pub fn each_call<S: Alter, T: TakesCalls + Drop>(
         events: _,
         first: _,
         costs: _,
-        taker,
+        sink,
     } = lines;
-    Ok(taker)
+    Ok(sink)
 }

@@ -5,7 +5,7 @@ ghost use Rattle.prof_books.specs.HeldHeads.{IsHeadIn};
 ghost use Rattle.held_runs.specs.HeldHeads.{IsHeadAt, IsReadIn, IsReadAt};
 ghost use Rattle.prof_store.specs.Shown.{Told, Found, Asks};
 
-use crate::head_lines::{coefs_of, derived_of, events_of};
+use crate::head_rows::{coefs_of, derived_of, events_of};
 use crate::heads_held::head_in;
 use cg_formulas::FileHead;
 use prof_store::Store;

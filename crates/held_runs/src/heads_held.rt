@@ -2,9 +2,9 @@
 ghost use Rattle.std.specs.Prelude.{◌≡◌, ◌≤◌, ◌++◌, [], ◌∷◌, map, take, length, Some, None, IfOk};
 ghost use Rattle.std.specs.Fmt.{decimal};
 ghost use Rattle.prof_books.specs.HeldHeads.{coefs_at, coefs_from, placed};
-ghost use Rattle.held_runs.specs.HeldHeads.{event_place, event_total, States, derived_place, coef_line_said, IsReadFrom};
+ghost use Rattle.held_runs.specs.HeldHeads.{event_place, event_total, States, derived_place, entry_of_coef, IsReadFrom};
 
-use crate::head_lines::{HeadCoef, HeadDerived, HeadEvent};
+use crate::head_rows::{HeadCoef, HeadDerived, HeadEvent};
 use cg_formulas::{FileHead, Flat};
 use cg_text::{ListVec, are_distinct};
 use std::alloc::Global;
@@ -85,7 +85,7 @@ fn stated_in(alloc: Global, lines: &[HeadEvent]) -> Result<Option<ListVec<u128>>
 /// where the first line is not of them.
 fn first_times(place: usize, event: usize, coefs: &[HeadCoef]) -> (u64, usize)
     ensures within { result.1 ≤ length coefs.now }
-    ensures said { map coef_line_said (take result.1 coefs.now) ≡ coefs_at place event (result.0 ∷ []) }
+    ensures said { map entry_of_coef (take result.1 coefs.now) ≡ coefs_at place event (result.0 ∷ []) }
 {
     match coefs.first() {
         Some(coef)
@@ -104,7 +104,7 @@ fn row_in(
     coefs: &[HeadCoef],
 ) -> Result<(ListVec<u64>, usize), StoreError>
     ensures within { IfOk result (λ r. r.1 ≤ length coefs.now) }
-    ensures said { IfOk result (λ r. map coef_line_said (take r.1 coefs.now) ≡ coefs_at place 0 r.0) }
+    ensures said { IfOk result (λ r. map entry_of_coef (take r.1 coefs.now) ≡ coefs_at place 0 r.0) }
 {
     let mut row = ListVec::new(alloc);
     let mut used = 0;
@@ -126,7 +126,7 @@ fn derived_in(
     coefs: &[HeadCoef],
 ) -> Result<ListVec<(ListVec<u8>, ListVec<u64>)>, StoreError>
     ensures names { IfOk result (λ derived. map derived_place lines.now ≡ placed 0 (map (λ d. d.0) derived)) }
-    ensures rows { IfOk result (λ derived. map coef_line_said coefs.now ≡ coefs_from 0 (map (λ d. d.1) derived)) }
+    ensures rows { IfOk result (λ derived. map entry_of_coef coefs.now ≡ coefs_from 0 (map (λ d. d.1) derived)) }
 {
     let mut derived = ListVec::new(alloc);
     let mut used = 0;

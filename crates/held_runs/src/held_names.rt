@@ -3,8 +3,8 @@ ghost use Rattle.std.specs.Prelude.{◌≡◌, ◌≢◌, ◌<◌, false, None, 
 ghost use Rattle.std.specs.Result.{is_ok};
 ghost use Rattle.sqlite_trees.specs.Tree.{IsAscending};
 ghost use Rattle.prof_books.specs.Book.{name_of, IsHeld};
-ghost use Rattle.held_runs.specs.HeadLines.{first_two};
-ghost use Rattle.held_runs.specs.NameLines.{name_line, name_seen, name_shown, has_number, IsNameAt};
+ghost use Rattle.held_runs.specs.HeadRows.{first_two};
+ghost use Rattle.held_runs.specs.NameRows.{name_row, name_seen, name_shown, has_number, IsNameAt};
 ghost use Rattle.prof_store.specs.Shown.{Told, Found, Asks};
 
 use prof_store::{Store, select};
@@ -29,24 +29,24 @@ pub struct HeldNames {
 impl Model for HeldNames {
     ghost use Rattle.std.specs.Prelude.{List, map, ◌<◌};
     ghost use Rattle.sqlite_trees.specs.Tree.{IsAscending};
-    ghost use Rattle.plain_tables.specs.Tables.{NameLine};
+    ghost use Rattle.plain_tables.specs.Tables.{NameRow};
 
-    ghost Value = { List NameLine };
+    ghost Value = { List NameRow };
 
-    ghost use Rattle.held_runs.specs.NameLines.{name_line};
+    ghost use Rattle.held_runs.specs.NameRows.{name_row};
 
-    ghost view = { λ h. map name_line h.names.items };
+    ghost view = { λ h. map name_row h.names.items };
 
     ghost invariant = { λ h. IsAscending (λ a b. a.number < b.number) h.names.items };
 }
 
 impl FromRow for HeldName {
-    ghost use Rattle.held_runs.specs.HeadLines.{first_two};
-    ghost use Rattle.held_runs.specs.NameLines.{name_line, name_shown};
+    ghost use Rattle.held_runs.specs.HeadRows.{first_two};
+    ghost use Rattle.held_runs.specs.NameRows.{name_row, name_shown};
 
     ghost seen = { first_two };
 
-    ghost columns = { λ n. name_shown (name_line n) };
+    ghost columns = { λ n. name_shown (name_row n) };
 
     fn from_row(row: &Row) -> Result<HeldName, StoreError> {
         let number = number_at(row, 0)?;
@@ -88,8 +88,8 @@ fn name_at(names: &[HeldName], at: usize, number: u32) -> Option<&[u8]>
 /// The name of a number, among names whose numbers rise.
 fn name_in(names: &[HeldName], number: u32) -> Option<&[u8]>
     requires { IsAscending (λ a b. a.number < b.number) names.now }
-    ensures none { result ≡ None → has_number (map name_line names.now) number ≡ false }
-    ensures some { IfSome result (λ name. IsHeld (map name_line names.now) number × (name.now ≡ name_of (map name_line names.now) number)) }
+    ensures none { result ≡ None → has_number (map name_row names.now) number ≡ false }
+    ensures some { IfSome result (λ name. IsHeld (map name_row names.now) number × (name.now ≡ name_of (map name_row names.now) number)) }
 {
     if number > 0 {
         // a store numbers its own names 1, 2, 3, ..

@@ -10,7 +10,7 @@ use sqlite::{Alter, Row};
 use store_schema::StoreError;
 
 /// Takes the lines of runs in one of the tables whose rows are lines of runs, one at a time.
-pub(crate) trait TakesLines {
+pub(crate) trait RowSink {
     ghost use Rattle.std.specs.Prelude.{◌≡◌, ◌<◌, ◌^◌, ◌++◌, ◌∷◌, [], ℕ, List, OnOk};
     ghost use Rattle.sqlite_value.specs.Order.{Row};
     ghost use Rattle.sqlite_trees.specs.Tree.{Trees};
@@ -63,13 +63,13 @@ fn begin<S: Alter>(store: &mut Store<S>, table: Listed, run: u32) -> Walk
 }
 
 /// Hands on the next line, if there is one.
-fn hand_line<S: Alter, T: TakesLines>(
+fn hand_line<S: Alter, T: RowSink>(
     store: &mut Store<S>,
     walk: &mut Walk,
-    taker: &mut T,
+    sink: &mut T,
 ) -> Result<bool, StoreError>
     ensures same { IsSameWalk walk.old walk.new }
-    ensures handed { (start : T.Start) → HandsLine S.Store T.listed T.columns (T.Has start) taker.old taker.new store.old walk.old store.new walk.new result }
+    ensures handed { (start : T.Start) → HandsLine S.Store T.listed T.columns (T.Has start) sink.old sink.new store.old walk.old store.new walk.new result }
     ensures asks { AsksIfOpen S.Store (is_ok result) store.old store.new }
 {
     if !has_row(store, walk)? {
@@ -77,7 +77,7 @@ fn hand_line<S: Alter, T: TakesLines>(
     }
     match store.page.get(walk.at) {
         Some(row) => {
-            taker.take(walk.run, row)?;
+            sink.take(walk.run, row)?;
             walk.at += 1;
             Ok(true)
         }
@@ -86,20 +86,20 @@ fn hand_line<S: Alter, T: TakesLines>(
 }
 
 /// Hands on the lines of a run, in the order of their rows.
-pub(crate) fn each_line<S: Alter, T: TakesLines>(
+pub(crate) fn each_line<S: Alter, T: RowSink>(
     store: &mut Store<S>,
     run: u32,
-    taker: &mut T,
+    sink: &mut T,
 ) -> Result<(), StoreError>
-    ensures found { OfReady S.Store store.old store.new (OnOk result ((start : T.Start) → T.Has start [] taker.old
-        → (lines : List T.Line) × AreAllRead T.listed T.columns run (rows_of S.Store T.listed store.new) lines × T.Has start lines taker.new)) }
-    ensures told { Told S.Store result store.old store.new (λ t _. (start : T.Start) → T.Has start [] taker.old
-        → T.Has start (T.lines_in run t) taker.new) }
+    ensures found { OfReady S.Store store.old store.new (OnOk result ((start : T.Start) → T.Has start [] sink.old
+        → (lines : List T.Line) × AreAllRead T.listed T.columns run (rows_of S.Store T.listed store.new) lines × T.Has start lines sink.new)) }
+    ensures told { Told S.Store result store.old store.new (λ t _. (start : T.Start) → T.Has start [] sink.old
+        → T.Has start (T.lines_in run t) sink.new) }
     ensures asks { AsksIfOpen S.Store (is_ok result) store.old store.new }
 {
     let mut walk = begin(store, T::table(), run);
     'lines: for _ in 0..u64::MAX {
-        if !hand_line(store, &mut walk, taker)? {
+        if !hand_line(store, &mut walk, sink)? {
             return Ok(());
         }
     }

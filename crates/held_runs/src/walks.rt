@@ -15,7 +15,7 @@ use store_schema::{OutOfForm, StoreError, number_at, number_or_null_at};
 #[derive(Clone, Copy, Debug, PartialEq, Eq)]
 pub(crate) enum Listed {
     Cells,
-    Arcs,
+    Calls,
     Stacks,
 }
 
@@ -73,7 +73,7 @@ fn window_sql(table: Listed) -> &'static str
         Listed::Cells => {
             "SELECT rowid, thread, ob, fl, fn, line, event, cost FROM thread_cell WHERE run = ?1 AND rowid > ?2 AND rowid <= ?3 ORDER BY rowid"
         }
-        Listed::Arcs => {
+        Listed::Calls => {
             "SELECT rowid, ob, fl, fn, line, cob, cfl, cfn, part, n FROM arc WHERE run = ?1 AND rowid > ?2 AND rowid <= ?3 ORDER BY rowid"
         }
         Listed::Stacks => {
@@ -87,7 +87,7 @@ fn ends_sql(table: Listed) -> &'static str
 {
     match table {
         Listed::Cells => "SELECT min(rowid), max(rowid) FROM thread_cell WHERE run = ?1",
-        Listed::Arcs => "SELECT min(rowid), max(rowid) FROM arc WHERE run = ?1",
+        Listed::Calls => "SELECT min(rowid), max(rowid) FROM arc WHERE run = ?1",
         Listed::Stacks => "SELECT min(rowid), max(rowid) FROM stack WHERE run = ?1",
     }
 }
@@ -100,12 +100,12 @@ fn end_sql(table: Listed, end: End) -> &'static str
     match end {
         End::First => match table {
             Listed::Cells => "SELECT rowid, run FROM thread_cell ORDER BY rowid",
-            Listed::Arcs => "SELECT rowid, run FROM arc ORDER BY rowid",
+            Listed::Calls => "SELECT rowid, run FROM arc ORDER BY rowid",
             Listed::Stacks => "SELECT rowid, run FROM stack ORDER BY rowid",
         },
         End::Last => match table {
             Listed::Cells => "SELECT rowid, run FROM thread_cell ORDER BY rowid DESC",
-            Listed::Arcs => "SELECT rowid, run FROM arc ORDER BY rowid DESC",
+            Listed::Calls => "SELECT rowid, run FROM arc ORDER BY rowid DESC",
             Listed::Stacks => "SELECT rowid, run FROM stack ORDER BY rowid DESC",
         },
     }

@@ -2,7 +2,7 @@
 use Rattle.std.proofs.Common.{◌≡◌, ℕ, Bool, true, false, not, ◌==◌, List, [], ◌∷◌, ◌++◌, filter, ap, cond}
 use Rattle.prof_books.specs.Book.{RunBook}
 use Rattle.histories.specs.History.{File}
-use Rattle.histories.specs.Stands.{IsBookOf, AreBooksOf}
+use Rattle.histories.specs.Representation.{IsBookOf, AreBooksOf}
 
 -- one file more
 pub books_push : (files : List File) (runs : List RunBook) (f : File) (r : RunBook) → AreBooksOf files runs → IsBookOf f r → AreBooksOf (files ++ f ∷ []) (runs ++ r ∷ [])

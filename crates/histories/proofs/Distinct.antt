@@ -23,9 +23,9 @@ neither : (o : Option Fault) (n : ℕ) (later : Option (Fault × ℕ)) → numbe
 neither (Some fault) n later none = absurd cc
 neither None n later none = (refl, none)
 
-own_none : (own other : Option Fault) → or_else own other ≡ None → own ≡ None
-own_none (Some fault) other none = absurd cc
-own_none None other none = refl
+self_none : (own other : Option Fault) → or_else own other ≡ None → own ≡ None
+self_none (Some fault) other none = absurd cc
+self_none None other none = refl
 
 lines_none : (first second : Option (Fault × ℕ)) → earlier_or first second ≡ None → first ≡ None
 lines_none (Some fault) second none = absurd cc
@@ -59,7 +59,7 @@ all_stand : (back ahead : List Reading) → Stand back → first_fault back ahea
 all_stand back [] was none = was
 all_stand back (r ∷ ahead) was none =
     let two = neither (files.fault_of r back ahead) (number_after back) (first_fault (r ∷ back) ahead) none in
-    all_stand (r ∷ back) ahead (line_stands r back was (own_none (fault_at r back) (call_fault r ahead) two.0)) two.1
+    all_stand (r ∷ back) ahead (line_stands r back was (self_none (fault_at r back) (call_fault r ahead) two.0)) two.1
 
 pub events_apart : (format : Format) (bytes : List ℕ) → fault_of format bytes ≡ None → are_distinct (events_of format bytes) ≡ true
 events_apart (Callgrind g) bytes none = all_stand [] (readings_by g bytes) refl (lines_none (first_fault [] (readings_by g bytes)) (formulas_fault (files.end_by g bytes)) none)

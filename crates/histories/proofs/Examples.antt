@@ -18,7 +18,7 @@ use Rattle.profile_records.specs.declared.kinds.Kind.{Kind}
 use Rattle.profile_records.specs.declared.kinds.Kind.TheVariants.{Callgrind, Folded}
 use Rattle.byte_io.specs.Outcomes.{Outcome, Gave, Failed}
 use Rattle.histories.specs.Formats.{today}
-use Rattle.histories.specs.History.{Said, Import, Remove, MakeGroup, DropGroup, Join, Leave, SetBaseline, Ask, Turn, History, File, held, next, groups, members, is_member, baseline}
+use Rattle.histories.specs.History.{Command, Import, Remove, MakeGroup, DropGroup, Join, Leave, SetBaseline, Ask, Step, History, File, held, next, groups, members, is_member, baseline}
 use Rattle.histories.specs.Legal.{expected_answer, AreLegal}
 use Rattle.histories.specs.Texts.{groups_text, runs_text}
 use Rattle.histories.specs.declared.answers.Answer.{Answer}
@@ -51,11 +51,11 @@ most = codes "events: Ir\n1 9223372036854775807\n"
 abbrev one : List ℕ
 one = codes "events: Ir\n1 1\n"
 
-abbrev import : Kind → List ℕ → Said
+abbrev import : Kind → List ℕ → Command
 import kind bytes = Import (today kind) (codes "a") (Gave bytes ∷ Gave [] ∷ [])
 
-abbrev turn : Said → Answer → Turn
-turn said answer = record { said = said; answer = answer }
+abbrev step : Command → Answer → Step
+step command answer = record { command = command; answer = answer }
 
 abbrev functions : List ℕ
 functions = codes "# callgrind format\nevents: Instructions\n\nfl=file1.c\nfn=main\n16 20\ncfn=func1\ncalls=1 50\n16 400\ncfi=file2.c\ncfn=func2\ncalls=3 20\n16 400\n\nfn=func1\n51 100\ncfi=file2.c\ncfn=func2\ncalls=2 20\n51 300\n\nfl=file2.c\nfn=func2\n20 700\n"
@@ -69,16 +69,16 @@ named n kind bytes = record { number = n; format = today kind; label = codes "a"
 -- ---- one file, imported, held, removed and imported again
 
 abbrev taken : History
-taken = turn (import Callgrind cycles) (Run 1) ∷ []
+taken = step (import Callgrind cycles) (Run 1) ∷ []
 
 abbrev again : History
-again = taken ++ turn (import Callgrind cycles) (Held 1) ∷ turn (import Folded cycles) (Held 1) ∷ []
+again = taken ++ step (import Callgrind cycles) (Held 1) ∷ step (import Folded cycles) (Held 1) ∷ []
 
 abbrev gone : History
-gone = again ++ turn (Remove 1) Done ∷ []
+gone = again ++ step (Remove 1) Done ∷ []
 
 abbrev back : History
-back = gone ++ turn (import Callgrind cycles) (Run 2) ∷ []
+back = gone ++ step (import Callgrind cycles) (Run 2) ∷ []
 
 taken_is_run : expected_answer standard [] (import Callgrind cycles) ≡ Some (Run 1)
 unfolding reading_of line_text kind_of name_of number_of amount_of subpos_of
@@ -89,7 +89,7 @@ unfolding first_words schedule rounds compress hash_after digest_bytes sha256
 again_is_held = refl
 
 -- whatever its kind, and though it is no folded file
-folded_is_held : expected_answer standard (taken ++ turn (import Callgrind cycles) (Held 1) ∷ []) (import Folded cycles) ≡ Some (Held 1)
+folded_is_held : expected_answer standard (taken ++ step (import Callgrind cycles) (Held 1) ∷ []) (import Folded cycles) ≡ Some (Held 1)
 unfolding first_words schedule rounds compress hash_after digest_bytes sha256
 folded_is_held = refl
 
@@ -134,10 +134,10 @@ all_legal =
 -- ---- sums beside those of the files that are held
 
 abbrev with_most : History
-with_most = turn (import Callgrind most) (Run 1) ∷ []
+with_most = step (import Callgrind most) (Run 1) ∷ []
 
 abbrev refused : History
-refused = with_most ++ turn (import Callgrind one) (Refused (reasons.Overflow (SelfCost (codes "Ir")))) ∷ []
+refused = with_most ++ step (import Callgrind one) (Refused (reasons.Overflow (SelfCost (codes "Ir")))) ∷ []
 
 most_is_run : expected_answer standard [] (import Callgrind most) ≡ Some (Run 1)
 unfolding reading_of line_text kind_of name_of number_of amount_of subpos_of
@@ -148,7 +148,7 @@ unfolding reading_of line_text kind_of name_of number_of amount_of subpos_of fir
 one_is_too_much = refl
 
 -- a refused file takes no number
-one_is_second : expected_answer standard (refused ++ turn (Remove 1) Done ∷ []) (import Callgrind one) ≡ Some (Run 2)
+one_is_second : expected_answer standard (refused ++ step (Remove 1) Done ∷ []) (import Callgrind one) ≡ Some (Run 2)
 unfolding reading_of line_text kind_of name_of number_of amount_of subpos_of
 one_is_second = refl
 
@@ -176,7 +176,7 @@ fault_of_line = refl
 abbrev small : Limits
 small = record { bytes = 2; runs = 2; groups = 1; numbers = 3; bytes_fit = omega arith; runs_fit = omega arith; groups_fit = omega arith; numbers_fit = omega arith }
 
-abbrev reads : List Outcome → Said
+abbrev reads : List Outcome → Command
 reads outcomes = Import (today Callgrind) (codes "a") outcomes
 
 read_failed : expected_answer small [] (reads (Gave (codes "#") ∷ Failed ∷ [])) ≡ Some (Refused reasons.ReadFault)
@@ -188,7 +188,7 @@ too_long = refl
 too_long_first : expected_answer small [] (reads (Gave (codes "##") ∷ Gave (codes "#") ∷ Failed ∷ [])) ≡ Some (Refused reasons.TooLong)
 too_long_first = refl
 
--- none is due while the source goes on
+-- none is expected while the source goes on
 goes_on : expected_answer small [] (reads (Gave (codes "##") ∷ [])) ≡ None
 goes_on = refl
 
@@ -198,7 +198,7 @@ abbrev narrow : Limits
 narrow = record { bytes = 2 ^ 30; runs = 2; groups = 1; numbers = 3; bytes_fit = omega arith; runs_fit = omega arith; groups_fit = omega arith; numbers_fit = omega arith }
 
 abbrev two : History
-two = turn (import Callgrind cycles) (Run 1) ∷ turn (import Callgrind functions) (Run 2) ∷ []
+two = step (import Callgrind cycles) (Run 1) ∷ step (import Callgrind functions) (Run 2) ∷ []
 
 second_is_run : expected_answer narrow taken (import Callgrind functions) ≡ Some (Run 2)
 unfolding reading_of line_text kind_of name_of number_of amount_of subpos_of first_words schedule rounds compress hash_after digest_bytes sha256
@@ -208,7 +208,7 @@ third_is_full : expected_answer narrow two (import Callgrind ticks) ≡ Some (Re
 unfolding reading_of line_text kind_of name_of number_of amount_of subpos_of first_words schedule rounds compress hash_after digest_bytes sha256
 third_is_full = refl
 
-numbers_are_spent : expected_answer narrow (two ++ turn (import Callgrind ticks) (Refused reasons.Full) ∷ turn (Remove 1) Done ∷ []) (import Callgrind ticks) ≡ Some (Refused reasons.NumbersSpent)
+numbers_are_spent : expected_answer narrow (two ++ step (import Callgrind ticks) (Refused reasons.Full) ∷ step (Remove 1) Done ∷ []) (import Callgrind ticks) ≡ Some (Refused reasons.NumbersSpent)
 unfolding reading_of line_text kind_of name_of number_of amount_of subpos_of first_words schedule rounds compress hash_after digest_bytes sha256
 numbers_are_spent = refl
 
@@ -241,10 +241,10 @@ k = codes "h"
 
 abbrev grouped : History
 grouped =
-    turn (import Callgrind functions) (Run 1) ∷ turn (MakeGroup k) Done ∷ turn (MakeGroup g) Done ∷ turn (Join g 1) Done ∷ turn (Join k 1) Done ∷ turn (SetBaseline g 1) Done ∷ []
+    step (import Callgrind functions) (Run 1) ∷ step (MakeGroup k) Done ∷ step (MakeGroup g) Done ∷ step (Join g 1) Done ∷ step (Join k 1) Done ∷ step (SetBaseline g 1) Done ∷ []
 
 abbrev ungrouped : History
-ungrouped = grouped ++ turn (Remove 1) Done ∷ []
+ungrouped = grouped ++ step (Remove 1) Done ∷ []
 
 groups-made : groups grouped ≡ k ∷ g ∷ []
 groups-made = refl
@@ -275,19 +275,19 @@ baseline-left = refl
 list_after : groups_text ungrouped ≡ codes "g - -\nh - -\n"
 list_after = refl
 
-groups_are_due : expected_answer standard grouped (Ask Groups) ≡ Some (Text (codes "g 1 1\nh - 1\n"))
+groups_are_expected : expected_answer standard grouped (Ask Groups) ≡ Some (Text (codes "g 1 1\nh - 1\n"))
 unfolding digits
-groups_are_due = refl
+groups_are_expected = refl
 
 -- a group that is made again is empty, and its limit is met
 abbrev made : History
-made = turn (MakeGroup g) Done ∷ []
+made = step (MakeGroup g) Done ∷ []
 
 abbrev joined : History
-joined = made ++ turn (import Callgrind cycles) (Run 1) ∷ turn (Leave g 1) Done ∷ turn (Join g 1) Done ∷ turn (Join g 1) Done ∷ []
+joined = made ++ step (import Callgrind cycles) (Run 1) ∷ step (Leave g 1) Done ∷ step (Join g 1) Done ∷ step (Join g 1) Done ∷ []
 
 abbrev renewed : History
-renewed = joined ++ turn (SetBaseline g 1) Done ∷ turn (DropGroup g) Done ∷ turn (MakeGroup g) Done ∷ []
+renewed = joined ++ step (SetBaseline g 1) Done ∷ step (DropGroup g) Done ∷ step (MakeGroup g) Done ∷ []
 
 made_is_done : expected_answer narrow [] (MakeGroup g) ≡ Some Done
 made_is_done = refl
@@ -313,7 +313,7 @@ left_no_run = refl
 based_no_group : expected_answer narrow made (SetBaseline k 7) ≡ Some (Refused reasons.NoSuchGroup)
 based_no_group = refl
 
-left_is_done : expected_answer narrow (made ++ turn (import Callgrind cycles) (Run 1) ∷ []) (Leave g 1) ≡ Some Done
+left_is_done : expected_answer narrow (made ++ step (import Callgrind cycles) (Run 1) ∷ []) (Leave g 1) ≡ Some Done
 left_is_done = refl
 
 joined_twice : expected_answer narrow joined (Join g 1) ≡ Some Done
@@ -331,23 +331,23 @@ baseline-renewed = refl
 
 -- members by their numbers, whatever the order in which they joined
 abbrev crowded : History
-crowded = two ++ turn (MakeGroup g) Done ∷ turn (Join g 2) Done ∷ turn (SetBaseline g 1) Done ∷ turn (Join g 1) Done ∷ turn (SetBaseline g 2) Done ∷ []
+crowded = two ++ step (MakeGroup g) Done ∷ step (Join g 2) Done ∷ step (SetBaseline g 1) Done ∷ step (Join g 1) Done ∷ step (SetBaseline g 2) Done ∷ []
 
 list_crowded : groups_text crowded ≡ codes "g 2 1,2\n"
 unfolding digits
 list_crowded = refl
 
 -- a run that leaves stays a baseline, and a baseline need not be a member
-baseline-stays : baseline (joined ++ turn (SetBaseline g 1) Done ∷ turn (Leave g 1) Done ∷ []) g ≡ Some 1
+baseline-stays : baseline (joined ++ step (SetBaseline g 1) Done ∷ step (Leave g 1) Done ∷ []) g ≡ Some 1
 baseline-stays = refl
 
-member-left : is_member (joined ++ turn (SetBaseline g 1) Done ∷ turn (Leave g 1) Done ∷ []) g 1 ≡ false
+member-left : is_member (joined ++ step (SetBaseline g 1) Done ∷ step (Leave g 1) Done ∷ []) g 1 ≡ false
 member-left = refl
 
 -- ---- the list of runs
 
 abbrev empty : History
-empty = turn (Import (today Callgrind) (codes "empty.out") (Gave [] ∷ [])) (Run 1) ∷ []
+empty = step (Import (today Callgrind) (codes "empty.out") (Gave [] ∷ [])) (Run 1) ∷ []
 
 empty_is_run : expected_answer standard [] (Import (today Callgrind) (codes "empty.out") (Gave [] ∷ [])) ≡ Some (Run 1)
 unfolding reading_of line_text kind_of name_of number_of amount_of subpos_of
@@ -358,7 +358,7 @@ unfolding first_words schedule rounds compress hash_after digest_bytes sha256 en
 list_of_runs = refl
 
 abbrev sampled : History
-sampled = turn (Import (today Folded) (codes "b c") (Gave (codes "a;b 2\n") ∷ Gave [] ∷ [])) (Run 1) ∷ []
+sampled = step (Import (today Folded) (codes "b c") (Gave (codes "a;b 2\n") ∷ Gave [] ∷ [])) (Run 1) ∷ []
 
 list_of_samples : runs_text sampled ≡ codes "1 folded fe491dc98a03200ded9c49087a54ebfbb0543dff4f7fb17679c74d30e2eecc64 b c\n"
 unfolding first_words schedule rounds compress hash_after digest_bytes sha256 encode_with digits

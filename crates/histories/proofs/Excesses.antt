@@ -12,8 +12,8 @@ use Rattle.profile_records.specs.declared.kinds.Kind.{Kind}
 use Rattle.histories.specs.Formats.{today}
 use Rattle.histories.specs.Files.{events_of, rows_of}
 use Rattle.histories.specs.History.{History, File, held}
-use Rattle.histories.specs.Stands.{TablesTell}
-use Rattle.histories.specs.Sums.{Sum, own_column, call_column, calls_of, own_held, calls_cost_held, calls_held, own_sums, call_sums, sums_with, first_above, excess_of, excess_at}
+use Rattle.histories.specs.Representation.{TablesRepresent}
+use Rattle.histories.specs.Sums.{Sum, self_column, call_column, calls_of, self_held, calls_cost_held, calls_held, self_sums, call_sums, sums_with, first_above, excess_of, excess_at}
 use Rattle.histories.specs.declared.answers.Excess.TheVariants.{SelfCost, CallCost, CallCount}
 use Rattle.histories.proofs.Rows.{rows_come}
 use Rattle.histories.proofs.Totals.{tells_self, tells_calls, tells_count}
@@ -66,16 +66,16 @@ module _ (all : List (List ℕ)) (column : ℕ → ℕ) where
   here : (k : ℕ) → k + 0 ≡ k
   here k = omega arith
 
-  own_same : (files : List File) (t : Tables) → ((name : List ℕ) → held_self t name ≡ own_held files name) → (k : ℕ) (events : List (List ℕ)) (costs : List ℕ) → AreAt k events costs
-      → AreSame all (column_sums sides.SelfCost k (map (held_self t) events) costs) (own_sums files column k events)
-  own_same files t are k [] costs at = tt
-  own_same files t are k (event ∷ events) [] at = absurd (let e : 0 ≡ suc (length events) = at.many in omega arith)
-  own_same files t are k (event ∷ events) (cost ∷ costs) at = (
+  self_same : (files : List File) (t : Tables) → ((name : List ℕ) → held_self t name ≡ self_held files name) → (k : ℕ) (events : List (List ℕ)) (costs : List ℕ) → AreAt k events costs
+      → AreSame all (column_sums sides.SelfCost k (map (held_self t) events) costs) (self_sums files column k events)
+  self_same files t are k [] costs at = tt
+  self_same files t are k (event ∷ events) [] at = absurd (let e : 0 ≡ suc (length events) = at.many in omega arith)
+  self_same files t are k (event ∷ events) (cost ∷ costs) at = (
     record {
       of = ap SelfCost (ap (λ n. slice_index_or all n []) (sym (here k)) ∙ at.names 0 (omega arith));
       sum = ap₂ ◌+◌ (are event) (at.are 0 (omega arith) ∙ ap column (here k));
     },
-    own_same files t are (suc k) events costs (at_rest k event events cost costs at),
+    self_same files t are (suc k) events costs (at_rest k event events cost costs at),
   )
 
   call_same : (files : List File) (t : Tables) → ((name : List ℕ) → held_calls t name ≡ calls_cost_held files name) → (k : ℕ) (events : List (List ℕ)) (costs : List ℕ) → AreAt k events costs
@@ -94,33 +94,33 @@ none_first : (j : ℕ) → 0 + j ≡ j
 none_first j = omega arith
 
 -- what does not fit beside the sums of the tables is what does not fit beside the files that are held
-pub tells_excess : (h : History) (t : Tables) (kind : Kind) (bytes : List ℕ) (held_totals file_totals : FileTotals) → AreSound t → TablesTell h t → IsHeldIn t (events_of (today kind) bytes) held_totals
+pub tells_excess : (h : History) (t : Tables) (kind : Kind) (bytes : List ℕ) (held_totals file_totals : FileTotals) → AreSound t → TablesRepresent h t → IsHeldIn t (events_of (today kind) bytes) held_totals
     → AreTotals file_totals (rows_of kind bytes) (length (events_of (today kind) bytes)) → excess_of (held h) (today kind) bytes ≡ option_map (excess_at (events_of (today kind) bytes)) (overflow_of held_totals file_totals)
-tells_excess h t kind bytes held_totals file_totals was tell in_tables in_file =
+tells_excess h t kind bytes held_totals file_totals was represent in_tables in_file =
     let events : List (List ℕ) = events_of (today kind) bytes in
     let all = rows_come kind bytes in
-    let own : AreSame events (column_sums sides.SelfCost 0 held_totals.self_cost file_totals.self_cost) (own_sums (held h) (own_column (today kind) bytes) 0 events) =
-    subst (λ l. AreSame events (column_sums sides.SelfCost 0 l file_totals.self_cost) (own_sums (held h) (own_column (today kind) bytes) 0 events)) (sym in_tables.self_cost)
-    (own_same events (own_column (today kind) bytes) (held h) t (tells_self h t was tell) 0 events file_totals.self_cost (record {
+    let own : AreSame events (column_sums sides.SelfCost 0 held_totals.self_cost file_totals.self_cost) (self_sums (held h) (self_column (today kind) bytes) 0 events) =
+    subst (λ l. AreSame events (column_sums sides.SelfCost 0 l file_totals.self_cost) (self_sums (held h) (self_column (today kind) bytes) 0 events)) (sym in_tables.self_cost)
+    (self_same events (self_column (today kind) bytes) (held h) t (tells_self h t was represent) 0 events file_totals.self_cost (record {
       names = λ j low. ap (λ n. slice_index_or events n []) (none_first j);
       many = in_file.self_columns;
-      are = λ j low. in_file.self_cost j low ∙ all.cells (λ _. true) j ∙ ap (own_column (today kind) bytes) (sym (none_first j));
+      are = λ j low. in_file.self_cost j low ∙ all.cells (λ _. true) j ∙ ap (self_column (today kind) bytes) (sym (none_first j));
     })) in
     let calls : AreSame events (column_sums sides.CallCost 0 held_totals.call_cost file_totals.call_cost) (call_sums (held h) (call_column (today kind) bytes) 0 events) =
     subst (λ l. AreSame events (column_sums sides.CallCost 0 l file_totals.call_cost) (call_sums (held h) (call_column (today kind) bytes) 0 events)) (sym in_tables.call_cost)
-    (call_same events (call_column (today kind) bytes) (held h) t (tells_calls h t was tell) 0 events file_totals.call_cost (record {
+    (call_same events (call_column (today kind) bytes) (held h) t (tells_calls h t was represent) 0 events file_totals.call_cost (record {
       names = λ j low. ap (λ n. slice_index_or events n []) (none_first j);
       many = in_file.call_columns;
-      are = λ j low. in_file.call_cost j low ∙ all.arcs (λ _ _. true) j ∙ ap (call_column (today kind) bytes) (sym (none_first j));
+      are = λ j low. in_file.call_cost j low ∙ all.calls (λ _ _. true) j ∙ ap (call_column (today kind) bytes) (sym (none_first j));
     })) in
     let count : held_totals.call_count + file_totals.call_count ≡ calls_held (held h) + calls_of (today kind) bytes =
-    ap₂ ◌+◌ (in_tables.call_count ∙ tells_count h t tell) (in_file.call_count ∙ all.counts (λ _ _. true)) in
+    ap₂ ◌+◌ (in_tables.call_count ∙ tells_count h t represent) (in_file.call_count ∙ all.counts (λ _ _. true)) in
     first_same events (sums_of held_totals file_totals) (sums_with (held h) (today kind) bytes)
     (same_append events
     (column_sums sides.SelfCost 0 held_totals.self_cost file_totals.self_cost ++ column_sums sides.CallCost 0 held_totals.call_cost file_totals.call_cost)
     (record { of = record { side = sides.CallCount; column = 0 }; sum = held_totals.call_count + file_totals.call_count } ∷ [])
-    (own_sums (held h) (own_column (today kind) bytes) 0 events ++ call_sums (held h) (call_column (today kind) bytes) 0 events)
+    (self_sums (held h) (self_column (today kind) bytes) 0 events ++ call_sums (held h) (call_column (today kind) bytes) 0 events)
     (record { of = CallCount; sum = calls_held (held h) + calls_of (today kind) bytes } ∷ [])
-    (same_append events (column_sums sides.SelfCost 0 held_totals.self_cost file_totals.self_cost) (column_sums sides.CallCost 0 held_totals.call_cost file_totals.call_cost) (own_sums (held h) (own_column (today kind) bytes) 0 events)
+    (same_append events (column_sums sides.SelfCost 0 held_totals.self_cost file_totals.self_cost) (column_sums sides.CallCost 0 held_totals.call_cost file_totals.call_cost) (self_sums (held h) (self_column (today kind) bytes) 0 events)
     (call_sums (held h) (call_column (today kind) bytes) 0 events) own calls)
     (record { of = refl; sum = count }, tt))

@@ -13,7 +13,7 @@ use Rattle.profile_records.specs.declared.kinds.Kind.{Kind}
 use Rattle.profile_records.specs.declared.kinds.Kind.TheVariants.{Callgrind, Folded}
 use Rattle.byte_io.specs.Outcomes.{Outcome, Gave, Failed}
 use Rattle.histories.specs.Formats.{today}
-use Rattle.histories.specs.History.{Annotate, History, Import, Turn}
+use Rattle.histories.specs.History.{Annotate, History, Import, Step}
 use Rattle.histories.specs.Legal.{expected_answer, expected_of_query}
 use Rattle.histories.specs.declared.answers.Answer.{Answer}
 use Rattle.histories.specs.declared.answers.Answer.TheVariants.{Run, Text, Refused}
@@ -22,8 +22,8 @@ use Rattle.histories.specs.declared.answers.Refusal.TheVariants as reasons
 use Rattle.histories.specs.declared.answers.Selection.TheVariants as selections
 use Rattle.histories.proofs.Examples.{standard}
 
-abbrev imported : ℕ → Kind → List ℕ → Turn
-imported n kind bytes = record { said = Import (today kind) (codes "a") (Gave bytes ∷ Gave [] ∷ []); answer = Run n }
+abbrev imported : ℕ → Kind → List ℕ → Step
+imported n kind bytes = record { command = Import (today kind) (codes "a") (Gave bytes ∷ Gave [] ∷ []); answer = Run n }
 
 abbrev line_zero : List ℕ
 line_zero = codes "events: Ir\nfl=a.c\nfn=f\n0 1\n1 2\n9 4\n"

@@ -11,19 +11,19 @@ use Rattle.cost_rows.proofs.NamingLemmas.{same_bytes}
 use Rattle.histories.specs.Formats.{Format}
 use Rattle.byte_io.specs.Outcomes.{bytes_of}
 use Rattle.histories.specs.Files.{events_of}
-use Rattle.histories.specs.History.{Said, Import, History, File, held}
+use Rattle.histories.specs.History.{Command, Import, History, File, held}
 use Rattle.histories.specs.Legal.{IsLegal, IsHistory}
-use Rattle.histories.specs.Sums.{Sum, own_column, call_column, calls_of, column_named, own_held, calls_cost_held, calls_held, own_sums, call_sums, sums_with, first_above, excess_of}
+use Rattle.histories.specs.Sums.{Sum, self_column, call_column, calls_of, column_named, self_held, calls_cost_held, calls_held, self_sums, call_sums, sums_with, first_above, excess_of}
 use Rattle.histories.specs.Told.{SumsFit}
 use Rattle.histories.specs.declared.answers.Answer.{Answer}
 use Rattle.histories.specs.declared.answers.Answer.TheVariants.{Run}
 use Rattle.histories.specs.declared.answers.Excess.TheVariants.{CallCount}
 use Rattle.histories.specs.declared.limits.Limits.{Limits}
 use Rattle.histories.proofs.Distinct.{events_apart}
-use Rattle.histories.proofs.Due.{run_fits}
+use Rattle.histories.proofs.Expected.{run_fits}
 use Rattle.histories.proofs.Held.{stays, taken, held_more}
 use Rattle.histories.proofs.Tests.{bytes-flip}
-use Rattle.histories.proofs.Turns.{by_turns}
+use Rattle.histories.proofs.StepsTo.{by_steps}
 
 -- ---- no sum is above
 
@@ -83,9 +83,9 @@ module _ (total : List ℕ → ℕ) (column : ℕ → ℕ) where
           subst (λ n. total name + n ≤ bound) (sym (first (column k) (column_named name column (suc k) events) zero)) (subst (λ n. total n + column k ≤ bound) is fit.0)
       go false same none rest = subst (λ n. n ≤ bound) (sym (zero_more (total name) (column_named name column (suc k) events))) rest
 
-own_fit : (files : List File) (column : ℕ → ℕ) (k : ℕ) (events : List (List ℕ)) → AllByRecursion Fits (own_sums files column k events) → AreFit (own_held files) column k events
-own_fit files column k [] all = tt
-own_fit files column k (event ∷ events) all = (all.0, own_fit files column (suc k) events all.1)
+self_fit : (files : List File) (column : ℕ → ℕ) (k : ℕ) (events : List (List ℕ)) → AllByRecursion Fits (self_sums files column k events) → AreFit (self_held files) column k events
+self_fit files column k [] all = tt
+self_fit files column k (event ∷ events) all = (all.0, self_fit files column (suc k) events all.1)
 
 calls_fit : (files : List File) (column : ℕ → ℕ) (k : ℕ) (events : List (List ℕ)) → AllByRecursion Fits (call_sums files column k events) → AreFit (calls_cost_held files) column k events
 calls_fit files column k [] all = tt
@@ -117,11 +117,11 @@ module _ (m : File → ℕ) (p : File → Bool) where
       low : (a b d one nothing files bound : ℕ) → a ≡ b + d → d ≡ one + nothing → nothing ≡ 0 → b ≤ files → files + one ≤ bound → a ≤ bound
       low a b d one nothing files bound e is none less fit = omega arith
 
--- ---- each turn
+-- ---- each step
 
 left_fit : (p : File → Bool) (files : List File) → SumsFit files → SumsFit (filter p files ++ [])
 left_fit p files was = record {
-  self_cost = λ name. stay_fit (λ (f : File). column_named name (own_column f.format f.bytes) 0 (events_of f.format f.bytes)) p files (was.self_cost name);
+  self_cost = λ name. stay_fit (λ (f : File). column_named name (self_column f.format f.bytes) 0 (events_of f.format f.bytes)) p files (was.self_cost name);
   call_cost = λ name. stay_fit (λ (f : File). column_named name (call_column f.format f.bytes) 0 (events_of f.format f.bytes)) p files (was.call_cost name);
   call_count = stay_fit (λ (f : File). calls_of f.format f.bytes) p files was.call_count;
 }
@@ -131,32 +131,32 @@ import_fit : (p : File → Bool) (files : List File) (number : ℕ) (format : Fo
 import_fit p files number format label bytes was distinct none =
     let events : List (List ℕ) = events_of format bytes in
     let f : File = record { number = number; format = format; label = label; bytes = bytes } in
-    let own : List Sum = own_sums files (own_column format bytes) 0 events in
+    let own : List Sum = self_sums files (self_column format bytes) 0 events in
     let calls : List Sum = call_sums files (call_column format bytes) 0 events in
     let count : List Sum = record { of = CallCount; sum = calls_held files + calls_of format bytes } ∷ [] in
     let costs = split (own ++ calls) count (all_fit (sums_with files format bytes) none) in
     let each = split own calls costs.0 in
     record {
       self_cost = λ name.
-          more_fit (λ (f : File). column_named name (own_column f.format f.bytes) 0 (events_of f.format f.bytes)) p files f
-          (named_fits (own_held files) (own_column format bytes) name 0 events distinct (was.self_cost name) (own_fit files (own_column format bytes) 0 events each.0));
+          more_fit (λ (f : File). column_named name (self_column f.format f.bytes) 0 (events_of f.format f.bytes)) p files f
+          (named_fits (self_held files) (self_column format bytes) name 0 events distinct (was.self_cost name) (self_fit files (self_column format bytes) 0 events each.0));
       call_cost = λ name.
           more_fit (λ (f : File). column_named name (call_column f.format f.bytes) 0 (events_of f.format f.bytes)) p files f
           (named_fits (calls_cost_held files) (call_column format bytes) name 0 events distinct (was.call_cost name) (calls_fit files (call_column format bytes) 0 events each.1));
       call_count = more_fit (λ (f : File). calls_of f.format f.bytes) p files f costs.1.0;
     }
 
-turn_fits : (limits : Limits) (h : History) (said : Said) (answer : Answer) → IsLegal limits h said answer → SumsFit (held h) → SumsFit (filter (stays said answer) (held h) ++ taken said answer)
-turn_fits limits h (Import format label outcomes) (Run n) legal was =
+step_fits : (limits : Limits) (h : History) (command : Command) (answer : Answer) → IsLegal limits h command answer → SumsFit (held h) → SumsFit (filter (stays command answer) (held h) ++ taken command answer)
+step_fits limits h (Import format label outcomes) (Run n) legal was =
     let two = run_fits limits h format label outcomes n legal in
     import_fit (stays (Import format label outcomes) (Run n)) (held h) n format label (bytes_of outcomes) was (events_apart format (bytes_of outcomes) two.0) two.1
-turn_fits limits h (Import format label outcomes) answer legal was = left_fit (stays (Import format label outcomes) answer) (held h) was
-turn_fits limits h said answer legal was = left_fit (stays said answer) (held h) was
+step_fits limits h (Import format label outcomes) answer legal was = left_fit (stays (Import format label outcomes) answer) (held h) was
+step_fits limits h command answer legal was = left_fit (stays command answer) (held h) was
 
 no_sum : 0 ≤ bound
 no_sum = omega arith
 
 pub sums_fit : (h : History) → IsHistory h → SumsFit (held h)
 sums_fit h is =
-    by_turns (λ h. SumsFit (held h)) (record { self_cost = λ name. no_sum; call_cost = λ name. no_sum; call_count = no_sum })
-    (λ limits h turn is was legal. subst SumsFit (sym (held_more h turn)) (turn_fits limits h turn.said turn.answer legal was)) h is
+    by_steps (λ h. SumsFit (held h)) (record { self_cost = λ name. no_sum; call_cost = λ name. no_sum; call_count = no_sum })
+    (λ limits h step is was legal. subst SumsFit (sym (held_more h step)) (step_fits limits h step.command step.answer legal was)) h is

@@ -15,16 +15,16 @@ use Rattle.cg_formulas.specs.declared.heads.FileHead.{FileHead}
 use Rattle.callgrind_reader.specs.Files.{definitions_by, events_by}
 use Rattle.report_texts.specs.Verifying.{verified}
 use Rattle.cost_rows.proofs.WalkSumsLemmas.{column_from, column-at, is_above, none_more, nothing_each_way, one_more}
-use Rattle.plain_tables.specs.Tables.{Tables, RunLine}
+use Rattle.plain_tables.specs.Tables.{Tables, RunRow}
 use Rattle.prof_books.specs.Book.{run_held}
-use Rattle.prof_books.specs.Heads.{coef_lines_at, coef_lines_from, derived_lines_from, stated_at}
+use Rattle.prof_books.specs.Heads.{coef_rows_at, coef_rows_from, derived_rows_from, stated_at}
 use Rattle.histories.specs.Formats.{Format, Callgrind, Folded}
 use Rattle.histories.specs.Files.{derived_of, events_of, stated_of}
 use Rattle.histories.specs.History.{History, File, held}
-use Rattle.histories.specs.Stands.{AreBooksOf, IsBookOf, TablesTell, event_lines_from}
+use Rattle.histories.specs.Representation.{AreBooksOf, IsBookOf, TablesRepresent, event_rows_from}
 use Rattle.histories.proofs.Tests.{all_map, all_on}
-use Rattle.prof_books.specs.HeldHeads.{CoefSaid, EventSaid, IsHeadIn, PlacedName, coef_of_line, coefs_at, coefs_from, derived_said, event_of_line, events_from, events_said, name_of_line, placed}
-use Rattle.histories.specs.Told.{TellsHead}
+use Rattle.prof_books.specs.HeldHeads.{CoefEntry, EventEntry, IsHeadIn, PlacedName, coef_of_line, coefs_at, coefs_from, derived_entries, event_of_line, events_from, event_entries, name_of_line, placed}
+use Rattle.histories.specs.Told.{HeadAgrees}
 use Rattle.histories.proofs.Runs.{run_of}
 use Rattle.histories.proofs.Short.{IsShort, held_short}
 use Rattle.histories.proofs.Stated.{AreTotalsFor, IsSmall, file_totals, same_number}
@@ -75,15 +75,15 @@ module _ {X : Type 0} (place : X → ℕ) where
 -- ---- events
 
 -- what the lines of a file say, where its totals are stated so
-abbrev file_events : (ℕ → Option (List ℕ)) → ℕ → List (List ℕ) → List EventSaid
+abbrev file_events : (ℕ → Option (List ℕ)) → ℕ → List (List ℕ) → List EventEntry
 file_events stated place [] = []
 file_events stated place (name ∷ names) = record { place = place; name = name; stated = stated place } ∷ file_events stated (suc place) names
 
-lines_say : (f : File) (place : ℕ) (names : List (List ℕ)) → map event_of_line (event_lines_from f place names) ≡ file_events (stated_at (stated_of f.format f.bytes)) place names
+lines_say : (f : File) (place : ℕ) (names : List (List ℕ)) → map event_of_line (event_rows_from f place names) ≡ file_events (stated_at (stated_of f.format f.bytes)) place names
 lines_say f place [] = refl
-lines_say f place (name ∷ names) = ap (λ l. let e : EventSaid = record { place = place; name = name; stated = stated_at (stated_of f.format f.bytes) place } in e ∷ l) (lines_say f (suc place) names)
+lines_say f place (name ∷ names) = ap (λ l. let e : EventEntry = record { place = place; name = name; stated = stated_at (stated_of f.format f.bytes) place } in e ∷ l) (lines_say f (suc place) names)
 
-abbrev at_place : EventSaid → ℕ
+abbrev at_place : EventEntry → ℕ
 at_place e = e.place
 
 file_counts : (stated : ℕ → Option (List ℕ)) (place : ℕ) (names : List (List ℕ)) → Count at_place place (file_events stated place names)
@@ -95,8 +95,8 @@ said_counts place [] sums = tt
 said_counts place (name ∷ names) [] = (refl, said_counts (suc place) names [])
 said_counts place (name ∷ names) (sum ∷ sums) = (refl, said_counts (suc place) names sums)
 
-abbrev names_said : List EventSaid → List (List ℕ)
-names_said said = map (λ (e : EventSaid). e.name) said
+abbrev names_said : List EventEntry → List (List ℕ)
+names_said command = map (λ (e : EventEntry). e.name) command
 
 file_names : (stated : ℕ → Option (List ℕ)) (place : ℕ) (names : List (List ℕ)) → names_said (file_events stated place names) ≡ names
 file_names stated place [] = refl
@@ -110,13 +110,13 @@ said_names place (name ∷ names) (sum ∷ sums) = ap (λ l. name ∷ l) (said_n
 -- ---- the totals that are stated
 
 -- the first total that is said, in decimal
-abbrev first_said : List EventSaid → Option (List ℕ)
+abbrev first_said : List EventEntry → Option (List ℕ)
 first_said [] = None
-first_said (e ∷ said) = e.stated
+first_said (e ∷ command) = e.stated
 
-abbrev rest_said : List EventSaid → List EventSaid
+abbrev rest_said : List EventEntry → List EventEntry
 rest_said [] = []
-rest_said (e ∷ said) = said
+rest_said (e ∷ command) = command
 
 same_totals : (stated : ℕ → Option (List ℕ)) (place : ℕ) (names events : List (List ℕ)) (totals sums : List ℕ)
     → ((i j : ℕ) → place + i ≡ j → stated j ≡ option_map decimal (slice_get totals i))
@@ -165,9 +165,9 @@ names_of ds = map (λ (d : Derived). d.0) ds
 abbrev rows_of : List Derived → List (List ℕ)
 rows_of ds = map (λ (d : Derived). d.1) ds
 
-derived_lines_say : (run place : ℕ) (ds : List Derived) → map name_of_line (derived_lines_from run place ds) ≡ placed place (names_of ds)
-derived_lines_say run place [] = refl
-derived_lines_say run place (d ∷ ds) = ap (λ l. let p : PlacedName = record { place = place; name = d.0 } in p ∷ l) (derived_lines_say run (suc place) ds)
+derived_rows_say : (run place : ℕ) (ds : List Derived) → map name_of_line (derived_rows_from run place ds) ≡ placed place (names_of ds)
+derived_rows_say run place [] = refl
+derived_rows_say run place (d ∷ ds) = ap (λ l. let p : PlacedName = record { place = place; name = d.0 } in p ∷ l) (derived_rows_say run (suc place) ds)
 
 abbrev name_at : PlacedName → ℕ
 name_at p = p.place
@@ -186,27 +186,27 @@ same_names xs ys same = sym (placed_names 0 xs) ∙ ap (map (λ (p : PlacedName)
 -- ---- coefficients
 
 -- the lines of a file say them in the same way
-row_said : (run place event : ℕ) (row : List ℕ) → map coef_of_line (coef_lines_at run place event row) ≡ coefs_at place event row
+row_said : (run place event : ℕ) (row : List ℕ) → map coef_of_line (coef_rows_at run place event row) ≡ coefs_at place event row
 row_said run place event [] = refl
 row_said run place event (times ∷ row) = go (nat_lt 0 times) (row_said run place (suc event) row)
   where
-    go : (b : Bool) → map coef_of_line (coef_lines_at run place (suc event) row) ≡ coefs_at place (suc event) row
-        → map coef_of_line (if b then record { run = run; place = place; event = event; times = times } ∷ coef_lines_at run place (suc event) row else coef_lines_at run place (suc event) row)
+    go : (b : Bool) → map coef_of_line (coef_rows_at run place (suc event) row) ≡ coefs_at place (suc event) row
+        → map coef_of_line (if b then record { run = run; place = place; event = event; times = times } ∷ coef_rows_at run place (suc event) row else coef_rows_at run place (suc event) row)
         ≡ (if b then record { place = place; event = event; times = times } ∷ coefs_at place (suc event) row else coefs_at place (suc event) row)
     go true rest = ap₂ ◌∷◌ refl rest
     go false rest = rest
 
-coef_lines_say : (run place : ℕ) (ds : List Derived) → map coef_of_line (coef_lines_from run place ds) ≡ coefs_from place (rows_of ds)
-coef_lines_say run place [] = refl
-coef_lines_say run place (d ∷ ds) =
-    map-append coef_of_line (coef_lines_at run place 0 d.1) (coef_lines_from run (suc place) ds)
-    ∙ ap₂ ◌++◌ (row_said run place 0 d.1) (coef_lines_say run (suc place) ds)
+coef_rows_say : (run place : ℕ) (ds : List Derived) → map coef_of_line (coef_rows_from run place ds) ≡ coefs_from place (rows_of ds)
+coef_rows_say run place [] = refl
+coef_rows_say run place (d ∷ ds) =
+    map-append coef_of_line (coef_rows_at run place 0 d.1) (coef_rows_from run (suc place) ds)
+    ∙ ap₂ ◌++◌ (row_said run place 0 d.1) (coef_rows_say run (suc place) ds)
 
 -- how often they count an event at a place
-abbrev times_of : ℕ → ℕ → CoefSaid → ℕ
+abbrev times_of : ℕ → ℕ → CoefEntry → ℕ
 times_of p e c = if (c.place == p) && (c.event == e) then c.times else 0
 
-abbrev times_said : ℕ → ℕ → List CoefSaid → ℕ
+abbrev times_said : ℕ → ℕ → List CoefEntry → ℕ
 times_said p e cs = sum_by (times_of p e) cs
 
 -- how often rows do
@@ -305,23 +305,23 @@ file_wide Folded bytes = tt
 
 -- ---- the head
 
-pub head_told : (f : File) (t : Tables) (line : RunLine) (head : FileHead) → IsShort f → IsBookOf f (run_held t line) → IsHeadIn line.number t head → TellsHead f head
+pub head_told : (f : File) (t : Tables) (line : RunRow) (head : FileHead) → IsShort f → IsBookOf f (run_held t line) → IsHeadIn line.number t head → HeadAgrees f head
 head_told f t line head short book is =
     let sound = is.sound in
     let stated : ℕ → Option (List ℕ) = stated_at (stated_of f.format f.bytes) in
     let names : List (List ℕ) = events_of f.format f.bytes in
     let ds : List Derived = derived_of f.format f.bytes in
     let es : List Derived = head.derived.derived in
-    let said : file_events stated 0 names ≡ events_said head =
-    same_order at_place 0 (file_events stated 0 names) (events_said head) (file_counts stated 0 names) (said_counts 0 head.events (unwrap_or head.stated []))
-    (subst (λ l. IsPermutation l (events_said head)) (lines_say f 0 names) (subst (λ lines. IsPermutation (map event_of_line lines) (events_said head)) book.events is.events_are)) in
-    let events : head.events ≡ names = sym (said_names 0 head.events (unwrap_or head.stated [])) ∙ ap names_said (sym said) ∙ file_names stated 0 names in
+    let command : file_events stated 0 names ≡ event_entries head =
+    same_order at_place 0 (file_events stated 0 names) (event_entries head) (file_counts stated 0 names) (said_counts 0 head.events (unwrap_or head.stated []))
+    (subst (λ l. IsPermutation l (event_entries head)) (lines_say f 0 names) (subst (λ lines. IsPermutation (map event_of_line lines) (event_entries head)) book.events is.events_are)) in
+    let events : head.events ≡ names = sym (said_names 0 head.events (unwrap_or head.stated [])) ∙ ap names_said (sym command) ∙ file_names stated 0 names in
     let derived_names_are : names_of ds ≡ names_of es =
     same_names (names_of ds) (names_of es)
-    (same_order name_at 0 (placed 0 (names_of ds)) (derived_said head) (placed_counts 0 (names_of ds)) (placed_counts 0 (names_of es))
-    (subst (λ l. IsPermutation l (derived_said head)) (derived_lines_say f.number 0 ds) (subst (λ lines. IsPermutation (map name_of_line lines) (derived_said head)) book.derived is.derived_are))) in
+    (same_order name_at 0 (placed 0 (names_of ds)) (derived_entries head) (placed_counts 0 (names_of ds)) (placed_counts 0 (names_of es))
+    (subst (λ l. IsPermutation l (derived_entries head)) (derived_rows_say f.number 0 ds) (subst (λ lines. IsPermutation (map name_of_line lines) (derived_entries head)) book.derived is.derived_are))) in
     let coefs : IsPermutation (coefs_from 0 (rows_of ds)) (coefs_from 0 (rows_of es)) =
-    subst (λ l. IsPermutation l (coefs_from 0 (rows_of es))) (coef_lines_say f.number 0 ds) (subst (λ lines. IsPermutation (map coef_of_line lines) (coefs_from 0 (rows_of es))) book.coefs is.coefs_are) in
+    subst (λ l. IsPermutation l (coefs_from 0 (rows_of es))) (coef_rows_say f.number 0 ds) (subst (λ lines. IsPermutation (map coef_of_line lines) (coefs_from 0 (rows_of es))) book.coefs is.coefs_are) in
     let wide : AreWide (length head.derived.events) (rows_of es) =
     all_map (λ (d : Derived). length d.1 ≡ length head.derived.events) (λ (row : List ℕ). length row ≡ length head.derived.events) (λ (d : Derived). d.1) es (λ d is_wide. is_wide)
     (recursion_from_All (λ (d : Derived). length d.1 ≡ length head.derived.events) es head.derived.shape) in
@@ -333,18 +333,18 @@ head_told f t line head short book is =
       events = events;
       wide = sound.events_same;
       derived = sym (same_pairs ds es derived_names_are rows);
-      stated = λ some. told_stated names head.events (stated_of f.format f.bytes) head.stated some (file_totals f.format f.bytes short) sound.stated_all said;
+      stated = λ some. told_stated names head.events (stated_of f.format f.bytes) head.stated some (file_totals f.format f.bytes short) sound.stated_all command;
     }
 
 -- ---- of a file that a history holds
 
-pub held_head_told : (h : History) (t : Tables) (f : File) (head : FileHead) → TablesTell h t → Has (held h) f → IsHeadIn f.number t head → TellsHead f head
-held_head_told h t f head tell there is =
-    let run = run_of t t.runs (held h) f tell.runs there in
-    head_told f t run.line head (all_has IsShort (held h) f (held_short h tell.legal) there) run.book (subst (λ n. IsHeadIn n t head) (sym run.book.number) is)
+pub held_head_told : (h : History) (t : Tables) (f : File) (head : FileHead) → TablesRepresent h t → Has (held h) f → IsHeadIn f.number t head → HeadAgrees f head
+held_head_told h t f head represent there is =
+    let run = run_of t t.runs (held h) f represent.runs there in
+    head_told f t run.line head (all_has IsShort (held h) f (held_short h represent.legal) there) run.book (subst (λ n. IsHeadIn n t head) (sym run.book.number) is)
 
 -- what is verified by a head is what is verified by the file, which states nothing where it has no event
-pub verified_told : (f : File) (head : FileHead) (run : ℕ) (sums : List ℕ) → TellsHead f head → verified run head.events sums head.stated ≡ verified run (events_of f.format f.bytes) sums (stated_of f.format f.bytes)
+pub verified_told : (f : File) (head : FileHead) (run : ℕ) (sums : List ℕ) → HeadAgrees f head → verified run head.events sums head.stated ≡ verified run (events_of f.format f.bytes) sums (stated_of f.format f.bytes)
 verified_told f head run sums told = ap (λ events. verified run events sums head.stated) told.events ∙ go (events_of f.format f.bytes) (λ some. told.stated (subst (λ events. 0 < length events) (sym told.events) some))
   where
     go : (events : List (List ℕ)) → (0 < length events → head.stated ≡ stated_of f.format f.bytes) → verified run events sums head.stated ≡ verified run events sums (stated_of f.format f.bytes)

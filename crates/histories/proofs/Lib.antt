@@ -2,7 +2,7 @@ pub mod Baselines
 pub mod Books
 pub mod Cuts
 pub mod Distinct
-pub mod Due
+pub mod Expected
 pub mod Examples
 pub mod ExportExamples
 pub mod Excesses
@@ -16,7 +16,7 @@ mod MarkExamples
 pub mod Marks
 pub mod Members
 pub mod Put
-pub mod ReadsDue
+pub mod ReadsExpected
 pub mod ReportExamples
 pub mod Rows
 pub mod Runs
@@ -29,4 +29,4 @@ pub mod Tests
 pub mod TextExamples
 pub mod Texts
 pub mod Totals
-pub mod Turns
+pub mod StepsTo

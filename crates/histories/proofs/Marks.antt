@@ -20,7 +20,7 @@ use Rattle.callgrind_reader.specs.Costs.{row_at}
 use Rattle.callgrind_reader.specs.Calls.{awaiting}
 use Rattle.callgrind_reader.specs.Threads.{thread_of}
 use Rattle.profile_records.specs.Records.{Record}
-use Rattle.histories.specs.History.{History, Turn}
+use Rattle.histories.specs.History.{History, Step}
 use Rattle.histories.specs.Marks.{AreBy, AreReadAlike, HasNoThread, HasNoThreadLine, IsBy, IsMarked}
 
 -- ---- the mark
@@ -29,18 +29,18 @@ all_and : {A : Type 0} (P : A → Type 0) (xs ys : List A) → AllByRecursion P 
 all_and P [] ys one two = two
 all_and P (x ∷ xs) ys one two = (one.0, all_and P xs ys one.1 two)
 
-pub marked_on : (h turns : History) → IsMarked h → AreBy Second turns → IsMarked (h ++ turns)
-marked_on h turns was more = record {
+pub marked_on : (h steps : History) → IsMarked h → AreBy Second steps → IsMarked (h ++ steps)
+marked_on h steps was more = record {
   before = was.before;
-  after = was.after ++ turns;
-  is = ap (λ l. l ++ turns) was.is ∙ append_assoc was.before was.after turns;
+  after = was.after ++ steps;
+  is = ap (λ l. l ++ steps) was.is ∙ append_assoc was.before was.after steps;
   by_first = was.by_first;
-  by_second = all_and (λ (turn : Turn). IsBy Second turn.said) was.after turns was.by_second more;
+  by_second = all_and (λ (step : Step). IsBy Second step.command) was.after steps was.by_second more;
 }
 
 none_after : (h : History) → h ≡ h ++ []
 none_after [] = refl
-none_after (turn ∷ h) = ap (λ l. turn ∷ l) (none_after h)
+none_after (step ∷ h) = ap (λ l. step ∷ l) (none_after h)
 
 pub marked_at_end : (h : History) → AreBy First h → IsMarked h
 marked_at_end h all = record { before = h; after = []; is = none_after h; by_first = all; by_second = tt }

@@ -18,7 +18,7 @@ use Rattle.profile_records.specs.declared.kinds.Kind.{Kind}
 use Rattle.profile_records.specs.declared.kinds.Kind.TheVariants.{Callgrind, Folded}
 use Rattle.byte_io.specs.Outcomes.{Gave}
 use Rattle.histories.specs.Formats.{today}
-use Rattle.histories.specs.History.{History, Import, Remove, MakeGroup, Join, SetBaseline, Turn}
+use Rattle.histories.specs.History.{History, Import, Remove, MakeGroup, Join, SetBaseline, Step}
 use Rattle.histories.specs.Legal.{expected_of_query}
 use Rattle.histories.specs.declared.answers.Answer.{Answer}
 use Rattle.histories.specs.declared.answers.Answer.TheVariants.{Run, Done, Text, Refused}
@@ -29,8 +29,8 @@ use Rattle.histories.specs.declared.answers.Selection.TheVariants as selections
 
 -- ---- files and histories
 
-abbrev imported : ℕ → Kind → List ℕ → Turn
-imported n kind bytes = record { said = Import (today kind) (codes "a") (Gave bytes ∷ Gave [] ∷ []); answer = Run n }
+abbrev imported : ℕ → Kind → List ℕ → Step
+imported n kind bytes = record { command = Import (today kind) (codes "a") (Gave bytes ∷ Gave [] ∷ []); answer = Run n }
 
 abbrev whole : Cut
 whole = record { limit = None; threshold = 100 }
@@ -82,7 +82,7 @@ samples_are_told = refl
 -- ---- which files
 
 abbrev grouped : History
-grouped = imported 1 Callgrind ticks ∷ imported 2 Callgrind estimated_otherwise ∷ record { said = MakeGroup (codes "g"); answer = Done } ∷ record { said = Join (codes "g") 2; answer = Done } ∷ []
+grouped = imported 1 Callgrind ticks ∷ imported 2 Callgrind estimated_otherwise ∷ record { command = MakeGroup (codes "g"); answer = Done } ∷ record { command = Join (codes "g") 2; answer = Done } ∷ []
 
 one_group_is_told : by (selections.Group (codes "g")) keys.Function (codes "Ir") grouped ≡ Text (codes "by function Ir\n5 100.00% total\n5 100.00% ???:???\n0 0.00% (rest)\n")
 unfolding digits reading_of line_text kind_of name_of number_of amount_of subpos_of event_of formula_of term_of
@@ -177,12 +177,12 @@ no_difference_from_itself : subtracted (selections.Run 1) (Some (selections.Run 
 unfolding digits reading_of line_text kind_of name_of number_of amount_of subpos_of
 no_difference_from_itself = refl
 
--- the baseline of a group stands for a second selection
-abbrev compared_group : List Turn → History
-compared_group turns = two_runs ++ record { said = MakeGroup (codes "g"); answer = Done } ∷ record { said = Join (codes "g") 2; answer = Done } ∷ turns
+-- the baseline of a group serves as a second selection
+abbrev compared_group : List Step → History
+compared_group steps = two_runs ++ record { command = MakeGroup (codes "g"); answer = Done } ∷ record { command = Join (codes "g") 2; answer = Done } ∷ steps
 
-abbrev based : Turn
-based = record { said = SetBaseline (codes "g") 1; answer = Done }
+abbrev based : Step
+based = record { command = SetBaseline (codes "g") 1; answer = Done }
 
 baselines_are_compared : subtracted (selections.Group (codes "g")) None (compared_group (based ∷ [])) ≡ Text (codes "subtract function Ir\n-99 total\n-100 ???:f\n1 ???:???\n")
 unfolding digits reading_of line_text kind_of name_of number_of amount_of subpos_of
@@ -191,7 +191,7 @@ baselines_are_compared = refl
 no_baseline_was_set : subtracted (selections.Group (codes "g")) None (compared_group []) ≡ Refused reasons.NoBaseline
 no_baseline_was_set = refl
 
-removed_baseline_is_none : subtracted (selections.Group (codes "g")) None (compared_group (based ∷ record { said = Remove 1; answer = Done } ∷ [])) ≡ Refused reasons.NoBaseline
+removed_baseline_is_none : subtracted (selections.Group (codes "g")) None (compared_group (based ∷ record { command = Remove 1; answer = Done } ∷ [])) ≡ Refused reasons.NoBaseline
 removed_baseline_is_none = refl
 
 runs_have_no_baseline : subtracted (selections.Run 1) None two_runs ≡ Refused reasons.NoBaseline

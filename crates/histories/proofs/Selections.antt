@@ -6,13 +6,13 @@ use Rattle.std.specs.List.Sorted.{IsStrictlySortedBy}
 use Rattle.std.specs.Ordering.{nat_cmp}
 use Rattle.std.specs.declared.cmp.Ordering.TheVariants.{Less}
 use Rattle.std.proofs.lemmas.Bool.{eqb-true, ne_eqb}
-use Rattle.plain_tables.specs.Tables.{Tables, RunLine}
+use Rattle.plain_tables.specs.Tables.{Tables, RunRow}
 use Rattle.prof_books.specs.Book.{run_held}
 use Rattle.histories.specs.History.{History, File, held, is_member, members}
 use Rattle.histories.specs.Legal.{IsHistory, has_run}
-use Rattle.histories.specs.SelectedRuns.{selects_in, AreSelected, TellsSelected}
+use Rattle.histories.specs.SelectedRuns.{selects_in, AreSelected, SelectionAgrees}
 use Rattle.histories.specs.Selections.{selects, selected, numbers_of}
-use Rattle.histories.specs.Stands.{AreBooksOf, TablesTell}
+use Rattle.histories.specs.Representation.{AreBooksOf, TablesRepresent}
 use Rattle.histories.specs.declared.answers.Selection.{Selection}
 use Rattle.histories.specs.declared.answers.Selection.TheVariants as selections
 use Rattle.histories.proofs.Invariants.{IsBefore, numbered}
@@ -79,26 +79,26 @@ are_selected h is = record {
 
 -- ---- in tables
 
-selects_same : (h : History) (t : Tables) → TablesTell h t → (s : Selection) (n : ℕ) → selects_in t s n ≡ selects h s n
-selects_same h t tell selections.All n = refl
-selects_same h t tell (selections.Run m) n = refl
-selects_same h t tell (selections.Group name) n = tell.members name n
+selects_same : (h : History) (t : Tables) → TablesRepresent h t → (s : Selection) (n : ℕ) → selects_in t s n ≡ selects h s n
+selects_same h t represent selections.All n = refl
+selects_same h t represent (selections.Run m) n = refl
+selects_same h t represent (selections.Group name) n = represent.members name n
 
 module _ (t : Tables) (p q : ℕ → Bool) (same : (n : ℕ) → q n ≡ p n) where
-  books_where : (files : List File) (lines : List RunLine) → AreBooksOf files (map (run_held t) lines)
-      → AreBooksOf (filter (λ (f : File). p f.number) files) (map (run_held t) (filter (λ (r : RunLine). q r.number) lines))
+  books_where : (files : List File) (lines : List RunRow) → AreBooksOf files (map (run_held t) lines)
+      → AreBooksOf (filter (λ (f : File). p f.number) files) (map (run_held t) (filter (λ (r : RunRow). q r.number) lines))
   books_where [] [] all = tt
   books_where [] (r ∷ lines) all = absurd all
   books_where (f ∷ files) [] all = absurd all
   books_where (f ∷ files) (r ∷ lines) all = go (p f.number) (q r.number) (ap q all.0.number ∙ same f.number) (books_where files lines all.1)
     where
-      go : (a b : Bool) → b ≡ a → AreBooksOf (filter (λ (g : File). p g.number) files) (map (run_held t) (filter (λ (l : RunLine). q l.number) lines))
+      go : (a b : Bool) → b ≡ a → AreBooksOf (filter (λ (g : File). p g.number) files) (map (run_held t) (filter (λ (l : RunRow). q l.number) lines))
           → AreBooksOf (cond a (f ∷ filter (λ (g : File). p g.number) files) (filter (λ (g : File). p g.number) files))
-          (map (run_held t) (cond b (r ∷ filter (λ (l : RunLine). q l.number) lines) (filter (λ (l : RunLine). q l.number) lines)))
+          (map (run_held t) (cond b (r ∷ filter (λ (l : RunRow). q l.number) lines) (filter (λ (l : RunRow). q l.number) lines)))
       go true true is rest = (all.0, rest)
       go false false is rest = rest
       go true false is rest = absurd cc
       go false true is rest = absurd cc
 
-pub tells_selected : (h : History) (t : Tables) (s : Selection) → TablesTell h t → TellsSelected h t s
-tells_selected h t s tell = books_where t (selects h s) (selects_in t s) (selects_same h t tell s) (held h) t.runs tell.runs
+pub tells_selected : (h : History) (t : Tables) (s : Selection) → TablesRepresent h t → SelectionAgrees h t s
+tells_selected h t s represent = books_where t (selects h s) (selects_in t s) (selects_same h t represent s) (held h) t.runs represent.runs

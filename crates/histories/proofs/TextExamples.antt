@@ -20,10 +20,10 @@ unfolding reading_of line_text kind_of name_of number_of amount_of subpos_of
 cells-twice = refl
 
 -- two calls of one function
-arcs-twice : (content_of_text (codes "events: Ir\nfn=f\ncfn=g\ncalls=1 1\n5 10\ncfn=g\ncalls=2 1\n5 20\n")).arcs
+edges-twice : (content_of_text (codes "events: Ir\nfn=f\ncfn=g\ncalls=1 1\n5 10\ncfn=g\ncalls=2 1\n5 20\n")).calls
     ≡ (record { place = record { object = 0; file = 0; function = 1; line = 5 }; object = 0; file = 0; function = 2 }, record { count = 3; costs = 30 ∷ [] }) ∷ []
 unfolding reading_of line_text kind_of name_of number_of amount_of subpos_of
-arcs-twice = refl
+edges-twice = refl
 
 calls-twice : count_sum (λ _ _. true) (records_of_file (codes "events: Ir\nfn=f\ncfn=g\ncalls=1 1\n5 10\ncfn=g\ncalls=2 1\n5 20\n")) ≡ 3
 unfolding reading_of line_text kind_of name_of number_of amount_of subpos_of

@@ -1,4 +1,4 @@
--- What tables that stand for a history tell of its groups, and so the texts of lists.
+-- What tables that represent a history tell of its groups, and so the texts of lists.
 use Rattle.std.proofs.Common.{◌≡◌, ℕ, ◌<◌, Bool, true, false, ◌&&◌, ◌||◌, ◌==◌, eqb, List, [], ◌∷◌, ◌++◌, map, filter, flat_map, length, Option, refl, sym, ap, ap₂, subst, ◌∙◌, cond, arith, IsPermutation}
 use Rattle.std.specs.List.{list_any, AllByRecursion, AllAdjacentBelow}
 use Rattle.std.specs.Ordering.{nat_cmp}
@@ -10,7 +10,7 @@ use Rattle.std.proofs.lemmas.List.Elements.{All-from_recursion, recursion_from_A
 use Rattle.std.proofs.lemmas.List.Sorted.{All-permutation, IsPermutation-map, list_any-IsPermutation}
 use Rattle.cost_rows.proofs.NamingLemmas.{same_bytes}
 use Rattle.sha2.specs.Sha256.{sha256}
-use Rattle.plain_tables.specs.Tables.{Tables, GroupLine, MemberLine}
+use Rattle.plain_tables.specs.Tables.{Tables, GroupRow, MemberRow}
 use Rattle.plain_tables.specs.Changes as changes
 use Rattle.prof_books.specs.Entries.{HeldRun, held_run}
 use Rattle.profile_records.specs.Kinds.{kind_number}
@@ -19,7 +19,7 @@ use Rattle.profile_records.specs.declared.kinds.Kind.TheVariants.{Callgrind, Fol
 use Rattle.histories.specs.Formats.{kind_in}
 use Rattle.histories.specs.History.{History, File, held, groups, members, is_member, baseline}
 use Rattle.histories.specs.Legal.{IsHistory, has_run}
-use Rattle.histories.specs.Stands.{TablesTell, file_run}
+use Rattle.histories.specs.Representation.{TablesRepresent, file_run}
 use Rattle.histories.specs.Texts.{rising, group_line, groups_text, run_line, run_text, runs_text}
 use Rattle.histories.proofs.Invariants.{IsBefore, members_held, numbered, groups_named}
 use Rattle.histories.proofs.Lists.{Before, before_trans, before_irreflexive, any_rising, up_rising, pairs_of, pairs_map, same_rising}
@@ -51,9 +51,9 @@ module _ {E : Type 0} (number : E → ℕ) (kind : E → Kind) (digest : E → L
       (run_lines es files later)
 
   -- the text of the list of runs is that of the entries
-  pub tells_runs_text : (h : History) (t : Tables) (entries : List E) → TablesTell h t → map (λ e. let r : HeldRun = record { number = number e; kind = kind_number (kind e); digest = digest e; label = label e } in r) entries ≡ map held_run t.runs
+  pub tells_runs_text : (h : History) (t : Tables) (entries : List E) → TablesRepresent h t → map (λ e. let r : HeldRun = record { number = number e; kind = kind_number (kind e); digest = digest e; label = label e } in r) entries ≡ map held_run t.runs
       → runs_text h ≡ flat_map (λ e. run_text (number e) (kind e) (digest e) (label e)) entries
-  tells_runs_text h t entries tell told = run_lines entries (held h) (told ∙ tells_runs h t tell)
+  tells_runs_text h t entries represent told = run_lines entries (held h) (told ∙ tells_runs h t represent)
 
 -- ---- the members of a group rise, and are those that joined it
 
@@ -97,14 +97,14 @@ members_are h is name n =
 -- ---- entries, each with the name, the baseline and the members of a group
 
 module _ {E : Type 0} (name : E → List ℕ) (base : E → Option ℕ) (numbers : E → List ℕ) where
-  abbrev line : E → GroupLine
+  abbrev line : E → GroupRow
   line e = record { name = name e; baseline = base e }
 
-  abbrev in_group : E → ℕ → MemberLine
+  abbrev in_group : E → ℕ → MemberRow
   in_group e n = record { group = name e; run = n }
 
-  module _ (h : History) (t : Tables) (entries : List E) (tell : TablesTell h t) where
-    names_of : (es : List E) → map (λ (g : GroupLine). g.name) (map line es) ≡ map name es
+  module _ (h : History) (t : Tables) (entries : List E) (represent : TablesRepresent h t) where
+    names_of : (es : List E) → map (λ (g : GroupRow). g.name) (map line es) ≡ map name es
     names_of [] = refl
     names_of (e ∷ es) = ap (λ l. name e ∷ l) (names_of es)
 
@@ -113,46 +113,46 @@ module _ {E : Type 0} (name : E → List ℕ) (base : E → Option ℕ) (numbers
     tells_rising lines up =
         let names : IsPermutation (groups h) (map name entries) =
         subst (λ l. IsPermutation (groups h) l) (names_of entries)
-        (subst (λ l. IsPermutation l (map (λ (g : GroupLine). g.name) (map line entries))) tell.groups (IsPermutation-map (λ (g : GroupLine). g.name) t.groups (map line entries) lines)) in
+        (subst (λ l. IsPermutation l (map (λ (g : GroupRow). g.name) (map line entries))) represent.groups (IsPermutation-map (λ (g : GroupRow). g.name) t.groups (map line entries) lines)) in
         let pairs = pairs_of (λ a b. Before (name a) (name b)) (λ a b c. before_trans (name a) (name b) (name c)) entries up in
-        same_rising bytes_eq same_bytes Before bytes-self before_irreflexive before_trans (rising (groups h)) (map name entries) (up_rising (groups h) (groups_named h tell.legal).apart)
+        same_rising bytes_eq same_bytes Before bytes-self before_irreflexive before_trans (rising (groups h)) (map name entries) (up_rising (groups h) (groups_named h represent.legal).apart)
         (pairs_map (λ a b. Before (name a) (name b)) Before name entries (λ a b before. before) pairs)
         (λ k. any_rising (λ j. bytes_eq j k) (groups h) ∙ list_any-IsPermutation (λ j. bytes_eq j k) (groups h) (map name entries) names)
 
-    baselines_of : (es : List E) → AllByRecursion (λ (g : GroupLine). g.baseline ≡ baseline h g.name) (map line es) → AllByRecursion (λ e. base e ≡ baseline h (name e)) es
+    baselines_of : (es : List E) → AllByRecursion (λ (g : GroupRow). g.baseline ≡ baseline h g.name) (map line es) → AllByRecursion (λ e. base e ≡ baseline h (name e)) es
     baselines_of [] all = tt
     baselines_of (e ∷ es) all = (all.0, baselines_of es all.1)
 
     pub tells_baselines : IsPermutation t.groups (map line entries) → AllByRecursion (λ e. base e ≡ baseline h (name e)) entries
     tells_baselines lines =
         baselines_of entries
-        (recursion_from_All (λ (g : GroupLine). g.baseline ≡ baseline h g.name) (map line entries)
-        (All-permutation (λ (g : GroupLine). g.baseline ≡ baseline h g.name) t.groups (map line entries) lines (All-from_recursion (λ (g : GroupLine). g.baseline ≡ baseline h g.name) t.groups tell.baselines)))
+        (recursion_from_All (λ (g : GroupRow). g.baseline ≡ baseline h g.name) (map line entries)
+        (All-permutation (λ (g : GroupRow). g.baseline ≡ baseline h g.name) t.groups (map line entries) lines (All-from_recursion (λ (g : GroupRow). g.baseline ≡ baseline h g.name) t.groups represent.baselines)))
 
-    any_in_group : (e : E) (n : ℕ) (runs : List ℕ) → list_any (λ (m : MemberLine). m.run == n) (map (in_group e) runs) ≡ list_any (λ k. k == n) runs
+    any_in_group : (e : E) (n : ℕ) (runs : List ℕ) → list_any (λ (m : MemberRow). m.run == n) (map (in_group e) runs) ≡ list_any (λ k. k == n) runs
     any_in_group e n [] = refl
     any_in_group e n (k ∷ runs) = ap (λ b. (k == n) || b) (any_in_group e n runs)
 
-    any_two : (group : List ℕ) (n : ℕ) (lines : List MemberLine) → list_any (λ (m : MemberLine). m.run == n) (filter (λ (m : MemberLine). bytes_eq m.group group) lines) ≡ list_any (changes.is_member group n) lines
+    any_two : (group : List ℕ) (n : ℕ) (lines : List MemberRow) → list_any (λ (m : MemberRow). m.run == n) (filter (λ (m : MemberRow). bytes_eq m.group group) lines) ≡ list_any (changes.is_member group n) lines
     any_two group n [] = refl
     any_two group n (m ∷ lines) = go (bytes_eq m.group group) (any_two group n lines)
       where
-        go : (b : Bool) → list_any (λ (m : MemberLine). m.run == n) (filter (λ (m : MemberLine). bytes_eq m.group group) lines) ≡ list_any (changes.is_member group n) lines
-            → list_any (λ (m : MemberLine). m.run == n) (cond b (m ∷ filter (λ (m : MemberLine). bytes_eq m.group group) lines) (filter (λ (m : MemberLine). bytes_eq m.group group) lines))
+        go : (b : Bool) → list_any (λ (m : MemberRow). m.run == n) (filter (λ (m : MemberRow). bytes_eq m.group group) lines) ≡ list_any (changes.is_member group n) lines
+            → list_any (λ (m : MemberRow). m.run == n) (cond b (m ∷ filter (λ (m : MemberRow). bytes_eq m.group group) lines) (filter (λ (m : MemberRow). bytes_eq m.group group) lines))
             ≡ (b && (m.run == n)) || list_any (changes.is_member group n) lines
         go true rest = ap (λ b. (m.run == n) || b) rest
         go false rest = rest
 
     -- the members of an entry are those of its group
-    pub tells_members : (e : E) → IsPermutation (filter (λ (m : MemberLine). bytes_eq m.group (name e)) t.members) (map (in_group e) (numbers e)) → AllAdjacentBelow (λ a b. a < b) (numbers e) (length (numbers e)) → members h (name e) ≡ numbers e
+    pub tells_members : (e : E) → IsPermutation (filter (λ (m : MemberRow). bytes_eq m.group (name e)) t.members) (map (in_group e) (numbers e)) → AllAdjacentBelow (λ a b. a < b) (numbers e) (length (numbers e)) → members h (name e) ≡ numbers e
     tells_members e lines up =
-        same_rising eqb eqb-true IsLess number_self less_irreflexive less_trans (members h (name e)) (numbers e) (members_up h tell.legal (name e)) (pairs_of IsLess less_trans (numbers e) up)
+        same_rising eqb eqb-true IsLess number_self less_irreflexive less_trans (members h (name e)) (numbers e) (members_up h represent.legal (name e)) (pairs_of IsLess less_trans (numbers e) up)
         (λ n.
-        members_are h tell.legal (name e) n ∙ sym (tell.members (name e) n) ∙ sym (any_two (name e) n t.members)
-        ∙ list_any-IsPermutation (λ (m : MemberLine). m.run == n) (filter (λ (m : MemberLine). bytes_eq m.group (name e)) t.members) (map (in_group e) (numbers e)) lines ∙ any_in_group e n (numbers e))
+        members_are h represent.legal (name e) n ∙ sym (represent.members (name e) n) ∙ sym (any_two (name e) n t.members)
+        ∙ list_any-IsPermutation (λ (m : MemberRow). m.run == n) (filter (λ (m : MemberRow). bytes_eq m.group (name e)) t.members) (map (in_group e) (numbers e)) lines ∙ any_in_group e n (numbers e))
 
     lines_of : (es : List E) → AllByRecursion (λ e. base e ≡ baseline h (name e)) es
-        → AllByRecursion (λ e. IsPermutation (filter (λ (m : MemberLine). bytes_eq m.group (name e)) t.members) (map (in_group e) (numbers e))) es
+        → AllByRecursion (λ e. IsPermutation (filter (λ (m : MemberRow). bytes_eq m.group (name e)) t.members) (map (in_group e) (numbers e))) es
         → ((e : E) → AllAdjacentBelow (λ a b. a < b) (numbers e) (length (numbers e)))
         → flat_map (λ name. group_line name (baseline h name) (members h name)) (map name es) ≡ flat_map (λ e. group_line (name e) (base e) (numbers e)) es
     lines_of [] bases lines up = refl
@@ -161,7 +161,7 @@ module _ {E : Type 0} (name : E → List ℕ) (base : E → Option ℕ) (numbers
 
     -- and the text of the list of groups is that of the entries
     pub tells_groups_text : IsPermutation t.groups (map line entries) → AllAdjacentBelow (λ a b. slice_cmp nat_cmp (name a) (name b) ≡ Less) entries (length entries)
-        → AllByRecursion (λ e. IsPermutation (filter (λ (m : MemberLine). bytes_eq m.group (name e)) t.members) (map (in_group e) (numbers e))) entries
+        → AllByRecursion (λ e. IsPermutation (filter (λ (m : MemberRow). bytes_eq m.group (name e)) t.members) (map (in_group e) (numbers e))) entries
         → ((e : E) → AllAdjacentBelow (λ a b. a < b) (numbers e) (length (numbers e)))
         → groups_text h ≡ flat_map (λ e. group_line (name e) (base e) (numbers e)) entries
     tells_groups_text lines up in_groups rise =

@@ -4,7 +4,7 @@ use Rattle.std.specs.Cmp.Lexicographic.{slice_cmp}
 use Rattle.std.specs.List.{AllAdjacentBelow, AllByRecursion}
 use Rattle.std.specs.Ordering.{nat_cmp}
 use Rattle.std.specs.declared.cmp.Ordering.TheVariants.{Less}
-use Rattle.plain_tables.specs.Tables.{Tables, GroupLine, MemberLine}
+use Rattle.plain_tables.specs.Tables.{Tables, GroupRow, MemberRow}
 use Rattle.prof_books.specs.Entries.{HeldRun, held_run}
 use Rattle.profile_records.specs.Kinds.{kind_number}
 use Rattle.profile_records.specs.declared.kinds.Kind.{Kind}
@@ -27,15 +27,15 @@ pub record GroupShown : Type 0 where
   pub base : Option ℕ
   pub numbers : List ℕ
 
-abbrev pub group_shown : GroupShown → GroupLine
+abbrev pub group_shown : GroupShown → GroupRow
 group_shown g = record { name = g.name; baseline = g.base }
 
-abbrev pub member_shown : GroupShown → ℕ → MemberLine
+abbrev pub member_shown : GroupShown → ℕ → MemberRow
 member_shown g n = record { group = g.name; run = n }
 
 -- those among these lines that are of this group, and no others
-abbrev pub AreItsMembers : List MemberLine → GroupShown → Type 0
-AreItsMembers lines g = IsPermutation (filter (λ (m : MemberLine). bytes_eq m.group g.name) lines) (map (member_shown g) g.numbers)
+abbrev pub AreItsMembers : List MemberRow → GroupShown → Type 0
+AreItsMembers lines g = IsPermutation (filter (λ (m : MemberRow). bytes_eq m.group g.name) lines) (map (member_shown g) g.numbers)
 
 -- ---- entries of any type
 

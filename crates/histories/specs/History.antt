@@ -9,29 +9,29 @@ use Rattle.histories.specs.declared.answers.Query.{Query}
 use Rattle.histories.specs.declared.answers.Selection.{Selection}
 
 -- a command; an import, and the annotation of a source by an event and the name of a file, with what the reads of the source came to
-pub data Said : Type 0 where
-  Import : Format → List ℕ → List Outcome → Said
-  Remove : ℕ → Said
-  MakeGroup : List ℕ → Said
-  DropGroup : List ℕ → Said
-  Join : List ℕ → ℕ → Said
-  Leave : List ℕ → ℕ → Said
-  SetBaseline : List ℕ → ℕ → Said
-  Ask : Query → Said
-  Annotate : Selection → List ℕ → List ℕ → List Outcome → Said
+pub data Command : Type 0 where
+  Import : Format → List ℕ → List Outcome → Command
+  Remove : ℕ → Command
+  MakeGroup : List ℕ → Command
+  DropGroup : List ℕ → Command
+  Join : List ℕ → ℕ → Command
+  Leave : List ℕ → ℕ → Command
+  SetBaseline : List ℕ → ℕ → Command
+  Ask : Query → Command
+  Annotate : Selection → List ℕ → List ℕ → List Outcome → Command
 
 -- a command and its answer
-pub record Turn : Type 0 where
-  pub said : Said
+pub record Step : Type 0 where
+  pub command : Command
   pub answer : Answer
 
 -- the oldest first
 abbrev pub History : Type 0
-History = List Turn
+History = List Step
 
--- a history with a turn more
-abbrev pub with_turn : History → Said → Answer → History
-with_turn h said answer = h ++ record { said = said; answer = answer } ∷ []
+-- a history with a step more
+abbrev pub with_step : History → Command → Answer → History
+with_step h command answer = h ++ record { command = command; answer = answer } ∷ []
 
 -- ---- the files that are held
 
@@ -42,16 +42,16 @@ pub record File : Type 0 where
   pub bytes : List ℕ
 
 -- a file is held from an import that is answered with its number on
-abbrev pub taken_by : Said → Answer → Option File
+abbrev pub taken_by : Command → Answer → Option File
 taken_by (Import format label outcomes) (Run n) = Some (record { number = n; format = format; label = label; bytes = bytes_of outcomes })
-taken_by said answer = None
+taken_by command answer = None
 
-abbrev pub removes : ℕ → Said → Answer → Bool
+abbrev pub removes : ℕ → Command → Answer → Bool
 removes n (Remove m) Done = m == n
-removes n said answer = false
+removes n command answer = false
 
 abbrev pub is_removed : ℕ → History → Bool
-is_removed n later = list_any (λ (turn : Turn). removes n turn.said turn.answer) later
+is_removed n later = list_any (λ (step : Step). removes n step.command step.answer) later
 
 abbrev pub unless_removed : Option File → History → List File
 unless_removed None later = []
@@ -60,7 +60,7 @@ unless_removed (Some f) later = if is_removed f.number later then [] else f ∷ 
 -- those that were taken and not removed later, the oldest first
 abbrev pub held : History → List File
 held [] = []
-held (turn ∷ later) = unless_removed (taken_by turn.said turn.answer) later ++ held later
+held (step ∷ later) = unless_removed (taken_by step.command step.answer) later ++ held later
 
 -- ---- numbers
 
@@ -70,20 +70,20 @@ is_run answer = false
 
 -- the number of the next run: one above how many there were
 abbrev pub next : History → ℕ
-next h = suc (length (filter (λ (turn : Turn). is_run turn.answer) h))
+next h = suc (length (filter (λ (step : Step). is_run step.answer) h))
 
 -- ---- groups
 
-abbrev pub made_by : Said → Answer → Option (List ℕ)
+abbrev pub made_by : Command → Answer → Option (List ℕ)
 made_by (MakeGroup name) Done = Some name
-made_by said answer = None
+made_by command answer = None
 
-abbrev pub drops : List ℕ → Said → Answer → Bool
+abbrev pub drops : List ℕ → Command → Answer → Bool
 drops name (DropGroup other) Done = bytes_eq other name
-drops name said answer = false
+drops name command answer = false
 
 abbrev pub is_dropped : List ℕ → History → Bool
-is_dropped name later = list_any (λ (turn : Turn). drops name turn.said turn.answer) later
+is_dropped name later = list_any (λ (step : Step). drops name step.command step.answer) later
 
 abbrev pub unless_dropped : Option (List ℕ) → History → List (List ℕ)
 unless_dropped None later = []
@@ -92,28 +92,28 @@ unless_dropped (Some name) later = if is_dropped name later then [] else name �
 -- the names of those that were made and not dropped later, the oldest first
 abbrev pub groups : History → List (List ℕ)
 groups [] = []
-groups (turn ∷ later) = unless_dropped (made_by turn.said turn.answer) later ++ groups later
+groups (step ∷ later) = unless_dropped (made_by step.command step.answer) later ++ groups later
 
 -- ---- members
 
-abbrev pub joins : List ℕ → ℕ → Said → Answer → Bool
+abbrev pub joins : List ℕ → ℕ → Command → Answer → Bool
 joins name n (Join other m) Done = bytes_eq other name && (m == n)
-joins name n said answer = false
+joins name n command answer = false
 
 -- it leaves, or is removed, or the group is dropped
-abbrev pub parts : List ℕ → ℕ → Said → Answer → Bool
+abbrev pub parts : List ℕ → ℕ → Command → Answer → Bool
 parts name n (Leave other m) Done = bytes_eq other name && (m == n)
 parts name n (Remove m) Done = m == n
 parts name n (DropGroup other) Done = bytes_eq other name
-parts name n said answer = false
+parts name n command answer = false
 
 abbrev pub is_parted : List ℕ → ℕ → History → Bool
-is_parted name n later = list_any (λ (turn : Turn). parts name n turn.said turn.answer) later
+is_parted name n later = list_any (λ (step : Step). parts name n step.command step.answer) later
 
 -- whether a run joined a group and did not part from it later
 abbrev pub is_member : History → List ℕ → ℕ → Bool
 is_member [] name n = false
-is_member (turn ∷ later) name n = (joins name n turn.said turn.answer && not (is_parted name n later)) || is_member later name n
+is_member (step ∷ later) name n = (joins name n step.command step.answer && not (is_parted name n later)) || is_member later name n
 
 -- the members of a group, their numbers rising as those of the files
 abbrev pub members : History → List ℕ → List ℕ
@@ -121,19 +121,19 @@ members h name = filter (is_member h name) (map (λ (f : File). f.number) (held 
 
 -- ---- baselines
 
-abbrev pub based_by : List ℕ → Said → Answer → Option ℕ
+abbrev pub based_by : List ℕ → Command → Answer → Option ℕ
 based_by name (SetBaseline other n) Done = if bytes_eq other name then Some n else None
-based_by name said answer = None
+based_by name command answer = None
 
 -- another baseline is set, or the run is removed, or the group is dropped
-abbrev pub unbases : List ℕ → ℕ → Said → Answer → Bool
+abbrev pub unbases : List ℕ → ℕ → Command → Answer → Bool
 unbases name n (SetBaseline other m) Done = bytes_eq other name
 unbases name n (Remove m) Done = m == n
 unbases name n (DropGroup other) Done = bytes_eq other name
-unbases name n said answer = false
+unbases name n command answer = false
 
 abbrev pub is_unbased : List ℕ → ℕ → History → Bool
-is_unbased name n later = list_any (λ (turn : Turn). unbases name n turn.said turn.answer) later
+is_unbased name n later = list_any (λ (step : Step). unbases name n step.command step.answer) later
 
 abbrev pub unless_unbased : List ℕ → Option ℕ → History → Option ℕ → Option ℕ
 unless_unbased name None later other = other
@@ -142,4 +142,4 @@ unless_unbased name (Some n) later other = if is_unbased name n later then other
 -- the run that was set last, unless it was removed or the group dropped since
 abbrev pub baseline : History → List ℕ → Option ℕ
 baseline [] name = None
-baseline (turn ∷ later) name = unless_unbased name (based_by name turn.said turn.answer) later (baseline later name)
+baseline (step ∷ later) name = unless_unbased name (based_by name step.command step.answer) later (baseline later name)

@@ -10,7 +10,7 @@ use Rattle.plain_tables.specs.Labels.{IsLabel, IsGroupName}
 use Rattle.histories.specs.Formats.{Format}
 use Rattle.histories.specs.Files.{fault_of}
 use Rattle.byte_io.specs.Outcomes.{Outcome, bytes_of, is_failed, is_end}
-use Rattle.histories.specs.History.{Said, Import, Remove, MakeGroup, DropGroup, Join, Leave, SetBaseline, Ask, Annotate, History, File, held, next, groups, is_member, baseline}
+use Rattle.histories.specs.History.{Command, Import, Remove, MakeGroup, DropGroup, Join, Leave, SetBaseline, Ask, Annotate, History, File, held, next, groups, is_member, baseline}
 use Rattle.histories.specs.Sums.{excess_of}
 use Rattle.histories.specs.Exports.{annotated_text, csv_of_files, folded_of_files, knows_source}
 use Rattle.histories.specs.Reports.{by_text, calls_text, has_event, inclusive_of_files, knows, subtract_text, verified_text}
@@ -28,15 +28,15 @@ use Rattle.histories.specs.declared.answers.Selection.TheVariants as selections
 -- ---- the forms of names
 
 -- a label is UTF-8; the name of a group that is made has its own form
-abbrev pub IsInForm : Said → Type 0
+abbrev pub IsInForm : Command → Type 0
 IsInForm (Import format label outcomes) = IsUtf8 label × IsLabel label
 IsInForm (MakeGroup name) = IsGroupName name
-IsInForm said = Unit {0}
+IsInForm command = Unit {0}
 
 -- the source of an import is not read
-abbrev pub IsUnread : Said → Type 0
+abbrev pub IsUnread : Command → Type 0
 IsUnread (Import format label outcomes) = outcomes ≡ []
-IsUnread said = Unit {0}
+IsUnread command = Unit {0}
 
 -- ---- answers by the first condition that holds
 
@@ -51,12 +51,12 @@ first_or (None ∷ later) last = first_or later last
 
 -- ---- sources
 
--- what is due by what the reads of a source came to: more than the limit is refused, and then a failed read; nothing is due while the source goes on
+-- what is expected by what the reads of a source came to: more than the limit is refused, and then a failed read; nothing is expected while the source goes on
 abbrev pub once_read : ℕ → List Outcome → Answer → Option Answer
-once_read limit outcomes due =
+once_read limit outcomes expected =
     if nat_lt limit (length (bytes_of outcomes)) then Some (Refused reasons.TooLong)
     else if list_any is_failed outcomes then Some (Refused reasons.ReadFault)
-    else if list_any is_end outcomes then Some due
+    else if list_any is_end outcomes then Some expected
     else None
 
 -- the most bytes of a source that is annotated
@@ -74,8 +74,8 @@ abbrev pub faulty : faults.Fault × ℕ → Answer
 faulty fault = Refused (reasons.File fault.0 fault.1)
 
 -- once the source has ended
-abbrev pub file_due : Limits → History → Format → List ℕ → Answer
-file_due limits h format bytes = first_or
+abbrev pub expected_of_file : Limits → History → Format → List ℕ → Answer
+expected_of_file limits h format bytes = first_or
     (option_map Held (number_of (sha256 bytes) (held h))
     ∷ option_map faulty (fault_of format bytes)
     ∷ option_map (λ excess. Refused (reasons.Overflow excess)) (excess_of (held h) format bytes)
@@ -85,7 +85,7 @@ file_due limits h format bytes = first_or
     (Run (next h))
 
 abbrev pub expected_of_import : Limits → History → Format → List Outcome → Option Answer
-expected_of_import limits h format outcomes = once_read limits.bytes outcomes (file_due limits h format (bytes_of outcomes))
+expected_of_import limits h format outcomes = once_read limits.bytes outcomes (expected_of_file limits h format (bytes_of outcomes))
 
 -- ---- all commands
 
@@ -159,7 +159,7 @@ expected_of_query h (queries.Folded selection) = first_or (no_selection h select
 -- ---- each command
 
 -- what a command in form is answered, if it is answered at all
-abbrev pub expected_answer : Limits → History → Said → Option Answer
+abbrev pub expected_answer : Limits → History → Command → Option Answer
 expected_answer limits h (Import format label outcomes) = expected_of_import limits h format outcomes
 expected_answer limits h (Remove n) = Some (first_or (no_run h n ∷ []) Done)
 expected_answer limits h (MakeGroup name) =
@@ -176,23 +176,23 @@ expected_answer limits h (Annotate selection event file outcomes) =
 abbrev pub IsFailure : Answer → Type 0
 IsFailure answer = (answer ≡ Refused reasons.Memory) ⊎ (answer ≡ Refused reasons.Store)
 
--- a command in form is answered what is due, or a failure, at any moment; one out of form is refused as such, and no source is read
-abbrev pub IsLegal : Limits → History → Said → Answer → Type 0
-IsLegal limits h said answer =
-    (IsInForm said × ((expected_answer limits h said ≡ Some answer) ⊎ IsFailure answer))
-    ⊎ ((IsInForm said → ⊥) × IsUnread said × (answer ≡ Refused reasons.BadName))
+-- a command in form is answered what is expected, or a failure, at any moment; one out of form is refused as such, and no source is read
+abbrev pub IsLegal : Limits → History → Command → Answer → Type 0
+IsLegal limits h command answer =
+    (IsInForm command × ((expected_answer limits h command ≡ Some answer) ⊎ IsFailure answer))
+    ⊎ ((IsInForm command → ⊥) × IsUnread command × (answer ≡ Refused reasons.BadName))
 
 -- ---- lists of commands
 
--- each answer is legal after the history and the turns before it
+-- each answer is legal after the history and the steps before it
 abbrev pub AreLegal : Limits → History → History → Type 0
 AreLegal limits h [] = Unit {0}
-AreLegal limits h (turn ∷ later) = IsLegal limits h turn.said turn.answer × AreLegal limits (h ++ turn ∷ []) later
+AreLegal limits h (step ∷ later) = IsLegal limits h step.command step.answer × AreLegal limits (h ++ step ∷ []) later
 
--- each turn is legal under some limits
+-- each step is legal under some limits
 abbrev pub IsHistoryAfter : History → History → Type 0
 IsHistoryAfter before [] = Unit {0}
-IsHistoryAfter before (turn ∷ later) = ((limits : Limits) × IsLegal limits before turn.said turn.answer) × IsHistoryAfter (before ++ turn ∷ []) later
+IsHistoryAfter before (step ∷ later) = ((limits : Limits) × IsLegal limits before step.command step.answer) × IsHistoryAfter (before ++ step ∷ []) later
 
 abbrev pub IsHistory : History → Type 0
 IsHistory h = IsHistoryAfter [] h
@@ -221,6 +221,6 @@ pub record AreAlike (xs ys : List Outcome) : Type 0 where
   pub failed : list_any is_failed xs ≡ list_any is_failed ys
   pub ended : list_any is_end xs ≡ list_any is_end ys
 
--- after each history two commands are due the same answer
-abbrev pub AreDueAlike : Said → Said → Type 0
-AreDueAlike one other = (limits : Limits) (h : History) → expected_answer limits h one ≡ expected_answer limits h other
+-- after each history the same answer is expected to both commands
+abbrev pub AreExpectedAlike : Command → Command → Type 0
+AreExpectedAlike one other = (limits : Limits) (h : History) → expected_answer limits h one ≡ expected_answer limits h other

@@ -9,7 +9,7 @@ pub mod Reports
 pub mod SelectedRuns
 pub mod Selections
 pub mod Standard
-pub mod Stands
+pub mod Representation
 pub mod Sums
 pub mod Texts
 pub mod Told

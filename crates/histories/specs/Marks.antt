@@ -9,15 +9,15 @@ use Rattle.callgrind_reader.specs.Grammars.{Grammar, First, Second}
 use Rattle.profile_records.specs.Records.{Record, Own, Called}
 use Rattle.histories.specs.Files.{fault_of, events_of, derived_of, stated_of, records_of}
 use Rattle.histories.specs.Formats.{Callgrind}
-use Rattle.histories.specs.History.{Said, Import, Turn, History}
+use Rattle.histories.specs.History.{Command, Import, Step, History}
 
 -- an import of a Callgrind file is by this grammar; folded files have but one
-abbrev pub IsBy : Grammar → Said → Type 0
+abbrev pub IsBy : Grammar → Command → Type 0
 IsBy g (Import (Callgrind other) label outcomes) = other ≡ g
-IsBy g said = Unit {0}
+IsBy g command = Unit {0}
 
 abbrev pub AreBy : Grammar → History → Type 0
-AreBy g h = AllByRecursion (λ (turn : Turn). IsBy g turn.said) h
+AreBy g h = AllByRecursion (λ (step : Step). IsBy g step.command) h
 
 -- where a store was never migrated, there is nothing before the mark
 pub record IsMarked (h : History) : Type 0 where

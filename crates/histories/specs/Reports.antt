@@ -23,7 +23,7 @@ use Rattle.profile_records.specs.Stacks.{Seen}
 use Rattle.histories.specs.Formats.{Format, Callgrind, Folded}
 use Rattle.histories.specs.Files.{events_of, derived_of, stated_of, records_of, stacks_of}
 use Rattle.histories.specs.History.{File}
-use Rattle.histories.specs.Sums.{own_column}
+use Rattle.histories.specs.Sums.{self_column}
 
 -- how often each column of a file counts in an event, if the file has it
 abbrev pub counts_of : List ℕ → File → Option (List ℕ)
@@ -103,15 +103,15 @@ subtract_text key event firsts seconds = difference_text event (difference_by ke
 -- ---- verification
 
 -- the sums of columns, from one on
-abbrev pub own_columns_from : File → ℕ → List (List ℕ) → List ℕ
-own_columns_from f k [] = []
-own_columns_from f k (event ∷ events) = own_column f.format f.bytes k ∷ own_columns_from f (suc k) events
+abbrev pub self_columns_from : File → ℕ → List (List ℕ) → List ℕ
+self_columns_from f k [] = []
+self_columns_from f k (event ∷ events) = self_column f.format f.bytes k ∷ self_columns_from f (suc k) events
 
-abbrev pub own_columns : File → List ℕ
-own_columns f = own_columns_from f 0 (events_of f.format f.bytes)
+abbrev pub self_columns : File → List ℕ
+self_columns f = self_columns_from f 0 (events_of f.format f.bytes)
 
 abbrev pub file_verified : File → List ℕ
-file_verified f = verify_text (verified f.number (events_of f.format f.bytes) (own_columns f) (stated_of f.format f.bytes))
+file_verified f = verify_text (verified f.number (events_of f.format f.bytes) (self_columns f) (stated_of f.format f.bytes))
 
 abbrev pub verified_text : List File → List ℕ
 verified_text files = flat_map file_verified files

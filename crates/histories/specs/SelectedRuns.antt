@@ -3,12 +3,12 @@ use Rattle.std.specs.Prelude.{◌≡◌, ℕ, Bool, true, ◌==◌, List, [], �
 use Rattle.std.specs.List.Sorted.{IsStrictlySortedBy}
 use Rattle.std.specs.Ordering.{nat_cmp}
 use Rattle.plain_tables.specs.Changes.{has_member}
-use Rattle.plain_tables.specs.Tables.{Tables, RunLine}
+use Rattle.plain_tables.specs.Tables.{Tables, RunRow}
 use Rattle.prof_books.specs.Book.{run_held}
 use Rattle.histories.specs.History.{History, File, held, members}
 use Rattle.histories.specs.Legal.{has_run}
 use Rattle.histories.specs.Selections.{numbers_of, selected}
-use Rattle.histories.specs.Stands.{AreBooksOf}
+use Rattle.histories.specs.Representation.{AreBooksOf}
 use Rattle.histories.specs.declared.answers.Selection.{Selection}
 use Rattle.histories.specs.declared.answers.Selection.TheVariants as selections
 
@@ -20,8 +20,8 @@ selects_in t (selections.Run m) n = n == m
 selects_in t (selections.Group name) n = has_member t name n
 
 -- the runs that it names, in the order of their rows
-abbrev pub runs_selected : Tables → Selection → List RunLine
-runs_selected t s = filter (λ (r : RunLine). selects_in t s r.number) t.runs
+abbrev pub runs_selected : Tables → Selection → List RunRow
+runs_selected t s = filter (λ (r : RunRow). selects_in t s r.number) t.runs
 
 -- ---- what is sure of them
 
@@ -33,5 +33,5 @@ pub record AreSelected (h : History) : Type 0 where
   pub group : (name : List ℕ) → numbers_of (selected h (selections.Group name)) ≡ members h name
 
 -- the runs that a selection names are those of the files that it names, in the same order
-abbrev pub TellsSelected : History → Tables → Selection → Type 0
-TellsSelected h t s = AreBooksOf (selected h s) (map (run_held t) (runs_selected t s))
+abbrev pub SelectionAgrees : History → Tables → Selection → Type 0
+SelectionAgrees h t s = AreBooksOf (selected h s) (map (run_held t) (runs_selected t s))

@@ -1,7 +1,7 @@
 -- The sums over files, by the names of events, and the first that would pass its bound.
 use Rattle.std.specs.Prelude.{ℕ, suc, ◌+◌, true, nat_lt, bytes_eq, if◌then◌else◌, List, [], ◌∷◌, ◌++◌, sum_by, slice_index_or, Option, Some, None}
 use Rattle.cost_rows.specs.Admit.{bound}
-use Rattle.cost_rows.specs.Sums.{own_sum, call_sum, count_sum}
+use Rattle.cost_rows.specs.Sums.{self_sum, call_sum, count_sum}
 use Rattle.cost_rows.specs.declared.limits.Overflow.{Overflow}
 use Rattle.cost_rows.specs.declared.limits.Side.{Side}
 use Rattle.cost_rows.specs.declared.limits.Side.TheVariants as sides
@@ -13,8 +13,8 @@ use Rattle.histories.specs.declared.answers.Excess.TheVariants.{SelfCost, CallCo
 
 -- ---- of one file: the sums of its columns over all self records, over all call records, and how many calls these count
 
-abbrev pub own_column : Format → List ℕ → ℕ → ℕ
-own_column format bytes k = own_sum (λ _. true) k (records_of format bytes)
+abbrev pub self_column : Format → List ℕ → ℕ → ℕ
+self_column format bytes k = self_sum (λ _. true) k (records_of format bytes)
 
 abbrev pub call_column : Format → List ℕ → ℕ → ℕ
 call_column format bytes k = call_sum (λ _ _. true) k (records_of format bytes)
@@ -29,8 +29,8 @@ column_named name column k (event ∷ events) = (if bytes_eq event name then col
 
 -- ---- of all files
 
-abbrev pub own_held : List File → List ℕ → ℕ
-own_held files name = sum_by (λ (f : File). column_named name (own_column f.format f.bytes) 0 (events_of f.format f.bytes)) files
+abbrev pub self_held : List File → List ℕ → ℕ
+self_held files name = sum_by (λ (f : File). column_named name (self_column f.format f.bytes) 0 (events_of f.format f.bytes)) files
 
 abbrev pub calls_cost_held : List File → List ℕ → ℕ
 calls_cost_held files name = sum_by (λ (f : File). column_named name (call_column f.format f.bytes) 0 (events_of f.format f.bytes)) files
@@ -45,19 +45,19 @@ pub record Sum : Type 0 where
   pub of : Excess
   pub sum : ℕ
 
-abbrev pub own_sums : List File → (ℕ → ℕ) → ℕ → List (List ℕ) → List Sum
-own_sums files column k [] = []
-own_sums files column k (event ∷ events) = record { of = SelfCost event; sum = own_held files event + column k } ∷ own_sums files column (suc k) events
+abbrev pub self_sums : List File → (ℕ → ℕ) → ℕ → List (List ℕ) → List Sum
+self_sums files column k [] = []
+self_sums files column k (event ∷ events) = record { of = SelfCost event; sum = self_held files event + column k } ∷ self_sums files column (suc k) events
 
 abbrev pub call_sums : List File → (ℕ → ℕ) → ℕ → List (List ℕ) → List Sum
 call_sums files column k [] = []
 call_sums files column k (event ∷ events) =
     record { of = CallCost event; sum = calls_cost_held files event + column k } ∷ call_sums files column (suc k) events
 
--- own costs by event, then costs of calls by event, then the number of calls
+-- self costs by event, then costs of calls by event, then the number of calls
 abbrev pub sums_with : List File → Format → List ℕ → List Sum
 sums_with files format bytes =
-    own_sums files (own_column format bytes) 0 (events_of format bytes)
+    self_sums files (self_column format bytes) 0 (events_of format bytes)
     ++ call_sums files (call_column format bytes) 0 (events_of format bytes)
     ++ record { of = CallCount; sum = calls_held files + calls_of format bytes } ∷ []
 

@@ -6,7 +6,7 @@ use report_texts::{CallSide, Cut};
 /// A sum over all runs that would pass 2^63-1.
 #[derive(Drop)]
 pub enum Excess {
-    /// The own costs of an event.
+    /// The self costs of an event.
     SelfCost(ListVec<u8>),
     /// The costs of calls, by an event.
     CallCost(ListVec<u8>),

@@ -4,17 +4,17 @@
 
 // What commands are answered.
 mod answers;
-// Laws: what legal turns make of histories and of the tables.
+// Laws: what legal steps make of histories and of the tables.
 mod laws;
 // How much a warehouse holds.
 mod limits;
 
 pub use answers::{Answer, Excess, Query, Refusal, Selection};
 pub use laws::{
-    a_file_that_is_put_is_an_import, changes_are_commands, cuts_do_not_show, held_sums_fit,
-    histories_grow, members_and_baselines_are_held, tables_stay_through_what_changes_nothing,
-    tables_tell_each_group, tables_tell_each_head, tables_tell_each_run, tables_tell_selections,
-    tables_tell_the_lists, tables_tell_the_sums, tables_tell_what_is_held,
-    the_first_grammar_knows_no_thread, the_mark_stays,
+    an_inserted_file_is_an_import, changes_are_commands, cuts_do_not_show, held_sums_fit,
+    histories_grow, members_and_baselines_are_held, tables_represent_each_group,
+    tables_represent_each_head, tables_represent_each_run, tables_represent_selections,
+    tables_represent_the_lists, tables_represent_the_sums, tables_represent_what_is_held,
+    tables_stay_through_what_changes_nothing, the_first_grammar_knows_no_thread, the_mark_stays,
 };
 pub use limits::Limits;

@@ -16,7 +16,7 @@ places =
     ∷ at.Subtract key.Object ∷ at.Subtract key.File ∷ at.Subtract key.Function ∷ at.Subtract key.Line ∷ at.Subtract key.Thread
     ∷ at.Verify ∷ at.Csv ∷ at.Folded ∷ []
 
--- the pattern of each: a name in braces stands for one part of at least one byte
+-- the pattern of each: a name in braces matches one part of at least one byte
 abbrev pub pattern_of : Place → List ℕ
 pattern_of at.CallgrindRuns = codes "/runs/callgrind"
 pattern_of at.FoldedRuns = codes "/runs/folded"

@@ -65,7 +65,7 @@ pub(crate) const PLACES: [Place; 25] = [
 ];
 
 impl Place {
-    /// Its pattern: a name in braces stands for one part of at least one byte.
+    /// Its pattern: a name in braces matches one part of at least one byte.
     pub(crate) fn pattern(self) -> &'static str
         ensures { result.now ≡ spec.pattern_of self }
     {

@@ -11,7 +11,7 @@ use Rattle.report_texts.specs.declared.call_sides.CallSide.TheVariants as side
 use Rattle.byte_io.specs.Outcomes.{Outcome, Gave}
 use Rattle.histories.specs.Formats.{today}
 use Rattle.histories.specs.History as history
-use Rattle.histories.specs.History.{Said}
+use Rattle.histories.specs.History.{Command}
 use Rattle.histories.specs.declared.answers.Answer.{Answer}
 use Rattle.histories.specs.declared.answers.Answer.TheVariants as answers
 use Rattle.histories.specs.declared.answers.Excess.TheVariants as excesses
@@ -26,7 +26,7 @@ use Rattle.http_exchange.specs.Routes.{routes}
 use Rattle.http_exchange.specs.declared.failings.Failing.{Failing}
 use Rattle.http_exchange.specs.declared.requests.Request.{Request}
 use Rattle.http_service.specs.Replies.{status_of}
-use Rattle.http_service.specs.Tasks.{said_of}
+use Rattle.http_service.specs.Tasks.{command_from}
 
 -- ---- the command of a request
 
@@ -38,12 +38,12 @@ abbrev six : List Field
 six = record { name = codes "Content-Length"; raw = codes "6"; end = crlf } ∷ []
 
 -- the command that is run, over that body, and none where a check fails
-abbrev said_to : Result Request Failing → Option Said
-said_to (Ok request) = Some (said_of request.asked body)
+abbrev said_to : Result Request Failing → Option Command
+said_to (Ok request) = Some (command_from request.asked body)
 said_to (Err failing) = None
 
-abbrev Says : List ℕ → List ℕ → List Field → Said → Type 0
-Says method target fields said = said_to (request_of 100 (record { blank = []; method = method; target = target; minor = 1; line_end = crlf; fields = fields; last = crlf })) ≡ Some said
+abbrev Says : List ℕ → List ℕ → List Field → Command → Type 0
+Says method target fields command = said_to (request_of 100 (record { blank = []; method = method; target = target; minor = 1; line_end = crlf; fields = fields; last = crlf })) ≡ Some command
 
 says_import_callgrind : Says (codes "POST") (codes "/runs/callgrind?label=build+7") six (history.Import (today kind.Callgrind) (codes "build+7") body)
 unfolding request_of routes matchit_on_literals percent_decode trim_ows

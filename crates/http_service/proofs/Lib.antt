@@ -2,5 +2,5 @@ mod Examples
 pub mod Heads
 pub mod Served
 pub mod ServedStores
-pub mod Turns
+pub mod StepsTo
 pub mod Unread

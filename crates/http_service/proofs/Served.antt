@@ -15,7 +15,7 @@ use Rattle.http_service.specs.Exchanges.{IsReplied, WasExchanged}
 use Rattle.http_service.specs.declared.replies.Exchange.{Exchange}
 use Rattle.http_service.specs.declared.replies.Reply.{Reply}
 use Rattle.http_service.specs.declared.replies.Reply.TheVariants as replies
-use Rattle.http_service.specs.Served.{HasServed, WasExchangedWithAny, WereExchanged, turns_of, turns_of_exchange, turns_of_reply}
+use Rattle.http_service.specs.Served.{HasServed, WasExchangedWithAny, WereExchanged, steps_of, steps_of_exchange, steps_of_reply}
 
 -- ---- any bytes
 
@@ -77,21 +77,21 @@ module _ {S : Type 0} (g : Ghosts S) (limits : Limits) where
   -- ---- the commands lead from store to store
 
   reply_links : (wanted : Result Request Failing) (after : List ℕ) (reads : List Outcome) (reply : Reply) (old new : S) (is : IsReplied g limits wanted after reads reply old new)
-      → IsFaithful g new → Links g limits (turns_of_reply g limits wanted after reads reply old new is) old new
+      → IsFaithful g new → Links g limits (steps_of_reply g limits wanted after reads reply old new is) old new
   reply_links wanted after reads (replies.Answered answer) old new done clean = (new, done.answers clean, refl)
   reply_links wanted after reads (replies.Failed failing) old new away clean = sym away.same
 
-  exchange_links : (exchange : Exchange) (old new : S) (was : WasExchangedWithAny g limits exchange old new) → IsFaithful g new → Links g limits (turns_of_exchange g limits exchange old new was) old new
+  exchange_links : (exchange : Exchange) (old new : S) (was : WasExchangedWithAny g limits exchange old new) → IsFaithful g new → Links g limits (steps_of_exchange g limits exchange old new was) old new
   exchange_links exchange old new (inl served) clean = reply_links _ served.after served.responded.body_reads served.responded.reply old new served.responded.replied clean
   exchange_links exchange old new (inr (inl rejected)) clean = sym rejected.same
   exchange_links exchange old new (inr (inr dropped)) clean = sym dropped.same
 
-  were_links : (exchanges : List Exchange) (old new : S) (were : WereExchanged g limits exchanges old new) → IsFaithful g new → Links g limits (turns_of g limits exchanges old new were) old new
+  were_links : (exchanges : List Exchange) (old new : S) (were : WereExchanged g limits exchanges old new) → IsFaithful g new → Links g limits (steps_of g limits exchanges old new were) old new
   were_links [] old new same clean = same
   were_links (exchange ∷ later) old new were clean =
       let rest = were_links later were.0 new were.2 clean in
-      let here = exchange_links exchange old were.0 were.1 (links_clean g limits (turns_of g limits later were.0 new were.2) were.0 new rest clean) in
-      links_append g limits (turns_of_exchange g limits exchange old were.0 were.1) (turns_of g limits later were.0 new were.2) old were.0 new here rest
+      let here = exchange_links exchange old were.0 were.1 (links_clean g limits (steps_of g limits later were.0 new were.2) were.0 new rest clean) in
+      links_append g limits (steps_of_exchange g limits exchange old were.0 were.1) (steps_of g limits later were.0 new were.2) old were.0 new here rest
 
   were_append : (exchanges later : List Exchange) (old mid new : S) → WereExchanged g limits exchanges old mid → WereExchanged g limits later mid new → WereExchanged g limits (exchanges ++ later) old new
   were_append [] later old mid new same were = subst (λ s. WereExchanged g limits later s new) (sym same) were
@@ -107,8 +107,8 @@ module _ {S : Type 0} (g : Ghosts S) (limits : Limits) where
         few = few;
         were = were;
         links = links;
-        legal = λ h has. links_legal g limits h (turns_of g limits exchanges old new were) old new links has;
-        after = λ h has. links_after g limits h (turns_of g limits exchanges old new were) old new links has;
+        legal = λ h has. links_legal g limits h (steps_of g limits exchanges old new were) old new links has;
+        after = λ h has. links_after g limits h (steps_of g limits exchanges old new were) old new links has;
       }
 
   pub served_none : (requests : ℕ) (store : S) → IsFaithful g store → HasServed g limits requests store store
@@ -126,4 +126,4 @@ module _ {S : Type 0} (g : Ghosts S) (limits : Limits) where
 
   -- the disk was faithful before, too
   pub served_clean : (requests : ℕ) (old new : S) → HasServed g limits requests old new → IsFaithful g new → IsFaithful g old
-  served_clean requests old new served clean = links_clean g limits (turns_of g limits served.exchanges old new served.were) old new served.links clean
+  served_clean requests old new served clean = links_clean g limits (steps_of g limits served.exchanges old new served.were) old new served.links clean

@@ -4,7 +4,7 @@ use Rattle.run_stores.specs.declared.states.StoreState.{Ghosts}
 use Rattle.run_stores.specs.Calls.{IsFaithful}
 use Rattle.byte_io.specs.Outcomes.{Outcome}
 use Rattle.byte_io.specs.Reads.{Reads}
-use Rattle.histories.specs.History.{Said}
+use Rattle.histories.specs.History.{Command}
 use Rattle.histories.specs.declared.answers.Answer.{Answer}
 use Rattle.histories.specs.declared.limits.Limits.{Limits}
 use Rattle.store_histories.specs.Answered.{Answers}
@@ -18,7 +18,7 @@ pub record HandsOn {T : Type 0} (reads : T → Outcome → T → Type 0) (body :
   pub made : IsBodyOf body.left body.held.now stream_reads outcomes
 
 -- a command was done over a body, and answered; where the disk returned what was written, the answer is one of the history
-pub record IsDoneOver {S T : Type 0} (g : Ghosts S) (reads : T → Outcome → T → Type 0) (limits : Limits) (said : List Outcome → Said) (body : Body T) (answer : Answer) (to : T) (old new : S) : Type 0 where
+pub record IsDoneOver {S T : Type 0} (g : Ghosts S) (reads : T → Outcome → T → Type 0) (limits : Limits) (command : List Outcome → Command) (body : Body T) (answer : Answer) (to : T) (old new : S) : Type 0 where
   pub outcomes : List Outcome
   pub handed : HandsOn reads body outcomes to
-  pub answers : IsFaithful g new → Answers g limits (said outcomes) answer old new
+  pub answers : IsFaithful g new → Answers g limits (command outcomes) answer old new

@@ -11,7 +11,7 @@ use Rattle.store_histories.specs.Answered.{HasHistory, Links}
 use Rattle.http_exchange.specs.declared.failings.Failing.{Failing}
 use Rattle.http_exchange.specs.declared.requests.Request.{Request}
 use Rattle.http_service.specs.Exchanges.{IsReplied, WasExchanged}
-use Rattle.http_service.specs.Tasks.{said_of}
+use Rattle.http_service.specs.Tasks.{command_from}
 use Rattle.http_service.specs.declared.replies.Exchange.{Exchange}
 use Rattle.http_service.specs.declared.replies.Reply.{Reply}
 use Rattle.http_service.specs.declared.replies.Reply.TheVariants as replies
@@ -29,28 +29,28 @@ module _ {S : Type 0} (g : Ghosts S) (limits : Limits) where
   -- ---- the commands that were asked for
 
   -- the command of a request, with its answer; a request that was turned away has none
-  abbrev pub turns_of_reply : (wanted : Result Request Failing) (after : List ℕ) (reads : List Outcome) (reply : Reply) (old new : S) → IsReplied g limits wanted after reads reply old new → History
-  turns_of_reply wanted after reads (replies.Answered answer) old new done = record { said = said_of done.request.asked done.outcomes; answer = answer } ∷ []
-  turns_of_reply wanted after reads (replies.Failed failing) old new away = []
+  abbrev pub steps_of_reply : (wanted : Result Request Failing) (after : List ℕ) (reads : List Outcome) (reply : Reply) (old new : S) → IsReplied g limits wanted after reads reply old new → History
+  steps_of_reply wanted after reads (replies.Answered answer) old new done = record { command = command_from done.request.asked done.outcomes; answer = answer } ∷ []
+  steps_of_reply wanted after reads (replies.Failed failing) old new away = []
 
   -- what is no request, or did not come whole, has none either
-  abbrev pub turns_of_exchange : (exchange : Exchange) (old new : S) → WasExchangedWithAny exchange old new → History
-  turns_of_exchange exchange old new (inl served) = turns_of_reply _ served.after served.responded.body_reads served.responded.reply old new served.responded.replied
-  turns_of_exchange exchange old new (inr refused) = []
+  abbrev pub steps_of_exchange : (exchange : Exchange) (old new : S) → WasExchangedWithAny exchange old new → History
+  steps_of_exchange exchange old new (inl served) = steps_of_reply _ served.after served.responded.body_reads served.responded.reply old new served.responded.replied
+  steps_of_exchange exchange old new (inr refused) = []
 
   -- those of all
-  abbrev pub turns_of : (exchanges : List Exchange) (old new : S) → WereExchanged exchanges old new → History
-  turns_of [] old new same = []
-  turns_of (exchange ∷ later) old new were = turns_of_exchange exchange old were.0 were.1 ++ turns_of later were.0 new were.2
+  abbrev pub steps_of : (exchanges : List Exchange) (old new : S) → WereExchanged exchanges old new → History
+  steps_of [] old new same = []
+  steps_of (exchange ∷ later) old new were = steps_of_exchange exchange old were.0 were.1 ++ steps_of later were.0 new were.2
 
 -- so many clients were served, but for those that went away: the commands are those of their requests, in order; after a history that the store has, each answer is legal, and the store has the history with all of them
 pub record HasServed {S : Type 0} (g : Ghosts S) (limits : Limits) (requests : ℕ) (old new : S) : Type 0 where
   pub exchanges : List Exchange
   pub few : length exchanges ≤ requests
   pub were : WereExchanged g limits exchanges old new
-  pub links : Links g limits (turns_of g limits exchanges old new were) old new
-  pub legal : (h : History) → HasHistory g h old → AreLegal limits h (turns_of g limits exchanges old new were)
-  pub after : (h : History) → HasHistory g h old → HasHistory g (h ++ turns_of g limits exchanges old new were) new
+  pub links : Links g limits (steps_of g limits exchanges old new were) old new
+  pub legal : (h : History) → HasHistory g h old → AreLegal limits h (steps_of g limits exchanges old new were)
+  pub after : (h : History) → HasHistory g h old → HasHistory g (h ++ steps_of g limits exchanges old new were) new
 
 -- under the standard limits so many requests were served
 pub record CameToServed {S : Type 0} (g : Ghosts S) (requests : ℕ) (old new : S) : Type 0 where

@@ -4,11 +4,11 @@ use Rattle.profile_records.specs.declared.kinds.Kind.TheVariants as kind
 use Rattle.byte_io.specs.Outcomes.{Outcome}
 use Rattle.histories.specs.Formats.{today}
 use Rattle.histories.specs.History as history
-use Rattle.histories.specs.History.{Said}
+use Rattle.histories.specs.History.{Command}
 use Rattle.histories.specs.declared.answers.Query.TheVariants as queries
 use Rattle.histories.specs.declared.answers.Selection.{Selection}
 use Rattle.histories.specs.declared.answers.Selection.TheVariants as selections
-use Rattle.store_commands.specs.Changes.{change_said}
+use Rattle.store_commands.specs.Changes.{command_from_change}
 use Rattle.http_exchange.specs.declared.asked.Asked.{Asked}
 use Rattle.http_exchange.specs.declared.asked.Asked.TheVariants as asks
 use Rattle.http_exchange.specs.declared.asked.Selected.{Selected}
@@ -16,36 +16,36 @@ use Rattle.http_exchange.specs.declared.asked.Selected.TheVariants as selected
 use Rattle.http_service.specs.declared.tasks.Task.{Task}
 use Rattle.http_service.specs.declared.tasks.Task.TheVariants as tasks
 
-abbrev pub selection_said : Selected → Selection
-selection_said selected.All = selections.All
-selection_said (selected.Run n) = selections.Run n
-selection_said (selected.Group name) = selections.Group name
+abbrev pub selection_from : Selected → Selection
+selection_from selected.All = selections.All
+selection_from (selected.Run n) = selections.Run n
+selection_from (selected.Group name) = selections.Group name
 
 -- the command that a request asks for, where the reads of its body came to these
-abbrev pub said_of : Asked → List Outcome → Said
-said_of (asks.ImportCallgrind label) outcomes = history.Import (today kind.Callgrind) label outcomes
-said_of (asks.ImportFolded label) outcomes = history.Import (today kind.Folded) label outcomes
-said_of asks.Runs outcomes = history.Ask queries.Runs
-said_of asks.Groups outcomes = history.Ask queries.Groups
-said_of (asks.Remove n) outcomes = history.Remove n
-said_of (asks.MakeGroup name) outcomes = history.MakeGroup name
-said_of (asks.DropGroup name) outcomes = history.DropGroup name
-said_of (asks.Join name n) outcomes = history.Join name n
-said_of (asks.Leave name n) outcomes = history.Leave name n
-said_of (asks.SetBaseline name n) outcomes = history.SetBaseline name n
-said_of (asks.By chosen key event cut) outcomes = history.Ask (queries.By (selection_said chosen) key event cut)
-said_of (asks.Inclusive chosen event) outcomes = history.Ask (queries.Inclusive (selection_said chosen) event)
-said_of (asks.Calls chosen side event object function) outcomes = history.Ask (queries.Calls (selection_said chosen) side event object function)
-said_of (asks.Annotate chosen event file) outcomes = history.Annotate (selection_said chosen) event file outcomes
-said_of (asks.Subtract first second key event) outcomes = history.Ask (queries.Subtract (selection_said first) (option_map selection_said second) key event)
-said_of (asks.Verify chosen) outcomes = history.Ask (queries.Verify (selection_said chosen))
-said_of (asks.Csv chosen) outcomes = history.Ask (queries.Csv (selection_said chosen))
-said_of (asks.Folded chosen) outcomes = history.Ask (queries.Folded (selection_said chosen))
+abbrev pub command_from : Asked → List Outcome → Command
+command_from (asks.ImportCallgrind label) outcomes = history.Import (today kind.Callgrind) label outcomes
+command_from (asks.ImportFolded label) outcomes = history.Import (today kind.Folded) label outcomes
+command_from asks.Runs outcomes = history.Ask queries.Runs
+command_from asks.Groups outcomes = history.Ask queries.Groups
+command_from (asks.Remove n) outcomes = history.Remove n
+command_from (asks.MakeGroup name) outcomes = history.MakeGroup name
+command_from (asks.DropGroup name) outcomes = history.DropGroup name
+command_from (asks.Join name n) outcomes = history.Join name n
+command_from (asks.Leave name n) outcomes = history.Leave name n
+command_from (asks.SetBaseline name n) outcomes = history.SetBaseline name n
+command_from (asks.By chosen key event cut) outcomes = history.Ask (queries.By (selection_from chosen) key event cut)
+command_from (asks.Inclusive chosen event) outcomes = history.Ask (queries.Inclusive (selection_from chosen) event)
+command_from (asks.Calls chosen side event object function) outcomes = history.Ask (queries.Calls (selection_from chosen) side event object function)
+command_from (asks.Annotate chosen event file) outcomes = history.Annotate (selection_from chosen) event file outcomes
+command_from (asks.Subtract first second key event) outcomes = history.Ask (queries.Subtract (selection_from first) (option_map selection_from second) key event)
+command_from (asks.Verify chosen) outcomes = history.Ask (queries.Verify (selection_from chosen))
+command_from (asks.Csv chosen) outcomes = history.Ask (queries.Csv (selection_from chosen))
+command_from (asks.Folded chosen) outcomes = history.Ask (queries.Folded (selection_from chosen))
 
 -- the command of a task, over such a body
-abbrev pub task_said : Task → List Outcome → Said
-task_said (tasks.Import kind label) outcomes = history.Import (today kind) label outcomes
-task_said (tasks.Annotate selection event file) outcomes = history.Annotate selection event file outcomes
-task_said (tasks.Remove n) outcomes = history.Remove n
-task_said (tasks.Group name change) outcomes = change_said change name
-task_said (tasks.Ask query) outcomes = history.Ask query
+abbrev pub command_from_task : Task → List Outcome → Command
+command_from_task (tasks.Import kind label) outcomes = history.Import (today kind) label outcomes
+command_from_task (tasks.Annotate selection event file) outcomes = history.Annotate selection event file outcomes
+command_from_task (tasks.Remove n) outcomes = history.Remove n
+command_from_task (tasks.Group name change) outcomes = command_from_change change name
+command_from_task (tasks.Ask query) outcomes = history.Ask query

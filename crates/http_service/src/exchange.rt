@@ -13,7 +13,7 @@ ghost use Rattle.http_exchange.specs.Routes as spec;
 ghost use Rattle.http_exchange.specs.Bodies.{BodyRead};
 ghost use Rattle.http_service.specs.Exchanges.{IsReplied, IsResponded, WasExchanged};
 ghost use Rattle.http_service.specs.Performed.{IsDoneOver};
-ghost use Rattle.http_service.specs.Tasks.{task_said};
+ghost use Rattle.http_service.specs.Tasks.{command_from_task};
 
 use crate::replies::{Exchange, Reply, send_failing, send_reply};
 use crate::tasks::{Task, task_of};
@@ -92,7 +92,7 @@ fn perform<T: Stream + Drop, S: RunStore>(
     body: Body<'_, T>,
 ) -> (Answer, T)
     ensures limits { warehouse.new.limits ≡ warehouse.old.limits }
-    ensures done { IsDoneOver S.StoreState T.reads warehouse.old.limits (task_said task) body.entry
+    ensures done { IsDoneOver S.StoreState T.reads warehouse.old.limits (command_from_task task) body.entry
         result.0 result.1 warehouse.old.store warehouse.new.store }
 {
     match task {

@@ -1,7 +1,7 @@
 // What the warehouse is asked for a request (specs/Tasks.antt).
 ghost use Rattle.std.specs.Prelude.{◌≡◌, List, option_map};
 ghost use Rattle.byte_io.specs.Outcomes.{Outcome};
-ghost use Rattle.http_service.specs.Tasks.{said_of, selection_said, task_said};
+ghost use Rattle.http_service.specs.Tasks.{command_from, selection_from, command_from_task};
 
 use cg_text::ListVec;
 use histories::{Query, Selection};
@@ -29,7 +29,7 @@ pub enum Task {
 
 /// The selection of the runs that a request is about.
 fn selection_of(selected: Selected) -> Selection
-    ensures { result ≡ selection_said selected }
+    ensures { result ≡ selection_from selected }
 {
     match selected {
         Selected::All => Selection::All,
@@ -40,7 +40,7 @@ fn selection_of(selected: Selected) -> Selection
 
 /// The selection of the runs whose costs are taken off, if such are selected.
 fn second_of(selected: Option<Selected>) -> Option<Selection>
-    ensures { result ≡ option_map selection_said selected }
+    ensures { result ≡ option_map selection_from selected }
 {
     match selected {
         Some(selected) => Some(selection_of(selected)),
@@ -50,7 +50,7 @@ fn second_of(selected: Option<Selected>) -> Option<Selection>
 
 /// What the warehouse is asked for a request.
 pub(crate) fn task_of(asked: Asked) -> Task
-    ensures { (outcomes : List Outcome) → task_said result outcomes ≡ said_of asked outcomes }
+    ensures { (outcomes : List Outcome) → command_from_task result outcomes ≡ command_from asked outcomes }
 {
     match asked {
         Asked::ImportCallgrind(label) => Task::Import(Kind::Callgrind, label),

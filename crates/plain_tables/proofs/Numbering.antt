@@ -4,36 +4,36 @@ use Rattle.std.specs.List.{AllByRecursion, list_any}
 use Rattle.std.proofs.lemmas.List.Sums.{fold-append}
 use Rattle.std.proofs.lemmas.Slice.Eq.{bytes_eq-Decides}
 use Rattle.plain_tables.proofs.Lists.{map-append}
-use Rattle.plain_tables.specs.Tables.{Tables, NameLine}
+use Rattle.plain_tables.specs.Tables.{Tables, NameRow}
 use Rattle.plain_tables.specs.Changes.{has_name, named, with_new_name, next_name}
 use Rattle.plain_tables.specs.Files.{number_in, all_named, numbers_in}
 
 bytes_same : (name : List ℕ) → bytes_eq name name ≡ true
 bytes_same name = (bytes_eq-Decides name name).1 refl
 
--- a line more
-any_more : (name : List ℕ) (lines : List NameLine) (new : NameLine) → list_any (λ (line : NameLine). bytes_eq line.name name) lines ≡ true → list_any (λ (line : NameLine). bytes_eq line.name name) (lines ++ new ∷ []) ≡ true
+-- a row more
+any_more : (name : List ℕ) (lines : List NameRow) (new : NameRow) → list_any (λ (line : NameRow). bytes_eq line.name name) lines ≡ true → list_any (λ (line : NameRow). bytes_eq line.name name) (lines ++ new ∷ []) ≡ true
 any_more name [] new h = cc
 any_more name (line ∷ lines) new h = go (bytes_eq line.name name) h (any_more name lines new)
   where
-    go : (b : Bool) → (b || list_any (λ (l : NameLine). bytes_eq l.name name) lines) ≡ true → (list_any (λ (l : NameLine). bytes_eq l.name name) lines ≡ true → list_any (λ (l : NameLine). bytes_eq l.name name) (lines ++ new ∷ []) ≡ true)
-        → (b || list_any (λ (l : NameLine). bytes_eq l.name name) (lines ++ new ∷ [])) ≡ true
+    go : (b : Bool) → (b || list_any (λ (l : NameRow). bytes_eq l.name name) lines) ≡ true → (list_any (λ (l : NameRow). bytes_eq l.name name) lines ≡ true → list_any (λ (l : NameRow). bytes_eq l.name name) (lines ++ new ∷ []) ≡ true)
+        → (b || list_any (λ (l : NameRow). bytes_eq l.name name) (lines ++ new ∷ [])) ≡ true
     go true is more = refl
     go false is more = more is
 
-any_last : (name : List ℕ) (lines : List NameLine) (new : NameLine) → bytes_eq new.name name ≡ true → list_any (λ (line : NameLine). bytes_eq line.name name) (lines ++ new ∷ []) ≡ true
+any_last : (name : List ℕ) (lines : List NameRow) (new : NameRow) → bytes_eq new.name name ≡ true → list_any (λ (line : NameRow). bytes_eq line.name name) (lines ++ new ∷ []) ≡ true
 any_last name [] new h = ap (λ b. b || false) h
 any_last name (line ∷ lines) new h = go (bytes_eq line.name name) (any_last name lines new h)
   where
-    go : (b : Bool) → list_any (λ (l : NameLine). bytes_eq l.name name) (lines ++ new ∷ []) ≡ true → (b || list_any (λ (l : NameLine). bytes_eq l.name name) (lines ++ new ∷ [])) ≡ true
+    go : (b : Bool) → list_any (λ (l : NameRow). bytes_eq l.name name) (lines ++ new ∷ []) ≡ true → (b || list_any (λ (l : NameRow). bytes_eq l.name name) (lines ++ new ∷ [])) ≡ true
     go true more = refl
     go false more = more
 
-number_stays : (name : List ℕ) (lines : List NameLine) (new : NameLine) → list_any (λ (line : NameLine). bytes_eq line.name name) lines ≡ true → number_in (lines ++ new ∷ []) name ≡ number_in lines name
+number_stays : (name : List ℕ) (lines : List NameRow) (new : NameRow) → list_any (λ (line : NameRow). bytes_eq line.name name) lines ≡ true → number_in (lines ++ new ∷ []) name ≡ number_in lines name
 number_stays name [] new h = absurd (let bad : false ≡ true = h in cc)
 number_stays name (line ∷ lines) new h = go (bytes_eq line.name name) h (number_stays name lines new)
   where
-    go : (b : Bool) → (b || list_any (λ (l : NameLine). bytes_eq l.name name) lines) ≡ true → (list_any (λ (l : NameLine). bytes_eq l.name name) lines ≡ true → number_in (lines ++ new ∷ []) name ≡ number_in lines name)
+    go : (b : Bool) → (b || list_any (λ (l : NameRow). bytes_eq l.name name) lines) ≡ true → (list_any (λ (l : NameRow). bytes_eq l.name name) lines ≡ true → number_in (lines ++ new ∷ []) name ≡ number_in lines name)
         → (if b then line.number else number_in (lines ++ new ∷ []) name) ≡ (if b then line.number else number_in lines name)
     go true is more = refl
     go false is more = more is

@@ -2,6 +2,6 @@ pub mod Changes
 pub mod Files
 pub mod Labels
 pub mod Lists
-pub mod RunLines
+pub mod RunRows
 pub mod Sound
 pub mod Tables

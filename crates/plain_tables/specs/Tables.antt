@@ -2,7 +2,7 @@
 use Rattle.std.specs.Prelude.{ℕ, List, [], Option}
 
 -- a run that is held; its kind is 1 for Callgrind and 2 for folded stacks
-pub record RunLine : Type 0 where
+pub record RunRow : Type 0 where
   pub number : ℕ
   pub kind : ℕ
   pub digest : List ℕ
@@ -10,7 +10,7 @@ pub record RunLine : Type 0 where
   pub call_count : ℕ
 
 -- an event of a run: its column, its name, its sums, and the total that the file states, in decimal
-pub record EventLine : Type 0 where
+pub record EventRow : Type 0 where
   pub run : ℕ
   pub place : ℕ
   pub name : List ℕ
@@ -19,25 +19,25 @@ pub record EventLine : Type 0 where
   pub stated : Option (List ℕ)
 
 -- a derived event of a run
-pub record DerivedLine : Type 0 where
+pub record DerivedRow : Type 0 where
   pub run : ℕ
   pub place : ℕ
   pub name : List ℕ
 
 -- how often an event counts in a derived one
-pub record CoefLine : Type 0 where
+pub record CoefRow : Type 0 where
   pub run : ℕ
   pub place : ℕ
   pub event : ℕ
   pub times : ℕ
 
 -- a name and its number
-pub record NameLine : Type 0 where
+pub record NameRow : Type 0 where
   pub number : ℕ
   pub name : List ℕ
 
--- the sum of an event's own costs at a place, names by number
-pub record CellLine : Type 0 where
+-- the sum of an event's self costs at a place, names by number
+pub record CellRow : Type 0 where
   pub run : ℕ
   pub object : ℕ
   pub file : ℕ
@@ -48,7 +48,7 @@ pub record CellLine : Type 0 where
   pub cost : ℕ
 
 -- a part of the calls from a place to a function: part 0 counts them, part k + 1 is their cost in column k
-pub record ArcLine : Type 0 where
+pub record CallRow : Type 0 where
   pub run : ℕ
   pub object : ℕ
   pub file : ℕ
@@ -61,33 +61,33 @@ pub record ArcLine : Type 0 where
   pub sum : ℕ
 
 -- how often a stack was seen
-pub record StackLine : Type 0 where
+pub record StackRow : Type 0 where
   pub run : ℕ
   pub frames : List ℕ
   pub count : ℕ
 
-pub record GroupLine : Type 0 where
+pub record GroupRow : Type 0 where
   pub name : List ℕ
   pub baseline : Option ℕ
 
-pub record MemberLine : Type 0 where
+pub record MemberRow : Type 0 where
   pub group : List ℕ
   pub run : ℕ
 
--- the next run's number, and the lines of each table
+-- the next run's number, and the rows of each table
 pub record Tables : Type 0 where
   pub next : ℕ
-  pub runs : List RunLine
-  pub events : List EventLine
-  pub derived : List DerivedLine
-  pub coefs : List CoefLine
-  pub names : List NameLine
-  pub cells : List CellLine
-  pub arcs : List ArcLine
-  pub stacks : List StackLine
-  pub groups : List GroupLine
-  pub members : List MemberLine
+  pub runs : List RunRow
+  pub events : List EventRow
+  pub derived : List DerivedRow
+  pub coefs : List CoefRow
+  pub names : List NameRow
+  pub cells : List CellRow
+  pub calls : List CallRow
+  pub stacks : List StackRow
+  pub groups : List GroupRow
+  pub members : List MemberRow
 
 -- a new store
 abbrev pub new_tables : Tables
-new_tables = record { next = 1; runs = []; events = []; derived = []; coefs = []; names = []; cells = []; arcs = []; stacks = []; groups = []; members = [] }
+new_tables = record { next = 1; runs = []; events = []; derived = []; coefs = []; names = []; cells = []; calls = []; stacks = []; groups = []; members = [] }

@@ -5,19 +5,19 @@ use Rattle.std.specs.List.{AllByRecursion}
 use Rattle.plain_tables.proofs.Lists.{all-append, map-append}
 use Rattle.cost_rows.specs.Content.{Content}
 use Rattle.cost_rows.specs.Held.{AreHeld}
-use Rattle.plain_tables.specs.Tables.{Tables, RunLine, EventLine, DerivedLine, CoefLine, NameLine, CellLine, ArcLine, StackLine, GroupLine, MemberLine, new_tables}
+use Rattle.plain_tables.specs.Tables.{Tables, RunRow, EventRow, DerivedRow, CoefRow, NameRow, CellRow, CallRow, StackRow, GroupRow, MemberRow, new_tables}
 use Rattle.plain_tables.specs.Sound.{AreSound}
 use Rattle.plain_tables.specs.Changes.{without_run, has_baseline, unbased}
 use Rattle.plain_tables.specs.Files.{all_named, numbers_in}
-use Rattle.plain_tables.specs.RunLines.{cells_in, arcs_in, stacks_in}
+use Rattle.plain_tables.specs.RunRows.{cells_in, calls_in, stacks_in}
 use Rattle.plain_tables.proofs.Numbering.{AllHeld, all_held}
 use Rattle.plain_tables.proofs.Runs.{lines_below}
-use Rattle.prof_books.specs.Book.{AreOf, Book, RunBook, book_of, run_held, run_book, with_run_book, without_run_book, new_book, cell_held, part_held, stack_held, IsNamed, CellIsNamed, ArcIsNamed}
-use Rattle.prof_books.specs.Files.{with_head, with_rows, cell_lines, arc_lines, stack_lines}
+use Rattle.prof_books.specs.Book.{AreOf, Book, RunBook, book_of, run_held, run_book, with_run_book, without_run_book, new_book, cell_held, part_held, stack_held, IsNamed, CellIsNamed, CallIsNamed}
+use Rattle.prof_books.specs.Files.{with_head, with_rows, cell_rows, call_rows, stack_rows}
 use Rattle.prof_books.proofs.Names.{Rising, name_kept, held_more, all_grown}
 use Rattle.prof_books.proofs.Rows.{cells_are, parts_are, cells_named, calls_named, stacks_are, cells_of_run, calls_of_run, stacks_of_run}
 
--- ---- lines of one run among those of others
+-- ---- rows of one run among those of others
 
 self : (n : ℕ) → eqb n n ≡ true
 self n = grind (arith, nat_tests)
@@ -87,13 +87,13 @@ all_on : {X : Type 0} (P Q : X → Type 0) (xs : List X) → ((x : X) → P x �
 all_on P Q [] weaker h = tt
 all_on P Q (x ∷ xs) weaker h = (weaker x h.0, all_on P Q xs weaker h.1)
 
--- ---- lines keep their names while further names come
+-- ---- rows keep their names while further names come
 
-module _ (names more : List NameLine) where
-  cell_kept : (c : CellLine) → CellIsNamed names c → cell_held (names ++ more) c ≡ cell_held names c
+module _ (names more : List NameRow) where
+  cell_kept : (c : CellRow) → CellIsNamed names c → cell_held (names ++ more) c ≡ cell_held names c
   cell_kept c h = cc (name_kept names more c.object h.0, name_kept names more c.file h.1, name_kept names more c.function h.2)
 
-  part_kept : (a : ArcLine) → ArcIsNamed names a → part_held (names ++ more) a ≡ part_held names a
+  part_kept : (a : CallRow) → CallIsNamed names a → part_held (names ++ more) a ≡ part_held names a
   part_kept a h =
       cc (
         name_kept names more a.object h.0,
@@ -104,11 +104,11 @@ module _ (names more : List NameLine) where
         name_kept names more a.called_function h.5,
       )
 
-  cell_stays : (c : CellLine) → CellIsNamed names c → CellIsNamed (names ++ more) c
+  cell_stays : (c : CellRow) → CellIsNamed names c → CellIsNamed (names ++ more) c
   cell_stays c h = (held_more names more c.object h.0, held_more names more c.file h.1, held_more names more c.function h.2)
 
-  arc_stays : (a : ArcLine) → ArcIsNamed names a → ArcIsNamed (names ++ more) a
-  arc_stays a h = (
+  call_stays : (a : CallRow) → CallIsNamed names a → CallIsNamed (names ++ more) a
+  call_stays a h = (
     held_more names more a.object h.0,
     held_more names more a.file h.1,
     held_more names more a.function h.2,
@@ -119,7 +119,7 @@ module _ (names more : List NameLine) where
 
 -- ---- a run more
 
-module _ (r : RunLine) (events : List EventLine) (derived : List DerivedLine) (coefs : List CoefLine) (c : Content) (t : Tables) where
+module _ (r : RunRow) (events : List EventRow) (derived : List DerivedRow) (coefs : List CoefRow) (c : Content) (t : Tables) where
   abbrev head : Tables
   head = with_head r events derived coefs t
 
@@ -141,14 +141,14 @@ module _ (r : RunLine) (events : List EventLine) (derived : List DerivedLine) (c
     derived = t.derived ++ derived;
     coefs = t.coefs ++ coefs;
     names = known.names;
-    cells = t.cells ++ cell_lines r.number numbers c.cells;
-    arcs = t.arcs ++ arc_lines r.number numbers c.arcs;
-    stacks = t.stacks ++ stack_lines r.number c.stacks;
+    cells = t.cells ++ cell_rows r.number numbers c.cells;
+    calls = t.calls ++ call_rows r.number numbers c.calls;
+    stacks = t.stacks ++ stack_rows r.number c.stacks;
     groups = t.groups;
     members = t.members;
   }
 
-  grown : (more : List NameLine) × (known ≡ record head { names = t.names ++ more })
+  grown : (more : List NameRow) × (known ≡ record head { names = t.names ++ more })
   grown = all_grown c.names head
 
   names_are : known.names ≡ t.names ++ grown.0
@@ -160,7 +160,7 @@ module _ (r : RunLine) (events : List EventLine) (derived : List DerivedLine) (c
   after_is : after ≡ whole
   after_is =
       ap
-      (λ (u : Tables). let v : Tables = record u { cells = u.cells ++ cell_lines r.number numbers c.cells; arcs = u.arcs ++ arc_lines r.number numbers c.arcs; stacks = u.stacks ++ stack_lines r.number c.stacks } in v)
+      (λ (u : Tables). let v : Tables = record u { cells = u.cells ++ cell_rows r.number numbers c.cells; calls = u.calls ++ call_rows r.number numbers c.calls; stacks = u.stacks ++ stack_rows r.number c.stacks } in v)
       known_is
 
   module _ (was : AreSound t) (is : AreSound after) (named : IsNamed t) (held : AreHeld c) (number : r.number ≡ t.next) (of : AreOf r.number events derived coefs) where
@@ -173,23 +173,23 @@ module _ (r : RunLine) (events : List EventLine) (derived : List DerivedLine) (c
     below : {X : Type 0} (run : X → ℕ) (lines : List X) → AllByRecursion (λ x. run x < t.next) lines → AllByRecursion (λ x. run x < r.number) lines
     below run lines h = subst (λ n. AllByRecursion (λ x. run x < n) lines) (sym number) h
 
-    cell_same : (l : CellLine) → CellIsNamed t.names l → cell_held known.names l ≡ cell_held t.names l
+    cell_same : (l : CellRow) → CellIsNamed t.names l → cell_held known.names l ≡ cell_held t.names l
     cell_same l h = ap (λ names. cell_held names l) names_are ∙ cell_kept t.names grown.0 l h
 
-    part_same : (l : ArcLine) → ArcIsNamed t.names l → part_held known.names l ≡ part_held t.names l
+    part_same : (l : CallRow) → CallIsNamed t.names l → part_held known.names l ≡ part_held t.names l
     part_same l h = ap (λ names. part_held names l) names_are ∙ part_kept t.names grown.0 l h
 
     -- the runs that were there are as they were
-    old_same : (q : RunLine) → q.number < r.number → run_held whole q ≡ run_held t q
+    old_same : (q : RunRow) → q.number < r.number → run_held whole q ≡ run_held t q
     old_same q low =
         let cells : map (cell_held known.names) (cells_in q.number whole) ≡ map (cell_held t.names) (cells_in q.number t) =
-        ap (map (cell_held known.names)) (old_lines (λ l. l.run) q.number r.number t.cells (cell_lines r.number numbers c.cells) low (cells_of_run r.number numbers c.cells))
+        ap (map (cell_held known.names)) (old_lines (λ l. l.run) q.number r.number t.cells (cell_rows r.number numbers c.cells) low (cells_of_run r.number numbers c.cells))
         ∙ map_on (cell_held known.names) (cell_held t.names) (CellIsNamed t.names) (cells_in q.number t) cell_same (all_filter (CellIsNamed t.names) (λ l. l.run == q.number) t.cells named.cells) in
-        let parts : map (part_held known.names) (arcs_in q.number whole) ≡ map (part_held t.names) (arcs_in q.number t) =
-        ap (map (part_held known.names)) (old_lines (λ l. l.run) q.number r.number t.arcs (arc_lines r.number numbers c.arcs) low (calls_of_run r.number numbers c.arcs))
-        ∙ map_on (part_held known.names) (part_held t.names) (ArcIsNamed t.names) (arcs_in q.number t) part_same (all_filter (ArcIsNamed t.names) (λ l. l.run == q.number) t.arcs named.arcs) in
+        let parts : map (part_held known.names) (calls_in q.number whole) ≡ map (part_held t.names) (calls_in q.number t) =
+        ap (map (part_held known.names)) (old_lines (λ l. l.run) q.number r.number t.calls (call_rows r.number numbers c.calls) low (calls_of_run r.number numbers c.calls))
+        ∙ map_on (part_held known.names) (part_held t.names) (CallIsNamed t.names) (calls_in q.number t) part_same (all_filter (CallIsNamed t.names) (λ l. l.run == q.number) t.calls named.calls) in
         let stacks : map stack_held (stacks_in q.number whole) ≡ map stack_held (stacks_in q.number t) =
-        ap (map stack_held) (old_lines (λ l. l.run) q.number r.number t.stacks (stack_lines r.number c.stacks) low (stacks_of_run r.number c.stacks)) in
+        ap (map stack_held) (old_lines (λ l. l.run) q.number r.number t.stacks (stack_rows r.number c.stacks) low (stacks_of_run r.number c.stacks)) in
         cc (
           old_lines (λ l. l.run) q.number r.number t.events events low of.events_of,
           old_lines (λ l. l.run) q.number r.number t.derived derived low of.derived_of,
@@ -203,13 +203,13 @@ module _ (r : RunLine) (events : List EventLine) (derived : List DerivedLine) (c
     new_same : run_held whole r ≡ run_book r events derived coefs c
     new_same =
         let cells =
-        ap (map (cell_held known.names)) (new_lines (λ l. l.run) r.number t.cells (cell_lines r.number numbers c.cells) (below (λ l. l.run) t.cells (lines_below t was (λ l. l.run) t.cells was.cells)) (cells_of_run r.number numbers c.cells))
+        ap (map (cell_held known.names)) (new_lines (λ l. l.run) r.number t.cells (cell_rows r.number numbers c.cells) (below (λ l. l.run) t.cells (lines_below t was (λ l. l.run) t.cells was.cells)) (cells_of_run r.number numbers c.cells))
         ∙ cells_are known.names up r.number c.names all c.cells held.cells in
         let parts =
-        ap (map (part_held known.names)) (new_lines (λ l. l.run) r.number t.arcs (arc_lines r.number numbers c.arcs) (below (λ l. l.run) t.arcs (lines_below t was (λ l. l.run) t.arcs was.arcs)) (calls_of_run r.number numbers c.arcs))
-        ∙ parts_are known.names up r.number c.names all c.arcs held.arcs in
+        ap (map (part_held known.names)) (new_lines (λ l. l.run) r.number t.calls (call_rows r.number numbers c.calls) (below (λ l. l.run) t.calls (lines_below t was (λ l. l.run) t.calls was.calls)) (calls_of_run r.number numbers c.calls))
+        ∙ parts_are known.names up r.number c.names all c.calls held.calls in
         let stacks =
-        ap (map stack_held) (new_lines (λ l. l.run) r.number t.stacks (stack_lines r.number c.stacks) (below (λ l. l.run) t.stacks (lines_below t was (λ l. l.run) t.stacks was.stacks)) (stacks_of_run r.number c.stacks))
+        ap (map stack_held) (new_lines (λ l. l.run) r.number t.stacks (stack_rows r.number c.stacks) (below (λ l. l.run) t.stacks (lines_below t was (λ l. l.run) t.stacks was.stacks)) (stacks_of_run r.number c.stacks))
         ∙ stacks_are r.number c.stacks in
         cc (
           new_lines (λ l. l.run) r.number t.events events (below (λ l. l.run) t.events (lines_below t was (λ l. l.run) t.events was.events)) of.events_of,
@@ -225,42 +225,42 @@ module _ (r : RunLine) (events : List EventLine) (derived : List DerivedLine) (c
         map-append (run_held whole) t.runs (r ∷ [])
         ∙ ap₂ ◌++◌ (map_on (run_held whole) (run_held t) (λ q. q.number < r.number) t.runs old_same (below (λ q. q.number) t.runs was.below)) (ap (λ b. b ∷ []) new_same)
 
-    pub book_put : book_of after ≡ with_run_book (run_book r events derived coefs c) (book_of t)
-    book_put = ap book_of after_is ∙ ap (λ l. let b : Book = record { next = suc r.number; runs = l; groups = t.groups; members = t.members } in b) runs_are
+    pub book_insert : book_of after ≡ with_run_book (run_book r events derived coefs c) (book_of t)
+    book_insert = ap book_of after_is ∙ ap (λ l. let b : Book = record { next = suc r.number; runs = l; groups = t.groups; members = t.members } in b) runs_are
 
-    pub named_put : IsNamed after
-    named_put =
+    pub named_insert : IsNamed after
+    named_insert =
         subst IsNamed (sym after_is) (record {
           cells =
-              all-append (CellIsNamed known.names) t.cells (cell_lines r.number numbers c.cells)
+              all-append (CellIsNamed known.names) t.cells (cell_rows r.number numbers c.cells)
               (all_on (CellIsNamed t.names) (CellIsNamed known.names) t.cells (λ l h. subst (λ names. CellIsNamed names l) (sym names_are) (cell_stays t.names grown.0 l h)) named.cells)
               (cells_named known.names up r.number c.names all c.cells held.cells);
-          arcs =
-              all-append (ArcIsNamed known.names) t.arcs (arc_lines r.number numbers c.arcs)
-              (all_on (ArcIsNamed t.names) (ArcIsNamed known.names) t.arcs (λ l h. subst (λ names. ArcIsNamed names l) (sym names_are) (arc_stays t.names grown.0 l h)) named.arcs)
-              (calls_named known.names up r.number c.names all c.arcs held.arcs);
+          calls =
+              all-append (CallIsNamed known.names) t.calls (call_rows r.number numbers c.calls)
+              (all_on (CallIsNamed t.names) (CallIsNamed known.names) t.calls (λ l h. subst (λ names. CallIsNamed names l) (sym names_are) (call_stays t.names grown.0 l h)) named.calls)
+              (calls_named known.names up r.number c.names all c.calls held.calls);
         })
 
 -- ---- a run less
 
 module _ (n : ℕ) (t : Tables) where
-  left_same : (r : RunLine) → eqb r.number n ≡ false → run_held (without_run n t) r ≡ run_held t r
+  left_same : (r : RunRow) → eqb r.number n ≡ false → run_held (without_run n t) r ≡ run_held t r
   left_same r other =
       cc (
-        left_lines (λ (e : EventLine). e.run) r.number n t.events other,
-        left_lines (λ (d : DerivedLine). d.run) r.number n t.derived other,
-        left_lines (λ (k : CoefLine). k.run) r.number n t.coefs other,
-        ap (map (cell_held t.names)) (left_lines (λ (l : CellLine). l.run) r.number n t.cells other),
-        ap (map (part_held t.names)) (left_lines (λ (l : ArcLine). l.run) r.number n t.arcs other),
-        ap (map stack_held) (left_lines (λ (l : StackLine). l.run) r.number n t.stacks other),
+        left_lines (λ (e : EventRow). e.run) r.number n t.events other,
+        left_lines (λ (d : DerivedRow). d.run) r.number n t.derived other,
+        left_lines (λ (k : CoefRow). k.run) r.number n t.coefs other,
+        ap (map (cell_held t.names)) (left_lines (λ (l : CellRow). l.run) r.number n t.cells other),
+        ap (map (part_held t.names)) (left_lines (λ (l : CallRow). l.run) r.number n t.calls other),
+        ap (map stack_held) (left_lines (λ (l : StackRow). l.run) r.number n t.stacks other),
       )
 
-  left_runs : (runs : List RunLine) → map (run_held (without_run n t)) (filter (λ (r : RunLine). not (r.number == n)) runs) ≡ filter (λ (b : RunBook). not (b.line.number == n)) (map (run_held t) runs)
+  left_runs : (runs : List RunRow) → map (run_held (without_run n t)) (filter (λ (r : RunRow). not (r.number == n)) runs) ≡ filter (λ (b : RunBook). not (b.line.number == n)) (map (run_held t) runs)
   left_runs [] = refl
   left_runs (r ∷ runs) = go (eqb r.number n) refl (left_runs runs)
     where
-      go : (b : Bool) → eqb r.number n ≡ b → map (run_held (without_run n t)) (filter (λ (q : RunLine). not (q.number == n)) runs) ≡ filter (λ (q : RunBook). not (q.line.number == n)) (map (run_held t) runs)
-          → map (run_held (without_run n t)) (if not b then r ∷ filter (λ (q : RunLine). not (q.number == n)) runs else filter (λ (q : RunLine). not (q.number == n)) runs)
+      go : (b : Bool) → eqb r.number n ≡ b → map (run_held (without_run n t)) (filter (λ (q : RunRow). not (q.number == n)) runs) ≡ filter (λ (q : RunBook). not (q.line.number == n)) (map (run_held t) runs)
+          → map (run_held (without_run n t)) (if not b then r ∷ filter (λ (q : RunRow). not (q.number == n)) runs else filter (λ (q : RunRow). not (q.number == n)) runs)
           ≡ (if not b then run_held t r ∷ filter (λ (q : RunBook). not (q.line.number == n)) (map (run_held t) runs) else filter (λ (q : RunBook). not (q.line.number == n)) (map (run_held t) runs))
       go true e rest = rest
       go false e rest = ap₂ ◌∷◌ (left_same r e) rest
@@ -268,19 +268,19 @@ module _ (n : ℕ) (t : Tables) where
   pub book_dropped : book_of (without_run n t) ≡ without_run_book n (book_of t)
   book_dropped =
       ap
-      (λ l. let b : Book = record { next = t.next; runs = l; groups = map (λ g. if has_baseline n g then unbased g else g) t.groups; members = filter (λ (m : MemberLine). not (m.run == n)) t.members } in b)
+      (λ l. let b : Book = record { next = t.next; runs = l; groups = map (λ g. if has_baseline n g then unbased g else g) t.groups; members = filter (λ (m : MemberRow). not (m.run == n)) t.members } in b)
       (left_runs t.runs)
 
   pub named_dropped : IsNamed t → IsNamed (without_run n t)
-  named_dropped h = record { cells = all_filter (CellIsNamed t.names) (λ (l : CellLine). not (l.run == n)) t.cells h.cells; arcs = all_filter (ArcIsNamed t.names) (λ (l : ArcLine). not (l.run == n)) t.arcs h.arcs }
+  named_dropped h = record { cells = all_filter (CellIsNamed t.names) (λ (l : CellRow). not (l.run == n)) t.cells h.cells; calls = all_filter (CallIsNamed t.names) (λ (l : CallRow). not (l.run == n)) t.calls h.calls }
 
 -- ---- other groups and members
 
-pub book_grouped : (t : Tables) (groups : List GroupLine) (members : List MemberLine) → book_of (record t { groups = groups; members = members }) ≡ record (book_of t) { groups = groups; members = members }
+pub book_grouped : (t : Tables) (groups : List GroupRow) (members : List MemberRow) → book_of (record t { groups = groups; members = members }) ≡ record (book_of t) { groups = groups; members = members }
 book_grouped t groups members = refl
 
-pub named_grouped : (t : Tables) (groups : List GroupLine) (members : List MemberLine) → IsNamed t → IsNamed (record t { groups = groups; members = members })
-named_grouped t groups members h = record { cells = h.cells; arcs = h.arcs }
+pub named_grouped : (t : Tables) (groups : List GroupRow) (members : List MemberRow) → IsNamed t → IsNamed (record t { groups = groups; members = members })
+named_grouped t groups members h = record { cells = h.cells; calls = h.calls }
 
 -- ---- a new store
 
@@ -288,4 +288,4 @@ pub book_new : book_of new_tables ≡ new_book
 book_new = refl
 
 pub named_new : IsNamed new_tables
-named_new = record { cells = tt; arcs = tt }
+named_new = record { cells = tt; calls = tt }

@@ -1,4 +1,4 @@
--- The lines that a file's rows become, with names in place, are its rows.
+-- The rows that a file's rows become, with names in place, are its rows.
 use Rattle.std.proofs.Common.{◌≡◌, ℕ, ◌<◌, zero, suc, List, [], ◌∷◌, ◌++◌, map, length, flat_map, Bool, true, false, nat_lt, ◌==◌, bytes_eq, if◌then◌else◌, refl, sym, ap, ap₂, ◌∙◌, arith}
 use Rattle.std.specs.List.{AllByRecursion, list_any}
 use Rattle.std.specs.Map.{keys_of}
@@ -6,24 +6,24 @@ use Rattle.plain_tables.proofs.Lists.{all-append}
 use Rattle.plain_tables.proofs.Lists.{map-append}
 use Rattle.cost_rows.specs.Held.{CellHeld, CallHeld}
 use Rattle.cost_rows.specs.Sums.{name_at}
-use Rattle.cost_rows.specs.ByNumber.{numbered_cell, numbered_at, numbered_cells, numbered_arc}
-use Rattle.cost_rows.specs.Walks.{cell_named, cell_rows, arc_named, arc_rows, stack_rows}
+use Rattle.cost_rows.specs.ByNumber.{numbered_cell, numbered_at, numbered_cells, numbered_call}
+use Rattle.cost_rows.specs.Walks.{cell_named, named_cells, edge_named, named_calls, counted_stacks}
 use Rattle.cost_rows.specs.declared.places.CellPlace.{CellPlace}
 use Rattle.cost_rows.specs.declared.places.Call.{Call}
 use Rattle.cost_rows.specs.declared.calls.Calls.{Calls}
-use Rattle.cost_rows.specs.declared.rows.CellRow.{CellRow}
+use Rattle.cost_rows.specs.declared.rows.Cell.{Cell}
 use Rattle.cost_rows.proofs.AboveLemmas.{all-above, map-above}
-use Rattle.plain_tables.specs.Tables.{NameLine, CellLine, ArcLine, StackLine}
+use Rattle.plain_tables.specs.Tables.{NameRow, CellRow, CallRow, StackRow}
 use Rattle.plain_tables.specs.Files.{number_in}
-use Rattle.prof_books.specs.Book.{name_of, cell_held, part_held, CallPart, part_of, parts_from, parts_of, stack_held, IsHeld, CellIsNamed, ArcIsNamed}
-use Rattle.prof_books.specs.Files.{numbered, cell_line_of, cell_lines_at, cell_lines, arc_line_of, arc_lines_from, arc_lines_at, arc_lines, stack_lines}
+use Rattle.prof_books.specs.Book.{name_of, cell_held, part_held, CallPart, part_of, parts_from, parts_of, stack_held, IsHeld, CellIsNamed, CallIsNamed}
+use Rattle.prof_books.specs.Files.{numbered, cell_row_of, cell_rows_at, cell_rows, call_row_of, call_rows_from, call_rows_at, call_rows, stack_rows}
 use Rattle.prof_books.proofs.Names.{Rising, name_back, number_held}
 
 -- a name that the tables have
-abbrev pub Stands : List NameLine → List ℕ → Type 0
-Stands known name = list_any (λ (line : NameLine). bytes_eq line.name name) known ≡ true
+abbrev pub Stands : List NameRow → List ℕ → Type 0
+Stands known name = list_any (λ (line : NameRow). bytes_eq line.name name) known ≡ true
 
-module _ (known : List NameLine) (up : Rising known) where
+module _ (known : List NameRow) (up : Rising known) where
   abbrev numbers_of : List (List ℕ) → List ℕ
   numbers_of names = map (number_in known) names
 
@@ -33,7 +33,7 @@ module _ (known : List NameLine) (up : Rising known) where
   through (name ∷ names) all zero below = name_back known name up all.0
   through (name ∷ names) all (suc n) below = through names all.1 n (omega arith)
 
-  held : (names : List (List ℕ)) → AllByRecursion (Stands known) names → (n : ℕ) → n < length names → list_any (λ (line : NameLine). line.number == numbered (numbers_of names) n) known ≡ true
+  held : (names : List (List ℕ)) → AllByRecursion (Stands known) names → (n : ℕ) → n < length names → list_any (λ (line : NameRow). line.number == numbered (numbers_of names) n) known ≡ true
   held [] all n below = absurd (omega arith)
   held (name ∷ names) all zero below = number_held known name all.0
   held (name ∷ names) all (suc n) below = held names all.1 n (omega arith)
@@ -44,29 +44,29 @@ module _ (known : List NameLine) (up : Rising known) where
 
     -- ---- cells
 
-    one_cell : (p : CellPlace) (event cost : ℕ) → CellHeld names p → cell_held known (cell_line_of run numbers p event cost) ≡ cell_named names (numbered_cell p event cost)
+    one_cell : (p : CellPlace) (event cost : ℕ) → CellHeld names p → cell_held known (cell_row_of run numbers p event cost) ≡ cell_named names (numbered_cell p event cost)
     one_cell p event cost h =
-        let P : List ℕ → List ℕ → List ℕ → CellRow (List ℕ) = λ a b d. record { object = a; file = b; function = d; line = p.place.line; thread = p.thread; event = event; cost = cost } in
+        let P : List ℕ → List ℕ → List ℕ → Cell (List ℕ) = λ a b d. record { object = a; file = b; function = d; line = p.place.line; thread = p.thread; event = event; cost = cost } in
         let e : P (name_of known (numbered numbers p.place.object)) (name_of known (numbered numbers p.place.file)) (name_of known (numbered numbers p.place.function)) ≡ P (name_at names p.place.object) (name_at names p.place.file) (name_at names p.place.function) =
         ap (λ a. P a (name_of known (numbered numbers p.place.file)) (name_of known (numbered numbers p.place.function))) (through names all p.place.object h.0)
         ∙ ap (λ b. P (name_at names p.place.object) b (name_of known (numbered numbers p.place.function))) (through names all p.place.file h.1) ∙ ap (P (name_at names p.place.object) (name_at names p.place.file)) (through names all p.place.function h.2) in
         e
 
-    cells_at : (p : CellPlace) (costs : List ℕ) → CellHeld names p → map (cell_held known) (cell_lines_at run numbers p 0 costs) ≡ map (cell_named names) (numbered_at p 0 costs)
+    cells_at : (p : CellPlace) (costs : List ℕ) → CellHeld names p → map (cell_held known) (cell_rows_at run numbers p 0 costs) ≡ map (cell_named names) (numbered_at p 0 costs)
     cells_at p costs h =
-        let named : ℕ → ℕ → CellRow (List ℕ) = λ event cost. cell_named names (numbered_cell p event cost) in
-        map-above (cell_held known) (cell_line_of run numbers p) named (λ event cost. one_cell p event cost h) 0 costs
+        let named : ℕ → ℕ → Cell (List ℕ) = λ event cost. cell_named names (numbered_cell p event cost) in
+        map-above (cell_held known) (cell_row_of run numbers p) named (λ event cost. one_cell p event cost h) 0 costs
         ∙ sym (map-above (cell_named names) (numbered_cell p) named (λ event cost. refl) 0 costs)
 
-    pub cells_are : (cells : List (CellPlace × List ℕ)) → AllByRecursion (CellHeld names) (keys_of cells) → map (cell_held known) (cell_lines run numbers cells) ≡ cell_rows names cells
+    pub cells_are : (cells : List (CellPlace × List ℕ)) → AllByRecursion (CellHeld names) (keys_of cells) → map (cell_held known) (cell_rows run numbers cells) ≡ named_cells names cells
     cells_are [] h = refl
     cells_are (e ∷ cells) h =
-        map-append (cell_held known) (cell_lines_at run numbers e.0 0 e.1) (cell_lines run numbers cells) ∙ ap₂ ◌++◌ (cells_at e.0 e.1 h.0) (cells_are cells h.1)
+        map-append (cell_held known) (cell_rows_at run numbers e.0 0 e.1) (cell_rows run numbers cells) ∙ ap₂ ◌++◌ (cells_at e.0 e.1 h.0) (cells_are cells h.1)
         ∙ sym (map-append (cell_named names) (numbered_at e.0 0 e.1) (numbered_cells cells))
 
     -- ---- calls
 
-    one_part : (e : Call × Calls) (part sum : ℕ) → CallHeld names e.0 → part_held known (arc_line_of run numbers e.0 part sum) ≡ part_of (arc_named names (numbered_arc e)) part sum
+    one_part : (e : Call × Calls) (part sum : ℕ) → CallHeld names e.0 → part_held known (call_row_of run numbers e.0 part sum) ≡ part_of (edge_named names (numbered_call e)) part sum
     one_part e part sum h =
         let P : List ℕ → List ℕ → List ℕ → List ℕ → List ℕ → List ℕ → CallPart =
         λ a b d x y z. record { object = a; file = b; function = d; line = e.0.place.line; called_object = x; called_file = y; called_function = z; part = part; sum = sum } in
@@ -82,58 +82,58 @@ module _ (known : List NameLine) (up : Rising known) where
         ∙ ap (P (m at.object) (m at.file) (m at.function) (m e.0.object) (m e.0.file)) (through names all e.0.function h.1.2) in
         same
 
-    pub parts_are : (arcs : List (Call × Calls)) → AllByRecursion (CallHeld names) (keys_of arcs) → map (part_held known) (arc_lines run numbers arcs) ≡ flat_map parts_of (arc_rows names arcs)
+    pub parts_are : (calls : List (Call × Calls)) → AllByRecursion (CallHeld names) (keys_of calls) → map (part_held known) (call_rows run numbers calls) ≡ flat_map parts_of (named_calls names calls)
     parts_are [] h = refl
-    parts_are (e ∷ arcs) h =
-        map-append (part_held known) (arc_lines_at run numbers e.0 e.1) (arc_lines run numbers arcs)
-        ∙ ap₂ ◌++◌ (ap₂ ◌∷◌ (one_part e 0 e.1.count h.0) (map-above (part_held known) (arc_line_of run numbers e.0) (part_of (arc_named names (numbered_arc e))) (λ part sum. one_part e part sum h.0) 1 e.1.costs)) (parts_are arcs h.1)
+    parts_are (e ∷ calls) h =
+        map-append (part_held known) (call_rows_at run numbers e.0 e.1) (call_rows run numbers calls)
+        ∙ ap₂ ◌++◌ (ap₂ ◌∷◌ (one_part e 0 e.1.count h.0) (map-above (part_held known) (call_row_of run numbers e.0) (part_of (edge_named names (numbered_call e))) (λ part sum. one_part e part sum h.0) 1 e.1.costs)) (parts_are calls h.1)
 
     -- ---- their names are held
 
-    cell_is_named : (p : CellPlace) (event cost : ℕ) → CellHeld names p → CellIsNamed known (cell_line_of run numbers p event cost)
+    cell_is_named : (p : CellPlace) (event cost : ℕ) → CellHeld names p → CellIsNamed known (cell_row_of run numbers p event cost)
     cell_is_named p event cost h = (held names all p.place.object h.0, held names all p.place.file h.1, held names all p.place.function h.2)
 
-    pub cells_named : (cells : List (CellPlace × List ℕ)) → AllByRecursion (CellHeld names) (keys_of cells) → AllByRecursion (CellIsNamed known) (cell_lines run numbers cells)
+    pub cells_named : (cells : List (CellPlace × List ℕ)) → AllByRecursion (CellHeld names) (keys_of cells) → AllByRecursion (CellIsNamed known) (cell_rows run numbers cells)
     cells_named [] h = tt
-    cells_named (e ∷ cells) h = all-append (CellIsNamed known) (cell_lines_at run numbers e.0 0 e.1) (cell_lines run numbers cells) (all-above (CellIsNamed known) (cell_line_of run numbers e.0) (λ event cost above. cell_is_named e.0 event cost h.0) 0 e.1) (cells_named cells h.1)
+    cells_named (e ∷ cells) h = all-append (CellIsNamed known) (cell_rows_at run numbers e.0 0 e.1) (cell_rows run numbers cells) (all-above (CellIsNamed known) (cell_row_of run numbers e.0) (λ event cost above. cell_is_named e.0 event cost h.0) 0 e.1) (cells_named cells h.1)
 
-    call_named : (e : Call × Calls) (part sum : ℕ) → CallHeld names e.0 → ArcIsNamed known (arc_line_of run numbers e.0 part sum)
+    call_named : (e : Call × Calls) (part sum : ℕ) → CallHeld names e.0 → CallIsNamed known (call_row_of run numbers e.0 part sum)
     call_named e part sum h =
         let it : (n : ℕ) → n < length names → IsHeld known (numbered numbers n) = held names all in
         (it e.0.place.object h.0.0, it e.0.place.file h.0.1, it e.0.place.function h.0.2, it e.0.object h.1.0, it e.0.file h.1.1, it e.0.function h.1.2)
 
-    pub calls_named : (arcs : List (Call × Calls)) → AllByRecursion (CallHeld names) (keys_of arcs) → AllByRecursion (ArcIsNamed known) (arc_lines run numbers arcs)
+    pub calls_named : (calls : List (Call × Calls)) → AllByRecursion (CallHeld names) (keys_of calls) → AllByRecursion (CallIsNamed known) (call_rows run numbers calls)
     calls_named [] h = tt
-    calls_named (e ∷ arcs) h =
-        all-append (ArcIsNamed known) (arc_lines_at run numbers e.0 e.1) (arc_lines run numbers arcs) (call_named e 0 e.1.count h.0, all-above (ArcIsNamed known) (arc_line_of run numbers e.0) (λ part sum above. call_named e part sum h.0) 1 e.1.costs) (calls_named arcs h.1)
+    calls_named (e ∷ calls) h =
+        all-append (CallIsNamed known) (call_rows_at run numbers e.0 e.1) (call_rows run numbers calls) (call_named e 0 e.1.count h.0, all-above (CallIsNamed known) (call_row_of run numbers e.0) (λ part sum above. call_named e part sum h.0) 1 e.1.costs) (calls_named calls h.1)
 
 -- ---- stacks
 
-pub stacks_are : (run : ℕ) (stacks : List (List ℕ × ℕ)) → map stack_held (stack_lines run stacks) ≡ stack_rows stacks
+pub stacks_are : (run : ℕ) (stacks : List (List ℕ × ℕ)) → map stack_held (stack_rows run stacks) ≡ counted_stacks stacks
 stacks_are run [] = refl
 stacks_are run (e ∷ stacks) = go (nat_lt 0 e.1) (stacks_are run stacks)
   where
-    go : (b : Bool) → map stack_held (stack_lines run stacks) ≡ stack_rows stacks
-        → map stack_held (if b then record { run = run; frames = e.0; count = e.1 } ∷ stack_lines run stacks else stack_lines run stacks) ≡ (if b then record { stack = e.0; count = e.1 } ∷ stack_rows stacks else stack_rows stacks)
+    go : (b : Bool) → map stack_held (stack_rows run stacks) ≡ counted_stacks stacks
+        → map stack_held (if b then record { run = run; frames = e.0; count = e.1 } ∷ stack_rows run stacks else stack_rows run stacks) ≡ (if b then record { stack = e.0; count = e.1 } ∷ counted_stacks stacks else counted_stacks stacks)
     go true rest = ap₂ ◌∷◌ refl rest
     go false rest = rest
 
--- ---- each of these lines is of the run
+-- ---- each of these rows is of the run
 
-pub cells_of_run : (run : ℕ) (known_as : List ℕ) (cells : List (CellPlace × List ℕ)) → AllByRecursion (λ (c : CellLine). c.run ≡ run) (cell_lines run known_as cells)
+pub cells_of_run : (run : ℕ) (known_as : List ℕ) (cells : List (CellPlace × List ℕ)) → AllByRecursion (λ (c : CellRow). c.run ≡ run) (cell_rows run known_as cells)
 cells_of_run run known_as [] = tt
-cells_of_run run known_as (e ∷ cells) = all-append (λ (c : CellLine). c.run ≡ run) (cell_lines_at run known_as e.0 0 e.1) (cell_lines run known_as cells) (all-above (λ (c : CellLine). c.run ≡ run) (cell_line_of run known_as e.0) (λ event cost above. refl) 0 e.1) (cells_of_run run known_as cells)
+cells_of_run run known_as (e ∷ cells) = all-append (λ (c : CellRow). c.run ≡ run) (cell_rows_at run known_as e.0 0 e.1) (cell_rows run known_as cells) (all-above (λ (c : CellRow). c.run ≡ run) (cell_row_of run known_as e.0) (λ event cost above. refl) 0 e.1) (cells_of_run run known_as cells)
 
-pub calls_of_run : (run : ℕ) (known_as : List ℕ) (arcs : List (Call × Calls)) → AllByRecursion (λ (a : ArcLine). a.run ≡ run) (arc_lines run known_as arcs)
+pub calls_of_run : (run : ℕ) (known_as : List ℕ) (calls : List (Call × Calls)) → AllByRecursion (λ (a : CallRow). a.run ≡ run) (call_rows run known_as calls)
 calls_of_run run known_as [] = tt
-calls_of_run run known_as (e ∷ arcs) =
-    all-append (λ (a : ArcLine). a.run ≡ run) (arc_lines_at run known_as e.0 e.1) (arc_lines run known_as arcs) (refl, all-above (λ (a : ArcLine). a.run ≡ run) (arc_line_of run known_as e.0) (λ part sum above. refl) 1 e.1.costs) (calls_of_run run known_as arcs)
+calls_of_run run known_as (e ∷ calls) =
+    all-append (λ (a : CallRow). a.run ≡ run) (call_rows_at run known_as e.0 e.1) (call_rows run known_as calls) (refl, all-above (λ (a : CallRow). a.run ≡ run) (call_row_of run known_as e.0) (λ part sum above. refl) 1 e.1.costs) (calls_of_run run known_as calls)
 
-pub stacks_of_run : (run : ℕ) (stacks : List (List ℕ × ℕ)) → AllByRecursion (λ (s : StackLine). s.run ≡ run) (stack_lines run stacks)
+pub stacks_of_run : (run : ℕ) (stacks : List (List ℕ × ℕ)) → AllByRecursion (λ (s : StackRow). s.run ≡ run) (stack_rows run stacks)
 stacks_of_run run [] = tt
 stacks_of_run run (e ∷ stacks) = go (nat_lt 0 e.1) (stacks_of_run run stacks)
   where
-    go : (b : Bool) → AllByRecursion (λ (s : StackLine). s.run ≡ run) (stack_lines run stacks)
-        → AllByRecursion (λ (s : StackLine). s.run ≡ run) (if b then record { run = run; frames = e.0; count = e.1 } ∷ stack_lines run stacks else stack_lines run stacks)
+    go : (b : Bool) → AllByRecursion (λ (s : StackRow). s.run ≡ run) (stack_rows run stacks)
+        → AllByRecursion (λ (s : StackRow). s.run ≡ run) (if b then record { run = run; frames = e.0; count = e.1 } ∷ stack_rows run stacks else stack_rows run stacks)
     go true rest = (refl, rest)
     go false rest = rest

@@ -4,22 +4,22 @@ use Rattle.std.specs.List.{AllByRecursion, list_any}
 use Rattle.std.specs.Bool.{IsTrue}
 use Rattle.cost_rows.specs.Above.{rows_above}
 use Rattle.cost_rows.specs.Content.{Content}
-use Rattle.cost_rows.specs.Walks.{cell_rows, arc_rows, stack_rows}
-use Rattle.cost_rows.specs.declared.rows.CellRow.{CellRow}
-use Rattle.cost_rows.specs.declared.rows.ArcRow.{ArcRow}
-use Rattle.cost_rows.specs.declared.rows.StackRow.{StackRow}
-use Rattle.plain_tables.specs.Tables.{Tables, RunLine, EventLine, DerivedLine, CoefLine, NameLine, CellLine, ArcLine, StackLine, GroupLine, MemberLine}
-use Rattle.plain_tables.specs.RunLines.{cells_in, arcs_in, stacks_in}
+use Rattle.cost_rows.specs.Walks.{named_cells, named_calls, counted_stacks}
+use Rattle.cost_rows.specs.declared.rows.Cell.{Cell}
+use Rattle.cost_rows.specs.declared.rows.CallEdge.{CallEdge}
+use Rattle.cost_rows.specs.declared.rows.StackCount.{StackCount}
+use Rattle.plain_tables.specs.Tables.{Tables, RunRow, EventRow, DerivedRow, CoefRow, NameRow, CellRow, CallRow, StackRow, GroupRow, MemberRow}
+use Rattle.plain_tables.specs.RunRows.{cells_in, calls_in, stacks_in}
 use Rattle.plain_tables.specs.Changes.{has_baseline, unbased}
 
 -- the name of a number, empty where there is none
-abbrev pub name_of : List NameLine → ℕ → List ℕ
+abbrev pub name_of : List NameRow → ℕ → List ℕ
 name_of [] n = []
 name_of (line ∷ lines) n = if line.number == n then line.name else name_of lines n
 
 -- ---- cells
 
-abbrev pub cell_held : List NameLine → CellLine → CellRow (List ℕ)
+abbrev pub cell_held : List NameRow → CellRow → Cell (List ℕ)
 cell_held names c = record {
   object = name_of names c.object;
   file = name_of names c.file;
@@ -30,8 +30,8 @@ cell_held names c = record {
   cost = c.cost;
 }
 
--- the sums of a run's own costs
-abbrev pub cells_held : ℕ → Tables → List (CellRow (List ℕ))
+-- the sums of a run's self costs
+abbrev pub cells_held : ℕ → Tables → List (Cell (List ℕ))
 cells_held run t = map (cell_held t.names) (cells_in run t)
 
 -- ---- calls
@@ -48,7 +48,7 @@ pub record CallPart : Type 0 where
   pub part : ℕ
   pub sum : ℕ
 
-abbrev pub part_held : List NameLine → ArcLine → CallPart
+abbrev pub part_held : List NameRow → CallRow → CallPart
 part_held names a = record {
   object = name_of names a.object;
   file = name_of names a.file;
@@ -63,10 +63,10 @@ part_held names a = record {
 
 -- the parts of a run's calls
 abbrev pub parts_held : ℕ → Tables → List CallPart
-parts_held run t = map (part_held t.names) (arcs_in run t)
+parts_held run t = map (part_held t.names) (calls_in run t)
 
 -- a part of a row of calls
-abbrev pub part_of : ArcRow (List ℕ) (List ℕ) → ℕ → ℕ → CallPart
+abbrev pub part_of : CallEdge (List ℕ) (List ℕ) → ℕ → ℕ → CallPart
 part_of r part sum = record {
   object = r.object;
   file = r.file;
@@ -80,46 +80,46 @@ part_of r part sum = record {
 }
 
 -- the costs above 0, from a part on
-abbrev pub parts_from : ArcRow (List ℕ) (List ℕ) → ℕ → List ℕ → List CallPart
+abbrev pub parts_from : CallEdge (List ℕ) (List ℕ) → ℕ → List ℕ → List CallPart
 parts_from r part costs = rows_above (part_of r) part costs
 
 -- what a row of calls has: their number, always, and then their costs
-abbrev pub parts_of : ArcRow (List ℕ) (List ℕ) → List CallPart
+abbrev pub parts_of : CallEdge (List ℕ) (List ℕ) → List CallPart
 parts_of r = part_of r 0 r.count ∷ parts_from r 1 r.costs
 
 -- ---- stacks
 
-abbrev pub stack_held : StackLine → StackRow (List ℕ)
+abbrev pub stack_held : StackRow → StackCount (List ℕ)
 stack_held s = record { stack = s.frames; count = s.count }
 
 -- the counts of a run's stacks
-abbrev pub stacks_held : ℕ → Tables → List (StackRow (List ℕ))
+abbrev pub stacks_held : ℕ → Tables → List (StackCount (List ℕ))
 stacks_held run t = map stack_held (stacks_in run t)
 
 -- ---- the book
 
 -- a run: what it says of itself, and its rows
 pub record RunBook : Type 0 where
-  pub line : RunLine
-  pub events : List EventLine
-  pub derived : List DerivedLine
-  pub coefs : List CoefLine
-  pub cells : List (CellRow (List ℕ))
+  pub line : RunRow
+  pub events : List EventRow
+  pub derived : List DerivedRow
+  pub coefs : List CoefRow
+  pub cells : List (Cell (List ℕ))
   pub parts : List CallPart
-  pub stacks : List (StackRow (List ℕ))
+  pub stacks : List (StackCount (List ℕ))
 
 pub record Book : Type 0 where
   pub next : ℕ
   pub runs : List RunBook
-  pub groups : List GroupLine
-  pub members : List MemberLine
+  pub groups : List GroupRow
+  pub members : List MemberRow
 
-abbrev pub run_held : Tables → RunLine → RunBook
+abbrev pub run_held : Tables → RunRow → RunBook
 run_held t r = record {
   line = r;
-  events = filter (λ (e : EventLine). e.run == r.number) t.events;
-  derived = filter (λ (d : DerivedLine). d.run == r.number) t.derived;
-  coefs = filter (λ (c : CoefLine). c.run == r.number) t.coefs;
+  events = filter (λ (e : EventRow). e.run == r.number) t.events;
+  derived = filter (λ (d : DerivedRow). d.run == r.number) t.derived;
+  coefs = filter (λ (c : CoefRow). c.run == r.number) t.coefs;
   cells = cells_held r.number t;
   parts = parts_held r.number t;
   stacks = stacks_held r.number t;
@@ -130,19 +130,19 @@ book_of t = record { next = t.next; runs = map (run_held t) t.runs; groups = t.g
 
 -- ---- the names that are used are held
 
-abbrev pub IsHeld : List NameLine → ℕ → Type 0
-IsHeld names n = IsTrue (list_any (λ (line : NameLine). line.number == n) names)
+abbrev pub IsHeld : List NameRow → ℕ → Type 0
+IsHeld names n = IsTrue (list_any (λ (line : NameRow). line.number == n) names)
 
-abbrev pub CellIsNamed : List NameLine → CellLine → Type 0
+abbrev pub CellIsNamed : List NameRow → CellRow → Type 0
 CellIsNamed names c = IsHeld names c.object × IsHeld names c.file × IsHeld names c.function
 
-abbrev pub ArcIsNamed : List NameLine → ArcLine → Type 0
-ArcIsNamed names a = IsHeld names a.object × IsHeld names a.file × IsHeld names a.function × IsHeld names a.called_object × IsHeld names a.called_file × IsHeld names a.called_function
+abbrev pub CallIsNamed : List NameRow → CallRow → Type 0
+CallIsNamed names a = IsHeld names a.object × IsHeld names a.file × IsHeld names a.function × IsHeld names a.called_object × IsHeld names a.called_file × IsHeld names a.called_function
 
--- in tables that stand for a book
+-- in tables that represent a book
 pub record IsNamed (t : Tables) : Type 0 where
   pub cells : AllByRecursion (CellIsNamed t.names) t.cells
-  pub arcs : AllByRecursion (ArcIsNamed t.names) t.arcs
+  pub calls : AllByRecursion (CallIsNamed t.names) t.calls
 
 -- ---- the changes of the book
 
@@ -155,34 +155,34 @@ abbrev pub without_run_book : ℕ → Book → Book
 without_run_book n b = record b {
   runs = filter (λ (r : RunBook). not (r.line.number == n)) b.runs;
   groups = map (λ g. if has_baseline n g then unbased g else g) b.groups;
-  members = filter (λ (m : MemberLine). not (m.run == n)) b.members;
+  members = filter (λ (m : MemberRow). not (m.run == n)) b.members;
 }
 
 -- other groups and members
-abbrev pub regrouped : List GroupLine → List MemberLine → Tables → Tables
+abbrev pub regrouped : List GroupRow → List MemberRow → Tables → Tables
 regrouped groups members t = record t { groups = groups; members = members }
 
-abbrev pub regrouped_book : List GroupLine → List MemberLine → Book → Book
+abbrev pub regrouped_book : List GroupRow → List MemberRow → Book → Book
 regrouped_book groups members b = record b { groups = groups; members = members }
 
 -- what a file is told as: what it says of itself, and its rows
-abbrev pub run_book : RunLine → List EventLine → List DerivedLine → List CoefLine → Content → RunBook
+abbrev pub run_book : RunRow → List EventRow → List DerivedRow → List CoefRow → Content → RunBook
 run_book r events derived coefs c = record {
   line = r;
   events = events;
   derived = derived;
   coefs = coefs;
-  cells = cell_rows c.names c.cells;
-  parts = flat_map parts_of (arc_rows c.names c.arcs);
-  stacks = stack_rows c.stacks;
+  cells = named_cells c.names c.cells;
+  parts = flat_map parts_of (named_calls c.names c.calls);
+  stacks = counted_stacks c.stacks;
 }
 
 -- a new store
 abbrev pub new_book : Book
 new_book = record { next = 1; runs = []; groups = []; members = [] }
 
--- lines that say of which run they are
-pub record AreOf (n : ℕ) (events : List EventLine) (derived : List DerivedLine) (coefs : List CoefLine) : Type 0 where
-  pub events_of : AllByRecursion (λ (e : EventLine). e.run ≡ n) events
-  pub derived_of : AllByRecursion (λ (d : DerivedLine). d.run ≡ n) derived
-  pub coefs_of : AllByRecursion (λ (k : CoefLine). k.run ≡ n) coefs
+-- rows that say of which run they are
+pub record AreOf (n : ℕ) (events : List EventRow) (derived : List DerivedRow) (coefs : List CoefRow) : Type 0 where
+  pub events_of : AllByRecursion (λ (e : EventRow). e.run ≡ n) events
+  pub derived_of : AllByRecursion (λ (d : DerivedRow). d.run ≡ n) derived
+  pub coefs_of : AllByRecursion (λ (k : CoefRow). k.run ≡ n) coefs

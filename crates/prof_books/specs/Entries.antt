@@ -1,6 +1,6 @@
 -- What is told of the runs that are held.
 use Rattle.std.specs.Prelude.{ℕ, List}
-use Rattle.plain_tables.specs.Tables.{RunLine}
+use Rattle.plain_tables.specs.Tables.{RunRow}
 
 -- what is told of a run
 pub record HeldRun : Type 0 where
@@ -9,5 +9,5 @@ pub record HeldRun : Type 0 where
   pub digest : List ℕ
   pub label : List ℕ
 
-abbrev pub held_run : RunLine → HeldRun
+abbrev pub held_run : RunRow → HeldRun
 held_run r = record { number = r.number; kind = r.kind; digest = r.digest; label = r.label }

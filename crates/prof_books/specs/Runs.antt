@@ -4,20 +4,20 @@ use Rattle.cg_formulas.specs.declared.heads.FileHead.{FileHead}
 use Rattle.cost_rows.specs.Content.{Content}
 use Rattle.cost_rows.specs.Held.{AreHeld}
 use Rattle.cost_rows.specs.Totals.{count_total}
-use Rattle.plain_tables.specs.Tables.{Tables, RunLine, EventLine, DerivedLine, CoefLine}
+use Rattle.plain_tables.specs.Tables.{Tables, RunRow, EventRow, DerivedRow, CoefRow}
 use Rattle.plain_tables.specs.Sound.{AreSound}
 use Rattle.prof_books.specs.Book.{AreOf, RunBook, IsNamed, book_of, run_book, with_run_book}
 use Rattle.prof_books.specs.Files.{with_rows, with_head}
-use Rattle.prof_books.specs.Heads.{event_lines, derived_lines, coef_lines}
+use Rattle.prof_books.specs.Heads.{event_rows, derived_rows, coef_rows}
 use Rattle.profile_records.specs.Kinds.{kind_number}
 use Rattle.profile_records.specs.declared.kinds.Kind.{Kind}
 
--- what is written of a file: its run, the lines of its head, and its rows
+-- what is written of a file: its run, the rows of its head, and its rows
 pub record Filed : Type 0 where
-  pub line : RunLine
-  pub events : List EventLine
-  pub derived : List DerivedLine
-  pub coefs : List CoefLine
+  pub line : RunRow
+  pub events : List EventRow
+  pub derived : List DerivedRow
+  pub coefs : List CoefRow
   pub rows : Content
 
 -- the tables with it; the next number is one above its own
@@ -28,19 +28,19 @@ with_filed f t = with_rows f.line.number f.rows (with_head f.line f.events f.der
 abbrev pub filed_book : Filed → RunBook
 filed_book f = run_book f.line f.events f.derived f.coefs f.rows
 
--- ---- a file that is put
+-- ---- a file that is inserted
 
 -- its run, with the number of its calls
-abbrev pub run_line_of : ℕ → Kind → List ℕ → List ℕ → Content → RunLine
-run_line_of number kind digest label c = record { number = number; kind = kind_number kind; digest = digest; label = label; call_count = count_total c.arcs }
+abbrev pub run_row_of : ℕ → Kind → List ℕ → List ℕ → Content → RunRow
+run_row_of number kind digest label c = record { number = number; kind = kind_number kind; digest = digest; label = label; call_count = count_total c.calls }
 
 -- what is written of it, under a number
 abbrev pub filed : ℕ → Kind → List ℕ → List ℕ → FileHead → Content → Filed
 filed number kind digest label head c = record {
-  line = run_line_of number kind digest label c;
-  events = event_lines number head c;
-  derived = derived_lines number head;
-  coefs = coef_lines number head;
+  line = run_row_of number kind digest label c;
+  events = event_rows number head c;
+  derived = derived_rows number head;
+  coefs = coef_rows number head;
   rows = c;
 }
 
@@ -52,7 +52,7 @@ file_book number kind digest label head c = filed_book (filed number kind digest
 
 -- ---- in the book
 
--- each line of its head says its run
+-- each row of its head says its run
 abbrev pub IsOfItsRun : Filed → Type 0
 IsOfItsRun f = AreOf f.line.number f.events f.derived f.coefs
 

@@ -1,22 +1,22 @@
 -- Sums over all runs that are held, in the tables.
 use Rattle.std.specs.Prelude.{◌≡◌, ℕ, List, map, filter, sum_by, bytes_eq}
 use Rattle.cost_rows.specs.declared.rows.FileTotals.{FileTotals}
-use Rattle.plain_tables.specs.Tables.{Tables, EventLine, RunLine}
+use Rattle.plain_tables.specs.Tables.{Tables, EventRow, RunRow}
 
-abbrev pub lines_named : List ℕ → Tables → List EventLine
-lines_named name t = filter (λ (e : EventLine). bytes_eq e.name name) t.events
+abbrev pub lines_named : List ℕ → Tables → List EventRow
+lines_named name t = filter (λ (e : EventRow). bytes_eq e.name name) t.events
 
--- the own costs of an event, in all runs that have it
+-- the self costs of an event, in all runs that have it
 abbrev pub held_self : Tables → List ℕ → ℕ
-held_self t name = sum_by (λ (e : EventLine). e.self_cost) (lines_named name t)
+held_self t name = sum_by (λ (e : EventRow). e.self_cost) (lines_named name t)
 
 -- and the costs of its calls
 abbrev pub held_calls : Tables → List ℕ → ℕ
-held_calls t name = sum_by (λ (e : EventLine). e.call_cost) (lines_named name t)
+held_calls t name = sum_by (λ (e : EventRow). e.call_cost) (lines_named name t)
 
 -- the calls of all runs
 abbrev pub held_count : Tables → ℕ
-held_count t = sum_by (λ (r : RunLine). r.call_count) t.runs
+held_count t = sum_by (λ (r : RunRow). r.call_count) t.runs
 
 pub record IsHeldIn (t : Tables) (events : List (List ℕ)) (totals : FileTotals) : Type 0 where
   pub self_cost : totals.self_cost ≡ map (held_self t) events

@@ -6,6 +6,6 @@
 mod laws;
 
 pub use laws::{
-    a_dropped_run_leaves_the_book, a_file_is_in_the_book, a_file_that_is_put_is_in_the_book,
-    groups_leave_the_runs, parts_come_to_the_calls,
+    a_dropped_run_leaves_the_book, a_file_is_in_the_book, an_inserted_file_is_in_the_book,
+    groups_leave_the_runs, parts_sum_to_the_calls,
 };

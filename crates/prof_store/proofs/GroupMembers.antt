@@ -8,7 +8,7 @@ use Rattle.std.specs.List.{AllByRecursion, AllAdjacentBelow}
 use Rattle.std.proofs.lemmas.Slice.Eq.{bytes_eq-Decides}
 use Rattle.sqlite_trees.specs.Tree.{IsAscending}
 use Rattle.sqlite_trees.proofs.ListLemmas.{IsPermutation-filter}
-use Rattle.plain_tables.specs.Tables.{MemberLine}
+use Rattle.plain_tables.specs.Tables.{MemberRow}
 use Rattle.run_stores.specs.Entries.{IsBefore, entry_members, member_of, members_in}
 use Rattle.run_stores.specs.declared.entries.GroupEntry.{GroupEntry}
 
@@ -58,7 +58,7 @@ turned a b e = go (bytes_eq b a) refl
 
 -- ---- members by group
 
-filter-both : (p : MemberLine → Bool) (xs ys : List MemberLine) → filter p (xs ++ ys) ≡ filter p xs ++ filter p ys
+filter-both : (p : MemberRow → Bool) (xs ys : List MemberRow) → filter p (xs ++ ys) ≡ filter p xs ++ filter p ys
 filter-both p [] ys = refl
 filter-both p (x ∷ xs) ys = go (p x) (filter-both p xs ys)
   where
@@ -80,7 +80,7 @@ others name other (run ∷ runs) e =
 none_later : (name : List ℕ) (es : List GroupEntry) → AllByRecursion (λ (e : GroupEntry). bytes_eq (string_bytes e.name) name ≡ false) es → members_in name (flat_map entry_members es) ≡ []
 none_later name [] h = refl
 none_later name (e ∷ es) h =
-    filter-both (λ (m : MemberLine). bytes_eq m.group name) (entry_members e) (flat_map entry_members es)
+    filter-both (λ (m : MemberRow). bytes_eq m.group name) (entry_members e) (flat_map entry_members es)
     ∙ ap₂ ◌++◌ (others name (string_bytes e.name) e.members h.0) (none_later name es h.1)
 
 after : (x : GroupEntry) (xs : List GroupEntry) → AllByRecursion (IsBefore x) xs → AllByRecursion (λ (e : GroupEntry). bytes_eq (string_bytes e.name) (string_bytes x.name) ≡ false) xs
@@ -88,13 +88,13 @@ after x [] h = tt
 after x (y ∷ xs) h = (turned (string_bytes x.name) (string_bytes y.name) (differ (string_bytes x.name) (string_bytes y.name) h.0), after x xs h.1)
 
 -- each entry has the members of its group among all
-abbrev Each : List MemberLine → List GroupEntry → Type 0
+abbrev Each : List MemberRow → List GroupEntry → Type 0
 Each all = AllByRecursion (λ (e : GroupEntry). members_in (string_bytes e.name) all ≡ entry_members e)
 
-each_more : (x : GroupEntry) (es : List GroupEntry) (all : List MemberLine) → AllByRecursion (IsBefore x) es → Each all es → Each (entry_members x ++ all) es
+each_more : (x : GroupEntry) (es : List GroupEntry) (all : List MemberRow) → AllByRecursion (IsBefore x) es → Each all es → Each (entry_members x ++ all) es
 each_more x [] all before h = tt
 each_more x (e ∷ es) all before h = (
-  filter-both (λ (m : MemberLine). bytes_eq m.group (string_bytes e.name)) (entry_members x) all
+  filter-both (λ (m : MemberRow). bytes_eq m.group (string_bytes e.name)) (entry_members x) all
       ∙ ap₂ ◌++◌ (others (string_bytes e.name) (string_bytes x.name) x.members (differ (string_bytes x.name) (string_bytes e.name) before.0)) h.0,
   each_more x es all before.1 h.1,
 )
@@ -102,17 +102,17 @@ each_more x (e ∷ es) all before h = (
 each : (es : List GroupEntry) → IsAscending IsBefore es → Each (flat_map entry_members es) es
 each [] up = tt
 each (x ∷ es) up = (
-  filter-both (λ (m : MemberLine). bytes_eq m.group (string_bytes x.name)) (entry_members x) (flat_map entry_members es)
+  filter-both (λ (m : MemberRow). bytes_eq m.group (string_bytes x.name)) (entry_members x) (flat_map entry_members es)
       ∙ ap₂ ◌++◌ (own (string_bytes x.name) x.members) (none_later (string_bytes x.name) es (after x es up.0)) ∙ append-nil (entry_members x),
   each_more x es (flat_map entry_members es) up.0 (each es up.1),
 )
 
-permuted : (lines all : List MemberLine) (es : List GroupEntry) → IsPermutation lines all → Each all es → AllByRecursion (λ (e : GroupEntry). IsPermutation (members_in (string_bytes e.name) lines) (entry_members e)) es
+permuted : (lines all : List MemberRow) (es : List GroupEntry) → IsPermutation lines all → Each all es → AllByRecursion (λ (e : GroupEntry). IsPermutation (members_in (string_bytes e.name) lines) (entry_members e)) es
 permuted lines all [] same h = tt
 permuted lines all (e ∷ es) same h =
-    (subst (IsPermutation (members_in (string_bytes e.name) lines)) h.0 (IsPermutation-filter (λ (m : MemberLine). bytes_eq m.group (string_bytes e.name)) lines all same), permuted lines all es same h.1)
+    (subst (IsPermutation (members_in (string_bytes e.name) lines)) h.0 (IsPermutation-filter (λ (m : MemberRow). bytes_eq m.group (string_bytes e.name)) lines all same), permuted lines all es same h.1)
 
 -- the members of each group are those of its entry
-pub members_told : (lines : List MemberLine) (es : List GroupEntry) → AllAdjacentBelow IsBefore es (length es) → IsPermutation lines (flat_map entry_members es)
+pub members_told : (lines : List MemberRow) (es : List GroupEntry) → AllAdjacentBelow IsBefore es (length es) → IsPermutation lines (flat_map entry_members es)
     → AllByRecursion (λ (e : GroupEntry). IsPermutation (members_in (string_bytes e.name) lines) (entry_members e)) es
 members_told lines es up same = permuted lines (flat_map entry_members es) es same (each es (rising es up))

@@ -21,12 +21,12 @@ use Rattle.sqlite_tied.proofs.RuleLemmas.{and_true}
 use Rattle.cg_formulas.specs.declared.heads.FileHead.{FileHead}
 use Rattle.cost_rows.specs.Content.{Content}
 use Rattle.store_schema.specs.Schema.{schema_two, run_at}
-use Rattle.plain_tables.specs.Tables.{Tables, RunLine}
+use Rattle.plain_tables.specs.Tables.{Tables, RunRow}
 use Rattle.store_schema.specs.Tables.{Holds, run_columns, number}
 use Rattle.plain_tables.specs.Changes.{named, has_name, with_new_name}
 use Rattle.plain_tables.specs.Files.{all_named}
 use Rattle.store_schema.proofs.Values.{blobs_equal}
-use Rattle.prof_books.specs.Runs.{with_file, run_line_of}
+use Rattle.prof_books.specs.Runs.{with_file, run_row_of}
 use Rattle.profile_records.specs.declared.kinds.Kind.{Kind}
 
 -- SQL's <> on two numbers
@@ -46,15 +46,15 @@ numbers_differ a b = go (value_cmp (number a) (number b)) ∙ ap is_ne (value_cm
 unclashed : (db : Trees) (row : Row) → obeys Unique schema_two db run_at row ≡ true → not (clashes plain (3 ∷ []) (db 1) row) ≡ true
 unclashed db row h = (and_parts _ _ h).0
 
-agrees : (a b : RunLine) → agree plain (3 ∷ []) (run_columns a) (3 ∷ []) (run_columns b) ≡ bytes_eq a.digest b.digest
+agrees : (a b : RunRow) → agree plain (3 ∷ []) (run_columns a) (3 ∷ []) (run_columns b) ≡ bytes_eq a.digest b.digest
 unfolding first_key
 agrees a b = and_true _ ∙ blobs_equal a.digest b.digest
 
 -- runs of one digest have one number
-one_digest : (t : Tables) (db : Trees) → Holds t db → (a b : RunLine) → Has t.runs a → Has t.runs b → bytes_eq a.digest b.digest ≡ true → a.number ≡ b.number
+one_digest : (t : Tables) (db : Trees) → Holds t db → (a b : RunRow) → Has t.runs a → Has t.runs b → bytes_eq a.digest b.digest ≡ true → a.number ≡ b.number
 one_digest t db h a b has_a has_b same = go (eqb a.number b.number) refl
   where
-    at : (line : RunLine) → Has t.runs line → Has (db 1) (run_columns line)
+    at : (line : RunRow) → Has t.runs line → Has (db 1) (run_columns line)
     at line there = subst (λ rows. Has rows (run_columns line)) (sym h.contain.contents_are.1.0.rows_are) (mapped_has run_columns t.runs line there)
 
     alone : not (clashes plain (3 ∷ []) (db 1) (run_columns b)) ≡ true
@@ -80,13 +80,13 @@ all_named_runs [] t = refl
 all_named_runs (name ∷ names) t = all_named_runs names (named name t) ∙ named_runs name t
 
 -- a file with a digest that is held makes no tables
-pub taken : (t : Tables) (before after : Trees) (kind : Kind) (digest label : List ℕ) (head : FileHead) (c : Content) (r : RunLine)
+pub taken : (t : Tables) (before after : Trees) (kind : Kind) (digest label : List ℕ) (head : FileHead) (c : Content) (r : RunRow)
     → Holds t before → Holds (with_file t.next kind digest label head c t) after → Has t.runs r → r.digest ≡ digest → ⊥
 taken t before after kind digest label head c r was made there is =
-    let line = run_line_of t.next kind digest label c in
+    let line = run_row_of t.next kind digest label c in
     let runs : (with_file t.next kind digest label head c t).runs ≡ t.runs ++ line ∷ [] = all_named_runs c.names _ in
     let first = subst (λ l. Has l r) (sym runs) (has_left t.runs (line ∷ []) r there) in
     let last = subst (λ l. Has l line) (sym runs) (has_right t.runs (line ∷ []) line (inl refl)) in
     let same : r.number ≡ t.next = one_digest _ after made r line first last ((bytes_eq-Decides r.digest digest).1 is) in
-    let below : r.number < t.next = all_has (λ (l : RunLine). l.number < t.next) t.runs r was.below there in
+    let below : r.number < t.next = all_has (λ (l : RunRow). l.number < t.next) t.runs r was.below there in
     omega (arith, same, below)

@@ -7,6 +7,6 @@ pub mod Members
 mod Opening
 pub mod Reading
 pub mod Readings
-pub mod RunLines
+pub mod RunRows
 pub mod Told
 mod Writing

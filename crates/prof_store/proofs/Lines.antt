@@ -17,7 +17,7 @@ use Rattle.sqlite_schema.specs.declared.schema.Kind.TheVariants as kind
 use Rattle.sqlite_schema.specs.declared.schema.Table.{Table}
 use Rattle.sqlite_keyed.proofs.ListLemmas.{map-map}
 use Rattle.store_schema.specs.Schema.{column_of, schema_two, meta_at, run_at, run_event_at, derived_at, coef_at, name_at, thread_cell_at, arc_at, stack_at, grp_at, member_at}
-use Rattle.plain_tables.specs.Tables.{Tables, RunLine, EventLine, DerivedLine, CoefLine, NameLine, CellLine, ArcLine, StackLine, GroupLine, MemberLine}
+use Rattle.plain_tables.specs.Tables.{Tables, RunRow, EventRow, DerivedRow, CoefRow, NameRow, CellRow, CallRow, StackRow, GroupRow, MemberRow}
 use Rattle.store_schema.specs.Tables.{meta_columns, run_columns, event_columns, derived_columns, coef_columns, name_columns, cell_columns, arc_columns, stack_columns, group_columns, member_columns, number, number_or_null, text_or_null}
 use Rattle.prof_store.specs.Readings.{as_read, row_read, AreShaped, HasMeta, RowsSay}
 
@@ -63,7 +63,7 @@ present key at (d ∷ cs) row all (suc i) c there free needed =
     let more : are_present key (at + 1) cs row ≡ true = (and_parts _ _ all).1 in
     subst (λ n. is_null (column row n) ≡ false) (omega arith) (present key (at + 1) cs row more i c there (subst (λ n. is_key key n ≡ false) (omega arith) free) needed)
 
--- the first column, which the rowid stands for, is empty
+-- the first column, for which the rowid stands, is empty
 key_null : (cs : List Column) (vs : Row) → are_typed (Some 0) 0 cs vs ≡ true → is_null (column vs 0) ≡ true
 key_null [] [] all = refl
 key_null [] (v ∷ vs) all = absurd cc
@@ -194,7 +194,7 @@ each_read table read columns of one [] ids are there = refl
 each_read table read columns of one (r ∷ rows) ids are there = ap₂ {A = Row} ◌∷◌ (one r ids.0 (and_parts _ _ are.0).0 there.0) (each_read table read columns of one rows ids.1 are.1 there.1)
 
 module _ (far : ℕ → ℕ) where
-  run_of : Row → RunLine
+  run_of : Row → RunRow
   run_of r = record { number = value_of far (column r 0); kind = value_of far (column r 2); digest = bytes (column r 3); label = bytes (column r 4); call_count = value_of far (column r 5) }
 
   run_read : (r : Row) → is_int (rowid r) ≡ true → are_typed run_at.key 0 run_at.columns (drop 1 r) ≡ true → are_present run_at.key 0 run_at.columns r ≡ true → row_read far run_at r ≡ run_columns (run_of r)
@@ -206,7 +206,7 @@ module _ (far : ℕ → ℕ) where
       ap₂ {A = Value} ◌∷◌ (id_read far (column r 0) id) (ap₂ {A = Value} ◌∷◌ empty (ap₂ {A = Value} ◌∷◌ (int_at far key cs r are there 1 (codes "kind") refl refl) (ap₂ {A = Value} ◌∷◌ (blob_at far key cs r are there 2 (codes "digest") refl refl)
       (ap₂ {A = Value} ◌∷◌ (text_at far key cs r are there 3 (codes "label") refl refl) (ap₂ {A = Value} ◌∷◌ (int_at far key cs r are there 4 (codes "call_count") refl refl) refl)))))
 
-  name_of : Row → NameLine
+  name_of : Row → NameRow
   name_of r = record { number = value_of far (column r 0); name = bytes (column r 2) }
 
   name_read : (r : Row) → is_int (rowid r) ≡ true → are_typed name_at.key 0 name_at.columns (drop 1 r) ≡ true → are_present name_at.key 0 name_at.columns r ≡ true → row_read far name_at r ≡ name_columns (name_of r)
@@ -215,7 +215,7 @@ module _ (far : ℕ → ℕ) where
       let empty : as_read far (column r 1) ≡ Null = null_read far (column r 1) (subst (λ v. is_null v ≡ true) (column_behind r 0) (key_null name_at.columns (drop 1 r) are)) in
       ap₂ {A = Value} ◌∷◌ (id_read far (column r 0) id) (ap₂ {A = Value} ◌∷◌ empty (ap₂ {A = Value} ◌∷◌ (blob_at far name_at.key name_at.columns r are there 1 (codes "bytes") refl refl) refl))
 
-  event_of : Row → EventLine
+  event_of : Row → EventRow
   event_of r = record { run = value_of far (column r 1); place = value_of far (column r 2); name = bytes (column r 3); self_cost = value_of far (column r 4); call_cost = value_of far (column r 5); stated = text_or_none (column r 6) }
 
   event_read : (r : Row) → is_int (rowid r) ≡ true → are_typed run_event_at.key 0 run_event_at.columns (drop 1 r) ≡ true → are_present run_event_at.key 0 run_event_at.columns r ≡ true → drop 1 (row_read far run_event_at r) ≡ event_columns (event_of r)
@@ -225,7 +225,7 @@ module _ (far : ℕ → ℕ) where
       let cs = run_event_at.columns in
       ap₂ {A = Value} ◌∷◌ (int_at far key cs r are there 0 (codes "run") refl refl) (ap₂ {A = Value} ◌∷◌ (int_at far key cs r are there 1 (codes "pos") refl refl) (ap₂ {A = Value} ◌∷◌ (blob_at far key cs r are there 2 (codes "name") refl refl) (ap₂ {A = Value} ◌∷◌ (int_at far key cs r are there 3 (codes "self_cost") refl refl) (ap₂ {A = Value} ◌∷◌ (int_at far key cs r are there 4 (codes "call_cost") refl refl) (ap₂ {A = Value} ◌∷◌ (text_or_null_at far key cs r are there 5 (codes "stated") refl refl) refl)))))
 
-  derived_of : Row → DerivedLine
+  derived_of : Row → DerivedRow
   derived_of r = record { run = value_of far (column r 1); place = value_of far (column r 2); name = bytes (column r 3) }
 
   derived_read : (r : Row) → is_int (rowid r) ≡ true → are_typed derived_at.key 0 derived_at.columns (drop 1 r) ≡ true → are_present derived_at.key 0 derived_at.columns r ≡ true → drop 1 (row_read far derived_at r) ≡ derived_columns (derived_of r)
@@ -235,7 +235,7 @@ module _ (far : ℕ → ℕ) where
       let cs = derived_at.columns in
       ap₂ {A = Value} ◌∷◌ (int_at far key cs r are there 0 (codes "run") refl refl) (ap₂ {A = Value} ◌∷◌ (int_at far key cs r are there 1 (codes "pos") refl refl) (ap₂ {A = Value} ◌∷◌ (blob_at far key cs r are there 2 (codes "name") refl refl) refl))
 
-  coef_of : Row → CoefLine
+  coef_of : Row → CoefRow
   coef_of r = record { run = value_of far (column r 1); place = value_of far (column r 2); event = value_of far (column r 3); times = value_of far (column r 4) }
 
   coef_read : (r : Row) → is_int (rowid r) ≡ true → are_typed coef_at.key 0 coef_at.columns (drop 1 r) ≡ true → are_present coef_at.key 0 coef_at.columns r ≡ true → drop 1 (row_read far coef_at r) ≡ coef_columns (coef_of r)
@@ -245,7 +245,7 @@ module _ (far : ℕ → ℕ) where
       let cs = coef_at.columns in
       ap₂ {A = Value} ◌∷◌ (int_at far key cs r are there 0 (codes "run") refl refl) (ap₂ {A = Value} ◌∷◌ (int_at far key cs r are there 1 (codes "pos") refl refl) (ap₂ {A = Value} ◌∷◌ (int_at far key cs r are there 2 (codes "event") refl refl) (ap₂ {A = Value} ◌∷◌ (int_at far key cs r are there 3 (codes "n") refl refl) refl)))
 
-  cell_of : Row → CellLine
+  cell_of : Row → CellRow
   cell_of r = record { run = value_of far (column r 1); object = value_of far (column r 3); file = value_of far (column r 4); function = value_of far (column r 5); line = value_of far (column r 6); thread = value_of far (column r 2); event = value_of far (column r 7); cost = value_of far (column r 8) }
 
   cell_read : (r : Row) → is_int (rowid r) ≡ true → are_typed thread_cell_at.key 0 thread_cell_at.columns (drop 1 r) ≡ true → are_present thread_cell_at.key 0 thread_cell_at.columns r ≡ true → drop 1 (row_read far thread_cell_at r) ≡ cell_columns (cell_of r)
@@ -255,17 +255,17 @@ module _ (far : ℕ → ℕ) where
       let cs = thread_cell_at.columns in
       ap₂ {A = Value} ◌∷◌ (int_at far key cs r are there 0 (codes "run") refl refl) (ap₂ {A = Value} ◌∷◌ (int_at far key cs r are there 1 (codes "thread") refl refl) (ap₂ {A = Value} ◌∷◌ (int_at far key cs r are there 2 (codes "ob") refl refl) (ap₂ {A = Value} ◌∷◌ (int_at far key cs r are there 3 (codes "fl") refl refl) (ap₂ {A = Value} ◌∷◌ (int_at far key cs r are there 4 (codes "fn") refl refl) (ap₂ {A = Value} ◌∷◌ (int_at far key cs r are there 5 (codes "line") refl refl) (ap₂ {A = Value} ◌∷◌ (int_at far key cs r are there 6 (codes "event") refl refl) (ap₂ {A = Value} ◌∷◌ (int_at far key cs r are there 7 (codes "cost") refl refl) refl)))))))
 
-  arc_of : Row → ArcLine
-  arc_of r = record { run = value_of far (column r 1); object = value_of far (column r 2); file = value_of far (column r 3); function = value_of far (column r 4); line = value_of far (column r 5); called_object = value_of far (column r 6); called_file = value_of far (column r 7); called_function = value_of far (column r 8); part = value_of far (column r 9); sum = value_of far (column r 10) }
+  call_of : Row → CallRow
+  call_of r = record { run = value_of far (column r 1); object = value_of far (column r 2); file = value_of far (column r 3); function = value_of far (column r 4); line = value_of far (column r 5); called_object = value_of far (column r 6); called_file = value_of far (column r 7); called_function = value_of far (column r 8); part = value_of far (column r 9); sum = value_of far (column r 10) }
 
-  arc_read : (r : Row) → is_int (rowid r) ≡ true → are_typed arc_at.key 0 arc_at.columns (drop 1 r) ≡ true → are_present arc_at.key 0 arc_at.columns r ≡ true → drop 1 (row_read far arc_at r) ≡ arc_columns (arc_of r)
-  unfolding arc_of
-  arc_read r id are there =
+  call_read : (r : Row) → is_int (rowid r) ≡ true → are_typed arc_at.key 0 arc_at.columns (drop 1 r) ≡ true → are_present arc_at.key 0 arc_at.columns r ≡ true → drop 1 (row_read far arc_at r) ≡ arc_columns (call_of r)
+  unfolding call_of
+  call_read r id are there =
       let key = arc_at.key in
       let cs = arc_at.columns in
       ap₂ {A = Value} ◌∷◌ (int_at far key cs r are there 0 (codes "run") refl refl) (ap₂ {A = Value} ◌∷◌ (int_at far key cs r are there 1 (codes "ob") refl refl) (ap₂ {A = Value} ◌∷◌ (int_at far key cs r are there 2 (codes "fl") refl refl) (ap₂ {A = Value} ◌∷◌ (int_at far key cs r are there 3 (codes "fn") refl refl) (ap₂ {A = Value} ◌∷◌ (int_at far key cs r are there 4 (codes "line") refl refl) (ap₂ {A = Value} ◌∷◌ (int_at far key cs r are there 5 (codes "cob") refl refl) (ap₂ {A = Value} ◌∷◌ (int_at far key cs r are there 6 (codes "cfl") refl refl) (ap₂ {A = Value} ◌∷◌ (int_at far key cs r are there 7 (codes "cfn") refl refl) (ap₂ {A = Value} ◌∷◌ (int_at far key cs r are there 8 (codes "part") refl refl) (ap₂ {A = Value} ◌∷◌ (int_at far key cs r are there 9 (codes "n") refl refl) refl)))))))))
 
-  stack_of : Row → StackLine
+  stack_of : Row → StackRow
   stack_of r = record { run = value_of far (column r 1); frames = bytes (column r 2); count = value_of far (column r 3) }
 
   stack_read : (r : Row) → is_int (rowid r) ≡ true → are_typed stack_at.key 0 stack_at.columns (drop 1 r) ≡ true → are_present stack_at.key 0 stack_at.columns r ≡ true → drop 1 (row_read far stack_at r) ≡ stack_columns (stack_of r)
@@ -275,7 +275,7 @@ module _ (far : ℕ → ℕ) where
       let cs = stack_at.columns in
       ap₂ {A = Value} ◌∷◌ (int_at far key cs r are there 0 (codes "run") refl refl) (ap₂ {A = Value} ◌∷◌ (blob_at far key cs r are there 1 (codes "frames") refl refl) (ap₂ {A = Value} ◌∷◌ (int_at far key cs r are there 2 (codes "n") refl refl) refl))
 
-  group_of : Row → GroupLine
+  group_of : Row → GroupRow
   group_of r = record { name = bytes (column r 1); baseline = value_or_none far (column r 2) }
 
   group_read : (r : Row) → is_int (rowid r) ≡ true → are_typed grp_at.key 0 grp_at.columns (drop 1 r) ≡ true → are_present grp_at.key 0 grp_at.columns r ≡ true → drop 1 (row_read far grp_at r) ≡ group_columns (group_of r)
@@ -285,7 +285,7 @@ module _ (far : ℕ → ℕ) where
       let cs = grp_at.columns in
       ap₂ {A = Value} ◌∷◌ (text_at far key cs r are there 0 (codes "name") refl refl) (ap₂ {A = Value} ◌∷◌ (int_or_null_at far key cs r are there 1 (codes "baseline") refl refl) refl)
 
-  member_of : Row → MemberLine
+  member_of : Row → MemberRow
   member_of r = record { group = bytes (column r 1); run = value_of far (column r 2) }
 
   member_read : (r : Row) → is_int (rowid r) ≡ true → are_typed member_at.key 0 member_at.columns (drop 1 r) ≡ true → are_present member_at.key 0 member_at.columns r ≡ true → drop 1 (row_read far member_at r) ≡ member_columns (member_of r)
@@ -306,7 +306,7 @@ module _ (db : Trees) (sound : IsSound schema_two db) (shaped : AreShaped db) (m
     coefs = map (coef_of far) (db 9);
     names = map (name_of far) (db 11);
     cells = map (cell_of far) (db 23);
-    arcs = map (arc_of far) (db 15);
+    calls = map (call_of far) (db 15);
     stacks = map (stack_of far) (db 17);
     groups = map (group_of far) (db 19);
     members = map (member_of far) (db 21);
@@ -345,7 +345,7 @@ module _ (db : Trees) (sound : IsSound schema_two db) (shaped : AreShaped db) (m
                     (
                       record { numbered = shaped.1.1.1.1.1.0; rows_are = each_read name_at (row_read far name_at) name_columns (name_of far) (name_read far) (db 11) shaped.1.1.1.1.1.0.1 d.1.1.1.1.1.0 p.1.1.1.1.1.0 },
                       (
-                        record { numbered = shaped.1.1.1.1.1.1.0; rows_are = map-map (drop 1) (row_read far arc_at) (db 15) ∙ each_read arc_at (λ r. drop 1 (row_read far arc_at r)) arc_columns (arc_of far) (arc_read far) (db 15) shaped.1.1.1.1.1.1.0.1 d.1.1.1.1.1.1.0 p.1.1.1.1.1.1.0 },
+                        record { numbered = shaped.1.1.1.1.1.1.0; rows_are = map-map (drop 1) (row_read far arc_at) (db 15) ∙ each_read arc_at (λ r. drop 1 (row_read far arc_at r)) arc_columns (call_of far) (call_read far) (db 15) shaped.1.1.1.1.1.1.0.1 d.1.1.1.1.1.1.0 p.1.1.1.1.1.1.0 },
                         (
                           record { numbered = shaped.1.1.1.1.1.1.1.0; rows_are = map-map (drop 1) (row_read far stack_at) (db 17) ∙ each_read stack_at (λ r. drop 1 (row_read far stack_at r)) stack_columns (stack_of far) (stack_read far) (db 17) shaped.1.1.1.1.1.1.1.0.1 d.1.1.1.1.1.1.1.0 p.1.1.1.1.1.1.1.0 },
                           (

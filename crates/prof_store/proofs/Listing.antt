@@ -7,7 +7,7 @@ use Rattle.sqlite_keyed.proofs.ListLemmas.{map-map}
 use Rattle.sqlite_value.specs.declared.value.Value.{Value}
 use Rattle.sqlite_value.specs.declared.value.Value.TheVariants.{Int, Text}
 use Rattle.sqlite_value.specs.Order.{Row, column}
-use Rattle.plain_tables.specs.Tables.{GroupLine, MemberLine}
+use Rattle.plain_tables.specs.Tables.{GroupRow, MemberRow}
 use Rattle.store_schema.specs.Tables.{group_columns, member_columns, number_or_null}
 
 -- an answer from which values were read
@@ -44,10 +44,10 @@ number_of : Value → Option ℕ
 number_of (Int (pos n)) = Some n
 number_of _ = None
 
-pub group_back : Row → GroupLine
+pub group_back : Row → GroupRow
 group_back r = record { name = text_of (column r 0); baseline = number_of (column r 1) }
 
-pub group_read : (g : GroupLine) → group_back (group_columns g) ≡ g
+pub group_read : (g : GroupRow) → group_back (group_columns g) ≡ g
 unfolding group_back text_of number_of
 group_read g = ap (λ b. record { name = g.name; baseline = b }) (go g.baseline)
   where
@@ -55,10 +55,10 @@ group_read g = ap (λ b. record { name = g.name; baseline = b }) (go g.baseline)
     go None = refl
     go (Some n) = refl
 
-pub member_back : Row → MemberLine
+pub member_back : Row → MemberRow
 member_back r = record { group = text_of (column r 0); run = unwrap_or (number_of (column r 1)) 0 }
 
-pub member_read : (m : MemberLine) → member_back (member_columns m) ≡ m
+pub member_read : (m : MemberRow) → member_back (member_columns m) ≡ m
 unfolding member_back text_of number_of
 member_read m = refl
 

@@ -234,8 +234,8 @@ module _ (t : Tables) (db : Trees) (was : IsSaidBy t db) where
   pub cells_shaped : IsShaped shape.Table (db 23)
   cells_shaped = was.contents_are.1.1.1.1.1.1.1.1.1.1.0.numbered
 
-  pub arcs_shaped : IsShaped shape.Table (db 15)
-  arcs_shaped = was.contents_are.1.1.1.1.1.1.0.numbered
+  pub calls_shaped : IsShaped shape.Table (db 15)
+  calls_shaped = was.contents_are.1.1.1.1.1.1.0.numbered
 
   pub stacks_shaped : IsShaped shape.Table (db 17)
   stacks_shaped = was.contents_are.1.1.1.1.1.1.1.0.numbered
@@ -243,14 +243,14 @@ module _ (t : Tables) (db : Trees) (was : IsSaidBy t db) where
   pub runs_said : AllZip (Says was.far run_at run_columns) (db 1) t.runs
   runs_said = all_say was.far run_at run_columns (db 1) t.runs was.contents_are.1.0.rows_are
 
-  pub events_said : AllZip (SaysBehind was.far run_event_at event_columns) (db 3) t.events
-  events_said = all_say_behind was.far run_event_at event_columns (db 3) t.events was.contents_are.1.1.0.rows_are
+  pub event_entries : AllZip (SaysBehind was.far run_event_at event_columns) (db 3) t.events
+  event_entries = all_say_behind was.far run_event_at event_columns (db 3) t.events was.contents_are.1.1.0.rows_are
 
-  pub derived_said : AllZip (SaysBehind was.far derived_at derived_columns) (db 6) t.derived
-  derived_said = all_say_behind was.far derived_at derived_columns (db 6) t.derived was.contents_are.1.1.1.0.rows_are
+  pub derived_entries : AllZip (SaysBehind was.far derived_at derived_columns) (db 6) t.derived
+  derived_entries = all_say_behind was.far derived_at derived_columns (db 6) t.derived was.contents_are.1.1.1.0.rows_are
 
-  pub coefs_said : AllZip (SaysBehind was.far coef_at coef_columns) (db 9) t.coefs
-  coefs_said = all_say_behind was.far coef_at coef_columns (db 9) t.coefs was.contents_are.1.1.1.1.0.rows_are
+  pub coef_entries : AllZip (SaysBehind was.far coef_at coef_columns) (db 9) t.coefs
+  coef_entries = all_say_behind was.far coef_at coef_columns (db 9) t.coefs was.contents_are.1.1.1.1.0.rows_are
 
   pub names_said : AllZip (Says was.far name_at name_columns) (db 11) t.names
   names_said = all_say was.far name_at name_columns (db 11) t.names was.contents_are.1.1.1.1.1.0.rows_are
@@ -258,8 +258,8 @@ module _ (t : Tables) (db : Trees) (was : IsSaidBy t db) where
   pub cells_said : AllZip (SaysBehind was.far thread_cell_at cell_columns) (db 23) t.cells
   cells_said = all_say_behind was.far thread_cell_at cell_columns (db 23) t.cells was.contents_are.1.1.1.1.1.1.1.1.1.1.0.rows_are
 
-  pub arcs_said : AllZip (SaysBehind was.far arc_at arc_columns) (db 15) t.arcs
-  arcs_said = all_say_behind was.far arc_at arc_columns (db 15) t.arcs was.contents_are.1.1.1.1.1.1.0.rows_are
+  pub calls_said : AllZip (SaysBehind was.far arc_at arc_columns) (db 15) t.calls
+  calls_said = all_say_behind was.far arc_at arc_columns (db 15) t.calls was.contents_are.1.1.1.1.1.1.0.rows_are
 
   pub stacks_said : AllZip (SaysBehind was.far stack_at stack_columns) (db 17) t.stacks
   stacks_said = all_say_behind was.far stack_at stack_columns (db 17) t.stacks was.contents_are.1.1.1.1.1.1.1.0.rows_are

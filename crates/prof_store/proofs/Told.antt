@@ -20,7 +20,7 @@ use Rattle.sqlite.specs.State.{State}
 use Rattle.plain_tables.specs.Changes.{has_run, has_group, has_member, is_member, is_named}
 use Rattle.store_schema.specs.Schema.{schema_two, meta_at, run_at, run_event_at, derived_at, coef_at, name_at, thread_cell_at, arc_at, stack_at, grp_at, member_at}
 use Rattle.store_schema.specs.Seen.{is_at, run_seen, group_seen, member_seen, is_member_row}
-use Rattle.plain_tables.specs.Tables.{Tables, RunLine, EventLine, GroupLine, MemberLine}
+use Rattle.plain_tables.specs.Tables.{Tables, RunRow, EventRow, GroupRow, MemberRow}
 use Rattle.store_schema.specs.Tables.{Holds, meta_columns, run_columns, event_columns, derived_columns, coef_columns, name_columns, cell_columns, arc_columns, stack_columns, group_columns, member_columns, number, number_or_null, text_or_null}
 use Rattle.prof_books.specs.Totals.{held_self, held_calls, held_count}
 use Rattle.prof_store.specs.Digests.{IsRowOf}
@@ -32,7 +32,7 @@ use Rattle.prof_store.specs.declared.totals.EventSums.{EventSums}
 use Rattle.prof_store.proofs.HeldSums.{sum_by-map, sum_by-same}
 use Rattle.prof_store.proofs.Listing.{read_back, group_back, group_read, member_back, member_read}
 use Rattle.prof_store.proofs.Members.{kit_has, plain_has}
-use Rattle.prof_store.proofs.Readings.{Says, SaysBehind, values_read, blob_read, number_at, text_at, blob_at, any_said, picked_said, seen_said, line_of_row, row_of_line, length_said, permutes_read, meta_said, runs_rise, runs_said, events_said, groups_said, members_said}
+use Rattle.prof_store.proofs.Readings.{Says, SaysBehind, values_read, blob_read, number_at, text_at, blob_at, any_said, picked_said, seen_said, line_of_row, row_of_line, length_said, permutes_read, meta_said, runs_rise, runs_said, event_entries, groups_said, members_said}
 
 -- ---- sums
 
@@ -54,7 +54,7 @@ sum_is far at rows value xs same sum was =
 
 -- ---- a line of a group has no negative number
 
-group_plain : (far : ℕ → ℕ) (g : GroupLine) → values_read far (group_columns g) ≡ group_columns g
+group_plain : (far : ℕ → ℕ) (g : GroupRow) → values_read far (group_columns g) ≡ group_columns g
 group_plain far g = go g.baseline
   where
     go : (b : Option ℕ) → values_read far (Text g.name ∷ number_or_null b ∷ []) ≡ Text g.name ∷ number_or_null b ∷ []
@@ -70,7 +70,7 @@ said t db was = was
 module _ (t : Tables) (db : Trees) (was : IsSaidBy t db) where
   run_there : (n : ℕ) → n < 2 ^ 64 → list_any (is_at 0 (number n)) (db 1) ≡ has_run t n
   run_there n low =
-      any_said (Says was.far run_at run_columns) (is_at 0 (number n)) (λ (r : RunLine). r.number == n) (λ r x is. number_at was.far r 0 was.is_far x.number n low (ap (λ l. column l 0) is)) (db 1) t.runs (runs_said t db was)
+      any_said (Says was.far run_at run_columns) (is_at 0 (number n)) (λ (r : RunRow). r.number == n) (λ r x is. number_at was.far r 0 was.is_far x.number n low (ap (λ l. column l 0) is)) (db 1) t.runs (runs_said t db was)
 
   pub has_run_told : (n : ℕ) (is : Bool) → n < 2 ^ 64 → is ≡ list_any (is_at 0 (number n)) (db 1) → is ≡ has_run t n
   has_run_told n is low found = found ∙ run_there n low
@@ -107,13 +107,13 @@ module _ (t : Tables) (db : Trees) (was : IsSaidBy t db) where
   members_seen : map (values_read was.far) (map member_seen (db 21)) ≡ map member_columns t.members
   members_seen = seen_said (SaysBehind was.far member_at member_columns) was.far member_seen member_columns (λ r x is. ap member_seen is.1) (db 21) t.members (members_said t db was)
 
-  pub members_told : (lines : List MemberLine) → AreMembersIn db lines → IsPermutation t.members lines
+  pub members_told : (lines : List MemberRow) → AreMembersIn db lines → IsPermutation t.members lines
   members_told lines found = read_back member_columns member_back member_read t.members lines (permutes_read was.far member_columns (λ m. refl) (map member_seen (db 21)) (map member_columns t.members) lines members_seen found)
 
   groups_seen : map (values_read was.far) (map group_seen (db 19)) ≡ map group_columns t.groups
   groups_seen = seen_said (SaysBehind was.far grp_at group_columns) was.far group_seen group_columns (λ r x is. ap group_seen is.1) (db 19) t.groups (groups_said t db was)
 
-  pub groups_told : (lines : List GroupLine) → AreGroupsIn db lines → IsPermutation t.groups lines
+  pub groups_told : (lines : List GroupRow) → AreGroupsIn db lines → IsPermutation t.groups lines
   groups_told lines found = read_back group_columns group_back group_read t.groups lines (permutes_read was.far group_columns (group_plain was.far) (map group_seen (db 19)) (map group_columns t.groups) lines groups_seen found)
 
   pub digest_told : (digest : List ℕ) (found : Option ℕ) → IsRowOf digest db found → IsRunOf digest t found
@@ -128,30 +128,30 @@ module _ (t : Tables) (db : Trees) (was : IsSaidBy t db) where
 
   -- ---- sums over all runs
 
-  named_column : (name : List ℕ) (at : ℕ) (value : EventLine → ℕ) → ((r : Row) (e : EventLine) → SaysBehind was.far run_event_at event_columns r e → as_read was.far (column r at) ≡ number (value e))
-      → map (values_read was.far) (map (λ r. column r at ∷ []) (rows_named name db)) ≡ map (λ e. number (value e) ∷ []) (filter (λ (e : EventLine). bytes_eq e.name name) t.events)
+  named_column : (name : List ℕ) (at : ℕ) (value : EventRow → ℕ) → ((r : Row) (e : EventRow) → SaysBehind was.far run_event_at event_columns r e → as_read was.far (column r at) ≡ number (value e))
+      → map (values_read was.far) (map (λ r. column r at ∷ []) (rows_named name db)) ≡ map (λ e. number (value e) ∷ []) (filter (λ (e : EventRow). bytes_eq e.name name) t.events)
   named_column name at value same =
-      picked_said (SaysBehind was.far run_event_at event_columns) was.far (is_at 3 (Blob name)) (λ (e : EventLine). bytes_eq e.name name) (λ r x is. blob_at was.far r 3 x.name name (ap (λ l. column l 3) is.1)) (λ r. column r at ∷ []) (λ e. number (value e) ∷ [])
-      (λ r x is picked. ap (λ v. v ∷ []) (same r x is)) (db 3) t.events (events_said t db was)
+      picked_said (SaysBehind was.far run_event_at event_columns) was.far (is_at 3 (Blob name)) (λ (e : EventRow). bytes_eq e.name name) (λ r x is. blob_at was.far r 3 x.name name (ap (λ l. column l 3) is.1)) (λ r. column r at ∷ []) (λ e. number (value e) ∷ [])
+      (λ r x is picked. ap (λ v. v ∷ []) (same r x is)) (db 3) t.events (event_entries t db was)
 
   self_told : (name : List ℕ) (sum : ℕ) → IsSum 4 (rows_named name db) sum → sum ≡ held_self t name
-  self_told name sum = sum_is was.far 4 (rows_named name db) (λ (e : EventLine). e.self_cost) (filter (λ (e : EventLine). bytes_eq e.name name) t.events) (named_column name 4 (λ e. e.self_cost) (λ r e is. ap (λ l. column l 4) is.1)) sum
+  self_told name sum = sum_is was.far 4 (rows_named name db) (λ (e : EventRow). e.self_cost) (filter (λ (e : EventRow). bytes_eq e.name name) t.events) (named_column name 4 (λ e. e.self_cost) (λ r e is. ap (λ l. column l 4) is.1)) sum
 
   called_told : (name : List ℕ) (sum : ℕ) → IsSum 5 (rows_named name db) sum → sum ≡ held_calls t name
-  called_told name sum = sum_is was.far 5 (rows_named name db) (λ (e : EventLine). e.call_cost) (filter (λ (e : EventLine). bytes_eq e.name name) t.events) (named_column name 5 (λ e. e.call_cost) (λ r e is. ap (λ l. column l 5) is.1)) sum
+  called_told name sum = sum_is was.far 5 (rows_named name db) (λ (e : EventRow). e.call_cost) (filter (λ (e : EventRow). bytes_eq e.name name) t.events) (named_column name 5 (λ e. e.call_cost) (λ r e is. ap (λ l. column l 5) is.1)) sum
 
   pub sums_told : (name : List ℕ) (sums : EventSums) → IsSumAt db name sums → IsSumIn t name sums
   sums_told name sums found = (self_told name sums.own found.0, called_told name sums.calls found.1)
 
   pub count_told : (count : ℕ) → IsSum 5 (db 1) count → count ≡ held_count t
   count_told count =
-      sum_is was.far 5 (db 1) (λ (r : RunLine). r.call_count) t.runs
+      sum_is was.far 5 (db 1) (λ (r : RunRow). r.call_count) t.runs
       (seen_said (Says was.far run_at run_columns) was.far (λ r. column r 5 ∷ []) (λ x. number x.call_count ∷ []) (λ r x is. ap (λ l. column l 5 ∷ []) is) (db 1) t.runs (runs_said t db was)) count
 
 -- ---- lines that tables hold
 
 module _ (far : ℕ → ℕ) where
-  event_read : (id : Value) (e : EventLine) → drop 1 (row_read far run_event_at (id ∷ event_columns e)) ≡ event_columns e
+  event_read : (id : Value) (e : EventRow) → drop 1 (row_read far run_event_at (id ∷ event_columns e)) ≡ event_columns e
   event_read id e = go e.stated
     where
       go : (stated : Option (List ℕ)) → number e.run ∷ number e.place ∷ Blob e.name ∷ number e.self_cost ∷ number e.call_cost ∷ as_read far (text_or_null stated) ∷ []
@@ -198,7 +198,7 @@ held_said t db was =
                 (
                   record { numbered = c.1.1.1.1.1.0.numbered; rows_are = ap (map (row_read far name_at)) c.1.1.1.1.1.0.rows_are ∙ keyed far name_at name_columns (λ x. refl) t.names },
                   (
-                    record { numbered = c15.numbered; rows_are = behind far arc_at arc_columns (λ id x. refl) (db 15) t.arcs c15.numbered.1 c15.rows_are },
+                    record { numbered = c15.numbered; rows_are = behind far arc_at arc_columns (λ id x. refl) (db 15) t.calls c15.numbered.1 c15.rows_are },
                     (
                       record { numbered = c17.numbered; rows_are = behind far stack_at stack_columns (λ id x. refl) (db 17) t.stacks c17.numbered.1 c17.rows_are },
                       (

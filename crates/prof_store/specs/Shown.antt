@@ -34,8 +34,8 @@ module _ {S : Type 0} (g : Ghosts S) where
   IsAsBefore old new = calls.IsAsBefore (shown old) (shown new)
 
   -- between calls the tables hold these lines, and so does the last commit
-  abbrev pub StandsFor : Tables → Store S → Type 0
-  StandsFor t store = Rests schema_two (Holds t) (shown store)
+  abbrev pub Represents : Tables → Store S → Type 0
+  Represents t store = Rests schema_two (Holds t) (shown store)
 
   -- a crash leaves what it could leave before, or tables that P holds of
   abbrev pub LeavesOnly : Store S → Store S → (Trees → Type 0) → Type 0
@@ -71,7 +71,7 @@ module _ {S : Type 0} (g : Ghosts S) where
 
   -- what an answer and what is left tell of the lines that the tables held before the call
   abbrev pub MakesOf : Store S → Store S → (Tables → Type 0) → Type 0
-  MakesOf old new P = IsFaithful new → (t : Tables) → StandsFor t old → P t
+  MakesOf old new P = IsFaithful new → (t : Tables) → Represents t old → P t
 
   -- what it tells of the rows of any tables of schema 2
   abbrev pub Finds : Store S → Store S → (Trees → Type 0) → Type 0

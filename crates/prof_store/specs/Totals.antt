@@ -33,7 +33,7 @@ IsSum at rows sum = HasNumbers at rows × (sum ≡ column_sum at rows)
 abbrev pub rows_named : List ℕ → Trees → List Row
 rows_named name db = filter (is_at 3 (Blob name)) (db 3)
 
--- the sums of an event's own costs and costs of calls, in the rows and in the lines
+-- the sums of an event's self costs and costs of calls, in the rows and in the lines
 abbrev pub IsSumAt : Trees → List ℕ → EventSums → Type 0
 IsSumAt db name sums = IsSum 4 (rows_named name db) sums.own × IsSum 5 (rows_named name db) sums.calls
 
@@ -44,7 +44,7 @@ IsSumIn t name sums = (sums.own ≡ held_self t name) × (sums.calls ≡ held_ca
 abbrev pub AreSumsIn : Tables → List (List ℕ) → List ℕ × List ℕ → Type 0
 AreSumsIn t events sums = (sums.0 ≡ map (held_self t) events) × (sums.1 ≡ map (held_calls t) events)
 
--- own costs and costs of calls, by event
+-- self costs and costs of calls, by event
 abbrev pub AreSums : Trees → List (List ℕ) → List ℕ × List ℕ → Type 0
 AreSums db events sums =
     All (λ name. HasNumbers 4 (rows_named name db) × HasNumbers 5 (rows_named name db)) events

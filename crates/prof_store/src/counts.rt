@@ -13,7 +13,7 @@ use store_schema::{OutOfForm, StoreError, sum_at};
 /// SQL counts no further.
 const MOST: u64 = 0x7fff_ffff_ffff_ffff;
 
-/// The count in a row, which may stand for more at `MOST` alone.
+/// The count in a row, which may mean more at `MOST` alone.
 fn count_in(row: &Row) -> Result<u64, OutOfForm>
     ensures read { IfOk result (λ n. column row.now 0 ≡ Int (pos n)) }
     ensures exact { IfOk result (λ n. n + 1 < 2 ^ 63) }

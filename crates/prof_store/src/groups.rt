@@ -3,7 +3,7 @@ ghost use Rattle.std.specs.Prelude.{◌≡◌, ◌≤◌, ◌↔◌, [], map, fl
 ghost use Rattle.std.specs.List.{AllAdjacentBelow};
 ghost use Rattle.std.specs.Result.{is_ok};
 ghost use Rattle.store_schema.specs.Tables.{group_columns};
-ghost use Rattle.prof_store.specs.Groups.{first_two, AreGroupsIn, AreMembersIn, member_line};
+ghost use Rattle.prof_store.specs.Groups.{first_two, AreGroupsIn, AreMembersIn, member_row};
 ghost use Rattle.run_stores.specs.Entries.{AreGroups, IsBefore, entry_group, entry_members, member_of};
 ghost use Rattle.prof_store.specs.Shown.{Asks, Found, Told};
 
@@ -28,11 +28,11 @@ pub(crate) struct Member {
 
 impl FromRow for Member {
     ghost use Rattle.store_schema.specs.Tables.{member_columns};
-    ghost use Rattle.prof_store.specs.Groups.{first_two, member_line};
+    ghost use Rattle.prof_store.specs.Groups.{first_two, member_row};
 
     ghost seen = { first_two };
 
-    ghost columns = { λ m. member_columns (member_line m) };
+    ghost columns = { λ m. member_columns (member_row m) };
 
     fn from_row(row: &Row) -> Result<Member, StoreError> {
         let group = text_at(row, 0)?;
@@ -44,7 +44,7 @@ impl FromRow for Member {
 /// The runs of the members at the front that are of one group.
 fn runs_of(alloc: Global, name: &str, members: &[Member]) -> Result<ListVec<u32>, StoreError>
     ensures within { IfOk result (λ runs. length runs ≤ length members.now) }
-    ensures front { IfOk result (λ runs. map (member_of name.now) runs ≡ map member_line (take (length runs) members.now)) }
+    ensures front { IfOk result (λ runs. map (member_of name.now) runs ≡ map member_row (take (length runs) members.now)) }
 {
     let mut runs = ListVec::new(alloc);
     'members: for member in members {
@@ -79,7 +79,7 @@ fn group_entry(
 /// The groups in rows, each with the next members that are of it, and the members that are left.
 fn joined(alloc: Global, rows: &[Row], members: &[Member]) -> Result<Vec<GroupEntry>, StoreError>
     ensures groups { IfOk result (λ entries. map (λ e. group_columns (entry_group e)) entries.items ≡ map first_two rows.now) }
-    ensures members { IfOk result (λ entries. flat_map entry_members entries.items ≡ map member_line members.now) }
+    ensures members { IfOk result (λ entries. flat_map entry_members entries.items ≡ map member_row members.now) }
 {
     let mut entries = Vec::new(alloc);
     let mut joined = 0;
@@ -125,7 +125,7 @@ fn names_rise(entries: &[GroupEntry]) -> bool
 /// The groups in rows, of which none comes twice, each with its members.
 fn groups_in(alloc: Global, rows: &[Row], members: &[Member]) -> Result<Vec<GroupEntry>, StoreError>
     ensures groups { IfOk result (λ entries. map (λ e. group_columns (entry_group e)) entries.items ≡ map first_two rows.now) }
-    ensures members { IfOk result (λ entries. flat_map entry_members entries.items ≡ map member_line members.now) }
+    ensures members { IfOk result (λ entries. flat_map entry_members entries.items ≡ map member_row members.now) }
     ensures rising { IfOk result (λ entries. AllAdjacentBelow IsBefore entries.items (length entries.items)) }
 {
     let entries = joined(alloc, rows, members)?;
@@ -139,8 +139,8 @@ fn groups_in(alloc: Global, rows: &[Row], members: &[Member]) -> Result<Vec<Grou
 impl<S: Alter> Store<S> {
     /// The members of all groups, by group and run.
     fn members(&mut self, alloc: Global) -> Result<Vec<Member>, StoreError>
-        ensures told { Told S.Store result self.old self.new (λ t members. IsPermutation t.members (map member_line members.items)) }
-        ensures found { Found S.Store result self.old self.new (λ db members. AreMembersIn db (map member_line members.items)) }
+        ensures told { Told S.Store result self.old self.new (λ t members. IsPermutation t.members (map member_row members.items)) }
+        ensures found { Found S.Store result self.old self.new (λ db members. AreMembersIn db (map member_row members.items)) }
         ensures asks { Asks S.Store (is_ok result) self.old self.new }
     {
         let rows = select(
@@ -159,7 +159,7 @@ impl<S: Alter> Store<S> {
     ) -> Result<Vec<GroupEntry>, StoreError>
         ensures told { Told S.Store result self.old self.new (λ t entries. IsPermutation t.groups (map entry_group entries.items)) }
         ensures found { Found S.Store result self.old self.new (λ db entries. AreGroupsIn db (map entry_group entries.items)) }
-        ensures members { IfOk result (λ entries. flat_map entry_members entries.items ≡ map member_line members.now) }
+        ensures members { IfOk result (λ entries. flat_map entry_members entries.items ≡ map member_row members.now) }
         ensures rising { IfOk result (λ entries. AllAdjacentBelow IsBefore entries.items (length entries.items)) }
         ensures asks { Asks S.Store (is_ok result) self.old self.new }
     {

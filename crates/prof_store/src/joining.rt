@@ -27,7 +27,7 @@ impl<S: Alter> Store<S> {
     }
 
     /// Writes a member that is not there yet.
-    fn put_member(&mut self, name: &str, run: u32) -> Result<(), StoreError>
+    fn insert_member(&mut self, name: &str, run: u32) -> Result<(), StoreError>
         ensures changes { Changes S.Store (is_ok result) (with_member name.now run) self.old self.new }
         ensures shut { KeepsShut S.Store self.old self.new }
     {
@@ -46,6 +46,6 @@ impl<S: Alter> Store<S> {
         if self.is_member(name, run)? {
             return Ok(());
         }
-        self.put_member(name, run)
+        self.insert_member(name, run)
     }
 }

@@ -13,15 +13,15 @@ ghost use Rattle.store_schema.specs.Schema.{schema_one, schema_two};
 ghost use Rattle.plain_tables.specs.Tables.{Tables};
 ghost use Rattle.store_schema.specs.Tables.{Holds};
 ghost use Rattle.prof_store.specs.Schemas.{SaysSecond};
-ghost use Rattle.prof_store.specs.Shown.{StandsFor, LeavesJust};
+ghost use Rattle.prof_store.specs.Shown.{Represents, LeavesJust};
 ghost use Rattle.prof_store.specs.declared.store.Store.{Store};
 
 use sqlite::Alter;
 
-/// What a store stands for survives: between calls a crash leaves tables that hold it; and so of a
+/// What a store represents survives: between calls a crash leaves tables that hold it; and so of a
 /// connection over a store of version 1.
 pub fn what_stands_survives<S: Alter>()
-    ensures second { (t : Tables) (store : Store S) → StandsFor S.Store t store → LeavesJust S.Store store (Holds t) }
+    ensures second { (t : Tables) (store : Store S) → Represents S.Store t store → LeavesJust S.Store store (Holds t) }
     ensures first { (t : Tables) (conn : Connection S) → Rests schema_one (HoldsFirst t) (state S.Store conn) → Leaves (state S.Store conn) (HoldsFirst t) }
 {}
 

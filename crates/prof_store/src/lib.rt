@@ -15,7 +15,7 @@ mod group_changes;
 mod groups;
 // A run joins a group.
 mod joining;
-// Laws: what a store stands for survives a crash.
+// Laws: what a store represents survives a crash.
 mod laws;
 // Whether a run or a group is held.
 mod lookups;

@@ -14,7 +14,7 @@ use sqlite::{Alter, Row, params};
 use std::alloc::Global;
 use store_schema::{OutOfForm, StoreError};
 
-/// The sums of an event over all runs: of own costs, and of the costs of calls.
+/// The sums of an event over all runs: of self costs, and of the costs of calls.
 #[derive(Drop)]
 struct EventSums {
     own: u128,
@@ -59,7 +59,7 @@ impl<S: Alter> Store<S> {
         Ok(column_sum(&rows, 0)?)
     }
 
-    /// The sums of events, own costs and costs of calls, in their order.
+    /// The sums of events, self costs and costs of calls, in their order.
     fn sums_of_all(
         &mut self,
         alloc: Global,
@@ -82,7 +82,7 @@ impl<S: Alter> Store<S> {
         Ok((own, calls))
     }
 
-    /// For each of these event names the sum of its own costs and of the costs of its calls, over all
+    /// For each of these event names the sum of its self costs and of the costs of its calls, over all
     /// runs that are held and have it, and the number of calls of all runs. `Store` where a sum is
     /// 2^112 or more, or a row holds no number from 0 on.
     pub fn totals_of(

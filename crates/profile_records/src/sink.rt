@@ -4,7 +4,7 @@ ghost use Rattle.std.specs.Prelude.{◌≡◌, ℕ, ◌<◌, ◌^◌, OnOk, OnEr
 use crate::marks::LentNames;
 use std::alloc::AllocError;
 
-/// A cost line's own costs, one for each event, and where they belong. Names are bytes.
+/// A cost line's self costs, one for each event, and where they belong. Names are bytes.
 #[derive(Clone, Copy)]
 pub struct SelfCost<'a> {
     /// The number of the line in its file, from 1.

@@ -1,4 +1,4 @@
--- A store of version 1, and the history that its tables stand for.
+-- A store of version 1, and the history that its tables represent.
 use Rattle.std.specs.Prelude.{◌⊎◌}
 use Rattle.sqlite.specs.State.{State}
 use Rattle.sqlite_trees.specs.Tree.{Trees}
@@ -10,21 +10,21 @@ use Rattle.store_schema.specs.Tables.{Holds}
 use Rattle.plain_tables.specs.Tables.{Tables}
 use Rattle.histories.specs.History.{History}
 use Rattle.histories.specs.Marks.{AreBy}
-use Rattle.histories.specs.Stands.{TablesTell}
+use Rattle.histories.specs.Representation.{TablesRepresent}
 
 -- tables whose lines, as a version holds them, tell a history
-pub record TellsBy (HoldsIn : Tables → Trees → Type 0) (h : History) (db : Trees) : Type 0 where
+pub record AgreesBy (HoldsIn : Tables → Trees → Type 0) (h : History) (db : Trees) : Type 0 where
   pub t : Tables
   pub holds : HoldsIn t db
-  pub tells : TablesTell h t
+  pub agrees : TablesRepresent h t
 
 -- between calls tables of version 1 do, and its imports are by the first grammar
-pub record StandsForFirst (h : History) (s : State) : Type 0 where
+pub record RepresentsFirst (h : History) (s : State) : Type 0 where
   pub t : Tables
   pub rests : Rests schema_one (HoldsFirst t) s
-  pub tells : TablesTell h t
+  pub agrees : TablesRepresent h t
   pub by_first : AreBy First h
 
--- tables of either version that stand for a history
-abbrev pub TellsEither : History → Trees → Type 0
-TellsEither h db = TellsBy HoldsFirst h db ⊎ TellsBy Holds h db
+-- tables of either version that represent a history
+abbrev pub AgreesEither : History → Trees → Type 0
+AgreesEither h db = AgreesBy HoldsFirst h db ⊎ AgreesBy Holds h db

@@ -3,7 +3,7 @@ use Rattle.std.specs.Prelude.{◌≡◌, ℕ, Bool, List, Option, Result, MatchR
 use Rattle.sqlite_trees.specs.declared.store.Store.{Ghosts}
 use Rattle.sqlite.specs.declared.connection.Connection.{Connection}
 use Rattle.store_schema.specs.declared.errors.OpenError.{OpenError}
-use Rattle.histories.specs.History.{Said}
+use Rattle.histories.specs.History.{Command}
 use Rattle.http_service.specs.Served.{CameToServed}
 use Rattle.sessions.specs.Works.{CameTo}
 use Rattle.sql_runs.specs.States.{state_of}
@@ -17,7 +17,7 @@ IsDoneIn {S} g Does is_new result old new = MatchResult result
     (λ end. Refuses g is_new end old new)
 
 -- a work
-abbrev pub WasWorked : {W S E : Type 0} → Ghosts S → (W → Option (List ℕ)) → (List Said → Type 0) → Bool → Result (Result ℕ E) OpenError → W → Connection S → Connection S → Type 0
+abbrev pub WasWorked : {W S E : Type 0} → Ghosts S → (W → Option (List ℕ)) → (List Command → Type 0) → Bool → Result (Result ℕ E) OpenError → W → Connection S → Connection S → Type 0
 WasWorked {W} g contents wanted is_new result from old new =
     IsDoneIn g (λ printed opened closed. (to : W) × CameTo (state_of g) contents wanted printed from to opened closed) is_new result old new
 

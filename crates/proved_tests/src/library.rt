@@ -5,7 +5,7 @@ use callgrind_reader::Reader;
 use cg_formulas::{FileHead, Flat};
 use cg_text::{ListVec, fields};
 use cost_reports::verify;
-use cost_rows::{ArcRow, CellRow, FileRows};
+use cost_rows::{CallEdge, Cell, FileRows};
 use std::alloc::{AllocError, Global};
 use std::test::Fail;
 use warehouse::{Answer, Command, GroupChange, Kind, Limits, Query, Refusal, Selection, Warehouse};
@@ -61,7 +61,7 @@ fn rows_of(alloc: Global, text: &'static [u8]) -> Result<FileRows, Fail> {
 }
 
 /// Whether a row is the cost of an event at line 16 of `main`.
-fn is_cost(row: Option<CellRow<&[u8]>>, event: usize, cost: u128) -> bool {
+fn is_cost(row: Option<Cell<&[u8]>>, event: usize, cost: u128) -> bool {
     let Some(row) = row else {
         return false;
     };
@@ -74,7 +74,7 @@ fn is_cost(row: Option<CellRow<&[u8]>>, event: usize, cost: u128) -> bool {
 }
 
 /// Whether a row is the three calls from line 17 of `main` to `g`.
-fn is_call(row: Option<ArcRow<&[u8], &[u128]>>) -> bool {
+fn is_call(row: Option<CallEdge<&[u8], &[u128]>>) -> bool {
     let Some(row) = row else {
         return false;
     };
@@ -94,9 +94,9 @@ fn rows_of_a_file_have_their_names(rt: HostRuntime) -> Result<(), Fail> {
     assert!(rt; is_cost(cells.next(), 0, 20));
     assert!(rt; is_cost(cells.next(), 1, 1));
     assert!(rt; cells.next().is_none());
-    let mut arcs = rows.arcs();
-    assert!(rt; is_call(arcs.next()));
-    assert!(rt; arcs.next().is_none());
+    let mut calls = rows.calls();
+    assert!(rt; is_call(calls.next()));
+    assert!(rt; calls.next().is_none());
     Ok(())
 }
 

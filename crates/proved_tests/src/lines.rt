@@ -4,7 +4,7 @@ ghost use Rattle.text_pieces.specs.Kept.{taken_of};
 
 use std::alloc::AllocError;
 use std::test::Fail;
-use text_pieces::{FILE_LIMIT, Line, Pieces, TakesLines};
+use text_pieces::{FILE_LIMIT, Line, LineSink, Pieces};
 
 /// Hands on the bytes of each line but the second, which it refuses.
 #[derive(Drop)]
@@ -12,7 +12,7 @@ struct Taking {
     lines: u64,
 }
 
-impl TakesLines<Vec<u8>> for Taking {
+impl LineSink<Vec<u8>> for Taking {
     ghost Reading = { Unit {0} };
 
     ghost reading_of = { λ _. tt };
@@ -21,7 +21,7 @@ impl TakesLines<Vec<u8>> for Taking {
 
     ghost adds = { λ _ _. [] };
 
-    ghost stands = { λ _ _. Unit {0} };
+    ghost represents = { λ _ _. Unit {0} };
 
     ghost lines = { λ s. s.lines };
 
@@ -36,7 +36,7 @@ impl TakesLines<Vec<u8>> for Taking {
     fn take_line(&mut self, line: Line<'_>, sink: &mut Vec<u8>) -> Result<(), AllocError> {
         self.lines += 1;
         match line {
-            Line::Whole(bytes) if self.lines != 2 => sink.extend_from_slice(bytes),
+            Line::Complete(bytes) if self.lines != 2 => sink.extend_from_slice(bytes),
             _ => Err(AllocError),
         }
     }

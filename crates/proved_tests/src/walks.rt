@@ -1,10 +1,9 @@
 // The cells and the calls of a run, over rows that are written by hand, and what is asked of runs and groups that are not held.
 use crate::stores::filled;
 use cg_text::ListVec;
-use cost_rows::{ArcRow, CellRow};
+use cost_rows::{CallEdge, Cell};
 use held_runs::{
-    TakesCalls, TakesCells, baseline_of, each_call, each_cell, kind_of, members_of, names_of,
-    sums_of,
+    CallSink, CellSink, baseline_of, each_call, each_cell, kind_of, members_of, names_of, sums_of,
 };
 use prof_store::{Store, StoreError};
 use sqlite::MemStore;
@@ -20,7 +19,7 @@ struct CellSums {
     lines: u64,
 }
 
-impl TakesCells for CellSums {
+impl CellSink for CellSums {
     ghost use Rattle.std.specs.Prelude.{⊤};
 
     ghost Meaning = { ⊤ };
@@ -29,7 +28,7 @@ impl TakesCells for CellSums {
 
     ghost step = { λ _ _. tt };
 
-    fn take(&mut self, cell: &CellRow<&[u8]>) -> Result<(), StoreError> {
+    fn take(&mut self, cell: &Cell<&[u8]>) -> Result<(), StoreError> {
         if cell.object == b"a".as_slice() && cell.file == b"b".as_slice() {
             self.of_a = self.of_a.saturating_add(cell.cost);
         }
@@ -61,7 +60,7 @@ struct CallSums {
     costs: u128,
 }
 
-impl TakesCalls for CallSums {
+impl CallSink for CallSums {
     ghost use Rattle.std.specs.Prelude.{⊤};
 
     ghost Meaning = { ⊤ };
@@ -70,7 +69,7 @@ impl TakesCalls for CallSums {
 
     ghost step = { λ _ _. tt };
 
-    fn take(&mut self, call: &ArcRow<&[u8], ListVec<u128>>) -> Result<(), StoreError> {
+    fn take(&mut self, call: &CallEdge<&[u8], ListVec<u128>>) -> Result<(), StoreError> {
         let (object, file, function) = (call.called_object, call.called_file, call.called_function);
         if object == b"g".as_slice() && file == b"c".as_slice() && function == b"b".as_slice() {
             self.count = self.count.saturating_add(call.count);

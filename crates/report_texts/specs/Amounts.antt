@@ -12,6 +12,6 @@ with_amount cmp sums key n = if nat_eq n 0 then sums else merge cmp counts_added
 abbrev pub amounts_by : {K : Type 0} → (K → K → Ordering) → List (K × ℕ) → List (K × ℕ)
 amounts_by cmp amounts = fold (λ sums a. with_amount cmp sums a.0 a.1) [] amounts
 
--- what they come to
+-- what they sum to
 abbrev pub amount_of : {K : Type 0} → List (K × ℕ) → ℕ
 amount_of sums = sum_where (λ _. true) (λ n. n) sums

@@ -9,7 +9,7 @@ use Rattle.cost_rows.specs.Keys.{named_cmp}
 use Rattle.cost_rows.specs.Sums.{Spot, call_sum, count_sum, has_call}
 use Rattle.cost_rows.specs.WalkSums.{calls_cost, calls_count, has_calls}
 use Rattle.cost_rows.specs.declared.keys.Key.TheVariants.{Function}
-use Rattle.cost_rows.specs.declared.rows.ArcRow.{ArcRow}
+use Rattle.cost_rows.specs.declared.rows.CallEdge.{CallEdge}
 use Rattle.profile_records.specs.Records.{Record, Own, Called}
 use Rattle.byte_io.specs.Escapes.{escaped}
 use Rattle.report_texts.specs.Costs.{EventRecords}
@@ -109,7 +109,7 @@ call_report_text event r = call_head r.side event r.function ++ (call_line r.tot
 -- ---- calls that are handed in row by row
 
 -- a row of calls, which cost what they do in one event
-abbrev pub calls_of_row : ArcRow (Bor (List ℕ)) ℕ → Calls
+abbrev pub calls_of_row : CallEdge (Bor (List ℕ)) ℕ → Calls
 calls_of_row r = record {
   caller = function_spot r.object.now r.function.now;
   callee = function_spot r.called_object.now r.called_function.now;
@@ -122,34 +122,34 @@ with_calls held c = if is_one_function held.function (asked held.side c) then re
 -- ---- from rows of calls
 
 -- the rows of calls of a run, and how often each of its columns counts in an event
-pub record EventArcs : Type 0 where
+pub record EventEdges : Type 0 where
   pub coefs : List ℕ
-  pub arcs : List (ArcRow (List ℕ) (List ℕ))
+  pub calls : List (CallEdge (List ℕ) (List ℕ))
 
 -- a row of calls as calls of the event
-abbrev pub weighted_calls : List ℕ → ArcRow (List ℕ) (List ℕ) → Calls
+abbrev pub weighted_calls : List ℕ → CallEdge (List ℕ) (List ℕ) → Calls
 weighted_calls coefs r = record {
   caller = function_spot r.object r.function;
   callee = function_spot r.called_object r.called_function;
   sum = record { first = weighed coefs r.costs; second = r.count };
 }
 
-abbrev pub all_arcs : List EventArcs → List Calls
-all_arcs [] = []
-all_arcs (r ∷ runs) = map (weighted_calls r.coefs) r.arcs ++ all_arcs runs
+abbrev pub all_edges : List EventEdges → List Calls
+all_edges [] = []
+all_edges (r ∷ runs) = map (weighted_calls r.coefs) r.calls ++ all_edges runs
 
--- the rows come to the call records, for every test of calls and each column, and are there where these are
-pub record CallsStandFor (f : EventRecords) (r : EventArcs) : Type 0 where
+-- the rows sum to the call records, for every test of calls and each column, and are there where these are
+pub record CallsRepresent (f : EventRecords) (r : EventEdges) : Type 0 where
   pub coefs : r.coefs ≡ f.coefs
-  pub costs : (passes : Spot → Spot → Bool) (k : ℕ) → calls_cost passes k r.arcs ≡ call_sum passes k f.records
-  pub counts : (passes : Spot → Spot → Bool) → calls_count passes r.arcs ≡ count_sum passes f.records
-  pub called : (passes : Spot → Spot → Bool) → has_calls passes r.arcs ≡ has_call passes f.records
+  pub costs : (passes : Spot → Spot → Bool) (k : ℕ) → calls_cost passes k r.calls ≡ call_sum passes k f.records
+  pub counts : (passes : Spot → Spot → Bool) → calls_count passes r.calls ≡ count_sum passes f.records
+  pub called : (passes : Spot → Spot → Bool) → has_calls passes r.calls ≡ has_call passes f.records
 
 -- run by run
-abbrev pub CallsStandForEach : List EventRecords → List EventArcs → Type 0
-CallsStandForEach [] [] = Unit {0}
-CallsStandForEach (f ∷ files) (r ∷ runs) = CallsStandFor f r × CallsStandForEach files runs
-CallsStandForEach files runs = ⊥
+abbrev pub CallsRepresentEach : List EventRecords → List EventEdges → Type 0
+CallsRepresentEach [] [] = Unit {0}
+CallsRepresentEach (f ∷ files) (r ∷ runs) = CallsRepresent f r × CallsRepresentEach files runs
+CallsRepresentEach files runs = ⊥
 
 -- ---- laws
 
@@ -168,7 +168,7 @@ abbrev pub totals_of : CallSide → List Calls → List Spot → Pair
 totals_of side calls [] = record { first = 0; second = 0 }
 totals_of side calls (f ∷ functions) = pairs_added (pair_total (calls_by side f calls)) (totals_of side calls functions)
 
--- what calls come to
+-- what calls sum to
 abbrev pub sum_of : List Calls → Pair
 sum_of [] = record { first = 0; second = 0 }
 sum_of (c ∷ calls) = pairs_added c.sum (sum_of calls)

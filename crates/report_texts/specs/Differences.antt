@@ -75,7 +75,7 @@ difference_text event d = difference_head d.key event ++ (signed_text d.total ++
 
 -- ---- laws
 
--- what rows above 0 come to, and those below
+-- what rows above 0 sum to, and those below
 abbrev pub gains_of : List (Spot × Signed) → ℕ
 gains_of [] = 0
 gains_of (e ∷ rows) = (if e.1.below then 0 else e.1.size) + gains_of rows

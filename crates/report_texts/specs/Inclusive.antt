@@ -10,8 +10,8 @@ use Rattle.cost_rows.specs.StackSums.{frames_sum}
 use Rattle.cost_rows.specs.Sums.{Spot}
 use Rattle.cost_rows.specs.WalkSums.{stacks_count}
 use Rattle.cost_rows.specs.declared.keys.Key.TheVariants.{Function}
-use Rattle.cost_rows.specs.declared.rows.CellRow.{CellRow}
-use Rattle.cost_rows.specs.declared.rows.StackRow.{StackRow}
+use Rattle.cost_rows.specs.declared.rows.Cell.{Cell}
+use Rattle.cost_rows.specs.declared.rows.StackCount.{StackCount}
 use Rattle.profile_records.specs.Frames.{functions_of}
 use Rattle.profile_records.specs.Stacks.{Seen}
 use Rattle.byte_io.specs.Escapes.{escaped}
@@ -79,16 +79,16 @@ inclusive_text event r = inclusive_head event ++ (cost_line r.total r.total (cod
 abbrev pub by_function : InclusiveCosts → Sums
 by_function held = record { key = Function; sums = held.sums }
 
--- own costs of a Callgrind file
-abbrev pub with_own : InclusiveCosts → CellRow (List ℕ) → InclusiveCosts
-with_own held row = record { sums = (with_row (by_function held) row).sums; total = held.total + row.cost }
+-- self costs of a Callgrind file
+abbrev pub with_self : InclusiveCosts → Cell (List ℕ) → InclusiveCosts
+with_self held row = record { sums = (with_row (by_function held) row).sums; total = held.total + row.cost }
 
 -- what calls cost
 abbrev pub with_outward : InclusiveCosts → Calls → InclusiveCosts
 with_outward held c = record held { sums = (fold with_row (by_function held) (rows_of (outward_costs (c ∷ [])))).sums }
 
 -- a stack of a folded file
-abbrev pub with_stack : InclusiveCosts → StackRow (List ℕ) → InclusiveCosts
+abbrev pub with_stack : InclusiveCosts → StackCount (List ℕ) → InclusiveCosts
 with_stack held r = record {
   sums = (fold with_row (by_function held) (rows_of (names_costs r.count (functions_in r.stack)))).sums;
   total = held.total + r.count;
@@ -100,12 +100,12 @@ names_in lent = map (λ (name : Bor (List ℕ)). name.now) lent
 
 -- a row that is handed in
 pub data InclusiveRow : Type 0 where
-  OfOwn : CellRow (List ℕ) → InclusiveRow
+  OfSelf : Cell (List ℕ) → InclusiveRow
   OfCalls : Calls → InclusiveRow
-  OfStack : StackRow (List ℕ) → InclusiveRow
+  OfStack : StackCount (List ℕ) → InclusiveRow
 
 abbrev pub with_inclusive : InclusiveCosts → InclusiveRow → InclusiveCosts
-with_inclusive held (OfOwn row) = with_own held row
+with_inclusive held (OfSelf row) = with_self held row
 with_inclusive held (OfCalls c) = with_outward held c
 with_inclusive held (OfStack row) = with_stack held row
 
@@ -115,50 +115,50 @@ no_costs = record { sums = []; total = 0 }
 
 -- ---- from rows
 
-abbrev pub row_costs : List (StackRow (List ℕ)) → List (Spot × ℕ)
+abbrev pub row_costs : List (StackCount (List ℕ)) → List (Spot × ℕ)
 row_costs [] = []
 row_costs (r ∷ rows) = names_costs r.count (functions_in r.stack) ++ row_costs rows
 
-abbrev pub rows_count : List (StackRow (List ℕ)) → ℕ
+abbrev pub rows_count : List (StackCount (List ℕ)) → ℕ
 rows_count [] = 0
 rows_count (r ∷ rows) = r.count + rows_count rows
 
--- rows of own costs and of calls of Callgrind runs, and of the stacks of folded ones
-abbrev pub inclusive_rows : List (CellRow (List ℕ)) → List Calls → List (StackRow (List ℕ)) → InclusiveCosts
+-- rows of self costs and of calls of Callgrind runs, and of the stacks of folded ones
+abbrev pub inclusive_rows : List (Cell (List ℕ)) → List Calls → List (StackCount (List ℕ)) → InclusiveCosts
 inclusive_rows own calls stacks = record {
   sums = sums_by Function (own ++ rows_of (outward_costs calls ++ row_costs stacks));
-  total = sum_by (λ (r : CellRow (List ℕ)). r.cost) own + rows_count stacks;
+  total = sum_by (λ (r : Cell (List ℕ)). r.cost) own + rows_count stacks;
 }
 
 -- the rows of each kind, among others
-abbrev pub own_in : List InclusiveRow → List (CellRow (List ℕ))
-own_in [] = []
-own_in (OfOwn row ∷ rows) = row ∷ own_in rows
-own_in (OfCalls c ∷ rows) = own_in rows
-own_in (OfStack row ∷ rows) = own_in rows
+abbrev pub self_in : List InclusiveRow → List (Cell (List ℕ))
+self_in [] = []
+self_in (OfSelf row ∷ rows) = row ∷ self_in rows
+self_in (OfCalls c ∷ rows) = self_in rows
+self_in (OfStack row ∷ rows) = self_in rows
 
 abbrev pub calls_in : List InclusiveRow → List Calls
 calls_in [] = []
-calls_in (OfOwn row ∷ rows) = calls_in rows
+calls_in (OfSelf row ∷ rows) = calls_in rows
 calls_in (OfCalls c ∷ rows) = c ∷ calls_in rows
 calls_in (OfStack row ∷ rows) = calls_in rows
 
-abbrev pub stacks_in : List InclusiveRow → List (StackRow (List ℕ))
+abbrev pub stacks_in : List InclusiveRow → List (StackCount (List ℕ))
 stacks_in [] = []
-stacks_in (OfOwn row ∷ rows) = stacks_in rows
+stacks_in (OfSelf row ∷ rows) = stacks_in rows
 stacks_in (OfCalls c ∷ rows) = stacks_in rows
 stacks_in (OfStack row ∷ rows) = row ∷ stacks_in rows
 
--- rows of stacks come to the stacks that were seen, for every test of their frames
-abbrev pub SameStacks : List (StackRow (List ℕ)) → List Seen → Type 0
+-- rows of stacks sum to the stacks that were seen, for every test of their frames
+abbrev pub SameStacks : List (StackCount (List ℕ)) → List Seen → Type 0
 SameStacks rows seen = (test : List ℕ → Bool) → stacks_count test rows ≡ frames_sum test seen
 
 -- ---- of one function
 
 -- what a function costs by itself
-abbrev pub own_cost : Spot → List (Spot × ℕ) → ℕ
-own_cost f [] = 0
-own_cost f (e ∷ costs) = (if is_one_function e.0 f then e.1 else 0) + own_cost f costs
+abbrev pub self_cost : Spot → List (Spot × ℕ) → ℕ
+self_cost f [] = 0
+self_cost f (e ∷ costs) = (if is_one_function e.0 f then e.1 else 0) + self_cost f costs
 
 -- what its calls to other functions cost
 abbrev pub outward_cost : Spot → List Calls → ℕ
@@ -175,4 +175,4 @@ frame_count f [] = 0
 frame_count f (s ∷ seen) = (if is_frame f s.stack.frames then s.stack.count else 0) + frame_count f seen
 
 abbrev pub inclusive_cost : Spot → List EventRecords → List Seen → ℕ
-inclusive_cost f files seen = own_cost f (all_costs files) + (outward_cost f (all_calls files) + frame_count f seen)
+inclusive_cost f files seen = self_cost f (all_costs files) + (outward_cost f (all_calls files) + frame_count f seen)

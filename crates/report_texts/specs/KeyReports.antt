@@ -23,7 +23,7 @@ abbrev pub limited : Option ℕ → List (Spot × ℕ) → List (Spot × ℕ)
 limited None sums = sums
 limited (Some limit) sums = take limit sums
 
--- rows until they come to the threshold, in percent of the total
+-- rows until they sum to the threshold, in percent of the total
 abbrev pub enough : ℕ → List (Spot × ℕ) → List (Spot × ℕ)
 enough threshold sums = reaching (threshold * total_of sums) 0 (ranked rank_cmp sums)
 
@@ -45,7 +45,7 @@ report_of key cut sums = record {
   total = total_of sums;
 }
 
--- rows begin others and come to a hundredth of what is needed, and no shorter beginning does
+-- rows begin others and sum to a hundredth of what is needed, and no shorter beginning does
 pub record IsShortest (need : ℕ) (all rows : List (Spot × ℕ)) : Type 0 where
   pub begins : rows ≡ take (length rows) all
   pub reaches : need ≤ total_of rows * 100

@@ -25,7 +25,7 @@ seconds_of = sum_where (λ _. true) (λ (p : Pair). p.second)
 abbrev pub pair_total : List (Spot × Pair) → Pair
 pair_total sums = record { first = firsts_of sums; second = seconds_of sums }
 
--- both come to less than a report may show
+-- both sum to less than a report may show
 pub record AreBelow (m n : ℕ) : Type 0 where
   pub first : m < 2 ^ 112
   pub second : n < 2 ^ 112

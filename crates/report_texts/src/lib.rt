@@ -1,5 +1,5 @@
 //! Definitions of reports and exports: what each of them says, straight from the records of files and
-//! from rows that stand for them, and how it is printed. The only code is the plain types that these
+//! from rows that represent them, and how it is printed. The only code is the plain types that these
 //! definitions and questions speak of.
 #![tactic(auto)]
 

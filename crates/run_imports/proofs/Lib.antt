@@ -1,2 +1,2 @@
 mod Imports
-mod Puts
+mod Inserts

@@ -1,4 +1,4 @@
--- What a file that was read is answered over lines of tables, whatever they stand for.
+-- What a file that was read is answered over lines of tables, whatever they represent.
 use Rattle.std.specs.Prelude.{◌≡◌, ℕ, nat_le, List, length, Option, Some, None, Result, Ok, Err, option_map}
 use Rattle.cg_text.specs.declared.faults.Fault.{Fault}
 use Rattle.cg_formulas.specs.declared.heads.FileHead.{FileHead}
@@ -20,7 +20,7 @@ use Rattle.histories.specs.declared.answers.Answer.TheVariants as answers
 use Rattle.histories.specs.declared.answers.Excess.{Excess}
 use Rattle.histories.specs.declared.answers.Refusal.{Refusal}
 use Rattle.histories.specs.declared.limits.Limits.{Limits}
-use Rattle.file_reading.specs.declared.intake.Taken.{Taken}
+use Rattle.file_reading.specs.declared.parser.ParsedFile.{ParsedFile}
 use Rattle.run_imports.specs.Refused.{no_room, number_unless}
 
 -- what would pass its bound with the file beside the runs of these lines
@@ -39,25 +39,25 @@ pub record IsNumber (limits : Limits) (head : FileHead) (content : Content) (t :
 
 -- by what is left: of tables with some lines
 module _ (limits : Limits) (kind : Kind) (label digest : List ℕ) (Left : Tables → Type 0) where
-  -- it is put under its number, or the tables stay
-  abbrev pub PutsIn : FileHead → Content → Tables → Result ℕ Refusal → Answer → Type 0
-  PutsIn head content t (Ok n) answer = (answer ≡ answers.Run n) × Left (with_file n kind digest label head content t)
-  PutsIn head content t (Err refusal) answer = (answer ≡ answers.Refused refusal) × Left t
+  -- it is inserted under its number, or the tables stay
+  abbrev pub InsertsIn : FileHead → Content → Tables → Result ℕ Refusal → Answer → Type 0
+  InsertsIn head content t (Ok n) answer = (answer ≡ answers.Run n) × Left (with_file n kind digest label head content t)
+  InsertsIn head content t (Err refusal) answer = (answer ≡ answers.Refused refusal) × Left t
 
   -- a file without a fault that is not held
-  pub record IsPutIn (head : FileHead) (content : Content) (t : Tables) (answer : Answer) : Type 0 where
+  pub record IsInsertedIn (head : FileHead) (content : Content) (t : Tables) (answer : Answer) : Type 0 where
     pub number : Result ℕ Refusal
     pub is_number : IsNumber limits head content t number
-    pub puts : PutsIn head content t number answer
+    pub inserts : InsertsIn head content t number answer
 
-  -- a run of its digest is held; or it has a fault; or it is put
+  -- a run of its digest is held; or it has a fault; or it is inserted
   abbrev pub TakesIn : Tables → Option ℕ → Result (FileHead × FileRows) (Fault × ℕ) → Answer → Type 0
   TakesIn t (Some n) file answer = (answer ≡ answers.Held n) × Left t
   TakesIn t None (Err fault) answer = (answer ≡ faulty fault) × Left t
-  TakesIn t None (Ok file) answer = IsPutIn file.0 (content_of file.1) t answer
+  TakesIn t None (Ok file) answer = IsInsertedIn file.0 (content_of file.1) t answer
 
 -- a file that was read to its end
-pub record IsTakenIn (limits : Limits) (kind : Kind) (label : List ℕ) (taken : Taken) (Left : Tables → Type 0) (t : Tables) (answer : Answer) : Type 0 where
+pub record IsImported (limits : Limits) (kind : Kind) (label : List ℕ) (parsed : ParsedFile) (Left : Tables → Type 0) (t : Tables) (answer : Answer) : Type 0 where
   pub found : Option ℕ
-  pub is_found : IsRunOf taken.digest t found
-  pub takes : TakesIn limits kind label taken.digest Left t found taken.file answer
+  pub is_found : IsRunOf parsed.digest t found
+  pub takes : TakesIn limits kind label parsed.digest Left t found parsed.file answer

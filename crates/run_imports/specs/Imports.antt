@@ -15,7 +15,7 @@ use Rattle.byte_io.specs.Outcomes.{Outcome, bytes_of}
 use Rattle.histories.specs.History.{History, Import, held}
 use Rattle.histories.specs.declared.answers.Answer.{Answer}
 use Rattle.histories.specs.declared.limits.Limits.{Limits}
-use Rattle.histories.specs.Stands.{TablesTell}
+use Rattle.histories.specs.Representation.{TablesRepresent}
 use Rattle.store_histories.specs.Answered.{Follows, has_changed}
 use Rattle.histories.specs.Legal.{number_of}
 
@@ -27,7 +27,7 @@ pub record IsNewFile (h : History) (kind : Kind) (bytes digest : List ℕ) (head
   pub head_is : IsHeadOf kind head bytes
   pub rows_are : content_of rows ≡ rows_of kind bytes
 
--- what a call leaves that puts such a file as a run, whatever the history
-abbrev pub PutsNew : {S : Type 0} → Ghosts S → Limits → Kind → List ℕ → List Outcome → List ℕ → FileHead → FileRows → Result Answer StoreError → S → S → Type 0
-PutsNew g limits kind label outcomes digest head rows result old new =
-    IsFaithful g new → Changed g (λ h t. IsNewFile h kind (bytes_of outcomes) digest head rows × TablesTell h t) (Follows limits (Import (today kind) label outcomes)) (is_ok result) (has_changed result) old new
+-- what a call leaves that inserts such a file as a run, whatever the history
+abbrev pub InsertsNew : {S : Type 0} → Ghosts S → Limits → Kind → List ℕ → List Outcome → List ℕ → FileHead → FileRows → Result Answer StoreError → S → S → Type 0
+InsertsNew g limits kind label outcomes digest head rows result old new =
+    IsFaithful g new → Changed g (λ h t. IsNewFile h kind (bytes_of outcomes) digest head rows × TablesRepresent h t) (Follows limits (Import (today kind) label outcomes)) (is_ok result) (has_changed result) old new

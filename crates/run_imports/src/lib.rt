@@ -4,4 +4,4 @@
 // Imports a file that was read, or refuses it (specs/Imports.antt, Refused.antt).
 mod taking;
 
-pub use taking::{label_of, take_in};
+pub use taking::{import_parsed, label_of};

@@ -5,20 +5,20 @@ ghost use Rattle.std.specs.Result.{is_ok};
 ghost use Rattle.std.specs.Str.{IsUtf8};
 ghost use Rattle.cost_rows.specs.Rows.{content_of};
 ghost use Rattle.plain_tables.specs.Labels.{IsLabel};
-ghost use Rattle.run_stores.specs.Calls.{IsFaithful, Asks, KeepsShut, Made, StandsFor, Told};
+ghost use Rattle.run_stores.specs.Calls.{IsFaithful, Asks, KeepsShut, Made, Represents, Told};
 ghost use Rattle.byte_io.specs.Outcomes.{Outcome, bytes_of};
 ghost use Rattle.histories.specs.Formats.{today};
 ghost use Rattle.histories.specs.History.{History, Import};
 ghost use Rattle.histories.specs.Sums as sums;
-ghost use Rattle.store_histories.specs.Answered.{StandsForHistory, WasDue, TurnsIf, has_changed};
-ghost use Rattle.run_imports.specs.FromTables.{IsExcess, IsNumber, IsPutIn, IsTakenIn};
-ghost use Rattle.run_imports.specs.Imports.{IsNewFile, PutsNew};
-ghost use Rattle.file_reading.specs.Intakes.{IsTakenOf};
+ghost use Rattle.store_histories.specs.Answered.{RepresentsHistory, WasExpected, StepsToIf, has_changed};
+ghost use Rattle.run_imports.specs.FromTables.{IsExcess, IsNumber, IsInsertedIn, IsImported};
+ghost use Rattle.run_imports.specs.Imports.{IsNewFile, InsertsNew};
+ghost use Rattle.file_reading.specs.FileParsers.{IsParsedOf};
 ghost use Rattle.byte_io.specs.Reads.{HasEnded};
 
 use cg_text::ListVec;
 use cost_rows::{Overflow, Side, admit};
-use file_reading::Taken;
+use file_reading::ParsedFile;
 use histories::{Answer, Excess, Limits, Refusal};
 use profile_records::Kind;
 use run_stores::{RunStore, StoreError, SummedFile, is_label};
@@ -78,7 +78,7 @@ fn excess_with<S: RunStore>(
     }
 }
 
-/// The number under which a file is put that has no fault and is not held, or why there is no room for it.
+/// The number under which a file is inserted that has no fault and is not held, or why there is no room for it.
 fn number_for<S: RunStore>(
     store: &mut S,
     alloc: Global,
@@ -101,8 +101,8 @@ fn number_for<S: RunStore>(
     Ok(Ok(number))
 }
 
-/// Puts a file that has no fault and is not held, if there is room for it.
-fn put_file<S: RunStore>(
+/// Inserts a file that has no fault and is not held, if there is room for it.
+fn insert_file<S: RunStore>(
     store: &mut S,
     alloc: Global,
     limits: Limits,
@@ -112,15 +112,15 @@ fn put_file<S: RunStore>(
     file: &SummedFile<'_>,
 ) -> Result<Answer, StoreError>
     requires { IsLabel label.now }
-    ensures answered { IsFaithful S.StoreState store.new → (h : History) (outcomes : List Outcome) → StandsForHistory S.StoreState h store.old
+    ensures answered { IsFaithful S.StoreState store.new → (h : History) (outcomes : List Outcome) → RepresentsHistory S.StoreState h store.old
         → HasEnded limits.bytes outcomes → IsNewFile h kind (bytes_of outcomes) digest.now file.now.head.now file.now.rows.now
-        → IfOk result (λ answer. WasDue S.StoreState limits h (Import (today kind) label.now outcomes) answer store.new) }
+        → IfOk result (λ answer. WasExpected S.StoreState limits h (Import (today kind) label.now outcomes) answer store.new) }
     ensures told { Told S.StoreState result store.old store.new
-        (IsPutIn limits kind label.now digest.now (λ _. ⊤) file.now.head.now (content_of file.now.rows.now)) }
+        (IsInsertedIn limits kind label.now digest.now (λ _. ⊤) file.now.head.now (content_of file.now.rows.now)) }
     ensures made { Made S.StoreState result store.old store.new
-        (IsPutIn limits kind label.now digest.now (λ left. StandsFor S.StoreState left store.new) file.now.head.now (content_of file.now.rows.now)) }
-    ensures turns { (outcomes : List Outcome) → HasEnded limits.bytes outcomes
-        → PutsNew S.StoreState limits kind label.now outcomes digest.now file.now.head.now file.now.rows.now result store.old store.new }
+        (IsInsertedIn limits kind label.now digest.now (λ left. Represents S.StoreState left store.new) file.now.head.now (content_of file.now.rows.now)) }
+    ensures steps { (outcomes : List Outcome) → HasEnded limits.bytes outcomes
+        → InsertsNew S.StoreState limits kind label.now outcomes digest.now file.now.head.now file.now.rows.now result store.old store.new }
 {
     match number_for(store, alloc, limits, file)? {
         Ok(number) => {
@@ -132,31 +132,31 @@ fn put_file<S: RunStore>(
 }
 
 /// Imports a file that was read to its end.
-pub fn take_in<S: RunStore>(
+pub fn import_parsed<S: RunStore>(
     store: &mut S,
     alloc: Global,
     limits: Limits,
     kind: Kind,
     label: &str,
-    taken: &Taken,
+    parsed: &ParsedFile,
 ) -> Result<Answer, StoreError>
     requires { IsLabel label.now }
-    ensures answered { IsFaithful S.StoreState store.new → (h : History) (outcomes : List Outcome) → StandsForHistory S.StoreState h store.old
-        → HasEnded limits.bytes outcomes → IsTakenOf kind (bytes_of outcomes) taken.now
-        → IfOk result (λ answer. WasDue S.StoreState limits h (Import (today kind) label.now outcomes) answer store.new) }
-    ensures told { Told S.StoreState result store.old store.new (IsTakenIn limits kind label.now taken.now (λ _. ⊤)) }
-    ensures made { Made S.StoreState result store.old store.new (IsTakenIn limits kind label.now taken.now (λ left. StandsFor S.StoreState left store.new)) }
-    ensures turns { (outcomes : List Outcome) → HasEnded limits.bytes outcomes → IsTakenOf kind (bytes_of outcomes) taken.now
-        → TurnsIf S.StoreState limits (Import (today kind) label.now outcomes) (is_ok result) (has_changed result) store.old store.new }
+    ensures answered { IsFaithful S.StoreState store.new → (h : History) (outcomes : List Outcome) → RepresentsHistory S.StoreState h store.old
+        → HasEnded limits.bytes outcomes → IsParsedOf kind (bytes_of outcomes) parsed.now
+        → IfOk result (λ answer. WasExpected S.StoreState limits h (Import (today kind) label.now outcomes) answer store.new) }
+    ensures told { Told S.StoreState result store.old store.new (IsImported limits kind label.now parsed.now (λ _. ⊤)) }
+    ensures made { Made S.StoreState result store.old store.new (IsImported limits kind label.now parsed.now (λ left. Represents S.StoreState left store.new)) }
+    ensures steps { (outcomes : List Outcome) → HasEnded limits.bytes outcomes → IsParsedOf kind (bytes_of outcomes) parsed.now
+        → StepsToIf S.StoreState limits (Import (today kind) label.now outcomes) (is_ok result) (has_changed result) store.old store.new }
     ensures shut { KeepsShut S.StoreState store.old store.new }
 {
-    if let Some(number) = store.run_of_digest(&taken.digest)? {
+    if let Some(number) = store.run_of_digest(&parsed.digest)? {
         return Ok(Answer::Held(number));
     }
-    match &taken.file {
+    match &parsed.file {
         Ok((head, rows)) => {
             let file = SummedFile::of(alloc, head, rows)?;
-            put_file(store, alloc, limits, kind, &taken.digest, label, &file)
+            insert_file(store, alloc, limits, kind, &parsed.digest, label, &file)
         }
         Err((fault, line)) => Ok(Answer::Refused(Refusal::File(*fault, *line))),
     }

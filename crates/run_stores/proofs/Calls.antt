@@ -3,7 +3,7 @@ use Rattle.std.specs.Result.{is_ok, IsErr}
 use Rattle.std.proofs.Common.{◌≡◌, ◌≤◌, ◌⊎◌, ◌&&◌, ◌∙◌, inl, inr, ℕ, Bool, true, false, Ok, Err, Result, IsTrue, refl, subst, sym, arith}
 use Rattle.plain_tables.specs.Sound.{AreSound}
 use Rattle.plain_tables.specs.Tables.{Tables}
-use Rattle.run_stores.specs.Calls.{MoreFaults, Are, Given, Become, IsFaithful, StandsFor, ReadsAs, Rests, Stays, Keeps, Asked, Changed, KeepsIfShut}
+use Rattle.run_stores.specs.Calls.{MoreFaults, Are, Given, Become, IsFaithful, Represents, ReadsAs, Rests, Stays, Keeps, Asked, Changed, KeepsIfShut}
 use Rattle.run_stores.specs.declared.states.StoreState.{Ghosts}
 
 more_before : (a b c : ℕ) → a ≤ b → MoreFaults b c → MoreFaults a c
@@ -48,11 +48,11 @@ module _ {S : Type 0} (g : Ghosts S) where
   -- ---- what is as before
 
   keeps_none : (s : S) → Keeps g s s
-  keeps_none s = record { stands = λ t was _. was; reads = λ t was _. was; same = λ _ _. refl }
+  keeps_none s = record { represents = λ t was _. was; reads = λ t was _. was; same = λ _ _. refl }
 
   keeps_then : (ok : Bool) (old mid new : S) → Keeps g old mid → Stays g ok mid new → Keeps g mid new → Keeps g old new
   keeps_then ok old mid new one stays two = record {
-    stands = λ t was is. two.stands t (one.stands t was (stays.was_usable is)) is;
+    represents = λ t was is. two.represents t (one.represents t was (stays.was_usable is)) is;
     reads = λ t was is. two.reads t (one.reads t was (stays.was_usable is)) is;
     same = λ was is. let e : g.kept mid ≡ g.kept old = one.same was (stays.was_usable is) in two.same (subst g.is_settled (sym e) was) is ∙ e;
   }
@@ -72,27 +72,27 @@ module _ {S : Type 0} (g : Ghosts S) where
   asked_if ok old new h = asked_less true ok old new (λ _. refl) h
 
   -- what stood, and what was read, is so after a call that asked
-  pub asked_stands_yet : (t : Tables) (old new : S) → Asked g (g.is_usable old) old new → StandsFor g t old → StandsFor g t new
-  asked_stands_yet t old new h was = h.kept.stands t was (h.stays.is_usable (g.usable t old was))
+  pub asked_stands_yet : (t : Tables) (old new : S) → Asked g (g.is_usable old) old new → Represents g t old → Represents g t new
+  asked_stands_yet t old new h was = h.kept.represents t was (h.stays.is_usable (g.usable t old was))
 
   pub asked_reads_yet : (t : Tables) (old new : S) → Asked g (g.is_usable old) old new → ReadsAs g t old → ReadsAs g t new
   asked_reads_yet t old new h was = h.kept.reads t was (h.stays.is_usable (g.readable t old was))
 
-  pub asked_stands : (t : Tables) (old new : S) → Asked g true old new → StandsFor g t old → StandsFor g t new
-  asked_stands t old new h was = h.kept.stands t was (h.stays.is_usable refl)
+  pub asked_stands : (t : Tables) (old new : S) → Asked g true old new → Represents g t old → Represents g t new
+  asked_stands t old new h was = h.kept.represents t was (h.stays.is_usable refl)
 
   pub asked_reads : (t : Tables) (old new : S) → Asked g true old new → ReadsAs g t old → ReadsAs g t new
   asked_reads t old new h was = h.kept.reads t was (h.stays.is_usable refl)
 
   pub asked_rests : (P : Tables → Type 0) (old new : S) → Asked g true old new → Rests g P old → Rests g P new
-  asked_rests P old new h was = record { t = was.t; holds = was.holds; stands = asked_stands was.t old new h was.stands }
+  asked_rests P old new h was = record { t = was.t; holds = was.holds; represents = asked_stands was.t old new h was.represents }
 
-  -- lines in a state for a change, and those that it made
-  pub given_at : (P : Tables → Type 0) (t : Tables) (store : S) → P t → StandsFor g t store → Rests g (Given P t) store
-  given_at P t store holds stands = record { t = t; holds = (holds, refl); stands = stands }
+  -- rows in a state for a change, and those that it made
+  pub given_at : (P : Tables → Type 0) (t : Tables) (store : S) → P t → Represents g t store → Rests g (Given P t) store
+  given_at P t store holds represents = record { t = t; holds = (holds, refl); represents = represents }
 
-  pub become_at : (change : Tables → Tables) (t : Tables) (store : S) → Rests g (Become change t) store → StandsFor g (change t) store
-  become_at change t store was = subst (λ u. StandsFor g u store) was.holds was.stands
+  pub become_at : (change : Tables → Tables) (t : Tables) (store : S) → Rests g (Become change t) store → Represents g (change t) store
+  become_at change t store was = subst (λ u. Represents g u store) was.holds was.represents
 
   -- two of them
   pub asked_on : (ok : Bool) (old mid new : S) → Asked g (g.is_usable old) old mid → Asked g ok mid new → Asked g ok old new
@@ -168,13 +168,13 @@ module _ {S : Type 0} (g : Ghosts S) where
       crash = λ m was left may. elim (h.crash left may) [ inl before ↦ inl before | inr none ↦ absurd none ];
     }
 
-    -- the same change, told of other meanings of lines that are sound
+    -- the same change, told of other meanings of rows that are sound
     pub changed_soundly : {N : Type 0} (Earlier Later : N → Tables → Type 0) (ok done : Bool) (old new : S)
         → ((n : N) → Rests g (Earlier n) old → (m : M) × Rests g (Before m) old × ((t : Tables) → AreSound t → After m t → Later n t))
         → Changed g Before After ok done old new → Changed g Earlier Later ok done old new
     changed_soundly Earlier Later ok done old new means h = record {
       stays = h.stays;
-      done = λ is n was. let it = means n was in let after = h.done is it.0 it.1 in record { t = after.t; holds = it.2 after.t (g.sound after.t new after.stands) after.holds; stands = after.stands };
+      done = λ is n was. let it = means n was in let after = h.done is it.0 it.1 in record { t = after.t; holds = it.2 after.t (g.sound after.t new after.represents) after.holds; represents = after.represents };
       kept = h.kept;
       crash = λ n was left may. let it = means n was in elim (h.crash it.0 it.1 left may) [
         | inl before ↦ inl before
@@ -191,6 +191,6 @@ module _ {S : Type 0} (g : Ghosts S) where
     changed_err (Ok x) old new is h = absurd (cc is)
     changed_err (Err e) old new is h = h
 
-  -- a change of any lines is one of those in some state
+  -- a change of any rows is one of those in some state
   pub changed_given : (P : Tables → Type 0) (After : Tables → Tables → Type 0) (ok done : Bool) (old new : S) → Changed g Are After ok done old new → Changed g (Given P) After ok done old new
-  changed_given P After ok done old new h = changed_as Are After (Given P) After ok done old new (λ t was. (t, record { t = was.t; holds = was.holds.1; stands = was.stands }, λ next k. k)) h
+  changed_given P After ok done old new h = changed_as Are After (Given P) After ok done old new (λ t was. (t, record { t = was.t; holds = was.holds.1; represents = was.represents }, λ next k. k)) h

@@ -1,4 +1,4 @@
--- What a store of runs stands for, what a call leaves of it, whatever it answers, and what it tells.
+-- What a store of runs represents, what a call leaves of it, whatever it answers, and what it tells.
 use Rattle.std.specs.Prelude.{◌≡◌, ◌≤◌, ◌+◌, ◌-◌, ◌^◌, ◌⊎◌, ◌&&◌, ℕ, min, Bool, false, IsTrue, Result, IfOk}
 use Rattle.plain_tables.specs.Tables.{Tables}
 use Rattle.run_stores.specs.declared.states.StoreState.{Ghosts}
@@ -7,7 +7,7 @@ use Rattle.run_stores.specs.declared.states.StoreState.{Ghosts}
 abbrev pub MoreFaults : ℕ → ℕ → Type 0
 MoreFaults old new = min (old + 1) (2 ^ 64 - 1) ≤ new
 
--- ---- the lines before a change and behind it
+-- ---- the rows before a change and behind it
 
 abbrev pub Are : Tables → Tables → Type 0
 Are m t = t ≡ m
@@ -28,23 +28,23 @@ module _ {S : Type 0} (g : Ghosts S) where
   abbrev pub IsUsable : S → Type 0
   IsUsable store = IsTrue (g.is_usable store)
 
-  -- between calls it stands for these lines, and so does what it made lasting
-  abbrev pub StandsFor : Tables → S → Type 0
-  StandsFor t store = g.stands_for t store
+  -- between calls it represents these rows, and so does what it made lasting
+  abbrev pub Represents : Tables → S → Type 0
+  Represents t store = g.represents t store
 
-  -- what it keeps is read as these lines, whoever wrote it
+  -- what it keeps is read as these rows, whoever wrote it
   abbrev pub ReadsAs : Tables → S → Type 0
   ReadsAs t store = g.reads_as t store
 
-  -- between calls it stands for lines that P holds of
+  -- between calls it represents rows that P holds of
   pub record Rests (P : Tables → Type 0) (store : S) : Type 0 where
     pub t : Tables
     pub holds : P t
-    pub stands : StandsFor t store
+    pub represents : Represents t store
 
   -- ---- what a crash may leave
 
-  -- lines that P holds of
+  -- rows that P holds of
   pub record Holds (P : Tables → Type 0) (left : g.Left) : Type 0 where
     pub t : Tables
     pub holds : P t
@@ -68,9 +68,9 @@ module _ {S : Type 0} (g : Ghosts S) where
     pub was_usable : IsUsable new → IsUsable old
     pub is_usable : IsTrue answered → IsUsable new
 
-  -- what it stood for, what was read in it, and between calls all that it keeps are as before, as long as it can be used
+  -- what it represented, what was read in it, and between calls all that it keeps are as before, as long as it can be used
   pub record Keeps (old new : S) : Type 0 where
-    pub stands : (t : Tables) → StandsFor t old → IsUsable new → StandsFor t new
+    pub represents : (t : Tables) → Represents t old → IsUsable new → Represents t new
     pub reads : (t : Tables) → ReadsAs t old → IsUsable new → ReadsAs t new
     pub same : g.is_settled (g.kept old) → IsUsable new → g.kept new ≡ g.kept old
 
@@ -84,7 +84,7 @@ module _ {S : Type 0} (g : Ghosts S) where
   abbrev pub KeepsIfShut : S → S → Type 0
   KeepsIfShut old new = (IsUsable old → ⊥) → LeavesOnly old new (λ _. ⊥)
 
-  -- a call that changes what the store stands for, at one moment: each meaning that the lines had becomes what is said of it afterwards; where it is not done, all is as before; a crash leaves what it could leave before, or the change
+  -- a call that changes what the store represents, at one moment: each meaning that the rows had becomes what is said of it afterwards; where it is not done, all is as before; a crash leaves what it could leave before, or the change
   pub record Changed {M : Type 0} (Before After : M → Tables → Type 0) (answered is_done : Bool) (old new : S) : Type 0 where
     pub stays : Stays answered old new
     pub done : IsTrue is_done → (m : M) → Rests (Before m) old → Rests (After m) new
@@ -100,11 +100,11 @@ module _ {S : Type 0} (g : Ghosts S) where
   abbrev pub AsksIfOpen : Bool → S → S → Type 0
   AsksIfOpen answered old new = Asks (answered && g.is_usable old) old new
 
-  -- a call that changes the lines, where they are in a state for it
+  -- a call that changes the rows, where they are in a state for it
   abbrev pub ChangesIf : Bool → (Tables → Type 0) → (Tables → Tables) → S → S → Type 0
   ChangesIf done given change old new = IsFaithful new → Changed (Given given) (Become change) done done old new
 
-  -- any lines
+  -- any rows
   abbrev pub Changes : Bool → (Tables → Tables) → S → S → Type 0
   Changes done change old new = IsFaithful new → Changed Are (Become change) done done old new
 
@@ -113,18 +113,18 @@ module _ {S : Type 0} (g : Ghosts S) where
 
   -- ---- what is told
 
-  -- what an answer tells of the lines as which the store was read before the call
+  -- what an answer tells of the rows as which the store was read before the call
   abbrev pub Tells : S → S → (Tables → Type 0) → Type 0
   Tells old new P = IsFaithful new → (t : Tables) → ReadsAs t old → P t
 
-  -- what an answer and what is left tell of the lines that it stood for before the call
+  -- what an answer and what is left tell of the rows that it represented before the call
   abbrev pub MakesOf : S → S → (Tables → Type 0) → Type 0
-  MakesOf old new P = IsFaithful new → (t : Tables) → StandsFor t old → P t
+  MakesOf old new P = IsFaithful new → (t : Tables) → Represents t old → P t
 
-  -- what is answered tells of those lines
+  -- what is answered tells of those rows
   abbrev pub Told : {T E : Type 0} → Result T E → S → S → (Tables → T → Type 0) → Type 0
   Told result old new P = Tells old new (λ t. IfOk result (P t))
 
-  -- what is answered and left tells of the lines that it stood for
+  -- what is answered and left tells of the rows that it represented
   abbrev pub Made : {T E : Type 0} → Result T E → S → S → (Tables → T → Type 0) → Type 0
   Made result old new P = MakesOf old new (λ t. IfOk result (P t))

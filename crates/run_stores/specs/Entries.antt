@@ -1,10 +1,10 @@
--- The entries of lists, beside the lines that they show.
+-- The entries of lists, beside the rows that they show.
 use Rattle.std.specs.Prelude.{◌≡◌, ℕ, List, bytes_eq, filter, map, flat_map, string_bytes, IsPermutation}
 use Rattle.std.specs.List.{AllByRecursion}
 use Rattle.std.specs.Ordering.{nat_cmp}
 use Rattle.std.specs.Cmp.Lexicographic.{slice_cmp}
 use Rattle.std.specs.declared.cmp.Ordering.TheVariants.{Less}
-use Rattle.plain_tables.specs.Tables.{Tables, GroupLine, MemberLine}
+use Rattle.plain_tables.specs.Tables.{Tables, GroupRow, MemberRow}
 use Rattle.prof_books.specs.Entries.{HeldRun}
 use Rattle.profile_records.specs.Kinds.{kind_number}
 use Rattle.run_stores.specs.declared.entries.GroupEntry.{GroupEntry}
@@ -15,19 +15,19 @@ entry_run e = record { number = e.number; kind = kind_number e.kind; digest = e.
 
 -- ---- groups
 
-abbrev pub member_of : List ℕ → ℕ → MemberLine
+abbrev pub member_of : List ℕ → ℕ → MemberRow
 member_of name run = record { group = name; run = run }
 
-abbrev pub entry_group : GroupEntry → GroupLine
+abbrev pub entry_group : GroupEntry → GroupRow
 entry_group e = record { name = string_bytes e.name; baseline = e.baseline }
 
--- the members of an entry, one line for each
-abbrev pub entry_members : GroupEntry → List MemberLine
+-- the members of an entry, one row for each
+abbrev pub entry_members : GroupEntry → List MemberRow
 entry_members e = map (member_of (string_bytes e.name)) e.members
 
 -- the members of a group
-abbrev pub members_in : List ℕ → List MemberLine → List MemberLine
-members_in name lines = filter (λ (m : MemberLine). bytes_eq m.group name) lines
+abbrev pub members_in : List ℕ → List MemberRow → List MemberRow
+members_in name lines = filter (λ (m : MemberRow). bytes_eq m.group name) lines
 
 -- the groups, each with its members
 pub record AreGroups (t : Tables) (entries : List GroupEntry) : Type 0 where

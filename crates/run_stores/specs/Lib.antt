@@ -1,6 +1,6 @@
 pub mod Calls
 pub mod Entries
 pub mod Lookups
-pub mod OwnSums
+pub mod SelfSums
 pub mod Runs
 pub mod Walks

@@ -1,4 +1,4 @@
--- What a file that is put makes of the lines.
+-- What a file that is inserted makes of the rows.
 use Rattle.std.specs.Prelude.{ℕ, List}
 use Rattle.cost_rows.specs.Rows.{content_of}
 use Rattle.plain_tables.specs.Tables.{Tables}

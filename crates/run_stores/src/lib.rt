@@ -10,12 +10,12 @@ mod stores;
 // A file with the sums of its rows.
 mod summed;
 // What takes the rows of runs.
-mod takers;
+mod sinks;
 
 pub use entries::{GroupEntry, RunEntry};
 pub use plain_tables::{StoreError, is_group_name, is_label};
 pub use profile_records::Kind;
+pub use sinks::{CallSink, CellSink, StackRowSink};
 pub use states::StoreState;
 pub use stores::RunStore;
 pub use summed::SummedFile;
-pub use takers::{TakesCalls, TakesCells, TakesStacks};

@@ -18,16 +18,16 @@ pub trait StoreState {
     /// What a crash may leave.
     ghost Left: { Type 0 };
 
-    /// What is left holds these lines: a store that is opened over it stands for them.
+    /// What is left holds these rows: a store that is opened over it represents them.
     ghost holds: { Tables → Left → Type 0 };
 
     /// What a crash may leave now.
     ghost may_leave: { Self → Left → Type 0 };
 
-    /// Between calls it stands for these lines, and so does what it last made lasting.
-    ghost stands_for: { Tables → Self → Type 0 };
+    /// Between calls it represents these rows, and so does what it last made lasting.
+    ghost represents: { Tables → Self → Type 0 };
 
-    /// What it keeps is read as these lines, whoever wrote it.
+    /// What it keeps is read as these rows, whoever wrote it.
     ghost reads_as: { Tables → Self → Type 0 };
 
     /// So far what was written is what was read.
@@ -40,16 +40,16 @@ pub trait StoreState {
     ghost faults: { Self → ℕ };
 
     /// What stands can be used.
-    ghost usable: { (t : Tables) (store : Self) → stands_for t store → IsTrue (is_usable store) };
+    ghost usable: { (t : Tables) (store : Self) → represents t store → IsTrue (is_usable store) };
 
-    /// It is read as the lines that it stands for.
-    ghost said: { (t : Tables) (store : Self) → stands_for t store → reads_as t store };
+    /// It is read as the rows that it represents.
+    ghost said: { (t : Tables) (store : Self) → represents t store → reads_as t store };
 
     /// What is read can be used.
     ghost readable: { (t : Tables) (store : Self) → reads_as t store → IsTrue (is_usable store) };
 
-    /// The lines that it stands for are sound.
-    ghost sound: { (t : Tables) (store : Self) → stands_for t store → AreSound t };
+    /// The rows that it represents are sound.
+    ghost sound: { (t : Tables) (store : Self) → represents t store → AreSound t };
 
     /// So are those that a crash leaves.
     ghost left_sound: { (t : Tables) (left : Left) → holds t left → AreSound t };

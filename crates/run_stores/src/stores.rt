@@ -8,18 +8,18 @@ ghost use Rattle.prof_books.specs.HeldHeads.{IsHeadIn};
 ghost use Rattle.prof_books.specs.Totals.{IsHeldIn};
 ghost use Rattle.plain_tables.specs.Changes.{has_group, has_run, joined, with_baseline, with_group, without_group, without_member, without_run};
 ghost use Rattle.plain_tables.specs.Labels.{IsGroupName};
-ghost use Rattle.plain_tables.specs.RunLines.{arcs_in, cells_in};
+ghost use Rattle.plain_tables.specs.RunRows.{calls_in, cells_in};
 ghost use Rattle.run_stores.specs.Calls.{Asks, AsksIfOpen, Changes, ChangesIf, KeepsShut, Told};
 ghost use Rattle.run_stores.specs.Entries.{AreGroups, IsBefore, entry_run};
 ghost use Rattle.run_stores.specs.Lookups.{IsBaselineOf, IsKindOf, IsRunOf, members_in_tables, numbers_in_tables};
-ghost use Rattle.run_stores.specs.OwnSums.{AreOwnSums, events_of_run};
+ghost use Rattle.run_stores.specs.SelfSums.{AreSelfSums, events_of_run};
 ghost use Rattle.run_stores.specs.Runs.{with_summed};
-ghost use Rattle.run_stores.specs.Walks.{CallsCameTo, CellsCameTo};
+ghost use Rattle.run_stores.specs.Walks.{CallsFoldTo, CellsFoldTo};
 
 use crate::entries::{GroupEntry, RunEntry};
+use crate::sinks::{CallSink, CellSink, StackRowSink};
 use crate::states::StoreState;
 use crate::summed::SummedFile;
-use crate::takers::{TakesCalls, TakesCells, TakesStacks};
 use cg_formulas::FileHead;
 use cg_text::ListVec;
 use cost_rows::FileTotals;
@@ -31,13 +31,13 @@ use std::alloc::Global;
 /// what is out of form: each call may answer them.
 pub trait RunStore: StoreState {
     ghost use Rattle.std.specs.Prelude.{List};
-    ghost use Rattle.plain_tables.specs.Tables.{Tables, NameLine};
+    ghost use Rattle.plain_tables.specs.Tables.{Tables, NameRow};
 
     /// The names that are held, read once for any number of walks.
     type Names: Drop;
 
-    /// The names as lines.
-    ghost name_lines: { Self.Names → List NameLine };
+    /// The names as rows.
+    ghost name_rows: { Self.Names → List NameRow };
 
     // ---- what is held
 
@@ -115,59 +115,59 @@ pub trait RunStore: StoreState {
     /// The sums of a run's self costs, one for each event, in the order of their places: none where no
     /// such run is held.
     fn sums_of(&mut self, alloc: Global, run: u32) -> Result<ListVec<u128>, StoreError>
-        ensures told { Told Self.StoreState result self.old self.new (λ t. AreOwnSums (events_of_run run t)) }
+        ensures told { Told Self.StoreState result self.old self.new (λ t. AreSelfSums (events_of_run run t)) }
         ensures asks { Asks Self.StoreState (is_ok result) self.old self.new };
 
     // ---- one run
 
     /// What the file of a run that is held says of itself: its events, its derived events with their
     /// coefficients, and the totals that it states. `Store` where no such run is held, or where its
-    /// lines are no head.
+    /// rows are no head.
     fn head_of(&mut self, alloc: Global, run: u32) -> Result<FileHead, StoreError>
         ensures told { Told Self.StoreState result self.old self.new (λ t. IsHeadIn run t) }
         ensures asks { Asks Self.StoreState (is_ok result) self.old self.new };
 
     /// The names that are held: read once, for any number of walks.
     fn names_of(&mut self, alloc: Global) -> Result<Self::Names, StoreError>
-        ensures told { Told Self.StoreState result self.old self.new (λ t names. name_lines names ≡ t.names) }
+        ensures told { Told Self.StoreState result self.old self.new (λ t names. name_rows names ≡ t.names) }
         ensures asks { Asks Self.StoreState (is_ok result) self.old self.new };
 
     /// Hands on the cells of a run, with so many events and these names: those of this store. What took
     /// them all is handed back. `Store` also for a name that is not held and for a cell of none of the
     /// events; and the errors of the taker.
-    fn each_cell<T: TakesCells + Drop>(
+    fn each_cell<T: CellSink + Drop>(
         &mut self,
         run: u32,
         names: &Self::Names,
         events: usize,
-        taker: T,
+        sink: T,
     ) -> Result<T, StoreError>
         ensures told { Told Self.StoreState result self.old self.new (λ t taken.
-            CellsCameTo (name_lines names.now) events T.step (T.meaning taker) (T.meaning taken) (cells_in run t)) }
+            CellsFoldTo (name_rows names.now) events T.step (T.meaning sink) (T.meaning taken) (cells_in run t)) }
         ensures asks { AsksIfOpen Self.StoreState (is_ok result) self.old self.new };
 
     /// Hands on the calls of a run, row by row, as `each_cell` its cells. `Store` also where the parts of
     /// a row are out of form.
-    fn each_call<T: TakesCalls + Drop>(
+    fn each_call<T: CallSink + Drop>(
         &mut self,
         alloc: Global,
         run: u32,
         names: &Self::Names,
         events: usize,
-        taker: T,
+        sink: T,
     ) -> Result<T, StoreError>
         ensures told { Told Self.StoreState result self.old self.new (λ t taken.
-            CallsCameTo (name_lines names.now) events T.step (T.meaning taker) (T.meaning taken) (arcs_in run t)) }
+            CallsFoldTo (name_rows names.now) events T.step (T.meaning sink) (T.meaning taken) (calls_in run t)) }
         ensures asks { AsksIfOpen Self.StoreState (is_ok result) self.old self.new };
 
     /// Hands on the stacks of a run, as `each_cell` its cells.
-    fn each_stack<T: TakesStacks + Drop>(&mut self, run: u32, taker: T) -> Result<T, StoreError>
-        ensures told { Told Self.StoreState result self.old self.new (λ t taken. T.meaning taken ≡ fold T.step (T.meaning taker) (stacks_held run t)) }
+    fn each_stack<T: StackRowSink + Drop>(&mut self, run: u32, sink: T) -> Result<T, StoreError>
+        ensures told { Told Self.StoreState result self.old self.new (λ t taken. T.meaning taken ≡ fold T.step (T.meaning sink) (stacks_held run t)) }
         ensures asks { AsksIfOpen Self.StoreState (is_ok result) self.old self.new };
 
     // ---- changes
 
-    /// Puts a file as the run of a number, which no run had before (`next_run`): what its head says and the
+    /// Inserts a file as the run of a number, which no run had before (`next_run`): what its head says and the
     /// sums of its rows. `digest` is the SHA-256 of the file, `label` a text in form (`is_label`). `Store`
     /// also for a digest that is held, a sum of a column or a number of calls above 2^63-1, and a head that
     /// states a total for some events alone.
@@ -183,7 +183,7 @@ pub trait RunStore: StoreState {
         ensures changes { ChangesIf Self.StoreState (is_ok result) (λ t. t.next ≡ number) (with_summed number kind digest.now label.now file.now) self.old self.new }
         ensures shut { KeepsShut Self.StoreState self.old self.new };
 
-    /// Drops a run that is held, with all its lines. Groups lose it as a member and as a baseline;
+    /// Drops a run that is held, with all its rows. Groups lose it as a member and as a baseline;
     /// its number is not used again, and names stay.
     fn drop_run(&mut self, run: u32) -> Result<(), StoreError>
         ensures changes { ChangesIf Self.StoreState (is_ok result) (λ t. has_run t run ≡ true) (without_run run) self.old self.new }
@@ -216,5 +216,5 @@ pub trait RunStore: StoreState {
         ensures shut { KeepsShut Self.StoreState self.old self.new };
 
     /// What stands survives a crash.
-    ghost survives: { (t : Tables) (store : Self) (left : Self.Left) → Self.stands_for t store → Self.may_leave store left → Self.holds t left };
+    ghost survives: { (t : Tables) (store : Self) (left : Self.Left) → Self.represents t store → Self.may_leave store left → Self.holds t left };
 }

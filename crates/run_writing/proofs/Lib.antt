@@ -1,6 +1,6 @@
-pub mod FilePuts
+pub mod FileInserts
 pub mod Finding
 pub mod Queueing
 pub mod RowLines
 pub mod RowsWritten
-pub mod RunPuts
+pub mod RunInserts

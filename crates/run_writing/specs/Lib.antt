@@ -1,5 +1,5 @@
 pub mod FromRows
-pub mod LinePuts
+pub mod LineInserts
 pub mod Queues
 pub mod Runs
 pub mod Sums

@@ -2,11 +2,11 @@
 use Rattle.std.specs.Prelude.{◌≡◌, ◌++◌, Bool, List, map, IsTrue}
 use Rattle.sqlite_trees.specs.declared.store.Store.{Ghosts}
 use Rattle.sqlite.specs.declared.transaction.Transaction.{Transaction}
-use Rattle.plain_tables.specs.Changes.{with_arcs}
-use Rattle.plain_tables.specs.Tables.{Tables, ArcLine as Arc}
-use Rattle.store_schema.specs.Lines.{arc_line}
+use Rattle.plain_tables.specs.Changes.{with_calls}
+use Rattle.plain_tables.specs.Tables.{Tables, CallRow as Call}
+use Rattle.store_schema.specs.Lines.{call_row}
 use Rattle.store_schema.specs.Within.{Writes}
-use Rattle.store_schema.specs.declared.lines.ArcLine.{ArcLine}
+use Rattle.store_schema.specs.declared.table_rows.CallRow.{CallRow}
 
 -- further lines are taken up after those that waited: the first of them all are written now, and the others wait
 pub record Queues {S X Y : Type 0} (g : Ghosts S) (plain : X → Y) (with_lines : List Y → Tables → Tables) (is_done : Bool) (waited : List X) (more : List Y) (waits : List X) (old new : Transaction S) : Type 0 where
@@ -15,5 +15,5 @@ pub record Queues {S X Y : Type 0} (g : Ghosts S) (plain : X → Y) (with_lines 
   pub lines : IsTrue is_done → written ++ map plain waits ≡ map plain waited ++ more
 
 -- the same of parts of calls
-abbrev pub QueuesArcs : {S : Type 0} → Ghosts S → Bool → List ArcLine → List Arc → List ArcLine → Transaction S → Transaction S → Type 0
-QueuesArcs g = Queues g arc_line with_arcs
+abbrev pub QueuesCalls : {S : Type 0} → Ghosts S → Bool → List CallRow → List Call → List CallRow → Transaction S → Transaction S → Type 0
+QueuesCalls g = Queues g call_row with_calls

@@ -3,15 +3,15 @@ ghost use Rattle.std.specs.Prelude.{◌≡◌, IfOk, IsTrue, List, fold};
 ghost use Rattle.std.specs.Iterator.{Drains, IsFinite};
 ghost use Rattle.std.specs.Result.{is_ok};
 ghost use Rattle.cost_rows.specs.Rows.{content_of};
-ghost use Rattle.plain_tables.specs.Changes.{with_cells, with_arcs, with_stacks};
+ghost use Rattle.plain_tables.specs.Changes.{with_cells, with_calls, with_stacks};
 ghost use Rattle.plain_tables.specs.Files.{all_named, numbers_in};
-ghost use Rattle.prof_books.specs.Files.{cell_lines, arc_lines, stack_lines};
+ghost use Rattle.prof_books.specs.Files.{cell_rows, call_rows, stack_rows};
 ghost use Rattle.store_schema.specs.Within.{Writes, Tells};
 
-use crate::line_writing::put_lines;
-use crate::lines::LineOfMany;
+use crate::line_writing::insert_lines;
+use crate::lines::RowOfMany;
 use crate::name_texts::number_name;
-use crate::row_lines::BecomesLines;
+use crate::row_lines::BecomesRows;
 use cost_rows::{FileRows, Names};
 use sqlite::{Alter, Transaction};
 use std::alloc::Global;
@@ -37,10 +37,10 @@ pub fn number_names<S: Alter>(
 }
 
 /// Writes the lines that rows become, under the tables' numbers of the file's names.
-fn put_rows<
+fn insert_rows<
     S: Alter,
-    L: LineOfMany + Drop,
-    R: BecomesLines<L> + Drop,
+    L: RowOfMany + Drop,
+    R: BecomesRows<L> + Drop,
     I: Iterator<Item = R> + Drop,
 >(
     tx: &mut Transaction<'_, S>,
@@ -58,43 +58,43 @@ fn put_rows<
     'rows: for row in rows {
         row.queue_lines(tx, alloc, &mut waiting, run, numbers)?;
     }
-    put_lines(tx, alloc, &waiting)
+    insert_lines(tx, alloc, &waiting)
 }
 
-/// Writes the sums of a run's own costs, under the tables' numbers of the file's names.
-pub fn put_cells<S: Alter>(
+/// Writes the sums of a run's self costs, under the tables' numbers of the file's names.
+pub fn insert_cells<S: Alter>(
     tx: &mut Transaction<'_, S>,
     alloc: Global,
     run: u32,
     numbers: &[u32],
     rows: &FileRows,
 ) -> Result<(), StoreError>
-    ensures { Writes S.Store (is_ok result) (with_cells (cell_lines run numbers.now (content_of rows.now).cells)) tx.old tx.new }
+    ensures { Writes S.Store (is_ok result) (with_cells (cell_rows run numbers.now (content_of rows.now).cells)) tx.old tx.new }
 {
-    put_rows(tx, alloc, run, numbers, rows.numbered_cells())
+    insert_rows(tx, alloc, run, numbers, rows.numbered_cells())
 }
 
 /// Writes the sums of a run's calls, under the tables' numbers of the file's names.
-pub fn put_arcs<S: Alter>(
+pub fn insert_calls<S: Alter>(
     tx: &mut Transaction<'_, S>,
     alloc: Global,
     run: u32,
     numbers: &[u32],
     rows: &FileRows,
 ) -> Result<(), StoreError>
-    ensures { Writes S.Store (is_ok result) (with_arcs (arc_lines run numbers.now (content_of rows.now).arcs)) tx.old tx.new }
+    ensures { Writes S.Store (is_ok result) (with_calls (call_rows run numbers.now (content_of rows.now).calls)) tx.old tx.new }
 {
-    put_rows(tx, alloc, run, numbers, rows.numbered_arcs())
+    insert_rows(tx, alloc, run, numbers, rows.numbered_calls())
 }
 
 /// Writes the counts of a run's stacks.
-pub fn put_stacks<S: Alter>(
+pub fn insert_stacks<S: Alter>(
     tx: &mut Transaction<'_, S>,
     alloc: Global,
     run: u32,
     rows: &FileRows,
 ) -> Result<(), StoreError>
-    ensures { Writes S.Store (is_ok result) (with_stacks (stack_lines run (content_of rows.now).stacks)) tx.old tx.new }
+    ensures { Writes S.Store (is_ok result) (with_stacks (stack_rows run (content_of rows.now).stacks)) tx.old tx.new }
 {
-    put_rows(tx, alloc, run, &[], rows.stacks())
+    insert_rows(tx, alloc, run, &[], rows.stacks())
 }

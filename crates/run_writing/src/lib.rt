@@ -3,11 +3,11 @@
 #![tactic(auto)]
 
 // The statements that write parts of calls.
-mod arc_lines;
+mod call_rows;
 // The statements that write cells.
-mod cell_lines;
+mod cell_rows;
 // The statements that write the events of a head, and their coefficients.
-mod event_lines;
+mod event_rows;
 // The lines that a file's rows become (specs/FromRows.antt).
 mod file_lines;
 // Writes the rows of a file, within a transaction.
@@ -15,28 +15,28 @@ mod file_rows;
 // The statements on a run's own line and on the next number.
 mod head_texts;
 // The lines that the head of a file becomes (specs/Sums.antt).
-mod heads_put;
+mod head_inserts;
 // Writes lines, one or fifty a statement (specs/Queues.antt).
 mod line_writing;
-// The trait of a line: its texts, and what they make of the tables (specs/LinePuts.antt).
+// The trait of a line: its texts, and what they make of the tables (specs/LineInserts.antt).
 mod lines;
 // The statements on names.
 mod name_texts;
 // Writes a run, within a transaction.
-mod putting;
+mod inserting;
 // The trait of a file's row: the lines that it becomes (specs/FromRows.antt).
 mod row_lines;
-// Puts a file as a run.
-mod runs_put;
+// Inserts a file as a run.
+mod run_inserts;
 // The statements that write stacks.
-mod stack_lines;
+mod stack_rows;
 // The values of many columns.
 mod values;
 
-pub use file_rows::{number_names, put_arcs, put_cells, put_stacks};
-pub use head_texts::{put_line_of_run, raise_next};
-pub use heads_put::head_lines;
-pub use line_writing::put_lines;
+pub use file_rows::{insert_calls, insert_cells, insert_stacks, number_names};
+pub use head_inserts::head_rows;
+pub use head_texts::{insert_line_of_run, raise_next};
+pub use line_writing::insert_lines;
 pub use lines::Line;
+pub use run_inserts::put_run;
 pub use run_stores::SummedFile;
-pub use runs_put::put_run;

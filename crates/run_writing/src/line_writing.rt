@@ -4,14 +4,14 @@ ghost use Rattle.std.specs.Result.{is_ok};
 ghost use Rattle.store_schema.specs.Within.{Writes};
 ghost use Rattle.run_writing.specs.Queues.{Queues};
 
-use crate::lines::{Line, LineOfMany};
+use crate::lines::{Line, RowOfMany};
 use sqlite::types::ValueRef;
 use sqlite::{Alter, Transaction};
 use std::alloc::Global;
 use store_schema::{StoreError, write_inside};
 
 /// Writes a line. What `values` held is dropped: it serves the next line again.
-fn put_line<'a, S: Alter, L: Line>(
+fn insert_line<'a, S: Alter, L: Line>(
     tx: &mut Transaction<'_, S>,
     values: &mut Vec<ValueRef<'a>>,
     line: &'a L,
@@ -24,7 +24,7 @@ fn put_line<'a, S: Alter, L: Line>(
 }
 
 /// Writes lines, each by a statement, within a transaction.
-pub fn put_lines<S: Alter, L: Line>(
+pub fn insert_lines<S: Alter, L: Line>(
     tx: &mut Transaction<'_, S>,
     alloc: Global,
     lines: &[L],
@@ -33,13 +33,13 @@ pub fn put_lines<S: Alter, L: Line>(
 {
     let mut values = Vec::new(alloc);
     'lines: for line in lines {
-        put_line(tx, &mut values, line)?;
+        insert_line(tx, &mut values, line)?;
     }
     Ok(())
 }
 
 /// Writes fifty lines by one statement.
-fn put_fifty<S: Alter, L: LineOfMany>(
+fn insert_fifty<S: Alter, L: RowOfMany>(
     tx: &mut Transaction<'_, S>,
     alloc: Global,
     lines: &[L],
@@ -56,7 +56,7 @@ fn put_fifty<S: Alter, L: LineOfMany>(
 
 /// Takes up a line, and writes those that wait once they are fifty. There is none where a number is too
 /// great for its column: that is refused.
-pub(crate) fn queue<S: Alter, L: LineOfMany + Drop>(
+pub(crate) fn queue<S: Alter, L: RowOfMany + Drop>(
     tx: &mut Transaction<'_, S>,
     alloc: Global,
     waiting: &mut Vec<L>,
@@ -72,7 +72,7 @@ pub(crate) fn queue<S: Alter, L: LineOfMany + Drop>(
         return Err(StoreError::Memory);
     }
     if waiting.len() == 50 {
-        put_fifty(tx, alloc, waiting)?;
+        insert_fifty(tx, alloc, waiting)?;
         waiting.clear();
     }
     Ok(())

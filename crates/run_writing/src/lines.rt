@@ -36,7 +36,7 @@ pub trait Line: Sized {
         ensures { OnOk result (bound values.new.items ≡ bound values.old.items ++ columns (plain self.now)) };
 
     /// The statement writes the line.
-    ghost puts: { (line : Plain) → TextMakes text_of_one (columns line) (λ _. ⊤) (with_lines (line ∷ [])) };
+    ghost inserts: { (line : Plain) → TextMakes text_of_one (columns line) (λ _. ⊤) (with_lines (line ∷ [])) };
 
     /// No lines change nothing.
     ghost none: { (t : Tables) → with_lines [] t ≡ t };
@@ -46,7 +46,7 @@ pub trait Line: Sized {
 }
 
 /// A line of a table that may get fifty lines by one statement.
-pub(crate) trait LineOfMany: Line {
+pub(crate) trait RowOfMany: Line {
     ghost use Rattle.store_schema.specs.Within.{TextMakes};
 
     /// The text of the statement that writes fifty lines.
@@ -57,6 +57,6 @@ pub(crate) trait LineOfMany: Line {
         ensures { result.now ≡ text_of_fifty };
 
     /// The statement writes the lines.
-    ghost puts_fifty: { (lines : List Self.Plain) → length lines ≡ 50
+    ghost inserts_fifty: { (lines : List Self.Plain) → length lines ≡ 50
         → TextMakes text_of_fifty (all_values (map Self.columns lines)) (λ _. ⊤) (Self.with_lines lines) };
 }

@@ -11,7 +11,7 @@ use sqlite::{Alter, Transaction, params};
 use store_schema::{StoreError, error_of, first_number, write_inside};
 
 /// Writes a name under the next number.
-fn put_name<S: Alter>(tx: &mut Transaction<'_, S>, name: &[u8]) -> Result<(), StoreError>
+fn insert_name<S: Alter>(tx: &mut Transaction<'_, S>, name: &[u8]) -> Result<(), StoreError>
     ensures { Writes S.Store (is_ok result) (with_new_name name.now) tx.old tx.new }
 {
     write_inside(tx, "INSERT INTO name (bytes) VALUES (?1)", params![name])
@@ -33,7 +33,7 @@ fn add_name<S: Alter>(tx: &mut Transaction<'_, S>, name: &[u8]) -> Result<u32, S
     ensures writes { Writes S.Store (is_ok result) (with_new_name name.now) tx.old tx.new }
     ensures told { Tells S.Store tx.old tx.new (λ t. IfOk result (λ number. number ≡ number_in (with_new_name name.now t).names name.now)) }
 {
-    put_name(tx, name)?;
+    insert_name(tx, name)?;
     match find_name(tx, name)? {
         Some(number) => Ok(number),
         None => Err(StoreError::Store),

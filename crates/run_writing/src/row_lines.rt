@@ -1,18 +1,18 @@
 // The rows of a file, and the lines that each becomes.
 ghost use Rattle.std.specs.Result.{is_ok};
 ghost use Rattle.run_writing.specs.FromRows.{cost_lines};
-ghost use Rattle.run_writing.specs.Queues.{QueuesArcs};
+ghost use Rattle.run_writing.specs.Queues.{QueuesCalls};
 
-use crate::file_lines::{arc_of, cell_of, stack_of};
+use crate::file_lines::{call_of, cell_of, stack_of};
 use crate::line_writing::queue;
-use crate::lines::LineOfMany;
-use cost_rows::{ArcRow, CellRow, StackRow};
+use crate::lines::RowOfMany;
+use cost_rows::{CallEdge, Cell, StackCount};
 use sqlite::{Alter, Transaction};
 use std::alloc::Global;
-use store_schema::{ArcLine, CellLine, StackLine, StoreError};
+use store_schema::{CallRow, CellRow, StackRow, StoreError};
 
 /// A row of a file, which becomes lines of a table.
-pub(crate) trait BecomesLines<L: LineOfMany + Drop> {
+pub(crate) trait BecomesRows<L: RowOfMany + Drop> {
     ghost use Rattle.std.specs.Prelude.{◌≡◌, ℕ, List};
     ghost use Rattle.std.specs.Result.{is_ok};
     ghost use Rattle.plain_tables.specs.Tables.{Tables};
@@ -34,7 +34,7 @@ pub(crate) trait BecomesLines<L: LineOfMany + Drop> {
             × Queues S.Store L.plain L.with_lines (is_ok result) waiting.old.items lines waiting.new.items tx.old tx.new };
 }
 
-impl BecomesLines<CellLine> for CellRow<u32> {
+impl BecomesRows<CellRow> for Cell<u32> {
     ghost use Rattle.std.specs.Prelude.{◌∷◌, []};
     ghost use Rattle.plain_tables.specs.Changes.{with_cells};
     ghost use Rattle.run_writing.specs.FromRows.{line_of_cell};
@@ -45,7 +45,7 @@ impl BecomesLines<CellLine> for CellRow<u32> {
         &self,
         tx: &mut Transaction<'_, S>,
         alloc: Global,
-        waiting: &mut Vec<CellLine>,
+        waiting: &mut Vec<CellRow>,
         run: u32,
         numbers: &[u32],
     ) -> Result<(), StoreError> {
@@ -53,7 +53,7 @@ impl BecomesLines<CellLine> for CellRow<u32> {
     }
 }
 
-impl<'a> BecomesLines<StackLine<'a>> for StackRow<&'a [u8]> {
+impl<'a> BecomesRows<StackRow<'a>> for StackCount<&'a [u8]> {
     ghost use Rattle.std.specs.Prelude.{◌∷◌, []};
     ghost use Rattle.plain_tables.specs.Changes.{with_stacks};
     ghost use Rattle.run_writing.specs.FromRows.{line_of_stack};
@@ -64,7 +64,7 @@ impl<'a> BecomesLines<StackLine<'a>> for StackRow<&'a [u8]> {
         &self,
         tx: &mut Transaction<'_, S>,
         alloc: Global,
-        waiting: &mut Vec<StackLine<'a>>,
+        waiting: &mut Vec<StackRow<'a>>,
         run: u32,
         _numbers: &[u32],
     ) -> Result<(), StoreError> {
@@ -73,37 +73,37 @@ impl<'a> BecomesLines<StackLine<'a>> for StackRow<&'a [u8]> {
 }
 
 /// Takes up a cost of the calls of a row, unless it is 0.
-fn put_cost<S: Alter>(
+fn insert_cost<S: Alter>(
     tx: &mut Transaction<'_, S>,
     alloc: Global,
-    waiting: &mut Vec<ArcLine>,
+    waiting: &mut Vec<CallRow>,
     run: u32,
     numbers: &[u32],
-    row: &ArcRow<u32, &[u128]>,
+    row: &CallEdge<u32, &[u128]>,
     part: usize,
     cost: u128,
 ) -> Result<(), StoreError>
-    ensures { QueuesArcs S.Store (is_ok result) waiting.old.items (cost_lines run numbers.now row.now part cost) waiting.new.items tx.old tx.new }
+    ensures { QueuesCalls S.Store (is_ok result) waiting.old.items (cost_lines run numbers.now row.now part cost) waiting.new.items tx.old tx.new }
 {
     if cost > 0 {
-        queue(tx, alloc, waiting, arc_of(run, numbers, row, part, cost))
+        queue(tx, alloc, waiting, call_of(run, numbers, row, part, cost))
     } else {
         Ok(())
     }
 }
 
 /// Their number, and each cost above 0.
-impl BecomesLines<ArcLine> for ArcRow<u32, &[u128]> {
-    ghost use Rattle.plain_tables.specs.Changes.{with_arcs};
+impl BecomesRows<CallRow> for CallEdge<u32, &[u128]> {
+    ghost use Rattle.plain_tables.specs.Changes.{with_calls};
     ghost use Rattle.run_writing.specs.FromRows.{row_lines};
 
-    ghost change = { λ run numbers row. with_arcs (row_lines run numbers row) };
+    ghost change = { λ run numbers row. with_calls (row_lines run numbers row) };
 
     fn queue_lines<S: Alter>(
         &self,
         tx: &mut Transaction<'_, S>,
         alloc: Global,
-        waiting: &mut Vec<ArcLine>,
+        waiting: &mut Vec<CallRow>,
         run: u32,
         numbers: &[u32],
     ) -> Result<(), StoreError> {
@@ -111,11 +111,11 @@ impl BecomesLines<ArcLine> for ArcRow<u32, &[u128]> {
             tx,
             alloc,
             waiting,
-            arc_of(run, numbers, self, 0, self.count),
+            call_of(run, numbers, self, 0, self.count),
         )?;
         let costs = self.costs;
         'costs: for (column, cost) in costs.iter().enumerate() {
-            put_cost(tx, alloc, waiting, run, numbers, self, column + 1, *cost)?;
+            insert_cost(tx, alloc, waiting, run, numbers, self, column + 1, *cost)?;
         }
         Ok(())
     }

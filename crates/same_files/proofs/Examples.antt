@@ -5,7 +5,7 @@ use Rattle.profile_records.specs.declared.kinds.Kind.{Kind}
 use Rattle.profile_records.specs.declared.kinds.Kind.TheVariants.{Callgrind, Folded}
 use Rattle.byte_io.specs.Outcomes.{Gave}
 use Rattle.histories.specs.Formats.{today}
-use Rattle.histories.specs.History.{Said, Import, Remove, MakeGroup, Join, Turn, History}
+use Rattle.histories.specs.History.{Command, Import, Remove, MakeGroup, Join, Step, History}
 use Rattle.histories.specs.Selections.{selected}
 use Rattle.histories.specs.declared.answers.Answer.{Answer}
 use Rattle.histories.specs.declared.answers.Answer.TheVariants.{Run, Done}
@@ -18,25 +18,25 @@ one = codes "events: Ir\n1 1\n"
 abbrev two : List ℕ
 two = codes "a;b 2\n"
 
-abbrev turn : Said → Answer → Turn
-turn said answer = record { said = said; answer = answer }
+abbrev step : Command → Answer → Step
+step command answer = record { command = command; answer = answer }
 
-abbrev import : Kind → List ℕ → List ℕ → Said
+abbrev import : Kind → List ℕ → List ℕ → Command
 import kind label bytes = Import (today kind) label (Gave bytes ∷ Gave [] ∷ [])
 
 -- both files, the one first
 abbrev there : History
-there = turn (import Callgrind (codes "one") one) (Run 1) ∷ turn (import Folded (codes "two") two) (Run 2) ∷ []
+there = step (import Callgrind (codes "one") one) (Run 1) ∷ step (import Folded (codes "two") two) (Run 2) ∷ []
 
 -- the other first, under other labels, cut otherwise, after a run that was removed; the one is in a group
 abbrev back : History
 back =
-    turn (import Callgrind (codes "gone") []) (Run 1)
-    ∷ turn (import Folded (codes "second") two) (Run 2)
-    ∷ turn (Remove 1) Done
-    ∷ turn (Import (today Callgrind) (codes "first") (Gave (codes "events: Ir") ∷ Gave (codes "\n1 1\n") ∷ Gave [] ∷ [])) (Run 3)
-    ∷ turn (MakeGroup (codes "g")) Done
-    ∷ turn (Join (codes "g") 3) Done
+    step (import Callgrind (codes "gone") []) (Run 1)
+    ∷ step (import Folded (codes "second") two) (Run 2)
+    ∷ step (Remove 1) Done
+    ∷ step (Import (today Callgrind) (codes "first") (Gave (codes "events: Ir") ∷ Gave (codes "\n1 1\n") ∷ Gave [] ∷ [])) (Run 3)
+    ∷ step (MakeGroup (codes "g")) Done
+    ∷ step (Join (codes "g") 3) Done
     ∷ []
 
 all_are_the_same : NameSameFiles there selections.All back selections.All

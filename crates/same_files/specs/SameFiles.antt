@@ -1,7 +1,7 @@
 -- Selections that name the same files, and questions that have the same answer.
 use Rattle.std.specs.Prelude.{◌≡◌, ℕ, List, map, Option, None, IsPermutation}
 use Rattle.histories.specs.Formats.{Format}
-use Rattle.histories.specs.History.{Said, History, File}
+use Rattle.histories.specs.History.{Command, History, File}
 use Rattle.histories.specs.Legal.{compared, expected_answer, files_of, no_second, no_selection}
 use Rattle.histories.specs.Selections.{selected}
 use Rattle.histories.specs.declared.answers.Selection.{Selection}
@@ -29,5 +29,5 @@ pub record CompareSameFiles (h : History) (s : Selection) (t : Option Selection)
   pub files : AreSameFiles (files_of h (compared h s t)) (files_of k (compared k r u))
 
 -- under all limits the one command after the one history has the answer of the other after the other
-abbrev pub AreAnsweredAlike : History → Said → History → Said → Type 0
-AreAnsweredAlike h said k other = (limits : Limits) → expected_answer limits h said ≡ expected_answer limits k other
+abbrev pub AreAnsweredAlike : History → Command → History → Command → Type 0
+AreAnsweredAlike h command k other = (limits : Limits) → expected_answer limits h command ≡ expected_answer limits k other

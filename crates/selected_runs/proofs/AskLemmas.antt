@@ -19,4 +19,4 @@ asked_twice g Shows query law result old new mid still one two told =
     let early = two.stays.was_faithful in
     let asks = one early in
     asked_once g Shows query law result old new still (asked_of_open g (is_ok result) old mid new asks two)
-    (λ t stands. told t stands early (asked_reads g t old mid asks stands))
+    (λ t represents. told t represents early (asked_reads g t old mid asks represents))

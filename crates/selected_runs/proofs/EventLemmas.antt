@@ -5,7 +5,7 @@ use Rattle.plain_tables.specs.Tables.{Tables}
 use Rattle.histories.specs.History.{History}
 use Rattle.histories.specs.Legal.{first_or, no_event, no_selection, when}
 use Rattle.histories.specs.Selections.{selected}
-use Rattle.histories.specs.Stands.{TablesTell}
+use Rattle.histories.specs.Representation.{TablesRepresent}
 use Rattle.histories.specs.declared.answers.Answer.{Answer}
 use Rattle.histories.specs.declared.answers.Answer.TheVariants.{Refused}
 use Rattle.histories.specs.declared.answers.Refusal.{Refusal}
@@ -20,20 +20,20 @@ use Rattle.selected_runs.proofs.SelectLemmas.{selected_told}
 
 -- ---- the runs
 
-event_of : (h : History) (t : Tables) (s : Selection) (event numbers : List ℕ) (runs : List Counted) (b : Bool) → TablesTell h t → AreSelected h s (Ok numbers) → AreCounted t event numbers runs
+event_of : (h : History) (t : Tables) (s : Selection) (event numbers : List ℕ) (runs : List Counted) (b : Bool) → TablesRepresent h t → AreSelected h s (Ok numbers) → AreCounted t event numbers runs
     → list_any has_counts runs ≡ b → no_event event (selected h s) ≡ when (not b) (Refused NoSuchEvent)
-event_of h t s event numbers runs b tell found counted is =
-    ap (λ b. when (not b) (Refused NoSuchEvent)) (sym (runs_have_event h t s event runs tell (subst (λ ns. AreCounted t event ns runs) found.1 counted)) ∙ is)
+event_of h t s event numbers runs b represent found counted is =
+    ap (λ b. when (not b) (Refused NoSuchEvent)) (sym (runs_have_event h t s event runs represent (subst (λ ns. AreCounted t event ns runs) found.1 counted)) ∙ is)
 
-event_found : (h : History) (t : Tables) (s : Selection) (event numbers : List ℕ) (runs : List Counted) → TablesTell h t → AreSelected h s (Ok numbers) → AreCounted t event numbers runs
+event_found : (h : History) (t : Tables) (s : Selection) (event numbers : List ℕ) (runs : List Counted) → TablesRepresent h t → AreSelected h s (Ok numbers) → AreCounted t event numbers runs
     → list_any has_counts runs ≡ true → AreEventRuns h t s event (Ok runs)
-event_found h t s event numbers runs tell found counted has =
-    (found.0, event_of h t s event numbers runs true tell found counted has, subst (λ ns. AreCounted t event ns runs) found.1 counted)
+event_found h t s event numbers runs represent found counted has =
+    (found.0, event_of h t s event numbers runs true represent found counted has, subst (λ ns. AreCounted t event ns runs) found.1 counted)
 
-event_missing : (h : History) (t : Tables) (s : Selection) (event numbers : List ℕ) (runs : List Counted) → TablesTell h t → AreSelected h s (Ok numbers) → AreCounted t event numbers runs
+event_missing : (h : History) (t : Tables) (s : Selection) (event numbers : List ℕ) (runs : List Counted) → TablesRepresent h t → AreSelected h s (Ok numbers) → AreCounted t event numbers runs
     → list_any has_counts runs ≡ false → AreEventRuns h t s event (Err NoSuchEvent)
-event_missing h t s event numbers runs tell found counted none =
-    λ later text. ap₂ (λ a b. first_or (a ∷ b ∷ later) text) found.0 (event_of h t s event numbers runs false tell found counted none)
+event_missing h t s event numbers runs represent found counted none =
+    λ later text. ap₂ (λ a b. first_or (a ∷ b ∷ later) text) found.0 (event_of h t s event numbers runs false represent found counted none)
 
 selection_missing : (h : History) (t : Tables) (s : Selection) (event : List ℕ) (refusal : Refusal) → AreSelected h s (Err refusal) → AreEventRuns h t s event (Err refusal)
 selection_missing h t s event refusal found = λ later text. ap (λ a. first_or (a ∷ no_event event (selected h s) ∷ later) text) found
@@ -49,14 +49,14 @@ pub runs_lacking : (t : Tables) (s : Selection) (event numbers : List ℕ) (runs
 runs_lacking t s event numbers runs found counted none =
     inr (record { runs = runs; are_runs = record { numbers = numbers; are_selected = found; are_counted = counted }; none_has = none; refusal_is = refl })
 
-pub event_runs_told : (h : History) (t : Tables) (s : Selection) (event : List ℕ) (found : Result (List Counted) Refusal) → TablesTell h t → AreEventRunsIn t s event found → AreEventRuns h t s event found
-event_runs_told h t s event (Ok runs) tell is =
-    event_found h t s event is.0.numbers runs tell (selected_told h t s (Ok is.0.numbers) tell is.0.are_selected) is.0.are_counted is.1
-event_runs_told h t s event (Err refusal) tell (inl is) = selection_missing h t s event refusal (selected_told h t s (Err refusal) tell is)
-event_runs_told h t s event (Err refusal) tell (inr lack) =
+pub event_runs_told : (h : History) (t : Tables) (s : Selection) (event : List ℕ) (found : Result (List Counted) Refusal) → TablesRepresent h t → AreEventRunsIn t s event found → AreEventRuns h t s event found
+event_runs_told h t s event (Ok runs) represent is =
+    event_found h t s event is.0.numbers runs represent (selected_told h t s (Ok is.0.numbers) represent is.0.are_selected) is.0.are_counted is.1
+event_runs_told h t s event (Err refusal) represent (inl is) = selection_missing h t s event refusal (selected_told h t s (Err refusal) represent is)
+event_runs_told h t s event (Err refusal) represent (inr lack) =
     let runs = lack.are_runs in
     subst (λ r. AreEventRuns h t s event (Err r)) (sym lack.refusal_is)
-    (event_missing h t s event runs.numbers lack.runs tell (selected_told h t s (Ok runs.numbers) tell runs.are_selected) runs.are_counted lack.none_has)
+    (event_missing h t s event runs.numbers lack.runs represent (selected_told h t s (Ok runs.numbers) represent runs.are_selected) runs.are_counted lack.none_has)
 
 -- neither is refused
 pub both_held : (h : History) (t : Tables) (s : Selection) (event : List ℕ) (runs : List Counted) → AreEventRuns h t s event (Ok runs) → (later : List (Option Answer)) (text : Answer)

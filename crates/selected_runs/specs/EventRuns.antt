@@ -14,7 +14,7 @@ use Rattle.selected_runs.specs.Counted.{AreCounted, has_counts}
 use Rattle.selected_runs.specs.Selected.{AreSelectedIn}
 use Rattle.selected_runs.specs.declared.counting.Counted.{Counted}
 
--- ---- in tables, whatever they stand for
+-- ---- in tables, whatever they represent
 
 -- the runs of a selection, with how often their events count in the one that is asked
 pub record AreRunsIn (t : Tables) (s : Selection) (event : List ℕ) (runs : List Counted) : Type 0 where

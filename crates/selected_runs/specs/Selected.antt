@@ -13,7 +13,7 @@ use Rattle.histories.specs.declared.answers.Refusal.TheVariants.{NoSuchGroup, No
 use Rattle.histories.specs.declared.answers.Selection.{Selection}
 use Rattle.histories.specs.declared.answers.Selection.TheVariants as selections
 
--- ---- in tables, whatever they stand for
+-- ---- in tables, whatever they represent
 
 -- the text by which a group is looked for: its name, or the empty text, where no group can have that name
 pub record IsSought (name text : List ℕ) : Type 0 where

@@ -6,12 +6,12 @@ ghost use Rattle.selected_runs.specs.Added.{AreAdded};
 use run_stores::{RunStore, StoreError};
 
 /// Adds runs to what was made of those before.
-pub trait AddsRuns<S: RunStore> {
+pub trait RunFold<S: RunStore> {
     ghost use Rattle.std.specs.Result.{is_ok};
     ghost use Rattle.plain_tables.specs.Tables.{Tables};
     ghost use Rattle.run_stores.specs.Calls.{Told, AsksIfOpen};
 
-    /// What stands for a run: its number, or what is known of it.
+    /// What names a run: its number, or what is known of it.
     type Run;
 
     /// What is made of runs.
@@ -32,7 +32,7 @@ pub trait AddsRuns<S: RunStore> {
 }
 
 /// Adds runs, one after another.
-pub fn add_runs<S: RunStore, A: AddsRuns<S>>(
+pub fn fold_runs<S: RunStore, A: RunFold<S>>(
     store: &mut S,
     adder: &A,
     runs: &[A::Run],

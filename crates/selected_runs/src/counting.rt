@@ -4,7 +4,7 @@ ghost use Rattle.std.specs.Result.{is_ok};
 ghost use Rattle.run_stores.specs.Calls.{Told, Asks, AsksIfOpen};
 ghost use Rattle.selected_runs.specs.Counted.{IsCounted, AreCounted};
 
-use crate::adding::{AddsRuns, add_runs};
+use crate::adding::{RunFold, fold_runs};
 use cg_text::ListVec;
 use run_stores::{RunStore, StoreError};
 use std::alloc::Global;
@@ -57,7 +57,7 @@ struct EventCounts<'a> {
     event: &'a [u8],
 }
 
-impl<S: RunStore> AddsRuns<S> for EventCounts<'_> {
+impl<S: RunStore> RunFold<S> for EventCounts<'_> {
     ghost use Rattle.selected_runs.specs.Counted.{AddsCounted};
 
     type Run = u32;
@@ -92,5 +92,5 @@ pub fn count_runs<S: RunStore>(
     ensures asks { AsksIfOpen S.StoreState (is_ok result) store.old store.new }
 {
     let counts = EventCounts { alloc, event };
-    add_runs(store, &counts, numbers, Vec::new(alloc))
+    fold_runs(store, &counts, numbers, Vec::new(alloc))
 }

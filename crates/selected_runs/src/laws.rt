@@ -9,7 +9,7 @@ ghost use Rattle.plain_tables.specs.Tables.{Tables};
 ghost use Rattle.histories.specs.History.{History};
 ghost use Rattle.histories.specs.Reports.{event_records, has_event};
 ghost use Rattle.histories.specs.Selections.{numbers_of, selected};
-ghost use Rattle.histories.specs.Stands.{TablesTell};
+ghost use Rattle.histories.specs.Representation.{TablesRepresent};
 ghost use Rattle.histories.specs.declared.answers.Refusal.{Refusal};
 ghost use Rattle.histories.specs.declared.answers.Selection.{Selection};
 ghost use Rattle.selected_runs.specs.Counted.{AreCounted, event_cells, has_counts};
@@ -17,12 +17,12 @@ ghost use Rattle.selected_runs.specs.EventRuns.{AreEventRuns, AreEventRunsIn};
 ghost use Rattle.selected_runs.specs.Selected.{AreSelected, AreSelectedIn};
 ghost use Rattle.selected_runs.specs.declared.counting.Counted.{Counted};
 
-/// What tables that stand for a history tell of a selection is what is selected after it: its runs, those of
+/// What tables that represent a history tell of a selection is what is selected after it: its runs, those of
 /// an event that is asked, or why there are none.
 pub fn selections_are_told()
     ensures selected { (h : History) (t : Tables) (s : Selection) (found : Result (List ℕ) Refusal)
-        → TablesTell h t → AreSelectedIn t s found → AreSelected h s found }
-    ensures event { (h : History) (t : Tables) (s : Selection) (event : List ℕ) (found : Result (List Counted) Refusal) → TablesTell h t
+        → TablesRepresent h t → AreSelectedIn t s found → AreSelected h s found }
+    ensures event { (h : History) (t : Tables) (s : Selection) (event : List ℕ) (found : Result (List Counted) Refusal) → TablesRepresent h t
         → AreEventRunsIn t s event found → AreEventRuns h t s event found }
 {}
 
@@ -30,9 +30,9 @@ pub fn selections_are_told()
 /// is selected has it; and their cells, each as often as its column counts, come by every key to what the
 /// self records of these files cost in the event.
 pub fn runs_cost_what_files_cost()
-    ensures event { (h : History) (t : Tables) (s : Selection) (event : List ℕ) (runs : List Counted) → TablesTell h t
+    ensures event { (h : History) (t : Tables) (s : Selection) (event : List ℕ) (runs : List Counted) → TablesRepresent h t
         → AreCounted t event (numbers_of (selected h s)) runs → list_any has_counts runs ≡ list_any (has_event event) (selected h s) }
-    ensures costs { (h : History) (t : Tables) (s : Selection) (key : Key) (event : List ℕ) (runs : List Counted) → TablesTell h t
+    ensures costs { (h : History) (t : Tables) (s : Selection) (key : Key) (event : List ℕ) (runs : List Counted) → TablesRepresent h t
         → AreCounted t event (numbers_of (selected h s)) runs
         → sums_by key (all_rows (map (event_cells t) runs)) ≡ costs_by key (map (event_records event) (selected h s)) }
 {}

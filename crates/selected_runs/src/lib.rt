@@ -14,7 +14,7 @@ mod runs_asked;
 // Finds the runs of a selection (specs/Selected.antt).
 mod selecting;
 
-pub use adding::{AddsRuns, add_runs};
+pub use adding::{RunFold, fold_runs};
 pub use bounds::{cost_within, is_within, weighted_within};
 pub use counting::{Counted, count_runs};
 pub use laws::{runs_cost_what_files_cost, selections_are_told};

@@ -41,7 +41,7 @@ pub fn one_run<S: RunStore>(
 }
 
 /// The text of a group's name. Bytes that are no text are no group's name, and neither is the empty
-/// text, which stands for them.
+/// text, which represents them.
 pub fn name_text(name: &[u8]) -> &str
     ensures named { IsGroupName name.now → result.now ≡ name.now }
     ensures other { (result.now ≡ name.now) ⊎ (result.now ≡ []) }

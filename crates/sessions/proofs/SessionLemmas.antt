@@ -1,4 +1,4 @@
--- Turns of a session, one after another.
+-- Steps of a session, one after another.
 use Rattle.std.proofs.Common.{◌≡◌, ℕ, ◌+◌, ◌<◌, Bool, true, false, ◌||◌, if◌then◌else◌, List, [], ◌∷◌, ◌++◌, map, length, drop, get_or, Option, None, Result, Ok, Err, OnOk, OnErr, inl, refl, sym, ap, ap₂, take, subst, ◌∙◌, append_assoc, append-nil}
 use Rattle.std.specs.Io.KnownBytes.{Appends}
 use Rattle.std.proofs.KnownBytes.{Appends-nil, Appends-trans}
@@ -12,13 +12,13 @@ use Rattle.run_stores.proofs.Calls.{changed_none, shut_none}
 use Rattle.run_stores.specs.Calls.{IsFaithful}
 use Rattle.byte_io.specs.Outcomes.{Outcome}
 use Rattle.histories.specs.Formats.{today}
-use Rattle.histories.specs.History.{History, Said, Turn, Import}
+use Rattle.histories.specs.History.{History, Command, Step, Import}
 use Rattle.histories.specs.Legal.{IsLegal}
 use Rattle.histories.specs.declared.answers.Answer.{Answer}
 use Rattle.histories.specs.declared.answers.Answer.TheVariants.{Refused}
 use Rattle.histories.specs.declared.answers.Refusal.{Refusal}
 use Rattle.histories.specs.declared.limits.Limits.{Limits}
-use Rattle.histories.specs.Stands.{TablesTell}
+use Rattle.histories.specs.Representation.{TablesRepresent}
 use Rattle.store_histories.specs.Answered.{Answers, Links, Follows}
 use Rattle.store_histories.proofs.Links.{links_append, links_clean, links_legal, links_after}
 use Rattle.store_histories.proofs.Settled.{untouched}
@@ -73,127 +73,127 @@ wrote (Err e) answer line a b is whole part = (line, part.0, (line, [], is, refl
 
 -- ---- the store is not asked
 
-pub refused : {S : Type 0} (g : Ghosts S) (limits : Limits) (said : Said) (refusal : Refusal) (store : S) → IsFaithful g store → ((h : History) → IsLegal limits h said (Refused refusal)) → Answers g limits said (Refused refusal) store store
-refused g limits said refusal store clean legal = record {
-  turned = changed_none g TablesTell (Follows limits said) store clean;
-  answered = λ h has. untouched g limits h said store has clean (Refused refusal) tt (legal h);
+pub refused : {S : Type 0} (g : Ghosts S) (limits : Limits) (command : Command) (refusal : Refusal) (store : S) → IsFaithful g store → ((h : History) → IsLegal limits h command (Refused refusal)) → Answers g limits command (Refused refusal) store store
+refused g limits command refusal store clean legal = record {
+  stepped = changed_none g TablesRepresent (Follows limits command) store clean;
+  answered = λ h has. untouched g limits h command store has clean (Refused refusal) tt (legal h);
   closes = λ usable. inl usable;
   shut = shut_none g store;
 }
 
--- ---- turns that were taken
+-- ---- steps that were taken
 
 module _ {R W S N : Type 0} (g : Ghosts S) where
-  took : (turns : History) (old new : Session R W S N) → Links g old.warehouse.limits turns old.warehouse.store new.warehouse.store → new.status ≡ status_after old.status (answers_of turns) → Took g turns old new
-  took turns old new links status = record {
+  took : (steps : History) (old new : Session R W S N) → Links g old.warehouse.limits steps old.warehouse.store new.warehouse.store → new.status ≡ status_after old.status (answers_of steps) → Took g steps old new
+  took steps old new links status = record {
     links = links;
-    legal = λ h has. links_legal g old.warehouse.limits h turns old.warehouse.store new.warehouse.store links has;
-    after = λ h has. links_after g old.warehouse.limits h turns old.warehouse.store new.warehouse.store links has;
+    legal = λ h has. links_legal g old.warehouse.limits h steps old.warehouse.store new.warehouse.store links has;
+    after = λ h has. links_after g old.warehouse.limits h steps old.warehouse.store new.warehouse.store links has;
     status = status;
   }
 
   took_none : (s : Session R W S N) → Took g [] s s
   took_none s = took [] s s refl refl
 
-  took_one : (said : Said) (answer : Answer) (old new : Session R W S N) → Answers g old.warehouse.limits said answer old.warehouse.store new.warehouse.store → new.status ≡ status_after old.status (answer ∷ [])
-      → Took g (record { said = said; answer = answer } ∷ []) old new
-  took_one said answer old new is status = took (record { said = said; answer = answer } ∷ []) old new (new.warehouse.store, is, refl) status
+  took_one : (command : Command) (answer : Answer) (old new : Session R W S N) → Answers g old.warehouse.limits command answer old.warehouse.store new.warehouse.store → new.status ≡ status_after old.status (answer ∷ [])
+      → Took g (record { command = command; answer = answer } ∷ []) old new
+  took_one command answer old new is status = took (record { command = command; answer = answer } ∷ []) old new (new.warehouse.store, is, refl) status
 
-  took_on : (turns : History) (turn : Turn) (old mid new : Session R W S N) → mid.warehouse.limits ≡ old.warehouse.limits → Took g turns old mid → Took g (turn ∷ []) mid new → Took g (turns ++ turn ∷ []) old new
-  took_on turns turn old mid new same first last =
-      took (turns ++ turn ∷ []) old new
-      (links_append g old.warehouse.limits turns (turn ∷ []) old.warehouse.store mid.warehouse.store new.warehouse.store first.links (subst (λ l. Links g l (turn ∷ []) mid.warehouse.store new.warehouse.store) same last.links))
-      (last.status ∙ ap (λ s. status_after s (turn.answer ∷ [])) first.status ∙ status_on old.status (answers_of turns) (turn.answer ∷ []) ∙ ap (status_after old.status) (sym (map-append (λ (t : Turn). t.answer) turns (turn ∷ []))))
+  took_on : (steps : History) (step : Step) (old mid new : Session R W S N) → mid.warehouse.limits ≡ old.warehouse.limits → Took g steps old mid → Took g (step ∷ []) mid new → Took g (steps ++ step ∷ []) old new
+  took_on steps step old mid new same first last =
+      took (steps ++ step ∷ []) old new
+      (links_append g old.warehouse.limits steps (step ∷ []) old.warehouse.store mid.warehouse.store new.warehouse.store first.links (subst (λ l. Links g l (step ∷ []) mid.warehouse.store new.warehouse.store) same last.links))
+      (last.status ∙ ap (λ s. status_after s (step.answer ∷ [])) first.status ∙ status_on old.status (answers_of steps) (step.answer ∷ []) ∙ ap (status_after old.status) (sym (map-append (λ (t : Step). t.answer) steps (step ∷ []))))
 
   -- the disk was faithful before
-  pub took_clean : (turns : History) (old new : Session R W S N) → Took g turns old new → IsFaithful g new.warehouse.store → IsFaithful g old.warehouse.store
-  took_clean turns old new it clean = links_clean g old.warehouse.limits turns old.warehouse.store new.warehouse.store it.links clean
+  pub took_clean : (steps : History) (old new : Session R W S N) → Took g steps old new → IsFaithful g new.warehouse.store → IsFaithful g old.warehouse.store
+  took_clean steps old new it clean = links_clean g old.warehouse.limits steps old.warehouse.store new.warehouse.store it.links clean
 
   -- ---- one command
 
-  pub told : (contents : W → Option (List ℕ)) (said : Said) (answer : Answer) {E : Type 0} (result : Result Unit E) (old new : Session R W S N)
-      → Answers g old.warehouse.limits said answer old.warehouse.store new.warehouse.store → new.status ≡ status_after old.status (answer ∷ [])
-      → Prints result (answer ∷ []) (contents old.out) (contents new.out) → WasTold g contents said result old new
-  told contents said answer result old new is status printed = record { answer = answer; took = took_one said answer old new is status; printed = printed }
+  pub told : (contents : W → Option (List ℕ)) (command : Command) (answer : Answer) {E : Type 0} (result : Result Unit E) (old new : Session R W S N)
+      → Answers g old.warehouse.limits command answer old.warehouse.store new.warehouse.store → new.status ≡ status_after old.status (answer ∷ [])
+      → Prints result (answer ∷ []) (contents old.out) (contents new.out) → WasTold g contents command result old new
+  told contents command answer result old new is status printed = record { answer = answer; took = took_one command answer old new is status; printed = printed }
 
   -- a work of one command
-  pub run_one : (contents : W → Option (List ℕ)) (said : Said) (wanted : List Said → Type 0) {E : Type 0} (result : Result Unit E) (old new : Session R W S N) → wanted (said ∷ []) → WasTold g contents said result old new → WasRun g contents wanted result old new
-  run_one contents said wanted (Ok done) old new is w = record { turns = record { said = said; answer = w.answer } ∷ []; commands = is; took = w.took; printed = w.printed }
-  run_one contents said wanted (Err e) old new is w = record { turns = record { said = said; answer = w.answer } ∷ []; rest = []; commands = is; took = w.took; printed = w.printed }
+  pub run_one : (contents : W → Option (List ℕ)) (command : Command) (wanted : List Command → Type 0) {E : Type 0} (result : Result Unit E) (old new : Session R W S N) → wanted (command ∷ []) → WasTold g contents command result old new → WasRun g contents wanted result old new
+  run_one contents command wanted (Ok done) old new is w = record { steps = record { command = command; answer = w.answer } ∷ []; commands = is; took = w.took; printed = w.printed }
+  run_one contents command wanted (Err e) old new is w = record { steps = record { command = command; answer = w.answer } ∷ []; rest = []; commands = is; took = w.took; printed = w.printed }
 
   -- ---- commands so far
 
-  pub record SoFar (contents : W → Option (List ℕ)) (list : List Said) (old new : Session R W S N) : Type 0 where
-    pub turns : History
-    pub commands : commands_of turns ≡ list
-    pub took : Took g turns old new
-    pub printed : ArePrinted (answers_of turns) (contents old.out) (contents new.out)
+  pub record SoFar (contents : W → Option (List ℕ)) (list : List Command) (old new : Session R W S N) : Type 0 where
+    pub steps : History
+    pub commands : commands_of steps ≡ list
+    pub took : Took g steps old new
+    pub printed : ArePrinted (answers_of steps) (contents old.out) (contents new.out)
 
   pub so_far_none : (contents : W → Option (List ℕ)) (s : Session R W S N) → SoFar contents [] s s
-  so_far_none contents s = record { turns = []; commands = refl; took = took_none s; printed = printed_none (contents s.out) }
+  so_far_none contents s = record { steps = []; commands = refl; took = took_none s; printed = printed_none (contents s.out) }
 
-  pub so_far_on : (contents : W → Option (List ℕ)) (list : List Said) (said : Said) {E : Type 0} (done : Unit {0}) (old mid new : Session R W S N) → mid.warehouse.limits ≡ old.warehouse.limits
-      → (w : SoFar contents list old mid) → WasTold g contents said {E = E} (Ok done) mid new → SoFar contents (list ++ said ∷ []) old new
-  so_far_on contents list said done old mid new same w t =
-      let turn : Turn = record { said = said; answer = t.answer } in record {
-        turns = w.turns ++ turn ∷ [];
-        commands = map-append (λ (x : Turn). x.said) w.turns (turn ∷ []) ∙ ap (λ l. l ++ said ∷ []) w.commands;
-        took = took_on w.turns turn old mid new same w.took t.took;
-        printed = subst (λ l. ArePrinted l (contents old.out) (contents new.out)) (sym (map-append (λ (x : Turn). x.answer) w.turns (turn ∷ [])))
-            (printed_on (answers_of w.turns) (t.answer ∷ []) (contents old.out) (contents mid.out) (contents new.out) w.printed t.printed);
+  pub so_far_on : (contents : W → Option (List ℕ)) (list : List Command) (command : Command) {E : Type 0} (done : Unit {0}) (old mid new : Session R W S N) → mid.warehouse.limits ≡ old.warehouse.limits
+      → (w : SoFar contents list old mid) → WasTold g contents command {E = E} (Ok done) mid new → SoFar contents (list ++ command ∷ []) old new
+  so_far_on contents list command done old mid new same w t =
+      let step : Step = record { command = command; answer = t.answer } in record {
+        steps = w.steps ++ step ∷ [];
+        commands = map-append (λ (x : Step). x.command) w.steps (step ∷ []) ∙ ap (λ l. l ++ command ∷ []) w.commands;
+        took = took_on w.steps step old mid new same w.took t.took;
+        printed = subst (λ l. ArePrinted l (contents old.out) (contents new.out)) (sym (map-append (λ (x : Step). x.answer) w.steps (step ∷ [])))
+            (printed_on (answers_of w.steps) (t.answer ∷ []) (contents old.out) (contents mid.out) (contents new.out) w.printed t.printed);
       }
 
-  pub so_far_cut : (contents : W → Option (List ℕ)) (list rest : List Said) (said : Said) (wanted : List Said → Type 0) {E : Type 0} (result : Result Unit E) (old mid new : Session R W S N) → mid.warehouse.limits ≡ old.warehouse.limits
-      → (w : SoFar contents list old mid) → WasTold g contents said result mid new → wanted (list ++ said ∷ rest) → WasCut g contents wanted old new
-  so_far_cut contents list rest said wanted result old mid new same w t is =
-      let turn : Turn = record { said = said; answer = t.answer } in record {
-        turns = w.turns ++ turn ∷ [];
+  pub so_far_cut : (contents : W → Option (List ℕ)) (list rest : List Command) (command : Command) (wanted : List Command → Type 0) {E : Type 0} (result : Result Unit E) (old mid new : Session R W S N) → mid.warehouse.limits ≡ old.warehouse.limits
+      → (w : SoFar contents list old mid) → WasTold g contents command result mid new → wanted (list ++ command ∷ rest) → WasCut g contents wanted old new
+  so_far_cut contents list rest command wanted result old mid new same w t is =
+      let step : Step = record { command = command; answer = t.answer } in record {
+        steps = w.steps ++ step ∷ [];
         rest = rest;
-        commands = subst wanted (sym (ap (λ l. l ++ rest) (map-append (λ (x : Turn). x.said) w.turns (turn ∷ []) ∙ ap (λ l. l ++ said ∷ []) w.commands) ∙ append_assoc list (said ∷ []) rest)) is;
-        took = took_on w.turns turn old mid new same w.took t.took;
-        printed = subst (λ l. ArePrintedInPart l (contents old.out) (contents new.out)) (sym (map-append (λ (x : Turn). x.answer) w.turns (turn ∷ [])))
-            (part_on (answers_of w.turns) (t.answer ∷ []) (contents old.out) (contents mid.out) (contents new.out) w.printed (in_part result (t.answer ∷ []) (contents mid.out) (contents new.out) t.printed));
+        commands = subst wanted (sym (ap (λ l. l ++ rest) (map-append (λ (x : Step). x.command) w.steps (step ∷ []) ∙ ap (λ l. l ++ command ∷ []) w.commands) ∙ append_assoc list (command ∷ []) rest)) is;
+        took = took_on w.steps step old mid new same w.took t.took;
+        printed = subst (λ l. ArePrintedInPart l (contents old.out) (contents new.out)) (sym (map-append (λ (x : Step). x.answer) w.steps (step ∷ [])))
+            (part_on (answers_of w.steps) (t.answer ∷ []) (contents old.out) (contents mid.out) (contents new.out) w.printed (in_part result (t.answer ∷ []) (contents mid.out) (contents new.out) t.printed));
       }
 
-  pub so_far_done : (contents : W → Option (List ℕ)) (list : List Said) (wanted : List Said → Type 0) (old new : Session R W S N) → SoFar contents list old new → wanted list → WasDone g contents wanted old new
-  so_far_done contents list wanted old new w is = record { turns = w.turns; commands = subst wanted (sym w.commands) is; took = w.took; printed = w.printed }
+  pub so_far_done : (contents : W → Option (List ℕ)) (list : List Command) (wanted : List Command → Type 0) (old new : Session R W S N) → SoFar contents list old new → wanted list → WasDone g contents wanted old new
+  so_far_done contents list wanted old new w is = record { steps = w.steps; commands = subst wanted (sym w.commands) is; took = w.took; printed = w.printed }
 
 -- ---- imports
 
 -- imports that were not begun, with no reads
-abbrev unread : Kind → List (List ℕ) → List Said
+abbrev unread : Kind → List (List ℕ) → List Command
 unread kind paths = map (λ path. Import (today kind) path []) paths
 
 imports_unread : (reads : List Outcome → Type 0) → reads [] → (kind : Kind) (paths : List (List ℕ)) → AreImports reads kind paths (unread kind paths)
 imports_unread reads none kind [] = tt
 imports_unread reads none kind (path ∷ paths) = ([], none, refl, imports_unread reads none kind paths)
 
-imports_next : {X : Type 0} (reads : List Outcome → Type 0) (now : X → List ℕ) (kind : Kind) (paths : List X) (i : ℕ) (d : X) (outcomes : List Outcome) (rest : List Said) → i < length paths → reads outcomes
+imports_next : {X : Type 0} (reads : List Outcome → Type 0) (now : X → List ℕ) (kind : Kind) (paths : List X) (i : ℕ) (d : X) (outcomes : List Outcome) (rest : List Command) → i < length paths → reads outcomes
     → AreImports reads kind (map now (drop (i + 1) paths)) rest → AreImports reads kind (map now (drop i paths)) (Import (today kind) (now (get_or paths i d)) outcomes ∷ rest)
 imports_next reads now kind paths i d outcomes rest low read all =
     subst (λ l. AreImports reads kind (map now l) (Import (today kind) (now (get_or paths i d)) outcomes ∷ rest)) (sym (drop_more paths i d low)) (outcomes, read, refl, all)
 
-module _ {R W S N X : Type 0} (g : Ghosts S) (contents : W → Option (List ℕ)) (reads : List Outcome → Type 0) (now : X → List ℕ) (kind : Kind) (paths : List X) (i : ℕ) (d : X) (list : List Said) (old mid new : Session R W S N) where
+module _ {R W S N X : Type 0} (g : Ghosts S) (contents : W → Option (List ℕ)) (reads : List Outcome → Type 0) (now : X → List ℕ) (kind : Kind) (paths : List X) (i : ℕ) (d : X) (list : List Command) (old mid new : Session R W S N) where
   -- the imports so far fit those of all paths, with the others behind them
-  abbrev pub Fits : List Said → ℕ → Type 0
-  Fits done n = (rest : List Said) → AreImports reads kind (map now (drop n paths)) rest → AreImports reads kind (map now paths) (done ++ rest)
+  abbrev pub Fits : List Command → ℕ → Type 0
+  Fits done n = (rest : List Command) → AreImports reads kind (map now (drop n paths)) rest → AreImports reads kind (map now paths) (done ++ rest)
 
   pub import_on : {E : Type 0} (done : Unit {0}) → i < length paths → mid.warehouse.limits ≡ old.warehouse.limits → Fits list i → (w : SoFar g contents list old mid)
-      → ((outcomes : List Outcome) × reads outcomes × WasTold g contents (Import (today kind) (now (get_or paths i d)) outcomes) {E = E} (Ok done) mid new) → (more : List Said) × Fits more (i + 1) × SoFar g contents more old new
+      → ((outcomes : List Outcome) × reads outcomes × WasTold g contents (Import (today kind) (now (get_or paths i d)) outcomes) {E = E} (Ok done) mid new) → (more : List Command) × Fits more (i + 1) × SoFar g contents more old new
   import_on done low same fits w t =
-      let said = Import (today kind) (now (get_or paths i d)) t.0 in (
-        list ++ said ∷ [],
-        λ rest all. subst (AreImports reads kind (map now paths)) (sym (append_assoc list (said ∷ []) rest)) (fits (said ∷ rest) (imports_next reads now kind paths i d t.0 rest low t.1 all)),
-        so_far_on g contents list said done old mid new same w t.2,
+      let command = Import (today kind) (now (get_or paths i d)) t.0 in (
+        list ++ command ∷ [],
+        λ rest all. subst (AreImports reads kind (map now paths)) (sym (append_assoc list (command ∷ []) rest)) (fits (command ∷ rest) (imports_next reads now kind paths i d t.0 rest low t.1 all)),
+        so_far_on g contents list command done old mid new same w t.2,
       )
 
   pub import_cut : {E : Type 0} (result : Result Unit E) → reads [] → i < length paths → mid.warehouse.limits ≡ old.warehouse.limits → Fits list i → (w : SoFar g contents list old mid)
       → ((outcomes : List Outcome) × reads outcomes × WasTold g contents (Import (today kind) (now (get_or paths i d)) outcomes) result mid new) → WasCut g contents (AreImports reads kind (map now paths)) old new
   import_cut result none low same fits w t =
-      let said = Import (today kind) (now (get_or paths i d)) t.0 in
+      let command = Import (today kind) (now (get_or paths i d)) t.0 in
       let rest = unread kind (map now (drop (i + 1) paths)) in
-      so_far_cut g contents list rest said (AreImports reads kind (map now paths)) result old mid new same w t.2
-      (fits (said ∷ rest) (imports_next reads now kind paths i d t.0 rest low t.1 (imports_unread reads none kind (map now (drop (i + 1) paths)))))
+      so_far_cut g contents list rest command (AreImports reads kind (map now paths)) result old mid new same w t.2
+      (fits (command ∷ rest) (imports_next reads now kind paths i d t.0 rest low t.1 (imports_unread reads none kind (map now (drop (i + 1) paths)))))
 
 -- a file that is not read yet
 pub none_read : {F : Type 0} (remaining : F → Option (List ℕ)) → WereRead remaining []

@@ -4,7 +4,7 @@ use Rattle.std.specs.Io.KnownBytes.{Appends}
 use Rattle.std.specs.declared.alloc.AllocError.{AllocError}
 use Rattle.run_stores.specs.declared.states.StoreState.{Ghosts}
 use Rattle.file_reading.specs.declared.total.TotalText.{TotalText}
-use Rattle.histories.specs.History.{History, Said}
+use Rattle.histories.specs.History.{History, Command}
 use Rattle.histories.specs.Legal.{AreLegal}
 use Rattle.histories.specs.declared.limits.Limits.{Limits}
 use Rattle.store_histories.specs.Answered.{HasHistory, Links}
@@ -30,17 +30,17 @@ TotalPrinted total result old new =
 
 -- ---- a work
 
-module _ {W S : Type 0} (g : Ghosts S) (contents : W → Option (List ℕ)) (wanted : List Said → Type 0) where
-  -- under the standard limits turns were taken, each from the store that the one before left: their commands are the first of those wanted, and all where a status came of it, which is 1 where an answer is a refusal and else 0; their answers are printed, as far as they could be
+module _ {W S : Type 0} (g : Ghosts S) (contents : W → Option (List ℕ)) (wanted : List Command → Type 0) where
+  -- under the standard limits steps were taken, each from the store that the one before left: their commands are the first of those wanted, and all where a status came of it, which is 1 where an answer is a refusal and else 0; their answers are printed, as far as they could be
   pub record CameTo {E : Type 0} (result : Result ℕ E) (from to : W) (old new : S) : Type 0 where
     pub limits : Limits
     pub standard : IsStandard limits
-    pub turns : History
-    pub rest : List Said
-    pub commands : wanted (commands_of turns ++ rest)
-    pub links : Links g limits turns old new
-    pub legal : (h : History) → HasHistory g h old → AreLegal limits h turns
-    pub after : (h : History) → HasHistory g h old → HasHistory g (h ++ turns) new
+    pub steps : History
+    pub rest : List Command
+    pub commands : wanted (commands_of steps ++ rest)
+    pub links : Links g limits steps old new
+    pub legal : (h : History) → HasHistory g h old → AreLegal limits h steps
+    pub after : (h : History) → HasHistory g h old → HasHistory g (h ++ steps) new
     pub told : MatchResult result
-        (λ status. (rest ≡ []) × (status ≡ status_after 0 (answers_of turns)) × ArePrinted (answers_of turns) (contents from) (contents to))
-        (λ e. ArePrintedInPart (answers_of turns) (contents from) (contents to))
+        (λ status. (rest ≡ []) × (status ≡ status_after 0 (answers_of steps)) × ArePrinted (answers_of steps) (contents from) (contents to))
+        (λ e. ArePrintedInPart (answers_of steps) (contents from) (contents to))

@@ -1,7 +1,7 @@
 // Questions, as the words of a command line ask them.
 ghost use Rattle.std.specs.Prelude.{◌≡◌, IfOk, option_map};
 ghost use Rattle.histories.specs.declared.answers.Query.TheVariants.{By, Inclusive, Calls, Subtract};
-ghost use Rattle.sessions.specs.Questions.{query_said, selection_said};
+ghost use Rattle.sessions.specs.Questions.{query_from, selection_from};
 
 use cg_text::ListVec;
 use command_line::Selected;
@@ -61,7 +61,7 @@ pub(crate) fn bytes_of(alloc: Global, name: &str) -> Result<ListVec<u8>, AllocEr
 
 /// The selection of the runs that are selected.
 pub(crate) fn selection_of(alloc: Global, selected: Selected<'_>) -> Result<Selection, AllocError>
-    ensures { IfOk result (λ selection. selection ≡ selection_said selected.entry) }
+    ensures { IfOk result (λ selection. selection ≡ selection_from selected.entry) }
 {
     match selected {
         Selected::All => Ok(Selection::All),
@@ -78,7 +78,7 @@ fn by_query(
     event: &str,
     cut: Cut,
 ) -> Result<Query, AllocError>
-    ensures { IfOk result (λ query. query ≡ By (selection_said selected.entry) key event.now cut) }
+    ensures { IfOk result (λ query. query ≡ By (selection_from selected.entry) key event.now cut) }
 {
     let selection = selection_of(alloc, selected)?;
     let event = bytes_of(alloc, event)?;
@@ -92,7 +92,7 @@ fn by_query(
 
 /// The question of inclusive costs.
 fn inclusive_query(alloc: Global, selected: Selected<'_>, event: &str) -> Result<Query, AllocError>
-    ensures { IfOk result (λ query. query ≡ Inclusive (selection_said selected.entry) event.now) }
+    ensures { IfOk result (λ query. query ≡ Inclusive (selection_from selected.entry) event.now) }
 {
     let selection = selection_of(alloc, selected)?;
     let event = bytes_of(alloc, event)?;
@@ -108,7 +108,7 @@ fn calls_query(
     object: &str,
     function: &str,
 ) -> Result<Query, AllocError>
-    ensures { IfOk result (λ query. query ≡ Calls (selection_said selected.entry) side event.now object.now function.now) }
+    ensures { IfOk result (λ query. query ≡ Calls (selection_from selected.entry) side event.now object.now function.now) }
 {
     let selection = selection_of(alloc, selected)?;
     let event = bytes_of(alloc, event)?;
@@ -125,7 +125,7 @@ fn calls_query(
 
 /// The selection of the runs whose costs are taken off, if such were selected.
 fn second_of(alloc: Global, less: Option<Selected<'_>>) -> Result<Option<Selection>, AllocError>
-    ensures { IfOk result (λ second. second ≡ option_map selection_said less.entry) }
+    ensures { IfOk result (λ second. second ≡ option_map selection_from less.entry) }
 {
     match less {
         Some(selected) => Ok(Some(selection_of(alloc, selected)?)),
@@ -141,7 +141,7 @@ fn subtract_query(
     key: Key,
     event: &str,
 ) -> Result<Query, AllocError>
-    ensures { IfOk result (λ query. query ≡ Subtract (selection_said selected.entry) (option_map selection_said less.entry) key event.now) }
+    ensures { IfOk result (λ query. query ≡ Subtract (selection_from selected.entry) (option_map selection_from less.entry) key event.now) }
 {
     let first = selection_of(alloc, selected)?;
     let second = second_of(alloc, less)?;
@@ -156,7 +156,7 @@ fn subtract_query(
 
 /// What the warehouse is asked.
 pub(crate) fn query_of(alloc: Global, question: Question<'_>) -> Result<Query, AllocError>
-    ensures { IfOk result (λ query. query ≡ query_said question.entry) }
+    ensures { IfOk result (λ query. query ≡ query_from question.entry) }
 {
     match question {
         Question::Runs => Ok(Query::Runs),

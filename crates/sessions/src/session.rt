@@ -3,14 +3,14 @@ ghost use Rattle.std.specs.Prelude.{◌≡◌, ◌↔◌, IfOk, IsTrue, List, []
 ghost use Rattle.run_stores.specs.Calls.{IsFaithful, IsUsable};
 ghost use Rattle.byte_io.specs.Outcomes.{Outcome};
 ghost use Rattle.histories.specs.Formats.{today};
-ghost use Rattle.histories.specs.History.{History, Said, Annotate, Ask, Import, Remove};
+ghost use Rattle.histories.specs.History.{History, Command, Annotate, Ask, Import, Remove};
 ghost use Rattle.histories.specs.Legal.{IsInForm, IsLegal};
 ghost use Rattle.histories.specs.declared.answers.Answer.TheVariants as answers;
 ghost use Rattle.store_histories.specs.Answered.{HasHistory};
 ghost use Rattle.warehouse.specs.Answered.{Says};
 ghost use Rattle.byte_io.specs.Imported.{FileReads, WereRead};
-ghost use Rattle.sessions.specs.Questions.{query_said, selection_said};
-ghost use Rattle.store_commands.specs.Changes.{change_said};
+ghost use Rattle.sessions.specs.Questions.{query_from, selection_from};
+ghost use Rattle.store_commands.specs.Changes.{command_from_change};
 ghost use Rattle.sessions.specs.Sessions.{AreImports, Prints, Wants, WasRun, WasTold, status_after};
 
 use crate::questions::{Question, bytes_of, query_of, selection_of};
@@ -62,7 +62,7 @@ fn asked_of(
     event: &str,
     file: &str,
 ) -> Result<Asked, AllocError>
-    ensures { IfOk result (λ asked. asked ≡ record { selection = selection_said selected.entry; event = event.now; file = file.now }) }
+    ensures { IfOk result (λ asked. asked ≡ record { selection = selection_from selected.entry; event = event.now; file = file.now }) }
 {
     let selection = selection_of(alloc, selected)?;
     let event = bytes_of(alloc, event)?;
@@ -90,7 +90,7 @@ fn print_answer<W: Write>(out: &mut W, alloc: Global, answer: &Answer) -> io::Re
 
 /// Whether a change is in form: a group that is made has a name of its own form.
 fn is_in_form(name: &str, change: GroupChange) -> bool
-    ensures { IsTrue result ↔ IsInForm (change_said change name.now) }
+    ensures { IsTrue result ↔ IsInForm (command_from_change change name.now) }
 {
     match change {
         GroupChange::Make => is_group_name(name),
@@ -155,8 +155,8 @@ impl<'a, R: Files + AllocGlobal, W: Write + Drop, S: RunStore> Session<'a, R, W,
     /// Refuses a command that the warehouse is not asked.
     fn refuse(&mut self, refusal: Refusal) -> io::Result<()>
         ensures limits { self.new.warehouse.limits ≡ self.old.warehouse.limits }
-        ensures answered { IsFaithful S.StoreState self.new.warehouse.store → (said : Said)
-            → ((h : History) → IsLegal self.old.warehouse.limits h said (answers.Refused refusal)) → WasTold S.StoreState W.contents said result self.old self.new }
+        ensures answered { IsFaithful S.StoreState self.new.warehouse.store → (is : Command)
+            → ((h : History) → IsLegal self.old.warehouse.limits h is (answers.Refused refusal)) → WasTold S.StoreState W.contents is result self.old self.new }
         ensures store { self.new.warehouse.store ≡ self.old.warehouse.store }
     {
         self.tell(Answer::Refused(refusal))
@@ -165,8 +165,8 @@ impl<'a, R: Files + AllocGlobal, W: Write + Drop, S: RunStore> Session<'a, R, W,
     /// Runs a command that reads no file.
     fn apply(&mut self, command: Command<FileSource<'a, R>>) -> io::Result<()>
         ensures limits { self.new.warehouse.limits ≡ self.old.warehouse.limits }
-        ensures answered { IsFaithful S.StoreState self.new.warehouse.store → (said : Said) × Says (FileReads R.File.remaining) command.entry said
-            × WasTold S.StoreState W.contents said result self.old self.new }
+        ensures answered { IsFaithful S.StoreState self.new.warehouse.store → (is : Command) × Says (FileReads R.File.remaining) command.entry is
+            × WasTold S.StoreState W.contents is result self.old self.new }
     {
         let answer = self.warehouse.apply(self.rt.alloc(), command);
         self.tell(answer)
@@ -213,7 +213,7 @@ impl<'a, R: Files + AllocGlobal, W: Write + Drop, S: RunStore> Session<'a, R, W,
     /// Changes a group. A new group's name is looked at before memory is asked for it.
     fn change_group(&mut self, name: &str, change: GroupChange) -> io::Result<()>
         ensures limits { self.new.warehouse.limits ≡ self.old.warehouse.limits }
-        ensures answered { IsFaithful S.StoreState self.new.warehouse.store → WasTold S.StoreState W.contents (change_said change name.now) result self.old self.new }
+        ensures answered { IsFaithful S.StoreState self.new.warehouse.store → WasTold S.StoreState W.contents (command_from_change change name.now) result self.old self.new }
     {
         if !is_in_form(name, change) {
             return self.refuse(Refusal::BadName);
@@ -227,7 +227,7 @@ impl<'a, R: Files + AllocGlobal, W: Write + Drop, S: RunStore> Session<'a, R, W,
     /// Asks a question.
     fn ask(&mut self, question: Question<'a>) -> io::Result<()>
         ensures limits { self.new.warehouse.limits ≡ self.old.warehouse.limits }
-        ensures answered { IsFaithful S.StoreState self.new.warehouse.store → WasTold S.StoreState W.contents (Ask (query_said question.entry)) result self.old self.new }
+        ensures answered { IsFaithful S.StoreState self.new.warehouse.store → WasTold S.StoreState W.contents (Ask (query_from question.entry)) result self.old self.new }
     {
         match query_of(self.rt.alloc(), question) {
             Ok(query) => self.apply(Command::Ask(query)),
@@ -245,7 +245,7 @@ impl<'a, R: Files + AllocGlobal, W: Write + Drop, S: RunStore> Session<'a, R, W,
     ) -> io::Result<()>
         ensures limits { self.new.warehouse.limits ≡ self.old.warehouse.limits }
         ensures answered { IsFaithful S.StoreState self.new.warehouse.store → (outcomes : List Outcome) × WereRead R.File.remaining outcomes
-            × WasTold S.StoreState W.contents (Annotate (selection_said selected.entry) event.now file.now outcomes) result self.old self.new }
+            × WasTold S.StoreState W.contents (Annotate (selection_from selected.entry) event.now file.now outcomes) result self.old self.new }
     {
         let alloc = self.rt.alloc();
         let Ok(asked) = asked_of(alloc, selected, event, file) else {

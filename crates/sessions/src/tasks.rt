@@ -1,6 +1,6 @@
 // What is to be done for a plan.
 ghost use Rattle.std.specs.Prelude.{◌≡◌};
-ghost use Rattle.sessions.specs.Tasks.{Exports, IsQuestion, IsTaskOf, cut_said};
+ghost use Rattle.sessions.specs.Tasks.{Exports, IsQuestion, IsTaskOf, cut_from};
 ghost use Rattle.sessions.specs.declared.questions.Question.TheVariants.{By, Calls, Subtract};
 ghost use Rattle.sessions.specs.declared.session.Work.TheVariants.{Ask};
 ghost use Rattle.sessions.specs.declared.tasks.Task.TheVariants.{Over};
@@ -30,7 +30,7 @@ pub enum Task<'a> {
 
 /// How much of a report is shown.
 fn cut_of(limit: Option<u32>, threshold: u8) -> Cut
-    ensures { result ≡ cut_said limit threshold }
+    ensures { result ≡ cut_from limit threshold }
 {
     Cut {
         limit: limit.map(u64::from),

@@ -26,7 +26,7 @@ module _ {S : Type 0} (g : Ghosts S) where
   stays_passed ok old new h = record { was_faithful = h.was_clean; counts = h.counts; closes = h.closes; was_usable = h.was_open; is_usable = h.is_open }
 
   keeps_passed : (old new : SqlRuns S) → (below.IsSettled schema_two (shown g old.store) → IsTrue (shown g new.store).is_open → below.IsAsBefore (shown g old.store) (shown g new.store)) → Keeps (state_of g) old new
-  keeps_passed old new h = record { stands = λ t was is. kept (Holds t) was is; reads = λ t was is. kept (RowsSay t) was is; same = same }
+  keeps_passed old new h = record { represents = λ t was is. kept (Holds t) was is; reads = λ t was is. kept (RowsSay t) was is; same = same }
     where
       same : IsSettled (kept_in g old) → IsTrue (shown g new.store).is_open → kept_in g new ≡ kept_in g old
       same was is =
@@ -43,21 +43,21 @@ module _ {S : Type 0} (g : Ghosts S) where
       → Changed (state_of g) (Given P) (Become change) done done old new
   given_passed P change done old new h = record {
     stays = stays_passed done old new h.stays;
-    done = λ is m was. record { t = change m; holds = refl; stands = h.done is m (lines m was) };
+    done = λ is m was. record { t = change m; holds = refl; represents = h.done is m (lines m was) };
     kept = λ not. keeps_passed old new (h.kept not);
     crash = λ m was left may. elim (h.crash m (lines m was) left may) [ inl before ↦ inl before | inr after ↦ inr (record { t = change m; holds = refl; is = after }) ];
   }
     where
       lines : (m : Tables) → Rests (state_of g) (Given P m) old → RestsIn schema_two (λ db. P m × Holds m db) (shown g old.store)
-      lines m was = rests_as schema_two (Holds was.t) (λ db. P m × Holds m db) (shown g old.store) was.stands (was.holds.0, subst (λ t. Holds t (shown g old.store).now.trees) was.holds.1 was.stands.holds)
+      lines m was = rests_as schema_two (Holds was.t) (λ db. P m × Holds m db) (shown g old.store) was.represents (was.holds.0, subst (λ t. Holds t (shown g old.store).now.trees) was.holds.1 was.represents.holds)
 
   pub changed_passed : (change : Tables → Tables) (done : Bool) (old new : SqlRuns S) → below.Changed schema_two Holds (λ t. Holds (change t)) done done (shown g old.store) (shown g new.store) → Changed (state_of g) Are (Become change) done done old new
   changed_passed change done old new h = record {
     stays = stays_passed done old new h.stays;
-    done = λ is m was. record { t = change m; holds = refl; stands = h.done is m (lines m was) };
+    done = λ is m was. record { t = change m; holds = refl; represents = h.done is m (lines m was) };
     kept = λ not. keeps_passed old new (h.kept not);
     crash = λ m was left may. elim (h.crash m (lines m was) left may) [ inl before ↦ inl before | inr after ↦ inr (record { t = change m; holds = refl; is = after }) ];
   }
     where
       lines : (m : Tables) → Rests (state_of g) (Are m) old → RestsIn schema_two (Holds m) (shown g old.store)
-      lines m was = subst (λ t. RestsIn schema_two (Holds t) (shown g old.store)) was.holds was.stands
+      lines m was = subst (λ t. RestsIn schema_two (Holds t) (shown g old.store)) was.holds was.represents

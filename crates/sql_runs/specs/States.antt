@@ -6,7 +6,7 @@ use Rattle.sqlite_trees.specs.Tree.{Trees}
 use Rattle.store_schema.specs.Schema.{schema_two}
 use Rattle.store_schema.specs.Tables.{Holds}
 use Rattle.store_schema.proofs.Sound.{sound_of}
-use Rattle.prof_store.specs.Shown.{shown, IsFaithful, ReadsAs, StandsFor}
+use Rattle.prof_store.specs.Shown.{shown, IsFaithful, ReadsAs, Represents}
 use Rattle.prof_store.proofs.Told.{rests_said}
 use Rattle.run_stores.specs.declared.states.StoreState.{Ghosts}
 use Rattle.sql_runs.specs.declared.store.SqlRuns.{SqlRuns}
@@ -34,14 +34,14 @@ state_of g = record {
   Left = Trees;
   holds = Holds;
   may_leave = λ s. (shown g s.store).may_leave;
-  stands_for = λ t s. StandsFor g t s.store;
+  represents = λ t s. Represents g t s.store;
   reads_as = λ t s. ReadsAs g t s.store;
   is_faithful = λ s. IsFaithful g s.store;
   is_usable = λ s. (shown g s.store).is_open;
   faults = λ s. (shown g s.store).faults;
-  usable = λ t s stands. stands.usable;
-  said = λ t s stands. rests_said t (shown g s.store) stands;
+  usable = λ t s represents. represents.usable;
+  said = λ t s represents. rests_said t (shown g s.store) represents;
   readable = λ t s reads. reads.usable;
-  sound = λ t s stands. sound_of t (shown g s.store).now.trees stands.holds;
+  sound = λ t s represents. sound_of t (shown g s.store).now.trees represents.holds;
   left_sound = sound_of;
 }

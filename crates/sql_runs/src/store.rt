@@ -8,8 +8,8 @@ use held_runs::HeldNames;
 use prof_store::Store;
 use profile_records::Kind;
 use run_stores::{
-    GroupEntry, RunEntry, RunStore, StoreError, StoreState, SummedFile, TakesCalls, TakesCells,
-    TakesStacks,
+    CallSink, CellSink, GroupEntry, RunEntry, RunStore, StackRowSink, StoreError, StoreState,
+    SummedFile,
 };
 use sqlite::{Alter, Connection};
 use std::alloc::Global;
@@ -34,7 +34,7 @@ impl<S: Alter> StoreState for SqlRuns<S> {
     ghost use Rattle.sqlite_trees.specs.Tree.{Trees};
     ghost use Rattle.store_schema.specs.Tables.{Holds};
     ghost use Rattle.store_schema.proofs.Sound.{sound_of};
-    ghost use Rattle.prof_store.specs.Shown.{shown, IsFaithful, ReadsAs, StandsFor};
+    ghost use Rattle.prof_store.specs.Shown.{shown, IsFaithful, ReadsAs, Represents};
     ghost use Rattle.prof_store.proofs.Told.{rests_said};
     ghost use Rattle.sql_runs.specs.States.{IsSettled, Kept, kept_in};
 
@@ -50,7 +50,7 @@ impl<S: Alter> StoreState for SqlRuns<S> {
 
     ghost may_leave = { λ s. (shown S.Store s.store).may_leave };
 
-    ghost stands_for = { λ t s. StandsFor S.Store t s.store };
+    ghost represents = { λ t s. Represents S.Store t s.store };
 
     ghost reads_as = { λ t s. ReadsAs S.Store t s.store };
 
@@ -60,13 +60,13 @@ impl<S: Alter> StoreState for SqlRuns<S> {
 
     ghost faults = { λ s. (shown S.Store s.store).faults };
 
-    ghost usable = { λ t s stands. stands.usable };
+    ghost usable = { λ t s represents. represents.usable };
 
-    ghost said = { λ t s stands. rests_said t (shown S.Store s.store) stands };
+    ghost said = { λ t s represents. rests_said t (shown S.Store s.store) represents };
 
     ghost readable = { λ t s reads. reads.usable };
 
-    ghost sound = { λ t s stands. sound_of t (shown S.Store s.store).now.trees stands.holds };
+    ghost sound = { λ t s represents. sound_of t (shown S.Store s.store).now.trees represents.holds };
 
     ghost left_sound = { sound_of };
 }
@@ -74,7 +74,7 @@ impl<S: Alter> StoreState for SqlRuns<S> {
 impl<S: Alter> RunStore for SqlRuns<S> {
     type Names = HeldNames;
 
-    ghost name_lines = { λ names. names };
+    ghost name_rows = { λ names. names };
 
     fn has_run(&mut self, run: u32) -> Result<bool, StoreError> {
         self.store.has_run(run)
@@ -144,29 +144,29 @@ impl<S: Alter> RunStore for SqlRuns<S> {
         held_runs::names_of(&mut self.store, alloc)
     }
 
-    fn each_cell<T: TakesCells + Drop>(
+    fn each_cell<T: CellSink + Drop>(
         &mut self,
         run: u32,
         names: &HeldNames,
         events: usize,
-        taker: T,
+        sink: T,
     ) -> Result<T, StoreError> {
-        held_runs::each_cell(&mut self.store, run, names, events, taker)
+        held_runs::each_cell(&mut self.store, run, names, events, sink)
     }
 
-    fn each_call<T: TakesCalls + Drop>(
+    fn each_call<T: CallSink + Drop>(
         &mut self,
         alloc: Global,
         run: u32,
         names: &HeldNames,
         events: usize,
-        taker: T,
+        sink: T,
     ) -> Result<T, StoreError> {
-        held_runs::each_call(&mut self.store, alloc, run, names, events, taker)
+        held_runs::each_call(&mut self.store, alloc, run, names, events, sink)
     }
 
-    fn each_stack<T: TakesStacks + Drop>(&mut self, run: u32, taker: T) -> Result<T, StoreError> {
-        held_runs::each_stack(&mut self.store, run, taker)
+    fn each_stack<T: StackRowSink + Drop>(&mut self, run: u32, sink: T) -> Result<T, StoreError> {
+        held_runs::each_stack(&mut self.store, run, sink)
     }
 
     fn put_run(

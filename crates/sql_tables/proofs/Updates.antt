@@ -161,13 +161,13 @@ module _ (schema : Schema) (contents : List (List Row)) (limit : Option ℕ) (pa
       let news : numbered Given (without_all rows (ids_of it.0)) (map cast it.0) ≡ map cast it.0 = given _ _ in
       let still_row : (r : Row) → Has rows r → rowid (set r) ≡ rowid r = λ r t.
       let e = entry_there (plainly table) columns rows xs here r t in ap (λ k. rowid (set k)) e.2 ∙ ap rowid (sets (id_of r) e.0) ∙ still (id_of r) e.0 ∙ ap rowid (sym e.2) in
-      let put = replaced P set rows (map cast it.0) (ids_of it.0) here.numbered picks (subst (λ l. are_fresh (without_all rows (ids_of it.0)) l ≡ true) news step.fresh) (λ r t is. still_row r t)
+      let insert = replaced P set rows (map cast it.0) (ids_of it.0) here.numbered picks (subst (λ l. are_fresh (without_all rows (ids_of it.0)) l ≡ true) news step.fresh) (λ r t is. still_row r t)
       (λ x t.
       let y = has_mapped cast it.0 x t in
       let r = shown_row table.tree terms (col 1 0 ∷ project) [] rows params it.0 s y.0 y.1 in
       (r.0, r.1, r.2, y.2 ∙ ap cast r.3))
       (λ r t is. mapped_has cast it.0 _ (row_shown table.tree terms (col 1 0 ∷ project) [] rows params it.0 s r t is)) in
-      let new_rows : after.trees table.tree ≡ map (updated P set) rows = step.rows ∙ ap (put_all (without_all rows (ids_of it.0))) news ∙ put in
+      let new_rows : after.trees table.tree ≡ map (updated P set) rows = step.rows ∙ ap (put_all (without_all rows (ids_of it.0))) news ∙ insert in
       let each : (z : ℤ) (x : X) → updated P set (row_of table columns (Int z) x) ≡ row_of table columns (Int z) (changed q f x) = λ z x.
       ap (λ b. cond b (set (row_of table columns (Int z) x)) (row_of table columns (Int z) x)) (same (Int z) x) ∙ either (q x) z x (sets z x) in
       let next = content_updated (plainly table) columns (updated P set) (changed q f) rows xs each (λ r t. still_either (P r) r (still_row r t)) here in (

@@ -115,15 +115,15 @@ module _ {X : Type 0} (columns : X → Row) (one : (x y : X) → columns x ≡ c
 
   module _ (a : Asked) (q : X → Bool) (asks : (id : Value) (x : X) → is_asked a (id ∷ columns x) ≡ q x) (says : (id : Value) (x : X) → q x ≡ true → said a (id ∷ columns x) ≡ columns x) where
     -- the rows asked for are the lines asked for
-    said_of : (rows : List Row) (xs : List X) → AllByRecursion Numbered rows → map (drop 1) rows ≡ map columns xs → map (said a) (filter (is_asked a) rows) ≡ map columns (filter q xs)
-    said_of [] [] all h = refl
-    said_of [] (x ∷ xs) all h = absurd (let bad : ◌≡◌ {A = List Row} [] (columns x ∷ map columns xs) = h in cc)
-    said_of (r ∷ rows) [] all h = absurd (let bad : ◌≡◌ {A = List Row} (drop 1 r ∷ map (drop 1) rows) [] = h in cc)
-    said_of ([] ∷ rows) (x ∷ xs) all h = absurd (let bad : false ≡ true = all.0 in cc)
-    said_of ((id ∷ cs) ∷ rows) (x ∷ xs) all h =
+    command_from : (rows : List Row) (xs : List X) → AllByRecursion Numbered rows → map (drop 1) rows ≡ map columns xs → map (said a) (filter (is_asked a) rows) ≡ map columns (filter q xs)
+    command_from [] [] all h = refl
+    command_from [] (x ∷ xs) all h = absurd (let bad : ◌≡◌ {A = List Row} [] (columns x ∷ map columns xs) = h in cc)
+    command_from (r ∷ rows) [] all h = absurd (let bad : ◌≡◌ {A = List Row} (drop 1 r ∷ map (drop 1) rows) [] = h in cc)
+    command_from ([] ∷ rows) (x ∷ xs) all h = absurd (let bad : false ≡ true = all.0 in cc)
+    command_from ((id ∷ cs) ∷ rows) (x ∷ xs) all h =
         let first : cs ≡ columns x = cc in
         let rest : map (drop 1) rows ≡ map columns xs = cc in
-        go (is_asked a (id ∷ cs)) (q x) refl (ap (λ l. is_asked a (id ∷ l)) first ∙ asks id x) (λ is. ap (λ l. said a (id ∷ l)) first ∙ says id x is) (said_of rows xs all.1 rest)
+        go (is_asked a (id ∷ cs)) (q x) refl (ap (λ l. is_asked a (id ∷ l)) first ∙ asks id x) (λ is. ap (λ l. said a (id ∷ l)) first ∙ says id x is) (command_from rows xs all.1 rest)
       where
         go : (b c : Bool) → q x ≡ c → b ≡ q x → (q x ≡ true → said a (id ∷ cs) ≡ columns x) → map (said a) (filter (is_asked a) rows) ≡ map columns (filter q xs)
             → map (said a) (cond b ((id ∷ cs) ∷ filter (is_asked a) rows) (filter (is_asked a) rows)) ≡ map columns (cond c (x ∷ filter q xs) (filter q xs))
@@ -137,10 +137,10 @@ module _ {X : Type 0} (columns : X → Row) (one : (x y : X) → columns x ≡ c
       pub told_begun : (placed : Bool) (low top : ℕ) (given : List X) (at_hand : List Row) → Reads a rows placed low top (map columns given) at_hand → (rest : List X) × (filter q xs ≡ given ++ rest)
       told_begun placed low top given at_hand was =
           let all = reads_begun a rows placed low top (map columns given) at_hand was in
-          let it = begins given (filter q xs) all.0 (sym (said_of rows xs numbered.1 are) ∙ all.1) in (it.0, it.1)
+          let it = begins given (filter q xs) all.0 (sym (command_from rows xs numbered.1 are) ∙ all.1) in (it.0, it.1)
 
       -- and at the end they are all of them
       pub told_all : (given : List X) → HasReadAll a rows (map columns given) → filter q xs ≡ given
       told_all given all =
-          let it = begins given (filter q xs) [] (sym (said_of rows xs numbered.1 are) ∙ all ∙ sym (append-nil (map columns given))) in
+          let it = begins given (filter q xs) [] (sym (command_from rows xs numbered.1 are) ∙ all ∙ sym (append-nil (map columns given))) in
           it.1 ∙ ap (λ l. given ++ l) (none_mapped it.0 it.2) ∙ append-nil given

@@ -7,13 +7,13 @@ use Rattle.std.proofs.lemmas.Grind.{fold-append}
 use Rattle.plain_tables.specs.Lists.{Has}
 use Rattle.cost_rows.specs.Keys.{place_of_row}
 use Rattle.cost_rows.specs.StackSums.{frames_sum}
-use Rattle.cost_rows.specs.Sums.{Spot, callee_spot, caller_spot, has_call, own_sum, spot_of}
+use Rattle.cost_rows.specs.Sums.{Spot, callee_spot, caller_spot, has_call, self_sum, spot_of}
 use Rattle.cost_rows.specs.WalkSums.{has_calls, rows_cost, stacks_count}
 use Rattle.cost_rows.specs.Walks.{HaveCosts, HaveCounts}
-use Rattle.cost_rows.specs.declared.rows.ArcRow.{ArcRow}
-use Rattle.cost_rows.specs.declared.rows.CellRow.{CellRow}
-use Rattle.cost_rows.specs.declared.rows.StackRow.{StackRow}
-use Rattle.report_texts.specs.Calls.{Calls, CallsStandForEach, EventArcs, all_arcs, all_calls, call_report_of, call_report_text, calls_by, weighted_calls, with_calls}
+use Rattle.cost_rows.specs.declared.rows.CallEdge.{CallEdge}
+use Rattle.cost_rows.specs.declared.rows.Cell.{Cell}
+use Rattle.cost_rows.specs.declared.rows.StackCount.{StackCount}
+use Rattle.report_texts.specs.Calls.{Calls, CallsRepresentEach, EventEdges, all_edges, all_calls, call_report_of, call_report_text, calls_by, weighted_calls, with_calls}
 use Rattle.report_texts.specs.Functions.{function_spot, is_one_function}
 use Rattle.report_texts.specs.Inclusive.{is_frame}
 use Rattle.report_texts.specs.declared.call_sides.CallSide.{CallSide}
@@ -29,8 +29,8 @@ use Rattle.histories.specs.History.{History, File, held}
 use Rattle.histories.specs.Legal.{expected_of_query, first_or, no_name, when}
 use Rattle.histories.specs.Reports.{calls_text, event_records, is_seen_in, knows, tells_of}
 use Rattle.histories.specs.Selections.{selected}
-use Rattle.histories.specs.Stands.{TablesTell}
-use Rattle.histories.specs.Told.{CallsCome}
+use Rattle.histories.specs.Representation.{TablesRepresent}
+use Rattle.histories.specs.Told.{CallsSum}
 use Rattle.histories.specs.declared.answers.Answer.{Answer}
 use Rattle.histories.specs.declared.answers.Answer.TheVariants.{Text, Refused}
 use Rattle.histories.specs.declared.answers.Query.TheVariants as queries
@@ -42,16 +42,16 @@ use Rattle.histories.proofs.Tests.{any-append}
 use Rattle.store_histories.specs.FromTables.{AnswersFor, text_or_no_name}
 use Rattle.selected_runs.specs.Added.{AreAdded}
 use Rattle.selected_runs.specs.EventRuns.{AreEventRuns, AreEventRunsIn}
-use Rattle.store_calls.specs.FunctionCalls.{AreArcsOf, AreCallsShown, ShowsCalls, AreTakenFrom, IsCallsText, IsTakenFrom, Taken, is_in_cells, is_in_rows, is_in_stacks, not_taken, text_taken, touches, with_call, with_cell_sought, with_row_of_calls, with_stack_sought}
+use Rattle.store_calls.specs.FunctionCalls.{AreEdgesOf, AreCallsShown, ShowsCalls, AreTakenFrom, IsCallsText, IsTakenFrom, Taken, is_in_cells, is_in_rows, is_in_stacks, not_taken, text_taken, touches, with_call, with_cell_sought, with_row_of_calls, with_stack_sought}
 use Rattle.selected_runs.specs.declared.counting.Counted.{Counted}
 use Rattle.selected_runs.proofs.EventLemmas.{both_held, event_runs_told}
 use Rattle.selected_runs.proofs.RunLemmas.{AreRunsOf, are_runs, selected_held}
 
 -- ---- rows, taken one after another
 
-pub calls_taken : (counts : List ℕ) (m : Taken) (arcs : List (ArcRow (List ℕ) (List ℕ))) → fold with_row_of_calls (counts, m) arcs ≡ (counts, fold with_call m (map (weighted_calls counts) arcs))
+pub calls_taken : (counts : List ℕ) (m : Taken) (edges : List (CallEdge (List ℕ) (List ℕ))) → fold with_row_of_calls (counts, m) edges ≡ (counts, fold with_call m (map (weighted_calls counts) edges))
 calls_taken counts m [] = refl
-calls_taken counts m (arc ∷ arcs) = calls_taken counts (with_call m (weighted_calls counts arc)) arcs
+calls_taken counts m (call ∷ edges) = calls_taken counts (with_call m (weighted_calls counts call)) edges
 
 or_then : (a b c : Bool) → (a || b) || c ≡ a || (b || c)
 or_then true b c = refl
@@ -61,13 +61,13 @@ or_none : (a : Bool) → a ≡ a || false
 or_none true = refl
 or_none false = refl
 
-pub cells_sought : (f : Spot) (b : Bool) (cells : List (CellRow (List ℕ))) → fold with_cell_sought (f, b) cells ≡ (f, b || is_in_cells f cells)
+pub cells_sought : (f : Spot) (b : Bool) (cells : List (Cell (List ℕ))) → fold with_cell_sought (f, b) cells ≡ (f, b || is_in_cells f cells)
 cells_sought f b [] = ap (λ a. (f, a)) (or_none b)
 cells_sought f b (r ∷ cells) =
     let here = is_one_function (place_of_row r) f in
     cells_sought f (b || here) cells ∙ ap (λ a. (f, a)) (or_then b here (is_in_cells f cells))
 
-pub stacks_sought : (f : Spot) (b : Bool) (stacks : List (StackRow (List ℕ))) → fold with_stack_sought (f, b) stacks ≡ (f, b || is_in_stacks f stacks)
+pub stacks_sought : (f : Spot) (b : Bool) (stacks : List (StackCount (List ℕ))) → fold with_stack_sought (f, b) stacks ≡ (f, b || is_in_stacks f stacks)
 stacks_sought f b [] = ap (λ a. (f, a)) (or_none b)
 stacks_sought f b (r ∷ stacks) =
     let here = is_frame f r.stack in
@@ -82,9 +82,9 @@ module _ {M : Type 0} {P : Type 0} (taken : M → Taken) (t : Tables) (given : P
       let one = all.1 given in
       let rest = calls_added runs all.0 after all.2 in
       let counts : List ℕ = unwrap_or run.counts [] in (
-        record { coefs = counts; arcs = one.0 } ∷ rest.0,
+        record { coefs = counts; calls = one.0 } ∷ rest.0,
         (refl, one.1, rest.1),
-        rest.2 ∙ ap (λ m. fold with_call m (all_arcs rest.0)) one.2 ∙ sym (fold-append with_call (taken before) (map (weighted_calls counts) one.0) (all_arcs rest.0)),
+        rest.2 ∙ ap (λ m. fold with_call m (all_edges rest.0)) one.2 ∙ sym (fold-append with_call (taken before) (map (weighted_calls counts) one.0) (all_edges rest.0)),
       )
 
 pub seen_added : {P : Type 0} (is_in : Counted → Bool) → P → (runs : List Counted) (before after : Bool) → AreAdded (λ run old new. P → new ≡ old || is_in run) runs before after
@@ -111,15 +111,15 @@ taken_function m (c ∷ calls) = taken_function (with_call m c) calls
 pub text_of_taken : (t : Tables) (runs : List Counted) (side : CallSide) (f : Spot) (event : List ℕ) (all : Taken) (text : Option (List ℕ)) → AreTakenFrom t runs (not_taken side f) all
     → text ≡ text_taken t runs event all → IsCallsText t runs side f event text
 text_of_taken t runs side f event all text from is =
-    let arcs = all_arcs from.0 in
-    let m = fold with_call (not_taken side f) arcs in (
+    let edges = all_edges from.0 in
+    let m = fold with_call (not_taken side f) edges in (
       from.0,
       from.1,
       is ∙ ap (text_taken t runs event) from.2
-          ∙ ap (λ g. if m.known || list_any (is_in_rows t g) runs then Some (call_report_text event (call_report_of m.calls)) else None) (taken_function (not_taken side f) arcs)
-          ∙ ap (λ b. if b || list_any (is_in_rows t f) runs then Some (call_report_text event (call_report_of m.calls)) else None) (taken_known (not_taken side f) arcs)
-          ∙ ap (λ calls. if list_any (touches f) arcs || list_any (is_in_rows t f) runs then Some (call_report_text event (call_report_of calls)) else None)
-          (taken_calls (not_taken side f) arcs ∙ calls_come_to side f arcs),
+          ∙ ap (λ g. if m.known || list_any (is_in_rows t g) runs then Some (call_report_text event (call_report_of m.calls)) else None) (taken_function (not_taken side f) edges)
+          ∙ ap (λ b. if b || list_any (is_in_rows t f) runs then Some (call_report_text event (call_report_of m.calls)) else None) (taken_known (not_taken side f) edges)
+          ∙ ap (λ calls. if list_any (touches f) edges || list_any (is_in_rows t f) runs then Some (call_report_text event (call_report_of calls)) else None)
+          (taken_calls (not_taken side f) edges ∙ calls_come_to side f edges),
     )
 
 -- ---- rows and records know the same functions
@@ -177,9 +177,9 @@ module _ (f : Spot) where
   of_f p = is_one_function p f
 
   -- own records, apart from calls
-  abbrev own_tells : Record → Bool
-  own_tells (Own cost) = is_one_function (spot_of cost) f && list_any (nat_lt 0) cost.costs
-  own_tells (Called callee cost) = false
+  abbrev self_tells : Record → Bool
+  self_tells (Own cost) = is_one_function (spot_of cost) f && list_any (nat_lt 0) cost.costs
+  self_tells (Called callee cost) = false
 
   abbrev either : Spot → Spot → Bool
   either p q = is_one_function p f || is_one_function q f
@@ -189,38 +189,38 @@ module _ (f : Spot) where
   or_swap true false c = refl
   or_swap false b c = refl
 
-  apart : (records : List Record) → list_any (tells_of f) records ≡ has_call either records || list_any own_tells records
+  apart : (records : List Record) → list_any (tells_of f) records ≡ has_call either records || list_any self_tells records
   apart [] = refl
-  apart (Own cost ∷ records) = ap (λ b. own_tells (Own cost) || b) (apart records) ∙ or_swap (own_tells (Own cost)) (has_call either records) (list_any own_tells records)
+  apart (Own cost ∷ records) = ap (λ b. self_tells (Own cost) || b) (apart records) ∙ or_swap (self_tells (Own cost)) (has_call either records) (list_any self_tells records)
   apart (Called callee cost ∷ records) =
-      ap (λ b. either (caller_spot cost) (callee_spot callee) || b) (apart records) ∙ sym (or_then (either (caller_spot cost) (callee_spot callee)) (has_call either records) (list_any own_tells records))
+      ap (λ b. either (caller_spot cost) (callee_spot callee) || b) (apart records) ∙ sym (or_then (either (caller_spot cost) (callee_spot callee)) (has_call either records) (list_any self_tells records))
 
-  own_positive : (k : ℕ) (records : List Record) → 0 < own_sum of_f k records → list_any own_tells records ≡ true
-  own_positive k [] low = absurd (omega (arith, low))
-  own_positive k (Own cost ∷ records) low = go (of_f (spot_of cost)) (slice_index cost.costs k) refl (cost_there cost.costs k) low (own_positive k records)
+  self_positive : (k : ℕ) (records : List Record) → 0 < self_sum of_f k records → list_any self_tells records ≡ true
+  self_positive k [] low = absurd (omega (arith, low))
+  self_positive k (Own cost ∷ records) low = go (of_f (spot_of cost)) (slice_index cost.costs k) refl (cost_there cost.costs k) low (self_positive k records)
     where
-      go : (b : Bool) (n : ℕ) → of_f (spot_of cost) ≡ b → (0 < n → list_any (nat_lt 0) cost.costs ≡ true) → 0 < (if b then n else 0) + own_sum of_f k records
-          → (0 < own_sum of_f k records → list_any own_tells records ≡ true) → (of_f (spot_of cost) && list_any (nat_lt 0) cost.costs) || list_any own_tells records ≡ true
+      go : (b : Bool) (n : ℕ) → of_f (spot_of cost) ≡ b → (0 < n → list_any (nat_lt 0) cost.costs ≡ true) → 0 < (if b then n else 0) + self_sum of_f k records
+          → (0 < self_sum of_f k records → list_any self_tells records ≡ true) → (of_f (spot_of cost) && list_any (nat_lt 0) cost.costs) || list_any self_tells records ≡ true
       go true zero here any low rest = or_second _ _ (rest (omega (arith, low)))
       go true (suc n) here any low rest = or_first _ _ (both_true _ _ here (any (omega arith)))
       go false n here any low rest = or_second _ _ (rest (omega (arith, low)))
-  own_positive k (Called callee cost ∷ records) low = own_positive k records low
+  self_positive k (Called callee cost ∷ records) low = self_positive k records low
 
-  own_there : (records : List Record) → list_any own_tells records ≡ true → (k : ℕ) × (0 < own_sum of_f k records)
-  own_there [] is = absurd cc
-  own_there (Own cost ∷ records) is = go (own_tells (Own cost)) refl is (own_there records)
+  self_there : (records : List Record) → list_any self_tells records ≡ true → (k : ℕ) × (0 < self_sum of_f k records)
+  self_there [] is = absurd cc
+  self_there (Own cost ∷ records) is = go (self_tells (Own cost)) refl is (self_there records)
     where
-      go : (b : Bool) → own_tells (Own cost) ≡ b → b || list_any own_tells records ≡ true → (list_any own_tells records ≡ true → (k : ℕ) × (0 < own_sum of_f k records))
-          → (k : ℕ) × (0 < own_sum of_f k (Own cost ∷ records))
+      go : (b : Bool) → self_tells (Own cost) ≡ b → b || list_any self_tells records ≡ true → (list_any self_tells records ≡ true → (k : ℕ) × (0 < self_sum of_f k records))
+          → (k : ℕ) × (0 < self_sum of_f k (Own cost ∷ records))
       go true here any rest =
           let column = some_cost cost.costs (second_true (of_f (spot_of cost)) (list_any (nat_lt 0) cost.costs) here) in
           let at = first_true (of_f (spot_of cost)) (list_any (nat_lt 0) cost.costs) here in
           let low = column.1 in
-          (column.0, subst (λ b. 0 < (if b then slice_index cost.costs column.0 else 0) + own_sum of_f column.0 records) (sym at) (omega (arith, low)))
+          (column.0, subst (λ b. 0 < (if b then slice_index cost.costs column.0 else 0) + self_sum of_f column.0 records) (sym at) (omega (arith, low)))
       go false here any rest = let later = rest any in let low = later.1 in (later.0, omega (arith, low))
-  own_there (Called callee cost ∷ records) is = own_there records is
+  self_there (Called callee cost ∷ records) is = self_there records is
 
-  cells_positive : (k : ℕ) (cells : List (CellRow (List ℕ))) → 0 < rows_cost of_f k cells → is_in_cells f cells ≡ true
+  cells_positive : (k : ℕ) (cells : List (Cell (List ℕ))) → 0 < rows_cost of_f k cells → is_in_cells f cells ≡ true
   cells_positive k [] low = absurd (omega (arith, low))
   cells_positive k (r ∷ cells) low = go (of_f (place_of_row r)) (r.event == k) refl low (cells_positive k cells)
     where
@@ -229,7 +229,7 @@ module _ (f : Spot) where
       go true b here low rest = or_first _ _ here
       go false b here low rest = or_second _ _ (rest (omega (arith, low)))
 
-  cell_there : (cells : List (CellRow (List ℕ))) → HaveCosts cells → is_in_cells f cells ≡ true → (k : ℕ) × (0 < rows_cost of_f k cells)
+  cell_there : (cells : List (Cell (List ℕ))) → HaveCosts cells → is_in_cells f cells ≡ true → (k : ℕ) × (0 < rows_cost of_f k cells)
   cell_there [] above is = absurd cc
   cell_there (r ∷ cells) above is = go (of_f (place_of_row r)) refl is (cell_there cells above.1)
     where
@@ -240,13 +240,13 @@ module _ (f : Spot) where
       go true here any rest = (r.event, subst (λ b. 0 < (if b then r.cost else 0) + rows_cost of_f r.event cells) (sym (both_true _ _ here (same_number r.event))) (omega (arith, low)))
       go false here any rest = let later = rest any in let some = later.1 in (later.0, omega (arith, some))
 
-  cells_know : (cells : List (CellRow (List ℕ))) (records : List Record) → HaveCosts cells → ((passes : Spot → Bool) (k : ℕ) → rows_cost passes k cells ≡ own_sum passes k records)
-      → is_in_cells f cells ≡ list_any own_tells records
+  cells_know : (cells : List (Cell (List ℕ))) (records : List Record) → HaveCosts cells → ((passes : Spot → Bool) (k : ℕ) → rows_cost passes k cells ≡ self_sum passes k records)
+      → is_in_cells f cells ≡ list_any self_tells records
   cells_know cells records above same = same_tests _ _
-      (λ is. let there = cell_there cells above is in own_positive there.0 records (subst (λ n. 0 < n) (same of_f there.0) there.1))
-      (λ is. let there = own_there records is in cells_positive there.0 cells (subst (λ n. 0 < n) (sym (same of_f there.0)) there.1))
+      (λ is. let there = cell_there cells above is in self_positive there.0 records (subst (λ n. 0 < n) (same of_f there.0) there.1))
+      (λ is. let there = self_there records is in cells_positive there.0 cells (subst (λ n. 0 < n) (sym (same of_f there.0)) there.1))
 
-  stacks_positive : (stacks : List (StackRow (List ℕ))) → 0 < stacks_count (is_frame f) stacks → is_in_stacks f stacks ≡ true
+  stacks_positive : (stacks : List (StackCount (List ℕ))) → 0 < stacks_count (is_frame f) stacks → is_in_stacks f stacks ≡ true
   stacks_positive [] low = absurd (omega (arith, low))
   stacks_positive (r ∷ stacks) low = go (is_frame f r.stack) refl low (stacks_positive stacks)
     where
@@ -255,7 +255,7 @@ module _ (f : Spot) where
       go true here low rest = or_first _ _ here
       go false here low rest = or_second _ _ (rest (omega (arith, low)))
 
-  stack_there : (stacks : List (StackRow (List ℕ))) → HaveCounts stacks → is_in_stacks f stacks ≡ true → 0 < stacks_count (is_frame f) stacks
+  stack_there : (stacks : List (StackCount (List ℕ))) → HaveCounts stacks → is_in_stacks f stacks ≡ true → 0 < stacks_count (is_frame f) stacks
   stack_there [] above is = absurd cc
   stack_there (r ∷ stacks) above is = go (is_frame f r.stack) is (stack_there stacks above.1)
     where
@@ -287,25 +287,25 @@ module _ (f : Spot) where
           subst (λ b. 0 < (if b then s.stack.count else 0) + frames_sum (is_frame f) seen) (sym at) (omega (arith, low))
       go false here any rest = let some = rest any in omega (arith, some)
 
-  stacks_know : (stacks : List (StackRow (List ℕ))) (seen : List Seen) → HaveCounts stacks → ((test : List ℕ → Bool) → stacks_count test stacks ≡ frames_sum test seen)
+  stacks_know : (stacks : List (StackCount (List ℕ))) (seen : List Seen) → HaveCounts stacks → ((test : List ℕ → Bool) → stacks_count test stacks ≡ frames_sum test seen)
       → is_in_stacks f stacks ≡ list_any (is_seen_in f) seen
   stacks_know stacks seen above same = same_tests _ _
       (λ is. seen_positive seen (subst (λ n. 0 < n) (same (is_frame f)) (stack_there stacks above is)))
       (λ is. stacks_positive stacks (subst (λ n. 0 < n) (sym (same (is_frame f))) (seen_there seen is)))
 
-  calls_touch : (coefs : List ℕ) (arcs : List (ArcRow (List ℕ) (List ℕ))) → list_any (touches f) (map (weighted_calls coefs) arcs) ≡ has_calls either arcs
+  calls_touch : (coefs : List ℕ) (edges : List (CallEdge (List ℕ) (List ℕ))) → list_any (touches f) (map (weighted_calls coefs) edges) ≡ has_calls either edges
   calls_touch coefs [] = refl
-  calls_touch coefs (a ∷ arcs) = ap (λ b. touches f (weighted_calls coefs a) || b) (calls_touch coefs arcs)
+  calls_touch coefs (a ∷ edges) = ap (λ b. touches f (weighted_calls coefs a) || b) (calls_touch coefs edges)
 
   -- of one file
-  file_knows : (h : History) (t : Tables) (file : File) (coefs : List ℕ) (arcs : List (ArcRow (List ℕ) (List ℕ))) → TablesTell h t → Has (held h) file → AreCallsOf file.number t arcs
-      → list_any (touches f) (map (weighted_calls coefs) arcs) || (is_in_cells f (cells_held file.number t) || is_in_stacks f (stacks_held file.number t)) ≡ knows f file
-  file_knows h t file coefs arcs tell there are =
-      let told = tells_rows h t tell file there in
+  file_knows : (h : History) (t : Tables) (file : File) (coefs : List ℕ) (edges : List (CallEdge (List ℕ) (List ℕ))) → TablesRepresent h t → Has (held h) file → AreCallsOf file.number t edges
+      → list_any (touches f) (map (weighted_calls coefs) edges) || (is_in_cells f (cells_held file.number t) || is_in_stacks f (stacks_held file.number t)) ≡ knows f file
+  file_knows h t file coefs edges represent there are =
+      let told = tells_rows h t represent file there in
       let records = records_of file.format file.bytes in
-      ap₂ (λ a b. a || b) (calls_touch coefs arcs ∙ (told.calls arcs are).called either)
+      ap₂ (λ a b. a || b) (calls_touch coefs edges ∙ (told.calls edges are).called either)
       (ap₂ (λ a b. a || b) (cells_know (cells_held file.number t) records told.cells_above told.cells) (stacks_know (stacks_held file.number t) (stacks_of file.format file.bytes) told.stacks_above told.stacks))
-      ∙ sym (or_then (has_call either records) (list_any own_tells records) (list_any (is_seen_in f) (stacks_of file.format file.bytes)))
+      ∙ sym (or_then (has_call either records) (list_any self_tells records) (list_any (is_seen_in f) (stacks_of file.format file.bytes)))
       ∙ ap (λ b. b || list_any (is_seen_in f) (stacks_of file.format file.bytes)) (sym (apart records))
 
   shuffled : (a b c d : Bool) → (a || b) || (c || d) ≡ (a || c) || (b || d)
@@ -314,58 +314,58 @@ module _ (f : Spot) where
   shuffled false true false d = refl
   shuffled false false c d = refl
 
-  runs_know : (h : History) (t : Tables) (event : List ℕ) → TablesTell h t → (files : List File) (runs : List Counted) (rows : List EventArcs) → AllByRecursion (Has (held h)) files → AreRunsOf event files runs
-      → AreArcsOf runs t rows → list_any (touches f) (all_arcs rows) || list_any (is_in_rows t f) runs ≡ list_any (knows f) files
-  runs_know h t event tell [] [] [] all are arcs = refl
-  runs_know h t event tell [] [] (r ∷ rows) all are arcs = absurd arcs
-  runs_know h t event tell [] (run ∷ runs) rows all are arcs = absurd are
-  runs_know h t event tell (file ∷ files) [] rows all are arcs = absurd are
-  runs_know h t event tell (file ∷ files) (run ∷ runs) [] all are arcs = absurd arcs
-  runs_know h t event tell (file ∷ files) (run ∷ runs) (r ∷ rows) all are arcs =
-      let here = map (weighted_calls r.coefs) r.arcs in
+  runs_know : (h : History) (t : Tables) (event : List ℕ) → TablesRepresent h t → (files : List File) (runs : List Counted) (rows : List EventEdges) → AllByRecursion (Has (held h)) files → AreRunsOf event files runs
+      → AreEdgesOf runs t rows → list_any (touches f) (all_edges rows) || list_any (is_in_rows t f) runs ≡ list_any (knows f) files
+  runs_know h t event represent [] [] [] all are edges = refl
+  runs_know h t event represent [] [] (r ∷ rows) all are edges = absurd edges
+  runs_know h t event represent [] (run ∷ runs) rows all are edges = absurd are
+  runs_know h t event represent (file ∷ files) [] rows all are edges = absurd are
+  runs_know h t event represent (file ∷ files) (run ∷ runs) [] all are edges = absurd edges
+  runs_know h t event represent (file ∷ files) (run ∷ runs) (r ∷ rows) all are edges =
+      let here = map (weighted_calls r.coefs) r.calls in
       let number = are.0.number in
-      ap (λ a. a || (is_in_rows t f run || list_any (is_in_rows t f) runs)) (any-append (touches f) here (all_arcs rows))
-      ∙ shuffled (list_any (touches f) here) (list_any (touches f) (all_arcs rows)) (is_in_rows t f run) (list_any (is_in_rows t f) runs)
+      ap (λ a. a || (is_in_rows t f run || list_any (is_in_rows t f) runs)) (any-append (touches f) here (all_edges rows))
+      ∙ shuffled (list_any (touches f) here) (list_any (touches f) (all_edges rows)) (is_in_rows t f run) (list_any (is_in_rows t f) runs)
       ∙ ap₂ (λ a b. a || b)
       (ap (λ n. list_any (touches f) here || (is_in_cells f (cells_held n t) || is_in_stacks f (stacks_held n t))) number
-      ∙ file_knows h t file r.coefs r.arcs tell all.0 (subst (λ n. AreCallsOf n t r.arcs) number arcs.1))
-      (runs_know h t event tell files runs rows all.1 are.1 arcs.2)
+      ∙ file_knows h t file r.coefs r.calls represent all.0 (subst (λ n. AreCallsOf n t r.calls) number edges.1))
+      (runs_know h t event represent files runs rows all.1 are.1 edges.2)
 
 -- ---- the calls
 
-calls_stand : (h : History) (t : Tables) (event : List ℕ) → TablesTell h t → (files : List File) (runs : List Counted) (rows : List EventArcs) → AllByRecursion (Has (held h)) files → AreRunsOf event files runs
-    → AreArcsOf runs t rows → CallsStandForEach (map (event_records event) files) rows
-calls_stand h t event tell [] [] [] all are arcs = tt
-calls_stand h t event tell [] [] (r ∷ rows) all are arcs = absurd arcs
-calls_stand h t event tell [] (run ∷ runs) rows all are arcs = absurd are
-calls_stand h t event tell (f ∷ files) [] rows all are arcs = absurd are
-calls_stand h t event tell (f ∷ files) (run ∷ runs) [] all are arcs = absurd arcs
-calls_stand h t event tell (f ∷ files) (run ∷ runs) (r ∷ rows) all are arcs =
-    let come : CallsCome r.arcs (records_of f.format f.bytes) = (tells_rows h t tell f all.0).calls r.arcs (subst (λ n. AreCallsOf n t r.arcs) are.0.number arcs.1) in (
+calls_stand : (h : History) (t : Tables) (event : List ℕ) → TablesRepresent h t → (files : List File) (runs : List Counted) (rows : List EventEdges) → AllByRecursion (Has (held h)) files → AreRunsOf event files runs
+    → AreEdgesOf runs t rows → CallsRepresentEach (map (event_records event) files) rows
+calls_stand h t event represent [] [] [] all are edges = tt
+calls_stand h t event represent [] [] (r ∷ rows) all are edges = absurd edges
+calls_stand h t event represent [] (run ∷ runs) rows all are edges = absurd are
+calls_stand h t event represent (f ∷ files) [] rows all are edges = absurd are
+calls_stand h t event represent (f ∷ files) (run ∷ runs) [] all are edges = absurd edges
+calls_stand h t event represent (f ∷ files) (run ∷ runs) (r ∷ rows) all are edges =
+    let come : CallsSum r.calls (records_of f.format f.bytes) = (tells_rows h t represent f all.0).calls r.calls (subst (λ n. AreCallsOf n t r.calls) are.0.number edges.1) in (
       record {
-        coefs = arcs.0 ∙ ap (λ counts. unwrap_or counts []) are.0.counts;
+        coefs = edges.0 ∙ ap (λ counts. unwrap_or counts []) are.0.counts;
         costs = come.costs;
         counts = come.counts;
         called = come.called;
       },
-      calls_stand h t event tell files runs rows all.1 are.1 arcs.2,
+      calls_stand h t event represent files runs rows all.1 are.1 edges.2,
     )
 
 -- ---- the answers
 
-due_of : (h : History) (t : Tables) (s : Selection) (side : CallSide) (event object name : List ℕ) (runs : List Counted) (text : Option (List ℕ)) → TablesTell h t → AreEventRuns h t s event (Ok runs)
+expected_of : (h : History) (t : Tables) (s : Selection) (side : CallSide) (event object name : List ℕ) (runs : List Counted) (text : Option (List ℕ)) → TablesRepresent h t → AreEventRuns h t s event (Ok runs)
     → IsCallsText t runs side (function_spot object name) event text → text_or_no_name text ≡ expected_of_query h (queries.Calls s side event object name)
-due_of h t s side event object name runs text tell found is =
+expected_of h t s side event object name runs text represent found is =
     let f = function_spot object name in
     let files = selected h s in
     let all = selected_held h s in
-    let are = are_runs h t event tell files runs all found.2 in
-    let same : calls_by side f (all_arcs is.0) ≡ calls_by side f (all_calls (map (event_records event) files)) =
-    calls_are_records side f (map (event_records event) files) is.0 (calls_stand h t event tell files runs is.0 all are is.1) in
+    let are = are_runs h t event represent files runs all found.2 in
+    let same : calls_by side f (all_edges is.0) ≡ calls_by side f (all_calls (map (event_records event) files)) =
+    calls_are_records side f (map (event_records event) files) is.0 (calls_stand h t event represent files runs is.0 all are is.1) in
     ap text_or_no_name is.2
-    ∙ ap (λ sums. text_or_no_name (if list_any (touches f) (all_arcs is.0) || list_any (is_in_rows t f) runs
+    ∙ ap (λ sums. text_or_no_name (if list_any (touches f) (all_edges is.0) || list_any (is_in_rows t f) runs
     then Some (call_report_text event (call_report_of (record { side = side; function = f; sums = sums }))) else None)) same
-    ∙ ap (λ b. text_or_no_name (if b then Some (calls_text side f files event) else None)) (runs_know f h t event tell files runs is.0 all are is.1)
+    ∙ ap (λ b. text_or_no_name (if b then Some (calls_text side f files event) else None)) (runs_know f h t event represent files runs is.0 all are is.1)
     ∙ go (list_any (knows f) files) (calls_text side f files event)
     ∙ both_held h t s event runs found (no_name f files ∷ []) (Text (calls_text side f files event))
   where
@@ -379,11 +379,11 @@ refused_of h t s side event object name refusal found =
     let f = function_spot object name in
     sym (found (no_name f (selected h s) ∷ []) (Text (calls_text side f (selected h s) event)))
 
-due_by : (h : History) (t : Tables) (s : Selection) (side : CallSide) (event object name : List ℕ) (found : Result (List Counted) Refusal) (answer : Answer) → TablesTell h t → AreEventRunsIn t s event found
+expected_by : (h : History) (t : Tables) (s : Selection) (side : CallSide) (event object name : List ℕ) (found : Result (List Counted) Refusal) (answer : Answer) → TablesRepresent h t → AreEventRunsIn t s event found
     → AnswersFor (λ runs. ShowsCalls t runs side (function_spot object name) event) found answer → answer ≡ expected_of_query h (queries.Calls s side event object name)
-due_by h t s side event object name (Ok runs) answer tell found is = is.2 ∙ due_of h t s side event object name runs is.0 tell (event_runs_told h t s event (Ok runs) tell found) is.1
-due_by h t s side event object name (Err refusal) answer tell found is = is ∙ refused_of h t s side event object name refusal (event_runs_told h t s event (Err refusal) tell found)
+expected_by h t s side event object name (Ok runs) answer represent found is = is.2 ∙ expected_of h t s side event object name runs is.0 represent (event_runs_told h t s event (Ok runs) represent found) is.1
+expected_by h t s side event object name (Err refusal) answer represent found is = is ∙ refused_of h t s side event object name refusal (event_runs_told h t s event (Err refusal) represent found)
 
-pub calls_are_due : (s : Selection) (side : CallSide) (event object name : List ℕ) (h : History) (t : Tables) (answer : Answer) → TablesTell h t → AreCallsShown t s side event object name answer
+pub calls_are_expected : (s : Selection) (side : CallSide) (event object name : List ℕ) (h : History) (t : Tables) (answer : Answer) → TablesRepresent h t → AreCallsShown t s side event object name answer
     → answer ≡ expected_of_query h (queries.Calls s side event object name)
-calls_are_due s side event object name h t answer tell is = due_by h t s side event object name is.found answer tell is.is_found is.answer_is
+calls_are_expected s side event object name h t answer represent is = expected_by h t s side event object name is.found answer represent is.is_found is.answer_is

@@ -1,4 +1,4 @@
--- The rows of runs that are added to inclusive costs come to the files of a selection.
+-- The rows of runs that are added to inclusive costs sum to the files of a selection.
 use Rattle.std.proofs.Common.{◌≡◌, ℕ, ◌+◌, ◌*◌, ◌<◌, Bool, true, false, if◌then◌else◌, List, [], ◌∷◌, ◌++◌, map, fold, flat_map, length, get_or, take, Option, Some, None, append-nil, append_assoc, refl, sym, ap, ap₂, subst, ◌∙◌, arith}
 use Rattle.std.specs.Prelude.{unwrap_or, Result, Ok, Err}
 use Rattle.std.specs.List.{AllByRecursion}
@@ -7,15 +7,15 @@ use Rattle.std.proofs.lemmas.Grind.{fold-append}
 use Rattle.plain_tables.specs.Lists.{Has}
 use Rattle.cost_rows.specs.KeySums.{rows_of, with_row}
 use Rattle.cost_rows.specs.StackSums.{frames_sum}
-use Rattle.cost_rows.specs.Sums.{call_sum, count_sum, has_call, own_sum}
+use Rattle.cost_rows.specs.Sums.{call_sum, count_sum, has_call, self_sum}
 use Rattle.cost_rows.specs.WalkSums.{stacks_count}
-use Rattle.cost_rows.specs.declared.rows.ArcRow.{ArcRow}
-use Rattle.cost_rows.specs.declared.rows.CellRow.{CellRow}
-use Rattle.cost_rows.specs.declared.rows.StackRow.{StackRow}
-use Rattle.report_texts.specs.Calls.{CallsStandFor, CallsStandForEach, EventArcs, all_arcs, weighted_calls}
-use Rattle.report_texts.specs.Costs.{EventCells, StandForEach, StandsFor, all_rows, weighted}
+use Rattle.cost_rows.specs.declared.rows.CallEdge.{CallEdge}
+use Rattle.cost_rows.specs.declared.rows.Cell.{Cell}
+use Rattle.cost_rows.specs.declared.rows.StackCount.{StackCount}
+use Rattle.report_texts.specs.Calls.{CallsRepresent, CallsRepresentEach, EventEdges, all_edges, weighted_calls}
+use Rattle.report_texts.specs.Costs.{EventCells, StandForEach, Represents, all_rows, weighted}
 use Rattle.report_texts.specs.Functions.{is_one_function}
-use Rattle.report_texts.specs.Inclusive.{InclusiveCosts, InclusiveRow, OfOwn, OfCalls, OfStack, SameStacks, by_function, calls_in, inclusive_report, inclusive_rows, inclusive_text, no_costs, own_in, stacks_in, with_inclusive, with_outward, with_own}
+use Rattle.report_texts.specs.Inclusive.{InclusiveCosts, InclusiveRow, OfSelf, OfCalls, OfStack, SameStacks, by_function, calls_in, inclusive_report, inclusive_rows, inclusive_text, no_costs, self_in, stacks_in, with_inclusive, with_outward, with_self}
 use Rattle.cost_reports.proofs.AddedLemmas.{inclusive_come_to}
 use Rattle.cost_reports.proofs.InclusiveLemmas.{inclusive_are_records}
 use Rattle.prof_books.specs.Book.{cells_held, stacks_held}
@@ -32,8 +32,8 @@ use Rattle.histories.specs.History.{History, File, held}
 use Rattle.histories.specs.Legal.{expected_of_query}
 use Rattle.histories.specs.Reports.{called_records, counts_of, event_stacks, has_event, inclusive_of, inclusive_of_files, inclusive_records}
 use Rattle.histories.specs.Selections.{selected}
-use Rattle.histories.specs.Stands.{TablesTell}
-use Rattle.histories.specs.Told.{CallsCome, TellsRows}
+use Rattle.histories.specs.Representation.{TablesRepresent}
+use Rattle.histories.specs.Told.{CallsSum, RowsAgree}
 use Rattle.histories.specs.declared.answers.Answer.{Answer}
 use Rattle.histories.specs.declared.answers.Answer.TheVariants.{Text, Refused}
 use Rattle.histories.specs.declared.answers.Query.TheVariants.{Inclusive}
@@ -43,7 +43,7 @@ use Rattle.histories.proofs.Runs.{tells_rows}
 use Rattle.store_histories.specs.FromTables.{AnswersFor, ShowsText}
 use Rattle.selected_runs.specs.Added.{AreAdded}
 use Rattle.selected_runs.specs.EventRuns.{AreEventRuns, AreEventRunsIn}
-use Rattle.store_calls.specs.InclusiveRuns.{Adds, AreRowsOf, AreRowsOfKind, AreRowsOfRuns, IsInclusive, IsInclusiveText, call_rows, own_rows, with_call_row, with_own_row, with_stack_row}
+use Rattle.store_calls.specs.InclusiveRuns.{Adds, AreRowsOf, AreRowsOfKind, AreRowsOfRuns, IsInclusive, IsInclusiveText, call_rows, self_rows, with_call_row, with_self_row, with_stack_row}
 use Rattle.selected_runs.specs.declared.counting.Counted.{Counted}
 use Rattle.selected_runs.proofs.EventLemmas.{both_held, event_runs_told}
 use Rattle.store_calls.proofs.KindLemmas.{kind_told}
@@ -51,15 +51,15 @@ use Rattle.selected_runs.proofs.RunLemmas.{AreRunsOf, IsRunOf, are_runs, selecte
 
 -- ---- rows of one kind, taken one after another
 
-pub own_taken : (counts : List ℕ) (costs : InclusiveCosts) (cells : List (CellRow (List ℕ))) → fold with_own_row (counts, costs) cells ≡ (counts, fold with_inclusive costs (own_rows counts cells))
-own_taken counts costs [] = refl
-own_taken counts costs (cell ∷ cells) = own_taken counts (with_own costs (weighted counts cell)) cells
+pub self_taken : (counts : List ℕ) (costs : InclusiveCosts) (cells : List (Cell (List ℕ))) → fold with_self_row (counts, costs) cells ≡ (counts, fold with_inclusive costs (self_rows counts cells))
+self_taken counts costs [] = refl
+self_taken counts costs (cell ∷ cells) = self_taken counts (with_self costs (weighted counts cell)) cells
 
-pub calls_taken : (counts : List ℕ) (costs : InclusiveCosts) (arcs : List (ArcRow (List ℕ) (List ℕ))) → fold with_call_row (counts, costs) arcs ≡ (counts, fold with_inclusive costs (call_rows counts arcs))
+pub calls_taken : (counts : List ℕ) (costs : InclusiveCosts) (edges : List (CallEdge (List ℕ) (List ℕ))) → fold with_call_row (counts, costs) edges ≡ (counts, fold with_inclusive costs (call_rows counts edges))
 calls_taken counts costs [] = refl
-calls_taken counts costs (arc ∷ arcs) = calls_taken counts (with_outward costs (weighted_calls counts arc)) arcs
+calls_taken counts costs (call ∷ edges) = calls_taken counts (with_outward costs (weighted_calls counts call)) edges
 
-pub stacks_taken : (counts : List ℕ) (costs : InclusiveCosts) (stacks : List (StackRow (List ℕ))) → fold with_stack_row (counts, costs) stacks ≡ (counts, fold with_inclusive costs (map OfStack stacks))
+pub stacks_taken : (counts : List ℕ) (costs : InclusiveCosts) (stacks : List (StackCount (List ℕ))) → fold with_stack_row (counts, costs) stacks ≡ (counts, fold with_inclusive costs (map OfStack stacks))
 stacks_taken counts costs [] = refl
 stacks_taken counts costs (stack ∷ stacks) = stacks_taken counts (with_inclusive costs (OfStack stack)) stacks
 
@@ -78,19 +78,19 @@ rows_added t given (run ∷ runs) before after all =
 
 -- ---- the rows of one file
 
--- own costs, calls and stacks, one kind after the other
-abbrev by_kind : EventCells → EventArcs → List (StackRow (List ℕ)) → List InclusiveRow
-by_kind cells arcs stacks = own_rows cells.coefs cells.cells ++ (call_rows arcs.coefs arcs.arcs ++ map OfStack stacks)
+-- self costs, calls and stacks, one kind after the other
+abbrev by_kind : EventCells → EventEdges → List (StackCount (List ℕ)) → List InclusiveRow
+by_kind cells edges stacks = self_rows cells.coefs cells.cells ++ (call_rows edges.coefs edges.calls ++ map OfStack stacks)
 
--- rows add what cells, calls and stacks do that stand for a file
+-- rows add what cells, calls and stacks do that represent a file
 record AddsFile (event : List ℕ) (f : File) (rows : List InclusiveRow) : Type 0 where
   cells : EventCells
-  own : StandsFor (inclusive_records event f) cells
-  arcs : EventArcs
-  calls : CallsStandFor (inclusive_records event f) arcs
-  stacks : List (StackRow (List ℕ))
+  own : Represents (inclusive_records event f) cells
+  calls : EventEdges
+  calls : CallsRepresent (inclusive_records event f) edges
+  stacks : List (StackCount (List ℕ))
   seen : SameStacks stacks (event_stacks event f)
-  same : (old : InclusiveCosts) → fold with_inclusive old rows ≡ fold with_inclusive old (by_kind cells arcs stacks)
+  same : (old : InclusiveCosts) → fold with_inclusive old rows ≡ fold with_inclusive old (by_kind cells edges stacks)
 
 all_called : (format : Format) (bytes : List ℕ) → kind_in format ≡ Callgrind → called_records format bytes ≡ records_of format bytes
 all_called (formats.Callgrind g) bytes is = refl
@@ -115,43 +115,43 @@ none_seen event f is = λ test. ap (frames_sum test) (sym (go (has_event event f
 same_total : (n : ℕ) → n + 0 ≡ n
 same_total n = omega arith
 
-own_nothing : (old : InclusiveCosts) (cell : CellRow (List ℕ)) → with_own old (weighted [] cell) ≡ old
-own_nothing old cell =
-    ap (λ cost. with_own old (record cell { event = 0; cost = cost })) (none_of cell.cost) ∙ ap (λ total. record old { total = total }) (same_total old.total)
+self_nothing : (old : InclusiveCosts) (cell : Cell (List ℕ)) → with_self old (weighted [] cell) ≡ old
+self_nothing old cell =
+    ap (λ cost. with_self old (record cell { event = 0; cost = cost })) (none_of cell.cost) ∙ ap (λ total. record old { total = total }) (same_total old.total)
   where
     none_of : (cost : ℕ) → 0 * cost ≡ 0
     none_of cost = omega arith
 
-calls_nothing : (old : InclusiveCosts) (arc : ArcRow (List ℕ) (List ℕ)) → with_outward old (weighted_calls [] arc) ≡ old
-calls_nothing old arc = go (is_one_function (weighted_calls [] arc).caller (weighted_calls [] arc).callee)
+calls_nothing : (old : InclusiveCosts) (call : CallEdge (List ℕ) (List ℕ)) → with_outward old (weighted_calls [] call) ≡ old
+calls_nothing old call = go (is_one_function (weighted_calls [] call).caller (weighted_calls [] call).callee)
   where
-    go : (b : Bool) → record old { sums = (fold with_row (by_function old) (rows_of (if b then [] else ((weighted_calls [] arc).caller, 0) ∷ []))).sums } ≡ old
+    go : (b : Bool) → record old { sums = (fold with_row (by_function old) (rows_of (if b then [] else ((weighted_calls [] call).caller, 0) ∷ []))).sums } ≡ old
     go true = refl
     go false = refl
 
-cells_nothing : (old : InclusiveCosts) (cells : List (CellRow (List ℕ))) (rest : List InclusiveRow) → fold with_inclusive old (own_rows [] cells ++ rest) ≡ fold with_inclusive old rest
+cells_nothing : (old : InclusiveCosts) (cells : List (Cell (List ℕ))) (rest : List InclusiveRow) → fold with_inclusive old (self_rows [] cells ++ rest) ≡ fold with_inclusive old rest
 cells_nothing old [] rest = refl
-cells_nothing old (cell ∷ cells) rest = ap (λ costs. fold with_inclusive costs (own_rows [] cells ++ rest)) (own_nothing old cell) ∙ cells_nothing old cells rest
+cells_nothing old (cell ∷ cells) rest = ap (λ costs. fold with_inclusive costs (self_rows [] cells ++ rest)) (self_nothing old cell) ∙ cells_nothing old cells rest
 
-arcs_nothing : (old : InclusiveCosts) (arcs : List (ArcRow (List ℕ) (List ℕ))) (rest : List InclusiveRow) → fold with_inclusive old (call_rows [] arcs ++ rest) ≡ fold with_inclusive old rest
-arcs_nothing old [] rest = refl
-arcs_nothing old (arc ∷ arcs) rest = ap (λ costs. fold with_inclusive costs (call_rows [] arcs ++ rest)) (calls_nothing old arc) ∙ arcs_nothing old arcs rest
+edges_nothing : (old : InclusiveCosts) (edges : List (CallEdge (List ℕ) (List ℕ))) (rest : List InclusiveRow) → fold with_inclusive old (call_rows [] edges ++ rest) ≡ fold with_inclusive old rest
+edges_nothing old [] rest = refl
+edges_nothing old (call ∷ edges) rest = ap (λ costs. fold with_inclusive costs (call_rows [] edges ++ rest)) (calls_nothing old call) ∙ edges_nothing old edges rest
 
 -- cells of a Callgrind file, and its calls
-module _ (h : History) (t : Tables) (event : List ℕ) (tell : TablesTell h t) (f : File) (there : Has (held h) f) where
-  told : TellsRows f t
-  told = tells_rows h t tell f there
+module _ (h : History) (t : Tables) (event : List ℕ) (represent : TablesRepresent h t) (f : File) (there : Has (held h) f) where
+  told : RowsAgree f t
+  told = tells_rows h t represent f there
 
-  own_of : (counts : List ℕ) → counts ≡ unwrap_or (counts_of event f) [] → kind_in f.format ≡ Callgrind → StandsFor (inclusive_records event f) (record { coefs = counts; cells = cells_held f.number t })
-  own_of counts are is =
+  self_of : (counts : List ℕ) → counts ≡ unwrap_or (counts_of event f) [] → kind_in f.format ≡ Callgrind → Represents (inclusive_records event f) (record { coefs = counts; cells = cells_held f.number t })
+  self_of counts are is =
       let same = sym (all_called f.format f.bytes is) in
-      record { coefs = are; cells = λ passes k. told.cells passes k ∙ ap (own_sum passes k) same }
+      record { coefs = are; cells = λ passes k. told.cells passes k ∙ ap (self_sum passes k) same }
 
-  calls_of : (counts : List ℕ) (arcs : List (ArcRow (List ℕ) (List ℕ))) → counts ≡ unwrap_or (counts_of event f) [] → kind_in f.format ≡ Callgrind → AreCallsOf f.number t arcs
-      → CallsStandFor (inclusive_records event f) (record { coefs = counts; arcs = arcs })
-  calls_of counts arcs are is whole =
+  calls_of : (counts : List ℕ) (edges : List (CallEdge (List ℕ) (List ℕ))) → counts ≡ unwrap_or (counts_of event f) [] → kind_in f.format ≡ Callgrind → AreCallsOf f.number t edges
+      → CallsRepresent (inclusive_records event f) (record { coefs = counts; calls = edges })
+  calls_of counts edges are is whole =
       let same = sym (all_called f.format f.bytes is) in
-      let come : CallsCome arcs (records_of f.format f.bytes) = told.calls arcs whole in
+      let come : CallsSum edges (records_of f.format f.bytes) = told.calls edges whole in
       record {
         coefs = are;
         costs = λ passes k. come.costs passes k ∙ ap (call_sum passes k) same;
@@ -160,10 +160,10 @@ module _ (h : History) (t : Tables) (event : List ℕ) (tell : TablesTell h t) (
       }
 
   -- a folded file has neither
-  no_own : kind_in f.format ≡ Folded → StandsFor (inclusive_records event f) (record { coefs = unwrap_or (counts_of event f) []; cells = [] })
-  no_own is = record { coefs = refl; cells = λ passes k. ap (own_sum passes k) (sym (none_called f.format f.bytes is)) }
+  no_self : kind_in f.format ≡ Folded → Represents (inclusive_records event f) (record { coefs = unwrap_or (counts_of event f) []; cells = [] })
+  no_self is = record { coefs = refl; cells = λ passes k. ap (self_sum passes k) (sym (none_called f.format f.bytes is)) }
 
-  no_calls : kind_in f.format ≡ Folded → CallsStandFor (inclusive_records event f) (record { coefs = unwrap_or (counts_of event f) []; arcs = [] })
+  no_calls : kind_in f.format ≡ Folded → CallsRepresent (inclusive_records event f) (record { coefs = unwrap_or (counts_of event f) []; calls = [] })
   no_calls is =
       let same = sym (none_called f.format f.bytes is) in
       record {
@@ -179,17 +179,17 @@ module _ (h : History) (t : Tables) (event : List ℕ) (tell : TablesTell h t) (
       let coefs : counts ≡ unwrap_or (counts_of event f) [] = sym (ap (λ c. unwrap_or c []) has) in
       record {
         cells = record { coefs = counts; cells = cells_held f.number t };
-        own = own_of counts coefs (sym is);
-        arcs = record { coefs = counts; arcs = are.0 };
+        own = self_of counts coefs (sym is);
+        calls = record { coefs = counts; calls = are.0 };
         calls = calls_of counts are.0 coefs (sym is) are.1;
         stacks = [];
         seen = none_seen event f (sym is);
-        same = λ old. ap (fold with_inclusive old) (are.2 ∙ ap (λ l. own_rows counts (cells_held f.number t) ++ l) (sym (append-nil (call_rows counts are.0))));
+        same = λ old. ap (fold with_inclusive old) (are.2 ∙ ap (λ l. self_rows counts (cells_held f.number t) ++ l) (sym (append-nil (call_rows counts are.0))));
       }
   of_kind Folded counts rows is has are = record {
     cells = record { coefs = unwrap_or (counts_of event f) []; cells = [] };
-    own = no_own (sym is);
-    arcs = record { coefs = unwrap_or (counts_of event f) []; arcs = [] };
+    own = no_self (sym is);
+    calls = record { coefs = unwrap_or (counts_of event f) []; calls = [] };
     calls = no_calls (sym is);
     stacks = stacks_held f.number t;
     seen = λ test. told.stacks test ∙ ap (λ b. frames_sum test (if b then stacks_of f.format f.bytes else [])) (sym (ap is_some has));
@@ -200,20 +200,20 @@ module _ (h : History) (t : Tables) (event : List ℕ) (tell : TablesTell h t) (
   without : (kind : Kind) → kind ≡ kind_in f.format → counts_of event f ≡ None → AddsFile event f []
   without Callgrind is has =
       let coefs : [] ≡ unwrap_or (counts_of event f) [] = sym (ap (λ c. unwrap_or c []) has) in
-      let arcs = told.whole.0 in
+      let edges = told.whole.0 in
       record {
         cells = record { coefs = []; cells = cells_held f.number t };
-        own = own_of [] coefs (sym is);
-        arcs = record { coefs = []; arcs = arcs };
-        calls = calls_of [] arcs coefs (sym is) told.whole.1;
+        own = self_of [] coefs (sym is);
+        calls = record { coefs = []; calls = edges };
+        calls = calls_of [] edges coefs (sym is) told.whole.1;
         stacks = [];
         seen = none_seen event f (sym is);
-        same = λ old. sym (cells_nothing old (cells_held f.number t) (call_rows [] arcs ++ []) ∙ arcs_nothing old arcs []);
+        same = λ old. sym (cells_nothing old (cells_held f.number t) (call_rows [] edges ++ []) ∙ edges_nothing old edges []);
       }
   without Folded is has = record {
     cells = record { coefs = unwrap_or (counts_of event f) []; cells = [] };
-    own = no_own (sym is);
-    arcs = record { coefs = unwrap_or (counts_of event f) []; arcs = [] };
+    own = no_self (sym is);
+    calls = record { coefs = unwrap_or (counts_of event f) []; calls = [] };
     calls = no_calls (sym is);
     stacks = [];
     seen = λ test. ap (λ b. frames_sum test (if b then stacks_of f.format f.bytes else [])) (sym (ap is_some has));
@@ -227,7 +227,7 @@ module _ (h : History) (t : Tables) (event : List ℕ) (tell : TablesTell h t) (
           → MatchOption counts (rows ≡ []) (λ counts. (kind : Kind) × IsKindOf run.number t kind × AreRowsOfKind kind t run.number counts rows) → AddsFile event f rows
       go (Some counts) has them =
           let kind : IsKindOf f.number t them.0 = subst (λ n. IsKindOf n t them.0) is.number them.1 in
-          of_kind them.0 counts rows (kind_told h t f them.0 tell there kind) has (subst (λ n. AreRowsOfKind them.0 t n counts rows) is.number them.2)
+          of_kind them.0 counts rows (kind_told h t f them.0 represent there kind) has (subst (λ n. AreRowsOfKind them.0 t n counts rows) is.number them.2)
       go None has them = subst (AddsFile event f) (sym them) (without (kind_in f.format) refl has)
 
 -- ---- of files
@@ -235,92 +235,92 @@ module _ (h : History) (t : Tables) (event : List ℕ) (tell : TablesTell h t) (
 record AddsFiles (event : List ℕ) (files : List File) (rows : List InclusiveRow) : Type 0 where
   cells : List EventCells
   own : StandForEach (map (inclusive_records event) files) cells
-  arcs : List EventArcs
-  calls : CallsStandForEach (map (inclusive_records event) files) arcs
-  stacks : List (StackRow (List ℕ))
+  edges : List EventEdges
+  calls : CallsRepresentEach (map (inclusive_records event) files) edges
+  stacks : List (StackCount (List ℕ))
   seen : SameStacks stacks (flat_map (event_stacks event) files)
   parts : List InclusiveRow
   same : (old : InclusiveCosts) → fold with_inclusive old rows ≡ fold with_inclusive old parts
-  own_are : own_in parts ≡ all_rows cells
-  calls_are : calls_in parts ≡ all_arcs arcs
+  self_are : self_in parts ≡ all_rows cells
+  calls_are : calls_in parts ≡ all_edges edges
   stacks_are : stacks_in parts ≡ stacks
 
-own_append : (xs ys : List InclusiveRow) → own_in (xs ++ ys) ≡ own_in xs ++ own_in ys
-own_append [] ys = refl
-own_append (OfOwn r ∷ xs) ys = ap (λ l. r ∷ l) (own_append xs ys)
-own_append (OfCalls c ∷ xs) ys = own_append xs ys
-own_append (OfStack r ∷ xs) ys = own_append xs ys
+self_append : (xs ys : List InclusiveRow) → self_in (xs ++ ys) ≡ self_in xs ++ self_in ys
+self_append [] ys = refl
+self_append (OfSelf r ∷ xs) ys = ap (λ l. r ∷ l) (self_append xs ys)
+self_append (OfCalls c ∷ xs) ys = self_append xs ys
+self_append (OfStack r ∷ xs) ys = self_append xs ys
 
 calls_append : (xs ys : List InclusiveRow) → calls_in (xs ++ ys) ≡ calls_in xs ++ calls_in ys
 calls_append [] ys = refl
-calls_append (OfOwn r ∷ xs) ys = calls_append xs ys
+calls_append (OfSelf r ∷ xs) ys = calls_append xs ys
 calls_append (OfCalls c ∷ xs) ys = ap (λ l. c ∷ l) (calls_append xs ys)
 calls_append (OfStack r ∷ xs) ys = calls_append xs ys
 
 stacks_append : (xs ys : List InclusiveRow) → stacks_in (xs ++ ys) ≡ stacks_in xs ++ stacks_in ys
 stacks_append [] ys = refl
-stacks_append (OfOwn r ∷ xs) ys = stacks_append xs ys
+stacks_append (OfSelf r ∷ xs) ys = stacks_append xs ys
 stacks_append (OfCalls c ∷ xs) ys = stacks_append xs ys
 stacks_append (OfStack r ∷ xs) ys = ap (λ l. r ∷ l) (stacks_append xs ys)
 
 module _ (counts : List ℕ) where
-  own_of_own : (cells : List (CellRow (List ℕ))) (rest : List InclusiveRow) → own_in (own_rows counts cells ++ rest) ≡ map (weighted counts) cells ++ own_in rest
-  own_of_own [] rest = refl
-  own_of_own (c ∷ cells) rest = ap (λ l. weighted counts c ∷ l) (own_of_own cells rest)
+  self_of_self : (cells : List (Cell (List ℕ))) (rest : List InclusiveRow) → self_in (self_rows counts cells ++ rest) ≡ map (weighted counts) cells ++ self_in rest
+  self_of_self [] rest = refl
+  self_of_self (c ∷ cells) rest = ap (λ l. weighted counts c ∷ l) (self_of_self cells rest)
 
-  own_of_calls : (arcs : List (ArcRow (List ℕ) (List ℕ))) (rest : List InclusiveRow) → own_in (call_rows counts arcs ++ rest) ≡ own_in rest
-  own_of_calls [] rest = refl
-  own_of_calls (a ∷ arcs) rest = own_of_calls arcs rest
+  self_of_calls : (edges : List (CallEdge (List ℕ) (List ℕ))) (rest : List InclusiveRow) → self_in (call_rows counts edges ++ rest) ≡ self_in rest
+  self_of_calls [] rest = refl
+  self_of_calls (a ∷ edges) rest = self_of_calls edges rest
 
-  calls_of_own : (cells : List (CellRow (List ℕ))) (rest : List InclusiveRow) → calls_in (own_rows counts cells ++ rest) ≡ calls_in rest
-  calls_of_own [] rest = refl
-  calls_of_own (c ∷ cells) rest = calls_of_own cells rest
+  calls_of_self : (cells : List (Cell (List ℕ))) (rest : List InclusiveRow) → calls_in (self_rows counts cells ++ rest) ≡ calls_in rest
+  calls_of_self [] rest = refl
+  calls_of_self (c ∷ cells) rest = calls_of_self cells rest
 
-  calls_of_calls : (arcs : List (ArcRow (List ℕ) (List ℕ))) (rest : List InclusiveRow) → calls_in (call_rows counts arcs ++ rest) ≡ map (weighted_calls counts) arcs ++ calls_in rest
+  calls_of_calls : (edges : List (CallEdge (List ℕ) (List ℕ))) (rest : List InclusiveRow) → calls_in (call_rows counts edges ++ rest) ≡ map (weighted_calls counts) edges ++ calls_in rest
   calls_of_calls [] rest = refl
-  calls_of_calls (a ∷ arcs) rest = ap (λ l. weighted_calls counts a ∷ l) (calls_of_calls arcs rest)
+  calls_of_calls (a ∷ edges) rest = ap (λ l. weighted_calls counts a ∷ l) (calls_of_calls edges rest)
 
-  stacks_of_own : (cells : List (CellRow (List ℕ))) (rest : List InclusiveRow) → stacks_in (own_rows counts cells ++ rest) ≡ stacks_in rest
-  stacks_of_own [] rest = refl
-  stacks_of_own (c ∷ cells) rest = stacks_of_own cells rest
+  stacks_of_self : (cells : List (Cell (List ℕ))) (rest : List InclusiveRow) → stacks_in (self_rows counts cells ++ rest) ≡ stacks_in rest
+  stacks_of_self [] rest = refl
+  stacks_of_self (c ∷ cells) rest = stacks_of_self cells rest
 
-  stacks_of_calls : (arcs : List (ArcRow (List ℕ) (List ℕ))) (rest : List InclusiveRow) → stacks_in (call_rows counts arcs ++ rest) ≡ stacks_in rest
+  stacks_of_calls : (edges : List (CallEdge (List ℕ) (List ℕ))) (rest : List InclusiveRow) → stacks_in (call_rows counts edges ++ rest) ≡ stacks_in rest
   stacks_of_calls [] rest = refl
-  stacks_of_calls (a ∷ arcs) rest = stacks_of_calls arcs rest
+  stacks_of_calls (a ∷ edges) rest = stacks_of_calls edges rest
 
-own_of_stacks : (stacks : List (StackRow (List ℕ))) → own_in (map OfStack stacks) ≡ []
-own_of_stacks [] = refl
-own_of_stacks (s ∷ stacks) = own_of_stacks stacks
+self_of_stacks : (stacks : List (StackCount (List ℕ))) → self_in (map OfStack stacks) ≡ []
+self_of_stacks [] = refl
+self_of_stacks (s ∷ stacks) = self_of_stacks stacks
 
-calls_of_stacks : (stacks : List (StackRow (List ℕ))) → calls_in (map OfStack stacks) ≡ []
+calls_of_stacks : (stacks : List (StackCount (List ℕ))) → calls_in (map OfStack stacks) ≡ []
 calls_of_stacks [] = refl
 calls_of_stacks (s ∷ stacks) = calls_of_stacks stacks
 
-stacks_of_stacks : (stacks : List (StackRow (List ℕ))) → stacks_in (map OfStack stacks) ≡ stacks
+stacks_of_stacks : (stacks : List (StackCount (List ℕ))) → stacks_in (map OfStack stacks) ≡ stacks
 stacks_of_stacks [] = refl
 stacks_of_stacks (s ∷ stacks) = ap (λ l. s ∷ l) (stacks_of_stacks stacks)
 
-module _ (cells : EventCells) (arcs : EventArcs) (stacks : List (StackRow (List ℕ))) where
-  own_by_kind : own_in (by_kind cells arcs stacks) ≡ map (weighted cells.coefs) cells.cells
-  own_by_kind =
-      own_of_own cells.coefs cells.cells (call_rows arcs.coefs arcs.arcs ++ map OfStack stacks)
-      ∙ ap (λ l. map (weighted cells.coefs) cells.cells ++ l) (own_of_calls arcs.coefs arcs.arcs (map OfStack stacks) ∙ own_of_stacks stacks)
+module _ (cells : EventCells) (edges : EventEdges) (stacks : List (StackCount (List ℕ))) where
+  self_by_kind : self_in (by_kind cells edges stacks) ≡ map (weighted cells.coefs) cells.cells
+  self_by_kind =
+      self_of_self cells.coefs cells.cells (call_rows edges.coefs edges.calls ++ map OfStack stacks)
+      ∙ ap (λ l. map (weighted cells.coefs) cells.cells ++ l) (self_of_calls edges.coefs edges.calls (map OfStack stacks) ∙ self_of_stacks stacks)
       ∙ append-nil (map (weighted cells.coefs) cells.cells)
 
-  calls_by_kind : calls_in (by_kind cells arcs stacks) ≡ map (weighted_calls arcs.coefs) arcs.arcs
+  calls_by_kind : calls_in (by_kind cells edges stacks) ≡ map (weighted_calls edges.coefs) edges.calls
   calls_by_kind =
-      calls_of_own cells.coefs cells.cells (call_rows arcs.coefs arcs.arcs ++ map OfStack stacks)
-      ∙ calls_of_calls arcs.coefs arcs.arcs (map OfStack stacks)
-      ∙ ap (λ l. map (weighted_calls arcs.coefs) arcs.arcs ++ l) (calls_of_stacks stacks)
-      ∙ append-nil (map (weighted_calls arcs.coefs) arcs.arcs)
+      calls_of_self cells.coefs cells.cells (call_rows edges.coefs edges.calls ++ map OfStack stacks)
+      ∙ calls_of_calls edges.coefs edges.calls (map OfStack stacks)
+      ∙ ap (λ l. map (weighted_calls edges.coefs) edges.calls ++ l) (calls_of_stacks stacks)
+      ∙ append-nil (map (weighted_calls edges.coefs) edges.calls)
 
-  stacks_by_kind : stacks_in (by_kind cells arcs stacks) ≡ stacks
+  stacks_by_kind : stacks_in (by_kind cells edges stacks) ≡ stacks
   stacks_by_kind =
-      stacks_of_own cells.coefs cells.cells (call_rows arcs.coefs arcs.arcs ++ map OfStack stacks)
-      ∙ stacks_of_calls arcs.coefs arcs.arcs (map OfStack stacks)
+      stacks_of_self cells.coefs cells.cells (call_rows edges.coefs edges.calls ++ map OfStack stacks)
+      ∙ stacks_of_calls edges.coefs edges.calls (map OfStack stacks)
       ∙ stacks_of_stacks stacks
 
-count_append : (test : List ℕ → Bool) (xs ys : List (StackRow (List ℕ))) → stacks_count test (xs ++ ys) ≡ stacks_count test xs + stacks_count test ys
+count_append : (test : List ℕ → Bool) (xs ys : List (StackCount (List ℕ))) → stacks_count test (xs ++ ys) ≡ stacks_count test xs + stacks_count test ys
 count_append test [] ys = let n : ℕ = stacks_count test ys in let e : n ≡ 0 + n = omega arith in e
 count_append test (x ∷ xs) ys = let rest = count_append test xs ys in omega (arith, rest)
 
@@ -328,73 +328,73 @@ frames_append : (test : List ℕ → Bool) (xs ys : List Seen) → frames_sum te
 frames_append test [] ys = let n : ℕ = frames_sum test ys in let e : n ≡ 0 + n = omega arith in e
 frames_append test (x ∷ xs) ys = let rest = frames_append test xs ys in omega (arith, rest)
 
-both_seen : (xs ys : List (StackRow (List ℕ))) (seen more : List Seen) → SameStacks xs seen → SameStacks ys more → SameStacks (xs ++ ys) (seen ++ more)
+both_seen : (xs ys : List (StackCount (List ℕ))) (seen more : List Seen) → SameStacks xs seen → SameStacks ys more → SameStacks (xs ++ ys) (seen ++ more)
 both_seen xs ys seen more one two = λ test. count_append test xs ys ∙ ap₂ ◌+◌ (one test) (two test) ∙ sym (frames_append test seen more)
 
 one_more : (event : List ℕ) (f : File) (files : List File) (first later rows : List InclusiveRow) → rows ≡ first ++ later → AddsFile event f first → AddsFiles event files later → AddsFiles event (f ∷ files) rows
 one_more event f files first later rows are one rest =
-    let here = by_kind one.cells one.arcs one.stacks in
+    let here = by_kind one.cells one.calls one.stacks in
     record {
       cells = one.cells ∷ rest.cells;
       own = (one.own, rest.own);
-      arcs = one.arcs ∷ rest.arcs;
+      calls = one.calls ∷ rest.calls;
       calls = (one.calls, rest.calls);
       stacks = one.stacks ++ rest.stacks;
       seen = both_seen one.stacks rest.stacks (event_stacks event f) (flat_map (event_stacks event) files) one.seen rest.seen;
       parts = here ++ rest.parts;
       same = λ old. ap (fold with_inclusive old) are ∙ fold-append with_inclusive old first later ∙ ap (λ costs. fold with_inclusive costs later) (one.same old)
           ∙ rest.same (fold with_inclusive old here) ∙ sym (fold-append with_inclusive old here rest.parts);
-      own_are = own_append here rest.parts ∙ ap₂ ◌++◌ (own_by_kind one.cells one.arcs one.stacks) rest.own_are;
-      calls_are = calls_append here rest.parts ∙ ap₂ ◌++◌ (calls_by_kind one.cells one.arcs one.stacks) rest.calls_are;
-      stacks_are = stacks_append here rest.parts ∙ ap₂ ◌++◌ (stacks_by_kind one.cells one.arcs one.stacks) rest.stacks_are;
+      self_are = self_append here rest.parts ∙ ap₂ ◌++◌ (self_by_kind one.cells one.calls one.stacks) rest.self_are;
+      calls_are = calls_append here rest.parts ∙ ap₂ ◌++◌ (calls_by_kind one.cells one.calls one.stacks) rest.calls_are;
+      stacks_are = stacks_append here rest.parts ∙ ap₂ ◌++◌ (stacks_by_kind one.cells one.calls one.stacks) rest.stacks_are;
     }
 
-files_added : (h : History) (t : Tables) (event : List ℕ) → TablesTell h t → (files : List File) (runs : List Counted) (rows : List InclusiveRow) → AllByRecursion (Has (held h)) files
+files_added : (h : History) (t : Tables) (event : List ℕ) → TablesRepresent h t → (files : List File) (runs : List Counted) (rows : List InclusiveRow) → AllByRecursion (Has (held h)) files
     → AreRunsOf event files runs → AreRowsOfRuns t runs rows → AddsFiles event files rows
-files_added h t event tell [] [] rows all are rows_are = record {
+files_added h t event represent [] [] rows all are rows_are = record {
   cells = [];
   own = tt;
-  arcs = [];
+  calls = [];
   calls = tt;
   stacks = [];
   seen = λ test. refl;
   parts = [];
   same = λ old. ap (fold with_inclusive old) rows_are;
-  own_are = refl;
+  self_are = refl;
   calls_are = refl;
   stacks_are = refl;
 }
-files_added h t event tell [] (run ∷ runs) rows all are rows_are = absurd are
-files_added h t event tell (f ∷ files) [] rows all are rows_are = absurd are
-files_added h t event tell (f ∷ files) (run ∷ runs) rows all are rows_are =
-    one_more event f files rows_are.0 rows_are.1 rows rows_are.4 (file_added h t event tell f all.0 run rows_are.0 are.0 rows_are.2)
-    (files_added h t event tell files runs rows_are.1 all.1 are.1 rows_are.3)
+files_added h t event represent [] (run ∷ runs) rows all are rows_are = absurd are
+files_added h t event represent (f ∷ files) [] rows all are rows_are = absurd are
+files_added h t event represent (f ∷ files) (run ∷ runs) rows all are rows_are =
+    one_more event f files rows_are.0 rows_are.1 rows rows_are.4 (file_added h t event represent f all.0 run rows_are.0 are.0 rows_are.2)
+    (files_added h t event represent files runs rows_are.1 all.1 are.1 rows_are.3)
 
 inclusive_by : (event : List ℕ) (files : List File) (rows : List InclusiveRow) (costs : InclusiveCosts) → AddsFiles event files rows → costs ≡ fold with_inclusive no_costs rows → costs ≡ inclusive_of files event
 inclusive_by event files rows costs added is =
     is ∙ added.same no_costs ∙ inclusive_come_to added.parts
-    ∙ ap₂ (λ own calls. inclusive_rows own calls (stacks_in added.parts)) added.own_are added.calls_are
-    ∙ ap (inclusive_rows (all_rows added.cells) (all_arcs added.arcs)) added.stacks_are
-    ∙ inclusive_are_records (map (inclusive_records event) files) (flat_map (event_stacks event) files) added.cells added.arcs added.stacks added.own added.calls added.seen
+    ∙ ap₂ (λ own calls. inclusive_rows own calls (stacks_in added.parts)) added.self_are added.calls_are
+    ∙ ap (inclusive_rows (all_rows added.cells) (all_edges added.calls)) added.stacks_are
+    ∙ inclusive_are_records (map (inclusive_records event) files) (flat_map (event_stacks event) files) added.cells added.calls added.stacks added.own added.calls added.seen
 
 -- ---- the answers
 
-due_of : (h : History) (t : Tables) (s : Selection) (event : List ℕ) (runs : List Counted) (text : List ℕ) → TablesTell h t → AreEventRuns h t s event (Ok runs) → IsInclusiveText t runs event text
+expected_of : (h : History) (t : Tables) (s : Selection) (event : List ℕ) (runs : List Counted) (text : List ℕ) → TablesRepresent h t → AreEventRuns h t s event (Ok runs) → IsInclusiveText t runs event text
     → Text text ≡ expected_of_query h (Inclusive s event)
-due_of h t s event runs text tell found is =
+expected_of h t s event runs text represent found is =
     let files = selected h s in
     let all = selected_held h s in
-    let added = files_added h t event tell files runs is.1.0 all (are_runs h t event tell files runs all found.2) is.1.1 in
+    let added = files_added h t event represent files runs is.1.0 all (are_runs h t event represent files runs all found.2) is.1.1 in
     ap Text (is.2 ∙ ap (λ costs. inclusive_text event (inclusive_report costs)) (inclusive_by event files is.1.0 is.0 added is.1.2))
     ∙ both_held h t s event runs found [] (Text (inclusive_of_files files event))
 
 refused_of : (h : History) (t : Tables) (s : Selection) (event : List ℕ) (refusal : Refusal) → AreEventRuns h t s event (Err refusal) → Refused refusal ≡ expected_of_query h (Inclusive s event)
 refused_of h t s event refusal found = sym (found [] (Text (inclusive_of_files (selected h s) event)))
 
-due_by : (h : History) (t : Tables) (s : Selection) (event : List ℕ) (found : Result (List Counted) Refusal) (answer : Answer) → TablesTell h t → AreEventRunsIn t s event found
+expected_by : (h : History) (t : Tables) (s : Selection) (event : List ℕ) (found : Result (List Counted) Refusal) (answer : Answer) → TablesRepresent h t → AreEventRunsIn t s event found
     → AnswersFor (λ runs. ShowsText (IsInclusiveText t runs event)) found answer → answer ≡ expected_of_query h (Inclusive s event)
-due_by h t s event (Ok runs) answer tell found is = is.2 ∙ due_of h t s event runs is.0 tell (event_runs_told h t s event (Ok runs) tell found) is.1
-due_by h t s event (Err refusal) answer tell found is = is ∙ refused_of h t s event refusal (event_runs_told h t s event (Err refusal) tell found)
+expected_by h t s event (Ok runs) answer represent found is = is.2 ∙ expected_of h t s event runs is.0 represent (event_runs_told h t s event (Ok runs) represent found) is.1
+expected_by h t s event (Err refusal) answer represent found is = is ∙ refused_of h t s event refusal (event_runs_told h t s event (Err refusal) represent found)
 
-pub inclusive_is_due : (s : Selection) (event : List ℕ) (h : History) (t : Tables) (answer : Answer) → TablesTell h t → IsInclusive t s event answer → answer ≡ expected_of_query h (Inclusive s event)
-inclusive_is_due s event h t answer tell is = due_by h t s event is.found answer tell is.is_found is.answer_is
+pub inclusive_is_expected : (s : Selection) (event : List ℕ) (h : History) (t : Tables) (answer : Answer) → TablesRepresent h t → IsInclusive t s event answer → answer ≡ expected_of_query h (Inclusive s event)
+inclusive_is_expected s event h t answer represent is = expected_by h t s event is.found answer represent is.is_found is.answer_is

@@ -3,10 +3,10 @@ use Rattle.std.specs.Prelude.{◌≡◌, ◌||◌, ℕ, Bool, false, if◌then�
 use Rattle.std.specs.List.{list_any}
 use Rattle.cost_rows.specs.Keys.{place_of_row}
 use Rattle.cost_rows.specs.Sums.{Spot}
-use Rattle.cost_rows.specs.declared.rows.ArcRow.{ArcRow}
-use Rattle.cost_rows.specs.declared.rows.CellRow.{CellRow}
-use Rattle.cost_rows.specs.declared.rows.StackRow.{StackRow}
-use Rattle.report_texts.specs.Calls.{Calls, CallsOfFunction, EventArcs, all_arcs, call_report_of, call_report_text, calls_by, weighted_calls, with_calls}
+use Rattle.cost_rows.specs.declared.rows.CallEdge.{CallEdge}
+use Rattle.cost_rows.specs.declared.rows.Cell.{Cell}
+use Rattle.cost_rows.specs.declared.rows.StackCount.{StackCount}
+use Rattle.report_texts.specs.Calls.{Calls, CallsOfFunction, EventEdges, all_edges, call_report_of, call_report_text, calls_by, weighted_calls, with_calls}
 use Rattle.report_texts.specs.Functions.{function_spot, is_one_function}
 use Rattle.report_texts.specs.Inclusive.{is_frame}
 use Rattle.report_texts.specs.declared.call_sides.CallSide.{CallSide}
@@ -21,7 +21,7 @@ use Rattle.selected_runs.specs.declared.counting.Counted.{Counted}
 use Rattle.store_calls.specs.declared.function_calls.FunctionCalls.{FunctionCalls}
 
 -- a row of calls that cost so much in the event
-abbrev pub calls_costing : ArcRow (List ℕ) (List ℕ) → ℕ → Calls
+abbrev pub calls_costing : CallEdge (List ℕ) (List ℕ) → ℕ → Calls
 calls_costing r cost = record {
   caller = function_spot r.object r.function;
   callee = function_spot r.called_object r.called_function;
@@ -45,43 +45,43 @@ abbrev pub taken_of : FunctionCalls → Taken
 taken_of c = record { function = function_spot c.object.now c.name.now; known = c.known; calls = c.sums }
 
 -- a row of a run whose columns count so often
-abbrev pub with_row_of_calls : List ℕ × Taken → ArcRow (List ℕ) (List ℕ) → List ℕ × Taken
+abbrev pub with_row_of_calls : List ℕ × Taken → CallEdge (List ℕ) (List ℕ) → List ℕ × Taken
 with_row_of_calls m row = (m.0, with_call m.1 (weighted_calls m.0 row))
 
 -- rows of the calls of each run; in a run without the event they cost nothing
-abbrev pub AreArcsOf : List Counted → Tables → List EventArcs → Type 0
-AreArcsOf [] t [] = Unit {0}
-AreArcsOf (run ∷ runs) t (r ∷ rows) = (r.coefs ≡ unwrap_or run.counts []) × AreCallsOf run.number t r.arcs × AreArcsOf runs t rows
-AreArcsOf runs t rows = ⊥
+abbrev pub AreEdgesOf : List Counted → Tables → List EventEdges → Type 0
+AreEdgesOf [] t [] = Unit {0}
+AreEdgesOf (run ∷ runs) t (r ∷ rows) = (r.coefs ≡ unwrap_or run.counts []) × AreCallsOf run.number t r.calls × AreEdgesOf runs t rows
+AreEdgesOf runs t rows = ⊥
 
 -- the calls of a run were taken, one after another
 abbrev pub IsTakenFrom : Tables → Counted → Taken → Taken → Type 0
 IsTakenFrom t run old new =
-    (arcs : List (ArcRow (List ℕ) (List ℕ))) × AreCallsOf run.number t arcs × (new ≡ fold with_call old (map (weighted_calls (unwrap_or run.counts [])) arcs))
+    (calls : List (CallEdge (List ℕ) (List ℕ))) × AreCallsOf run.number t calls × (new ≡ fold with_call old (map (weighted_calls (unwrap_or run.counts [])) calls))
 
 -- and those of runs
 abbrev pub AreTakenFrom : Tables → List Counted → Taken → Taken → Type 0
-AreTakenFrom t runs old new = (rows : List EventArcs) × AreArcsOf runs t rows × (new ≡ fold with_call old (all_arcs rows))
+AreTakenFrom t runs old new = (rows : List EventEdges) × AreEdgesOf runs t rows × (new ≡ fold with_call old (all_edges rows))
 
 -- before the first row
 abbrev pub not_taken : CallSide → Spot → Taken
 not_taken side f = record { function = f; known = false; calls = record { side = side; function = f; sums = [] } }
 
--- whether a function has own costs in a run, or a frame in its stacks
-abbrev pub is_in_cells : Spot → List (CellRow (List ℕ)) → Bool
-is_in_cells f cells = list_any (λ (r : CellRow (List ℕ)). is_one_function (place_of_row r) f) cells
+-- whether a function has self costs in a run, or a frame in its stacks
+abbrev pub is_in_cells : Spot → List (Cell (List ℕ)) → Bool
+is_in_cells f cells = list_any (λ (r : Cell (List ℕ)). is_one_function (place_of_row r) f) cells
 
-abbrev pub is_in_stacks : Spot → List (StackRow (List ℕ)) → Bool
-is_in_stacks f stacks = list_any (λ (r : StackRow (List ℕ)). is_frame f r.stack) stacks
+abbrev pub is_in_stacks : Spot → List (StackCount (List ℕ)) → Bool
+is_in_stacks f stacks = list_any (λ (r : StackCount (List ℕ)). is_frame f r.stack) stacks
 
 abbrev pub is_in_rows : Tables → Spot → Counted → Bool
 is_in_rows t f run = is_in_cells f (cells_held run.number t) || is_in_stacks f (stacks_held run.number t)
 
 -- a function that is looked for in rows, and whether it was found
-abbrev pub with_cell_sought : Spot × Bool → CellRow (List ℕ) → Spot × Bool
+abbrev pub with_cell_sought : Spot × Bool → Cell (List ℕ) → Spot × Bool
 with_cell_sought m row = (m.0, m.1 || is_one_function (place_of_row row) m.0)
 
-abbrev pub with_stack_sought : Spot × Bool → StackRow (List ℕ) → Spot × Bool
+abbrev pub with_stack_sought : Spot × Bool → StackCount (List ℕ) → Spot × Bool
 with_stack_sought m row = (m.0, m.1 || is_frame m.0 row.stack)
 
 -- ---- the text
@@ -91,16 +91,16 @@ abbrev pub text_taken : Tables → List Counted → List ℕ → Taken → Optio
 text_taken t runs event m = if m.known || list_any (is_in_rows t m.function) runs then Some (call_report_text event (call_report_of m.calls)) else None
 
 -- of calls, where one of the runs knows the function
-abbrev pub calls_text_over : Tables → List Counted → CallSide → Spot → List ℕ → List EventArcs → Option (List ℕ)
-calls_text_over t runs side f event arcs =
-    if list_any (touches f) (all_arcs arcs) || list_any (is_in_rows t f) runs
-    then Some (call_report_text event (call_report_of (record { side = side; function = f; sums = calls_by side f (all_arcs arcs) })))
+abbrev pub calls_text_over : Tables → List Counted → CallSide → Spot → List ℕ → List EventEdges → Option (List ℕ)
+calls_text_over t runs side f event calls =
+    if list_any (touches f) (all_edges calls) || list_any (is_in_rows t f) runs
+    then Some (call_report_text event (call_report_of (record { side = side; function = f; sums = calls_by side f (all_edges calls) })))
     else None
 
 abbrev pub IsCallsText : Tables → List Counted → CallSide → Spot → List ℕ → Option (List ℕ) → Type 0
-IsCallsText t runs side f event text = (arcs : List EventArcs) × AreArcsOf runs t arcs × (text ≡ calls_text_over t runs side f event arcs)
+IsCallsText t runs side f event text = (calls : List EventEdges) × AreEdgesOf runs t calls × (text ≡ calls_text_over t runs side f event calls)
 
--- ---- what is answered over the tables, whatever they stand for
+-- ---- what is answered over the tables, whatever they represent
 
 abbrev pub ShowsCalls : Tables → List Counted → CallSide → Spot → List ℕ → Answer → Type 0
 ShowsCalls t runs side f event answer = (text : Option (List ℕ)) × IsCallsText t runs side f event text × (answer ≡ text_or_no_name text)

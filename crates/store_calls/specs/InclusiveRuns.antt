@@ -1,12 +1,12 @@
 -- Inclusive costs over runs of the tables.
 use Rattle.std.specs.Prelude.{◌≡◌, ℕ, List, [], ◌∷◌, ◌++◌, map, fold}
 use Rattle.std.specs.Option.{MatchOption}
-use Rattle.cost_rows.specs.declared.rows.ArcRow.{ArcRow}
-use Rattle.cost_rows.specs.declared.rows.CellRow.{CellRow}
-use Rattle.cost_rows.specs.declared.rows.StackRow.{StackRow}
+use Rattle.cost_rows.specs.declared.rows.CallEdge.{CallEdge}
+use Rattle.cost_rows.specs.declared.rows.Cell.{Cell}
+use Rattle.cost_rows.specs.declared.rows.StackCount.{StackCount}
 use Rattle.report_texts.specs.Calls.{weighted_calls}
 use Rattle.report_texts.specs.Costs.{weighted}
-use Rattle.report_texts.specs.Inclusive.{InclusiveCosts, InclusiveRow, OfOwn, OfCalls, OfStack, inclusive_report, inclusive_text, no_costs, with_inclusive, with_outward, with_own, with_stack}
+use Rattle.report_texts.specs.Inclusive.{InclusiveCosts, InclusiveRow, OfSelf, OfCalls, OfStack, inclusive_report, inclusive_text, no_costs, with_inclusive, with_outward, with_self, with_stack}
 use Rattle.prof_books.specs.Book.{cells_held, stacks_held}
 use Rattle.plain_tables.specs.Tables.{Tables}
 use Rattle.profile_records.specs.declared.kinds.Kind.{Kind}
@@ -21,27 +21,27 @@ use Rattle.selected_runs.specs.declared.counting.Counted.{Counted}
 
 -- ---- one row, of a run whose columns count so often
 
-abbrev pub with_own_row : List ℕ × InclusiveCosts → CellRow (List ℕ) → List ℕ × InclusiveCosts
-with_own_row m row = (m.0, with_own m.1 (weighted m.0 row))
+abbrev pub with_self_row : List ℕ × InclusiveCosts → Cell (List ℕ) → List ℕ × InclusiveCosts
+with_self_row m row = (m.0, with_self m.1 (weighted m.0 row))
 
-abbrev pub with_call_row : List ℕ × InclusiveCosts → ArcRow (List ℕ) (List ℕ) → List ℕ × InclusiveCosts
+abbrev pub with_call_row : List ℕ × InclusiveCosts → CallEdge (List ℕ) (List ℕ) → List ℕ × InclusiveCosts
 with_call_row m row = (m.0, with_outward m.1 (weighted_calls m.0 row))
 
-abbrev pub with_stack_row : List ℕ × InclusiveCosts → StackRow (List ℕ) → List ℕ × InclusiveCosts
+abbrev pub with_stack_row : List ℕ × InclusiveCosts → StackCount (List ℕ) → List ℕ × InclusiveCosts
 with_stack_row m row = (m.0, with_stack m.1 row)
 
 -- ---- the rows of runs
 
-abbrev pub own_rows : List ℕ → List (CellRow (List ℕ)) → List InclusiveRow
-own_rows counts cells = map (λ row. OfOwn (weighted counts row)) cells
+abbrev pub self_rows : List ℕ → List (Cell (List ℕ)) → List InclusiveRow
+self_rows counts cells = map (λ row. OfSelf (weighted counts row)) cells
 
-abbrev pub call_rows : List ℕ → List (ArcRow (List ℕ) (List ℕ)) → List InclusiveRow
-call_rows counts arcs = map (λ row. OfCalls (weighted_calls counts row)) arcs
+abbrev pub call_rows : List ℕ → List (CallEdge (List ℕ) (List ℕ)) → List InclusiveRow
+call_rows counts calls = map (λ row. OfCalls (weighted_calls counts row)) calls
 
--- own costs and calls of a Callgrind run, and the stacks of a folded one
+-- self costs and calls of a Callgrind run, and the stacks of a folded one
 abbrev pub AreRowsOfKind : Kind → Tables → ℕ → List ℕ → List InclusiveRow → Type 0
 AreRowsOfKind Callgrind t number counts rows =
-    (arcs : List (ArcRow (List ℕ) (List ℕ))) × AreCallsOf number t arcs × (rows ≡ own_rows counts (cells_held number t) ++ call_rows counts arcs)
+    (calls : List (CallEdge (List ℕ) (List ℕ))) × AreCallsOf number t calls × (rows ≡ self_rows counts (cells_held number t) ++ call_rows counts calls)
 AreRowsOfKind Folded t number counts rows = rows ≡ map OfStack (stacks_held number t)
 
 -- by the kind that the tables tell
@@ -67,6 +67,6 @@ abbrev pub IsInclusiveText : Tables → List Counted → List ℕ → List ℕ �
 IsInclusiveText t runs event text =
     (costs : InclusiveCosts) × Adds (AreRowsOfRuns t runs) no_costs costs × (text ≡ inclusive_text event (inclusive_report costs))
 
--- what is answered over the tables, whatever they stand for
+-- what is answered over the tables, whatever they represent
 abbrev pub IsInclusive : Tables → Selection → List ℕ → Answer → Type 0
 IsInclusive t s event answer = AnswersBy (AreEventRunsIn t s event) (λ runs. ShowsText (IsInclusiveText t runs event)) answer

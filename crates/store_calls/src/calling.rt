@@ -15,7 +15,7 @@ use cg_text::ListVec;
 use cost_reports::{CallSide, CallSums, calls};
 use histories::{Answer, Refusal, Selection};
 use run_stores::{RunStore, StoreError};
-use selected_runs::{AddsRuns, Counted, add_runs, event_runs};
+use selected_runs::{Counted, RunFold, event_runs, fold_runs};
 use std::alloc::{AllocError, Global};
 
 /// Adds the calls of runs, by the names that are held.
@@ -25,7 +25,7 @@ struct CallsOfRuns<'n, N> {
     names: &'n N,
 }
 
-impl<'n, S: RunStore> AddsRuns<S> for CallsOfRuns<'n, S::Names> {
+impl<'n, S: RunStore> RunFold<S> for CallsOfRuns<'n, S::Names> {
     ghost use Rattle.std.specs.Prelude.{◌≡◌};
     ghost use Rattle.store_calls.specs.FunctionCalls.{IsTakenFrom, taken_of};
 
@@ -33,7 +33,7 @@ impl<'n, S: RunStore> AddsRuns<S> for CallsOfRuns<'n, S::Names> {
 
     type Sums = FunctionCalls<'n>;
 
-    ghost Step = { λ s t run old new. S.name_lines s.names.now ≡ t.names → IsTakenFrom t run (taken_of old) (taken_of new) };
+    ghost Step = { λ s t run old new. S.name_rows s.names.now ≡ t.names → IsTakenFrom t run (taken_of old) (taken_of new) };
 
     fn add(
         &self,
@@ -66,7 +66,7 @@ fn no_calls<'n>(
     })
 }
 
-/// Whether some runs know a function: a call of it was seen, or it has own costs or a frame in a stack.
+/// Whether some runs know a function: a call of it was seen, or it has self costs or a frame in a stack.
 fn is_known<S: RunStore>(
     store: &mut S,
     names: &S::Names,
@@ -75,7 +75,7 @@ fn is_known<S: RunStore>(
     object: &[u8],
     name: &[u8],
 ) -> Result<bool, StoreError>
-    ensures told { Told S.StoreState result store.old store.new (λ t known. S.name_lines names.now ≡ t.names
+    ensures told { Told S.StoreState result store.old store.new (λ t known. S.name_rows names.now ≡ t.names
         → known ≡ is_called || list_any (is_in_rows t (function_spot object.now name.now)) runs.now) }
     ensures asks { AsksIfOpen S.StoreState (is_ok result) store.old store.new }
 {
@@ -85,7 +85,7 @@ fn is_known<S: RunStore>(
     is_in_runs(store, names, runs, object, name)
 }
 
-/// The text of what the calls of a function come to.
+/// The text of what the calls of a function sum to.
 fn text_of_sums(alloc: Global, sums: &CallSums, event: &[u8]) -> Result<ListVec<u8>, AllocError>
     ensures { IfOk result (λ text. text ≡ call_report_text event.now (call_report_of sums.now)) }
 {
@@ -102,7 +102,7 @@ fn text_if_known<S: RunStore>(
     calls: &FunctionCalls<'_>,
     event: &[u8],
 ) -> Result<Option<ListVec<u8>>, StoreError>
-    ensures told { Told S.StoreState result store.old store.new (λ t text. S.name_lines names.now ≡ t.names → text ≡ text_taken t runs.now event.now (taken_of calls.now)) }
+    ensures told { Told S.StoreState result store.old store.new (λ t text. S.name_rows names.now ≡ t.names → text ≡ text_taken t runs.now event.now (taken_of calls.now)) }
     ensures asks { AsksIfOpen S.StoreState (is_ok result) store.old store.new }
 {
     if !is_known(store, names, runs, calls.known, calls.object, calls.name)? {
@@ -131,7 +131,7 @@ fn calls_text<S: RunStore>(
         alloc,
         names: &names,
     };
-    let all = add_runs(store, &adder, runs, none)?;
+    let all = fold_runs(store, &adder, runs, none)?;
     text_if_known(store, alloc, &names, runs, &all, event)
 }
 

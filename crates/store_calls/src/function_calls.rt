@@ -7,8 +7,8 @@ ghost use Rattle.store_calls.specs.FunctionCalls.{taken_of, touches, with_call};
 use crate::weights::{weighed_within, with_cost};
 use cg_text::ListVec;
 use cost_reports::CallSums;
-use cost_rows::ArcRow;
-use run_stores::{StoreError, TakesCalls};
+use cost_rows::CallEdge;
+use run_stores::{CallSink, StoreError};
 use selected_runs::is_within;
 
 /// The calls of a function that are asked, and whether any call was from it or to it.
@@ -21,7 +21,7 @@ pub(crate) struct FunctionCalls<'a> {
 }
 
 /// Whether calls are from a function or to it.
-fn touches(row: &ArcRow<&[u8], u128>, object: &[u8], name: &[u8]) -> bool
+fn touches(row: &CallEdge<&[u8], u128>, object: &[u8], name: &[u8]) -> bool
     ensures { result ≡ touches (function_spot object.now name.now) (calls_of_row row.now) }
 {
     (row.object == object && row.function == name)
@@ -30,7 +30,7 @@ fn touches(row: &ArcRow<&[u8], u128>, object: &[u8], name: &[u8]) -> bool
 
 impl FunctionCalls<'_> {
     /// Adds a row of calls.
-    fn add(&mut self, row: &ArcRow<&[u8], u128>) -> Result<(), StoreError>
+    fn add(&mut self, row: &CallEdge<&[u8], u128>) -> Result<(), StoreError>
         ensures { OnOk result (taken_of self.new ≡ with_call (taken_of self.old) (calls_of_row row.now)) }
     {
         if !is_within(self.sums.cost(), row.costs) || !is_within(self.sums.count(), row.count) {
@@ -49,7 +49,7 @@ pub(crate) struct CallRows<'a, 'n> {
     pub calls: FunctionCalls<'n>,
 }
 
-impl TakesCalls for CallRows<'_, '_> {
+impl CallSink for CallRows<'_, '_> {
     ghost use Rattle.std.specs.Prelude.{List, ℕ};
     ghost use Rattle.store_calls.specs.FunctionCalls.{Taken, taken_of, with_row_of_calls};
 
@@ -59,7 +59,7 @@ impl TakesCalls for CallRows<'_, '_> {
 
     ghost step = { with_row_of_calls };
 
-    fn take(&mut self, row: &ArcRow<&[u8], ListVec<u128>>) -> Result<(), StoreError> {
+    fn take(&mut self, row: &CallEdge<&[u8], ListVec<u128>>) -> Result<(), StoreError> {
         let Some(cost) = weighed_within(self.counts, row.costs.as_slice()) else {
             return Err(StoreError::Store);
         };

@@ -4,7 +4,7 @@ ghost use Rattle.std.specs.List.{AllByRecursion};
 ghost use Rattle.std.specs.Result.{is_ok};
 ghost use Rattle.report_texts.specs.Inclusive.{inclusive_report, inclusive_text};
 ghost use Rattle.profile_records.specs.declared.kinds.Kind.TheVariants.{Callgrind, Folded};
-ghost use Rattle.plain_tables.specs.RunLines.{cells_in};
+ghost use Rattle.plain_tables.specs.RunRows.{cells_in};
 ghost use Rattle.run_stores.specs.Calls.{Told, AsksIfOpen};
 ghost use Rattle.run_stores.specs.Walks.{IsOfAnEvent};
 ghost use Rattle.histories.specs.declared.answers.Query.TheVariants.{Inclusive};
@@ -17,10 +17,10 @@ use cost_reports::{InclusiveSums, inclusive};
 use histories::{Answer, Selection};
 use profile_records::Kind;
 use run_stores::{RunStore, StoreError};
-use selected_runs::{AddsRuns, Counted, add_runs, event_runs};
+use selected_runs::{Counted, RunFold, event_runs, fold_runs};
 use std::alloc::{AllocError, Global};
 
-/// Adds the own costs and the calls of a Callgrind run.
+/// Adds the self costs and the calls of a Callgrind run.
 fn add_callgrind<S: RunStore>(
     store: &mut S,
     alloc: Global,
@@ -29,7 +29,7 @@ fn add_callgrind<S: RunStore>(
     counts: &[u64],
     sums: InclusiveSums,
 ) -> Result<InclusiveSums, StoreError>
-    ensures told { Told S.StoreState result store.old store.new (λ t all. S.name_lines names.now ≡ t.names
+    ensures told { Told S.StoreState result store.old store.new (λ t all. S.name_rows names.now ≡ t.names
         → Adds (AreRowsOfKind Callgrind t run.now.number counts.now) sums all) }
     ensures of_events { Told S.StoreState result store.old store.new (λ t _. AllByRecursion (IsOfAnEvent run.now.events) (cells_in run.now.number t)) }
     ensures asks { AsksIfOpen S.StoreState (is_ok result) store.old store.new }
@@ -66,7 +66,7 @@ fn add_rows<S: RunStore>(
     counts: &[u64],
     sums: InclusiveSums,
 ) -> Result<InclusiveSums, StoreError>
-    ensures told { Told S.StoreState result store.old store.new (λ t all. S.name_lines names.now ≡ t.names → Adds (AreRowsCounted t run.now.number counts.now) sums all) }
+    ensures told { Told S.StoreState result store.old store.new (λ t all. S.name_rows names.now ≡ t.names → Adds (AreRowsCounted t run.now.number counts.now) sums all) }
     ensures asks { AsksIfOpen S.StoreState (is_ok result) store.old store.new }
 {
     match store.kind_of(run.number)? {
@@ -82,7 +82,7 @@ struct InclusiveOfRuns<'n, N> {
     names: &'n N,
 }
 
-impl<S: RunStore> AddsRuns<S> for InclusiveOfRuns<'_, S::Names> {
+impl<S: RunStore> RunFold<S> for InclusiveOfRuns<'_, S::Names> {
     ghost use Rattle.std.specs.Prelude.{◌≡◌};
     ghost use Rattle.store_calls.specs.InclusiveRuns.{Adds, AreRowsOf};
 
@@ -90,7 +90,7 @@ impl<S: RunStore> AddsRuns<S> for InclusiveOfRuns<'_, S::Names> {
 
     type Sums = InclusiveSums;
 
-    ghost Step = { λ s t run old new. S.name_lines s.names.now ≡ t.names → Adds (AreRowsOf t run) old new };
+    ghost Step = { λ s t run old new. S.name_rows s.names.now ≡ t.names → Adds (AreRowsOf t run) old new };
 
     fn add(
         &self,
@@ -125,11 +125,11 @@ fn text_of_runs<S: RunStore>(
     runs: &[Counted],
     event: &[u8],
 ) -> Result<ListVec<u8>, StoreError>
-    ensures told { Told S.StoreState result store.old store.new (λ t text. S.name_lines names.now ≡ t.names → IsInclusiveText t runs.now event.now text) }
+    ensures told { Told S.StoreState result store.old store.new (λ t text. S.name_rows names.now ≡ t.names → IsInclusiveText t runs.now event.now text) }
     ensures asks { AsksIfOpen S.StoreState (is_ok result) store.old store.new }
 {
     let adder = InclusiveOfRuns { alloc, names };
-    let sums = add_runs(store, &adder, runs, InclusiveSums::new(alloc))?;
+    let sums = fold_runs(store, &adder, runs, InclusiveSums::new(alloc))?;
     Ok(text_of_sums(alloc, &sums, event)?)
 }
 

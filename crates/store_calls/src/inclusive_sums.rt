@@ -2,8 +2,8 @@
 use crate::weights::{most_of, weighed_within, with_cost};
 use cg_text::ListVec;
 use cost_reports::InclusiveSums;
-use cost_rows::{ArcRow, CellRow, StackRow};
-use run_stores::{StoreError, TakesCalls, TakesCells, TakesStacks};
+use cost_rows::{CallEdge, Cell, StackCount};
+use run_stores::{CallSink, CellSink, StackRowSink, StoreError};
 use selected_runs::{is_within, weighted_within};
 
 /// Inclusive costs, and how often each column of the run that is read counts in the event.
@@ -13,30 +13,30 @@ pub(crate) struct InclusiveRows<'a> {
     pub sums: InclusiveSums,
 }
 
-impl TakesCells for InclusiveRows<'_> {
+impl CellSink for InclusiveRows<'_> {
     ghost use Rattle.std.specs.Prelude.{List, ℕ};
     ghost use Rattle.report_texts.specs.Inclusive.{InclusiveCosts};
-    ghost use Rattle.store_calls.specs.InclusiveRuns.{with_own_row};
+    ghost use Rattle.store_calls.specs.InclusiveRuns.{with_self_row};
 
     ghost Meaning = { List ℕ × InclusiveCosts };
 
     ghost meaning = { λ s. (s.counts.now, s.sums) };
 
-    ghost step = { with_own_row };
+    ghost step = { with_self_row };
 
-    fn take(&mut self, row: &CellRow<&[u8]>) -> Result<(), StoreError> {
+    fn take(&mut self, row: &Cell<&[u8]>) -> Result<(), StoreError> {
         let Some(cell) = weighted_within(self.sums.sum(), self.counts, row) else {
             return Err(StoreError::Store);
         };
         if !is_within(self.sums.total(), cell.cost) {
             return Err(StoreError::Store);
         }
-        self.sums.add_own(&cell)?;
+        self.sums.add_self(&cell)?;
         Ok(())
     }
 }
 
-impl TakesCalls for InclusiveRows<'_> {
+impl CallSink for InclusiveRows<'_> {
     ghost use Rattle.std.specs.Prelude.{List, ℕ};
     ghost use Rattle.report_texts.specs.Inclusive.{InclusiveCosts};
     ghost use Rattle.store_calls.specs.InclusiveRuns.{with_call_row};
@@ -47,7 +47,7 @@ impl TakesCalls for InclusiveRows<'_> {
 
     ghost step = { with_call_row };
 
-    fn take(&mut self, row: &ArcRow<&[u8], ListVec<u128>>) -> Result<(), StoreError> {
+    fn take(&mut self, row: &CallEdge<&[u8], ListVec<u128>>) -> Result<(), StoreError> {
         let Some(cost) = weighed_within(self.counts, row.costs.as_slice()) else {
             return Err(StoreError::Store);
         };
@@ -59,7 +59,7 @@ impl TakesCalls for InclusiveRows<'_> {
     }
 }
 
-impl TakesStacks for InclusiveRows<'_> {
+impl StackRowSink for InclusiveRows<'_> {
     ghost use Rattle.std.specs.Prelude.{List, ℕ};
     ghost use Rattle.report_texts.specs.Inclusive.{InclusiveCosts};
     ghost use Rattle.store_calls.specs.InclusiveRuns.{with_stack_row};
@@ -70,7 +70,7 @@ impl TakesStacks for InclusiveRows<'_> {
 
     ghost step = { with_stack_row };
 
-    fn take(&mut self, row: &StackRow<&[u8]>) -> Result<(), StoreError> {
+    fn take(&mut self, row: &StackCount<&[u8]>) -> Result<(), StoreError> {
         let Some(most) = most_of(row.stack.len(), row.count) else {
             return Err(StoreError::Store);
         };

@@ -3,15 +3,15 @@ ghost use Rattle.std.specs.Prelude.{◌≡◌};
 ghost use Rattle.std.specs.List.{list_any, AllByRecursion};
 ghost use Rattle.std.specs.Result.{is_ok};
 ghost use Rattle.report_texts.specs.Functions.{function_spot};
-ghost use Rattle.plain_tables.specs.RunLines.{cells_in};
+ghost use Rattle.plain_tables.specs.RunRows.{cells_in};
 ghost use Rattle.run_stores.specs.Calls.{Told, AsksIfOpen};
 ghost use Rattle.run_stores.specs.Walks.{IsOfAnEvent};
 ghost use Rattle.store_calls.specs.FunctionCalls.{is_in_rows};
 
 use cost_reports::is_frame;
-use cost_rows::{CellRow, StackRow};
-use run_stores::{RunStore, StoreError, TakesCells, TakesStacks};
-use selected_runs::{AddsRuns, Counted, add_runs};
+use cost_rows::{Cell, StackCount};
+use run_stores::{CellSink, RunStore, StackRowSink, StoreError};
+use selected_runs::{Counted, RunFold, fold_runs};
 
 /// A function, and whether it was found.
 #[derive(Drop)]
@@ -21,7 +21,7 @@ struct Sought<'a> {
     found: bool,
 }
 
-impl TakesCells for Sought<'_> {
+impl CellSink for Sought<'_> {
     ghost use Rattle.std.specs.Prelude.{Bool};
     ghost use Rattle.cost_rows.specs.Sums.{Spot};
     ghost use Rattle.report_texts.specs.Functions.{function_spot};
@@ -33,13 +33,13 @@ impl TakesCells for Sought<'_> {
 
     ghost step = { with_cell_sought };
 
-    fn take(&mut self, row: &CellRow<&[u8]>) -> Result<(), StoreError> {
+    fn take(&mut self, row: &Cell<&[u8]>) -> Result<(), StoreError> {
         self.found = self.found || (row.object == self.object && row.function == self.name);
         Ok(())
     }
 }
 
-impl TakesStacks for Sought<'_> {
+impl StackRowSink for Sought<'_> {
     ghost use Rattle.std.specs.Prelude.{Bool};
     ghost use Rattle.cost_rows.specs.Sums.{Spot};
     ghost use Rattle.report_texts.specs.Functions.{function_spot};
@@ -51,13 +51,13 @@ impl TakesStacks for Sought<'_> {
 
     ghost step = { with_stack_sought };
 
-    fn take(&mut self, row: &StackRow<&[u8]>) -> Result<(), StoreError> {
+    fn take(&mut self, row: &StackCount<&[u8]>) -> Result<(), StoreError> {
         self.found = self.found || is_frame(row.stack, self.object, self.name);
         Ok(())
     }
 }
 
-/// Whether a function has own costs in a run, or a frame in its stacks.
+/// Whether a function has self costs in a run, or a frame in its stacks.
 fn is_in_run<S: RunStore>(
     store: &mut S,
     names: &S::Names,
@@ -65,7 +65,7 @@ fn is_in_run<S: RunStore>(
     object: &[u8],
     name: &[u8],
 ) -> Result<bool, StoreError>
-    ensures told { Told S.StoreState result store.old store.new (λ t found. S.name_lines names.now ≡ t.names → found ≡ is_in_rows t (function_spot object.now name.now) run.now) }
+    ensures told { Told S.StoreState result store.old store.new (λ t found. S.name_rows names.now ≡ t.names → found ≡ is_in_rows t (function_spot object.now name.now) run.now) }
     ensures of_events { Told S.StoreState result store.old store.new (λ t _. AllByRecursion (IsOfAnEvent run.now.events) (cells_in run.now.number t)) }
     ensures asks { AsksIfOpen S.StoreState (is_ok result) store.old store.new }
 {
@@ -87,7 +87,7 @@ struct SeeksFunction<'a, N> {
     name: &'a [u8],
 }
 
-impl<S: RunStore> AddsRuns<S> for SeeksFunction<'_, S::Names> {
+impl<S: RunStore> RunFold<S> for SeeksFunction<'_, S::Names> {
     ghost use Rattle.std.specs.Prelude.{◌≡◌, ◌||◌};
     ghost use Rattle.report_texts.specs.Functions.{function_spot};
     ghost use Rattle.store_calls.specs.FunctionCalls.{is_in_rows};
@@ -96,7 +96,7 @@ impl<S: RunStore> AddsRuns<S> for SeeksFunction<'_, S::Names> {
 
     type Sums = bool;
 
-    ghost Step = { λ s t run old new. S.name_lines s.names.now ≡ t.names → new ≡ old || is_in_rows t (function_spot s.object.now s.name.now) run };
+    ghost Step = { λ s t run old new. S.name_rows s.names.now ≡ t.names → new ≡ old || is_in_rows t (function_spot s.object.now s.name.now) run };
 
     fn add(&self, store: &mut S, run: &Counted, found: bool) -> Result<bool, StoreError> {
         if found {
@@ -106,7 +106,7 @@ impl<S: RunStore> AddsRuns<S> for SeeksFunction<'_, S::Names> {
     }
 }
 
-/// Whether a function has own costs in one of some runs, or a frame in a stack.
+/// Whether a function has self costs in one of some runs, or a frame in a stack.
 pub(crate) fn is_in_runs<S: RunStore>(
     store: &mut S,
     names: &S::Names,
@@ -114,7 +114,7 @@ pub(crate) fn is_in_runs<S: RunStore>(
     object: &[u8],
     name: &[u8],
 ) -> Result<bool, StoreError>
-    ensures told { Told S.StoreState result store.old store.new (λ t found. S.name_lines names.now ≡ t.names
+    ensures told { Told S.StoreState result store.old store.new (λ t found. S.name_rows names.now ≡ t.names
         → found ≡ list_any (is_in_rows t (function_spot object.now name.now)) runs.now) }
     ensures asks { AsksIfOpen S.StoreState (is_ok result) store.old store.new }
 {
@@ -123,5 +123,5 @@ pub(crate) fn is_in_runs<S: RunStore>(
         object,
         name,
     };
-    add_runs(store, &seeker, runs, false)
+    fold_runs(store, &seeker, runs, false)
 }

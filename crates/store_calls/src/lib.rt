@@ -1,6 +1,6 @@
 //! Inclusive costs and calls over a store: questions of what functions cost with all that they call, of who
 //! calls a function and of whom it calls, answered over the runs that a selection names. The answers are those
-//! of the files: the rows of these runs come to their records.
+//! of the files: the rows of these runs sum to their records.
 #![tactic(auto)]
 
 // Answers `callers` and `callees` (specs/FunctionCalls.antt).

@@ -6,7 +6,7 @@ ghost use Rattle.run_stores.specs.Walks.{plain_given};
 ghost use Rattle.store_calls.specs.FunctionCalls.{calls_costing};
 
 use cg_text::ListVec;
-use cost_rows::ArcRow;
+use cost_rows::CallEdge;
 use selected_runs::cost_within;
 
 /// The cost of a column: past the last one there is none.
@@ -16,7 +16,7 @@ fn cost_of(costs: &[u128], column: usize) -> u128
     costs.get(column).copied().unwrap_or(0)
 }
 
-/// What the costs of columns come to, each as often as it counts, where that stays within the bound.
+/// What the costs of columns sum to, each as often as it counts, where that stays within the bound.
 pub(crate) fn weighed_within(counts: &[u64], costs: &[u128]) -> Option<u128>
     ensures { IfSome result (λ n. (n ≡ weighed counts.now costs.now) × (n < 2 ^ 112)) }
 {
@@ -38,12 +38,12 @@ pub(crate) fn most_of(bytes: usize, count: u128) -> Option<u128>
 
 /// A row of calls that cost so much in the event.
 pub(crate) fn with_cost<'a>(
-    row: &ArcRow<&'a [u8], ListVec<u128>>,
+    row: &CallEdge<&'a [u8], ListVec<u128>>,
     cost: u128,
-) -> ArcRow<&'a [u8], u128>
+) -> CallEdge<&'a [u8], u128>
     ensures { calls_of_row result ≡ calls_costing (plain_given row.now) cost }
 {
-    ArcRow {
+    CallEdge {
         object: row.object,
         file: row.file,
         function: row.function,

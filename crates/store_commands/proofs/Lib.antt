@@ -1,2 +1,2 @@
-mod Dues
+mod Expectations
 mod ListLemmas

@@ -3,7 +3,7 @@ use Rattle.std.specs.Prelude.{◌≡◌, Bool, true, false, List, ℕ, nat_le, l
 use Rattle.plain_tables.specs.Changes.{has_group, has_run, with_group, without_group, without_run, joined, without_member, with_baseline}
 use Rattle.plain_tables.specs.Tables.{Tables}
 use Rattle.histories.specs.History as history
-use Rattle.histories.specs.History.{Said}
+use Rattle.histories.specs.History.{Command}
 use Rattle.histories.specs.declared.answers.Answer.{Answer}
 use Rattle.histories.specs.declared.answers.Answer.TheVariants as answers
 use Rattle.histories.specs.declared.answers.Refusal.{Refusal}
@@ -22,12 +22,12 @@ changed (Leave n) name t = without_member name n t
 changed (SetBaseline n) name t = with_baseline name n t
 
 -- the command that asks for it
-abbrev pub change_said : GroupChange → List ℕ → Said
-change_said Make name = history.MakeGroup name
-change_said Drop name = history.DropGroup name
-change_said (Join n) name = history.Join name n
-change_said (Leave n) name = history.Leave name n
-change_said (SetBaseline n) name = history.SetBaseline name n
+abbrev pub command_from_change : GroupChange → List ℕ → Command
+command_from_change Make name = history.MakeGroup name
+command_from_change Drop name = history.DropGroup name
+command_from_change (Join n) name = history.Join name n
+command_from_change (Leave n) name = history.Leave name n
+command_from_change (SetBaseline n) name = history.SetBaseline name n
 
 -- why a group is not made: its name is taken, or there are as many as there may be
 abbrev pub unmade_for : Bool → Bool → Option Refusal
@@ -51,7 +51,7 @@ unnamed_for (Join n) = NoSuchGroup
 unnamed_for (Leave n) = NoSuchGroup
 unnamed_for (SetBaseline n) = NoSuchGroup
 
--- ---- over lines of tables, whatever they stand for
+-- ---- over lines of tables, whatever they represent
 
 -- a change is refused and they stay, or it is done and they become what it makes of them
 module _ (Left : Tables → Type 0) where

@@ -14,7 +14,7 @@ entry_line e = run_text e.number e.kind e.digest (string_bytes e.label)
 abbrev pub group_entry_line : GroupEntry → List ℕ
 group_entry_line e = group_line (string_bytes e.name) e.baseline e.members
 
--- ---- what is listed of tables, whatever they stand for
+-- ---- what is listed of tables, whatever they represent
 
 -- the runs, a line for each
 pub record IsListOfRuns (t : Tables) (text : List ℕ) : Type 0 where

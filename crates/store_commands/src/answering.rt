@@ -6,7 +6,7 @@ ghost use Rattle.histories.specs.History.{Remove};
 ghost use Rattle.histories.specs.declared.answers.Answer.TheVariants.{Refused};
 ghost use Rattle.store_histories.specs.Answered.{Answers};
 ghost use Rattle.store_histories.specs.FromTables.{WasChangedIn};
-ghost use Rattle.store_commands.specs.Changes.{GroupsIn, RemovesIn, change_said, unnamed_for};
+ghost use Rattle.store_commands.specs.Changes.{GroupsIn, RemovesIn, command_from_change, unnamed_for};
 
 use crate::changes::{GroupChange, change_group, group_name, remove, unnamed};
 use histories::{Answer, Limits};
@@ -28,7 +28,7 @@ pub fn change_in<S: RunStore>(
     name: &[u8],
     change: GroupChange,
 ) -> Answer
-    ensures answered { IsFaithful S.StoreState store.new → Answers S.StoreState limits (change_said change name.now) result store.old store.new }
+    ensures answered { IsFaithful S.StoreState store.new → Answers S.StoreState limits (command_from_change change name.now) result store.old store.new }
     ensures found { IsGroupName name.now → WasChangedIn S.StoreState (GroupsIn limits change name.now) result store.old store.new }
     ensures unnamed { (IsGroupName name.now → ⊥) → (result ≡ Refused (unnamed_for change)) × (store.new ≡ store.old) }
 {

@@ -4,12 +4,12 @@ ghost use Rattle.std.specs.Bool.{⊤};
 ghost use Rattle.std.specs.Result.{is_ok};
 ghost use Rattle.plain_tables.specs.Changes.{has_run, has_group};
 ghost use Rattle.plain_tables.specs.Labels.{IsGroupName};
-ghost use Rattle.run_stores.specs.Calls.{Asks, ChangesIf, IsFaithful, KeepsShut, Made, StandsFor, Told};
+ghost use Rattle.run_stores.specs.Calls.{Asks, ChangesIf, IsFaithful, KeepsShut, Made, Represents, Told};
 ghost use Rattle.histories.specs.History.{History, Remove};
 ghost use Rattle.histories.specs.declared.limits.Limits.{Limits};
-ghost use Rattle.store_histories.specs.Answered.{StandsForHistory, WasDue, TurnsIf, has_changed};
+ghost use Rattle.store_histories.specs.Answered.{RepresentsHistory, WasExpected, StepsToIf, has_changed};
 ghost use Rattle.store_histories.specs.Refusals.{missing_of};
-ghost use Rattle.store_commands.specs.Changes.{GroupsIn, RemovesIn, changed, change_said, refusal_for, unmade_for, unnamed_for};
+ghost use Rattle.store_commands.specs.Changes.{GroupsIn, RemovesIn, changed, command_from_change, refusal_for, unmade_for, unnamed_for};
 
 use histories::{Answer, Limits, Refusal};
 use run_stores::{RunStore, StoreError, is_group_name};
@@ -45,12 +45,12 @@ pub enum GroupChange {
 
 /// Drops a run.
 pub(crate) fn remove<S: RunStore>(store: &mut S, number: u32) -> Result<Answer, StoreError>
-    ensures answered { IsFaithful S.StoreState store.new → (limits : Limits) (h : History) → StandsForHistory S.StoreState h store.old
-        → IfOk result (λ answer. WasDue S.StoreState limits h (Remove number) answer store.new) }
-    ensures turns { (limits : Limits) → TurnsIf S.StoreState limits (Remove number) (is_ok result) (has_changed result) store.old store.new }
+    ensures answered { IsFaithful S.StoreState store.new → (limits : Limits) (h : History) → RepresentsHistory S.StoreState h store.old
+        → IfOk result (λ answer. WasExpected S.StoreState limits h (Remove number) answer store.new) }
+    ensures steps { (limits : Limits) → StepsToIf S.StoreState limits (Remove number) (is_ok result) (has_changed result) store.old store.new }
     ensures shut { KeepsShut S.StoreState store.old store.new }
     ensures told { Told S.StoreState result store.old store.new (RemovesIn number (λ _. ⊤)) }
-    ensures made { Made S.StoreState result store.old store.new (RemovesIn number (λ left. StandsFor S.StoreState left store.new)) }
+    ensures made { Made S.StoreState result store.old store.new (RemovesIn number (λ left. Represents S.StoreState left store.new)) }
 {
     if !store.has_run(number)? {
         return Ok(Answer::Refused(Refusal::NoSuchRun));
@@ -152,12 +152,12 @@ pub(crate) fn change_group<S: RunStore>(
     change: GroupChange,
 ) -> Result<Answer, StoreError>
     requires { IsGroupName name.now }
-    ensures answered { IsFaithful S.StoreState store.new → (h : History) → StandsForHistory S.StoreState h store.old
-        → IfOk result (λ answer. WasDue S.StoreState limits h (change_said change name.now) answer store.new) }
-    ensures turns { TurnsIf S.StoreState limits (change_said change name.now) (is_ok result) (has_changed result) store.old store.new }
+    ensures answered { IsFaithful S.StoreState store.new → (h : History) → RepresentsHistory S.StoreState h store.old
+        → IfOk result (λ answer. WasExpected S.StoreState limits h (command_from_change change name.now) answer store.new) }
+    ensures steps { StepsToIf S.StoreState limits (command_from_change change name.now) (is_ok result) (has_changed result) store.old store.new }
     ensures shut { KeepsShut S.StoreState store.old store.new }
     ensures told { Told S.StoreState result store.old store.new (GroupsIn limits change name.now (λ _. ⊤)) }
-    ensures made { Made S.StoreState result store.old store.new (GroupsIn limits change name.now (λ left. StandsFor S.StoreState left store.new)) }
+    ensures made { Made S.StoreState result store.old store.new (GroupsIn limits change name.now (λ left. Represents S.StoreState left store.new)) }
 {
     if let Some(refusal) = refusal_of(store, limits, name, change)? {
         return Ok(Answer::Refused(refusal));

@@ -11,7 +11,7 @@ use Rattle.cost_exports.proofs.KnownLemmas.{known-records}
 use Rattle.cost_exports.proofs.LineLemmas.{annotation-records}
 use Rattle.report_texts.specs.Costs.{all_rows, weighted}
 use Rattle.cost_rows.specs.Walks.{HaveCosts}
-use Rattle.cost_rows.specs.declared.rows.CellRow.{CellRow}
+use Rattle.cost_rows.specs.declared.rows.Cell.{Cell}
 use Rattle.prof_books.specs.Book.{cells_held}
 use Rattle.plain_tables.specs.Tables.{Tables}
 use Rattle.histories.specs.Exports.{annotated_text, knows_source}
@@ -19,7 +19,7 @@ use Rattle.histories.specs.History.{History, File, held}
 use Rattle.histories.specs.Legal.{expected_of_query, first_or, no_source, when}
 use Rattle.histories.specs.Reports.{event_records}
 use Rattle.histories.specs.Selections.{selected}
-use Rattle.histories.specs.Stands.{TablesTell}
+use Rattle.histories.specs.Representation.{TablesRepresent}
 use Rattle.histories.specs.declared.answers.Answer.{Answer}
 use Rattle.histories.specs.declared.answers.Answer.TheVariants.{Text, Refused}
 use Rattle.histories.specs.declared.answers.Query.TheVariants as queries
@@ -39,10 +39,10 @@ use Rattle.store_exports.specs.Annotated.{IsAnnotated, annotated_if_known, annot
 
 -- ---- cells that are added
 
-abbrev pub taken : List ℕ × FileCosts → CellRow (List ℕ) → List ℕ × FileCosts
+abbrev pub taken : List ℕ × FileCosts → Cell (List ℕ) → List ℕ × FileCosts
 taken m row = (m.0, with_line m.1 (weighted m.0 row))
 
-pub lines_taken : (counts : List ℕ) (costs : FileCosts) (cells : List (CellRow (List ℕ))) → fold taken (counts, costs) cells ≡ (counts, fold with_line costs (map (weighted counts) cells))
+pub lines_taken : (counts : List ℕ) (costs : FileCosts) (cells : List (Cell (List ℕ))) → fold taken (counts, costs) cells ≡ (counts, fold with_line costs (map (weighted counts) cells))
 lines_taken counts costs [] = refl
 lines_taken counts costs (cell ∷ cells) = lines_taken counts (with_line costs (weighted counts cell)) cells
 
@@ -72,19 +72,19 @@ text_found t event name source runs costs text is known are =
 
 -- ---- from runs to files
 
-costs_each : (h : History) (t : Tables) (event : List ℕ) → TablesTell h t → (files : List File) (runs : List Counted) → AllByRecursion (Has (held h)) files → AreRunsOf event files runs → HaveCostsEach (map (event_cells t) runs)
-costs_each h t event tell [] [] all are = tt
-costs_each h t event tell [] (run ∷ runs) all are = absurd are
-costs_each h t event tell (f ∷ files) [] all are = absurd are
-costs_each h t event tell (f ∷ files) (run ∷ runs) all are =
-    let above : HaveCosts (cells_held f.number t) = (tells_rows h t tell f all.0).cells_above in
-    (subst (λ n. HaveCosts (cells_held n t)) (sym are.0.number) above, costs_each h t event tell files runs all.1 are.1)
+costs_each : (h : History) (t : Tables) (event : List ℕ) → TablesRepresent h t → (files : List File) (runs : List Counted) → AllByRecursion (Has (held h)) files → AreRunsOf event files runs → HaveCostsEach (map (event_cells t) runs)
+costs_each h t event represent [] [] all are = tt
+costs_each h t event represent [] (run ∷ runs) all are = absurd are
+costs_each h t event represent (f ∷ files) [] all are = absurd are
+costs_each h t event represent (f ∷ files) (run ∷ runs) all are =
+    let above : HaveCosts (cells_held f.number t) = (tells_rows h t represent f all.0).cells_above in
+    (subst (λ n. HaveCosts (cells_held n t)) (sym are.0.number) above, costs_each h t event represent files runs all.1 are.1)
 
 known_by_files : (event name : List ℕ) (files : List File) → know_file name (map (event_records event) files) ≡ list_any (knows_source name) files
 known_by_files event name [] = refl
 known_by_files event name (f ∷ files) = ap (λ b. knows_source name f || b) (known_by_files event name files)
 
-file_stays : (costs : FileCosts) (rows : List (CellRow (List ℕ))) → (fold with_line costs rows).file ≡ costs.file
+file_stays : (costs : FileCosts) (rows : List (Cell (List ℕ))) → (fold with_line costs rows).file ≡ costs.file
 file_stays costs [] = refl
 file_stays costs (row ∷ rows) = file_stays (with_line costs row) rows ∙ one (bytes_eq row.file costs.file)
   where
@@ -94,15 +94,15 @@ file_stays costs (row ∷ rows) = file_stays (with_line costs row) rows ∙ one 
 
 -- ---- the answers
 
-due_of : (h : History) (t : Tables) (s : Selection) (event name source : List ℕ) (runs : List Counted) (text : Option (List ℕ)) → TablesTell h t → AreEventRuns h t s event (Ok runs)
+expected_of : (h : History) (t : Tables) (s : Selection) (event name source : List ℕ) (runs : List Counted) (text : Option (List ℕ)) → TablesRepresent h t → AreEventRuns h t s event (Ok runs)
     → text ≡ annotated_over t runs event name source → text_or_no_name text ≡ expected_of_query h (queries.Annotate s event name source)
-due_of h t s event name source runs text tell found is =
+expected_of h t s event name source runs text represent found is =
     let files = selected h s in
     let records = map (event_records event) files in
     let cells = map (event_cells t) runs in
     let all = selected_held h s in
-    let stand = runs_stand h t s event runs tell found.2 in
-    let above = costs_each h t event tell files runs all (are_runs h t event tell files runs all found.2) in
+    let stand = runs_stand h t s event runs represent found.2 in
+    let above = costs_each h t event represent files runs all (are_runs h t event represent files runs all found.2) in
     let lines = lines_over t runs name in
     let known : lines.known ≡ list_any (knows_source name) files = known-records name records cells stand above ∙ known_by_files event name files in
     let shown : annotation_text event (annotation_of lines.file source lines.costs) ≡ annotated_text event name source files =
@@ -121,11 +121,11 @@ refused_of : (h : History) (t : Tables) (s : Selection) (event name source : Lis
 refused_of h t s event name source refusal found =
     sym (found (no_source name (selected h s) ∷ []) (Text (annotated_text event name source (selected h s))))
 
-due_by : (h : History) (t : Tables) (s : Selection) (event name source : List ℕ) (found : Result (List Counted) Refusal) (answer : Answer) → TablesTell h t → AreEventRunsIn t s event found
+expected_by : (h : History) (t : Tables) (s : Selection) (event name source : List ℕ) (found : Result (List Counted) Refusal) (answer : Answer) → TablesRepresent h t → AreEventRunsIn t s event found
     → AnswersFor (λ runs given. given ≡ text_or_no_name (annotated_over t runs event name source)) found answer → answer ≡ expected_of_query h (queries.Annotate s event name source)
-due_by h t s event name source (Ok runs) answer tell found is = is ∙ due_of h t s event name source runs _ tell (event_runs_told h t s event (Ok runs) tell found) refl
-due_by h t s event name source (Err refusal) answer tell found is = is ∙ refused_of h t s event name source refusal (event_runs_told h t s event (Err refusal) tell found)
+expected_by h t s event name source (Ok runs) answer represent found is = is ∙ expected_of h t s event name source runs _ represent (event_runs_told h t s event (Ok runs) represent found) refl
+expected_by h t s event name source (Err refusal) answer represent found is = is ∙ refused_of h t s event name source refusal (event_runs_told h t s event (Err refusal) represent found)
 
-pub annotation_is_due : (s : Selection) (event name source : List ℕ) (h : History) (t : Tables) (answer : Answer) → TablesTell h t → IsAnnotated t s event name source answer
+pub annotation_is_expected : (s : Selection) (event name source : List ℕ) (h : History) (t : Tables) (answer : Answer) → TablesRepresent h t → IsAnnotated t s event name source answer
     → answer ≡ expected_of_query h (queries.Annotate s event name source)
-annotation_is_due s event name source h t answer tell is = due_by h t s event name source is.found answer tell is.is_found is.answer_is
+annotation_is_expected s event name source h t answer represent is = expected_by h t s event name source is.found answer represent is.is_found is.answer_is

@@ -9,7 +9,7 @@ use Rattle.cost_exports.proofs.StackLemmas.{same_folded}
 use Rattle.report_texts.specs.Inclusive.{SameStacks}
 use Rattle.cost_rows.specs.StackSums.{frames_sum}
 use Rattle.cost_rows.specs.WalkSums.{stacks_count}
-use Rattle.cost_rows.specs.declared.rows.StackRow.{StackRow}
+use Rattle.cost_rows.specs.declared.rows.StackCount.{StackCount}
 use Rattle.prof_books.specs.Book.{stacks_held}
 use Rattle.plain_tables.specs.Tables.{Tables}
 use Rattle.profile_records.specs.Stacks.{Seen}
@@ -17,7 +17,7 @@ use Rattle.histories.specs.Exports.{file_stacks, folded_of_files}
 use Rattle.histories.specs.History.{History, File, held}
 use Rattle.histories.specs.Legal.{expected_of_query, first_or}
 use Rattle.histories.specs.Selections.{numbers_of, selected}
-use Rattle.histories.specs.Stands.{TablesTell}
+use Rattle.histories.specs.Representation.{TablesRepresent}
 use Rattle.histories.specs.declared.answers.Answer.{Answer}
 use Rattle.histories.specs.declared.answers.Answer.TheVariants.{Text, Refused}
 use Rattle.histories.specs.declared.answers.Query.TheVariants as queries
@@ -42,7 +42,7 @@ stacks_added sums t (number ∷ numbers) before after all =
 
 -- ---- from runs to files
 
-count_append : (test : List ℕ → Bool) (xs ys : List (StackRow (List ℕ))) → stacks_count test (xs ++ ys) ≡ stacks_count test xs + stacks_count test ys
+count_append : (test : List ℕ → Bool) (xs ys : List (StackCount (List ℕ))) → stacks_count test (xs ++ ys) ≡ stacks_count test xs + stacks_count test ys
 count_append test [] ys = let n : ℕ = stacks_count test ys in let e : n ≡ 0 + n = omega arith in e
 count_append test (x ∷ xs) ys = let rest = count_append test xs ys in omega (arith, rest)
 
@@ -50,30 +50,30 @@ frames_append : (test : List ℕ → Bool) (xs ys : List Seen) → frames_sum te
 frames_append test [] ys = let n : ℕ = frames_sum test ys in let e : n ≡ 0 + n = omega arith in e
 frames_append test (x ∷ xs) ys = let rest = frames_append test xs ys in omega (arith, rest)
 
-same_stacks : (h : History) (t : Tables) → TablesTell h t → (files : List File) → AllByRecursion (Has (held h)) files → SameStacks (stacks_over t (numbers_of files)) (flat_map file_stacks files)
-same_stacks h t tell [] all = λ test. refl
-same_stacks h t tell (f ∷ files) all = λ test.
+same_stacks : (h : History) (t : Tables) → TablesRepresent h t → (files : List File) → AllByRecursion (Has (held h)) files → SameStacks (stacks_over t (numbers_of files)) (flat_map file_stacks files)
+same_stacks h t represent [] all = λ test. refl
+same_stacks h t represent (f ∷ files) all = λ test.
     count_append test (stacks_held f.number t) (stacks_over t (numbers_of files))
-    ∙ ap₂ ◌+◌ ((tells_rows h t tell f all.0).stacks test) (same_stacks h t tell files all.1 test)
+    ∙ ap₂ ◌+◌ ((tells_rows h t represent f all.0).stacks test) (same_stacks h t represent files all.1 test)
     ∙ sym (frames_append test (file_stacks f) (flat_map file_stacks files))
 
 -- ---- the answers
 
-due_of : (h : History) (t : Tables) (s : Selection) (numbers text : List ℕ) → TablesTell h t → AreSelected h s (Ok numbers) → text ≡ folded_over t numbers → Text text ≡ expected_of_query h (queries.Folded s)
-due_of h t s numbers text tell found is =
+expected_of : (h : History) (t : Tables) (s : Selection) (numbers text : List ℕ) → TablesRepresent h t → AreSelected h s (Ok numbers) → text ≡ folded_over t numbers → Text text ≡ expected_of_query h (queries.Folded s)
+expected_of h t s numbers text represent found is =
     let files = selected h s in
     let stacks : folded_of_rows (stacks_over t numbers) ≡ _ =
-    ap (λ ns. folded_of_rows (stacks_over t ns)) found.1 ∙ same_folded (stacks_over t (numbers_of files)) (flat_map file_stacks files) (same_stacks h t tell files (selected_held h s)) in
+    ap (λ ns. folded_of_rows (stacks_over t ns)) found.1 ∙ same_folded (stacks_over t (numbers_of files)) (flat_map file_stacks files) (same_stacks h t represent files (selected_held h s)) in
     ap Text (is ∙ ap folded_text stacks)
     ∙ ap (λ missing. first_or (missing ∷ []) (Text (folded_of_files files))) (sym found.0)
 
 refused_of : (h : History) (s : Selection) (refusal : Refusal) → AreSelected h s (Err refusal) → Refused refusal ≡ expected_of_query h (queries.Folded s)
 refused_of h s refusal found = ap (λ missing. first_or (missing ∷ []) (Text (folded_of_files (selected h s)))) (sym found)
 
-due_by : (h : History) (t : Tables) (s : Selection) (found : Result (List ℕ) Refusal) (answer : Answer) → TablesTell h t → AreSelectedIn t s found
+expected_by : (h : History) (t : Tables) (s : Selection) (found : Result (List ℕ) Refusal) (answer : Answer) → TablesRepresent h t → AreSelectedIn t s found
     → AnswersFor (λ numbers given. given ≡ Text (folded_over t numbers)) found answer → answer ≡ expected_of_query h (queries.Folded s)
-due_by h t s (Ok numbers) answer tell found is = is ∙ due_of h t s numbers (folded_over t numbers) tell (selected_told h t s (Ok numbers) tell found) refl
-due_by h t s (Err refusal) answer tell found is = is ∙ refused_of h s refusal (selected_told h t s (Err refusal) tell found)
+expected_by h t s (Ok numbers) answer represent found is = is ∙ expected_of h t s numbers (folded_over t numbers) represent (selected_told h t s (Ok numbers) represent found) refl
+expected_by h t s (Err refusal) answer represent found is = is ∙ refused_of h s refusal (selected_told h t s (Err refusal) represent found)
 
-pub folded_is_due : (s : Selection) (h : History) (t : Tables) (answer : Answer) → TablesTell h t → IsFolded t s answer → answer ≡ expected_of_query h (queries.Folded s)
-folded_is_due s h t answer tell is = due_by h t s is.found answer tell is.is_found is.answer_is
+pub folded_is_expected : (s : Selection) (h : History) (t : Tables) (answer : Answer) → TablesRepresent h t → IsFolded t s answer → answer ≡ expected_of_query h (queries.Folded s)
+folded_is_expected s h t answer represent is = expected_by h t s is.found answer represent is.is_found is.answer_is

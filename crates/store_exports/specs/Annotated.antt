@@ -26,6 +26,6 @@ annotated_if_known event source costs = if costs.known then Some (annotation_tex
 abbrev pub annotated_over : Tables → List Counted → List ℕ → List ℕ → List ℕ → Option (List ℕ)
 annotated_over t runs event name source = annotated_if_known event source (lines_over t runs name)
 
--- what is answered over the tables, whatever they stand for
+-- what is answered over the tables, whatever they represent
 abbrev pub IsAnnotated : Tables → Selection → List ℕ → List ℕ → List ℕ → Answer → Type 0
 IsAnnotated t s event name source answer = AnswersBy (AreEventRunsIn t s event) (λ runs given. given ≡ text_or_no_name (annotated_over t runs event name source)) answer

@@ -2,19 +2,19 @@
 ghost use Rattle.std.specs.Prelude.{◌≡◌};
 ghost use Rattle.std.specs.List.{AllByRecursion};
 ghost use Rattle.std.specs.Result.{is_ok};
-ghost use Rattle.plain_tables.specs.RunLines.{cells_in};
+ghost use Rattle.plain_tables.specs.RunRows.{cells_in};
 ghost use Rattle.run_stores.specs.Calls.{Told, AsksIfOpen};
 ghost use Rattle.run_stores.specs.Walks.{IsOfAnEvent};
 ghost use Rattle.histories.specs.declared.answers.Query.TheVariants.{Annotate};
 ghost use Rattle.store_histories.specs.Answered.{AnswersAsked};
 ghost use Rattle.store_exports.specs.Annotated.{IsAnnotated, annotated_over, lines_from};
 
-use crate::takers::LineRows;
+use crate::sinks::LineRows;
 use cg_text::ListVec;
 use cost_exports::{LineSums, annotate};
 use histories::{Answer, Refusal, Selection};
 use run_stores::{RunStore, StoreError};
-use selected_runs::{AddsRuns, Counted, add_runs, event_runs};
+use selected_runs::{Counted, RunFold, event_runs, fold_runs};
 use std::alloc::Global;
 
 /// Adds the cells of a run. Those of a run without the event cost nothing, but tell that it has the file.
@@ -24,7 +24,7 @@ fn add_run<S: RunStore>(
     run: &Counted,
     sums: LineSums,
 ) -> Result<LineSums, StoreError>
-    ensures told { Told S.StoreState result store.old store.new (λ t all. S.name_lines names.now ≡ t.names → all ≡ lines_from t sums run.now) }
+    ensures told { Told S.StoreState result store.old store.new (λ t all. S.name_rows names.now ≡ t.names → all ≡ lines_from t sums run.now) }
     ensures of_events { Told S.StoreState result store.old store.new (λ t _. AllByRecursion (IsOfAnEvent run.now.events) (cells_in run.now.number t)) }
     ensures asks { AsksIfOpen S.StoreState (is_ok result) store.old store.new }
 {
@@ -43,7 +43,7 @@ struct LinesOfRuns<'n, N> {
     names: &'n N,
 }
 
-impl<S: RunStore> AddsRuns<S> for LinesOfRuns<'_, S::Names> {
+impl<S: RunStore> RunFold<S> for LinesOfRuns<'_, S::Names> {
     ghost use Rattle.std.specs.Prelude.{◌≡◌};
     ghost use Rattle.store_exports.specs.Annotated.{lines_from};
 
@@ -51,7 +51,7 @@ impl<S: RunStore> AddsRuns<S> for LinesOfRuns<'_, S::Names> {
 
     type Sums = LineSums;
 
-    ghost Step = { λ s t run old new. S.name_lines s.names.now ≡ t.names → new ≡ lines_from t old run };
+    ghost Step = { λ s t run old new. S.name_rows s.names.now ≡ t.names → new ≡ lines_from t old run };
 
     fn add(&self, store: &mut S, run: &Counted, sums: LineSums) -> Result<LineSums, StoreError> {
         add_run(store, self.names, run, sums)
@@ -72,7 +72,7 @@ fn annotated_text<S: RunStore>(
 {
     let names = store.names_of(alloc)?;
     let lines = LinesOfRuns { names: &names };
-    let sums = add_runs(store, &lines, runs, LineSums::new(alloc, name)?)?;
+    let sums = fold_runs(store, &lines, runs, LineSums::new(alloc, name)?)?;
     if !sums.is_known() {
         return Ok(None);
     }
@@ -83,7 +83,7 @@ fn annotated_text<S: RunStore>(
 /// Answers what the lines of a source cost in an event, by the name of its file in the runs of a selection:
 /// a text, or the refusal of a run or a group that is not held, of an event that none of the runs has, or of
 /// a file of which no line costs anything in them. Errors: `Memory`; and `Store` for a call of the database
-/// that fails, for rows out of form and for a sum of 2^112 or more, which no files that are held come to.
+/// that fails, for rows out of form and for a sum of 2^112 or more, which no files that are held sum to.
 pub fn annotate_answer<S: RunStore>(
     store: &mut S,
     alloc: Global,

@@ -3,7 +3,7 @@ ghost use Rattle.std.specs.Prelude.{◌≡◌, length};
 ghost use Rattle.std.specs.List.{AllByRecursion};
 ghost use Rattle.std.specs.Result.{is_ok};
 ghost use Rattle.cg_formulas.specs.declared.heads.FileHead.{FileHead};
-ghost use Rattle.plain_tables.specs.RunLines.{cells_in};
+ghost use Rattle.plain_tables.specs.RunRows.{cells_in};
 ghost use Rattle.run_stores.specs.Calls.{Told, AsksIfOpen};
 ghost use Rattle.run_stores.specs.Walks.{IsOfAnEvent};
 ghost use Rattle.prof_books.specs.HeldHeads.{IsHeadIn};
@@ -11,12 +11,12 @@ ghost use Rattle.histories.specs.declared.answers.Query.TheVariants.{Csv};
 ghost use Rattle.store_histories.specs.Answered.{AnswersAsked};
 ghost use Rattle.store_exports.specs.CsvRuns.{AddsRun, IsCsv, IsCsvText};
 
-use crate::takers::NamedRows;
+use crate::sinks::NamedRows;
 use cg_text::ListVec;
 use cost_exports::{CellSums, csv_text};
 use histories::{Answer, Selection};
 use run_stores::{RunStore, StoreError};
-use selected_runs::{AddsRuns, add_runs, select_runs};
+use selected_runs::{RunFold, fold_runs, select_runs};
 use std::alloc::Global;
 
 /// Adds the cells of a run, by the names of its events.
@@ -27,7 +27,7 @@ fn add_run<S: RunStore>(
     number: u32,
     sums: CellSums,
 ) -> Result<CellSums, StoreError>
-    ensures told { Told S.StoreState result store.old store.new (λ t all. S.name_lines names.now ≡ t.names → AddsRun t number sums all) }
+    ensures told { Told S.StoreState result store.old store.new (λ t all. S.name_rows names.now ≡ t.names → AddsRun t number sums all) }
     ensures of_events { Told S.StoreState result store.old store.new (λ t _. (head : FileHead) × IsHeadIn number t head
         × AllByRecursion (IsOfAnEvent (length head.events)) (cells_in number t)) }
     ensures asks { AsksIfOpen S.StoreState (is_ok result) store.old store.new }
@@ -47,7 +47,7 @@ struct CellsOfRuns<'n, N> {
     names: &'n N,
 }
 
-impl<S: RunStore> AddsRuns<S> for CellsOfRuns<'_, S::Names> {
+impl<S: RunStore> RunFold<S> for CellsOfRuns<'_, S::Names> {
     ghost use Rattle.std.specs.Prelude.{◌≡◌};
     ghost use Rattle.store_exports.specs.CsvRuns.{AddsRun};
 
@@ -55,7 +55,7 @@ impl<S: RunStore> AddsRuns<S> for CellsOfRuns<'_, S::Names> {
 
     type Sums = CellSums;
 
-    ghost Step = { λ s t number old new. S.name_lines s.names.now ≡ t.names → AddsRun t number old new };
+    ghost Step = { λ s t number old new. S.name_rows s.names.now ≡ t.names → AddsRun t number old new };
 
     fn add(&self, store: &mut S, number: &u32, sums: CellSums) -> Result<CellSums, StoreError> {
         add_run(store, self.alloc, self.names, *number, sums)
@@ -76,14 +76,14 @@ fn text_of_runs<S: RunStore>(
         alloc,
         names: &names,
     };
-    let sums = add_runs(store, &cells, numbers, CellSums::new(alloc))?;
+    let sums = fold_runs(store, &cells, numbers, CellSums::new(alloc))?;
     Ok(csv_text(alloc, &sums)?)
 }
 
 /// Answers the self costs above 0 by object, file, function, line and event, over the runs of a selection:
 /// a text of CSV, or the refusal of a run or a group that is not held. Errors: `Memory`; and `Store` for a
 /// call of the database that fails, for rows out of form and for sums of 2^112 or more, which no files that
-/// are held come to.
+/// are held sum to.
 pub fn csv_answer<S: RunStore>(
     store: &mut S,
     alloc: Global,

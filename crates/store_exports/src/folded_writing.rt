@@ -6,19 +6,19 @@ ghost use Rattle.histories.specs.declared.answers.Query.TheVariants.{Folded};
 ghost use Rattle.store_histories.specs.Answered.{AnswersAsked};
 ghost use Rattle.store_exports.specs.FoldedRuns.{IsFolded, folded_over};
 
-use crate::takers::StackRows;
+use crate::sinks::StackRows;
 use cg_text::ListVec;
 use cost_exports::{StackSums, folded_text};
 use histories::{Answer, Selection};
 use run_stores::{RunStore, StoreError};
-use selected_runs::{AddsRuns, add_runs, select_runs};
+use selected_runs::{RunFold, fold_runs, select_runs};
 use std::alloc::Global;
 
 /// Adds the stacks of runs with their counts. Callgrind runs have none.
 #[derive(Drop)]
 struct StacksOfRuns;
 
-impl<S: RunStore> AddsRuns<S> for StacksOfRuns {
+impl<S: RunStore> RunFold<S> for StacksOfRuns {
     ghost use Rattle.std.specs.Prelude.{◌≡◌};
     ghost use Rattle.store_exports.specs.FoldedRuns.{stacks_from};
 
@@ -45,14 +45,14 @@ fn text_of_runs<S: RunStore>(
     let rows = StackRows {
         sums: StackSums::new(alloc),
     };
-    let all = add_runs(store, &StacksOfRuns, numbers, rows)?;
+    let all = fold_runs(store, &StacksOfRuns, numbers, rows)?;
     Ok(folded_text(alloc, &all.sums)?)
 }
 
 /// Answers the stacks of folded runs with their counts, over the runs of a selection: a folded text, or the
 /// refusal of a run or a group that is not held. Errors: `Memory`; and `Store` for a call of the database
 /// that fails, for rows out of form and for counts that sum to 2^112 or more, which no files that are held
-/// come to.
+/// sum to.
 pub fn folded_answer<S: RunStore>(
     store: &mut S,
     alloc: Global,

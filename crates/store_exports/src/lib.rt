@@ -1,5 +1,5 @@
 //! Annotated sources and exports over a store: questions answered over the runs that a selection names.
-//! The answers are those of the files: the rows of these runs come to their records.
+//! The answers are those of the files: the rows of these runs sum to their records.
 #![tactic(auto)]
 
 // Answers `annotate` (specs/Annotated.antt).
@@ -9,7 +9,7 @@ mod csv_writing;
 // Answers `folded` (specs/FoldedRuns.antt).
 mod folded_writing;
 // What takes the rows of runs.
-mod takers;
+mod sinks;
 
 pub use annotating::annotate_answer;
 pub use csv_writing::csv_answer;

@@ -1,5 +1,5 @@
 pub mod After
-pub mod Due
+pub mod Expected
 pub mod Left
 pub mod Links
 pub mod Names

@@ -7,18 +7,18 @@ use Rattle.run_stores.proofs.Calls.{asked_stands, changed_asked, shut_asked}
 use Rattle.plain_tables.specs.Tables.{Tables}
 use Rattle.plain_tables.specs.declared.errors.StoreError.{StoreError}
 use Rattle.plain_tables.specs.declared.errors.StoreError.TheVariants as ends
-use Rattle.histories.specs.History.{History, Said, Ask}
+use Rattle.histories.specs.History.{History, Command, Ask}
 use Rattle.histories.specs.Legal.{IsInForm, expected_answer, expected_of_query}
-use Rattle.histories.specs.Stands.{TablesTell}
+use Rattle.histories.specs.Representation.{TablesRepresent}
 use Rattle.histories.specs.declared.answers.Answer.{Answer}
 use Rattle.histories.specs.declared.answers.Answer.TheVariants as answers
 use Rattle.histories.specs.declared.answers.Query.{Query}
 use Rattle.histories.specs.declared.limits.Limits.{Limits}
 use Rattle.histories.proofs.Held.{IsStill}
-use Rattle.store_histories.specs.Answered.{Answers, Follows, StandsForHistory, WasAsked, WasDue, answer_for, has_changed, is_accepted}
+use Rattle.store_histories.specs.Answered.{Answers, Follows, RepresentsHistory, WasAsked, WasExpected, answer_for, has_changed, is_accepted}
 use Rattle.store_histories.specs.FromTables.{OrFailed}
-use Rattle.store_histories.proofs.Due.{was_still}
-use Rattle.store_histories.proofs.Settled.{closes_for, settled, turns_answer}
+use Rattle.store_histories.proofs.Expected.{was_still}
+use Rattle.store_histories.proofs.Settled.{closes_for, settled, steps_answer}
 
 pub stays_still : (answer : Answer) → is_accepted answer ≡ false → IsStill answer
 stays_still (answers.Run n) is = absurd cc
@@ -27,10 +27,10 @@ stays_still answers.Done is = absurd cc
 stays_still (answers.Text text) is = tt
 stays_still (answers.Refused refusal) is = tt
 
--- ---- a question over tables: where they stand for a history, what they tell is what is expected after it
+-- ---- a question over tables: where they represent a history, what they tell is what is expected after it
 
 abbrev pub IsTold : (Tables → Answer → Type 0) → Query → Type 0
-IsTold Shows query = (h : History) (t : Tables) (answer : Answer) → TablesTell h t → Shows t answer → answer ≡ expected_of_query h query
+IsTold Shows query = (h : History) (t : Tables) (answer : Answer) → TablesRepresent h t → Shows t answer → answer ≡ expected_of_query h query
 
 pub if_ok_so : {T E : Type 0} {P Q : T → Type 0} (r : Result T E) → ((x : T) → P x → Q x) → IfOk r P → IfOk r Q
 if_ok_so (Ok x) so is = so x is
@@ -40,7 +40,7 @@ pub asked_once : {S : Type 0} (g : Ghosts S) (Shows : Tables → Answer → Type
     → has_changed result ≡ false → Asked g (is_ok result) old new → ((t : Tables) → ReadsAs g t old → IfOk result (Shows t)) → WasAsked g Shows query result old new
 asked_once g Shows query law result old new still asks told = record {
   told = told;
-  expected_answer = λ h s. if_ok_so result (λ answer. law h s.t answer s.tells) (told s.t (g.said s.t old s.stands));
+  expected_answer = λ h s. if_ok_so result (λ answer. law h s.t answer s.agrees) (told s.t (g.command s.t old s.represents));
   still = still;
   asks = asks;
 }
@@ -50,22 +50,22 @@ or_failed Shows (Ok answer) is = inl is
 or_failed Shows (Err ends.Memory) is = inr (inl refl)
 or_failed Shows (Err ends.Store) is = inr (inr refl)
 
--- ---- a command that is due what a question is
+-- ---- a command whose expected answer is that of a question
 
-module _ {S : Type 0} (g : Ghosts S) (limits : Limits) (Shows : Tables → Answer → Type 0) (query : Query) (said : Said) (form : IsInForm said) (due : (h : History) → expected_answer limits h said ≡ Some (expected_of_query h query)) (old new : S) where
-  was_due : (result : Result Answer StoreError) → WasAsked g Shows query result old new → (h : History) → StandsForHistory g h old → IfOk result (λ answer. WasDue g limits h said answer new)
-  was_due (Err end) asked h s = tt
-  was_due (Ok answer) asked h s =
-      was_still limits h said form g old new answer (stays_still answer asked.still) (due h ∙ ap (λ a. Some a) (sym (asked.expected_answer h s))) s
-      (asked_stands g s.t old new asked.asks s.stands)
+module _ {S : Type 0} (g : Ghosts S) (limits : Limits) (Shows : Tables → Answer → Type 0) (query : Query) (command : Command) (form : IsInForm command) (expected : (h : History) → expected_answer limits h command ≡ Some (expected_of_query h query)) (old new : S) where
+  was_expected : (result : Result Answer StoreError) → WasAsked g Shows query result old new → (h : History) → RepresentsHistory g h old → IfOk result (λ answer. WasExpected g limits h command answer new)
+  was_expected (Err end) asked h s = tt
+  was_expected (Ok answer) asked h s =
+      was_still limits h command form g old new answer (stays_still answer asked.still) (expected h ∙ ap (λ a. Some a) (sym (asked.expected_answer h s))) s
+      (asked_stands g s.t old new asked.asks s.represents)
 
-  pub answered_as : (result : Result Answer StoreError) → WasAsked g Shows query result old new → Answers g limits said (answer_for result) old new
+  pub answered_as : (result : Result Answer StoreError) → WasAsked g Shows query result old new → Answers g limits command (answer_for result) old new
   answered_as result asked =
-      let unchanged = changed_asked g TablesTell (Follows limits said) (is_ok result) old new asked.asks in
-      let turned = subst (λ (done : Bool). Changed g TablesTell (Follows limits said) (is_ok result) done old new) (sym asked.still) unchanged in
+      let unchanged = changed_asked g TablesRepresent (Follows limits command) (is_ok result) old new asked.asks in
+      let stepped = subst (λ (done : Bool). Changed g TablesRepresent (Follows limits command) (is_ok result) done old new) (sym asked.still) unchanged in
       record {
-        turned = turns_answer g limits said result old new turned;
-        answered = λ h has. settled g limits h said old new has result form (was_due result asked h) turned;
+        stepped = steps_answer g limits command result old new stepped;
+        answered = λ h has. settled g limits h command old new has result form (was_expected result asked h) stepped;
         closes = closes_for g result old new asked.asks.stays;
         shut = shut_asked g (is_ok result) old new asked.asks;
       }

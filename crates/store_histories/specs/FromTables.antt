@@ -1,8 +1,8 @@
--- What is answered by what is found in tables, whatever they stand for.
+-- What is answered by what is found in tables, whatever they represent.
 use Rattle.std.specs.Prelude.{◌≡◌, ◌⊎◌, ℕ, List, Option, Some, None, Result, Ok, Err}
 use Rattle.std.specs.Bool.{⊤}
 use Rattle.run_stores.specs.declared.states.StoreState.{Ghosts}
-use Rattle.run_stores.specs.Calls.{MakesOf, StandsFor, Tells}
+use Rattle.run_stores.specs.Calls.{MakesOf, Represents, Tells}
 use Rattle.plain_tables.specs.Tables.{Tables}
 use Rattle.histories.specs.declared.answers.Answer.{Answer}
 use Rattle.histories.specs.declared.answers.Answer.TheVariants as answers
@@ -36,4 +36,4 @@ OrFailed Shows answer = Shows answer ⊎ IsFailure answer
 -- a command that changes the tables is answered by the lines as which their rows are read, and makes of the lines that they hold what it says
 pub record WasChangedIn {S : Type 0} (g : Ghosts S) (Says : (Tables → Type 0) → Tables → Answer → Type 0) (answer : Answer) (old new : S) : Type 0 where
   pub told : Tells g old new (λ t. OrFailed (Says (λ _. ⊤) t) answer)
-  pub made : MakesOf g old new (λ t. OrFailed (Says (λ left. StandsFor g left new) t) answer)
+  pub made : MakesOf g old new (λ t. OrFailed (Says (λ left. Represents g left new) t) answer)

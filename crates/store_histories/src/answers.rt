@@ -5,7 +5,7 @@ ghost use Rattle.store_histories.specs.Answered.{answer_for};
 use histories::{Answer, Refusal};
 use plain_tables::StoreError;
 
-/// The answer that is due, or the refusal because of memory or the store.
+/// The answer that is expected, or the refusal because of memory or the store.
 pub fn answer_of(outcome: Result<Answer, StoreError>) -> Answer
     ensures { result ≡ answer_for outcome }
 {

@@ -9,7 +9,7 @@ use Rattle.histories.specs.History.{History}
 use Rattle.histories.specs.Legal.{expected_of_query}
 use Rattle.histories.specs.Reports.{by_text}
 use Rattle.histories.specs.Selections.{selected}
-use Rattle.histories.specs.Stands.{TablesTell}
+use Rattle.histories.specs.Representation.{TablesRepresent}
 use Rattle.histories.specs.declared.answers.Answer.{Answer}
 use Rattle.histories.specs.declared.answers.Answer.TheVariants.{Text, Refused}
 use Rattle.histories.specs.declared.answers.Query.TheVariants.{By}
@@ -22,21 +22,21 @@ use Rattle.selected_runs.proofs.EventLemmas.{both_held, event_runs_told}
 use Rattle.selected_runs.proofs.RunLemmas.{runs_cost}
 use Rattle.store_reports.specs.Reported.{IsReported, report_over}
 
-by_is_due : (h : History) (t : Tables) (s : Selection) (key : Key) (event : List ℕ) (cut : Cut) (runs : List Counted) (text : List ℕ) → TablesTell h t → AreEventRuns h t s event (Ok runs)
+by_is_expected : (h : History) (t : Tables) (s : Selection) (key : Key) (event : List ℕ) (cut : Cut) (runs : List Counted) (text : List ℕ) → TablesRepresent h t → AreEventRuns h t s event (Ok runs)
     → text ≡ report_over t runs key event cut → Text text ≡ expected_of_query h (By s key event cut)
-by_is_due h t s key event cut runs text tell found is =
-    ap Text (is ∙ ap (λ sums. key_report_text event (report_of key cut sums)) (runs_cost h t s key event runs tell found.2))
+by_is_expected h t s key event cut runs text represent found is =
+    ap Text (is ∙ ap (λ sums. key_report_text event (report_of key cut sums)) (runs_cost h t s key event runs represent found.2))
     ∙ both_held h t s event runs found [] (Text (by_text (selected h s) key event cut))
 
 by_is_refused : (h : History) (t : Tables) (s : Selection) (key : Key) (event : List ℕ) (cut : Cut) (refusal : Refusal) → AreEventRuns h t s event (Err refusal)
     → Refused refusal ≡ expected_of_query h (By s key event cut)
 by_is_refused h t s key event cut refusal found = sym (found [] (Text (by_text (selected h s) key event cut)))
 
-due_by : (h : History) (t : Tables) (s : Selection) (key : Key) (event : List ℕ) (cut : Cut) (found : Result (List Counted) Refusal) (answer : Answer) → TablesTell h t → AreEventRunsIn t s event found
+expected_by : (h : History) (t : Tables) (s : Selection) (key : Key) (event : List ℕ) (cut : Cut) (found : Result (List Counted) Refusal) (answer : Answer) → TablesRepresent h t → AreEventRunsIn t s event found
     → AnswersFor (λ runs given. given ≡ Text (report_over t runs key event cut)) found answer → answer ≡ expected_of_query h (By s key event cut)
-due_by h t s key event cut (Ok runs) answer tell found is = is ∙ by_is_due h t s key event cut runs _ tell (event_runs_told h t s event (Ok runs) tell found) refl
-due_by h t s key event cut (Err refusal) answer tell found is = is ∙ by_is_refused h t s key event cut refusal (event_runs_told h t s event (Err refusal) tell found)
+expected_by h t s key event cut (Ok runs) answer represent found is = is ∙ by_is_expected h t s key event cut runs _ represent (event_runs_told h t s event (Ok runs) represent found) refl
+expected_by h t s key event cut (Err refusal) answer represent found is = is ∙ by_is_refused h t s key event cut refusal (event_runs_told h t s event (Err refusal) represent found)
 
-pub reported_is_due : (s : Selection) (key : Key) (event : List ℕ) (cut : Cut) (h : History) (t : Tables) (answer : Answer) → TablesTell h t → IsReported t s key event cut answer
+pub reported_is_expected : (s : Selection) (key : Key) (event : List ℕ) (cut : Cut) (h : History) (t : Tables) (answer : Answer) → TablesRepresent h t → IsReported t s key event cut answer
     → answer ≡ expected_of_query h (By s key event cut)
-reported_is_due s key event cut h t answer tell is = due_by h t s key event cut is.found answer tell is.is_found is.answer_is
+reported_is_expected s key event cut h t answer represent is = expected_by h t s key event cut is.found answer represent is.is_found is.answer_is

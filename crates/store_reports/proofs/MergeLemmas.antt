@@ -4,7 +4,7 @@ use Rattle.std.specs.Prelude.{unwrap_or}
 use Rattle.std.proofs.lemmas.Grind.{fold-append}
 use Rattle.cost_rows.specs.KeySums.{Sums, sums_with, with_row}
 use Rattle.cost_rows.specs.Keys.{part_of, place_of_row}
-use Rattle.cost_rows.specs.declared.rows.CellRow.{CellRow}
+use Rattle.cost_rows.specs.declared.rows.Cell.{Cell}
 use Rattle.cost_rows.specs.declared.keys.Key.{Key}
 use Rattle.report_texts.specs.Costs.{all_rows, weighted}
 use Rattle.report_texts.specs.KeyReports.{report_of}
@@ -19,15 +19,15 @@ use Rattle.selected_runs.specs.declared.counting.Counted.{Counted}
 
 -- ---- the cells of one run
 
-abbrev pub taken : List ℕ × Sums → CellRow (List ℕ) → List ℕ × Sums
+abbrev pub taken : List ℕ × Sums → Cell (List ℕ) → List ℕ × Sums
 taken m row = (m.0, with_row m.1 (weighted m.0 row))
 
-pub cells_taken : (counts : List ℕ) (sums : Sums) (cells : List (CellRow (List ℕ))) → fold taken (counts, sums) cells ≡ (counts, fold with_row sums (map (weighted counts) cells))
+pub cells_taken : (counts : List ℕ) (sums : Sums) (cells : List (Cell (List ℕ))) → fold taken (counts, sums) cells ≡ (counts, fold with_row sums (map (weighted counts) cells))
 cells_taken counts sums [] = refl
 cells_taken counts sums (cell ∷ cells) = cells_taken counts (with_row sums (weighted counts cell)) cells
 
 -- what counts nothing costs nothing
-pub none_taken : (sums : Sums) (cells : List (CellRow (List ℕ))) → fold with_row sums (map (weighted []) cells) ≡ sums
+pub none_taken : (sums : Sums) (cells : List (Cell (List ℕ))) → fold with_row sums (map (weighted []) cells) ≡ sums
 none_taken sums [] = refl
 none_taken sums (cell ∷ cells) =
     ap (λ cost. fold with_row (with_row sums (record cell { event = 0; cost = cost })) (map (weighted []) cells)) (none_of cell.cost) ∙ none_taken sums cells
@@ -40,7 +40,7 @@ key_of_either : (b : Bool) (x y : Sums) → x.key ≡ y.key → (if b then x els
 key_of_either true x y same = refl
 key_of_either false x y same = sym same
 
-pub key_stays : (sums : Sums) (rows : List (CellRow (List ℕ))) → (fold with_row sums rows).key ≡ sums.key
+pub key_stays : (sums : Sums) (rows : List (Cell (List ℕ))) → (fold with_row sums rows).key ≡ sums.key
 key_stays sums [] = refl
 key_stays sums (row ∷ rows) = key_stays (with_row sums row) rows ∙ key_of_either (nat_eq row.cost 0) sums (record { key = sums.key; sums = sums_with (part_of sums.key (place_of_row row)) row.cost sums.sums }) refl
 

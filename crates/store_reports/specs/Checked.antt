@@ -4,18 +4,18 @@ use Rattle.cg_formulas.specs.declared.heads.FileHead.{FileHead}
 use Rattle.report_texts.specs.Verifying.{verified, verify_text}
 use Rattle.plain_tables.specs.Tables.{Tables}
 use Rattle.prof_books.specs.HeldHeads.{IsHeadIn}
-use Rattle.run_stores.specs.OwnSums.{AreOwnSums, events_of_run}
+use Rattle.run_stores.specs.SelfSums.{AreSelfSums, events_of_run}
 use Rattle.histories.specs.declared.answers.Answer.{Answer}
 use Rattle.histories.specs.declared.answers.Selection.{Selection}
 use Rattle.store_histories.specs.FromTables.{AnswersBy, ShowsText}
 use Rattle.selected_runs.specs.Selected.{AreSelectedIn}
 
--- the lines of a run: by its head, and the own sums of its events
+-- the lines of a run: by its head, and the self sums of its events
 pub record IsRunChecked (t : Tables) (number : ℕ) (lines : List ℕ) : Type 0 where
   pub head : FileHead
   pub head_is : IsHeadIn number t head
   pub sums : List ℕ
-  pub sums_are : AreOwnSums (events_of_run number t) sums
+  pub sums_are : AreSelfSums (events_of_run number t) sums
   pub lines_are : lines ≡ verify_text (verified number head.events sums head.stated)
 
 -- they were added to a text
@@ -27,6 +27,6 @@ abbrev pub AreChecked : Tables → List ℕ → List ℕ → Type 0
 AreChecked t [] text = text ≡ []
 AreChecked t (number ∷ numbers) text = (lines : List ℕ) × (more : List ℕ) × IsRunChecked t number lines × AreChecked t numbers more × (text ≡ lines ++ more)
 
--- what is answered over the tables, whatever they stand for
+-- what is answered over the tables, whatever they represent
 abbrev pub IsVerified : Tables → Selection → Answer → Type 0
 IsVerified t s answer = AnswersBy (AreSelectedIn t s) (λ numbers. ShowsText (AreChecked t numbers)) answer

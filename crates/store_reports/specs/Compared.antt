@@ -22,7 +22,7 @@ use Rattle.selected_runs.specs.Counted.{AreCounted, event_cells, has_counts}
 use Rattle.selected_runs.specs.Selected.{AreSelectedIn, IsSought, run_in}
 use Rattle.selected_runs.specs.declared.counting.Counted.{Counted}
 
--- ---- in tables, whatever they stand for
+-- ---- in tables, whatever they represent
 
 -- the baseline of a group, as a selection of one run
 abbrev pub AreBasedIn : Tables → List ℕ → Option ℕ → Result (List ℕ) Refusal → Type 0
@@ -66,7 +66,7 @@ pub record AnswersDifference (t : Tables) (numbers others : List ℕ) (key : Key
   pub seconds_are : AreCounted t event others seconds
   pub answer_is : answer ≡ (if list_any has_counts firsts || list_any has_counts seconds then Text (difference_over t firsts seconds key event) else Refused NoSuchEvent)
 
--- what is answered over the tables, whatever they stand for
+-- what is answered over the tables, whatever they represent
 abbrev pub IsSubtracted : Tables → Selection → Option Selection → Key → List ℕ → Answer → Type 0
 IsSubtracted t first second key event answer =
     AnswersBy (AreSelectedIn t first) (λ numbers given. AnswersBy (AreComparedIn t first second) (λ others. AnswersDifference t numbers others key event) given) answer

@@ -28,6 +28,6 @@ merged_from t sums run = merged_with t run.number (unwrap_or run.counts []) sums
 abbrev pub report_over : Tables → List Counted → Key → List ℕ → Cut → List ℕ
 report_over t runs key event cut = key_report_text event (report_of key cut (sums_by key (all_rows (map (event_cells t) runs))))
 
--- what is answered over the tables, whatever they stand for
+-- what is answered over the tables, whatever they represent
 abbrev pub IsReported : Tables → Selection → Key → List ℕ → Cut → Answer → Type 0
 IsReported t s key event cut answer = AnswersBy (AreEventRunsIn t s event) (λ runs given. given ≡ Text (report_over t runs key event cut)) answer

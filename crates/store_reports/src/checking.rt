@@ -13,7 +13,7 @@ use cg_text::ListVec;
 use cost_reports::verify;
 use histories::{Answer, Selection};
 use run_stores::{RunStore, StoreError};
-use selected_runs::{AddsRuns, add_runs, select_runs};
+use selected_runs::{RunFold, fold_runs, select_runs};
 use std::alloc::{AllocError, Global};
 
 /// Adds the lines of a run: the sums of its events beside what its head states.
@@ -66,7 +66,7 @@ struct ChecksOfRuns {
     alloc: Global,
 }
 
-impl<S: RunStore> AddsRuns<S> for ChecksOfRuns {
+impl<S: RunStore> RunFold<S> for ChecksOfRuns {
     ghost use Rattle.store_reports.specs.Checked.{IsChecked};
 
     type Run = u32;
@@ -92,7 +92,7 @@ fn check_runs<S: RunStore>(
     ensures asks { AsksIfOpen S.StoreState (is_ok result) store.old store.new }
 {
     let checks = ChecksOfRuns { alloc };
-    let text = add_runs(store, &checks, numbers, Vec::new(alloc))?;
+    let text = fold_runs(store, &checks, numbers, Vec::new(alloc))?;
     Ok(ListVec::from_vec(text))
 }
 

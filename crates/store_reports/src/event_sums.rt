@@ -1,6 +1,6 @@
 // The cells of runs, added up by key in the event that is asked.
-use cost_rows::{CellRow, Merged};
-use run_stores::{StoreError, TakesCells};
+use cost_rows::{Cell, Merged};
+use run_stores::{CellSink, StoreError};
 use selected_runs::weighted_within;
 
 /// Sums by key, and how often each column of the run that is read counts in the event.
@@ -10,7 +10,7 @@ pub(crate) struct EventSums<'a> {
     pub merged: Merged,
 }
 
-impl TakesCells for EventSums<'_> {
+impl CellSink for EventSums<'_> {
     ghost use Rattle.std.specs.Prelude.{List, ℕ};
     ghost use Rattle.cost_rows.specs.KeySums.{Sums, with_row};
     ghost use Rattle.report_texts.specs.Costs.{weighted};
@@ -21,7 +21,7 @@ impl TakesCells for EventSums<'_> {
 
     ghost step = { λ m row. (m.0, with_row m.1 (weighted m.0 row)) };
 
-    fn take(&mut self, row: &CellRow<&[u8]>) -> Result<(), StoreError> {
+    fn take(&mut self, row: &Cell<&[u8]>) -> Result<(), StoreError> {
         let Some(cell) = weighted_within(self.merged.total(), self.counts, row) else {
             return Err(StoreError::Store);
         };

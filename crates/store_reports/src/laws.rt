@@ -1,4 +1,4 @@
-// What reports come to: a law of the definitions, the contract of a function that does nothing.
+// What reports sum to: a law of the definitions, the contract of a function that does nothing.
 ghost use Rattle.std.specs.Prelude.{◌≡◌, ◌+◌, List, ℕ};
 ghost use Rattle.cost_rows.specs.KeySums.{total_of};
 ghost use Rattle.cost_rows.specs.declared.keys.Key.{Key};
@@ -8,7 +8,7 @@ ghost use Rattle.histories.specs.Reports.{report_by, self_costs};
 ghost use Rattle.histories.specs.Selections.{selected};
 ghost use Rattle.histories.specs.declared.answers.Selection.{Selection};
 
-/// What a report shows, and what is left, come to what the self records of the selected files cost in the
+/// What a report shows, and what is left, sum to what the self records of the selected files cost in the
 /// event, as the line grammar reads them: for every selection, event, key and cut.
 pub fn reports_sum_to_the_records()
     ensures sums { (h : History) (s : Selection) (key : Key) (event : List ℕ) (cut : Cut) → let r = report_by (selected h s) key event cut in

@@ -1,5 +1,5 @@
 //! Reports over a store: questions of costs by key, of differences and of what files state, answered over the
-//! runs that a selection names. The answers are those of the files: the rows of these runs come to their
+//! runs that a selection names. The answers are those of the files: the rows of these runs sum to their
 //! records.
 #![tactic(auto)]
 
@@ -9,7 +9,7 @@ mod checking;
 mod comparing;
 // The cells of runs, added up by key.
 mod event_sums;
-// Laws: what reports come to.
+// Laws: what reports sum to.
 mod laws;
 // The sums of runs, by key.
 mod merging;

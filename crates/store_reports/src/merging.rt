@@ -3,7 +3,7 @@ ghost use Rattle.std.specs.Prelude.{◌≡◌, [], fold, length, IfOk};
 ghost use Rattle.std.specs.List.{AllByRecursion};
 ghost use Rattle.std.specs.Result.{is_ok};
 ghost use Rattle.cost_rows.specs.KeySums.{with_row};
-ghost use Rattle.plain_tables.specs.RunLines.{cells_in};
+ghost use Rattle.plain_tables.specs.RunRows.{cells_in};
 ghost use Rattle.run_stores.specs.Calls.{Told, AsksIfOpen};
 ghost use Rattle.run_stores.specs.Walks.{IsOfAnEvent};
 ghost use Rattle.store_reports.specs.Reported.{merged_with, merged_from};
@@ -11,7 +11,7 @@ ghost use Rattle.store_reports.specs.Reported.{merged_with, merged_from};
 use crate::event_sums::EventSums;
 use cost_rows::{Key, Merged};
 use run_stores::{RunStore, StoreError};
-use selected_runs::{AddsRuns, Counted, add_runs};
+use selected_runs::{Counted, RunFold, fold_runs};
 use std::alloc::Global;
 
 /// Adds the cells of a run, each as often as its column counts.
@@ -22,7 +22,7 @@ fn add_cells<S: RunStore>(
     counts: &[u64],
     merged: Merged,
 ) -> Result<Merged, StoreError>
-    ensures told { Told S.StoreState result store.old store.new (λ t sums. S.name_lines names.now ≡ t.names → sums ≡ merged_with t number counts.now merged) }
+    ensures told { Told S.StoreState result store.old store.new (λ t sums. S.name_rows names.now ≡ t.names → sums ≡ merged_with t number counts.now merged) }
     ensures of_events { Told S.StoreState result store.old store.new (λ t _. AllByRecursion (IsOfAnEvent (length counts.now)) (cells_in number t)) }
     ensures asks { AsksIfOpen S.StoreState (is_ok result) store.old store.new }
 {
@@ -38,7 +38,7 @@ struct CellsOfRuns<'n, N> {
     names: &'n N,
 }
 
-impl<S: RunStore> AddsRuns<S> for CellsOfRuns<'_, S::Names> {
+impl<S: RunStore> RunFold<S> for CellsOfRuns<'_, S::Names> {
     ghost use Rattle.std.specs.Prelude.{◌≡◌};
     ghost use Rattle.store_reports.specs.Reported.{merged_from};
 
@@ -46,7 +46,7 @@ impl<S: RunStore> AddsRuns<S> for CellsOfRuns<'_, S::Names> {
 
     type Sums = Merged;
 
-    ghost Step = { λ s t run old new. S.name_lines s.names.now ≡ t.names → new ≡ merged_from t old run };
+    ghost Step = { λ s t run old new. S.name_rows s.names.now ≡ t.names → new ≡ merged_from t old run };
 
     fn add(&self, store: &mut S, run: &Counted, merged: Merged) -> Result<Merged, StoreError> {
         match &run.counts {
@@ -64,10 +64,10 @@ pub(crate) fn merge_runs<S: RunStore>(
     runs: &[Counted],
     key: Key,
 ) -> Result<Merged, StoreError>
-    ensures told { Told S.StoreState result store.old store.new (λ t sums. S.name_lines names.now ≡ t.names
+    ensures told { Told S.StoreState result store.old store.new (λ t sums. S.name_rows names.now ≡ t.names
         → sums ≡ fold (merged_from t) (record { key = key; sums = [] }) runs.now) }
     ensures asks { AsksIfOpen S.StoreState (is_ok result) store.old store.new }
 {
     let cells = CellsOfRuns { names };
-    add_runs(store, &cells, runs, Merged::new(alloc, key))
+    fold_runs(store, &cells, runs, Merged::new(alloc, key))
 }

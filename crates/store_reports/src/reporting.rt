@@ -40,7 +40,7 @@ fn text_of_runs<S: RunStore>(
     event: &[u8],
     cut: Cut,
 ) -> Result<ListVec<u8>, StoreError>
-    ensures told { Told S.StoreState result store.old store.new (λ t text. S.name_lines names.now ≡ t.names → text ≡ report_over t runs.now key event.now cut) }
+    ensures told { Told S.StoreState result store.old store.new (λ t text. S.name_rows names.now ≡ t.names → text ≡ report_over t runs.now key event.now cut) }
     ensures asks { AsksIfOpen S.StoreState (is_ok result) store.old store.new }
 {
     let merged = merge_runs(store, alloc, names, runs, key)?;
@@ -66,7 +66,7 @@ fn report_text<S: RunStore>(
 /// Answers where the cost of an event went, by key, over the runs of a selection: a text, or the refusal
 /// of a run or a group that is not held, or of an event that none of the runs has. Errors: `Memory`; and
 /// `Store` for a call of the database that fails, for rows out of form and for a sum of 2^112 or more,
-/// which no files that are held come to.
+/// which no files that are held sum to.
 pub fn by_answer<S: RunStore>(
     store: &mut S,
     alloc: Global,

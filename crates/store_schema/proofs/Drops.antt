@@ -33,7 +33,7 @@ use Rattle.sql_tables.proofs.Cascades.{as_work, children_deleted, children_clear
 use Rattle.sql_tables.proofs.Rows.{passes, texts_equal, numbers_equal, any_same, pairs_none}
 use Rattle.sql_tables.proofs.Statements.{plain_mode}
 use Rattle.store_schema.specs.Schema.{schema_two, to, run_at, run_event_at, derived_at, coef_at, thread_cell_at, arc_at, stack_at, grp_at, member_at}
-use Rattle.plain_tables.specs.Tables.{Tables, RunLine, EventLine, DerivedLine, CoefLine, CellLine, ArcLine, StackLine, GroupLine, MemberLine}
+use Rattle.plain_tables.specs.Tables.{Tables, RunRow, EventRow, DerivedRow, CoefRow, CellRow, CallRow, StackRow, GroupRow, MemberRow}
 use Rattle.store_schema.specs.Tables.{Holds, contents_of, run_columns, event_columns, derived_columns, coef_columns, cell_columns, arc_columns, stack_columns, group_columns, member_columns, number, number_or_null}
 use Rattle.plain_tables.specs.Changes.{is_named, has_group, without_group, has_run, without_run, is_baseline, has_baseline, unbased}
 use Rattle.store_schema.proofs.Means.{drop_group_terms, drop_run_terms}
@@ -102,7 +102,7 @@ all_moved table columns xs q taken all x there is R c each =
 
 module _ (name : List ℕ) (t : Tables) (held : has_group t name ≡ true) (limit : Option ℕ) (trees : Trees) (text : List ℕ) (tally : Tally) (after : Database) (was : Holds t trees) (sound : IsDatabase after)
     (h : Does limit plain_mode (Text name ∷ []) (record { schema = schema_two; trees = trees }) text None (Delete 8 (only (scan 19 drop_group_terms (col 1 0 ∷ [])))) (Ok (tally, after))) where
-  same_name : (g : GroupLine) → is_named name g ≡ true → g.name ≡ name
+  same_name : (g : GroupRow) → is_named name g ≡ true → g.name ≡ name
   same_name g is = (bytes_eq-Decides g.name name).0 is
 
   pub drops_group : (after.schema ≡ schema_two) × Holds (without_group name t) after.trees
@@ -116,7 +116,7 @@ module _ (name : List ℕ) (t : Tables) (held : has_group t name ≡ true) (limi
         (
           no_member_works,
           (λ db next were did.
-              children_deleted schema_two Enforced 9 member_at refl refl (contents_of (record t { groups = (without_group name t).groups })) db next were member_columns t.members (λ (m : MemberLine). bytes_eq m.group name) refl (members_wait taken) refl
+              children_deleted schema_two Enforced 9 member_at refl refl (contents_of (record t { groups = (without_group name t).groups })) db next were member_columns t.members (λ (m : MemberRow). bytes_eq m.group name) refl (members_wait taken) refl
               (λ id m. moved (is_child_of (members_wait taken) (id ∷ member_columns m)) (bytes_eq m.group name) (λ z y is.
               ap₂ ◌&&◌ (loses_name (Int z) (number_or_null y.baseline) y.name) (member_agrees id (Int z) (number m.run) (number_or_null y.baseline) m.group y.name) ∙ ap (bytes_eq m.group) (same_name y is)))
               did),
@@ -153,37 +153,37 @@ no_group_works taken n news = no_group_works_if taken (n ∷ news) (length (n �
 number_same : (n : ℕ) → eqb n n ≡ true
 number_same n = eq-eqb n n refl
 
-loses_run : (y : RunLine) → loses plain (0 ∷ []) (run_columns y, []) ≡ true
+loses_run : (y : RunRow) → loses plain (0 ∷ []) (run_columns y, []) ≡ true
 unfolding first_key binary
 loses_run y = ap (λ a. (a && true) && true) (numbers_equal y.number y.number ∙ number_same y.number)
 
 -- a line's run against the run that was taken out, at the first column or at the second
-first_agrees : (id : Value) (m : ℕ) (rest : Row) (y : RunLine) → agree plain (1 ∷ []) (id ∷ number m ∷ rest) (0 ∷ []) (run_columns y) ≡ eqb m y.number
+first_agrees : (id : Value) (m : ℕ) (rest : Row) (y : RunRow) → agree plain (1 ∷ []) (id ∷ number m ∷ rest) (0 ∷ []) (run_columns y) ≡ eqb m y.number
 unfolding first_key
 first_agrees id m rest y = and_true _ ∙ numbers_equal m y.number
 
-second_agrees : (id v : Value) (m : ℕ) (y : RunLine) → agree plain (2 ∷ []) (id ∷ v ∷ number m ∷ []) (0 ∷ []) (run_columns y) ≡ eqb m y.number
+second_agrees : (id v : Value) (m : ℕ) (y : RunRow) → agree plain (2 ∷ []) (id ∷ v ∷ number m ∷ []) (0 ∷ []) (run_columns y) ≡ eqb m y.number
 unfolding first_key
 second_agrees id v m y = and_true _ ∙ numbers_equal m y.number
 
-none_agrees : (id v : Value) (y : RunLine) → agree plain (2 ∷ []) (id ∷ v ∷ Null ∷ []) (0 ∷ []) (run_columns y) ≡ false
+none_agrees : (id v : Value) (y : RunRow) → agree plain (2 ∷ []) (id ∷ v ∷ Null ∷ []) (0 ∷ []) (run_columns y) ≡ false
 unfolding first_key binary
 none_agrees id v y = refl
 
-baseline_agrees : (id : Value) (name : List ℕ) (baseline : Option ℕ) (y : RunLine) → agree plain (2 ∷ []) (id ∷ Text name ∷ number_or_null baseline ∷ []) (0 ∷ []) (run_columns y) ≡ is_baseline y.number baseline
+baseline_agrees : (id : Value) (name : List ℕ) (baseline : Option ℕ) (y : RunRow) → agree plain (2 ∷ []) (id ∷ Text name ∷ number_or_null baseline ∷ []) (0 ∷ []) (run_columns y) ≡ is_baseline y.number baseline
 baseline_agrees id name None y = none_agrees id (Text name) y
 baseline_agrees id name (Some m) y = second_agrees id (Text name) m y
 
 module _ (n : ℕ) (t : Tables) (held : has_run t n ≡ true) (limit : Option ℕ) (trees : Trees) (text : List ℕ) (tally : Tally) (after : Database) (was : Holds t trees) (sound : IsDatabase after)
     (h : Does limit plain_mode (number n ∷ []) (record { schema = schema_two; trees = trees }) text None (Delete 1 (only (scan 1 drop_run_terms (col 1 0 ∷ [])))) (Ok (tally, after))) where
-  is_it : RunLine → Bool
+  is_it : RunRow → Bool
   is_it r = eqb r.number n
 
-  run_passes : (id : Value) (r : RunLine) → passes (number n ∷ []) drop_run_terms (run_columns r) ≡ is_it r
+  run_passes : (id : Value) (r : RunRow) → passes (number n ∷ []) drop_run_terms (run_columns r) ≡ is_it r
   unfolding is_it
   run_passes id r = and_true _ ∙ numbers_equal r.number n
 
-  same_number : (r : RunLine) → is_it r ≡ true → r.number ≡ n
+  same_number : (r : RunRow) → is_it r ≡ true → r.number ≡ n
   unfolding is_it
   same_number r is = eqb-true r.number n is
 
@@ -191,10 +191,10 @@ module _ (n : ℕ) (t : Tables) (held : has_run t n ≡ true) (limit : Option �
   Gone : List Row → Type 0
   Gone taken = AreTaken run_at run_columns t.runs is_it taken
 
-  about : (taken : List Row) → Gone taken → (R : Row × Row → Bool) (c : Bool) → ((y : RunLine) → y.number ≡ n → R (run_columns y, []) ≡ c) → list_any R (pairs taken []) ≡ c
+  about : (taken : List Row) → Gone taken → (R : Row × Row → Bool) (c : Bool) → ((y : RunRow) → y.number ≡ n → R (run_columns y, []) ≡ c) → list_any R (pairs taken []) ≡ c
   unfolding Gone is_it
   about taken all R c each =
-      let r = some_has (λ (r : RunLine). r.number == n) t.runs held in
+      let r = some_has (λ (r : RunRow). r.number == n) t.runs held in
       all_moved run_at run_columns t.runs is_it taken all r.0 r.1 r.2 R c (λ z y is. each y (same_number y is))
 
   -- without the run's own line, then without what is in one table after another
@@ -213,11 +213,11 @@ module _ (n : ℕ) (t : Tables) (held : has_run t n ≡ true) (limit : Option �
   abbrev stacks_gone : Tables
   stacks_gone = record groups_gone { stacks = (without_run n t).stacks }
 
-  abbrev arcs_gone : Tables
-  arcs_gone = record stacks_gone { arcs = (without_run n t).arcs }
+  abbrev calls_gone : Tables
+  calls_gone = record stacks_gone { calls = (without_run n t).calls }
 
   abbrev coefs_gone : Tables
-  coefs_gone = record arcs_gone { coefs = (without_run n t).coefs }
+  coefs_gone = record calls_gone { coefs = (without_run n t).coefs }
 
   abbrev derived_gone : Tables
   derived_gone = record coefs_gone { derived = (without_run n t).derived }
@@ -229,7 +229,7 @@ module _ (n : ℕ) (t : Tables) (held : has_run t n ≡ true) (limit : Option �
       → AllContents schema_two.tables (contents_of members_gone) next
   unfolding is_it Gone
   drops_members taken all db next were did =
-      children_deleted schema_two Enforced 9 member_at refl refl (contents_of cells_gone) db next were member_columns t.members (λ (x : MemberLine). eqb x.run n) refl (of_run member_at 2 taken) refl
+      children_deleted schema_two Enforced 9 member_at refl refl (contents_of cells_gone) db next were member_columns t.members (λ (x : MemberRow). eqb x.run n) refl (of_run member_at 2 taken) refl
       (λ id x. about taken all (is_child_of (as_work true (of_run member_at 2 taken)) (id ∷ member_columns x)) (eqb x.run n) (λ y is.
       ap₂ ◌&&◌ (loses_run y) (second_agrees id (Text x.group) x.run y) ∙ ap (eqb x.run) is))
       did
@@ -247,16 +247,16 @@ module _ (n : ℕ) (t : Tables) (held : has_run t n ≡ true) (limit : Option �
       → AllContents schema_two.tables (contents_of stacks_gone) next
   unfolding is_it Gone
   drops_stacks taken all db next were did =
-      children_deleted schema_two Enforced 7 stack_at refl refl (contents_of groups_gone) db next were stack_columns t.stacks (λ (x : StackLine). eqb x.run n) refl (of_run stack_at 1 taken) refl
+      children_deleted schema_two Enforced 7 stack_at refl refl (contents_of groups_gone) db next were stack_columns t.stacks (λ (x : StackRow). eqb x.run n) refl (of_run stack_at 1 taken) refl
       (λ id x. about taken all (is_child_of (as_work true (of_run stack_at 1 taken)) (id ∷ stack_columns x)) (eqb x.run n) (λ y is.
       ap₂ ◌&&◌ (loses_run y) (first_agrees id x.run (drop 1 (stack_columns x)) y) ∙ ap (eqb x.run) is))
       did
 
-  drops_arcs : (taken : List Row) → Gone taken → (db next : Trees) → AllContents schema_two.tables (contents_of stacks_gone) db → Acted schema_two Enforced (as_work true (of_run arc_at 1 taken)) db next
-      → AllContents schema_two.tables (contents_of arcs_gone) next
+  drops_calls : (taken : List Row) → Gone taken → (db next : Trees) → AllContents schema_two.tables (contents_of stacks_gone) db → Acted schema_two Enforced (as_work true (of_run arc_at 1 taken)) db next
+      → AllContents schema_two.tables (contents_of calls_gone) next
   unfolding is_it Gone
-  drops_arcs taken all db next were did =
-      children_deleted schema_two Enforced 6 arc_at refl refl (contents_of stacks_gone) db next were arc_columns t.arcs (λ (x : ArcLine). eqb x.run n) refl (of_run arc_at 1 taken) refl
+  drops_calls taken all db next were did =
+      children_deleted schema_two Enforced 6 arc_at refl refl (contents_of stacks_gone) db next were arc_columns t.calls (λ (x : CallRow). eqb x.run n) refl (of_run arc_at 1 taken) refl
       (λ id x. about taken all (is_child_of (as_work true (of_run arc_at 1 taken)) (id ∷ arc_columns x)) (eqb x.run n) (λ y is.
       ap₂ ◌&&◌ (loses_run y) (first_agrees id x.run (drop 1 (arc_columns x)) y) ∙ ap (eqb x.run) is))
       did
@@ -265,16 +265,16 @@ module _ (n : ℕ) (t : Tables) (held : has_run t n ≡ true) (limit : Option �
       → AllContents schema_two.tables (contents_of cells_gone) next
   unfolding is_it Gone
   drops_cells taken all db next were did =
-      children_deleted schema_two Enforced 10 thread_cell_at refl refl (contents_of run_gone) db next were cell_columns t.cells (λ (x : CellLine). eqb x.run n) refl (of_run thread_cell_at 1 taken) refl
+      children_deleted schema_two Enforced 10 thread_cell_at refl refl (contents_of run_gone) db next were cell_columns t.cells (λ (x : CellRow). eqb x.run n) refl (of_run thread_cell_at 1 taken) refl
       (λ id x. about taken all (is_child_of (as_work true (of_run thread_cell_at 1 taken)) (id ∷ cell_columns x)) (eqb x.run n) (λ y is.
       ap₂ ◌&&◌ (loses_run y) (first_agrees id x.run (drop 1 (cell_columns x)) y) ∙ ap (eqb x.run) is))
       did
 
-  drops_coefs : (taken : List Row) → Gone taken → (db next : Trees) → AllContents schema_two.tables (contents_of arcs_gone) db → Acted schema_two Enforced (as_work true (of_run coef_at 1 taken)) db next
+  drops_coefs : (taken : List Row) → Gone taken → (db next : Trees) → AllContents schema_two.tables (contents_of calls_gone) db → Acted schema_two Enforced (as_work true (of_run coef_at 1 taken)) db next
       → AllContents schema_two.tables (contents_of coefs_gone) next
   unfolding is_it Gone
   drops_coefs taken all db next were did =
-      children_deleted schema_two Enforced 4 coef_at refl refl (contents_of arcs_gone) db next were coef_columns t.coefs (λ (x : CoefLine). eqb x.run n) refl (of_run coef_at 1 taken) refl
+      children_deleted schema_two Enforced 4 coef_at refl refl (contents_of calls_gone) db next were coef_columns t.coefs (λ (x : CoefRow). eqb x.run n) refl (of_run coef_at 1 taken) refl
       (λ id x. about taken all (is_child_of (as_work true (of_run coef_at 1 taken)) (id ∷ coef_columns x)) (eqb x.run n) (λ y is.
       ap₂ ◌&&◌ (loses_run y) (first_agrees id x.run (drop 1 (coef_columns x)) y) ∙ ap (eqb x.run) is))
       did
@@ -283,7 +283,7 @@ module _ (n : ℕ) (t : Tables) (held : has_run t n ≡ true) (limit : Option �
       → AllContents schema_two.tables (contents_of derived_gone) next
   unfolding is_it Gone
   drops_derived taken all db next were did =
-      children_deleted schema_two Enforced 3 derived_at refl refl (contents_of coefs_gone) db next were derived_columns t.derived (λ (x : DerivedLine). eqb x.run n) refl (of_run derived_at 1 taken) refl
+      children_deleted schema_two Enforced 3 derived_at refl refl (contents_of coefs_gone) db next were derived_columns t.derived (λ (x : DerivedRow). eqb x.run n) refl (of_run derived_at 1 taken) refl
       (λ id x. about taken all (is_child_of (as_work true (of_run derived_at 1 taken)) (id ∷ derived_columns x)) (eqb x.run n) (λ y is.
       ap₂ ◌&&◌ (loses_run y) (first_agrees id x.run (drop 1 (derived_columns x)) y) ∙ ap (eqb x.run) is))
       did
@@ -292,7 +292,7 @@ module _ (n : ℕ) (t : Tables) (held : has_run t n ≡ true) (limit : Option �
       → AllContents schema_two.tables (contents_of events_gone) next
   unfolding is_it Gone
   drops_events taken all db next were did =
-      children_deleted schema_two Enforced 2 run_event_at refl refl (contents_of derived_gone) db next were event_columns t.events (λ (x : EventLine). eqb x.run n) refl (of_run run_event_at 1 taken) refl
+      children_deleted schema_two Enforced 2 run_event_at refl refl (contents_of derived_gone) db next were event_columns t.events (λ (x : EventRow). eqb x.run n) refl (of_run run_event_at 1 taken) refl
       (λ id x. about taken all (is_child_of (as_work true (of_run run_event_at 1 taken)) (id ∷ event_columns x)) (eqb x.run n) (λ y is.
       ap₂ ◌&&◌ (loses_run y) (first_agrees id x.run (drop 1 (event_columns x)) y) ∙ ap (eqb x.run) is))
       did
@@ -301,9 +301,9 @@ module _ (n : ℕ) (t : Tables) (held : has_run t n ≡ true) (limit : Option �
   unfolding is_it Gone
   drops_run =
       let it = deletes_leading schema_two (contents_of t) limit (number n ∷ []) trees text tally after 1 run_at refl refl refl drop_run_terms was.contain sound h run_columns t.runs is_it (contents_of (without_run n t)) refl run_passes (λ taken all. (
-        record { at = 10; deletes = true; work = of_run thread_cell_at 1 taken; new = map cell_columns (without_run n t).cells } ∷ record { at = 9; deletes = true; work = of_run member_at 2 taken; new = map member_columns (without_run n t).members } ∷ record { at = 8; deletes = false; work = baselines_wait taken; new = map group_columns (without_run n t).groups } ∷ record { at = 7; deletes = true; work = of_run stack_at 1 taken; new = map stack_columns (without_run n t).stacks } ∷ record { at = 6; deletes = true; work = of_run arc_at 1 taken; new = map arc_columns (without_run n t).arcs } ∷ record { at = 4; deletes = true; work = of_run coef_at 1 taken; new = map coef_columns (without_run n t).coefs } ∷ record { at = 3; deletes = true; work = of_run derived_at 1 taken; new = map derived_columns (without_run n t).derived } ∷ record { at = 2; deletes = true; work = of_run run_event_at 1 taken; new = map event_columns (without_run n t).events } ∷ [],
+        record { at = 10; deletes = true; work = of_run thread_cell_at 1 taken; new = map cell_columns (without_run n t).cells } ∷ record { at = 9; deletes = true; work = of_run member_at 2 taken; new = map member_columns (without_run n t).members } ∷ record { at = 8; deletes = false; work = baselines_wait taken; new = map group_columns (without_run n t).groups } ∷ record { at = 7; deletes = true; work = of_run stack_at 1 taken; new = map stack_columns (without_run n t).stacks } ∷ record { at = 6; deletes = true; work = of_run arc_at 1 taken; new = map arc_columns (without_run n t).calls } ∷ record { at = 4; deletes = true; work = of_run coef_at 1 taken; new = map coef_columns (without_run n t).coefs } ∷ record { at = 3; deletes = true; work = of_run derived_at 1 taken; new = map derived_columns (without_run n t).derived } ∷ record { at = 2; deletes = true; work = of_run run_event_at 1 taken; new = map event_columns (without_run n t).events } ∷ [],
         run_waits taken (about taken all (loses plain (0 ∷ [])) true (λ y is. loses_run y)),
-        (no_cell_works, drops_cells taken all, (no_member_works, drops_members taken all, (no_group_works, clears_groups taken all, (no_stack_works, drops_stacks taken all, (no_arc_works, drops_arcs taken all, (no_coef_works, drops_coefs taken all, (no_derived_works, drops_derived taken all, (no_event_works, drops_events taken all, tt)))))))),
+        (no_cell_works, drops_cells taken all, (no_member_works, drops_members taken all, (no_group_works, clears_groups taken all, (no_stack_works, drops_stacks taken all, (no_arc_works, drops_calls taken all, (no_coef_works, drops_coefs taken all, (no_derived_works, drops_derived taken all, (no_event_works, drops_events taken all, tt)))))))),
         refl,
       )) in
-      (it.0, record { contain = it.1; below = all-filter (λ (r : RunLine). r.number < t.next) (λ (r : RunLine). not (r.number == n)) t.runs was.below })
+      (it.0, record { contain = it.1; below = all-filter (λ (r : RunRow). r.number < t.next) (λ (r : RunRow). not (r.number == n)) t.runs was.below })

@@ -22,7 +22,7 @@ use Rattle.sql_tables.proofs.Queries.{shown_row, row_shown, sorted_scan}
 use Rattle.sql_tables.proofs.Rows.{passes}
 use Rattle.sql_tables.proofs.Selects.{selected, selected_first}
 use Rattle.store_schema.specs.Schema.{schema_one, schema_two}
-use Rattle.plain_tables.specs.Tables.{Tables, RunLine}
+use Rattle.plain_tables.specs.Tables.{Tables, RunRow}
 use Rattle.store_schema.specs.Tables.{Holds, meta_columns, run_columns}
 use Rattle.store_schema.specs.Texts.{next_sql, schema_sql, by_digest_sql}
 use Rattle.store_schema.proofs.Values.{blobs_equal}
@@ -77,10 +77,10 @@ blob_is (Real x) b h = absurd cc
 blob_is (Text t) b h = absurd cc
 blob_is (Blob a) b h = ap Blob ((bytes_eq-Decides a b).0 (sym (blobs_equal a b) ∙ h))
 
-pub run_row : (t : Tables) (db : Trees) (r : Row) → Holds t db → Has (db 1) r → (line : RunLine) × Has t.runs line × (r ≡ run_columns line)
+pub run_row : (t : Tables) (db : Trees) (r : Row) → Holds t db → Has (db 1) r → (line : RunRow) × Has t.runs line × (r ≡ run_columns line)
 run_row t db r was there = has_mapped run_columns t.runs r (subst (λ l. Has l r) was.contain.contents_are.1.0.rows_are there)
 
-pub run_there : (t : Tables) (db : Trees) (line : RunLine) → Holds t db → Has t.runs line → Has (db 1) (run_columns line)
+pub run_there : (t : Tables) (db : Trees) (line : RunRow) → Holds t db → Has t.runs line → Has (db 1) (run_columns line)
 run_there t db line was there = subst (λ l. Has l (run_columns line)) (sym was.contain.contents_are.1.0.rows_are) (mapped_has run_columns t.runs line there)
 
 module _ (digest : List ℕ) (old new : State) (has : old.now.schema ≡ schema_two) where
@@ -96,11 +96,11 @@ module _ (digest : List ℕ) (old new : State) (has : old.now.schema ≡ schema_
       let same : passes (Blob digest ∷ []) by_digest_terms r ≡ true = and_true _ ∙ ap (λ v. is_true (binary (Compare Eq Binary) v (Blob digest))) is ∙ blobs_equal digest digest ∙ (bytes_eq-Decides digest digest).1 refl in
       row_shown 1 by_digest_terms by_digest_shown by_digest_order (old.now.trees 1) (Blob digest ∷ []) [] s r there same
 
-pub no_run_of : (t : Tables) (db : Trees) (digest : List ℕ) → Holds t db → ((r : Row) → Has (db 1) r → column r 3 ≢ Blob digest) → (line : RunLine) → Has t.runs line → line.digest ≢ digest
+pub no_run_of : (t : Tables) (db : Trees) (digest : List ℕ) → Holds t db → ((r : Row) → Has (db 1) r → column r 3 ≢ Blob digest) → (line : RunRow) → Has t.runs line → line.digest ≢ digest
 no_run_of t db digest was none line there is = none (run_columns line) (run_there t db line was there) (ap Blob is)
 
 pub run_of : (t : Tables) (db : Trees) (digest : List ℕ) (n : ℕ) → Holds t db → (r : Row) → Has (db 1) r → column r 3 ≡ Blob digest → column r 0 ≡ Int (pos n)
-    → (line : RunLine) × Has t.runs line × (line.digest ≡ digest) × (line.number ≡ n)
+    → (line : RunRow) × Has t.runs line × (line.digest ≡ digest) × (line.number ≡ n)
 run_of t db digest n was r there digest_is number_is =
     let it = run_row t db r was there in
     let first : Blob it.0.digest ≡ Blob digest = sym (ap (λ l. column l 3) it.2) ∙ digest_is in

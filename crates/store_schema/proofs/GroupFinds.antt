@@ -15,7 +15,7 @@ use Rattle.sql_tables.proofs.Selects.{selected}
 use Rattle.store_schema.specs.Schema.{schema_two}
 use Rattle.plain_tables.specs.Changes.{has_group, is_named}
 use Rattle.store_schema.specs.Seen.{is_at, group_seen, name_of_group_seen}
-use Rattle.plain_tables.specs.Tables.{Tables, GroupLine}
+use Rattle.plain_tables.specs.Tables.{Tables, GroupRow}
 use Rattle.store_schema.specs.Tables.{Holds, group_columns, run_columns}
 use Rattle.store_schema.specs.Texts.{find_group_sql, run_count_sql, group_count_sql}
 use Rattle.store_schema.proofs.Lists.{groups_are}
@@ -40,7 +40,7 @@ any_seen : (name : List ℕ) (rows : List Row) → list_any (is_at 1 (Text name)
 any_seen name [] = refl
 any_seen name (r ∷ rows) = ap (λ b. is_at 1 (Text name) r || b) (any_seen name rows)
 
-any_group : (name : List ℕ) (groups : List GroupLine) → list_any (is_at 0 (Text name)) (map group_columns groups) ≡ list_any (is_named name) groups
+any_group : (name : List ℕ) (groups : List GroupRow) → list_any (is_at 0 (Text name)) (map group_columns groups) ≡ list_any (is_named name) groups
 any_group name [] = refl
 any_group name (g ∷ groups) = ap₂ ◌||◌ (texts_equal g.name name) (any_group name groups)
 

@@ -21,7 +21,7 @@ use Rattle.sql_tables.proofs.Updates.{updates_rows}
 use Rattle.sql_tables.proofs.Rows.{passes, texts_equal, numbers_equal}
 use Rattle.sql_tables.proofs.Statements.{plain_mode}
 use Rattle.store_schema.specs.Schema.{schema_two, meta_at, grp_at, member_at}
-use Rattle.plain_tables.specs.Tables.{Tables, RunLine, GroupLine, MemberLine}
+use Rattle.plain_tables.specs.Tables.{Tables, RunRow, GroupRow, MemberRow}
 use Rattle.store_schema.specs.Tables.{Holds, contents_of, meta_columns, group_columns, member_columns, number}
 use Rattle.plain_tables.specs.Changes.{with_next, is_named, is_member, without_member, with_baseline, rebased}
 use Rattle.store_schema.proofs.Means.{raise_terms, raise_shown, set_baseline_terms, set_baseline_shown, leave_terms}
@@ -47,10 +47,10 @@ no_group_works_if olds news true e = absurd cc
 some_news : (n : Row) (news : List Row) → (length (n ∷ news) == 0) ≡ false
 some_news n news = ne_eqb (length (n ∷ news)) 0 (λ e. omega (arith, e))
 
-pub member_passes : (name : List ℕ) (n : ℕ) (id : Value) (m : MemberLine) → passes (Text name ∷ number n ∷ []) leave_terms (id ∷ member_columns m) ≡ is_member name n m
+pub member_passes : (name : List ℕ) (n : ℕ) (id : Value) (m : MemberRow) → passes (Text name ∷ number n ∷ []) leave_terms (id ∷ member_columns m) ≡ is_member name n m
 member_passes name n id m = ap₂ (λ a b. a && (b && true)) (texts_equal m.group name) (numbers_equal m.run n) ∙ ap (λ b. bytes_eq m.group name && b) (and_true _)
 
-pub group_passes : (params : Row) (name : List ℕ) (id : Value) (g : GroupLine) → passes (Text name ∷ params) set_baseline_terms (id ∷ group_columns g) ≡ is_named name g
+pub group_passes : (params : Row) (name : List ℕ) (id : Value) (g : GroupRow) → passes (Text name ∷ params) set_baseline_terms (id ∷ group_columns g) ≡ is_named name g
 group_passes params name id g = and_true _ ∙ texts_equal g.name name
 
 module _ (t : Tables) (limit : Option ℕ) (trees : Trees) (text : List ℕ) (tally : Tally) (after : Database) (was : Holds t trees) (sound : IsDatabase after) where
@@ -69,7 +69,7 @@ module _ (t : Tables) (limit : Option ℕ) (trees : Trees) (text : List ℕ) (ta
       (it.0, record { contain = it.1; below = was.below })
 
   -- the next number rises
-  pub raises : (n : ℕ) → AllByRecursion (λ (r : RunLine). r.number < n) t.runs → Does limit plain_mode (number n ∷ []) (record { schema = schema_two; trees = trees }) text None (Update 0 (only (scan 0 raise_terms (col 1 0 ∷ raise_shown)))) (Ok (tally, after))
+  pub raises : (n : ℕ) → AllByRecursion (λ (r : RunRow). r.number < n) t.runs → Does limit plain_mode (number n ∷ []) (record { schema = schema_two; trees = trees }) text None (Update 0 (only (scan 0 raise_terms (col 1 0 ∷ raise_shown)))) (Ok (tally, after))
       → (after.schema ≡ schema_two) × Holds (with_next n t) after.trees
   raises n below h =
       let it = updates_rows schema_two (contents_of t) limit (number n ∷ []) trees text tally after 0 meta_at refl refl refl raise_terms raise_shown was.contain sound h meta_columns (t.next ∷ []) (λ _. true) (λ _. n)

@@ -13,7 +13,7 @@ pub mod Names
 pub mod Parts
 pub mod Rows
 pub mod RunFinds
-pub mod RunLines
+pub mod RunRows
 pub mod RunLists
 pub mod Sound
 pub mod Values

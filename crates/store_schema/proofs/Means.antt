@@ -13,7 +13,7 @@ use Rattle.sqlite_tied.specs.Compute.{everything}
 use Rattle.sql_tables.specs.Queries.{scan, only, is, count_query}
 use Rattle.sql_tables.proofs.Queries.{sorted_scan}
 use Rattle.store_schema.specs.Schema.{schema_one, schema_two}
-use Rattle.store_schema.specs.Texts.{begin_sql, put_run_sql, put_event_sql, put_derived_sql, put_coef_sql, put_name_sql, put_cell_sql, put_arc_sql, put_stack_sql, put_group_sql, put_member_sql, raise_sql, set_baseline_sql, drop_run_sql, drop_group_sql, leave_sql, schema_sql, next_sql, by_digest_sql, runs_sql, call_counts_sql, kind_of_sql, events_of_sql, derived_of_sql, coefs_of_sql, sums_of_sql, names_sql, id_of_name_sql, groups_sql, members_sql, find_member_sql, find_group_sql, run_count_sql, group_count_sql}
+use Rattle.store_schema.specs.Texts.{begin_sql, insert_run_sql, insert_event_sql, insert_derived_sql, insert_coef_sql, insert_name_sql, insert_cell_sql, insert_arc_sql, insert_stack_sql, insert_group_sql, insert_member_sql, raise_sql, set_baseline_sql, drop_run_sql, drop_group_sql, leave_sql, schema_sql, next_sql, by_digest_sql, runs_sql, call_counts_sql, kind_of_sql, events_of_sql, derived_of_sql, coefs_of_sql, sums_of_sql, names_sql, id_of_name_sql, groups_sql, members_sql, find_member_sql, find_group_sql, run_count_sql, group_count_sql}
 
 abbrev pub begin_terms : List Term
 begin_terms = lit (Int (pos 1)) ∷ lit Null ∷ lit (Int (pos 2)) ∷ lit (Int (pos 1)) ∷ []
@@ -26,115 +26,115 @@ pub begin_plain : IsPlain (understood schema_two begin_sql)
 unfolding understood everything
 begin_plain = (refl, refl)
 
-abbrev pub put_run_terms : List Term
-put_run_terms = col 0 0 ∷ lit Null ∷ col 0 1 ∷ col 0 2 ∷ col 0 3 ∷ col 0 4 ∷ []
+abbrev pub insert_run_terms : List Term
+insert_run_terms = col 0 0 ∷ lit Null ∷ col 0 1 ∷ col 0 2 ∷ col 0 3 ∷ col 0 4 ∷ []
 
-pub put_run_means : command_of (understood schema_two put_run_sql) ≡ Insert 1 (Values put_run_terms 6)
+pub insert_run_means : command_of (understood schema_two insert_run_sql) ≡ Insert 1 (Values insert_run_terms 6)
 unfolding understood everything
-put_run_means = refl
+insert_run_means = refl
 
-pub put_run_plain : IsPlain (understood schema_two put_run_sql)
+pub insert_run_plain : IsPlain (understood schema_two insert_run_sql)
 unfolding understood everything
-put_run_plain = (refl, refl)
+insert_run_plain = (refl, refl)
 
-abbrev pub put_event_terms : List Term
-put_event_terms = lit Null ∷ col 0 0 ∷ col 0 1 ∷ col 0 2 ∷ col 0 3 ∷ col 0 4 ∷ col 0 5 ∷ []
+abbrev pub insert_event_terms : List Term
+insert_event_terms = lit Null ∷ col 0 0 ∷ col 0 1 ∷ col 0 2 ∷ col 0 3 ∷ col 0 4 ∷ col 0 5 ∷ []
 
-pub put_event_means : command_of (understood schema_two put_event_sql) ≡ Insert 2 (Values put_event_terms 7)
+pub insert_event_means : command_of (understood schema_two insert_event_sql) ≡ Insert 2 (Values insert_event_terms 7)
 unfolding understood everything
-put_event_means = refl
+insert_event_means = refl
 
-pub put_event_plain : IsPlain (understood schema_two put_event_sql)
+pub insert_event_plain : IsPlain (understood schema_two insert_event_sql)
 unfolding understood everything
-put_event_plain = (refl, refl)
+insert_event_plain = (refl, refl)
 
-abbrev pub put_derived_terms : List Term
-put_derived_terms = lit Null ∷ col 0 0 ∷ col 0 1 ∷ col 0 2 ∷ []
+abbrev pub insert_derived_terms : List Term
+insert_derived_terms = lit Null ∷ col 0 0 ∷ col 0 1 ∷ col 0 2 ∷ []
 
-pub put_derived_means : command_of (understood schema_two put_derived_sql) ≡ Insert 3 (Values put_derived_terms 4)
+pub insert_derived_means : command_of (understood schema_two insert_derived_sql) ≡ Insert 3 (Values insert_derived_terms 4)
 unfolding understood everything
-put_derived_means = refl
+insert_derived_means = refl
 
-pub put_derived_plain : IsPlain (understood schema_two put_derived_sql)
+pub insert_derived_plain : IsPlain (understood schema_two insert_derived_sql)
 unfolding understood everything
-put_derived_plain = (refl, refl)
+insert_derived_plain = (refl, refl)
 
-abbrev pub put_coef_terms : List Term
-put_coef_terms = lit Null ∷ col 0 0 ∷ col 0 1 ∷ col 0 2 ∷ col 0 3 ∷ []
+abbrev pub insert_coef_terms : List Term
+insert_coef_terms = lit Null ∷ col 0 0 ∷ col 0 1 ∷ col 0 2 ∷ col 0 3 ∷ []
 
-pub put_coef_means : command_of (understood schema_two put_coef_sql) ≡ Insert 4 (Values put_coef_terms 5)
+pub insert_coef_means : command_of (understood schema_two insert_coef_sql) ≡ Insert 4 (Values insert_coef_terms 5)
 unfolding understood everything
-put_coef_means = refl
+insert_coef_means = refl
 
-pub put_coef_plain : IsPlain (understood schema_two put_coef_sql)
+pub insert_coef_plain : IsPlain (understood schema_two insert_coef_sql)
 unfolding understood everything
-put_coef_plain = (refl, refl)
+insert_coef_plain = (refl, refl)
 
-abbrev pub put_name_terms : List Term
-put_name_terms = lit Null ∷ lit Null ∷ col 0 0 ∷ []
+abbrev pub insert_name_terms : List Term
+insert_name_terms = lit Null ∷ lit Null ∷ col 0 0 ∷ []
 
-pub put_name_means : command_of (understood schema_two put_name_sql) ≡ Insert 5 (Values put_name_terms 3)
+pub insert_name_means : command_of (understood schema_two insert_name_sql) ≡ Insert 5 (Values insert_name_terms 3)
 unfolding understood everything
-put_name_means = refl
+insert_name_means = refl
 
-pub put_name_plain : IsPlain (understood schema_two put_name_sql)
+pub insert_name_plain : IsPlain (understood schema_two insert_name_sql)
 unfolding understood everything
-put_name_plain = (refl, refl)
+insert_name_plain = (refl, refl)
 
-abbrev pub put_cell_terms : List Term
-put_cell_terms = lit Null ∷ col 0 0 ∷ col 0 1 ∷ col 0 2 ∷ col 0 3 ∷ col 0 4 ∷ col 0 5 ∷ col 0 6 ∷ col 0 7 ∷ []
+abbrev pub insert_cell_terms : List Term
+insert_cell_terms = lit Null ∷ col 0 0 ∷ col 0 1 ∷ col 0 2 ∷ col 0 3 ∷ col 0 4 ∷ col 0 5 ∷ col 0 6 ∷ col 0 7 ∷ []
 
-pub put_cell_means : command_of (understood schema_two put_cell_sql) ≡ Insert 10 (Values put_cell_terms 9)
+pub insert_cell_means : command_of (understood schema_two insert_cell_sql) ≡ Insert 10 (Values insert_cell_terms 9)
 unfolding understood everything
-put_cell_means = refl
+insert_cell_means = refl
 
-pub put_cell_plain : IsPlain (understood schema_two put_cell_sql)
+pub insert_cell_plain : IsPlain (understood schema_two insert_cell_sql)
 unfolding understood everything
-put_cell_plain = (refl, refl)
+insert_cell_plain = (refl, refl)
 
-abbrev pub put_arc_terms : List Term
-put_arc_terms = lit Null ∷ col 0 0 ∷ col 0 1 ∷ col 0 2 ∷ col 0 3 ∷ col 0 4 ∷ col 0 5 ∷ col 0 6 ∷ col 0 7 ∷ col 0 8 ∷ col 0 9 ∷ []
+abbrev pub insert_arc_terms : List Term
+insert_arc_terms = lit Null ∷ col 0 0 ∷ col 0 1 ∷ col 0 2 ∷ col 0 3 ∷ col 0 4 ∷ col 0 5 ∷ col 0 6 ∷ col 0 7 ∷ col 0 8 ∷ col 0 9 ∷ []
 
-pub put_arc_means : command_of (understood schema_two put_arc_sql) ≡ Insert 6 (Values put_arc_terms 11)
+pub insert_arc_means : command_of (understood schema_two insert_arc_sql) ≡ Insert 6 (Values insert_arc_terms 11)
 unfolding understood everything
-put_arc_means = refl
+insert_arc_means = refl
 
-pub put_arc_plain : IsPlain (understood schema_two put_arc_sql)
+pub insert_arc_plain : IsPlain (understood schema_two insert_arc_sql)
 unfolding understood everything
-put_arc_plain = (refl, refl)
+insert_arc_plain = (refl, refl)
 
-abbrev pub put_stack_terms : List Term
-put_stack_terms = lit Null ∷ col 0 0 ∷ col 0 1 ∷ col 0 2 ∷ []
+abbrev pub insert_stack_terms : List Term
+insert_stack_terms = lit Null ∷ col 0 0 ∷ col 0 1 ∷ col 0 2 ∷ []
 
-pub put_stack_means : command_of (understood schema_two put_stack_sql) ≡ Insert 7 (Values put_stack_terms 4)
+pub insert_stack_means : command_of (understood schema_two insert_stack_sql) ≡ Insert 7 (Values insert_stack_terms 4)
 unfolding understood everything
-put_stack_means = refl
+insert_stack_means = refl
 
-pub put_stack_plain : IsPlain (understood schema_two put_stack_sql)
+pub insert_stack_plain : IsPlain (understood schema_two insert_stack_sql)
 unfolding understood everything
-put_stack_plain = (refl, refl)
+insert_stack_plain = (refl, refl)
 
-abbrev pub put_group_terms : List Term
-put_group_terms = lit Null ∷ col 0 0 ∷ lit Null ∷ []
+abbrev pub insert_group_terms : List Term
+insert_group_terms = lit Null ∷ col 0 0 ∷ lit Null ∷ []
 
-pub put_group_means : command_of (understood schema_two put_group_sql) ≡ Insert 8 (Values put_group_terms 3)
+pub insert_group_means : command_of (understood schema_two insert_group_sql) ≡ Insert 8 (Values insert_group_terms 3)
 unfolding understood everything
-put_group_means = refl
+insert_group_means = refl
 
-pub put_group_plain : IsPlain (understood schema_two put_group_sql)
+pub insert_group_plain : IsPlain (understood schema_two insert_group_sql)
 unfolding understood everything
-put_group_plain = (refl, refl)
+insert_group_plain = (refl, refl)
 
-abbrev pub put_member_terms : List Term
-put_member_terms = lit Null ∷ col 0 0 ∷ col 0 1 ∷ []
+abbrev pub insert_member_terms : List Term
+insert_member_terms = lit Null ∷ col 0 0 ∷ col 0 1 ∷ []
 
-pub put_member_means : command_of (understood schema_two put_member_sql) ≡ Insert 9 (Values put_member_terms 3)
+pub insert_member_means : command_of (understood schema_two insert_member_sql) ≡ Insert 9 (Values insert_member_terms 3)
 unfolding understood everything
-put_member_means = refl
+insert_member_means = refl
 
-pub put_member_plain : IsPlain (understood schema_two put_member_sql)
+pub insert_member_plain : IsPlain (understood schema_two insert_member_sql)
 unfolding understood everything
-put_member_plain = (refl, refl)
+insert_member_plain = (refl, refl)
 
 abbrev pub raise_terms : List Term
 raise_terms = []

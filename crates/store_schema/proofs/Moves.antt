@@ -32,7 +32,7 @@ use Rattle.sql_tables.proofs.TableDrops.{without_content}
 use Rattle.sql_tables.proofs.Updates.{updates_rows}
 use Rattle.store_schema.specs.First.{HoldsFirst, IsOfThreadZero, first_cell_columns, first_contents_of}
 use Rattle.store_schema.specs.Schema.{schema_one, schema_both, schema_two, meta_at, cell_at, thread_cell_at}
-use Rattle.plain_tables.specs.Tables.{Tables, CellLine, RunLine}
+use Rattle.plain_tables.specs.Tables.{Tables, CellRow, RunRow}
 use Rattle.store_schema.specs.Tables.{Holds, number, meta_columns, run_columns, event_columns, derived_columns, coef_columns, name_columns, cell_columns, arc_columns, stack_columns, group_columns, member_columns}
 use Rattle.store_schema.specs.Texts.{copy_cells_sql, second_sql}
 use Rattle.store_schema.proofs.Values.{cast_null, cast_whole, cast_number}
@@ -54,10 +54,10 @@ unfolding understood everything
 copy_plain = (refl, refl)
 
 -- a cell of version 1, under thread 0
-abbrev pub under_zero : CellLine → Row
+abbrev pub under_zero : CellRow → Row
 under_zero c = number c.run ∷ number 0 ∷ number c.object ∷ number c.file ∷ number c.function ∷ number c.line ∷ number c.event ∷ number c.cost ∷ []
 
-cast_each : (id : Value) (c : CellLine) → cast_row (plainly thread_cell_at) (eval_all copy_terms ([] ∷ (id ∷ first_cell_columns c) ∷ [])) ≡ Null ∷ under_zero c
+cast_each : (id : Value) (c : CellRow) → cast_row (plainly thread_cell_at) (eval_all copy_terms ([] ∷ (id ∷ first_cell_columns c) ∷ [])) ≡ Null ∷ under_zero c
 cast_each id c = simp (cast_null, cast_number) refl
 
 -- the contents with the new table, without rows and with them
@@ -107,7 +107,7 @@ meta_of m = number 1 ∷ Null ∷ number m.0 ∷ number m.1 ∷ []
 abbrev with_cells : Tables → List Row → List (List Row)
 with_cells t rows =
     (meta_columns t.next ∷ []) ∷ map run_columns t.runs ∷ map event_columns t.events ∷ map derived_columns t.derived ∷ map coef_columns t.coefs ∷ map name_columns t.names
-    ∷ map arc_columns t.arcs ∷ map stack_columns t.stacks ∷ map group_columns t.groups ∷ map member_columns t.members ∷ rows ∷ []
+    ∷ map arc_columns t.calls ∷ map stack_columns t.stacks ∷ map group_columns t.groups ∷ map member_columns t.members ∷ rows ∷ []
 
 marks_schema : (t : Tables) (limit : Option ℕ) (trees : Trees) (text : List ℕ) (tally : Tally) (after : Database) → Contain schema_two (without_content 6 (with_rows t)) trees → IsDatabase after
     → Does limit plain_mode [] (record { schema = schema_two; trees = trees }) text None (Update 0 (only (scan 0 [] (col 1 0 ∷ second_shown)))) (Ok (tally, after))
@@ -124,7 +124,7 @@ marked_schema t = inside_done schema_two second_sql [] _ second_means second_pla
 
 -- each run's number is below the next, and the cells are of thread 0
 abbrev pub Stay : Tables → Type 0
-Stay t = AllByRecursion (λ (r : RunLine). r.number < t.next) t.runs × AllByRecursion IsOfThreadZero t.cells
+Stay t = AllByRecursion (λ (r : RunRow). r.number < t.next) t.runs × AllByRecursion IsOfThreadZero t.cells
 
 -- within the transaction, the tables of a schema have these contents
 abbrev pub Sees : Tables → Schema → List (List Row) → State → Type 0
@@ -137,7 +137,7 @@ pub filled : (t : Tables) (old new : State) (count : ℕ) → Sees t schema_both
 filled t old new count was h = (was.0, copied_cells t old new count was.1 h)
 
 -- under thread 0 they are the lines that they were
-all_zero : (cells : List CellLine) → AllByRecursion IsOfThreadZero cells → map under_zero cells ≡ map cell_columns cells
+all_zero : (cells : List CellRow) → AllByRecursion IsOfThreadZero cells → map under_zero cells ≡ map cell_columns cells
 all_zero [] all = refl
 all_zero (c ∷ cells) all = ap₂ ◌∷◌ (ap (λ n. number c.run ∷ number n ∷ number c.object ∷ number c.file ∷ number c.function ∷ number c.line ∷ number c.event ∷ number c.cost ∷ []) (sym all.0)) (all_zero cells all.1)
 

@@ -23,7 +23,7 @@ use Rattle.sql_tables.proofs.Contents.{content_there}
 use Rattle.sql_tables.proofs.Rows.{passes}
 use Rattle.sql_tables.proofs.Queries.{Selects, shown_row, row_shown}
 use Rattle.store_schema.specs.Schema.{schema_two, name_at}
-use Rattle.plain_tables.specs.Tables.{Tables, NameLine}
+use Rattle.plain_tables.specs.Tables.{Tables, NameRow}
 use Rattle.store_schema.specs.Tables.{Holds, contents_of, name_columns, number}
 use Rattle.plain_tables.specs.Changes.{has_name}
 use Rattle.plain_tables.specs.Files.{number_in}
@@ -51,15 +51,15 @@ numbers_differ a b = go (value_cmp (number a) (number b)) ∙ ap is_ne (value_cm
 unclashed : (db : Trees) (row : Row) → obeys Unique schema_two db name_at row ≡ true → not (clashes plain (2 ∷ []) (db 11) row) ≡ true
 unclashed db row h = (and_parts _ _ h).0
 
-agrees : (a b : NameLine) → agree plain (2 ∷ []) (name_columns a) (2 ∷ []) (name_columns b) ≡ bytes_eq a.name b.name
+agrees : (a b : NameRow) → agree plain (2 ∷ []) (name_columns a) (2 ∷ []) (name_columns b) ≡ bytes_eq a.name b.name
 unfolding first_key
 agrees a b = and_true _ ∙ blobs_equal a.name b.name
 
 -- lines of one name have one number
-same_number : (t : Tables) (db : Trees) → Holds t db → (a b : NameLine) → Has t.names a → Has t.names b → bytes_eq a.name b.name ≡ true → a.number ≡ b.number
+same_number : (t : Tables) (db : Trees) → Holds t db → (a b : NameRow) → Has t.names a → Has t.names b → bytes_eq a.name b.name ≡ true → a.number ≡ b.number
 same_number t db h a b has_a has_b same = go (eqb a.number b.number) refl
   where
-    at : (line : NameLine) → Has t.names line → Has (db 11) (name_columns line)
+    at : (line : NameRow) → Has t.names line → Has (db 11) (name_columns line)
     at line there = subst (λ rows. Has rows (name_columns line)) (sym (name_rows t db h)) (mapped_has name_columns t.names line there)
 
     alone : not (clashes plain (2 ∷ []) (db 11) (name_columns b)) ≡ true
@@ -73,13 +73,13 @@ same_number t db h a b has_a has_b same = go (eqb a.number b.number) refl
         absurd (let bad : false ≡ true = sym (ap not found) ∙ alone in cc)
 
 -- a line's number is its name's, where lines of that name have one number
-number_of_line : (lines : List NameLine) (name : List ℕ) (line : NameLine) → ((a : NameLine) → Has lines a → bytes_eq a.name name ≡ true → a.number ≡ line.number) → Has lines line → bytes_eq line.name name ≡ true → number_in lines name ≡ line.number
+number_of_line : (lines : List NameRow) (name : List ℕ) (line : NameRow) → ((a : NameRow) → Has lines a → bytes_eq a.name name ≡ true → a.number ≡ line.number) → Has lines line → bytes_eq line.name name ≡ true → number_in lines name ≡ line.number
 number_of_line [] name line one there is = absurd there
 number_of_line (first ∷ lines) name line one there is = go (bytes_eq first.name name) refl there (λ later. number_of_line lines name line (λ a h. one a (inr h)) later is)
   where
     go : (b : Bool) → bytes_eq first.name name ≡ b → Has (first ∷ lines) line → (Has lines line → number_in lines name ≡ line.number) → (if b then first.number else number_in lines name) ≡ line.number
     go true e h more = one first (inl refl) e
-    go false e (inl same) more = absurd (let bad : false ≡ true = sym e ∙ ap (λ (l : NameLine). bytes_eq l.name name) (sym same) ∙ is in cc)
+    go false e (inl same) more = absurd (let bad : false ≡ true = sym e ∙ ap (λ (l : NameRow). bytes_eq l.name name) (sym same) ∙ is in cc)
     go false e (inr later) more = more later
 
 -- names that equal a third are equal
@@ -87,7 +87,7 @@ equal_both : (a b c : List ℕ) → bytes_eq a c ≡ true → bytes_eq b c ≡ t
 equal_both a b c x y = (bytes_eq-Decides a b).1 ((bytes_eq-Decides a c).0 x ∙ sym ((bytes_eq-Decides b c).0 y))
 
 -- the row's test is the name's
-name_passes : (name : List ℕ) (line : NameLine) → passes (Blob name ∷ []) id_of_name_terms (name_columns line) ≡ bytes_eq line.name name
+name_passes : (name : List ℕ) (line : NameRow) → passes (Blob name ∷ []) id_of_name_terms (name_columns line) ≡ bytes_eq line.name name
 name_passes name line = and_true _ ∙ blobs_equal line.name name
 
 module _ (t : Tables) (db : Trees) (was : Holds t db) (name : List ℕ) where
@@ -108,6 +108,6 @@ module _ (t : Tables) (db : Trees) (was : Holds t db) (name : List ℕ) where
       go : (b : Bool) → has_name t name ≡ b → b ≡ false
       go false e = refl
       go true e =
-          let l = some_has (λ (line : NameLine). bytes_eq line.name name) t.names e in
+          let l = some_has (λ (line : NameRow). bytes_eq line.name name) t.names e in
           let there = subst (λ rows. Has rows (name_columns l.0)) (sym (name_rows t db was)) (mapped_has name_columns t.names l.0 l.1) in
           absurd (row_shown 11 id_of_name_terms id_of_name_shown id_of_name_order (db 11) (Blob name ∷ []) [] s (name_columns l.0) there (name_passes name l.0 ∙ l.2))

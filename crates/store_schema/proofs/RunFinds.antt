@@ -14,7 +14,7 @@ use Rattle.sql_tables.proofs.Selects.{selected}
 use Rattle.store_schema.specs.Schema.{schema_two}
 use Rattle.plain_tables.specs.Changes.{has_run}
 use Rattle.store_schema.specs.Seen.{is_at, kind_seen}
-use Rattle.plain_tables.specs.Tables.{Tables, RunLine}
+use Rattle.plain_tables.specs.Tables.{Tables, RunRow}
 use Rattle.store_schema.specs.Tables.{Holds, run_columns, number}
 use Rattle.store_schema.specs.Texts.{kind_of_sql}
 use Rattle.store_schema.proofs.Means.{kind_of_terms, kind_of_shown, kind_of_order, kind_of_means, kind_of_plain, kind_of_unlisted}
@@ -40,7 +40,7 @@ run_listed n old new rows has h =
     let picked = filter (is_at 0 (number n)) (old.now.trees 1) in
     ap (λ k. not (k == 0)) (length_permutation (map kind_seen picked) rows (kind_listed n old new rows has h) ∙ length-map picked kind_seen) ∙ any_left (is_at 0 (number n)) (old.now.trees 1)
 
-any_run : (n : ℕ) (runs : List RunLine) → list_any (is_at 0 (number n)) (map run_columns runs) ≡ list_any (λ (r : RunLine). r.number == n) runs
+any_run : (n : ℕ) (runs : List RunRow) → list_any (is_at 0 (number n)) (map run_columns runs) ≡ list_any (λ (r : RunRow). r.number == n) runs
 any_run n [] = refl
 any_run n (r ∷ runs) = ap₂ ◌||◌ (numbers_equal r.number n) (any_run n runs)
 

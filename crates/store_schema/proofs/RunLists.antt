@@ -11,7 +11,7 @@ use Rattle.sql_tables.proofs.Rows.{passes, filter_same_on, numbers_equal}
 use Rattle.sql_tables.proofs.Selects.{selected}
 use Rattle.store_schema.specs.Schema.{schema_two}
 use Rattle.store_schema.specs.Seen.{is_at, event_seen, derived_seen, coef_seen, sums_seen, event_shown, derived_shown, coef_shown, sums_shown}
-use Rattle.plain_tables.specs.Tables.{Tables, EventLine, DerivedLine, CoefLine}
+use Rattle.plain_tables.specs.Tables.{Tables, EventRow, DerivedRow, CoefRow}
 use Rattle.store_schema.specs.Tables.{Holds, event_columns, derived_columns, coef_columns, number}
 use Rattle.store_schema.specs.Texts.{events_of_sql, derived_of_sql, coefs_of_sql, sums_of_sql}
 use Rattle.store_schema.proofs.Values.{blobs_equal}
@@ -47,16 +47,16 @@ sums_listed name old new rows has h =
 
 -- ---- the lines that they show
 
-event_passes : (n : ℕ) (id : Value) (e : EventLine) → is_at 1 (number n) (id ∷ event_columns e) ≡ (e.run == n)
+event_passes : (n : ℕ) (id : Value) (e : EventRow) → is_at 1 (number n) (id ∷ event_columns e) ≡ (e.run == n)
 event_passes n id e = numbers_equal e.run n
 
-derived_passes : (n : ℕ) (id : Value) (d : DerivedLine) → is_at 1 (number n) (id ∷ derived_columns d) ≡ (d.run == n)
+derived_passes : (n : ℕ) (id : Value) (d : DerivedRow) → is_at 1 (number n) (id ∷ derived_columns d) ≡ (d.run == n)
 derived_passes n id d = numbers_equal d.run n
 
-coef_passes : (n : ℕ) (id : Value) (c : CoefLine) → is_at 1 (number n) (id ∷ coef_columns c) ≡ (c.run == n)
+coef_passes : (n : ℕ) (id : Value) (c : CoefRow) → is_at 1 (number n) (id ∷ coef_columns c) ≡ (c.run == n)
 coef_passes n id c = numbers_equal c.run n
 
-sums_passes : (name : List ℕ) (id : Value) (e : EventLine) → is_at 3 (Blob name) (id ∷ event_columns e) ≡ bytes_eq e.name name
+sums_passes : (name : List ℕ) (id : Value) (e : EventRow) → is_at 3 (Blob name) (id ∷ event_columns e) ≡ bytes_eq e.name name
 sums_passes name id e = blobs_equal e.name name
 
 module _ (t : Tables) (db : Trees) (was : Holds t db) where

@@ -22,7 +22,7 @@ use Rattle.store_schema.specs.Schema.{schema_two, to}
 use Rattle.plain_tables.specs.Changes.{has_run}
 use Rattle.plain_tables.specs.Lists.{IsAscending}
 use Rattle.plain_tables.specs.Sound.{AreOfRuns, AreSound}
-use Rattle.plain_tables.specs.Tables.{Tables, RunLine, NameLine}
+use Rattle.plain_tables.specs.Tables.{Tables, RunRow, NameRow}
 use Rattle.store_schema.specs.Tables.{Holds, event_columns, derived_columns, coef_columns, name_columns, cell_columns, arc_columns, stack_columns, number}
 use Rattle.store_schema.proofs.Finds.{run_row}
 
@@ -31,11 +31,11 @@ use Rattle.store_schema.proofs.Finds.{run_row}
 below_is : (a b : ℕ) → value_cmp (number a) (number b) ≡ Less → a < b
 below_is a b h = grind (arith, ints, sym (value_cmp-Int _ _) ∙ h)
 
-all_below : (line : NameLine) (lines : List NameLine) → AllByRecursion (λ (r : Row). value_cmp (rowid (name_columns line)) (rowid r) ≡ Less) (map name_columns lines) → AllByRecursion (λ (l : NameLine). line.number < l.number) lines
+all_below : (line : NameRow) (lines : List NameRow) → AllByRecursion (λ (r : Row). value_cmp (rowid (name_columns line)) (rowid r) ≡ Less) (map name_columns lines) → AllByRecursion (λ (l : NameRow). line.number < l.number) lines
 all_below line [] h = tt
 all_below line (l ∷ lines) h = (below_is line.number l.number h.0, all_below line lines h.1)
 
-lines_rise : (lines : List NameLine) → IsTable (map name_columns lines) → IsAscending (λ (a b : NameLine). a.number < b.number) lines
+lines_rise : (lines : List NameRow) → IsTable (map name_columns lines) → IsAscending (λ (a b : NameRow). a.number < b.number) lines
 lines_rise [] h = tt
 lines_rise (line ∷ lines) h = (all_below line lines h.0, lines_rise lines h.1)
 
@@ -63,7 +63,7 @@ module _ (t : Tables) (db : Trees) (was : Holds t db) where
       let same : eqb line.0.number n ≡ true =
       sym (and_true _ ∙ numbers_equal line.0.number n) ∙ ap (λ p. is_true (binary (Compare Eq Binary) (column p 0) (number n)) && true) (sym line.2)
       ∙ ap (λ v. is_true (binary (Compare Eq Binary) (column parent.0 0) v) && true) (sym is) ∙ parent.2 in
-      some_from (λ (r : RunLine). r.number == n) t.runs line.0 line.1 same
+      some_from (λ (r : RunRow). r.number == n) t.runs line.0 line.1 same
 
   row_held : (row : Row) (n : ℕ) → column row 1 ≡ number n → has_parent schema_two.tables db row (to (codes "run") 1) && true ≡ true → has_run t n ≡ true
   row_held row n is h =
@@ -91,6 +91,6 @@ sound_of t db was =
       derived = lines_held t db was derived_columns (λ d. d.run) (λ d. refl) (db 6) t.derived c.1.1.1.0.rows_are rules.1.0;
       coefs = lines_held t db was coef_columns (λ k. k.run) (λ k. refl) (db 9) t.coefs c.1.1.1.1.0.rows_are rules.1.1.0;
       cells = lines_held t db was cell_columns (λ l. l.run) (λ l. refl) (db 23) t.cells c.1.1.1.1.1.1.1.1.1.1.0.rows_are rules.1.1.1.1.1.1.1.1.0;
-      arcs = lines_held t db was arc_columns (λ a. a.run) (λ a. refl) (db 15) t.arcs c.1.1.1.1.1.1.0.rows_are rules.1.1.1.1.0;
+      calls = lines_held t db was arc_columns (λ a. a.run) (λ a. refl) (db 15) t.calls c.1.1.1.1.1.1.0.rows_are rules.1.1.1.1.0;
       stacks = lines_held t db was stack_columns (λ s. s.run) (λ s. refl) (db 17) t.stacks c.1.1.1.1.1.1.1.0.rows_are rules.1.1.1.1.1.0;
     }

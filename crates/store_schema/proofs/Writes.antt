@@ -2,15 +2,15 @@
 use Rattle.sqlite_resolve.specs.Compile.{first}
 use Rattle.sqlite_tied.specs.Compute.{everything}
 use Rattle.sql_tables.proofs.Opens.{WritesText}
-use Rattle.store_schema.specs.Texts.{put_group_sql, put_member_sql, set_baseline_sql, drop_run_sql, drop_group_sql, leave_sql}
+use Rattle.store_schema.specs.Texts.{insert_group_sql, insert_member_sql, set_baseline_sql, drop_run_sql, drop_group_sql, leave_sql}
 
-pub put_group_writes : WritesText put_group_sql
+pub insert_group_writes : WritesText insert_group_sql
 unfolding first everything
-put_group_writes = tt
+insert_group_writes = tt
 
-pub put_member_writes : WritesText put_member_sql
+pub insert_member_writes : WritesText insert_member_sql
 unfolding first everything
-put_member_writes = tt
+insert_member_writes = tt
 
 pub set_baseline_writes : WritesText set_baseline_sql
 unfolding first everything

@@ -6,26 +6,26 @@ use Rattle.sqlite_value.specs.Order.{Row}
 use Rattle.sqlite_trees.specs.Tree.{Trees}
 use Rattle.sql_tables.specs.Contents.{Contain}
 use Rattle.store_schema.specs.Schema.{schema_one}
-use Rattle.plain_tables.specs.Tables.{Tables, CellLine, RunLine}
+use Rattle.plain_tables.specs.Tables.{Tables, CellRow, RunRow}
 use Rattle.store_schema.specs.Tables.{number, run_columns, event_columns, derived_columns, coef_columns, name_columns, arc_columns, stack_columns, group_columns, member_columns}
 
 abbrev pub first_meta_columns : ℕ → Row
 first_meta_columns next = number 1 ∷ Null ∷ number 1 ∷ number next ∷ []
 
-abbrev pub first_cell_columns : CellLine → Row
+abbrev pub first_cell_columns : CellRow → Row
 first_cell_columns c = number c.run ∷ number c.object ∷ number c.file ∷ number c.function ∷ number c.line ∷ number c.event ∷ number c.cost ∷ []
 
 -- the contents of the tables of schema 1, in its order
 abbrev pub first_contents_of : Tables → List (List Row)
 first_contents_of t =
     (first_meta_columns t.next ∷ []) ∷ map run_columns t.runs ∷ map event_columns t.events ∷ map derived_columns t.derived ∷ map coef_columns t.coefs ∷ map name_columns t.names
-    ∷ map first_cell_columns t.cells ∷ map arc_columns t.arcs ∷ map stack_columns t.stacks ∷ map group_columns t.groups ∷ map member_columns t.members ∷ []
+    ∷ map first_cell_columns t.cells ∷ map arc_columns t.calls ∷ map stack_columns t.stacks ∷ map group_columns t.groups ∷ map member_columns t.members ∷ []
 
-abbrev pub IsOfThreadZero : CellLine → Type 0
+abbrev pub IsOfThreadZero : CellRow → Type 0
 IsOfThreadZero c = c.thread ≡ 0
 
 -- a database of version 1 has these tables, all cells under thread 0, and each run's number is below the next
 pub record HoldsFirst (t : Tables) (db : Trees) : Type 0 where
   pub contain : Contain schema_one (first_contents_of t) db
   pub of_zero : AllByRecursion IsOfThreadZero t.cells
-  pub below : AllByRecursion (λ (r : RunLine). r.number < t.next) t.runs
+  pub below : AllByRecursion (λ (r : RunRow). r.number < t.next) t.runs

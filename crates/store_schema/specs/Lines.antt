@@ -1,29 +1,29 @@
 -- The lines of the code, as plain data.
 use Rattle.std.specs.Prelude.{string_bytes, option_map}
-use Rattle.store_schema.specs.declared.lines.RunLine.{RunLine}
-use Rattle.plain_tables.specs.Tables.{RunLine as Run, CellLine as Cell, ArcLine as Arc, StackLine as Stack, EventLine as Event, DerivedLine as Derived, CoefLine as Coef}
-use Rattle.store_schema.specs.declared.lines.CellLine.{CellLine}
-use Rattle.store_schema.specs.declared.lines.ArcLine.{ArcLine}
-use Rattle.store_schema.specs.declared.lines.StackLine.{StackLine}
-use Rattle.store_schema.specs.declared.lines.HeldStack.{HeldStack}
-use Rattle.store_schema.specs.declared.lines.EventLine.{EventLine}
-use Rattle.store_schema.specs.declared.lines.DerivedLine.{DerivedLine}
-use Rattle.store_schema.specs.declared.lines.CoefLine.{CoefLine}
+use Rattle.store_schema.specs.declared.table_rows.RunRow.{RunRow}
+use Rattle.plain_tables.specs.Tables.{RunRow as Run, CellRow as Cell, CallRow as Call, StackRow as Stack, EventRow as Event, DerivedRow as Derived, CoefRow as Coef}
+use Rattle.store_schema.specs.declared.table_rows.CellRow.{CellRow}
+use Rattle.store_schema.specs.declared.table_rows.CallRow.{CallRow}
+use Rattle.store_schema.specs.declared.table_rows.StackRow.{StackRow}
+use Rattle.store_schema.specs.declared.table_rows.HeldStack.{HeldStack}
+use Rattle.store_schema.specs.declared.table_rows.EventRow.{EventRow}
+use Rattle.store_schema.specs.declared.table_rows.DerivedRow.{DerivedRow}
+use Rattle.store_schema.specs.declared.table_rows.CoefRow.{CoefRow}
 
-abbrev pub cell_line : CellLine → Cell
-cell_line c = record { run = c.run; object = c.object; file = c.file; function = c.function; line = c.line; thread = c.thread; event = c.event; cost = c.cost }
+abbrev pub cell_row : CellRow → Cell
+cell_row c = record { run = c.run; object = c.object; file = c.file; function = c.function; line = c.line; thread = c.thread; event = c.event; cost = c.cost }
 
-abbrev pub event_line : EventLine → Event
-event_line e = record { run = e.run; place = e.place; name = e.name.now; self_cost = e.self_cost; call_cost = e.call_cost; stated = option_map string_bytes e.stated }
+abbrev pub event_row : EventRow → Event
+event_row e = record { run = e.run; place = e.place; name = e.name.now; self_cost = e.self_cost; call_cost = e.call_cost; stated = option_map string_bytes e.stated }
 
-abbrev pub derived_line : DerivedLine → Derived
-derived_line d = record { run = d.run; place = d.place; name = d.name.now }
+abbrev pub derived_row : DerivedRow → Derived
+derived_row d = record { run = d.run; place = d.place; name = d.name.now }
 
-abbrev pub coef_line : CoefLine → Coef
-coef_line c = record { run = c.run; place = c.place; event = c.event; times = c.times }
+abbrev pub coef_row : CoefRow → Coef
+coef_row c = record { run = c.run; place = c.place; event = c.event; times = c.times }
 
-abbrev pub arc_line : ArcLine → Arc
-arc_line a = record {
+abbrev pub call_row : CallRow → Call
+call_row a = record {
   run = a.run;
   object = a.object;
   file = a.file;
@@ -36,11 +36,11 @@ arc_line a = record {
   sum = a.sum;
 }
 
-abbrev pub stack_line : StackLine → Stack
-stack_line s = record { run = s.run; frames = s.frames.now; count = s.count }
+abbrev pub stack_row : StackRow → Stack
+stack_row s = record { run = s.run; frames = s.frames.now; count = s.count }
 
 abbrev pub held_stack : HeldStack → Stack
 held_stack s = record { run = s.run; frames = s.frames.items; count = s.count }
 
-abbrev pub run_line : RunLine → Run
-run_line r = record { number = r.number; kind = r.kind; digest = r.digest.now; label = r.label.now; call_count = r.call_count }
+abbrev pub run_row : RunRow → Run
+run_row r = record { number = r.number; kind = r.kind; digest = r.digest.now; label = r.label.now; call_count = r.call_count }

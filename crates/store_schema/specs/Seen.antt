@@ -7,7 +7,7 @@ use Rattle.sqlite_sql.specs.declared.ops.BinaryOp.TheVariants.{Compare}
 use Rattle.sqlite_sql.specs.declared.ops.CompareOp.TheVariants.{Eq}
 use Rattle.sqlite_value.specs.declared.value.Value.TheVariants.{Text, Blob}
 use Rattle.sqlite_value.specs.Order.{Row, column}
-use Rattle.plain_tables.specs.Tables.{EventLine, DerivedLine, CoefLine}
+use Rattle.plain_tables.specs.Tables.{EventRow, DerivedRow, CoefRow}
 use Rattle.store_schema.specs.Tables.{number, text_or_null}
 
 -- what SQL's = says of a column and a value
@@ -64,14 +64,14 @@ coef_seen r = column r 2 ∷ column r 3 ∷ column r 4 ∷ []
 
 -- ---- the same of a line
 
-abbrev pub event_shown : EventLine → Row
+abbrev pub event_shown : EventRow → Row
 event_shown e = number e.place ∷ Blob e.name ∷ text_or_null e.stated ∷ []
 
-abbrev pub derived_shown : DerivedLine → Row
+abbrev pub derived_shown : DerivedRow → Row
 derived_shown d = number d.place ∷ Blob d.name ∷ []
 
-abbrev pub coef_shown : CoefLine → Row
+abbrev pub coef_shown : CoefRow → Row
 coef_shown c = number c.place ∷ number c.event ∷ number c.times ∷ []
 
-abbrev pub sums_shown : EventLine → Row
+abbrev pub sums_shown : EventRow → Row
 sums_shown e = number e.self_cost ∷ number e.call_cost ∷ []

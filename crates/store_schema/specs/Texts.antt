@@ -17,35 +17,35 @@ second_sql = codes "UPDATE meta SET schema = 2"
 abbrev pub begin_sql : List ℕ
 begin_sql = codes "INSERT INTO meta (id, schema, next_run) VALUES (1, 2, 1)"
 
-abbrev pub put_run_sql : List ℕ
-put_run_sql = codes "INSERT INTO run (run, kind, digest, label, call_count) VALUES (?1, ?2, ?3, ?4, ?5)"
+abbrev pub insert_run_sql : List ℕ
+insert_run_sql = codes "INSERT INTO run (run, kind, digest, label, call_count) VALUES (?1, ?2, ?3, ?4, ?5)"
 
-abbrev pub put_event_sql : List ℕ
-put_event_sql = codes "INSERT INTO run_event (run, pos, name, self_cost, call_cost, stated) VALUES (?1, ?2, ?3, ?4, ?5, ?6)"
+abbrev pub insert_event_sql : List ℕ
+insert_event_sql = codes "INSERT INTO run_event (run, pos, name, self_cost, call_cost, stated) VALUES (?1, ?2, ?3, ?4, ?5, ?6)"
 
-abbrev pub put_derived_sql : List ℕ
-put_derived_sql = codes "INSERT INTO derived (run, pos, name) VALUES (?1, ?2, ?3)"
+abbrev pub insert_derived_sql : List ℕ
+insert_derived_sql = codes "INSERT INTO derived (run, pos, name) VALUES (?1, ?2, ?3)"
 
-abbrev pub put_coef_sql : List ℕ
-put_coef_sql = codes "INSERT INTO coef (run, pos, event, n) VALUES (?1, ?2, ?3, ?4)"
+abbrev pub insert_coef_sql : List ℕ
+insert_coef_sql = codes "INSERT INTO coef (run, pos, event, n) VALUES (?1, ?2, ?3, ?4)"
 
-abbrev pub put_name_sql : List ℕ
-put_name_sql = codes "INSERT INTO name (bytes) VALUES (?1)"
+abbrev pub insert_name_sql : List ℕ
+insert_name_sql = codes "INSERT INTO name (bytes) VALUES (?1)"
 
-abbrev pub put_cell_sql : List ℕ
-put_cell_sql = codes "INSERT INTO thread_cell (run, thread, ob, fl, fn, line, event, cost) VALUES (?1, ?2, ?3, ?4, ?5, ?6, ?7, ?8)"
+abbrev pub insert_cell_sql : List ℕ
+insert_cell_sql = codes "INSERT INTO thread_cell (run, thread, ob, fl, fn, line, event, cost) VALUES (?1, ?2, ?3, ?4, ?5, ?6, ?7, ?8)"
 
-abbrev pub put_arc_sql : List ℕ
-put_arc_sql = codes "INSERT INTO arc (run, ob, fl, fn, line, cob, cfl, cfn, part, n) VALUES (?1, ?2, ?3, ?4, ?5, ?6, ?7, ?8, ?9, ?10)"
+abbrev pub insert_arc_sql : List ℕ
+insert_arc_sql = codes "INSERT INTO arc (run, ob, fl, fn, line, cob, cfl, cfn, part, n) VALUES (?1, ?2, ?3, ?4, ?5, ?6, ?7, ?8, ?9, ?10)"
 
-abbrev pub put_stack_sql : List ℕ
-put_stack_sql = codes "INSERT INTO stack (run, frames, n) VALUES (?1, ?2, ?3)"
+abbrev pub insert_stack_sql : List ℕ
+insert_stack_sql = codes "INSERT INTO stack (run, frames, n) VALUES (?1, ?2, ?3)"
 
-abbrev pub put_group_sql : List ℕ
-put_group_sql = codes "INSERT INTO grp (name) VALUES (?1)"
+abbrev pub insert_group_sql : List ℕ
+insert_group_sql = codes "INSERT INTO grp (name) VALUES (?1)"
 
-abbrev pub put_member_sql : List ℕ
-put_member_sql = codes "INSERT INTO member (grp, run) VALUES (?1, ?2)"
+abbrev pub insert_member_sql : List ℕ
+insert_member_sql = codes "INSERT INTO member (grp, run) VALUES (?1, ?2)"
 
 -- ---- rows are changed
 

@@ -1,4 +1,4 @@
--- The texts that read the lines of a run, a window of rowids at a time, from `cell`, `arc` and `stack`.
+-- The texts that read the lines of a run, a window of rowids at a time, from `cell`, `call` and `stack`.
 use Rattle.std.specs.Prelude.{ℕ, List, [], ◌∷◌, codes}
 use Rattle.sql_tables.specs.Walks.{Asked}
 
@@ -25,8 +25,8 @@ stack_ends_sql = codes "SELECT min(rowid), max(rowid) FROM stack WHERE run = ?1"
 abbrev pub cells_of : ℕ → Asked
 cells_of run = record { at = 1; number = run; places = 2 ∷ 3 ∷ 4 ∷ 5 ∷ 6 ∷ 7 ∷ 8 ∷ [] }
 
-abbrev pub arcs_of : ℕ → Asked
-arcs_of run = record { at = 1; number = run; places = 2 ∷ 3 ∷ 4 ∷ 5 ∷ 6 ∷ 7 ∷ 8 ∷ 9 ∷ 10 ∷ [] }
+abbrev pub calls_of : ℕ → Asked
+calls_of run = record { at = 1; number = run; places = 2 ∷ 3 ∷ 4 ∷ 5 ∷ 6 ∷ 7 ∷ 8 ∷ 9 ∷ 10 ∷ [] }
 
 abbrev pub stacks_of : ℕ → Asked
 stacks_of run = record { at = 1; number = run; places = 2 ∷ 3 ∷ [] }

@@ -5,8 +5,8 @@ ghost use Rattle.sqlite_value.specs.Order.{column};
 ghost use Rattle.store_schema.specs.Tables.{number_or_null, text_or_null};
 ghost use Rattle.store_schema.specs.Names.{ShowsFirst};
 
+use crate::column_int::ColumnInt;
 use crate::errors::{OutOfForm, error_of};
-use crate::whole::Whole;
 use plain_tables::StoreError;
 use sqlite::Row;
 use sqlite::types::ValueRef;
@@ -46,11 +46,11 @@ pub fn sum_at(row: &Row, at: usize) -> Result<u64, OutOfForm>
 }
 
 /// The same, as a number that a column can hold.
-pub fn whole_at(row: &Row, at: usize) -> Result<Whole, OutOfForm>
+pub fn whole_at(row: &Row, at: usize) -> Result<ColumnInt, OutOfForm>
     ensures read { IfOk result (λ number. column row.now at ≡ Int (pos number)) }
     ensures refused { IfErr result (λ _. (n : _) → n < 2 ^ 63 → column row.now at ≢ Int (pos n)) }
 {
-    Whole::of(sum_at(row, at)?).ok_or(OutOfForm)
+    ColumnInt::of(sum_at(row, at)?).ok_or(OutOfForm)
 }
 
 pub fn text_at(row: &Row, at: usize) -> Result<String, StoreError>

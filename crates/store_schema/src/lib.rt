@@ -12,7 +12,7 @@ mod kinds;
 // Digests and labels in the columns of a row.
 mod labels;
 // The lines of the tables.
-mod lines;
+mod table_rows;
 // Makes the tables of a new store (specs/Created.antt is what they are then).
 mod making;
 // Makes version 2 of a store of version 1 (specs/Migrated.antt is what its tables are then).
@@ -20,10 +20,11 @@ mod moving;
 // Rows, read into lists.
 mod row_lists;
 // Whole numbers that a column can hold.
-mod whole;
+mod column_int;
 // The call through which every statement within a transaction goes (specs/Within.antt, Steps.antt).
 mod writing;
 
+pub use column_int::{ColumnInt, column_int_of, small_of};
 pub use columns::{
     bytes_at, first_number, number_at, number_or_null_at, sum_at, text_at, text_or_null_at,
     whole_at,
@@ -31,12 +32,11 @@ pub use columns::{
 pub use errors::{OpenError, OutOfForm, error_of};
 pub use kinds::{kind_at, number_of_kind};
 pub use labels::{digest_at, label_at};
-pub use lines::{
-    ArcLine, CellLine, CoefLine, DerivedLine, EventLine, HeadLines, HeldStack, RunLine, StackLine,
-};
 pub use making::create_tables;
 pub use moving::migrate;
 pub use plain_tables::{StoreError, is_group_name, is_label};
 pub use row_lists::{FromRow, Rises, read_rising, read_rows, rise};
-pub use whole::{Whole, small_of, whole_of};
+pub use table_rows::{
+    CallRow, CellRow, CoefRow, DerivedRow, EventRow, HeadRows, HeldStack, RunRow, StackRow,
+};
 pub use writing::write_inside;

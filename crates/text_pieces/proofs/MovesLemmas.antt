@@ -10,7 +10,7 @@ use Rattle.text_pieces.specs.LineIs.{IsLine}
 use Rattle.text_pieces.specs.Moves.{Moment, at, Took, Ready, Told, Moves, Refused, Stops, TakesLine, TakesBytes, Ends}
 use Rattle.text_pieces.specs.declared.pieces.Pieces.{Pieces}
 use Rattle.text_pieces.specs.declared.takes.Line.{Line}
-use Rattle.text_pieces.specs.declared.takes.TakesLines.{Ghosts}
+use Rattle.text_pieces.specs.declared.takes.LineSink.{Ghosts}
 use Rattle.text_pieces.proofs.CutLemmas.{back-run, end-none, end-some}
 use Rattle.text_pieces.proofs.PrefixLemmas.{first_of, nothing_more}
 
@@ -34,13 +34,13 @@ module _ {T S : Type 0} (t : Ghosts T S) where
 
   -- what is taken is a text and the bytes
   took_more : (old new : Moment T S) (bytes text : List ℕ) → Moves t old bytes new → Took t old text → Took t new (text ++ bytes)
-  took_more old new bytes text h took = record { keeps = h.keeps text took.keeps; stands = h.stands text took }
+  took_more old new bytes text h took = record { keeps = h.keeps text took.keeps; represents = h.represents text took }
 
   -- none are taken
   pub moves_none : (m : Moment T S) → Ready t m 0 → Moves t m [] m
   moves_none m ready = record {
     keeps = λ text keeps. rw (append-nil text) keeps;
-    stands = λ text took. rw (append-nil text) took.stands;
+    represents = λ text took. rw (append-nil text) took.represents;
     told = λ text took. rw (append-nil text) (told_none m.sink (back_of t.reading_of text));
     taken = omega arith;
     lines = ready.lines;
@@ -52,7 +52,7 @@ module _ {T S : Type 0} (t : Ghosts T S) where
   pub moves_then : (a b c : Moment T S) (xs ys : List ℕ) → Moves t a xs b → Moves t b ys c → Moves t a (xs ++ ys) c
   moves_then a b c xs ys one two = record {
     keeps = λ text keeps. rw (← append_assoc text xs ys) (two.keeps (text ++ xs) (one.keeps text keeps));
-    stands = λ text took. rw (← append_assoc text xs ys) (two.stands (text ++ xs) (took_more a b xs text one took));
+    represents = λ text took. rw (← append_assoc text xs ys) (two.represents (text ++ xs) (took_more a b xs text one took));
     told = λ text took. rw (← append_assoc text xs ys) (told_then a.sink b.sink c.sink _ _ _ (one.told text took) (two.told (text ++ xs) (took_more a b xs text one took)));
     taken = omega (arith, one.taken, two.taken, length-append xs ys);
     lines = two.lines;
@@ -68,7 +68,7 @@ module _ {T S : Type 0} (t : Ghosts T S) where
       → Ready t (at p s k) (length run) → Moves t (at p s k) run (at q s k)
   moves_run p q s k run none keeps taken spent ready = record {
     keeps = keeps;
-    stands = λ text took. rw (back-run t.reading_of run text none).0 took.stands;
+    represents = λ text took. rw (back-run t.reading_of run text none).0 took.represents;
     told = λ text took. rw (back-run t.reading_of run text none).0 (told_none k (back_of t.reading_of text));
     taken = taken;
     lines = let few = ready.lines in omega (arith, few, taken);
@@ -87,16 +87,16 @@ module _ {T S : Type 0} (t : Ghosts T S) where
 
   module _ (line : Line) (p q : Pieces) (s s' : T) (k k' : S) (bytes : List ℕ) where
     pub moves_line : ((text : List ℕ) → Keeps p text → EndsLine line p q bytes text) → taken_of q ≡ taken_of p + length bytes → 0 < length bytes → t.lines s ≤ taken_of p → (IsSpent q → ⊥)
-        → ((text : List ℕ) (back : List t.Reading) → IsLine line text → t.stands s back → t.stands s' (t.reading_of text ∷ back))
-        → ((text : List ℕ) (back : List t.Reading) → IsLine line text → t.stands s back → t.meaning k' ≡ fold t.step (t.meaning k) (t.adds (t.reading_of text) back))
+        → ((text : List ℕ) (back : List t.Reading) → IsLine line text → t.represents s back → t.represents s' (t.reading_of text ∷ back))
+        → ((text : List ℕ) (back : List t.Reading) → IsLine line text → t.represents s back → t.meaning k' ≡ fold t.step (t.meaning k) (t.adds (t.reading_of text) back))
         → t.fits s' k' → t.lines s' ≡ t.lines s + 1 → Moves t (at p s k) bytes (at q s' k')
-    moves_line ends taken some few fresh stands told fits lines = record {
+    moves_line ends taken some few fresh represents told fits lines = record {
       keeps = λ text keeps. (ends text keeps).keeps;
-      stands = λ text took. let end = ends text took.keeps in rw end.nearest (stands end.said (back_of t.reading_of text) end.is_line took.stands);
+      represents = λ text took. let end = ends text took.keeps in rw end.nearest (represents end.said (back_of t.reading_of text) end.is_line took.represents);
       told = λ text took.
           let end = ends text took.keeps in
           let back = back_of t.reading_of text in
-          record { more = t.adds (t.reading_of end.said) back; adds = ap (handed_on t.adds) end.nearest; means = told end.said back end.is_line took.stands };
+          record { more = t.adds (t.reading_of end.said) back; adds = ap (handed_on t.adds) end.nearest; means = told end.said back end.is_line took.represents };
       taken = taken;
       lines = omega (arith, taken, some, few, lines);
       fits = fits;
@@ -105,11 +105,11 @@ module _ {T S : Type 0} (t : Ghosts T S) where
 
     -- whatever is answered
     pub takes_line : {X E : Type 0} (r : Result X E) → ((text : List ℕ) → Keeps p text → EndsLine line p q bytes text) → taken_of q ≡ taken_of p + length bytes → 0 < length bytes → t.lines s ≤ taken_of p → (IsSpent q → ⊥)
-        → OnOk r ((text : List ℕ) (back : List t.Reading) → IsLine line text → t.stands s back → t.stands s' (t.reading_of text ∷ back))
-        → OnOk r ((text : List ℕ) (back : List t.Reading) → IsLine line text → t.stands s back → t.meaning k' ≡ fold t.step (t.meaning k) (t.adds (t.reading_of text) back))
+        → OnOk r ((text : List ℕ) (back : List t.Reading) → IsLine line text → t.represents s back → t.represents s' (t.reading_of text ∷ back))
+        → OnOk r ((text : List ℕ) (back : List t.Reading) → IsLine line text → t.represents s back → t.meaning k' ≡ fold t.step (t.meaning k) (t.adds (t.reading_of text) back))
         → OnOk r (t.fits s' k') → t.lines s' ≡ t.lines s + 1 → OnErr r (t.meaning k' ≡ t.meaning k) → TakesLine t r (at p s k) bytes (at q s' k')
-    takes_line (Ok x) ends taken some few fresh stands told fits lines same = record { done = moves_line ends taken some few fresh stands told fits lines; refused = tt }
-    takes_line (Err e) ends taken some few fresh stands told fits lines same = record { done = tt; refused = record { untouched = same; lines = omega (arith, taken, some, few, lines) } }
+    takes_line (Ok x) ends taken some few fresh represents told fits lines same = record { done = moves_line ends taken some few fresh represents told fits lines; refused = tt }
+    takes_line (Err e) ends taken some few fresh represents told fits lines same = record { done = tt; refused = record { untouched = same; lines = omega (arith, taken, some, few, lines) } }
 
   -- ---- a line that is refused
 
@@ -162,20 +162,20 @@ module _ {T S : Type 0} (t : Ghosts T S) where
   -- nothing is left
   pub ends_none : (p : Pieces) (s : T) (k : S) → ((text : List ℕ) → Keeps p text → (cut text).rest ≡ []) → Ends t (at p s k) s k
   ends_none p s k none = record {
-    stands = λ text took. rw (end-none t.reading_of text (none text took.keeps)) took.stands;
+    represents = λ text took. rw (end-none t.reading_of text (none text took.keeps)) took.represents;
     told = λ text took. rw (end-none t.reading_of text (none text took.keeps)) (told_none k (back_of t.reading_of text));
   }
 
   -- what is left is a line
   pub ends_line : {X E : Type 0} (r : Result X E) (line : Line) (p : Pieces) (s s' : T) (k k' : S) → ((text : List ℕ) → Keeps p text → IsLine line (cut text).rest) → ((text : List ℕ) → Keeps p text → (cut text).rest ≡ [] → ⊥)
-      → OnOk r ((text : List ℕ) (back : List t.Reading) → IsLine line text → t.stands s back → t.stands s' (t.reading_of text ∷ back))
-      → OnOk r ((text : List ℕ) (back : List t.Reading) → IsLine line text → t.stands s back → t.meaning k' ≡ fold t.step (t.meaning k) (t.adds (t.reading_of text) back))
+      → OnOk r ((text : List ℕ) (back : List t.Reading) → IsLine line text → t.represents s back → t.represents s' (t.reading_of text ∷ back))
+      → OnOk r ((text : List ℕ) (back : List t.Reading) → IsLine line text → t.represents s back → t.meaning k' ≡ fold t.step (t.meaning k) (t.adds (t.reading_of text) back))
       → OnOk r (Ends t (at p s k) s' k')
-  ends_line (Ok x) line p s s' k k' is_line some stands told = record {
-    stands = λ text took. rw (end-some t.reading_of text (some text took.keeps)) (stands (cut text).rest (back_of t.reading_of text) (is_line text took.keeps) took.stands);
+  ends_line (Ok x) line p s s' k k' is_line some represents told = record {
+    represents = λ text took. rw (end-some t.reading_of text (some text took.keeps)) (represents (cut text).rest (back_of t.reading_of text) (is_line text took.keeps) took.represents);
     told = λ text took.
         let said = (cut text).rest in
         let back = back_of t.reading_of text in
-        record { more = t.adds (t.reading_of said) back; adds = ap (handed_on t.adds) (end-some t.reading_of text (some text took.keeps)); means = told said back (is_line text took.keeps) took.stands };
+        record { more = t.adds (t.reading_of said) back; adds = ap (handed_on t.adds) (end-some t.reading_of text (some text took.keeps)); means = told said back (is_line text took.keeps) took.represents };
   }
-  ends_line (Err e) line p s s' k k' is_line some stands told = tt
+  ends_line (Err e) line p s s' k k' is_line some represents told = tt

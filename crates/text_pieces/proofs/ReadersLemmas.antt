@@ -5,9 +5,9 @@ use Rattle.cg_text.specs.Lines.{lines_of}
 use Rattle.text_pieces.specs.Cut.{cut}
 use Rattle.text_pieces.specs.Backwards.{back_of, end_of, handed_on, so_far, in_all, Agrees, IsPrefix}
 use Rattle.text_pieces.specs.Moves.{at, Took, TakesBytes, Ends}
-use Rattle.text_pieces.specs.Readers.{StandsFor, HandsAll, HandsPart}
+use Rattle.text_pieces.specs.Readers.{Represents, HandsAll, HandsPart}
 use Rattle.text_pieces.specs.declared.pieces.Pieces.{Pieces}
-use Rattle.text_pieces.specs.declared.takes.TakesLines.{Ghosts}
+use Rattle.text_pieces.specs.declared.takes.LineSink.{Ghosts}
 use Rattle.text_pieces.proofs.PrefixLemmas.{text_prefix, file_prefix}
 
 -- ---- a format that is told from the first line on as looking back
@@ -42,10 +42,10 @@ module _ {A B : Type 0} (says : List ℕ → A) (tells : List A → List B) (add
 
 module _ {T S : Type 0} (t : Ghosts T S) (tells : List t.Reading → List t.Record) (agrees : Agrees tells t.adds) where
   abbrev Stands : Pieces → T → List ℕ → List t.Record → Type 0
-  Stands = StandsFor t.reading_of tells t.stands
+  Stands = Represents t.reading_of tells t.represents
 
   took : (p : Pieces) (s : T) (k : S) (text : List ℕ) (told : List t.Record) → Stands p s text told → Took t (at p s k) text
-  took p s k text told reads = record { keeps = reads.rest; stands = reads.lines }
+  took p s k text told reads = record { keeps = reads.rest; represents = reads.lines }
 
   module _ (p : Pieces) (s : T) (k : S) where
     pub goes_on : {X E : Type 0} (r : Result X E) (q : Pieces) (s' : T) (k' : S) (bytes : List ℕ) → TakesBytes t r (at p s k) bytes (at q s' k')
@@ -56,7 +56,7 @@ module _ {T S : Type 0} (t : Ghosts T S) (tells : List t.Reading → List t.Reco
         let all = so_far_is t.reading_of tells t.adds agrees in (
           more.more,
           record {
-            lines = h.done.stands text before;
+            lines = h.done.represents text before;
             rest = h.done.keeps text reads.rest;
             handed = ap (λ xs. xs ++ more.more) (reads.handed ∙ all text) ∙ sym (all (text ++ bytes) ∙ more.adds);
           },
@@ -78,8 +78,8 @@ module _ {T S : Type 0} (t : Ghosts T S) (tells : List t.Reading → List t.Reco
         let more = h.told text (took p s k text told reads) in
         (more.more, all_on t.reading_of tells t.adds agrees text told more.more reads.handed more.adds, more.means)
 
-    pub stands_at_end : (s' : T) (k' : S) (text : List ℕ) (told : List t.Record) → Ends t (at p s k) s' k' → Stands p s text told → t.stands s' (end_of t.reading_of text)
-    stands_at_end s' k' text told h reads = h.stands text (took p s k text told reads)
+    pub stands_at_end : (s' : T) (k' : S) (text : List ℕ) (told : List t.Record) → Ends t (at p s k) s' k' → Stands p s text told → t.represents s' (end_of t.reading_of text)
+    stands_at_end s' k' text told h reads = h.represents text (took p s k text told reads)
 
 -- what was handed on is a part of the rest too
 pub part_of : {B M : Type 0} (all : List ℕ → List B) (step : M → B → M) (text : List ℕ) (told : List B) (before after : M) → HandsAll all step text told before after → HandsPart all step text told before after

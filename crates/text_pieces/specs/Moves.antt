@@ -3,7 +3,7 @@ use Rattle.std.specs.Prelude.{◌≡◌, ℕ, ◌+◌, ◌≤◌, List, ◌++◌
 use Rattle.text_pieces.specs.Backwards.{back_of, end_of, handed_on, IsPrefix}
 use Rattle.text_pieces.specs.Kept.{Keeps, taken_of, IsSpent}
 use Rattle.text_pieces.specs.declared.pieces.Pieces.{Pieces}
-use Rattle.text_pieces.specs.declared.takes.TakesLines.{Ghosts}
+use Rattle.text_pieces.specs.declared.takes.LineSink.{Ghosts}
 
 -- the pieces, what takes their lines, and the sink, at one moment
 pub record Moment (T S : Type 0) : Type 0 where
@@ -15,10 +15,10 @@ abbrev pub at : {T S : Type 0} → Pieces → T → S → Moment T S
 at pieces state sink = record { pieces = pieces; state = state; sink = sink }
 
 module _ {T S : Type 0} (t : Ghosts T S) where
-  -- a text was taken: its last line is kept, and the state stands for the lines before
+  -- a text was taken: its last line is kept, and the state represents the lines before
   pub record Took (m : Moment T S) (text : List ℕ) : Type 0 where
     pub keeps : Keeps m.pieces text
-    pub stands : t.stands m.state (back_of t.reading_of text)
+    pub represents : t.represents m.state (back_of t.reading_of text)
 
   -- so many more bytes may be taken
   pub record Ready (m : Moment T S) (count : ℕ) : Type 0 where
@@ -33,10 +33,10 @@ module _ {T S : Type 0} (t : Ghosts T S) where
     pub adds : handed_on t.adds later ≡ handed_on t.adds earlier ++ more
     pub means : t.meaning new ≡ fold t.step (t.meaning old) more
 
-  -- bytes were taken: they go on the text, the state stands for its whole lines, and the sink was told what these add
+  -- bytes were taken: they go on the text, the state represents its whole lines, and the sink was told what these add
   pub record Moves (old : Moment T S) (bytes : List ℕ) (new : Moment T S) : Type 0 where
     pub keeps : (text : List ℕ) → Keeps old.pieces text → Keeps new.pieces (text ++ bytes)
-    pub stands : (text : List ℕ) → Took old text → t.stands new.state (back_of t.reading_of (text ++ bytes))
+    pub represents : (text : List ℕ) → Took old text → t.represents new.state (back_of t.reading_of (text ++ bytes))
     pub told : (text : List ℕ) → Took old text → Told old.sink new.sink (back_of t.reading_of text) (back_of t.reading_of (text ++ bytes))
     pub taken : taken_of new.pieces ≡ taken_of old.pieces + length bytes
     pub lines : t.lines new.state ≤ taken_of new.pieces
@@ -68,7 +68,7 @@ module _ {T S : Type 0} (t : Ghosts T S) where
     pub done : OnOk result (Moves old bytes new)
     pub stopped : OnErr result (Stops old bytes new)
 
-  -- the text has ended: the state stands for all its lines, and the sink was told what the last adds
+  -- the text has ended: the state represents all its lines, and the sink was told what the last adds
   pub record Ends (old : Moment T S) (state : T) (sink : S) : Type 0 where
-    pub stands : (text : List ℕ) → Took old text → t.stands state (end_of t.reading_of text)
+    pub represents : (text : List ℕ) → Took old text → t.represents state (end_of t.reading_of text)
     pub told : (text : List ℕ) → Took old text → Told old.sink sink (back_of t.reading_of text) (end_of t.reading_of text)

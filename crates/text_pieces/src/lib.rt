@@ -6,8 +6,8 @@
 
 // Cuts a text that comes in pieces into lines, and hands them to what takes them.
 mod pieces;
-// The trait `TakesLines`: what a line of a format says and adds (specs/LineIs.antt).
+// The trait `LineSink`: what a line of a format says and adds (specs/LineIs.antt).
 mod takes;
 
 pub use pieces::{FILE_LIMIT, Pieces};
-pub use takes::{Line, TakesLines};
+pub use takes::{Line, LineSink};

@@ -3,7 +3,7 @@ ghost use Rattle.std.specs.Prelude.{◌≡◌, ℕ, ◌+◌, ◌≤◌, OnOk, On
 ghost use Rattle.std.specs.List.{AllByRecursion};
 ghost use Rattle.text_pieces.specs.Cut.{cut};
 
-use crate::takes::{Line, TakesLines};
+use crate::takes::{Line, LineSink};
 use cg_text::{LINE_LIMIT, line_end};
 use std::alloc::{AllocError, Global};
 
@@ -76,7 +76,7 @@ impl Pieces {
         if self.too_long {
             Line::TooLong
         } else {
-            Line::Whole(&self.partial)
+            Line::Complete(&self.partial)
         }
     }
 
@@ -101,13 +101,9 @@ impl Pieces {
     }
 
     /// Takes the end of the line that is kept.
-    fn end_line<S, T: TakesLines<S>>(
-        &mut self,
-        state: &mut T,
-        sink: &mut S,
-    ) -> Result<(), AllocError>
-        requires ready { Ready T.TakesLines (at self.old state.old sink.old) 1 }
-        ensures { TakesLine T.TakesLines result (at self.old state.old sink.old) (10 ∷ []) (at self.new state.new sink.new) }
+    fn end_line<S, T: LineSink<S>>(&mut self, state: &mut T, sink: &mut S) -> Result<(), AllocError>
+        requires ready { Ready T.LineSink (at self.old state.old sink.old) 1 }
+        ensures { TakesLine T.LineSink result (at self.old state.old sink.old) (10 ∷ []) (at self.new state.new sink.new) }
     {
         self.taken += 1;
         state.take_line(self.kept(), sink)?;
@@ -117,22 +113,22 @@ impl Pieces {
     }
 
     /// Takes bytes that end no line, and then a line feed, where some of the line is kept.
-    fn end_kept<S, T: TakesLines<S>>(
+    fn end_kept<S, T: LineSink<S>>(
         &mut self,
         bytes: &[u8],
         state: &mut T,
         sink: &mut S,
     ) -> Result<(), AllocError>
         requires none { AllByRecursion (λ b. b ≢ 10) bytes.now }
-        requires ready { Ready T.TakesLines (at self.old state.old sink.old) (length bytes.now + 1) }
-        ensures { TakesLine T.TakesLines result (at self.old state.old sink.old) (bytes.now ++ 10 ∷ []) (at self.new state.new sink.new) }
+        requires ready { Ready T.LineSink (at self.old state.old sink.old) (length bytes.now + 1) }
+        ensures { TakesLine T.LineSink result (at self.old state.old sink.old) (bytes.now ++ 10 ∷ []) (at self.new state.new sink.new) }
     {
         self.keep(bytes)?;
         self.end_line(state, sink)
     }
 
     /// Takes a line that lies whole in a piece, where nothing is kept: it is read where it lies.
-    fn whole_line<S, T: TakesLines<S>>(
+    fn whole_line<S, T: LineSink<S>>(
         &mut self,
         bytes: &[u8],
         state: &mut T,
@@ -141,23 +137,23 @@ impl Pieces {
         requires nothing { self.old.partial.items ≡ [] }
         requires short_line { self.old.too_long ≡ false }
         requires none { AllByRecursion (λ b. b ≢ 10) bytes.now }
-        requires ready { Ready T.TakesLines (at self.old state.old sink.old) (length bytes.now + 1) }
-        ensures { TakesLine T.TakesLines result (at self.old state.old sink.old) (bytes.now ++ 10 ∷ []) (at self.new state.new sink.new) }
+        requires ready { Ready T.LineSink (at self.old state.old sink.old) (length bytes.now + 1) }
+        ensures { TakesLine T.LineSink result (at self.old state.old sink.old) (bytes.now ++ 10 ∷ []) (at self.new state.new sink.new) }
     {
         self.taken += bytes.len() as u64 + 1;
-        state.take_line(Line::Whole(bytes), sink)
+        state.take_line(Line::Complete(bytes), sink)
     }
 
     /// Takes bytes that end no line, and then a line feed.
-    fn line<S, T: TakesLines<S>>(
+    fn line<S, T: LineSink<S>>(
         &mut self,
         bytes: &[u8],
         state: &mut T,
         sink: &mut S,
     ) -> Result<(), AllocError>
         requires none { AllByRecursion (λ b. b ≢ 10) bytes.now }
-        requires ready { Ready T.TakesLines (at self.old state.old sink.old) (length bytes.now + 1) }
-        ensures { TakesLine T.TakesLines result (at self.old state.old sink.old) (bytes.now ++ 10 ∷ []) (at self.new state.new sink.new) }
+        requires ready { Ready T.LineSink (at self.old state.old sink.old) (length bytes.now + 1) }
+        ensures { TakesLine T.LineSink result (at self.old state.old sink.old) (bytes.now ++ 10 ∷ []) (at self.new state.new sink.new) }
     {
         if self.is_empty() {
             self.whole_line(bytes, state, sink)
@@ -167,14 +163,14 @@ impl Pieces {
     }
 
     /// Takes the bytes of a piece, a line at a time.
-    fn take_lines<S, T: TakesLines<S>>(
+    fn take_lines<S, T: LineSink<S>>(
         &mut self,
         piece: &[u8],
         state: &mut T,
         sink: &mut S,
     ) -> Result<(), AllocError>
-        requires ready { Ready T.TakesLines (at self.old state.old sink.old) (length piece.now) }
-        ensures { TakesBytes T.TakesLines result (at self.old state.old sink.old) piece.now (at self.new state.new sink.new) }
+        requires ready { Ready T.LineSink (at self.old state.old sink.old) (length piece.now) }
+        ensures { TakesBytes T.LineSink result (at self.old state.old sink.old) piece.now (at self.new state.new sink.new) }
     {
         let mut rest = piece;
         while let Some((run, more)) = split_line(rest) {
@@ -186,7 +182,7 @@ impl Pieces {
 
     /// Takes the next piece, and hands on the lines that are whole now. Once memory was refused, it
     /// is refused again, and nothing is handed on.
-    pub fn feed<S, T: TakesLines<S>>(
+    pub fn feed<S, T: LineSink<S>>(
         &mut self,
         piece: &[u8],
         state: &mut T,
@@ -195,7 +191,7 @@ impl Pieces {
         requires room { length piece.now ≤ room_of self.old }
         requires few { T.lines state.old ≤ taken_of self.old }
         requires fits { (IsSpent self.old → ⊥) → T.fits state.old sink.old }
-        ensures takes { TakesBytes T.TakesLines result (at self.old state.old sink.old) piece.now (at self.new state.new sink.new) }
+        ensures takes { TakesBytes T.LineSink result (at self.old state.old sink.old) piece.now (at self.new state.new sink.new) }
         ensures lines { T.lines state.new ≤ taken_of self.new }
         ensures room { OnOk result (room_of self.new + length piece.now ≡ room_of self.old) }
         ensures spent { IsSpent self.old → IsErr result }
@@ -216,10 +212,10 @@ impl Pieces {
     }
 
     /// Ends the text: hands on what is left of it, which is a line if it is not empty.
-    pub fn finish<S, T: TakesLines<S>>(self, state: &mut T, sink: &mut S) -> Result<(), AllocError>
+    pub fn finish<S, T: LineSink<S>>(self, state: &mut T, sink: &mut S) -> Result<(), AllocError>
         requires few { T.lines state.old ≤ taken_of self }
         requires fits { (IsSpent self → ⊥) → T.fits state.old sink.old }
-        ensures ends { OnOk result (Ends T.TakesLines (at self state.old sink.old) state.new sink.new) }
+        ensures ends { OnOk result (Ends T.LineSink (at self state.old sink.old) state.new sink.new) }
         ensures err { OnErr result (T.meaning sink.new ≡ T.meaning sink.old) }
         ensures spent { IsSpent self → IsErr result }
         ensures untouched { IsSpent self → sink.new ≡ sink.old }

@@ -7,14 +7,14 @@ use std::alloc::AllocError;
 #[derive(Clone, Copy)]
 pub enum Line<'a> {
     /// Its bytes.
-    Whole(&'a [u8]),
+    Complete(&'a [u8]),
     /// It has more than `LINE_LIMIT` bytes.
     TooLong,
 }
 
 /// Takes the lines of a text, in order, and hands what they add to a sink. What a line says is told
 /// from its bytes alone; what it adds, from what it and the lines before it say.
-pub trait TakesLines<S> {
+pub trait LineSink<S> {
     ghost use Rattle.text_pieces.specs.LineIs.{IsLine, Took};
 
     /// What a line can say.
@@ -29,8 +29,8 @@ pub trait TakesLines<S> {
     /// What a line adds after others, of which the nearest stands first.
     ghost adds: { Reading → List Reading → List Record };
 
-    /// It stands for lines that say so, the nearest first.
-    ghost stands: { Self → List Reading → Type 0 };
+    /// It represents lines that say so, the nearest first.
+    ghost represents: { Self → List Reading → Type 0 };
 
     /// How many lines it took.
     ghost lines: { Self → ℕ };
@@ -51,8 +51,8 @@ pub trait TakesLines<S> {
     fn take_line(&mut self, line: Line<'_>, sink: &mut S) -> Result<(), AllocError>
         requires few { lines self.old < 2 ^ 62 }
         requires fits { fits self.old sink.old }
-        ensures stands { OnOk result (Took reading_of stands line.entry self.old self.new) }
-        ensures told { OnOk result ((text : List ℕ) (back : List Reading) → IsLine line.entry text → stands self.old back
+        ensures represents { OnOk result (Took reading_of represents line.entry self.old self.new) }
+        ensures told { OnOk result ((text : List ℕ) (back : List Reading) → IsLine line.entry text → represents self.old back
             → meaning sink.new ≡ fold step (meaning sink.old) (adds (reading_of text) back)) }
         ensures fits { OnOk result (fits self.new sink.new) }
         ensures lines { lines self.new ≡ lines self.old + 1 }

@@ -4,36 +4,36 @@ use Rattle.run_stores.specs.declared.states.StoreState.{Ghosts}
 use Rattle.plain_tables.proofs.Lists.{map-append}
 use Rattle.run_stores.specs.Calls.{IsFaithful}
 use Rattle.byte_io.specs.Outcomes.{Outcome}
-use Rattle.histories.specs.History.{History, Turn}
+use Rattle.histories.specs.History.{History, Step}
 use Rattle.histories.specs.declared.answers.Answer.{Answer}
 use Rattle.histories.specs.declared.limits.Limits.{Limits}
 use Rattle.store_histories.specs.Answered.{HasHistory}
 use Rattle.store_histories.proofs.Links.{links_on, links_legal, links_after}
-use Rattle.warehouse.specs.Answered.{Says, AreSaid, WasAnswered, WasRun}
+use Rattle.warehouse.specs.Answered.{Says, AreCommandsOf, WasAnswered, WasRun}
 use Rattle.warehouse.specs.declared.command.Command as commands
 
 module _ {R : Type 0} (reads : R → Outcome → R → Type 0) where
-  said_on : (list : List (commands.Command R)) (turns : History) (one : commands.Command R) (turn : Turn) → AreSaid reads list turns → Says reads one turn.said → AreSaid reads (list ++ one ∷ []) (turns ++ turn ∷ [])
-  said_on [] [] one turn all is = (is, tt)
-  said_on [] (t ∷ turns) one turn all is = absurd all
-  said_on (c ∷ list) [] one turn all is = absurd all
-  said_on (c ∷ list) (t ∷ turns) one turn all is = (all.0, said_on list turns one turn all.1 is)
+  said_on : (list : List (commands.Command R)) (steps : History) (one : commands.Command R) (step : Step) → AreCommandsOf reads list steps → Says reads one step.command → AreCommandsOf reads (list ++ one ∷ []) (steps ++ step ∷ [])
+  said_on [] [] one step all is = (is, tt)
+  said_on [] (t ∷ steps) one step all is = absurd all
+  said_on (c ∷ list) [] one step all is = absurd all
+  said_on (c ∷ list) (t ∷ steps) one step all is = (all.0, said_on list steps one step all.1 is)
 
 module _ {S R : Type 0} (g : Ghosts S) (reads : R → Outcome → R → Type 0) (limits : Limits) where
   pub run_nothing : (store : S) → WasRun g reads limits [] [] store store
-  run_nothing store = record { turns = []; said = tt; answered = refl; links = refl; legal = λ h has. tt; after = λ h has. subst (λ l. HasHistory g l store) (sym (append-nil h)) has }
+  run_nothing store = record { steps = []; command = tt; answered = refl; links = refl; legal = λ h has. tt; after = λ h has. subst (λ l. HasHistory g l store) (sym (append-nil h)) has }
 
   pub run_on : (list : List (commands.Command R)) (given : List Answer) (old mid new : S) → WasRun g reads limits list given old mid → (one : commands.Command R) (answer : Answer) → WasAnswered g reads limits one answer mid new → IsFaithful g new
       → WasRun g reads limits (list ++ one ∷ []) (given ++ answer ∷ []) old new
   run_on list given old mid new w one answer is clean =
-      let turn : Turn = record { said = is.said; answer = answer } in
-      let links = links_on g limits w.turns turn old mid new w.links (is.answers clean) in record {
-        turns = w.turns ++ turn ∷ [];
-        said = said_on reads list w.turns one turn w.said is.says;
-        answered = map-append (λ (t : Turn). t.answer) w.turns (turn ∷ []) ∙ ap (λ l. l ++ answer ∷ []) w.answered;
+      let step : Step = record { command = is.command; answer = answer } in
+      let links = links_on g limits w.steps step old mid new w.links (is.answers clean) in record {
+        steps = w.steps ++ step ∷ [];
+        command = said_on reads list w.steps one step w.command is.says;
+        answered = map-append (λ (t : Step). t.answer) w.steps (step ∷ []) ∙ ap (λ l. l ++ answer ∷ []) w.answered;
         links = links;
-        legal = λ h has. links_legal g limits h (w.turns ++ turn ∷ []) old new links has;
-        after = λ h has. links_after g limits h (w.turns ++ turn ∷ []) old new links has;
+        legal = λ h has. links_legal g limits h (w.steps ++ step ∷ []) old new links has;
+        after = λ h has. links_after g limits h (w.steps ++ step ∷ []) old new links has;
       }
 
 pub no_items : {X : Type 0} (xs : List X) → length xs ≡ 0 → xs ≡ []

@@ -4,15 +4,15 @@ use Rattle.run_stores.specs.Calls.{Changed, IsFaithful}
 use Rattle.run_stores.proofs.Calls.{changed_none, shut_none}
 use Rattle.run_stores.specs.declared.states.StoreState.{Ghosts}
 use Rattle.byte_io.specs.Outcomes.{Outcome}
-use Rattle.histories.specs.History.{History, Said}
+use Rattle.histories.specs.History.{History, Command}
 use Rattle.histories.specs.Legal.{IsInForm, IsLegal, expected_answer, once_read}
 use Rattle.histories.specs.declared.answers.Answer.{Answer}
 use Rattle.histories.specs.declared.answers.Answer.TheVariants as answers
 use Rattle.histories.specs.declared.answers.Refusal.TheVariants as reasons
 use Rattle.histories.specs.declared.limits.Limits.{Limits}
-use Rattle.histories.proofs.ReadsDue.{failed_due, long_due}
+use Rattle.histories.proofs.ReadsExpected.{failed_expected, long_expected}
 use Rattle.histories.proofs.Held.{IsStill}
-use Rattle.histories.specs.Stands.{TablesTell}
+use Rattle.histories.specs.Representation.{TablesRepresent}
 use Rattle.store_histories.specs.Answered.{Answers, Follows, is_accepted}
 use Rattle.store_histories.proofs.Settled.{untouched}
 use Rattle.warehouse.specs.Answered.{unread_for}
@@ -27,24 +27,24 @@ unread_still unreads.Failed = tt
 unread_still unreads.TooLong = tt
 
 -- a command whose answer waits for the end of a source
-module _ (limits : Limits) (said : Said) (form : IsInForm said) (limit : ℕ) (outcomes : List Outcome) (due : History → Answer) (waits : (h : History) → expected_answer limits h said ≡ once_read limit outcomes (due h)) where
-  unread_legal : (h : History) (unread : Unread) → IsUnreadFor limit outcomes unread → IsLegal limits h said (unread_for unread)
+module _ (limits : Limits) (command : Command) (form : IsInForm command) (limit : ℕ) (outcomes : List Outcome) (expected : History → Answer) (waits : (h : History) → expected_answer limits h command ≡ once_read limit outcomes (expected h)) where
+  unread_legal : (h : History) (unread : Unread) → IsUnreadFor limit outcomes unread → IsLegal limits h command (unread_for unread)
   unread_legal h unreads.Memory is = inl (form, inr (inl refl))
-  unread_legal h unreads.Failed is = inl (form, inl (waits h ∙ failed_due limit outcomes (due h) (failed_within limit outcomes is) (failed_is limit outcomes is)))
-  unread_legal h unreads.TooLong is = inl (form, inl (waits h ∙ long_due limit outcomes (due h) is))
+  unread_legal h unreads.Failed is = inl (form, inl (waits h ∙ failed_expected limit outcomes (expected h) (failed_within limit outcomes is) (failed_is limit outcomes is)))
+  unread_legal h unreads.TooLong is = inl (form, inl (waits h ∙ long_expected limit outcomes (expected h) is))
 
-  pub unread_answered : {S : Type 0} (g : Ghosts S) (store : S) → IsFaithful g store → (unread : Unread) → IsUnreadFor limit outcomes unread → Answers g limits said (unread_for unread) store store
+  pub unread_answered : {S : Type 0} (g : Ghosts S) (store : S) → IsFaithful g store → (unread : Unread) → IsUnreadFor limit outcomes unread → Answers g limits command (unread_for unread) store store
   unread_answered g store clean unread is = record {
-    turned = turned unread;
-    answered = λ h has. untouched g limits h said store has clean (unread_for unread) (unread_still unread) (unread_legal h unread is);
+    stepped = stepped unread;
+    answered = λ h has. untouched g limits h command store has clean (unread_for unread) (unread_still unread) (unread_legal h unread is);
     closes = λ usable. inl usable;
     shut = shut_none g store;
   }
     where
-      none : Changed g TablesTell (Follows limits said) false false store store
-      none = changed_none g TablesTell (Follows limits said) store clean
+      none : Changed g TablesRepresent (Follows limits command) false false store store
+      none = changed_none g TablesRepresent (Follows limits command) store clean
 
-      turned : (unread : Unread) → Changed g TablesTell (Follows limits said) (is_accepted (unread_for unread)) (is_accepted (unread_for unread)) store store
-      turned unreads.Memory = none
-      turned unreads.Failed = none
-      turned unreads.TooLong = none
+      stepped : (unread : Unread) → Changed g TablesRepresent (Follows limits command) (is_accepted (unread_for unread)) (is_accepted (unread_for unread)) store store
+      stepped unreads.Memory = none
+      stepped unreads.Failed = none
+      stepped unreads.TooLong = none

@@ -18,9 +18,9 @@ use Rattle.store_calls.specs.FunctionCalls.{AreCallsShown}
 use Rattle.store_calls.specs.InclusiveRuns.{IsInclusive}
 use Rattle.plain_tables.specs.Labels.{IsGroupName, IsLabel}
 use Rattle.profile_records.specs.declared.kinds.Kind.{Kind}
-use Rattle.file_reading.specs.Intakes.{IsTakenOf}
-use Rattle.file_reading.specs.declared.intake.Taken.{Taken}
-use Rattle.run_imports.specs.FromTables.{IsTakenIn}
+use Rattle.file_reading.specs.FileParsers.{IsParsedOf}
+use Rattle.file_reading.specs.declared.parser.ParsedFile.{ParsedFile}
+use Rattle.run_imports.specs.FromTables.{IsImported}
 use Rattle.histories.specs.declared.limits.Limits.{Limits}
 use Rattle.store_commands.specs.Changes.{GroupsIn, RemovesIn}
 use Rattle.store_commands.specs.Lists.{IsListOfGroups, IsListOfRuns}
@@ -33,7 +33,7 @@ use Rattle.store_reports.specs.Compared.{IsSubtracted}
 use Rattle.store_reports.specs.Reported.{IsReported}
 use Rattle.warehouse.specs.Answered.{unread_for}
 use Rattle.warehouse.specs.declared.command.Command as commands
-use Rattle.warehouse.specs.declared.command.Command.TheVariants as command
+use Rattle.warehouse.specs.declared.command.Command.TheVariants as input
 
 -- by what the lines say
 abbrev pub AnswersIn : Query → Tables → Answer → Type 0
@@ -62,12 +62,12 @@ module _ {S R : Type 0} (g : Ghosts S) (reads : R → Outcome → R → Type 0) 
     pub came : Reads reads source outcomes to
     pub answered : ((IsUtf8 label × IsLabel label → ⊥) × (outcomes ≡ []) × (answer ≡ answers.Refused reasons.BadName))
         ⊎ ((unread : Unread) × IsUnreadFor limits.bytes outcomes unread × (answer ≡ unread_for unread))
-        ⊎ ((taken : Taken) × HasEnded limits.bytes outcomes × IsTakenOf kind (bytes_of outcomes) taken × WasChangedIn g (IsTakenIn limits kind label taken) answer old new)
+        ⊎ ((parsed : ParsedFile) × HasEnded limits.bytes outcomes × IsParsedOf kind (bytes_of outcomes) parsed × WasChangedIn g (IsImported limits kind label parsed) answer old new)
 
   -- each command is answered by what the lines say; and where the tables hold these lines, what it imports, removes or makes of groups is made of them
   abbrev pub IsFoundIn : Limits → commands.Command R → Answer → S → S → Type 0
-  IsFoundIn limits (command.Ask query) answer old new = Tells g old new (λ t. OrFailed (AnswersIn query t) answer)
-  IsFoundIn limits (command.Annotate selection event file source) answer old new = (to : R) × WasAnnotated selection event file source to answer old new
-  IsFoundIn limits (command.Remove n) answer old new = WasChangedIn g (RemovesIn n) answer old new
-  IsFoundIn limits (command.Group name change) answer old new = IsGroupName name.items → WasChangedIn g (GroupsIn limits change name.items) answer old new
-  IsFoundIn limits (command.Import kind label source) answer old new = (to : R) × WasImported limits kind label.items source to answer old new
+  IsFoundIn limits (input.Ask query) answer old new = Tells g old new (λ t. OrFailed (AnswersIn query t) answer)
+  IsFoundIn limits (input.Annotate selection event file source) answer old new = (to : R) × WasAnnotated selection event file source to answer old new
+  IsFoundIn limits (input.Remove n) answer old new = WasChangedIn g (RemovesIn n) answer old new
+  IsFoundIn limits (input.Group name change) answer old new = IsGroupName name.items → WasChangedIn g (GroupsIn limits change name.items) answer old new
+  IsFoundIn limits (input.Import kind label source) answer old new = (to : R) × WasImported limits kind label.items source to answer old new

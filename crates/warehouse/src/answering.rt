@@ -9,12 +9,12 @@ ghost use Rattle.warehouse.specs.Answered.{WasAnsweredOver};
 ghost use Rattle.warehouse.specs.FromTables.{AnswersIn, WasAnnotated, WasImported};
 
 use crate::refusals::unread_answer;
-use byte_io::{Source, read_whole};
+use byte_io::{Source, read_to_end};
 use cg_text::ListVec;
-use file_reading::take_file;
+use file_reading::parse_file;
 use histories::{Answer, Limits, Query, Refusal, Selection};
 use profile_records::Kind;
-use run_imports::{label_of, take_in};
+use run_imports::{import_parsed, label_of};
 use run_stores::{RunStore, StoreError};
 use std::alloc::Global;
 use store_calls::{calls_answer, inclusive_answer};
@@ -39,8 +39,8 @@ fn import_labelled<S: RunStore, R: Source>(
     ensures answered { WasAnsweredOver S.StoreState R.reads limits (Import (today kind) label.now) source.old source.new result store.old store.new }
     ensures found { WasImported S.StoreState R.reads limits kind label.now source.old source.new result store.old store.new }
 {
-    match take_file(alloc, kind, limits.bytes, source) {
-        Ok(taken) => answer_of(take_in(store, alloc, limits, kind, label, &taken)),
+    match parse_file(alloc, kind, limits.bytes, source) {
+        Ok(parsed) => answer_of(import_parsed(store, alloc, limits, kind, label, &parsed)),
         Err(unread) => unread_answer(unread),
     }
 }
@@ -123,7 +123,7 @@ pub(crate) fn annotate_in<S: RunStore, R: Source>(
         → WasAnsweredOver S.StoreState R.reads limits (Annotate selection event file) source.old source.new result store.old store.new }
     ensures found { WasAnnotated S.StoreState R.reads selection event file source.old source.new result store.old store.new }
 {
-    match read_whole(alloc, SOURCE_BYTES, source) {
+    match read_to_end(alloc, SOURCE_BYTES, source) {
         Ok(text) => {
             let text = ListVec::from_vec(text);
             answer_of(annotate_answer(store, alloc, &selection, &event, &file, &text))

@@ -57,7 +57,7 @@ impl<S: RunStore> Warehouse<S> {
     }
 
     /// Does what a command says, and answers it. A refused command changes nothing. Over tables that
-    /// another program filled, and that stand for no history, a question is answered by what their lines
+    /// another program filled, and that represent no history, a question is answered by what their lines
     /// say, and an import, a removal or a change of a group makes of them what it says; or it is refused.
     pub fn apply<R: Source + Drop>(&mut self, alloc: Global, command: Command<R>) -> Answer
         ensures limits { self.new.limits ≡ self.old.limits }

@@ -10,7 +10,7 @@ use Rattle.byte_io.proofs.reading.read_through.Goals as goal
 pub feed-requires : goal.feed-requires
 feed-requires g c =
     let many : length (take c.in-Ok.count c.read.new.buf) ≡ c.in-Ok.count = length-take-le c.in-Ok.count c.read.new.buf c.in-Ok.ensures.within in
-    less_room g.T.TakesBytes.has_taken c.reads.takes c.reads.left (length (take c.in-Ok.count c.read.new.buf)) (omega (arith, many, c.if-count-left.false)) c.reads.invariant.room
+    less_room g.T.ByteSink.has_taken c.reads.takes c.reads.left (length (take c.in-Ok.count c.read.new.buf)) (omega (arith, many, c.if-count-left.false)) c.reads.invariant.room
 
 pub returns-in_default : goal.returns-in_default
 returns-in_default g c =
@@ -30,7 +30,7 @@ returns-then-count-eq0 g c =
       came = come_on g.S.Source.reads c.args.source.now c.reads.source c.read.new.self was.outcomes (Gave []) was.came (subst (λ l. g.S.Source.reads c.reads.source (Gave l) c.read.new.self) nothing c.in-Ok.ensures.came);
       read = (
         ended_now c.args.limit c.reads.left was.outcomes was.left was.unfailed,
-        subst (λ l. Takes g.T.TakesBytes.has_taken c.args.takes.now l c.reads.takes) (sym (bytes_on was.outcomes [] ∙ append-nil (bytes_of was.outcomes))) was.took,
+        subst (λ l. Takes g.T.ByteSink.has_taken c.args.takes.now l c.reads.takes) (sym (bytes_on was.outcomes [] ∙ append-nil (bytes_of was.outcomes))) was.took,
       );
     }
 
@@ -71,7 +71,7 @@ reads-preserved g c =
       counted = omega (arith, joined, many, some, was.counted);
       some = omega (arith, c.read.auto.buf, was.some);
       room =
-          subst (λ n. HasRoom g.T.TakesBytes.has_taken c.feed.new.self (c.reads.left - n)) many (room_on g.T.TakesBytes.has_taken c.reads.takes c.feed.new.self c.reads.left piece fits c.in_ok-feed.ensures was.room);
+          subst (λ n. HasRoom g.T.ByteSink.has_taken c.feed.new.self (c.reads.left - n)) many (room_on g.T.ByteSink.has_taken c.reads.takes c.feed.new.self c.reads.left piece fits c.in_ok-feed.ensures was.room);
       few = was.few;
-      took = takes_on g.T.TakesBytes.has_taken c.args.takes.now c.reads.takes c.feed.new.self was.outcomes piece was.took c.in_ok-feed.ensures;
+      took = takes_on g.T.ByteSink.has_taken c.args.takes.now c.reads.takes c.feed.new.self was.outcomes piece was.took c.in_ok-feed.ensures;
     }

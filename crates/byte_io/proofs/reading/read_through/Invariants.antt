@@ -13,7 +13,7 @@ invariant-reads g l = record {
   left : length (bytes_of outcomes) + l.left ≡ l.fn.limit;
   counted : l.counter ≤ length (bytes_of outcomes);
   some : 0 < length l.buffer;
-  room : HasRoom g.T.TakesBytes.has_taken l.takes l.left;
+  room : HasRoom g.T.ByteSink.has_taken l.takes l.left;
   few : l.fn.limit ≤ 1073741824;
-  took : Takes g.T.TakesBytes.has_taken l.fn.takes (bytes_of outcomes) l.takes;
+  took : Takes g.T.ByteSink.has_taken l.fn.takes (bytes_of outcomes) l.takes;
 }

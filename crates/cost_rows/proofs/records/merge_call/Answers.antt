@@ -17,11 +17,11 @@ place_lent-requires-2-clause-agrees c =
     agrees-called (known_by c.args.names.now c.args.marks.now) (known_by c.place_lent.new.names c.place_lent.new.marks) c.args.r.names c.args.r.called
     c.requires.agrees c.in_ok-place.ensures.learns.learns
 
-pub returns-clause-arcs : goal.returns-clause-arcs
-returns-clause-arcs c =
+pub returns-clause-calls : goal.returns-clause-calls
+returns-clause-calls c =
     on_ok_weaker c.merge_sums.result
     (λ merged. merged
-    ∙ ap (λ call. merge call_cmp calls_added c.args.arcs.now.entries call (record { count = c.args.r.count; costs = c.args.r.costs.now }))
+    ∙ ap (λ call. merge call_cmp calls_added c.args.edges.now.entries call (record { count = c.args.r.count; costs = c.args.r.costs.now }))
     (call-numbered c.args.names.now c.place_lent.new.names c.place_lent-2.new.names (callee_of c.args.r) (cost_of c.args.r) c.in_ok-place.place c.in_ok-called.called
     c.in_ok-place.ensures.names c.in_ok-place.ensures.place c.in_ok-called.ensures.names c.in_ok-called.ensures.place))
     c.merge_sums.ensures.ok

@@ -3,7 +3,7 @@ use Rattle.cost_rows.specs.Totals.{column_total}
 use Rattle.cost_rows.proofs.TotalsLemmas.{sum_over}
 use Rattle.cost_rows.proofs.totals.total_columns.Given as goal
 
--- the totals so far and what is left come to the totals of all
+-- the totals so far and what is left sum to the totals of all
 abbrev pub invariant-loop-held : goal.invariant-loop-held
 invariant-loop-held g l = record {
   wide : vec_len l.totals ≡ l.events;

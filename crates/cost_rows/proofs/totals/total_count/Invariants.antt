@@ -6,4 +6,4 @@ use Rattle.cost_rows.proofs.totals.total_count.Given as goal
 
 -- the calls so far and those that are left are all
 abbrev pub invariant-loop-calls : goal.invariant-loop-calls
-invariant-loop-calls l = l.count + sum_over (λ (calls : Calls). calls.count) l.calls-iterator ≡ count_total l.arcs.entries
+invariant-loop-calls l = l.count + sum_over (λ (calls : Calls). calls.count) l.calls-iterator ≡ count_total l.edges.entries

@@ -1,6 +1,6 @@
 use Rattle.std.proofs.Common.{◌≡◌, ◌≤◌, ◌-◌, ◌∙◌, length, ap, arith}
-use Rattle.held_runs.specs.HeldArcs.{lines_from}
-use Rattle.held_runs.proofs.ArcRows.{part_more}
+use Rattle.held_runs.specs.HeldCalls.{lines_from}
+use Rattle.held_runs.proofs.CallRows.{part_more}
 use Rattle.held_runs.proofs.call_rows.add_part.Goals as goal
 
 pub returns-in-Ok-clause-lines : goal.returns-in-Ok-clause-lines

@@ -1,7 +1,7 @@
 use Rattle.std.proofs.Common.{◌≡◌, ◌∙◌, ◌+◌, [], ◌∷◌, false, Result, Ok, Err, OnOk, length, length-append, sym, ap}
 use Rattle.std.specs.Result.{is_err}
-use Rattle.held_runs.specs.HeldArcs.{lines_from}
-use Rattle.held_runs.proofs.ArcRows.{zero_more}
+use Rattle.held_runs.specs.HeldCalls.{lines_from}
+use Rattle.held_runs.proofs.CallRows.{zero_more}
 use Rattle.held_runs.proofs.call_rows.fill.Goals as goal
 
 no_err : {T E : Type 0} {P : Type 0} (r : Result T E) → is_err r ≡ false → OnOk r P → P

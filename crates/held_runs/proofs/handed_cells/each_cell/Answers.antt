@@ -5,12 +5,12 @@ use Rattle.held_runs.proofs.handed_cells.each_cell.Goals as goal
 pub returns-clause-found : goal.returns-clause-found
 returns-clause-found g c clean ready =
     let names = c.args.names.now in
-    let start = g.T.TakesCells.meaning c.args.taker in
-    let all = c.in_ok-each_line.ensures.found clean ready (names, c.args.events, start) (refl, refl, no_cell names c.args.events g.T.TakesCells.step start) in
+    let start = g.T.CellSink.meaning c.args.sink in
+    let all = c.in_ok-each_line.ensures.found clean ready (names, c.args.events, start) (refl, refl, no_cell names c.args.events g.T.CellSink.step start) in
     (all.0, all.1, all.2.2)
 
 pub returns-clause-told : goal.returns-clause-told
-returns-clause-told g c clean t stands =
+returns-clause-told g c clean t represents =
     let names = c.args.names.now in
-    let start = g.T.TakesCells.meaning c.args.taker in
-    (c.in_ok-each_line.ensures.told clean t stands (names, c.args.events, start) (refl, refl, no_cell names c.args.events g.T.TakesCells.step start)).2
+    let start = g.T.CellSink.meaning c.args.sink in
+    (c.in_ok-each_line.ensures.told clean t represents (names, c.args.events, start) (refl, refl, no_cell names c.args.events g.T.CellSink.step start)).2

@@ -1,6 +1,6 @@
 use Rattle.std.proofs.Common.{◌≡◌, ◌++◌, map, take}
-use Rattle.held_runs.specs.declared.head_lines.HeadEvent.{HeadEvent}
-use Rattle.held_runs.specs.declared.head_lines.HeadDerived.{HeadDerived}
+use Rattle.held_runs.specs.declared.head_rows.HeadEvent.{HeadEvent}
+use Rattle.held_runs.specs.declared.head_rows.HeadDerived.{HeadDerived}
 use Rattle.held_runs.proofs.heads_held.all_names.Given as goal
 
 abbrev pub invariant-derived : goal.invariant-derived

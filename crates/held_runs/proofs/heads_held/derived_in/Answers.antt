@@ -2,7 +2,7 @@ use Rattle.std.proofs.Common.{◌≡◌, ◌∙◌, ◌++◌, ◌∷◌, [], ℕ
 use Rattle.std.proofs.lemmas.List.{length-map}
 use Rattle.sql_tables.proofs.Rows.{map-append}
 use Rattle.prof_books.specs.HeldHeads.{coefs_at, coefs_from, placed}
-use Rattle.held_runs.specs.HeldHeads.{derived_place, coef_line_said}
+use Rattle.held_runs.specs.HeldHeads.{derived_place, entry_of_coef}
 use Rattle.prof_store.proofs.Listing.{read_on}
 use Rattle.held_runs.proofs.HeadReading.{at_place, placed-one_more, coefs_from-one_more, read_part, part_within}
 use Rattle.prof_store.proofs.Reading.{is_ok_then}
@@ -33,7 +33,7 @@ lines-preserved c =
           ∙ sym (placed-one_more (map name_of derived) name)
           ∙ sym (ap (placed 0) names),
       part_within coefs c.lines.used more low c.in_ok-row.ensures.within,
-      read_part coef_line_said coefs c.lines.used more (coefs_from 0 (map row_of derived)) _ low c.lines.invariant.2 c.in_ok-row.ensures.said
+      read_part entry_of_coef coefs c.lines.used more (coefs_from 0 (map row_of derived)) _ low c.lines.invariant.2 c.in_ok-row.ensures.said
           ∙ ap (λ k. coefs_from 0 (map row_of derived) ++ coefs_at k 0 row) (place ∙ sym (length-map derived row_of))
           ∙ sym (coefs_from-one_more (map row_of derived) row)
           ∙ sym (ap (coefs_from 0) rows),

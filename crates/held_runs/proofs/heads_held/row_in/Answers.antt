@@ -1,7 +1,7 @@
 use Rattle.std.proofs.Common.{◌≡◌, ◌∙◌, ◌++◌, ◌∷◌, [], length, sym, ap, arith}
 use Rattle.std.proofs.lemmas.List.{length_push}
 use Rattle.prof_books.specs.HeldHeads.{coefs_at}
-use Rattle.held_runs.specs.HeldHeads.{coef_line_said}
+use Rattle.held_runs.specs.HeldHeads.{entry_of_coef}
 use Rattle.held_runs.proofs.HeadReading.{coefs_at-one_more, read_part, part_within}
 use Rattle.prof_store.proofs.Reading.{is_ok_then}
 use Rattle.held_runs.proofs.heads_held.row_in.Goals as goal
@@ -15,7 +15,7 @@ events-preserved c =
     let pushed : c.push.new.self ≡ row ++ times ∷ [] = is_ok_then c.push.result c.if-is_err.ensures.negation c.push.ensures.ok in (
       ap length pushed ∙ length_push row times ∙ omega (arith, c.events.invariant.0),
       part_within coefs c.events.used c.first_times-times.result.1 c.events.invariant.1 c.first_times-times.ensures.within,
-      read_part coef_line_said coefs c.events.used c.first_times-times.result.1 (coefs_at place 0 row) _ c.events.invariant.1 c.events.invariant.2 c.first_times-times.ensures.said
+      read_part entry_of_coef coefs c.events.used c.first_times-times.result.1 (coefs_at place 0 row) _ c.events.invariant.1 c.events.invariant.2 c.first_times-times.ensures.said
           ∙ ap (λ k. coefs_at place 0 row ++ coefs_at place k (times ∷ [])) (sym c.events.invariant.0)
           ∙ sym (coefs_at-one_more place row times)
           ∙ sym (ap (coefs_at place 0) pushed),

@@ -3,11 +3,11 @@ use Rattle.std.proofs.Common.{◌∙◌, map, ap, refl}
 use Rattle.sqlite_exec.proofs.MarkLemmas.{if_ok_then}
 use Rattle.sql_tables.proofs.Calls.{asked_err, asked_if}
 use Rattle.store_schema.specs.Schema.{schema_two}
-use Rattle.plain_tables.specs.Tables.{NameLine}
+use Rattle.plain_tables.specs.Tables.{NameRow}
 use Rattle.store_schema.proofs.Lists.{numbered_table}
 use Rattle.store_schema.proofs.Means.{names_plain}
-use Rattle.held_runs.specs.HeadLines.{first_two}
-use Rattle.held_runs.specs.NameLines.{name_seen, name_shown}
+use Rattle.held_runs.specs.HeadRows.{first_two}
+use Rattle.held_runs.specs.NameRows.{name_seen, name_shown}
 use Rattle.prof_store.proofs.Listing.{read_permutes, map_injective}
 use Rattle.prof_store.proofs.Reading.{both_ok}
 use Rattle.held_runs.proofs.NameLists.{names_listed, same_line}
@@ -25,7 +25,7 @@ pub returns-clause-told : goal.returns-clause-told
 returns-clause-told g c clean t was =
     if_ok_then c.names_in.result (both_ok _ _ c.names_in.result (returns-clause-found g c clean was.schema_is) c.names_in.ensures.rising) (λ names is.
     map_injective name_shown same_line names t.names
-    (names_in_order t _ (said t _ was.holds) (map name_shown names) (shown_read (said t _ was.holds).far name_shown (λ l. refl) names) (numbered_table name_shown (λ (l : NameLine). l.number) (λ l. refl) names is.1) is.0))
+    (names_in_order t _ (said t _ was.holds) (map name_shown names) (shown_read (said t _ was.holds).far name_shown (λ l. refl) names) (numbered_table name_shown (λ (l : NameRow). l.number) (λ l. refl) names is.1) is.0))
 
 pub returns-clause-asks : goal.returns-clause-asks
 returns-clause-asks g c clean = asked_if schema_two (is_ok c.names_in.result) _ _ (c.in_ok-rows.ensures.asked clean names_plain)

@@ -12,13 +12,13 @@ pub lines-preserved : goal.lines-preserved
 lines-preserved g c =
     let n = c.in_ok-hand_line.ensures in
     let i = c.lines.invariant in
-    let t = g.T.TakesLines in
+    let t = g.T.RowSink in
     record {
       run = n.same.run ∙ i.run;
       asked = λ clean. let one = n.asks clean in asked_open_then schema_two true _ _ _ (i.asked one.stays.was_clean) one;
       taken = λ clean ready start was.
           let h = i.taken (n.asks clean).stays.was_clean ready start was in
-          let more = subst (HandsOn g.S.Store t.listed t.columns (λ l. t.Has start l c.hand_line.new.taker) h.0 c.hand_line.new.store c.hand_line.new.walk) c.if-not-branch.false (n.handed start clean h.0 h.1 h.2) in
+          let more = subst (HandsOn g.S.Store t.listed t.columns (λ l. t.Has start l c.hand_line.new.sink) h.0 c.hand_line.new.store c.hand_line.new.walk) c.if-not-branch.false (n.handed start clean h.0 h.1 h.2) in
           (h.0 ++ more.0 ∷ [], more.1, more.2);
     }
 
@@ -26,21 +26,21 @@ pub returns-then-not-branch-clause-found : goal.returns-then-not-branch-clause-f
 returns-then-not-branch-clause-found g c clean ready start was =
     let n = c.in_ok-hand_line.ensures in
     let i = c.lines.invariant in
-    let t = g.T.TakesLines in
+    let t = g.T.RowSink in
     let store = c.hand_line.new.store in
     let walk = c.hand_line.new.walk in
     let h = i.taken (n.asks clean).stays.was_clean ready start was in
-    let ended = subst (HandsOn g.S.Store t.listed t.columns (λ l. t.Has start l c.hand_line.new.taker) h.0 store walk) c.if-not-branch.true (n.handed start clean h.0 h.1 h.2) in
+    let ended = subst (HandsOn g.S.Store t.listed t.columns (λ l. t.Has start l c.hand_line.new.sink) h.0 store walk) c.if-not-branch.true (n.handed start clean h.0 h.1 h.2) in
     let all = all_given g.S.Store t.listed t.columns h.0 store walk ended.0 ended.1 in
     (h.0, subst (λ run. AreAllRead t.listed t.columns run (rows_of g.S.Store t.listed store) h.0) (n.same.run ∙ i.run) all, ended.2)
 
 pub returns-then-not-branch-clause-told : goal.returns-then-not-branch-clause-told
-returns-then-not-branch-clause-told g c clean t stands start was =
+returns-then-not-branch-clause-told g c clean t represents start was =
     let n = c.in_ok-hand_line.ensures in
     let i = c.lines.invariant in
-    let read = returns-then-not-branch-clause-found g c clean (ready_for t _ stands) start was in
-    let now = asked_rests_yet schema_two (RowsSay t) _ _ (asked_open_then schema_two true _ _ _ (i.asked (n.asks clean).stays.was_clean) (n.asks clean)) stands in
-    subst (λ lines. g.T.TakesLines.Has start lines c.hand_line.new.taker) (sym (g.met.T.TakesLines.all_read t _ now.holds c.args.run (omega (arith, c.ranges)) read.0 read.1)) read.2
+    let read = returns-then-not-branch-clause-found g c clean (ready_for t _ represents) start was in
+    let now = asked_rests_yet schema_two (RowsSay t) _ _ (asked_open_then schema_two true _ _ _ (i.asked (n.asks clean).stays.was_clean) (n.asks clean)) represents in
+    subst (λ lines. g.T.RowSink.Has start lines c.hand_line.new.sink) (sym (g.met.T.RowSink.all_read t _ now.holds c.args.run (omega (arith, c.ranges)) read.0 read.1)) read.2
 
 pub returns-then-not-branch-clause-asks : goal.returns-then-not-branch-clause-asks
 returns-then-not-branch-clause-asks g c clean = let one = c.in_ok-hand_line.ensures.asks clean in asked_open_then schema_two true _ _ _ (c.lines.invariant.asked one.stays.was_clean) one

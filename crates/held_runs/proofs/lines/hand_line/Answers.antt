@@ -8,12 +8,12 @@ use Rattle.held_runs.proofs.lines.hand_line.Goals as goal
 pub returns-then-not-branch-clause-handed : goal.returns-then-not-branch-clause-handed
 returns-then-not-branch-clause-handed g c start clean lines was has =
     let e = c.in_ok-has_row.ensures in
-    let moved = e.moved clean (map g.T.TakesLines.columns lines) was.walks in
+    let moved = e.moved clean (map g.T.RowSink.columns lines) was.walks in
     (record { table_is = e.same.table ∙ was.table_is; walks = moved.0 }, moved.1 c.if-not-branch.true, has)
 
 pub returns-in_ok-take-in-Some-clause-handed : goal.returns-in_ok-take-in-Some-clause-handed
 returns-in_ok-take-in-Some-clause-handed g c start clean lines was has =
-    let t = g.T.TakesLines in
+    let t = g.T.RowSink in
     let e = c.in_ok-has_row.ensures in
     let walk = c.has_row.new.walk in
     let x = c.in-Some.row.now in

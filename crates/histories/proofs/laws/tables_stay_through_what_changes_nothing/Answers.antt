@@ -6,10 +6,10 @@ pub returns-clause-new : goal.returns-clause-new
 returns-clause-new c = tell_nothing
 
 pub returns-clause-held : goal.returns-clause-held
-returns-clause-held c = λ said n t limits h. tell_same limits h said (Held n) t tt
+returns-clause-held c = λ command n t limits h. tell_same limits h command (Held n) t tt
 
 pub returns-clause-told : goal.returns-clause-told
-returns-clause-told c = λ said text t limits h. tell_same limits h said (Text text) t tt
+returns-clause-told c = λ command text t limits h. tell_same limits h command (Text text) t tt
 
 pub returns-clause-refused : goal.returns-clause-refused
-returns-clause-refused c = λ said refusal t limits h. tell_same limits h said (Refused refusal) t tt
+returns-clause-refused c = λ command refusal t limits h. tell_same limits h command (Refused refusal) t tt

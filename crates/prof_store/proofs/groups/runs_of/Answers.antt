@@ -1,7 +1,7 @@
 use Rattle.std.proofs.Common.{◌≡◌, ◌∙◌, ◌++◌, ◌∷◌, [], Bool, true, false, not, map, length, string_bytes, refl, sym, ap, arith}
 use Rattle.std.proofs.lemmas.List.{length_push}
 use Rattle.std.proofs.lemmas.Slice.Eq.{bytes_eq-Decides}
-use Rattle.prof_store.specs.Groups.{member_line}
+use Rattle.prof_store.specs.Groups.{member_row}
 use Rattle.run_stores.specs.Entries.{member_of}
 use Rattle.prof_store.proofs.Listing.{read_more}
 use Rattle.prof_store.proofs.Reading.{is_ok_then}
@@ -17,7 +17,7 @@ members-preserved c =
     let line = c.member-item.result in
     let pushed : c.push.new.self ≡ c.members.runs ++ line.run ∷ [] = is_ok_then c.push.result c.if-is_err.ensures.negation c.push.ensures.ok in
     let same : string_bytes line.group ≡ name = sym c.as_str.ensures.value ∙ (bytes_eq-Decides _ _).0 (not_not _ c.if-ne.ensures) in
-    let one : member_of name line.run ≡ member_line line = ap (λ n. member_of n line.run) (sym same) in (
+    let one : member_of name line.run ≡ member_row line = ap (λ n. member_of n line.run) (sym same) in (
       omega (arith, ap length pushed, length_push c.members.runs line.run, c.members.invariant.0),
-      ap (λ l. map (member_of name) l) pushed ∙ read_more (member_of name) member_line c.members.runs c.args.members.now c.members.member-index line.run line c.members-test.true c.member-item.is one c.members.invariant.1,
+      ap (λ l. map (member_of name) l) pushed ∙ read_more (member_of name) member_row c.members.runs c.args.members.now c.members.member-index line.run line c.members-test.true c.member-item.is one c.members.invariant.1,
     )

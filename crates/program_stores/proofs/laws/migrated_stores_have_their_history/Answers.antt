@@ -4,12 +4,12 @@ use Rattle.program_stores.proofs.laws.migrated_stores_have_their_history.Goals a
 
 pub returns-clause-opened : goal.returns-clause-opened
 returns-clause-opened g c h conn store was opened = (
-  record { legal = was.tells.legal; stands = λ usable. record { t = was.t; stands = opened.first refl was.t was.rests; tells = was.tells } },
+  record { legal = was.agrees.legal; represents = λ usable. record { t = was.t; represents = opened.first refl was.t was.rests; agrees = was.agrees } },
   marked_at_end h was.by_first,
 )
 
 pub returns-clause-crash : goal.returns-clause-crash
 returns-clause-crash g c is_done h conn next was opened db may = elim (opened.first_crash was.t was.rests db may) [
-  | inl before ↦ inl (record { t = was.t; holds = c.what_stands_survives.ensures.first was.t conn was.rests db before; tells = was.tells })
-  | inr made ↦ inr (record { t = was.t; holds = made; tells = was.tells })
+  | inl before ↦ inl (record { t = was.t; holds = c.what_stands_survives.ensures.first was.t conn was.rests db before; agrees = was.agrees })
+  | inr made ↦ inr (record { t = was.t; holds = made; agrees = was.agrees })
 ]

@@ -1,5 +1,5 @@
 use Rattle.store_schema.proofs.Within.{text_open, text_writes}
-use Rattle.run_writing.proofs.RunPuts.{next_raised}
+use Rattle.run_writing.proofs.RunInserts.{next_raised}
 use Rattle.run_writing.proofs.head_texts.raise_next.Goals as goal
 
 pub returns : goal.returns

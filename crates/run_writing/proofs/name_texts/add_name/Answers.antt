@@ -5,10 +5,10 @@ use Rattle.run_writing.proofs.Finding.{is_held}
 use Rattle.run_writing.proofs.name_texts.add_name.Goals as goal
 
 pub returns-in-Some-clause-writes : goal.returns-in-Some-clause-writes
-returns-in-Some-clause-writes g c = both g.S.Store true (with_new_name c.args.name.now) (λ t. t) _ _ _ c.in_ok-put_name.ensures c.in_ok-number.ensures.asks
+returns-in-Some-clause-writes g c = both g.S.Store true (with_new_name c.args.name.now) (λ t. t) _ _ _ c.in_ok-insert_name.ensures c.in_ok-number.ensures.asks
 
 pub returns-in-Some-clause-told : goal.returns-in-Some-clause-told
 returns-in-Some-clause-told g c clean t was =
     let name = c.args.name.now in
-    let then = c.in_ok-put_name.ensures.done refl (was_faithful g.S.Store c.in_ok-number.ensures.asks clean) t tt was in
+    let then = c.in_ok-insert_name.ensures.done refl (was_faithful g.S.Store c.in_ok-number.ensures.asks clean) t tt was in
     (is_held (with_new_name name t) name c.in-Some.number (sym c.in-Some.is ∙ c.in_ok-number.ensures.told clean (with_new_name name t) then)).1

@@ -4,16 +4,16 @@ use Rattle.selected_runs.specs.EventRuns.{AreEventRunsIn}
 use Rattle.store_calls.specs.FunctionCalls.{IsCallsText}
 use Rattle.store_histories.proofs.Questions.{asked_once}
 use Rattle.selected_runs.proofs.AskLemmas.{asked_twice}
-use Rattle.store_calls.proofs.FunctionLemmas.{calls_are_due}
+use Rattle.store_calls.proofs.FunctionLemmas.{calls_are_expected}
 use Rattle.store_calls.proofs.calling.calls_answer.Goals as goal
 
 pub returns-in-Err : goal.returns-in-Err
 returns-in-Err g c clean =
     let selection = c.args.selection.now in
     let event : c.as_slice-event.result.now ≡ c.args.event.now = search rules in
-    asked_once g.S.StoreState _ _ (calls_are_due selection c.args.side c.args.event.now c.args.object.now c.args.function.now) _ _ _ refl (c.in_ok-runs.ensures.asks clean) (λ t stands. record {
+    asked_once g.S.StoreState _ _ (calls_are_expected selection c.args.side c.args.event.now c.args.object.now c.args.function.now) _ _ _ refl (c.in_ok-runs.ensures.asks clean) (λ t represents. record {
       found = Err c.in-Err.refusal;
-      is_found = subst (λ e. AreEventRunsIn t selection e (Err c.in-Err.refusal)) event (rw c.in-Err.is at (c.in_ok-runs.ensures.told clean t stands));
+      is_found = subst (λ e. AreEventRunsIn t selection e (Err c.in-Err.refusal)) event (rw c.in-Err.is at (c.in_ok-runs.ensures.told clean t represents));
       answer_is = refl;
     })
 
@@ -25,11 +25,11 @@ returns-in-Some g c clean =
     let object : c.as_slice-object.result.now ≡ c.args.object.now = search rules in
     let name : c.as_slice-name.result.now ≡ c.args.function.now = search rules in
     let runs : c.as_slice.result.now ≡ c.in-Ok.runs = search rules in
-    asked_twice g.S.StoreState _ _ (calls_are_due selection side c.args.event.now c.args.object.now c.args.function.now) _ _ _ _ refl c.in_ok-runs.ensures.asks (c.in_ok-text.ensures.asks clean) (λ t stands early mid.
+    asked_twice g.S.StoreState _ _ (calls_are_expected selection side c.args.event.now c.args.object.now c.args.function.now) _ _ _ _ refl c.in_ok-runs.ensures.asks (c.in_ok-text.ensures.asks clean) (λ t represents early mid.
     let told = rw c.in-Some.is at (c.in_ok-text.ensures.told clean t mid) in
     record {
       found = Ok c.in-Ok.runs;
-      is_found = subst (λ e. AreEventRunsIn t selection e (Ok c.in-Ok.runs)) event (rw c.in-Ok.is at (c.in_ok-runs.ensures.told early t stands));
+      is_found = subst (λ e. AreEventRunsIn t selection e (Ok c.in-Ok.runs)) event (rw c.in-Ok.is at (c.in_ok-runs.ensures.told early t represents));
       answer_is = (
         Some c.in-Some.text,
         subst₂ (λ o n. IsCallsText t c.in-Ok.runs side (function_spot o n) c.args.event.now (Some c.in-Some.text)) object name
@@ -46,11 +46,11 @@ returns g c clean =
     let object : c.as_slice-object.result.now ≡ c.args.object.now = search rules in
     let name : c.as_slice-name.result.now ≡ c.args.function.now = search rules in
     let runs : c.as_slice.result.now ≡ c.in-Ok.runs = search rules in
-    asked_twice g.S.StoreState _ _ (calls_are_due selection side c.args.event.now c.args.object.now c.args.function.now) _ _ _ _ refl c.in_ok-runs.ensures.asks (c.in_ok-text.ensures.asks clean) (λ t stands early mid.
+    asked_twice g.S.StoreState _ _ (calls_are_expected selection side c.args.event.now c.args.object.now c.args.function.now) _ _ _ _ refl c.in_ok-runs.ensures.asks (c.in_ok-text.ensures.asks clean) (λ t represents early mid.
     let told = rw c.in-None.is at (c.in_ok-text.ensures.told clean t mid) in
     record {
       found = Ok c.in-Ok.runs;
-      is_found = subst (λ e. AreEventRunsIn t selection e (Ok c.in-Ok.runs)) event (rw c.in-Ok.is at (c.in_ok-runs.ensures.told early t stands));
+      is_found = subst (λ e. AreEventRunsIn t selection e (Ok c.in-Ok.runs)) event (rw c.in-Ok.is at (c.in_ok-runs.ensures.told early t represents));
       answer_is = (
         None,
         subst₂ (λ o n. IsCallsText t c.in-Ok.runs side (function_spot o n) c.args.event.now (None)) object name

@@ -8,14 +8,14 @@ use Rattle.store_calls.proofs.FunctionLemmas.{cells_sought, stacks_sought}
 use Rattle.store_calls.proofs.known_names.is_in_run.Goals as goal
 
 pub returns-clause-told : goal.returns-clause-told
-returns-clause-told g c clean t stands named =
+returns-clause-told g c clean t represents named =
     let f = function_spot c.args.object.now c.args.name.now in
     let cells = cells_held c.args.run.now.number t in
     let stacks = stacks_held c.args.run.now.number t in
     let early = (c.in_ok-all.ensures.asks clean).stays.was_faithful in
-    let found = cells_come _ _ _ _ c.args.run.now.number t _ (c.in_ok-cells.ensures.told early t stands) named ∙ cells_sought f false cells in
-    let mid = asked_reads_yet g.S.StoreState t _ _ (c.in_ok-cells.ensures.asks early) stands in
+    let found = cells_come _ _ _ _ c.args.run.now.number t _ (c.in_ok-cells.ensures.told early t represents) named ∙ cells_sought f false cells in
+    let mid = asked_reads_yet g.S.StoreState t _ _ (c.in_ok-cells.ensures.asks early) represents in
     ap (λ m. m.1) (c.in_ok-all.ensures.told clean t mid ∙ ap (λ m. fold with_stack_sought m stacks) found ∙ stacks_sought f (is_in_cells f cells) stacks)
 
 pub returns-clause-of_events : goal.returns-clause-of_events
-returns-clause-of_events g c clean t stands = (c.in_ok-cells.ensures.told (c.in_ok-all.ensures.asks clean).stays.was_faithful t stands).of_events
+returns-clause-of_events g c clean t represents = (c.in_ok-cells.ensures.told (c.in_ok-all.ensures.asks clean).stays.was_faithful t represents).of_events

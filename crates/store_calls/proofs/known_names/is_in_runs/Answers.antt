@@ -6,6 +6,6 @@ use Rattle.store_calls.proofs.FunctionLemmas.{seen_added}
 use Rattle.store_calls.proofs.known_names.is_in_runs.Goals as goal
 
 pub returns-clause-told : goal.returns-clause-told
-returns-clause-told g c clean t stands =
+returns-clause-told g c clean t represents =
     let is_in = is_in_rows t (function_spot c.args.object.now c.args.name.now) in
-    if_ok_so c.add_runs.result (λ found added named. seen_added is_in named c.args.runs.now false found added) (c.add_runs.ensures.told clean t stands)
+    if_ok_so c.fold_runs.result (λ found added named. seen_added is_in named c.args.runs.now false found added) (c.fold_runs.ensures.told clean t represents)

@@ -3,7 +3,7 @@ use Rattle.run_stores.proofs.Calls.{changed_given}
 use Rattle.plain_tables.specs.Changes.{has_group}
 use Rattle.store_commands.specs.Changes.{refusal_for}
 use Rattle.store_commands.specs.declared.changes.GroupChange.TheVariants.{Make, Drop, Join, Leave, SetBaseline}
-use Rattle.store_commands.proofs.Dues.{drop_held, free_as, given_less}
+use Rattle.store_commands.proofs.Expectations.{drop_held, free_as, given_less}
 use Rattle.store_commands.proofs.changes.change_free.Goals as goal
 
 pub returns-in-Make : goal.returns-in-Make

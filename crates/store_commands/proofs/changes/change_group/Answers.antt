@@ -2,41 +2,41 @@ use Rattle.std.specs.Bool.{⊤}
 use Rattle.std.proofs.Common.{◌≡◌, true, false, None, sym, ap, ◌∙◌, Some}
 use Rattle.run_stores.proofs.Calls.{asked_stands, changed_asked, shut_answered, shut_asked}
 use Rattle.histories.specs.declared.answers.Answer.TheVariants.{Done, Refused}
-use Rattle.histories.specs.Stands.{TablesTell}
+use Rattle.histories.specs.Representation.{TablesRepresent}
 use Rattle.store_histories.specs.Answered.{Follows}
 use Rattle.store_histories.specs.Refusals.{refused_or}
-use Rattle.store_histories.proofs.After.{turns_after, done_after}
-use Rattle.store_histories.proofs.Due.{was_still}
-use Rattle.store_histories.proofs.Settled.{turns_err}
-use Rattle.store_commands.specs.Changes.{changed, change_said, refusal_for}
-use Rattle.store_commands.proofs.Dues.{change_form, change_due, changed_in, done_in, due_if_free, refused_in, stays_in, tell_changed}
+use Rattle.store_histories.proofs.After.{steps_after_it, done_after}
+use Rattle.store_histories.proofs.Expected.{was_still}
+use Rattle.store_histories.proofs.Settled.{steps_err}
+use Rattle.store_commands.specs.Changes.{changed, command_from_change, refusal_for}
+use Rattle.store_commands.proofs.Expectations.{change_form, change_expected, changed_in, done_in, expected_if_free, refused_in, stays_in, tell_changed}
 use Rattle.store_commands.proofs.changes.change_group.Goals as goal
 
-pub returns-in_err-refusal-clause-turns : goal.returns-in_err-refusal-clause-turns
-returns-in_err-refusal-clause-turns g c clean =
-    let said = change_said c.args.change c.args.name.now in
-    turns_err g.S.StoreState c.args.limits said c.from_residual.result _ _ c.from_residual.ensures.0 (changed_asked g.S.StoreState TablesTell (Follows c.args.limits said) false _ _ (c.in_err-refusal.ensures.asks clean))
+pub returns-in_err-refusal-clause-steps : goal.returns-in_err-refusal-clause-steps
+returns-in_err-refusal-clause-steps g c clean =
+    let command = command_from_change c.args.change c.args.name.now in
+    steps_err g.S.StoreState c.args.limits command c.from_residual.result _ _ c.from_residual.ensures.0 (changed_asked g.S.StoreState TablesRepresent (Follows c.args.limits command) false _ _ (c.in_err-refusal.ensures.asks clean))
 
 pub returns-in-Some-clause-answered : goal.returns-in-Some-clause-answered
 returns-in-Some-clause-answered g c clean h s =
     let limits = c.args.limits in
     let name = c.args.name.now in
     let how = c.args.change in
-    was_still limits h (change_said how name) (change_form how name c.requires) g.S.StoreState c.args.store.now c.refusal_of.new.store (Refused c.in-Some.refusal) tt
-    (change_due limits h how name s.t s.tells ∙ ap (λ r. Some (refused_or r Done)) (sym (c.in_ok-refusal.ensures.told clean s.t (g.S.StoreState.said s.t _ s.stands)) ∙ c.in-Some.is)) s (asked_stands g.S.StoreState s.t _ _ (c.in_ok-refusal.ensures.asks clean) s.stands)
+    was_still limits h (command_from_change how name) (change_form how name c.requires) g.S.StoreState c.args.store.now c.refusal_of.new.store (Refused c.in-Some.refusal) tt
+    (change_expected limits h how name s.t s.agrees ∙ ap (λ r. Some (refused_or r Done)) (sym (c.in_ok-refusal.ensures.told clean s.t (g.S.StoreState.command s.t _ s.represents)) ∙ c.in-Some.is)) s (asked_stands g.S.StoreState s.t _ _ (c.in_ok-refusal.ensures.asks clean) s.represents)
 
-pub returns-in-Some-clause-turns : goal.returns-in-Some-clause-turns
-returns-in-Some-clause-turns g c clean = changed_asked g.S.StoreState TablesTell (Follows c.args.limits (change_said c.args.change c.args.name.now)) true _ _ (c.in_ok-refusal.ensures.asks clean)
+pub returns-in-Some-clause-steps : goal.returns-in-Some-clause-steps
+returns-in-Some-clause-steps g c clean = changed_asked g.S.StoreState TablesRepresent (Follows c.args.limits (command_from_change c.args.change c.args.name.now)) true _ _ (c.in_ok-refusal.ensures.asks clean)
 
-pub returns-in_err-change_free-clause-turns : goal.returns-in_err-change_free-clause-turns
-returns-in_err-change_free-clause-turns g c clean =
+pub returns-in_err-change_free-clause-steps : goal.returns-in_err-change_free-clause-steps
+returns-in_err-change_free-clause-steps g c clean =
     let limits = c.args.limits in
     let name = c.args.name.now in
     let how = c.args.change in
     let two = c.in_err-change_free.ensures.changes limits clean in
     let early = two.stays.was_faithful in
-    turns_err g.S.StoreState limits (change_said how name) c.from_residual-in_err-change_free.result _ _ c.from_residual-in_err-change_free.ensures.0
-    (turns_after limits (change_said how name) (change_form how name c.requires) (λ t. refusal_for limits how name t ≡ None) (changed how name) (λ h t. due_if_free limits h how name t) (λ h t. tell_changed limits h how name t) g.S.StoreState c.args.store.now c.refusal_of.new.store c.change_free.new.store
+    steps_err g.S.StoreState limits (command_from_change how name) c.from_residual-in_err-change_free.result _ _ c.from_residual-in_err-change_free.ensures.0
+    (steps_after_it limits (command_from_change how name) (change_form how name c.requires) (λ t. refusal_for limits how name t ≡ None) (changed how name) (λ h t. expected_if_free limits h how name t) (λ h t. tell_changed limits h how name t) g.S.StoreState c.args.store.now c.refusal_of.new.store c.change_free.new.store
     (c.in_ok-refusal.ensures.asks early) (λ t was. sym (c.in_ok-refusal.ensures.told early t was) ∙ c.in_default.is) false false two)
 
 pub returns-clause-answered : goal.returns-clause-answered
@@ -46,35 +46,35 @@ returns-clause-answered g c clean h s =
     let how = c.args.change in
     let two = c.in_ok-change_free.ensures.changes limits clean in
     let early = two.stays.was_faithful in
-    done_after limits (change_said how name) (change_form how name c.requires) (λ t. refusal_for limits how name t ≡ None) (changed how name) (λ h t. due_if_free limits h how name t) (λ h t. tell_changed limits h how name t) g.S.StoreState c.args.store.now c.refusal_of.new.store c.change_free.new.store
+    done_after limits (command_from_change how name) (change_form how name c.requires) (λ t. refusal_for limits how name t ≡ None) (changed how name) (λ h t. expected_if_free limits h how name t) (λ h t. tell_changed limits h how name t) g.S.StoreState c.args.store.now c.refusal_of.new.store c.change_free.new.store
     (c.in_ok-refusal.ensures.asks early) (λ t was. sym (c.in_ok-refusal.ensures.told early t was) ∙ c.in_default.is) h s true two
 
-pub returns-clause-turns : goal.returns-clause-turns
-returns-clause-turns g c clean =
+pub returns-clause-steps : goal.returns-clause-steps
+returns-clause-steps g c clean =
     let limits = c.args.limits in
     let name = c.args.name.now in
     let how = c.args.change in
     let two = c.in_ok-change_free.ensures.changes limits clean in
     let early = two.stays.was_faithful in
-    turns_after limits (change_said how name) (change_form how name c.requires) (λ t. refusal_for limits how name t ≡ None) (changed how name) (λ h t. due_if_free limits h how name t) (λ h t. tell_changed limits h how name t) g.S.StoreState c.args.store.now c.refusal_of.new.store c.change_free.new.store
+    steps_after_it limits (command_from_change how name) (change_form how name c.requires) (λ t. refusal_for limits how name t ≡ None) (changed how name) (λ h t. expected_if_free limits h how name t) (λ h t. tell_changed limits h how name t) g.S.StoreState c.args.store.now c.refusal_of.new.store c.change_free.new.store
     (c.in_ok-refusal.ensures.asks early) (λ t was. sym (c.in_ok-refusal.ensures.told early t was) ∙ c.in_default.is) true true two
 
 pub returns-in-Some-clause-made : goal.returns-in-Some-clause-made
-returns-in-Some-clause-made g c clean t stands =
+returns-in-Some-clause-made g c clean t represents =
     let how = c.args.change in
     let name = c.args.name.now in
-    stays_in g.S.StoreState t c.args.store.now c.refusal_of.new.store c.refusal_of.new.store (c.in_ok-refusal.ensures.asks clean) stands c.in-Some.refusal (refusal_for c.args.limits how name t) (changed how name)
-    (sym (c.in_ok-refusal.ensures.told clean t (g.S.StoreState.said t _ stands)) ∙ c.in-Some.is)
+    stays_in g.S.StoreState t c.args.store.now c.refusal_of.new.store c.refusal_of.new.store (c.in_ok-refusal.ensures.asks clean) represents c.in-Some.refusal (refusal_for c.args.limits how name t) (changed how name)
+    (sym (c.in_ok-refusal.ensures.told clean t (g.S.StoreState.command t _ represents)) ∙ c.in-Some.is)
 
 pub returns-clause-made : goal.returns-clause-made
-returns-clause-made g c clean t stands =
+returns-clause-made g c clean t represents =
     let limits = c.args.limits in
     let how = c.args.change in
     let name = c.args.name.now in
     let two = c.in_ok-change_free.ensures.changes limits clean in
     let early = two.stays.was_faithful in
-    let is = sym (c.in_ok-refusal.ensures.told early t (g.S.StoreState.said t _ stands)) ∙ c.in_default.is in
-    done_in g.S.StoreState t c.args.store.now c.refusal_of.new.store c.change_free.new.store (c.in_ok-refusal.ensures.asks early) stands (λ t. refusal_for limits how name t ≡ None) (refusal_for limits how name t) (changed how name) is is two
+    let is = sym (c.in_ok-refusal.ensures.told early t (g.S.StoreState.command t _ represents)) ∙ c.in_default.is in
+    done_in g.S.StoreState t c.args.store.now c.refusal_of.new.store c.change_free.new.store (c.in_ok-refusal.ensures.asks early) represents (λ t. refusal_for limits how name t ≡ None) (refusal_for limits how name t) (changed how name) is is two
 
 pub returns-in_err-refusal-clause-shut : goal.returns-in_err-refusal-clause-shut
 returns-in_err-refusal-clause-shut g c clean = shut_asked g.S.StoreState false _ _ (c.in_err-refusal.ensures.asks clean)

@@ -1,7 +1,7 @@
 use Rattle.std.proofs.Common.{◌≡◌, ℕ, List, fold, length, refl, ap, subst, ◌∙◌, rules}
 use Rattle.std.specs.List.{AllByRecursion}
 use Rattle.run_stores.proofs.Calls.{asked_reads}
-use Rattle.plain_tables.specs.RunLines.{cells_in}
+use Rattle.plain_tables.specs.RunRows.{cells_in}
 use Rattle.report_texts.specs.Csv.{with_cell_in}
 use Rattle.run_stores.specs.Walks.{IsOfAnEvent}
 use Rattle.run_stores.proofs.Walks.{cells_come}
@@ -10,22 +10,22 @@ use Rattle.store_exports.proofs.CsvLemmas.{cells_taken}
 use Rattle.store_exports.proofs.csv_writing.add_run.Goals as goal
 
 pub returns-clause-told : goal.returns-clause-told
-returns-clause-told g c clean t stands named =
+returns-clause-told g c clean t represents named =
     let number = c.args.number in
     let head = c.in_ok-head.head in
     let early = (c.in_ok-all.ensures.asks clean).stays.was_faithful in
-    let mid = asked_reads g.S.StoreState t _ _ (c.in_ok-head.ensures.asks early) stands in
+    let mid = asked_reads g.S.StoreState t _ _ (c.in_ok-head.ensures.asks early) represents in
     let cells = cells_held number t in
     let same : c.as_slice-events.result.now ≡ head.events = search rules in (
       record { events = head.events; cells = cells },
-      record { head = head; head_is = c.in_ok-head.ensures.told early t stands; events_are = refl; cells_are = refl },
+      record { head = head; head_is = c.in_ok-head.ensures.told early t represents; events_are = refl; cells_are = refl },
       ap (λ m. m.1) (cells_come _ _ _ _ number t _ (c.in_ok-all.ensures.told clean t mid) named ∙ cells_taken c.as_slice-events.result.now c.args.sums cells) ∙ ap (λ events. fold (with_cell_in events) c.args.sums cells) same,
     )
 
 pub returns-clause-of_events : goal.returns-clause-of_events
-returns-clause-of_events g c clean t stands =
+returns-clause-of_events g c clean t represents =
     let head = c.in_ok-head.head in
     let early = (c.in_ok-all.ensures.asks clean).stays.was_faithful in
-    let mid = asked_reads g.S.StoreState t _ _ (c.in_ok-head.ensures.asks early) stands in
+    let mid = asked_reads g.S.StoreState t _ _ (c.in_ok-head.ensures.asks early) represents in
     let same : c.as_slice-events.result.now ≡ head.events = search rules in
-    (head, c.in_ok-head.ensures.told early t stands, subst (λ (events : List (List ℕ)). AllByRecursion (IsOfAnEvent (length events)) (cells_in c.args.number t)) same (c.in_ok-all.ensures.told clean t mid).of_events)
+    (head, c.in_ok-head.ensures.told early t represents, subst (λ (events : List (List ℕ)). AllByRecursion (IsOfAnEvent (length events)) (cells_in c.args.number t)) same (c.in_ok-all.ensures.told clean t mid).of_events)

@@ -5,7 +5,7 @@ use Rattle.store_exports.proofs.FoldedLemmas.{stacks_added}
 use Rattle.store_exports.proofs.folded_writing.text_of_runs.Goals as goal
 
 pub returns-clause-told : goal.returns-clause-told
-returns-clause-told g c clean t stands =
+returns-clause-told g c clean t represents =
     let numbers = c.args.numbers.now in
-    let all = stacks_added (λ (r : _). r.sums) t numbers _ _ (c.in_ok-all.ensures.told clean t stands) in
+    let all = stacks_added (λ (r : _). r.sums) t numbers _ _ (c.in_ok-all.ensures.told clean t represents) in
     c.in_ok-folded_text.ensures ∙ ap folded_text (all ∙ ap (λ sums. fold with_stack sums (stacks_over t numbers)) c.new.ensures)

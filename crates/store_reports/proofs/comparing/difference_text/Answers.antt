@@ -7,15 +7,15 @@ use Rattle.store_reports.proofs.MergeLemmas.{merged_costs, merged_key}
 use Rattle.store_reports.proofs.comparing.difference_text.Goals as goal
 
 pub returns-clause-told : goal.returns-clause-told
-returns-clause-told g c clean t stands =
+returns-clause-told g c clean t represents =
     let event = c.args.event.now in
     let key = c.args.key in
     let firsts = c.args.firsts.now in
     let seconds = c.args.seconds.now in
     let later = (c.text_less_runs.ensures.asks clean).stays.was_faithful in
     let early = (c.in_ok-first.ensures.asks later).stays.was_faithful in
-    let named = c.in_ok-names.ensures.told early t stands in
-    let one = asked_reads g.S.StoreState t _ _ (c.in_ok-names.ensures.asks early) stands in
+    let named = c.in_ok-names.ensures.told early t represents in
+    let one = asked_reads g.S.StoreState t _ _ (c.in_ok-names.ensures.asks early) represents in
     let two = asked_reads_yet g.S.StoreState t _ _ (c.in_ok-first.ensures.asks later) one in
     let first = c.in_ok-first.first in
     let merged = c.in_ok-first.ensures.told later t one named in

@@ -3,23 +3,23 @@ use Rattle.run_stores.proofs.Calls.{asked_of_open, asked_reads}
 use Rattle.store_reports.specs.Compared.{AnswersDifference}
 use Rattle.store_histories.proofs.Questions.{asked_once, if_ok_so}
 use Rattle.selected_runs.proofs.AskLemmas.{asked_twice}
-use Rattle.store_reports.proofs.CompareLemmas.{subtracted_is_due}
+use Rattle.store_reports.proofs.CompareLemmas.{subtracted_is_expected}
 use Rattle.store_reports.proofs.comparing.subtract_answer.Goals as goal
 
 pub returns-in-Err : goal.returns-in-Err
 returns-in-Err g c clean =
-    asked_once g.S.StoreState _ _ (subtracted_is_due c.args.first.now c.args.second.now c.args.key c.args.event.now) _ _ _ refl (c.in_ok-numbers.ensures.asks clean) (λ t stands. record {
+    asked_once g.S.StoreState _ _ (subtracted_is_expected c.args.first.now c.args.second.now c.args.key c.args.event.now) _ _ _ refl (c.in_ok-numbers.ensures.asks clean) (λ t represents. record {
       found = Err c.in-Err.refusal;
-      is_found = rw c.in-Err.is at (c.in_ok-numbers.ensures.told clean t stands);
+      is_found = rw c.in-Err.is at (c.in_ok-numbers.ensures.told clean t represents);
       answer_is = refl;
     })
 
 pub returns-in-Err-2 : goal.returns-in-Err-2
 returns-in-Err-2 g c clean =
-    asked_twice g.S.StoreState _ _ (subtracted_is_due c.args.first.now c.args.second.now c.args.key c.args.event.now) _ _ _ _ refl c.in_ok-numbers.ensures.asks (c.in_ok-numbers-2.ensures.asks clean) (λ t stands early mid.
+    asked_twice g.S.StoreState _ _ (subtracted_is_expected c.args.first.now c.args.second.now c.args.key c.args.event.now) _ _ _ _ refl c.in_ok-numbers.ensures.asks (c.in_ok-numbers-2.ensures.asks clean) (λ t represents early mid.
     record {
       found = Ok c.in-Ok.numbers;
-      is_found = rw c.in-Ok.is at (c.in_ok-numbers.ensures.told early t stands);
+      is_found = rw c.in-Ok.is at (c.in_ok-numbers.ensures.told early t represents);
       answer_is = record {
         found = Err c.in-Err-2.refusal;
         is_found = rw c.in-Err-2.is at (c.in_ok-numbers-2.ensures.told clean t mid);
@@ -34,13 +34,13 @@ returns g c clean =
     let numbers : c.as_slice.result.now ≡ c.in-Ok.numbers = search rules in
     let others : c.as_slice-2.result.now ≡ c.in-Ok-2.numbers = search rules in
     let event : c.as_slice-3.result.now ≡ c.args.event.now = search rules in
-    asked_twice g.S.StoreState _ _ (subtracted_is_due c.args.first.now c.args.second.now c.args.key c.args.event.now) c.answer_difference.result _ _ _ c.answer_difference.ensures.still
-    (λ later. let compared = seconds.asks later in asked_of_open g.S.StoreState true _ _ _ (firsts.asks compared.stays.was_faithful) compared) (c.answer_difference.ensures.asks clean) (λ t stands later two.
+    asked_twice g.S.StoreState _ _ (subtracted_is_expected c.args.first.now c.args.second.now c.args.key c.args.event.now) c.answer_difference.result _ _ _ c.answer_difference.ensures.still
+    (λ later. let compared = seconds.asks later in asked_of_open g.S.StoreState true _ _ _ (firsts.asks compared.stays.was_faithful) compared) (c.answer_difference.ensures.asks clean) (λ t represents later two.
     let early = (seconds.asks later).stays.was_faithful in
-    let one = asked_reads g.S.StoreState t _ _ (firsts.asks early) stands in
+    let one = asked_reads g.S.StoreState t _ _ (firsts.asks early) represents in
     if_ok_so c.answer_difference.result (λ answer told. record {
       found = Ok c.in-Ok.numbers;
-      is_found = rw c.in-Ok.is at (firsts.told early t stands);
+      is_found = rw c.in-Ok.is at (firsts.told early t represents);
       answer_is = record {
         found = Ok c.in-Ok-2.numbers;
         is_found = rw c.in-Ok-2.is at (seconds.told later t one);

@@ -5,7 +5,7 @@ use Rattle.store_reports.specs.Reported.{merged_from}
 use Rattle.store_reports.proofs.merging.merge_runs.Goals as goal
 
 pub returns-clause-told : goal.returns-clause-told
-returns-clause-told g c clean t stands =
+returns-clause-told g c clean t represents =
     let runs = c.args.runs.now in
     let none : c.new.result ≡ record { key = c.args.key; sums = [] } = λ k. record { key = c.new.ensures.key k; sums = c.new.ensures.sums k } in
-    if_ok_so c.add_runs.result (λ sums added named. added_fold (merged_from t) named runs _ sums added ∙ ap (λ start. fold (merged_from t) start runs) none) (c.add_runs.ensures.told clean t stands)
+    if_ok_so c.fold_runs.result (λ sums added named. added_fold (merged_from t) named runs _ sums added ∙ ap (λ start. fold (merged_from t) start runs) none) (c.fold_runs.ensures.told clean t represents)

@@ -3,7 +3,7 @@ use Rattle.byte_io.specs.Outcomes.{bytes_of}
 use Rattle.histories.specs.History.{Annotate}
 use Rattle.histories.specs.Legal.{expected_of_query, most_of_source}
 use Rattle.histories.specs.declared.answers.Query.TheVariants as queries
-use Rattle.histories.proofs.ReadsDue.{ended_due}
+use Rattle.histories.proofs.ReadsExpected.{ended_expected}
 use Rattle.store_histories.specs.Answered.{Answers, WasAsked}
 use Rattle.store_histories.specs.FromTables.{OrFailed}
 use Rattle.store_histories.proofs.Questions.{answered_as, or_failed}
@@ -18,7 +18,7 @@ returns-in-Ok g c = record {
       let bytes = bytes_of read.outcomes in
       let ended = read.read.0 in
       let s = c.args.selection in
-      let said = Annotate s c.args.event c.args.file read.outcomes in
+      let command = Annotate s c.args.event c.args.file read.outcomes in
       let query = queries.Annotate s c.args.event c.args.file bytes in
       let text : c.from_vec-text.result ≡ bytes = c.from_vec-text.ensures ∙ read.read.1 in
       record {
@@ -27,8 +27,8 @@ returns-in-Ok g c = record {
         answers = λ clean.
             let asked = subst (λ x. WasAsked g.S.StoreState (λ t. IsAnnotated t s c.args.event c.args.file x) (queries.Annotate s c.args.event c.args.file x) c.annotate_answer.result c.args.store.now c.annotate_answer.new.store)
             text (c.annotate_answer.ensures clean) in
-            subst (λ a. Answers g.S.StoreState limits said a c.args.store.now c.annotate_answer.new.store) (sym c.answer_of.ensures)
-            (answered_as g.S.StoreState limits (λ t. IsAnnotated t s c.args.event c.args.file bytes) query said tt (λ h. ended_due most_of_source read.outcomes (expected_of_query h query) ended.reads.within ended.reads.unfailed ended.ended)
+            subst (λ a. Answers g.S.StoreState limits command a c.args.store.now c.annotate_answer.new.store) (sym c.answer_of.ensures)
+            (answered_as g.S.StoreState limits (λ t. IsAnnotated t s c.args.event c.args.file bytes) query command tt (λ h. ended_expected most_of_source read.outcomes (expected_of_query h query) ended.reads.within ended.reads.unfailed ended.ended)
             c.args.store.now c.annotate_answer.new.store c.annotate_answer.result asked);
       };
   found =
@@ -50,12 +50,12 @@ returns g c = record {
   answered = λ limits.
       let read = c.in-Err.ensures in
       let s = c.args.selection in
-      let said = Annotate s c.args.event c.args.file read.outcomes in
+      let command = Annotate s c.args.event c.args.file read.outcomes in
       record {
         outcomes = read.outcomes;
         came = read.came;
-        answers = λ clean. subst (λ a. Answers g.S.StoreState limits said a c.args.store.now c.args.store.now) (sym c.unread_answer.ensures)
-            (unread_answered limits said tt most_of_source read.outcomes (λ h. expected_of_query h (queries.Annotate s c.args.event c.args.file (bytes_of read.outcomes))) (λ h. refl) g.S.StoreState c.args.store.now clean c.in-Err.unread read.read);
+        answers = λ clean. subst (λ a. Answers g.S.StoreState limits command a c.args.store.now c.args.store.now) (sym c.unread_answer.ensures)
+            (unread_answered limits command tt most_of_source read.outcomes (λ h. expected_of_query h (queries.Annotate s c.args.event c.args.file (bytes_of read.outcomes))) (λ h. refl) g.S.StoreState c.args.store.now clean c.in-Err.unread read.read);
       };
   found =
       let read = c.in-Err.ensures in

@@ -11,5 +11,5 @@ returns g c = record {
   answered = λ limits clean.
       subst (λ a. Answers g.S.StoreState limits (Ask c.args.query) a c.args.store.now c.answer.new.store) (sym c.answer_of.ensures)
       (question_answered g.S.StoreState limits (AnswersIn c.args.query) c.args.query c.args.store.now c.answer.new.store c.answer.result (c.answer.ensures clean));
-  found = λ clean t stands. subst (OrFailed (AnswersIn c.args.query t)) (sym c.answer_of.ensures) (or_failed (AnswersIn c.args.query t) c.answer.result ((c.answer.ensures clean).told t stands));
+  found = λ clean t represents. subst (OrFailed (AnswersIn c.args.query t)) (sym c.answer_of.ensures) (or_failed (AnswersIn c.args.query t) c.answer.result ((c.answer.ensures clean).told t represents));
 }

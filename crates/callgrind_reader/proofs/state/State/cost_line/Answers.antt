@@ -1,6 +1,6 @@
 use Rattle.std.proofs.Common.{◌≡◌, refl, sym, subst, ◌∙◌, ap, rules, arith}
 use Rattle.callgrind_reader.specs.Positions.{or_line, layout_of, offsets_at}
-use Rattle.callgrind_reader.specs.Stands.{HeaderIs}
+use Rattle.callgrind_reader.specs.Representation.{HeaderIs}
 use Rattle.callgrind_reader.proofs.MarksLemmas.{known-stays}
 use Rattle.callgrind_reader.proofs.state.State.cost_line.Goals as goal
 

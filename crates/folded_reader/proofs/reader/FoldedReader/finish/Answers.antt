@@ -13,16 +13,16 @@ returns-in_err-finish-clause-told g c = λ text told reads.
 
 pub returns-in-Some-clause-ended : goal.returns-in-Some-clause-ended
 returns-in-Some-clause-ended g c = λ text told reads.
-    let stands = stands_at_end _ (stacks_from 1) exact-stacks c.args.self.pieces c.args.self.state c.args.sink.now _ _ text told c.in_ok-finish.ensures.ends reads in
-    exact-fault (readings_of text) ∙ sym stands.fault ∙ c.in-Some.is
+    let represents = stands_at_end _ (stacks_from 1) exact-stacks c.args.self.pieces c.args.self.state c.args.sink.now _ _ text told c.in_ok-finish.ensures.ends reads in
+    exact-fault (readings_of text) ∙ sym represents.fault ∙ c.in-Some.is
 
 pub returns-in-Some-clause-told : goal.returns-in-Some-clause-told
 returns-in-Some-clause-told g c = λ text told reads. hands_all _ (stacks_from 1) exact-stacks c.args.self.pieces c.args.self.state c.args.sink.now _ _ text told c.in_ok-finish.ensures.ends reads
 
 pub returns-in-None-clause-ended : goal.returns-in-None-clause-ended
 returns-in-None-clause-ended g c = λ text told reads.
-    let stands = stands_at_end _ (stacks_from 1) exact-stacks c.args.self.pieces c.args.self.state c.args.sink.now _ _ text told c.in_ok-finish.ensures.ends reads in
-    (exact-fault (readings_of text) ∙ sym stands.fault ∙ c.in-None.is, c.args.self.samples)
+    let represents = stands_at_end _ (stacks_from 1) exact-stacks c.args.self.pieces c.args.self.state c.args.sink.now _ _ text told c.in_ok-finish.ensures.ends reads in
+    (exact-fault (readings_of text) ∙ sym represents.fault ∙ c.in-None.is, c.args.self.samples)
 
 pub returns-in-None-clause-told : goal.returns-in-None-clause-told
 returns-in-None-clause-told g c = λ text told reads. hands_all _ (stacks_from 1) exact-stacks c.args.self.pieces c.args.self.state c.args.sink.now _ _ text told c.in_ok-finish.ensures.ends reads

@@ -4,7 +4,7 @@ use Rattle.sqlite.specs.Effect.{Database}
 use Rattle.sql_tables.proofs.Calls.{asked_rests, asked_then, asked_err}
 use Rattle.store_schema.specs.Schema.{schema_two}
 use Rattle.prof_store.specs.Readings.{RowsSay}
-use Rattle.prof_store.specs.Groups.{AreGroupsIn, AreMembersIn, member_line}
+use Rattle.prof_store.specs.Groups.{AreGroupsIn, AreMembersIn, member_row}
 use Rattle.run_stores.specs.Entries.{entry_group}
 use Rattle.prof_store.proofs.GroupMembers.{members_told}
 use Rattle.prof_store.proofs.Reading.{both_ok}
@@ -18,7 +18,7 @@ returns-clause-told g c clean t was =
     let first = c.in_ok-members.ensures.told early t was in
     let each = both_ok _ _ c.groups_of.result c.groups_of.ensures.rising c.groups_of.ensures.members in
     if_ok_then c.groups_of.result (both_ok _ _ c.groups_of.result (c.groups_of.ensures.told clean t mid) each) (λ entries is.
-    let of = subst (IsPermutation t.members) (sym (is.1.1 ∙ ap (map member_line) c.deref.ensures.value)) first in
+    let of = subst (IsPermutation t.members) (sym (is.1.1 ∙ ap (map member_row) c.deref.ensures.value)) first in
     record { groups = is.0; members = of; each = members_told t.members entries.items is.1.0 of })
 
 pub returns-clause-groups : goal.returns-clause-groups
@@ -31,7 +31,7 @@ pub returns-clause-members : goal.returns-clause-members
 returns-clause-members g c clean has =
     let first = c.in_ok-members.ensures.found (c.groups_of.ensures.asks clean).stays.was_clean has in
     if_ok_then c.groups_of.result c.groups_of.ensures.members (λ entries is.
-    subst (λ lines. AreMembersIn (shown g.S.Store c.args.self.now).now.trees lines) (sym (is ∙ ap (map member_line) c.deref.ensures.value)) first)
+    subst (λ lines. AreMembersIn (shown g.S.Store c.args.self.now).now.trees lines) (sym (is ∙ ap (map member_row) c.deref.ensures.value)) first)
 
 pub returns-clause-asks : goal.returns-clause-asks
 returns-clause-asks g c clean = let second = c.groups_of.ensures.asks clean in asked_then schema_two _ _ _ _ (c.in_ok-members.ensures.asks second.stays.was_clean) second

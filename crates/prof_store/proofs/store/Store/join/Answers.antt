@@ -13,12 +13,12 @@ returns g c = record {
   changes = λ clean.
       let name = c.args.name.now in
       let run = c.args.run in
-      let two = c.put_member.ensures.changes clean in
+      let two = c.insert_member.ensures.changes clean in
       let early = two.stays.was_clean in
-      changed_as schema_two Holds (λ t. Holds (with_member name run t)) Holds (λ t. Holds (joined name run t)) (is_ok c.put_member.result) (is_ok c.put_member.result) _ _
+      changed_as schema_two Holds (λ t. Holds (with_member name run t)) Holds (λ t. Holds (joined name run t)) (is_ok c.insert_member.result) (is_ok c.insert_member.result) _ _
       (λ t was. (t, was, λ next h. subst (λ b. Holds (if b then t else with_member name run t) next) (let e : has_member t name run ≡ false = sym (c.in_ok-is_member.ensures.told early t (rests_said t _ was)) ∙ c.if-branch.false in sym e) h))
-      (changed_then schema_two Holds (λ t. Holds (with_member name run t)) (is_ok c.put_member.result) (is_ok c.put_member.result) _ _ _ (c.in_ok-is_member.ensures.asks early) two);
-  shut = λ clean. shut_answered schema_two _ _ (shown g.S.Store c.put_member.new.self) (c.in_ok-is_member.ensures.asks (c.put_member.ensures.changes clean).stays.was_clean);
+      (changed_then schema_two Holds (λ t. Holds (with_member name run t)) (is_ok c.insert_member.result) (is_ok c.insert_member.result) _ _ _ (c.in_ok-is_member.ensures.asks early) two);
+  shut = λ clean. shut_answered schema_two _ _ (shown g.S.Store c.insert_member.new.self) (c.in_ok-is_member.ensures.asks (c.insert_member.ensures.changes clean).stays.was_clean);
 }
 
 pub returns-then-branch : goal.returns-then-branch

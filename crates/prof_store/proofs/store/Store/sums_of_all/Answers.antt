@@ -29,7 +29,7 @@ events-preserved g c =
     let db = old.now.trees in
     let low = c.events-test.true in
     let is = c.event-item.is in
-    let pushed_own : c.push.new.self ≡ own ++ a ∷ [] = is_ok_then c.push.result c.if-is_err.ensures.negation c.push.ensures.ok in
+    let pushed_self : c.push.new.self ≡ own ++ a ∷ [] = is_ok_then c.push.result c.if-is_err.ensures.negation c.push.ensures.ok in
     let pushed_calls : c.push-else-is_err.new.self ≡ calls ++ b ∷ [] = is_ok_then c.push-else-is_err.result c.if-is_err-2.ensures.negation c.push-else-is_err.ensures.ok in
     let named : c.as_slice.result.now ≡ name = c.as_slice.ensures in record {
       asked = λ clean. let one = s.asks clean in asked_more schema_two old mid _ (i.asked one.stays.was_clean) one;
@@ -38,7 +38,7 @@ events-preserved g c =
           let early = one.stays.was_clean in
           let told = s.told clean t (asked_rests_yet schema_two (RowsSay t) old mid (i.asked early) was) in
           let far = i.told early t was in (
-            pushed_own ∙ ap (λ n. own ++ n ∷ []) (told.0 ∙ ap (held_self t) named) ∙ sym (read_on (held_self t) events k name own low is (sym far.0)),
+            pushed_self ∙ ap (λ n. own ++ n ∷ []) (told.0 ∙ ap (held_self t) named) ∙ sym (read_on (held_self t) events k name own low is (sym far.0)),
             pushed_calls ∙ ap (λ n. calls ++ n ∷ []) (told.1 ∙ ap (held_calls t) named) ∙ sym (read_on (held_calls t) events k name calls low is (sym far.1)),
           );
       found = λ clean has.
@@ -49,11 +49,11 @@ events-preserved g c =
           let found = s.found clean (ap (λ (d : Database). d.schema) same ∙ has) in
           let x = subst (λ n. IsSum 4 (rows_named n db) a) named (subst (λ (d : Database). IsSum 4 (rows_named c.as_slice.result.now d.trees) a) same found.0) in
           let y = subst (λ n. IsSum 5 (rows_named n db) b) named (subst (λ (d : Database). IsSum 5 (rows_named c.as_slice.result.now d.trees) b) same found.1) in
-          subst (λ l. AreSums db (take (k + 1) events) (l, c.push-else-is_err.new.self)) (sym pushed_own)
+          subst (λ l. AreSums db (take (k + 1) events) (l, c.push-else-is_err.new.self)) (sym pushed_self)
           (subst (λ l. AreSums db (take (k + 1) events) (own ++ a ∷ [], l)) (sym pushed_calls) (sums_more db events k name own calls a b low is (i.found early has) x y));
-      own_bounded = subst (All (λ n. n < 2 ^ 112)) (sym pushed_own) (All-push (λ n. n < 2 ^ 112) own a i.own_bounded s.bounded.0);
+      self_bounded = subst (All (λ n. n < 2 ^ 112)) (sym pushed_self) (All-push (λ n. n < 2 ^ 112) own a i.self_bounded s.bounded.0);
       calls_bounded = subst (All (λ n. n < 2 ^ 112)) (sym pushed_calls) (All-push (λ n. n < 2 ^ 112) calls b i.calls_bounded s.bounded.1);
-      own_length = (let e = ap length pushed_own ∙ length-append own (a ∷ []) in omega (arith, e, i.own_length));
+      self_length = (let e = ap length pushed_self ∙ length-append own (a ∷ []) in omega (arith, e, i.self_length));
       calls_length = (let e = ap length pushed_calls ∙ length-append calls (b ∷ []) in omega (arith, e, i.calls_length));
     }
 

@@ -13,8 +13,8 @@ invariant-events g l = record {
   asked : IsFaithful g.S.Store l.self → Asked schema_two (shown g.S.Store l.fn.self).is_open (shown g.S.Store l.fn.self) (shown g.S.Store l.self);
   told : IsFaithful g.S.Store l.self → (t : Tables) → ReadsAs g.S.Store t l.fn.self → (l.own ≡ map (held_self t) (take l.event-index l.events)) × (l.calls ≡ map (held_calls t) (take l.event-index l.events));
   found : IsFaithful g.S.Store l.self → (shown g.S.Store l.fn.self).now.schema ≡ schema_two → AreSums (shown g.S.Store l.fn.self).now.trees (take l.event-index l.events) (l.own, l.calls);
-  own_bounded : All (λ n. n < 2 ^ 112) l.own;
+  self_bounded : All (λ n. n < 2 ^ 112) l.own;
   calls_bounded : All (λ n. n < 2 ^ 112) l.calls;
-  own_length : length l.own ≡ l.event-index;
+  self_length : length l.own ≡ l.event-index;
   calls_length : length l.calls ≡ l.event-index;
 }

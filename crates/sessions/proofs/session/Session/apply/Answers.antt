@@ -11,8 +11,8 @@ returns-clause-answered g c clean =
     let same = c.tell.ensures.warehouse in
     let early = subst (λ w. IsFaithful g.S.StoreState w.store) same clean in
     let it = c.apply-answer.ensures.answered in (
-      it.said,
+      it.command,
       it.says,
-      told g.S.StoreState g.W.Write.contents it.said c.apply-answer.result c.tell.result old new
-          (subst (λ w. Answers g.S.StoreState old.warehouse.limits it.said c.apply-answer.result old.warehouse.store w.store) (sym same) (it.answers early)) c.tell.ensures.status c.tell.ensures.printed,
+      told g.S.StoreState g.W.Write.contents it.command c.apply-answer.result c.tell.result old new
+          (subst (λ w. Answers g.S.StoreState old.warehouse.limits it.command c.apply-answer.result old.warehouse.store w.store) (sym same) (it.answers early)) c.tell.ensures.status c.tell.ensures.printed,
     )

@@ -15,10 +15,10 @@ returns-clause-answered g c clean =
     let early = subst (λ w. IsFaithful g.S.StoreState w.store) same clean in
     let it = c.import-answer.ensures.answered in
     let outcomes = it.outcomes in
-    let said = Import (today c.args.kind) c.as_bytes-label.result.now outcomes in (
+    let command = Import (today c.args.kind) c.as_bytes-label.result.now outcomes in (
       outcomes,
       were_read g.R.File.Read.remaining _ _ outcomes c.new-source.ensures it.came,
       subst (λ l. WasTold g.S.StoreState g.W.Write.contents (Import (today c.args.kind) l outcomes) c.tell.result old new) c.as_bytes-label.ensures.value
-          (told g.S.StoreState g.W.Write.contents said c.import-answer.result c.tell.result old new
-          (subst (λ w. Answers g.S.StoreState old.warehouse.limits said c.import-answer.result old.warehouse.store w.store) (sym same) (it.answers early)) c.tell.ensures.status c.tell.ensures.printed),
+          (told g.S.StoreState g.W.Write.contents command c.import-answer.result c.tell.result old new
+          (subst (λ w. Answers g.S.StoreState old.warehouse.limits command c.import-answer.result old.warehouse.store w.store) (sym same) (it.answers early)) c.tell.ensures.status c.tell.ensures.printed),
     )

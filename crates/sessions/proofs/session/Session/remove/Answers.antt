@@ -24,9 +24,9 @@ loop-number-preserved g c =
           let t = c.in_ok-apply.ensures.answered clean in
           let it = i.so_far (took_clean g.S.StoreState _ c.loop-number.self c.apply.new.self t.2.took clean) in
           let rest = map Remove (drop (at + 1) numbers) in
-          let said : t.0 ≡ Remove (get_or numbers at 0) = t.1 in (
+          let command : t.0 ≡ Remove (get_or numbers at 0) = t.1 in (
             it.0 ++ t.0 ∷ [],
-            append_assoc it.0 (t.0 ∷ []) rest ∙ ap (λ s. it.0 ++ s ∷ rest) said ∙ ap (λ l. it.0 ++ map Remove l) (sym (drop_more numbers at 0 low)) ∙ it.1,
+            append_assoc it.0 (t.0 ∷ []) rest ∙ ap (λ s. it.0 ++ s ∷ rest) command ∙ ap (λ l. it.0 ++ map Remove l) (sym (drop_more numbers at 0 low)) ∙ it.1,
             so_far_on g.S.StoreState g.W.Write.contents it.0 t.0 c.in_ok-apply.field-0 c.args.self.now c.loop-number.self c.apply.new.self i.limits it.2 t.2,
           );
     }
@@ -41,8 +41,8 @@ returns-in_err-apply-clause-done g c clean =
     let t = c.apply.ensures.answered clean in
     let it = i.so_far (took_clean g.S.StoreState _ c.loop-number.self c.apply.new.self t.2.took clean) in
     let rest = map Remove (drop (at + 1) numbers) in
-    let said : t.0 ≡ Remove (get_or numbers at 0) = t.1 in
-    let fits : it.0 ++ t.0 ∷ rest ≡ map Remove numbers = ap (λ s. it.0 ++ s ∷ rest) said ∙ ap (λ l. it.0 ++ map Remove l) (sym (drop_more numbers at 0 low)) ∙ it.1 in
+    let command : t.0 ≡ Remove (get_or numbers at 0) = t.1 in
+    let fits : it.0 ++ t.0 ∷ rest ≡ map Remove numbers = ap (λ s. it.0 ++ s ∷ rest) command ∙ ap (λ l. it.0 ++ map Remove l) (sym (drop_more numbers at 0 low)) ∙ it.1 in
     subst (λ r. WasRun g.S.StoreState g.W.Write.contents (λ list. list ≡ map Remove numbers) r c.args.self.now c.apply.new.self) (sym p.1)
     (so_far_cut g.S.StoreState g.W.Write.contents it.0 rest t.0 (λ list. list ≡ map Remove numbers) c.apply.result c.args.self.now c.loop-number.self c.apply.new.self i.limits it.2 t.2 fits)
 

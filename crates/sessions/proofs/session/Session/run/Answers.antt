@@ -1,8 +1,8 @@
 use Rattle.std.proofs.Common.{◌≡◌, [], ◌∷◌, map, refl, sym, subst, rules}
 use Rattle.histories.specs.History.{Annotate, Ask, Remove}
 use Rattle.byte_io.specs.Imported.{WereRead}
-use Rattle.sessions.specs.Questions.{query_said, selection_said}
-use Rattle.store_commands.specs.Changes.{change_said}
+use Rattle.sessions.specs.Questions.{query_from, selection_from}
+use Rattle.store_commands.specs.Changes.{command_from_change}
 use Rattle.sessions.specs.Sessions.{AreImports, Wants, WasRun}
 use Rattle.sessions.proofs.SessionLemmas.{run_one}
 use Rattle.sessions.proofs.session.Session.run.Goals as goal
@@ -21,17 +21,17 @@ returns-in-Remove-clause-done g c clean =
 
 pub returns-in-Group-clause-done : goal.returns-in-Group-clause-done
 returns-in-Group-clause-done g c clean =
-    let said = change_said c.in-Group.change c.in-Group.name.now in
-    run_one g.S.StoreState g.W.Write.contents said (Wants g.R.File.Read.remaining c.args.work) c.change_group.result c.args.self.now c.change_group.new.self (subst (λ work. Wants g.R.File.Read.remaining work (said ∷ [])) (sym c.in-Group.is) refl) (c.change_group.ensures.answered clean)
+    let command = command_from_change c.in-Group.change c.in-Group.name.now in
+    run_one g.S.StoreState g.W.Write.contents command (Wants g.R.File.Read.remaining c.args.work) c.change_group.result c.args.self.now c.change_group.new.self (subst (λ work. Wants g.R.File.Read.remaining work (command ∷ [])) (sym c.in-Group.is) refl) (c.change_group.ensures.answered clean)
 
 pub returns-in-Ask-clause-done : goal.returns-in-Ask-clause-done
 returns-in-Ask-clause-done g c clean =
-    let said = Ask (query_said c.in-Ask.question) in
-    run_one g.S.StoreState g.W.Write.contents said (Wants g.R.File.Read.remaining c.args.work) c.ask.result c.args.self.now c.ask.new.self (subst (λ work. Wants g.R.File.Read.remaining work (said ∷ [])) (sym c.in-Ask.is) refl) (c.ask.ensures.answered clean)
+    let command = Ask (query_from c.in-Ask.question) in
+    run_one g.S.StoreState g.W.Write.contents command (Wants g.R.File.Read.remaining c.args.work) c.ask.result c.args.self.now c.ask.new.self (subst (λ work. Wants g.R.File.Read.remaining work (command ∷ [])) (sym c.in-Ask.is) refl) (c.ask.ensures.answered clean)
 
 pub returns-in-Annotate-clause-done : goal.returns-in-Annotate-clause-done
 returns-in-Annotate-clause-done g c clean =
     let it = c.annotate.ensures.answered clean in
-    let said = Annotate (selection_said c.in-Annotate.selected) c.in-Annotate.event.now c.in-Annotate.file.now it.0 in
-    run_one g.S.StoreState g.W.Write.contents said (Wants g.R.File.Read.remaining c.args.work) c.annotate.result c.args.self.now c.annotate.new.self
-    (subst (λ work. Wants g.R.File.Read.remaining work (said ∷ [])) (sym c.in-Annotate.is) (it.0, it.1, refl)) it.2
+    let command = Annotate (selection_from c.in-Annotate.selected) c.in-Annotate.event.now c.in-Annotate.file.now it.0 in
+    run_one g.S.StoreState g.W.Write.contents command (Wants g.R.File.Read.remaining c.args.work) c.annotate.result c.args.self.now c.annotate.new.self
+    (subst (λ work. Wants g.R.File.Read.remaining work (command ∷ [])) (sym c.in-Annotate.is) (it.0, it.1, refl)) it.2

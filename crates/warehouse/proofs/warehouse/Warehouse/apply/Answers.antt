@@ -3,7 +3,7 @@ use Rattle.histories.specs.Formats.{today}
 use Rattle.histories.specs.History.{Annotate, Import, Remove, Ask}
 use Rattle.plain_tables.specs.Labels.{IsGroupName}
 use Rattle.store_histories.specs.FromTables.{WasChangedIn}
-use Rattle.store_commands.specs.Changes.{GroupsIn, change_said}
+use Rattle.store_commands.specs.Changes.{GroupsIn, command_from_change}
 use Rattle.warehouse.specs.Answered.{Says}
 use Rattle.warehouse.specs.FromTables.{IsFoundIn, WasImported}
 use Rattle.warehouse.proofs.warehouse.Warehouse.apply.Goals as goal
@@ -11,30 +11,30 @@ use Rattle.warehouse.proofs.warehouse.Warehouse.apply.Goals as goal
 pub returns-in-Import-clause-answered : goal.returns-in-Import-clause-answered
 returns-in-Import-clause-answered g c =
     let it = c.import_in.ensures.answered in
-    let said = Import (today c.in-Import.kind) c.as_slice.result.now it.outcomes in record {
-      said = said;
-      says = subst (λ k. Says g.R.Source.reads k said) (sym c.in-Import.is) (it.outcomes, c.import_in.new.source, it.came, ap (λ l. Import (today c.in-Import.kind) l it.outcomes) c.as_slice.ensures.value);
+    let command = Import (today c.in-Import.kind) c.as_slice.result.now it.outcomes in record {
+      command = command;
+      says = subst (λ k. Says g.R.Source.reads k command) (sym c.in-Import.is) (it.outcomes, c.import_in.new.source, it.came, ap (λ l. Import (today c.in-Import.kind) l it.outcomes) c.as_slice.ensures.value);
       answers = it.answers;
     }
 
 pub returns-in-Remove-clause-answered : goal.returns-in-Remove-clause-answered
 returns-in-Remove-clause-answered g c = record {
-  said = Remove c.in-Remove.number;
+  command = Remove c.in-Remove.number;
   says = subst (λ k. Says g.R.Source.reads k (Remove c.in-Remove.number)) (sym c.in-Remove.is) refl;
   answers = c.remove_in.ensures.answered c.args.self.now.limits;
 }
 
 pub returns-in-Group-clause-answered : goal.returns-in-Group-clause-answered
 returns-in-Group-clause-answered g c =
-    let said = change_said c.in-Group.change c.as_slice-in-Group.result.now in record {
-      said = said;
-      says = subst (λ k. Says g.R.Source.reads k said) (sym c.in-Group.is) (ap (change_said c.in-Group.change) c.as_slice-in-Group.ensures.value);
+    let command = command_from_change c.in-Group.change c.as_slice-in-Group.result.now in record {
+      command = command;
+      says = subst (λ k. Says g.R.Source.reads k command) (sym c.in-Group.is) (ap (command_from_change c.in-Group.change) c.as_slice-in-Group.ensures.value);
       answers = c.change_in.ensures.answered;
     }
 
 pub returns-in-Ask-clause-answered : goal.returns-in-Ask-clause-answered
 returns-in-Ask-clause-answered g c = record {
-  said = Ask c.in-Ask.query;
+  command = Ask c.in-Ask.query;
   says = subst (λ k. Says g.R.Source.reads k (Ask c.in-Ask.query)) (sym c.in-Ask.is) refl;
   answers = c.ask_in.ensures.answered c.args.self.now.limits;
 }
@@ -42,9 +42,9 @@ returns-in-Ask-clause-answered g c = record {
 pub returns-in-Annotate-clause-answered : goal.returns-in-Annotate-clause-answered
 returns-in-Annotate-clause-answered g c =
     let it = c.annotate_in.ensures.answered c.args.self.now.limits in
-    let said = Annotate c.in-Annotate.selection c.in-Annotate.event c.in-Annotate.file it.outcomes in record {
-      said = said;
-      says = subst (λ k. Says g.R.Source.reads k said) (sym c.in-Annotate.is) (it.outcomes, c.annotate_in.new.source, it.came, refl);
+    let command = Annotate c.in-Annotate.selection c.in-Annotate.event c.in-Annotate.file it.outcomes in record {
+      command = command;
+      says = subst (λ k. Says g.R.Source.reads k command) (sym c.in-Annotate.is) (it.outcomes, c.annotate_in.new.source, it.came, refl);
       answers = it.answers;
     }
 

@@ -27,7 +27,7 @@ commands-preserved g c =
         i.4.1 ∙ ap (λ l. front ++ l) c.in-Some.ensures.items ∙ sym (append_assoc front (one ∷ []) rest),
         λ clean.
             let it = c.apply-answer.ensures.answered in
-            let w = i.4.2 (it.answers clean).turned.stays.was_faithful in
+            let w = i.4.2 (it.answers clean).stepped.stays.was_faithful in
             let limits = c.args.self.now.limits in
             let answered = subst (λ x. WasAnswered g.S.StoreState g.R.Source.reads x one c.apply-answer.result c.commands.self.store c.apply-answer.new.self.store) i.0 it in
             subst (λ l. WasRun g.S.StoreState g.R.Source.reads limits (front ++ one ∷ []) l c.args.self.now.store c.apply-answer.new.self.store) (sym c.push_reserved.ensures.items)

@@ -1,8 +1,0 @@
-use Rattle.histories.proofs.Runs.{held_as, tells_rows}
-use Rattle.histories.proofs.laws.tables_tell_each_run.Goals as goal
-
-pub returns-clause-held : goal.returns-clause-held
-returns-clause-held c = λ h t n tell. held_as h t tell n
-
-pub returns-clause-rows : goal.returns-clause-rows
-returns-clause-rows c = λ h t f tell. tells_rows h t tell f

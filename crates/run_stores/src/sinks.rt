@@ -1,0 +1,65 @@
+// What takes the rows of runs.
+
+use cg_text::ListVec;
+use cost_rows::{CallEdge, Cell, StackCount};
+use plain_tables::StoreError;
+
+/// Takes the cells of runs.
+pub trait CellSink {
+    ghost use Rattle.std.specs.Prelude.{◌≡◌, List, ℕ, OnOk};
+    ghost use Rattle.cost_rows.specs.Plain.{plain_cell};
+    ghost use Rattle.cost_rows.specs.declared.rows.Cell.{Cell};
+
+    /// What it can mean.
+    ghost Meaning: { Type 0 };
+
+    /// What it means.
+    ghost meaning: { Self → Meaning };
+
+    /// What a cell makes of a meaning.
+    ghost step: { Meaning → Cell (List ℕ) → Meaning };
+
+    /// Takes a cell. An error, out of memory or a sum that would pass its bound, ends the walk.
+    fn take(&mut self, row: &Cell<&[u8]>) -> Result<(), StoreError>
+        ensures { OnOk result (meaning self.new ≡ step (meaning self.old) (plain_cell row.now)) };
+}
+
+/// Takes the calls of runs.
+pub trait CallSink {
+    ghost use Rattle.std.specs.Prelude.{◌≡◌, List, ℕ, OnOk};
+    ghost use Rattle.cost_rows.specs.declared.rows.CallEdge.{CallEdge};
+    ghost use Rattle.run_stores.specs.Walks.{plain_given};
+
+    /// What it can mean.
+    ghost Meaning: { Type 0 };
+
+    /// What it means.
+    ghost meaning: { Self → Meaning };
+
+    /// What a row of calls makes of a meaning.
+    ghost step: { Meaning → CallEdge (List ℕ) (List ℕ) → Meaning };
+
+    /// Takes a row of calls. An error ends the walk.
+    fn take(&mut self, row: &CallEdge<&[u8], ListVec<u128>>) -> Result<(), StoreError>
+        ensures { OnOk result (meaning self.new ≡ step (meaning self.old) (plain_given row.now)) };
+}
+
+/// Takes the stacks of runs.
+pub trait StackRowSink {
+    ghost use Rattle.std.specs.Prelude.{◌≡◌, List, ℕ, OnOk};
+    ghost use Rattle.cost_rows.specs.Plain.{plain_stack};
+    ghost use Rattle.cost_rows.specs.declared.rows.StackCount.{StackCount};
+
+    /// What it can mean.
+    ghost Meaning: { Type 0 };
+
+    /// What it means.
+    ghost meaning: { Self → Meaning };
+
+    /// What a stack makes of a meaning.
+    ghost step: { Meaning → StackCount (List ℕ) → Meaning };
+
+    /// Takes a stack. An error ends the walk.
+    fn take(&mut self, row: &StackCount<&[u8]>) -> Result<(), StoreError>
+        ensures { OnOk result (meaning self.new ≡ step (meaning self.old) (plain_stack row.now)) };
+}

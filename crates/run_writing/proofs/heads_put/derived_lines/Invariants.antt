@@ -1,8 +1,0 @@
-use Rattle.std.proofs.Common.{◌≡◌, ◌++◌, map, drop}
-use Rattle.prof_books.specs.Heads.{derived_lines_from}
-use Rattle.store_schema.specs.Lines.{derived_line}
-use Rattle.run_writing.proofs.heads_put.derived_lines.Given as goal
-
--- the lines so far, and those of the derived events that are left, are all of them
-abbrev pub invariant-derived : goal.invariant-derived
-invariant-derived l = map derived_line l.lines.items ++ derived_lines_from l.run l.at (drop l.at l.derived) ≡ derived_lines_from l.run 0 l.derived
