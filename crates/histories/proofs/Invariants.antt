@@ -17,7 +17,7 @@ use Rattle.histories.proofs.Expected.{run_legal, made_legal, joined_legal, based
 use Rattle.histories.proofs.Groups as groups
 use Rattle.histories.proofs.Groups.{groups_more, made}
 use Rattle.histories.proofs.Held as held
-use Rattle.histories.proofs.Held.{held_more, taken, next_more, step}
+use Rattle.histories.proofs.Held.{held_more, taken, next_more, growth}
 use Rattle.histories.proofs.Members.{member_more}
 use Rattle.histories.proofs.Tests.{any-append, any-filter, all_filter, all_push, all_on, Pairs, pairs_filter, pairs_push}
 use Rattle.histories.proofs.StepsTo.{by_steps}
@@ -38,7 +38,7 @@ pub record AreNumbered (h : History) : Type 0 where
 pub record IsNew (h : History) (answer : Answer) (f : File) : Type 0 where
   pub number : f.number ≡ next h
   pub digest : number_of (sha256 f.bytes) (held h) ≡ None
-  pub counts : step answer ≡ 1
+  pub counts : growth answer ≡ 1
 
 pub taken_is : (limits : Limits) (h : History) (command : Command) (answer : Answer) → IsLegal limits h command answer → (taken command answer ≡ []) ⊎ ((f : File) × (taken command answer ≡ f ∷ []) × IsNew h answer f)
 taken_is limits h (Import format label outcomes) (Run n) legal =
@@ -61,9 +61,9 @@ numbered_step limits h step is was legal = elim (taken_is limits h step.command 
   | inr one ↦
       let f : File = one.0 in
       let files : held (h ++ step ∷ []) ≡ left ++ f ∷ [] = held_more h step ∙ ap (λ l. left ++ l) one.1 in
-      let counts : step step.answer ≡ 1 = one.2.counts in
+      let counts : growth step.answer ≡ 1 = one.2.counts in
       let number : f.number ≡ next h = one.2.number in
-      let up : next (h ++ step ∷ []) ≡ next h + step step.answer = next_more h step in
+      let up : next (h ++ step ∷ []) ≡ next h + growth step.answer = next_more h step in
       record {
         below =
             subst (AreBelow (next (h ++ step ∷ []))) (sym files)
