@@ -20,14 +20,14 @@ module _ (limits : Limits) (command : Command) (form : IsInForm command) (P : Ta
   steps_after_it answered done h = steps_by g limits command answered done old new (Given P) (Become change)
       (λ n s. (
         s.t,
-        given_at g P s.t old (told s.t (g.command s.t old s.represents)) s.represents,
-        follows limits n command form (change s.t) (is_expected n s.t s.agrees (told s.t (g.command s.t old s.represents))) (agrees n s.t s.agrees),
+        given_at g P s.t old (told s.t (g.said s.t old s.represents)) s.represents,
+        follows limits n command form (change s.t) (is_expected n s.t s.agrees (told s.t (g.said s.t old s.represents))) (agrees n s.t s.agrees),
       ))
       (changed_then g (Given P) (Become change) answered done old mid new asked h)
 
   pub done_after : (h : History) → RepresentsHistory g h old → (answered : Bool) → Changed g (Given P) (Become change) answered true mid new → WasExpected g limits h command Done new
   done_after h s answered made =
       let mid_stands = asked_stands g s.t old mid asked s.represents in
-      let held = told s.t (g.command s.t old s.represents) in
+      let held = told s.t (g.said s.t old s.represents) in
       was_done limits h command form (change s.t) (is_expected h s.t s.agrees held) (agrees h s.t s.agrees) g new
       (become_at g change s.t new (made.done refl s.t (given_at g P s.t mid held mid_stands)))

@@ -40,7 +40,7 @@ pub asked_once : {S : Type 0} (g : Ghosts S) (Shows : Tables → Answer → Type
     → has_changed result ≡ false → Asked g (is_ok result) old new → ((t : Tables) → ReadsAs g t old → IfOk result (Shows t)) → WasAsked g Shows query result old new
 asked_once g Shows query law result old new still asks told = record {
   told = told;
-  expected_answer = λ h s. if_ok_so result (λ answer. law h s.t answer s.agrees) (told s.t (g.command s.t old s.represents));
+  expected_answer = λ h s. if_ok_so result (λ answer. law h s.t answer s.agrees) (told s.t (g.said s.t old s.represents));
   still = still;
   asks = asks;
 }

@@ -33,7 +33,7 @@ returns-in_err-number-clause-steps g c outcomes ended is clean =
 pub returns-in-Some-clause-answered : goal.returns-in-Some-clause-answered
 returns-in-Some-clause-answered g c clean h outcomes s ended is =
     let found : number_of (sha256 (bytes_of outcomes)) (held h) ≡ Some c.in-Some.number =
-    ap (λ d. number_of d (held h)) (sym is.digest) ∙ tells_digest h s.t s.agrees c.args.parsed.now.digest c.in_ok-number.field-0 (c.in_ok-number.ensures.told clean s.t (g.S.StoreState.command s.t _ s.represents)) ∙ c.in-Some.is in
+    ap (λ d. number_of d (held h)) (sym is.digest) ∙ tells_digest h s.t s.agrees c.args.parsed.now.digest c.in_ok-number.field-0 (c.in_ok-number.ensures.told clean s.t (g.S.StoreState.said s.t _ s.represents)) ∙ c.in-Some.is in
     was_still c.args.limits h (Import (today c.args.kind) c.args.label.now outcomes) (c.utf8.label, c.requires) g.S.StoreState c.args.store.now c.run_of_digest.new.self (Held c.in-Some.number) tt
     (held_expected c.args.limits h c.args.kind c.args.label.now outcomes ended c.in-Some.number found) s (asked_stands g.S.StoreState s.t _ _ (c.in_ok-number.ensures.asks clean) s.represents)
 
@@ -44,7 +44,7 @@ pub returns-in_ok-file-in-Ok-clause-answered : goal.returns-in_ok-file-in-Ok-cla
 returns-in_ok-file-in-Ok-clause-answered g c clean h outcomes s ended is =
     let early = (c.insert_file.ensures.steps outcomes ended clean).stays.was_faithful in
     let none : number_of (sha256 (bytes_of outcomes)) (held h) ≡ None =
-    ap (λ d. number_of d (held h)) (sym is.digest) ∙ tells_digest h s.t s.agrees c.args.parsed.now.digest c.in_ok-number.field-0 (c.in_ok-number.ensures.told early s.t (g.S.StoreState.command s.t _ s.represents)) ∙ c.in_default.is in
+    ap (λ d. number_of d (held h)) (sym is.digest) ∙ tells_digest h s.t s.agrees c.args.parsed.now.digest c.in_ok-number.field-0 (c.in_ok-number.ensures.told early s.t (g.S.StoreState.said s.t _ s.represents)) ∙ c.in_default.is in
     let whole : IsFileOf c.args.kind (bytes_of outcomes) (Ok (c.in-Ok.head, c.in-Ok.rows)) = subst (IsFileOf c.args.kind (bytes_of outcomes)) c.in-Ok.is is.file in
     let there : RepresentsHistory g.S.StoreState h c.run_of_digest.new.self = record { t = s.t; represents = asked_stands g.S.StoreState s.t _ _ (c.in_ok-number.ensures.asks early) s.represents; agrees = s.agrees } in
     let file = c.in_ok-file-in-Ok.file in
@@ -63,7 +63,7 @@ returns-in_ok-file-in-Ok-clause-steps g c outcomes ended is clean =
     (c.in_ok-number.ensures.asks early)
     (λ h s. record {
       digest_is = is.digest;
-      is_new = ap (λ d. number_of d (held h)) (sym is.digest) ∙ tells_digest h s.t s.agrees c.args.parsed.now.digest c.in_ok-number.field-0 (c.in_ok-number.ensures.told early s.t (g.S.StoreState.command s.t _ s.represents)) ∙ c.in_default.is;
+      is_new = ap (λ d. number_of d (held h)) (sym is.digest) ∙ tells_digest h s.t s.agrees c.args.parsed.now.digest c.in_ok-number.field-0 (c.in_ok-number.ensures.told early s.t (g.S.StoreState.said s.t _ s.represents)) ∙ c.in_default.is;
       sound = whole.0;
       head_is = subst (λ x. IsHeadOf c.args.kind x (bytes_of outcomes)) (sym same.0) whole.1;
       rows_are = ap content_of same.1 ∙ whole.2;
@@ -73,7 +73,7 @@ returns-in_ok-file-in-Ok-clause-steps g c outcomes ended is clean =
 pub returns-in-Err-clause-answered : goal.returns-in-Err-clause-answered
 returns-in-Err-clause-answered g c clean h outcomes s ended is =
     let none : number_of (sha256 (bytes_of outcomes)) (held h) ≡ None =
-    ap (λ d. number_of d (held h)) (sym is.digest) ∙ tells_digest h s.t s.agrees c.args.parsed.now.digest c.in_ok-number.field-0 (c.in_ok-number.ensures.told clean s.t (g.S.StoreState.command s.t _ s.represents)) ∙ c.in_default.is in
+    ap (λ d. number_of d (held h)) (sym is.digest) ∙ tells_digest h s.t s.agrees c.args.parsed.now.digest c.in_ok-number.field-0 (c.in_ok-number.ensures.told clean s.t (g.S.StoreState.said s.t _ s.represents)) ∙ c.in_default.is in
     let fault : fault_of (today c.args.kind) (bytes_of outcomes) ≡ Some (c.in-Err.fault, c.in-Err.line) = subst (IsFileOf c.args.kind (bytes_of outcomes)) c.in-Err.is is.file in
     was_still c.args.limits h (Import (today c.args.kind) c.args.label.now outcomes) (c.utf8.label, c.requires) g.S.StoreState c.args.store.now c.run_of_digest.new.self (Refused (File c.in-Err.fault c.in-Err.line)) tt
     (fault_expected c.args.limits h c.args.kind c.args.label.now outcomes ended none (c.in-Err.fault, c.in-Err.line) fault) s (asked_stands g.S.StoreState s.t _ _ (c.in_ok-number.ensures.asks clean) s.represents)
@@ -123,7 +123,7 @@ returns-in-Err-clause-told g c clean t was =
 pub returns-in-Some-clause-made : goal.returns-in-Some-clause-made
 returns-in-Some-clause-made g c clean t represents = record {
   found = Some c.in-Some.number;
-  is_found = subst (IsRunOf c.args.parsed.now.digest t) c.in-Some.is (c.in_ok-number.ensures.told clean t (g.S.StoreState.command t _ represents));
+  is_found = subst (IsRunOf c.args.parsed.now.digest t) c.in-Some.is (c.in_ok-number.ensures.told clean t (g.S.StoreState.said t _ represents));
   takes = (refl, asked_stands g.S.StoreState t _ _ (c.in_ok-number.ensures.asks clean) represents);
 }
 
@@ -139,7 +139,7 @@ returns-in_ok-file-in-Ok-clause-made g c clean t represents =
     if_ok_so c.insert_file.result
     (λ answer is. record {
       found = None;
-      is_found = subst (IsRunOf parsed.digest t) c.in_default.is (c.in_ok-number.ensures.told early t (g.S.StoreState.command t _ represents));
+      is_found = subst (IsRunOf parsed.digest t) c.in_default.is (c.in_ok-number.ensures.told early t (g.S.StoreState.said t _ represents));
       takes = subst (λ f. takes f answer) (sym c.in-Ok.is) (subst₂ (λ head content. IsInsertedIn c.args.limits c.args.kind c.args.label.now parsed.digest left head content t answer) same.0 (ap content_of same.1) is);
     })
     (c.insert_file.ensures.made clean t there)
@@ -149,7 +149,7 @@ returns-in-Err-clause-made g c clean t represents =
     let parsed = c.args.parsed.now in
     record {
       found = None;
-      is_found = subst (IsRunOf parsed.digest t) c.in_default.is (c.in_ok-number.ensures.told clean t (g.S.StoreState.command t _ represents));
+      is_found = subst (IsRunOf parsed.digest t) c.in_default.is (c.in_ok-number.ensures.told clean t (g.S.StoreState.said t _ represents));
       takes = subst (λ f. TakesIn c.args.limits c.args.kind c.args.label.now parsed.digest (λ l. Represents g.S.StoreState l c.run_of_digest.new.self) t None f (Refused (File c.in-Err.fault c.in-Err.line))) (sym c.in-Err.is)
           (refl, asked_stands g.S.StoreState t _ _ (c.in_ok-number.ensures.asks clean) represents);
     }

@@ -23,7 +23,7 @@ returns-in-Some-clause-answered g c clean h s =
     let name = c.args.name.now in
     let how = c.args.change in
     was_still limits h (command_from_change how name) (change_form how name c.requires) g.S.StoreState c.args.store.now c.refusal_of.new.store (Refused c.in-Some.refusal) tt
-    (change_expected limits h how name s.t s.agrees ∙ ap (λ r. Some (refused_or r Done)) (sym (c.in_ok-refusal.ensures.told clean s.t (g.S.StoreState.command s.t _ s.represents)) ∙ c.in-Some.is)) s (asked_stands g.S.StoreState s.t _ _ (c.in_ok-refusal.ensures.asks clean) s.represents)
+    (change_expected limits h how name s.t s.agrees ∙ ap (λ r. Some (refused_or r Done)) (sym (c.in_ok-refusal.ensures.told clean s.t (g.S.StoreState.said s.t _ s.represents)) ∙ c.in-Some.is)) s (asked_stands g.S.StoreState s.t _ _ (c.in_ok-refusal.ensures.asks clean) s.represents)
 
 pub returns-in-Some-clause-steps : goal.returns-in-Some-clause-steps
 returns-in-Some-clause-steps g c clean = changed_asked g.S.StoreState TablesRepresent (Follows c.args.limits (command_from_change c.args.change c.args.name.now)) true _ _ (c.in_ok-refusal.ensures.asks clean)
@@ -64,7 +64,7 @@ returns-in-Some-clause-made g c clean t represents =
     let how = c.args.change in
     let name = c.args.name.now in
     stays_in g.S.StoreState t c.args.store.now c.refusal_of.new.store c.refusal_of.new.store (c.in_ok-refusal.ensures.asks clean) represents c.in-Some.refusal (refusal_for c.args.limits how name t) (changed how name)
-    (sym (c.in_ok-refusal.ensures.told clean t (g.S.StoreState.command t _ represents)) ∙ c.in-Some.is)
+    (sym (c.in_ok-refusal.ensures.told clean t (g.S.StoreState.said t _ represents)) ∙ c.in-Some.is)
 
 pub returns-clause-made : goal.returns-clause-made
 returns-clause-made g c clean t represents =
@@ -73,7 +73,7 @@ returns-clause-made g c clean t represents =
     let name = c.args.name.now in
     let two = c.in_ok-change_free.ensures.changes limits clean in
     let early = two.stays.was_faithful in
-    let is = sym (c.in_ok-refusal.ensures.told early t (g.S.StoreState.command t _ represents)) ∙ c.in_default.is in
+    let is = sym (c.in_ok-refusal.ensures.told early t (g.S.StoreState.said t _ represents)) ∙ c.in_default.is in
     done_in g.S.StoreState t c.args.store.now c.refusal_of.new.store c.change_free.new.store (c.in_ok-refusal.ensures.asks early) represents (λ t. refusal_for limits how name t ≡ None) (refusal_for limits how name t) (changed how name) is is two
 
 pub returns-in_err-refusal-clause-shut : goal.returns-in_err-refusal-clause-shut

@@ -24,7 +24,7 @@ returns-in_err-has_run-clause-steps g c limits clean =
 
 pub returns-then-not-branch-clause-answered : goal.returns-then-not-branch-clause-answered
 returns-then-not-branch-clause-answered g c clean limits h s =
-    let is : has_run h c.args.number ≡ false = sym (tells_run h s.t s.agrees c.args.number) ∙ sym (c.in_ok-has_run.ensures.told clean s.t (g.S.StoreState.command s.t _ s.represents)) ∙ c.if-not-branch.true in
+    let is : has_run h c.args.number ≡ false = sym (tells_run h s.t s.agrees c.args.number) ∙ sym (c.in_ok-has_run.ensures.told clean s.t (g.S.StoreState.said s.t _ s.represents)) ∙ c.if-not-branch.true in
     was_still limits h (Remove c.args.number) tt g.S.StoreState c.args.store.now c.has_run.new.self (Refused NoSuchRun) tt (remove_expected limits h c.args.number false is) s (asked_stands g.S.StoreState s.t _ _ (c.in_ok-has_run.ensures.asks clean) s.represents)
 
 pub returns-then-not-branch-clause-steps : goal.returns-then-not-branch-clause-steps
@@ -57,7 +57,7 @@ returns-clause-steps g c limits clean =
 
 pub returns-then-not-branch-clause-made : goal.returns-then-not-branch-clause-made
 returns-then-not-branch-clause-made g c clean t represents =
-    let is : tables.has_run t c.args.number ≡ false = sym (c.in_ok-has_run.ensures.told clean t (g.S.StoreState.command t _ represents)) ∙ c.if-not-branch.true in
+    let is : tables.has_run t c.args.number ≡ false = sym (c.in_ok-has_run.ensures.told clean t (g.S.StoreState.said t _ represents)) ∙ c.if-not-branch.true in
     stays_in g.S.StoreState t c.args.store.now c.has_run.new.self c.has_run.new.self (c.in_ok-has_run.ensures.asks clean) represents NoSuchRun (missing_of true (tables.has_run t c.args.number)) (without_run c.args.number) (ap (missing_of true) is)
 
 pub returns-clause-made : goal.returns-clause-made
@@ -65,7 +65,7 @@ returns-clause-made g c clean t represents =
     let n = c.args.number in
     let two = c.in_ok-drop_run.ensures.changes clean in
     let early = two.stays.was_faithful in
-    let is : tables.has_run t n ≡ true = sym (c.in_ok-has_run.ensures.told early t (g.S.StoreState.command t _ represents)) ∙ c.if-not-branch.false in
+    let is : tables.has_run t n ≡ true = sym (c.in_ok-has_run.ensures.told early t (g.S.StoreState.said t _ represents)) ∙ c.if-not-branch.false in
     done_in g.S.StoreState t c.args.store.now c.has_run.new.self c.drop_run.new.self (c.in_ok-has_run.ensures.asks early) represents (λ t. tables.has_run t n ≡ true) (missing_of true (tables.has_run t n)) (without_run n) is
     (ap (missing_of true) is) two
 
