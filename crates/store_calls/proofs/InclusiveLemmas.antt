@@ -86,7 +86,7 @@ by_kind cells edges stacks = self_rows cells.coefs cells.cells ++ (call_rows edg
 record AddsFile (event : List ℕ) (f : File) (rows : List InclusiveRow) : Type 0 where
   cells : EventCells
   own : Represents (inclusive_records event f) cells
-  calls : EventEdges
+  edges : EventEdges
   calls : CallsRepresent (inclusive_records event f) edges
   stacks : List (StackCount (List ℕ))
   seen : SameStacks stacks (event_stacks event f)
@@ -180,7 +180,7 @@ module _ (h : History) (t : Tables) (event : List ℕ) (represent : TablesRepres
       record {
         cells = record { coefs = counts; cells = cells_held f.number t };
         own = self_of counts coefs (sym is);
-        calls = record { coefs = counts; calls = are.0 };
+        edges = record { coefs = counts; calls = are.0 };
         calls = calls_of counts are.0 coefs (sym is) are.1;
         stacks = [];
         seen = none_seen event f (sym is);
@@ -189,7 +189,7 @@ module _ (h : History) (t : Tables) (event : List ℕ) (represent : TablesRepres
   of_kind Folded counts rows is has are = record {
     cells = record { coefs = unwrap_or (counts_of event f) []; cells = [] };
     own = no_self (sym is);
-    calls = record { coefs = unwrap_or (counts_of event f) []; calls = [] };
+    edges = record { coefs = unwrap_or (counts_of event f) []; calls = [] };
     calls = no_calls (sym is);
     stacks = stacks_held f.number t;
     seen = λ test. told.stacks test ∙ ap (λ b. frames_sum test (if b then stacks_of f.format f.bytes else [])) (sym (ap is_some has));
@@ -204,7 +204,7 @@ module _ (h : History) (t : Tables) (event : List ℕ) (represent : TablesRepres
       record {
         cells = record { coefs = []; cells = cells_held f.number t };
         own = self_of [] coefs (sym is);
-        calls = record { coefs = []; calls = edges };
+        edges = record { coefs = []; calls = edges };
         calls = calls_of [] edges coefs (sym is) told.whole.1;
         stacks = [];
         seen = none_seen event f (sym is);
@@ -213,7 +213,7 @@ module _ (h : History) (t : Tables) (event : List ℕ) (represent : TablesRepres
   without Folded is has = record {
     cells = record { coefs = unwrap_or (counts_of event f) []; cells = [] };
     own = no_self (sym is);
-    calls = record { coefs = unwrap_or (counts_of event f) []; calls = [] };
+    edges = record { coefs = unwrap_or (counts_of event f) []; calls = [] };
     calls = no_calls (sym is);
     stacks = [];
     seen = λ test. ap (λ b. frames_sum test (if b then stacks_of f.format f.bytes else [])) (sym (ap is_some has));
@@ -333,20 +333,20 @@ both_seen xs ys seen more one two = λ test. count_append test xs ys ∙ ap₂ �
 
 one_more : (event : List ℕ) (f : File) (files : List File) (first later rows : List InclusiveRow) → rows ≡ first ++ later → AddsFile event f first → AddsFiles event files later → AddsFiles event (f ∷ files) rows
 one_more event f files first later rows are one rest =
-    let here = by_kind one.cells one.calls one.stacks in
+    let here = by_kind one.cells one.edges one.stacks in
     record {
       cells = one.cells ∷ rest.cells;
       own = (one.own, rest.own);
-      calls = one.calls ∷ rest.calls;
+      edges = one.edges ∷ rest.edges;
       calls = (one.calls, rest.calls);
       stacks = one.stacks ++ rest.stacks;
       seen = both_seen one.stacks rest.stacks (event_stacks event f) (flat_map (event_stacks event) files) one.seen rest.seen;
       parts = here ++ rest.parts;
       same = λ old. ap (fold with_inclusive old) are ∙ fold-append with_inclusive old first later ∙ ap (λ costs. fold with_inclusive costs later) (one.same old)
           ∙ rest.same (fold with_inclusive old here) ∙ sym (fold-append with_inclusive old here rest.parts);
-      self_are = self_append here rest.parts ∙ ap₂ ◌++◌ (self_by_kind one.cells one.calls one.stacks) rest.self_are;
-      calls_are = calls_append here rest.parts ∙ ap₂ ◌++◌ (calls_by_kind one.cells one.calls one.stacks) rest.calls_are;
-      stacks_are = stacks_append here rest.parts ∙ ap₂ ◌++◌ (stacks_by_kind one.cells one.calls one.stacks) rest.stacks_are;
+      self_are = self_append here rest.parts ∙ ap₂ ◌++◌ (self_by_kind one.cells one.edges one.stacks) rest.self_are;
+      calls_are = calls_append here rest.parts ∙ ap₂ ◌++◌ (calls_by_kind one.cells one.edges one.stacks) rest.calls_are;
+      stacks_are = stacks_append here rest.parts ∙ ap₂ ◌++◌ (stacks_by_kind one.cells one.edges one.stacks) rest.stacks_are;
     }
 
 files_added : (h : History) (t : Tables) (event : List ℕ) → TablesRepresent h t → (files : List File) (runs : List Counted) (rows : List InclusiveRow) → AllByRecursion (Has (held h)) files
@@ -354,7 +354,7 @@ files_added : (h : History) (t : Tables) (event : List ℕ) → TablesRepresent 
 files_added h t event represent [] [] rows all are rows_are = record {
   cells = [];
   own = tt;
-  calls = [];
+  edges = [];
   calls = tt;
   stacks = [];
   seen = λ test. refl;
@@ -374,8 +374,8 @@ inclusive_by : (event : List ℕ) (files : List File) (rows : List InclusiveRow)
 inclusive_by event files rows costs added is =
     is ∙ added.same no_costs ∙ inclusive_come_to added.parts
     ∙ ap₂ (λ own calls. inclusive_rows own calls (stacks_in added.parts)) added.self_are added.calls_are
-    ∙ ap (inclusive_rows (all_rows added.cells) (all_edges added.calls)) added.stacks_are
-    ∙ inclusive_are_records (map (inclusive_records event) files) (flat_map (event_stacks event) files) added.cells added.calls added.stacks added.own added.calls added.seen
+    ∙ ap (inclusive_rows (all_rows added.cells) (all_edges added.edges)) added.stacks_are
+    ∙ inclusive_are_records (map (inclusive_records event) files) (flat_map (event_stacks event) files) added.cells added.edges added.stacks added.own added.calls added.seen
 
 -- ---- the answers
 
