@@ -1,7 +1,7 @@
 // The lines that the head of a file becomes.
 ghost use Rattle.std.specs.Prelude.{◌≡◌, ◌<◌, ◌^◌, ◌++◌, ◌∷◌, [], ◌↔◌, map, option_map, string_bytes, slice_index, length, IfOk, OnOk, IsTrue};
 ghost use Rattle.prof_books.specs.Heads as specs;
-ghost use Rattle.prof_books.specs.Heads.{stated_at, event_row_of, coef_rows_at, derived_rows_from, coef_rows_from, AreStated, IsWhole, ColumnFits};
+ghost use Rattle.prof_books.specs.Heads.{stated_at, event_row_of, coef_rows_at, derived_rows_from, coef_rows_from, AreStated, IsComplete, ColumnFits};
 ghost use Rattle.run_writing.specs.Sums.{OfContent, OfColumn, AllFit};
 ghost use Rattle.store_schema.specs.Lines.{event_row, derived_row, coef_row};
 
@@ -182,7 +182,7 @@ pub fn head_rows<'a>(
     head: &'a FileHead,
     totals: &FileTotals,
 ) -> Result<HeadRows<'a>, StoreError>
-    ensures column_int { IfOk result (λ _. IsWhole head.now) }
+    ensures column_int { IfOk result (λ _. IsComplete head.now) }
     ensures events { OfContent head.now totals.now (λ c. IfOk result (λ lines. map event_row lines.events.items ≡ specs.event_rows run head.now c)) }
     ensures fits { OfContent head.now totals.now (λ c. OnOk result (AllFit head.now c)) }
     ensures derived { IfOk result (λ lines. map derived_row lines.derived.items ≡ specs.derived_rows run head.now) }

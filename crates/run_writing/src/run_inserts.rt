@@ -4,7 +4,7 @@ ghost use Rattle.std.specs.Result.{is_ok};
 ghost use Rattle.cost_rows.specs.Totals.{count_total};
 ghost use Rattle.cost_rows.specs.Rows.{content_of};
 ghost use Rattle.plain_tables.specs.Lists.{Has};
-ghost use Rattle.prof_books.specs.Heads.{IsWhole};
+ghost use Rattle.prof_books.specs.Heads.{IsComplete};
 ghost use Rattle.run_writing.specs.Sums.{AllFit};
 ghost use Rattle.run_stores.specs.Runs.{with_summed};
 ghost use Rattle.prof_store.specs.Shown.{ChangesIf, KeepsShut, MakesOf};
@@ -33,7 +33,7 @@ pub fn put_run<S: Alter>(
     file: &SummedFile<'_>,
 ) -> Result<(), StoreError>
     ensures taken { MakesOf S.Store store.old store.new (λ t. t.next ≡ number → (r : _) → Has t.runs r → r.digest ≡ digest.now → OnOk result ⊥) }
-    ensures column_int { OnOk result (IsWhole file.now.head.now) }
+    ensures column_int { OnOk result (IsComplete file.now.head.now) }
     ensures fits { OnOk result (AllFit file.now.head.now (content_of file.now.rows.now)) }
     ensures counted { OnOk result (count_total (content_of file.now.rows.now).calls < 2 ^ 63) }
     ensures changes { ChangesIf S.Store (is_ok result) (λ t. t.next ≡ number) (with_summed number kind digest.now label.now file.now) store.old store.new }
