@@ -3,7 +3,8 @@ ghost use Rattle.std.specs.Prelude.{◌≡◌, ◌↔◌, IfOk, IsTrue, List, []
 ghost use Rattle.run_stores.specs.Calls.{IsFaithful, IsUsable};
 ghost use Rattle.byte_io.specs.Outcomes.{Outcome};
 ghost use Rattle.histories.specs.Formats.{today};
-ghost use Rattle.histories.specs.History.{History, Command, Annotate, Ask, Import, Remove};
+ghost use Rattle.histories.specs.History as history;
+ghost use Rattle.histories.specs.History.{History, Annotate, Ask, Import, Remove};
 ghost use Rattle.histories.specs.Legal.{IsInForm, IsLegal};
 ghost use Rattle.histories.specs.declared.answers.Answer.TheVariants as answers;
 ghost use Rattle.store_histories.specs.Answered.{HasHistory};
@@ -155,7 +156,7 @@ impl<'a, R: Files + AllocGlobal, W: Write + Drop, S: RunStore> Session<'a, R, W,
     /// Refuses a command that the warehouse is not asked.
     fn refuse(&mut self, refusal: Refusal) -> io::Result<()>
         ensures limits { self.new.warehouse.limits ≡ self.old.warehouse.limits }
-        ensures answered { IsFaithful S.StoreState self.new.warehouse.store → (is : Command)
+        ensures answered { IsFaithful S.StoreState self.new.warehouse.store → (is : history.Command)
             → ((h : History) → IsLegal self.old.warehouse.limits h is (answers.Refused refusal)) → WasTold S.StoreState W.contents is result self.old self.new }
         ensures store { self.new.warehouse.store ≡ self.old.warehouse.store }
     {
@@ -165,7 +166,7 @@ impl<'a, R: Files + AllocGlobal, W: Write + Drop, S: RunStore> Session<'a, R, W,
     /// Runs a command that reads no file.
     fn apply(&mut self, command: Command<FileSource<'a, R>>) -> io::Result<()>
         ensures limits { self.new.warehouse.limits ≡ self.old.warehouse.limits }
-        ensures answered { IsFaithful S.StoreState self.new.warehouse.store → (is : Command) × Says (FileReads R.File.remaining) command.entry is
+        ensures answered { IsFaithful S.StoreState self.new.warehouse.store → (is : history.Command) × Says (FileReads R.File.remaining) command.entry is
             × WasTold S.StoreState W.contents is result self.old self.new }
     {
         let answer = self.warehouse.apply(self.rt.alloc(), command);
