@@ -1,5 +1,5 @@
 // Clients are served, one after another (specs/Served.antt).
-ghost use Rattle.std.specs.Prelude.{◌≡◌, IfOk, IfSome};
+ghost use Rattle.std.specs.Prelude.{◌≡◌};
 ghost use Rattle.run_stores.specs.Calls.{IsFaithful};
 ghost use Rattle.http_exchange.specs.Routes as spec;
 ghost use Rattle.http_service.specs.Served.{CameToServed, HasServed};
@@ -95,21 +95,15 @@ fn listener_at(rt: &HostRuntime, port: u16) -> io::Result<TcpListener> {
     TcpListener::bind(rt, SocketAddr::from((Ipv4Addr::LOCALHOST, port)))
 }
 
-/// The routes, and what listens at a port of 127.0.0.1, and prints which; or prints why there is none: no
-/// memory, or a port that is taken, which is a failed read.
-fn listen(rt: &HostRuntime, port: u16) -> io::Result<Option<(Router<Place>, TcpListener)>>
-    ensures { IfOk result (λ found. IfSome found (λ at. at.0 ≡ spec.routes)) }
-{
-    let Ok(router) = routes(rt.alloc()) else {
-        println!(rt; "refused: out of memory")?;
-        return Ok(None);
-    };
+/// Listens at a port of 127.0.0.1, and prints which; or prints that the port is taken, which is a failed read.
+/// No guarantee: as `listener_at`.
+fn listen(rt: &HostRuntime, port: u16) -> io::Result<Option<TcpListener>> {
     let Ok(listener) = listener_at(rt, port) else {
         println!(rt; "refused: read failed")?;
         return Ok(None);
     };
     println!(rt; "listening {}", listener.local_addr()?)?;
-    Ok(Some((router, listener)))
+    Ok(Some(listener))
 }
 
 /// Prints how a server ended, and answers the status. No guarantee: of what is printed the checker knows
@@ -123,6 +117,25 @@ fn tell_end(rt: &HostRuntime, requests: u32, is_done: bool) -> io::Result<u8> {
     Ok(1)
 }
 
+/// Serves a warehouse by these routes, as `serve`.
+fn serve_by<S: RunStore>(
+    rt: &HostRuntime,
+    router: &Router<Place>,
+    warehouse: &mut Warehouse<S>,
+    service: Service,
+) -> io::Result<u8>
+    requires router { router.now ≡ spec.routes }
+    ensures limits { warehouse.new.limits ≡ warehouse.old.limits }
+    ensures served { IsFaithful S.StoreState warehouse.new.store → HasServed S.StoreState warehouse.old.limits service.requests warehouse.old.store warehouse.new.store }
+{
+    let Some(listener) = listen(rt, service.port)? else {
+        return Ok(1);
+    };
+    let requests = service.requests;
+    let is_done = serve_on(rt, &listener, router, warehouse, requests, service.log);
+    tell_end(rt, requests, is_done)
+}
+
 /// Serves a warehouse on a port of 127.0.0.1: prints which, answers so many requests, prints that, and
 /// answers the status. A port that is taken, and a client that cannot be accepted, are a failed read.
 pub fn serve<S: RunStore>(
@@ -133,12 +146,11 @@ pub fn serve<S: RunStore>(
     ensures limits { warehouse.new.limits ≡ warehouse.old.limits }
     ensures served { IsFaithful S.StoreState warehouse.new.store → HasServed S.StoreState warehouse.old.limits service.requests warehouse.old.store warehouse.new.store }
 {
-    let Some((router, listener)) = listen(rt, service.port)? else {
+    let Ok(router) = routes(rt.alloc()) else {
+        println!(rt; "refused: out of memory")?;
         return Ok(1);
     };
-    let requests = service.requests;
-    let is_done = serve_on(rt, &listener, &router, warehouse, requests, service.log);
-    tell_end(rt, requests, is_done)
+    serve_by(rt, &router, warehouse, service)
 }
 
 /// Serves an opened store, under the standard limits. It hands back the status, where all that the server
