@@ -1,2 +1,3 @@
 mod Expectations
+mod LineLemmas
 mod ListLemmas

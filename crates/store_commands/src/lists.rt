@@ -1,7 +1,7 @@
 // The texts of lists.
 ghost use Rattle.std.specs.Prelude.{◌≡◌, ◌++◌, flat_map, codes, string_bytes, IfOk, OnOk};
 ghost use Rattle.std.specs.Result.{is_ok};
-ghost use Rattle.std.specs.Fmt.{decimal};
+ghost use Rattle.hex.specs.Hex.{encode_lower};
 ghost use Rattle.run_stores.specs.Calls.{Asks, Told};
 ghost use Rattle.histories.specs.Texts as texts;
 ghost use Rattle.histories.specs.declared.answers.Query.TheVariants.{Runs, Groups};
@@ -24,98 +24,91 @@ fn kind_text(kind: Kind) -> &'static str
     }
 }
 
+/// Adds a digest in hexadecimal, between blanks.
+fn push_digest(text: &mut String, alloc: Global, digest: &[u8; 32]) -> Result<(), AllocError>
+    ensures { OnOk result (string_bytes text.new ≡ string_bytes text.old ++ (codes " " ++ (encode_lower digest.now ++ codes " "))) }
+{
+    let digits = hex::encode(alloc, digest.as_slice())?;
+    write!(text, " {digits} ")
+}
+
 /// Adds the line of a run.
-fn push_run(text: &mut Vec<u8>, alloc: Global, run: &RunEntry) -> Result<(), AllocError>
-    ensures { OnOk result (text.new.items ≡ text.old.items ++ entry_line run.now) }
+fn push_run(text: &mut String, alloc: Global, run: &RunEntry) -> Result<(), AllocError>
+    ensures { OnOk result (string_bytes text.new ≡ string_bytes text.old ++ entry_line run.now) }
 {
     let number = run.number;
-    let kind = kind_text(run.kind);
-    let digest = hex::encode(alloc, run.digest.as_slice())?;
+    write!(text, "{number} ")?;
+    text.push_str(kind_text(run.kind))?;
+    push_digest(text, alloc, &run.digest)?;
     let label = run.label.as_str();
-    let line = format!(in alloc; "{number} {kind} {digest} {label}\n")?;
-    text.extend_from_slice(line.as_bytes())?;
-    Ok(())
+    write!(text, "{label}\n")
 }
 
 /// The runs, a line for each.
 fn runs_text(alloc: Global, runs: &[RunEntry]) -> Result<ListVec<u8>, AllocError>
     ensures { IfOk result (λ text. text ≡ flat_map entry_line runs.now) }
 {
-    let mut text = Vec::new(alloc);
+    let mut text = String::new(alloc);
     for run in runs {
         push_run(&mut text, alloc, run)?;
     }
-    Ok(ListVec::from_vec(text))
-}
-
-/// Adds a number behind a comma.
-fn push_next(text: &mut Vec<u8>, alloc: Global, member: u32) -> Result<(), AllocError>
-    ensures { OnOk result (text.new.items ≡ text.old.items ++ (codes "," ++ decimal member)) }
-{
-    let number = format!(in alloc; ",{member}")?;
-    text.extend_from_slice(number.as_bytes())?;
-    Ok(())
+    Ok(ListVec::from_vec(text.into_bytes()))
 }
 
 /// Adds numbers, a comma before each.
-fn push_more(text: &mut Vec<u8>, alloc: Global, members: &[u32]) -> Result<(), AllocError>
-    ensures { OnOk result (text.new.items ≡ text.old.items ++ texts.more_text members.now) }
+fn push_more(text: &mut String, members: &[u32]) -> Result<(), AllocError>
+    ensures { OnOk result (string_bytes text.new ≡ string_bytes text.old ++ texts.more_text members.now) }
 {
     for member in members {
-        push_next(text, alloc, *member)?;
+        write!(text, ",{member}")?;
     }
     Ok(())
 }
 
 /// Adds the members of a group.
-fn push_members(text: &mut Vec<u8>, alloc: Global, members: &[u32]) -> Result<(), AllocError>
-    ensures { OnOk result (text.new.items ≡ text.old.items ++ texts.members_text members.now) }
+fn push_members(text: &mut String, members: &[u32]) -> Result<(), AllocError>
+    ensures { OnOk result (string_bytes text.new ≡ string_bytes text.old ++ texts.members_text members.now) }
 {
     match members.split_first() {
-        None => {
-            text.extend_from_slice(b"-")?;
-            Ok(())
-        }
+        None => text.push_str("-"),
         Some((first, more)) => {
-            let number = format!(in alloc; "{first}")?;
-            text.extend_from_slice(number.as_bytes())?;
-            push_more(text, alloc, more)
+            write!(text, "{first}")?;
+            push_more(text, more)
         }
     }
 }
 
-/// The baseline of a group.
-fn baseline_text(alloc: Global, baseline: Option<u32>) -> Result<String, AllocError>
-    ensures { IfOk result (λ text. string_bytes text ≡ texts.baseline_text baseline) }
+/// Adds the baseline of a group.
+fn push_baseline(text: &mut String, baseline: Option<u32>) -> Result<(), AllocError>
+    ensures { OnOk result (string_bytes text.new ≡ string_bytes text.old ++ texts.baseline_text baseline) }
 {
     match baseline {
-        Some(number) => format!(in alloc; "{number}"),
-        None => format!(in alloc; "-"),
+        Some(number) => write!(text, "{number}"),
+        None => text.push_str("-"),
     }
 }
 
 /// Adds the line of a group.
-fn push_group(text: &mut Vec<u8>, alloc: Global, group: &GroupEntry) -> Result<(), AllocError>
-    ensures { OnOk result (text.new.items ≡ text.old.items ++ group_entry_line group.now) }
+fn push_group(text: &mut String, group: &GroupEntry) -> Result<(), AllocError>
+    ensures { OnOk result (string_bytes text.new ≡ string_bytes text.old ++ group_entry_line group.now) }
 {
-    text.extend_from_slice(group.name.as_bytes())?;
-    let baseline = baseline_text(alloc, group.baseline)?;
-    let between = format!(in alloc; " {baseline} ")?;
-    text.extend_from_slice(between.as_bytes())?;
-    push_members(text, alloc, group.members.as_slice())?;
-    text.extend_from_slice(b"\n")?;
-    Ok(())
+    text.push_str(group.name.as_str())?;
+    text.push_str(" ")?;
+    push_baseline(text, group.baseline)?;
+    text.push_str(" ")?;
+    push_members(text, group.members.as_slice())?;
+    text.push_str("\n")
 }
 
 /// The groups, a line for each.
 fn groups_text(alloc: Global, groups: &[GroupEntry]) -> Result<ListVec<u8>, AllocError>
     ensures { IfOk result (λ text. text ≡ flat_map group_entry_line groups.now) }
 {
-    let mut text = Vec::new(alloc);
+    let mut text = String::new(alloc);
     for group in groups {
-        push_group(&mut text, alloc, group)?;
+        push_group(&mut text, group)?;
     }
-    Ok(ListVec::from_vec(text))
+    Ok(ListVec::from_vec(text.into_bytes()))
 }
 
 /// The list of the runs that are held.
