@@ -1,0 +1,5 @@
+mod Cuts
+mod Entries
+mod FileTables
+mod Steps
+mod Turns

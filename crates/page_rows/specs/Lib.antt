@@ -1,0 +1,6 @@
+pub mod Files
+pub mod Rows
+pub mod Roots
+pub mod Tables
+pub mod Walks
+pub mod Places

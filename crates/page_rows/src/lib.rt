@@ -1,0 +1,24 @@
+//! The rows of a table straight from the pages of a database file, which nobody has checked: no SQL,
+//! and no pass over the file before. Rows are handed on one at a time to what takes them.
+//! Whatever the file holds, each call ends, and where a table stands in its pages, the rows are the table's.
+#![tactic(auto)]
+
+// Why a walk ends early.
+mod errors;
+// A database file that was opened with no check of its pages.
+mod files;
+// A record read as a row.
+mod records;
+// The root page of a table, by its name.
+mod roots;
+// What takes rows.
+mod sinks;
+// The walk over the rows of a table.
+mod walks;
+
+pub use errors::WalkError;
+pub use files::{NotOpened, OpenedFile};
+pub use records::read_row;
+pub use roots::root_named;
+pub use sinks::RowSink;
+pub use walks::{find_row, walk};
