@@ -1,5 +1,5 @@
 -- From a file's pages to its tables.
-use Rattle.std.proofs.Common.{◌≡◌, ◌≢◌, ℕ, ◌^◌, ◌<◌, ◌≤◌, ◌==◌, zero, suc, Bool, true, false, cond, ◌&&◌, codes, List, [], ◌∷◌, map, slice_index, Option, Some, None, IsSome, refl, sym, ap, ap₂, subst, ◌∙◌, inl, inr, arith}
+use Rattle.std.proofs.Common.{◌≡◌, ◌≢◌, ℕ, ◌^◌, ◌<◌, ◌≤◌, ◌-◌, negsuc, zero, suc, Bool, true, false, cond, ◌&&◌, codes, List, [], ◌∷◌, map, slice_index, Option, Some, None, IsSome, refl, sym, ap, ap₂, subst, ◌∙◌, inl, inr, arith}
 use Rattle.std.specs.List.{list_all}
 use Rattle.std.proofs.lemmas.Bool.{cases_Bool, and_parts}
 use Rattle.sqlite_pages.specs.PageMap.{PageMap}
@@ -20,7 +20,8 @@ use Rattle.sqlite_store.specs.Listing.{all_trees, file_trees}
 use Rattle.sqlite_store.proofs.DbLemmas.{named_laid, named_rows}
 use Rattle.sqlite_store.proofs.ListingLemmas.{named_tree, past_version}
 use Rattle.sqlite_store.proofs.ShownLemmas.{shown-zero}
-use Rattle.page_rows.specs.Rows.{HasTable, rows_of}
+use Rattle.page_rows.specs.Rows.{HasTable, rows_of, from_rowid}
+use Rattle.page_rows.proofs.Cuts.{all_from_least}
 use Rattle.page_rows.specs.Roots.{root_in_list}
 use Rattle.page_rows.specs.Tables.{description_at, IsNamed, IsRooted, root_of_tree}
 use Rattle.page_rows.proofs.Entries.{word_is, named_root}
@@ -46,6 +47,11 @@ module _ {size : ℕ} {wanted : List Wanted} {pages : PageMap} (file : IsFile si
   table_shown =
       sym (all_shown _) ∙ ap (λ r. map (shown Table r) (rows_at size (in_use size pages) Table root)) (sym rooted.plain)
       ∙ sym (named_rows names) ∙ sym (named_tree t rooted.low size wanted (in_use size pages)) ∙ sym (past_version t rooted.low (all_trees size wanted (in_use size pages)) (version_in pages))
+
+  -- a walk from the least rowid on is one of all rows
+  pub all_shown_from_least : from_rowid (negsuc (2 ^ 63 - 1)) (file_trees size wanted pages t) ≡ file_trees size wanted pages t
+  all_shown_from_least =
+      subst (λ rows. from_rowid (negsuc (2 ^ 63 - 1)) rows ≡ rows) table_shown (all_from_least size (in_use size pages) root table_there)
 
 none_kept : (a b : Bool) (page : Option (List ℕ)) → page ≡ None → cond a (cond b None page) None ≡ None
 none_kept true true page none = refl

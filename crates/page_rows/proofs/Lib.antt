@@ -1,5 +1,6 @@
 mod Cuts
 mod Entries
-mod FileTables
+pub mod FileTables
+pub mod Folds
 mod Steps
 mod Turns

@@ -4,7 +4,7 @@ ghost use Rattle.sqlite_pages.specs.PageMap.{PageMap};
 ghost use Rattle.sqlite_pool.specs.Pool as pools;
 ghost use Rattle.sqlite_pool.specs.Opening.{image, AreUsable, HasSoundFile};
 ghost use Rattle.sqlite_pool.specs.Backing.{FailsUnless};
-ghost use Rattle.sqlite_pool.specs.Stored.{Recovers};
+ghost use Rattle.sqlite_pool.specs.Stored.{Recovers, AddsNothing};
 ghost use Rattle.sqlite_trees.specs.View.{Finds};
 ghost use Rattle.sqlite_store.specs.declared.catalog.Wanted.{Wanted};
 ghost use Rattle.sqlite_store.specs.Db.{table_row, IsFile};
@@ -37,7 +37,7 @@ pub struct OpenedFile<D: Disk> {
 }
 
 impl<D: Disk> OpenedFile<D> {
-    ghost use Rattle.page_rows.specs.Files.{page_size, files_of, IsFaithful, Shows, FailsToRead, OnlyReads};
+    ghost use Rattle.page_rows.specs.Files.{page_size, files_of, may_leave, IsFaithful, Shows, FailsToRead, OnlyReads};
 
     /// Opens the file of a pool that has not read yet. Errors: those of `Pool::recover`; `Corrupt` is
     /// for files that recover to no pages with a sound header and list of free pages.
@@ -45,6 +45,8 @@ impl<D: Disk> OpenedFile<D> {
         requires { AreUsable pool }
         ensures size { IfOk result (λ it. page_size it ≡ (pools.state pool).page_size) }
         ensures shows { IfOk result (λ it. IsFaithful it → (pages : PageMap) → Recovers (page_size it) (image pool) pages → Shows it pages) }
+        ensures crash { MatchResult result (λ it. AddsNothing (pools.state pool).page_size (pools.state pool).may_leave (may_leave it))
+            (λ failed. AddsNothing (pools.state pool).page_size (pools.state pool).may_leave (pools.state failed.pool).may_leave) }
         ensures cause { IfErr result (λ failed. IsTrue (pools.state failed.pool).is_clean
             → FailsUnless (pools.state pool).faults (pools.opening_end failed.pool) (HasSoundFile (pools.state pool).page_size (image pool)) failed.error) }
     {
@@ -92,20 +94,20 @@ impl<D: Disk> OpenedFile<D> {
     }
 
     /// Finds the row with a rowid in the table under a root page, and puts the bytes of its record into
-    /// `record`. Says whether there is one; where there is none, nothing is said of `record`. Errors:
+    /// `payload`. Says whether there is one; where there is none, nothing is said of `payload`. Errors:
     /// `OutOfMemory`, `Io`, and `Corrupt` for damaged pages.
     pub fn find_row(
         &mut self,
         alloc: Global,
         root: u32,
         rowid: i64,
-        record: &mut Vec<u8>,
+        payload: &mut Vec<u8>,
     ) -> Result<bool, Error>
         ensures done { IsFaithful self.new → (wanted : List Wanted) (pages : PageMap) (t : ℕ) → Shows self.old pages → IsFile (page_size self.old) wanted pages
             → IsRooted (page_size self.old) wanted pages t root
-            → MatchResult result (Finds (file_trees (page_size self.old) wanted pages t) rowid (table_row (rowid, record.new.items))) (FailsToRead self.old self.new) }
+            → MatchResult result (Finds (file_trees (page_size self.old) wanted pages t) rowid (table_row (rowid, payload.new.items))) (FailsToRead self.old self.new) }
         ensures reads { OnlyReads self.old self.new }
     {
-        walks::find_row(&mut self.pool, alloc, root, rowid, record)
+        walks::find_row(&mut self.pool, alloc, root, rowid, payload)
     }
 }

@@ -59,8 +59,8 @@ impl RowSink for Seeker<'_> {
 
     ghost Refuses = { λ _ _ _. ⊤ };
 
-    fn take(&mut self, rowid: i64, record: &[u8]) -> Result<bool, AllocError> {
-        read_row(rowid, record, &mut self.entry)?;
+    fn take(&mut self, rowid: i64, payload: &[u8]) -> Result<bool, AllocError> {
+        read_row(rowid, payload, &mut self.entry)?;
         if is_entry_of(&self.entry, self.name) {
             self.root = Some(page_in(self.entry.get(4)));
             return Ok(false);

@@ -26,8 +26,8 @@ pub trait RowSink {
 
     /// Takes a row: its rowid, and the bytes of its record, which `sqlite_record::fields` reads in place.
     /// Says whether it wants more. An error ends the walk, and nothing is said of the meaning then.
-    fn take(&mut self, rowid: i64, record: &[u8]) -> Result<bool, Self::Refusal>
-        ensures takes { OnOk result (meaning self.new ≡ step (meaning self.old) (table_row (rowid, record.now))) }
-        ensures goes { IfOk result (λ more. more ≡ goes_on (meaning self.old) (table_row (rowid, record.now))) }
-        ensures refuses { IfErr result (Refuses (meaning self.old) (table_row (rowid, record.now))) };
+    fn take(&mut self, rowid: i64, payload: &[u8]) -> Result<bool, Self::Refusal>
+        ensures takes { OnOk result (meaning self.new ≡ step (meaning self.old) (table_row (rowid, payload.now))) }
+        ensures goes { IfOk result (λ more. more ≡ goes_on (meaning self.old) (table_row (rowid, payload.now))) }
+        ensures refuses { IfErr result (Refuses (meaning self.old) (table_row (rowid, payload.now))) };
 }

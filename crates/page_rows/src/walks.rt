@@ -78,22 +78,22 @@ pub fn walk<P: Pages, T: RowSink>(
     Err(WalkError::Pages(Error::OutOfMemory))
 }
 
-/// Finds the row with a rowid, and puts the bytes of its record into `record`. Says whether there is
-/// one; where there is none, nothing is said of `record`. Errors: those of reading pages, of which
+/// Finds the row with a rowid, and puts the bytes of its record into `payload`. Says whether there is
+/// one; where there is none, nothing is said of `payload`. Errors: those of reading pages, of which
 /// `Corrupt` is for pages that hold no such table.
 pub fn find_row<P: Pages>(
     store: &mut P,
     alloc: Global,
     root: u32,
     rowid: i64,
-    record: &mut Vec<u8>,
+    payload: &mut Vec<u8>,
 ) -> Result<bool, Error>
     ensures done { IsClean P.Pages store.new → HasTable (P.Pages.size store.old) (P.Pages.pages store.old) root
-        → MatchResult result (Finds (rows_of (P.Pages.size store.old) (P.Pages.pages store.old) root) rowid (table_row (rowid, record.new.items)))
+        → MatchResult result (Finds (rows_of (P.Pages.size store.old) (P.Pages.pages store.old) root) rowid (table_row (rowid, payload.new.items)))
         (FailsFor P.Pages store.old store.new ⊥) }
     ensures kept { Continues P.Pages store.old store.new }
     ensures pages { P.Pages.pages store.new ≡ P.Pages.pages store.old }
 {
     let mut scratch = Scratch::new(alloc);
-    table::get(store, &mut scratch, root, rowid, record)
+    table::get(store, &mut scratch, root, rowid, payload)
 }

@@ -8,5 +8,5 @@ use Rattle.page_rows.proofs.records.read_row.Goals as goal
 
 pub returns : goal.returns
 returns c = on_ok_weaker c.decode_into.result (λ is.
-    is ∙ ap₂ ◌++◌ (c.in_ok-push.ensures.ok ∙ ap₂ (λ r i. r ++ Int i ∷ []) c.clear.ensures (to_z-of_z c.ranges.rowid)) (widen-zero (decode c.args.record.now)))
+    is ∙ ap₂ ◌++◌ (c.in_ok-push.ensures.ok ∙ ap₂ (λ r i. r ++ Int i ∷ []) c.clear.ensures (to_z-of_z c.ranges.rowid)) (widen-zero (decode c.args.payload.now)))
     c.decode_into.ensures
