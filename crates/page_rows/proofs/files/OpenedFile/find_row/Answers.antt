@@ -10,7 +10,7 @@ use Rattle.page_rows.proofs.files.OpenedFile.find_row.Goals as goal
 pub returns-clause-done : goal.returns-clause-done
 returns-clause-done g c faithful = λ wanted pages t shows file rooted.
     let size = page_size c.args.self.now in
-    subst₂ (λ id rows. MatchResult c.find_row.result (Finds rows id (table_row (id, c.find_row.new.record.items)))
+    subst₂ (λ id rows. MatchResult c.find_row.result (Finds rows id (table_row (id, c.find_row.new.payload.items)))
     (FailsToRead c.args.self.now (record { pool = c.find_row.new.store }))) (to_z-of_z c.ranges.rowid)
     (ap (λ p. rows_of size p c.args.root) shows ∙ table_shown file rooted)
     (c.find_row.ensures.done (no_doubt _ faithful) (subst (λ p. HasTable size p c.args.root) (sym shows) (table_there file rooted)))
