@@ -1,5 +1,5 @@
 -- Rows that rise, cut at a rowid.
-use Rattle.std.proofs.Common.{◌≡◌, ℤ, ℕ, pos, negsuc, ◌+ℤ◌, ◌<ℤ◌, ◌-◌, ◌^◌, Bool, true, false, int_lt, is_lt, int_cmp, List, [], ◌∷◌, map, refl, sym, ap, subst, ◌∙◌, inl, inr, arith, SFits, w64}
+use Rattle.std.proofs.Common.{◌≡◌, ℤ, ℕ, pos, negsuc, ◌+ℤ◌, ◌<ℤ◌, ◌-◌, ◌^◌, true, false, int_lt, is_lt, int_cmp, List, [], ◌∷◌, map, refl, sym, ap, subst, ◌∙◌, inl, inr, arith}
 use Rattle.std.proofs.lemmas.Bool.{cases_Bool}
 use Rattle.std.proofs.lemmas.Int.{ints}
 use Rattle.sqlite_btree.specs.Cut.{Each, Ascends, from_cut}

@@ -1,21 +1,17 @@
 -- From a file's pages to its tables.
-use Rattle.std.proofs.Common.{◌≡◌, ◌≢◌, ℕ, ◌^◌, ◌<◌, ◌≤◌, ◌-◌, negsuc, zero, suc, Bool, true, false, cond, ◌&&◌, codes, List, [], ◌∷◌, map, slice_index, Option, Some, None, IsSome, refl, sym, ap, ap₂, subst, ◌∙◌, inl, inr, arith}
+use Rattle.std.proofs.Common.{◌≡◌, ◌≢◌, ℕ, ◌^◌, ◌-◌, negsuc, zero, suc, Bool, true, false, cond, codes, List, [], ◌∷◌, map, slice_index, Option, Some, None, IsSome, refl, sym, ap, ap₂, subst, ◌∙◌, arith}
 use Rattle.std.specs.List.{list_all}
-use Rattle.std.proofs.lemmas.Bool.{cases_Bool, and_parts}
+use Rattle.std.proofs.lemmas.Bool.{and_parts}
 use Rattle.sqlite_pages.specs.PageMap.{PageMap}
-use Rattle.sqlite_btree.specs.Chain.{Layout}
-use Rattle.sqlite_btree.specs.Stored.{IsTable, IsLaidIn}
 use Rattle.sqlite_btree.proofs.StoredLemmas.{stored_root_live}
-use Rattle.sqlite_pool.specs.File.{in_use, unlocked, version_in, trunks_of, header_in}
-use Rattle.sqlite_pool.specs.Header.{lock_page}
-use Rattle.sqlite_pool.specs.FreeList.{live, times_free}
+use Rattle.sqlite_pool.specs.File.{in_use, unlocked, version_in}
+use Rattle.sqlite_pool.specs.FreeList.{live}
 use Rattle.sqlite_value.specs.declared.value.Value.TheVariants.{Text}
 use Rattle.sqlite_value.specs.Order.{Row, column}
-use Rattle.sqlite_trees.specs.Sound.{is_word, head_at, are_in_order}
-use Rattle.sqlite_trees.specs.declared.store.Shape.TheVariants.{Table, Absent}
+use Rattle.sqlite_trees.specs.declared.store.Shape.TheVariants.{Table}
 use Rattle.sqlite_store.specs.declared.catalog.Wanted.{Wanted}
-use Rattle.sqlite_store.specs.Catalog.{shape_at, reals_at, roots_in, root_in, fits_shape, shape_fits, pages_fit, may_stand, is_listed_once, MayAllStand}
-use Rattle.sqlite_store.specs.Db.{shown, rows_at, roots_of, trees_in, IsFile, IsLaid, IsDb, Names}
+use Rattle.sqlite_store.specs.Catalog.{shape_at, roots_in, root_in, fits_shape, shape_fits}
+use Rattle.sqlite_store.specs.Db.{shown, rows_at, roots_of, IsFile, Names}
 use Rattle.sqlite_store.specs.Listing.{all_trees, file_trees}
 use Rattle.sqlite_store.proofs.DbLemmas.{named_laid, named_rows}
 use Rattle.sqlite_store.proofs.ListingLemmas.{named_tree, past_version}

@@ -1,5 +1,5 @@
 -- Walks as folds, for callers.
-use Rattle.std.proofs.Common.{◌≡◌, Bool, true, false, List, [], ◌∷◌, ◌++◌, fold, refl, ap, ◌∙◌}
+use Rattle.std.proofs.Common.{◌≡◌, Bool, true, false, List, [], ◌∷◌, ◌++◌, fold, refl, ◌∙◌}
 use Rattle.sqlite_value.specs.Order.{Row}
 use Rattle.page_rows.specs.Walks.{walked}
 

@@ -1,14 +1,13 @@
 -- A step of a walk.
-use Rattle.std.proofs.Common.{◌≡◌, ℤ, ℕ, pos, ◌+ℤ◌, Bool, true, false, List, [], ◌∷◌, ◌++◌, map, refl, sym, ap, ap₂, subst, ◌∙◌, inl, inr}
+use Rattle.std.proofs.Common.{◌≡◌, ℤ, ℕ, Bool, true, false, List, [], ◌∷◌, ◌++◌, map, refl, sym, ap, ap₂, subst, ◌∙◌, inl, inr}
 use Rattle.sqlite_pages.specs.PageMap.{PageMap}
 use Rattle.sqlite_btree.specs.Chain.{Layout}
 use Rattle.sqlite_btree.specs.Cut.{from_cut}
 use Rattle.sqlite_btree.specs.Stored.{as_row, by_rowid}
-use Rattle.sqlite_btree.specs.Batch.{left_in, taken, IsBatchOf, TookFirst, IsFilled}
+use Rattle.sqlite_btree.specs.Batch.{TookFirst, IsFilled}
 use Rattle.sqlite_btree.specs.declared.batch.Batch.{Batch}
 use Rattle.sqlite_store.proofs.RowLemmas.{Raw}
 use Rattle.sqlite_value.specs.Order.{Row}
-use Rattle.sqlite_store.specs.Db.{table_row}
 use Rattle.page_rows.specs.Places.{IsAt, HasCome}
 use Rattle.page_rows.specs.Walks.{walked, MayRefuse, IsRestOf}
 

@@ -1,5 +1,5 @@
 -- A turn of a walk, over plain values.
-use Rattle.std.proofs.Common.{◌≡◌, ℤ, ℕ, ◌^◌, pos, ◌+ℤ◌, ◌<ℤ◌, of_z, to_z, w64, to_z-of_z, Bool, true, false, List, [], ◌∷◌, ◌++◌, map, refl, sym, ap, ap₂, subst, subst₂, ◌∙◌, inl, inr}
+use Rattle.std.proofs.Common.{◌≡◌, ℤ, ℕ, ◌^◌, pos, ◌+ℤ◌, ◌<ℤ◌, of_z, to_z, w64, to_z-of_z, Bool, true, false, List, ◌∷◌, ◌++◌, map, sym, ap, ap₂, subst, subst₂, ◌∙◌}
 use Rattle.sqlite_pages.specs.PageMap.{PageMap}
 use Rattle.sqlite_btree.specs.Chain.{Layout}
 use Rattle.sqlite_btree.specs.Cut.{from_cut}

@@ -1,7 +1,6 @@
-use Rattle.std.proofs.Common.{◌≡◌, ◌++◌, [], ◌∷◌, ◌∙◌, ap, ap₂, of_z, to_z, w64, to_z-of_z}
+use Rattle.std.proofs.Common.{◌++◌, [], ◌∷◌, ◌∙◌, ap₂, to_z-of_z}
 use Rattle.std.proofs.lemmas.Result.{on_ok_weaker}
 use Rattle.sqlite_record.specs.Record.{decode}
-use Rattle.sqlite_record.specs.Affinity.{widen}
 use Rattle.sqlite_record.proofs.AffinityLemmas.{widen-zero}
 use Rattle.sqlite_value.specs.declared.value.Value.TheVariants.{Int}
 use Rattle.page_rows.proofs.records.read_row.Goals as goal

@@ -1,5 +1,5 @@
-use Rattle.std.proofs.Common.{◌≡◌, ap, ◌∙◌}
-use Rattle.page_rows.specs.Roots.{root_in_list, with_entry, is_other}
+use Rattle.std.proofs.Common.{ap, ◌∙◌}
+use Rattle.page_rows.specs.Roots.{with_entry, is_other}
 use Rattle.page_rows.specs.Walks.{walked}
 use Rattle.page_rows.specs.Rows.{rows_of}
 use Rattle.page_rows.proofs.Cuts.{all_from_least}

@@ -1,4 +1,4 @@
-use Rattle.std.proofs.Common.{arith, ◌≡◌, sym, subst, subst₂, ◌∙◌, to_z-of_z}
+use Rattle.std.proofs.Common.{arith, sym, subst, subst₂, ◌∙◌, to_z-of_z}
 use Rattle.std.proofs.Math.Path.{subst₃}
 use Rattle.std.proofs.lemmas.Result.{err_from_is_err_and, MatchResult-weaker}
 use Rattle.sqlite_btree.specs.Cut.{from_cut}

@@ -1,4 +1,4 @@
-use Rattle.std.proofs.Common.{◌≡◌, sym, subst, to_z-of_z}
+use Rattle.std.proofs.Common.{sym, subst, to_z-of_z}
 use Rattle.std.proofs.lemmas.Result.{MatchResult-weaker}
 use Rattle.sqlite_btree.specs.Batch.{IsFound}
 use Rattle.sqlite_btree.specs.Stored.{by_rowid}

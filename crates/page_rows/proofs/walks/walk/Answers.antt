@@ -1,4 +1,4 @@
-use Rattle.std.proofs.Common.{rules, arith, ◌≡◌, ℤ, ℕ, pos, ◌+ℤ◌, ◌<ℤ◌, of_z, to_z, w64, to_z-of_z, true, false, List, ◌++◌, map, refl, ap, subst, sym, ◌∙◌}
+use Rattle.std.proofs.Common.{rules, arith, ◌≡◌, pos, ◌+ℤ◌, of_z, to_z, w64, to_z-of_z, ◌++◌, map, refl, ap, subst, sym, ◌∙◌}
 use Rattle.std.proofs.lemmas.Int.{ints}
 use Rattle.std.proofs.lemmas.Result.{err_from_is_err_and}
 use Rattle.sqlite_pages.specs.Calls.{FailsFor}

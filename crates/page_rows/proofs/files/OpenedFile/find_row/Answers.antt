@@ -1,4 +1,4 @@
-use Rattle.std.proofs.Common.{◌≡◌, sym, ap, subst, subst₂, ◌∙◌, to_z-of_z, MatchResult}
+use Rattle.std.proofs.Common.{sym, ap, subst, subst₂, ◌∙◌, to_z-of_z, MatchResult}
 use Rattle.sqlite_pages.proofs.Doubt.{no_doubt}
 use Rattle.sqlite_trees.specs.View.{Finds}
 use Rattle.sqlite_store.specs.Db.{table_row}

@@ -1,6 +1,5 @@
-use Rattle.std.proofs.Common.{◌≡◌, sym, ap, subst, subst₂, ◌∙◌, to_z-of_z}
+use Rattle.std.proofs.Common.{sym, ap, subst, subst₂, ◌∙◌, to_z-of_z}
 use Rattle.sqlite_pages.proofs.Doubt.{no_doubt}
-use Rattle.page_rows.specs.declared.files.OpenedFile.{OpenedFile}
 use Rattle.page_rows.specs.Rows.{HasTable, rows_of, from_rowid}
 use Rattle.page_rows.specs.Files.{page_size, FailsToRead}
 use Rattle.page_rows.specs.Walks.{Walks}
