@@ -30,7 +30,7 @@ pub struct NotOpened<D: Disk> {
 }
 
 /// A database file whose tables are read from its pages. Of the file, only the log, the header and the
-/// list of free pages were looked at. It writes nothing.
+/// list of free pages were looked at. The file is not written; opening it may begin the log anew.
 #[derive(Drop)]
 pub struct OpenedFile<D: Disk> {
     pool: Pool<D>,
