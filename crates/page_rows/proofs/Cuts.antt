@@ -4,7 +4,11 @@ use Rattle.std.proofs.lemmas.Bool.{cases_Bool}
 use Rattle.std.proofs.lemmas.Int.{ints}
 use Rattle.sqlite_btree.specs.Cut.{Each, Ascends, from_cut}
 use Rattle.sqlite_btree.specs.Stored.{by_rowid}
+use Rattle.sqlite_value.specs.declared.value.Value.TheVariants.{Int}
+use Rattle.sqlite_value.specs.Order.{Row}
 use Rattle.sqlite_value.proofs.OrderLemmas.{value_cmp-Int}
+use Rattle.sqlite_trees.specs.Tree.{rowid}
+use Rattle.sqlite_btree.proofs.ViewLemmas.{ascends_rows}
 use Rattle.sqlite_store.specs.Db.{table_row}
 use Rattle.sqlite_pages.specs.PageMap.{PageMap}
 use Rattle.sqlite_store.proofs.DbLemmas.{table_reads, all_fit}
@@ -58,3 +62,20 @@ all_from_least size pages root has =
     let (layout, raw, laid, table) = has in
     let reads = table_reads pages laid table in
     ap (from_rowid (negsuc (2 ^ 63 - 1))) reads ∙ sym (cut_rows (negsuc (2 ^ 63 - 1)) raw) ∙ ap (map table_row) (from_least raw (all_fit table)) ∙ sym reads
+
+module _ (raw : List Raw) (up : Rises raw) (at id : ℤ) (row : Row) (rest : List Row) (numbered : rowid row ≡ Int id) where
+  cut_first : (cut : List Raw) → from_cut (by_rowid at) raw ≡ cut → map table_row cut ≡ row ∷ rest → from_rowid (id +ℤ pos 1) (map table_row raw) ≡ rest
+  cut_first [] is shown = absurd (cc)
+  cut_first (x ∷ xs) is shown =
+      let first : table_row x ≡ row = cc in
+      let later : map table_row xs ≡ rest = cc in
+      let same : x.0 ≡ id = (let e : Int x.0 ≡ Int id = ap rowid first ∙ numbered in cc) in
+      sym (cut_rows (id +ℤ pos 1) raw) ∙ ap (λ n. map table_row (from_cut (by_rowid (n +ℤ pos 1)) raw)) (sym same) ∙ ap (map table_row) (cut_goes_on at raw x xs up is).1 ∙ later
+
+-- the rows behind the first that is not below a rowid
+pub from_behind : (size : ℕ) (pages : PageMap) (root : ℕ) → HasTable size pages root → (at id : ℤ) (row : Row) (rest : List Row) → rowid row ≡ Int id
+    → from_rowid at (rows_of size pages root) ≡ row ∷ rest → from_rowid (id +ℤ pos 1) (rows_of size pages root) ≡ rest
+from_behind size pages root has at id row rest numbered is =
+    let (layout, raw, laid, table) = has in
+    let reads = table_reads pages laid table in
+    ap (from_rowid (id +ℤ pos 1)) reads ∙ cut_first raw (ascends_rows table) at id row rest numbered _ refl (cut_rows at raw ∙ ap (from_rowid at) (sym reads) ∙ is)

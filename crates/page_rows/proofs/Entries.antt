@@ -12,14 +12,34 @@ use Rattle.sqlite_value.specs.Order.{Row, column, bytes, value_cmp}
 use Rattle.sqlite_value.proofs.OrderLemmas.{value_cmp-Text, value_cmp-apart}
 use Rattle.sqlite_trees.specs.Sound.{is_word, same_name, Head, head_at, may_follow, are_in_order}
 use Rattle.sqlite_store.specs.declared.catalog.Wanted.{Wanted}
-use Rattle.sqlite_store.specs.Catalog.{describes, root_in}
-use Rattle.page_rows.specs.Roots.{names_table, root_in_list, with_entry, is_other}
-use Rattle.page_rows.specs.Walks.{walked}
+use Rattle.sqlite_store.specs.Catalog.{describes, page_number, root_in}
+use Rattle.page_rows.specs.Roots.{names_table, root_in_list}
 
--- the walk that looks for a table's entry finds the first
-pub finds_root : (name : List ℕ) (entries : List Row) → walked with_entry is_other (name, None) entries ≡ (name, root_in_list name entries)
-finds_root name [] = refl
-finds_root name (entry ∷ entries) = elim (cases_Bool (names_table name entry)) [ inl here ↦ rw here refl | inr other ↦ rw other (finds_root name entries) ]
+-- entries of which none is the table's, and then others
+pub root_behind : (name : List ℕ) (front rest : List Row) → root_in_list name front ≡ None → root_in_list name (front ++ rest) ≡ root_in_list name rest
+root_behind name [] rest none = refl
+root_behind name (entry ∷ front) rest none = elim (cases_Bool (names_table name entry)) [
+  | inl here ↦ absurd (let e = rw here at none in cc)
+  | inr other ↦ rw other (root_behind name front rest (rw other at none))
+]
+
+-- entries of which one is, and then others
+pub root_before : (name : List ℕ) (front rest : List Row) (page : ℕ) → root_in_list name front ≡ Some page → root_in_list name (front ++ rest) ≡ Some page
+root_before name [] rest page found = absurd (cc)
+root_before name (entry ∷ front) rest page found = elim (cases_Bool (names_table name entry)) [
+  | inl here ↦ rw here (rw here at found)
+  | inr other ↦ rw other (root_before name front rest page (rw other at found))
+]
+
+-- behind entries of other tables, the entry states the root
+pub found_next : (name : List ℕ) (rows : List Row) (entry : Row) → root_in_list name rows ≡ None → names_table name entry ≡ true
+    → root_in_list name (rows ++ entry ∷ []) ≡ Some (page_number (column entry 4))
+found_next name rows entry none here = root_behind name rows (entry ∷ []) none ∙ rw here refl
+
+-- or is that of another, too
+pub other_next : (name : List ℕ) (rows : List Row) (entry : Row) → root_in_list name rows ≡ None → names_table name entry ≡ false
+    → root_in_list name (rows ++ entry ∷ []) ≡ None
+other_next name rows entry none other = root_behind name rows (entry ∷ []) none ∙ rw other refl
 
 is_equal : (o : Ordering) → is_eq o ≡ true → o ≡ Equal
 is_equal Less h = absurd (cc)

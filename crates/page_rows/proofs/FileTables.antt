@@ -1,13 +1,14 @@
 -- From a file's pages to its tables.
-use Rattle.std.proofs.Common.{◌≡◌, ◌≢◌, ℕ, ◌^◌, ◌-◌, negsuc, zero, suc, Bool, true, false, cond, codes, List, [], ◌∷◌, map, slice_index, Option, Some, None, IsSome, refl, sym, ap, ap₂, subst, ◌∙◌, arith}
+use Rattle.std.proofs.Common.{◌≡◌, ◌≢◌, ℤ, ℕ, ◌^◌, ◌-◌, pos, ◌+ℤ◌, negsuc, zero, suc, Bool, true, false, cond, codes, List, [], ◌∷◌, map, slice_index, Option, Some, None, IsSome, refl, sym, ap, ap₂, subst, ◌∙◌, arith}
 use Rattle.std.specs.List.{list_all}
 use Rattle.std.proofs.lemmas.Bool.{and_parts}
 use Rattle.sqlite_pages.specs.PageMap.{PageMap}
 use Rattle.sqlite_btree.proofs.StoredLemmas.{stored_root_live}
 use Rattle.sqlite_pool.specs.File.{in_use, unlocked, version_in}
 use Rattle.sqlite_pool.specs.FreeList.{live}
-use Rattle.sqlite_value.specs.declared.value.Value.TheVariants.{Text}
+use Rattle.sqlite_value.specs.declared.value.Value.TheVariants.{Int, Text}
 use Rattle.sqlite_value.specs.Order.{Row, column}
+use Rattle.sqlite_trees.specs.Tree.{rowid}
 use Rattle.sqlite_trees.specs.declared.store.Shape.TheVariants.{Table}
 use Rattle.sqlite_store.specs.declared.catalog.Wanted.{Wanted}
 use Rattle.sqlite_store.specs.Catalog.{shape_at, roots_in, root_in, fits_shape, shape_fits}
@@ -17,7 +18,7 @@ use Rattle.sqlite_store.proofs.DbLemmas.{named_laid, named_rows}
 use Rattle.sqlite_store.proofs.ListingLemmas.{named_tree, past_version}
 use Rattle.sqlite_store.proofs.ShownLemmas.{shown-zero}
 use Rattle.page_rows.specs.Rows.{HasTable, rows_of, from_rowid}
-use Rattle.page_rows.proofs.Cuts.{all_from_least}
+use Rattle.page_rows.proofs.Cuts.{all_from_least, from_behind}
 use Rattle.page_rows.specs.Roots.{root_in_list}
 use Rattle.page_rows.specs.Tables.{description_at, IsNamed, IsRooted, root_of_tree}
 use Rattle.page_rows.proofs.Entries.{word_is, named_root}
@@ -48,6 +49,12 @@ module _ {size : ℕ} {wanted : List Wanted} {pages : PageMap} (file : IsFile si
   pub all_shown_from_least : from_rowid (negsuc (2 ^ 63 - 1)) (file_trees size wanted pages t) ≡ file_trees size wanted pages t
   all_shown_from_least =
       subst (λ rows. from_rowid (negsuc (2 ^ 63 - 1)) rows ≡ rows) table_shown (all_from_least size (in_use size pages) root table_there)
+
+  -- the rows behind the first that is not below a rowid
+  pub shown_behind : (at id : ℤ) (row : Row) (rest : List Row) → rowid row ≡ Int id → from_rowid at (file_trees size wanted pages t) ≡ row ∷ rest
+      → from_rowid (id +ℤ pos 1) (file_trees size wanted pages t) ≡ rest
+  shown_behind at id row rest numbered =
+      subst (λ rows. from_rowid at rows ≡ row ∷ rest → from_rowid (id +ℤ pos 1) rows ≡ rest) table_shown (from_behind size (in_use size pages) root table_there at id row rest numbered)
 
 none_kept : (a b : Bool) (page : Option (List ℕ)) → page ≡ None → cond a (cond b None page) None ≡ None
 none_kept true true page none = refl

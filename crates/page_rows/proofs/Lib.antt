@@ -1,6 +1,6 @@
 mod Cuts
 mod Entries
 pub mod FileTables
-pub mod Folds
+pub mod Reading
 mod Steps
 mod Turns

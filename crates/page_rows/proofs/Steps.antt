@@ -1,5 +1,5 @@
 -- A step of a walk.
-use Rattle.std.proofs.Common.{◌≡◌, ℤ, ℕ, Bool, true, false, List, [], ◌∷◌, ◌++◌, map, refl, sym, ap, ap₂, subst, ◌∙◌, inl, inr}
+use Rattle.std.proofs.Common.{◌≡◌, ℤ, ℕ, Bool, true, false, List, [], ◌∷◌, ◌++◌, map, sym, ap, ap₂, subst, ◌∙◌, inl, inr, append-nil, append_assoc}
 use Rattle.sqlite_pages.specs.PageMap.{PageMap}
 use Rattle.sqlite_btree.specs.Chain.{Layout}
 use Rattle.sqlite_btree.specs.Cut.{from_cut}
@@ -9,7 +9,7 @@ use Rattle.sqlite_btree.specs.declared.batch.Batch.{Batch}
 use Rattle.sqlite_store.proofs.RowLemmas.{Raw}
 use Rattle.sqlite_value.specs.Order.{Row}
 use Rattle.page_rows.specs.Places.{IsAt, HasCome}
-use Rattle.page_rows.specs.Walks.{walked, MayRefuse, IsRestOf}
+use Rattle.page_rows.specs.Walks.{HasWalked, IsBehind, MayRefuse}
 
 module _ (layout : Layout) (size : ℕ) (pages : PageMap) (raw : List Raw) (from : ℤ) (old new : Batch) where
   -- a row that the batch had left
@@ -22,29 +22,27 @@ module _ (layout : Layout) (size : ℕ) (pages : PageMap) (raw : List Raw) (from
   come_anew filled true took = (took.1, (filled.rest, filled.parts ∙ ap (λ es. map as_row es ++ filled.rest) took.0))
   come_anew filled false took = filled.parts ∙ ap₂ (λ es rest. map as_row es ++ rest) took.0 (filled.ends took.0)
 
-module _ {M E : Type 0} (step : M → Row → M) (goes_on : M → Row → Bool) (Refuses : M → Row → E → Type 0) (m all_m : M) (rows all : List Row) (is : IsRestOf step goes_on Refuses m rows all_m all) where
+may_refuse-behind : {E : Type 0} (Refuses : Row → E → Type 0) (e : E) (front rows : List Row) → MayRefuse Refuses rows e → MayRefuse Refuses (front ++ rows) e
+may_refuse-behind Refuses e [] rows may = may
+may_refuse-behind Refuses e (row ∷ front) rows may = inr (may_refuse-behind Refuses e front rows may)
+
+module _ {A S : Type 0} (Has Ends : A → List Row → S → Type 0) (start : A) (old : S) (rows all : List Row) (is : IsBehind Has start rows old all) where
   -- no row is left
-  pub ends_here : rows ≡ [] → m ≡ walked step goes_on all_m all
-  ends_here none = ap (walked step goes_on m) (sym none) ∙ is.0
+  pub ends_here : rows ≡ [] → HasWalked Has Ends start all old
+  ends_here none = inl (subst (λ list. Has start list old) (sym (is.1 ∙ ap (λ rest. is.0 ++ rest) none ∙ append-nil is.0)) is.2)
 
   module _ (row : Row) (rest : List Row) (parts : rows ≡ row ∷ rest) where
-    -- the row is the last that is wanted
-    pub stops_behind : (new : M) → new ≡ step m row → goes_on m row ≡ false → new ≡ walked step goes_on all_m all
-    stops_behind new made last = made ∙ first ∙ is.0
-      where
-        first : step m row ≡ walked step goes_on m rows
-        first = rw (parts, last) refl
+    all_parts : all ≡ (is.0 ++ row ∷ []) ++ rest
+    all_parts = is.1 ∙ ap (λ list. is.0 ++ list) parts ∙ sym (append_assoc is.0 (row ∷ []) rest)
 
-    -- the row is refused
-    pub refused_here : (e : E) → Refuses m row e → MayRefuse step goes_on Refuses all_m all e
-    refused_here e may = is.1 e (subst (λ r. MayRefuse step goes_on Refuses m r e) (sym parts) (inl may))
+    -- the row is the last that is wanted
+    pub stops_behind : (new : S) → (Has start is.0 old → Ends start (is.0 ++ row ∷ []) new) → HasWalked Has Ends start all new
+    stops_behind new taken = inr (is.0 ++ row ∷ [], rest, all_parts, taken is.2)
 
     -- the row is taken, and more are wanted
-    pub goes_behind : (new : M) → new ≡ step m row → goes_on m row ≡ true → IsRestOf step goes_on Refuses new rest all_m all
-    goes_behind new made more = (
-      ap (λ n. walked step goes_on n rest) made ∙ first ∙ is.0,
-      λ e may. is.1 e (subst (λ r. MayRefuse step goes_on Refuses m r e) (sym parts) (inr (more, subst (λ n. MayRefuse step goes_on Refuses n rest e) made may))),
-    )
-      where
-        first : walked step goes_on (step m row) rest ≡ walked step goes_on m rows
-        first = rw (parts, more) refl
+    pub goes_behind : (new : S) → (Has start is.0 old → Has start (is.0 ++ row ∷ []) new) → IsBehind Has start rest new all
+    goes_behind new taken = (is.0 ++ row ∷ [], all_parts, taken is.2)
+
+    -- the row is refused
+    pub refused_here : {E : Type 0} (Refuses : Row → E → Type 0) (e : E) → Refuses row e → MayRefuse Refuses all e
+    refused_here Refuses e may = subst (λ list. MayRefuse Refuses list e) (sym (is.1 ∙ ap (λ list. is.0 ++ list) parts)) (may_refuse-behind Refuses e is.0 (row ∷ rest) (inl may))

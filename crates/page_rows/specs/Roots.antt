@@ -1,5 +1,5 @@
 -- The root page that sqlite_schema states for a table. Its rows are a rowid, then type, name, table, root page and SQL text.
-use Rattle.std.specs.Prelude.{ℕ, Bool, not, ◌&&◌, if◌then◌else◌, codes, List, [], ◌∷◌, Option, None, Some}
+use Rattle.std.specs.Prelude.{◌≡◌, ℕ, Bool, ◌&&◌, if◌then◌else◌, codes, List, [], ◌∷◌, Option, None, Some}
 use Rattle.sqlite_value.specs.Order.{Row, column}
 use Rattle.sqlite_trees.specs.Sound.{is_word}
 use Rattle.sqlite_store.specs.Catalog.{page_number}
@@ -13,12 +13,6 @@ abbrev pub root_in_list : List ℕ → List Row → Option ℕ
 root_in_list name [] = None
 root_in_list name (entry ∷ entries) = if names_table name entry then Some (page_number (column entry 4)) else root_in_list name entries
 
--- a name, and the root page once it is found
-abbrev pub Sought : Type 0
-Sought = List ℕ × Option ℕ
-
-abbrev pub with_entry : Sought → Row → Sought
-with_entry sought entry = (sought.0, if names_table sought.0 entry then Some (page_number (column entry 4)) else sought.1)
-
-abbrev pub is_other : Sought → Row → Bool
-is_other sought entry = not (names_table sought.0 entry)
+-- there is such an entry, and it states this root page
+abbrev pub IsFoundIn : List ℕ → List Row → Option ℕ → Type 0
+IsFoundIn name entries root = (page : ℕ) × (root_in_list name entries ≡ Some page) × (root ≡ Some page)

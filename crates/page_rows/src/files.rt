@@ -1,5 +1,5 @@
 // A database file that was opened with no check of its pages.
-ghost use Rattle.std.specs.Prelude.{◌≡◌, ℕ, List, Some, IsTrue, IfOk, IfErr, OnOk, MatchResult};
+ghost use Rattle.std.specs.Prelude.{◌≡◌, ℕ, List, [], Some, IsTrue, IfOk, IfErr, OnOk, MatchResult};
 ghost use Rattle.sqlite_pages.specs.PageMap.{PageMap};
 ghost use Rattle.sqlite_pool.specs.Pool as pools;
 ghost use Rattle.sqlite_pool.specs.Opening.{image, AreUsable, HasSoundFile};
@@ -86,7 +86,7 @@ impl<D: Disk> OpenedFile<D> {
     ) -> Result<(), WalkError<T::Refusal>>
         ensures done { IsFaithful self.new → (wanted : List Wanted) (pages : PageMap) (t : ℕ) → Shows self.old pages → IsFile (page_size self.old) wanted pages
             → IsRooted (page_size self.old) wanted pages t root
-            → Walks (FailsToRead self.old self.new) T.step T.goes_on T.Refuses (T.meaning sink.old) (T.meaning sink.new)
+            → (start : T.Start) → T.Has start [] sink.old → Walks (FailsToRead self.old self.new) T.Has T.Ends T.Refuses start sink.new
             (from_rowid from (file_trees (page_size self.old) wanted pages t)) result }
         ensures reads { OnlyReads self.old self.new }
     {

@@ -44,20 +44,18 @@ struct Seeker<'n> {
 }
 
 impl RowSink for Seeker<'_> {
-    ghost use Rattle.std.specs.Prelude.{⊤};
-    ghost use Rattle.page_rows.specs.Roots.{Sought, with_entry, is_other};
+    ghost use Rattle.std.specs.Prelude.{◌≡◌, ℕ, List, None, ⊤};
+    ghost use Rattle.page_rows.specs.Roots.{IsFoundIn, root_in_list};
 
     type Refusal = AllocError;
 
-    ghost Meaning = { Sought };
+    ghost Start = { List ℕ };
 
-    ghost meaning = { λ s. (s.name.now, s.root) };
+    ghost Has = { λ name rows s. (s.name.now ≡ name) × (s.root ≡ None) × (root_in_list name rows ≡ None) };
 
-    ghost step = { with_entry };
+    ghost Ends = { λ name rows s. IsFoundIn name rows s.root };
 
-    ghost goes_on = { is_other };
-
-    ghost Refuses = { λ _ _ _. ⊤ };
+    ghost Refuses = { λ _ _. ⊤ };
 
     fn take(&mut self, rowid: i64, payload: &[u8]) -> Result<bool, AllocError> {
         read_row(rowid, payload, &mut self.entry)?;

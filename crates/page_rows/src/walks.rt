@@ -1,5 +1,5 @@
 // The walk over the rows of a table.
-ghost use Rattle.std.specs.Prelude.{◌≡◌, ℤ, ℕ, List, MatchResult};
+ghost use Rattle.std.specs.Prelude.{◌≡◌, ℤ, ℕ, List, [], MatchResult};
 ghost use Rattle.sqlite_pages.specs.Calls.{IsClean, Continues, FailsFor};
 ghost use Rattle.sqlite_btree.specs.Chain.{Layout};
 ghost use Rattle.sqlite_btree.specs.Stored.{IsTable, IsLaidIn};
@@ -48,7 +48,7 @@ pub fn walk<P: Pages, T: RowSink>(
     sink: &mut T,
 ) -> Result<(), WalkError<T::Refusal>>
     ensures done { IsClean P.Pages store.new → HasTable (P.Pages.size store.old) (P.Pages.pages store.old) root
-        → Walks (FailsFor P.Pages store.old store.new ⊥) T.step T.goes_on T.Refuses (T.meaning sink.old) (T.meaning sink.new)
+        → (start : T.Start) → T.Has start [] sink.old → Walks (FailsFor P.Pages store.old store.new ⊥) T.Has T.Ends T.Refuses start sink.new
         (from_rowid from (rows_of (P.Pages.size store.old) (P.Pages.pages store.old) root)) result }
     ensures kept { Continues P.Pages store.old store.new }
     ensures pages { P.Pages.pages store.new ≡ P.Pages.pages store.old }

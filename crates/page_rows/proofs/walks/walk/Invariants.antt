@@ -1,11 +1,11 @@
-use Rattle.std.proofs.Common.{◌≡◌, ℤ, ℕ, List, map}
+use Rattle.std.proofs.Common.{◌≡◌, ℤ, ℕ, List, [], map}
 use Rattle.sqlite_pages.specs.Calls.{IsClean, Continues}
 use Rattle.sqlite_btree.specs.Chain.{Layout}
 use Rattle.sqlite_btree.specs.Cut.{from_cut}
 use Rattle.sqlite_btree.specs.Stored.{by_rowid, IsTable, IsLaidIn}
 use Rattle.sqlite_store.specs.Db.{table_row}
 use Rattle.page_rows.specs.Places.{IsAt}
-use Rattle.page_rows.specs.Walks.{IsRestOf}
+use Rattle.page_rows.specs.Walks.{IsBehind}
 use Rattle.page_rows.proofs.walks.walk.Given as goal
 
 abbrev pub invariant-rows : goal.invariant-rows
@@ -15,5 +15,5 @@ invariant-rows g l =
     let t = g.T.RowSink in
     (IsClean g.P.Pages l.store → (layout : Layout) (raw : List (ℤ × List ℕ)) → IsLaidIn layout pages → IsTable size layout l.root raw
     → IsAt layout size pages raw l.next l.batch
-    × IsRestOf t.step t.goes_on t.Refuses (t.meaning l.sink) (map table_row (from_cut (by_rowid l.next) raw)) (t.meaning l.fn.sink) (map table_row (from_cut (by_rowid l.fn.from) raw)))
+    × ((start : t.Start) → t.Has start [] l.fn.sink → IsBehind t.Has start (map table_row (from_cut (by_rowid l.next) raw)) l.sink (map table_row (from_cut (by_rowid l.fn.from) raw))))
     × Continues g.P.Pages l.fn.store l.store × (g.P.Pages.pages l.store ≡ pages)
