@@ -1,7 +1,7 @@
 pub mod CallRows
 pub mod Asking
 pub mod Examples
-mod HeadReading
+pub mod HeadReading
 mod LineLists
 pub mod LineWalks
 mod LookupFinds

@@ -30,7 +30,7 @@ same_line a b h =
 
 -- ---- numbers that rise
 
-abbrev Rise : List HeldName → Type 0
+abbrev pub Rise : List HeldName → Type 0
 Rise = IsAscending (λ a b. a.number < b.number)
 
 pub lines_rise : (names : List HeldName) → Rise names → IsAscending (λ (a b : NameRow). a.number < b.number) (map name_row names)

@@ -8,6 +8,7 @@ use Rattle.prof_books.specs.Book.{name_of}
 use Rattle.run_stores.specs.Walks.{CallsFoldTo}
 use Rattle.store_schema.specs.Lines.{call_row}
 use Rattle.store_schema.specs.declared.table_rows.CallRow.{CallRow}
+use Rattle.held_runs.specs.declared.handed_calls.CallLines.{CallLines}
 use Rattle.held_runs.specs.declared.walks.Listed.TheVariants.{Calls}
 use Rattle.held_runs.specs.Walks.{AreAllRead}
 
@@ -50,3 +51,9 @@ pub record HasTakenCalls {M : Type 0} (names : List NameRow) (events : ℕ) (ste
   pub waiting : List Call
   pub are_waiting : AreWaiting events first costs waiting
   pub lines_are : lines ≡ handed ++ waiting
+
+-- the same of what takes them, with these names and so many events
+pub record HasTakenCallLines {T M : Type 0} (names : List NameRow) (events : ℕ) (meaning : T → M) (step : M → CallEdge (List ℕ) (List ℕ) → M) (start : M) (lines : List Call) (taker : CallLines T) : Type 0 where
+  pub names_same : taker.names.now ≡ names
+  pub events_same : taker.events ≡ events
+  pub taken : HasTakenCalls names events step start (meaning taker.sink) taker.first taker.costs lines

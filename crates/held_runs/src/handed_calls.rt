@@ -1,11 +1,12 @@
 // The calls of a run, handed on row by row, with names in place.
-ghost use Rattle.std.specs.Prelude.{◌≡◌, ◌≢◌, List, None, OnOk, IfOk, IfErr};
+ghost use Rattle.std.specs.Prelude.{◌≡◌, ◌≢◌, ◌++◌, ◌∷◌, [], ℕ, List, None, OnOk, IfOk, IfErr};
 ghost use Rattle.std.specs.Result.{is_ok};
 ghost use Rattle.plain_tables.specs.RunRows.{calls_in};
-ghost use Rattle.plain_tables.specs.Tables.{CallRow as Call};
+ghost use Rattle.plain_tables.specs.Tables.{NameRow, CallRow as Call};
+ghost use Rattle.store_schema.specs.Lines.{call_row};
 ghost use Rattle.prof_store.specs.Shown.{Told};
 ghost use Rattle.run_stores.specs.Walks.{CallsFoldTo};
-ghost use Rattle.held_runs.specs.HeldCalls.{CallsFoldFrom, HasTakenCalls};
+ghost use Rattle.held_runs.specs.HeldCalls.{CallsFoldFrom, HasTakenCallLines, HasTakenCalls};
 ghost use Rattle.held_runs.specs.declared.walks.Listed.TheVariants.{Calls};
 ghost use Rattle.held_runs.specs.Walks.{rows_of, AsksIfOpen, OfReady};
 
@@ -34,9 +35,9 @@ fn check_first(line: &CallRow) -> Result<(), OutOfForm>
     }
 }
 
-/// Takes the lines of calls, and hands on a row once all its lines are taken.
+/// Takes the lines of calls, and hands on a row, with names in place, once all its lines are taken.
 #[derive(Drop)]
-struct CallLines<'n, T> {
+pub struct CallLines<'n, T> {
     names: &'n HeldNames,
     alloc: Global,
     events: usize,
@@ -66,13 +67,68 @@ impl<T: CallSink> CallLines<'_, T> {
     }
 }
 
+impl<'n, T: CallSink> CallLines<'n, T> {
+    /// Nothing is taken yet. The lines are to be of so many events.
+    pub fn new(names: &'n HeldNames, alloc: Global, events: usize, sink: T) -> CallLines<'n, T>
+        ensures { HasTakenCallLines names.now events T.meaning T.step (T.meaning sink) [] result }
+    {
+        CallLines {
+            names,
+            alloc,
+            events,
+            first: None,
+            costs: ListVec::new(alloc),
+            sink,
+        }
+    }
+
+    /// Takes a line: a part of the row that waits, or the count of the next. Errors: `Memory`; `Store` for a
+    /// part without its count, parts that do not rise, a cost of 0 or of none of the events, and a name that
+    /// is not held; and those of the taker.
+    pub fn take_line(&mut self, line: CallRow) -> Result<(), StoreError>
+        ensures { OnOk result ((names : List NameRow) (events : ℕ) (start : T.Meaning) (lines : List Call)
+            → HasTakenCallLines names events T.meaning T.step start lines self.old
+            → HasTakenCallLines names events T.meaning T.step start (lines ++ call_row line ∷ []) self.new) }
+    {
+        if let Some(first) = &self.first
+            && is_part_of(first, &line)
+        {
+            return add_part(&mut self.costs, &line, self.events);
+        }
+        self.hand_on()?;
+        check_first(&line)?;
+        self.first = Some(line);
+        Ok(())
+    }
+
+    /// Hands on the row that waits, and gives back what took the calls of all lines. Errors as for a line.
+    pub fn finish(mut self) -> Result<T, StoreError>
+    where
+        T: Drop,
+        ensures { IfOk result (λ taken. (names : List NameRow) (events : ℕ) (start : T.Meaning) (lines : List Call)
+            → HasTakenCallLines names events T.meaning T.step start lines self.entry
+            → CallsFoldTo names events T.step start (T.meaning taken) lines) }
+    {
+        self.hand_on()?;
+        let CallLines {
+            names: _,
+            alloc: _,
+            events: _,
+            first: _,
+            costs: _,
+            sink,
+        } = self;
+        Ok(sink)
+    }
+}
+
 impl<T: CallSink> RowSink for CallLines<'_, T> {
-    ghost use Rattle.std.specs.Prelude.{◌≡◌, ℕ, List};
+    ghost use Rattle.std.specs.Prelude.{ℕ, List};
     ghost use Rattle.plain_tables.specs.RunRows.{calls_in};
     ghost use Rattle.plain_tables.specs.Tables.{NameRow, CallRow as Call};
     ghost use Rattle.store_schema.specs.Tables.{arc_columns};
     ghost use Rattle.prof_store.proofs.RunRows.{calls_all};
-    ghost use Rattle.held_runs.specs.HeldCalls.{HasTakenCalls};
+    ghost use Rattle.held_runs.specs.HeldCalls.{HasTakenCallLines};
     ghost use Rattle.held_runs.specs.declared.walks.Listed.TheVariants.{Calls};
 
     ghost listed = { Calls };
@@ -85,8 +141,7 @@ impl<T: CallSink> RowSink for CallLines<'_, T> {
 
     ghost Start = { List NameRow × ℕ × T.Meaning };
 
-    ghost Has = { λ start lines s. (s.names.now ≡ start.0) × (s.events ≡ start.1)
-        × HasTakenCalls start.0 start.1 T.step start.2 (T.meaning s.sink) s.first s.costs lines };
+    ghost Has = { λ start lines s. HasTakenCallLines start.0 start.1 T.meaning T.step start.2 lines s };
 
     fn table() -> Listed
         ensures { result ≡ Calls }
@@ -96,15 +151,7 @@ impl<T: CallSink> RowSink for CallLines<'_, T> {
 
     fn take(&mut self, run: u32, row: &Row) -> Result<(), StoreError> {
         let line = read_call(run, row)?;
-        if let Some(first) = &self.first
-            && is_part_of(first, &line)
-        {
-            return add_part(&mut self.costs, &line, self.events);
-        }
-        self.hand_on()?;
-        check_first(&line)?;
-        self.first = Some(line);
-        Ok(())
+        self.take_line(line)
     }
 
     ghost all_read = { calls_all };
@@ -128,23 +175,7 @@ pub fn each_call<S: Alter, T: CallSink + Drop>(
         CallsFoldTo names.now events T.step (T.meaning sink) (T.meaning taken) (calls_in run t)) }
     ensures asks { AsksIfOpen S.Store (is_ok result) store.old store.new }
 {
-    let mut lines = CallLines {
-        names,
-        alloc,
-        events,
-        first: None,
-        costs: ListVec::new(alloc),
-        sink,
-    };
+    let mut lines = CallLines::new(names, alloc, events, sink);
     each_line(store, run, &mut lines)?;
-    lines.hand_on()?;
-    let CallLines {
-        names: _,
-        alloc: _,
-        events: _,
-        first: _,
-        costs: _,
-        sink,
-    } = lines;
-    Ok(sink)
+    lines.finish()
 }

@@ -1,13 +1,14 @@
 // Every cell of a run, handed on one at a time, with names in place.
-ghost use Rattle.std.specs.Prelude.{◌≡◌, ◌<◌, IfOk, OnOk};
+ghost use Rattle.std.specs.Prelude.{◌≡◌, ◌<◌, ◌++◌, ◌∷◌, [], ℕ, List, IfOk, OnOk};
 ghost use Rattle.std.specs.Result.{is_ok};
 ghost use Rattle.cost_rows.specs.Plain.{plain_cell};
 ghost use Rattle.prof_books.specs.Book.{cell_held, CellIsNamed};
 ghost use Rattle.plain_tables.specs.RunRows.{cells_in};
+ghost use Rattle.plain_tables.specs.Tables.{NameRow, CellRow as TableCell};
 ghost use Rattle.store_schema.specs.Lines.{cell_row};
 ghost use Rattle.prof_store.specs.Shown.{Told};
 ghost use Rattle.run_stores.specs.Walks.{CellsFoldTo};
-ghost use Rattle.held_runs.specs.HeldCells.{CellsFoldFrom};
+ghost use Rattle.held_runs.specs.HeldCells.{CellsFoldFrom, HasTakenCellLines};
 ghost use Rattle.held_runs.specs.declared.walks.Listed.TheVariants.{Cells};
 ghost use Rattle.held_runs.specs.Walks.{rows_of, AsksIfOpen, OfReady};
 
@@ -49,21 +50,59 @@ fn cell_row<'n>(
     })
 }
 
-/// Takes the lines of cells, and hands on their rows.
+/// Takes the lines of cells, and hands on their rows, with names in place.
 #[derive(Drop)]
-struct CellLines<'n, T> {
+pub struct CellLines<'n, T> {
     names: &'n HeldNames,
     events: usize,
     sink: T,
 }
 
+impl<'n, T: CellSink> CellLines<'n, T> {
+    /// Nothing is taken yet. The lines are to be of so many events.
+    pub fn new(names: &'n HeldNames, events: usize, sink: T) -> CellLines<'n, T>
+        ensures { HasTakenCellLines names.now events T.meaning T.step (T.meaning sink) [] result }
+    {
+        CellLines {
+            names,
+            events,
+            sink,
+        }
+    }
+
+    /// Takes a line. Errors: `Store` for a name that is not held and for a cell of none of the events; and
+    /// those of the taker.
+    pub fn take_line(&mut self, line: CellRow) -> Result<(), StoreError>
+        ensures { OnOk result ((names : List NameRow) (events : ℕ) (start : T.Meaning) (lines : List TableCell)
+            → HasTakenCellLines names events T.meaning T.step start lines self.old
+            → HasTakenCellLines names events T.meaning T.step start (lines ++ cell_row line ∷ []) self.new) }
+    {
+        let row = cell_row(&line, self.names, self.events)?;
+        self.sink.take(&row)
+    }
+
+    /// Gives back what took the cells of all lines.
+    pub fn finish(self) -> T
+        ensures { (names : List NameRow) (events : ℕ) (start : T.Meaning) (lines : List TableCell)
+            → HasTakenCellLines names events T.meaning T.step start lines self.entry
+            → CellsFoldTo names events T.step start (T.meaning result) lines }
+    {
+        let CellLines {
+            names: _,
+            events: _,
+            sink,
+        } = self;
+        sink
+    }
+}
+
 impl<T: CellSink> RowSink for CellLines<'_, T> {
-    ghost use Rattle.std.specs.Prelude.{◌≡◌, ℕ, List};
+    ghost use Rattle.std.specs.Prelude.{ℕ, List};
     ghost use Rattle.plain_tables.specs.RunRows.{cells_in};
     ghost use Rattle.plain_tables.specs.Tables.{NameRow, CellRow};
     ghost use Rattle.store_schema.specs.Tables.{cell_columns};
     ghost use Rattle.prof_store.proofs.RunRows.{cells_all};
-    ghost use Rattle.run_stores.specs.Walks.{CellsFoldTo};
+    ghost use Rattle.held_runs.specs.HeldCells.{HasTakenCellLines};
     ghost use Rattle.held_runs.specs.declared.walks.Listed.TheVariants.{Cells};
 
     ghost listed = { Cells };
@@ -76,8 +115,7 @@ impl<T: CellSink> RowSink for CellLines<'_, T> {
 
     ghost Start = { List NameRow × ℕ × T.Meaning };
 
-    ghost Has = { λ start lines s. (s.names.now ≡ start.0) × (s.events ≡ start.1)
-        × CellsFoldTo start.0 start.1 T.step start.2 (T.meaning s.sink) lines };
+    ghost Has = { λ start lines s. HasTakenCellLines start.0 start.1 T.meaning T.step start.2 lines s };
 
     fn table() -> Listed
         ensures { result ≡ Cells }
@@ -87,8 +125,7 @@ impl<T: CellSink> RowSink for CellLines<'_, T> {
 
     fn take(&mut self, run: u32, row: &Row) -> Result<(), StoreError> {
         let line = read_cell(run, row)?;
-        let row = cell_row(&line, self.names, self.events)?;
-        self.sink.take(&row)
+        self.take_line(line)
     }
 
     ghost all_read = { cells_all };
@@ -111,16 +148,7 @@ pub fn each_cell<S: Alter, T: CellSink + Drop>(
         CellsFoldTo names.now events T.step (T.meaning sink) (T.meaning taken) (cells_in run t)) }
     ensures asks { AsksIfOpen S.Store (is_ok result) store.old store.new }
 {
-    let mut lines = CellLines {
-        names,
-        events,
-        sink,
-    };
+    let mut lines = CellLines::new(names, events, sink);
     each_line(store, run, &mut lines)?;
-    let CellLines {
-        names: _,
-        events: _,
-        sink,
-    } = lines;
-    Ok(sink)
+    Ok(lines.finish())
 }

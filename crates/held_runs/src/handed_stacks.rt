@@ -1,11 +1,12 @@
 // Every stack of a run, handed on one at a time.
-ghost use Rattle.std.specs.Prelude.{◌≡◌, IfOk, fold};
+ghost use Rattle.std.specs.Prelude.{◌≡◌, ◌++◌, ◌∷◌, [], List, IfOk, OnOk, fold, map};
 ghost use Rattle.std.specs.Result.{is_ok};
 ghost use Rattle.cost_rows.specs.Plain.{plain_stack};
 ghost use Rattle.prof_books.specs.Book.{stack_held, stacks_held};
+ghost use Rattle.plain_tables.specs.Tables.{StackRow};
 ghost use Rattle.store_schema.specs.Lines.{held_stack};
 ghost use Rattle.prof_store.specs.Shown.{Told};
-ghost use Rattle.held_runs.specs.HeldStacks.{StacksFoldFrom};
+ghost use Rattle.held_runs.specs.HeldStacks.{HasTakenStackLines, StacksFoldFrom};
 ghost use Rattle.held_runs.specs.declared.walks.Listed.TheVariants.{Stacks};
 ghost use Rattle.held_runs.specs.Walks.{rows_of, AsksIfOpen, OfReady};
 
@@ -30,17 +31,43 @@ fn lent_stack(line: &HeldStack) -> StackCount<&[u8]>
 
 /// Takes the lines of stacks, and hands on their rows.
 #[derive(Drop)]
-struct StackLines<T> {
+pub struct StackLines<T> {
     sink: T,
 }
 
+impl<T: StackRowSink> StackLines<T> {
+    /// Nothing is taken yet.
+    pub fn new(sink: T) -> StackLines<T>
+        ensures { HasTakenStackLines T.meaning T.step (T.meaning sink) [] result }
+    {
+        StackLines { sink }
+    }
+
+    /// Takes a line. Errors: those of the taker.
+    pub fn take_line(&mut self, line: HeldStack) -> Result<(), StoreError>
+        ensures { OnOk result ((start : T.Meaning) (lines : List StackRow)
+            → HasTakenStackLines T.meaning T.step start lines self.old
+            → HasTakenStackLines T.meaning T.step start (lines ++ held_stack line ∷ []) self.new) }
+    {
+        self.sink.take(&lent_stack(&line))
+    }
+
+    /// Gives back what took the stacks of all lines.
+    pub fn finish(self) -> T
+        ensures { (start : T.Meaning) (lines : List StackRow) → HasTakenStackLines T.meaning T.step start lines self
+            → T.meaning result ≡ fold T.step start (map stack_held lines) }
+    {
+        let StackLines { sink } = self;
+        sink
+    }
+}
+
 impl<T: StackRowSink> RowSink for StackLines<T> {
-    ghost use Rattle.std.specs.Prelude.{◌≡◌, fold, map};
-    ghost use Rattle.prof_books.specs.Book.{stack_held};
     ghost use Rattle.plain_tables.specs.RunRows.{stacks_in};
     ghost use Rattle.plain_tables.specs.Tables.{StackRow};
     ghost use Rattle.store_schema.specs.Tables.{stack_columns};
     ghost use Rattle.prof_store.proofs.RunRows.{stacks_all};
+    ghost use Rattle.held_runs.specs.HeldStacks.{HasTakenStackLines};
     ghost use Rattle.held_runs.specs.declared.walks.Listed.TheVariants.{Stacks};
 
     ghost listed = { Stacks };
@@ -53,7 +80,7 @@ impl<T: StackRowSink> RowSink for StackLines<T> {
 
     ghost Start = { T.Meaning };
 
-    ghost Has = { λ start lines s. T.meaning s.sink ≡ fold T.step start (map stack_held lines) };
+    ghost Has = { HasTakenStackLines T.meaning T.step };
 
     fn table() -> Listed {
         Listed::Stacks
@@ -61,7 +88,7 @@ impl<T: StackRowSink> RowSink for StackLines<T> {
 
     fn take(&mut self, run: u32, row: &Row) -> Result<(), StoreError> {
         let line = read_stack(run, row)?;
-        self.sink.take(&lent_stack(&line))
+        self.take_line(line)
     }
 
     ghost all_read = { stacks_all };
@@ -79,8 +106,7 @@ pub fn each_stack<S: Alter, T: StackRowSink + Drop>(
     ensures told { Told S.Store result store.old store.new (λ t taken. T.meaning taken ≡ fold T.step (T.meaning sink) (stacks_held run t)) }
     ensures asks { AsksIfOpen S.Store (is_ok result) store.old store.new }
 {
-    let mut lines = StackLines { sink };
+    let mut lines = StackLines::new(sink);
     each_line(store, run, &mut lines)?;
-    let StackLines { sink } = lines;
-    Ok(sink)
+    Ok(lines.finish())
 }

@@ -11,7 +11,7 @@ use store_schema::{FromRow, StoreError, bytes_at, number_at, read_rows, sum_at, 
 
 /// An event of a run: its place, its name, and the total that the file states, in decimal.
 #[derive(Drop)]
-pub(crate) struct HeadEvent {
+pub struct HeadEvent {
     pub place: u32,
     pub name: Vec<u8>,
     pub stated: Option<String>,
@@ -19,14 +19,14 @@ pub(crate) struct HeadEvent {
 
 /// A derived event of a run.
 #[derive(Drop)]
-pub(crate) struct HeadDerived {
+pub struct HeadDerived {
     pub place: u32,
     pub name: Vec<u8>,
 }
 
 /// How often an event counts in a derived one.
 #[derive(Drop)]
-pub(crate) struct HeadCoef {
+pub struct HeadCoef {
     pub place: u32,
     pub event: u32,
     pub times: u64,

@@ -165,7 +165,7 @@ fn all_names(
 }
 
 /// The head that lines say, where they say one.
-pub(crate) fn head_in(
+pub fn head_in(
     alloc: Global,
     events: &[HeadEvent],
     derived: &[HeadDerived],

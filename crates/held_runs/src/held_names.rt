@@ -1,5 +1,6 @@
 // The names that are held, with their numbers.
-ghost use Rattle.std.specs.Prelude.{◌≡◌, ◌≢◌, ◌<◌, false, None, [], map, length, get_or, IfOk, IsPermutation, IfSome};
+ghost use Rattle.std.specs.Prelude.{◌≡◌, ◌≢◌, ◌<◌, false, None, [], map, length, get_or, IfErr, IfOk, IsPermutation, IfSome};
+ghost use Rattle.std.specs.List.{AllAdjacentBelow};
 ghost use Rattle.std.specs.Result.{is_ok};
 ghost use Rattle.sqlite_trees.specs.Tree.{IsAscending};
 ghost use Rattle.prof_books.specs.Book.{name_of, IsHeld};
@@ -11,13 +12,13 @@ use prof_store::{Store, select};
 use sqlite::{Alter, Row};
 use std::alloc::Global;
 use std::marker::Model;
-use store_schema::{FromRow, OutOfForm, Rises, StoreError, bytes_at, number_at, read_rising};
+use store_schema::{FromRow, OutOfForm, Rises, StoreError, bytes_at, number_at, read_rows, rise};
 
 /// A name and its number.
 #[derive(Drop)]
-struct HeldName {
-    number: u32,
-    bytes: Vec<u8>,
+pub struct HeldName {
+    pub number: u32,
+    pub bytes: Vec<u8>,
 }
 
 /// The names of a store with their numbers, which rise. Contracts see them as a list of lines.
@@ -70,8 +71,8 @@ fn names_in(alloc: Global, rows: &[Row]) -> Result<HeldNames, StoreError>
     ensures read { IfOk result (λ names. map name_shown names ≡ map first_two rows.now) }
     ensures rising { IfOk result (IsAscending (λ a b. a.number < b.number)) }
 {
-    let names = read_rising(alloc, rows)?;
-    Ok(HeldNames { names })
+    let names = read_rows(alloc, rows)?;
+    Ok(HeldNames::of(names)?)
 }
 
 /// The name at a place, if it has the number.
@@ -102,6 +103,19 @@ fn name_in(names: &[HeldName], number: u32) -> Option<&[u8]>
 }
 
 impl HeldNames {
+    /// Names whose numbers rise, one after another; `OutOfForm` where they do not.
+    pub fn of(names: Vec<HeldName>) -> Result<HeldNames, OutOfForm>
+        ensures taken { IfOk result (λ held. held ≡ map name_row names.items) }
+        ensures rising { IfOk result (IsAscending (λ a b. a.number < b.number)) }
+        ensures refused { IfErr result (λ _. ¬ (AllAdjacentBelow (λ a b. a.number < b.number) names.items (length names.items))) }
+    {
+        if rise(&names) {
+            Ok(HeldNames { names })
+        } else {
+            Err(OutOfForm)
+        }
+    }
+
     /// The name of a number, if there is one. Takes no memory.
     pub fn name(&self, number: u32) -> Option<&[u8]>
         ensures none { result ≡ None → has_number self.now number ≡ false }

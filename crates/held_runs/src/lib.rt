@@ -35,11 +35,13 @@ mod stack_lines;
 // Walks over windows of rowids.
 mod walks;
 
-pub use handed_calls::each_call;
-pub use handed_cells::each_cell;
-pub use handed_stacks::each_stack;
+pub use handed_calls::{CallLines, each_call};
+pub use handed_cells::{CellLines, each_cell};
+pub use handed_stacks::{StackLines, each_stack};
+pub use head_rows::{HeadCoef, HeadDerived, HeadEvent};
 pub use heads::head_of;
-pub use held_names::{HeldNames, names_of};
+pub use heads_held::head_in;
+pub use held_names::{HeldName, HeldNames, names_of};
 pub use lookups::{baseline_of, kind_of};
 pub use numbers::{members_of, run_numbers};
 pub use run_stores::{CallSink, CellSink, StackRowSink};

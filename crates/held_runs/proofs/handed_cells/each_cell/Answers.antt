@@ -1,16 +1,15 @@
-use Rattle.std.proofs.Common.{refl}
-use Rattle.held_runs.proofs.RowSteps.{no_cell}
+use Rattle.plain_tables.specs.RunRows.{cells_in}
 use Rattle.held_runs.proofs.handed_cells.each_cell.Goals as goal
 
 pub returns-clause-found : goal.returns-clause-found
 returns-clause-found g c clean ready =
     let names = c.args.names.now in
     let start = g.T.CellSink.meaning c.args.sink in
-    let all = c.in_ok-each_line.ensures.found clean ready (names, c.args.events, start) (refl, refl, no_cell names c.args.events g.T.CellSink.step start) in
-    (all.0, all.1, all.2.2)
+    let all = c.in_ok-each_line.ensures.found clean ready (names, c.args.events, start) c.new-lines.ensures in
+    (all.0, all.1, c.finish.ensures names c.args.events start all.0 all.2)
 
 pub returns-clause-told : goal.returns-clause-told
 returns-clause-told g c clean t represents =
     let names = c.args.names.now in
     let start = g.T.CellSink.meaning c.args.sink in
-    (c.in_ok-each_line.ensures.told clean t represents (names, c.args.events, start) (refl, refl, no_cell names c.args.events g.T.CellSink.step start)).2
+    c.finish.ensures names c.args.events start (cells_in c.args.run t) (c.in_ok-each_line.ensures.told clean t represents (names, c.args.events, start) c.new-lines.ensures)

@@ -1,5 +1,13 @@
-use Rattle.std.proofs.Common.{refl}
+use Rattle.plain_tables.specs.RunRows.{stacks_in}
 use Rattle.held_runs.proofs.handed_stacks.each_stack.Goals as goal
 
 pub returns-clause-found : goal.returns-clause-found
-returns-clause-found g c clean ready = c.in_ok-each_line.ensures.found clean ready (g.T.StackRowSink.meaning c.args.sink) refl
+returns-clause-found g c clean ready =
+    let start = g.T.StackRowSink.meaning c.args.sink in
+    let all = c.in_ok-each_line.ensures.found clean ready start c.new-lines.ensures in
+    (all.0, all.1, c.finish.ensures start all.0 all.2)
+
+pub returns-clause-told : goal.returns-clause-told
+returns-clause-told g c clean t represents =
+    let start = g.T.StackRowSink.meaning c.args.sink in
+    c.finish.ensures start (stacks_in c.args.run t) (c.in_ok-each_line.ensures.told clean t represents start c.new-lines.ensures)
