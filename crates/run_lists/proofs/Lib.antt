@@ -1,0 +1,6 @@
+pub mod Rows
+pub mod NumberLists
+pub mod SumLists
+pub mod Permutations
+pub mod GroupMembers
+pub mod Joining

@@ -1,0 +1,18 @@
+//! What a store tells of its runs and groups, from lists of rows that were read whole: the tables that are
+//! small, whatever the size of the runs. No database, no file.
+#![tactic(auto)]
+
+// The groups with their members.
+mod groups;
+// The rows (specs/Listed.antt).
+mod listed;
+// What is asked of one run, one group or one digest.
+mod lookups;
+// The runs that are held, and the numbers of runs.
+mod numbers;
+// The sums of events (specs/Sums.antt).
+mod sums;
+
+pub use listed::{
+    ListedCoef, ListedDerived, ListedEvent, ListedGroup, ListedMember, ListedRun, RunLists,
+};
