@@ -1,0 +1,12 @@
+mod Chains
+mod Columns
+mod HeadLists
+mod HeadTold
+pub mod NameColumns
+pub mod Ordered
+pub mod Placing
+mod Rooting
+pub mod RunRows
+pub mod Shows
+pub mod States
+pub mod Taken

@@ -1,0 +1,18 @@
+use Rattle.std.proofs.Common.{refl, sym, subst}
+use Rattle.plain_tables.specs.Tables.{CellRow}
+use Rattle.store_schema.specs.Tables.{cell_columns}
+use Rattle.store_schema.proofs.RunRows.{one_cell}
+use Rattle.run_stores.specs.Walks.{CellsFoldTo}
+use Rattle.page_runs.proofs.RunRows.{lines_are, shown_in_order}
+use Rattle.page_runs.proofs.handed.each_cell.Goals as goal
+
+pub returns-clause-told : goal.returns-clause-told
+returns-clause-told g c faithful t is =
+    let names = c.args.names.now in
+    let sink = g.T.CellSink in
+    let start = sink.meaning c.args.sink in
+    let run = λ (r : CellRow). r.run in
+    let order = shown_in_order cell_columns run (λ r. refl) is.rows t.cells is.lines_are is.in_order in
+    let (lines, are, has) = c.in_ok-lines.ensures.handed faithful is.rows is.shows order (names, c.args.events, start) c.new-lines.ensures in
+    subst (CellsFoldTo names c.args.events sink.step start (sink.meaning c.finish.result)) (sym (lines_are cell_columns run (λ r. refl) one_cell c.args.run is.rows t.cells is.lines_are lines are))
+    (c.finish.ensures names c.args.events start lines has)

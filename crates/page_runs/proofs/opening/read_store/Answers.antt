@@ -1,0 +1,19 @@
+use Rattle.page_runs.proofs.Chains.{◌⊳◌}
+use Rattle.page_runs.proofs.Rooting.{roots_after, store_after}
+use Rattle.page_runs.proofs.opening.read_store.Goals as goal
+
+pub returns-clause-read : goal.returns-clause-read
+returns-clause-read g c faithful = λ t db is.
+    let found = c.read_lists.ensures.reads.faithful faithful in
+    let there = store_after _ _ t db c.has_our_texts.ensures.reads is in
+    let roots = c.in_ok-roots.ensures.found found t db there in
+    (roots_after _ _ db _ c.read_lists.ensures.reads roots, c.in_ok-lists.ensures.listed faithful t db is.holds roots)
+
+pub returns-clause-reads : goal.returns-clause-reads
+returns-clause-reads g c = c.has_our_texts.ensures.reads ⊳ c.find_roots.ensures.reads ⊳ c.read_lists.ensures.reads
+
+pub returns-in_err-roots-clause-reads : goal.returns-in_err-roots-clause-reads
+returns-in_err-roots-clause-reads g c = c.has_our_texts.ensures.reads ⊳ c.find_roots.ensures.reads
+
+pub returns-in_err-lists-clause-reads : goal.returns-in_err-lists-clause-reads
+returns-in_err-lists-clause-reads g c = c.has_our_texts.ensures.reads ⊳ c.find_roots.ensures.reads ⊳ c.read_lists.ensures.reads

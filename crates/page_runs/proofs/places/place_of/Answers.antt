@@ -1,0 +1,39 @@
+use Rattle.std.proofs.Common.{arith, ◌<◌, subst, sym, ◌∙◌, to_z-of_z}
+use Rattle.page_runs.specs.Walks.{AllEarlier, IsFirstOf}
+use Rattle.page_rows.proofs.Reading.{OnlyReads-trans}
+use Rattle.page_runs.proofs.RunRows.{earlier_behind, earlier_from_least}
+use Rattle.page_runs.proofs.Shows.{OnlyReads-refl, all_from_least, rows_behind, shows_after}
+use Rattle.page_runs.proofs.places.place_of.Goals as goal
+use Rattle.page_runs.proofs.places.place_of.Goals.{in-Some, in-None}
+
+pub halves-init : goal.halves-init
+halves-init g c = (
+  λ faithful rows is order. earlier_from_least _ _ rows (all_from_least _ _ rows is),
+  OnlyReads-refl _,
+  omega (arith),
+)
+
+pub returns-in_err-found-clause-reads : goal.returns-in_err-found-clause-reads
+returns-in_err-found-clause-reads g c = OnlyReads-trans _ _ _ c.halves.invariant.1 c.first_from.ensures.reads
+
+pub halves-preserved : goal.halves-preserved
+halves-preserved g c = (
+  (λ faithful rows is order.
+      let here = shows_after _ _ _ rows c.halves.invariant.1 is in
+      let was = c.halves.invariant.0 (c.first_from.ensures.reads.faithful faithful) rows is order in
+      let found = c.in_ok-found.ensures.found faithful rows here in
+      elim c.match-behind_earlier.branch [
+        | in-Some w ↦
+            (let (id, of, is_found, low, behind) = w.in-Some.ensures.behind in
+            let (row, rest, first, numbered, run_is) = subst (IsFirstOf _) is_found found in
+            let next = w.from-is ∙ to_z-of_z w.in-Some.ensures.fits ∙ behind in
+            subst (λ n. AllEarlier c.args.run n rows) (sym next)
+            (earlier_behind c.args.run rows _ id row rest order first (subst (λ n. n < c.args.run) (sym run_is) low) (rows_behind _ _ rows here _ id row rest numbered first)))
+        | in-None w ↦ subst (λ n. AllEarlier c.args.run n rows) (sym w.from-is) was
+      ]),
+  OnlyReads-trans _ _ _ c.halves.invariant.1 c.first_from.ensures.reads,
+  elim c.match-behind_earlier.branch [
+    | in-Some w ↦ (let top = c.halves.invariant.2 in let is = w.high-is in omega (arith, top, is))
+    | in-None w ↦ (let top = c.halves.invariant.2 in let is = w.high-is in let low = c.if-low-high.false in omega (arith, top, is, low))
+  ],
+)

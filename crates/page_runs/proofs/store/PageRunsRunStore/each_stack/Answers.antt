@@ -1,0 +1,9 @@
+use Rattle.std.proofs.Common.{refl}
+use Rattle.page_runs.proofs.States.{asked}
+use Rattle.page_runs.proofs.store.PageRunsRunStore.each_stack.Goals as goal
+
+pub returns-clause-told : goal.returns-clause-told
+returns-clause-told g c faithful t is = c.each_stack.ensures.told faithful t is.stacks
+
+pub returns-clause-asks : goal.returns-clause-asks
+returns-clause-asks g c = asked _ _ c.each_stack.ensures.reads refl refl _

@@ -1,0 +1,208 @@
+// The cells, the calls and the stacks of a run, handed on with names in place.
+ghost use Rattle.std.specs.Prelude.{◌≡◌, ◌∷◌, List, fold, map, IfOk};
+ghost use Rattle.sqlite_record.specs.Fields.{fields_left};
+ghost use Rattle.page_rows.specs.Files.{IsFaithful, OnlyReads};
+ghost use Rattle.plain_tables.specs.RunRows.{cells_in, calls_in, stacks_in};
+ghost use Rattle.plain_tables.specs.Tables.{Tables, CellRow as Cell, CallRow as Call, StackRow as Stack};
+ghost use Rattle.prof_books.specs.Book.{stacks_held};
+ghost use Rattle.run_stores.specs.Walks.{CallsFoldTo, CellsFoldTo};
+ghost use Rattle.store_schema.specs.Lines.{call_row, cell_row, held_stack};
+ghost use Rattle.store_schema.specs.Tables.{number, cell_columns, arc_columns, stack_columns};
+ghost use Rattle.page_runs.specs.Shown.{ShowsLines};
+
+use crate::fields::{copied_in, end_of, number_in, whole_in};
+use crate::run_rows::{LineSink, each_line};
+use held_runs::{CallLines, CellLines, HeldNames, StackLines};
+use page_rows::OpenedFile;
+use plain_tables::StoreError;
+use run_stores::{CallSink, CellSink, StackRowSink};
+use sqlite_disk::Disk;
+use sqlite_record::fields::Fields;
+use std::alloc::Global;
+use store_schema::{CallRow, CellRow, HeldStack, OutOfForm};
+
+/// The cell of a run that a record says behind the run.
+fn read_cell(run: u32, mut fields: Fields<'_>) -> Result<CellRow, OutOfForm>
+    ensures { IfOk result (λ line. cell_columns (cell_row line) ≡ number run ∷ fields_left fields.entry) }
+{
+    let thread = whole_in(&mut fields)?;
+    let object = number_in(&mut fields)?;
+    let file = number_in(&mut fields)?;
+    let function = number_in(&mut fields)?;
+    let line = whole_in(&mut fields)?;
+    let event = number_in(&mut fields)?;
+    let cost = whole_in(&mut fields)?;
+    end_of(&mut fields)?;
+    Ok(CellRow {
+        run,
+        object,
+        file,
+        function,
+        line,
+        thread,
+        event,
+        cost,
+    })
+}
+
+/// The part of calls of a run that a record says behind the run.
+fn read_call(run: u32, mut fields: Fields<'_>) -> Result<CallRow, OutOfForm>
+    ensures { IfOk result (λ line. arc_columns (call_row line) ≡ number run ∷ fields_left fields.entry) }
+{
+    let object = number_in(&mut fields)?;
+    let file = number_in(&mut fields)?;
+    let function = number_in(&mut fields)?;
+    let line = whole_in(&mut fields)?;
+    let called_object = number_in(&mut fields)?;
+    let called_file = number_in(&mut fields)?;
+    let called_function = number_in(&mut fields)?;
+    let part = number_in(&mut fields)?;
+    let sum = whole_in(&mut fields)?;
+    end_of(&mut fields)?;
+    Ok(CallRow {
+        run,
+        object,
+        file,
+        function,
+        line,
+        called_object,
+        called_file,
+        called_function,
+        part,
+        sum,
+    })
+}
+
+/// The stack of a run that a record says behind the run.
+fn read_stack(alloc: Global, run: u32, mut fields: Fields<'_>) -> Result<HeldStack, StoreError>
+    ensures { IfOk result (λ line. stack_columns (held_stack line) ≡ number run ∷ fields_left fields.entry) }
+{
+    let frames = copied_in(alloc, &mut fields)?;
+    let count = whole_in(&mut fields)?;
+    end_of(&mut fields)?;
+    Ok(HeldStack { run, frames, count })
+}
+
+impl<T: CellSink + Drop> LineSink for CellLines<'_, T> {
+    ghost use Rattle.std.specs.Prelude.{ℕ, List};
+    ghost use Rattle.plain_tables.specs.Tables.{NameRow, CellRow as Cell};
+    ghost use Rattle.store_schema.specs.Tables.{cell_columns};
+    ghost use Rattle.held_runs.specs.HeldCells.{HasTakenCellLines};
+
+    ghost Line = { Cell };
+
+    ghost columns = { cell_columns };
+
+    ghost Start = { List NameRow × ℕ × T.Meaning };
+
+    ghost Has = { λ start lines s. HasTakenCellLines start.0 start.1 T.meaning T.step start.2 lines s };
+
+    fn take(&mut self, run: u32, fields: Fields<'_>) -> Result<(), StoreError> {
+        let line = read_cell(run, fields)?;
+        self.take_line(line)
+    }
+}
+
+impl<T: CallSink + Drop> LineSink for CallLines<'_, T> {
+    ghost use Rattle.std.specs.Prelude.{ℕ, List};
+    ghost use Rattle.plain_tables.specs.Tables.{NameRow, CallRow as Call};
+    ghost use Rattle.store_schema.specs.Tables.{arc_columns};
+    ghost use Rattle.held_runs.specs.HeldCalls.{HasTakenCallLines};
+
+    ghost Line = { Call };
+
+    ghost columns = { arc_columns };
+
+    ghost Start = { List NameRow × ℕ × T.Meaning };
+
+    ghost Has = { λ start lines s. HasTakenCallLines start.0 start.1 T.meaning T.step start.2 lines s };
+
+    fn take(&mut self, run: u32, fields: Fields<'_>) -> Result<(), StoreError> {
+        let line = read_call(run, fields)?;
+        self.take_line(line)
+    }
+}
+
+/// Takes the stacks of a run, each copied.
+#[derive(Drop)]
+struct CopiedStacks<T> {
+    alloc: Global,
+    lines: StackLines<T>,
+}
+
+impl<T: StackRowSink + Drop> LineSink for CopiedStacks<T> {
+    ghost use Rattle.plain_tables.specs.Tables.{StackRow as Stack};
+    ghost use Rattle.store_schema.specs.Tables.{stack_columns};
+    ghost use Rattle.held_runs.specs.HeldStacks.{HasTakenStackLines};
+
+    ghost Line = { Stack };
+
+    ghost columns = { stack_columns };
+
+    ghost Start = { T.Meaning };
+
+    ghost Has = { λ start lines s. HasTakenStackLines T.meaning T.step start lines s.lines };
+
+    fn take(&mut self, run: u32, fields: Fields<'_>) -> Result<(), StoreError> {
+        let line = read_stack(self.alloc, run, fields)?;
+        self.lines.take_line(line)
+    }
+}
+
+/// Hands on the cells of a run, with so many events and the names that `names` has, as `RunStore::each_cell`.
+pub(crate) fn each_cell<D: Disk, T: CellSink + Drop>(
+    file: &mut OpenedFile<D>,
+    alloc: Global,
+    root: u32,
+    run: u32,
+    names: &HeldNames,
+    events: usize,
+    sink: T,
+) -> Result<T, StoreError>
+    ensures told { IsFaithful file.new → (t : Tables) → ShowsLines file.old root cell_columns (λ (c : Cell). c.run) t.cells
+        → IfOk result (λ taken. CellsFoldTo names.now events T.step (T.meaning sink) (T.meaning taken) (cells_in run t)) }
+    ensures reads { OnlyReads file.old file.new }
+{
+    let lines = CellLines::new(names, events, sink);
+    let lines = each_line(file, alloc, root, run, lines)?;
+    Ok(lines.finish())
+}
+
+/// Hands on the calls of a run, row by row, as `RunStore::each_call`.
+pub(crate) fn each_call<D: Disk, T: CallSink + Drop>(
+    file: &mut OpenedFile<D>,
+    alloc: Global,
+    root: u32,
+    run: u32,
+    names: &HeldNames,
+    events: usize,
+    sink: T,
+) -> Result<T, StoreError>
+    ensures told { IsFaithful file.new → (t : Tables) → ShowsLines file.old root arc_columns (λ (a : Call). a.run) t.calls
+        → IfOk result (λ taken. CallsFoldTo names.now events T.step (T.meaning sink) (T.meaning taken) (calls_in run t)) }
+    ensures reads { OnlyReads file.old file.new }
+{
+    let lines = CallLines::new(names, alloc, events, sink);
+    let lines = each_line(file, alloc, root, run, lines)?;
+    lines.finish()
+}
+
+/// Hands on the stacks of a run, as `RunStore::each_stack`.
+pub(crate) fn each_stack<D: Disk, T: StackRowSink + Drop>(
+    file: &mut OpenedFile<D>,
+    alloc: Global,
+    root: u32,
+    run: u32,
+    sink: T,
+) -> Result<T, StoreError>
+    ensures told { IsFaithful file.new → (t : Tables) → ShowsLines file.old root stack_columns (λ (s : Stack). s.run) t.stacks
+        → IfOk result (λ taken. T.meaning taken ≡ fold T.step (T.meaning sink) (stacks_held run t)) }
+    ensures reads { OnlyReads file.old file.new }
+{
+    let lines = CopiedStacks {
+        alloc,
+        lines: StackLines::new(sink),
+    };
+    let lines = each_line(file, alloc, root, run, lines)?;
+    Ok(lines.lines.finish())
+}

@@ -1,0 +1,37 @@
+//! A store of runs that is read straight from the pages of its file: no SQL, and no pass over the file before.
+#![tactic(auto)]
+
+// What a failure to read pages is for a caller.
+mod failures;
+// The values of a record.
+mod fields;
+// A database file, opened.
+mod files;
+// The cells, the calls and the stacks of a run, handed on (specs/Shown.antt).
+mod handed;
+// The head of a run, from the rows of the small tables.
+mod heads;
+// All rows of a table, read into a list.
+mod listing;
+// The small tables of a store, read into lists.
+mod lists;
+// The names that are held.
+mod names;
+// Opens a store by the pages of its file.
+mod opening;
+// Where the rows of a run begin.
+mod places;
+// Records as rows of the tables.
+mod records;
+// Where the tables of a store stand.
+mod roots;
+// The rows of a run in one of its tables.
+mod run_rows;
+// The rows of the small tables, and of the names.
+mod small;
+// The store (specs/States.antt).
+mod store;
+// Whether a file was made with our tables.
+mod texts;
+
+pub use store::PageRuns;

@@ -1,0 +1,63 @@
+// The small tables of a store, read into lists.
+ghost use Rattle.std.specs.Prelude.{◌≡◌, ◌∷◌, [], ℕ, IfOk};
+ghost use Rattle.sqlite_trees.specs.Tree.{Trees};
+ghost use Rattle.page_rows.specs.Files.{IsFaithful, OnlyReads};
+ghost use Rattle.plain_tables.specs.Tables.{Tables};
+ghost use Rattle.run_lists.specs.Listed.{AreListed};
+ghost use Rattle.store_schema.specs.Tables.{Holds, meta_columns};
+ghost use Rattle.page_runs.specs.Shown.{AreRoots, ShowsRows};
+
+use crate::listing::all_rows;
+use crate::roots::Roots;
+use crate::small::Meta;
+use page_rows::OpenedFile;
+use plain_tables::StoreError;
+use run_lists::RunLists;
+use sqlite_disk::Disk;
+use std::alloc::Global;
+
+/// The number that the next run gets, in the only line of `meta`.
+fn next_in(lines: &[Meta]) -> Result<u32, StoreError>
+    ensures { IfOk result (λ next. lines.now ≡ record { schema = 2; next = next } ∷ []) }
+{
+    match lines {
+        [line] if line.schema == 2 => Ok(line.next),
+        _ => Err(StoreError::Store),
+    }
+}
+
+/// The number that the next run gets. `Store` unless `meta` has one row, of schema 2.
+fn next_run<D: Disk>(file: &mut OpenedFile<D>, alloc: Global, root: u32) -> Result<u32, StoreError>
+    ensures next { IsFaithful file.new → (n : ℕ) → ShowsRows file.old root (meta_columns n ∷ []) → IfOk result (λ next. next ≡ n) }
+    ensures reads { OnlyReads file.old file.new }
+{
+    let lines: Vec<Meta> = all_rows(file, alloc, root)?;
+    next_in(lines.as_slice())
+}
+
+/// Reads the small tables. `Store` where pages cannot be read, or rows are out of form.
+pub(crate) fn read_lists<D: Disk>(
+    file: &mut OpenedFile<D>,
+    alloc: Global,
+    roots: &Roots,
+) -> Result<RunLists, StoreError>
+    ensures listed { IsFaithful file.new → (t : Tables) (db : Trees) → Holds t db → AreRoots file.old db roots.now → IfOk result (AreListed t) }
+    ensures reads { OnlyReads file.old file.new }
+{
+    let next = next_run(file, alloc, roots.meta)?;
+    let runs = all_rows(file, alloc, roots.runs)?;
+    let events = all_rows(file, alloc, roots.events)?;
+    let derived = all_rows(file, alloc, roots.derived)?;
+    let coefs = all_rows(file, alloc, roots.coefs)?;
+    let groups = all_rows(file, alloc, roots.groups)?;
+    let members = all_rows(file, alloc, roots.members)?;
+    Ok(RunLists {
+        next,
+        runs,
+        events,
+        derived,
+        coefs,
+        groups,
+        members,
+    })
+}

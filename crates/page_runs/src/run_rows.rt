@@ -1,0 +1,98 @@
+// The rows of a run in one of its tables, handed on one at a time.
+ghost use Rattle.std.specs.Prelude.{◌≡◌, ℕ, [], List, IfOk};
+ghost use Rattle.sqlite_value.specs.Order.{Row};
+ghost use Rattle.page_rows.specs.Files.{IsFaithful, OnlyReads};
+ghost use Rattle.page_runs.specs.Shown.{ShowsRows};
+ghost use Rattle.page_runs.specs.Walks.{AreOfRun, InOrder};
+
+use crate::failures::error_of_walk;
+use crate::fields::number_in;
+use crate::places::place_of;
+use page_rows::{OpenedFile, RowSink};
+use plain_tables::StoreError;
+use sqlite_disk::Disk;
+use sqlite_record::fields::Fields;
+use std::alloc::Global;
+
+/// Takes the lines of a run in one of the tables whose rows are lines of runs, one at a time.
+pub(crate) trait LineSink {
+    ghost use Rattle.std.specs.Prelude.{◌≡◌, ◌++◌, ◌∷◌, [], List, OnOk};
+    ghost use Rattle.sqlite_record.specs.Fields.{fields_left};
+    ghost use Rattle.sqlite_value.specs.Order.{Row};
+    ghost use Rattle.store_schema.specs.Tables.{number};
+
+    /// A line of the table.
+    ghost Line: { Type 0 };
+
+    /// The columns of a row that says this.
+    ghost columns: { Line → Row };
+
+    /// What it can begin with.
+    ghost Start: { Type 0 };
+
+    /// It began with this, and has taken these lines.
+    ghost Has: { Start → List Line → Self → Type 0 };
+
+    /// Takes the line of a run that a record says in its values behind the run. An error ends the walk.
+    fn take(&mut self, run: u32, fields: Fields<'_>) -> Result<(), StoreError>
+        ensures { OnOk result ((start : Start) (lines : List Line) → Has start lines self.old
+            → (line : Line) × (columns line ≡ number run ∷ fields_left fields.entry) × Has start (lines ++ line ∷ []) self.new) };
+}
+
+/// Takes the rows of a run, up to the first of a later one.
+#[derive(Drop)]
+struct RunRows<T: Drop> {
+    run: u32,
+    sink: T,
+}
+
+impl<T: LineSink + Drop> RowSink for RunRows<T> {
+    ghost use Rattle.std.specs.Prelude.{◌≡◌, ◌<◌, ◌++◌, ◌∷◌, [], ℕ, List, ⊤};
+    ghost use Rattle.sqlite_value.specs.Order.{Row};
+    ghost use Rattle.page_runs.specs.Walks.{AreOfRun, run_in};
+
+    type Refusal = StoreError;
+
+    ghost Start = { ℕ × T.Start };
+
+    ghost Has = { λ start rows s. (s.run ≡ start.0) × ((lines : List T.Line) × AreOfRun T.columns start.0 rows lines × T.Has start.1 lines s.sink) };
+
+    ghost Ends = { λ start rows s. (front : List Row) × (last : Row) × (rows ≡ front ++ last ∷ []) × (start.0 < run_in last)
+        × ((lines : List T.Line) × AreOfRun T.columns start.0 front lines × T.Has start.1 lines s.sink) };
+
+    ghost Refuses = { λ _ _. ⊤ };
+
+    fn take(&mut self, _rowid: i64, payload: &[u8]) -> Result<bool, StoreError> {
+        let mut fields = Fields::new(payload);
+        let run = number_in(&mut fields)?;
+        if run > self.run {
+            return Ok(false);
+        }
+        if run == self.run {
+            self.sink.take(run, fields)?;
+        }
+        Ok(true)
+    }
+}
+
+/// Hands the lines of a run on, in a table whose rows stand in the order of the runs. What took them is handed back.
+/// Errors: `Memory`; `Store` for pages that cannot be read and for rows out of form; and those of the taker.
+pub(crate) fn each_line<D: Disk, T: LineSink + Drop>(
+    file: &mut OpenedFile<D>,
+    alloc: Global,
+    root: u32,
+    run: u32,
+    sink: T,
+) -> Result<T, StoreError>
+    ensures handed { IsFaithful file.new → (rows : List Row) → ShowsRows file.old root rows → InOrder rows
+        → (start : T.Start) → T.Has start [] sink
+        → IfOk result (λ taken. (lines : List T.Line) × AreOfRun T.columns run rows lines × T.Has start lines taken) }
+    ensures reads { OnlyReads file.old file.new }
+{
+    let from = place_of(file, alloc, root, run)?;
+    let mut rows = RunRows { run, sink };
+    match file.walk(alloc, root, from, &mut rows) {
+        Ok(()) => Ok(rows.sink),
+        Err(error) => Err(error_of_walk(error)),
+    }
+}

@@ -1,0 +1,263 @@
+// A store of runs over the pages of its file.
+ghost use Rattle.std.specs.Prelude.{◌≡◌, IsTrue, IfSome};
+ghost use Rattle.sqlite.specs.Opening.{HoldsAt};
+ghost use Rattle.sqlite_trees.specs.Tree.{Trees};
+ghost use Rattle.sqlite_wal.specs.Files.{seen_image};
+ghost use Rattle.page_rows.specs.Files.{page_size};
+ghost use Rattle.plain_tables.specs.Tables.{Tables};
+ghost use Rattle.store_schema.specs.Tables.{Holds};
+ghost use Rattle.page_runs.specs.Order.{AreInOrder};
+ghost use Rattle.page_runs.specs.States.{IsFaithful, ReadsAs};
+
+use crate::files::open_file;
+use crate::handed::{each_call, each_cell, each_stack};
+use crate::heads::head_of;
+use crate::names::names_under;
+use crate::opening::open_store;
+use crate::roots::Roots;
+use cg_formulas::FileHead;
+use cg_text::ListVec;
+use cost_rows::FileTotals;
+use held_runs::HeldNames;
+use page_rows::OpenedFile;
+use plain_tables::StoreError;
+use profile_records::Kind;
+use run_lists::RunLists;
+use run_stores::{
+    CallSink, CellSink, GroupEntry, RunEntry, RunStore, StackRowSink, StoreState, SummedFile,
+};
+use sqlite_disk::{Disk, Files};
+use sqlite_pager::Options;
+use std::alloc::Global;
+
+/// A store of runs that is only read: its small tables are held, and the rows of runs and the names are read
+/// from the pages of its file when they are asked for. Each change is refused, as `Store`.
+#[derive(Drop)]
+pub struct PageRuns<D: Disk> {
+    pub(crate) file: OpenedFile<D>,
+    pub(crate) alloc: Global,
+    pub(crate) roots: Roots,
+    pub(crate) lists: RunLists,
+}
+
+impl<D: Disk + Drop> PageRuns<D> {
+    /// Opens the store in the files of a database, which are closed where it is none: where a text of its
+    /// schema is not ours byte for byte, where its version is another, or where what is read of it is damaged or
+    /// out of form. Its database tells then what it is. Of the rows of runs and of the names nothing is read.
+    pub fn open(alloc: Global, files: Files<D>, options: Options) -> Option<PageRuns<D>>
+        requires log { IsTrue (D.Disk.is_usable files.log) }
+        requires db { IsTrue (D.Disk.is_usable files.db) }
+        ensures reads { IfSome result (λ store. IsFaithful store → (t : Tables) (db : Trees) → HoldsAt (page_size store.file) (seen_image D.Disk files.log files.db) db
+            → Holds t db → AreInOrder t → ReadsAs t store) }
+    {
+        let Some(file) = open_file(alloc, files, options) else {
+            return None;
+        };
+        match open_store(alloc, file) {
+            Ok((file, roots, lists)) => Some(PageRuns {
+                file,
+                alloc,
+                roots,
+                lists,
+            }),
+            Err(_) => None,
+        }
+    }
+}
+
+impl<D: Disk> PageRuns<D> {
+    /// Hands the opened file back.
+    pub fn into_file(self) -> OpenedFile<D>
+        ensures { result ≡ self.file }
+    {
+        let PageRuns {
+            file,
+            alloc: _,
+            roots: _,
+            lists: _,
+        } = self;
+        file
+    }
+}
+
+impl<D: Disk> StoreState for PageRuns<D> {
+    ghost use Rattle.std.specs.Prelude.{⊤, true};
+    ghost use Rattle.std.proofs.Common.{refl};
+    ghost use Rattle.sqlite_pages.specs.PageMap.{PageMap};
+    ghost use Rattle.store_schema.proofs.Sound.{sound_of};
+    ghost use Rattle.page_runs.specs.States.{HoldsIn, IsFaithful, Left, ReadsAs, Represents, faults, kept, may_leave};
+
+    ghost Kept = { PageMap };
+
+    ghost kept = { kept };
+
+    ghost is_settled = { λ _. ⊤ };
+
+    ghost Left = { Left };
+
+    ghost holds = { HoldsIn };
+
+    ghost may_leave = { may_leave };
+
+    ghost represents = { Represents };
+
+    ghost reads_as = { ReadsAs };
+
+    ghost is_faithful = { IsFaithful };
+
+    ghost is_usable = { λ _. true };
+
+    ghost faults = { faults };
+
+    ghost usable = { λ t s represents. refl };
+
+    ghost said = { λ t s represents. represents.reads };
+
+    ghost readable = { λ t s reads. refl };
+
+    ghost sound = { λ t s represents. sound_of t represents.db represents.holds };
+
+    ghost left_sound = { λ t left holds. sound_of t holds.db holds.holds };
+}
+
+impl<D: Disk> RunStore for PageRuns<D> {
+    type Names = HeldNames;
+
+    ghost name_rows = { λ names. names };
+
+    fn has_run(&mut self, run: u32) -> Result<bool, StoreError> {
+        Ok(self.lists.has_run(run))
+    }
+
+    fn has_group(&mut self, name: &str) -> Result<bool, StoreError> {
+        Ok(self.lists.has_group(name))
+    }
+
+    fn run_count(&mut self) -> Result<u64, StoreError> {
+        Ok(self.lists.run_count())
+    }
+
+    fn group_count(&mut self) -> Result<u64, StoreError> {
+        Ok(self.lists.group_count())
+    }
+
+    fn next_run(&mut self) -> Result<u32, StoreError> {
+        Ok(self.lists.next_run())
+    }
+
+    fn run_of_digest(&mut self, digest: &[u8]) -> Result<Option<u32>, StoreError> {
+        Ok(self.lists.run_of_digest(digest))
+    }
+
+    fn runs(&mut self, alloc: Global) -> Result<Vec<RunEntry>, StoreError> {
+        self.lists.runs(alloc)
+    }
+
+    fn groups(&mut self, alloc: Global) -> Result<Vec<GroupEntry>, StoreError> {
+        self.lists.groups(alloc)
+    }
+
+    fn run_numbers(&mut self, alloc: Global) -> Result<ListVec<u32>, StoreError> {
+        self.lists.run_numbers(alloc)
+    }
+
+    fn members_of(&mut self, alloc: Global, name: &str) -> Result<ListVec<u32>, StoreError> {
+        self.lists.members_of(alloc, name)
+    }
+
+    fn kind_of(&mut self, run: u32) -> Result<Kind, StoreError> {
+        self.lists.kind_of(run)
+    }
+
+    fn baseline_of(&mut self, name: &str) -> Result<Option<u32>, StoreError> {
+        self.lists.baseline_of(name)
+    }
+
+    fn totals_of(
+        &mut self,
+        alloc: Global,
+        events: &[ListVec<u8>],
+    ) -> Result<FileTotals, StoreError> {
+        self.lists.totals_of(alloc, events)
+    }
+
+    fn sums_of(&mut self, alloc: Global, run: u32) -> Result<ListVec<u128>, StoreError> {
+        self.lists.sums_of(alloc, run)
+    }
+
+    fn head_of(&mut self, alloc: Global, run: u32) -> Result<FileHead, StoreError> {
+        head_of(alloc, &self.lists, run)
+    }
+
+    fn names_of(&mut self, alloc: Global) -> Result<HeldNames, StoreError> {
+        names_under(&mut self.file, alloc, self.roots.names)
+    }
+
+    fn each_cell<T: CellSink + Drop>(
+        &mut self,
+        run: u32,
+        names: &HeldNames,
+        events: usize,
+        sink: T,
+    ) -> Result<T, StoreError> {
+        let (alloc, root) = (self.alloc, self.roots.cells);
+        each_cell(&mut self.file, alloc, root, run, names, events, sink)
+    }
+
+    fn each_call<T: CallSink + Drop>(
+        &mut self,
+        alloc: Global,
+        run: u32,
+        names: &HeldNames,
+        events: usize,
+        sink: T,
+    ) -> Result<T, StoreError> {
+        let root = self.roots.calls;
+        each_call(&mut self.file, alloc, root, run, names, events, sink)
+    }
+
+    fn each_stack<T: StackRowSink + Drop>(&mut self, run: u32, sink: T) -> Result<T, StoreError> {
+        let (alloc, root) = (self.alloc, self.roots.stacks);
+        each_stack(&mut self.file, alloc, root, run, sink)
+    }
+
+    fn put_run(
+        &mut self,
+        _alloc: Global,
+        _number: u32,
+        _kind: Kind,
+        _digest: &[u8; 32],
+        _label: &str,
+        _file: &SummedFile<'_>,
+    ) -> Result<(), StoreError> {
+        Err(StoreError::Store)
+    }
+
+    fn drop_run(&mut self, _run: u32) -> Result<(), StoreError> {
+        Err(StoreError::Store)
+    }
+
+    fn put_group(&mut self, _name: &str) -> Result<(), StoreError> {
+        Err(StoreError::Store)
+    }
+
+    fn drop_group(&mut self, _name: &str) -> Result<(), StoreError> {
+        Err(StoreError::Store)
+    }
+
+    fn join(&mut self, _name: &str, _run: u32) -> Result<(), StoreError> {
+        Err(StoreError::Store)
+    }
+
+    fn leave(&mut self, _name: &str, _run: u32) -> Result<(), StoreError> {
+        Err(StoreError::Store)
+    }
+
+    fn set_baseline(&mut self, _name: &str, _run: u32) -> Result<(), StoreError> {
+        Err(StoreError::Store)
+    }
+
+    ghost use Rattle.page_runs.specs.States.{survives};
+
+    ghost survives = { survives };
+}
