@@ -3,7 +3,7 @@ use command_line::Plan;
 use file_reading::total_file;
 use http_service::Service;
 use prof_store::OpenError;
-use program_stores::{database_at, error_line, is_new_at, serve_in, work_in};
+use program_stores::{database_at, error_line, is_new_at, pages_at, read_over, serve_in, work_in};
 use sessions::{Task, Work, print_total, task_of};
 use sqlite::{Alter, Connection};
 use std::io;
@@ -43,15 +43,49 @@ fn work_on<'a, S: Alter>(
     }
 }
 
-/// Does a job over the store at a path, and closes that: what was committed is copied from the log into the
-/// file; where that fails, it stands in the log, and the next opening finds it there. No guarantee: as
-/// `run_over`.
-fn work_at<'a>(rt: &'a HostRuntime, db: &str, job: Job<'a>) -> Result<io::Result<u8>, OpenError> {
-    let is_new = is_new_at(rt, db)?;
+/// Does a job over the database of the store at a path, and closes that: what was committed is copied from the
+/// log into the file; where that fails, it stands in the log, and the next opening finds it there. No guarantee:
+/// as `run_over`.
+fn work_in_database<'a>(
+    rt: &'a HostRuntime,
+    db: &str,
+    is_new: bool,
+    job: Job<'a>,
+) -> Result<io::Result<u8>, OpenError> {
     let conn = database_at(rt, db)?;
     let (came_to, conn) = work_on(rt, conn, is_new, job);
     let _closed = conn.close();
     came_to
+}
+
+/// Whether a work changes nothing, whatever it finds. No guarantee: as `run_over`; a store that is read from its
+/// pages refuses a change.
+fn only_reads(work: &Work<'_>) -> bool {
+    match work {
+        Work::Ask(_) | Work::Annotate { .. } => true,
+        Work::Import(..) | Work::Remove(_) | Work::Group(..) => false,
+    }
+}
+
+/// Does a work that only reads over the store at a path: from its pages, or by its database where it is not
+/// plainly a store of this version. No guarantee: as `run_over`.
+fn read_at<'a>(rt: &'a HostRuntime, db: &str, work: Work<'a>) -> Result<io::Result<u8>, OpenError> {
+    match pages_at(rt, db) {
+        Some(store) => {
+            let (printed, _out, _store) = read_over(rt, io::writer(rt), store, work);
+            Ok(printed)
+        }
+        None => work_in_database(rt, db, false, Job::Work(work)),
+    }
+}
+
+/// Does a job over the store at a path. No guarantee: as `run_over`.
+fn work_at<'a>(rt: &'a HostRuntime, db: &str, job: Job<'a>) -> Result<io::Result<u8>, OpenError> {
+    let is_new = is_new_at(rt, db)?;
+    match job {
+        Job::Work(work) if !is_new && only_reads(&work) => read_at(rt, db, work),
+        job => work_in_database(rt, db, is_new, job),
+    }
 }
 
 /// Does a job over the store at a path, and prints why that was not opened. No guarantee: which history the

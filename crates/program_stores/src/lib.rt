@@ -3,6 +3,8 @@
 
 // Laws: which history a store has that is in memory, or was of version 1.
 mod laws;
+// Works that only read, over a store that is read from its pages.
+mod reading;
 // The store of a database is served (specs/Works.antt).
 mod serving;
 // Opens the database at a path, and makes or opens the store in it.
@@ -11,6 +13,7 @@ mod stores;
 mod working;
 
 pub use laws::{memory_keeps_its_history, migrated_stores_have_their_history};
+pub use reading::{pages_at, read_over};
 pub use serving::serve_in;
 pub use stores::{StoreFile, database_at, error_line, is_new_at, store_in};
 pub use working::work_in;

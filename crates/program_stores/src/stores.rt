@@ -55,10 +55,25 @@ pub fn is_new_at(rt: &HostRuntime, path: &str) -> Result<bool, OpenError> {
     }
 }
 
+/// Whether a path is one that SQLite takes for something else than a file.
+pub(crate) fn is_no_file(path: &str) -> bool {
+    path == ":memory:" || path.starts_with("file:")
+}
+
+/// How its pages are read and written: few are held, and a salt of chance marks its log.
+pub(crate) fn options_for(rt: &HostRuntime) -> Result<Options, OpenError> {
+    let Ok(keys) = RandomState::new(rt) else {
+        return Err(OpenError::Store);
+    };
+    let mut options = Options::new(keys.hash_one(&0u8));
+    options.cache_pages = CACHED_PAGES;
+    Ok(options)
+}
+
 /// The database at a path, opened with few pages in its cache. No guarantee: of the files at a path the
 /// checker knows nothing.
 pub fn database_at(rt: &HostRuntime, path: &str) -> Result<Connection<StoreFile>, OpenError> {
-    if path == ":memory:" || path.starts_with("file:") {
+    if is_no_file(path) {
         return Err(OpenError::Store);
     }
     let files = match sqlite_std_file::open(rt, path, Unknown) {
@@ -69,11 +84,7 @@ pub fn database_at(rt: &HostRuntime, path: &str) -> Result<Connection<StoreFile>
         }
         Err(_) => return Err(OpenError::Store),
     };
-    let Ok(keys) = RandomState::new(rt) else {
-        return Err(OpenError::Store);
-    };
-    let mut options = Options::new(keys.hash_one(&0u8));
-    options.cache_pages = CACHED_PAGES;
+    let options = options_for(rt)?;
     match Connection::open_files_with(rt.alloc(), files, options, false) {
         Ok(conn) => Ok(conn),
         Err((error, _)) => Err(error_of_open(error)),

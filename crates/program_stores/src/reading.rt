@@ -1,0 +1,40 @@
+// Works that only read, over a store that is read from its pages.
+ghost use Rattle.run_stores.specs.Calls.{IsFaithful};
+ghost use Rattle.page_runs.specs.States.{state_of};
+ghost use Rattle.sessions.specs.Sessions.{Wants};
+ghost use Rattle.sessions.specs.Works.{CameTo};
+
+use crate::stores::{is_no_file, options_for};
+use page_runs::PageRuns;
+use sessions::{Work, work_over};
+use sqlite::File;
+use sqlite_disk::{Disk, Unknown};
+use std::io;
+use std::io::Write;
+use std::rt::{Files, HostRuntime};
+
+/// The store at a path, to be read from its pages: none where the file is not plainly a store of this version,
+/// or cannot be read so, which its database tells then. No guarantee: of the files at a path the checker knows
+/// nothing.
+pub fn pages_at(rt: &HostRuntime, path: &str) -> Option<PageRuns<File>> {
+    if is_no_file(path) {
+        return None;
+    }
+    let Ok(files) = sqlite_std_file::open(rt, path, Unknown) else {
+        return None;
+    };
+    let options = options_for(rt).ok()?;
+    PageRuns::open(rt.alloc(), files, options)
+}
+
+/// Does a work over a store that is read from its pages, which refuses each change.
+pub fn read_over<'a, R: Files + AllocGlobal, W: Write + Drop, D: Disk + Drop>(
+    rt: &'a R,
+    out: W,
+    store: PageRuns<D>,
+    work: Work<'a>,
+) -> (io::Result<u8>, W, PageRuns<D>)
+    ensures { IsFaithful state_of result.2 → CameTo state_of W.contents (Wants R.File.remaining work.entry) result.0 out result.1 store result.2 }
+{
+    work_over(rt, out, store, work)
+}
