@@ -5,7 +5,7 @@ PREFIX = /usr/local
 DESTDIR =
 INTO = $(DESTDIR)$(PREFIX)
 PAGE = $(wildcard share/web/*)
-SCRIPTS = folded hostile http import reports rows run store total versions
+SCRIPTS = folded hostile http import reading reports rows run store total versions
 
 # What is installed: the mode, the file here, and its place below PREFIX.
 FILES = 755:$(PROGRAM):bin/profhouse \

@@ -10,8 +10,11 @@ which says what the machine was and what ran beside; bench/table makes the table
 """
 import csv
 import datetime
+import importlib.machinery
+import importlib.util
 import itertools
 import os
+import re
 import sqlite3
 import subprocess
 import sys
@@ -62,6 +65,22 @@ def program():
     print(f"{datetime.date.today()}, {os.cpu_count()} cores, load {os.getloadavg()[0]:.1f},"
           f" least of {RUNS} runs, seconds of the processor", flush=True)
     return path
+
+
+def script(name):
+    """Another benchmark, for the files that it makes."""
+    loader = importlib.machinery.SourceFileLoader(name, os.path.join(TOP, "bench", name))
+    sys.dont_write_bytecode = True
+    module = importlib.util.module_from_spec(importlib.util.spec_from_loader(name, loader))
+    loader.exec_module(module)
+    return module
+
+
+def counted(command):
+    """How many instructions a command takes."""
+    words = ["valgrind", "--tool=cachegrind", "--cache-sim=no", "--cachegrind-out-file=/dev/null", *command]
+    told = subprocess.run(words, check=True, capture_output=True, text=True).stderr
+    return int(re.search(r"I\s+refs:\s+([\d,]+)", told)[1].replace(",", ""))
 
 
 def rust_twin(source, *options, name=None):

@@ -6,11 +6,16 @@
      callers --db DATABASE --event EVENT --object OBJECT FUNCTION
      subtract --db DATABASE --less-run RUN --event EVENT KEY
      csv --db DATABASE
+     runs --db DATABASE
 
-   It reads the cells or the calls of each run in the order of their keys, adds each up as often as its
-   column counts in the event, in a hash map by the numbers of names (import_rows.c has it), reads the
+   It reads the cells or the calls of each run as SQLite finds them by the index of their keys, which needs no
+   sorting, adds each up as often as its column counts in the event, in a hash map by the numbers of names (import_rows.c has it), reads the
    names, sorts the sums and writes a line for each. For csv the numbers of a place and of the event's name
    are the key.
+
+   Options stand before the database. `--run N` asks of that run alone. `--rows table` takes the rows of all runs in one
+   pass over the table, without an index, in place of `--rows index`. `--calls sought` lets SQL find the calls of the
+   function whose callers are asked, in place of `--calls all`, which reads all calls as the program does.
 
    Left out are other selections, limits and thresholds, folded stacks in `inclusive` and `csv`, and sums of 2^64 or
    more; the last two end the program. It believes what the tables hold, that they hold the run that is
@@ -23,25 +28,38 @@
 #include <stdlib.h>
 #include <string.h>
 
-enum question { BY, INCLUSIVE, CALLERS, SUBTRACT, CSV, QUESTIONS };
+enum question { BY, INCLUSIVE, CALLERS, SUBTRACT, CSV, RUNS, QUESTIONS };
 enum key { OBJECT, SOURCE, FUNCTION, LINE, KEYS };
 
-static const char *const QUESTION_NAMES[QUESTIONS] = {"by", "inclusive", "callers", "subtract", "csv"};
-static const int WORDS_BEHIND[QUESTIONS] = {1, 0, 2, 2, 0};
+static const char *const QUESTION_NAMES[QUESTIONS] = {"by", "inclusive", "callers", "subtract", "csv", "runs"};
+static const int WORDS_BEHIND[QUESTIONS] = {1, 0, 2, 2, 0, 0};
 static const char *const KEY_NAMES[KEYS] = {"object", "file", "function", "line"};
 
-static const char CELLS[] = "SELECT ob, fl, fn, line, event, cost FROM thread_cell WHERE run = ?"
-                            " ORDER BY thread, ob, fl, fn, line, event";
-static const char CALLS[] = "SELECT ob, fl, fn, line, cob, cfl, cfn, part, n FROM arc WHERE run = ?"
-                            " ORDER BY ob, fl, fn, line, cob, cfl, cfn, part";
+/* How the rows of runs are read: of one run after the other by the index, or all of the table at once. */
+enum reading { BY_INDEX, WHOLE_TABLE, READINGS };
+static const char *const READING_NAMES[READINGS] = {"index", "table"};
+
+#define CELLS_OF "SELECT ob, fl, fn, line, event, cost, run FROM thread_cell"
+#define CALLS_OF "SELECT ob, fl, fn, line, cob, cfl, cfn, part, n, run FROM arc"
+enum { CELL_RUN = 6, CALL_RUN = 9 };
+static const char *const CELLS[READINGS] = {CELLS_OF " WHERE run = ?", CELLS_OF};
+static const char *const CALLS[READINGS] = {CALLS_OF " WHERE run = ?", CALLS_OF};
+static const char *const CALLS_SOUGHT[READINGS] = {CALLS_OF " WHERE run = ?1 AND cob = ?2 AND cfn = ?3",
+                                                   CALLS_OF " WHERE cob = ?2 AND cfn = ?3"};
 
 static sqlite3 *db;
+static enum reading reading = BY_INDEX;
+static uint64_t only_run; /* 0: all runs */
+static int are_sought;
 static enum question question;
 static enum key key = FUNCTION;
 static struct text event;
 static uint64_t called[2]; /* the function whose callers are asked */
 static struct text *names; /* by their numbers */
-static uint64_t counts[EVENTS];
+
+/* How often each column of a run counts in the event, by the numbers of runs, and those of the run that is read. */
+static uint64_t (*counts_of_runs)[EVENTS];
+static uint64_t *counts;
 static struct rows sums = {.key = 2};
 
 /* The names of all runs' events, and the place of each of a run's events among them. */
@@ -107,7 +125,8 @@ static void count_columns(uint64_t run, int place)
 /* How often each column of a run counts in the event. Answers whether the run has it. */
 static int read_counts(uint64_t run)
 {
-    memset(counts, 0, sizeof counts);
+    counts = counts_of_runs[run];
+    memset(counts, 0, sizeof *counts_of_runs);
     int place = place_in("SELECT pos FROM run_event WHERE run = ? AND name = ?", run);
     if (place >= 0) {
         counts[place % EVENTS] = 1;
@@ -208,14 +227,42 @@ static void add_caller(sqlite3_stmt *calls)
     add_to(&totals[part == 0], amount);
 }
 
+/* A statement that reads rows: those of a run, if it asks for one, and of the called function, if it does. */
+static sqlite3_stmt *rows_of(const char *text, uint64_t run)
+{
+    sqlite3_stmt *rows = prepared(text);
+    if (sqlite3_bind_parameter_count(rows) >= 1)
+        must(sqlite3_bind_int64(rows, 1, (int64_t)run), SQLITE_OK);
+    if (sqlite3_bind_parameter_count(rows) == 3)
+        for (int part = 0; part < 2; part++)
+            must(sqlite3_bind_int64(rows, 2 + part, (int64_t)called[part]), SQLITE_OK);
+    return rows;
+}
+
 /* Gives the rows of a run that a statement reads to what takes them, one by one. */
 static void each_row(const char *text, uint64_t run, void (*take)(sqlite3_stmt *row))
 {
-    sqlite3_stmt *rows = prepared(text);
-    must(sqlite3_bind_int64(rows, 1, (int64_t)run), SQLITE_OK);
+    sqlite3_stmt *rows = rows_of(text, run);
     while (has_row(rows))
         take(rows);
     sqlite3_finalize(rows);
+}
+
+/* The same of all rows of a table; the column says of which run each is. */
+static void each_row_of_all(const char *text, int column, void (*take)(sqlite3_stmt *row))
+{
+    sqlite3_stmt *rows = rows_of(text, 0);
+    while (has_row(rows)) {
+        counts = counts_of_runs[number_in(rows, column)];
+        take(rows);
+    }
+    sqlite3_finalize(rows);
+}
+
+/* The statement that reads the calls from which callers are added up. */
+static const char *calls_to(void)
+{
+    return (are_sought ? CALLS_SOUGHT : CALLS)[reading];
 }
 
 /* Adds up a run. Answers whether it has the event; one without it adds no more than the number of its
@@ -224,31 +271,68 @@ static int add_run(uint64_t run)
 {
     if (question == CSV) {
         read_event_places(run);
-        each_row(CELLS, run, add_cell_of_event);
+        each_row(CELLS[reading], run, add_cell_of_event);
         return 1;
     }
     int has_event = read_counts(run);
+    if (reading == WHOLE_TABLE)
+        return has_event;
     if (question == CALLERS)
-        each_row(CALLS, run, add_caller);
+        each_row(calls_to(), run, add_caller);
     else if (has_event)
-        each_row(CELLS, run, add_cell);
+        each_row(CELLS[reading], run, add_cell);
     if (question == INCLUSIVE && has_event)
-        each_row(CALLS, run, add_outward);
+        each_row(CALLS[reading], run, add_outward);
     return has_event;
 }
 
-/* Adds up all runs. Answers whether one has the event. */
+/* Adds up all runs in one pass over each table. */
+static void add_tables(void)
+{
+    if (question == CALLERS)
+        each_row_of_all(calls_to(), CALL_RUN, add_caller);
+    else
+        each_row_of_all(CELLS[WHOLE_TABLE], CELL_RUN, add_cell);
+    if (question == INCLUSIVE)
+        each_row_of_all(CALLS[WHOLE_TABLE], CALL_RUN, add_outward);
+}
+
+/* Adds up all runs, or the one that is asked. Answers whether one has the event. */
 static int add_runs(void)
 {
     int has_event = 0;
     sqlite3_stmt *runs = prepared("SELECT run, kind FROM run ORDER BY run");
     while (has_row(runs)) {
+        if (only_run != 0 && only_run != number_in(runs, 0))
+            continue;
         if ((question == INCLUSIVE || question == CSV) && number_in(runs, 1) != 1)
             fail("folded stacks");
         has_event |= add_run(number_in(runs, 0));
     }
     sqlite3_finalize(runs);
+    if (reading == WHOLE_TABLE)
+        add_tables();
     return has_event;
+}
+
+/* Makes room for what is counted of each run. */
+static void make_counts(void)
+{
+    sqlite3_stmt *last = prepared("SELECT coalesce(max(run), 0) FROM run");
+    if (!has_row(last))
+        fail("no number");
+    counts_of_runs = zeroed(number_in(last, 0) + 1, sizeof *counts_of_runs);
+    sqlite3_finalize(last);
+}
+
+static void print_runs(void)
+{
+    sqlite3_stmt *runs = prepared("SELECT run, kind, lower(hex(digest)), label FROM run ORDER BY run");
+    while (has_row(runs))
+        printf("%llu %s %s %s\n", (unsigned long long)number_in(runs, 0),
+               number_in(runs, 1) == 1 ? "callgrind" : "folded", (const char *)sqlite3_column_text(runs, 2),
+               (const char *)sqlite3_column_text(runs, 3));
+    sqlite3_finalize(runs);
 }
 
 /* The number of a name, or 0. */
@@ -283,22 +367,57 @@ static void subtract_sums(void)
     subtract(totals);
 }
 
+/* Keeps the name that a row has in a column, under its number. */
+static void keep_name(uint64_t number, sqlite3_stmt *row, int column)
+{
+    size_t length = (size_t)sqlite3_column_bytes(row, column);
+    char *bytes = resized(NULL, length + 1, 1);
+    if (length > 0)
+        memcpy(bytes, sqlite3_column_blob(row, column), length);
+    names[number] = (struct text){bytes, length};
+}
+
+static void read_all_names(void)
+{
+    sqlite3_stmt *all = prepared("SELECT id, bytes FROM name");
+    while (has_row(all))
+        keep_name(number_in(all, 0), all, 1);
+    sqlite3_finalize(all);
+}
+
+/* Reads a name by its number, unless it is there. */
+static void read_name(sqlite3_stmt *find, uint64_t number)
+{
+    if (names[number].at != NULL)
+        return;
+    must(sqlite3_bind_int64(find, 1, (int64_t)number), SQLITE_OK);
+    if (has_row(find))
+        keep_name(number, find, 0);
+    must(sqlite3_reset(find), SQLITE_OK);
+}
+
+/* Reads the names of the keys that are printed: one by one where they are few. */
 static void read_names(void)
 {
     sqlite3_stmt *last = prepared("SELECT coalesce(max(id), 0) FROM name");
     if (!has_row(last))
         fail("no number");
-    names = zeroed(number_in(last, 0) + 1, sizeof *names);
+    uint64_t greatest = number_in(last, 0);
+    names = zeroed(greatest + 1, sizeof *names);
     sqlite3_finalize(last);
-    sqlite3_stmt *all = prepared("SELECT id, bytes FROM name");
-    while (has_row(all)) {
-        size_t length = (size_t)sqlite3_column_bytes(all, 1);
-        char *bytes = resized(NULL, length + 1, 1);
-        if (length > 0)
-            memcpy(bytes, sqlite3_column_blob(all, 1), length);
-        names[number_in(all, 0)] = (struct text){bytes, length};
+    if (question == CSV || sums.count * 4 > greatest) {
+        read_all_names();
+        return;
     }
-    sqlite3_finalize(all);
+    sqlite3_stmt *find = prepared("SELECT bytes FROM name WHERE id = ?");
+    for (int part = 0; part < 2; part++) {
+        if (question == CALLERS)
+            read_name(find, called[part]);
+        if (part == 0 || key == FUNCTION)
+            for (size_t k = 0; k < sums.count; k++)
+                read_name(find, sums.words[k * sums.width + (size_t)part]);
+    }
+    sqlite3_finalize(find);
 }
 
 static int name_order(struct text a, struct text b)
@@ -478,20 +597,49 @@ static int add_all(char **words)
     int has_event = add_runs();
     if (question == SUBTRACT) {
         side = 1;
+        if (reading == WHOLE_TABLE)
+            reading = BY_INDEX;
         has_event |= add_run(strtoull(words[1], NULL, 10));
         subtract_sums();
     }
     return has_event;
 }
 
+/* Reads the options, and answers how many words they are, or -1. */
+static int read_options(int argc, char **argv)
+{
+    int at = 1;
+    for (; at + 1 < argc && strncmp(argv[at], "--", 2) == 0; at += 2) {
+        if (strcmp(argv[at], "--run") == 0)
+            only_run = strtoull(argv[at + 1], NULL, 10);
+        else if (strcmp(argv[at], "--rows") == 0)
+            reading = place_of(argv[at + 1], READING_NAMES, READINGS);
+        else if (strcmp(argv[at], "--calls") == 0)
+            are_sought = strcmp(argv[at + 1], "sought") == 0;
+        else
+            return -1;
+    }
+    return reading < READINGS && (only_run == 0 || reading != WHOLE_TABLE) ? at - 1 : -1;
+}
+
 int main(int argc, char **argv)
 {
-    if (!read_words(argc, argv)) {
-        fprintf(stderr, "usage: reports DATABASE EVENT by KEY | inclusive | callers OBJECT FUNCTION"
-                        " | subtract KEY RUN | csv; a KEY is object, file, function or line\n");
+    int options = read_options(argc, argv);
+    if (options < 0 || !read_words(argc - options, argv + options)
+        || (reading == WHOLE_TABLE && (question == CSV || question == RUNS))) {
+        fprintf(stderr, "usage: reports [--run RUN] [--rows index|table] [--calls all|sought] DATABASE EVENT by KEY | inclusive"
+                        " | callers OBJECT FUNCTION | subtract KEY RUN | csv | runs;"
+                        " a KEY is object, file, function or line\n");
         return 2;
     }
+    argv += options;
     must(sqlite3_open_v2(argv[1], &db, SQLITE_OPEN_READWRITE, NULL), SQLITE_OK);
+    if (question == RUNS) {
+        print_runs();
+        must(sqlite3_close(db), SQLITE_OK);
+        return 0;
+    }
+    make_counts();
     if (!add_all(argv + 4)) {
         puts("refused: no such event");
         return 1;
