@@ -45,6 +45,8 @@ impl<D: Disk> OpenedFile<D> {
         requires { AreUsable pool }
         ensures size { IfOk result (λ it. page_size it ≡ (pools.state pool).page_size) }
         ensures shows { IfOk result (λ it. IsFaithful it → (pages : PageMap) → Recovers (page_size it) (image pool) pages → Shows it pages) }
+        ensures honest { MatchResult result (λ it. IsFaithful it → IsTrue (pools.state pool).is_clean)
+            (λ failed. IsTrue (pools.state failed.pool).is_clean → IsTrue (pools.state pool).is_clean) }
         ensures crash { MatchResult result (λ it. AddsNothing (pools.state pool).page_size (pools.state pool).may_leave (may_leave it))
             (λ failed. AddsNothing (pools.state pool).page_size (pools.state pool).may_leave (pools.state failed.pool).may_leave) }
         ensures cause { IfErr result (λ failed. IsTrue (pools.state failed.pool).is_clean

@@ -5,6 +5,7 @@ mod HeadTold
 pub mod NameColumns
 pub mod Ordered
 pub mod Placing
+mod Probing
 mod Rooting
 pub mod RunRows
 pub mod Shows

@@ -2,6 +2,7 @@ pub mod Found
 pub mod Order
 pub mod Placed
 pub mod Shown
+pub mod Sizes
 pub mod States
 pub mod Texts
 pub mod Walks

@@ -3,17 +3,46 @@ ghost use Rattle.std.specs.Prelude.{◌≡◌, IsTrue, IfSome};
 ghost use Rattle.sqlite_pages.specs.PageMap.{PageMap};
 ghost use Rattle.sqlite_pool.specs.Stored.{Recovers};
 ghost use Rattle.sqlite_wal.specs.Files.{seen_image};
+ghost use Rattle.sqlite_wal.specs.PageSize.{bytes_of};
+ghost use Rattle.sqlite_wal.specs.Reads.{AreClean};
+ghost use Rattle.sqlite_wal.specs.Reads as disks;
 ghost use Rattle.page_rows.specs.Files.{page_size, IsFaithful, Shows};
+ghost use Rattle.page_runs.specs.Sizes.{IsSizeOf};
 
 use page_rows::OpenedFile;
 use sqlite_disk::{Disk, Files};
 use sqlite_pager::{Options, Pager};
 use sqlite_pool::Pool;
-use sqlite_wal::probe_page_size;
+use sqlite_wal::{PageSize, probe_first_page, probe_page_size};
 use std::alloc::Global;
 
+/// Bytes 20 to 23 of the header, where each page ends in a sum.
+const WITH_SUMS: u32 = 0x0840_2020;
+
+/// The size of the pages, of files that begin as a database whose pages end in no sums. It only reads, as nothing
+/// is to be written beside a file that is no database.
+fn plain_size<D: Disk>(alloc: Global, files: &mut Files<D>) -> Option<PageSize>
+    requires log { IsTrue (D.Disk.is_usable files.old.log) }
+    requires db { IsTrue (D.Disk.is_usable files.old.db) }
+    ensures size { IfSome result (λ size. AreClean D.Disk files.new.log files.new.db
+        → IsSizeOf (seen_image D.Disk files.old.log files.old.db) (bytes_of size)) }
+    ensures log { disks.OnlyReads D.Disk files.old.log files.new.log }
+    ensures db { disks.OnlyReads D.Disk files.old.db files.new.db }
+{
+    let Ok(Some(size)) = probe_page_size(files) else {
+        return None;
+    };
+    let Ok(head) = probe_first_page(alloc, files, size) else {
+        return None;
+    };
+    if head.0 != b'S' || head.1 == WITH_SUMS {
+        return None;
+    }
+    Some(size)
+}
+
 /// Opens the database in two files, which are closed where it is none: where they name no size of its pages or
-/// hold no sound header, or cannot be read.
+/// hold no sound header, or cannot be read; and where its pages end in sums.
 pub(crate) fn open_file<D: Disk + Drop>(
     alloc: Global,
     mut files: Files<D>,
@@ -21,9 +50,10 @@ pub(crate) fn open_file<D: Disk + Drop>(
 ) -> Option<OpenedFile<D>>
     requires log { IsTrue (D.Disk.is_usable files.log) }
     requires db { IsTrue (D.Disk.is_usable files.db) }
+    ensures size { IfSome result (λ file. IsFaithful file → IsSizeOf (seen_image D.Disk files.log files.db) (page_size file)) }
     ensures shows { IfSome result (λ file. IsFaithful file → (pages : PageMap) → Recovers (page_size file) (seen_image D.Disk files.log files.db) pages → Shows file pages) }
 {
-    let Ok(Some(size)) = probe_page_size(&mut files) else {
+    let Some(size) = plain_size(alloc, &mut files) else {
         return None;
     };
     let Ok(pager) = Pager::new(alloc, files, size, options) else {
