@@ -1,5 +1,5 @@
 // The cells, the calls and the stacks of a run, handed on with names in place.
-ghost use Rattle.std.specs.Prelude.{◌≡◌, ◌∷◌, List, fold, map, IfOk};
+ghost use Rattle.std.specs.Prelude.{◌≡◌, ◌∷◌, List, fold, map, sum_by, IfOk};
 ghost use Rattle.sqlite_record.specs.Fields.{fields_left};
 ghost use Rattle.page_rows.specs.Files.{IsFaithful, OnlyReads};
 ghost use Rattle.plain_tables.specs.RunRows.{cells_in, calls_in, stacks_in};
@@ -11,7 +11,7 @@ ghost use Rattle.store_schema.specs.Tables.{number, cell_columns, arc_columns, s
 ghost use Rattle.page_runs.specs.Shown.{ShowsLines};
 
 use crate::fields::{copied_in, end_of, number_in, whole_in};
-use crate::run_rows::{LineSink, each_line};
+use crate::run_rows::{LineSink, RunTable, each_line};
 use held_runs::{CallLines, CellLines, HeldNames, StackLines};
 use page_rows::OpenedFile;
 use plain_tables::StoreError;
@@ -91,15 +91,19 @@ impl<T: CellSink + Drop> LineSink for CellLines<'_, T> {
 
     ghost Line = { Cell };
 
+    ghost amount = { λ line. line.cost };
+
     ghost columns = { cell_columns };
 
     ghost Start = { List NameRow × ℕ × T.Meaning };
 
     ghost Has = { λ start lines s. HasTakenCellLines start.0 start.1 T.meaning T.step start.2 lines s };
 
-    fn take(&mut self, run: u32, fields: Fields<'_>) -> Result<(), StoreError> {
+    fn take(&mut self, run: u32, fields: Fields<'_>) -> Result<u64, StoreError> {
         let line = read_cell(run, fields)?;
-        self.take_line(line)
+        let cost = line.cost.get();
+        self.take_line(line)?;
+        Ok(cost)
     }
 }
 
@@ -111,15 +115,19 @@ impl<T: CallSink + Drop> LineSink for CallLines<'_, T> {
 
     ghost Line = { Call };
 
+    ghost amount = { λ line. line.sum };
+
     ghost columns = { arc_columns };
 
     ghost Start = { List NameRow × ℕ × T.Meaning };
 
     ghost Has = { λ start lines s. HasTakenCallLines start.0 start.1 T.meaning T.step start.2 lines s };
 
-    fn take(&mut self, run: u32, fields: Fields<'_>) -> Result<(), StoreError> {
+    fn take(&mut self, run: u32, fields: Fields<'_>) -> Result<u64, StoreError> {
         let line = read_call(run, fields)?;
-        self.take_line(line)
+        let sum = line.sum.get();
+        self.take_line(line)?;
+        Ok(sum)
     }
 }
 
@@ -137,15 +145,19 @@ impl<T: StackRowSink + Drop> LineSink for CopiedStacks<T> {
 
     ghost Line = { Stack };
 
+    ghost amount = { λ line. line.count };
+
     ghost columns = { stack_columns };
 
     ghost Start = { T.Meaning };
 
     ghost Has = { λ start lines s. HasTakenStackLines T.meaning T.step start lines s.lines };
 
-    fn take(&mut self, run: u32, fields: Fields<'_>) -> Result<(), StoreError> {
+    fn take(&mut self, run: u32, fields: Fields<'_>) -> Result<u64, StoreError> {
         let line = read_stack(self.alloc, run, fields)?;
-        self.lines.take_line(line)
+        let count = line.count.get();
+        self.lines.take_line(line)?;
+        Ok(count)
     }
 }
 
@@ -153,18 +165,19 @@ impl<T: StackRowSink + Drop> LineSink for CopiedStacks<T> {
 pub(crate) fn each_cell<D: Disk, T: CellSink + Drop>(
     file: &mut OpenedFile<D>,
     alloc: Global,
-    root: u32,
-    run: u32,
+    table: RunTable,
     names: &HeldNames,
     events: usize,
     sink: T,
 ) -> Result<T, StoreError>
-    ensures told { IsFaithful file.new → (t : Tables) → ShowsLines file.old root cell_columns (λ (c : Cell). c.run) t.cells
-        → IfOk result (λ taken. CellsFoldTo names.now events T.step (T.meaning sink) (T.meaning taken) (cells_in run t)) }
+    ensures told { IsFaithful file.new → (t : Tables) → ShowsLines file.old table.root cell_columns (λ (c : Cell). c.run) t.cells
+        → IfOk result (λ taken. CellsFoldTo names.now events T.step (T.meaning sink) (T.meaning taken) (cells_in table.run t)) }
+    ensures whole { IsFaithful file.new → (t : Tables) → ShowsLines file.old table.root cell_columns (λ (c : Cell). c.run) t.cells
+        → IfOk result (λ _. sum_by (λ (c : Cell). c.cost) (cells_in table.run t) ≡ table.sum) }
     ensures reads { OnlyReads file.old file.new }
 {
     let lines = CellLines::new(names, events, sink);
-    let lines = each_line(file, alloc, root, run, lines)?;
+    let lines = each_line(file, alloc, table, lines)?;
     Ok(lines.finish())
 }
 
@@ -172,18 +185,19 @@ pub(crate) fn each_cell<D: Disk, T: CellSink + Drop>(
 pub(crate) fn each_call<D: Disk, T: CallSink + Drop>(
     file: &mut OpenedFile<D>,
     alloc: Global,
-    root: u32,
-    run: u32,
+    table: RunTable,
     names: &HeldNames,
     events: usize,
     sink: T,
 ) -> Result<T, StoreError>
-    ensures told { IsFaithful file.new → (t : Tables) → ShowsLines file.old root arc_columns (λ (a : Call). a.run) t.calls
-        → IfOk result (λ taken. CallsFoldTo names.now events T.step (T.meaning sink) (T.meaning taken) (calls_in run t)) }
+    ensures told { IsFaithful file.new → (t : Tables) → ShowsLines file.old table.root arc_columns (λ (a : Call). a.run) t.calls
+        → IfOk result (λ taken. CallsFoldTo names.now events T.step (T.meaning sink) (T.meaning taken) (calls_in table.run t)) }
+    ensures whole { IsFaithful file.new → (t : Tables) → ShowsLines file.old table.root arc_columns (λ (a : Call). a.run) t.calls
+        → IfOk result (λ _. sum_by (λ (a : Call). a.sum) (calls_in table.run t) ≡ table.sum) }
     ensures reads { OnlyReads file.old file.new }
 {
     let lines = CallLines::new(names, alloc, events, sink);
-    let lines = each_line(file, alloc, root, run, lines)?;
+    let lines = each_line(file, alloc, table, lines)?;
     lines.finish()
 }
 
@@ -191,18 +205,19 @@ pub(crate) fn each_call<D: Disk, T: CallSink + Drop>(
 pub(crate) fn each_stack<D: Disk, T: StackRowSink + Drop>(
     file: &mut OpenedFile<D>,
     alloc: Global,
-    root: u32,
-    run: u32,
+    table: RunTable,
     sink: T,
 ) -> Result<T, StoreError>
-    ensures told { IsFaithful file.new → (t : Tables) → ShowsLines file.old root stack_columns (λ (s : Stack). s.run) t.stacks
-        → IfOk result (λ taken. T.meaning taken ≡ fold T.step (T.meaning sink) (stacks_held run t)) }
+    ensures told { IsFaithful file.new → (t : Tables) → ShowsLines file.old table.root stack_columns (λ (s : Stack). s.run) t.stacks
+        → IfOk result (λ taken. T.meaning taken ≡ fold T.step (T.meaning sink) (stacks_held table.run t)) }
+    ensures whole { IsFaithful file.new → (t : Tables) → ShowsLines file.old table.root stack_columns (λ (s : Stack). s.run) t.stacks
+        → IfOk result (λ _. sum_by (λ (s : Stack). s.count) (stacks_in table.run t) ≡ table.sum) }
     ensures reads { OnlyReads file.old file.new }
 {
     let lines = CopiedStacks {
         alloc,
         lines: StackLines::new(sink),
     };
-    let lines = each_line(file, alloc, root, run, lines)?;
+    let lines = each_line(file, alloc, table, lines)?;
     Ok(lines.lines.finish())
 }

@@ -1,5 +1,5 @@
 // The rows of a run in one of its tables, handed on one at a time.
-ghost use Rattle.std.specs.Prelude.{◌≡◌, ℕ, [], List, IfOk};
+ghost use Rattle.std.specs.Prelude.{◌≡◌, ◌+◌, [], List, sum_by, IfOk};
 ghost use Rattle.sqlite_value.specs.Order.{Row};
 ghost use Rattle.page_rows.specs.Files.{IsFaithful, OnlyReads};
 ghost use Rattle.page_runs.specs.Shown.{ShowsRows};
@@ -16,7 +16,7 @@ use std::alloc::Global;
 
 /// Takes the lines of a run in one of the tables whose rows are lines of runs, one at a time.
 pub(crate) trait LineSink {
-    ghost use Rattle.std.specs.Prelude.{◌≡◌, ◌++◌, ◌∷◌, [], List, OnOk};
+    ghost use Rattle.std.specs.Prelude.{◌≡◌, ◌++◌, ◌∷◌, [], ℕ, List, IfOk};
     ghost use Rattle.sqlite_record.specs.Fields.{fields_left};
     ghost use Rattle.sqlite_value.specs.Order.{Row};
     ghost use Rattle.store_schema.specs.Tables.{number};
@@ -27,27 +27,49 @@ pub(crate) trait LineSink {
     /// The columns of a row that says this.
     ghost columns: { Line → Row };
 
+    /// What it adds to the sum of a run.
+    ghost amount: { Line → ℕ };
+
     /// What it can begin with.
     ghost Start: { Type 0 };
 
     /// It began with this, and has taken these lines.
     ghost Has: { Start → List Line → Self → Type 0 };
 
-    /// Takes the line of a run that a record says in its values behind the run. An error ends the walk.
-    fn take(&mut self, run: u32, fields: Fields<'_>) -> Result<(), StoreError>
-        ensures { OnOk result ((start : Start) (lines : List Line) → Has start lines self.old
-            → (line : Line) × (columns line ≡ number run ∷ fields_left fields.entry) × Has start (lines ++ line ∷ []) self.new) };
+    /// Takes the line of a run that a record says in its values behind the run, and answers its amount. An error
+    /// ends the walk.
+    fn take(&mut self, run: u32, fields: Fields<'_>) -> Result<u64, StoreError>
+        ensures { IfOk result (λ added. (start : Start) (lines : List Line) → Has start lines self.old
+            → (line : Line) × (columns line ≡ number run ∷ fields_left fields.entry) × (amount line ≡ added) × Has start (lines ++ line ∷ []) self.new) };
 }
 
-/// Takes the rows of a run, up to the first of a later one.
+/// A run in one of these tables.
+#[derive(Clone, Copy)]
+pub(crate) struct RunTable {
+    /// The root of the table.
+    pub root: u32,
+    pub run: u32,
+    /// What the amounts of its lines sum to, as the small tables say.
+    pub sum: u128,
+}
+
+/// A sum with one more amount. `Store` where it passes all that rows can sum to.
+fn sum_with(sum: u128, added: u64) -> Result<u128, StoreError>
+    ensures { IfOk result (λ more. more ≡ sum + added) }
+{
+    sum.checked_add(u128::from(added)).ok_or(StoreError::Store)
+}
+
+/// Takes the rows of a run, up to the first of a later one, and adds their amounts up.
 #[derive(Drop)]
 struct RunRows<T: Drop> {
     run: u32,
     sink: T,
+    sum: u128,
 }
 
 impl<T: LineSink + Drop> RowSink for RunRows<T> {
-    ghost use Rattle.std.specs.Prelude.{◌≡◌, ◌<◌, ◌++◌, ◌∷◌, [], ℕ, List, ⊤};
+    ghost use Rattle.std.specs.Prelude.{◌≡◌, ◌<◌, ◌++◌, ◌∷◌, [], ℕ, List, sum_by, ⊤};
     ghost use Rattle.sqlite_value.specs.Order.{Row};
     ghost use Rattle.page_runs.specs.Walks.{AreOfRun, run_in};
 
@@ -55,10 +77,10 @@ impl<T: LineSink + Drop> RowSink for RunRows<T> {
 
     ghost Start = { ℕ × T.Start };
 
-    ghost Has = { λ start rows s. (s.run ≡ start.0) × ((lines : List T.Line) × AreOfRun T.columns start.0 rows lines × T.Has start.1 lines s.sink) };
+    ghost Has = { λ start rows s. (s.run ≡ start.0) × ((lines : List T.Line) × AreOfRun T.columns start.0 rows lines × (s.sum ≡ sum_by T.amount lines) × T.Has start.1 lines s.sink) };
 
     ghost Ends = { λ start rows s. (front : List Row) × (last : Row) × (rows ≡ front ++ last ∷ []) × (start.0 < run_in last)
-        × ((lines : List T.Line) × AreOfRun T.columns start.0 front lines × T.Has start.1 lines s.sink) };
+        × ((lines : List T.Line) × AreOfRun T.columns start.0 front lines × (s.sum ≡ sum_by T.amount lines) × T.Has start.1 lines s.sink) };
 
     ghost Refuses = { λ _ _. ⊤ };
 
@@ -69,30 +91,35 @@ impl<T: LineSink + Drop> RowSink for RunRows<T> {
             return Ok(false);
         }
         if run == self.run {
-            self.sink.take(run, fields)?;
+            let added = self.sink.take(run, fields)?;
+            self.sum = sum_with(self.sum, added)?;
         }
         Ok(true)
     }
 }
 
 /// Hands the lines of a run on, in a table whose rows stand in the order of the runs. What took them is handed back.
-/// Errors: `Memory`; `Store` for pages that cannot be read and for rows out of form; and those of the taker.
+/// Errors: `Memory`; `Store` for pages that cannot be read, for rows out of form, and where the lines do not sum to
+/// what the small tables say, as where some lie behind those of a later run; and those of the taker.
 pub(crate) fn each_line<D: Disk, T: LineSink + Drop>(
     file: &mut OpenedFile<D>,
     alloc: Global,
-    root: u32,
-    run: u32,
+    table: RunTable,
     sink: T,
 ) -> Result<T, StoreError>
-    ensures handed { IsFaithful file.new → (rows : List Row) → ShowsRows file.old root rows → InOrder rows
+    ensures handed { IsFaithful file.new → (rows : List Row) → ShowsRows file.old table.root rows → InOrder rows
         → (start : T.Start) → T.Has start [] sink
-        → IfOk result (λ taken. (lines : List T.Line) × AreOfRun T.columns run rows lines × T.Has start lines taken) }
+        → IfOk result (λ taken. (lines : List T.Line) × AreOfRun T.columns table.run rows lines × (sum_by T.amount lines ≡ table.sum) × T.Has start lines taken) }
     ensures reads { OnlyReads file.old file.new }
 {
-    let from = place_of(file, alloc, root, run)?;
-    let mut rows = RunRows { run, sink };
-    match file.walk(alloc, root, from, &mut rows) {
-        Ok(()) => Ok(rows.sink),
-        Err(error) => Err(error_of_walk(error)),
+    let run = table.run;
+    let from = place_of(file, alloc, table.root, run)?;
+    let mut rows = RunRows { run, sink, sum: 0 };
+    if let Err(error) = file.walk(alloc, table.root, from, &mut rows) {
+        return Err(error_of_walk(error));
     }
+    if rows.sum != table.sum {
+        return Err(StoreError::Store);
+    }
+    Ok(rows.sink)
 }

@@ -15,6 +15,7 @@ use crate::heads::head_of;
 use crate::names::names_under;
 use crate::opening::open_store;
 use crate::roots::Roots;
+use crate::run_rows::RunTable;
 use cg_formulas::FileHead;
 use cg_text::ListVec;
 use cost_rows::FileTotals;
@@ -200,8 +201,12 @@ impl<D: Disk> RunStore for PageRuns<D> {
         events: usize,
         sink: T,
     ) -> Result<T, StoreError> {
-        let (alloc, root) = (self.alloc, self.roots.cells);
-        each_cell(&mut self.file, alloc, root, run, names, events, sink)
+        let table = RunTable {
+            root: self.roots.cells,
+            run,
+            sum: self.lists.cells_sum_of(run)?,
+        };
+        each_cell(&mut self.file, self.alloc, table, names, events, sink)
     }
 
     fn each_call<T: CallSink + Drop>(
@@ -212,13 +217,21 @@ impl<D: Disk> RunStore for PageRuns<D> {
         events: usize,
         sink: T,
     ) -> Result<T, StoreError> {
-        let root = self.roots.calls;
-        each_call(&mut self.file, alloc, root, run, names, events, sink)
+        let table = RunTable {
+            root: self.roots.calls,
+            run,
+            sum: self.lists.calls_sum_of(run)?,
+        };
+        each_call(&mut self.file, alloc, table, names, events, sink)
     }
 
     fn each_stack<T: StackRowSink + Drop>(&mut self, run: u32, sink: T) -> Result<T, StoreError> {
-        let (alloc, root) = (self.alloc, self.roots.stacks);
-        each_stack(&mut self.file, alloc, root, run, sink)
+        let table = RunTable {
+            root: self.roots.stacks,
+            run,
+            sum: self.lists.stacks_sum_of(run)?,
+        };
+        each_stack(&mut self.file, self.alloc, table, sink)
     }
 
     fn put_run(

@@ -4,3 +4,4 @@ pub mod SumLists
 pub mod Permutations
 pub mod GroupMembers
 pub mod Joining
+pub mod RunSums

@@ -1,3 +1,4 @@
 pub mod Lent
 pub mod Listed
+pub mod RowSums
 pub mod Sums

@@ -10,6 +10,8 @@ mod listed;
 mod lookups;
 // The runs that are held, and the numbers of runs.
 mod numbers;
+// What the rows of a run sum to (specs/RowSums.antt).
+mod row_sums;
 // The sums of events (specs/Sums.antt).
 mod sums;
 

@@ -12,14 +12,14 @@ use cost_rows::FileTotals;
 use plain_tables::StoreError;
 use std::alloc::{AllocError, Global};
 
-/// Sums of 2^112 and more are refused.
-const SUM_END: u128 = 1 << 112;
+/// Sums from this on, 2^112, are refused.
+pub(crate) const SUM_END: u128 = 1 << 112;
 
-/// The sums of an event over all runs: of self costs, and of the costs of calls.
+/// Sums of events: of self costs, and of the costs of calls.
 #[derive(Clone, Copy)]
-struct EventSums {
-    own: u128,
-    calls: u128,
+pub(crate) struct EventSums {
+    pub own: u128,
+    pub calls: u128,
 }
 
 /// The places of a run's events, each with its self cost.
