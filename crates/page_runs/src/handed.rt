@@ -171,9 +171,7 @@ pub(crate) fn each_cell<D: Disk, T: CellSink + Drop>(
     sink: T,
 ) -> Result<T, StoreError>
     ensures told { IsFaithful file.new → (t : Tables) → ShowsLines file.old table.root cell_columns (λ (c : Cell). c.run) t.cells
-        → IfOk result (λ taken. CellsFoldTo names.now events T.step (T.meaning sink) (T.meaning taken) (cells_in table.run t)) }
-    ensures whole { IsFaithful file.new → (t : Tables) → ShowsLines file.old table.root cell_columns (λ (c : Cell). c.run) t.cells
-        → IfOk result (λ _. sum_by (λ (c : Cell). c.cost) (cells_in table.run t) ≡ table.sum) }
+        → IfOk result (λ taken. CellsFoldTo names.now events T.step (T.meaning sink) (T.meaning taken) (cells_in table.run t) × (sum_by (λ (c : Cell). c.cost) (cells_in table.run t) ≡ table.sum)) }
     ensures reads { OnlyReads file.old file.new }
 {
     let lines = CellLines::new(names, events, sink);
@@ -191,9 +189,7 @@ pub(crate) fn each_call<D: Disk, T: CallSink + Drop>(
     sink: T,
 ) -> Result<T, StoreError>
     ensures told { IsFaithful file.new → (t : Tables) → ShowsLines file.old table.root arc_columns (λ (a : Call). a.run) t.calls
-        → IfOk result (λ taken. CallsFoldTo names.now events T.step (T.meaning sink) (T.meaning taken) (calls_in table.run t)) }
-    ensures whole { IsFaithful file.new → (t : Tables) → ShowsLines file.old table.root arc_columns (λ (a : Call). a.run) t.calls
-        → IfOk result (λ _. sum_by (λ (a : Call). a.sum) (calls_in table.run t) ≡ table.sum) }
+        → IfOk result (λ taken. CallsFoldTo names.now events T.step (T.meaning sink) (T.meaning taken) (calls_in table.run t) × (sum_by (λ (a : Call). a.sum) (calls_in table.run t) ≡ table.sum)) }
     ensures reads { OnlyReads file.old file.new }
 {
     let lines = CallLines::new(names, alloc, events, sink);
@@ -209,9 +205,7 @@ pub(crate) fn each_stack<D: Disk, T: StackRowSink + Drop>(
     sink: T,
 ) -> Result<T, StoreError>
     ensures told { IsFaithful file.new → (t : Tables) → ShowsLines file.old table.root stack_columns (λ (s : Stack). s.run) t.stacks
-        → IfOk result (λ taken. T.meaning taken ≡ fold T.step (T.meaning sink) (stacks_held table.run t)) }
-    ensures whole { IsFaithful file.new → (t : Tables) → ShowsLines file.old table.root stack_columns (λ (s : Stack). s.run) t.stacks
-        → IfOk result (λ _. sum_by (λ (s : Stack). s.count) (stacks_in table.run t) ≡ table.sum) }
+        → IfOk result (λ taken. (T.meaning taken ≡ fold T.step (T.meaning sink) (stacks_held table.run t)) × (sum_by (λ (s : Stack). s.count) (stacks_in table.run t) ≡ table.sum)) }
     ensures reads { OnlyReads file.old file.new }
 {
     let lines = CopiedStacks {

@@ -2,3 +2,4 @@ mod ByLemmas
 mod CheckLemmas
 mod CompareLemmas
 mod MergeLemmas
+mod CellLemmas

@@ -1,3 +1,4 @@
+pub mod CellSums
 pub mod Checked
 pub mod Compared
 pub mod Reported

@@ -2,12 +2,13 @@
 ghost use Rattle.std.specs.Prelude.{◌≡◌, ◌++◌, flat_map, OnOk};
 ghost use Rattle.std.specs.Result.{is_ok};
 ghost use Rattle.report_texts.specs.Verifying.{verified, verify_text};
-ghost use Rattle.run_stores.specs.Calls.{Asks, Told, AsksIfOpen};
+ghost use Rattle.run_stores.specs.Calls.{Told, AsksIfOpen};
 ghost use Rattle.prof_books.specs.HeldHeads.{IsHeadIn};
 ghost use Rattle.histories.specs.declared.answers.Query.TheVariants.{Verify};
 ghost use Rattle.store_histories.specs.Answered.{AnswersAsked};
 ghost use Rattle.store_reports.specs.Checked.{IsChecked, IsVerified, AreChecked};
 
+use crate::cell_sums::check_cells;
 use cg_formulas::FileHead;
 use cg_text::ListVec;
 use cost_reports::verify;
@@ -30,18 +31,20 @@ fn push_lines(
     checks.push_text(text)
 }
 
-/// Adds the lines of a run of this head.
+/// Adds the lines of a run of this head. Its cells are read, and have to sum to the sums of its events.
 fn push_sums<S: RunStore>(
     store: &mut S,
     alloc: Global,
+    names: &S::Names,
     number: u32,
     head: &FileHead,
     text: &mut Vec<u8>,
 ) -> Result<(), StoreError>
     ensures told { Told S.StoreState result store.old store.new (λ t _. IsHeadIn number t head.now → IsChecked t number text.old.items text.new.items) }
-    ensures asks { Asks S.StoreState (is_ok result) store.old store.new }
+    ensures asks { AsksIfOpen S.StoreState (is_ok result) store.old store.new }
 {
     let sums = store.sums_of(alloc, number)?;
+    check_cells(store, alloc, names, number, sums.as_slice())?;
     push_lines(text, alloc, number, head, sums.as_slice())?;
     Ok(())
 }
@@ -50,23 +53,25 @@ fn push_sums<S: RunStore>(
 fn check_run<S: RunStore>(
     store: &mut S,
     alloc: Global,
+    names: &S::Names,
     number: u32,
     text: &mut Vec<u8>,
 ) -> Result<(), StoreError>
     ensures told { Told S.StoreState result store.old store.new (λ t _. IsChecked t number text.old.items text.new.items) }
-    ensures asks { Asks S.StoreState (is_ok result) store.old store.new }
+    ensures asks { AsksIfOpen S.StoreState (is_ok result) store.old store.new }
 {
     let head = store.head_of(alloc, number)?;
-    push_sums(store, alloc, number, &head, text)
+    push_sums(store, alloc, names, number, &head, text)
 }
 
-/// Adds the lines of runs to a text.
+/// Adds the lines of runs to a text, by the names that are held.
 #[derive(Drop)]
-struct ChecksOfRuns {
+struct ChecksOfRuns<'n, N> {
     alloc: Global,
+    names: &'n N,
 }
 
-impl<S: RunStore> RunFold<S> for ChecksOfRuns {
+impl<S: RunStore> RunFold<S> for ChecksOfRuns<'_, S::Names> {
     ghost use Rattle.store_reports.specs.Checked.{IsChecked};
 
     type Run = u32;
@@ -77,7 +82,7 @@ impl<S: RunStore> RunFold<S> for ChecksOfRuns {
 
     fn add(&self, store: &mut S, number: &u32, text: Vec<u8>) -> Result<Vec<u8>, StoreError> {
         let mut text = text;
-        check_run(store, self.alloc, *number, &mut text)?;
+        check_run(store, self.alloc, self.names, *number, &mut text)?;
         Ok(text)
     }
 }
@@ -91,14 +96,19 @@ fn check_runs<S: RunStore>(
     ensures told { Told S.StoreState result store.old store.new (λ t text. AreChecked t numbers.now text) }
     ensures asks { AsksIfOpen S.StoreState (is_ok result) store.old store.new }
 {
-    let checks = ChecksOfRuns { alloc };
+    let names = store.names_of(alloc)?;
+    let checks = ChecksOfRuns {
+        alloc,
+        names: &names,
+    };
     let text = fold_runs(store, &checks, numbers, Vec::new(alloc))?;
     Ok(ListVec::from_vec(text))
 }
 
 /// Answers what the sums of the events are beside the totals that the files state, for the runs of
-/// a selection: a text, or the refusal of a run or a group that is not held. Errors: `Memory`; and
-/// `Store` for a call of the database that fails and for rows out of form.
+/// a selection: a text, or the refusal of a run or a group that is not held. Every cell of these runs is read.
+/// Errors: `Memory`; and `Store` for a call of the database that fails, for rows out of form, and for cells that
+/// do not sum to the sums of their events.
 pub fn verify_answer<S: RunStore>(
     store: &mut S,
     alloc: Global,

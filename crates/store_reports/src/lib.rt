@@ -3,6 +3,8 @@
 //! records.
 #![tactic(auto)]
 
+// The cells of a run, added up by event (specs/CellSums.antt).
+mod cell_sums;
 // Answers `verify` (specs/Checked.antt).
 mod checking;
 // Answers `subtract` (specs/Compared.antt).

@@ -1,5 +1,8 @@
-use Rattle.std.proofs.Common.{◌≡◌, ◌++◌, refl, ap, ◌∙◌, rules}
+use Rattle.std.proofs.Common.{◌≡◌, ◌++◌, refl, ap, subst, sym, ◌∙◌, rules}
 use Rattle.report_texts.specs.Verifying.{verified, verify_text}
+use Rattle.plain_tables.specs.RunRows.{cells_in}
+use Rattle.run_stores.proofs.Calls.{asked_reads}
+use Rattle.store_reports.specs.CellSums.{AreOfCells}
 use Rattle.store_reports.proofs.checking.push_sums.Goals as goal
 
 pub returns-clause-told : goal.returns-clause-told
@@ -7,8 +10,18 @@ returns-clause-told g c clean t represents head_is =
     let number = c.args.number in
     let head = c.args.head.now in
     let sums = c.in_ok-sums.sums in
-    let same : c.as_slice.result.now ≡ sums = search rules in (
+    let early = (c.in_ok-check_cells.ensures.asks clean).stays.was_faithful in
+    let mid = asked_reads g.S.StoreState t _ _ (c.in_ok-sums.ensures.asks early) represents in
+    let checked : c.as_slice.result.now ≡ sums = search rules in
+    let same : c.as_slice-2.result.now ≡ sums = search rules in (
       verify_text (verified number head.events sums head.stated),
-      record { head = head; head_is = head_is; sums = sums; sums_are = c.in_ok-sums.ensures.told clean t represents; lines_are = refl },
+      record {
+        head = head;
+        head_is = head_is;
+        sums = sums;
+        sums_are = c.in_ok-sums.ensures.told early t represents;
+        cells_are = subst (AreOfCells (cells_in number t)) checked (c.in_ok-check_cells.ensures.told clean t mid);
+        lines_are = refl;
+      },
       c.in_ok-push_lines.ensures ∙ ap (λ s. c.args.text.now.items ++ verify_text (verified number head.events s head.stated)) same,
     )
