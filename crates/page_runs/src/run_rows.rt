@@ -115,11 +115,9 @@ pub(crate) fn each_line<D: Disk, T: LineSink + Drop>(
     let run = table.run;
     let from = place_of(file, alloc, table.root, run)?;
     let mut rows = RunRows { run, sink, sum: 0 };
-    if let Err(error) = file.walk(alloc, table.root, from, &mut rows) {
-        return Err(error_of_walk(error));
+    match file.walk(alloc, table.root, from, &mut rows) {
+        Ok(()) if rows.sum == table.sum => Ok(rows.sink),
+        Ok(()) => Err(StoreError::Store),
+        Err(error) => Err(error_of_walk(error)),
     }
-    if rows.sum != table.sum {
-        return Err(StoreError::Store);
-    }
-    Ok(rows.sink)
 }

@@ -1,4 +1,4 @@
-use Rattle.std.proofs.Common.{refl, sym, subst}
+use Rattle.std.proofs.Common.{sum_by, refl, sym, ap, subst, ◌∙◌}
 use Rattle.std.proofs.lemmas.Result.{IfOk-weaker}
 use Rattle.plain_tables.specs.Tables.{CallRow}
 use Rattle.store_schema.specs.Tables.{arc_columns}
@@ -14,6 +14,10 @@ returns-clause-told g c faithful t is =
     let start = sink.meaning c.args.sink in
     let run = λ (r : CallRow). r.run in
     let order = shown_in_order arc_columns run (λ r. refl) is.rows t.calls is.lines_are is.in_order in
-    let (lines, are, has) = c.in_ok-lines.ensures.handed faithful is.rows is.shows order (names, c.args.events, start) c.new-lines.ensures in
-    let same = lines_are arc_columns run (λ r. refl) one_call c.args.run is.rows t.calls is.lines_are lines are in
-    IfOk-weaker c.finish.result _ _ (λ taken comes. subst (CallsFoldTo names c.args.events sink.step start (sink.meaning taken)) (sym same) (comes names c.args.events start lines has)) c.finish.ensures
+    let (lines, are, sums, has) = c.in_ok-lines.ensures.handed faithful is.rows is.shows order (names, c.args.events, start) c.new-lines.ensures in
+    let same = lines_are arc_columns run (λ r. refl) one_call c.args.table.run is.rows t.calls is.lines_are lines are in
+    IfOk-weaker c.finish.result _ _
+    (λ taken comes. (
+      subst (CallsFoldTo names c.args.events sink.step start (sink.meaning taken)) (sym same) (comes names c.args.events start lines has),
+      ap (sum_by (λ (r : CallRow). r.sum)) same ∙ sums,
+    )) c.finish.ensures

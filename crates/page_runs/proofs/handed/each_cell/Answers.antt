@@ -1,4 +1,4 @@
-use Rattle.std.proofs.Common.{refl, sym, subst}
+use Rattle.std.proofs.Common.{sum_by, refl, sym, ap, subst, ◌∙◌}
 use Rattle.plain_tables.specs.Tables.{CellRow}
 use Rattle.store_schema.specs.Tables.{cell_columns}
 use Rattle.store_schema.proofs.RunRows.{one_cell}
@@ -13,6 +13,8 @@ returns-clause-told g c faithful t is =
     let start = sink.meaning c.args.sink in
     let run = λ (r : CellRow). r.run in
     let order = shown_in_order cell_columns run (λ r. refl) is.rows t.cells is.lines_are is.in_order in
-    let (lines, are, has) = c.in_ok-lines.ensures.handed faithful is.rows is.shows order (names, c.args.events, start) c.new-lines.ensures in
-    subst (CellsFoldTo names c.args.events sink.step start (sink.meaning c.finish.result)) (sym (lines_are cell_columns run (λ r. refl) one_cell c.args.run is.rows t.cells is.lines_are lines are))
-    (c.finish.ensures names c.args.events start lines has)
+    let (lines, are, sums, has) = c.in_ok-lines.ensures.handed faithful is.rows is.shows order (names, c.args.events, start) c.new-lines.ensures in
+    let same = lines_are cell_columns run (λ r. refl) one_cell c.args.table.run is.rows t.cells is.lines_are lines are in (
+      subst (CellsFoldTo names c.args.events sink.step start (sink.meaning c.finish.result)) (sym same) (c.finish.ensures names c.args.events start lines has),
+      ap (sum_by (λ (r : CellRow). r.cost)) same ∙ sums,
+    )

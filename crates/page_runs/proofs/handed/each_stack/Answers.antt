@@ -1,4 +1,4 @@
-use Rattle.std.proofs.Common.{◌≡◌, fold, map, refl, sym, ap, ◌∙◌}
+use Rattle.std.proofs.Common.{fold, map, sum_by, refl, sym, ap, ◌∙◌}
 use Rattle.plain_tables.specs.Tables.{StackRow}
 use Rattle.prof_books.specs.Book.{stack_held}
 use Rattle.store_schema.specs.Tables.{stack_columns}
@@ -12,6 +12,8 @@ returns-clause-told g c faithful t is =
     let start = sink.meaning c.args.sink in
     let run = λ (r : StackRow). r.run in
     let order = shown_in_order stack_columns run (λ r. refl) is.rows t.stacks is.lines_are is.in_order in
-    let (lines, are, has) = c.in_ok-lines.ensures.handed faithful is.rows is.shows order start c.new.ensures in
-    c.finish.ensures start lines has
-    ∙ ap (λ l. fold sink.step start (map stack_held l)) (sym (lines_are stack_columns run (λ r. refl) one_stack c.args.run is.rows t.stacks is.lines_are lines are))
+    let (lines, are, sums, has) = c.in_ok-lines.ensures.handed faithful is.rows is.shows order start c.new.ensures in
+    let same = lines_are stack_columns run (λ r. refl) one_stack c.args.table.run is.rows t.stacks is.lines_are lines are in (
+      c.finish.ensures start lines has ∙ ap (λ l. fold sink.step start (map stack_held l)) (sym same),
+      ap (sum_by (λ (r : StackRow). r.count)) same ∙ sums,
+    )

@@ -1,4 +1,4 @@
-use Rattle.std.proofs.Common.{arith, w64, of_z, to_z, subst, [], ap₂, sym, refl, inl, inr, ◌∙◌, ◌≡◌, to_z-of_z, FitsSigned}
+use Rattle.std.proofs.Common.{arith, w64, of_z, to_z, subst, [], ap₂, sym, refl, inl, inr, ◌∙◌, ◌≡◌, sum_by, to_z-of_z, FitsSigned, rules}
 use Rattle.page_rows.specs.Rows.{from_rowid}
 use Rattle.page_runs.specs.Walks.{AreOfRun}
 use Rattle.page_rows.proofs.Reading.{OnlyReads-trans}
@@ -9,16 +9,17 @@ use Rattle.page_runs.proofs.run_rows.each_line.Goals as goal
 pub returns-in-Ok-clause-handed : goal.returns-in-Ok-clause-handed
 returns-in-Ok-clause-handed g c faithful = λ rows is order start begun.
     let t = g.T.LineSink in
-    let run = c.args.run in
+    let run = c.args.table.run in
     let from = c.in_ok-from.from in
     let earlier = c.in_ok-from.ensures.earlier (c.walk.ensures.reads.faithful faithful) rows is order in
     let there = shows_after _ _ _ rows c.place_of.ensures.reads is in
     let fits : FitsSigned w64 from = c.in_ok-from.ensures.fits in
     let here : from_rowid (to_z w64 (of_z w64 from)) _ ≡ from_rowid from rows = ap₂ from_rowid (to_z-of_z fits) there.rows_are in
-    elim (c.in-Ok.ensures.done faithful there.wanted there.pages there.t there.shows there.is_file there.rooted (run, start) (refl, ([], refl, begun))) [
-      | inl (same, (lines, are, has)) ↦ (lines, all_taken t.columns run from rows lines earlier (subst (λ l. AreOfRun t.columns run l lines) here are), has)
-      | inr (taken, rest, parts, (front, last, is_front, high, (lines, are, has))) ↦
-          (lines, taken_to_later t.columns run from rows lines order earlier taken rest front last (sym here ∙ parts) is_front high are, has)
+    let same : c.walk.new.sink.sum ≡ c.args.table.sum = search rules in
+    elim (c.in-Ok.ensures.done faithful there.wanted there.pages there.t there.shows there.is_file there.rooted (run, start) (refl, ([], refl, refl, begun))) [
+      | inl (is_run, (lines, are, sums, has)) ↦ (lines, all_taken t.columns run from rows lines earlier (subst (λ l. AreOfRun t.columns run l lines) here are), sym sums ∙ same, has)
+      | inr (taken, rest, parts, (front, last, is_front, high, (lines, are, sums, has))) ↦
+          (lines, taken_to_later t.columns run from rows lines order earlier taken rest front last (sym here ∙ parts) is_front high are, sym sums ∙ same, has)
     ]
 
 pub returns-in-Ok-clause-reads : goal.returns-in-Ok-clause-reads
@@ -26,3 +27,6 @@ returns-in-Ok-clause-reads g c = OnlyReads-trans _ _ _ c.place_of.ensures.reads 
 
 pub returns-in-Err-clause-reads : goal.returns-in-Err-clause-reads
 returns-in-Err-clause-reads g c = OnlyReads-trans _ _ _ c.place_of.ensures.reads c.walk.ensures.reads
+
+pub returns-in-Ok-2-clause-reads : goal.returns-in-Ok-2-clause-reads
+returns-in-Ok-2-clause-reads g c = OnlyReads-trans _ _ _ c.place_of.ensures.reads c.walk.ensures.reads

@@ -1,9 +1,10 @@
 use Rattle.std.proofs.Common.{refl}
+use Rattle.std.proofs.lemmas.Result.{IfOk-weaker}
 use Rattle.page_runs.proofs.States.{asked}
 use Rattle.page_runs.proofs.store.PageRunsRunStore.each_call.Goals as goal
 
 pub returns-clause-told : goal.returns-clause-told
-returns-clause-told g c faithful t is = c.each_call.ensures.told faithful t is.calls
+returns-clause-told g c faithful t is = IfOk-weaker c.each_call.result _ _ (λ taken both. both.0) (c.each_call.ensures.told faithful t is.calls)
 
 pub returns-clause-asks : goal.returns-clause-asks
 returns-clause-asks g c = asked _ _ c.each_call.ensures.reads refl refl _
