@@ -9,7 +9,7 @@ use Rattle.sqlite_pool.specs.Pool.{files, state}
 use Rattle.sqlite_pool.specs.declared.pool.Pool.{Pool}
 use Rattle.sqlite_pool.proofs.ProbeLemmas.{reserved_word, size_by_file, size_by_log}
 use Rattle.sqlite_pool.proofs.ResealLemmas.{adopts_of}
-use Rattle.sqlite_wal.specs.Files.{seen_image}
+use Rattle.sqlite_wal.specs.Files.{outcomes, seen_image}
 use Rattle.sqlite_wal.specs.Format.{be32}
 use Rattle.sqlite_wal.specs.PageSize.{IsPageSize, size_in_file}
 use Rattle.sqlite_wal.specs.Reads.{AreClean, OnlyReads}
@@ -52,3 +52,12 @@ module _ {D : Type 0} {g : Ghosts D} where
   pub clean_files : (it : Pool D g) → IsTrue (state it).is_clean → AreClean g (files it).0 (files it).1
   unfolding state files
   clean_files it clean = clean
+
+  -- and a crash leaves of its pages what it may leave of the files
+  pub left_files : (it : Pool D g) (image : Image) → (state it).may_leave image → outcomes g (files it).0 (files it).1 image
+  unfolding state files
+  left_files it image may = may.1
+
+  -- of files that were read a crash leaves no more
+  pub left_before : {log log' db db' : D} → OnlyReads g log log' → OnlyReads g db db' → (image : Image) → outcomes g log' db' image → outcomes g log db image
+  left_before logs dbs image may = (logs.crash image.log may.0, dbs.crash image.db may.1)

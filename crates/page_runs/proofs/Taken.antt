@@ -2,7 +2,7 @@
 use Rattle.std.proofs.Common.{ap, refl, subst, sym, ◌∙◌}
 use Rattle.sqlite_disk.specs.declared.Disk.{Ghosts}
 use Rattle.sqlite_pages.specs.PageMap.{PageMap}
-use Rattle.sqlite_pool.specs.Stored.{Recovers}
+use Rattle.sqlite_pool.specs.Stored.{AddsNothing, Recovers, RecoversAs}
 use Rattle.sqlite_wal.specs.Recovery.{Image}
 use Rattle.sqlite_store.specs.Db.{IsFile}
 use Rattle.sqlite_store.specs.Listing.{file_trees}
@@ -14,10 +14,10 @@ use Rattle.store_schema.specs.Schema.{schema_two, name_at, thread_cell_at, arc_a
 use Rattle.store_schema.specs.Tables.{Holds, contents_of}
 use Rattle.run_lists.specs.Listed.{AreListed}
 use Rattle.page_rows.specs.declared.files.OpenedFile.{OpenedFile}
-use Rattle.page_rows.specs.Files.{page_size, OnlyReads, Shows}
+use Rattle.page_rows.specs.Files.{page_size, may_leave, OnlyReads, Shows}
 use Rattle.page_runs.specs.Order.{AreInOrder}
 use Rattle.page_runs.specs.Shown.{AreRoots, IsStoreOf, ShowsRows}
-use Rattle.page_runs.specs.States.{ReadsAs}
+use Rattle.page_runs.specs.States.{LastsIn, ReadsAs, Represents, held_by}
 use Rattle.page_runs.specs.declared.store.PageRuns.{PageRuns}
 
 module _ {D : Type 0} {g : Ghosts D} where
@@ -45,5 +45,18 @@ module _ {D : Type 0} {g : Ghosts D} where
     shows = shows at.pages (subst (λ n. Recovers n image at.pages) reads.size at.found);
     is_file = subst (λ n. IsFile n at.wanted at.pages) reads.size at.ours.file;
     trees = ap (λ n. file_trees n at.wanted at.pages) (sym reads.size) ∙ sym at.reads;
+    holds = holds;
+  }
+
+  -- what it is read as lasts, where whatever a crash leaves of the files holds it
+  pub represents_as : (t : Tables) (store : PageRuns D g) (opened : OpenedFile D g) (before : Image → Type 0) (db : Trees) → Holds t db → ReadsAs t store → OnlyReads opened store.file
+      → AddsNothing (page_size opened) before (may_leave opened) → LastsIn t (page_size store.file) before → Represents t store
+  represents_as t store opened before db holds is reads adds lasts = record {
+    reads = is;
+    lasting = λ image may.
+        let (middle, might, later) = reads.crash image may in
+        let (first, was, earlier) = adds middle might in
+        held_by t (page_size store.file) first image (subst (λ n. RecoversAs n first image) (sym reads.size) (λ pages is_there. later pages (earlier pages is_there))) (lasts first was);
+    db = db;
     holds = holds;
   }

@@ -30,6 +30,10 @@ pub record HoldsIn (t : Tables) (left : Left) : Type 0 where
   pub at : HoldsAt left.0 left.1 db
   pub holds : Holds t db
 
+-- each of these files, with pages of this size, holds them
+abbrev pub LastsIn : Tables → ℕ → (Image → Type 0) → Type 0
+LastsIn t size images = (image : Image) → images image → HoldsIn t (size, image)
+
 -- files that stand for others hold the same
 pub held_by : (t : Tables) (size : ℕ) (image left : Image) → RecoversAs size image left → HoldsIn t (size, image) → HoldsIn t (size, left)
 held_by t size image left same is = record {
@@ -64,7 +68,7 @@ module _ {D : Type 0} {g : Ghosts D} where
   -- it is read as these rows, and the files hold them whatever happens
   pub record Represents (t : Tables) (store : PageRuns D g) : Type 0 where
     pub reads : ReadsAs t store
-    pub lasting : (image : Image) → files.may_leave store.file image → HoldsIn t (page_size store.file, image)
+    pub lasting : LastsIn t (page_size store.file) (files.may_leave store.file)
     pub db : Trees
     pub holds : Holds t db
 

@@ -1,12 +1,12 @@
 // A database file, opened so that its pages can be read.
 ghost use Rattle.std.specs.Prelude.{◌≡◌, IsTrue, IfSome};
 ghost use Rattle.sqlite_pages.specs.PageMap.{PageMap};
-ghost use Rattle.sqlite_pool.specs.Stored.{Recovers};
-ghost use Rattle.sqlite_wal.specs.Files.{seen_image};
+ghost use Rattle.sqlite_pool.specs.Stored.{AddsNothing, Recovers};
+ghost use Rattle.sqlite_wal.specs.Files.{outcomes, seen_image};
 ghost use Rattle.sqlite_wal.specs.PageSize.{bytes_of};
 ghost use Rattle.sqlite_wal.specs.Reads.{AreClean};
 ghost use Rattle.sqlite_wal.specs.Reads as disks;
-ghost use Rattle.page_rows.specs.Files.{page_size, IsFaithful, Shows};
+ghost use Rattle.page_rows.specs.Files.{page_size, may_leave, IsFaithful, Shows};
 ghost use Rattle.page_runs.specs.Sizes.{IsSizeOf};
 
 use page_rows::OpenedFile;
@@ -52,6 +52,7 @@ pub(crate) fn open_file<D: Disk + Drop>(
     requires db { IsTrue (D.Disk.is_usable files.db) }
     ensures size { IfSome result (λ file. IsFaithful file → IsSizeOf (seen_image D.Disk files.log files.db) (page_size file)) }
     ensures shows { IfSome result (λ file. IsFaithful file → (pages : PageMap) → Recovers (page_size file) (seen_image D.Disk files.log files.db) pages → Shows file pages) }
+    ensures crash { IfSome result (λ file. AddsNothing (page_size file) (outcomes D.Disk files.log files.db) (may_leave file)) }
 {
     let Some(size) = plain_size(alloc, &mut files) else {
         return None;

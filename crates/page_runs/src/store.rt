@@ -1,13 +1,10 @@
 // A store of runs over the pages of its file.
 ghost use Rattle.std.specs.Prelude.{◌≡◌, IsTrue, IfSome};
-ghost use Rattle.sqlite.specs.Opening.{HoldsAt};
-ghost use Rattle.sqlite_trees.specs.Tree.{Trees};
-ghost use Rattle.sqlite_wal.specs.Files.{seen_image};
+ghost use Rattle.sqlite_wal.specs.Files.{outcomes, seen_image};
 ghost use Rattle.page_rows.specs.Files.{page_size};
 ghost use Rattle.plain_tables.specs.Tables.{Tables};
-ghost use Rattle.store_schema.specs.Tables.{Holds};
 ghost use Rattle.page_runs.specs.Order.{AreInOrder};
-ghost use Rattle.page_runs.specs.States.{IsFaithful, ReadsAs};
+ghost use Rattle.page_runs.specs.States.{HoldsIn, IsFaithful, LastsIn, ReadsAs, Represents};
 
 use crate::files::open_file;
 use crate::handed::{each_call, each_cell, each_stack};
@@ -48,8 +45,9 @@ impl<D: Disk + Drop> PageRuns<D> {
     pub fn open(alloc: Global, files: Files<D>, options: Options) -> Option<PageRuns<D>>
         requires log { IsTrue (D.Disk.is_usable files.log) }
         requires db { IsTrue (D.Disk.is_usable files.db) }
-        ensures reads { IfSome result (λ store. IsFaithful store → (t : Tables) (db : Trees) → HoldsAt (page_size store.file) (seen_image D.Disk files.log files.db) db
-            → Holds t db → AreInOrder t → ReadsAs t store) }
+        ensures reads { IfSome result (λ store. IsFaithful store → (t : Tables) → HoldsIn t (page_size store.file, seen_image D.Disk files.log files.db) → AreInOrder t → ReadsAs t store) }
+        ensures lasting { IfSome result (λ store. IsFaithful store → (t : Tables) → HoldsIn t (page_size store.file, seen_image D.Disk files.log files.db) → AreInOrder t
+            → LastsIn t (page_size store.file) (outcomes D.Disk files.log files.db) → Represents t store) }
     {
         let Some(file) = open_file(alloc, files, options) else {
             return None;

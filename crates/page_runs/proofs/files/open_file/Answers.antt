@@ -1,10 +1,10 @@
 use Rattle.std.proofs.Common.{ap, subst, sym, ◌∙◌}
-use Rattle.sqlite_pool.specs.Stored.{Recovers}
-use Rattle.sqlite_wal.specs.Files.{seen_image}
+use Rattle.sqlite_pool.specs.Stored.{Recovers, RecoversAs}
+use Rattle.sqlite_wal.specs.Files.{outcomes, seen_image}
 use Rattle.sqlite_wal.specs.Reads.{AreClean}
 use Rattle.page_rows.specs.Files.{page_size}
 use Rattle.page_runs.specs.Sizes.{IsSizeOf}
-use Rattle.page_runs.proofs.Probing.{clean_files, same_image}
+use Rattle.page_runs.proofs.Probing.{clean_files, left_before, left_files, same_image}
 use Rattle.page_runs.proofs.files.open_file.Goals as goal
 
 pub returns-in-Ok-open : goal.returns-in-Ok-open
@@ -18,4 +18,8 @@ returns-in-Ok-open g c = record {
       let there = ap (λ fs. seen_image g.D.Disk fs.0 fs.1) (c.in-Ok-new.ensures.files ∙ c.in-Ok.ensures.files) in
       let before = same_image c.plain_size.ensures.log c.plain_size.ensures.db in
       c.in-Ok-open.ensures.shows faithful pages (subst (λ image. Recovers (page_size c.in-Ok-open.file) image pages) (sym (there ∙ before)) found);
+  crash = λ image may.
+      let there = c.in-Ok-new.ensures.files ∙ c.in-Ok.ensures.files in
+      let (before, might, same) = c.in-Ok-open.ensures.crash image may in
+      (before, left_before c.plain_size.ensures.log c.plain_size.ensures.db before (subst (λ fs. outcomes g.D.Disk fs.0 fs.1 before) there (left_files _ before might)), subst (λ n. RecoversAs n before image) (sym c.in-Ok-open.ensures.size) same);
 }
