@@ -1,5 +1,5 @@
 -- Names, by their columns.
-use Rattle.std.proofs.Common.{◌≡◌, ℕ, List, [], ◌∷◌, map, refl, ap, ap₂, ◌∙◌}
+use Rattle.std.proofs.Common.{◌≡◌, List, [], ◌∷◌, map, refl, ap, ap₂}
 use Rattle.sqlite_value.specs.Order.{Row}
 use Rattle.plain_tables.specs.Tables.{NameRow}
 use Rattle.store_schema.specs.Tables.{name_columns}

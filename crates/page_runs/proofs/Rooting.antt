@@ -1,5 +1,5 @@
 -- The tables of a store, under their roots.
-use Rattle.std.proofs.Common.{◌≡◌, ℕ, ◌+◌, ◌<◌, List, [], map, length, set, get_or, slice_get, option_map, Some, refl, sym, ap, subst, ◌∙◌, arith, below_more, get_or-set_other, get_or-set_same, Bor}
+use Rattle.std.proofs.Common.{◌≡◌, ℕ, ◌+◌, ◌<◌, List, map, length, set, get_or, slice_get, option_map, Some, refl, sym, ap, subst, ◌∙◌, arith, below_more, get_or-set_other, get_or-set_same, Bor}
 use Rattle.std.proofs.Math.ListN.{get_or-map}
 use Rattle.std.proofs.lemmas.Option.{get_or_from_slice_get, slice_get-map}
 use Rattle.sqlite_disk.specs.declared.Disk.{Ghosts}
@@ -10,7 +10,7 @@ use Rattle.sqlite_store.specs.Listing.{file_trees}
 use Rattle.sqlite_trees.specs.Tree.{Trees}
 use Rattle.page_rows.specs.declared.files.OpenedFile.{OpenedFile}
 use Rattle.page_rows.specs.Files.{page_size, OnlyReads}
-use Rattle.page_rows.specs.Tables.{IsNamed, root_of_tree}
+use Rattle.page_rows.specs.Tables.{root_of_tree}
 use Rattle.plain_tables.specs.Tables.{Tables}
 use Rattle.store_schema.specs.Schema.{schema_two, meta_at, run_at, run_event_at, derived_at, coef_at, name_at, arc_at, stack_at, grp_at, member_at, thread_cell_at}
 use Rattle.store_schema.specs.Tables.{Holds}

@@ -1,5 +1,5 @@
 -- The rows of a run, in a table whose rows stand in the order of the runs.
-use Rattle.std.proofs.Common.{◌≡◌, ◌⊎◌, ◌≤◌, ◌<◌, ℕ, ℤ, pos, ◌+ℤ◌, eqb, Bool, true, false, List, [], ◌∷◌, ◌++◌, map, filter, drop, Option, Some, None, refl, sym, ap, ap₂, subst, ◌∙◌, inl, inr, arith, append_assoc, is_lt}
+use Rattle.std.proofs.Common.{◌≡◌, ◌≤◌, ◌<◌, ℕ, ℤ, pos, ◌+ℤ◌, eqb, true, false, List, [], ◌∷◌, ◌++◌, map, filter, drop, Some, refl, sym, ap, ap₂, subst, ◌∙◌, inl, inr, arith, append_assoc, is_lt}
 use Rattle.std.specs.List.{AllByRecursion}
 use Rattle.std.proofs.lemmas.Bool.{cases_Bool}
 use Rattle.std.proofs.lemmas.Bool.Decides.{nat_tests}
@@ -9,7 +9,6 @@ use Rattle.sqlite_value.specs.declared.value.Value.TheVariants.{Int}
 use Rattle.sqlite_value.specs.Order.{Row, column, value_cmp}
 use Rattle.sqlite_trees.specs.Tree.{rowid}
 use Rattle.page_rows.specs.Rows.{from_rowid}
-use Rattle.page_rows.specs.Walks.{HasWalked}
 use Rattle.page_runs.specs.Order.{ByRun}
 use Rattle.page_runs.specs.Walks.{AllEarlier, AreOfRun, InOrder, IsFirstOf, is_of, natural, run_in}
 

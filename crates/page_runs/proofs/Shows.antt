@@ -9,7 +9,7 @@ use Rattle.sqlite_store.specs.Db.{IsFile}
 use Rattle.sqlite_store.specs.Listing.{file_trees}
 use Rattle.sqlite_trees.specs.Tree.{rowid}
 use Rattle.page_rows.specs.declared.files.OpenedFile.{OpenedFile}
-use Rattle.page_rows.specs.Files.{page_size, may_leave, OnlyReads}
+use Rattle.page_rows.specs.Files.{OnlyReads}
 use Rattle.page_rows.specs.Rows.{from_rowid}
 use Rattle.page_rows.specs.Tables.{IsRooted}
 use Rattle.page_rows.proofs.FileTables.{all_shown_from_least, shown_behind}

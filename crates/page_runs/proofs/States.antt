@@ -1,10 +1,9 @@
 -- What calls leave of a store that is only read.
-use Rattle.std.proofs.Common.{◌≡◌, ℕ, Bool, true, false, IsTrue, List, map, refl, sym, subst, ◌∙◌, inl, inr, arith}
+use Rattle.std.proofs.Common.{◌≡◌, Bool, true, false, map, refl, sym, subst, ◌∙◌, inl}
 use Rattle.sqlite_disk.specs.declared.Disk.{Ghosts}
 use Rattle.sqlite_pool.specs.Stored.{RecoversAs}
-use Rattle.sqlite_wal.specs.Recovery.{Image}
 use Rattle.plain_tables.specs.Tables.{Tables, CellRow, CallRow, StackRow}
-use Rattle.run_stores.specs.Calls.{Asked, Changed, Keeps, LeavesOnly, Stays}
+use Rattle.run_stores.specs.Calls.{Asked, Changed}
 use Rattle.page_rows.specs.Files.{page_size, OnlyReads}
 use Rattle.run_lists.specs.Listed.{AreListed}
 use Rattle.store_schema.specs.Tables.{name_columns, cell_columns, arc_columns, stack_columns}

@@ -1,5 +1,5 @@
 -- What a store that is read from its pages represents.
-use Rattle.std.specs.Prelude.{◌≡◌, ⊤, ℕ, true, List, map}
+use Rattle.std.specs.Prelude.{◌≡◌, ⊤, ℕ, true, map}
 use Rattle.sqlite_disk.specs.declared.Disk.{Ghosts}
 use Rattle.sqlite_pages.specs.PageMap.{PageMap}
 use Rattle.sqlite_pool.specs.Pool as pools
@@ -7,7 +7,6 @@ use Rattle.std.proofs.Common.{refl, subst, sym}
 use Rattle.sqlite_pool.specs.Stored.{RecoversAs}
 use Rattle.sqlite_pool.specs.StoredLaws.{carried}
 use Rattle.sqlite_wal.specs.Recovery.{Image}
-use Rattle.sqlite_value.specs.Order.{Row}
 use Rattle.sqlite_trees.specs.Tree.{Trees}
 use Rattle.sqlite.specs.Opening.{HoldsAt}
 use Rattle.page_rows.specs.Files as files

@@ -1,4 +1,4 @@
-use Rattle.std.proofs.Common.{map, ap, subst, ◌∙◌, ◌≡◌, inl, inr}
+use Rattle.std.proofs.Common.{map, ap, ◌∙◌, inl, inr}
 use Rattle.page_rows.proofs.FileTables.{all_shown_from_least}
 use Rattle.page_runs.proofs.listing.all_rows.Goals as goal
 

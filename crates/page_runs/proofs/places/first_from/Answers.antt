@@ -1,4 +1,4 @@
-use Rattle.std.proofs.Common.{Some, ap, ap₂, sym, to_z-of_z, subst, ◌∙◌, ◌≡◌, inl, inr, refl}
+use Rattle.std.proofs.Common.{ap₂, sym, to_z-of_z, subst, ◌∙◌, inl, inr, refl}
 use Rattle.page_rows.specs.Rows.{from_rowid}
 use Rattle.page_runs.specs.Walks.{IsFirstOf}
 use Rattle.page_runs.proofs.RunRows.{first_of_more}

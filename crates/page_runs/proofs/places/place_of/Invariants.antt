@@ -1,4 +1,4 @@
-use Rattle.std.proofs.Common.{ℕ, ◌≤◌, ◌^◌, List}
+use Rattle.std.proofs.Common.{◌≤◌, ◌^◌, List}
 use Rattle.sqlite_value.specs.Order.{Row}
 use Rattle.page_rows.specs.Files.{IsFaithful, OnlyReads}
 use Rattle.page_runs.specs.Shown.{ShowsRows}

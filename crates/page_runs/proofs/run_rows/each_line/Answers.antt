@@ -1,4 +1,4 @@
-use Rattle.std.proofs.Common.{arith, w64, of_z, to_z, subst, [], ap₂, sym, refl, inl, inr, ◌∙◌, ◌≡◌, sum_by, to_z-of_z, FitsSigned, rules}
+use Rattle.std.proofs.Common.{w64, of_z, to_z, subst, [], ap₂, sym, refl, inl, inr, ◌∙◌, ◌≡◌, to_z-of_z, FitsSigned, rules}
 use Rattle.page_rows.specs.Rows.{from_rowid}
 use Rattle.page_runs.specs.Walks.{AreOfRun}
 use Rattle.page_rows.proofs.Reading.{OnlyReads-trans}

@@ -1,8 +1,7 @@
-use Rattle.std.proofs.Common.{◌≡◌, ◌<◌, ◌+◌, ℕ, length, slice_index, sym, ap, ◌∙◌, subst, arith, rules}
+use Rattle.std.proofs.Common.{◌≡◌, ◌<◌, length, slice_index, sym, ap, ◌∙◌, subst, arith, rules}
 use Rattle.std.proofs.lemmas.Grind.{common_steps}
 use Rattle.plain_tables.specs.RunRows.{cells_in}
-use Rattle.store_reports.specs.CellSums.{column_cost}
-use Rattle.store_reports.proofs.CellLemmas.{cells_summed, with_cell}
+use Rattle.store_reports.proofs.CellLemmas.{cells_summed}
 use Rattle.store_reports.proofs.cell_sums.check_cells.Goals as goal
 
 pub returns-clause-told : goal.returns-clause-told

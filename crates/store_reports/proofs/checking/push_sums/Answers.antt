@@ -1,4 +1,4 @@
-use Rattle.std.proofs.Common.{◌≡◌, ◌++◌, refl, ap, subst, sym, ◌∙◌, rules}
+use Rattle.std.proofs.Common.{◌≡◌, ◌++◌, refl, ap, subst, ◌∙◌, rules}
 use Rattle.report_texts.specs.Verifying.{verified, verify_text}
 use Rattle.plain_tables.specs.RunRows.{cells_in}
 use Rattle.run_stores.proofs.Calls.{asked_reads}
