@@ -1,61 +1,84 @@
 // A disk of which the one below is only read.
-ghost use Rattle.std.specs.Prelude.{◌≡◌, ◌+◌, refl};
+ghost use Rattle.std.specs.Prelude.{◌≡◌, ◌+◌, Some, None, refl, true};
 ghost use Rattle.sqlite_disk.specs.Tally.{both_counts};
-ghost use Rattle.read_only_disks.specs.Shown.{shown, rotten};
+ghost use Rattle.read_only_disks.specs.Shown.{contents_of, damage_of};
+ghost use Rattle.read_only_disks.specs.Untouched.{IsUntouched, first_of};
 
 use crate::bytes::{copy_out, count, fault, overwrite, resize};
-use sqlite_disk::{Disk, Tally, digest_of};
+use sqlite_disk::{Disk, Start, Tally, digest_of};
 use std::io;
+use std::marker::PhantomData;
 
-/// A log that is held in memory, or a database file that is only read. No call writes to the disk below,
-/// changes its length or syncs it.
+/// A log that is held in memory, or a database file that is only read. No call changes the disk below or
+/// syncs it: at each moment that one shows what the file held first, as `S` says it.
 #[derive(Drop)]
-pub struct ReadOnly<D: Disk> {
+pub struct ReadOnly<D: Disk, S: Start> {
     below: D,
     /// The bytes of a log, which was read whole. Of a database file none are held.
     held: Option<Vec<u8>>,
     faults: u64,
     caught: u64,
+    start: PhantomData<S>,
+    ghost untouched: { IsUntouched D.Disk (first_of S.Start held) below },
 }
 
-impl<D: Disk> ReadOnly<D> {
+impl<D: Disk, S: Start> ReadOnly<D, S> {
+    ghost use Rattle.read_only_disks.specs.ReadOnly.{below_of, held_of, IsFresh};
+
     /// A log of which these bytes were read.
-    pub(crate) fn over_log(below: D, bytes: Vec<u8>) -> ReadOnly<D>
-        ensures { result ≡ record { below = below; held = Some bytes; faults = 0; caught = 0 } }
+    pub(crate) fn over_log(below: D, bytes: Vec<u8>) -> ReadOnly<D, S>
+        requires { IsUntouched D.Disk S.Start.log below }
+        ensures below { below_of result ≡ below }
+        ensures held { held_of result ≡ Some bytes }
+        ensures fresh { IsFresh result }
     {
         ReadOnly {
             below,
             held: Some(bytes),
             faults: 0,
             caught: 0,
+            start: PhantomData,
         }
     }
 
-    pub(crate) fn over_file(below: D) -> ReadOnly<D>
-        ensures { result ≡ record { below = below; held = None; faults = 0; caught = 0 } }
+    /// A database file.
+    pub(crate) fn over_file(below: D) -> ReadOnly<D, S>
+        requires { IsUntouched D.Disk S.Start.db below }
+        ensures below { below_of result ≡ below }
+        ensures held { held_of result ≡ None }
+        ensures fresh { IsFresh result }
     {
         ReadOnly {
             below,
             held: None,
             faults: 0,
             caught: 0,
+            start: PhantomData,
         }
+    }
+
+    /// The disk below, which is as it was found.
+    pub fn into_below(self) -> D
+        ensures below { result ≡ below_of self }
+        ensures untouched { IsUntouched D.Disk (first_of S.Start (held_of self)) result }
+    {
+        self.below
     }
 }
 
-impl<D: Disk> Disk for ReadOnly<D> {
-    ghost seen = { λ it. shown (D.Disk.seen it.below) it.held };
+impl<D: Disk, S: Start> Disk for ReadOnly<D, S> {
+    ghost seen = { λ it. contents_of (D.Disk.seen it.below) it.held };
 
-    // A crash loses what is held, and the file below is then as it was. So what is held has no crash of its own.
-    ghost may_leave = { λ it left. left ≡ shown (D.Disk.seen it.below) it.held };
+    // What is held has no crash of its kind. A crash loses it, and leaves the file below as `untouched` says.
+    ghost may_leave = { λ it left. left ≡ contents_of (D.Disk.seen it.below) it.held };
 
-    ghost is_usable = { λ it. D.Disk.is_usable it.below };
+    ghost is_usable = { λ _. true };
 
     ghost faults = { λ it. D.Disk.faults it.below + it.faults };
 
     ghost tally_of = { λ it. both_counts (D.Disk.tally_of it.below) (record { caught = it.caught; refused = 0 }) };
 
-    ghost is_rotten = { λ it. rotten (D.Disk.is_rotten it.below) it.held };
+    ghost is_rotten = { λ it. damage_of (D.Disk.is_rotten it.below) it.held };
 
     ghost is_clean = { λ it. D.Disk.is_clean it.below };
 
@@ -83,7 +106,7 @@ impl<D: Disk> Disk for ReadOnly<D> {
     }
 
     fn may_be_used(&self) -> bool {
-        self.below.may_be_used()
+        true
     }
 
     fn len(&mut self) -> io::Result<usize> {
@@ -97,7 +120,7 @@ impl<D: Disk> Disk for ReadOnly<D> {
         match &self.held {
             None => self.below.read_at(at, buf),
             Some(bytes) if copy_out(bytes, at, buf) => Ok(()),
-            // Whether the file has bytes there that are not held, cannot be known, so it counts.
+            // It is a fault, as the file may have more bytes than were read of it.
             Some(_) => Err(fault(&mut self.faults, io::ErrorKind::UnexpectedEof)),
         }
     }
@@ -117,17 +140,17 @@ impl<D: Disk> Disk for ReadOnly<D> {
     }
 
     fn write_at(&mut self, at: usize, bytes: &[u8]) -> io::Result<()> {
-        let Some(held) = &mut self.held else {
-            return Err(fault(&mut self.faults, io::ErrorKind::ReadOnlyFilesystem));
-        };
-        count(overwrite(held, at, bytes), &mut self.faults)
+        match &mut self.held {
+            Some(held) => count(overwrite(held, at, bytes), &mut self.faults),
+            None => Err(fault(&mut self.faults, io::ErrorKind::ReadOnlyFilesystem)),
+        }
     }
 
     fn set_len(&mut self, len: usize) -> io::Result<()> {
-        let Some(held) = &mut self.held else {
-            return Err(fault(&mut self.faults, io::ErrorKind::ReadOnlyFilesystem));
-        };
-        count(resize(held, len), &mut self.faults)
+        match &mut self.held {
+            Some(held) => count(resize(held, len), &mut self.faults),
+            None => Err(fault(&mut self.faults, io::ErrorKind::ReadOnlyFilesystem)),
+        }
     }
 
     // Nothing was written that could be lost.
