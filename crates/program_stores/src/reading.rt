@@ -6,6 +6,7 @@ ghost use Rattle.sessions.specs.Works.{CameTo};
 
 use crate::stores::{is_no_file, options_for};
 use page_runs::PageRuns;
+use read_only_disks::{ReadOnly, read_only};
 use sessions::{Work, work_over};
 use sqlite::File;
 use sqlite_disk::{Disk, Unknown};
@@ -13,10 +14,13 @@ use std::io;
 use std::io::Write;
 use std::rt::{Files, HostRuntime};
 
-/// The store at a path, to be read from its pages: none where the file is not plainly a store of this version,
-/// or cannot be read so, which its database tells then. No guarantee: of the files at a path the checker knows
-/// nothing.
-pub fn pages_at(rt: &HostRuntime, path: &str) -> Option<PageRuns<File>> {
+/// The longest log that is read whole into memory, in bytes: 64 MiB. A longer one is left to the database.
+const LONGEST_LOG: usize = 0x400_0000;
+
+/// The store at a path, to be read from its pages, of which none is written: none where the file is not plainly
+/// a store of this version, or cannot be read so, which its database tells then. No guarantee: of the files at
+/// a path the checker knows nothing.
+pub fn pages_at(rt: &HostRuntime, path: &str) -> Option<PageRuns<ReadOnly<File, Unknown>>> {
     if is_no_file(path) {
         return None;
     }
@@ -24,6 +28,7 @@ pub fn pages_at(rt: &HostRuntime, path: &str) -> Option<PageRuns<File>> {
         return None;
     };
     let options = options_for(rt).ok()?;
+    let files = read_only(rt.alloc(), files, LONGEST_LOG)?;
     PageRuns::open(rt.alloc(), files, options)
 }
 

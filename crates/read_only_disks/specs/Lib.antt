@@ -1,0 +1,3 @@
+pub mod ReadOnly
+pub mod Shown
+pub mod Untouched
