@@ -52,6 +52,7 @@ pub(crate) fn open_file<D: Disk + Drop>(
     requires db { IsTrue (D.Disk.is_usable files.db) }
     ensures size { IfSome result (λ file. IsFaithful file → IsSizeOf (seen_image D.Disk files.log files.db) (page_size file)) }
     ensures shows { IfSome result (λ file. IsFaithful file → (pages : PageMap) → Recovers (page_size file) (seen_image D.Disk files.log files.db) pages → Shows file pages) }
+    ensures honest { IfSome result (λ file. IsFaithful file → AreClean D.Disk files.log files.db) }
     ensures crash { IfSome result (λ file. AddsNothing (page_size file) (outcomes D.Disk files.log files.db) (may_leave file)) }
 {
     let Some(size) = plain_size(alloc, &mut files) else {

@@ -1,6 +1,7 @@
 // A store of runs over the pages of its file.
 ghost use Rattle.std.specs.Prelude.{◌≡◌, IsTrue, IfSome};
 ghost use Rattle.sqlite_wal.specs.Files.{outcomes, seen_image};
+ghost use Rattle.sqlite_wal.specs.Reads.{AreClean};
 ghost use Rattle.page_rows.specs.Files.{page_size};
 ghost use Rattle.plain_tables.specs.Tables.{Tables};
 ghost use Rattle.page_runs.specs.Order.{AreInOrder};
@@ -45,6 +46,7 @@ impl<D: Disk + Drop> PageRuns<D> {
     pub fn open(alloc: Global, files: Files<D>, options: Options) -> Option<PageRuns<D>>
         requires log { IsTrue (D.Disk.is_usable files.log) }
         requires db { IsTrue (D.Disk.is_usable files.db) }
+        ensures honest { IfSome result (λ store. IsFaithful store → AreClean D.Disk files.log files.db) }
         ensures reads { IfSome result (λ store. IsFaithful store → (t : Tables) → HoldsIn t (page_size store.file, seen_image D.Disk files.log files.db) → AreInOrder t → ReadsAs t store) }
         ensures lasting { IfSome result (λ store. IsFaithful store → (t : Tables) → HoldsIn t (page_size store.file, seen_image D.Disk files.log files.db) → AreInOrder t
             → LastsIn t (page_size store.file) (outcomes D.Disk files.log files.db) → Represents t store) }

@@ -13,7 +13,7 @@ mod stores;
 mod working;
 
 pub use laws::{memory_keeps_its_history, migrated_stores_have_their_history};
-pub use reading::{pages_at, read_over};
+pub use reading::{pages_at, read_over, store_in_pages};
 pub use serving::serve_in;
 pub use stores::{StoreFile, database_at, error_line, is_new_at, store_in};
 pub use working::work_in;

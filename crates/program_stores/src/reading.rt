@@ -1,6 +1,15 @@
 // Works that only read, over a store that is read from its pages.
+ghost use Rattle.std.specs.Prelude.{IfSome};
+ghost use Rattle.sqlite_wal.specs.Files.{seen_image};
+ghost use Rattle.read_only_disks.specs.Untouched.{IsUntouched};
+ghost use Rattle.page_rows.specs.Files.{page_size};
+ghost use Rattle.plain_tables.specs.Tables.{Tables};
 ghost use Rattle.run_stores.specs.Calls.{IsFaithful};
-ghost use Rattle.page_runs.specs.States.{state_of};
+ghost use Rattle.page_runs.specs.Order.{AreInOrder};
+ghost use Rattle.page_runs.specs.States.{HoldsIn, state_of};
+ghost use Rattle.histories.specs.History.{History};
+ghost use Rattle.histories.specs.Representation.{TablesRepresent};
+ghost use Rattle.store_histories.specs.Answered.{HasHistory};
 ghost use Rattle.sessions.specs.Sessions.{Wants};
 ghost use Rattle.sessions.specs.Works.{CameTo};
 
@@ -9,7 +18,9 @@ use page_runs::PageRuns;
 use read_only_disks::{ReadOnly, read_only};
 use sessions::{Work, work_over};
 use sqlite::File;
-use sqlite_disk::{Disk, Unknown};
+use sqlite_disk::{Disk, Files as DiskFiles, Start, Unknown};
+use sqlite_pager::Options;
+use std::alloc::Global;
 use std::io;
 use std::io::Write;
 use std::rt::{Files, HostRuntime};
@@ -17,9 +28,25 @@ use std::rt::{Files, HostRuntime};
 /// The longest log that is read whole into memory, in bytes: 64 MiB. A longer one is left to the database.
 const LONGEST_LOG: usize = 0x400_0000;
 
-/// The store at a path, to be read from its pages, of which none is written: none where the file is not plainly
-/// a store of this version, or cannot be read so, which its database tells then. No guarantee: of the files at
-/// a path the checker knows nothing.
+/// The store in files that are as they were found, to be read from its pages. No byte of them is written. None
+/// where they are not plainly a store of this version, or cannot be read so. Where they hold rows that represent
+/// a history, in the order of the runs, the store has this history.
+pub fn store_in_pages<D: Disk + Drop, S: Start>(
+    alloc: Global,
+    files: DiskFiles<D>,
+    options: Options,
+) -> Option<PageRuns<ReadOnly<D, S>>>
+    requires log { IsUntouched D.Disk S.Start.log files.log }
+    requires db { IsUntouched D.Disk S.Start.db files.db }
+    ensures { IfSome result (λ store. IsFaithful state_of store → (h : History) (t : Tables) → TablesRepresent h t → AreInOrder t
+        → HoldsIn t (page_size store.file, seen_image D.Disk files.log files.db) → HasHistory state_of h store) }
+{
+    let files = read_only(alloc, files, LONGEST_LOG)?;
+    PageRuns::open(alloc, files, options)
+}
+
+/// The store at a path, to be read from its pages, as `store_in_pages`. No guarantee: of the files at a path the
+/// checker knows nothing.
 pub fn pages_at(rt: &HostRuntime, path: &str) -> Option<PageRuns<ReadOnly<File, Unknown>>> {
     if is_no_file(path) {
         return None;
@@ -28,8 +55,7 @@ pub fn pages_at(rt: &HostRuntime, path: &str) -> Option<PageRuns<ReadOnly<File, 
         return None;
     };
     let options = options_for(rt).ok()?;
-    let files = read_only(rt.alloc(), files, LONGEST_LOG)?;
-    PageRuns::open(rt.alloc(), files, options)
+    store_in_pages(rt.alloc(), files, options)
 }
 
 /// Does a work over a store that is read from its pages, which refuses each change.

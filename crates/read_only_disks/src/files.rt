@@ -1,7 +1,8 @@
 // The files of a database, made read-only.
 ghost use Rattle.std.specs.Prelude.{◌≡◌, ◌≤◌, length, IfSome, IsTrue};
-ghost use Rattle.sqlite_wal.specs.Files.{seen_image};
+ghost use Rattle.sqlite_wal.specs.Files.{outcomes, seen_image};
 ghost use Rattle.sqlite_wal.specs.Reads.{AreClean};
+ghost use Rattle.sqlite_wal.specs.Recovery.{Image};
 ghost use Rattle.read_only_disks.specs.Untouched.{IsUntouched};
 
 use crate::bytes::read_whole;
@@ -24,6 +25,8 @@ pub fn read_only<D: Disk + Drop, S: Start>(
     ensures shows { IfSome result (λ it. AreClean ⟦<ReadOnly<D, S> as Disk>⟧ it.log it.db
         → seen_image ⟦<ReadOnly<D, S> as Disk>⟧ it.log it.db ≡ seen_image D.Disk files.log files.db) }
     ensures clean { IfSome result (λ it. AreClean ⟦<ReadOnly<D, S> as Disk>⟧ it.log it.db → AreClean D.Disk files.log files.db) }
+    ensures lasting { IfSome result (λ it. (left : Image) → outcomes ⟦<ReadOnly<D, S> as Disk>⟧ it.log it.db left
+        → left ≡ seen_image ⟦<ReadOnly<D, S> as Disk>⟧ it.log it.db) }
     ensures most { IfSome result (λ it. length (⟦<ReadOnly<D, S> as Disk>⟧.seen it.log) ≤ most) }
     ensures faults { IfSome result (λ it. (⟦<ReadOnly<D, S> as Disk>⟧.faults it.log ≡ D.Disk.faults files.log)
         × (⟦<ReadOnly<D, S> as Disk>⟧.faults it.db ≡ D.Disk.faults files.db)) }

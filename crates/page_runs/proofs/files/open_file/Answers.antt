@@ -1,5 +1,6 @@
 use Rattle.std.proofs.Common.{ap, subst, sym, ◌∙◌}
 use Rattle.sqlite_pool.specs.Stored.{Recovers, RecoversAs}
+use Rattle.sqlite_wal.proofs.CleanLemmas.{both_clean}
 use Rattle.sqlite_wal.specs.Files.{outcomes, seen_image}
 use Rattle.sqlite_wal.specs.Reads.{AreClean}
 use Rattle.page_rows.specs.Files.{page_size}
@@ -18,6 +19,10 @@ returns-in-Ok-open g c = record {
       let there = ap (λ fs. seen_image g.D.Disk fs.0 fs.1) (c.in-Ok-new.ensures.files ∙ c.in-Ok.ensures.files) in
       let before = same_image c.plain_size.ensures.log c.plain_size.ensures.db in
       c.in-Ok-open.ensures.shows faithful pages (subst (λ image. Recovers (page_size c.in-Ok-open.file) image pages) (sym (there ∙ before)) found);
+  honest = λ faithful.
+      let there = c.in-Ok-new.ensures.files ∙ c.in-Ok.ensures.files in
+      let clean = subst (λ fs. AreClean g.D.Disk fs.0 fs.1) there (clean_files _ (c.in-Ok-open.ensures.honest faithful)) in
+      both_clean _ _ _ _ c.plain_size.ensures.log.clean c.plain_size.ensures.db.clean clean;
   crash = λ image may.
       let there = c.in-Ok-new.ensures.files ∙ c.in-Ok.ensures.files in
       let (before, might, same) = c.in-Ok-open.ensures.crash image may in

@@ -16,6 +16,7 @@ returns-in-Ok g c =
     let (here, roots, listed) = c.in-Ok.ensures.opened faithful t is.db there in
     reads_as t is.db _ is.holds order roots listed in
     record {
+      honest = λ faithful. c.in-Some.ensures.honest (reads.faithful faithful);
       reads = read;
       lasting = λ faithful t is order lasts. represents_as t store c.in-Some.file _ is.db is.holds (read faithful t is order) reads c.in-Some.ensures.crash lasts;
     }
