@@ -18,8 +18,8 @@ use std::rt::{Files, HostRuntime};
 const LONGEST_LOG: usize = 0x400_0000;
 
 /// The store at a path, to be read from its pages, of which none is written: none where the file is not plainly
-/// a store of this version, or cannot be read so, which its database tells then. No guarantee: of the files at
-/// a path the checker knows nothing.
+/// a store of this version, or cannot be read so; its database says why. No guarantee: of the files at a path
+/// the checker knows nothing.
 pub fn pages_at(rt: &HostRuntime, path: &str) -> Option<PageRuns<ReadOnly<File, Unknown>>> {
     if is_no_file(path) {
         return None;
