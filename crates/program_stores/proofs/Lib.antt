@@ -1,0 +1,3 @@
+pub mod Columns
+pub mod RowSums
+pub mod Widths
