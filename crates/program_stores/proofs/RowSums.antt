@@ -75,7 +75,7 @@ module _ (t : Tables) (r : RunRow) (f : File) (is : IsBookOf f (run_held t r)) w
   abbrev many : ℕ
   many = length (events_of f.format f.bytes)
 
-  self_costs : cells_of_run r.number t ≡ over (self_column f.format f.bytes) 0 many
+  pub self_costs : cells_of_run r.number t ≡ over (self_column f.format f.bytes) 0 many
   self_costs = ap (sum_by (λ (e : EventRow). e.self_cost)) is.events ∙ events_sum (λ (e : EventRow). e.self_cost) (self_column f.format f.bytes) f 0 (events_of f.format f.bytes) (λ place event. refl)
 
   pub cells_sum : sum_by (λ (c : CellRow). c.cost) (cells_in r.number t) ≡ cells_of_run r.number t
@@ -97,13 +97,15 @@ module _ (t : Tables) (r : RunRow) (f : File) (is : IsBookOf f (run_held t r)) w
   no_part zero high = absurd (omega (arith, high))
   no_part (suc k) high = costs_are k ∙ no_calls many k (omega (arith, high)) (λ _ _. true) (records_of f.format f.bytes) (file_narrow f.format f.bytes)
 
+  pub call_costs : sum_by (λ (e : EventRow). e.call_cost) (filter (λ (e : EventRow). e.run == r.number) t.events) ≡ over (call_column f.format f.bytes) 0 many
+  call_costs = ap (sum_by (λ (e : EventRow). e.call_cost)) is.events ∙ events_sum (λ (e : EventRow). e.call_cost) (call_column f.format f.bytes) f 0 (events_of f.format f.bytes) (λ place event. refl)
+
   pub parts_sum_to : sum_by (λ (a : CallRow). a.sum) (calls_in r.number t) ≡ r.call_count + sum_by (λ (e : EventRow). e.call_cost) (filter (λ (e : EventRow). e.run == r.number) t.events)
   parts_sum_to =
       by_column (λ (a : CallRow). a.part) (λ (a : CallRow). a.sum) (suc many) (calls_in r.number t) no_part
       ∙ ap₂ ◌+◌
       (sym (parts_at t.names 0 (calls_in r.number t)) ∙ is.counts (λ _ _. true) ∙ sym is.call_count)
-      (sym (over_later parts_in 0 many) ∙ over_same (λ k. parts_in (suc k)) (call_column f.format f.bytes) 0 many costs_are
-      ∙ sym (ap (sum_by (λ (e : EventRow). e.call_cost)) is.events ∙ events_sum (λ (e : EventRow). e.call_cost) (call_column f.format f.bytes) f 0 (events_of f.format f.bytes) (λ place event. refl)))
+      (sym (over_later parts_in 0 many) ∙ over_same (λ k. parts_in (suc k)) (call_column f.format f.bytes) 0 many costs_are ∙ sym call_costs)
 
   pub stacks_sum : sum_by (λ (s : StackRow). s.count) (stacks_in r.number t) ≡ stacks_of_run (kind_in f.format) r.number t
   stacks_sum = sym (stacks_all (stacks_in r.number t)) ∙ is.stacks (λ _. true) ∙ stacks_are r.number t f.format f.bytes self_costs
@@ -117,11 +119,12 @@ module _ (t : Tables) where
   abbrev books : List RunRow → List File → Type 0
   books lines files = AreBooksOf files (map (run_held t) lines)
 
-  file_of : (lines : List RunRow) (files : List File) (r : RunRow) → books lines files → Has lines r → (f : File) × IsBookOf f (run_held t r)
+  -- the file of a line, which tells of its run of the book
+  file_of : (lines : List RunRow) (files : List File) (r : RunRow) → books lines files → Has lines r → (f : File) × Has files f × IsBookOf f (run_held t r)
   file_of [] files r all there = absurd there
   file_of (q ∷ lines) [] r all there = absurd all
-  file_of (q ∷ lines) (f ∷ files) r all (inl same) = (f, subst (λ x. IsBookOf f (run_held t x)) (sym same) all.0)
-  file_of (q ∷ lines) (f ∷ files) r all (inr later) = file_of lines files r all.1 later
+  file_of (q ∷ lines) (f ∷ files) r all (inl same) = (f, inl refl, subst (λ x. IsBookOf f (run_held t x)) (sym same) all.0)
+  file_of (q ∷ lines) (f ∷ files) r all (inr later) = let is = file_of lines files r all.1 later in (is.0, inr is.1, is.2)
 
   above_of : (n m : ℕ) (lines : List RunRow) (files : List File) → n ≡ m → books lines files → AllByRecursion (λ (f : File). m < f.number) files → AllByRecursion (λ (r : RunRow). n < r.number) lines
   above_of n m [] [] same all above = tt
@@ -159,16 +162,23 @@ kept_alone (q ∷ lines) r up (inr later) =
 
 -- ---- in tables that represent a history
 
-module _ (h : History) (t : Tables) where
-  pub cells_told : (r : RunRow) → TablesRepresent h t → Has t.runs r → sum_by (λ (c : CellRow). c.cost) (cells_in r.number t) ≡ cells_of_run r.number t
-  cells_told r represent there = let is = file_of t t.runs (held h) r represent.runs there in cells_sum t r is.0 is.1
+module _ (h : History) (t : Tables) (represent : TablesRepresent h t) where
+  pub held_file : (r : RunRow) → Has t.runs r → (f : File) × Has (held h) f × IsBookOf f (run_held t r)
+  held_file r there = file_of t t.runs (held h) r represent.runs there
 
-  pub calls_told : (r : RunRow) → TablesRepresent h t → Has t.runs r → sum_by (λ (a : CallRow). a.sum) (calls_in r.number t) ≡ calls_of_run r.number t
-  calls_told r represent there =
-      let is = file_of t t.runs (held h) r represent.runs there in
-      let alone = kept_alone t.runs r (earlier_of t t.runs (held h) represent.runs (numbered h represent.legal).rising) there in
-      let count : sum_by (λ (q : RunRow). q.call_count) (filter (λ (q : RunRow). q.number == r.number) t.runs) ≡ r.call_count = ap (sum_by (λ (q : RunRow). q.call_count)) alone ∙ sum_by-cons (λ (q : RunRow). q.call_count) r [] ∙ omega arith in
-      parts_sum_to t r is.0 is.1 ∙ ap (λ n. n + sum_by (λ (e : EventRow). e.call_cost) (filter (λ (e : EventRow). e.run == r.number) t.events)) (sym count)
+  pub cells_told : (r : RunRow) → Has t.runs r → sum_by (λ (c : CellRow). c.cost) (cells_in r.number t) ≡ cells_of_run r.number t
+  cells_told r there = let is = held_file r there in cells_sum t r is.0 is.2
+
+  -- the run stands alone with its number
+  pub count_alone : (r : RunRow) → Has t.runs r → sum_by (λ (q : RunRow). q.call_count) (filter (λ (q : RunRow). q.number == r.number) t.runs) ≡ r.call_count
+  count_alone r there =
+      ap (sum_by (λ (q : RunRow). q.call_count)) (kept_alone t.runs r (earlier_of t t.runs (held h) represent.runs (numbered h represent.legal).rising) there)
+      ∙ sum_by-cons (λ (q : RunRow). q.call_count) r [] ∙ omega arith
+
+  pub calls_told : (r : RunRow) → Has t.runs r → sum_by (λ (a : CallRow). a.sum) (calls_in r.number t) ≡ calls_of_run r.number t
+  calls_told r there =
+      let is = held_file r there in
+      parts_sum_to t r is.0 is.2 ∙ ap (λ n. n + sum_by (λ (e : EventRow). e.call_cost) (filter (λ (e : EventRow). e.run == r.number) t.events)) (sym (count_alone r there))
 
   same_kind : (a b : Kind) → kind_number a ≡ kind_number b → a ≡ b
   same_kind kinds.Callgrind kinds.Callgrind same = refl
@@ -176,9 +186,9 @@ module _ (h : History) (t : Tables) where
   same_kind kinds.Folded kinds.Callgrind same = absurd (omega (arith, same))
   same_kind kinds.Folded kinds.Folded same = refl
 
-  pub stacks_told : (n : ℕ) (kind : Kind) → TablesRepresent h t → IsKindOf n t kind → sum_by (λ (s : StackRow). s.count) (stacks_in n t) ≡ stacks_of_run kind n t
-  stacks_told n kind represent it =
+  pub stacks_told : (n : ℕ) (kind : Kind) → IsKindOf n t kind → sum_by (λ (s : StackRow). s.count) (stacks_in n t) ≡ stacks_of_run kind n t
+  stacks_told n kind it =
       let r = it.0 in
-      let is = file_of t t.runs (held h) r represent.runs it.1 in
-      let same : kind_in is.0.format ≡ kind = same_kind (kind_in is.0.format) kind (sym is.1.kind ∙ it.3) in
-      subst (λ m. sum_by (λ (s : StackRow). s.count) (stacks_in m t) ≡ stacks_of_run kind m t) it.2 (stacks_sum t r is.0 is.1 ∙ ap (λ k. stacks_of_run k r.number t) same)
+      let is = held_file r it.1 in
+      let same : kind_in is.0.format ≡ kind = same_kind (kind_in is.0.format) kind (sym is.2.kind ∙ it.3) in
+      subst (λ m. sum_by (λ (s : StackRow). s.count) (stacks_in m t) ≡ stacks_of_run kind m t) it.2 (stacks_sum t r is.0 is.2 ∙ ap (λ k. stacks_of_run k r.number t) same)

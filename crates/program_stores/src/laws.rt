@@ -1,6 +1,6 @@
 // Which history a store has that is in memory, or was of version 1, and what the rows of each run sum to: laws of the
 // definitions, the contracts of functions that do nothing.
-ghost use Rattle.std.specs.Prelude.{◌≡◌, ℕ, Bool, true, sum_by};
+ghost use Rattle.std.specs.Prelude.{◌≡◌, ◌<◌, ◌^◌, ℕ, Bool, true, sum_by};
 ghost use Rattle.sqlite.specs.Held.{state};
 ghost use Rattle.sqlite.specs.declared.connection.Connection.{Connection};
 ghost use Rattle.sql_tables.specs.States.{LeavesJust as Leaves};
@@ -46,8 +46,9 @@ pub fn memory_keeps_its_history()
 
 /// In tables that represent a history, the rows of each run that is held sum to what the small tables say of it: its
 /// cells to the self costs of its events, the parts of its calls to how many there are and what they cost in its
-/// events, and its stacks to the samples of a folded file. So a store that is read from its pages, where rows that
-/// do not sum to this are refused, is not refused for its rows where it has a history.
+/// events, and its stacks to the samples of a folded file. The lists of the small tables refuse sums of 2^112 or
+/// more, and these are below. So where tables represent a history, a store that is read from its pages has no sum of
+/// rows to be refused for.
 pub fn rows_sum_to_the_small_tables()
     ensures cells { (h : History) (t : Tables) (r : RunRow) → TablesRepresent h t → Has t.runs r
         → sum_by (λ (c : CellRow). c.cost) (cells_in r.number t) ≡ cells_of_run r.number t }
@@ -55,4 +56,6 @@ pub fn rows_sum_to_the_small_tables()
         → sum_by (λ (a : CallRow). a.sum) (calls_in r.number t) ≡ calls_of_run r.number t }
     ensures stacks { (h : History) (t : Tables) (n : ℕ) (kind : Kind) → TablesRepresent h t → IsKindOf n t kind
         → sum_by (λ (s : StackRow). s.count) (stacks_in n t) ≡ stacks_of_run kind n t }
+    ensures small { (h : History) (t : Tables) (r : RunRow) → TablesRepresent h t → Has t.runs r
+        → (cells_of_run r.number t < 2 ^ 112) × (calls_of_run r.number t < 2 ^ 112) }
 {}
