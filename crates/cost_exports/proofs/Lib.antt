@@ -3,6 +3,7 @@ pub mod ColumnLemmas
 pub mod CsvReadLemmas
 pub mod KnownLemmas
 pub mod LineLemmas
+pub mod PieceLemmas
 pub mod ReadBackLemmas
 pub mod SlotLemmas
 pub mod SpreadLemmas

@@ -1,17 +1,22 @@
 // The text of what places cost by the names of events.
-ghost use Rattle.std.specs.Prelude.{◌≡◌, ◌++◌, ℕ, List, OnOk, IfOk, map};
+ghost use Rattle.std.specs.Prelude.{◌≡◌, ◌++◌, ℕ, List, [], Option, OnOk, OnErr, IfOk, IfErr, MatchResult, map, take};
+ghost use Rattle.std.specs.Io.KnownBytes.{Appends, Keeps};
 ghost use Rattle.csv.specs.Writing.{default_writer, row_text};
 ghost use Rattle.report_texts.specs.Csv.{csv_header, csv_row, csv_rows, csv_text};
+ghost use Rattle.cost_exports.specs.Pieces.{GoesOn, IsCut, IsOn, IsOut};
+ghost use Rattle.cost_exports.specs.declared.csv_pieces.Unwritten.TheVariants.{Memory};
 ghost use Rattle.cost_exports.specs.Views.{HasWritten, held_line, held_names, placed, spot_with, sums_in};
 
 use crate::cell_sums::CellSums;
 use crate::cells::{HeldLine, HeldNames};
+use crate::csv_pieces::{Pieces, Unwritten, out_of_memory};
 use crate::line_costs::LineCosts;
 use crate::places::Places;
 use cg_text::ListVec;
-use csv::{Writer, WriterBuilder};
+use csv::Writer;
 use itoa::Buffer;
 use std::alloc::{AllocError, Global};
+use std::io::Write;
 
 /// Writes a row. Its fields are as many in each row, so memory is the only refusal.
 fn write_fields(writer: &mut Writer<Vec<u8>>, fields: &[&[u8]]) -> Result<(), AllocError>
@@ -65,31 +70,85 @@ fn write_line(
     )
 }
 
+/// Writes what a line of a place cost in an event, and hands the rows on where they are a piece.
+fn put_line<W: Write>(
+    alloc: Global,
+    pieces: &mut Pieces,
+    out: &mut W,
+    names: &HeldNames,
+    line: &HeldLine,
+    cost: u128,
+) -> Result<(), Unwritten>
+    ensures { GoesOn result pieces.old pieces.new (W.contents out.old) (W.contents out.new) (csv_row (spot_with (held_names names.now) (held_line line.now), cost)) }
+{
+    write_line(&mut pieces.rows, names, line, cost)?;
+    if pieces.are_full() {
+        return pieces.hand_on(alloc, out);
+    }
+    Ok(())
+}
+
 /// Writes what the lines of a place cost.
-fn write_lines(
-    writer: &mut Writer<Vec<u8>>,
+fn put_lines<W: Write>(
+    alloc: Global,
+    pieces: &mut Pieces,
+    out: &mut W,
     names: &HeldNames,
     lines: &LineCosts,
-) -> Result<(), AllocError>
-    ensures { (text : List ℕ) → HasWritten writer.old text
-        → OnOk result (HasWritten writer.new (text ++ csv_rows (placed (held_names names.now) lines.now))) }
+) -> Result<(), Unwritten>
+    ensures { GoesOn result pieces.old pieces.new (W.contents out.old) (W.contents out.new) (csv_rows (placed (held_names names.now) lines.now)) }
 {
     for (line, cost) in lines.iter() {
-        write_line(writer, names, line, *cost)?;
+        put_line(alloc, pieces, out, names, line, *cost)?;
     }
     Ok(())
 }
 
 /// Writes what the lines of all places cost.
-fn write_places(writer: &mut Writer<Vec<u8>>, places: &Places) -> Result<(), AllocError>
-    ensures { (text : List ℕ) → HasWritten writer.old text → OnOk result (HasWritten writer.new (text ++ csv_rows (sums_in places.now))) }
+fn put_places<W: Write>(
+    alloc: Global,
+    pieces: &mut Pieces,
+    out: &mut W,
+    places: &Places,
+) -> Result<(), Unwritten>
+    ensures { GoesOn result pieces.old pieces.new (W.contents out.old) (W.contents out.new) (csv_rows (sums_in places.now)) }
 {
     for (names, slot) in places.iter() {
         if let Some(lines) = places.lines(*slot) {
-            write_lines(writer, names, lines)?;
+            put_lines(alloc, pieces, out, names, lines)?;
         }
     }
     Ok(())
+}
+
+/// Writes the header and the rows, to the last.
+fn put_all<W: Write>(
+    alloc: Global,
+    pieces: &mut Pieces,
+    out: &mut W,
+    sums: &CellSums,
+) -> Result<(), Unwritten>
+    ensures { (from : Option (List ℕ)) → IsOn from pieces.old (W.contents out.old) []
+        → MatchResult result (λ done. IsOut from pieces.new (W.contents out.new) (csv_text sums.now)) (λ e. IsCut from pieces.new (W.contents out.new) (csv_text sums.now)) }
+{
+    write_header(&mut pieces.rows)?;
+    put_places(alloc, pieces, out, sums.places())?;
+    pieces.hand_on(alloc, out)
+}
+
+/// Writes the text of `csv_text`, a piece at a time, so that it is never held whole. Where that fails, its
+/// first bytes are written, and none where there was no memory from the start.
+pub fn write_csv<W: Write>(alloc: Global, sums: &CellSums, out: &mut W) -> Result<(), Unwritten>
+    ensures whole { OnOk result (Appends (W.contents out.old) (W.contents out.new) (csv_text sums.now)) }
+    ensures part { OnErr result ((n : ℕ) × Appends (W.contents out.old) (W.contents out.new) (take n (csv_text sums.now))) }
+    ensures none { IfErr result (λ e. e ≡ Memory → Keeps (W.contents out.old) (W.contents out.new)) }
+{
+    let mut pieces = Pieces::new(alloc)?;
+    match put_all(alloc, &mut pieces, out, sums) {
+        Ok(()) => Ok(()),
+        Err(Unwritten::Memory) => Err(out_of_memory(pieces.begun)),
+        Err(Unwritten::Failed(error)) => Err(Unwritten::Failed(error)),
+    }
 }
 
 /// A header, and a row for each place and event with its cost, as comma-separated values with the line
@@ -97,11 +156,9 @@ fn write_places(writer: &mut Writer<Vec<u8>>, places: &Places) -> Result<(), All
 pub fn csv_text(alloc: Global, sums: &CellSums) -> Result<ListVec<u8>, AllocError>
     ensures { IfOk result (λ text. text ≡ csv_text sums.now) }
 {
-    let mut writer = WriterBuilder::new().from_writer(Vec::new(alloc));
-    write_header(&mut writer)?;
-    write_places(&mut writer, sums.places())?;
-    match writer.into_inner() {
-        Ok(text) => Ok(ListVec::from_vec(text)),
+    let mut text = Vec::new(alloc);
+    match write_csv(alloc, sums, &mut text) {
+        Ok(()) => Ok(ListVec::from_vec(text)),
         Err(_) => Err(AllocError),
     }
 }

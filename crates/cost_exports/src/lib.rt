@@ -9,7 +9,9 @@ mod annotations;
 mod cells;
 // What places cost by the names of events (report_texts/specs/Csv.antt).
 mod cell_sums;
-// The text of these sums (report_texts/specs/Csv.antt).
+// The text of these sums, as it is written in pieces (specs/Pieces.antt).
+mod csv_pieces;
+// And what is written (report_texts/specs/Csv.antt).
 mod csv_texts;
 // The text of stacks (report_texts/specs/Folded.antt).
 mod folded_texts;
@@ -28,7 +30,8 @@ mod stack_sums;
 
 pub use annotations::annotate;
 pub use cell_sums::CellSums;
-pub use csv_texts::csv_text;
+pub use csv_pieces::Unwritten;
+pub use csv_texts::{csv_text, write_csv};
 pub use folded_texts::folded_text;
 pub use laws::{
     annotations_sum_to_the_records, csv_rows_sum_to_the_records, csv_texts_read_back,

@@ -1,6 +1,6 @@
 -- Steps of a session, one after another.
-use Rattle.std.proofs.Common.{◌≡◌, ℕ, ◌+◌, ◌<◌, Bool, true, false, ◌||◌, if◌then◌else◌, List, [], ◌∷◌, ◌++◌, map, length, drop, get_or, Option, None, Result, Ok, Err, OnOk, OnErr, inl, refl, sym, ap, ap₂, take, subst, ◌∙◌, append_assoc, append-nil}
-use Rattle.std.specs.Io.KnownBytes.{Appends}
+use Rattle.std.proofs.Common.{◌≡◌, ℕ, ◌+◌, ◌<◌, Bool, true, false, ◌||◌, if◌then◌else◌, List, [], ◌∷◌, ◌++◌, map, length, drop, get_or, Option, None, Some, Result, Ok, Err, OnOk, OnErr, inl, refl, sym, ap, ap₂, take, subst, ◌∙◌, append_assoc, append-nil}
+use Rattle.std.specs.Io.KnownBytes.{Appends, Keeps}
 use Rattle.std.proofs.KnownBytes.{Appends-nil, Appends-trans}
 use Rattle.std.proofs.Math.Seq.{take-add, take-length, take-append_seam, drop-append_seam}
 use Rattle.std.specs.List.{list_any}
@@ -15,7 +15,7 @@ use Rattle.histories.specs.Formats.{today}
 use Rattle.histories.specs.History.{History, Command, Step, Import}
 use Rattle.histories.specs.Legal.{IsLegal}
 use Rattle.histories.specs.declared.answers.Answer.{Answer}
-use Rattle.histories.specs.declared.answers.Answer.TheVariants.{Refused}
+use Rattle.histories.specs.declared.answers.Answer.TheVariants.{Refused, Text}
 use Rattle.histories.specs.declared.answers.Refusal.{Refusal}
 use Rattle.histories.specs.declared.limits.Limits.{Limits}
 use Rattle.histories.specs.Representation.{TablesRepresent}
@@ -70,6 +70,27 @@ part_on xs ys a b c first second =
 pub wrote : {E : Type 0} (result : Result Unit E) (answer : Answer) (line : List ℕ) (a b : Option (List ℕ)) → IsLineOf answer line → OnOk result (Appends a b line) → OnErr result ((n : ℕ) × Appends a b (take n line)) → Prints result (answer ∷ []) a b
 wrote (Ok done) answer line a b is whole part = (line, (line, [], is, refl, sym (append-nil line)), whole)
 wrote (Err e) answer line a b is whole part = (line, part.0, (line, [], is, refl, sym (append-nil line)), part.1)
+
+line_alone : (answer : Answer) (line : List ℕ) → IsLineOf answer line → AreLinesOf (answer ∷ []) line
+line_alone answer line is = (line, [], is, refl, sym (append-nil line))
+
+-- a text was written whole, or its first bytes
+pub whole_printed : (text : List ℕ) (a b : Option (List ℕ)) → Appends a b text → ArePrinted (Text text ∷ []) a b
+whole_printed text a b is = (text, line_alone (Text text) text (inl refl), is)
+
+pub part_printed : (text : List ℕ) (a b : Option (List ℕ)) → (n : ℕ) × Appends a b (take n text) → ArePrintedInPart (Text text ∷ []) a b
+part_printed text a b part = (text, part.0, line_alone (Text text) text (inl refl), part.1)
+
+-- nothing was written before
+kept_appends : (a b c : Option (List ℕ)) (bytes : List ℕ) → Keeps a b → Appends b c bytes → Appends a c bytes
+kept_appends None b c bytes kept is = tt
+kept_appends (Some xs) None c bytes kept is = absurd kept
+kept_appends (Some xs) (Some ys) None bytes kept is = absurd is
+kept_appends (Some xs) (Some ys) (Some zs) bytes kept is = is ∙ ap (λ l. l ++ bytes) kept
+
+pub kept_prints : {E : Type 0} (result : Result Unit E) (xs : List Answer) (a b c : Option (List ℕ)) → Keeps a b → Prints result xs b c → Prints result xs a c
+kept_prints (Ok done) xs a b c kept it = (it.0, it.1, kept_appends a b c it.0 kept it.2)
+kept_prints (Err e) xs a b c kept it = (it.0, it.1, it.2, kept_appends a b c (take it.1 it.0) kept it.3)
 
 -- ---- the store is not asked
 

@@ -1,14 +1,16 @@
 // Commands over an opened store, each with its answer printed as it is there.
-ghost use Rattle.std.specs.Prelude.{◌≡◌, ◌↔◌, IfOk, IsTrue, List, [], ◌∷◌, map};
+ghost use Rattle.std.specs.Prelude.{◌≡◌, ◌↔◌, Ok, IfOk, IsTrue, List, [], ◌∷◌, map};
 ghost use Rattle.run_stores.specs.Calls.{IsFaithful, IsUsable};
 ghost use Rattle.byte_io.specs.Outcomes.{Outcome};
 ghost use Rattle.histories.specs.Formats.{today};
 ghost use Rattle.histories.specs.History as history;
 ghost use Rattle.histories.specs.History.{History, Annotate, Ask, Import, Remove};
 ghost use Rattle.histories.specs.Legal.{IsInForm, IsLegal};
+ghost use Rattle.histories.specs.declared.answers.Answer as given;
 ghost use Rattle.histories.specs.declared.answers.Answer.TheVariants as answers;
+ghost use Rattle.histories.specs.declared.answers.Query.TheVariants.{Csv};
 ghost use Rattle.store_histories.specs.Answered.{HasHistory};
-ghost use Rattle.warehouse.specs.Answered.{Says};
+ghost use Rattle.warehouse.specs.Answered.{IsGivenFor, Says};
 ghost use Rattle.byte_io.specs.Imported.{FileReads, WereRead};
 ghost use Rattle.sessions.specs.Questions.{query_from, selection_from};
 ghost use Rattle.store_commands.specs.Changes.{command_from_change};
@@ -19,6 +21,7 @@ use answer_lines::{is_refused, line_of};
 use byte_io::{FileSource, write_text};
 use cg_text::ListVec;
 use command_line::Selected;
+use cost_exports::{CellSums, Unwritten, write_csv};
 use histories::{Answer, Refusal, Selection};
 use profile_records::Kind;
 use run_stores::{RunStore, is_group_name};
@@ -225,11 +228,44 @@ impl<'a, R: Files + AllocGlobal, W: Write + Drop, S: RunStore> Session<'a, R, W,
         self.apply(Command::Group(name, change))
     }
 
+    /// Writes the text of sums as it is made. Where there is no memory from the start, it says so, and the
+    /// session goes on.
+    fn write_sums(&mut self, sums: &CellSums) -> io::Result<()>
+        ensures warehouse { self.new.warehouse ≡ self.old.warehouse }
+        ensures told { (answer : given.Answer) × IsGivenFor answer (Ok sums.now) × (self.new.status ≡ status_after self.old.status (answer ∷ []))
+            × Prints result (answer ∷ []) (W.contents self.old.out) (W.contents self.new.out) }
+    {
+        match write_csv(self.rt.alloc(), sums, &mut self.out) {
+            Ok(()) => Ok(()),
+            Err(Unwritten::Memory) => self.tell(Answer::Refused(Refusal::Memory)),
+            Err(Unwritten::Failed(error)) => Err(error),
+        }
+    }
+
+    /// Asks what places cost, and writes it as CSV.
+    fn ask_csv(&mut self, selected: Selected<'a>) -> io::Result<()>
+        ensures limits { self.new.warehouse.limits ≡ self.old.warehouse.limits }
+        ensures answered { IsFaithful S.StoreState self.new.warehouse.store
+            → WasTold S.StoreState W.contents (Ask (Csv (selection_from selected.entry))) result self.old self.new }
+    {
+        let alloc = self.rt.alloc();
+        let Ok(selection) = selection_of(alloc, selected) else {
+            return self.refuse(Refusal::Memory);
+        };
+        match self.warehouse.csv(alloc, &selection) {
+            Ok(sums) => self.write_sums(&sums),
+            Err(answer) => self.tell(answer),
+        }
+    }
+
     /// Asks a question.
     fn ask(&mut self, question: Question<'a>) -> io::Result<()>
         ensures limits { self.new.warehouse.limits ≡ self.old.warehouse.limits }
         ensures answered { IsFaithful S.StoreState self.new.warehouse.store → WasTold S.StoreState W.contents (Ask (query_from question.entry)) result self.old self.new }
     {
+        if let Question::Csv(selected) = question {
+            return self.ask_csv(selected);
+        }
         match query_of(self.rt.alloc(), question) {
             Ok(query) => self.apply(Command::Ask(query)),
             Err(AllocError) => self.refuse(Refusal::Memory),

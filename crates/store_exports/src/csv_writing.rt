@@ -1,4 +1,4 @@
-// The answers to questions of self costs as CSV.
+// The sums that are written as CSV, and the answers to questions of it.
 ghost use Rattle.std.specs.Prelude.{◌≡◌, length};
 ghost use Rattle.std.specs.List.{AllByRecursion};
 ghost use Rattle.std.specs.Result.{is_ok};
@@ -9,12 +9,11 @@ ghost use Rattle.run_stores.specs.Walks.{IsOfAnEvent};
 ghost use Rattle.prof_books.specs.HeldHeads.{IsHeadIn};
 ghost use Rattle.histories.specs.declared.answers.Query.TheVariants.{Csv};
 ghost use Rattle.store_histories.specs.Answered.{AnswersAsked};
-ghost use Rattle.store_exports.specs.CsvRuns.{AddsRun, IsCsv, IsCsvText};
+ghost use Rattle.store_exports.specs.CsvRuns.{AddsRun, AreSums, IsCsv, csv_asked};
 
 use crate::sinks::NamedRows;
-use cg_text::ListVec;
 use cost_exports::{CellSums, csv_text};
-use histories::{Answer, Selection};
+use histories::{Answer, Refusal, Selection};
 use run_stores::{RunStore, StoreError};
 use selected_runs::{RunFold, fold_runs, select_runs};
 use std::alloc::Global;
@@ -62,13 +61,13 @@ impl<S: RunStore> RunFold<S> for CellsOfRuns<'_, S::Names> {
     }
 }
 
-/// The self costs of some runs as CSV.
-fn text_of_runs<S: RunStore>(
+/// The self costs of some runs, by the names of their events.
+fn sums_of_runs<S: RunStore>(
     store: &mut S,
     alloc: Global,
     numbers: &[u32],
-) -> Result<ListVec<u8>, StoreError>
-    ensures told { Told S.StoreState result store.old store.new (λ t text. IsCsvText t numbers.now text) }
+) -> Result<CellSums, StoreError>
+    ensures told { Told S.StoreState result store.old store.new (λ t sums. AreSums t numbers.now sums) }
     ensures asks { AsksIfOpen S.StoreState (is_ok result) store.old store.new }
 {
     let names = store.names_of(alloc)?;
@@ -76,14 +75,29 @@ fn text_of_runs<S: RunStore>(
         alloc,
         names: &names,
     };
-    let sums = fold_runs(store, &cells, numbers, CellSums::new(alloc))?;
-    Ok(csv_text(alloc, &sums)?)
+    fold_runs(store, &cells, numbers, CellSums::new(alloc))
 }
 
-/// Answers the self costs above 0 by object, file, function, line and event, over the runs of a selection:
-/// a text of CSV, or the refusal of a run or a group that is not held. Errors: `Memory`; and `Store` for a
+/// The self costs above 0 by object, file, function, line and event, over the runs of a selection, whose text
+/// is the answer; or the refusal of a run or a group that is not held. Errors: `Memory`; and `Store` for a
 /// call of the database that fails, for rows out of form and for sums of 2^112 or more, which no files that
 /// are held sum to.
+pub fn csv_sums<S: RunStore>(
+    store: &mut S,
+    alloc: Global,
+    selection: &Selection,
+) -> Result<Result<CellSums, Refusal>, StoreError>
+    ensures { AnswersAsked S.StoreState (λ t. IsCsv t selection.now) (Csv selection.now) (csv_asked result) store.old store.new }
+{
+    let numbers = match select_runs(store, alloc, selection)? {
+        Ok(numbers) => numbers,
+        Err(refusal) => return Ok(Err(refusal)),
+    };
+    let sums = sums_of_runs(store, alloc, numbers.as_slice())?;
+    Ok(Ok(sums))
+}
+
+/// Answers the sums of `csv_sums`: a text of CSV, or the refusal. Errors: those of `csv_sums`.
 pub fn csv_answer<S: RunStore>(
     store: &mut S,
     alloc: Global,
@@ -91,10 +105,8 @@ pub fn csv_answer<S: RunStore>(
 ) -> Result<Answer, StoreError>
     ensures { AnswersAsked S.StoreState (λ t. IsCsv t selection.now) (Csv selection.now) result store.old store.new }
 {
-    let numbers = match select_runs(store, alloc, selection)? {
-        Ok(numbers) => numbers,
-        Err(refusal) => return Ok(Answer::Refused(refusal)),
-    };
-    let text = text_of_runs(store, alloc, numbers.as_slice())?;
-    Ok(Answer::Text(text))
+    match csv_sums(store, alloc, selection)? {
+        Ok(sums) => Ok(Answer::Text(csv_text(alloc, &sums)?)),
+        Err(refusal) => Ok(Answer::Refused(refusal)),
+    }
 }

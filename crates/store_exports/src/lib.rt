@@ -12,5 +12,5 @@ mod folded_writing;
 mod sinks;
 
 pub use annotating::annotate_answer;
-pub use csv_writing::csv_answer;
+pub use csv_writing::{csv_answer, csv_sums};
 pub use folded_writing::folded_answer;

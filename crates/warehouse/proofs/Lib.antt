@@ -1,2 +1,3 @@
+mod GivenLemmas
 mod Runs
 mod Unread

@@ -1,8 +1,9 @@
 -- What commands say, and what a list of them is answered and leaves.
-use Rattle.std.specs.Prelude.{◌≡◌, map, List, [], ◌∷◌, ◌++◌}
+use Rattle.std.specs.Prelude.{◌≡◌, ◌⊎◌, ℕ, map, List, [], ◌∷◌, ◌++◌, Result, Ok, Err}
 use Rattle.run_stores.specs.declared.states.StoreState.{Ghosts}
 use Rattle.run_stores.specs.Calls.{IsFaithful}
 use Rattle.byte_io.specs.Outcomes.{Outcome}
+use Rattle.report_texts.specs.Csv.{EventSpot, csv_text}
 use Rattle.histories.specs.Formats.{today}
 use Rattle.histories.specs.History.{History, Command, Step, Import, Remove, Ask, Annotate}
 use Rattle.histories.specs.Legal.{AreLegal}
@@ -61,3 +62,8 @@ abbrev pub unread_for : Unread → Answer
 unread_for unread.Memory = answers.Refused reasons.Memory
 unread_for unread.Failed = answers.Refused reasons.ReadFault
 unread_for unread.TooLong = answers.Refused reasons.TooLong
+
+-- sums are given for their text, or where there is no memory for it for the refusal of that; else the answer is given
+abbrev pub IsGivenFor : Answer → Result (List (EventSpot × ℕ)) Answer → Type 0
+IsGivenFor answer (Ok sums) = (answer ≡ answers.Text (csv_text sums)) ⊎ (answer ≡ answers.Refused reasons.Memory)
+IsGivenFor answer (Err given) = answer ≡ given

@@ -1,16 +1,21 @@
 // Commands, one by one and in lists.
 ghost use Rattle.std.specs.Prelude.{◌≡◌, IfOk, OnErr};
-ghost use Rattle.run_stores.specs.Calls.{IsFaithful};
+ghost use Rattle.run_stores.specs.Calls.{IsFaithful, Tells};
 ghost use Rattle.histories.specs.Formats.{today};
-ghost use Rattle.histories.specs.History.{Annotate, Import};
-ghost use Rattle.warehouse.specs.Answered.{WasAnswered, WasAnsweredOver, WasRun};
-ghost use Rattle.warehouse.specs.FromTables.{IsFoundIn, WasAnnotated, WasImported};
+ghost use Rattle.histories.specs.History.{Annotate, Ask, Import};
+ghost use Rattle.histories.specs.declared.answers.Answer.{Answer};
+ghost use Rattle.histories.specs.declared.answers.Query.TheVariants.{Csv};
+ghost use Rattle.store_histories.specs.Answered.{Answers};
+ghost use Rattle.store_histories.specs.FromTables.{OrFailed};
+ghost use Rattle.warehouse.specs.Answered.{IsGivenFor, WasAnswered, WasAnsweredOver, WasRun};
+ghost use Rattle.warehouse.specs.FromTables.{AnswersIn, IsFoundIn, WasAnnotated, WasImported};
 
-use crate::answering::{annotate_in, ask_in, import_in};
+use crate::answering::{annotate_in, ask_in, csv_in, import_in};
 use crate::command::Command;
 use crate::warehouse::Warehouse;
 use byte_io::Source;
 use cg_text::ListVec;
+use cost_exports::CellSums;
 use histories::{Answer, Selection};
 use profile_records::Kind;
 use run_stores::RunStore;
@@ -54,6 +59,19 @@ impl<S: RunStore> Warehouse<S> {
         ensures found { WasAnnotated S.StoreState R.reads selection event file source.old source.new result self.old.store self.new.store }
     {
         annotate_in(&mut self.store, alloc, selection, event, file, source)
+    }
+
+    /// Sums up what places cost over the runs of a selection, so that who asks can write their text as it is
+    /// made: that text is the answer to the question, or where there is no memory for it the refusal of that.
+    /// A question that is refused is answered as such.
+    pub fn csv(&mut self, alloc: Global, selection: &Selection) -> Result<CellSums, Answer>
+        ensures limits { self.new.limits ≡ self.old.limits }
+        ensures answered { (answer : Answer) → IsGivenFor answer result → IsFaithful S.StoreState self.new.store
+            → Answers S.StoreState self.old.limits (Ask (Csv selection.now)) answer self.old.store self.new.store }
+        ensures found { (answer : Answer) → IsGivenFor answer result
+            → Tells S.StoreState self.old.store self.new.store (λ t. OrFailed (AnswersIn (Csv selection.now) t) answer) }
+    {
+        csv_in(&mut self.store, alloc, selection)
     }
 
     /// Does what a command says, and answers it. A refused command changes nothing. Over tables that
