@@ -1,5 +1,5 @@
 -- Annotated sources and exports over histories, computed on worked ones.
-use Rattle.std.proofs.Common.{◌≡◌, ℕ, List, [], ◌∷◌, ◌++◌, codes, None, Some, refl}
+use Rattle.std.proofs.Common.{◌≡◌, ℕ, List, [], ◌∷◌, codes, None, Some, refl}
 use Rattle.std.specs.Fmt.{digits}
 use Rattle.csv.specs.Writing.{escaped, fields_text, is_blank}
 use Rattle.cg_text.specs.Fields.{line_text}
@@ -11,9 +11,9 @@ use Rattle.cg_text.specs.Subpositions.{subpos_of}
 use Rattle.folded_reader.specs.Lines.{reading_of as stack_of}
 use Rattle.profile_records.specs.declared.kinds.Kind.{Kind}
 use Rattle.profile_records.specs.declared.kinds.Kind.TheVariants.{Callgrind, Folded}
-use Rattle.byte_io.specs.Outcomes.{Outcome, Gave, Failed}
+use Rattle.byte_io.specs.Outcomes.{Gave, Failed}
 use Rattle.histories.specs.Formats.{today}
-use Rattle.histories.specs.History.{Annotate, History, Import, Step}
+use Rattle.histories.specs.History.{Annotate, Import, Step}
 use Rattle.histories.specs.Legal.{expected_answer, expected_of_query}
 use Rattle.histories.specs.declared.answers.Answer.{Answer}
 use Rattle.histories.specs.declared.answers.Answer.TheVariants.{Run, Text, Refused}

@@ -1,12 +1,12 @@
 -- The head of a run that is held is what its file says.
-use Rattle.std.proofs.Common.{◌≡◌, ℕ, zero, suc, ◌+◌, ◌<◌, ◌≤◌, ℤ, pos, Bool, true, false, ◌&&◌, ◌==◌, nat_lt, if◌then◌else◌, List, [], ◌∷◌, ◌++◌, map, length, slice_get, slice_index, sum_by, Option, Some, None, option_map, IfSome, refl, sym, ap, ap₂, subst, ◌∙◌, arith, inl, inr, IsPermutation}
+use Rattle.std.proofs.Common.{◌≡◌, ℕ, zero, suc, ◌+◌, ◌<◌, ◌≤◌, Bool, true, false, ◌&&◌, ◌==◌, nat_lt, if◌then◌else◌, List, [], ◌∷◌, ◌++◌, map, length, slice_get, slice_index, sum_by, Option, Some, None, option_map, IfSome, refl, sym, ap, ap₂, subst, ◌∙◌, arith, inl, inr, IsPermutation}
 use Rattle.std.specs.Prelude.{unwrap_or}
 use Rattle.std.specs.Fmt.{decimal}
 use Rattle.std.specs.List.{AllByRecursion}
 use Rattle.std.proofs.lemmas.Bool.Decides.{nat_tests}
 use Rattle.std.proofs.lemmas.List.{length-map}
 use Rattle.std.proofs.lemmas.List.Elements.{All-from_recursion, recursion_from_All}
-use Rattle.std.proofs.lemmas.List.Sorted.{All-permutation, IsPermutation-map, length_permutation, sum_by-IsPermutation}
+use Rattle.std.proofs.lemmas.List.Sorted.{All-permutation, length_permutation, sum_by-IsPermutation}
 use Rattle.std.proofs.lemmas.List.Sums.{sum_by-append, sum_by-cons}
 use Rattle.plain_tables.specs.Lists.{Has}
 use Rattle.plain_tables.proofs.Lists.{all_has, map-append}
@@ -21,7 +21,7 @@ use Rattle.prof_books.specs.Heads.{coef_rows_at, coef_rows_from, derived_rows_fr
 use Rattle.histories.specs.Formats.{Format, Callgrind, Folded}
 use Rattle.histories.specs.Files.{derived_of, events_of, stated_of}
 use Rattle.histories.specs.History.{History, File, held}
-use Rattle.histories.specs.Representation.{AreBooksOf, IsBookOf, TablesRepresent, event_rows_from}
+use Rattle.histories.specs.Representation.{IsBookOf, TablesRepresent, event_rows_from}
 use Rattle.histories.proofs.Tests.{all_map, all_on}
 use Rattle.prof_books.specs.HeldHeads.{CoefEntry, EventEntry, IsHeadIn, PlacedName, coef_of_line, coefs_at, coefs_from, derived_entries, event_of_line, events_from, event_entries, name_of_line, placed}
 use Rattle.histories.specs.Told.{HeadAgrees}

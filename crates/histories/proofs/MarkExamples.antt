@@ -1,6 +1,5 @@
 -- The mark, computed on a history: a file that the first grammar took in, and the second does not.
-use Rattle.std.proofs.Common.{◌≡◌, ◌==◌, ℕ, List, [], ◌∷◌, codes, Some, None, refl}
-use Rattle.hex.specs.Hex.{encode_with}
+use Rattle.std.proofs.Common.{◌≡◌, ◌==◌, ℕ, List, [], ◌∷◌, codes, Some, refl}
 use Rattle.sha2.specs.Sha256.{sha256, first_words, schedule, rounds, compress, hash_after, digest_bytes}
 use Rattle.cg_text.specs.Fields.{line_text}
 use Rattle.cg_text.specs.Kinds.{kind_of}
@@ -14,7 +13,7 @@ use Rattle.cost_rows.specs.Sums.{self_sum}
 use Rattle.byte_io.specs.Outcomes.{Gave}
 use Rattle.histories.specs.Files.{records_of}
 use Rattle.histories.specs.Formats.{Callgrind}
-use Rattle.histories.specs.History.{Command, Import, Remove, Step, History, File, held}
+use Rattle.histories.specs.History.{Command, Import, Remove, Step, History, held}
 use Rattle.histories.specs.Legal.{expected_answer}
 use Rattle.histories.specs.Marks.{IsMarked}
 use Rattle.histories.specs.declared.answers.Answer.{Answer}

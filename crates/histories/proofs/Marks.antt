@@ -1,5 +1,5 @@
 -- The mark of a history, and what the two grammars read.
-use Rattle.std.proofs.Common.{◌≡◌, ◌≢◌, ℕ, List, [], ◌∷◌, ◌++◌, map, Ok, Err, Option, Some, None, Result, length, refl, sym, ap, ap₂, subst, ◌∙◌, append_assoc}
+use Rattle.std.proofs.Common.{◌≡◌, ◌≢◌, ℕ, List, [], ◌∷◌, ◌++◌, map, Ok, Err, Option, Some, None, Result, length, refl, ap, ap₂, ◌∙◌, append_assoc}
 use Rattle.std.specs.List.{AllByRecursion}
 use Rattle.cg_text.specs.Kinds as kinds
 use Rattle.cg_text.specs.Kinds.{Header}
@@ -14,7 +14,7 @@ use Rattle.callgrind_reader.specs.Files.{fault_in, names_or_none, sound_records,
 use Rattle.callgrind_reader.specs.Totals.{stated_of}
 use Rattle.cg_formulas.specs.Formulas.{derived_of}
 use Rattle.text_pieces.specs.Backwards.{onto}
-use Rattle.callgrind_reader.specs.Grammars.{Grammar, First, Second, unthreaded, reading_in}
+use Rattle.callgrind_reader.specs.Grammars.{First, Second, unthreaded, reading_in}
 use Rattle.callgrind_reader.specs.Lines.{cost_of, record_of, record_with, row_record}
 use Rattle.callgrind_reader.specs.Costs.{row_at}
 use Rattle.callgrind_reader.specs.Calls.{awaiting}

@@ -1,5 +1,5 @@
 -- The files of a selection, and the runs of tables that they are.
-use Rattle.std.proofs.Common.{◌≡◌, ℕ, ◌<◌, Bool, true, false, ◌||◌, ◌==◌, eqb, List, [], ◌∷◌, map, filter, refl, sym, ap, ap₂, ◌∙◌, cond, arith}
+use Rattle.std.proofs.Common.{◌≡◌, ℕ, ◌<◌, Bool, true, false, ◌||◌, ◌==◌, eqb, List, [], ◌∷◌, map, filter, refl, sym, ap, ◌∙◌, cond, arith}
 use Rattle.std.specs.Cmp.{nat_cmp_is}
 use Rattle.std.specs.List.{list_any, AllByRecursion}
 use Rattle.std.specs.List.Sorted.{IsStrictlySortedBy}
@@ -8,8 +8,8 @@ use Rattle.std.specs.declared.cmp.Ordering.TheVariants.{Less}
 use Rattle.std.proofs.lemmas.Bool.{eqb-true, ne_eqb}
 use Rattle.plain_tables.specs.Tables.{Tables, RunRow}
 use Rattle.prof_books.specs.Book.{run_held}
-use Rattle.histories.specs.History.{History, File, held, is_member, members}
-use Rattle.histories.specs.Legal.{IsHistory, has_run}
+use Rattle.histories.specs.History.{History, File, held, is_member}
+use Rattle.histories.specs.Legal.{IsHistory}
 use Rattle.histories.specs.SelectedRuns.{selects_in, AreSelected, SelectionAgrees}
 use Rattle.histories.specs.Selections.{selects, selected, numbers_of}
 use Rattle.histories.specs.Representation.{AreBooksOf, TablesRepresent}

@@ -1,9 +1,7 @@
 -- Reports over the files that a selection names.
 use Rattle.std.specs.Prelude.{ℕ, suc, Bool, ◌||◌, ◌&&◌, nat_lt, if◌then◌else◌, List, [], ◌∷◌, map, flat_map, Option, unwrap_or}
 use Rattle.std.specs.List.{list_any}
-use Rattle.std.specs.Map.{lookup}
 use Rattle.std.specs.Option.{is_some}
-use Rattle.cg_formulas.specs.Formulas.{coefficients}
 use Rattle.cg_formulas.specs.Flats.{row_in}
 use Rattle.cost_rows.specs.declared.keys.Key.{Key}
 use Rattle.cost_rows.specs.KeySums.{total_of}

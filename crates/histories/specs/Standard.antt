@@ -1,5 +1,5 @@
 -- The limits under which the program works.
-use Rattle.std.specs.Prelude.{◌≡◌, ℕ, ◌^◌}
+use Rattle.std.specs.Prelude.{◌≡◌, ◌^◌}
 use Rattle.histories.specs.declared.limits.Limits.{Limits}
 
 -- a gibibyte for a file, a million runs, a hundred thousand groups, and numbers below 2^31

@@ -1,5 +1,5 @@
 -- What tables that represent a history tell of it.
-use Rattle.std.specs.Prelude.{◌≡◌, ◌≢◌, ◌≤◌, ◌<◌, ℕ, Bool, ◌==◌, List, Option, length, map, filter, flat_map, option_map, bytes_eq, IsPermutation}
+use Rattle.std.specs.Prelude.{◌≡◌, ◌≢◌, ◌≤◌, ◌<◌, ℕ, Bool, List, Option, length, map, filter, flat_map, option_map, bytes_eq, IsPermutation}
 use Rattle.std.specs.List.{AllAdjacentBelow}
 use Rattle.std.specs.Option.{MatchOption}
 use Rattle.plain_tables.specs.Lists.{Has}
@@ -14,7 +14,7 @@ use Rattle.cost_rows.specs.Walks.{HaveCosts, HaveCounts}
 use Rattle.cost_rows.specs.declared.rows.CallEdge.{CallEdge}
 use Rattle.cost_rows.specs.declared.rows.FileTotals.{FileTotals}
 use Rattle.plain_tables.specs.Changes as changes
-use Rattle.plain_tables.specs.Tables.{Tables, RunRow, EventRow, DerivedRow, CoefRow, GroupRow, MemberRow}
+use Rattle.plain_tables.specs.Tables.{Tables, RunRow, GroupRow, MemberRow}
 use Rattle.prof_books.specs.Book.{cells_held, parts_held, parts_of, run_held, stacks_held}
 use Rattle.prof_books.specs.Entries.{held_run}
 use Rattle.prof_books.specs.Parts.{AreOfRows}

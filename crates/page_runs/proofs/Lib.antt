@@ -3,7 +3,6 @@ mod Columns
 mod HeadLists
 mod HeadTold
 pub mod NameColumns
-pub mod Ordered
 pub mod Placing
 mod Probing
 mod Rooting

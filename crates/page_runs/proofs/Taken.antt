@@ -15,7 +15,7 @@ use Rattle.store_schema.specs.Tables.{Holds, contents_of}
 use Rattle.run_lists.specs.Listed.{AreListed}
 use Rattle.page_rows.specs.declared.files.OpenedFile.{OpenedFile}
 use Rattle.page_rows.specs.Files.{page_size, may_leave, OnlyReads, Shows}
-use Rattle.page_runs.specs.Order.{AreInOrder}
+use Rattle.run_order.specs.Order.{AreInOrder}
 use Rattle.page_runs.specs.Shown.{AreRoots, IsStoreOf, ShowsRows}
 use Rattle.page_runs.specs.States.{LastsIn, ReadsAs, Represents, held_by}
 use Rattle.page_runs.specs.declared.store.PageRuns.{PageRuns}

@@ -1,5 +1,4 @@
 pub mod Found
-pub mod Order
 pub mod Placed
 pub mod Shown
 pub mod Sizes

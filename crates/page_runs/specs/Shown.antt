@@ -13,7 +13,7 @@ use Rattle.page_rows.specs.Tables.{IsRooted}
 use Rattle.plain_tables.specs.Tables.{Tables}
 use Rattle.store_schema.specs.Schema.{meta_at, run_at, run_event_at, derived_at, coef_at, name_at, arc_at, stack_at, grp_at, member_at, thread_cell_at}
 use Rattle.store_schema.specs.Tables.{Holds}
-use Rattle.page_runs.specs.Order.{ByRun}
+use Rattle.run_order.specs.Order.{ByRun}
 use Rattle.page_runs.specs.declared.roots.Roots.{Roots}
 
 module _ {D : Type 0} {g : Ghosts D} where

@@ -4,7 +4,7 @@ ghost use Rattle.sqlite_wal.specs.Files.{outcomes, seen_image};
 ghost use Rattle.sqlite_wal.specs.Reads.{AreClean};
 ghost use Rattle.page_rows.specs.Files.{page_size};
 ghost use Rattle.plain_tables.specs.Tables.{Tables};
-ghost use Rattle.page_runs.specs.Order.{AreInOrder};
+ghost use Rattle.run_order.specs.Order.{AreInOrder};
 ghost use Rattle.page_runs.specs.States.{HoldsIn, IsFaithful, LastsIn, ReadsAs, Represents};
 
 use crate::files::open_file;

@@ -5,7 +5,6 @@ ghost use Rattle.read_only_disks.specs.Untouched.{IsUntouched};
 ghost use Rattle.page_rows.specs.Files.{page_size};
 ghost use Rattle.plain_tables.specs.Tables.{Tables};
 ghost use Rattle.run_stores.specs.Calls.{IsFaithful};
-ghost use Rattle.page_runs.specs.Order.{AreInOrder};
 ghost use Rattle.page_runs.specs.States.{HoldsIn, state_of};
 ghost use Rattle.histories.specs.History.{History};
 ghost use Rattle.histories.specs.Representation.{TablesRepresent};
@@ -29,8 +28,8 @@ use std::rt::{Files, HostRuntime};
 const LONGEST_LOG: usize = 0x400_0000;
 
 /// The store in files that are as they were found, to be read from its pages. No byte of them is written. None
-/// where they are not plainly a store of this version, or cannot be read so. Where they hold rows that represent
-/// a history, in the order of the runs, the store has this history.
+/// where they are not plainly a store of this version, or cannot be read so; their database says why. Where they
+/// hold rows that represent a history, the store has this history.
 pub fn store_in_pages<D: Disk + Drop, S: Start>(
     alloc: Global,
     files: DiskFiles<D>,
@@ -38,7 +37,7 @@ pub fn store_in_pages<D: Disk + Drop, S: Start>(
 ) -> Option<PageRuns<ReadOnly<D, S>>>
     requires log { IsUntouched D.Disk S.Start.log files.log }
     requires db { IsUntouched D.Disk S.Start.db files.db }
-    ensures { IfSome result (λ store. IsFaithful state_of store → (h : History) (t : Tables) → TablesRepresent h t → AreInOrder t
+    ensures { IfSome result (λ store. IsFaithful state_of store → (h : History) (t : Tables) → TablesRepresent h t
         → HoldsIn t (page_size store.file, seen_image D.Disk files.log files.db) → HasHistory state_of h store) }
 {
     let files = read_only(alloc, files, LONGEST_LOG)?;

@@ -1,7 +1,7 @@
 use Rattle.sqlite_wal.specs.Files.{seen_image}
 use Rattle.plain_tables.specs.Tables.{Tables}
 use Rattle.page_rows.specs.Files.{page_size}
-use Rattle.page_runs.specs.Order.{AreInOrder}
+use Rattle.run_order.specs.Order.{AreInOrder}
 use Rattle.page_runs.specs.States.{HoldsIn, IsFaithful, ReadsAs}
 use Rattle.page_runs.specs.declared.store.PageRuns.{PageRuns}
 use Rattle.page_runs.proofs.Taken.{reads_as, represents_as, store_there}

@@ -14,7 +14,7 @@ use Rattle.prof_books.proofs.Rows.{cells_of_run, calls_of_run, stacks_of_run}
 use Rattle.prof_books.specs.Files.{with_head, cell_rows, call_rows, stack_rows}
 use Rattle.prof_books.specs.Runs.{Filed, filed, with_filed, with_file}
 use Rattle.profile_records.specs.declared.kinds.Kind.{Kind}
-use Rattle.page_runs.specs.Order.{ByRun, AreInOrder}
+use Rattle.run_order.specs.Order.{ByRun, AreInOrder}
 
 -- ---- lists of rows
 
@@ -112,12 +112,15 @@ module _ (name : List ℕ) where
   without_group_in_order t order = record { cells = order.cells; calls = order.calls; stacks = order.stacks }
 
   module _ (n : ℕ) where
+    pub with_member_in_order : (t : Tables) → AreInOrder t → AreInOrder (with_member name n t)
+    with_member_in_order t order = record { cells = order.cells; calls = order.calls; stacks = order.stacks }
+
     pub joined_in_order : (t : Tables) → AreInOrder t → AreInOrder (joined name n t)
     joined_in_order t order = go (has_member t name n)
       where
         go : (b : Bool) → AreInOrder (if b then t else with_member name n t)
         go true = order
-        go false = record { cells = order.cells; calls = order.calls; stacks = order.stacks }
+        go false = with_member_in_order t order
 
     pub without_member_in_order : (t : Tables) → AreInOrder t → AreInOrder (without_member name n t)
     without_member_in_order t order = record { cells = order.cells; calls = order.calls; stacks = order.stacks }
