@@ -1,7 +1,7 @@
 //! The store at a path: it is made, opened or migrated in a database, and worked over or served.
 #![tactic(auto)]
 
-// Laws: which history a store has that is in memory, or was of version 1.
+// Laws: which history a store has that is in memory, or was of version 1, and what the rows of each run sum to.
 mod laws;
 // Works that only read, over a store that is read from its pages.
 mod reading;
@@ -12,7 +12,9 @@ mod stores;
 // Works over the store of a database (specs/Works.antt).
 mod working;
 
-pub use laws::{memory_keeps_its_history, migrated_stores_have_their_history};
+pub use laws::{
+    memory_keeps_its_history, migrated_stores_have_their_history, rows_sum_to_the_small_tables,
+};
 pub use reading::{pages_at, read_over, store_in_pages};
 pub use serving::serve_in;
 pub use stores::{StoreFile, database_at, error_line, is_new_at, store_in};

@@ -28,8 +28,8 @@ use std::rt::{Files, HostRuntime};
 const LONGEST_LOG: usize = 0x400_0000;
 
 /// The store in files that are as they were found, to be read from its pages. No byte of them is written. None
-/// where they are not plainly a store of this version, or cannot be read so. Where they hold rows that represent
-/// a history, the store has this history.
+/// where they are not plainly a store of this version, or cannot be read so; their database says why. Where they
+/// hold rows that represent a history, the store has this history.
 pub fn store_in_pages<D: Disk + Drop, S: Start>(
     alloc: Global,
     files: DiskFiles<D>,

@@ -1,0 +1,4 @@
+pub mod Bounds
+pub mod Columns
+pub mod RowSums
+pub mod Widths

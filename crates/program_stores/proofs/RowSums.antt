@@ -1,0 +1,194 @@
+-- The rows of a run sum to what the small tables say of it.
+use Rattle.std.proofs.Common.{◌≡◌, ℕ, zero, suc, ◌+◌, ◌<◌, ◌≤◌, true, false, ◌==◌, eqb, if◌then◌else◌, List, [], ◌∷◌, map, filter, length, sum_by, cond, refl, sym, ap, ap₂, subst, ◌∙◌, inl, inr, arith}
+use Rattle.std.specs.List.{AllByRecursion}
+use Rattle.std.proofs.lemmas.Bool.Decides.{nat_tests}
+use Rattle.std.proofs.lemmas.List.Sums.{sum_by-cons}
+use Rattle.cost_rows.specs.StackSums.{frames_sum}
+use Rattle.cost_rows.specs.Sums.{self_sum}
+use Rattle.cost_rows.specs.WalkSums.{rows_cost, stacks_count}
+use Rattle.profile_records.specs.Kinds.{kind_number}
+use Rattle.profile_records.specs.Stacks.{Seen}
+use Rattle.profile_records.specs.declared.kinds.Kind.{Kind}
+use Rattle.profile_records.specs.declared.kinds.Kind.TheVariants as kinds
+use Rattle.plain_tables.specs.Lists.{Has}
+use Rattle.plain_tables.proofs.Lists.{all_has}
+use Rattle.plain_tables.specs.RunRows.{calls_in, cells_in, stacks_in}
+use Rattle.plain_tables.specs.Tables.{Tables, RunRow, EventRow, NameRow, CellRow, CallRow, StackRow}
+use Rattle.prof_books.specs.Book.{cell_held, part_held, run_held, stack_held}
+use Rattle.prof_books.specs.Heads.{stated_at}
+use Rattle.prof_books.specs.Parts.{parts_sum}
+use Rattle.folded_reader.specs.Files.{stacks_of_file}
+use Rattle.histories.specs.Files.{events_of, records_of, sample, stacks_of, stated_of}
+use Rattle.histories.specs.Formats.{Format, Callgrind, Folded, kind_in}
+use Rattle.histories.specs.History.{History, File, held}
+use Rattle.histories.specs.Representation.{AreBooksOf, IsBookOf, TablesRepresent, event_rows_from}
+use Rattle.histories.specs.Sums.{call_column, self_column}
+use Rattle.histories.proofs.Invariants.{IsBefore, numbered}
+use Rattle.histories.proofs.Tests.{Pairs}
+use Rattle.run_stores.specs.Lookups.{IsKindOf}
+use Rattle.run_lists.specs.RowSums.{calls_of_run, cells_of_run, stacks_of_run}
+use Rattle.program_stores.proofs.Columns.{at, by_column, over, over_later, over_same}
+use Rattle.program_stores.proofs.Widths.{file_narrow, no_calls, no_self}
+
+-- ---- the rows of events
+
+abbrev row_of_event : File → ℕ → List ℕ → EventRow
+row_of_event f place event =
+    record { run = f.number; place = place; name = event; self_cost = self_column f.format f.bytes place; call_cost = call_column f.format f.bytes place; stated = stated_at (stated_of f.format f.bytes) place }
+
+events_sum : (m : EventRow → ℕ) (column : ℕ → ℕ) (f : File) (place : ℕ) (events : List (List ℕ)) → ((place : ℕ) (event : List ℕ) → m (row_of_event f place event) ≡ column place)
+    → sum_by m (event_rows_from f place events) ≡ over column place (length events)
+events_sum m column f place [] is = refl
+events_sum m column f place (event ∷ events) is =
+    sum_by-cons m (row_of_event f place event) (event_rows_from f (suc place) events) ∙ ap₂ ◌+◌ (is place event) (events_sum m column f (suc place) events is)
+
+-- ---- rows of cells, of calls and of stacks, as sums by column
+
+cells_at : (names : List NameRow) (k : ℕ) (cells : List CellRow) → rows_cost (λ _. true) k (map (cell_held names) cells) ≡ at (λ (c : CellRow). c.event) (λ (c : CellRow). c.cost) k cells
+cells_at names k [] = refl
+cells_at names k (c ∷ cells) = ap (λ n. (if c.event == k then c.cost else 0) + n) (cells_at names k cells)
+
+parts_at : (names : List NameRow) (k : ℕ) (calls : List CallRow) → parts_sum (λ _ _. true) k (map (part_held names) calls) ≡ at (λ (a : CallRow). a.part) (λ (a : CallRow). a.sum) k calls
+parts_at names k [] = refl
+parts_at names k (a ∷ calls) = ap (λ n. (if a.part == k then a.sum else 0) + n) (parts_at names k calls)
+
+stacks_all : (stacks : List StackRow) → stacks_count (λ _. true) (map stack_held stacks) ≡ sum_by (λ (s : StackRow). s.count) stacks
+stacks_all [] = refl
+stacks_all (s ∷ stacks) = ap (λ n. s.count + n) (stacks_all stacks) ∙ sym (sum_by-cons (λ (s : StackRow). s.count) s stacks)
+
+-- in a folded file the samples are the counts of its stacks, and another has none
+samples_sum : (seen : List Seen) → frames_sum (λ _. true) seen ≡ self_sum (λ _. true) 0 (map sample seen)
+samples_sum [] = refl
+samples_sum (s ∷ seen) = ap (λ n. s.stack.count + n) (samples_sum seen)
+
+stacks_are : (n : ℕ) (t : Tables) (format : Format) (bytes : List ℕ) → cells_of_run n t ≡ over (self_column format bytes) 0 (length (events_of format bytes))
+    → frames_sum (λ _. true) (stacks_of format bytes) ≡ stacks_of_run (kind_in format) n t
+stacks_are n t (Callgrind g) bytes same = refl
+stacks_are n t Folded bytes same =
+    let one : cells_of_run n t ≡ self_column Folded bytes 0 + 0 = same in
+    let all : frames_sum (λ _. true) (stacks_of_file bytes) ≡ self_column Folded bytes 0 = samples_sum (stacks_of_file bytes) in
+    omega (arith, one, all)
+
+-- ---- a run of the book and its file
+
+module _ (t : Tables) (r : RunRow) (f : File) (is : IsBookOf f (run_held t r)) where
+  abbrev many : ℕ
+  many = length (events_of f.format f.bytes)
+
+  pub self_costs : cells_of_run r.number t ≡ over (self_column f.format f.bytes) 0 many
+  self_costs = ap (sum_by (λ (e : EventRow). e.self_cost)) is.events ∙ events_sum (λ (e : EventRow). e.self_cost) (self_column f.format f.bytes) f 0 (events_of f.format f.bytes) (λ place event. refl)
+
+  pub cells_sum : sum_by (λ (c : CellRow). c.cost) (cells_in r.number t) ≡ cells_of_run r.number t
+  cells_sum =
+      by_column (λ (c : CellRow). c.event) (λ (c : CellRow). c.cost) many (cells_in r.number t)
+      (λ k high. sym (cells_at t.names k (cells_in r.number t)) ∙ is.cells (λ _. true) k ∙ no_self many k high (λ _. true) (records_of f.format f.bytes) (file_narrow f.format f.bytes))
+      ∙ over_same (λ k. at (λ (c : CellRow). c.event) (λ (c : CellRow). c.cost) k (cells_in r.number t)) (self_column f.format f.bytes) 0 many
+      (λ k. sym (cells_at t.names k (cells_in r.number t)) ∙ is.cells (λ _. true) k)
+      ∙ sym self_costs
+
+  -- column 0 of parts counts the calls, and each other is one of costs
+  abbrev parts_in : ℕ → ℕ
+  parts_in k = at (λ (a : CallRow). a.part) (λ (a : CallRow). a.sum) k (calls_in r.number t)
+
+  costs_are : (k : ℕ) → parts_in (suc k) ≡ call_column f.format f.bytes k
+  costs_are k = sym (parts_at t.names (suc k) (calls_in r.number t)) ∙ is.costs (λ _ _. true) k
+
+  no_part : (k : ℕ) → suc many ≤ k → parts_in k ≡ 0
+  no_part zero high = absurd (omega (arith, high))
+  no_part (suc k) high = costs_are k ∙ no_calls many k (omega (arith, high)) (λ _ _. true) (records_of f.format f.bytes) (file_narrow f.format f.bytes)
+
+  pub call_costs : sum_by (λ (e : EventRow). e.call_cost) (filter (λ (e : EventRow). e.run == r.number) t.events) ≡ over (call_column f.format f.bytes) 0 many
+  call_costs = ap (sum_by (λ (e : EventRow). e.call_cost)) is.events ∙ events_sum (λ (e : EventRow). e.call_cost) (call_column f.format f.bytes) f 0 (events_of f.format f.bytes) (λ place event. refl)
+
+  pub parts_sum_to : sum_by (λ (a : CallRow). a.sum) (calls_in r.number t) ≡ r.call_count + sum_by (λ (e : EventRow). e.call_cost) (filter (λ (e : EventRow). e.run == r.number) t.events)
+  parts_sum_to =
+      by_column (λ (a : CallRow). a.part) (λ (a : CallRow). a.sum) (suc many) (calls_in r.number t) no_part
+      ∙ ap₂ ◌+◌
+      (sym (parts_at t.names 0 (calls_in r.number t)) ∙ is.counts (λ _ _. true) ∙ sym is.call_count)
+      (sym (over_later parts_in 0 many) ∙ over_same (λ k. parts_in (suc k)) (call_column f.format f.bytes) 0 many costs_are ∙ sym call_costs)
+
+  pub stacks_sum : sum_by (λ (s : StackRow). s.count) (stacks_in r.number t) ≡ stacks_of_run (kind_in f.format) r.number t
+  stacks_sum = sym (stacks_all (stacks_in r.number t)) ∙ is.stacks (λ _. true) ∙ stacks_are r.number t f.format f.bytes self_costs
+
+-- ---- the runs of tables stand apart by their numbers
+
+abbrev Earlier : RunRow → RunRow → Type 0
+Earlier q r = q.number < r.number
+
+module _ (t : Tables) where
+  abbrev books : List RunRow → List File → Type 0
+  books lines files = AreBooksOf files (map (run_held t) lines)
+
+  -- the file of a line, which tells of its run of the book
+  file_of : (lines : List RunRow) (files : List File) (r : RunRow) → books lines files → Has lines r → (f : File) × Has files f × IsBookOf f (run_held t r)
+  file_of [] files r all there = absurd there
+  file_of (q ∷ lines) [] r all there = absurd all
+  file_of (q ∷ lines) (f ∷ files) r all (inl same) = (f, inl refl, subst (λ x. IsBookOf f (run_held t x)) (sym same) all.0)
+  file_of (q ∷ lines) (f ∷ files) r all (inr later) = let is = file_of lines files r all.1 later in (is.0, inr is.1, is.2)
+
+  above_of : (n m : ℕ) (lines : List RunRow) (files : List File) → n ≡ m → books lines files → AllByRecursion (λ (f : File). m < f.number) files → AllByRecursion (λ (r : RunRow). n < r.number) lines
+  above_of n m [] [] same all above = tt
+  above_of n m [] (f ∷ files) same all above = absurd all
+  above_of n m (r ∷ lines) [] same all above = absurd all
+  above_of n m (r ∷ lines) (f ∷ files) same all above =
+      (let number : r.number ≡ f.number = all.0.number in let low : m < f.number = above.0 in omega (arith, same, number, low), above_of n m lines files same all.1 above.1)
+
+  earlier_of : (lines : List RunRow) (files : List File) → books lines files → Pairs IsBefore files → Pairs Earlier lines
+  earlier_of [] [] all up = tt
+  earlier_of [] (f ∷ files) all up = absurd all
+  earlier_of (r ∷ lines) [] all up = absurd all
+  earlier_of (r ∷ lines) (f ∷ files) all up = (above_of r.number f.number lines files all.0.number all.1 up.0, earlier_of lines files all.1 up.1)
+
+above_differs : (n m : ℕ) → n < m → eqb m n ≡ false
+above_differs n m low = grind (arith, nat_tests)
+
+below_differs : (n m : ℕ) → n < m → eqb n m ≡ false
+below_differs n m low = grind (arith, nat_tests)
+
+equal : (n m : ℕ) → n ≡ m → eqb m n ≡ true
+equal n m same = grind (arith, nat_tests)
+
+none_kept : (n : ℕ) (lines : List RunRow) → AllByRecursion (λ (q : RunRow). n < q.number) lines → filter (λ (q : RunRow). q.number == n) lines ≡ []
+none_kept n [] above = refl
+none_kept n (q ∷ lines) above = ap₂ (λ b l. cond b (q ∷ l) l) (above_differs n q.number above.0) (none_kept n lines above.1)
+
+kept_alone : (lines : List RunRow) (r : RunRow) → Pairs Earlier lines → Has lines r → filter (λ (q : RunRow). q.number == r.number) lines ≡ r ∷ []
+kept_alone [] r up there = absurd there
+kept_alone (q ∷ lines) r up (inl same) =
+    let number : r.number ≡ q.number = ap (λ (x : RunRow). x.number) same in
+    ap₂ (λ b l. cond b (q ∷ l) l) (equal r.number q.number number) (none_kept r.number lines (subst (λ n. AllByRecursion (λ (x : RunRow). n < x.number) lines) (sym number) up.0)) ∙ ap (λ x. x ∷ []) (sym same)
+kept_alone (q ∷ lines) r up (inr later) =
+    ap₂ (λ b l. cond b (q ∷ l) l) (below_differs q.number r.number (all_has (Earlier q) lines r up.0 later)) (kept_alone lines r up.1 later)
+
+-- ---- in tables that represent a history
+
+module _ (h : History) (t : Tables) (represent : TablesRepresent h t) where
+  pub held_file : (r : RunRow) → Has t.runs r → (f : File) × Has (held h) f × IsBookOf f (run_held t r)
+  held_file r there = file_of t t.runs (held h) r represent.runs there
+
+  pub cells_told : (r : RunRow) → Has t.runs r → sum_by (λ (c : CellRow). c.cost) (cells_in r.number t) ≡ cells_of_run r.number t
+  cells_told r there = let is = held_file r there in cells_sum t r is.0 is.2
+
+  -- the run stands alone with its number
+  pub count_alone : (r : RunRow) → Has t.runs r → sum_by (λ (q : RunRow). q.call_count) (filter (λ (q : RunRow). q.number == r.number) t.runs) ≡ r.call_count
+  count_alone r there =
+      ap (sum_by (λ (q : RunRow). q.call_count)) (kept_alone t.runs r (earlier_of t t.runs (held h) represent.runs (numbered h represent.legal).rising) there)
+      ∙ sum_by-cons (λ (q : RunRow). q.call_count) r [] ∙ omega arith
+
+  pub calls_told : (r : RunRow) → Has t.runs r → sum_by (λ (a : CallRow). a.sum) (calls_in r.number t) ≡ calls_of_run r.number t
+  calls_told r there =
+      let is = held_file r there in
+      parts_sum_to t r is.0 is.2 ∙ ap (λ n. n + sum_by (λ (e : EventRow). e.call_cost) (filter (λ (e : EventRow). e.run == r.number) t.events)) (sym (count_alone r there))
+
+  same_kind : (a b : Kind) → kind_number a ≡ kind_number b → a ≡ b
+  same_kind kinds.Callgrind kinds.Callgrind same = refl
+  same_kind kinds.Callgrind kinds.Folded same = absurd (omega (arith, same))
+  same_kind kinds.Folded kinds.Callgrind same = absurd (omega (arith, same))
+  same_kind kinds.Folded kinds.Folded same = refl
+
+  pub stacks_told : (n : ℕ) (kind : Kind) → IsKindOf n t kind → sum_by (λ (s : StackRow). s.count) (stacks_in n t) ≡ stacks_of_run kind n t
+  stacks_told n kind it =
+      let r = it.0 in
+      let is = held_file r it.1 in
+      let same : kind_in is.0.format ≡ kind = same_kind (kind_in is.0.format) kind (sym is.2.kind ∙ it.3) in
+      subst (λ m. sum_by (λ (s : StackRow). s.count) (stacks_in m t) ≡ stacks_of_run kind m t) it.2 (stacks_sum t r is.0 is.2 ∙ ap (λ k. stacks_of_run k r.number t) same)
