@@ -1,9 +1,13 @@
 // A store of runs over the pages of its file.
-ghost use Rattle.std.specs.Prelude.{◌≡◌, IsTrue, IfSome};
+ghost use Rattle.std.specs.Prelude.{◌≡◌, IsTrue, IfOk, IfSome};
 ghost use Rattle.sqlite_wal.specs.Files.{outcomes, seen_image};
 ghost use Rattle.sqlite_wal.specs.Reads.{AreClean};
 ghost use Rattle.page_rows.specs.Files.{page_size};
 ghost use Rattle.plain_tables.specs.Tables.{Tables};
+ghost use Rattle.profile_records.specs.declared.kinds.Kind.{Kind as RunKind};
+ghost use Rattle.run_stores.specs.Lookups.{IsKindOf};
+ghost use Rattle.run_lists.specs.Listed.{AreListed};
+ghost use Rattle.run_lists.specs.RowSums.{calls_of_run, cells_of_run, stacks_of_run};
 ghost use Rattle.run_order.specs.Order.{AreInOrder};
 ghost use Rattle.page_runs.specs.States.{HoldsIn, IsFaithful, LastsIn, ReadsAs, Represents};
 
@@ -67,6 +71,41 @@ impl<D: Disk + Drop> PageRuns<D> {
 }
 
 impl<D: Disk> PageRuns<D> {
+    /// Where the cells of a run are, and what they have to sum to.
+    fn cells_of(&self, run: u32) -> Result<RunTable, StoreError>
+        ensures { (t : Tables) → AreListed t self.now.lists → IfOk result (λ table. table ≡ record { root = self.now.roots.cells; run = run; sum = cells_of_run run t }) }
+    {
+        Ok(RunTable {
+            root: self.roots.cells,
+            run,
+            sum: self.lists.cells_sum_of(run)?,
+        })
+    }
+
+    /// Where the calls of a run are, and what their parts have to sum to.
+    fn calls_of(&self, run: u32) -> Result<RunTable, StoreError>
+        ensures { (t : Tables) → AreListed t self.now.lists → IfOk result (λ table. table ≡ record { root = self.now.roots.calls; run = run; sum = calls_of_run run t }) }
+    {
+        Ok(RunTable {
+            root: self.roots.calls,
+            run,
+            sum: self.lists.calls_sum_of(run)?,
+        })
+    }
+
+    /// Where the stacks of a run are, and what their counts have to sum to.
+    fn stacks_of(&self, run: u32) -> Result<RunTable, StoreError>
+        ensures { (t : Tables) → AreListed t self.now.lists → IfOk result (λ table. (kind : RunKind) × IsKindOf run t kind
+            × (table ≡ record { root = self.now.roots.stacks; run = run; sum = stacks_of_run kind run t })) }
+    {
+        let sum = self.lists.stacks_sum_of(run)?;
+        Ok(RunTable {
+            root: self.roots.stacks,
+            run,
+            sum,
+        })
+    }
+
     /// Hands the opened file back.
     pub fn into_file(self) -> OpenedFile<D>
         ensures { result ≡ self.file }
@@ -201,11 +240,7 @@ impl<D: Disk> RunStore for PageRuns<D> {
         events: usize,
         sink: T,
     ) -> Result<T, StoreError> {
-        let table = RunTable {
-            root: self.roots.cells,
-            run,
-            sum: self.lists.cells_sum_of(run)?,
-        };
+        let table = self.cells_of(run)?;
         each_cell(&mut self.file, self.alloc, table, names, events, sink)
     }
 
@@ -217,20 +252,12 @@ impl<D: Disk> RunStore for PageRuns<D> {
         events: usize,
         sink: T,
     ) -> Result<T, StoreError> {
-        let table = RunTable {
-            root: self.roots.calls,
-            run,
-            sum: self.lists.calls_sum_of(run)?,
-        };
+        let table = self.calls_of(run)?;
         each_call(&mut self.file, alloc, table, names, events, sink)
     }
 
     fn each_stack<T: StackRowSink + Drop>(&mut self, run: u32, sink: T) -> Result<T, StoreError> {
-        let table = RunTable {
-            root: self.roots.stacks,
-            run,
-            sum: self.lists.stacks_sum_of(run)?,
-        };
+        let table = self.stacks_of(run)?;
         each_stack(&mut self.file, self.alloc, table, sink)
     }
 
