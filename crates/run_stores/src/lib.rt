@@ -3,6 +3,8 @@
 
 // The entries of lists (specs/Entries.antt).
 mod entries;
+// The names that a store holds, by number.
+mod names;
 // What a store is, for contracts alone (specs/Calls.antt).
 mod states;
 // The calls of a store.
@@ -13,6 +15,7 @@ mod summed;
 mod sinks;
 
 pub use entries::{GroupEntry, RunEntry};
+pub use names::NameTable;
 pub use plain_tables::{StoreError, is_group_name, is_label};
 pub use profile_records::Kind;
 pub use sinks::{CallSink, CellSink, StackRowSink};

@@ -4,10 +4,9 @@ use cg_text::ListVec;
 use cost_rows::{CallEdge, Cell, StackCount};
 use plain_tables::StoreError;
 
-/// Takes the cells of runs.
+/// Takes the cells of runs, each with the numbers of its names.
 pub trait CellSink {
-    ghost use Rattle.std.specs.Prelude.{◌≡◌, List, ℕ, OnOk};
-    ghost use Rattle.cost_rows.specs.Plain.{plain_cell};
+    ghost use Rattle.std.specs.Prelude.{◌≡◌, ℕ, OnOk};
     ghost use Rattle.cost_rows.specs.declared.rows.Cell.{Cell};
 
     /// What it can mean.
@@ -17,18 +16,17 @@ pub trait CellSink {
     ghost meaning: { Self → Meaning };
 
     /// What a cell makes of a meaning.
-    ghost step: { Meaning → Cell (List ℕ) → Meaning };
+    ghost step: { Meaning → Cell ℕ → Meaning };
 
     /// Takes a cell. An error, out of memory or a sum that would pass its bound, ends the walk.
-    fn take(&mut self, row: &Cell<&[u8]>) -> Result<(), StoreError>
-        ensures { OnOk result (meaning self.new ≡ step (meaning self.old) (plain_cell row.now)) };
+    fn take(&mut self, row: &Cell<u32>) -> Result<(), StoreError>
+        ensures { OnOk result (meaning self.new ≡ step (meaning self.old) row.now) };
 }
 
-/// Takes the calls of runs.
+/// Takes the calls of runs, each row with the numbers of its names.
 pub trait CallSink {
     ghost use Rattle.std.specs.Prelude.{◌≡◌, List, ℕ, OnOk};
     ghost use Rattle.cost_rows.specs.declared.rows.CallEdge.{CallEdge};
-    ghost use Rattle.run_stores.specs.Walks.{plain_given};
 
     /// What it can mean.
     ghost Meaning: { Type 0 };
@@ -37,11 +35,11 @@ pub trait CallSink {
     ghost meaning: { Self → Meaning };
 
     /// What a row of calls makes of a meaning.
-    ghost step: { Meaning → CallEdge (List ℕ) (List ℕ) → Meaning };
+    ghost step: { Meaning → CallEdge ℕ (List ℕ) → Meaning };
 
     /// Takes a row of calls. An error ends the walk.
-    fn take(&mut self, row: &CallEdge<&[u8], ListVec<u128>>) -> Result<(), StoreError>
-        ensures { OnOk result (meaning self.new ≡ step (meaning self.old) (plain_given row.now)) };
+    fn take(&mut self, row: CallEdge<u32, ListVec<u128>>) -> Result<(), StoreError>
+        ensures { OnOk result (meaning self.new ≡ step (meaning self.old) row) };
 }
 
 /// Takes the stacks of runs.

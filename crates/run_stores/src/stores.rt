@@ -17,6 +17,7 @@ ghost use Rattle.run_stores.specs.Runs.{with_summed};
 ghost use Rattle.run_stores.specs.Walks.{CallsFoldTo, CellsFoldTo};
 
 use crate::entries::{GroupEntry, RunEntry};
+use crate::names::NameTable;
 use crate::sinks::{CallSink, CellSink, StackRowSink};
 use crate::states::StoreState;
 use crate::summed::SummedFile;
@@ -30,14 +31,10 @@ use std::alloc::Global;
 /// A store of runs. `Memory` where a growth is refused, and `Store` where what keeps the store fails or holds
 /// what is out of form: each call may answer them.
 pub trait RunStore: StoreState {
-    ghost use Rattle.std.specs.Prelude.{List};
-    ghost use Rattle.plain_tables.specs.Tables.{Tables, NameRow};
+    ghost use Rattle.plain_tables.specs.Tables.{Tables};
 
-    /// The names that are held, read once for any number of walks.
-    type Names: Drop;
-
-    /// The names as rows.
-    ghost name_rows: { Self.Names → List NameRow };
+    /// The names that are held.
+    type Names: NameTable + Drop;
 
     // ---- what is held
 
@@ -127,23 +124,21 @@ pub trait RunStore: StoreState {
         ensures told { Told Self.StoreState result self.old self.new (λ t. IsHeadIn run t) }
         ensures asks { Asks Self.StoreState (is_ok result) self.old self.new };
 
-    /// The names that are held: read once, for any number of walks.
+    /// The names that are held, for any number of rows and sums.
     fn names_of(&mut self, alloc: Global) -> Result<Self::Names, StoreError>
-        ensures told { Told Self.StoreState result self.old self.new (λ t names. name_rows names ≡ t.names) }
+        ensures told { Told Self.StoreState result self.old self.new (λ t names. Self.Names.name_rows names ≡ t.names) }
         ensures asks { Asks Self.StoreState (is_ok result) self.old self.new };
 
-    /// Hands on the cells of a run, with so many events and these names: those of this store. What took
-    /// them all is handed back. `Store` also for a name that is not held and for a cell of none of the
-    /// events; and the errors of the taker.
+    /// Hands on the cells of a run, with so many events and the numbers of names. What took them all is
+    /// handed back. `Store` also for a cell of none of the events; and the errors of the taker.
     fn each_cell<T: CellSink + Drop>(
         &mut self,
         run: u32,
-        names: &Self::Names,
         events: usize,
         sink: T,
     ) -> Result<T, StoreError>
         ensures told { Told Self.StoreState result self.old self.new (λ t taken.
-            CellsFoldTo (name_rows names.now) events T.step (T.meaning sink) (T.meaning taken) (cells_in run t)) }
+            CellsFoldTo events T.step (T.meaning sink) (T.meaning taken) (cells_in run t)) }
         ensures asks { AsksIfOpen Self.StoreState (is_ok result) self.old self.new };
 
     /// Hands on the calls of a run, row by row, as `each_cell` its cells. `Store` also where the parts of
@@ -152,12 +147,11 @@ pub trait RunStore: StoreState {
         &mut self,
         alloc: Global,
         run: u32,
-        names: &Self::Names,
         events: usize,
         sink: T,
     ) -> Result<T, StoreError>
         ensures told { Told Self.StoreState result self.old self.new (λ t taken.
-            CallsFoldTo (name_rows names.now) events T.step (T.meaning sink) (T.meaning taken) (calls_in run t)) }
+            CallsFoldTo events T.step (T.meaning sink) (T.meaning taken) (calls_in run t)) }
         ensures asks { AsksIfOpen Self.StoreState (is_ok result) self.old self.new };
 
     /// Hands on the stacks of a run, as `each_cell` its cells.

@@ -1,0 +1,2 @@
+//! Named rows.
+#![tactic(auto)]

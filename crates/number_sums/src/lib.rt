@@ -1,0 +1,2 @@
+//! Sums by number.
+#![tactic(auto)]
