@@ -1,0 +1,2 @@
+pub mod NamedLemmas
+pub mod Walks

@@ -1,2 +1,13 @@
-//! Named rows.
+//! The rows of a run with names in place: what a store hands on by the numbers of names, each name looked up.
 #![tactic(auto)]
+
+// The calls of a run, with names in place (specs/Named.antt).
+mod calls;
+// The cells of a run, with names in place (specs/Named.antt).
+mod cells;
+// What takes rows with names.
+mod sinks;
+
+pub use calls::each_named_call;
+pub use cells::each_named_cell;
+pub use sinks::{NamedCallSink, NamedCellSink};
