@@ -1,2 +1,16 @@
-//! Sums by number.
+//! What rows of runs cost, added up by the numbers of their names: a few integers to compare, no bytes. The
+//! names are looked up once for each sum.
 #![tactic(auto)]
+
+// Laws: named at the end, the sums are those of the rows that were named first.
+mod laws;
+// The sums with their names.
+mod naming;
+// The part of a place that a key tells, by number.
+mod parts;
+// The sums (specs/Sums.antt).
+mod sums;
+
+pub use laws::named_sums_are_those_of_the_rows;
+pub use parts::NumberPart;
+pub use sums::NumberSums;

@@ -30,8 +30,8 @@ pub fn cost_within(before: u128, times: u64, cost: u128) -> Option<u128>
     if total < TOO_MUCH { Some(cost) } else { None }
 }
 
-/// How often a column counts.
-fn times_of(counts: &[u64], column: usize) -> u64
+/// How often a column counts: past the last one it does not.
+pub fn times_of(counts: &[u64], column: usize) -> u64
     ensures { result ≡ slice_index counts.now column }
 {
     counts.get(column).copied().unwrap_or(0)

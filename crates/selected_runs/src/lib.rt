@@ -15,7 +15,7 @@ mod runs_asked;
 mod selecting;
 
 pub use adding::{RunFold, fold_runs};
-pub use bounds::{cost_within, is_within, weighted_within};
+pub use bounds::{cost_within, is_within, times_of, weighted_within};
 pub use counting::{Counted, count_runs};
 pub use laws::{runs_cost_what_files_cost, selections_are_told};
 pub use runs_asked::{EventRuns, event_runs, have_event};

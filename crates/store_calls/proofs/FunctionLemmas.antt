@@ -23,7 +23,7 @@ use Rattle.prof_books.specs.Book.{cells_held, stacks_held}
 use Rattle.plain_tables.specs.Tables.{Tables}
 use Rattle.profile_records.specs.Records.{Record, Own, Called}
 use Rattle.profile_records.specs.Stacks.{Seen}
-use Rattle.run_stores.specs.Walks.{AreCallsOf}
+use Rattle.named_rows.specs.Named.{AreCallsOf}
 use Rattle.histories.specs.Files.{records_of, stacks_of}
 use Rattle.histories.specs.History.{History, File, held}
 use Rattle.histories.specs.Legal.{expected_of_query, first_or, no_name, when}

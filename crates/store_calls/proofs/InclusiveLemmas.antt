@@ -23,7 +23,7 @@ use Rattle.plain_tables.specs.Tables.{Tables}
 use Rattle.profile_records.specs.Stacks.{Seen}
 use Rattle.profile_records.specs.declared.kinds.Kind.{Kind}
 use Rattle.profile_records.specs.declared.kinds.Kind.TheVariants.{Callgrind, Folded}
-use Rattle.run_stores.specs.Walks.{AreCallsOf}
+use Rattle.named_rows.specs.Named.{AreCallsOf}
 use Rattle.run_stores.specs.Lookups.{IsKindOf}
 use Rattle.histories.specs.Formats as formats
 use Rattle.histories.specs.Formats.{Format, kind_in}

@@ -12,7 +12,7 @@ use Rattle.report_texts.specs.Inclusive.{is_frame}
 use Rattle.report_texts.specs.declared.call_sides.CallSide.{CallSide}
 use Rattle.prof_books.specs.Book.{cells_held, stacks_held}
 use Rattle.plain_tables.specs.Tables.{Tables}
-use Rattle.run_stores.specs.Walks.{AreCallsOf}
+use Rattle.named_rows.specs.Named.{AreCallsOf}
 use Rattle.histories.specs.declared.answers.Answer.{Answer}
 use Rattle.histories.specs.declared.answers.Selection.{Selection}
 use Rattle.store_histories.specs.FromTables.{AnswersBy, text_or_no_name}

@@ -11,7 +11,7 @@ use Rattle.prof_books.specs.Book.{cells_held, stacks_held}
 use Rattle.plain_tables.specs.Tables.{Tables}
 use Rattle.profile_records.specs.declared.kinds.Kind.{Kind}
 use Rattle.profile_records.specs.declared.kinds.Kind.TheVariants.{Callgrind, Folded}
-use Rattle.run_stores.specs.Walks.{AreCallsOf}
+use Rattle.named_rows.specs.Named.{AreCallsOf}
 use Rattle.run_stores.specs.Lookups.{IsKindOf}
 use Rattle.histories.specs.declared.answers.Answer.{Answer}
 use Rattle.histories.specs.declared.answers.Selection.{Selection}

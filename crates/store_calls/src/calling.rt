@@ -14,6 +14,7 @@ use crate::known_names::is_in_runs;
 use cg_text::ListVec;
 use cost_reports::{CallSide, CallSums, calls};
 use histories::{Answer, Refusal, Selection};
+use named_rows::each_named_call;
 use run_stores::{RunStore, StoreError};
 use selected_runs::{Counted, RunFold, event_runs, fold_runs};
 use std::alloc::{AllocError, Global};
@@ -33,7 +34,7 @@ impl<'n, S: RunStore> RunFold<S> for CallsOfRuns<'n, S::Names> {
 
     type Sums = FunctionCalls<'n>;
 
-    ghost Step = { λ s t run old new. S.name_rows s.names.now ≡ t.names → IsTakenFrom t run (taken_of old) (taken_of new) };
+    ghost Step = { λ s t run old new. S.Names.name_rows s.names.now ≡ t.names → IsTakenFrom t run (taken_of old) (taken_of new) };
 
     fn add(
         &self,
@@ -43,7 +44,7 @@ impl<'n, S: RunStore> RunFold<S> for CallsOfRuns<'n, S::Names> {
     ) -> Result<FunctionCalls<'n>, StoreError> {
         let counts = run.event_counts();
         let rows = CallRows { counts, calls };
-        let all = store.each_call(self.alloc, run.number, self.names, run.events, rows)?;
+        let all = each_named_call(store, self.alloc, run.number, self.names, run.events, rows)?;
         let CallRows { counts: _, calls } = all;
         Ok(calls)
     }
@@ -75,7 +76,7 @@ fn is_known<S: RunStore>(
     object: &[u8],
     name: &[u8],
 ) -> Result<bool, StoreError>
-    ensures told { Told S.StoreState result store.old store.new (λ t known. S.name_rows names.now ≡ t.names
+    ensures told { Told S.StoreState result store.old store.new (λ t known. S.Names.name_rows names.now ≡ t.names
         → known ≡ is_called || list_any (is_in_rows t (function_spot object.now name.now)) runs.now) }
     ensures asks { AsksIfOpen S.StoreState (is_ok result) store.old store.new }
 {
@@ -102,7 +103,7 @@ fn text_if_known<S: RunStore>(
     calls: &FunctionCalls<'_>,
     event: &[u8],
 ) -> Result<Option<ListVec<u8>>, StoreError>
-    ensures told { Told S.StoreState result store.old store.new (λ t text. S.name_rows names.now ≡ t.names → text ≡ text_taken t runs.now event.now (taken_of calls.now)) }
+    ensures told { Told S.StoreState result store.old store.new (λ t text. S.Names.name_rows names.now ≡ t.names → text ≡ text_taken t runs.now event.now (taken_of calls.now)) }
     ensures asks { AsksIfOpen S.StoreState (is_ok result) store.old store.new }
 {
     if !is_known(store, names, runs, calls.known, calls.object, calls.name)? {

@@ -8,7 +8,8 @@ use crate::weights::{weighed_within, with_cost};
 use cg_text::ListVec;
 use cost_reports::CallSums;
 use cost_rows::CallEdge;
-use run_stores::{CallSink, StoreError};
+use named_rows::NamedCallSink;
+use run_stores::StoreError;
 use selected_runs::is_within;
 
 /// The calls of a function that are asked, and whether any call was from it or to it.
@@ -49,7 +50,7 @@ pub(crate) struct CallRows<'a, 'n> {
     pub calls: FunctionCalls<'n>,
 }
 
-impl CallSink for CallRows<'_, '_> {
+impl NamedCallSink for CallRows<'_, '_> {
     ghost use Rattle.std.specs.Prelude.{List, ℕ};
     ghost use Rattle.store_calls.specs.FunctionCalls.{Taken, taken_of, with_row_of_calls};
 

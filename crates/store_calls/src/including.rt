@@ -15,6 +15,7 @@ use crate::inclusive_sums::InclusiveRows;
 use cg_text::ListVec;
 use cost_reports::{InclusiveSums, inclusive};
 use histories::{Answer, Selection};
+use named_rows::{each_named_call, each_named_cell};
 use profile_records::Kind;
 use run_stores::{RunStore, StoreError};
 use selected_runs::{Counted, RunFold, event_runs, fold_runs};
@@ -29,14 +30,14 @@ fn add_callgrind<S: RunStore>(
     counts: &[u64],
     sums: InclusiveSums,
 ) -> Result<InclusiveSums, StoreError>
-    ensures told { Told S.StoreState result store.old store.new (λ t all. S.name_rows names.now ≡ t.names
+    ensures told { Told S.StoreState result store.old store.new (λ t all. S.Names.name_rows names.now ≡ t.names
         → Adds (AreRowsOfKind Callgrind t run.now.number counts.now) sums all) }
     ensures of_events { Told S.StoreState result store.old store.new (λ t _. AllByRecursion (IsOfAnEvent run.now.events) (cells_in run.now.number t)) }
     ensures asks { AsksIfOpen S.StoreState (is_ok result) store.old store.new }
 {
     let rows = InclusiveRows { counts, sums };
-    let own = store.each_cell(run.number, names, run.events, rows)?;
-    let all = store.each_call(alloc, run.number, names, run.events, own)?;
+    let own = each_named_cell(store, run.number, names, run.events, rows)?;
+    let all = each_named_call(store, alloc, run.number, names, run.events, own)?;
     let InclusiveRows { counts: _, sums } = all;
     Ok(sums)
 }
@@ -66,7 +67,7 @@ fn add_rows<S: RunStore>(
     counts: &[u64],
     sums: InclusiveSums,
 ) -> Result<InclusiveSums, StoreError>
-    ensures told { Told S.StoreState result store.old store.new (λ t all. S.name_rows names.now ≡ t.names → Adds (AreRowsCounted t run.now.number counts.now) sums all) }
+    ensures told { Told S.StoreState result store.old store.new (λ t all. S.Names.name_rows names.now ≡ t.names → Adds (AreRowsCounted t run.now.number counts.now) sums all) }
     ensures asks { AsksIfOpen S.StoreState (is_ok result) store.old store.new }
 {
     match store.kind_of(run.number)? {
@@ -90,7 +91,7 @@ impl<S: RunStore> RunFold<S> for InclusiveOfRuns<'_, S::Names> {
 
     type Sums = InclusiveSums;
 
-    ghost Step = { λ s t run old new. S.name_rows s.names.now ≡ t.names → Adds (AreRowsOf t run) old new };
+    ghost Step = { λ s t run old new. S.Names.name_rows s.names.now ≡ t.names → Adds (AreRowsOf t run) old new };
 
     fn add(
         &self,
@@ -125,7 +126,7 @@ fn text_of_runs<S: RunStore>(
     runs: &[Counted],
     event: &[u8],
 ) -> Result<ListVec<u8>, StoreError>
-    ensures told { Told S.StoreState result store.old store.new (λ t text. S.name_rows names.now ≡ t.names → IsInclusiveText t runs.now event.now text) }
+    ensures told { Told S.StoreState result store.old store.new (λ t text. S.Names.name_rows names.now ≡ t.names → IsInclusiveText t runs.now event.now text) }
     ensures asks { AsksIfOpen S.StoreState (is_ok result) store.old store.new }
 {
     let adder = InclusiveOfRuns { alloc, names };

@@ -3,7 +3,8 @@ use crate::weights::{most_of, weighed_within, with_cost};
 use cg_text::ListVec;
 use cost_reports::InclusiveSums;
 use cost_rows::{CallEdge, Cell, StackCount};
-use run_stores::{CallSink, CellSink, StackRowSink, StoreError};
+use named_rows::{NamedCallSink, NamedCellSink};
+use run_stores::{StackRowSink, StoreError};
 use selected_runs::{is_within, weighted_within};
 
 /// Inclusive costs, and how often each column of the run that is read counts in the event.
@@ -13,7 +14,7 @@ pub(crate) struct InclusiveRows<'a> {
     pub sums: InclusiveSums,
 }
 
-impl CellSink for InclusiveRows<'_> {
+impl NamedCellSink for InclusiveRows<'_> {
     ghost use Rattle.std.specs.Prelude.{List, ℕ};
     ghost use Rattle.report_texts.specs.Inclusive.{InclusiveCosts};
     ghost use Rattle.store_calls.specs.InclusiveRuns.{with_self_row};
@@ -36,7 +37,7 @@ impl CellSink for InclusiveRows<'_> {
     }
 }
 
-impl CallSink for InclusiveRows<'_> {
+impl NamedCallSink for InclusiveRows<'_> {
     ghost use Rattle.std.specs.Prelude.{List, ℕ};
     ghost use Rattle.report_texts.specs.Inclusive.{InclusiveCosts};
     ghost use Rattle.store_calls.specs.InclusiveRuns.{with_call_row};

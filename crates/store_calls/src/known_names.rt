@@ -10,7 +10,8 @@ ghost use Rattle.store_calls.specs.FunctionCalls.{is_in_rows};
 
 use cost_reports::is_frame;
 use cost_rows::{Cell, StackCount};
-use run_stores::{CellSink, RunStore, StackRowSink, StoreError};
+use named_rows::{NamedCellSink, each_named_cell};
+use run_stores::{RunStore, StackRowSink, StoreError};
 use selected_runs::{Counted, RunFold, fold_runs};
 
 /// A function, and whether it was found.
@@ -21,7 +22,7 @@ struct Sought<'a> {
     found: bool,
 }
 
-impl CellSink for Sought<'_> {
+impl NamedCellSink for Sought<'_> {
     ghost use Rattle.std.specs.Prelude.{Bool};
     ghost use Rattle.cost_rows.specs.Sums.{Spot};
     ghost use Rattle.report_texts.specs.Functions.{function_spot};
@@ -65,7 +66,7 @@ fn is_in_run<S: RunStore>(
     object: &[u8],
     name: &[u8],
 ) -> Result<bool, StoreError>
-    ensures told { Told S.StoreState result store.old store.new (λ t found. S.name_rows names.now ≡ t.names → found ≡ is_in_rows t (function_spot object.now name.now) run.now) }
+    ensures told { Told S.StoreState result store.old store.new (λ t found. S.Names.name_rows names.now ≡ t.names → found ≡ is_in_rows t (function_spot object.now name.now) run.now) }
     ensures of_events { Told S.StoreState result store.old store.new (λ t _. AllByRecursion (IsOfAnEvent run.now.events) (cells_in run.now.number t)) }
     ensures asks { AsksIfOpen S.StoreState (is_ok result) store.old store.new }
 {
@@ -74,7 +75,7 @@ fn is_in_run<S: RunStore>(
         name,
         found: false,
     };
-    let cells = store.each_cell(run.number, names, run.events, sought)?;
+    let cells = each_named_cell(store, run.number, names, run.events, sought)?;
     let all = store.each_stack(run.number, cells)?;
     Ok(all.found)
 }
@@ -96,7 +97,7 @@ impl<S: RunStore> RunFold<S> for SeeksFunction<'_, S::Names> {
 
     type Sums = bool;
 
-    ghost Step = { λ s t run old new. S.name_rows s.names.now ≡ t.names → new ≡ old || is_in_rows t (function_spot s.object.now s.name.now) run };
+    ghost Step = { λ s t run old new. S.Names.name_rows s.names.now ≡ t.names → new ≡ old || is_in_rows t (function_spot s.object.now s.name.now) run };
 
     fn add(&self, store: &mut S, run: &Counted, found: bool) -> Result<bool, StoreError> {
         if found {
@@ -114,7 +115,7 @@ pub(crate) fn is_in_runs<S: RunStore>(
     object: &[u8],
     name: &[u8],
 ) -> Result<bool, StoreError>
-    ensures told { Told S.StoreState result store.old store.new (λ t found. S.name_rows names.now ≡ t.names
+    ensures told { Told S.StoreState result store.old store.new (λ t found. S.Names.name_rows names.now ≡ t.names
         → found ≡ list_any (is_in_rows t (function_spot object.now name.now)) runs.now) }
     ensures asks { AsksIfOpen S.StoreState (is_ok result) store.old store.new }
 {

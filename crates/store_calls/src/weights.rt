@@ -2,7 +2,7 @@
 ghost use Rattle.std.specs.Prelude.{◌≡◌, ◌+◌, ◌*◌, ◌<◌, ◌^◌, IfSome, slice_index};
 ghost use Rattle.cg_formulas.specs.Formulas.{weighed};
 ghost use Rattle.report_texts.specs.Calls.{calls_of_row};
-ghost use Rattle.run_stores.specs.Walks.{plain_given};
+ghost use Rattle.named_rows.specs.Named.{plain_given};
 ghost use Rattle.store_calls.specs.FunctionCalls.{calls_costing};
 
 use cg_text::ListVec;

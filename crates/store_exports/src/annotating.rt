@@ -13,6 +13,7 @@ use crate::sinks::LineRows;
 use cg_text::ListVec;
 use cost_exports::{LineSums, annotate};
 use histories::{Answer, Refusal, Selection};
+use named_rows::each_named_cell;
 use run_stores::{RunStore, StoreError};
 use selected_runs::{Counted, RunFold, event_runs, fold_runs};
 use std::alloc::Global;
@@ -24,7 +25,7 @@ fn add_run<S: RunStore>(
     run: &Counted,
     sums: LineSums,
 ) -> Result<LineSums, StoreError>
-    ensures told { Told S.StoreState result store.old store.new (λ t all. S.name_rows names.now ≡ t.names → all ≡ lines_from t sums run.now) }
+    ensures told { Told S.StoreState result store.old store.new (λ t all. S.Names.name_rows names.now ≡ t.names → all ≡ lines_from t sums run.now) }
     ensures of_events { Told S.StoreState result store.old store.new (λ t _. AllByRecursion (IsOfAnEvent run.now.events) (cells_in run.now.number t)) }
     ensures asks { AsksIfOpen S.StoreState (is_ok result) store.old store.new }
 {
@@ -32,7 +33,7 @@ fn add_run<S: RunStore>(
         counts: run.event_counts(),
         sums,
     };
-    let all = store.each_cell(run.number, names, run.events, rows)?;
+    let all = each_named_cell(store, run.number, names, run.events, rows)?;
     let LineRows { counts: _, sums } = all;
     Ok(sums)
 }
@@ -51,7 +52,7 @@ impl<S: RunStore> RunFold<S> for LinesOfRuns<'_, S::Names> {
 
     type Sums = LineSums;
 
-    ghost Step = { λ s t run old new. S.name_rows s.names.now ≡ t.names → new ≡ lines_from t old run };
+    ghost Step = { λ s t run old new. S.Names.name_rows s.names.now ≡ t.names → new ≡ lines_from t old run };
 
     fn add(&self, store: &mut S, run: &Counted, sums: LineSums) -> Result<LineSums, StoreError> {
         add_run(store, self.names, run, sums)

@@ -14,6 +14,7 @@ ghost use Rattle.store_exports.specs.CsvRuns.{AddsRun, AreSums, IsCsv, csv_asked
 use crate::sinks::NamedRows;
 use cost_exports::{CellSums, csv_text};
 use histories::{Answer, Refusal, Selection};
+use named_rows::each_named_cell;
 use run_stores::{RunStore, StoreError};
 use selected_runs::{RunFold, fold_runs, select_runs};
 use std::alloc::Global;
@@ -26,7 +27,7 @@ fn add_run<S: RunStore>(
     number: u32,
     sums: CellSums,
 ) -> Result<CellSums, StoreError>
-    ensures told { Told S.StoreState result store.old store.new (λ t all. S.name_rows names.now ≡ t.names → AddsRun t number sums all) }
+    ensures told { Told S.StoreState result store.old store.new (λ t all. S.Names.name_rows names.now ≡ t.names → AddsRun t number sums all) }
     ensures of_events { Told S.StoreState result store.old store.new (λ t _. (head : FileHead) × IsHeadIn number t head
         × AllByRecursion (IsOfAnEvent (length head.events)) (cells_in number t)) }
     ensures asks { AsksIfOpen S.StoreState (is_ok result) store.old store.new }
@@ -34,7 +35,7 @@ fn add_run<S: RunStore>(
     let head = store.head_of(alloc, number)?;
     let events = head.events.as_slice();
     let rows = NamedRows { events, sums };
-    let all = store.each_cell(number, names, events.len(), rows)?;
+    let all = each_named_cell(store, number, names, events.len(), rows)?;
     let NamedRows { events: _, sums } = all;
     Ok(sums)
 }
@@ -54,7 +55,7 @@ impl<S: RunStore> RunFold<S> for CellsOfRuns<'_, S::Names> {
 
     type Sums = CellSums;
 
-    ghost Step = { λ s t number old new. S.name_rows s.names.now ≡ t.names → AddsRun t number old new };
+    ghost Step = { λ s t number old new. S.Names.name_rows s.names.now ≡ t.names → AddsRun t number old new };
 
     fn add(&self, store: &mut S, number: &u32, sums: CellSums) -> Result<CellSums, StoreError> {
         add_run(store, self.alloc, self.names, *number, sums)

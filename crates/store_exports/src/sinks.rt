@@ -3,7 +3,8 @@
 use cg_text::ListVec;
 use cost_exports::{CellSums, LineSums, StackSums};
 use cost_rows::{Cell, StackCount};
-use run_stores::{CellSink, StackRowSink, StoreError};
+use named_rows::NamedCellSink;
+use run_stores::{StackRowSink, StoreError};
 use selected_runs::{is_within, weighted_within};
 
 /// What the lines of a file cost, and how often each column of the run that is read counts in the event.
@@ -13,7 +14,7 @@ pub(crate) struct LineRows<'a> {
     pub sums: LineSums,
 }
 
-impl CellSink for LineRows<'_> {
+impl NamedCellSink for LineRows<'_> {
     ghost use Rattle.std.specs.Prelude.{List, ℕ};
     ghost use Rattle.report_texts.specs.Annotations.{FileCosts, with_line};
     ghost use Rattle.report_texts.specs.Costs.{weighted};
@@ -40,7 +41,7 @@ pub(crate) struct NamedRows<'a> {
     pub sums: CellSums,
 }
 
-impl CellSink for NamedRows<'_> {
+impl NamedCellSink for NamedRows<'_> {
     ghost use Rattle.std.specs.Prelude.{List, ℕ};
     ghost use Rattle.report_texts.specs.Csv.{EventSpot, with_cell_in};
 

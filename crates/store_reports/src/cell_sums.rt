@@ -25,7 +25,7 @@ impl CellSink for ByColumn {
 
     ghost step = { λ sums cell. with_cost sums cell.event cell.cost };
 
-    fn take(&mut self, row: &Cell<&[u8]>) -> Result<(), StoreError> {
+    fn take(&mut self, row: &Cell<u32>) -> Result<(), StoreError> {
         let at = row.event;
         if at >= self.sums.len() {
             return Err(StoreError::Store);
@@ -43,7 +43,6 @@ impl CellSink for ByColumn {
 pub(crate) fn check_cells<S: RunStore>(
     store: &mut S,
     alloc: Global,
-    names: &S::Names,
     number: u32,
     sums: &[u128],
 ) -> Result<(), StoreError>
@@ -53,7 +52,7 @@ pub(crate) fn check_cells<S: RunStore>(
     let none = ByColumn {
         sums: vec![in alloc; 0; sums.len()]?,
     };
-    let found = store.each_cell(number, names, sums.len(), none)?;
+    let found = store.each_cell(number, sums.len(), none)?;
     if found.sums.as_slice() != sums {
         return Err(StoreError::Store);
     }

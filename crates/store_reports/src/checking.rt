@@ -35,7 +35,6 @@ fn push_lines(
 fn push_sums<S: RunStore>(
     store: &mut S,
     alloc: Global,
-    names: &S::Names,
     number: u32,
     head: &FileHead,
     text: &mut Vec<u8>,
@@ -44,7 +43,7 @@ fn push_sums<S: RunStore>(
     ensures asks { AsksIfOpen S.StoreState (is_ok result) store.old store.new }
 {
     let sums = store.sums_of(alloc, number)?;
-    check_cells(store, alloc, names, number, sums.as_slice())?;
+    check_cells(store, alloc, number, sums.as_slice())?;
     push_lines(text, alloc, number, head, sums.as_slice())?;
     Ok(())
 }
@@ -53,7 +52,6 @@ fn push_sums<S: RunStore>(
 fn check_run<S: RunStore>(
     store: &mut S,
     alloc: Global,
-    names: &S::Names,
     number: u32,
     text: &mut Vec<u8>,
 ) -> Result<(), StoreError>
@@ -61,17 +59,16 @@ fn check_run<S: RunStore>(
     ensures asks { AsksIfOpen S.StoreState (is_ok result) store.old store.new }
 {
     let head = store.head_of(alloc, number)?;
-    push_sums(store, alloc, names, number, &head, text)
+    push_sums(store, alloc, number, &head, text)
 }
 
-/// Adds the lines of runs to a text, by the names that are held.
+/// Adds the lines of runs to a text.
 #[derive(Drop)]
-struct ChecksOfRuns<'n, N> {
+struct ChecksOfRuns {
     alloc: Global,
-    names: &'n N,
 }
 
-impl<S: RunStore> RunFold<S> for ChecksOfRuns<'_, S::Names> {
+impl<S: RunStore> RunFold<S> for ChecksOfRuns {
     ghost use Rattle.store_reports.specs.Checked.{IsChecked};
 
     type Run = u32;
@@ -82,7 +79,7 @@ impl<S: RunStore> RunFold<S> for ChecksOfRuns<'_, S::Names> {
 
     fn add(&self, store: &mut S, number: &u32, text: Vec<u8>) -> Result<Vec<u8>, StoreError> {
         let mut text = text;
-        check_run(store, self.alloc, self.names, *number, &mut text)?;
+        check_run(store, self.alloc, *number, &mut text)?;
         Ok(text)
     }
 }
@@ -96,11 +93,7 @@ fn check_runs<S: RunStore>(
     ensures told { Told S.StoreState result store.old store.new (λ t text. AreChecked t numbers.now text) }
     ensures asks { AsksIfOpen S.StoreState (is_ok result) store.old store.new }
 {
-    let names = store.names_of(alloc)?;
-    let checks = ChecksOfRuns {
-        alloc,
-        names: &names,
-    };
+    let checks = ChecksOfRuns { alloc };
     let text = fold_runs(store, &checks, numbers, Vec::new(alloc))?;
     Ok(ListVec::from_vec(text))
 }

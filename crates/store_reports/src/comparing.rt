@@ -72,7 +72,7 @@ fn text_less_runs<S: RunStore>(
     seconds: &[Counted],
     event: &[u8],
 ) -> Result<ListVec<u8>, StoreError>
-    ensures told { Told S.StoreState result store.old store.new (λ t text. S.name_rows names.now ≡ t.names
+    ensures told { Told S.StoreState result store.old store.new (λ t text. S.Names.name_rows names.now ≡ t.names
         → text ≡ difference_text event.now (difference_of first.now.key first.now.sums (costs_over t first.now.key seconds.now))) }
     ensures asks { AsksIfOpen S.StoreState (is_ok result) store.old store.new }
 {

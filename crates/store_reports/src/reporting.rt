@@ -40,7 +40,7 @@ fn text_of_runs<S: RunStore>(
     event: &[u8],
     cut: Cut,
 ) -> Result<ListVec<u8>, StoreError>
-    ensures told { Told S.StoreState result store.old store.new (λ t text. S.name_rows names.now ≡ t.names → text ≡ report_over t runs.now key event.now cut) }
+    ensures told { Told S.StoreState result store.old store.new (λ t text. S.Names.name_rows names.now ≡ t.names → text ≡ report_over t runs.now key event.now cut) }
     ensures asks { AsksIfOpen S.StoreState (is_ok result) store.old store.new }
 {
     let merged = merge_runs(store, alloc, names, runs, key)?;

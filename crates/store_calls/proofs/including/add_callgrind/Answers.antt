@@ -2,7 +2,7 @@ use Rattle.std.proofs.Common.{◌++◌, fold, refl, sym, ap, ◌∙◌}
 use Rattle.std.proofs.lemmas.Grind.{fold-append}
 use Rattle.run_stores.proofs.Calls.{asked_reads_yet}
 use Rattle.report_texts.specs.Inclusive.{with_inclusive}
-use Rattle.run_stores.proofs.Walks.{calls_come, cells_come}
+use Rattle.named_rows.proofs.Walks.{calls_come, cells_come}
 use Rattle.prof_books.specs.Book.{cells_held}
 use Rattle.store_calls.specs.InclusiveRuns.{call_rows, self_rows, with_call_row}
 use Rattle.store_calls.proofs.InclusiveLemmas.{calls_taken, self_taken}

@@ -1,7 +1,7 @@
 use Rattle.std.proofs.Common.{false, fold, ap, ◌∙◌}
 use Rattle.run_stores.proofs.Calls.{asked_reads_yet}
 use Rattle.report_texts.specs.Functions.{function_spot}
-use Rattle.run_stores.proofs.Walks.{cells_come}
+use Rattle.named_rows.proofs.Walks.{cells_come}
 use Rattle.prof_books.specs.Book.{cells_held, stacks_held}
 use Rattle.store_calls.specs.FunctionCalls.{is_in_cells, with_stack_sought}
 use Rattle.store_calls.proofs.FunctionLemmas.{cells_sought, stacks_sought}

@@ -1,7 +1,7 @@
 use Rattle.std.proofs.Common.{map, fold, ap, ◌∙◌}
 use Rattle.report_texts.specs.Annotations.{with_line}
 use Rattle.report_texts.specs.Costs.{weighted}
-use Rattle.run_stores.proofs.Walks.{cells_come}
+use Rattle.named_rows.proofs.Walks.{cells_come}
 use Rattle.prof_books.specs.Book.{cells_held}
 use Rattle.store_exports.proofs.AnnotateLemmas.{lines_taken}
 use Rattle.store_exports.proofs.annotating.add_run.Goals as goal

@@ -1,11 +1,6 @@
-use Rattle.std.proofs.Common.{◌≡◌, [], fold, ap, ◌∙◌}
-use Rattle.selected_runs.proofs.AddedLemmas.{added_fold}
-use Rattle.store_histories.proofs.Questions.{if_ok_so}
-use Rattle.store_reports.specs.Reported.{merged_from}
+use Rattle.store_reports.proofs.MergeLemmas.{both_so, named_merged}
 use Rattle.store_reports.proofs.merging.merge_runs.Goals as goal
 
 pub returns-clause-told : goal.returns-clause-told
 returns-clause-told g c clean t represents =
-    let runs = c.args.runs.now in
-    let none : c.new.result ≡ record { key = c.args.key; sums = [] } = λ k. record { key = c.new.ensures.key k; sums = c.new.ensures.sums k } in
-    if_ok_so c.fold_runs.result (λ sums added named. added_fold (merged_from t) named runs _ sums added ∙ ap (λ start. fold (merged_from t) start runs) none) (c.fold_runs.ensures.told clean t represents)
+    both_so c.named.result c.named.ensures.key c.named.ensures.sums (λ merged key sums held. named_merged t _ c.args.key c.args.runs.now c.in_ok-sums.sums merged held (c.in_ok-sums.ensures.told clean t represents) key sums)

@@ -1,6 +1,6 @@
 use Rattle.std.proofs.Common.{fold, map, ap, ◌∙◌}
 use Rattle.report_texts.specs.Calls.{weighted_calls}
-use Rattle.run_stores.proofs.Walks.{calls_come}
+use Rattle.named_rows.proofs.Walks.{calls_come}
 use Rattle.store_calls.specs.FunctionCalls.{taken_of, with_call}
 use Rattle.store_calls.proofs.FunctionLemmas.{calls_taken}
 use Rattle.store_calls.proofs.calling.CallsOfRunsNamesRunFold.add.Goals as goal
