@@ -4,6 +4,7 @@ ghost use Rattle.plain_tables.specs.RunRows.{calls_in};
 ghost use Rattle.run_stores.specs.Calls.{Told, AsksIfOpen};
 ghost use Rattle.named_rows.specs.Named.{NamedCallsFoldTo};
 
+use crate::held::held_name;
 use crate::sinks::NamedCallSink;
 use cg_text::ListVec;
 use cost_rows::CallEdge;
@@ -28,15 +29,12 @@ impl<N: NameTable, T: NamedCallSink> CallSink for NamedCalls<'_, N, T> {
     ghost step = { with_call T.step };
 
     fn take(&mut self, row: CallEdge<u32, ListVec<u128>>) -> Result<(), StoreError> {
-        let object = self.names.name(row.object).ok_or(StoreError::Store)?;
-        let file = self.names.name(row.file).ok_or(StoreError::Store)?;
-        let function = self.names.name(row.function).ok_or(StoreError::Store)?;
-        let called_object = self.names.name(row.called_object).ok_or(StoreError::Store)?;
-        let called_file = self.names.name(row.called_file).ok_or(StoreError::Store)?;
-        let called_function = self
-            .names
-            .name(row.called_function)
-            .ok_or(StoreError::Store)?;
+        let object = held_name(self.names, row.object)?;
+        let file = held_name(self.names, row.file)?;
+        let function = held_name(self.names, row.function)?;
+        let called_object = held_name(self.names, row.called_object)?;
+        let called_file = held_name(self.names, row.called_file)?;
+        let called_function = held_name(self.names, row.called_function)?;
         self.sink.take(&CallEdge {
             object,
             file,

@@ -4,6 +4,7 @@ ghost use Rattle.plain_tables.specs.RunRows.{cells_in};
 ghost use Rattle.run_stores.specs.Calls.{Told, AsksIfOpen};
 ghost use Rattle.named_rows.specs.Named.{NamedCellsFoldTo};
 
+use crate::held::held_name;
 use crate::sinks::NamedCellSink;
 use cost_rows::Cell;
 use run_stores::{CellSink, NameTable, RunStore, StoreError};
@@ -26,9 +27,9 @@ impl<N: NameTable, T: NamedCellSink> CellSink for NamedCells<'_, N, T> {
     ghost step = { with_cell T.step };
 
     fn take(&mut self, row: &Cell<u32>) -> Result<(), StoreError> {
-        let object = self.names.name(row.object).ok_or(StoreError::Store)?;
-        let file = self.names.name(row.file).ok_or(StoreError::Store)?;
-        let function = self.names.name(row.function).ok_or(StoreError::Store)?;
+        let object = held_name(self.names, row.object)?;
+        let file = held_name(self.names, row.file)?;
+        let function = held_name(self.names, row.function)?;
         self.sink.take(&Cell {
             object,
             file,

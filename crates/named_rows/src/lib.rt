@@ -5,9 +5,12 @@
 mod calls;
 // The cells of a run, with names in place (specs/Named.antt).
 mod cells;
+// Names that have to be held.
+mod held;
 // What takes rows with names.
 mod sinks;
 
 pub use calls::each_named_call;
 pub use cells::each_named_cell;
+pub use held::held_name;
 pub use sinks::{NamedCallSink, NamedCellSink};

@@ -3,26 +3,16 @@ ghost use Rattle.std.specs.Prelude.{◌≡◌, ◌<◌, ◌^◌, [], fold, map, 
 ghost use Rattle.cost_rows.specs.Keys.{part_of, place_of_row};
 ghost use Rattle.cost_rows.specs.KeySums.{sums_by, with_row};
 ghost use Rattle.cost_rows.specs.Plain.{plain_cell};
-ghost use Rattle.prof_books.specs.Book.{name_of};
 ghost use Rattle.run_stores.specs.Names.{named_cell};
 ghost use Rattle.number_sums.specs.Sums.{number_row, number_rows, numbers_total};
 
 use crate::parts::NumberPart;
 use crate::sums::{NumberSums, settle};
 use cost_rows::{Cell, Key, Merged};
+use named_rows::held_name;
 use run_stores::{NameTable, StoreError};
 use std::alloc::Global;
 use std::collections::BTreeMap;
-
-/// The name of a number. `Store` where it is not held.
-fn held_name<N: NameTable>(names: &N, number: u32) -> Result<&[u8], StoreError>
-    ensures { IfOk result (λ name. name.now ≡ name_of (N.name_rows names.now) number) }
-{
-    match names.name(number) {
-        Some(name) => Ok(name),
-        None => Err(StoreError::Store),
-    }
-}
 
 /// A sum as a row of event 0, with the names that a key tells; the others are `???`. `Store` where a name is
 /// not held.
