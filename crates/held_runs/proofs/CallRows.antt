@@ -1,14 +1,12 @@
--- Rows of calls and their lines, with names in place.
+-- Rows of calls and their lines.
 use Rattle.std.proofs.Common.{◌≡◌, ◌≤◌, ℕ, suc, ◌+◌, ◌<◌, nat_lt, if◌then◌else◌, Bool, true, false, List, [], ◌∷◌, ◌++◌, map, length, Some, None, refl, sym, ap, ap₂, subst, ◌∙◌, append-nil, append_assoc, add-zero, arith}
-use Rattle.std.specs.Borrow.{Bor}
-use Rattle.std.specs.List.{AllByRecursion}
 use Rattle.std.proofs.lemmas.Bool.Decides.{nat_tests}
 use Rattle.std.proofs.lemmas.Grind.{flat_map-append, fold-append}
 use Rattle.std.proofs.lemmas.List.{map-append}
+use Rattle.cost_rows.proofs.AboveLemmas.{map-above}
 use Rattle.cost_rows.specs.declared.rows.CallEdge.{CallEdge}
-use Rattle.plain_tables.specs.Tables.{NameRow, CallRow as Call}
-use Rattle.prof_books.specs.Book.{part_held, part_of, parts_from, parts_of, CallIsNamed}
-use Rattle.run_stores.specs.Walks.{CallsFoldTo, plain_given}
+use Rattle.plain_tables.specs.Tables.{CallRow as Call}
+use Rattle.run_stores.specs.Walks.{CallsFoldTo, part_numbers, part_of, parts_of}
 use Rattle.held_runs.specs.HeldCalls.{HasTakenCalls, lines_from, part_line, row_of}
 use Rattle.store_schema.specs.declared.table_rows.CallRow.{CallRow}
 use Rattle.store_schema.specs.Lines.{call_row}
@@ -42,40 +40,19 @@ part_more first costs full part sum cost same at is above =
     let here : 1 + length full ≡ part = omega (arith, at) in
     lines_more first 1 full cost ∙ ap₂ ◌++◌ same (ap₂ (λ n c. if nat_lt 0 c then part_line first n c ∷ [] else []) here is ∙ ap (λ b. if b then part_line first part sum ∷ [] else []) (positive sum above))
 
--- ---- names in place
-
-module _ (names : List NameRow) (first : Call) where
-  parts_named : (all : List ℕ) (part : ℕ) (costs : List ℕ) → map (part_held names) (lines_from first part costs) ≡ parts_from (row_of names first all) part costs
-  parts_named all part [] = refl
-  parts_named all part (c ∷ costs) = go (nat_lt 0 c) (parts_named all (suc part) costs)
-    where
-      go : (b : Bool) → map (part_held names) (lines_from first (suc part) costs) ≡ parts_from (row_of names first all) (suc part) costs
-          → map (part_held names) (if b then part_line first part c ∷ lines_from first (suc part) costs else lines_from first (suc part) costs)
-          ≡ (if b then part_of (row_of names first all) part c ∷ parts_from (row_of names first all) (suc part) costs else parts_from (row_of names first all) (suc part) costs)
-      go true more = ap (λ l. part_of (row_of names first all) part c ∷ l) more
-      go false more = more
-
-  -- the lines of a row show its parts
-  pub row_parts : (costs : List ℕ) → first.part ≡ 0 → map (part_held names) (first ∷ lines_from first 1 costs) ≡ parts_of (row_of names first costs)
-  row_parts costs zero = ap₂ (λ n l. part_of (row_of names first costs) n first.sum ∷ l) zero (parts_named costs 1 costs)
-
-  pub parts_are_named : CallIsNamed names first → (part : ℕ) (costs : List ℕ) → AllByRecursion (CallIsNamed names) (lines_from first part costs)
-  parts_are_named named part [] = tt
-  parts_are_named named part (c ∷ costs) = go (nat_lt 0 c) (parts_are_named named (suc part) costs)
-    where
-      go : (b : Bool) → AllByRecursion (CallIsNamed names) (lines_from first (suc part) costs) → AllByRecursion (CallIsNamed names) (if b then part_line first part c ∷ lines_from first (suc part) costs else lines_from first (suc part) costs)
-      go true more = (named, more)
-      go false more = more
+-- the lines of a row show its parts
+pub row_parts : (first : Call) (costs : List ℕ) → first.part ≡ 0 → map part_numbers (first ∷ lines_from first 1 costs) ≡ parts_of (row_of first costs)
+row_parts first costs zero = ap₂ (λ n l. part_of (row_of first costs) n first.sum ∷ l) zero (map-above part_numbers (part_line first) (part_of (row_of first costs)) (λ k n. refl) 1 costs)
 
 -- ---- lines that are taken
 
-module _ {M : Type 0} (names : List NameRow) (events : ℕ) (step : M → CallEdge (List ℕ) (List ℕ) → M) (start : M) where
-  pub no_line : HasTakenCalls names events step start start None [] []
-  no_line = record { handed = []; came_to = record { rows = []; parts_are = refl; named = tt; long = tt; comes = refl }; waiting = []; are_waiting = (refl, refl); lines_are = refl }
+module _ {M : Type 0} (events : ℕ) (step : M → CallEdge ℕ (List ℕ) → M) (start : M) where
+  pub no_line : HasTakenCalls events step start start None [] []
+  no_line = record { handed = []; came_to = record { rows = []; parts_are = refl; long = tt; comes = refl }; waiting = []; are_waiting = (refl, refl); lines_are = refl }
 
   -- a part of the row that waits
-  pub part_taken : (came : M) (first line : CallRow) (costs more : List ℕ) (lines : List Call) → HasTakenCalls names events step start came (Some first) costs lines → call_row line ≡ part_line (call_row first) line.part line.sum
-      → lines_from (call_row first) 1 more ≡ lines_from (call_row first) 1 costs ++ part_line (call_row first) line.part line.sum ∷ [] → length more ≤ events → HasTakenCalls names events step start came (Some first) more (lines ++ call_row line ∷ [])
+  pub part_taken : (came : M) (first line : CallRow) (costs more : List ℕ) (lines : List Call) → HasTakenCalls events step start came (Some first) costs lines → call_row line ≡ part_line (call_row first) line.part line.sum
+      → lines_from (call_row first) 1 more ≡ lines_from (call_row first) 1 costs ++ part_line (call_row first) line.part line.sum ∷ [] → length more ≤ events → HasTakenCalls events step start came (Some first) more (lines ++ call_row line ∷ [])
   part_taken came first line costs more lines was same grown within = record {
     handed = was.handed;
     came_to = was.came_to;
@@ -89,7 +66,7 @@ module _ {M : Type 0} (names : List NameRow) (events : ℕ) (step : M → CallEd
   }
 
   -- the count of the next row, where none waits
-  pub row_begun : (came : M) (first : CallRow) (costs : List ℕ) (lines : List Call) → HasTakenCalls names events step start came None costs lines → first.part ≡ 0 → HasTakenCalls names events step start came (Some first) costs (lines ++ call_row first ∷ [])
+  pub row_begun : (came : M) (first : CallRow) (costs : List ℕ) (lines : List Call) → HasTakenCalls events step start came None costs lines → first.part ≡ 0 → HasTakenCalls events step start came (Some first) costs (lines ++ call_row first ∷ [])
   row_begun came first costs lines was counts =
       let none : length costs ≤ events = subst (λ (l : List ℕ). length l ≤ events) (sym was.are_waiting.0) (omega arith) in
       record {
@@ -101,22 +78,20 @@ module _ {M : Type 0} (names : List NameRow) (events : ℕ) (step : M → CallEd
       }
 
   -- the row that waits is handed on
-  pub row_handed : (came new : M) (first : CallRow) (costs full : List ℕ) (row : CallEdge (Bor (List ℕ)) (List ℕ)) (lines : List Call) → HasTakenCalls names events step start came (Some first) costs lines
-      → ((part : ℕ) → lines_from (call_row first) part full ≡ lines_from (call_row first) part costs) → (length costs ≤ events → length full ≡ events) → plain_given row ≡ row_of names (call_row first) full → CallIsNamed names (call_row first) → new ≡ step came (plain_given row)
-      → HasTakenCalls names events step start new None [] lines
-  row_handed came new first costs full row lines was same long says named steps =
+  pub row_handed : (came new : M) (first : CallRow) (costs full : List ℕ) (row : CallEdge ℕ (List ℕ)) (lines : List Call) → HasTakenCalls events step start came (Some first) costs lines
+      → ((part : ℕ) → lines_from (call_row first) part full ≡ lines_from (call_row first) part costs) → (length costs ≤ events → length full ≡ events) → row ≡ row_of (call_row first) full → new ≡ step came row
+      → HasTakenCalls events step start new None [] lines
+  row_handed came new first costs full row lines was same long says steps =
       let more = call_row first ∷ lines_from (call_row first) 1 full in
       let is_more : was.waiting ≡ more = was.are_waiting.2 ∙ ap (λ l. call_row first ∷ l) (sym (same 1)) in
-      let r = plain_given row in
       record {
         handed = was.handed ++ more;
         came_to = record {
-          rows = was.came_to.rows ++ r ∷ [];
-          parts_are = map-append (part_held names) was.handed more ∙ ap₂ ◌++◌ was.came_to.parts_are (row_parts names (call_row first) full was.are_waiting.0 ∙ ap parts_of (sym says) ∙ sym (append-nil (parts_of r)))
-              ∙ sym (flat_map-append parts_of was.came_to.rows (r ∷ []));
-          named = all_append _ was.handed more was.came_to.named (named, parts_are_named names (call_row first) named 1 full);
-          long = all_append _ was.came_to.rows (r ∷ []) was.came_to.long (ap (λ (x : CallEdge (List ℕ) (List ℕ)). length x.costs) says ∙ long was.are_waiting.1, tt);
-          comes = steps ∙ ap (λ m. step m r) was.came_to.comes ∙ sym (fold-append step start was.came_to.rows (r ∷ []));
+          rows = was.came_to.rows ++ row ∷ [];
+          parts_are = map-append part_numbers was.handed more ∙ ap₂ ◌++◌ was.came_to.parts_are (row_parts (call_row first) full was.are_waiting.0 ∙ ap parts_of (sym says) ∙ sym (append-nil (parts_of row)))
+              ∙ sym (flat_map-append parts_of was.came_to.rows (row ∷ []));
+          long = all_append _ was.came_to.rows (row ∷ []) was.came_to.long (ap (λ (x : CallEdge ℕ (List ℕ)). length x.costs) says ∙ long was.are_waiting.1, tt);
+          comes = steps ∙ ap (λ m. step m row) was.came_to.comes ∙ sym (fold-append step start was.came_to.rows (row ∷ []));
         };
         waiting = [];
         are_waiting = (refl, refl);
@@ -124,5 +99,5 @@ module _ {M : Type 0} (names : List NameRow) (events : ℕ) (step : M → CallEd
       }
 
   -- none waits: all rows were handed on
-  pub all_handed : (came : M) (costs : List ℕ) (lines : List Call) → HasTakenCalls names events step start came None costs lines → CallsFoldTo names events step start came lines
-  all_handed came costs lines was = subst (CallsFoldTo names events step start came) (sym (was.lines_are ∙ ap (λ l. was.handed ++ l) was.are_waiting.1 ∙ append-nil was.handed)) was.came_to
+  pub all_handed : (came : M) (costs : List ℕ) (lines : List Call) → HasTakenCalls events step start came None costs lines → CallsFoldTo events step start came lines
+  all_handed came costs lines was = subst (CallsFoldTo events step start came) (sym (was.lines_are ∙ ap (λ l. was.handed ++ l) was.are_waiting.1 ∙ append-nil was.handed)) was.came_to

@@ -13,7 +13,7 @@ use Rattle.plain_tables.specs.Tables.{NameRow}
 use Rattle.store_schema.specs.Texts.{names_sql}
 use Rattle.store_schema.proofs.Means.{names_shown, names_order, names_means, names_plain, names_unlisted}
 use Rattle.prof_books.specs.Book.{name_of, IsHeld}
-use Rattle.held_runs.specs.NameRows.{name_row, name_seen, name_shown, has_number}
+use Rattle.held_runs.specs.NameRows.{name_row, name_seen, name_shown}
 use Rattle.held_runs.specs.declared.held_names.HeldName.{HeldName}
 
 -- ---- the query
@@ -75,16 +75,16 @@ found_name (x ∷ names) up (suc at) n name within is =
     let other : eqb x.number n ≡ false = differ x.number n (omega (arith, less, there)) in
     rw (other) (found_name names up.1 at n name (omega (arith, within)) is)
 
-none_above : (names : List HeldName) (low n : ℕ) → n ≤ low → AllByRecursion (λ (x : HeldName). low < x.number) names → has_number (map name_row names) n ≡ false
-none_above [] low n order h = refl
+none_above : (names : List HeldName) (low n : ℕ) → n ≤ low → AllByRecursion (λ (x : HeldName). low < x.number) names → ¬ IsHeld (map name_row names) n
+none_above [] low n order h = λ held. cc
 none_above (x ∷ names) low n order h =
     let other : eqb x.number n ≡ false = differ_above x.number n (omega (arith, order, h.0)) in
     rw (other) (none_above names low n order h.1)
 
 -- between the lines below a number and those above it there is none
 pub no_name : (names : List HeldName) → Rise names → (at n : ℕ) → ((k : ℕ) (d : HeldName) → k < at → k < length names → (get_or names k d).number < n) → ((k : ℕ) (d : HeldName) → at ≤ k → k < length names → n ≤ (get_or names k d).number)
-    → ((d : HeldName) → at < length names → (get_or names at d).number ≢ n) → has_number (map name_row names) n ≡ false
-no_name [] up at n below above missed = refl
+    → ((d : HeldName) → at < length names → (get_or names at d).number ≢ n) → ¬ IsHeld (map name_row names) n
+no_name [] up at n below above missed = λ held. cc
 no_name (x ∷ names) up zero n below above missed =
     let from = above 0 x (omega arith) (omega arith) in
     let not_it = missed x (omega arith) in

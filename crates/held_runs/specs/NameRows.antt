@@ -1,6 +1,5 @@
 -- The names that are held, beside the rows and the lines that they show.
-use Rattle.std.specs.Prelude.{◌≡◌, ◌<◌, ℕ, Bool, ◌==◌, List, [], ◌∷◌, get_or, length}
-use Rattle.std.specs.List.{list_any}
+use Rattle.std.specs.Prelude.{◌≡◌, ◌<◌, ℕ, List, [], ◌∷◌, get_or, length}
 use Rattle.sqlite_value.specs.declared.value.Value.TheVariants.{Blob}
 use Rattle.sqlite_value.specs.Order.{Row, column}
 use Rattle.plain_tables.specs.Tables.{NameRow}
@@ -16,10 +15,6 @@ name_seen r = column r 0 ∷ column r 2 ∷ []
 
 abbrev pub name_shown : NameRow → Row
 name_shown line = number line.number ∷ Blob line.name ∷ []
-
--- whether a name has this number
-abbrev pub has_number : List NameRow → ℕ → Bool
-has_number names n = list_any (λ (line : NameRow). line.number == n) names
 
 -- the name at a place is this one, of this number
 abbrev pub IsNameAt : List HeldName → ℕ → ℕ → List ℕ → Type 0

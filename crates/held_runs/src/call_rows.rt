@@ -1,14 +1,11 @@
 // The rows of a run's calls, made of their lines.
 ghost use Rattle.std.specs.Prelude.{◌≡◌, ◌≤◌, ◌++◌, ◌∷◌, [], IfOk, OnOk, IsTrue, length};
-ghost use Rattle.prof_books.specs.Book.{CallIsNamed};
-ghost use Rattle.run_stores.specs.Walks.{plain_given};
 ghost use Rattle.held_runs.specs.HeldCalls.{lines_from, part_line, row_of};
 ghost use Rattle.store_schema.specs.Lines.{call_row};
 
-use crate::held_names::HeldNames;
 use cg_text::ListVec;
 use cost_rows::CallEdge;
-use store_schema::{CallRow, OutOfForm, StoreError};
+use store_schema::{CallRow, StoreError};
 
 /// Adds zeros, up to a length.
 fn fill(costs: &mut ListVec<u128>, len: usize) -> Result<(), StoreError>
@@ -67,30 +64,19 @@ pub(crate) fn is_part_of(first: &CallRow, line: &CallRow) -> bool
         && first.called_function == line.called_function
 }
 
-/// A row of calls with its names, which have to be held.
-pub(crate) fn call_edge<'a>(
-    first: &CallRow,
-    names: &'a HeldNames,
-    costs: ListVec<u128>,
-) -> Result<CallEdge<&'a [u8], ListVec<u128>>, OutOfForm>
-    ensures row { IfOk result (λ row. plain_given row ≡ row_of names.now (call_row first.now) costs) }
-    ensures named { OnOk result (CallIsNamed names.now (call_row first.now)) }
+/// The row of the calls whose count this line has.
+pub(crate) fn call_edge(first: &CallRow, costs: ListVec<u128>) -> CallEdge<u32, ListVec<u128>>
+    ensures { result ≡ row_of (call_row first.now) costs }
 {
-    let object = names.held(first.object)?;
-    let file = names.held(first.file)?;
-    let function = names.held(first.function)?;
-    let called_object = names.held(first.called_object)?;
-    let called_file = names.held(first.called_file)?;
-    let called_function = names.held(first.called_function)?;
-    Ok(CallEdge {
-        object,
-        file,
-        function,
+    CallEdge {
+        object: first.object,
+        file: first.file,
+        function: first.function,
         line: first.line.get(),
-        called_object,
-        called_file,
-        called_function,
+        called_object: first.called_object,
+        called_file: first.called_file,
+        called_function: first.called_function,
         count: u128::from(first.sum.get()),
         costs,
-    })
+    }
 }

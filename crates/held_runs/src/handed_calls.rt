@@ -1,8 +1,8 @@
-// The calls of a run, handed on row by row, with names in place.
+// The calls of a run, handed on row by row, with the numbers of their names.
 ghost use Rattle.std.specs.Prelude.{◌≡◌, ◌≢◌, ◌++◌, ◌∷◌, [], ℕ, List, None, OnOk, IfOk, IfErr};
 ghost use Rattle.std.specs.Result.{is_ok};
 ghost use Rattle.plain_tables.specs.RunRows.{calls_in};
-ghost use Rattle.plain_tables.specs.Tables.{NameRow, CallRow as Call};
+ghost use Rattle.plain_tables.specs.Tables.{CallRow as Call};
 ghost use Rattle.store_schema.specs.Lines.{call_row};
 ghost use Rattle.prof_store.specs.Shown.{Told};
 ghost use Rattle.run_stores.specs.Walks.{CallsFoldTo};
@@ -12,7 +12,6 @@ ghost use Rattle.held_runs.specs.Walks.{rows_of, AsksIfOpen, OfReady};
 
 use crate::call_lines::read_call;
 use crate::call_rows::{add_part, call_edge, filled, is_part_of};
-use crate::held_names::HeldNames;
 use crate::lines::{RowSink, each_line};
 use crate::walks::Listed;
 use cg_text::ListVec;
@@ -35,10 +34,9 @@ fn check_first(line: &CallRow) -> Result<(), OutOfForm>
     }
 }
 
-/// Takes the lines of calls, and hands on a row, with names in place, once all its lines are taken.
+/// Takes the lines of calls, and hands on a row, with the numbers of its names, once all its lines are taken.
 #[derive(Drop)]
-pub struct CallLines<'n, T> {
-    names: &'n HeldNames,
+pub struct CallLines<T> {
     alloc: Global,
     events: usize,
     /// The line with the count of the row that is not handed on yet.
@@ -48,32 +46,12 @@ pub struct CallLines<'n, T> {
     sink: T,
 }
 
-impl<T: CallSink> CallLines<'_, T> {
-    /// Hands on the row that waits, if there is one.
-    fn hand_on(&mut self) -> Result<(), StoreError>
-        ensures same { (self.new.names.now ≡ self.old.names.now) × (self.new.events ≡ self.old.events) }
-        ensures none { OnOk result (self.new.first ≡ None) }
-        ensures taken { OnOk result ((start : T.Meaning) (lines : List Call)
-            → HasTakenCalls self.old.names.now self.old.events T.step start (T.meaning self.old.sink) self.old.first self.old.costs lines
-            → HasTakenCalls self.old.names.now self.old.events T.step start (T.meaning self.new.sink) self.new.first self.new.costs lines) }
-    {
-        let Some(first) = self.first.take() else {
-            return Ok(());
-        };
-        let costs = mem::replace(&mut self.costs, ListVec::new(self.alloc));
-        let costs = filled(costs, self.events)?;
-        let row = call_edge(&first, self.names, costs)?;
-        self.sink.take(&row)
-    }
-}
-
-impl<'n, T: CallSink> CallLines<'n, T> {
+impl<T: CallSink> CallLines<T> {
     /// Nothing is taken yet. The lines are to be of so many events.
-    pub fn new(names: &'n HeldNames, alloc: Global, events: usize, sink: T) -> CallLines<'n, T>
-        ensures { HasTakenCallLines names.now events T.meaning T.step (T.meaning sink) [] result }
+    pub fn new(alloc: Global, events: usize, sink: T) -> CallLines<T>
+        ensures { HasTakenCallLines events T.meaning T.step (T.meaning sink) [] result }
     {
         CallLines {
-            names,
             alloc,
             events,
             first: None,
@@ -82,13 +60,29 @@ impl<'n, T: CallSink> CallLines<'n, T> {
         }
     }
 
+    /// Hands on the row that waits, if there is one.
+    fn hand_on(&mut self) -> Result<(), StoreError>
+        ensures same { self.new.events ≡ self.old.events }
+        ensures none { OnOk result (self.new.first ≡ None) }
+        ensures taken { OnOk result ((start : T.Meaning) (lines : List Call)
+            → HasTakenCalls self.old.events T.step start (T.meaning self.old.sink) self.old.first self.old.costs lines
+            → HasTakenCalls self.old.events T.step start (T.meaning self.new.sink) self.new.first self.new.costs lines) }
+    {
+        let Some(first) = self.first.take() else {
+            return Ok(());
+        };
+        let costs = mem::replace(&mut self.costs, ListVec::new(self.alloc));
+        let costs = filled(costs, self.events)?;
+        self.sink.take(call_edge(&first, costs))
+    }
+
     /// Takes a line: a part of the row that waits, or the count of the next. Errors: `Memory`; `Store` for a
-    /// part without its count, parts that do not rise, a cost of 0 or of none of the events, and a name that
-    /// is not held; and those of the taker.
+    /// part without its count, parts that do not rise, and a cost of 0 or of none of the events; and those of
+    /// the taker.
     pub fn take_line(&mut self, line: CallRow) -> Result<(), StoreError>
-        ensures { OnOk result ((names : List NameRow) (events : ℕ) (start : T.Meaning) (lines : List Call)
-            → HasTakenCallLines names events T.meaning T.step start lines self.old
-            → HasTakenCallLines names events T.meaning T.step start (lines ++ call_row line ∷ []) self.new) }
+        ensures { OnOk result ((events : ℕ) (start : T.Meaning) (lines : List Call)
+            → HasTakenCallLines events T.meaning T.step start lines self.old
+            → HasTakenCallLines events T.meaning T.step start (lines ++ call_row line ∷ []) self.new) }
     {
         if let Some(first) = &self.first
             && is_part_of(first, &line)
@@ -105,13 +99,12 @@ impl<'n, T: CallSink> CallLines<'n, T> {
     pub fn finish(mut self) -> Result<T, StoreError>
     where
         T: Drop,
-        ensures { IfOk result (λ taken. (names : List NameRow) (events : ℕ) (start : T.Meaning) (lines : List Call)
-            → HasTakenCallLines names events T.meaning T.step start lines self.entry
-            → CallsFoldTo names events T.step start (T.meaning taken) lines) }
+        ensures { IfOk result (λ taken. (events : ℕ) (start : T.Meaning) (lines : List Call)
+            → HasTakenCallLines events T.meaning T.step start lines self
+            → CallsFoldTo events T.step start (T.meaning taken) lines) }
     {
         self.hand_on()?;
         let CallLines {
-            names: _,
             alloc: _,
             events: _,
             first: _,
@@ -122,10 +115,10 @@ impl<'n, T: CallSink> CallLines<'n, T> {
     }
 }
 
-impl<T: CallSink> RowSink for CallLines<'_, T> {
-    ghost use Rattle.std.specs.Prelude.{ℕ, List};
+impl<T: CallSink> RowSink for CallLines<T> {
+    ghost use Rattle.std.specs.Prelude.{ℕ};
     ghost use Rattle.plain_tables.specs.RunRows.{calls_in};
-    ghost use Rattle.plain_tables.specs.Tables.{NameRow, CallRow as Call};
+    ghost use Rattle.plain_tables.specs.Tables.{CallRow as Call};
     ghost use Rattle.store_schema.specs.Tables.{arc_columns};
     ghost use Rattle.prof_store.proofs.RunRows.{calls_all};
     ghost use Rattle.held_runs.specs.HeldCalls.{HasTakenCallLines};
@@ -139,9 +132,9 @@ impl<T: CallSink> RowSink for CallLines<'_, T> {
 
     ghost lines_in = { calls_in };
 
-    ghost Start = { List NameRow × ℕ × T.Meaning };
+    ghost Start = { ℕ × T.Meaning };
 
-    ghost Has = { λ start lines s. HasTakenCallLines start.0 start.1 T.meaning T.step start.2 lines s };
+    ghost Has = { λ start lines s. HasTakenCallLines start.0 T.meaning T.step start.1 lines s };
 
     fn table() -> Listed
         ensures { result ≡ Calls }
@@ -157,25 +150,24 @@ impl<T: CallSink> RowSink for CallLines<'_, T> {
     ghost all_read = { calls_all };
 }
 
-/// Hands on the calls of a run, row by row, with so many events and the names that `names` has: those of
-/// this store. What took them all is handed back. Errors: `Memory`; `Store` for a call of the database
-/// that fails, for rows out of form (parts without their count, parts that do not rise, a cost of 0 or of
-/// none of the events) and for a name that is not held; and those of the taker.
+/// Hands on the calls of a run, row by row, with so many events and the numbers of names. What took them
+/// all is handed back. Errors: `Memory`; `Store` for a call of the database that fails and for rows out of
+/// form (parts without their count, parts that do not rise, a cost of 0 or of none of the events); and
+/// those of the taker.
 pub fn each_call<S: Alter, T: CallSink + Drop>(
     store: &mut Store<S>,
     alloc: Global,
     run: u32,
-    names: &HeldNames,
     events: usize,
     sink: T,
 ) -> Result<T, StoreError>
     ensures found { OfReady S.Store store.old store.new (IfOk result (λ taken.
-        CallsFoldFrom (rows_of S.Store Calls store.new) run names.now events T.step (T.meaning sink) (T.meaning taken))) }
+        CallsFoldFrom (rows_of S.Store Calls store.new) run events T.step (T.meaning sink) (T.meaning taken))) }
     ensures told { Told S.Store result store.old store.new (λ t taken.
-        CallsFoldTo names.now events T.step (T.meaning sink) (T.meaning taken) (calls_in run t)) }
+        CallsFoldTo events T.step (T.meaning sink) (T.meaning taken) (calls_in run t)) }
     ensures asks { AsksIfOpen S.Store (is_ok result) store.old store.new }
 {
-    let mut lines = CallLines::new(names, alloc, events, sink);
+    let mut lines = CallLines::new(alloc, events, sink);
     each_line(store, run, &mut lines)?;
     lines.finish()
 }

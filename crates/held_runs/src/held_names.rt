@@ -1,14 +1,15 @@
 // The names that are held, with their numbers.
-ghost use Rattle.std.specs.Prelude.{◌≡◌, ◌≢◌, ◌<◌, false, None, [], map, length, get_or, IfErr, IfOk, IsPermutation, IfSome};
+ghost use Rattle.std.specs.Prelude.{◌≡◌, ◌≢◌, ◌<◌, None, [], map, length, get_or, IfErr, IfOk, IsPermutation, IfSome};
 ghost use Rattle.std.specs.List.{AllAdjacentBelow};
 ghost use Rattle.std.specs.Result.{is_ok};
 ghost use Rattle.sqlite_trees.specs.Tree.{IsAscending};
 ghost use Rattle.prof_books.specs.Book.{name_of, IsHeld};
 ghost use Rattle.held_runs.specs.HeadRows.{first_two};
-ghost use Rattle.held_runs.specs.NameRows.{name_row, name_seen, name_shown, has_number, IsNameAt};
+ghost use Rattle.held_runs.specs.NameRows.{name_row, name_seen, name_shown, IsNameAt};
 ghost use Rattle.prof_store.specs.Shown.{Told, Found, Asks};
 
 use prof_store::{Store, select};
+use run_stores::NameTable;
 use sqlite::{Alter, Row};
 use std::alloc::Global;
 use std::marker::Model;
@@ -89,7 +90,7 @@ fn name_at(names: &[HeldName], at: usize, number: u32) -> Option<&[u8]>
 /// The name of a number, among names whose numbers rise.
 fn name_in(names: &[HeldName], number: u32) -> Option<&[u8]>
     requires { IsAscending (λ a b. a.number < b.number) names.now }
-    ensures none { result ≡ None → has_number (map name_row names.now) number ≡ false }
+    ensures none { result ≡ None → ¬ (IsHeld (map name_row names.now) number) }
     ensures some { IfSome result (λ name. IsHeld (map name_row names.now) number × (name.now ≡ name_of (map name_row names.now) number)) }
 {
     if number > 0 {
@@ -115,24 +116,17 @@ impl HeldNames {
             Err(OutOfForm)
         }
     }
+}
 
-    /// The name of a number, if there is one. Takes no memory.
-    pub fn name(&self, number: u32) -> Option<&[u8]>
-        ensures none { result ≡ None → has_number self.now number ≡ false }
-        ensures some { IfSome result (λ name. IsHeld self.now number × (name.now ≡ name_of self.now number)) }
-    {
+impl NameTable for HeldNames {
+    ghost name_rows = { λ names. names };
+
+    fn name(&self, number: u32) -> Option<&[u8]> {
         name_in(&self.names, number)
-    }
-
-    /// The name of a number, which has to be held.
-    pub(crate) fn held(&self, number: u32) -> Result<&[u8], OutOfForm>
-        ensures { IfOk result (λ name. IsHeld self.now number × (name.now ≡ name_of self.now number)) }
-    {
-        self.name(number).ok_or(OutOfForm)
     }
 }
 
-/// The names that are held, in the order of their numbers: read once, for any number of walks.
+/// The names that are held, in the order of their numbers, for any number of rows.
 pub fn names_of<S: Alter>(store: &mut Store<S>, alloc: Global) -> Result<HeldNames, StoreError>
     ensures told { Told S.Store result store.old store.new (λ t names. names ≡ t.names) }
     ensures found { Found S.Store result store.old store.new (λ db names. IsPermutation (map name_seen (db 11)) (map name_shown names)) }

@@ -44,5 +44,5 @@ pub use heads_held::head_in;
 pub use held_names::{HeldName, HeldNames, names_of};
 pub use lookups::{baseline_of, kind_of};
 pub use numbers::{members_of, run_numbers};
-pub use run_stores::{CallSink, CellSink, StackRowSink};
+pub use run_stores::{CallSink, CellSink, NameTable, StackRowSink};
 pub use self_sums::sums_of;

@@ -1,3 +1,4 @@
+pub mod Failures
 pub mod Found
 pub mod Placed
 pub mod Shown

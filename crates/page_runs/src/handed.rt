@@ -1,4 +1,4 @@
-// The cells, the calls and the stacks of a run, handed on with names in place.
+// The cells, the calls and the stacks of a run, handed on: cells and calls with the numbers of their names.
 ghost use Rattle.std.specs.Prelude.{◌≡◌, ◌∷◌, List, fold, map, sum_by, IfOk};
 ghost use Rattle.sqlite_record.specs.Fields.{fields_left};
 ghost use Rattle.page_rows.specs.Files.{IsFaithful, OnlyReads};
@@ -12,7 +12,7 @@ ghost use Rattle.page_runs.specs.Shown.{ShowsLines};
 
 use crate::fields::{copied_in, end_of, number_in, whole_in};
 use crate::run_rows::{LineSink, RunTable, each_line};
-use held_runs::{CallLines, CellLines, HeldNames, StackLines};
+use held_runs::{CallLines, CellLines, StackLines};
 use page_rows::OpenedFile;
 use plain_tables::StoreError;
 use run_stores::{CallSink, CellSink, StackRowSink};
@@ -83,9 +83,9 @@ fn read_stack(alloc: Global, run: u32, mut fields: Fields<'_>) -> Result<HeldSta
     Ok(HeldStack { run, frames, count })
 }
 
-impl<T: CellSink + Drop> LineSink for CellLines<'_, T> {
-    ghost use Rattle.std.specs.Prelude.{ℕ, List};
-    ghost use Rattle.plain_tables.specs.Tables.{NameRow, CellRow as Cell};
+impl<T: CellSink + Drop> LineSink for CellLines<T> {
+    ghost use Rattle.std.specs.Prelude.{ℕ};
+    ghost use Rattle.plain_tables.specs.Tables.{CellRow as Cell};
     ghost use Rattle.store_schema.specs.Tables.{cell_columns};
     ghost use Rattle.held_runs.specs.HeldCells.{HasTakenCellLines};
 
@@ -95,9 +95,9 @@ impl<T: CellSink + Drop> LineSink for CellLines<'_, T> {
 
     ghost columns = { cell_columns };
 
-    ghost Start = { List NameRow × ℕ × T.Meaning };
+    ghost Start = { ℕ × T.Meaning };
 
-    ghost Has = { λ start lines s. HasTakenCellLines start.0 start.1 T.meaning T.step start.2 lines s };
+    ghost Has = { λ start lines s. HasTakenCellLines start.0 T.meaning T.step start.1 lines s };
 
     fn take(&mut self, run: u32, fields: Fields<'_>) -> Result<u64, StoreError> {
         let line = read_cell(run, fields)?;
@@ -107,9 +107,9 @@ impl<T: CellSink + Drop> LineSink for CellLines<'_, T> {
     }
 }
 
-impl<T: CallSink + Drop> LineSink for CallLines<'_, T> {
-    ghost use Rattle.std.specs.Prelude.{ℕ, List};
-    ghost use Rattle.plain_tables.specs.Tables.{NameRow, CallRow as Call};
+impl<T: CallSink + Drop> LineSink for CallLines<T> {
+    ghost use Rattle.std.specs.Prelude.{ℕ};
+    ghost use Rattle.plain_tables.specs.Tables.{CallRow as Call};
     ghost use Rattle.store_schema.specs.Tables.{arc_columns};
     ghost use Rattle.held_runs.specs.HeldCalls.{HasTakenCallLines};
 
@@ -119,9 +119,9 @@ impl<T: CallSink + Drop> LineSink for CallLines<'_, T> {
 
     ghost columns = { arc_columns };
 
-    ghost Start = { List NameRow × ℕ × T.Meaning };
+    ghost Start = { ℕ × T.Meaning };
 
-    ghost Has = { λ start lines s. HasTakenCallLines start.0 start.1 T.meaning T.step start.2 lines s };
+    ghost Has = { λ start lines s. HasTakenCallLines start.0 T.meaning T.step start.1 lines s };
 
     fn take(&mut self, run: u32, fields: Fields<'_>) -> Result<u64, StoreError> {
         let line = read_call(run, fields)?;
@@ -161,20 +161,19 @@ impl<T: StackRowSink + Drop> LineSink for CopiedStacks<T> {
     }
 }
 
-/// Hands on the cells of a run, with so many events and the names that `names` has, as `RunStore::each_cell`.
+/// Hands on the cells of a run, with so many events, as `RunStore::each_cell`.
 pub(crate) fn each_cell<D: Disk, T: CellSink + Drop>(
     file: &mut OpenedFile<D>,
     alloc: Global,
     table: RunTable,
-    names: &HeldNames,
     events: usize,
     sink: T,
 ) -> Result<T, StoreError>
     ensures told { IsFaithful file.new → (t : Tables) → ShowsLines file.old table.root cell_columns (λ (c : Cell). c.run) t.cells
-        → IfOk result (λ taken. CellsFoldTo names.now events T.step (T.meaning sink) (T.meaning taken) (cells_in table.run t) × (sum_by (λ (c : Cell). c.cost) (cells_in table.run t) ≡ table.sum)) }
+        → IfOk result (λ taken. CellsFoldTo events T.step (T.meaning sink) (T.meaning taken) (cells_in table.run t) × (sum_by (λ (c : Cell). c.cost) (cells_in table.run t) ≡ table.sum)) }
     ensures reads { OnlyReads file.old file.new }
 {
-    let lines = CellLines::new(names, events, sink);
+    let lines = CellLines::new(events, sink);
     let lines = each_line(file, alloc, table, lines)?;
     Ok(lines.finish())
 }
@@ -184,15 +183,14 @@ pub(crate) fn each_call<D: Disk, T: CallSink + Drop>(
     file: &mut OpenedFile<D>,
     alloc: Global,
     table: RunTable,
-    names: &HeldNames,
     events: usize,
     sink: T,
 ) -> Result<T, StoreError>
     ensures told { IsFaithful file.new → (t : Tables) → ShowsLines file.old table.root arc_columns (λ (a : Call). a.run) t.calls
-        → IfOk result (λ taken. CallsFoldTo names.now events T.step (T.meaning sink) (T.meaning taken) (calls_in table.run t) × (sum_by (λ (a : Call). a.sum) (calls_in table.run t) ≡ table.sum)) }
+        → IfOk result (λ taken. CallsFoldTo events T.step (T.meaning sink) (T.meaning taken) (calls_in table.run t) × (sum_by (λ (a : Call). a.sum) (calls_in table.run t) ≡ table.sum)) }
     ensures reads { OnlyReads file.old file.new }
 {
-    let lines = CallLines::new(names, alloc, events, sink);
+    let lines = CallLines::new(alloc, events, sink);
     let lines = each_line(file, alloc, table, lines)?;
     lines.finish()
 }

@@ -163,8 +163,6 @@ impl<D: Disk> StoreState for PageRuns<D> {
 impl<D: Disk> RunStore for PageRuns<D> {
     type Names = HeldNames;
 
-    ghost name_rows = { λ names. names };
-
     fn has_run(&mut self, run: u32) -> Result<bool, StoreError> {
         Ok(self.lists.has_run(run))
     }
@@ -236,24 +234,22 @@ impl<D: Disk> RunStore for PageRuns<D> {
     fn each_cell<T: CellSink + Drop>(
         &mut self,
         run: u32,
-        names: &HeldNames,
         events: usize,
         sink: T,
     ) -> Result<T, StoreError> {
         let table = self.cells_of(run)?;
-        each_cell(&mut self.file, self.alloc, table, names, events, sink)
+        each_cell(&mut self.file, self.alloc, table, events, sink)
     }
 
     fn each_call<T: CallSink + Drop>(
         &mut self,
         alloc: Global,
         run: u32,
-        names: &HeldNames,
         events: usize,
         sink: T,
     ) -> Result<T, StoreError> {
         let table = self.calls_of(run)?;
-        each_call(&mut self.file, alloc, table, names, events, sink)
+        each_call(&mut self.file, alloc, table, events, sink)
     }
 
     fn each_stack<T: StackRowSink + Drop>(&mut self, run: u32, sink: T) -> Result<T, StoreError> {

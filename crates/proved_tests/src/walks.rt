@@ -3,23 +3,33 @@ use crate::stores::filled;
 use cg_text::ListVec;
 use cost_rows::{CallEdge, Cell};
 use held_runs::{
-    CallSink, CellSink, baseline_of, each_call, each_cell, kind_of, members_of, names_of, sums_of,
+    CallSink, CellSink, HeldNames, NameTable, baseline_of, each_call, each_cell, kind_of,
+    members_of, names_of, sums_of,
 };
 use prof_store::{Store, StoreError};
 use sqlite::MemStore;
 use std::alloc::Global;
 use std::test::Fail;
 
+/// Whether a number is that of a name.
+fn is_named(names: &HeldNames, number: u32, name: &[u8]) -> bool {
+    match names.name(number) {
+        Some(held) => held == name,
+        None => false,
+    }
+}
+
 /// What some cells come to: the costs of those of the objects `a` and `g`, and the lines of all. Nothing is
 /// said of it: the tests look at it.
 #[derive(Drop)]
-struct CellSums {
+struct CellSums<'n> {
+    names: &'n HeldNames,
     of_a: u128,
     of_g: u128,
     lines: u64,
 }
 
-impl CellSink for CellSums {
+impl CellSink for CellSums<'_> {
     ghost use Rattle.std.specs.Prelude.{⊤};
 
     ghost Meaning = { ⊤ };
@@ -28,11 +38,15 @@ impl CellSink for CellSums {
 
     ghost step = { λ _ _. tt };
 
-    fn take(&mut self, cell: &Cell<&[u8]>) -> Result<(), StoreError> {
-        if cell.object == b"a".as_slice() && cell.file == b"b".as_slice() {
+    fn take(&mut self, cell: &Cell<u32>) -> Result<(), StoreError> {
+        let names = self.names;
+        if is_named(names, cell.object, b"a") && is_named(names, cell.file, b"b") {
             self.of_a = self.of_a.saturating_add(cell.cost);
         }
-        if cell.object == b"g".as_slice() && cell.function == b"c".as_slice() && cell.event == 1 {
+        if is_named(names, cell.object, b"g")
+            && is_named(names, cell.function, b"c")
+            && cell.event == 1
+        {
             self.of_g = self.of_g.saturating_add(cell.cost);
         }
         self.lines = self.lines.saturating_add(cell.line);
@@ -44,23 +58,25 @@ impl CellSink for CellSums {
 fn cells(store: &mut Store<MemStore>, alloc: Global) -> Result<(u128, u128, u64), StoreError> {
     let names = names_of(store, alloc)?;
     let none = CellSums {
+        names: &names,
         of_a: 0,
         of_g: 0,
         lines: 0,
     };
-    let sums = each_cell(store, 1, &names, 2, none)?;
+    let sums = each_cell(store, 1, 2, none)?;
     Ok((sums.of_a, sums.of_g, sums.lines))
 }
 
 /// What some calls come to, of those to the function `b` in `c` of `g`: how many they are; and what all cost
 /// of the second event, where they cost nothing of the first.
 #[derive(Drop)]
-struct CallSums {
+struct CallSums<'n> {
+    names: &'n HeldNames,
     count: u128,
     costs: u128,
 }
 
-impl CallSink for CallSums {
+impl CallSink for CallSums<'_> {
     ghost use Rattle.std.specs.Prelude.{⊤};
 
     ghost Meaning = { ⊤ };
@@ -69,9 +85,12 @@ impl CallSink for CallSums {
 
     ghost step = { λ _ _. tt };
 
-    fn take(&mut self, call: &CallEdge<&[u8], ListVec<u128>>) -> Result<(), StoreError> {
-        let (object, file, function) = (call.called_object, call.called_file, call.called_function);
-        if object == b"g".as_slice() && file == b"c".as_slice() && function == b"b".as_slice() {
+    fn take(&mut self, call: CallEdge<u32, ListVec<u128>>) -> Result<(), StoreError> {
+        let names = self.names;
+        if is_named(names, call.called_object, b"g")
+            && is_named(names, call.called_file, b"c")
+            && is_named(names, call.called_function, b"b")
+        {
             self.count = self.count.saturating_add(call.count);
         }
         if let [0, cost] = call.costs.as_slice() {
@@ -84,8 +103,12 @@ impl CallSink for CallSums {
 /// What the calls of run 1 come to, of two events.
 fn calls(store: &mut Store<MemStore>, alloc: Global) -> Result<(u128, u128), StoreError> {
     let names = names_of(store, alloc)?;
-    let none = CallSums { count: 0, costs: 0 };
-    let sums = each_call(store, alloc, 1, &names, 2, none)?;
+    let none = CallSums {
+        names: &names,
+        count: 0,
+        costs: 0,
+    };
+    let sums = each_call(store, alloc, 1, 2, none)?;
     Ok((sums.count, sums.costs))
 }
 

@@ -74,8 +74,6 @@ impl<S: Alter> StoreState for SqlRuns<S> {
 impl<S: Alter> RunStore for SqlRuns<S> {
     type Names = HeldNames;
 
-    ghost name_rows = { λ names. names };
-
     fn has_run(&mut self, run: u32) -> Result<bool, StoreError> {
         self.store.has_run(run)
     }
@@ -147,22 +145,20 @@ impl<S: Alter> RunStore for SqlRuns<S> {
     fn each_cell<T: CellSink + Drop>(
         &mut self,
         run: u32,
-        names: &HeldNames,
         events: usize,
         sink: T,
     ) -> Result<T, StoreError> {
-        held_runs::each_cell(&mut self.store, run, names, events, sink)
+        held_runs::each_cell(&mut self.store, run, events, sink)
     }
 
     fn each_call<T: CallSink + Drop>(
         &mut self,
         alloc: Global,
         run: u32,
-        names: &HeldNames,
         events: usize,
         sink: T,
     ) -> Result<T, StoreError> {
-        held_runs::each_call(&mut self.store, alloc, run, names, events, sink)
+        held_runs::each_call(&mut self.store, alloc, run, events, sink)
     }
 
     fn each_stack<T: StackRowSink + Drop>(&mut self, run: u32, sink: T) -> Result<T, StoreError> {

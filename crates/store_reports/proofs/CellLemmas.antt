@@ -5,11 +5,11 @@ use Rattle.std.proofs.lemmas.Bool.Decides.{nat_tests}
 use Rattle.std.proofs.lemmas.Grind.{common_steps}
 use Rattle.std.proofs.lemmas.List.Sums.{sum_by-cons}
 use Rattle.cost_rows.specs.declared.rows.Cell.{Cell}
-use Rattle.plain_tables.specs.Tables.{CellRow}
-use Rattle.run_stores.specs.Walks.{cell_numbers}
+use Rattle.plain_tables.specs.Tables.{NameRow, CellRow}
+use Rattle.prof_books.specs.Book.{cell_held}
 use Rattle.store_reports.specs.CellSums.{column_cost, with_cost}
 
-abbrev pub with_cell : List ℕ → Cell ℕ → List ℕ
+abbrev pub with_cell : List ℕ → Cell (List ℕ) → List ℕ
 with_cell sums cell = with_cost sums cell.event cell.cost
 
 stays_long : (sums : List ℕ) (column cost : ℕ) → length (with_cost sums column cost) ≡ length sums
@@ -42,9 +42,9 @@ next_sum sums column c cells low = elim (cases_Bool (c.event == column)) [
 ]
 
 -- each sum grows by what the cells of its column cost
-pub cells_summed : (cells : List CellRow) (sums : List ℕ) (column : ℕ) → column < length sums
-    → slice_index (fold with_cell sums (map cell_numbers cells)) column ≡ slice_index sums column + column_cost column cells
-cells_summed [] sums column low = omega arith
-cells_summed (c ∷ cells) sums column low =
-    let rest = cells_summed cells (with_cost sums c.event c.cost) column (subst (λ n. column < n) (sym (stays_long sums c.event c.cost)) low) in
+pub cells_summed : (names : List NameRow) (cells : List CellRow) (sums : List ℕ) (column : ℕ) → column < length sums
+    → slice_index (fold with_cell sums (map (cell_held names) cells)) column ≡ slice_index sums column + column_cost column cells
+cells_summed names [] sums column low = omega arith
+cells_summed names (c ∷ cells) sums column low =
+    let rest = cells_summed names cells (with_cost sums c.event c.cost) column (subst (λ n. column < n) (sym (stays_long sums c.event c.cost)) low) in
     rest ∙ next_sum sums column c cells low

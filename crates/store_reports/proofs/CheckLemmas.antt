@@ -28,12 +28,12 @@ use Rattle.selected_runs.proofs.SelectLemmas.{selected_told}
 
 -- ---- one after another
 
-pub lines_added : {M : Type 0} (items : M → List ℕ) (t : Tables) (numbers : List ℕ) (before after : M) → AreAdded (λ number old new. IsChecked t number (items old) (items new)) numbers before after
+pub lines_added : {M P : Type 0} (items : M → List ℕ) (t : Tables) → P → (numbers : List ℕ) (before after : M) → AreAdded (λ number old new. P → IsChecked t number (items old) (items new)) numbers before after
     → (text : List ℕ) × AreChecked t numbers text × (items after ≡ items before ++ text)
-lines_added items t [] before after all = ([], refl, ap items all ∙ sym (append-nil (items before)))
-lines_added items t (number ∷ numbers) before after all =
-    let one = all.1 in
-    let rest = lines_added items t numbers all.0 after all.2 in
+lines_added items t given [] before after all = ([], refl, ap items all ∙ sym (append-nil (items before)))
+lines_added items t given (number ∷ numbers) before after all =
+    let one = all.1 given in
+    let rest = lines_added items t given numbers all.0 after all.2 in
     (one.0 ++ rest.0, (one.0, rest.0, one.1, rest.1, refl), rest.2 ∙ ap (λ l. l ++ rest.0) one.2 ∙ append_assoc (items before) one.0 rest.0)
 
 -- ---- of one file

@@ -127,10 +127,10 @@ named_merged t names key runs sums merged held is same_key same =
     let by_key : sums.key ≡ key = ap (λ (s : SumsByNumber). s.key) all ∙ rows_keep_key rows none in
     let merged_key : merged.key ≡ (fold with_row start others).key = same_key ∙ by_key ∙ sym (key_stays start others) in
     let named : merged.sums ≡ (fold with_row start others).sums =
-        same
-        ∙ ap₂ (λ k (s : SumsByNumber). sums_by k (map (named_cell names) (number_rows s.sums))) by_key all
-        ∙ named_at_the_end names key rows
-        ∙ ap (λ (n : List NameRow). sums_by key (map (named_cell n) rows)) held
-        ∙ ap (sums_by key) (runs_named t runs) in
+    same
+    ∙ ap₂ (λ k (s : SumsByNumber). sums_by k (map (named_cell names) (number_rows s.sums))) by_key all
+    ∙ named_at_the_end names key rows
+    ∙ ap (λ (n : List NameRow). sums_by key (map (named_cell n) rows)) held
+    ∙ ap (sums_by key) (runs_named t runs) in
     let pair : Key → List (Spot × ℕ) → Sums = λ k s. record { key = k; sums = s } in
     ap₂ pair merged_key named ∙ sym (runs_merged t start runs)

@@ -1,9 +1,11 @@
 -- The sums of runs beside the totals that their files state.
 use Rattle.std.specs.Prelude.{◌≡◌, ℕ, List, [], ◌∷◌, ◌++◌}
+use Rattle.std.specs.List.{AllByRecursion}
 use Rattle.cg_formulas.specs.declared.heads.FileHead.{FileHead}
 use Rattle.report_texts.specs.Verifying.{verified, verify_text}
 use Rattle.plain_tables.specs.RunRows.{cells_in}
 use Rattle.plain_tables.specs.Tables.{Tables}
+use Rattle.prof_books.specs.Book.{CellIsNamed}
 use Rattle.prof_books.specs.HeldHeads.{IsHeadIn}
 use Rattle.run_stores.specs.SelfSums.{AreSelfSums, events_of_run}
 use Rattle.histories.specs.declared.answers.Answer.{Answer}
@@ -12,13 +14,14 @@ use Rattle.store_histories.specs.FromTables.{AnswersBy, ShowsText}
 use Rattle.selected_runs.specs.Selected.{AreSelectedIn}
 use Rattle.store_reports.specs.CellSums.{AreOfCells}
 
--- the lines of a run: by its head, and the self sums of its events, which are those of its cells
+-- the lines of a run: by its head, and the self sums of its events, which are those of its cells, whose names are held
 pub record IsRunChecked (t : Tables) (number : ℕ) (lines : List ℕ) : Type 0 where
   pub head : FileHead
   pub head_is : IsHeadIn number t head
   pub sums : List ℕ
   pub sums_are : AreSelfSums (events_of_run number t) sums
   pub cells_are : AreOfCells (cells_in number t) sums
+  pub named : AllByRecursion (CellIsNamed t.names) (cells_in number t)
   pub lines_are : lines ≡ verify_text (verified number head.events sums head.stated)
 
 -- they were added to a text

@@ -35,15 +35,16 @@ fn push_lines(
 fn push_sums<S: RunStore>(
     store: &mut S,
     alloc: Global,
+    names: &S::Names,
     number: u32,
     head: &FileHead,
     text: &mut Vec<u8>,
 ) -> Result<(), StoreError>
-    ensures told { Told S.StoreState result store.old store.new (λ t _. IsHeadIn number t head.now → IsChecked t number text.old.items text.new.items) }
+    ensures told { Told S.StoreState result store.old store.new (λ t _. S.Names.name_rows names.now ≡ t.names → IsHeadIn number t head.now → IsChecked t number text.old.items text.new.items) }
     ensures asks { AsksIfOpen S.StoreState (is_ok result) store.old store.new }
 {
     let sums = store.sums_of(alloc, number)?;
-    check_cells(store, alloc, number, sums.as_slice())?;
+    check_cells(store, alloc, names, number, sums.as_slice())?;
     push_lines(text, alloc, number, head, sums.as_slice())?;
     Ok(())
 }
@@ -52,34 +53,37 @@ fn push_sums<S: RunStore>(
 fn check_run<S: RunStore>(
     store: &mut S,
     alloc: Global,
+    names: &S::Names,
     number: u32,
     text: &mut Vec<u8>,
 ) -> Result<(), StoreError>
-    ensures told { Told S.StoreState result store.old store.new (λ t _. IsChecked t number text.old.items text.new.items) }
+    ensures told { Told S.StoreState result store.old store.new (λ t _. S.Names.name_rows names.now ≡ t.names → IsChecked t number text.old.items text.new.items) }
     ensures asks { AsksIfOpen S.StoreState (is_ok result) store.old store.new }
 {
     let head = store.head_of(alloc, number)?;
-    push_sums(store, alloc, number, &head, text)
+    push_sums(store, alloc, names, number, &head, text)
 }
 
-/// Adds the lines of runs to a text.
+/// Adds the lines of runs to a text, by the names that are held.
 #[derive(Drop)]
-struct ChecksOfRuns {
+struct ChecksOfRuns<'n, N> {
     alloc: Global,
+    names: &'n N,
 }
 
-impl<S: RunStore> RunFold<S> for ChecksOfRuns {
+impl<S: RunStore> RunFold<S> for ChecksOfRuns<'_, S::Names> {
+    ghost use Rattle.std.specs.Prelude.{◌≡◌};
     ghost use Rattle.store_reports.specs.Checked.{IsChecked};
 
     type Run = u32;
 
     type Sums = Vec<u8>;
 
-    ghost Step = { λ s t number old new. IsChecked t number old.items new.items };
+    ghost Step = { λ s t number old new. S.Names.name_rows s.names.now ≡ t.names → IsChecked t number old.items new.items };
 
     fn add(&self, store: &mut S, number: &u32, text: Vec<u8>) -> Result<Vec<u8>, StoreError> {
         let mut text = text;
-        check_run(store, self.alloc, *number, &mut text)?;
+        check_run(store, self.alloc, self.names, *number, &mut text)?;
         Ok(text)
     }
 }
@@ -93,15 +97,19 @@ fn check_runs<S: RunStore>(
     ensures told { Told S.StoreState result store.old store.new (λ t text. AreChecked t numbers.now text) }
     ensures asks { AsksIfOpen S.StoreState (is_ok result) store.old store.new }
 {
-    let checks = ChecksOfRuns { alloc };
+    let names = store.names_of(alloc)?;
+    let checks = ChecksOfRuns {
+        alloc,
+        names: &names,
+    };
     let text = fold_runs(store, &checks, numbers, Vec::new(alloc))?;
     Ok(ListVec::from_vec(text))
 }
 
 /// Answers what the sums of the events are beside the totals that the files state, for the runs of
 /// a selection: a text, or the refusal of a run or a group that is not held. Every cell of these runs is read.
-/// Errors: `Memory`; and `Store` for a call of the database that fails, for rows out of form, and for cells that
-/// do not sum to the sums of their events.
+/// Errors: `Memory`; and `Store` for a call of the database that fails, for rows out of form, for cells that do
+/// not sum to the sums of their events, and for a name of a cell that is not held.
 pub fn verify_answer<S: RunStore>(
     store: &mut S,
     alloc: Global,

@@ -4,14 +4,12 @@ use Rattle.held_runs.proofs.handed_calls.each_call.Goals as goal
 
 pub returns-clause-found : goal.returns-clause-found
 returns-clause-found g c clean ready =
-    let names = c.args.names.now in
     let start = g.T.CallSink.meaning c.args.sink in
-    let all = c.in_ok-each_line.ensures.found clean ready (names, c.args.events, start) c.new-lines.ensures in
-    if_ok_then c.finish.result c.finish.ensures (λ taken comes. (all.0, all.1, comes names c.args.events start all.0 all.2))
+    let all = c.in_ok-each_line.ensures.found clean ready (c.args.events, start) c.new-lines.ensures in
+    if_ok_then c.finish.result c.finish.ensures (λ taken comes. (all.0, all.1, comes c.args.events start all.0 all.2))
 
 pub returns-clause-told : goal.returns-clause-told
 returns-clause-told g c clean t represents =
-    let names = c.args.names.now in
     let start = g.T.CallSink.meaning c.args.sink in
-    let all = c.in_ok-each_line.ensures.told clean t represents (names, c.args.events, start) c.new-lines.ensures in
-    if_ok_then c.finish.result c.finish.ensures (λ taken comes. comes names c.args.events start (calls_in c.args.run t) all)
+    let all = c.in_ok-each_line.ensures.told clean t represents (c.args.events, start) c.new-lines.ensures in
+    if_ok_then c.finish.result c.finish.ensures (λ taken comes. comes c.args.events start (calls_in c.args.run t) all)

@@ -1,4 +1,4 @@
-use Rattle.std.proofs.Common.{◌∙◌, map, ap, sym}
+use Rattle.std.proofs.Common.{◌∙◌, map, ap}
 use Rattle.sqlite_keyed.proofs.ListLemmas.{map-map}
 use Rattle.held_runs.specs.NameRows.{name_row, name_shown}
 use Rattle.held_runs.proofs.held_names.names_in.Goals as goal

@@ -9,15 +9,14 @@ use Rattle.page_runs.proofs.handed.each_call.Goals as goal
 
 pub returns-clause-told : goal.returns-clause-told
 returns-clause-told g c faithful t is =
-    let names = c.args.names.now in
     let sink = g.T.CallSink in
     let start = sink.meaning c.args.sink in
     let run = λ (r : CallRow). r.run in
     let order = shown_in_order arc_columns run (λ r. refl) is.rows t.calls is.lines_are is.in_order in
-    let (lines, are, sums, has) = c.in_ok-lines.ensures.handed faithful is.rows is.shows order (names, c.args.events, start) c.new-lines.ensures in
+    let (lines, are, sums, has) = c.in_ok-lines.ensures.handed faithful is.rows is.shows order (c.args.events, start) c.new-lines.ensures in
     let same = lines_are arc_columns run (λ r. refl) one_call c.args.table.run is.rows t.calls is.lines_are lines are in
     IfOk-weaker c.finish.result _ _
     (λ taken comes. (
-      subst (CallsFoldTo names c.args.events sink.step start (sink.meaning taken)) (sym same) (comes names c.args.events start lines has),
+      subst (CallsFoldTo c.args.events sink.step start (sink.meaning taken)) (sym same) (comes c.args.events start lines has),
       ap (sum_by (λ (r : CallRow). r.sum)) same ∙ sums,
     )) c.finish.ensures

@@ -8,13 +8,12 @@ use Rattle.page_runs.proofs.handed.each_cell.Goals as goal
 
 pub returns-clause-told : goal.returns-clause-told
 returns-clause-told g c faithful t is =
-    let names = c.args.names.now in
     let sink = g.T.CellSink in
     let start = sink.meaning c.args.sink in
     let run = λ (r : CellRow). r.run in
     let order = shown_in_order cell_columns run (λ r. refl) is.rows t.cells is.lines_are is.in_order in
-    let (lines, are, sums, has) = c.in_ok-lines.ensures.handed faithful is.rows is.shows order (names, c.args.events, start) c.new-lines.ensures in
+    let (lines, are, sums, has) = c.in_ok-lines.ensures.handed faithful is.rows is.shows order (c.args.events, start) c.new-lines.ensures in
     let same = lines_are cell_columns run (λ r. refl) one_cell c.args.table.run is.rows t.cells is.lines_are lines are in (
-      subst (CellsFoldTo names c.args.events sink.step start (sink.meaning c.finish.result)) (sym same) (c.finish.ensures names c.args.events start lines has),
+      subst (CellsFoldTo c.args.events sink.step start (sink.meaning c.finish.result)) (sym same) (c.finish.ensures c.args.events start lines has),
       ap (sum_by (λ (r : CellRow). r.cost)) same ∙ sums,
     )

@@ -13,5 +13,8 @@ returns-clause-told g c clean t represents column low =
     let same : c.in_ok-found.found.sums.items ≡ sums = search rules in
     let long : length zeros ≡ length sums = grind (arith, common_steps, c.in_ok-vec.ensures) in
     let zero : slice_index zeros column ≡ 0 = grind (arith, common_steps, c.in_ok-vec.ensures) in
-    let summed = cells_summed cells zeros column (subst (λ n. column < n) (sym long) low) in
+    let summed = cells_summed _ cells zeros column (subst (λ n. column < n) (sym long) low) in
     ap (λ l. slice_index l column) (sym same ∙ came) ∙ summed ∙ omega (arith, zero)
+
+pub returns-clause-named : goal.returns-clause-named
+returns-clause-named g c clean t represents = (c.in_ok-found.ensures.told clean t represents).named

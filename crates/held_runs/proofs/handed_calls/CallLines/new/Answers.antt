@@ -5,8 +5,7 @@ use Rattle.held_runs.proofs.handed_calls.CallLines.new.Goals as goal
 
 pub returns : goal.returns
 returns g c =
-    let names = c.args.names.now in
     let events = c.args.events in
     let step = g.T.CallSink.step in
     let start = g.T.CallSink.meaning c.args.sink in
-    record { names_same = refl; events_same = refl; taken = subst (λ (k : List ℕ). HasTakenCalls names events step start start None k []) (sym c.new.ensures) (no_line names events step start) }
+    record { events_same = refl; taken = subst (λ (k : List ℕ). HasTakenCalls events step start start None k []) (sym c.new.ensures) (no_line events step start) }

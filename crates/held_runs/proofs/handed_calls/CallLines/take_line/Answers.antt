@@ -1,5 +1,4 @@
-use Rattle.std.proofs.Common.{◌≤◌, ◌++◌, ◌∷◌, [], List, length, Result, Ok, Err, OnOk, Some, sym, subst, subst₂, ◌∙◌}
-use Rattle.plain_tables.specs.Tables.{NameRow}
+use Rattle.std.proofs.Common.{◌≤◌, ◌++◌, ◌∷◌, [], length, Result, Ok, Err, OnOk, Some, sym, subst, ◌∙◌}
 use Rattle.store_schema.specs.Lines.{call_row}
 use Rattle.held_runs.specs.HeldCalls.{HasTakenCalls}
 use Rattle.held_runs.proofs.CallRows.{part_taken, row_begun}
@@ -18,28 +17,26 @@ returns g c =
     let came = g.T.CallSink.meaning calls.sink in
     let more = c.add_part.new.costs in
     let same = c.is_part_of.ensures c.if-is_part_of.true in
-    both_then c.add_part.result _ _ _ c.add_part.ensures.lines c.add_part.ensures.within (λ grown within names events start lines was.
-    let before = subst (λ f. HasTakenCalls names events step start came f calls.costs lines) c.in-Some.is was.taken in
-    let taken = part_taken names events step start came first line calls.costs more lines before same (grown (call_row first)) (subst (λ n. length more ≤ n) was.events_same within) in
+    both_then c.add_part.result _ _ _ c.add_part.ensures.lines c.add_part.ensures.within (λ grown within events start lines was.
+    let before = subst (λ f. HasTakenCalls events step start came f calls.costs lines) c.in-Some.is was.taken in
+    let taken = part_taken events step start came first line calls.costs more lines before same (grown (call_row first)) (subst (λ n. length more ≤ n) was.events_same within) in
     record {
-      names_same = was.names_same;
       events_same = was.events_same;
-      taken = subst (λ f. HasTakenCalls names events step start came f more (lines ++ call_row line ∷ [])) (sym c.in-Some.is) taken;
+      taken = subst (λ f. HasTakenCalls events step start came f more (lines ++ call_row line ∷ [])) (sym c.in-Some.is) taken;
     })
 
 pub returns-2 : goal.returns-2
-returns-2 g c names events start lines was =
+returns-2 g c events start lines was =
     let calls = c.args.self.now in
     let new = c.hand_on.new.self in
     let line = c.args.line in
     let step = g.T.CallSink.step in
     let h = c.in_ok-hand_on.ensures in
     let came = g.T.CallSink.meaning new.sink in
-    let before = subst₂ (λ (n : List NameRow) e. HasTakenCalls n e step start (g.T.CallSink.meaning calls.sink) calls.first calls.costs lines) (sym was.names_same) (sym was.events_same) was.taken in
-    let handed = subst (λ f. HasTakenCalls calls.names.now calls.events step start came f new.costs lines) h.none (h.taken start lines before) in
-    let begun = row_begun calls.names.now calls.events step start came line new.costs lines handed c.in_ok-check_first.ensures.first in
+    let before = subst (λ n. HasTakenCalls n step start (g.T.CallSink.meaning calls.sink) calls.first calls.costs lines) (sym was.events_same) was.taken in
+    let handed = subst (λ f. HasTakenCalls calls.events step start came f new.costs lines) h.none (h.taken start lines before) in
+    let begun = row_begun calls.events step start came line new.costs lines handed c.in_ok-check_first.ensures.first in
     record {
-      names_same = h.same.0 ∙ was.names_same;
-      events_same = h.same.1 ∙ was.events_same;
-      taken = subst₂ (λ (n : List NameRow) e. HasTakenCalls n e step start came (Some line) new.costs (lines ++ call_row line ∷ [])) was.names_same was.events_same begun;
+      events_same = h.same ∙ was.events_same;
+      taken = subst (λ n. HasTakenCalls n step start came (Some line) new.costs (lines ++ call_row line ∷ [])) was.events_same begun;
     }

@@ -17,7 +17,7 @@ returns-clause-told g c faithful t is =
     let root = ap (λ (r : RunTable). r.root) made in
     let run = ap (λ (r : RunTable). r.run) made in
     let there = subst (λ n. ShowsLines c.args.self.now.file n arc_columns (λ (r : CallRow). r.run) t.calls) (sym root) is.calls in
-    IfOk-weaker c.each_call.result _ _ (λ taken both. subst (λ n. CallsFoldTo c.args.names.now c.args.events sink.step start (sink.meaning taken) (calls_in n t)) run both.0) (c.each_call.ensures.told faithful t there)
+    IfOk-weaker c.each_call.result _ _ (λ taken both. subst (λ n. CallsFoldTo c.args.events sink.step start (sink.meaning taken) (calls_in n t)) run both.0) (c.each_call.ensures.told faithful t there)
 
 pub returns-clause-asks : goal.returns-clause-asks
 returns-clause-asks g c = asked _ _ c.each_call.ensures.reads refl refl _

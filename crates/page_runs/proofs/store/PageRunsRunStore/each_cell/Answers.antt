@@ -17,7 +17,7 @@ returns-clause-told g c faithful t is =
     let root = ap (λ (r : RunTable). r.root) made in
     let run = ap (λ (r : RunTable). r.run) made in
     let there = subst (λ n. ShowsLines c.args.self.now.file n cell_columns (λ (r : CellRow). r.run) t.cells) (sym root) is.cells in
-    IfOk-weaker c.each_cell.result _ _ (λ taken both. subst (λ n. CellsFoldTo c.args.names.now c.args.events sink.step start (sink.meaning taken) (cells_in n t)) run both.0) (c.each_cell.ensures.told faithful t there)
+    IfOk-weaker c.each_cell.result _ _ (λ taken both. subst (λ n. CellsFoldTo c.args.events sink.step start (sink.meaning taken) (cells_in n t)) run both.0) (c.each_cell.ensures.told faithful t there)
 
 pub returns-clause-asks : goal.returns-clause-asks
 returns-clause-asks g c = asked _ _ c.each_cell.ensures.reads refl refl _
