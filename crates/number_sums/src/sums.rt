@@ -8,7 +8,7 @@ use std::alloc::{AllocError, Global};
 use std::collections::BTreeMap;
 use std::marker::Model;
 
-/// Puts the cost that recent rows have at a part, if any, into the sums. A refusal leaves both as they were.
+/// Adds the cost that recent rows have at a part, if any, to the sums. A refusal leaves both as they were.
 pub(crate) fn settle(
     sums: &mut BTreeMap<NumberPart, u128>,
     part: NumberPart,
@@ -31,7 +31,7 @@ pub(crate) fn settle(
     Ok(())
 }
 
-/// Turns to a part: unless it is that of the rows before, what these cost is put into the sums. A refusal leaves
+/// Turns to a part: unless it is that of the rows before, what these cost is added to the sums. A refusal leaves
 /// all as it was.
 fn turn(
     sums: &mut BTreeMap<NumberPart, u128>,
@@ -53,7 +53,7 @@ fn turn(
 /// What rows cost, added up by the parts of their places that a key tells, with names by their numbers:
 /// contracts see the key, and a sum above 0 for each part, in the order of the numbers, the line and the
 /// thread. Rows come by their places, so mostly with the part of the row before: what those of one part cost is
-/// added up on its own, and put into the map when another part comes.
+/// added up apart, and inserted into the map when another part comes.
 #[derive(Drop)]
 pub struct NumberSums {
     pub(crate) key: Key,
