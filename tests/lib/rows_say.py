@@ -26,6 +26,24 @@ class Text(bytes):
     """A text of a database; other bytes are a BLOB."""
 
 
+class NoName:
+    """The name of a number that has none: the question has to be refused where it is shown or compared by order."""
+
+    def __init__(self, at):
+        self.at = at
+
+    def __eq__(self, other):
+        return isinstance(other, NoName) and self.at == other.at
+
+    def __hash__(self):
+        return hash(self.at)
+
+    def refuse(self, *_):
+        raise OutOfForm("no such name")
+
+    __lt__ = __gt__ = __iter__ = refuse
+
+
 def number(value, below=1 << 63):
     """A whole number of a row."""
     if type(value) is not int or not 0 <= value < below:
@@ -54,7 +72,7 @@ def escaped(name):
 def shown(key):
     """A key as it is printed: a name, a thread, an object with a function, or a file with a line."""
     parts = key if isinstance(key, tuple) else (key,)
-    return b":".join(escaped(part) if isinstance(part, bytes) else b"%d" % part for part in parts)
+    return b":".join(b"%d" % part if isinstance(part, int) else escaped(part) for part in parts)
 
 
 def percent(cost, total):
@@ -136,7 +154,7 @@ class Rows:
         if "names" not in self.tables:
             self.tables["names"] = dict(self["name"])
         if number(at, 1 << 32) not in self.tables["names"]:
-            raise OutOfForm("no such name")
+            return NoName(at)
         return blob(self.tables["names"][at])
 
     def selected(self, run):

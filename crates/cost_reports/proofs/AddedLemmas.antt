@@ -46,7 +46,7 @@ same_key s row = go (nat_eq row.cost 0)
     go true = refl
     go false = refl
 
-keeps_key : (s : Sums) (cells : List (Cell (List ℕ))) → (fold with_row s cells).key ≡ s.key
+pub keeps_key : (s : Sums) (cells : List (Cell (List ℕ))) → (fold with_row s cells).key ≡ s.key
 keeps_key s [] = refl
 keeps_key s (r ∷ cells) = keeps_key (with_row s r) cells ∙ same_key s r
 

@@ -39,11 +39,11 @@ part_again Function p = refl
 part_again Line p = refl
 part_again Thread p = refl
 
-rows_of_where : (key : Key) (passes : Spot → Bool) (sums : List (Spot × ℕ)) → cost_where key passes (rows_of sums) ≡ sum_where (λ p. passes (part_of key p)) (λ n. n) sums
+pub rows_of_where : (key : Key) (passes : Spot → Bool) (sums : List (Spot × ℕ)) → cost_where key passes (rows_of sums) ≡ sum_where (λ p. passes (part_of key p)) (λ n. n) sums
 rows_of_where key passes [] = refl
 rows_of_where key passes (e ∷ sums) = ap (λ n. (if passes (part_of key e.0) then e.1 else 0) + n) (rows_of_where key passes sums)
 
-parts_where : (key : Key) (passes : Spot → Bool) (rows : List (Cell (List ℕ))) → cost_where key (λ p. passes (part_of key p)) rows ≡ cost_where key passes rows
+pub parts_where : (key : Key) (passes : Spot → Bool) (rows : List (Cell (List ℕ))) → cost_where key (λ p. passes (part_of key p)) rows ≡ cost_where key passes rows
 parts_where key passes [] = refl
 parts_where key passes (r ∷ rows) = ap₂ (λ p n. (if passes p then r.cost else 0) + n) (part_again key (place_of_row r)) (parts_where key passes rows)
 

@@ -59,6 +59,18 @@ fn add_functions(
     Ok(())
 }
 
+/// Adds the sums of others to those of some rows.
+fn add_sums(merged: &mut Merged, others: &Merged) -> Result<(), AllocError>
+    requires small { total_of merged.old.sums + total_of others.now.sums < 2 ^ 112 }
+    ensures sums { OnOk result (merged.new ≡ fold with_row merged.old (rows_of others.now.sums)) }
+    ensures key { merged.new.key ≡ merged.old.key }
+{
+    for row in others.rows() {
+        merged.add(&row)?;
+    }
+    Ok(())
+}
+
 impl InclusiveSums {
     /// No row was added. Takes no memory.
     pub fn new(alloc: Global) -> InclusiveSums
@@ -129,6 +141,23 @@ impl InclusiveSums {
         add_functions(&mut self.merged, &functions, row.count)?;
         self.total += row.count;
         Ok(())
+    }
+
+    /// With sums by function that other rows came to, of which `own` is what functions cost by themselves. What
+    /// is held already is added to these.
+    pub fn with_costs(self, costs: Merged, own: u128) -> Result<InclusiveSums, AllocError>
+        requires key { costs.key ≡ Function }
+        requires small { AreBelow (total_of costs.sums + total_of self.sums) (own + self.total) }
+        ensures sums { IfOk result (λ all. all.sums ≡ (fold with_row costs (rows_of self.sums)).sums) }
+        ensures total { IfOk result (λ all. all.total ≡ own + self.total) }
+    {
+        let mut merged = costs;
+        add_sums(&mut merged, &self.merged)?;
+        Ok(InclusiveSums {
+            alloc: self.alloc,
+            merged,
+            total: own + self.total,
+        })
     }
 }
 

@@ -1,5 +1,5 @@
 -- Sums by number, named at the end, are those of the rows that are named first.
-use Rattle.std.proofs.Common.{inl, inr, ◌≡◌, ℕ, ◌+◌, Bool, true, false, List, [], ◌∷◌, fold, map, nat_eq, if◌then◌else◌, refl, ap, ◌∙◌, add_assoc, arith}
+use Rattle.std.proofs.Common.{inl, inr, ◌≡◌, ℕ, ◌+◌, Bool, true, false, List, [], ◌∷◌, fold, map, nat_eq, if◌then◌else◌, refl, sym, ap, ap₂, ◌∙◌, add_assoc, arith}
 use Rattle.std.proofs.lemmas.Bool.{cases_Bool, eqb-true}
 use Rattle.cost_rows.specs.Keys.{part_of, place_of_row}
 use Rattle.cost_rows.specs.KeySums.{cost_where, sums_by}
@@ -57,6 +57,15 @@ sum_row test s row = elim (cases_Bool (nat_eq row.cost 0)) [
   | inl none ↦ rw none (let e = nothing (test (numbers_part s.key row)) row.cost none in omega (arith, e))
   | inr some ↦ rw some (sum-merge numbers_cmp_apart counts_added test (λ n. n) (λ x y. refl) s.sums (numbers_part s.key row) row.cost)
 ]
+
+-- named at the end, sums with a row more cost what it costs more, where its part passes
+pub row_more : (names : List NameRow) (passes : Spot → Bool) (s : SumsByNumber) (row : Cell ℕ)
+    → cost_where s.key passes (map (named_cell names) (number_rows (with_number s row).sums))
+    ≡ cost_where s.key passes (map (named_cell names) (number_rows s.sums)) + (if passes (part_of s.key (place_of_row (named_cell names row))) then row.cost else 0)
+row_more names passes s row =
+    rows_cost names s.key passes (with_number s row).sums
+    ∙ sum_row (λ part. passes (named_part names s.key part)) s row
+    ∙ ap₂ (λ n p. n + (if passes p then row.cost else 0)) (sym (rows_cost names s.key passes s.sums)) (part_named names s.key row)
 
 sum_rows : (names : List NameRow) (key : Key) (passes : Spot → Bool) (rows : List (Cell ℕ)) (s : SumsByNumber) → s.key ≡ key
     → sum_where (λ part. passes (named_part names key part)) (λ n. n) (fold with_number s rows).sums

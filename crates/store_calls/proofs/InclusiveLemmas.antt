@@ -1,9 +1,10 @@
 -- The rows of runs that are added to inclusive costs sum to the files of a selection.
-use Rattle.std.proofs.Common.{◌≡◌, ℕ, ◌+◌, ◌*◌, ◌<◌, Bool, true, false, if◌then◌else◌, List, [], ◌∷◌, ◌++◌, map, fold, flat_map, length, get_or, take, Option, Some, None, append-nil, append_assoc, refl, sym, ap, ap₂, subst, ◌∙◌, arith}
+use Rattle.std.proofs.Common.{◌≡◌, ℕ, ◌+◌, ◌*◌, Bool, true, false, if◌then◌else◌, List, [], ◌∷◌, ◌++◌, map, fold, flat_map, Option, Some, None, append-nil, refl, sym, ap, ap₂, subst, ◌∙◌, arith}
 use Rattle.std.specs.Prelude.{unwrap_or, Result, Ok, Err}
 use Rattle.std.specs.List.{AllByRecursion}
 use Rattle.std.specs.Option.{is_some, MatchOption}
 use Rattle.std.proofs.lemmas.Grind.{fold-append}
+use Rattle.std.proofs.lemmas.List.{map-append}
 use Rattle.plain_tables.specs.Lists.{Has}
 use Rattle.cost_rows.specs.KeySums.{rows_of, with_row}
 use Rattle.cost_rows.specs.StackSums.{frames_sum}
@@ -12,19 +13,24 @@ use Rattle.cost_rows.specs.WalkSums.{stacks_count}
 use Rattle.cost_rows.specs.declared.rows.CallEdge.{CallEdge}
 use Rattle.cost_rows.specs.declared.rows.Cell.{Cell}
 use Rattle.cost_rows.specs.declared.rows.StackCount.{StackCount}
+use Rattle.cost_rows.proofs.AboveLemmas.{map-above}
 use Rattle.report_texts.specs.Calls.{CallsRepresent, CallsRepresentEach, EventEdges, all_edges, weighted_calls}
 use Rattle.report_texts.specs.Costs.{EventCells, StandForEach, Represents, all_rows, weighted}
 use Rattle.report_texts.specs.Functions.{is_one_function}
 use Rattle.report_texts.specs.Inclusive.{InclusiveCosts, InclusiveRow, OfSelf, OfCalls, OfStack, SameStacks, by_function, calls_in, inclusive_report, inclusive_rows, inclusive_text, no_costs, self_in, stacks_in, with_inclusive, with_outward, with_self}
 use Rattle.cost_reports.proofs.AddedLemmas.{inclusive_come_to}
 use Rattle.cost_reports.proofs.InclusiveLemmas.{inclusive_are_records}
-use Rattle.prof_books.specs.Book.{cells_held, stacks_held}
-use Rattle.plain_tables.specs.Tables.{Tables}
+use Rattle.prof_books.specs.Book as book
+use Rattle.prof_books.specs.Book.{CallPart, cell_held, cells_held, name_of, part_held, stacks_held}
+use Rattle.plain_tables.specs.Tables.{Tables, CallRow, CellRow, NameRow}
 use Rattle.profile_records.specs.Stacks.{Seen}
 use Rattle.profile_records.specs.declared.kinds.Kind.{Kind}
 use Rattle.profile_records.specs.declared.kinds.Kind.TheVariants.{Callgrind, Folded}
 use Rattle.named_rows.specs.Named.{AreCallsOf}
 use Rattle.run_stores.specs.Lookups.{IsKindOf}
+use Rattle.run_stores.specs.Names.{named_call}
+use Rattle.run_stores.specs.Walks as walks
+use Rattle.run_stores.specs.Walks.{PartNumbers, cell_numbers, part_numbers}
 use Rattle.histories.specs.Formats as formats
 use Rattle.histories.specs.Formats.{Format, kind_in}
 use Rattle.histories.specs.Files.{records_of, stacks_of}
@@ -43,7 +49,9 @@ use Rattle.histories.proofs.Runs.{tells_rows}
 use Rattle.store_histories.specs.FromTables.{AnswersFor, ShowsText}
 use Rattle.selected_runs.specs.Added.{AreAdded}
 use Rattle.selected_runs.specs.EventRuns.{AreEventRuns, AreEventRunsIn}
-use Rattle.store_calls.specs.InclusiveRuns.{Adds, AreRowsOf, AreRowsOfKind, AreRowsOfRuns, IsInclusive, IsInclusiveText, call_rows, self_rows, with_call_row, with_self_row, with_stack_row}
+use Rattle.store_calls.specs.InclusiveParts.{Counting, costs_named, with_call_row, with_self_row, with_stack_row}
+use Rattle.store_calls.specs.InclusiveRuns.{Adds, AreRowsOf, AreRowsOfKind, AreRowsOfRuns, IsInclusive, IsInclusiveText, call_rows, self_rows}
+use Rattle.store_calls.specs.declared.inclusive_parts.InclusiveParts.{InclusiveParts}
 use Rattle.selected_runs.specs.declared.counting.Counted.{Counted}
 use Rattle.selected_runs.proofs.EventLemmas.{both_held, event_runs_told}
 use Rattle.store_calls.proofs.KindLemmas.{kind_told}
@@ -51,29 +59,65 @@ use Rattle.selected_runs.proofs.RunLemmas.{AreRunsOf, IsRunOf, are_runs, selecte
 
 -- ---- rows of one kind, taken one after another
 
-pub self_taken : (counts : List ℕ) (costs : InclusiveCosts) (cells : List (Cell (List ℕ))) → fold with_self_row (counts, costs) cells ≡ (counts, fold with_inclusive costs (self_rows counts cells))
-self_taken counts costs [] = refl
-self_taken counts costs (cell ∷ cells) = self_taken counts (with_self costs (weighted counts cell)) cells
+pub self_taken : (m : Counting) (lines : List CellRow) → fold with_self_row m (map cell_numbers lines) ≡ record m { costs = fold with_inclusive m.costs (self_rows m.counts (map (cell_held m.names) lines)) }
+self_taken m [] = refl
+self_taken m (line ∷ lines) = self_taken (with_self_row m (cell_numbers line)) lines
 
-pub calls_taken : (counts : List ℕ) (costs : InclusiveCosts) (edges : List (CallEdge (List ℕ) (List ℕ))) → fold with_call_row (counts, costs) edges ≡ (counts, fold with_inclusive costs (call_rows counts edges))
-calls_taken counts costs [] = refl
-calls_taken counts costs (call ∷ edges) = calls_taken counts (with_outward costs (weighted_calls counts call)) edges
+pub calls_taken : (m : Counting) (edges : List (CallEdge ℕ (List ℕ))) → fold with_call_row m edges ≡ record m { costs = fold with_inclusive m.costs (call_rows m.counts (map (named_call m.names) edges)) }
+calls_taken m [] = refl
+calls_taken m (call ∷ edges) = calls_taken (with_call_row m call) edges
 
-pub stacks_taken : (counts : List ℕ) (costs : InclusiveCosts) (stacks : List (StackCount (List ℕ))) → fold with_stack_row (counts, costs) stacks ≡ (counts, fold with_inclusive costs (map OfStack stacks))
-stacks_taken counts costs [] = refl
-stacks_taken counts costs (stack ∷ stacks) = stacks_taken counts (with_inclusive costs (OfStack stack)) stacks
+pub stacks_taken : (m : Counting) (stacks : List (StackCount (List ℕ))) → fold with_stack_row m stacks ≡ record m { costs = fold with_inclusive m.costs (map OfStack stacks) }
+stacks_taken m [] = refl
+stacks_taken m (stack ∷ stacks) = stacks_taken (with_stack_row m stack) stacks
+
+-- what was taken by names that stay
+pub came_to : {names : List NameRow} {counts : List ℕ} {m : Counting} (parts : InclusiveParts) → record { names = names; counts = counts; costs = costs_named names parts } ≡ m → costs_named m.names parts ≡ m.costs
+came_to parts came = sym (ap (λ (m : Counting). costs_named m.names parts) came) ∙ ap (λ (m : Counting). m.costs) came
+
+-- ---- the parts of calls by number, with their names
+
+module _ (names : List NameRow) where
+  abbrev named_part : PartNumbers → CallPart
+  named_part p = record {
+    object = name_of names p.object;
+    file = name_of names p.file;
+    function = name_of names p.function;
+    line = p.line;
+    called_object = name_of names p.called_object;
+    called_file = name_of names p.called_file;
+    called_function = name_of names p.called_function;
+    part = p.part;
+    sum = p.sum;
+  }
+
+  lines_named : (lines : List CallRow) → map (part_held names) lines ≡ map named_part (map part_numbers lines)
+  lines_named [] = refl
+  lines_named (line ∷ lines) = ap (λ parts. part_held names line ∷ parts) (lines_named lines)
+
+  edge_named : (r : CallEdge ℕ (List ℕ)) → map named_part (walks.parts_of r) ≡ book.parts_of (named_call names r)
+  edge_named r = ap (λ parts. book.part_of (named_call names r) 0 r.count ∷ parts) (map-above named_part (walks.part_of r) (book.part_of (named_call names r)) (λ part sum. refl) 1 r.costs)
+
+  edges_named : (edges : List (CallEdge ℕ (List ℕ))) → map named_part (flat_map walks.parts_of edges) ≡ flat_map book.parts_of (map (named_call names) edges)
+  edges_named [] = refl
+  edges_named (r ∷ edges) = map-append named_part (walks.parts_of r) (flat_map walks.parts_of edges) ∙ ap₂ ◌++◌ (edge_named r) (edges_named edges)
+
+  pub calls_named : (lines : List CallRow) (edges : List (CallEdge ℕ (List ℕ))) → map part_numbers lines ≡ flat_map walks.parts_of edges
+      → map (part_held names) lines ≡ flat_map book.parts_of (map (named_call names) edges)
+  calls_named lines edges are = lines_named lines ∙ ap (map named_part) are ∙ edges_named edges
 
 -- ---- runs one after another
 
-pub rows_added : {P : Type 0} (t : Tables) → P → (runs : List Counted) (before after : InclusiveCosts) → AreAdded (λ run old new. P → Adds (AreRowsOf t run) old new) runs before after
-    → Adds (AreRowsOfRuns t runs) before after
-rows_added t given [] before after all = ([], refl, all)
-rows_added t given (run ∷ runs) before after all =
+pub rows_added : {M : Type 0} {P : Type 0} (come_to : M → InclusiveCosts) (t : Tables) → P → (runs : List Counted) (before after : M)
+    → AreAdded (λ run old new. P → Adds (AreRowsOf t run) (come_to old) (come_to new)) runs before after
+    → Adds (AreRowsOfRuns t runs) (come_to before) (come_to after)
+rows_added come_to t given [] before after all = ([], refl, ap come_to all)
+rows_added come_to t given (run ∷ runs) before after all =
     let one = all.1 given in
-    let rest = rows_added t given runs all.0 after all.2 in (
+    let rest = rows_added come_to t given runs all.0 after all.2 in (
       one.0 ++ rest.0,
       (one.0, rest.0, one.1, rest.1, refl),
-      rest.2 ∙ ap (λ costs. fold with_inclusive costs rest.0) one.2 ∙ sym (fold-append with_inclusive before one.0 rest.0),
+      rest.2 ∙ ap (λ costs. fold with_inclusive costs rest.0) one.2 ∙ sym (fold-append with_inclusive (come_to before) one.0 rest.0),
     )
 
 -- ---- the rows of one file

@@ -1,4 +1,5 @@
 mod FunctionLemmas
 mod InclusiveLemmas
 mod KindLemmas
+mod PartLemmas
 mod WeightLemmas

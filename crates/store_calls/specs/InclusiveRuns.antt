@@ -3,10 +3,9 @@ use Rattle.std.specs.Prelude.{◌≡◌, ℕ, List, [], ◌∷◌, ◌++◌, map
 use Rattle.std.specs.Option.{MatchOption}
 use Rattle.cost_rows.specs.declared.rows.CallEdge.{CallEdge}
 use Rattle.cost_rows.specs.declared.rows.Cell.{Cell}
-use Rattle.cost_rows.specs.declared.rows.StackCount.{StackCount}
 use Rattle.report_texts.specs.Calls.{weighted_calls}
 use Rattle.report_texts.specs.Costs.{weighted}
-use Rattle.report_texts.specs.Inclusive.{InclusiveCosts, InclusiveRow, OfSelf, OfCalls, OfStack, inclusive_report, inclusive_text, no_costs, with_inclusive, with_outward, with_self, with_stack}
+use Rattle.report_texts.specs.Inclusive.{InclusiveCosts, InclusiveRow, OfSelf, OfCalls, OfStack, inclusive_report, inclusive_text, no_costs, with_inclusive}
 use Rattle.prof_books.specs.Book.{cells_held, stacks_held}
 use Rattle.plain_tables.specs.Tables.{Tables}
 use Rattle.profile_records.specs.declared.kinds.Kind.{Kind}
@@ -18,17 +17,6 @@ use Rattle.histories.specs.declared.answers.Selection.{Selection}
 use Rattle.store_histories.specs.FromTables.{AnswersBy, ShowsText}
 use Rattle.selected_runs.specs.EventRuns.{AreEventRunsIn}
 use Rattle.selected_runs.specs.declared.counting.Counted.{Counted}
-
--- ---- one row, of a run whose columns count so often
-
-abbrev pub with_self_row : List ℕ × InclusiveCosts → Cell (List ℕ) → List ℕ × InclusiveCosts
-with_self_row m row = (m.0, with_self m.1 (weighted m.0 row))
-
-abbrev pub with_call_row : List ℕ × InclusiveCosts → CallEdge (List ℕ) (List ℕ) → List ℕ × InclusiveCosts
-with_call_row m row = (m.0, with_outward m.1 (weighted_calls m.0 row))
-
-abbrev pub with_stack_row : List ℕ × InclusiveCosts → StackCount (List ℕ) → List ℕ × InclusiveCosts
-with_stack_row m row = (m.0, with_stack m.1 row)
 
 -- ---- the rows of runs
 

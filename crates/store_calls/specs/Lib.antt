@@ -1,2 +1,3 @@
 pub mod FunctionCalls
+pub mod InclusiveParts
 pub mod InclusiveRuns

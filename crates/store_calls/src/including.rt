@@ -9,13 +9,14 @@ ghost use Rattle.run_stores.specs.Calls.{Told, AsksIfOpen};
 ghost use Rattle.run_stores.specs.Walks.{IsOfAnEvent};
 ghost use Rattle.histories.specs.declared.answers.Query.TheVariants.{Inclusive};
 ghost use Rattle.store_histories.specs.Answered.{AnswersAsked};
+ghost use Rattle.store_calls.specs.InclusiveParts.{costs_named};
 ghost use Rattle.store_calls.specs.InclusiveRuns.{Adds, AreRowsCounted, AreRowsOfKind, IsInclusive, IsInclusiveText};
 
+use crate::inclusive_parts::InclusiveParts;
 use crate::inclusive_sums::InclusiveRows;
 use cg_text::ListVec;
 use cost_reports::{InclusiveSums, inclusive};
 use histories::{Answer, Selection};
-use named_rows::{each_named_call, each_named_cell};
 use profile_records::Kind;
 use run_stores::{RunStore, StoreError};
 use selected_runs::{Counted, RunFold, event_runs, fold_runs};
@@ -28,34 +29,42 @@ fn add_callgrind<S: RunStore>(
     names: &S::Names,
     run: &Counted,
     counts: &[u64],
-    sums: InclusiveSums,
-) -> Result<InclusiveSums, StoreError>
+    parts: InclusiveParts,
+) -> Result<InclusiveParts, StoreError>
     ensures told { Told S.StoreState result store.old store.new (λ t all. S.Names.name_rows names.now ≡ t.names
-        → Adds (AreRowsOfKind Callgrind t run.now.number counts.now) sums all) }
+        → Adds (AreRowsOfKind Callgrind t run.now.number counts.now) (costs_named (S.Names.name_rows names.now) parts) (costs_named (S.Names.name_rows names.now) all)) }
     ensures of_events { Told S.StoreState result store.old store.new (λ t _. AllByRecursion (IsOfAnEvent run.now.events) (cells_in run.now.number t)) }
     ensures asks { AsksIfOpen S.StoreState (is_ok result) store.old store.new }
 {
-    let rows = InclusiveRows { counts, sums };
-    let own = each_named_cell(store, run.number, names, run.events, rows)?;
-    let all = each_named_call(store, alloc, run.number, names, run.events, own)?;
-    let InclusiveRows { counts: _, sums } = all;
-    Ok(sums)
+    let rows = InclusiveRows {
+        names,
+        counts,
+        parts,
+    };
+    let own = store.each_cell(run.number, run.events, rows)?;
+    let all = store.each_call(alloc, run.number, run.events, own)?;
+    Ok(all.parts)
 }
 
 /// Adds the stacks of a folded run.
 fn add_folded<S: RunStore>(
     store: &mut S,
+    names: &S::Names,
     run: &Counted,
     counts: &[u64],
-    sums: InclusiveSums,
-) -> Result<InclusiveSums, StoreError>
-    ensures told { Told S.StoreState result store.old store.new (λ t all. Adds (AreRowsOfKind Folded t run.now.number counts.now) sums all) }
+    parts: InclusiveParts,
+) -> Result<InclusiveParts, StoreError>
+    ensures told { Told S.StoreState result store.old store.new (λ t all.
+        Adds (AreRowsOfKind Folded t run.now.number counts.now) (costs_named (S.Names.name_rows names.now) parts) (costs_named (S.Names.name_rows names.now) all)) }
     ensures asks { AsksIfOpen S.StoreState (is_ok result) store.old store.new }
 {
-    let rows = InclusiveRows { counts, sums };
+    let rows = InclusiveRows {
+        names,
+        counts,
+        parts,
+    };
     let all = store.each_stack(run.number, rows)?;
-    let InclusiveRows { counts: _, sums } = all;
-    Ok(sums)
+    Ok(all.parts)
 }
 
 /// Adds the rows of a run of its kind.
@@ -65,14 +74,15 @@ fn add_rows<S: RunStore>(
     names: &S::Names,
     run: &Counted,
     counts: &[u64],
-    sums: InclusiveSums,
-) -> Result<InclusiveSums, StoreError>
-    ensures told { Told S.StoreState result store.old store.new (λ t all. S.Names.name_rows names.now ≡ t.names → Adds (AreRowsCounted t run.now.number counts.now) sums all) }
+    parts: InclusiveParts,
+) -> Result<InclusiveParts, StoreError>
+    ensures told { Told S.StoreState result store.old store.new (λ t all. S.Names.name_rows names.now ≡ t.names
+        → Adds (AreRowsCounted t run.now.number counts.now) (costs_named (S.Names.name_rows names.now) parts) (costs_named (S.Names.name_rows names.now) all)) }
     ensures asks { AsksIfOpen S.StoreState (is_ok result) store.old store.new }
 {
     match store.kind_of(run.number)? {
-        Kind::Callgrind => add_callgrind(store, alloc, names, run, counts, sums),
-        Kind::Folded => add_folded(store, run, counts, sums),
+        Kind::Callgrind => add_callgrind(store, alloc, names, run, counts, parts),
+        Kind::Folded => add_folded(store, names, run, counts, parts),
     }
 }
 
@@ -85,23 +95,25 @@ struct InclusiveOfRuns<'n, N> {
 
 impl<S: RunStore> RunFold<S> for InclusiveOfRuns<'_, S::Names> {
     ghost use Rattle.std.specs.Prelude.{◌≡◌};
+    ghost use Rattle.store_calls.specs.InclusiveParts.{costs_named};
     ghost use Rattle.store_calls.specs.InclusiveRuns.{Adds, AreRowsOf};
 
     type Run = Counted;
 
-    type Sums = InclusiveSums;
+    type Sums = InclusiveParts;
 
-    ghost Step = { λ s t run old new. S.Names.name_rows s.names.now ≡ t.names → Adds (AreRowsOf t run) old new };
+    ghost Step = { λ s t run old new. S.Names.name_rows s.names.now ≡ t.names
+        → Adds (AreRowsOf t run) (costs_named (S.Names.name_rows s.names.now) old) (costs_named (S.Names.name_rows s.names.now) new) };
 
     fn add(
         &self,
         store: &mut S,
         run: &Counted,
-        sums: InclusiveSums,
-    ) -> Result<InclusiveSums, StoreError> {
+        parts: InclusiveParts,
+    ) -> Result<InclusiveParts, StoreError> {
         match &run.counts {
-            Some(counts) => add_rows(store, self.alloc, self.names, run, counts.as_slice(), sums),
-            None => Ok(sums),
+            Some(counts) => add_rows(store, self.alloc, self.names, run, counts.as_slice(), parts),
+            None => Ok(parts),
         }
     }
 }
@@ -130,7 +142,8 @@ fn text_of_runs<S: RunStore>(
     ensures asks { AsksIfOpen S.StoreState (is_ok result) store.old store.new }
 {
     let adder = InclusiveOfRuns { alloc, names };
-    let sums = fold_runs(store, &adder, runs, InclusiveSums::new(alloc))?;
+    let parts = fold_runs(store, &adder, runs, InclusiveParts::new(alloc))?;
+    let sums = parts.named(alloc, names)?;
     Ok(text_of_sums(alloc, &sums, event)?)
 }
 

@@ -1,73 +1,89 @@
 // The rows of runs, added up to what functions cost with all that they call.
-use crate::weights::{most_of, weighed_within, with_cost};
+use crate::inclusive_parts::InclusiveParts;
+use crate::own_calls::is_of_itself;
+use crate::weights::{most_of, weighed_within};
 use cg_text::ListVec;
-use cost_reports::InclusiveSums;
 use cost_rows::{CallEdge, Cell, StackCount};
-use named_rows::{NamedCallSink, NamedCellSink};
-use run_stores::{StackRowSink, StoreError};
-use selected_runs::{is_within, weighted_within};
+use run_stores::{CallSink, CellSink, NameTable, StackRowSink, StoreError};
+use selected_runs::{cost_within, is_within, times_of};
 
-/// Inclusive costs, and how often each column of the run that is read counts in the event.
+/// Inclusive costs, the names of the store, and how often each column of the run that is read counts in the
+/// event. What was added means what it costs by name.
 #[derive(Drop)]
-pub(crate) struct InclusiveRows<'a> {
+pub(crate) struct InclusiveRows<'a, N> {
+    pub names: &'a N,
     pub counts: &'a [u64],
-    pub sums: InclusiveSums,
+    pub parts: InclusiveParts,
 }
 
-impl NamedCellSink for InclusiveRows<'_> {
-    ghost use Rattle.std.specs.Prelude.{List, ℕ};
-    ghost use Rattle.report_texts.specs.Inclusive.{InclusiveCosts};
-    ghost use Rattle.store_calls.specs.InclusiveRuns.{with_self_row};
+impl<N: NameTable> CellSink for InclusiveRows<'_, N> {
+    ghost use Rattle.store_calls.specs.InclusiveParts.{Counting, costs_named, with_self_row};
 
-    ghost Meaning = { List ℕ × InclusiveCosts };
+    ghost Meaning = { Counting };
 
-    ghost meaning = { λ s. (s.counts.now, s.sums) };
+    ghost meaning = { λ s. record { names = N.name_rows s.names.now; counts = s.counts.now; costs = costs_named (N.name_rows s.names.now) s.parts } };
 
     ghost step = { with_self_row };
 
-    fn take(&mut self, row: &Cell<&[u8]>) -> Result<(), StoreError> {
-        let Some(cell) = weighted_within(self.sums.sum(), self.counts, row) else {
+    fn take(&mut self, row: &Cell<u32>) -> Result<(), StoreError> {
+        let times = times_of(self.counts, row.event);
+        let Some(cost) = cost_within(self.parts.numbers.total(), times, row.cost) else {
             return Err(StoreError::Store);
         };
-        if !is_within(self.sums.total(), cell.cost) {
+        if !is_within(self.parts.own, cost) {
             return Err(StoreError::Store);
         }
-        self.sums.add_self(&cell)?;
+        self.parts.add_self(&Cell {
+            object: row.object,
+            file: row.file,
+            function: row.function,
+            line: row.line,
+            thread: row.thread,
+            event: 0,
+            cost,
+        })?;
         Ok(())
     }
 }
 
-impl NamedCallSink for InclusiveRows<'_> {
-    ghost use Rattle.std.specs.Prelude.{List, ℕ};
-    ghost use Rattle.report_texts.specs.Inclusive.{InclusiveCosts};
-    ghost use Rattle.store_calls.specs.InclusiveRuns.{with_call_row};
+impl<N: NameTable> CallSink for InclusiveRows<'_, N> {
+    ghost use Rattle.store_calls.specs.InclusiveParts.{Counting, costs_named, with_call_row};
 
-    ghost Meaning = { List ℕ × InclusiveCosts };
+    ghost Meaning = { Counting };
 
-    ghost meaning = { λ s. (s.counts.now, s.sums) };
+    ghost meaning = { λ s. record { names = N.name_rows s.names.now; counts = s.counts.now; costs = costs_named (N.name_rows s.names.now) s.parts } };
 
     ghost step = { with_call_row };
 
-    fn take(&mut self, row: &CallEdge<&[u8], ListVec<u128>>) -> Result<(), StoreError> {
+    fn take(&mut self, row: CallEdge<u32, ListVec<u128>>) -> Result<(), StoreError> {
+        if is_of_itself(self.names, &row)? {
+            return Ok(());
+        }
         let Some(cost) = weighed_within(self.counts, row.costs.as_slice()) else {
             return Err(StoreError::Store);
         };
-        if !is_within(self.sums.sum(), cost) {
+        if !is_within(self.parts.numbers.total(), cost) {
             return Err(StoreError::Store);
         }
-        self.sums.add_calls(&with_cost(row, cost))?;
+        self.parts.add_outward(&Cell {
+            object: row.object,
+            file: row.file,
+            function: row.function,
+            line: row.line,
+            thread: 0,
+            event: 0,
+            cost,
+        })?;
         Ok(())
     }
 }
 
-impl StackRowSink for InclusiveRows<'_> {
-    ghost use Rattle.std.specs.Prelude.{List, ℕ};
-    ghost use Rattle.report_texts.specs.Inclusive.{InclusiveCosts};
-    ghost use Rattle.store_calls.specs.InclusiveRuns.{with_stack_row};
+impl<N: NameTable> StackRowSink for InclusiveRows<'_, N> {
+    ghost use Rattle.store_calls.specs.InclusiveParts.{Counting, costs_named, with_stack_row};
 
-    ghost Meaning = { List ℕ × InclusiveCosts };
+    ghost Meaning = { Counting };
 
-    ghost meaning = { λ s. (s.counts.now, s.sums) };
+    ghost meaning = { λ s. record { names = N.name_rows s.names.now; counts = s.counts.now; costs = costs_named (N.name_rows s.names.now) s.parts } };
 
     ghost step = { with_stack_row };
 
@@ -75,10 +91,12 @@ impl StackRowSink for InclusiveRows<'_> {
         let Some(most) = most_of(row.stack.len(), row.count) else {
             return Err(StoreError::Store);
         };
-        if !is_within(self.sums.sum(), most) || !is_within(self.sums.total(), row.count) {
+        if !is_within(self.parts.stacks.sum(), most)
+            || !is_within(self.parts.stacks.total(), row.count)
+        {
             return Err(StoreError::Store);
         }
-        self.sums.add_stack(row)?;
+        self.parts.add_stack(row)?;
         Ok(())
     }
 }

@@ -9,10 +9,16 @@ mod calling;
 mod function_calls;
 // Answers `inclusive` (specs/InclusiveRuns.antt).
 mod including;
+// Inclusive costs by the numbers of names, and those of stacks (specs/InclusiveParts.antt).
+mod inclusive_parts;
 // The rows of runs, added up to inclusive costs.
 mod inclusive_sums;
 // Looks for a function in the rows of runs.
 mod known_names;
+// Whether calls are of the caller itself.
+mod own_calls;
+// Adds to both, and joins them at the end.
+mod part_sums;
 // What rows cost in the event, within bounds.
 mod weights;
 

@@ -1,0 +1,12 @@
+use Rattle.std.proofs.Common.{◌≡◌, ◌+◌, ◌<◌, ◌^◌, ℕ, List, fold, sum_by}
+use Rattle.cost_rows.specs.KeySums.{rows_of, total_of, with_row}
+use Rattle.cost_rows.specs.declared.rows.Cell.{Cell}
+use Rattle.cost_reports.proofs.inclusives.add_sums.Given as goal
+
+-- what is held with the sums to come is all
+abbrev pub invariant-loop-row : goal.invariant-loop-row
+invariant-loop-row l = record {
+  sums : fold with_row l.merged l.row-iterator ≡ fold with_row l.initial.merged (rows_of l.others.sums);
+  key : l.merged.key ≡ l.initial.merged.key;
+  small : total_of l.merged.sums + sum_by (λ (r : Cell (List ℕ)). r.cost) l.row-iterator < 2 ^ 112;
+}

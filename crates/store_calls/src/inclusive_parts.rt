@@ -1,0 +1,19 @@
+// Inclusive costs in two parts, which are one when all runs were added.
+ghost use Rattle.std.specs.Prelude.{◌≡◌};
+ghost use Rattle.cost_rows.specs.declared.keys.Key.TheVariants.{Function};
+
+use cost_reports::InclusiveSums;
+use number_sums::NumberSums;
+
+/// What functions cost with all that they call, in two parts. The rows of Callgrind runs have the numbers of names,
+/// and are added up by these; the frames of folded runs have none.
+#[derive(Drop)]
+pub(crate) struct InclusiveParts {
+    /// Self costs, and the costs of calls to another function at the caller, by function.
+    pub numbers: NumberSums,
+    /// What the self costs among them come to.
+    pub own: u128,
+    /// What stacks come to.
+    pub stacks: InclusiveSums,
+    ghost by_function: { numbers.key ≡ Function },
+}
