@@ -2,7 +2,6 @@
 use Rattle.std.proofs.Common.{◌≡◌, ℕ, List, [], ◌∷◌, codes, refl}
 use Rattle.std.specs.Fmt.{digits}
 use Rattle.cg_text.specs.Names.{unknown}
-use Rattle.profile_records.specs.Records.{Record, Own, Called}
 use Rattle.profile_records.specs.Stacks.{Seen}
 use Rattle.report_texts.specs.Calls.{all_calls, calls_by, call_report_of, call_report_text}
 use Rattle.report_texts.specs.Costs.{EventRecords}

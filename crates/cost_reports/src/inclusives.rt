@@ -1,23 +1,22 @@
 // What functions cost with all that they call.
 ghost use Rattle.std.specs.Prelude.{◌≡◌, ◌+◌, ◌*◌, ◌<◌, ◌^◌, [], fold, length, OnOk, IfOk};
 ghost use Rattle.cost_rows.specs.KeySums.{total_of, with_row, rows_of};
-ghost use Rattle.cost_rows.specs.Plain.{plain_cell, plain_stack};
+ghost use Rattle.cost_rows.specs.Plain.{plain_stack};
 ghost use Rattle.cost_rows.specs.declared.keys.Key.TheVariants.{Function};
-ghost use Rattle.report_texts.specs.Calls.{calls_of_row};
-ghost use Rattle.report_texts.specs.Inclusive.{inclusive_report, names_in, names_costs, with_self, with_outward, with_stack};
+ghost use Rattle.report_texts.specs.Inclusive.{inclusive_report, names_in, names_costs, with_stack};
 ghost use Rattle.report_texts.specs.Pairs.{AreBelow};
 ghost use Rattle.cost_reports.specs.Rows.{plain_rows};
 
 use crate::frames::functions_in;
 use crate::ranks::ranked_rows;
 use crate::rows::Row;
-use cost_rows::{CallEdge, Cell, Key, Merged, StackCount};
+use cost_rows::{Cell, Key, Merged, StackCount};
 use std::alloc::{AllocError, Global};
 use std::collections::BTreeSet;
 use std::marker::Model;
 
-/// What functions cost with all that they call, added up row by row: contracts see a cost above 0
-/// for each function, in order, and what all cost by themselves.
+/// What functions cost with all that they call: contracts see a cost above 0 for each function, in order,
+/// and what all cost by themselves.
 #[derive(Drop)]
 pub struct InclusiveSums {
     alloc: Global,
@@ -100,36 +99,6 @@ impl InclusiveSums {
         self.merged.total()
     }
 
-    /// Adds a row of self costs of a Callgrind run. Those of a folded run are in its stacks.
-    pub fn add_self(&mut self, row: &Cell<&[u8]>) -> Result<(), AllocError>
-        requires small { AreBelow (total_of self.old.sums + row.now.cost) (self.old.total + row.now.cost) }
-        ensures { OnOk result (self.new ≡ with_self self.old (plain_cell row.now)) }
-    {
-        self.merged.add(row)?;
-        self.total += row.cost;
-        Ok(())
-    }
-
-    /// Adds a row of calls, which costs its caller what the calls cost, unless they are of the caller
-    /// itself.
-    pub fn add_calls(&mut self, row: &CallEdge<&[u8], u128>) -> Result<(), AllocError>
-        requires small { total_of self.old.sums + row.now.costs < 2 ^ 112 }
-        ensures { OnOk result (self.new ≡ with_outward self.old (calls_of_row row.now)) }
-    {
-        if row.object == row.called_object && row.function == row.called_function {
-            return Ok(());
-        }
-        self.merged.add(&Cell {
-            object: row.object,
-            file: b"???".as_slice(),
-            function: row.function,
-            line: 0,
-            thread: 0,
-            event: 0,
-            cost: row.costs,
-        })
-    }
-
     /// Adds a row of stacks of a folded run: its count once for each function that has a frame in it.
     /// They are at most as many as the frames have bytes, and one more: so much room is asked for.
     pub fn add_stack(&mut self, row: &StackCount<&[u8]>) -> Result<(), AllocError>
@@ -143,20 +112,19 @@ impl InclusiveSums {
         Ok(())
     }
 
-    /// With sums by function that other rows came to, of which `own` is what functions cost by themselves. What
-    /// is held already is added to these.
-    pub fn with_costs(self, costs: Merged, own: u128) -> Result<InclusiveSums, AllocError>
+    /// These sums with others, by function, of which so much is self cost.
+    pub fn with_costs(self, costs: Merged, self_cost: u128) -> Result<InclusiveSums, AllocError>
         requires key { costs.key ≡ Function }
-        requires small { AreBelow (total_of costs.sums + total_of self.sums) (own + self.total) }
+        requires small { AreBelow (total_of costs.sums + total_of self.sums) (self_cost + self.total) }
         ensures sums { IfOk result (λ all. all.sums ≡ (fold with_row costs (rows_of self.sums)).sums) }
-        ensures total { IfOk result (λ all. all.total ≡ own + self.total) }
+        ensures total { IfOk result (λ all. all.total ≡ self_cost + self.total) }
     {
         let mut merged = costs;
         add_sums(&mut merged, &self.merged)?;
         Ok(InclusiveSums {
             alloc: self.alloc,
             merged,
-            total: own + self.total,
+            total: self_cost + self.total,
         })
     }
 }

@@ -15,11 +15,11 @@ use Rattle.run_stores.specs.Names.{named_call, named_cell}
 use Rattle.number_sums.specs.Sums.{number_rows}
 use Rattle.store_calls.specs.declared.inclusive_parts.InclusiveParts.{InclusiveParts}
 
--- what both parts come to, with the names in place
+-- what both parts sum to, with the names in place
 abbrev pub costs_named : List NameRow → InclusiveParts → InclusiveCosts
 costs_named names parts = record {
   sums = sums_by Function (map (named_cell names) (number_rows parts.numbers.sums) ++ rows_of parts.stacks.sums);
-  total = parts.own + parts.stacks.total;
+  total = parts.self_cost + parts.stacks.total;
 }
 
 -- a cost that is added at a function, and not to what all cost by themselves

@@ -5,15 +5,15 @@ ghost use Rattle.cost_rows.specs.declared.keys.Key.TheVariants.{Function};
 use cost_reports::InclusiveSums;
 use number_sums::NumberSums;
 
-/// What functions cost with all that they call, in two parts. The rows of Callgrind runs have the numbers of names,
+/// What functions cost with all that they call, in two parts: the rows of Callgrind runs have the numbers of names,
 /// and are added up by these; the frames of folded runs have none.
 #[derive(Drop)]
 pub(crate) struct InclusiveParts {
     /// Self costs, and the costs of calls to another function at the caller, by function.
     pub numbers: NumberSums,
-    /// What the self costs among them come to.
-    pub own: u128,
-    /// What stacks come to.
+    /// What the self costs among them sum to.
+    pub self_cost: u128,
+    /// What functions cost in stacks.
     pub stacks: InclusiveSums,
     ghost by_function: { numbers.key ≡ Function },
 }

@@ -30,7 +30,7 @@ impl<N: NameTable> CellSink for InclusiveRows<'_, N> {
         let Some(cost) = cost_within(self.parts.numbers.total(), times, row.cost) else {
             return Err(StoreError::Store);
         };
-        if !is_within(self.parts.own, cost) {
+        if !is_within(self.parts.self_cost, cost) {
             return Err(StoreError::Store);
         }
         self.parts.add_self(&Cell {

@@ -24,18 +24,18 @@ impl InclusiveParts {
     {
         InclusiveParts {
             numbers: NumberSums::new(alloc, Key::Function),
-            own: 0,
+            self_cost: 0,
             stacks: InclusiveSums::new(alloc),
         }
     }
 
     /// Adds a row of self costs.
     pub fn add_self(&mut self, row: &Cell<u32>) -> Result<(), AllocError>
-        requires small { AreBelow (numbers_total self.old.numbers.sums + row.now.cost) (self.old.own + row.now.cost) }
+        requires small { AreBelow (numbers_total self.old.numbers.sums + row.now.cost) (self.old.self_cost + row.now.cost) }
         ensures { OnOk result ((names : List NameRow) → costs_named names self.new ≡ with_self (costs_named names self.old) (named_cell names row.now)) }
     {
         self.numbers.add(row)?;
-        self.own += row.cost;
+        self.self_cost += row.cost;
         Ok(())
     }
 
@@ -65,15 +65,15 @@ impl InclusiveParts {
     {
         let InclusiveParts {
             numbers,
-            own,
+            self_cost,
             stacks,
             ..
         } = self;
         let costs = numbers.named(alloc, names)?;
-        if !is_within(costs.total(), stacks.sum()) || !is_within(own, stacks.total()) {
+        if !is_within(costs.total(), stacks.sum()) || !is_within(self_cost, stacks.total()) {
             return Err(StoreError::Store);
         }
-        let all = stacks.with_costs(costs, own)?;
+        let all = stacks.with_costs(costs, self_cost)?;
         Ok(all)
     }
 }

@@ -5,4 +5,4 @@ use Rattle.store_calls.proofs.inclusive_parts.InclusiveParts.add_stack.Goals as 
 pub returns : goal.returns
 returns c =
     let old = c.args.self.now in
-    λ names. stack_more names old.numbers old.own old.stacks _ (plain_stack c.args.row.now) c.in_ok-add_stack.ensures
+    λ names. stack_more names old.numbers old.self_cost old.stacks _ (plain_stack c.args.row.now) c.in_ok-add_stack.ensures
