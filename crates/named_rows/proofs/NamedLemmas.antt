@@ -105,6 +105,10 @@ module _ (names : List NameRow) where
   rows_named [] = refl
   rows_named (r ∷ rows) = map-append named_part (parts_of r) (flat_map parts_of rows) ∙ ap₂ ◌++◌ (row_named r) (rows_named rows)
 
+  -- the parts of rows, with names in place
+  pub parts_named : (lines : List CallRow) (rows : List (CallEdge ℕ (List ℕ))) → map part_numbers lines ≡ flat_map parts_of rows → map (part_held names) lines ≡ flat_map book.parts_of (map (named_call names) rows)
+  parts_named lines rows are = lines_named lines ∙ ap (map named_part) are ∙ rows_named rows
+
   all_long : (events : ℕ) (rows : List (CallEdge ℕ (List ℕ))) → AllByRecursion (λ (r : CallEdge ℕ (List ℕ)). length r.costs ≡ events) rows → AllByRecursion (λ (r : CallEdge (List ℕ) (List ℕ)). length r.costs ≡ events) (map (named_call names) rows)
   all_long events [] all = tt
   all_long events (r ∷ rows) all = (all.0, all_long events rows all.1)
@@ -116,7 +120,7 @@ module _ (names : List NameRow) where
       let held = (all.1 (sym (ap (λ (n : Naming M). n.all_held) was.comes) ∙ is)).1 in
       record {
         rows = map (named_call names) was.rows;
-        parts_are = lines_named lines ∙ ap (map named_part) was.parts_are ∙ rows_named was.rows;
+        parts_are = parts_named lines was.rows was.parts_are;
         named = lines_are_named lines (subst (AllByRecursion PartIsNamed) (sym was.parts_are) (parts_are_named was.rows held));
         long = all_long events was.rows was.long;
         comes = ap (λ (n : Naming M). n.taken) was.comes ∙ all.0;

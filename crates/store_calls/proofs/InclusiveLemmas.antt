@@ -4,7 +4,6 @@ use Rattle.std.specs.Prelude.{unwrap_or, Result, Ok, Err}
 use Rattle.std.specs.List.{AllByRecursion}
 use Rattle.std.specs.Option.{is_some, MatchOption}
 use Rattle.std.proofs.lemmas.Grind.{fold-append}
-use Rattle.std.proofs.lemmas.List.{map-append}
 use Rattle.plain_tables.specs.Lists.{Has}
 use Rattle.cost_rows.specs.KeySums.{rows_of, with_row}
 use Rattle.cost_rows.specs.StackSums.{frames_sum}
@@ -13,24 +12,21 @@ use Rattle.cost_rows.specs.WalkSums.{stacks_count}
 use Rattle.cost_rows.specs.declared.rows.CallEdge.{CallEdge}
 use Rattle.cost_rows.specs.declared.rows.Cell.{Cell}
 use Rattle.cost_rows.specs.declared.rows.StackCount.{StackCount}
-use Rattle.cost_rows.proofs.AboveLemmas.{map-above}
 use Rattle.report_texts.specs.Calls.{CallsRepresent, CallsRepresentEach, EventEdges, all_edges, weighted_calls}
 use Rattle.report_texts.specs.Costs.{EventCells, StandForEach, Represents, all_rows, weighted}
 use Rattle.report_texts.specs.Functions.{is_one_function}
 use Rattle.report_texts.specs.Inclusive.{InclusiveCosts, InclusiveRow, OfSelf, OfCalls, OfStack, SameStacks, by_function, calls_in, inclusive_report, inclusive_rows, inclusive_text, no_costs, self_in, stacks_in, with_inclusive, with_outward, with_self}
 use Rattle.cost_reports.proofs.AddedLemmas.{inclusive_come_to}
 use Rattle.cost_reports.proofs.InclusiveLemmas.{inclusive_are_records}
-use Rattle.prof_books.specs.Book as book
-use Rattle.prof_books.specs.Book.{CallPart, cell_held, cells_held, name_of, part_held, stacks_held}
-use Rattle.plain_tables.specs.Tables.{Tables, CallRow, CellRow, NameRow}
+use Rattle.prof_books.specs.Book.{cell_held, cells_held, stacks_held}
+use Rattle.plain_tables.specs.Tables.{Tables, CellRow, NameRow}
 use Rattle.profile_records.specs.Stacks.{Seen}
 use Rattle.profile_records.specs.declared.kinds.Kind.{Kind}
 use Rattle.profile_records.specs.declared.kinds.Kind.TheVariants.{Callgrind, Folded}
 use Rattle.named_rows.specs.Named.{AreCallsOf}
 use Rattle.run_stores.specs.Lookups.{IsKindOf}
 use Rattle.run_stores.specs.Names.{named_call}
-use Rattle.run_stores.specs.Walks as walks
-use Rattle.run_stores.specs.Walks.{PartNumbers, cell_numbers, part_numbers}
+use Rattle.run_stores.specs.Walks.{cell_numbers}
 use Rattle.histories.specs.Formats as formats
 use Rattle.histories.specs.Formats.{Format, kind_in}
 use Rattle.histories.specs.Files.{records_of, stacks_of}
@@ -74,37 +70,6 @@ stacks_taken m (stack ∷ stacks) = stacks_taken (with_stack_row m stack) stacks
 -- what was taken by names that stay
 pub came_to : {names : List NameRow} {counts : List ℕ} {m : Counting} (parts : InclusiveParts) → record { names = names; counts = counts; costs = costs_named names parts } ≡ m → costs_named m.names parts ≡ m.costs
 came_to parts came = sym (ap (λ (m : Counting). costs_named m.names parts) came) ∙ ap (λ (m : Counting). m.costs) came
-
--- ---- the parts of calls by number, with their names
-
-module _ (names : List NameRow) where
-  abbrev named_part : PartNumbers → CallPart
-  named_part p = record {
-    object = name_of names p.object;
-    file = name_of names p.file;
-    function = name_of names p.function;
-    line = p.line;
-    called_object = name_of names p.called_object;
-    called_file = name_of names p.called_file;
-    called_function = name_of names p.called_function;
-    part = p.part;
-    sum = p.sum;
-  }
-
-  lines_named : (lines : List CallRow) → map (part_held names) lines ≡ map named_part (map part_numbers lines)
-  lines_named [] = refl
-  lines_named (line ∷ lines) = ap (λ parts. part_held names line ∷ parts) (lines_named lines)
-
-  edge_named : (r : CallEdge ℕ (List ℕ)) → map named_part (walks.parts_of r) ≡ book.parts_of (named_call names r)
-  edge_named r = ap (λ parts. book.part_of (named_call names r) 0 r.count ∷ parts) (map-above named_part (walks.part_of r) (book.part_of (named_call names r)) (λ part sum. refl) 1 r.costs)
-
-  edges_named : (edges : List (CallEdge ℕ (List ℕ))) → map named_part (flat_map walks.parts_of edges) ≡ flat_map book.parts_of (map (named_call names) edges)
-  edges_named [] = refl
-  edges_named (r ∷ edges) = map-append named_part (walks.parts_of r) (flat_map walks.parts_of edges) ∙ ap₂ ◌++◌ (edge_named r) (edges_named edges)
-
-  pub calls_named : (lines : List CallRow) (edges : List (CallEdge ℕ (List ℕ))) → map part_numbers lines ≡ flat_map walks.parts_of edges
-      → map (part_held names) lines ≡ flat_map book.parts_of (map (named_call names) edges)
-  calls_named lines edges are = lines_named lines ∙ ap (map named_part) are ∙ edges_named edges
 
 -- ---- runs one after another
 

@@ -8,7 +8,8 @@ use Rattle.plain_tables.specs.Tables.{NameRow}
 use Rattle.prof_books.specs.Book.{cell_held, part_held}
 use Rattle.store_calls.specs.InclusiveParts.{Counting, costs_named, with_call_row}
 use Rattle.store_calls.specs.InclusiveRuns.{call_rows, self_rows}
-use Rattle.store_calls.proofs.InclusiveLemmas.{came_to, calls_named, calls_taken, self_taken}
+use Rattle.named_rows.proofs.NamedLemmas.{parts_named}
+use Rattle.store_calls.proofs.InclusiveLemmas.{came_to, calls_taken, self_taken}
 use Rattle.store_calls.proofs.including.add_callgrind.Goals as goal
 
 pub returns-clause-told : goal.returns-clause-told
@@ -29,7 +30,7 @@ returns-clause-told g c clean t represents held =
       before ++ after,
       (
         calls,
-        ap (λ (n : List NameRow). map (part_held n) (calls_in c.args.run.now.number t)) (sym held) ∙ calls_named names (calls_in c.args.run.now.number t) walk.rows walk.parts_are,
+        ap (λ (n : List NameRow). map (part_held n) (calls_in c.args.run.now.number t)) (sym held) ∙ parts_named names (calls_in c.args.run.now.number t) walk.rows walk.parts_are,
         ap (λ (n : List NameRow). self_rows counts (map (cell_held n) lines) ++ after) held,
       ),
       came_to c.in_ok-all.all.parts came ∙ sym (fold-append with_inclusive start.costs before after),
