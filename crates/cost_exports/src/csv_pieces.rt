@@ -65,12 +65,12 @@ impl Pieces {
         })
     }
 
-    /// Whether the rows that are gathered are a piece.
+    /// Whether the rows that are gathered are a piece. No guarantee: how long pieces are is in no text.
     pub(crate) fn are_full(&self) -> bool {
         self.rows.get_ref().len() >= PIECE
     }
 
-    /// Takes the rows that are gathered, and gathers those that follow in the memory of others.
+    /// Takes the rows that are gathered: those that follow are gathered in a new text.
     fn take(&mut self, alloc: Global) -> Writer<Vec<u8>>
         ensures rows { result ≡ self.old.rows }
         ensures begun { self.new.begun ≡ self.old.begun }
