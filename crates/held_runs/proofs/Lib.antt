@@ -1,3 +1,4 @@
+pub mod Apart
 pub mod CallRows
 pub mod Asking
 pub mod Examples
@@ -7,6 +8,7 @@ pub mod LineWalks
 mod LookupFinds
 mod NameLists
 mod NumberLists
+pub mod NumbersOfNames
 mod SelfSumLists
 mod PlainLines
 mod RunTexts

@@ -3,7 +3,8 @@ ghost use Rattle.std.specs.Prelude.{◌≡◌, ◌≢◌, ◌<◌, None, [], map
 ghost use Rattle.std.specs.List.{AllAdjacentBelow};
 ghost use Rattle.std.specs.Result.{is_ok};
 ghost use Rattle.sqlite_trees.specs.Tree.{IsAscending};
-ghost use Rattle.prof_books.specs.Book.{name_of, IsHeld};
+ghost use Rattle.prof_books.specs.Book.{name_of, no_name, IsHeld};
+ghost use Rattle.run_stores.specs.Names.{IsNumberOf};
 ghost use Rattle.held_runs.specs.HeadRows.{first_two};
 ghost use Rattle.held_runs.specs.NameRows.{name_row, name_seen, name_shown, IsNameAt};
 ghost use Rattle.prof_store.specs.Shown.{Told, Found, Asks};
@@ -103,6 +104,27 @@ fn name_in(names: &[HeldName], number: u32) -> Option<&[u8]>
     name_at(names, at, number)
 }
 
+/// Bytes are not what stands for the name of a number that has none. It does nothing.
+pub fn is_name(bytes: &[u8])
+    ensures { bytes.now ≢ no_name }
+{
+    let _ = bytes;
+}
+
+/// The number of a name, among names whose numbers rise.
+fn number_in(names: &[HeldName], name: &[u8]) -> Option<u32>
+    requires { IsAscending (λ a b. a.number < b.number) names.now }
+    ensures { IsNumberOf (map name_row names.now) name.now result }
+{
+    is_name(name);
+    for held in names {
+        if held.bytes.as_slice() == name {
+            return Some(held.number);
+        }
+    }
+    None
+}
+
 impl HeldNames {
     /// Names whose numbers rise, one after another; `OutOfForm` where they do not.
     pub fn of(names: Vec<HeldName>) -> Result<HeldNames, OutOfForm>
@@ -115,6 +137,13 @@ impl HeldNames {
         } else {
             Err(OutOfForm)
         }
+    }
+
+    /// The number of a name, if it is held. Takes no memory.
+    pub fn number_of(&self, name: &[u8]) -> Option<u32>
+        ensures { IsNumberOf self.now name.now result }
+    {
+        number_in(&self.names, name)
     }
 }
 

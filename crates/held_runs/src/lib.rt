@@ -41,7 +41,7 @@ pub use handed_stacks::{StackLines, each_stack};
 pub use head_rows::{HeadCoef, HeadDerived, HeadEvent};
 pub use heads::head_of;
 pub use heads_held::head_in;
-pub use held_names::{HeldName, HeldNames, names_of};
+pub use held_names::{HeldName, HeldNames, is_name, names_of};
 pub use lookups::{baseline_of, kind_of};
 pub use numbers::{members_of, run_numbers};
 pub use run_stores::{CallSink, CellSink, NameTable, StackRowSink};

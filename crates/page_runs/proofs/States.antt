@@ -19,6 +19,7 @@ module _ {D : Type 0} {g : Ghosts D} where
     reads_after t is = record {
       listed = subst (AreListed t) (sym lists) is.listed;
       names = shows_after old.file new.file new.roots.names _ file (subst (λ (r : Roots). ShowsRows old.file r.names (map name_columns t.names)) (sym roots) is.names);
+      apart = is.apart;
       cells = lines_after old.file new.file new.roots.cells _ _ _ file (subst (λ (r : Roots). ShowsLines old.file r.cells cell_columns (λ (c : CellRow). c.run) t.cells) (sym roots) is.cells);
       calls = lines_after old.file new.file new.roots.calls _ _ _ file (subst (λ (r : Roots). ShowsLines old.file r.calls arc_columns (λ (a : CallRow). a.run) t.calls) (sym roots) is.calls);
       stacks = lines_after old.file new.file new.roots.stacks _ _ _ file (subst (λ (r : Roots). ShowsLines old.file r.stacks stack_columns (λ (s : StackRow). s.run) t.stacks) (sym roots) is.stacks);

@@ -12,6 +12,7 @@ use Rattle.sql_tables.proofs.Contents.{content_there}
 use Rattle.plain_tables.specs.Tables.{Tables}
 use Rattle.store_schema.specs.Schema.{schema_two, name_at, thread_cell_at, arc_at, stack_at}
 use Rattle.store_schema.specs.Tables.{Holds, contents_of}
+use Rattle.held_runs.proofs.Apart.{apart_held}
 use Rattle.run_lists.specs.Listed.{AreListed}
 use Rattle.page_rows.specs.declared.files.OpenedFile.{OpenedFile}
 use Rattle.page_rows.specs.Files.{page_size, may_leave, OnlyReads, Shows}
@@ -31,6 +32,7 @@ module _ {D : Type 0} {g : Ghosts D} where
       record {
         listed = listed;
         names = subst (ShowsRows store.file store.roots.names) names.rows_are roots.names;
+        apart = apart_held t db holds;
         cells = record { rows = db thread_cell_at.tree; shows = roots.cells; lines_are = cells.rows_are; in_order = order.cells };
         calls = record { rows = db arc_at.tree; shows = roots.calls; lines_are = calls.rows_are; in_order = order.calls };
         stacks = record { rows = db stack_at.tree; shows = roots.stacks; lines_are = stacks.rows_are; in_order = order.stacks };

@@ -1,8 +1,10 @@
+pub mod Among
 pub mod Failures
 pub mod Found
 pub mod Placed
 pub mod Shown
 pub mod Sizes
+pub mod Sought
 pub mod States
 pub mod Texts
 pub mod Walks

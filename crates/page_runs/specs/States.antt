@@ -15,6 +15,7 @@ use Rattle.plain_tables.specs.Tables.{Tables, CellRow, CallRow, StackRow}
 use Rattle.run_lists.specs.Listed.{AreListed}
 use Rattle.store_schema.specs.Tables.{Holds, name_columns, cell_columns, arc_columns, stack_columns}
 use Rattle.store_schema.proofs.Sound.{sound_of}
+use Rattle.run_stores.specs.Names.{AreApart}
 use Rattle.run_stores.specs.declared.states.StoreState.{Ghosts as StoreGhosts}
 use Rattle.page_runs.specs.Shown.{ShowsLines, ShowsRows}
 use Rattle.page_runs.specs.declared.store.PageRuns.{PageRuns}
@@ -42,10 +43,11 @@ held_by t size image left same is = record {
 }
 
 module _ {D : Type 0} {g : Ghosts D} where
-  -- its file shows these rows, those of runs in the order of the runs
+  -- its file shows these rows, those of runs in the order of the runs, and names that are told apart
   pub record ReadsAs (t : Tables) (store : PageRuns D g) : Type 0 where
     pub listed : AreListed t store.lists
     pub names : ShowsRows store.file store.roots.names (map name_columns t.names)
+    pub apart : AreApart t.names
     pub cells : ShowsLines store.file store.roots.cells cell_columns (λ (c : CellRow). c.run) t.cells
     pub calls : ShowsLines store.file store.roots.calls arc_columns (λ (a : CallRow). a.run) t.calls
     pub stacks : ShowsLines store.file store.roots.stacks stack_columns (λ (s : StackRow). s.run) t.stacks
@@ -92,6 +94,7 @@ module _ {D : Type 0} {g : Ghosts D} where
     usable = λ t s represents. refl;
     said = λ t s represents. represents.reads;
     readable = λ t s reads. refl;
+    apart = λ t s reads. reads.apart;
     sound = λ t s represents. sound_of t represents.db represents.holds;
     left_sound = λ t left holds. sound_of t holds.db holds.holds;
   }

@@ -17,6 +17,8 @@ mod listing;
 mod lists;
 // The names that are held.
 mod names;
+// The number of a name (specs/Sought.antt).
+mod number_of;
 // Opens a store by the pages of its file.
 mod opening;
 // Where the rows of a run begin.
@@ -29,6 +31,8 @@ mod roots;
 mod run_rows;
 // The rows of the small tables, and of the names.
 mod small;
+// The rows of a table whose rowids are among some numbers.
+mod some_rows;
 // The store (specs/States.antt).
 mod store;
 // Whether a file was made with our tables.

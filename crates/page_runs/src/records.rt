@@ -9,7 +9,8 @@ pub(crate) trait FromRecord: Sized {
     ghost use Rattle.sqlite_value.specs.Order.{Row};
     ghost use Rattle.sqlite_store.specs.Db.{table_row};
 
-    /// Of a row with its rowid what counts: all of it where the rowid is a key, else what stands behind it.
+    /// Of a row with its rowid what counts: all of it where the rowid is a key, else what stands behind it. Or the
+    /// rowid alone.
     ghost seen: { Row → Row };
 
     /// The columns of this row.

@@ -14,7 +14,8 @@ ghost use Rattle.page_runs.specs.States.{HoldsIn, IsFaithful, LastsIn, ReadsAs, 
 use crate::files::open_file;
 use crate::handed::{each_call, each_cell, each_stack};
 use crate::heads::head_of;
-use crate::names::names_under;
+use crate::names::{holds_names, names_among, names_under};
+use crate::number_of::number_of;
 use crate::opening::open_store;
 use crate::roots::Roots;
 use crate::run_rows::RunTable;
@@ -155,6 +156,8 @@ impl<D: Disk> StoreState for PageRuns<D> {
 
     ghost readable = { λ t s reads. refl };
 
+    ghost apart = { λ t s reads. reads.apart };
+
     ghost sound = { λ t s represents. sound_of t represents.db represents.holds };
 
     ghost left_sound = { λ t left holds. sound_of t holds.db holds.holds };
@@ -229,6 +232,18 @@ impl<D: Disk> RunStore for PageRuns<D> {
 
     fn names_of(&mut self, alloc: Global) -> Result<HeldNames, StoreError> {
         names_under(&mut self.file, alloc, self.roots.names)
+    }
+
+    fn names_among(&mut self, alloc: Global, numbers: &[u32]) -> Result<HeldNames, StoreError> {
+        names_among(&mut self.file, alloc, self.roots.names, numbers)
+    }
+
+    fn number_of(&mut self, alloc: Global, name: &[u8]) -> Result<Option<u32>, StoreError> {
+        number_of(&mut self.file, alloc, self.roots.names, name)
+    }
+
+    fn holds_names(&mut self, alloc: Global, numbers: &[u32]) -> Result<bool, StoreError> {
+        holds_names(&mut self.file, alloc, self.roots.names, numbers)
     }
 
     fn each_cell<T: CellSink + Drop>(

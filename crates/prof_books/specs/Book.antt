@@ -12,9 +12,13 @@ use Rattle.plain_tables.specs.Tables.{Tables, RunRow, EventRow, DerivedRow, Coef
 use Rattle.plain_tables.specs.RunRows.{cells_in, calls_in, stacks_in}
 use Rattle.plain_tables.specs.Changes.{has_baseline, unbased}
 
--- the name of a number, empty where there is none
+-- what stands for a name where there is none: no bytes are this
+abbrev pub no_name : List ℕ
+no_name = 256 ∷ []
+
+-- the name of a number
 abbrev pub name_of : List NameRow → ℕ → List ℕ
-name_of [] n = []
+name_of [] n = no_name
 name_of (line ∷ lines) n = if line.number == n then line.name else name_of lines n
 
 -- ---- cells

@@ -1,6 +1,6 @@
 -- Calls one after another.
 use Rattle.std.specs.Result.{is_ok, IsErr}
-use Rattle.std.proofs.Common.{◌≡◌, ◌≤◌, ◌⊎◌, ◌&&◌, ◌∙◌, inl, inr, ℕ, Bool, true, false, Ok, Err, Result, IsTrue, refl, subst, sym, arith}
+use Rattle.std.proofs.Common.{◌≡◌, ◌≤◌, ◌&&◌, ◌∙◌, inl, inr, ℕ, Bool, true, false, Ok, Err, Result, IsTrue, refl, subst, sym, arith}
 use Rattle.plain_tables.specs.Sound.{AreSound}
 use Rattle.plain_tables.specs.Tables.{Tables}
 use Rattle.run_stores.specs.Calls.{MoreFaults, Are, Given, Become, IsFaithful, Represents, ReadsAs, Rests, Stays, Keeps, Asked, Changed, KeepsIfShut}

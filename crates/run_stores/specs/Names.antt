@@ -1,9 +1,10 @@
--- Rows with the numbers of their names, and the same with names in place.
-use Rattle.std.specs.Prelude.{ℕ, List}
+-- Rows with the numbers of their names, and the same with names in place; names that are told apart, and some of them.
+use Rattle.std.specs.Prelude.{◌≡◌, ◌≢◌, ◌==◌, ℕ, Bool, false, List, Option, Some, None}
+use Rattle.std.specs.List.{AllByRecursion}
 use Rattle.cost_rows.specs.declared.rows.CallEdge.{CallEdge}
 use Rattle.cost_rows.specs.declared.rows.Cell.{Cell}
 use Rattle.plain_tables.specs.Tables.{NameRow}
-use Rattle.prof_books.specs.Book.{name_of}
+use Rattle.prof_books.specs.Book.{name_of, IsHeld}
 
 abbrev pub named_cell : List NameRow → Cell ℕ → Cell (List ℕ)
 named_cell names r = record {
@@ -28,3 +29,21 @@ named_call names r = record {
   count = r.count;
   costs = r.costs;
 }
+
+-- two numbers have two names
+abbrev pub AreApart : List NameRow → Type 0
+AreApart names = (n m : ℕ) → IsHeld names n → IsHeld names m → name_of names n ≡ name_of names m → n ≡ m
+
+-- some of the names that are held, each under its number: those of these numbers, and there may be others
+pub record AreAmong (numbers : List ℕ) (all some : List NameRow) : Type 0 where
+  pub same : (n : ℕ) → IsHeld some n → IsHeld all n × (name_of some n ≡ name_of all n)
+  pub whole : AllByRecursion (λ n. IsHeld all n → IsHeld some n) numbers
+
+-- the number that has a name, or none where no number has it
+abbrev pub IsNumberOf : List NameRow → List ℕ → Option ℕ → Type 0
+IsNumberOf names name (Some n) = IsHeld names n × (name_of names n ≡ name)
+IsNumberOf names name None = (n : ℕ) → name_of names n ≢ name
+
+abbrev pub is_number : Option ℕ → ℕ → Bool
+is_number (Some n) m = m == n
+is_number None m = false

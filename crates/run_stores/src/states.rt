@@ -5,6 +5,7 @@ pub trait StoreState {
     ghost use Rattle.std.specs.Prelude.{ℕ, Bool, IsTrue};
     ghost use Rattle.plain_tables.specs.Sound.{AreSound};
     ghost use Rattle.plain_tables.specs.Tables.{Tables};
+    ghost use Rattle.run_stores.specs.Names.{AreApart};
 
     /// All that it keeps.
     ghost Kept: { Type 0 };
@@ -47,6 +48,9 @@ pub trait StoreState {
 
     /// What is read can be used.
     ghost readable: { (t : Tables) (store : Self) → reads_as t store → IsTrue (is_usable store) };
+
+    /// What is read has each name under one number.
+    ghost apart: { (t : Tables) (store : Self) → reads_as t store → AreApart t.names };
 
     /// The rows that it represents are sound.
     ghost sound: { (t : Tables) (store : Self) → represents t store → AreSound t };

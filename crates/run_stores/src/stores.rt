@@ -1,8 +1,8 @@
 // The calls of a store of runs.
-ghost use Rattle.std.specs.Prelude.{◌≡◌, true, length, map, fold, IfOk};
-ghost use Rattle.std.specs.List.{AllAdjacentBelow};
+ghost use Rattle.std.specs.Prelude.{◌≡◌, ◌↔◌, true, length, map, fold, IfOk};
+ghost use Rattle.std.specs.List.{AllAdjacentBelow, AllByRecursion};
 ghost use Rattle.std.specs.Result.{is_ok};
-ghost use Rattle.prof_books.specs.Book.{stacks_held};
+ghost use Rattle.prof_books.specs.Book.{stacks_held, IsHeld};
 ghost use Rattle.prof_books.specs.Entries.{held_run};
 ghost use Rattle.prof_books.specs.HeldHeads.{IsHeadIn};
 ghost use Rattle.prof_books.specs.Totals.{IsHeldIn};
@@ -12,6 +12,7 @@ ghost use Rattle.plain_tables.specs.RunRows.{calls_in, cells_in};
 ghost use Rattle.run_stores.specs.Calls.{Asks, AsksIfOpen, Changes, ChangesIf, KeepsShut, Told};
 ghost use Rattle.run_stores.specs.Entries.{AreGroups, IsBefore, entry_run};
 ghost use Rattle.run_stores.specs.Lookups.{IsBaselineOf, IsKindOf, IsRunOf, members_in_tables, numbers_in_tables};
+ghost use Rattle.run_stores.specs.Names.{AreAmong, IsNumberOf};
 ghost use Rattle.run_stores.specs.SelfSums.{AreSelfSums, events_of_run};
 ghost use Rattle.run_stores.specs.Runs.{with_summed};
 ghost use Rattle.run_stores.specs.Walks.{CallsFoldTo, CellsFoldTo};
@@ -127,6 +128,21 @@ pub trait RunStore: StoreState {
     /// The names that are held, for any number of rows and sums.
     fn names_of(&mut self, alloc: Global) -> Result<Self::Names, StoreError>
         ensures told { Told Self.StoreState result self.old self.new (λ t names. Self.Names.name_rows names ≡ t.names) }
+        ensures asks { Asks Self.StoreState (is_ok result) self.old self.new };
+
+    /// The names of some numbers, where they are held: others may come with them.
+    fn names_among(&mut self, alloc: Global, numbers: &[u32]) -> Result<Self::Names, StoreError>
+        ensures told { Told Self.StoreState result self.old self.new (λ t names. AreAmong numbers.now t.names (Self.Names.name_rows names)) }
+        ensures asks { Asks Self.StoreState (is_ok result) self.old self.new };
+
+    /// The number of a name, if it is held.
+    fn number_of(&mut self, alloc: Global, name: &[u8]) -> Result<Option<u32>, StoreError>
+        ensures told { Told Self.StoreState result self.old self.new (λ t number. IsNumberOf t.names name.now number) }
+        ensures asks { Asks Self.StoreState (is_ok result) self.old self.new };
+
+    /// Whether all of some numbers have a name that is held.
+    fn holds_names(&mut self, alloc: Global, numbers: &[u32]) -> Result<bool, StoreError>
+        ensures told { Told Self.StoreState result self.old self.new (λ t are. (are ≡ true) ↔ AllByRecursion (IsHeld t.names) numbers.now) }
         ensures asks { Asks Self.StoreState (is_ok result) self.old self.new };
 
     /// Hands on the cells of a run, with so many events and the numbers of names. What took them all is

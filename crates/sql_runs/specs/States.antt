@@ -6,6 +6,7 @@ use Rattle.sqlite_trees.specs.Tree.{Trees}
 use Rattle.store_schema.specs.Schema.{schema_two}
 use Rattle.store_schema.specs.Tables.{Holds}
 use Rattle.store_schema.proofs.Sound.{sound_of}
+use Rattle.held_runs.proofs.Apart.{apart_read}
 use Rattle.prof_store.specs.Shown.{shown, IsFaithful, ReadsAs, Represents}
 use Rattle.prof_store.proofs.Told.{rests_said}
 use Rattle.run_stores.specs.declared.states.StoreState.{Ghosts}
@@ -42,6 +43,7 @@ state_of g = record {
   usable = λ t s represents. represents.usable;
   said = λ t s represents. rests_said t (shown g s.store) represents;
   readable = λ t s reads. reads.usable;
+  apart = λ t s reads. apart_read t (shown g s.store).now.trees reads.holds;
   sound = λ t s represents. sound_of t (shown g s.store).now.trees represents.holds;
   left_sound = sound_of;
 }

@@ -1,5 +1,7 @@
 // The store of runs over SQLite tables.
-ghost use Rattle.std.specs.Prelude.{◌≡◌};
+ghost use Rattle.std.specs.Prelude.{◌≡◌, ◌↔◌, true};
+ghost use Rattle.std.specs.List.{AllByRecursion};
+ghost use Rattle.prof_books.specs.Book.{IsHeld};
 
 use cg_formulas::FileHead;
 use cg_text::ListVec;
@@ -8,8 +10,8 @@ use held_runs::HeldNames;
 use prof_store::Store;
 use profile_records::Kind;
 use run_stores::{
-    CallSink, CellSink, GroupEntry, RunEntry, RunStore, StackRowSink, StoreError, StoreState,
-    SummedFile,
+    CallSink, CellSink, GroupEntry, NameTable, RunEntry, RunStore, StackRowSink, StoreError,
+    StoreState, SummedFile,
 };
 use sqlite::{Alter, Connection};
 use std::alloc::Global;
@@ -30,10 +32,23 @@ impl<S: Alter> SqlRuns<S> {
     }
 }
 
+/// Whether all of some numbers have a name.
+fn are_held(names: &HeldNames, numbers: &[u32]) -> bool
+    ensures { (result ≡ true) ↔ AllByRecursion (IsHeld names.now) numbers.now }
+{
+    for number in numbers {
+        if names.name(*number).is_none() {
+            return false;
+        }
+    }
+    true
+}
+
 impl<S: Alter> StoreState for SqlRuns<S> {
     ghost use Rattle.sqlite_trees.specs.Tree.{Trees};
     ghost use Rattle.store_schema.specs.Tables.{Holds};
     ghost use Rattle.store_schema.proofs.Sound.{sound_of};
+    ghost use Rattle.held_runs.proofs.Apart.{apart_read};
     ghost use Rattle.prof_store.specs.Shown.{shown, IsFaithful, ReadsAs, Represents};
     ghost use Rattle.prof_store.proofs.Told.{rests_said};
     ghost use Rattle.sql_runs.specs.States.{IsSettled, Kept, kept_in};
@@ -65,6 +80,8 @@ impl<S: Alter> StoreState for SqlRuns<S> {
     ghost said = { λ t s represents. rests_said t (shown S.Store s.store) represents };
 
     ghost readable = { λ t s reads. reads.usable };
+
+    ghost apart = { λ t s reads. apart_read t (shown S.Store s.store).now.trees reads.holds };
 
     ghost sound = { λ t s represents. sound_of t (shown S.Store s.store).now.trees represents.holds };
 
@@ -140,6 +157,20 @@ impl<S: Alter> RunStore for SqlRuns<S> {
 
     fn names_of(&mut self, alloc: Global) -> Result<HeldNames, StoreError> {
         held_runs::names_of(&mut self.store, alloc)
+    }
+
+    fn names_among(&mut self, alloc: Global, _numbers: &[u32]) -> Result<HeldNames, StoreError> {
+        held_runs::names_of(&mut self.store, alloc)
+    }
+
+    fn number_of(&mut self, alloc: Global, name: &[u8]) -> Result<Option<u32>, StoreError> {
+        let names = held_runs::names_of(&mut self.store, alloc)?;
+        Ok(names.number_of(name))
+    }
+
+    fn holds_names(&mut self, alloc: Global, numbers: &[u32]) -> Result<bool, StoreError> {
+        let names = held_runs::names_of(&mut self.store, alloc)?;
+        Ok(are_held(&names, numbers))
     }
 
     fn each_cell<T: CellSink + Drop>(
