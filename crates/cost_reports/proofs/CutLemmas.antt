@@ -9,6 +9,7 @@ use Rattle.cost_rows.specs.Sums.{Spot}
 use Rattle.report_texts.specs.KeyReports.{rank_cmp, reaching, limited, enough, shown, IsShortest}
 use Rattle.report_texts.specs.Ranking.{placed, among, ranked}
 use Rattle.report_texts.specs.declared.cuts.Cut.{Cut}
+use Rattle.cost_reports.specs.Rows.{shown_of}
 
 total_placed : (x y : Spot × ℕ) (o : Ordering) (more ys : List (Spot × ℕ)) → total_of more ≡ x.1 + total_of ys → total_of (placed o x y more ys) ≡ x.1 + (y.1 + total_of ys)
 total_placed x y Less more ys e = refl
@@ -40,13 +41,17 @@ total_limited : (limit : Option ℕ) (xs : List (Spot × ℕ)) → total_of (lim
 total_limited None xs = omega arith
 total_limited (Some n) xs = total_take n xs
 
--- what is shown is at most the total
-pub shown_within : (cut : Cut) (sums : List (Spot × ℕ)) → total_of (shown cut sums) ≤ total_of sums
-shown_within cut sums =
-    let a = total_limited cut.limit (enough cut.threshold sums) in
-    let b = total_reaching (cut.threshold * total_of sums) 0 (ranked rank_cmp sums) in
+-- what is shown is at most what there is
+pub shown_of_within : (cut : Cut) (total : ℕ) (sums : List (Spot × ℕ)) → total_of (shown_of cut total sums) ≤ total_of sums
+shown_of_within cut total sums =
+    let rows = ranked rank_cmp sums in
+    let a = total_limited cut.limit (reaching (cut.threshold * total) 0 rows) in
+    let b = total_reaching (cut.threshold * total) 0 rows in
     let c = total_ranked sums in
     omega (arith, a, b, c)
+
+pub shown_within : (cut : Cut) (sums : List (Spot × ℕ)) → total_of (shown cut sums) ≤ total_of sums
+shown_within cut sums = shown_of_within cut (total_of sums) sums
 
 -- nothing more is shown once enough is
 pub reached : (need before : ℕ) (xs : List (Spot × ℕ)) → need ≤ before * 100 → reaching need before xs ≡ []

@@ -4,6 +4,7 @@ pub mod CallLemmas
 pub mod CostLemmas
 pub mod CutLemmas
 pub mod DifferenceLemmas
+pub mod EnoughLemmas
 pub mod FrameLemmas
 pub mod FunctionLemmas
 pub mod InclusiveLemmas

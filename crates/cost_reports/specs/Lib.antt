@@ -1,3 +1,4 @@
+pub mod Enough
 pub mod InStep
 pub mod Places
 pub mod Rows

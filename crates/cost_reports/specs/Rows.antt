@@ -1,9 +1,14 @@
 -- The rows of reports as the code holds them, and as merged rows give them.
-use Rattle.std.specs.Prelude.{ℕ, List, map}
+use Rattle.std.specs.Prelude.{ℕ, ◌*◌, List, map}
+use Rattle.std.specs.Borrow.{Bor}
 use Rattle.cost_rows.specs.Keys.{place_of_row}
+use Rattle.cost_rows.specs.Plain.{plain_cell}
 use Rattle.cost_rows.specs.Sums.{Spot}
 use Rattle.cost_rows.specs.declared.rows.Cell.{Cell}
+use Rattle.report_texts.specs.KeyReports.{rank_cmp, reaching, limited}
+use Rattle.report_texts.specs.Ranking.{ranked}
 use Rattle.report_texts.specs.Verifying.{Checked}
+use Rattle.report_texts.specs.declared.cuts.Cut.{Cut}
 use Rattle.report_texts.specs.declared.pairs.Pair.{Pair}
 use Rattle.report_texts.specs.declared.signed.Signed.{Signed}
 use Rattle.cost_reports.specs.declared.places.LentPlace.{LentPlace}
@@ -40,3 +45,11 @@ plain_check c = record { event = c.event.now; sum = c.sum; stated = c.stated }
 -- the sum that a merged row has
 abbrev pub sum_of_row : Cell (List ℕ) → Spot × ℕ
 sum_of_row r = (place_of_row r, r.cost)
+
+-- the sums that lent rows have, in their order
+abbrev pub given_sums : List (Cell (Bor (List ℕ))) → List (Spot × ℕ)
+given_sums rows = map (λ (r : Cell (Bor (List ℕ))). sum_of_row (plain_cell r)) rows
+
+-- the rows of some sums that a cut shows of a total
+abbrev pub shown_of : Cut → ℕ → List (Spot × ℕ) → List (Spot × ℕ)
+shown_of cut total sums = limited cut.limit (reaching (cut.threshold * total) 0 (ranked rank_cmp sums))

@@ -1,18 +1,20 @@
 // Reports by key.
-ghost use Rattle.std.specs.Prelude.{◌≡◌, ◌+◌, ◌<◌, ◌^◌, IfOk};
+ghost use Rattle.std.specs.Prelude.{◌≡◌, ℕ, ◌+◌, ◌≤◌, ◌<◌, ◌^◌, List, IfOk};
 ghost use Rattle.cost_rows.specs.KeySums.{total_of};
+ghost use Rattle.cost_rows.specs.Sums.{Spot};
 ghost use Rattle.report_texts.specs.KeyReports.{report_of};
-ghost use Rattle.cost_reports.specs.Rows.{plain_rows};
+ghost use Rattle.cost_reports.specs.Enough.{AreEnough};
+ghost use Rattle.cost_reports.specs.Rows.{given_sums, plain_rows};
 
 use crate::ranks::{cost_of, shown_rows};
 use crate::rows::Row;
-use cost_rows::{Key, Merged};
+use cost_rows::{Cell, Key};
 use report_texts::Cut;
 use std::alloc::{AllocError, Global};
 use std::marker::Model;
 
 /// A report by key: rows, what is not shown of the total, and the total. The names of its rows are
-/// those of the merged rows that it is of.
+/// those of the sums that it is of.
 #[derive(Drop)]
 pub struct Report<'a> {
     pub(crate) key: Key,
@@ -32,15 +34,23 @@ impl<'a> Model for Report<'a> {
     ghost view = { λ r. record { key = r.key; rows = plain_rows r.rows.items; rest = r.rest; total = r.total } };
 }
 
-/// The report of merged rows. Memory is the only refusal.
-pub fn by<'a>(alloc: Global, merged: &'a Merged, cut: Cut) -> Result<Report<'a>, AllocError>
-    ensures { IfOk result (λ report. report ≡ report_of merged.now.key cut merged.now.sums) }
+/// The report of sums that add up to `total`, of which `sums` are enough for the cut: each part of a
+/// place once, in any order. Memory is the only refusal.
+pub fn by<'a>(
+    alloc: Global,
+    key: Key,
+    sums: &[Cell<&'a [u8]>],
+    total: u128,
+    cut: Cut,
+) -> Result<Report<'a>, AllocError>
+    requires small { total < 2 ^ 112 }
+    requires within { total_of (given_sums sums.now) ≤ total }
+    ensures { IfOk result (λ report. (all : List (Spot × ℕ)) → total_of all ≡ total → AreEnough (λ e. e.1) cut all (given_sums sums.now) → report ≡ report_of key cut all) }
 {
-    let rows = shown_rows(alloc, merged, cut)?;
-    let total = merged.total();
+    let rows = shown_rows(alloc, sums, total, cut)?;
     let rest = total - cost_of(&rows);
     Ok(Report {
-        key: merged.key(),
+        key,
         rows,
         rest,
         total,

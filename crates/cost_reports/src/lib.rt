@@ -16,7 +16,7 @@ mod frames;
 mod inclusive_texts;
 // What functions cost with all that they call (report_texts/specs/Inclusive.antt).
 mod inclusives;
-// A report by key (report_texts/specs/KeyReports.antt).
+// A report by key (report_texts/specs/KeyReports.antt, specs/Enough.antt).
 mod key_reports;
 // The text of a report by key (report_texts/specs/KeyTexts.antt).
 mod key_texts;

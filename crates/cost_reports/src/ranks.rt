@@ -1,10 +1,10 @@
-// Merged rows in the order of a report, cut.
+// Sums in the order of a report, cut.
 ghost use Rattle.std.specs.Prelude.{◌≡◌, ◌*◌, ◌≤◌, ◌<◌, ◌^◌, IfOk, take};
 ghost use Rattle.cost_rows.specs.KeySums.{total_of};
-ghost use Rattle.report_texts.specs.KeyReports.{rank_cmp, reaching, limited, shown};
+ghost use Rattle.report_texts.specs.KeyReports.{rank_cmp, reaching, limited};
 ghost use Rattle.report_texts.specs.Ranking.{ranked};
 ghost use Rattle.cost_rows.specs.Plain.{plain_cell};
-ghost use Rattle.cost_reports.specs.Rows.{plain_row, plain_rows, sum_of_row};
+ghost use Rattle.cost_reports.specs.Rows.{given_sums, plain_row, plain_rows, shown_of, sum_of_row};
 
 use crate::places::place_of_row;
 use crate::rows::Row;
@@ -23,8 +23,19 @@ pub(crate) fn row_of<'a>(row: &Cell<&'a [u8]>) -> Row<'a>
     }
 }
 
-/// The sums as rows, in their order.
-fn rows_of<'a>(alloc: Global, merged: &'a Merged) -> Result<Vec<Row<'a>>, AllocError>
+/// Sums as rows, as they come.
+fn rows_of<'a>(alloc: Global, sums: &[Cell<&'a [u8]>]) -> Result<Vec<Row<'a>>, AllocError>
+    ensures { IfOk result (λ rows. plain_rows rows.items ≡ given_sums sums.now) }
+{
+    let mut rows = Vec::with_capacity(alloc, sums.len())?;
+    for sum in sums {
+        rows.push(row_of(sum))?;
+    }
+    Ok(rows)
+}
+
+/// Merged sums as rows, in their order.
+fn merged_rows<'a>(alloc: Global, merged: &'a Merged) -> Result<Vec<Row<'a>>, AllocError>
     ensures { IfOk result (λ rows. plain_rows rows.items ≡ merged.now.sums) }
 {
     let mut rows = Vec::with_capacity(alloc, merged.len())?;
@@ -41,12 +52,12 @@ fn rank(rows: &mut Vec<Row<'_>>)
     rows.sort_unstable();
 }
 
-/// The sums as rows, the greatest cost first, and equal costs in the order of their parts.
+/// Merged sums as rows, the greatest cost first, and equal costs in the order of their parts.
 pub(crate) fn ranked_rows<'a>(alloc: Global, merged: &'a Merged) -> Result<Vec<Row<'a>>, AllocError>
     ensures order { IfOk result (λ rows. plain_rows rows.items ≡ ranked rank_cmp merged.now.sums) }
     ensures total { IfOk result (λ rows. total_of (plain_rows rows.items) ≡ total_of merged.now.sums) }
 {
-    let mut rows = rows_of(alloc, merged)?;
+    let mut rows = merged_rows(alloc, merged)?;
     rank(&mut rows);
     Ok(rows)
 }
@@ -84,17 +95,21 @@ fn keep_first(rows: &mut Vec<Row<'_>>, limit: Option<u64>)
     }
 }
 
-/// The rows that a report shows.
+/// The rows of some sums that a report of so great a total shows.
 pub(crate) fn shown_rows<'a>(
     alloc: Global,
-    merged: &'a Merged,
+    sums: &[Cell<&'a [u8]>],
+    total: u128,
     cut: Cut,
 ) -> Result<Vec<Row<'a>>, AllocError>
-    ensures shown { IfOk result (λ rows. plain_rows rows.items ≡ shown cut merged.now.sums) }
-    ensures within { IfOk result (λ rows. total_of (plain_rows rows.items) ≤ total_of merged.now.sums) }
+    requires small { total < 2 ^ 112 }
+    requires within { total_of (given_sums sums.now) ≤ total }
+    ensures shown { IfOk result (λ rows. plain_rows rows.items ≡ shown_of cut total (given_sums sums.now)) }
+    ensures within { IfOk result (λ rows. total_of (plain_rows rows.items) ≤ total) }
 {
-    let mut rows = ranked_rows(alloc, merged)?;
-    keep_enough(&mut rows, u128::from(cut.threshold) * merged.total());
+    let mut rows = rows_of(alloc, sums)?;
+    rank(&mut rows);
+    keep_enough(&mut rows, u128::from(cut.threshold) * total);
     keep_first(&mut rows, cut.limit);
     Ok(rows)
 }

@@ -61,7 +61,7 @@ with_twice part n m (e ∷ es) = twice_step part n m e es (numbers_cmp part e.0)
 
 -- ---- the cost of recent rows
 
-is_some : (n : ℕ) → (n ≡ 0 → ⊥) → nat_eq n 0 ≡ false
+pub is_some : (n : ℕ) → (n ≡ 0 → ⊥) → nat_eq n 0 ≡ false
 is_some n some = elim (cases_Bool (nat_eq n 0)) [
   | inl none ↦ absurd (some (eqb-true n 0 none))
   | inr other ↦ other
@@ -70,6 +70,10 @@ is_some n some = elim (cases_Bool (nat_eq n 0)) [
 -- where there is none, the sums are as they are
 recent_none : (part : NumberPart) (cost : ℕ) (es : List (NumberPart × ℕ)) → cost ≡ 0 → with_recent part cost es ≡ es
 recent_none part cost es none = ap (λ n. with_recent part n es) none
+
+-- so what the sums are with it, they are without
+pub settled : (part : NumberPart) (cost : ℕ) (es all : List (NumberPart × ℕ)) → cost ≡ 0 → with_recent part cost es ≡ all → es ≡ all
+settled part cost es all none is = sym (recent_none part cost es none) ∙ is
 
 -- where there is some, it is put into the sums
 pub recent_added : (part : NumberPart) (cost : ℕ) (es : List (NumberPart × ℕ)) → (cost ≡ 0 → ⊥) → numbers_with part cost es ≡ with_recent part cost es

@@ -1,5 +1,5 @@
 -- Sums of rows by the numbers of their names, and what a row adds to them.
-use Rattle.std.specs.Prelude.{ℕ, true, List, [], ◌∷◌, nat_eq, if◌then◌else◌}
+use Rattle.std.specs.Prelude.{ℕ, true, List, [], ◌∷◌, flat_map, nat_eq, if◌then◌else◌}
 use Rattle.std.specs.declared.cmp.Ordering.{Ordering}
 use Rattle.std.specs.Ordering.{nat_cmp, ordering_then}
 use Rattle.cost_rows.specs.Merging.{merge, sum_where}
@@ -56,3 +56,15 @@ number_row part cost = record { object = part.object; file = part.file; function
 abbrev pub number_rows : List (NumberPart × ℕ) → List (Cell ℕ)
 number_rows [] = []
 number_rows (e ∷ sums) = number_row e.0 e.1 ∷ number_rows sums
+
+-- the numbers of the names that a key tells of a part
+abbrev pub told : Key → NumberPart → List ℕ
+told Object part = part.object ∷ []
+told File part = part.file ∷ []
+told Function part = part.object ∷ part.function ∷ []
+told Line part = part.file ∷ []
+told Thread part = []
+
+-- those of sums, one after another
+abbrev pub numbers_told : Key → List (NumberPart × ℕ) → List ℕ
+numbers_told key sums = flat_map (λ (e : NumberPart × ℕ). told key e.0) sums

@@ -1,16 +1,22 @@
 //! What rows of runs cost, added up by the numbers of their names: a few integers to compare, no bytes. The
-//! names are looked up once for each sum.
+//! names are looked up once for each sum, or for those alone that a cut can show.
 #![tactic(auto)]
 
-// Laws: named at the end, the sums are those of the rows that were named first.
+// Laws: named at the end, the sums are those of the rows that were named first, in another order where each name
+// is held once.
 mod laws;
 // The sums with their names.
 mod naming;
+// The numbers of the names that sums tell.
+mod numbers;
 // The part of a place that a key tells, by number.
 mod parts;
+// The sums, the greatest cost first (specs/Ranked.antt).
+mod ranked;
 // The sums (specs/Sums.antt).
 mod sums;
 
-pub use laws::named_sums_are_those_of_the_rows;
+pub use laws::{named_sums_are_those_of_the_rows, once_named_sums_are_those_of_the_rows};
 pub use parts::NumberPart;
+pub use ranked::RankedSums;
 pub use sums::NumberSums;

@@ -1,10 +1,15 @@
 // The sums with their names.
-ghost use Rattle.std.specs.Prelude.{◌≡◌, ◌<◌, ◌^◌, [], fold, map, IfOk};
-ghost use Rattle.cost_rows.specs.Keys.{part_of, place_of_row};
+ghost use Rattle.std.specs.Prelude.{◌≡◌, ◌<◌, ◌^◌, [], List, fold, map, IfOk, MatchResult};
+ghost use Rattle.std.specs.List.{AllByRecursion};
+ghost use Rattle.cost_reports.specs.Rows.{sum_of_row};
 ghost use Rattle.cost_rows.specs.KeySums.{sums_by, with_row};
 ghost use Rattle.cost_rows.specs.Plain.{plain_cell};
+ghost use Rattle.plain_tables.specs.Tables.{NameRow};
+ghost use Rattle.plain_tables.specs.declared.errors.StoreError.TheVariants.{Store};
+ghost use Rattle.prof_books.specs.Book.{IsHeld};
 ghost use Rattle.run_stores.specs.Names.{named_cell};
-ghost use Rattle.number_sums.specs.Sums.{number_row, number_rows, numbers_total};
+ghost use Rattle.number_sums.specs.Named.{named_sum, AreOf};
+ghost use Rattle.number_sums.specs.Sums.{number_rows, numbers_told, numbers_total, told};
 
 use crate::parts::NumberPart;
 use crate::sums::{NumberSums, settle};
@@ -14,35 +19,35 @@ use run_stores::{NameTable, StoreError};
 use std::alloc::Global;
 use std::collections::BTreeMap;
 
-/// A sum as a row of event 0, with the names that a key tells; the others are `???`. `Store` where a name is
-/// not held.
-fn named_row<'n, N: NameTable>(
+/// A sum as a row of event 0, with what a key tells of its part; other names are `???`, and other numbers 0.
+/// `Store` where a name is not held.
+pub(crate) fn named_row<'n, N: NameTable>(
     names: &'n N,
     key: Key,
     part: &NumberPart,
     cost: u128,
 ) -> Result<Cell<&'n [u8]>, StoreError>
-    ensures part { IfOk result (λ row. part_of key (place_of_row (plain_cell row)) ≡ part_of key (place_of_row (named_cell (N.name_rows names.now) (number_row part.now cost)))) }
-    ensures cost { IfOk result (λ row. row.cost ≡ cost) }
+    ensures sum { IfOk result (λ row. sum_of_row (plain_cell row) ≡ named_sum (N.name_rows names.now) key (part.now, cost)) }
+    ensures held { MatchResult result (λ _. AllByRecursion (IsHeld (N.name_rows names.now)) (told key part.now))
+        (λ error. (error ≡ Store) × ¬ (AllByRecursion (IsHeld (N.name_rows names.now)) (told key part.now))) }
 {
     let unknown = b"???".as_slice();
-    let (object, file, function) = match key {
-        Key::Object => (held_name(names, part.object)?, unknown, unknown),
-        Key::File => (unknown, held_name(names, part.file)?, unknown),
-        Key::Function => (
-            held_name(names, part.object)?,
-            unknown,
-            held_name(names, part.function)?,
-        ),
-        Key::Line => (unknown, held_name(names, part.file)?, unknown),
-        Key::Thread => (unknown, unknown, unknown),
+    let (object, file, function, line, thread) = match key {
+        Key::Object => (held_name(names, part.object)?, unknown, unknown, 0, 0),
+        Key::File => (unknown, held_name(names, part.file)?, unknown, 0, 0),
+        Key::Function => {
+            let object = held_name(names, part.object)?;
+            (object, unknown, held_name(names, part.function)?, 0, 0)
+        }
+        Key::Line => (unknown, held_name(names, part.file)?, unknown, part.line, 0),
+        Key::Thread => (unknown, unknown, unknown, 0, part.thread),
     };
     Ok(Cell {
         object,
         file,
         function,
-        line: part.line,
-        thread: part.thread,
+        line,
+        thread,
         event: 0,
         cost,
     })
@@ -58,6 +63,7 @@ fn merge_named<N: NameTable>(
     requires small { numbers_total sums.now.entries < 2 ^ 112 }
     ensures key { IfOk result (λ merged. merged.key ≡ key) }
     ensures sums { IfOk result (λ merged. merged ≡ fold with_row (record { key = key; sums = [] }) (map (named_cell (N.name_rows names.now)) (number_rows sums.now.entries))) }
+    ensures held { IfOk result (λ _. AllByRecursion (IsHeld (N.name_rows names.now)) (numbers_told key sums.now.entries)) }
 {
     let mut merged = Merged::new(alloc, key);
     for (part, cost) in sums {
@@ -68,11 +74,13 @@ fn merge_named<N: NameTable>(
 }
 
 impl NumberSums {
-    /// The sums by name: the names that the key tells are looked up once for each sum. Errors: `Memory`; and
-    /// `Store` where a name is not held.
+    /// The sums by name: the names that the key tells are looked up once for each sum, and may be some of all
+    /// names. Errors: `Memory`; and `Store` where a name is not held.
     pub fn named<N: NameTable>(self, alloc: Global, names: &N) -> Result<Merged, StoreError>
         ensures key { IfOk result (λ merged. merged.key ≡ self.key) }
-        ensures sums { IfOk result (λ merged. merged.sums ≡ sums_by self.key (map (named_cell (N.name_rows names.now)) (number_rows self.sums))) }
+        ensures sums { IfOk result (λ merged. (all : List NameRow) → AreOf all (N.name_rows names.now)
+            → merged.sums ≡ sums_by self.key (map (named_cell all) (number_rows self.sums))) }
+        ensures held { IfOk result (λ _. AllByRecursion (IsHeld (N.name_rows names.now)) (numbers_told self.key self.sums)) }
     {
         let NumberSums {
             key,

@@ -3,3 +3,4 @@ mod CheckLemmas
 mod CompareLemmas
 mod MergeLemmas
 mod CellLemmas
+mod ShownLemmas

@@ -19,10 +19,10 @@ use Rattle.run_stores.specs.Names.{named_cell}
 use Rattle.run_stores.specs.Walks.{cell_numbers}
 use Rattle.number_sums.specs.Sums.{SumsByNumber, number_rows, with_number}
 use Rattle.number_sums.proofs.NamedSums.{named_at_the_end, rows_keep_key}
-use Rattle.store_reports.specs.Compared.{costs_over}
+use Rattle.store_reports.specs.Compared.{costs_over, named_sums}
 use Rattle.selected_runs.specs.Added.{AreAdded}
 use Rattle.selected_runs.specs.Counted.{event_cells}
-use Rattle.store_reports.specs.Reported.{merged_from, numbers_from, report_over, weighted_numbers}
+use Rattle.store_reports.specs.Reported.{numbers_from, weighted_numbers}
 use Rattle.selected_runs.specs.declared.counting.Counted.{Counted}
 
 -- both clauses of an answer
@@ -56,7 +56,7 @@ none_taken sums (cell ∷ cells) =
 -- ---- runs one after another, by number
 
 -- their cells as they count in the event
-abbrev numbers_of : Tables → List Counted → List (Cell ℕ)
+abbrev pub numbers_of : Tables → List Counted → List (Cell ℕ)
 numbers_of t [] = []
 numbers_of t (run ∷ runs) = map (weighted_numbers (unwrap_or run.counts [])) (map cell_numbers (cells_in run.number t)) ++ numbers_of t runs
 
@@ -72,65 +72,25 @@ cells_named names counts [] = refl
 cells_named names counts (line ∷ lines) = ap (λ rows. weighted counts (cell_held names line) ∷ rows) (cells_named names counts lines)
 
 -- with names in place they are those of the runs
-runs_named : (t : Tables) (runs : List Counted) → map (named_cell t.names) (numbers_of t runs) ≡ all_rows (map (event_cells t) runs)
+pub runs_named : (t : Tables) (runs : List Counted) → map (named_cell t.names) (numbers_of t runs) ≡ all_rows (map (event_cells t) runs)
 runs_named t [] = refl
 runs_named t (run ∷ runs) =
     let counts = unwrap_or run.counts [] in
     map-append (named_cell t.names) (map (weighted_numbers counts) (map cell_numbers (cells_in run.number t))) (numbers_of t runs)
     ∙ ap₂ ◌++◌ (cells_named t.names counts (cells_in run.number t)) (runs_named t runs)
 
--- the key stays
-key_of_either : (b : Bool) (x y : Sums) → x.key ≡ y.key → (if b then x else y).key ≡ x.key
-key_of_either true x y same = refl
-key_of_either false x y same = sym same
+-- ---- their sums, with names in place
 
-pub key_stays : (sums : Sums) (rows : List (Cell (List ℕ))) → (fold with_row sums rows).key ≡ sums.key
-key_stays sums [] = refl
-key_stays sums (row ∷ rows) = key_stays (with_row sums row) rows ∙ key_of_either (nat_eq row.cost 0) sums (record { key = sums.key; sums = sums_with (part_of sums.key (place_of_row row)) row.cost sums.sums }) refl
+module _ (t : Tables) (key : Key) (runs : List Counted) (sums : SumsByNumber) (are : sums ≡ fold (numbers_from t) (record { key = key; sums = [] }) runs) where
+  pub sums_are : sums ≡ fold with_number (record { key = key; sums = [] }) (numbers_of t runs)
+  sums_are = are ∙ numbers_merged t (record { key = key; sums = [] }) runs
 
--- ---- runs one after another
+  pub key_is : sums.key ≡ key
+  key_is = ap (λ (s : SumsByNumber). s.key) sums_are ∙ rows_keep_key (numbers_of t runs) (record { key = key; sums = [] })
 
-pub runs_merged : (t : Tables) (start : Sums) (runs : List Counted) → fold (merged_from t) start runs ≡ fold with_row start (all_rows (map (event_cells t) runs))
-runs_merged t start [] = refl
-runs_merged t start (run ∷ runs) =
-    runs_merged t (merged_from t start run) runs ∙ sym (fold-append with_row start (map (weighted (unwrap_or run.counts [])) (cells_held run.number t)) (all_rows (map (event_cells t) runs)))
-
--- the report over what was merged
-pub report_merged : (t : Tables) (key : Key) (event : List ℕ) (cut : Cut) (runs : List Counted) (merged : Sums) → merged ≡ fold (merged_from t) (record { key = key; sums = [] }) runs
-    → key_report_text event (report_of merged.key cut merged.sums) ≡ report_over t runs key event cut
-report_merged t key event cut runs merged is =
-    let start : Sums = record { key = key; sums = [] } in
-    let rows = all_rows (map (event_cells t) runs) in
-    let all : merged ≡ fold with_row start rows = is ∙ runs_merged t start runs in
-    ap (λ (s : Sums). key_report_text event (report_of s.key cut s.sums)) all ∙ ap (λ k. key_report_text event (report_of k cut (fold with_row start rows).sums)) (key_stays start rows)
-
--- the key and the sums of what was merged
-merged_all : (t : Tables) (key : Key) (runs : List Counted) (merged : Sums) → merged ≡ fold (merged_from t) (record { key = key; sums = [] }) runs
-    → merged ≡ fold with_row (record { key = key; sums = [] }) (all_rows (map (event_cells t) runs))
-merged_all t key runs merged is = is ∙ runs_merged t (record { key = key; sums = [] }) runs
-
-pub merged_key : (t : Tables) (key : Key) (runs : List Counted) (merged : Sums) → merged ≡ fold (merged_from t) (record { key = key; sums = [] }) runs → merged.key ≡ key
-merged_key t key runs merged is = ap (λ (s : Sums). s.key) (merged_all t key runs merged is) ∙ key_stays (record { key = key; sums = [] }) (all_rows (map (event_cells t) runs))
-
-pub merged_costs : (t : Tables) (key : Key) (runs : List Counted) (merged : Sums) → merged ≡ fold (merged_from t) (record { key = key; sums = [] }) runs → merged.sums ≡ costs_over t key runs
-merged_costs t key runs merged is = ap (λ (s : Sums). s.sums) (merged_all t key runs merged is)
-
--- sums by number that are named at the end
-pub named_merged : (t : Tables) (names : List NameRow) (key : Key) (runs : List Counted) (sums : SumsByNumber) (merged : Sums) → names ≡ t.names → sums ≡ fold (numbers_from t) (record { key = key; sums = [] }) runs
-    → merged.key ≡ sums.key → merged.sums ≡ sums_by sums.key (map (named_cell names) (number_rows sums.sums)) → merged ≡ fold (merged_from t) (record { key = key; sums = [] }) runs
-named_merged t names key runs sums merged held is same_key same =
-    let none : SumsByNumber = record { key = key; sums = [] } in
-    let start : Sums = record { key = key; sums = [] } in
-    let rows = numbers_of t runs in
-    let others = all_rows (map (event_cells t) runs) in
-    let all : sums ≡ fold with_number none rows = is ∙ numbers_merged t none runs in
-    let by_key : sums.key ≡ key = ap (λ (s : SumsByNumber). s.key) all ∙ rows_keep_key rows none in
-    let merged_key : merged.key ≡ (fold with_row start others).key = same_key ∙ by_key ∙ sym (key_stays start others) in
-    let named : merged.sums ≡ (fold with_row start others).sums =
-    same
-    ∙ ap₂ (λ k (s : SumsByNumber). sums_by k (map (named_cell names) (number_rows s.sums))) by_key all
-    ∙ named_at_the_end names key rows
-    ∙ ap (λ (n : List NameRow). sums_by key (map (named_cell n) rows)) held
-    ∙ ap (sums_by key) (runs_named t runs) in
-    let pair : Key → List (Spot × ℕ) → Sums = λ k s. record { key = k; sums = s } in
-    ap₂ pair merged_key named ∙ sym (runs_merged t start runs)
+  -- named at the end they are what the runs cost
+  pub named_costs : named_sums t.names sums ≡ costs_over t key runs
+  named_costs =
+      ap₂ (λ k (s : SumsByNumber). sums_by k (map (named_cell t.names) (number_rows s.sums))) key_is sums_are
+      ∙ named_at_the_end t.names key (numbers_of t runs)
+      ∙ ap (sums_by key) (runs_named t runs)

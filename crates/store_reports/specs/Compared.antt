@@ -6,8 +6,10 @@ use Rattle.cost_rows.specs.Sums.{Spot}
 use Rattle.cost_rows.specs.declared.keys.Key.{Key}
 use Rattle.report_texts.specs.Costs.{all_rows}
 use Rattle.report_texts.specs.Differences.{difference_of, difference_text}
-use Rattle.plain_tables.specs.Tables.{Tables}
+use Rattle.plain_tables.specs.Tables.{Tables, NameRow}
 use Rattle.run_stores.specs.Lookups.{IsBaselineOf}
+use Rattle.run_stores.specs.Names.{named_cell}
+use Rattle.number_sums.specs.Sums.{SumsByNumber, number_rows}
 use Rattle.histories.specs.History.{History}
 use Rattle.histories.specs.Legal.{files_of, no_second}
 use Rattle.histories.specs.Selections.{numbers_of}
@@ -50,6 +52,10 @@ AreCompared h second (Ok numbers) = (no_second h second ≡ None) × (numbers �
 AreCompared h second (Err refusal) = no_second h second ≡ Some (Refused refusal)
 
 -- ---- the differences
+
+-- sums by number, with names in place
+abbrev pub named_sums : List NameRow → SumsByNumber → List (Spot × ℕ)
+named_sums names sums = sums_by sums.key (map (named_cell names) (number_rows sums.sums))
 
 -- what the cells of runs cost in the event, by key
 abbrev pub costs_over : Tables → Key → List Counted → List (Spot × ℕ)

@@ -1,17 +1,21 @@
 -- What a report over runs of the tables is.
-use Rattle.std.specs.Prelude.{◌≡◌, ◌*◌, ℕ, List, [], map, fold, slice_index, unwrap_or}
-use Rattle.cost_rows.specs.KeySums.{Sums, sums_by, with_row}
+use Rattle.std.specs.Prelude.{◌≡◌, ◌*◌, ℕ, List, [], map, fold, slice_index, unwrap_or, IsPermutation}
+use Rattle.std.specs.List.{AllByRecursion}
+use Rattle.cost_reports.specs.Enough.{AreEnough}
+use Rattle.cost_rows.specs.KeySums.{sums_by}
 use Rattle.cost_rows.specs.declared.keys.Key.{Key}
 use Rattle.cost_rows.specs.declared.rows.Cell.{Cell}
-use Rattle.report_texts.specs.Costs.{all_rows, weighted}
+use Rattle.report_texts.specs.Costs.{all_rows}
 use Rattle.report_texts.specs.KeyReports.{report_of}
 use Rattle.report_texts.specs.KeyTexts.{key_report_text}
 use Rattle.report_texts.specs.declared.cuts.Cut.{Cut}
-use Rattle.prof_books.specs.Book.{cells_held}
+use Rattle.prof_books.specs.Book.{IsHeld}
 use Rattle.plain_tables.specs.RunRows.{cells_in}
 use Rattle.plain_tables.specs.Tables.{Tables}
 use Rattle.run_stores.specs.Walks.{cell_numbers}
-use Rattle.number_sums.specs.Sums.{SumsByNumber, with_number}
+use Rattle.number_sums.specs.Ranked.{SumsByCost}
+use Rattle.number_sums.specs.declared.parts.NumberPart.{NumberPart}
+use Rattle.number_sums.specs.Sums.{SumsByNumber, numbers_told, numbers_total, with_number}
 use Rattle.histories.specs.declared.answers.Answer.{Answer}
 use Rattle.histories.specs.declared.answers.Answer.TheVariants.{Text}
 use Rattle.histories.specs.declared.answers.Selection.{Selection}
@@ -34,15 +38,16 @@ numbers_with t number counts sums = fold with_number sums (map (weighted_numbers
 abbrev pub numbers_from : Tables → SumsByNumber → Counted → SumsByNumber
 numbers_from t sums run = numbers_with t run.number (unwrap_or run.counts []) sums
 
+-- of sums those that a cut can show; where others are left out, the names of all are held
+pub record AreShown (t : Tables) (cut : Cut) (all : SumsByNumber) (shown : SumsByCost) : Type 0 where
+  pub key : shown.key ≡ all.key
+  pub total : shown.total ≡ numbers_total all.sums
+  pub ranked : List (NumberPart × ℕ)
+  pub moved : IsPermutation ranked all.sums
+  pub enough : AreEnough (λ e. e.1) cut ranked shown.sums
+  pub held : AllByRecursion (IsHeld t.names) (numbers_told all.key shown.sums) → AllByRecursion (IsHeld t.names) (numbers_told all.key all.sums)
+
 -- ---- by names
-
--- the cells of a run are added, each as often as its column counts
-abbrev pub merged_with : Tables → ℕ → List ℕ → Sums → Sums
-merged_with t number counts sums = fold with_row sums (map (weighted counts) (cells_held number t))
-
--- a run that does not have the event counts none
-abbrev pub merged_from : Tables → Sums → Counted → Sums
-merged_from t sums run = merged_with t run.number (unwrap_or run.counts []) sums
 
 -- the text of the report over some runs
 abbrev pub report_over : Tables → List Counted → Key → List ℕ → Cut → List ℕ

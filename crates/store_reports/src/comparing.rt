@@ -1,18 +1,22 @@
 // The answers to questions of differences.
-ghost use Rattle.std.specs.Prelude.{◌≡◌, false, IfOk};
+ghost use Rattle.std.specs.Prelude.{◌≡◌, ◌++◌, false, List, IfOk};
 ghost use Rattle.std.specs.Result.{is_ok};
 ghost use Rattle.report_texts.specs.Differences.{difference_of, difference_text};
+ghost use Rattle.plain_tables.specs.Tables.{NameRow};
 ghost use Rattle.run_stores.specs.Calls.{Asks, Told, AsksIfOpen};
+ghost use Rattle.number_sums.specs.Named.{AreOf};
+ghost use Rattle.number_sums.specs.Sums.{numbers_told};
 ghost use Rattle.histories.specs.declared.answers.Query.TheVariants.{Subtract};
 ghost use Rattle.store_histories.specs.Answered.{AnswersAsked, has_changed};
-ghost use Rattle.store_reports.specs.Compared.{AnswersDifference, AreBaselineIn, AreComparedIn, IsSubtracted, costs_over, difference_over};
+ghost use Rattle.store_reports.specs.Compared.{AnswersDifference, AreBaselineIn, AreComparedIn, IsSubtracted, difference_over, named_sums};
 
-use crate::merging::merge_runs;
+use crate::merging::number_runs;
 use cg_text::ListVec;
 use cost_reports::subtract;
 use cost_rows::{Key, Merged};
 use histories::{Answer, Refusal, Selection};
-use run_stores::{RunStore, StoreError};
+use number_sums::NumberSums;
+use run_stores::{NameTable, RunStore, StoreError};
 use selected_runs::{Counted, Numbers, count_runs, have_event, name_text, one_run, select_runs};
 use std::alloc::{AllocError, Global};
 
@@ -63,24 +67,40 @@ fn text_of_sums(
     difference.text(alloc, event)
 }
 
-/// The text of what some sums are less those of runs, by the same key.
-fn text_less_runs<S: RunStore>(
-    store: &mut S,
+/// The text of what some sums are less others, of which the names are given.
+fn text_of_numbers<N: NameTable>(
     alloc: Global,
-    names: &S::Names,
-    first: &Merged,
-    seconds: &[Counted],
+    names: &N,
+    firsts: NumberSums,
+    seconds: NumberSums,
     event: &[u8],
 ) -> Result<ListVec<u8>, StoreError>
-    ensures told { Told S.StoreState result store.old store.new (λ t text. S.Names.name_rows names.now ≡ t.names
-        → text ≡ difference_text event.now (difference_of first.now.key first.now.sums (costs_over t first.now.key seconds.now))) }
-    ensures asks { AsksIfOpen S.StoreState (is_ok result) store.old store.new }
+    ensures { IfOk result (λ text. (all : List NameRow) → AreOf all (N.name_rows names.now)
+        → text ≡ difference_text event.now (difference_of firsts.key (named_sums all firsts) (named_sums all seconds))) }
 {
-    let second = merge_runs(store, alloc, names, seconds, first.key())?;
-    Ok(text_of_sums(alloc, first, &second, event)?)
+    let first = firsts.named(alloc, names)?;
+    let second = seconds.named(alloc, names)?;
+    let text = text_of_sums(alloc, &first, &second, event)?;
+    Ok(text)
 }
 
-/// The text of the difference between some runs and others.
+/// The numbers of the names of two lists of sums.
+fn numbers_of_both(
+    alloc: Global,
+    firsts: &mut NumberSums,
+    seconds: &mut NumberSums,
+) -> Result<Vec<u32>, AllocError>
+    ensures first { firsts.new ≡ firsts.old }
+    ensures second { seconds.new ≡ seconds.old }
+    ensures numbers { IfOk result (λ numbers. numbers.items ≡ numbers_told firsts.old.key firsts.old.sums ++ numbers_told seconds.old.key seconds.old.sums) }
+{
+    let mut numbers = firsts.numbers(alloc)?;
+    let more = seconds.numbers(alloc)?;
+    numbers.extend_from_slice(&more)?;
+    Ok(numbers)
+}
+
+/// The text of the difference between some runs and others: only the names of their sums are asked for.
 fn difference_text<S: RunStore>(
     store: &mut S,
     alloc: Global,
@@ -92,9 +112,11 @@ fn difference_text<S: RunStore>(
     ensures told { Told S.StoreState result store.old store.new (λ t text. text ≡ difference_over t firsts.now seconds.now key event.now) }
     ensures asks { AsksIfOpen S.StoreState (is_ok result) store.old store.new }
 {
-    let names = store.names_of(alloc)?;
-    let first = merge_runs(store, alloc, &names, firsts, key)?;
-    text_less_runs(store, alloc, &names, &first, seconds, event)
+    let mut first = number_runs(store, alloc, firsts, key)?;
+    let mut second = number_runs(store, alloc, seconds, key)?;
+    let numbers = numbers_of_both(alloc, &mut first, &mut second)?;
+    let names = store.names_among(alloc, &numbers)?;
+    text_of_numbers(alloc, &names, first, second, event)
 }
 
 /// The answer over the runs of some numbers and those of others.

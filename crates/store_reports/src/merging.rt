@@ -5,10 +5,10 @@ ghost use Rattle.std.specs.Result.{is_ok};
 ghost use Rattle.plain_tables.specs.RunRows.{cells_in};
 ghost use Rattle.run_stores.specs.Calls.{Told, AsksIfOpen};
 ghost use Rattle.run_stores.specs.Walks.{IsOfAnEvent};
-ghost use Rattle.store_reports.specs.Reported.{merged_from, numbers_from, numbers_with};
+ghost use Rattle.store_reports.specs.Reported.{numbers_from, numbers_with};
 
 use crate::event_sums::EventSums;
-use cost_rows::{Key, Merged};
+use cost_rows::Key;
 use number_sums::NumberSums;
 use run_stores::{RunStore, StoreError};
 use selected_runs::{Counted, RunFold, fold_runs};
@@ -59,7 +59,7 @@ impl<S: RunStore> RunFold<S> for CellsOfRuns {
 }
 
 /// The sums of runs by key, one run after another, with the numbers of names.
-fn number_runs<S: RunStore>(
+pub(crate) fn number_runs<S: RunStore>(
     store: &mut S,
     alloc: Global,
     runs: &[Counted],
@@ -69,20 +69,4 @@ fn number_runs<S: RunStore>(
     ensures asks { AsksIfOpen S.StoreState (is_ok result) store.old store.new }
 {
     fold_runs(store, &CellsOfRuns {}, runs, NumberSums::new(alloc, key))
-}
-
-/// The sums of runs by key, by the names that are held: each name is looked up once for each sum.
-pub(crate) fn merge_runs<S: RunStore>(
-    store: &mut S,
-    alloc: Global,
-    names: &S::Names,
-    runs: &[Counted],
-    key: Key,
-) -> Result<Merged, StoreError>
-    ensures told { Told S.StoreState result store.old store.new (λ t sums. S.Names.name_rows names.now ≡ t.names
-        → sums ≡ fold (merged_from t) (record { key = key; sums = [] }) runs.now) }
-    ensures asks { AsksIfOpen S.StoreState (is_ok result) store.old store.new }
-{
-    let sums = number_runs(store, alloc, runs, key)?;
-    sums.named(alloc, names)
 }

@@ -1,53 +1,74 @@
 // The answers to questions by key.
-ghost use Rattle.std.specs.Prelude.{◌≡◌, IfOk};
+ghost use Rattle.std.specs.Prelude.{◌≡◌, ℕ, List, map, IfOk};
+ghost use Rattle.std.specs.List.{AllByRecursion};
 ghost use Rattle.std.specs.Result.{is_ok};
+ghost use Rattle.cost_rows.specs.KeySums.{total_of};
+ghost use Rattle.cost_rows.specs.Sums.{Spot};
 ghost use Rattle.report_texts.specs.KeyReports.{report_of};
 ghost use Rattle.report_texts.specs.KeyTexts.{key_report_text};
-ghost use Rattle.run_stores.specs.Calls.{Told, AsksIfOpen};
+ghost use Rattle.cost_reports.specs.Enough.{AreEnough};
+ghost use Rattle.prof_books.specs.Book.{IsHeld};
+ghost use Rattle.run_stores.specs.Calls.{AsksIfOpen, Told};
+ghost use Rattle.number_sums.specs.Named.{named_sum};
+ghost use Rattle.number_sums.specs.Sums.{numbers_told};
 ghost use Rattle.histories.specs.declared.answers.Query.TheVariants.{By};
 ghost use Rattle.store_histories.specs.Answered.{AnswersAsked};
-ghost use Rattle.store_reports.specs.Reported.{IsReported, report_over};
+ghost use Rattle.store_reports.specs.Reported.{AreShown, IsReported, report_over};
 
-use crate::merging::merge_runs;
+use crate::merging::number_runs;
 use cg_text::ListVec;
 use cost_reports::{Cut, by};
-use cost_rows::{Key, Merged};
+use cost_rows::Key;
 use histories::{Answer, Selection};
-use run_stores::{RunStore, StoreError};
+use number_sums::{NumberSums, RankedSums};
+use run_stores::{NameTable, RunStore, StoreError};
 use selected_runs::{Counted, event_runs};
-use std::alloc::{AllocError, Global};
+use std::alloc::Global;
 
-/// The text of the report of some sums.
-fn text_of_sums(
-    alloc: Global,
-    merged: &Merged,
-    cut: Cut,
-    event: &[u8],
-) -> Result<ListVec<u8>, AllocError>
-    ensures { IfOk result (λ text. text ≡ key_report_text event.now (report_of merged.now.key cut merged.now.sums)) }
-{
-    let report = by(alloc, merged, cut)?;
-    report.text(alloc, event)
-}
-
-/// The text of the report over some runs, by the names that are held.
-fn text_of_runs<S: RunStore>(
+/// Of some sums those that a cut can show. Errors: `Memory`; and `Store` where the name of a sum that is left out is
+/// not held: those of the others are missed when these are named.
+fn shown_sums<S: RunStore>(
     store: &mut S,
     alloc: Global,
-    names: &S::Names,
-    runs: &[Counted],
-    key: Key,
+    mut sums: NumberSums,
+    cut: Cut,
+) -> Result<RankedSums, StoreError>
+    ensures told { Told S.StoreState result store.old store.new (λ t shown. AreShown t cut sums shown) }
+    ensures asks { AsksIfOpen S.StoreState (is_ok result) store.old store.new }
+{
+    let numbers = sums.numbers(alloc)?;
+    let mut shown = sums.ranked(alloc)?;
+    let count = shown.len();
+    shown.keep_shown(cut);
+    if shown.len() == count {
+        return Ok(shown);
+    }
+    if !store.holds_names(alloc, &numbers)? {
+        return Err(StoreError::Store);
+    }
+    Ok(shown)
+}
+
+/// The text of the report of sums that a cut can show, of which the names are given.
+fn text_of_sums<N: NameTable>(
+    alloc: Global,
+    sums: &RankedSums,
+    names: &N,
     event: &[u8],
     cut: Cut,
 ) -> Result<ListVec<u8>, StoreError>
-    ensures told { Told S.StoreState result store.old store.new (λ t text. S.Names.name_rows names.now ≡ t.names → text ≡ report_over t runs.now key event.now cut) }
-    ensures asks { AsksIfOpen S.StoreState (is_ok result) store.old store.new }
+    ensures text { IfOk result (λ text. (all : List (Spot × ℕ)) → total_of all ≡ sums.now.total
+        → AreEnough (λ e. e.1) cut all (map (named_sum (N.name_rows names.now) sums.now.key) sums.now.sums)
+        → text ≡ key_report_text event.now (report_of sums.now.key cut all)) }
+    ensures held { IfOk result (λ _. AllByRecursion (IsHeld (N.name_rows names.now)) (numbers_told sums.now.key sums.now.sums)) }
 {
-    let merged = merge_runs(store, alloc, names, runs, key)?;
-    Ok(text_of_sums(alloc, &merged, cut, event)?)
+    let named = sums.named(alloc, names)?;
+    let report = by(alloc, sums.key(), &named, sums.total(), cut)?;
+    let text = report.text(alloc, event)?;
+    Ok(text)
 }
 
-/// The text of the report over some runs.
+/// The text of the report over some runs: only the names of sums that a cut can show are asked for.
 fn report_text<S: RunStore>(
     store: &mut S,
     alloc: Global,
@@ -59,8 +80,11 @@ fn report_text<S: RunStore>(
     ensures told { Told S.StoreState result store.old store.new (λ t text. text ≡ report_over t runs.now key event.now cut) }
     ensures asks { AsksIfOpen S.StoreState (is_ok result) store.old store.new }
 {
-    let names = store.names_of(alloc)?;
-    text_of_runs(store, alloc, &names, runs, key, event, cut)
+    let sums = number_runs(store, alloc, runs, key)?;
+    let shown = shown_sums(store, alloc, sums, cut)?;
+    let numbers = shown.numbers(alloc)?;
+    let names = store.names_among(alloc, &numbers)?;
+    text_of_sums(alloc, &shown, &names, event, cut)
 }
 
 /// Answers where the cost of an event went, by key, over the runs of a selection: a text, or the refusal

@@ -1,25 +1,28 @@
-use Rattle.std.proofs.Common.{ap, ◌∙◌}
-use Rattle.run_stores.proofs.Calls.{asked_reads, asked_reads_yet}
+use Rattle.std.proofs.Common.{ap, ap₂, ◌∙◌}
+use Rattle.run_stores.proofs.Calls.{asked_reads_yet}
 use Rattle.report_texts.specs.Differences.{difference_of, difference_text}
+use Rattle.number_sums.specs.Sums.{SumsByNumber}
 use Rattle.store_histories.proofs.Questions.{if_ok_so}
-use Rattle.store_reports.specs.Compared.{costs_over}
-use Rattle.store_reports.proofs.MergeLemmas.{merged_costs, merged_key}
+use Rattle.store_reports.specs.Compared.{named_sums}
+use Rattle.store_reports.proofs.MergeLemmas.{key_is, named_costs}
 use Rattle.store_reports.proofs.comparing.difference_text.Goals as goal
 
 pub returns-clause-told : goal.returns-clause-told
 returns-clause-told g c clean t represents =
-    let event = c.args.event.now in
     let key = c.args.key in
     let firsts = c.args.firsts.now in
     let seconds = c.args.seconds.now in
-    let later = (c.text_less_runs.ensures.asks clean).stays.was_faithful in
-    let early = (c.in_ok-first.ensures.asks later).stays.was_faithful in
-    let named = c.in_ok-names.ensures.told early t represents in
-    let one = asked_reads g.S.StoreState t _ _ (c.in_ok-names.ensures.asks early) represents in
-    let two = asked_reads_yet g.S.StoreState t _ _ (c.in_ok-first.ensures.asks later) one in
+    let later = (c.in_ok-names.ensures.asks clean).stays.was_faithful in
+    let early = (c.in_ok-second.ensures.asks later).stays.was_faithful in
+    let one = asked_reads_yet g.S.StoreState t _ _ (c.in_ok-first.ensures.asks early) represents in
+    let two = asked_reads_yet g.S.StoreState t _ _ (c.in_ok-second.ensures.asks later) one in
     let first = c.in_ok-first.first in
-    let merged = c.in_ok-first.ensures.told later t one named in
-    if_ok_so c.text_less_runs.result (λ text told. told named
-    ∙ ap (λ k. difference_text event (difference_of k first.sums (costs_over t k seconds))) (merged_key t key firsts first merged)
-    ∙ ap (λ sums. difference_text event (difference_of key sums (costs_over t key seconds))) (merged_costs t key firsts first merged))
-    (c.text_less_runs.ensures.told clean t two)
+    let second = c.in_ok-second.second in
+    let first_is = c.in_ok-first.ensures.told early t represents in
+    let second_is = c.in_ok-second.ensures.told later t one in
+    let event = c.args.event.now in
+    if_ok_so c.text_of_numbers.result (λ text told. told t.names (c.in_ok-names.ensures.told clean t two).same
+    ∙ ap₂ (λ (a b : SumsByNumber). difference_text event (difference_of a.key (named_sums t.names a) (named_sums t.names b))) c.in_ok-numbers.ensures.first c.in_ok-numbers.ensures.second
+    ∙ ap (λ k. difference_text event (difference_of k (named_sums t.names first) (named_sums t.names second))) (key_is t key firsts first first_is)
+    ∙ ap₂ (λ a b. difference_text event (difference_of key a b)) (named_costs t key firsts first first_is) (named_costs t key seconds second second_is))
+    c.text_of_numbers.ensures

@@ -2,7 +2,7 @@ use Rattle.std.proofs.Common.{◌≡◌, ◌++◌, [], map, sym, ap, ◌∙◌}
 use Rattle.std.proofs.lemmas.List.{append-nil}
 use Rattle.cost_reports.specs.Rows.{plain_row, sum_of_row}
 use Rattle.cost_reports.proofs.RowLemmas.{sums_of_rows}
-use Rattle.cost_reports.proofs.ranks.rows_of.Goals as goal
+use Rattle.cost_reports.proofs.ranks.merged_rows.Goals as goal
 
 pub returns : goal.returns
 returns c =

@@ -1,0 +1,93 @@
+-- The numbers that sums tell, sum by sum.
+use Rattle.std.proofs.Common.{ℕ, List, [], ◌∷◌, ◌++◌, fold, inl, inr, nat_eq, subst, IsPermutation}
+use Rattle.std.specs.declared.cmp.Ordering.{Ordering}
+use Rattle.std.specs.declared.cmp.Ordering.TheVariants.{Less, Equal, Greater}
+use Rattle.std.specs.List.{AllByRecursion}
+use Rattle.std.specs.Ordering.{match_ordering}
+use Rattle.std.proofs.lemmas.Bool.{cases_Bool}
+use Rattle.std.proofs.lemmas.List.Elements.{All-from_recursion, recursion_from_All}
+use Rattle.std.proofs.lemmas.List.Sorted.{All-permutation, IsPermutation-sym}
+use Rattle.cost_rows.specs.Stacks.{counts_added}
+use Rattle.cost_rows.specs.declared.keys.Key.{Key}
+use Rattle.cost_rows.specs.declared.keys.Key.TheVariants.{Object, File, Function, Line, Thread}
+use Rattle.cost_rows.specs.declared.rows.Cell.{Cell}
+use Rattle.number_sums.specs.Sums.{SumsByNumber, numbers_cmp, numbers_part, numbers_told, numbers_with, told, with_number}
+use Rattle.number_sums.specs.declared.parts.NumberPart.{NumberPart}
+use Rattle.number_sums.proofs.NamedSums.{rows_keep_key}
+
+-- ---- lists
+
+pub all_parted : {X : Type 0} (P : X → Type 0) (xs ys : List X) → AllByRecursion P (xs ++ ys) → AllByRecursion P xs × AllByRecursion P ys
+all_parted P [] ys all = (tt, all)
+all_parted P (x ∷ xs) ys all = let rest = all_parted P xs ys all.1 in ((all.0, rest.0), rest.1)
+
+pub all_joined : {X : Type 0} (P : X → Type 0) (xs ys : List X) → AllByRecursion P xs → AllByRecursion P ys → AllByRecursion P (xs ++ ys)
+all_joined P [] ys first second = second
+all_joined P (x ∷ xs) ys first second = (first.0, all_joined P xs ys first.1 second)
+
+-- what holds of each element holds of each in another order
+pub all_moved : {X : Type 0} (P : X → Type 0) (xs ys : List X) → IsPermutation xs ys → AllByRecursion P xs → AllByRecursion P ys
+all_moved P xs ys moved all = recursion_from_All P ys (All-permutation P xs ys moved (All-from_recursion P xs all))
+
+-- ---- numbers that are told
+
+-- what holds of each number that a sum tells
+abbrev pub TellsAll : (ℕ → Type 0) → Key → NumberPart × ℕ → Type 0
+TellsAll P key e = AllByRecursion P (told key e.0)
+
+pub told_each : (P : ℕ → Type 0) (key : Key) (sums : List (NumberPart × ℕ)) → AllByRecursion P (numbers_told key sums) → AllByRecursion (TellsAll P key) sums
+told_each P key [] all = tt
+told_each P key (e ∷ sums) all = let both = all_parted P (told key e.0) (numbers_told key sums) all in (both.0, told_each P key sums both.1)
+
+pub told_all : (P : ℕ → Type 0) (key : Key) (sums : List (NumberPart × ℕ)) → AllByRecursion (TellsAll P key) sums → AllByRecursion P (numbers_told key sums)
+told_all P key [] each = tt
+told_all P key (e ∷ sums) each = all_joined P (told key e.0) (numbers_told key sums) each.0 (told_all P key sums each.1)
+
+-- what holds of each number that sums tell holds of each that they tell in another order
+pub told_moved : (P : ℕ → Type 0) (key : Key) (a b : List (NumberPart × ℕ)) → IsPermutation a b → AllByRecursion P (numbers_told key a) → AllByRecursion P (numbers_told key b)
+told_moved P key a b moved all = told_all P key b (all_moved (TellsAll P key) a b moved (told_each P key a all))
+
+pub told_back : (P : ℕ → Type 0) (key : Key) (a b : List (NumberPart × ℕ)) → IsPermutation a b → AllByRecursion P (numbers_told key b) → AllByRecursion P (numbers_told key a)
+told_back P key a b moved all = told_moved P key b a (IsPermutation-sym a b moved) all
+
+-- ---- sums of rows
+
+-- what holds of each sum, and of a new one, holds of each after a cost is added
+pub all_with : (Q : NumberPart × ℕ → Type 0) (part : NumberPart) (cost : ℕ) → Q (part, cost) → ((e : NumberPart × ℕ) → Q e → Q (e.0, counts_added e.1 cost))
+    → (es : List (NumberPart × ℕ)) → AllByRecursion Q es → AllByRecursion Q (numbers_with part cost es)
+all_with Q part cost new more [] all = (new, tt)
+all_with Q part cost new more (e ∷ es) all = go (numbers_cmp part e.0) (all_with Q part cost new more es all.1)
+  where
+    go : (r : Ordering) → AllByRecursion Q (numbers_with part cost es)
+        → AllByRecursion Q (match_ordering r ((part, cost) ∷ e ∷ es) ((e.0, counts_added e.1 cost) ∷ es) (e ∷ numbers_with part cost es))
+    go Less rest = (new, all)
+    go Equal rest = (more e all.0, all.1)
+    go Greater rest = (all.0, rest)
+
+-- a row tells what its part tells
+row_tells : (P : ℕ → Type 0) (key : Key) (row : Cell ℕ) → P row.object → P row.file → P row.function → AllByRecursion P (told key (numbers_part key row))
+row_tells P Object row object file function = (object, tt)
+row_tells P File row object file function = (file, tt)
+row_tells P Function row object file function = (object, (function, tt))
+row_tells P Line row object file function = (file, tt)
+row_tells P Thread row object file function = tt
+
+-- of the numbers of a row's names
+abbrev pub NamesAll : (ℕ → Type 0) → Cell ℕ → Type 0
+NamesAll P row = P row.object × P row.file × P row.function
+
+rows_tell : (P : ℕ → Type 0) (rows : List (Cell ℕ)) (s : SumsByNumber) → AllByRecursion (NamesAll P) rows → AllByRecursion (TellsAll P s.key) s.sums
+    → AllByRecursion (TellsAll P (fold with_number s rows).key) (fold with_number s rows).sums
+rows_tell P [] s all each = each
+rows_tell P (row ∷ rows) s all each = rows_tell P rows (with_number s row) all.1 (elim (cases_Bool (nat_eq row.cost 0)) [
+  | inl none ↦ rw none each
+  | inr some ↦ rw some (all_with (TellsAll P s.key) (numbers_part s.key row) row.cost (row_tells P s.key row all.0.0 all.0.1 all.0.2) (λ e tells. tells) s.sums each)
+])
+
+-- what holds of each number of the rows' names holds of each number that their sums tell
+pub told_of_rows : (P : ℕ → Type 0) (key : Key) (rows : List (Cell ℕ)) → AllByRecursion (NamesAll P) rows
+    → AllByRecursion P (numbers_told key (fold with_number (record { key = key; sums = [] }) rows).sums)
+told_of_rows P key rows all =
+    let s : SumsByNumber = fold with_number (record { key = key; sums = [] }) rows in
+    told_all P key s.sums
+    (subst (λ (k : Key). AllByRecursion (TellsAll P k) s.sums) (rows_keep_key rows (record { key = key; sums = [] })) (rows_tell P rows (record { key = key; sums = [] }) all tt))

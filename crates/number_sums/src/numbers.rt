@@ -1,0 +1,57 @@
+// The numbers of the names that sums tell.
+ghost use Rattle.std.specs.Prelude.{◌≡◌, ◌++◌, IfOk, OnOk};
+ghost use Rattle.number_sums.specs.Sums.{numbers_told, told};
+
+use crate::parts::NumberPart;
+use crate::sums::{NumberSums, settle};
+use cost_rows::Key;
+use std::alloc::{AllocError, Global};
+use std::collections::BTreeMap;
+
+/// Adds the numbers of the names that a key tells of a part.
+pub(crate) fn push_told(
+    numbers: &mut Vec<u32>,
+    key: Key,
+    part: &NumberPart,
+) -> Result<(), AllocError>
+    ensures { OnOk result (numbers.new.items ≡ numbers.old.items ++ told key part.now) }
+{
+    match key {
+        Key::Object => numbers.push(part.object)?,
+        Key::File => numbers.push(part.file)?,
+        Key::Function => {
+            numbers.push(part.object)?;
+            numbers.push(part.function)?;
+        }
+        Key::Line => numbers.push(part.file)?,
+        Key::Thread => {}
+    }
+    Ok(())
+}
+
+/// The numbers that sums tell.
+fn numbers_of(
+    alloc: Global,
+    key: Key,
+    sums: &BTreeMap<NumberPart, u128>,
+) -> Result<Vec<u32>, AllocError>
+    ensures { IfOk result (λ numbers. numbers.items ≡ numbers_told key sums.now.entries) }
+{
+    let mut numbers = Vec::new(alloc);
+    for (part, _) in sums {
+        push_told(&mut numbers, key, part)?;
+    }
+    Ok(numbers)
+}
+
+impl NumberSums {
+    /// The numbers of the names that the key tells, of each sum, one after another: a number may come more than
+    /// once. Memory is the only refusal. The sums stay as they were.
+    pub fn numbers(&mut self, alloc: Global) -> Result<Vec<u32>, AllocError>
+        ensures same { self.new ≡ self.old }
+        ensures numbers { IfOk result (λ numbers. numbers.items ≡ numbers_told self.old.key self.old.sums) }
+    {
+        settle(&mut self.sums, self.recent, &mut self.cost)?;
+        numbers_of(alloc, self.key, &self.sums)
+    }
+}
