@@ -1,8 +1,6 @@
-//! The rows of a run with names in place: what a store hands on by the numbers of names, each name looked up.
+//! The cells of a run with names in place: what a store hands on by the numbers of names, each name looked up.
 #![tactic(auto)]
 
-// The calls of a run, with names in place (specs/Named.antt).
-mod calls;
 // The cells of a run, with names in place (specs/Named.antt).
 mod cells;
 // Names that have to be held.
@@ -10,7 +8,6 @@ mod held;
 // What takes rows with names.
 mod sinks;
 
-pub use calls::each_named_call;
 pub use cells::each_named_cell;
 pub use held::held_name;
-pub use sinks::{NamedCallSink, NamedCellSink};
+pub use sinks::NamedCellSink;

@@ -1,7 +1,6 @@
 // What takes the rows of runs with names in place.
 
-use cg_text::ListVec;
-use cost_rows::{CallEdge, Cell};
+use cost_rows::Cell;
 use run_stores::StoreError;
 
 /// Takes the cells of runs, with names in place.
@@ -22,24 +21,4 @@ pub trait NamedCellSink {
     /// Takes a cell. An error, out of memory or a sum that would pass its bound, ends the walk.
     fn take(&mut self, row: &Cell<&[u8]>) -> Result<(), StoreError>
         ensures { OnOk result (meaning self.new ≡ step (meaning self.old) (plain_cell row.now)) };
-}
-
-/// Takes the calls of runs, with names in place.
-pub trait NamedCallSink {
-    ghost use Rattle.std.specs.Prelude.{◌≡◌, List, ℕ, OnOk};
-    ghost use Rattle.cost_rows.specs.declared.rows.CallEdge.{CallEdge};
-    ghost use Rattle.named_rows.specs.Named.{plain_given};
-
-    /// What it can mean.
-    ghost Meaning: { Type 0 };
-
-    /// What it means.
-    ghost meaning: { Self → Meaning };
-
-    /// What a row of calls makes of a meaning.
-    ghost step: { Meaning → CallEdge (List ℕ) (List ℕ) → Meaning };
-
-    /// Takes a row of calls. An error ends the walk.
-    fn take(&mut self, row: &CallEdge<&[u8], ListVec<u128>>) -> Result<(), StoreError>
-        ensures { OnOk result (meaning self.new ≡ step (meaning self.old) (plain_given row.now)) };
 }

@@ -42,36 +42,20 @@ use Rattle.histories.proofs.Tests.{any-append}
 use Rattle.store_histories.specs.FromTables.{AnswersFor, text_or_no_name}
 use Rattle.selected_runs.specs.Added.{AreAdded}
 use Rattle.selected_runs.specs.EventRuns.{AreEventRuns, AreEventRunsIn}
-use Rattle.store_calls.specs.FunctionCalls.{AreEdgesOf, AreCallsShown, ShowsCalls, AreTakenFrom, IsCallsText, IsTakenFrom, Taken, is_in_cells, is_in_rows, is_in_stacks, not_taken, text_taken, touches, with_call, with_cell_sought, with_row_of_calls, with_stack_sought}
+use Rattle.store_calls.specs.FunctionCalls.{AreEdgesOf, AreCallsShown, ShowsCalls, AreTakenFrom, IsCallsText, IsTakenFrom, Taken, is_in_cells, is_in_rows, is_in_stacks, not_taken, text_taken, touches, with_call}
 use Rattle.selected_runs.specs.declared.counting.Counted.{Counted}
 use Rattle.selected_runs.proofs.EventLemmas.{both_held, event_runs_told}
 use Rattle.selected_runs.proofs.RunLemmas.{AreRunsOf, are_runs, selected_held}
 
--- ---- rows, taken one after another
+-- ---- tests, one after another
 
-pub calls_taken : (counts : List ℕ) (m : Taken) (edges : List (CallEdge (List ℕ) (List ℕ))) → fold with_row_of_calls (counts, m) edges ≡ (counts, fold with_call m (map (weighted_calls counts) edges))
-calls_taken counts m [] = refl
-calls_taken counts m (call ∷ edges) = calls_taken counts (with_call m (weighted_calls counts call)) edges
-
-or_then : (a b c : Bool) → (a || b) || c ≡ a || (b || c)
+pub or_then : (a b c : Bool) → (a || b) || c ≡ a || (b || c)
 or_then true b c = refl
 or_then false b c = refl
 
-or_none : (a : Bool) → a ≡ a || false
+pub or_none : (a : Bool) → a ≡ a || false
 or_none true = refl
 or_none false = refl
-
-pub cells_sought : (f : Spot) (b : Bool) (cells : List (Cell (List ℕ))) → fold with_cell_sought (f, b) cells ≡ (f, b || is_in_cells f cells)
-cells_sought f b [] = ap (λ a. (f, a)) (or_none b)
-cells_sought f b (r ∷ cells) =
-    let here = is_one_function (place_of_row r) f in
-    cells_sought f (b || here) cells ∙ ap (λ a. (f, a)) (or_then b here (is_in_cells f cells))
-
-pub stacks_sought : (f : Spot) (b : Bool) (stacks : List (StackCount (List ℕ))) → fold with_stack_sought (f, b) stacks ≡ (f, b || is_in_stacks f stacks)
-stacks_sought f b [] = ap (λ a. (f, a)) (or_none b)
-stacks_sought f b (r ∷ stacks) =
-    let here = is_frame f r.stack in
-    stacks_sought f (b || here) stacks ∙ ap (λ a. (f, a)) (or_then b here (is_in_stacks f stacks))
 
 -- ---- runs, one after another
 
@@ -121,6 +105,16 @@ text_of_taken t runs side f event all text from is =
           ∙ ap (λ calls. if list_any (touches f) edges || list_any (is_in_rows t f) runs then Some (call_report_text event (call_report_of calls)) else None)
           (taken_calls (not_taken side f) edges ∙ calls_come_to side f edges),
     )
+
+-- the text by what was found out of the function
+pub text_known : (t : Tables) (runs : List Counted) (event : List ℕ) (m : Taken) (known : Bool) (text : List ℕ) → known ≡ m.known || list_any (is_in_rows t m.function) runs → known ≡ true
+    → text ≡ call_report_text event (call_report_of m.calls) → Some text ≡ text_taken t runs event m
+text_known t runs event m known text told is text_is =
+    ap Some text_is ∙ ap (λ b. if b then Some (call_report_text event (call_report_of m.calls)) else None) (sym is ∙ told)
+
+pub text_unknown : (t : Tables) (runs : List Counted) (event : List ℕ) (m : Taken) (known : Bool) → known ≡ m.known || list_any (is_in_rows t m.function) runs → known ≡ false
+    → None ≡ text_taken t runs event m
+text_unknown t runs event m known told is = ap (λ b. if b then Some (call_report_text event (call_report_of m.calls)) else None) (sym is ∙ told)
 
 -- ---- rows and records know the same functions
 

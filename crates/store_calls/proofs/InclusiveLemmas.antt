@@ -9,6 +9,7 @@ use Rattle.cost_rows.specs.KeySums.{rows_of, with_row}
 use Rattle.cost_rows.specs.StackSums.{frames_sum}
 use Rattle.cost_rows.specs.Sums.{call_sum, count_sum, has_call, self_sum}
 use Rattle.cost_rows.specs.WalkSums.{stacks_count}
+use Rattle.cost_rows.specs.declared.keys.Key.TheVariants.{Function}
 use Rattle.cost_rows.specs.declared.rows.CallEdge.{CallEdge}
 use Rattle.cost_rows.specs.declared.rows.Cell.{Cell}
 use Rattle.cost_rows.specs.declared.rows.StackCount.{StackCount}
@@ -18,14 +19,15 @@ use Rattle.report_texts.specs.Functions.{is_one_function}
 use Rattle.report_texts.specs.Inclusive.{InclusiveCosts, InclusiveRow, OfSelf, OfCalls, OfStack, SameStacks, by_function, calls_in, inclusive_report, inclusive_rows, inclusive_text, no_costs, self_in, stacks_in, with_inclusive, with_outward, with_self}
 use Rattle.cost_reports.proofs.AddedLemmas.{inclusive_come_to}
 use Rattle.cost_reports.proofs.InclusiveLemmas.{inclusive_are_records}
-use Rattle.prof_books.specs.Book.{cell_held, cells_held, stacks_held}
+use Rattle.prof_books.specs.Book.{cell_held, cells_held, stacks_held, IsHeld}
 use Rattle.plain_tables.specs.Tables.{Tables, CellRow, NameRow}
 use Rattle.profile_records.specs.Stacks.{Seen}
 use Rattle.profile_records.specs.declared.kinds.Kind.{Kind}
 use Rattle.profile_records.specs.declared.kinds.Kind.TheVariants.{Callgrind, Folded}
 use Rattle.named_rows.specs.Named.{AreCallsOf}
+use Rattle.number_sums.specs.Sums.{numbers_told}
 use Rattle.run_stores.specs.Lookups.{IsKindOf}
-use Rattle.run_stores.specs.Names.{named_call}
+use Rattle.run_stores.specs.Names.{named_call, AreApart}
 use Rattle.run_stores.specs.Walks.{cell_numbers}
 use Rattle.histories.specs.Formats as formats
 use Rattle.histories.specs.Formats.{Format, kind_in}
@@ -45,45 +47,114 @@ use Rattle.histories.proofs.Runs.{tells_rows}
 use Rattle.store_histories.specs.FromTables.{AnswersFor, ShowsText}
 use Rattle.selected_runs.specs.Added.{AreAdded}
 use Rattle.selected_runs.specs.EventRuns.{AreEventRuns, AreEventRunsIn}
-use Rattle.store_calls.specs.InclusiveParts.{Counting, costs_named, with_call_row, with_self_row, with_stack_row}
-use Rattle.store_calls.specs.InclusiveRuns.{Adds, AreRowsOf, AreRowsOfKind, AreRowsOfRuns, IsInclusive, IsInclusiveText, call_rows, self_rows}
+use Rattle.store_calls.specs.InclusiveParts.{Counting, PartSums, AreHeld, AreNamesFor, costs_named, none_added, sums_in, weighted_number, with_call_row, with_self_row, with_stack_row}
+use Rattle.store_calls.specs.InclusiveRuns.{AddsHeld, AreRowsCounted, AreRowsOf, AreRowsOfKind, AreRowsOfRuns, IsInclusive, IsInclusiveText, IsTextNamed, call_rows, self_rows}
 use Rattle.store_calls.specs.declared.inclusive_parts.InclusiveParts.{InclusiveParts}
 use Rattle.selected_runs.specs.declared.counting.Counted.{Counted}
 use Rattle.selected_runs.proofs.EventLemmas.{both_held, event_runs_told}
 use Rattle.store_calls.proofs.KindLemmas.{kind_told}
+use Rattle.store_calls.proofs.PartLemmas.{calls_more, self_held, self_more, stack_more}
 use Rattle.selected_runs.proofs.RunLemmas.{AreRunsOf, IsRunOf, are_runs, selected_held}
+
+all_so : {X : Type 0} (P Q : X → Type 0) → ((x : X) → P x → Q x) → (xs : List X) → AllByRecursion P xs → AllByRecursion Q xs
+all_so P Q so [] all = tt
+all_so P Q so (x ∷ xs) all = (so x all.0, all_so P Q so xs all.1)
 
 -- ---- rows of one kind, taken one after another
 
-pub self_taken : (m : Counting) (lines : List CellRow) → fold with_self_row m (map cell_numbers lines) ≡ record m { costs = fold with_inclusive m.costs (self_rows m.counts (map (cell_held m.names) lines)) }
-self_taken m [] = refl
-self_taken m (line ∷ lines) = self_taken (with_self_row m (cell_numbers line)) lines
+self_counts : (m : Counting) (rows : List (Cell ℕ)) → (fold with_self_row m rows).counts ≡ m.counts
+self_counts m [] = refl
+self_counts m (row ∷ rows) = self_counts (with_self_row m row) rows
 
-pub calls_taken : (m : Counting) (edges : List (CallEdge ℕ (List ℕ))) → fold with_call_row m edges ≡ record m { costs = fold with_inclusive m.costs (call_rows m.counts (map (named_call m.names) edges)) }
-calls_taken m [] = refl
-calls_taken m (call ∷ edges) = calls_taken (with_call_row m call) edges
+module _ (names : List NameRow) where
+  -- from sums whose names are held rows went to such costs, by name
+  abbrev Went : PartSums → PartSums → (InclusiveCosts → InclusiveCosts) → Type 0
+  Went old new added = AreHeld names new → AreHeld names old × (costs_named names new ≡ added (costs_named names old))
 
-pub stacks_taken : (m : Counting) (stacks : List (StackCount (List ℕ))) → fold with_stack_row m stacks ≡ record m { costs = fold with_inclusive m.costs (map OfStack stacks) }
-stacks_taken m [] = refl
-stacks_taken m (stack ∷ stacks) = stacks_taken (with_stack_row m stack) stacks
+  self_taken : (m : Counting) (lines : List CellRow) → Went m.sums (fold with_self_row m (map cell_numbers lines)).sums (λ costs. fold with_inclusive costs (self_rows m.counts (map (cell_held names) lines)))
+  self_taken m [] held = (held, refl)
+  self_taken m (line ∷ lines) held =
+      let row = weighted_number m.counts (cell_numbers line) in
+      let rest = self_taken (with_self_row m (cell_numbers line)) lines held in (
+        self_held names m.sums row rest.0,
+        rest.1 ∙ ap (λ costs. fold with_inclusive costs (self_rows m.counts (map (cell_held names) lines))) (self_more names m.sums row),
+      )
 
--- what was taken by names that stay
-pub came_to : {names : List NameRow} {counts : List ℕ} {m : Counting} (parts : InclusiveParts) → record { names = names; counts = counts; costs = costs_named names parts } ≡ m → costs_named m.names parts ≡ m.costs
-came_to parts came = sym (ap (λ (m : Counting). costs_named m.names parts) came) ∙ ap (λ (m : Counting). m.costs) came
+  calls_taken : AreApart names → (m : Counting) (edges : List (CallEdge ℕ (List ℕ)))
+      → Went m.sums (fold with_call_row m edges).sums (λ costs. fold with_inclusive costs (call_rows m.counts (map (named_call names) edges)))
+  calls_taken apart m [] held = (held, refl)
+  calls_taken apart m (call ∷ edges) held =
+      let rest = calls_taken apart (with_call_row m call) edges held in
+      let one = calls_more names apart m.sums m.counts call rest.0 in
+      (one.0, rest.1 ∙ ap (λ costs. fold with_inclusive costs (call_rows m.counts (map (named_call names) edges))) one.1)
+
+  pub stacks_taken : (m : Counting) (stacks : List (StackCount (List ℕ))) → Went m.sums (fold with_stack_row m stacks).sums (λ costs. fold with_inclusive costs (map OfStack stacks))
+  stacks_taken m [] held = (held, refl)
+  stacks_taken m (stack ∷ stacks) held =
+      let rest = stacks_taken (with_stack_row m stack) stacks held in
+      (rest.0, rest.1 ∙ ap (λ costs. fold with_inclusive costs (map OfStack stacks)) (stack_more names m.sums stack))
+
+  -- self costs, and calls after them
+  pub both_taken : AreApart names → (m : Counting) (lines : List CellRow) (edges : List (CallEdge ℕ (List ℕ)))
+      → Went m.sums (fold with_call_row (fold with_self_row m (map cell_numbers lines)) edges).sums
+      (λ costs. fold with_inclusive costs (self_rows m.counts (map (cell_held names) lines) ++ call_rows m.counts (map (named_call names) edges)))
+  both_taken apart m lines edges held =
+      let mid : Counting = fold with_self_row m (map cell_numbers lines) in
+      let costs = costs_named names m.sums in
+      let own = self_rows m.counts (map (cell_held names) lines) in
+      let calls = map (named_call names) edges in
+      let late = calls_taken apart mid edges held in
+      let early = self_taken m lines late.0 in (
+        early.0,
+        late.1 ∙ ap₂ (λ cs counts. fold with_inclusive cs (call_rows counts calls)) early.1 (self_counts m (map cell_numbers lines))
+            ∙ sym (fold-append with_inclusive costs own (call_rows m.counts calls)),
+      )
+
+-- ---- rows of a run
+
+-- told otherwise
+adds_as : (t : Tables) (Are Other : List InclusiveRow → Type 0) (old new : PartSums) → ((rows : List InclusiveRow) → Are rows → Other rows) → AddsHeld t Are old new → AddsHeld t Other old new
+adds_as t Are Other old new so adds apart held = let added = adds apart held in (added.0, (added.1.0, so added.1.0 added.1.1, added.1.2))
+
+pub kind_added : (t : Tables) (number : ℕ) (counts : List ℕ) (told kind : Kind) (old new : PartSums) → IsKindOf number t told → told ≡ kind → AddsHeld t (AreRowsOfKind kind t number counts) old new
+    → AddsHeld t (AreRowsCounted t number counts) old new
+kind_added t number counts told kind old new is same adds =
+    adds_as t (AreRowsOfKind kind t number counts) (AreRowsCounted t number counts) old new (λ rows are. (kind, subst (IsKindOf number t) same is, are)) adds
+
+pub run_added : (t : Tables) (run : Counted) (counts : List ℕ) (old new : PartSums) → run.counts ≡ Some counts → AddsHeld t (AreRowsCounted t run.number counts) old new → AddsHeld t (AreRowsOf t run) old new
+run_added t run counts old new is adds =
+    adds_as t (AreRowsCounted t run.number counts) (AreRowsOf t run) old new
+    (λ rows are. subst (λ (c : Option (List ℕ)). MatchOption c (rows ≡ []) (λ counts. AreRowsCounted t run.number counts rows)) (sym is) are) adds
 
 -- ---- runs one after another
 
-pub rows_added : {M : Type 0} {P : Type 0} (come_to : M → InclusiveCosts) (t : Tables) → P → (runs : List Counted) (before after : M)
-    → AreAdded (λ run old new. P → Adds (AreRowsOf t run) (come_to old) (come_to new)) runs before after
-    → Adds (AreRowsOfRuns t runs) (come_to before) (come_to after)
-rows_added come_to t given [] before after all = ([], refl, ap come_to all)
-rows_added come_to t given (run ∷ runs) before after all =
-    let one = all.1 given in
-    let rest = rows_added come_to t given runs all.0 after all.2 in (
-      one.0 ++ rest.0,
-      (one.0, rest.0, one.1, rest.1, refl),
-      rest.2 ∙ ap (λ costs. fold with_inclusive costs rest.0) one.2 ∙ sym (fold-append with_inclusive (come_to before) one.0 rest.0),
+pub rows_added : (t : Tables) (runs : List Counted) (before after : InclusiveParts) → AreAdded (λ run old new. AddsHeld t (AreRowsOf t run) (sums_in old) (sums_in new)) runs before after
+    → AddsHeld t (AreRowsOfRuns t runs) (sums_in before) (sums_in after)
+rows_added t [] before after all apart held =
+    let same = ap sums_in all in
+    (subst (AreHeld t.names) same held, ([], refl, ap (costs_named t.names) same))
+rows_added t (run ∷ runs) before after all apart held =
+    let rest = rows_added t runs all.0 after all.2 apart held in
+    let one = all.1 apart rest.0 in
+    let costs = costs_named t.names (sums_in before) in
+    let first = one.1 in
+    let later = rest.1 in (
+      one.0,
+      (
+        first.0 ++ later.0,
+        (first.0, later.0, first.1, later.1, refl),
+        later.2 ∙ ap (λ costs. fold with_inclusive costs later.0) first.2 ∙ sym (fold-append with_inclusive costs first.0 later.0),
+      ),
     )
+
+-- ---- the text
+
+-- of what runs add up to, of which the names are given
+pub text_told : (t : Tables) (runs : List Counted) (s : PartSums) (names : List NameRow) (event text : List ℕ) → AreApart t.names → AddsHeld t (AreRowsOfRuns t runs) none_added s → AreNamesFor t s names
+    → IsTextNamed names s event text → IsInclusiveText t runs event text
+text_told t runs s names event text apart added are is =
+    let held = all_so (IsHeld names) (IsHeld t.names) (λ n here. (are.among.same n here).0) (numbers_told Function s.numbers) is.0 in
+    (costs_named t.names s, (added apart (held, are.called)).1, is.1 t.names are.among.same)
 
 -- ---- the rows of one file
 

@@ -1,5 +1,6 @@
 mod FunctionLemmas
 mod InclusiveLemmas
+mod KeptLemmas
 mod KindLemmas
 mod PartLemmas
 mod WeightLemmas

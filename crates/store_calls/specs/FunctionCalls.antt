@@ -18,15 +18,6 @@ use Rattle.histories.specs.declared.answers.Selection.{Selection}
 use Rattle.store_histories.specs.FromTables.{AnswersBy, text_or_no_name}
 use Rattle.selected_runs.specs.EventRuns.{AreEventRunsIn}
 use Rattle.selected_runs.specs.declared.counting.Counted.{Counted}
-use Rattle.store_calls.specs.declared.function_calls.FunctionCalls.{FunctionCalls}
-
--- a row of calls that cost so much in the event
-abbrev pub calls_costing : CallEdge (List ℕ) (List ℕ) → ℕ → Calls
-calls_costing r cost = record {
-  caller = function_spot r.object r.function;
-  callee = function_spot r.called_object r.called_function;
-  sum = record { first = cost; second = r.count };
-}
 
 -- whether calls are from a function or to it
 abbrev pub touches : Spot → Calls → Bool
@@ -40,13 +31,6 @@ pub record Taken : Type 0 where
 
 abbrev pub with_call : Taken → Calls → Taken
 with_call m c = record m { known = m.known || touches m.function c; calls = with_calls m.calls c }
-
-abbrev pub taken_of : FunctionCalls → Taken
-taken_of c = record { function = function_spot c.object.now c.name.now; known = c.known; calls = c.sums }
-
--- a row of a run whose columns count so often
-abbrev pub with_row_of_calls : List ℕ × Taken → CallEdge (List ℕ) (List ℕ) → List ℕ × Taken
-with_row_of_calls m row = (m.0, with_call m.1 (weighted_calls m.0 row))
 
 -- rows of the calls of each run; in a run without the event they cost nothing
 abbrev pub AreEdgesOf : List Counted → Tables → List EventEdges → Type 0
@@ -76,13 +60,6 @@ is_in_stacks f stacks = list_any (λ (r : StackCount (List ℕ)). is_frame f r.s
 
 abbrev pub is_in_rows : Tables → Spot → Counted → Bool
 is_in_rows t f run = is_in_cells f (cells_held run.number t) || is_in_stacks f (stacks_held run.number t)
-
--- a function that is looked for in rows, and whether it was found
-abbrev pub with_cell_sought : Spot × Bool → Cell (List ℕ) → Spot × Bool
-with_cell_sought m row = (m.0, m.1 || is_one_function (place_of_row row) m.0)
-
-abbrev pub with_stack_sought : Spot × Bool → StackCount (List ℕ) → Spot × Bool
-with_stack_sought m row = (m.0, m.1 || is_frame m.0 row.stack)
 
 -- ---- the text
 

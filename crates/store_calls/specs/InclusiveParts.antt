@@ -1,48 +1,90 @@
 -- Inclusive costs that are kept in two parts: by the numbers of names, and by names.
-use Rattle.std.specs.Prelude.{ℕ, ◌+◌, Bool, List, ◌++◌, map}
-use Rattle.cost_rows.specs.KeySums.{rows_of, sums_by, with_row}
+use Rattle.std.specs.Prelude.{ℕ, ◌+◌, ◌*◌, Bool, ◌==◌, ◌&&◌, if◌then◌else◌, List, [], ◌++◌, map, slice_index}
+use Rattle.std.specs.List.{AllByRecursion}
+use Rattle.cg_formulas.specs.Formulas.{weighed}
+use Rattle.cost_rows.specs.KeySums.{rows_of, sums_by}
 use Rattle.cost_rows.specs.declared.keys.Key.TheVariants.{Function}
 use Rattle.cost_rows.specs.declared.rows.CallEdge.{CallEdge}
 use Rattle.cost_rows.specs.declared.rows.Cell.{Cell}
 use Rattle.cost_rows.specs.declared.rows.StackCount.{StackCount}
-use Rattle.report_texts.specs.Calls.{weighted_calls}
-use Rattle.report_texts.specs.Costs.{weighted}
-use Rattle.report_texts.specs.Functions.{function_spot, is_one_function}
-use Rattle.report_texts.specs.Inclusive.{InclusiveCosts, by_function, with_outward, with_self, with_stack}
-use Rattle.prof_books.specs.Book.{name_of}
-use Rattle.plain_tables.specs.Tables.{NameRow}
-use Rattle.run_stores.specs.Names.{named_call, named_cell}
-use Rattle.number_sums.specs.Sums.{number_rows}
+use Rattle.report_texts.specs.Inclusive.{InclusiveCosts, no_costs, with_stack}
+use Rattle.prof_books.specs.Book.{IsHeld}
+use Rattle.plain_tables.specs.Tables.{Tables, NameRow}
+use Rattle.run_stores.specs.Names.{named_cell, AreAmong}
+use Rattle.number_sums.specs.Sums.{number_rows, numbers_told, with_number}
+use Rattle.number_sums.specs.declared.parts.NumberPart.{NumberPart}
 use Rattle.store_calls.specs.declared.inclusive_parts.InclusiveParts.{InclusiveParts}
 
+-- what was added: by the numbers of functions, by those of called functions, and of stacks
+pub record PartSums : Type 0 where
+  pub numbers : List (NumberPart × ℕ)
+  pub called : List (NumberPart × ℕ)
+  pub self_cost : ℕ
+  pub stacks : InclusiveCosts
+
+abbrev pub sums_in : InclusiveParts → PartSums
+sums_in parts = record { numbers = parts.numbers.sums; called = parts.called.sums; self_cost = parts.self_cost; stacks = parts.stacks }
+
+abbrev pub none_added : PartSums
+none_added = record { numbers = []; called = []; self_cost = 0; stacks = no_costs }
+
 -- what both parts sum to, with the names in place
-abbrev pub costs_named : List NameRow → InclusiveParts → InclusiveCosts
-costs_named names parts = record {
-  sums = sums_by Function (map (named_cell names) (number_rows parts.numbers.sums) ++ rows_of parts.stacks.sums);
-  total = parts.self_cost + parts.stacks.total;
+abbrev pub costs_named : List NameRow → PartSums → InclusiveCosts
+costs_named names s = record {
+  sums = sums_by Function (map (named_cell names) (number_rows s.numbers) ++ rows_of s.stacks.sums);
+  total = s.self_cost + s.stacks.total;
 }
 
--- a cost that is added at a function, and not to what all cost by themselves
-abbrev pub with_cost_at : InclusiveCosts → Cell (List ℕ) → InclusiveCosts
-with_cost_at held row = record held { sums = (with_row (by_function held) row).sums }
+-- the numbers that sums tell have names that are held
+abbrev pub AreHeld : List NameRow → PartSums → Type 0
+AreHeld names s = AllByRecursion (IsHeld names) (numbers_told Function s.numbers) × AllByRecursion (IsHeld names) (numbers_told Function s.called)
 
--- whether calls are of the caller itself: its names are those of the callee, whatever their numbers
-abbrev pub is_of_itself : List NameRow → CallEdge ℕ (List ℕ) → Bool
-is_of_itself names r = is_one_function (function_spot (name_of names r.object) (name_of names r.function)) (function_spot (name_of names r.called_object) (name_of names r.called_function))
+-- the names of the sums are some of all that are held, and those of what is called are held
+pub record AreNamesFor (t : Tables) (s : PartSums) (names : List NameRow) : Type 0 where
+  pub called : AllByRecursion (IsHeld t.names) (numbers_told Function s.called)
+  pub among : AreAmong (numbers_told Function s.numbers) t.names names
+
+-- ---- rows by number
+
+-- a row's cost, at its function
+abbrev pub with_function : List (NumberPart × ℕ) → Cell ℕ → List (NumberPart × ℕ)
+with_function sums row = (with_number (record { key = Function; sums = sums }) row).sums
+
+abbrev pub with_self_costs : PartSums → Cell ℕ → PartSums
+with_self_costs s row = record s { numbers = with_function s.numbers row; self_cost = s.self_cost + row.cost }
+
+-- calls that cost so much: at the caller, and at what is called
+abbrev pub caller_cell : CallEdge ℕ (List ℕ) → ℕ → Cell ℕ
+caller_cell r cost = record { object = r.object; file = r.file; function = r.function; line = r.line; thread = 0; event = 0; cost = cost }
+
+abbrev pub called_cell : CallEdge ℕ (List ℕ) → ℕ → Cell ℕ
+called_cell r cost = record { object = r.called_object; file = r.called_file; function = r.called_function; line = 0; thread = 0; event = 0; cost = cost }
+
+abbrev pub with_calls : PartSums → CallEdge ℕ (List ℕ) → ℕ → PartSums
+with_calls s r cost = record s { numbers = with_function s.numbers (caller_cell r cost); called = with_function s.called (called_cell r cost) }
+
+abbrev pub with_stacks : PartSums → StackCount (List ℕ) → PartSums
+with_stacks s row = record s { stacks = with_stack s.stacks row }
+
+-- whether calls are of the caller itself, by number
+abbrev pub is_of_itself : CallEdge ℕ (List ℕ) → Bool
+is_of_itself r = (r.object == r.called_object) && (r.function == r.called_function)
 
 -- ---- one row, of a run whose columns count so often
 
--- what was added so far, by these names
+-- what was added so far
 pub record Counting : Type 0 where
-  pub names : List NameRow
   pub counts : List ℕ
-  pub costs : InclusiveCosts
+  pub sums : PartSums
+
+abbrev pub weighted_number : List ℕ → Cell ℕ → Cell ℕ
+weighted_number counts row = record row { event = 0; cost = slice_index counts row.event * row.cost }
 
 abbrev pub with_self_row : Counting → Cell ℕ → Counting
-with_self_row m row = record m { costs = with_self m.costs (weighted m.counts (named_cell m.names row)) }
+with_self_row m row = record m { sums = with_self_costs m.sums (weighted_number m.counts row) }
 
 abbrev pub with_call_row : Counting → CallEdge ℕ (List ℕ) → Counting
-with_call_row m row = record m { costs = with_outward m.costs (weighted_calls m.counts (named_call m.names row)) }
+with_call_row m row = record m { sums = if is_of_itself row then m.sums else with_calls m.sums row (weighed m.counts row.costs) }
 
 abbrev pub with_stack_row : Counting → StackCount (List ℕ) → Counting
-with_stack_row m row = record m { costs = with_stack m.costs row }
+with_stack_row m row = record m { sums = with_stacks m.sums row }

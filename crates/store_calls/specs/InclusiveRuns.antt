@@ -1,22 +1,28 @@
 -- Inclusive costs over runs of the tables.
 use Rattle.std.specs.Prelude.{◌≡◌, ℕ, List, [], ◌∷◌, ◌++◌, map, fold}
+use Rattle.std.specs.List.{AllByRecursion}
 use Rattle.std.specs.Option.{MatchOption}
+use Rattle.cost_rows.specs.declared.keys.Key.TheVariants.{Function}
 use Rattle.cost_rows.specs.declared.rows.CallEdge.{CallEdge}
 use Rattle.cost_rows.specs.declared.rows.Cell.{Cell}
 use Rattle.report_texts.specs.Calls.{weighted_calls}
 use Rattle.report_texts.specs.Costs.{weighted}
 use Rattle.report_texts.specs.Inclusive.{InclusiveCosts, InclusiveRow, OfSelf, OfCalls, OfStack, inclusive_report, inclusive_text, no_costs, with_inclusive}
-use Rattle.prof_books.specs.Book.{cells_held, stacks_held}
-use Rattle.plain_tables.specs.Tables.{Tables}
+use Rattle.prof_books.specs.Book.{cells_held, stacks_held, IsHeld}
+use Rattle.plain_tables.specs.Tables.{Tables, NameRow}
 use Rattle.profile_records.specs.declared.kinds.Kind.{Kind}
 use Rattle.profile_records.specs.declared.kinds.Kind.TheVariants.{Callgrind, Folded}
 use Rattle.named_rows.specs.Named.{AreCallsOf}
 use Rattle.run_stores.specs.Lookups.{IsKindOf}
+use Rattle.run_stores.specs.Names.{AreApart}
+use Rattle.number_sums.specs.Named.{AreOf}
+use Rattle.number_sums.specs.Sums.{numbers_told}
 use Rattle.histories.specs.declared.answers.Answer.{Answer}
 use Rattle.histories.specs.declared.answers.Selection.{Selection}
 use Rattle.store_histories.specs.FromTables.{AnswersBy, ShowsText}
 use Rattle.selected_runs.specs.EventRuns.{AreEventRunsIn}
 use Rattle.selected_runs.specs.declared.counting.Counted.{Counted}
+use Rattle.store_calls.specs.InclusiveParts.{PartSums, AreHeld, costs_named}
 
 -- ---- the rows of runs
 
@@ -50,10 +56,19 @@ AreRowsOfRuns t (run ∷ runs) rows =
 abbrev pub Adds : (List InclusiveRow → Type 0) → InclusiveCosts → InclusiveCosts → Type 0
 Adds Are old new = (rows : List InclusiveRow) × Are rows × (new ≡ fold with_inclusive old rows)
 
+-- such rows were added by number: where names are told apart, and all are held that sums tell in the end, all were held that they told before, and by name such rows were added
+abbrev pub AddsHeld : Tables → (List InclusiveRow → Type 0) → PartSums → PartSums → Type 0
+AddsHeld t Are old new = AreApart t.names → AreHeld t.names new → AreHeld t.names old × Adds Are (costs_named t.names old) (costs_named t.names new)
+
 -- the text of the inclusive costs of runs
 abbrev pub IsInclusiveText : Tables → List Counted → List ℕ → List ℕ → Type 0
 IsInclusiveText t runs event text =
     (costs : InclusiveCosts) × Adds (AreRowsOfRuns t runs) no_costs costs × (text ≡ inclusive_text event (inclusive_report costs))
+
+-- that of sums, by names of which some are given: all that the sums tell
+abbrev pub IsTextNamed : List NameRow → PartSums → List ℕ → List ℕ → Type 0
+IsTextNamed some s event text =
+    AllByRecursion (IsHeld some) (numbers_told Function s.numbers) × ((all : List NameRow) → AreOf all some → text ≡ inclusive_text event (inclusive_report (costs_named all s)))
 
 -- what is answered over the tables, whatever they represent
 abbrev pub IsInclusive : Tables → Selection → List ℕ → Answer → Type 0

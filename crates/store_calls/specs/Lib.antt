@@ -1,3 +1,4 @@
 pub mod FunctionCalls
 pub mod InclusiveParts
 pub mod InclusiveRuns
+pub mod KeptCalls

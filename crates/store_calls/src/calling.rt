@@ -7,83 +7,65 @@ ghost use Rattle.report_texts.specs.Functions.{function_spot};
 ghost use Rattle.run_stores.specs.Calls.{Told, AsksIfOpen};
 ghost use Rattle.histories.specs.declared.answers.Query.TheVariants.{Calls};
 ghost use Rattle.store_histories.specs.Answered.{AnswersAsked};
-ghost use Rattle.store_calls.specs.FunctionCalls.{AreCallsShown, IsCallsText, is_in_rows, not_taken, taken_of, text_taken};
+ghost use Rattle.store_calls.specs.FunctionCalls.{AreCallsShown, IsCallsText, is_in_rows, text_taken};
+ghost use Rattle.store_calls.specs.KeptCalls.{IsAsked, kept_of, spot_asked, sums_named, taken_named};
 
-use crate::function_calls::{CallRows, FunctionCalls};
+use crate::asked_functions::{AskedFunction, asked_function};
+use crate::kept_calls::KeepsCalls;
+use crate::kept_rows::KeptCalls;
 use crate::known_names::is_in_runs;
+use crate::named_calls::{numbers_of, sums_named};
 use cg_text::ListVec;
 use cost_reports::{CallSide, CallSums, calls};
 use histories::{Answer, Refusal, Selection};
-use named_rows::each_named_call;
 use run_stores::{RunStore, StoreError};
 use selected_runs::{Counted, RunFold, event_runs, fold_runs};
 use std::alloc::{AllocError, Global};
 
-/// Adds the calls of runs, by the names that are held.
+/// Keeps the calls of runs that are of the function that is asked.
 #[derive(Drop)]
-struct CallsOfRuns<'n, N> {
+struct CallsOfRuns<'a> {
     alloc: Global,
-    names: &'n N,
+    asked: &'a AskedFunction<'a>,
 }
 
-impl<'n, S: RunStore> RunFold<S> for CallsOfRuns<'n, S::Names> {
-    ghost use Rattle.std.specs.Prelude.{◌≡◌};
-    ghost use Rattle.store_calls.specs.FunctionCalls.{IsTakenFrom, taken_of};
+impl<S: RunStore> RunFold<S> for CallsOfRuns<'_> {
+    ghost use Rattle.store_calls.specs.FunctionCalls.{IsTakenFrom};
+    ghost use Rattle.store_calls.specs.KeptCalls.{IsAsked, kept_of, spot_asked, taken_named};
 
     type Run = Counted;
 
-    type Sums = FunctionCalls<'n>;
+    type Sums = KeptCalls;
 
-    ghost Step = { λ s t run old new. S.Names.name_rows s.names.now ≡ t.names → IsTakenFrom t run (taken_of old) (taken_of new) };
+    ghost Step = { λ s t run old new. IsAsked t.names s.asked.now
+        → IsTakenFrom t run (taken_named t.names (spot_asked s.asked.now) (kept_of old)) (taken_named t.names (spot_asked s.asked.now) (kept_of new)) };
 
-    fn add(
-        &self,
-        store: &mut S,
-        run: &Counted,
-        calls: FunctionCalls<'n>,
-    ) -> Result<FunctionCalls<'n>, StoreError> {
-        let counts = run.event_counts();
-        let rows = CallRows { counts, calls };
-        let all = each_named_call(store, self.alloc, run.number, self.names, run.events, rows)?;
-        let CallRows { counts: _, calls } = all;
-        Ok(calls)
+    fn add(&self, store: &mut S, run: &Counted, calls: KeptCalls) -> Result<KeptCalls, StoreError> {
+        let rows = KeepsCalls {
+            numbers: self.asked.numbers,
+            counts: run.event_counts(),
+            calls,
+        };
+        let all = store.each_call(self.alloc, run.number, run.events, rows)?;
+        Ok(all.calls)
     }
-}
-
-/// The calls of a function before the first row.
-fn no_calls<'n>(
-    alloc: Global,
-    side: CallSide,
-    object: &'n [u8],
-    name: &'n [u8],
-) -> Result<FunctionCalls<'n>, StoreError>
-    ensures { IfOk result (λ calls. taken_of calls ≡ not_taken side (function_spot object.entry.now name.entry.now)) }
-{
-    Ok(FunctionCalls {
-        object,
-        name,
-        known: false,
-        sums: CallSums::new(alloc, side, object, name)?,
-    })
 }
 
 /// Whether some runs know a function: a call of it was seen, or it has self costs or a frame in a stack.
 fn is_known<S: RunStore>(
     store: &mut S,
-    names: &S::Names,
     runs: &[Counted],
+    asked: &AskedFunction<'_>,
     is_called: bool,
-    object: &[u8],
-    name: &[u8],
 ) -> Result<bool, StoreError>
-    ensures told { Told S.StoreState result store.old store.new (λ t known. S.Names.name_rows names.now ≡ t.names
-        → known ≡ is_called || list_any (is_in_rows t (function_spot object.now name.now)) runs.now) }
+    ensures told { Told S.StoreState result store.old store.new (λ t known. IsAsked t.names asked.now
+        → known ≡ is_called || list_any (is_in_rows t (spot_asked asked.now)) runs.now) }
     ensures asks { AsksIfOpen S.StoreState (is_ok result) store.old store.new }
 {
     if is_called {
         return Ok(true);
     }
-    is_in_runs(store, names, runs, object, name)
+    is_in_runs(store, runs, asked)
 }
 
 /// The text of what the calls of a function sum to.
@@ -94,22 +76,42 @@ fn text_of_sums(alloc: Global, sums: &CallSums, event: &[u8]) -> Result<ListVec<
     report.text(alloc, event)
 }
 
-/// The text of the calls that were taken of some runs, if one of them knows the function.
+/// The text of the calls that were kept: the names of the functions on their other side are asked for, and no more.
+fn text_of_calls<S: RunStore>(
+    store: &mut S,
+    alloc: Global,
+    asked: &AskedFunction<'_>,
+    calls: &KeptCalls,
+    event: &[u8],
+) -> Result<ListVec<u8>, StoreError>
+    ensures told { Told S.StoreState result store.old store.new (λ t text.
+        text ≡ call_report_text event.now (call_report_of (sums_named t.names (spot_asked asked.now) (kept_of calls.now)))) }
+    ensures asks { AsksIfOpen S.StoreState (is_ok result) store.old store.new }
+{
+    let numbers = numbers_of(alloc, &calls.rows)?;
+    let names = store.names_among(alloc, &numbers)?;
+    let sums = sums_named(alloc, &names, *asked, calls)?;
+    let text = text_of_sums(alloc, &sums, event)?;
+    Ok(text)
+}
+
+/// The text of the calls that were kept of some runs, if one of them knows the function.
 fn text_if_known<S: RunStore>(
     store: &mut S,
     alloc: Global,
-    names: &S::Names,
     runs: &[Counted],
-    calls: &FunctionCalls<'_>,
+    asked: &AskedFunction<'_>,
+    calls: &KeptCalls,
     event: &[u8],
 ) -> Result<Option<ListVec<u8>>, StoreError>
-    ensures told { Told S.StoreState result store.old store.new (λ t text. S.Names.name_rows names.now ≡ t.names → text ≡ text_taken t runs.now event.now (taken_of calls.now)) }
+    ensures told { Told S.StoreState result store.old store.new (λ t text. IsAsked t.names asked.now
+        → text ≡ text_taken t runs.now event.now (taken_named t.names (spot_asked asked.now) (kept_of calls.now))) }
     ensures asks { AsksIfOpen S.StoreState (is_ok result) store.old store.new }
 {
-    if !is_known(store, names, runs, calls.known, calls.object, calls.name)? {
+    if !is_known(store, runs, asked, calls.known)? {
         return Ok(None);
     }
-    let text = text_of_sums(alloc, &calls.sums, event)?;
+    let text = text_of_calls(store, alloc, asked, calls, event)?;
     Ok(Some(text))
 }
 
@@ -126,14 +128,13 @@ fn calls_text<S: RunStore>(
     ensures told { Told S.StoreState result store.old store.new (λ t text. IsCallsText t runs.now side (function_spot object.now name.now) event.now text) }
     ensures asks { AsksIfOpen S.StoreState (is_ok result) store.old store.new }
 {
-    let none = no_calls(alloc, side, object, name)?;
-    let names = store.names_of(alloc)?;
+    let asked = asked_function(store, alloc, object, name)?;
     let adder = CallsOfRuns {
         alloc,
-        names: &names,
+        asked: &asked,
     };
-    let all = fold_runs(store, &adder, runs, none)?;
-    text_if_known(store, alloc, &names, runs, &all, event)
+    let all = fold_runs(store, &adder, runs, KeptCalls::new(alloc, side))?;
+    text_if_known(store, alloc, runs, &asked, &all, event)
 }
 
 /// Answers who calls a function of an object, or whom it calls, over the runs of a selection: a text, or

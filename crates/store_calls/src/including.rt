@@ -5,12 +5,12 @@ ghost use Rattle.std.specs.Result.{is_ok};
 ghost use Rattle.report_texts.specs.Inclusive.{inclusive_report, inclusive_text};
 ghost use Rattle.profile_records.specs.declared.kinds.Kind.TheVariants.{Callgrind, Folded};
 ghost use Rattle.plain_tables.specs.RunRows.{cells_in};
-ghost use Rattle.run_stores.specs.Calls.{Told, AsksIfOpen};
+ghost use Rattle.run_stores.specs.Calls.{Asks, AsksIfOpen, Told};
 ghost use Rattle.run_stores.specs.Walks.{IsOfAnEvent};
 ghost use Rattle.histories.specs.declared.answers.Query.TheVariants.{Inclusive};
 ghost use Rattle.store_histories.specs.Answered.{AnswersAsked};
-ghost use Rattle.store_calls.specs.InclusiveParts.{costs_named};
-ghost use Rattle.store_calls.specs.InclusiveRuns.{Adds, AreRowsCounted, AreRowsOfKind, IsInclusive, IsInclusiveText};
+ghost use Rattle.store_calls.specs.InclusiveParts.{AreNamesFor, sums_in};
+ghost use Rattle.store_calls.specs.InclusiveRuns.{AddsHeld, AreRowsCounted, AreRowsOfKind, IsInclusive, IsInclusiveText, IsTextNamed};
 
 use crate::inclusive_parts::InclusiveParts;
 use crate::inclusive_sums::InclusiveRows;
@@ -18,7 +18,7 @@ use cg_text::ListVec;
 use cost_reports::{InclusiveSums, inclusive};
 use histories::{Answer, Selection};
 use profile_records::Kind;
-use run_stores::{RunStore, StoreError};
+use run_stores::{NameTable, RunStore, StoreError};
 use selected_runs::{Counted, RunFold, event_runs, fold_runs};
 use std::alloc::{AllocError, Global};
 
@@ -26,21 +26,15 @@ use std::alloc::{AllocError, Global};
 fn add_callgrind<S: RunStore>(
     store: &mut S,
     alloc: Global,
-    names: &S::Names,
     run: &Counted,
     counts: &[u64],
     parts: InclusiveParts,
 ) -> Result<InclusiveParts, StoreError>
-    ensures told { Told S.StoreState result store.old store.new (λ t all. S.Names.name_rows names.now ≡ t.names
-        → Adds (AreRowsOfKind Callgrind t run.now.number counts.now) (costs_named (S.Names.name_rows names.now) parts) (costs_named (S.Names.name_rows names.now) all)) }
+    ensures told { Told S.StoreState result store.old store.new (λ t all. AddsHeld t (AreRowsOfKind Callgrind t run.now.number counts.now) (sums_in parts) (sums_in all)) }
     ensures of_events { Told S.StoreState result store.old store.new (λ t _. AllByRecursion (IsOfAnEvent run.now.events) (cells_in run.now.number t)) }
     ensures asks { AsksIfOpen S.StoreState (is_ok result) store.old store.new }
 {
-    let rows = InclusiveRows {
-        names,
-        counts,
-        parts,
-    };
+    let rows = InclusiveRows { counts, parts };
     let own = store.each_cell(run.number, run.events, rows)?;
     let all = store.each_call(alloc, run.number, run.events, own)?;
     Ok(all.parts)
@@ -49,20 +43,14 @@ fn add_callgrind<S: RunStore>(
 /// Adds the stacks of a folded run.
 fn add_folded<S: RunStore>(
     store: &mut S,
-    names: &S::Names,
     run: &Counted,
     counts: &[u64],
     parts: InclusiveParts,
 ) -> Result<InclusiveParts, StoreError>
-    ensures told { Told S.StoreState result store.old store.new (λ t all.
-        Adds (AreRowsOfKind Folded t run.now.number counts.now) (costs_named (S.Names.name_rows names.now) parts) (costs_named (S.Names.name_rows names.now) all)) }
+    ensures told { Told S.StoreState result store.old store.new (λ t all. AddsHeld t (AreRowsOfKind Folded t run.now.number counts.now) (sums_in parts) (sums_in all)) }
     ensures asks { AsksIfOpen S.StoreState (is_ok result) store.old store.new }
 {
-    let rows = InclusiveRows {
-        names,
-        counts,
-        parts,
-    };
+    let rows = InclusiveRows { counts, parts };
     let all = store.each_stack(run.number, rows)?;
     Ok(all.parts)
 }
@@ -71,39 +59,34 @@ fn add_folded<S: RunStore>(
 fn add_rows<S: RunStore>(
     store: &mut S,
     alloc: Global,
-    names: &S::Names,
     run: &Counted,
     counts: &[u64],
     parts: InclusiveParts,
 ) -> Result<InclusiveParts, StoreError>
-    ensures told { Told S.StoreState result store.old store.new (λ t all. S.Names.name_rows names.now ≡ t.names
-        → Adds (AreRowsCounted t run.now.number counts.now) (costs_named (S.Names.name_rows names.now) parts) (costs_named (S.Names.name_rows names.now) all)) }
+    ensures told { Told S.StoreState result store.old store.new (λ t all. AddsHeld t (AreRowsCounted t run.now.number counts.now) (sums_in parts) (sums_in all)) }
     ensures asks { AsksIfOpen S.StoreState (is_ok result) store.old store.new }
 {
     match store.kind_of(run.number)? {
-        Kind::Callgrind => add_callgrind(store, alloc, names, run, counts, parts),
-        Kind::Folded => add_folded(store, names, run, counts, parts),
+        Kind::Callgrind => add_callgrind(store, alloc, run, counts, parts),
+        Kind::Folded => add_folded(store, run, counts, parts),
     }
 }
 
-/// Adds runs to inclusive costs, by the names that are held. One without the event costs nothing.
+/// Adds runs to inclusive costs. One without the event costs nothing.
 #[derive(Drop)]
-struct InclusiveOfRuns<'n, N> {
+struct InclusiveOfRuns {
     alloc: Global,
-    names: &'n N,
 }
 
-impl<S: RunStore> RunFold<S> for InclusiveOfRuns<'_, S::Names> {
-    ghost use Rattle.std.specs.Prelude.{◌≡◌};
-    ghost use Rattle.store_calls.specs.InclusiveParts.{costs_named};
-    ghost use Rattle.store_calls.specs.InclusiveRuns.{Adds, AreRowsOf};
+impl<S: RunStore> RunFold<S> for InclusiveOfRuns {
+    ghost use Rattle.store_calls.specs.InclusiveParts.{sums_in};
+    ghost use Rattle.store_calls.specs.InclusiveRuns.{AddsHeld, AreRowsOf};
 
     type Run = Counted;
 
     type Sums = InclusiveParts;
 
-    ghost Step = { λ s t run old new. S.Names.name_rows s.names.now ≡ t.names
-        → Adds (AreRowsOf t run) (costs_named (S.Names.name_rows s.names.now) old) (costs_named (S.Names.name_rows s.names.now) new) };
+    ghost Step = { λ s t run old new. AddsHeld t (AreRowsOf t run) (sums_in old) (sums_in new) };
 
     fn add(
         &self,
@@ -112,10 +95,29 @@ impl<S: RunStore> RunFold<S> for InclusiveOfRuns<'_, S::Names> {
         parts: InclusiveParts,
     ) -> Result<InclusiveParts, StoreError> {
         match &run.counts {
-            Some(counts) => add_rows(store, self.alloc, self.names, run, counts.as_slice(), parts),
+            Some(counts) => add_rows(store, self.alloc, run, counts.as_slice(), parts),
             None => Ok(parts),
         }
     }
+}
+
+/// The names of the functions that sums tell. `Store` where a called function has a name that is not held: those
+/// of the others are missed when the sums are named.
+fn names_of_parts<S: RunStore>(
+    store: &mut S,
+    alloc: Global,
+    parts: &mut InclusiveParts,
+) -> Result<S::Names, StoreError>
+    ensures same { sums_in parts.new ≡ sums_in parts.old }
+    ensures told { Told S.StoreState result store.old store.new (λ t names. AreNamesFor t (sums_in parts.old) (S.Names.name_rows names)) }
+    ensures asks { Asks S.StoreState (is_ok result) store.old store.new }
+{
+    let called = parts.called.numbers(alloc)?;
+    if !store.holds_names(alloc, &called)? {
+        return Err(StoreError::Store);
+    }
+    let numbers = parts.numbers.numbers(alloc)?;
+    store.names_among(alloc, &numbers)
 }
 
 /// The text of some inclusive costs.
@@ -130,24 +132,20 @@ fn text_of_sums(
     report.text(alloc, event)
 }
 
-/// The text of the inclusive costs of some runs, by the names that are held.
-fn text_of_runs<S: RunStore>(
-    store: &mut S,
+/// The text of what runs add up to, of which the names are given.
+fn text_of_parts<N: NameTable>(
     alloc: Global,
-    names: &S::Names,
-    runs: &[Counted],
+    parts: InclusiveParts,
+    names: &N,
     event: &[u8],
 ) -> Result<ListVec<u8>, StoreError>
-    ensures told { Told S.StoreState result store.old store.new (λ t text. S.Names.name_rows names.now ≡ t.names → IsInclusiveText t runs.now event.now text) }
-    ensures asks { AsksIfOpen S.StoreState (is_ok result) store.old store.new }
+    ensures { IfOk result (λ text. IsTextNamed (N.name_rows names.now) (sums_in parts) event.now text) }
 {
-    let adder = InclusiveOfRuns { alloc, names };
-    let parts = fold_runs(store, &adder, runs, InclusiveParts::new(alloc))?;
     let sums = parts.named(alloc, names)?;
     Ok(text_of_sums(alloc, &sums, event)?)
 }
 
-/// The text of the inclusive costs of some runs.
+/// The text of the inclusive costs of some runs: only the names of functions that it shows are asked for.
 fn inclusive_text<S: RunStore>(
     store: &mut S,
     alloc: Global,
@@ -157,8 +155,10 @@ fn inclusive_text<S: RunStore>(
     ensures told { Told S.StoreState result store.old store.new (λ t text. IsInclusiveText t runs.now event.now text) }
     ensures asks { AsksIfOpen S.StoreState (is_ok result) store.old store.new }
 {
-    let names = store.names_of(alloc)?;
-    text_of_runs(store, alloc, &names, runs, event)
+    let adder = InclusiveOfRuns { alloc };
+    let mut parts = fold_runs(store, &adder, runs, InclusiveParts::new(alloc))?;
+    let names = names_of_parts(store, alloc, &mut parts)?;
+    text_of_parts(alloc, parts, &names, event)
 }
 
 /// Answers what functions cost with all that they call, over the runs of a selection: a text, or the

@@ -1,27 +1,28 @@
 // The rows of runs, added up to what functions cost with all that they call.
+ghost use Rattle.std.specs.Prelude.{◌≡◌};
+ghost use Rattle.store_calls.specs.InclusiveParts.{is_of_itself};
+
 use crate::inclusive_parts::InclusiveParts;
-use crate::own_calls::is_of_itself;
 use crate::weights::{most_of, weighed_within};
 use cg_text::ListVec;
 use cost_rows::{CallEdge, Cell, StackCount};
-use run_stores::{CallSink, CellSink, NameTable, StackRowSink, StoreError};
+use run_stores::{CallSink, CellSink, StackRowSink, StoreError};
 use selected_runs::{cost_within, is_within, times_of};
 
-/// Inclusive costs, the names of the store, and how often each column of the run that is read counts in the
-/// event. What was added means what it costs by name.
+/// Inclusive costs, and how often each column of the run that is read counts in the event. No name is looked at:
+/// what was added means what it costs by the numbers of names.
 #[derive(Drop)]
-pub(crate) struct InclusiveRows<'a, N> {
-    pub names: &'a N,
+pub(crate) struct InclusiveRows<'a> {
     pub counts: &'a [u64],
     pub parts: InclusiveParts,
 }
 
-impl<N: NameTable> CellSink for InclusiveRows<'_, N> {
-    ghost use Rattle.store_calls.specs.InclusiveParts.{Counting, costs_named, with_self_row};
+impl CellSink for InclusiveRows<'_> {
+    ghost use Rattle.store_calls.specs.InclusiveParts.{Counting, sums_in, with_self_row};
 
     ghost Meaning = { Counting };
 
-    ghost meaning = { λ s. record { names = N.name_rows s.names.now; counts = s.counts.now; costs = costs_named (N.name_rows s.names.now) s.parts } };
+    ghost meaning = { λ s. record { counts = s.counts.now; sums = sums_in s.parts } };
 
     ghost step = { with_self_row };
 
@@ -46,17 +47,25 @@ impl<N: NameTable> CellSink for InclusiveRows<'_, N> {
     }
 }
 
-impl<N: NameTable> CallSink for InclusiveRows<'_, N> {
-    ghost use Rattle.store_calls.specs.InclusiveParts.{Counting, costs_named, with_call_row};
+/// Whether calls are of the caller itself. Of the names that a store holds each has one number, so none is looked
+/// at: that those of calls are held is asked when all rows were added.
+fn is_of_itself(row: &CallEdge<u32, ListVec<u128>>) -> bool
+    ensures { result ≡ is_of_itself row.now }
+{
+    row.object == row.called_object && row.function == row.called_function
+}
+
+impl CallSink for InclusiveRows<'_> {
+    ghost use Rattle.store_calls.specs.InclusiveParts.{Counting, sums_in, with_call_row};
 
     ghost Meaning = { Counting };
 
-    ghost meaning = { λ s. record { names = N.name_rows s.names.now; counts = s.counts.now; costs = costs_named (N.name_rows s.names.now) s.parts } };
+    ghost meaning = { λ s. record { counts = s.counts.now; sums = sums_in s.parts } };
 
     ghost step = { with_call_row };
 
     fn take(&mut self, row: CallEdge<u32, ListVec<u128>>) -> Result<(), StoreError> {
-        if is_of_itself(self.names, &row)? {
+        if is_of_itself(&row) {
             return Ok(());
         }
         let Some(cost) = weighed_within(self.counts, row.costs.as_slice()) else {
@@ -65,25 +74,17 @@ impl<N: NameTable> CallSink for InclusiveRows<'_, N> {
         if !is_within(self.parts.numbers.total(), cost) {
             return Err(StoreError::Store);
         }
-        self.parts.add_outward(&Cell {
-            object: row.object,
-            file: row.file,
-            function: row.function,
-            line: row.line,
-            thread: 0,
-            event: 0,
-            cost,
-        })?;
+        self.parts.add_outward(&row, cost)?;
         Ok(())
     }
 }
 
-impl<N: NameTable> StackRowSink for InclusiveRows<'_, N> {
-    ghost use Rattle.store_calls.specs.InclusiveParts.{Counting, costs_named, with_stack_row};
+impl StackRowSink for InclusiveRows<'_> {
+    ghost use Rattle.store_calls.specs.InclusiveParts.{Counting, sums_in, with_stack_row};
 
     ghost Meaning = { Counting };
 
-    ghost meaning = { λ s. record { names = N.name_rows s.names.now; counts = s.counts.now; costs = costs_named (N.name_rows s.names.now) s.parts } };
+    ghost meaning = { λ s. record { counts = s.counts.now; sums = sums_in s.parts } };
 
     ghost step = { with_stack_row };
 

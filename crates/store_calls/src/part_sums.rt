@@ -1,17 +1,20 @@
 // Rows that are added to inclusive costs in two parts, and both parts as one.
 ghost use Rattle.std.specs.Prelude.{◌≡◌, ◌+◌, ◌*◌, ◌<◌, ◌^◌, List, length, IfOk, OnOk};
+ghost use Rattle.std.specs.List.{AllByRecursion};
 ghost use Rattle.cost_rows.specs.KeySums.{total_of};
 ghost use Rattle.cost_rows.specs.Plain.{plain_stack};
-ghost use Rattle.report_texts.specs.Inclusive.{no_costs, with_self, with_stack};
+ghost use Rattle.cost_rows.specs.declared.keys.Key.TheVariants.{Function};
 ghost use Rattle.report_texts.specs.Pairs.{AreBelow};
 ghost use Rattle.plain_tables.specs.Tables.{NameRow};
-ghost use Rattle.run_stores.specs.Names.{named_cell};
-ghost use Rattle.number_sums.specs.Sums.{numbers_total};
-ghost use Rattle.store_calls.specs.InclusiveParts.{costs_named, with_cost_at};
+ghost use Rattle.prof_books.specs.Book.{IsHeld};
+ghost use Rattle.number_sums.specs.Named.{AreOf};
+ghost use Rattle.number_sums.specs.Sums.{numbers_told, numbers_total};
+ghost use Rattle.store_calls.specs.InclusiveParts.{costs_named, none_added, sums_in, with_calls, with_self_costs, with_stacks};
 
 use crate::inclusive_parts::InclusiveParts;
+use cg_text::ListVec;
 use cost_reports::InclusiveSums;
-use cost_rows::{Cell, Key, StackCount};
+use cost_rows::{CallEdge, Cell, Key, StackCount};
 use number_sums::NumberSums;
 use run_stores::{NameTable, StoreError};
 use selected_runs::is_within;
@@ -20,10 +23,11 @@ use std::alloc::{AllocError, Global};
 impl InclusiveParts {
     /// No row was added. Takes no memory.
     pub fn new(alloc: Global) -> InclusiveParts
-        ensures { (names : List NameRow) → costs_named names result ≡ no_costs }
+        ensures { sums_in result ≡ none_added }
     {
         InclusiveParts {
             numbers: NumberSums::new(alloc, Key::Function),
+            called: NumberSums::new(alloc, Key::Function),
             self_cost: 0,
             stacks: InclusiveSums::new(alloc),
         }
@@ -32,19 +36,40 @@ impl InclusiveParts {
     /// Adds a row of self costs.
     pub fn add_self(&mut self, row: &Cell<u32>) -> Result<(), AllocError>
         requires small { AreBelow (numbers_total self.old.numbers.sums + row.now.cost) (self.old.self_cost + row.now.cost) }
-        ensures { OnOk result ((names : List NameRow) → costs_named names self.new ≡ with_self (costs_named names self.old) (named_cell names row.now)) }
+        ensures { OnOk result (sums_in self.new ≡ with_self_costs (sums_in self.old) row.now) }
     {
         self.numbers.add(row)?;
         self.self_cost += row.cost;
         Ok(())
     }
 
-    /// Adds a row of what calls cost the caller, which are of another function.
-    pub fn add_outward(&mut self, row: &Cell<u32>) -> Result<(), AllocError>
-        requires small { numbers_total self.old.numbers.sums + row.now.cost < 2 ^ 112 }
-        ensures { OnOk result ((names : List NameRow) → costs_named names self.new ≡ with_cost_at (costs_named names self.old) (named_cell names row.now)) }
+    /// Adds calls to another function, which cost so much.
+    pub fn add_outward(
+        &mut self,
+        row: &CallEdge<u32, ListVec<u128>>,
+        cost: u128,
+    ) -> Result<(), AllocError>
+        requires small { numbers_total self.old.numbers.sums + cost < 2 ^ 112 }
+        ensures { OnOk result (sums_in self.new ≡ with_calls (sums_in self.old) row.now cost) }
     {
-        self.numbers.add(row)?;
+        self.numbers.add(&Cell {
+            object: row.object,
+            file: row.file,
+            function: row.function,
+            line: row.line,
+            thread: 0,
+            event: 0,
+            cost,
+        })?;
+        self.called.add(&Cell {
+            object: row.called_object,
+            file: row.called_file,
+            function: row.called_function,
+            line: 0,
+            thread: 0,
+            event: 0,
+            cost,
+        })?;
         Ok(())
     }
 
@@ -52,16 +77,17 @@ impl InclusiveParts {
     pub fn add_stack(&mut self, row: &StackCount<&[u8]>) -> Result<(), AllocError>
         requires sum { total_of self.old.stacks.sums + (length row.now.stack.now + 1) * row.now.count < 2 ^ 112 }
         requires total { self.old.stacks.total + row.now.count < 2 ^ 112 }
-        ensures { OnOk result ((names : List NameRow) → costs_named names self.new ≡ with_stack (costs_named names self.old) (plain_stack row.now)) }
+        ensures { OnOk result (sums_in self.new ≡ with_stacks (sums_in self.old) (plain_stack row.now)) }
     {
         self.stacks.add_stack(row)?;
         Ok(())
     }
 
-    /// Both parts as one, by name: the names are looked up once for each sum. Errors: `Memory`; and `Store`
-    /// where a name is not held, or where both together pass the bound of sums.
+    /// Both parts as one, by name: the names are looked up once for each sum, and may be some of all names.
+    /// Errors: `Memory`; and `Store` where a name is not held, or where both together pass the bound of sums.
     pub fn named<N: NameTable>(self, alloc: Global, names: &N) -> Result<InclusiveSums, StoreError>
-        ensures { IfOk result (λ sums. sums ≡ costs_named (N.name_rows names.now) self) }
+        ensures held { IfOk result (λ _. AllByRecursion (IsHeld (N.name_rows names.now)) (numbers_told Function self.numbers.sums)) }
+        ensures sums { IfOk result (λ sums. (all : List NameRow) → AreOf all (N.name_rows names.now) → sums ≡ costs_named all (sums_in self)) }
     {
         let InclusiveParts {
             numbers,

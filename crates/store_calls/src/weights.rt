@@ -1,12 +1,7 @@
 // What rows of calls and stacks cost in the event that is asked, within the bound of sums.
 ghost use Rattle.std.specs.Prelude.{◌≡◌, ◌+◌, ◌*◌, ◌<◌, ◌^◌, IfSome, slice_index};
 ghost use Rattle.cg_formulas.specs.Formulas.{weighed};
-ghost use Rattle.report_texts.specs.Calls.{calls_of_row};
-ghost use Rattle.named_rows.specs.Named.{plain_given};
-ghost use Rattle.store_calls.specs.FunctionCalls.{calls_costing};
 
-use cg_text::ListVec;
-use cost_rows::CallEdge;
 use selected_runs::cost_within;
 
 /// The cost of a column: past the last one there is none.
@@ -34,24 +29,4 @@ pub(crate) fn most_of(bytes: usize, count: u128) -> Option<u128>
     ensures { IfSome result (λ most. most ≡ (bytes + 1) * count) }
 {
     (bytes as u128 + 1).checked_mul(count)
-}
-
-/// A row of calls that cost so much in the event.
-pub(crate) fn with_cost<'a>(
-    row: &CallEdge<&'a [u8], ListVec<u128>>,
-    cost: u128,
-) -> CallEdge<&'a [u8], u128>
-    ensures { calls_of_row result ≡ calls_costing (plain_given row.now) cost }
-{
-    CallEdge {
-        object: row.object,
-        file: row.file,
-        function: row.function,
-        line: row.line,
-        called_object: row.called_object,
-        called_file: row.called_file,
-        called_function: row.called_function,
-        count: row.count,
-        costs: cost,
-    }
 }

@@ -1,13 +1,11 @@
 -- What places cost by the names of events over runs, and what is answered of it.
-use Rattle.std.proofs.Common.{◌≡◌, ℕ, ◌+◌, ◌<◌, List, [], ◌∷◌, ◌++◌, map, fold, length, get_or, take, Result, Ok, Err, refl, sym, ap, subst, ◌∙◌}
+use Rattle.std.proofs.Common.{◌≡◌, ℕ, List, [], ◌∷◌, map, fold, Result, Ok, Err, refl, sym, ap, subst, ◌∙◌}
 use Rattle.std.specs.List.{AllByRecursion}
 use Rattle.plain_tables.specs.Lists.{Has}
-use Rattle.report_texts.specs.Csv.{EventSpot, NamedCells, NamesStandForEach, csv_of_cells, csv_text, with_cell_in, with_cells}
+use Rattle.report_texts.specs.Csv.{EventSpot, NamedCells, NamesStandForEach, csv_text, with_cell_in, with_cells}
 use Rattle.cost_exports.proofs.ColumnLemmas.{csv-records}
-use Rattle.cost_rows.specs.Sums.{Spot}
 use Rattle.cost_rows.specs.WalkSums.{rows_cost}
 use Rattle.cost_rows.specs.declared.rows.Cell.{Cell}
-use Rattle.prof_books.specs.Book.{cells_held}
 use Rattle.plain_tables.specs.Tables.{Tables}
 use Rattle.histories.specs.Exports.{csv_of_files, named_records}
 use Rattle.histories.specs.History.{History, File, held}
@@ -26,7 +24,7 @@ use Rattle.selected_runs.specs.Selected.{AreSelected, AreSelectedIn}
 use Rattle.histories.proofs.Heads.{held_head_told}
 use Rattle.selected_runs.proofs.RunLemmas.{selected_held}
 use Rattle.selected_runs.proofs.SelectLemmas.{selected_told}
-use Rattle.store_exports.specs.CsvRuns.{AddsRun, AreNamedCells, AreNamedRuns, AreSums, IsCsv, IsCsvText}
+use Rattle.store_exports.specs.CsvRuns.{AddsRun, AreNamedRuns, IsCsv, IsCsvText}
 
 -- ---- cells that are added
 

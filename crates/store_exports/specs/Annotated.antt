@@ -2,8 +2,12 @@
 use Rattle.std.specs.Prelude.{◌≡◌, ℕ, if◌then◌else◌, List, [], map, fold, Option, Some, None, unwrap_or}
 use Rattle.report_texts.specs.Annotations.{FileCosts, annotation_of, annotation_text, no_lines, with_line}
 use Rattle.report_texts.specs.Costs.{all_rows, weighted}
+use Rattle.cost_rows.specs.declared.rows.Cell.{Cell}
 use Rattle.prof_books.specs.Book.{cells_held}
+use Rattle.plain_tables.specs.RunRows.{cells_in}
 use Rattle.plain_tables.specs.Tables.{Tables}
+use Rattle.run_stores.specs.Names.{is_number}
+use Rattle.run_stores.specs.Walks.{cell_numbers}
 use Rattle.histories.specs.declared.answers.Answer.{Answer}
 use Rattle.histories.specs.declared.answers.Selection.{Selection}
 use Rattle.store_histories.specs.FromTables.{AnswersBy, text_or_no_name}
@@ -14,6 +18,18 @@ use Rattle.selected_runs.specs.declared.counting.Counted.{Counted}
 -- the cells of a run are added; in a run without the event they cost nothing
 abbrev pub lines_from : Tables → FileCosts → Counted → FileCosts
 lines_from t costs run = fold with_line costs (map (weighted (unwrap_or run.counts [])) (cells_held run.number t))
+
+-- a cell of a file: of its names only this one counts
+abbrev pub file_cell : List ℕ → Cell ℕ → Cell (List ℕ)
+file_cell name r = record { object = []; file = name; function = []; line = r.line; thread = r.thread; event = r.event; cost = r.cost }
+
+-- a cell is added if its file has this number, that of the name
+abbrev pub with_numbered : Option ℕ → List ℕ → List ℕ → FileCosts → Cell ℕ → FileCosts
+with_numbered number name counts costs r = if is_number number r.file then with_line costs (weighted counts (file_cell name r)) else costs
+
+-- and those of a run
+abbrev pub numbered_from : Tables → Option ℕ → List ℕ → FileCosts → Counted → FileCosts
+numbered_from t number name costs run = fold (with_numbered number name (unwrap_or run.counts [])) costs (map cell_numbers (cells_in run.number t))
 
 -- what the lines of a file cost over runs
 abbrev pub lines_over : Tables → List Counted → List ℕ → FileCosts

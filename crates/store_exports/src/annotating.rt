@@ -7,55 +7,59 @@ ghost use Rattle.run_stores.specs.Calls.{Told, AsksIfOpen};
 ghost use Rattle.run_stores.specs.Walks.{IsOfAnEvent};
 ghost use Rattle.histories.specs.declared.answers.Query.TheVariants.{Annotate};
 ghost use Rattle.store_histories.specs.Answered.{AnswersAsked};
-ghost use Rattle.store_exports.specs.Annotated.{IsAnnotated, annotated_over, lines_from};
+ghost use Rattle.store_exports.specs.Annotated.{IsAnnotated, annotated_over, numbered_from};
 
 use crate::sinks::LineRows;
 use cg_text::ListVec;
 use cost_exports::{LineSums, annotate};
 use histories::{Answer, Refusal, Selection};
-use named_rows::each_named_cell;
 use run_stores::{RunStore, StoreError};
 use selected_runs::{Counted, RunFold, event_runs, fold_runs};
 use std::alloc::Global;
 
-/// Adds the cells of a run. Those of a run without the event cost nothing, but tell that it has the file.
+/// Adds the cells of a run, by the number of the file's name. Those of a run without the event cost nothing, but
+/// tell that it has the file.
 fn add_run<S: RunStore>(
     store: &mut S,
-    names: &S::Names,
+    name: &[u8],
+    number: Option<u32>,
     run: &Counted,
     sums: LineSums,
 ) -> Result<LineSums, StoreError>
-    ensures told { Told S.StoreState result store.old store.new (λ t all. S.Names.name_rows names.now ≡ t.names → all ≡ lines_from t sums run.now) }
+    ensures told { Told S.StoreState result store.old store.new (λ t all. all ≡ numbered_from t number name.now sums run.now) }
     ensures of_events { Told S.StoreState result store.old store.new (λ t _. AllByRecursion (IsOfAnEvent run.now.events) (cells_in run.now.number t)) }
     ensures asks { AsksIfOpen S.StoreState (is_ok result) store.old store.new }
 {
     let rows = LineRows {
+        name,
+        number,
         counts: run.event_counts(),
         sums,
     };
-    let all = each_named_cell(store, run.number, names, run.events, rows)?;
-    let LineRows { counts: _, sums } = all;
+    let all = store.each_cell(run.number, run.events, rows)?;
+    let LineRows { sums, .. } = all;
     Ok(sums)
 }
 
-/// Adds runs to what the lines of a file cost, by the names that are held.
+/// Adds runs to what the lines of a file cost, by the number of its name.
 #[derive(Drop)]
-struct LinesOfRuns<'n, N> {
-    names: &'n N,
+struct LinesOfRuns<'a> {
+    name: &'a [u8],
+    number: Option<u32>,
 }
 
-impl<S: RunStore> RunFold<S> for LinesOfRuns<'_, S::Names> {
+impl<S: RunStore> RunFold<S> for LinesOfRuns<'_> {
     ghost use Rattle.std.specs.Prelude.{◌≡◌};
-    ghost use Rattle.store_exports.specs.Annotated.{lines_from};
+    ghost use Rattle.store_exports.specs.Annotated.{numbered_from};
 
     type Run = Counted;
 
     type Sums = LineSums;
 
-    ghost Step = { λ s t run old new. S.Names.name_rows s.names.now ≡ t.names → new ≡ lines_from t old run };
+    ghost Step = { λ s t run old new. new ≡ numbered_from t s.number s.name.now old run };
 
     fn add(&self, store: &mut S, run: &Counted, sums: LineSums) -> Result<LineSums, StoreError> {
-        add_run(store, self.names, run, sums)
+        add_run(store, self.name, self.number, run, sums)
     }
 }
 
@@ -71,8 +75,8 @@ fn annotated_text<S: RunStore>(
     ensures told { Told S.StoreState result store.old store.new (λ t text. text ≡ annotated_over t runs.now event.now name.now source.now) }
     ensures asks { AsksIfOpen S.StoreState (is_ok result) store.old store.new }
 {
-    let names = store.names_of(alloc)?;
-    let lines = LinesOfRuns { names: &names };
+    let number = store.number_of(alloc, name)?;
+    let lines = LinesOfRuns { name, number };
     let sums = fold_runs(store, &lines, runs, LineSums::new(alloc, name)?)?;
     if !sums.is_known() {
         return Ok(None);

@@ -1,9 +1,20 @@
-use Rattle.run_stores.proofs.Calls.{asked_reads}
+use Rattle.std.proofs.Common.{subst}
+use Rattle.run_stores.proofs.Calls.{asked_reads_yet}
 use Rattle.store_histories.proofs.Questions.{if_ok_so}
+use Rattle.store_calls.specs.InclusiveParts.{PartSums, sums_in}
+use Rattle.store_calls.specs.InclusiveRuns.{AddsHeld, AreRowsOfRuns, IsTextNamed}
+use Rattle.store_calls.proofs.InclusiveLemmas.{rows_added, text_told}
 use Rattle.store_calls.proofs.including.inclusive_text.Goals as goal
 
 pub returns-clause-told : goal.returns-clause-told
 returns-clause-told g c clean t represents =
-    let early = (c.text_of_runs.ensures.asks clean).stays.was_faithful in
-    let mid = asked_reads g.S.StoreState t _ _ (c.in_ok-names.ensures.asks early) represents in
-    if_ok_so c.text_of_runs.result (λ _ told. told (c.in_ok-names.ensures.told early t represents)) (c.text_of_runs.ensures.told clean t mid)
+    let runs = c.args.runs.now in
+    let event = c.args.event.now in
+    let all : PartSums = sums_in c.in_ok-parts.parts in
+    let early = (c.in_ok-names.ensures.asks clean).stays.was_faithful in
+    let mid = asked_reads_yet g.S.StoreState t _ _ (c.in_ok-parts.ensures.asks early) represents in
+    let added : AddsHeld t (AreRowsOfRuns t runs) (sums_in c.new.result) all = rows_added t runs _ _ (c.in_ok-parts.ensures.told early t represents) in
+    if_ok_so c.text_of_parts.result (λ text is.
+    text_told t runs all (g.S.Names.NameTable.name_rows c.in_ok-names.names) event text (g.S.StoreState.apart t _ represents) (subst (λ (s : PartSums). AddsHeld t (AreRowsOfRuns t runs) s all) c.new.ensures added)
+    (c.in_ok-names.ensures.told clean t mid) (subst (λ (s : PartSums). IsTextNamed (g.S.Names.NameTable.name_rows c.in_ok-names.names) s event text) c.names_of_parts.ensures.same is))
+    c.text_of_parts.ensures

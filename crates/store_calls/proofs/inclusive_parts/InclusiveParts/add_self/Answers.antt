@@ -1,7 +1,0 @@
-use Rattle.store_calls.proofs.PartLemmas.{self_more}
-use Rattle.store_calls.proofs.inclusive_parts.InclusiveParts.add_self.Goals as goal
-
-pub returns : goal.returns
-returns c =
-    let old = c.args.self.now in
-    λ names. self_more names old.numbers _ old.self_cost old.stacks c.args.row.now old.by_function c.in_ok-add.ensures.ok
