@@ -27,7 +27,7 @@ class Text(bytes):
 
 
 class NoName:
-    """The name of a number that has none: the question has to be refused where it is shown or compared by order."""
+    """The name of a number that has none in form: the question has to be refused where it is shown or put in order."""
 
     def __init__(self, at):
         self.at = at
@@ -153,9 +153,8 @@ class Rows:
     def name(self, at):
         if "names" not in self.tables:
             self.tables["names"] = dict(self["name"])
-        if number(at, 1 << 32) not in self.tables["names"]:
-            return NoName(at)
-        return blob(self.tables["names"][at])
+        name = self.tables["names"].get(number(at, 1 << 32))
+        return name if type(name) is bytes else NoName(at)
 
     def selected(self, run):
         """The numbers of the runs of a selection: one, or all."""
