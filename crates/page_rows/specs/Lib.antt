@@ -1,4 +1,3 @@
-pub mod Files
 pub mod Rows
 pub mod Roots
 pub mod Tables

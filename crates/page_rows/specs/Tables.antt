@@ -1,10 +1,10 @@
--- The tables of a database file, as SQL's connection over it shows them.
-use Rattle.std.specs.Prelude.{◌≡◌, ℕ, ◌^◌, ◌<◌, List, [], map, slice_index, slice_index_or}
+-- The tables and indexes of a database, by the names that its schema gives them.
+use Rattle.std.specs.Prelude.{◌≡◌, ℕ, ◌^◌, ◌<◌, codes, List, [], map, slice_index, slice_index_or}
 use Rattle.sqlite_pages.specs.PageMap.{PageMap}
-use Rattle.sqlite_pool.specs.File.{in_use}
 use Rattle.sqlite_value.specs.declared.value.Value.TheVariants.{Text}
 use Rattle.sqlite_value.specs.Order.{Row, column}
-use Rattle.sqlite_trees.specs.declared.store.Shape.TheVariants.{Table}
+use Rattle.sqlite_trees.specs.declared.store.Shape.TheVariants.{Table, Index}
+use Rattle.sqlite_value.specs.declared.keys.Order.{Order}
 use Rattle.sqlite_store.specs.declared.catalog.Wanted.{Wanted}
 use Rattle.sqlite_store.specs.Catalog.{shape_at, reals_at}
 use Rattle.sqlite_store.specs.Db.{roots_of}
@@ -18,9 +18,15 @@ pub record IsNamed (wanted : List Wanted) (t : ℕ) (name : List ℕ) : Type 0 w
   pub shape : shape_at wanted t ≡ Table
   pub named : column (description_at wanted t) 1 ≡ Text name
 
--- the root page of tree t in a file with these pages
+-- tree t is the index of this name, with records in this order
+pub record IsIndexNamed (wanted : List Wanted) (t : ℕ) (order : Order) (name : List ℕ) : Type 0 where
+  pub shape : shape_at wanted t ≡ Index order
+  pub kind : column (description_at wanted t) 0 ≡ Text (codes "index")
+  pub named : column (description_at wanted t) 1 ≡ Text name
+
+-- the root page of tree t in these pages
 abbrev pub root_of_tree : ℕ → List Wanted → PageMap → ℕ → ℕ
-root_of_tree size wanted pages t = slice_index (roots_of size wanted (in_use size pages)) t
+root_of_tree size wanted pages t = slice_index (roots_of size wanted pages) t
 
 -- tree t is a table under this root, with no REAL column
 pub record IsRooted (size : ℕ) (wanted : List Wanted) (pages : PageMap) (t root : ℕ) : Type 0 where

@@ -5,11 +5,9 @@
 
 // Why a walk ends early.
 mod errors;
-// A database file that was opened with no check of its pages.
-mod files;
 // A record read as a row.
 mod records;
-// The root page of a table, by its name.
+// The root page of a table or an index, by its name.
 mod roots;
 // What takes rows.
 mod sinks;
@@ -17,7 +15,6 @@ mod sinks;
 mod walks;
 
 pub use errors::WalkError;
-pub use files::{NotOpened, OpenedFile};
 pub use records::read_row;
 pub use roots::root_named;
 pub use sinks::RowSink;

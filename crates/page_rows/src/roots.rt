@@ -1,10 +1,10 @@
-// The root page of a table, by its name.
+// The root page of a table or an index, by its name.
 ghost use Rattle.std.specs.Prelude.{◌≡◌, MatchResult};
 ghost use Rattle.sqlite_pages.specs.Calls.{IsClean, Continues, FailsFor};
 ghost use Rattle.sqlite_value.specs.Value.{owned};
 ghost use Rattle.sqlite_store.specs.Catalog.{page_number};
 ghost use Rattle.page_rows.specs.Rows.{HasTable, rows_of};
-ghost use Rattle.page_rows.specs.Roots.{names_table, root_in_list};
+ghost use Rattle.page_rows.specs.Roots.{names_tree, root_in_list};
 
 use crate::errors::WalkError;
 use crate::records::read_row;
@@ -29,15 +29,16 @@ fn page_in(value: ValueRef<'_>) -> u32
     }
 }
 
-fn is_entry_of(entry: &Row, name: &[u8]) -> bool
-    ensures { result ≡ names_table name.now entry.now }
+fn is_entry_of(entry: &Row, kind: &[u8], name: &[u8]) -> bool
+    ensures { result ≡ names_tree kind.now name.now entry.now }
 {
-    is_word(b"table", entry.get(1)) & is_word(name, entry.get(2))
+    is_word(kind, entry.get(1)) & is_word(name, entry.get(2))
 }
 
-/// Looks for a table's entry among those of `sqlite_schema`, up to the first.
+/// Looks for a tree's entry among those of `sqlite_schema`, up to the first.
 #[derive(Drop)]
 struct Seeker<'n> {
+    kind: &'n [u8],
     name: &'n [u8],
     entry: Row,
     root: Option<u32>,
@@ -49,17 +50,17 @@ impl RowSink for Seeker<'_> {
 
     type Refusal = AllocError;
 
-    ghost Start = { List ℕ };
+    ghost Start = { List ℕ × List ℕ };
 
-    ghost Has = { λ name rows s. (s.name.now ≡ name) × (s.root ≡ None) × (root_in_list name rows ≡ None) };
+    ghost Has = { λ start rows s. (s.kind.now ≡ start.0) × (s.name.now ≡ start.1) × (s.root ≡ None) × (root_in_list start.0 start.1 rows ≡ None) };
 
-    ghost Ends = { λ name rows s. IsFoundIn name rows s.root };
+    ghost Ends = { λ start rows s. IsFoundIn start.0 start.1 rows s.root };
 
     ghost Refuses = { λ _ _. ⊤ };
 
     fn take(&mut self, rowid: i64, payload: &[u8]) -> Result<bool, AllocError> {
         read_row(rowid, payload, &mut self.entry)?;
-        if is_entry_of(&self.entry, self.name) {
+        if is_entry_of(&self.entry, self.kind, self.name) {
             self.root = Some(page_in(self.entry.get(4)));
             return Ok(false);
         }
@@ -67,16 +68,23 @@ impl RowSink for Seeker<'_> {
     }
 }
 
-/// The root page of the table with a name, as the first entry of `sqlite_schema` states it that is a
-/// table of this name, byte for byte: 0 where it states no page number. Errors: those of reading pages.
-pub fn root_named<P: Pages>(store: &mut P, alloc: Global, name: &[u8]) -> Result<Option<u32>, Error>
+/// The root page of the tree of a kind (`table` or `index`) with a name, as the first entry of `sqlite_schema`
+/// states it that is of this kind and name, byte for byte: 0 where it states no page number. Errors: those of
+/// reading pages.
+pub fn root_named<P: Pages>(
+    store: &mut P,
+    alloc: Global,
+    kind: &[u8],
+    name: &[u8],
+) -> Result<Option<u32>, Error>
     ensures done { IsClean P.Pages store.new → HasTable (P.Pages.size store.old) (P.Pages.pages store.old) SCHEMA_ROOT
-        → MatchResult result (λ root. root ≡ root_in_list name.now (rows_of (P.Pages.size store.old) (P.Pages.pages store.old) SCHEMA_ROOT))
+        → MatchResult result (λ root. root ≡ root_in_list kind.now name.now (rows_of (P.Pages.size store.old) (P.Pages.pages store.old) SCHEMA_ROOT))
         (FailsFor P.Pages store.old store.new ⊥) }
     ensures kept { Continues P.Pages store.old store.new }
     ensures pages { P.Pages.pages store.new ≡ P.Pages.pages store.old }
 {
     let mut seeker = Seeker {
+        kind,
         name,
         entry: Row::new(alloc),
         root: None,

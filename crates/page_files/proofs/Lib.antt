@@ -1,0 +1,4 @@
+mod Props
+mod Results
+pub mod Reading
+pub mod Steps

@@ -1,0 +1,3 @@
+pub mod Files
+pub mod Held
+pub mod Trees

@@ -1,0 +1,8 @@
+//! A database file that is read and written by its pages, with no check of the file before: no SQL. Where it
+//! holds trees, a transaction changes some of them and nothing else; a failure or a crash leaves the old or the new.
+#![tactic(auto)]
+
+// A database file that was opened with no check of its pages, and what is read from it.
+mod files;
+
+pub use files::{NotOpened, PageFile};
