@@ -1,0 +1,21 @@
+// The place of a row in an index.
+ghost use Rattle.sqlite_value.specs.Keys.{entry_cmp};
+ghost use Rattle.sqlite_record.specs.Record.{decode};
+
+use sqlite_btree::Probe;
+use sqlite_record::compare;
+use sqlite_value::keys::Order;
+use sqlite_value::row::Row;
+use std::cmp::Ordering;
+
+/// Where this row stands in an index of this order.
+#[derive(Clone, Copy, Debug)]
+pub struct AtRow<'a>(pub Order, pub &'a Row);
+
+impl Probe for AtRow<'_> {
+    ghost side = { λ it bytes. entry_cmp it.0 (decode bytes) it.1.now };
+
+    fn compare(&self, bytes: &[u8]) -> Ordering {
+        compare::with_row(self.0, bytes, self.1)
+    }
+}
