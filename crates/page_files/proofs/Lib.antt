@@ -1,4 +1,5 @@
+mod Opened
 mod Props
-mod Results
 pub mod Reading
+mod Results
 pub mod Steps

@@ -1,5 +1,5 @@
 -- What an opened file shows, and what calls leave of it.
-use Rattle.std.specs.Prelude.{◌≡◌, ℕ, ◌≤◌, IsTrue}
+use Rattle.std.specs.Prelude.{◌≡◌, ℕ, IsTrue}
 use Rattle.sqlite_disk.specs.declared.Disk.{Ghosts}
 use Rattle.sqlite_pages.specs.PageMap.{PageMap}
 use Rattle.sqlite_pages.specs.Outcome.{HasCause}
