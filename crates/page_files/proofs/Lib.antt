@@ -2,4 +2,5 @@ mod Opened
 mod Props
 pub mod Reading
 mod Results
+pub mod Standing
 pub mod Steps
