@@ -1,4 +1,6 @@
+mod Opened
 mod Props
-mod Results
 pub mod Reading
+mod Results
+pub mod Standing
 pub mod Steps

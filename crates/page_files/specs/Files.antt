@@ -1,5 +1,5 @@
 -- What an opened file shows, and what calls leave of it.
-use Rattle.std.specs.Prelude.{◌≡◌, ℕ, ◌≤◌, IsTrue}
+use Rattle.std.specs.Prelude.{◌≡◌, ℕ, IsTrue}
 use Rattle.sqlite_disk.specs.declared.Disk.{Ghosts}
 use Rattle.sqlite_pages.specs.PageMap.{PageMap}
 use Rattle.sqlite_pages.specs.Outcome.{HasCause}
@@ -45,4 +45,5 @@ module _ {D : Type 0} {g : Ghosts D} where
   -- a call that reads: it shows the same pages, commits nothing, and a crash leaves nothing new
   pub record OnlyReads (old new : PageFile D g) : Type 0 where
     pub keeps : Keeps (pools.state old.pool) (pools.state new.pool)
+    pub marks : pools.KeepsMarks old.pool new.pool
     pub pages : pages_of new ≡ pages_of old

@@ -20,8 +20,8 @@ use Rattle.sqlite_trees.specs.Tree.{IsTable, rowid}
 use Rattle.sqlite_trees.specs.View.{IsShaped, is_int}
 use Rattle.sqlite_store.specs.Listing.{file_trees}
 use Rattle.sqlite_store.proofs.ListingLemmas.{all_ordered, named_shape}
-use Rattle.page_rows.specs.declared.files.OpenedFile.{OpenedFile}
-use Rattle.page_rows.specs.Files.{page_size}
+use Rattle.page_files.specs.declared.files.PageFile.{PageFile}
+use Rattle.page_files.specs.Files.{page_size}
 use Rattle.page_rows.specs.Rows.{from_rowid}
 use Rattle.page_runs.specs.Among.{HasTaken, IsPassedTo, Rise, id_of, integer, is_among}
 use Rattle.page_runs.specs.Shown.{ShowsRows}
@@ -54,7 +54,7 @@ rise_of : (rows : List Row) → IsTable rows → AreNumbered rows → Rise rows
 rise_of [] table numbered = tt
 rise_of (row ∷ rows) table numbered = (all_below row rows numbered.0 numbered.1 table.0, rise_of rows table.1 numbered.1)
 
-module _ {D : Type 0} {g : Ghosts D} (file : OpenedFile D g) (root : ℕ) (rows : List Row) (is : ShowsRows file root rows) where
+module _ {D : Type 0} {g : Ghosts D} (file : PageFile D g) (root : ℕ) (rows : List Row) (is : ShowsRows file root rows) where
   shaped : IsShaped Table rows
   shaped =
       subst (IsShaped Table) is.rows_are (subst (λ s. IsShaped s (file_trees (page_size file) is.wanted is.pages is.t)) (named_shape is.t is.rooted.low is.wanted ∙ is.rooted.shape)

@@ -8,8 +8,8 @@ use Rattle.sqlite_schema.specs.declared.schema.Table.{Table}
 use Rattle.sqlite_store.specs.Db.{IsFile}
 use Rattle.sqlite_store.specs.Listing.{file_trees}
 use Rattle.sqlite_trees.specs.Tree.{Trees}
-use Rattle.page_rows.specs.declared.files.OpenedFile.{OpenedFile}
-use Rattle.page_rows.specs.Files.{page_size, OnlyReads}
+use Rattle.page_files.specs.declared.files.PageFile.{PageFile}
+use Rattle.page_files.specs.Files.{page_size, OnlyReads}
 use Rattle.page_rows.specs.Tables.{root_of_tree}
 use Rattle.plain_tables.specs.Tables.{Tables}
 use Rattle.store_schema.specs.Schema.{schema_two, meta_at, run_at, run_event_at, derived_at, coef_at, name_at, arc_at, stack_at, grp_at, member_at, thread_cell_at}
@@ -23,17 +23,17 @@ use Rattle.page_runs.proofs.Shows.{shows_after}
 
 module _ {D : Type 0} {g : Ghosts D} where
   -- calls that read leave the store
-  pub store_after : (old new : OpenedFile D g) (t : Tables) (db : Trees) → OnlyReads old new → IsStoreOf old t db → IsStoreOf new t db
+  pub store_after : (old new : PageFile D g) (t : Tables) (db : Trees) → OnlyReads old new → IsStoreOf old t db → IsStoreOf new t db
   store_after old new t db reads is = record {
     wanted = is.wanted;
     pages = is.pages;
-    shows = reads.shows ∙ is.shows ∙ ap (λ n. in_use n is.pages) (sym reads.size);
-    is_file = subst (λ n. IsFile n is.wanted is.pages) (sym reads.size) is.is_file;
-    trees = ap (λ n. file_trees n is.wanted is.pages) reads.size ∙ is.trees;
+    shows = reads.shows ∙ is.shows ∙ ap (λ n. in_use n is.pages) (sym reads.keeps.stays.size);
+    is_file = subst (λ n. IsFile n is.wanted is.pages) (sym reads.keeps.stays.size) is.is_file;
+    trees = ap (λ n. file_trees n is.wanted is.pages) reads.keeps.stays.size ∙ is.trees;
     holds = is.holds;
   }
 
-  module _ (file : OpenedFile D g) (t : Tables) (db : Trees) (is : IsStoreOf file t db) (at : ℕ) (table : Table) (there : slice_get schema_two.tables at ≡ Some table) where
+  module _ (file : PageFile D g) (t : Tables) (db : Trees) (is : IsStoreOf file t db) (at : ℕ) (table : Table) (there : slice_get schema_two.tables at ≡ Some table) where
     pub table_placed : IsPlaced is.wanted table
     table_placed = placed_at (page_size file) is.wanted is.pages (subst (Holds t) (sym is.trees) is.holds) at table there
 
@@ -51,10 +51,10 @@ module _ {D : Type 0} {g : Ghosts D} where
           rows_are = ap (λ trees. trees table.tree) is.trees;
         }
 
-  pub found_after : (old new : OpenedFile D g) (db : Trees) (roots : List ℕ) (at : ℕ) → OnlyReads old new → AreFound old db roots at → AreFound new db roots at
+  pub found_after : (old new : PageFile D g) (db : Trees) (roots : List ℕ) (at : ℕ) → OnlyReads old new → AreFound old db roots at → AreFound new db roots at
   found_after old new db roots at reads found = record { shows = λ k low table there. shows_after old new (get_or roots k 0) (db table.tree) reads (found.shows k low table there) }
 
-  pub roots_after : (old new : OpenedFile D g) (db : Trees) (roots : Roots) → OnlyReads old new → AreRoots old db roots → AreRoots new db roots
+  pub roots_after : (old new : PageFile D g) (db : Trees) (roots : Roots) → OnlyReads old new → AreRoots old db roots → AreRoots new db roots
   roots_after old new db roots reads are = record {
     meta = shows_after _ _ _ _ reads are.meta;
     runs = shows_after _ _ _ _ reads are.runs;
@@ -69,7 +69,7 @@ module _ {D : Type 0} {g : Ghosts D} where
     members = shows_after _ _ _ _ reads are.members;
   }
 
-  module _ (file : OpenedFile D g) (db : Trees) (roots : List ℕ) where
+  module _ (file : PageFile D g) (db : Trees) (roots : List ℕ) where
     -- one more is found
     pub one_found : (at root : ℕ) → at < length roots → AreFound file db roots at → ((table : Table) → slice_get schema_two.tables at ≡ Some table → ShowsRows file root (db table.tree))
         → AreFound file db (set roots at root) (at + 1)

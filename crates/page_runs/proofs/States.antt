@@ -4,7 +4,7 @@ use Rattle.sqlite_disk.specs.declared.Disk.{Ghosts}
 use Rattle.sqlite_pool.specs.Stored.{RecoversAs}
 use Rattle.plain_tables.specs.Tables.{Tables, CellRow, CallRow, StackRow}
 use Rattle.run_stores.specs.Calls.{Asked, Changed}
-use Rattle.page_rows.specs.Files.{page_size, OnlyReads}
+use Rattle.page_files.specs.Files.{page_size, OnlyReads}
 use Rattle.run_lists.specs.Listed.{AreListed}
 use Rattle.store_schema.specs.Tables.{name_columns, cell_columns, arc_columns, stack_columns}
 use Rattle.page_runs.specs.Shown.{ShowsLines, ShowsRows}

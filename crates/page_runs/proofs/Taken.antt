@@ -14,8 +14,8 @@ use Rattle.store_schema.specs.Schema.{schema_two, name_at, thread_cell_at, arc_a
 use Rattle.store_schema.specs.Tables.{Holds, contents_of}
 use Rattle.held_runs.proofs.Apart.{apart_held}
 use Rattle.run_lists.specs.Listed.{AreListed}
-use Rattle.page_rows.specs.declared.files.OpenedFile.{OpenedFile}
-use Rattle.page_rows.specs.Files.{page_size, may_leave, OnlyReads, Shows}
+use Rattle.page_files.specs.declared.files.PageFile.{PageFile}
+use Rattle.page_files.specs.Files.{page_size, may_leave, OnlyReads, Shows}
 use Rattle.run_order.specs.Order.{AreInOrder}
 use Rattle.page_runs.specs.Shown.{AreRoots, IsStoreOf, ShowsRows}
 use Rattle.page_runs.specs.States.{LastsIn, ReadsAs, Represents, held_by}
@@ -39,26 +39,26 @@ module _ {D : Type 0} {g : Ghosts D} where
       }
 
   -- the file is a store, where the files that it was opened on hold one
-  pub store_there : (t : Tables) (db : Trees) (old new : OpenedFile D g) (image : Image) → OnlyReads old new
+  pub store_there : (t : Tables) (db : Trees) (old new : PageFile D g) (image : Image) → OnlyReads old new
       → ((pages : PageMap) → Recovers (page_size old) image pages → Shows old pages) → HoldsAt (page_size new) image db → Holds t db → IsStoreOf old t db
   store_there t db old new image reads shows at holds = record {
     wanted = at.wanted;
     pages = at.pages;
-    shows = shows at.pages (subst (λ n. Recovers n image at.pages) reads.size at.found);
-    is_file = subst (λ n. IsFile n at.wanted at.pages) reads.size at.ours.file;
-    trees = ap (λ n. file_trees n at.wanted at.pages) (sym reads.size) ∙ sym at.reads;
+    shows = shows at.pages (subst (λ n. Recovers n image at.pages) reads.keeps.stays.size at.found);
+    is_file = subst (λ n. IsFile n at.wanted at.pages) reads.keeps.stays.size at.ours.file;
+    trees = ap (λ n. file_trees n at.wanted at.pages) (sym reads.keeps.stays.size) ∙ sym at.reads;
     holds = holds;
   }
 
   -- what it is read as lasts, where whatever a crash leaves of the files holds it
-  pub represents_as : (t : Tables) (store : PageRuns D g) (opened : OpenedFile D g) (before : Image → Type 0) (db : Trees) → Holds t db → ReadsAs t store → OnlyReads opened store.file
+  pub represents_as : (t : Tables) (store : PageRuns D g) (opened : PageFile D g) (before : Image → Type 0) (db : Trees) → Holds t db → ReadsAs t store → OnlyReads opened store.file
       → AddsNothing (page_size opened) before (may_leave opened) → LastsIn t (page_size store.file) before → Represents t store
   represents_as t store opened before db holds is reads adds lasts = record {
     reads = is;
     lasting = λ image may.
         let (middle, might, later) = reads.crash image may in
         let (first, was, earlier) = adds middle might in
-        held_by t (page_size store.file) first image (subst (λ n. RecoversAs n first image) (sym reads.size) (λ pages is_there. later pages (earlier pages is_there))) (lasts first was);
+        held_by t (page_size store.file) first image (subst (λ n. RecoversAs n first image) (sym reads.keeps.stays.size) (λ pages is_there. later pages (earlier pages is_there))) (lasts first was);
     db = db;
     holds = holds;
   }

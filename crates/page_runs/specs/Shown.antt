@@ -7,8 +7,8 @@ use Rattle.sqlite_store.specs.Db.{IsFile}
 use Rattle.sqlite_store.specs.Listing.{file_trees}
 use Rattle.sqlite_trees.specs.Tree.{Trees}
 use Rattle.sqlite_value.specs.Order.{Row}
-use Rattle.page_rows.specs.declared.files.OpenedFile.{OpenedFile}
-use Rattle.page_rows.specs.Files.{page_size, Shows}
+use Rattle.page_files.specs.declared.files.PageFile.{PageFile}
+use Rattle.page_files.specs.Files.{page_size, Shows}
 use Rattle.page_rows.specs.Tables.{IsRooted}
 use Rattle.plain_tables.specs.Tables.{Tables}
 use Rattle.store_schema.specs.Schema.{meta_at, run_at, run_event_at, derived_at, coef_at, name_at, arc_at, stack_at, grp_at, member_at, thread_cell_at}
@@ -18,7 +18,7 @@ use Rattle.page_runs.specs.declared.roots.Roots.{Roots}
 
 module _ {D : Type 0} {g : Ghosts D} where
   -- it is a database file, in which the table under this root has these rows
-  pub record ShowsRows (file : OpenedFile D g) (root : ℕ) (rows : List Row) : Type 0 where
+  pub record ShowsRows (file : PageFile D g) (root : ℕ) (rows : List Row) : Type 0 where
     pub wanted : List Wanted
     pub pages : PageMap
     pub t : ℕ
@@ -28,7 +28,7 @@ module _ {D : Type 0} {g : Ghosts D} where
     pub rows_are : file_trees (page_size file) wanted pages t ≡ rows
 
   -- it is a store in which the tables hold these rows, and these are its trees
-  pub record IsStoreOf (file : OpenedFile D g) (t : Tables) (db : Trees) : Type 0 where
+  pub record IsStoreOf (file : PageFile D g) (t : Tables) (db : Trees) : Type 0 where
     pub wanted : List Wanted
     pub pages : PageMap
     pub shows : Shows file pages
@@ -37,7 +37,7 @@ module _ {D : Type 0} {g : Ghosts D} where
     pub holds : Holds t db
 
   -- its tables stand under these roots
-  pub record AreRoots (file : OpenedFile D g) (db : Trees) (roots : Roots) : Type 0 where
+  pub record AreRoots (file : PageFile D g) (db : Trees) (roots : Roots) : Type 0 where
     pub meta : ShowsRows file roots.meta (db meta_at.tree)
     pub runs : ShowsRows file roots.runs (db run_at.tree)
     pub events : ShowsRows file roots.events (db run_event_at.tree)
@@ -51,7 +51,7 @@ module _ {D : Type 0} {g : Ghosts D} where
     pub members : ShowsRows file roots.members (db member_at.tree)
 
   -- a table of lines of runs, in the order of the runs, stands under this root
-  pub record ShowsLines {X : Type 0} (file : OpenedFile D g) (root : ℕ) (columns : X → Row) (run : X → ℕ) (lines : List X) : Type 0 where
+  pub record ShowsLines {X : Type 0} (file : PageFile D g) (root : ℕ) (columns : X → Row) (run : X → ℕ) (lines : List X) : Type 0 where
     pub rows : List Row
     pub shows : ShowsRows file root rows
     pub lines_are : map (drop 1) rows ≡ map columns lines

@@ -9,8 +9,8 @@ use Rattle.sqlite_pool.specs.StoredLaws.{carried}
 use Rattle.sqlite_wal.specs.Recovery.{Image}
 use Rattle.sqlite_trees.specs.Tree.{Trees}
 use Rattle.sqlite.specs.Opening.{HoldsAt}
-use Rattle.page_rows.specs.Files as files
-use Rattle.page_rows.specs.Files.{page_size}
+use Rattle.page_files.specs.Files as files
+use Rattle.page_files.specs.Files.{page_size}
 use Rattle.plain_tables.specs.Tables.{Tables, CellRow, CallRow, StackRow}
 use Rattle.run_lists.specs.Listed.{AreListed}
 use Rattle.store_schema.specs.Tables.{Holds, name_columns, cell_columns, arc_columns, stack_columns}

@@ -6,10 +6,10 @@ ghost use Rattle.sqlite_wal.specs.Files.{outcomes, seen_image};
 ghost use Rattle.sqlite_wal.specs.PageSize.{bytes_of};
 ghost use Rattle.sqlite_wal.specs.Reads.{AreClean};
 ghost use Rattle.sqlite_wal.specs.Reads as disks;
-ghost use Rattle.page_rows.specs.Files.{page_size, may_leave, IsFaithful, Shows};
+ghost use Rattle.page_files.specs.Files.{page_size, may_leave, IsFaithful, Shows};
 ghost use Rattle.page_runs.specs.Sizes.{IsSizeOf};
 
-use page_rows::OpenedFile;
+use page_files::PageFile;
 use sqlite_disk::{Disk, Files};
 use sqlite_pager::{Options, Pager};
 use sqlite_pool::Pool;
@@ -47,7 +47,7 @@ pub(crate) fn open_file<D: Disk + Drop>(
     alloc: Global,
     mut files: Files<D>,
     options: Options,
-) -> Option<OpenedFile<D>>
+) -> Option<PageFile<D>>
     requires log { IsTrue (D.Disk.is_usable files.log) }
     requires db { IsTrue (D.Disk.is_usable files.db) }
     ensures size { IfSome result (λ file. IsFaithful file → IsSizeOf (seen_image D.Disk files.log files.db) (page_size file)) }
@@ -64,7 +64,7 @@ pub(crate) fn open_file<D: Disk + Drop>(
     let Ok(pool) = Pool::new(alloc, pager, false) else {
         return None;
     };
-    match OpenedFile::open(pool) {
+    match PageFile::open(pool) {
         Ok(file) => Some(file),
         Err(_) => None,
     }

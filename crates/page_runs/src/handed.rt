@@ -1,7 +1,7 @@
 // The cells, the calls and the stacks of a run, handed on: cells and calls with the numbers of their names.
 ghost use Rattle.std.specs.Prelude.{◌≡◌, ◌∷◌, List, fold, map, sum_by, IfOk};
 ghost use Rattle.sqlite_record.specs.Fields.{fields_left};
-ghost use Rattle.page_rows.specs.Files.{IsFaithful, OnlyReads};
+ghost use Rattle.page_files.specs.Files.{IsFaithful, OnlyReads};
 ghost use Rattle.plain_tables.specs.RunRows.{cells_in, calls_in, stacks_in};
 ghost use Rattle.plain_tables.specs.Tables.{Tables, CellRow as Cell, CallRow as Call, StackRow as Stack};
 ghost use Rattle.prof_books.specs.Book.{stacks_held};
@@ -13,7 +13,7 @@ ghost use Rattle.page_runs.specs.Shown.{ShowsLines};
 use crate::fields::{copied_in, end_of, number_in, whole_in};
 use crate::run_rows::{LineSink, RunTable, each_line};
 use held_runs::{CallLines, CellLines, StackLines};
-use page_rows::OpenedFile;
+use page_files::PageFile;
 use plain_tables::StoreError;
 use run_stores::{CallSink, CellSink, StackRowSink};
 use sqlite_disk::Disk;
@@ -163,7 +163,7 @@ impl<T: StackRowSink + Drop> LineSink for CopiedStacks<T> {
 
 /// Hands on the cells of a run, with so many events, as `RunStore::each_cell`.
 pub(crate) fn each_cell<D: Disk, T: CellSink + Drop>(
-    file: &mut OpenedFile<D>,
+    file: &mut PageFile<D>,
     alloc: Global,
     table: RunTable,
     events: usize,
@@ -180,7 +180,7 @@ pub(crate) fn each_cell<D: Disk, T: CellSink + Drop>(
 
 /// Hands on the calls of a run, row by row, as `RunStore::each_call`.
 pub(crate) fn each_call<D: Disk, T: CallSink + Drop>(
-    file: &mut OpenedFile<D>,
+    file: &mut PageFile<D>,
     alloc: Global,
     table: RunTable,
     events: usize,
@@ -197,7 +197,7 @@ pub(crate) fn each_call<D: Disk, T: CallSink + Drop>(
 
 /// Hands on the stacks of a run, as `RunStore::each_stack`.
 pub(crate) fn each_stack<D: Disk, T: StackRowSink + Drop>(
-    file: &mut OpenedFile<D>,
+    file: &mut PageFile<D>,
     alloc: Global,
     table: RunTable,
     sink: T,

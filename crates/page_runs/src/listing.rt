@@ -1,12 +1,13 @@
 // All rows of a table, read into a list.
 ghost use Rattle.std.specs.Prelude.{◌≡◌, ℕ, List, map, IfOk};
 ghost use Rattle.sqlite_value.specs.Order.{Row};
-ghost use Rattle.page_rows.specs.Files.{IsFaithful, OnlyReads};
+ghost use Rattle.page_files.specs.Files.{IsFaithful, OnlyReads};
 ghost use Rattle.page_runs.specs.Shown.{ShowsRows};
 
 use crate::failures::error_of_walk;
 use crate::records::FromRecord;
-use page_rows::{OpenedFile, RowSink};
+use page_files::PageFile;
+use page_rows::RowSink;
 use plain_tables::StoreError;
 use sqlite_disk::Disk;
 use std::alloc::Global;
@@ -43,7 +44,7 @@ impl<L: FromRecord + Drop> RowSink for Lines<L> {
 /// Reads all rows of the table under a root page, in the order of their rowids. `Store` where a page cannot be
 /// read or a row is out of form.
 pub(crate) fn all_rows<D: Disk, L: FromRecord + Drop>(
-    file: &mut OpenedFile<D>,
+    file: &mut PageFile<D>,
     alloc: Global,
     root: u32,
 ) -> Result<Vec<L>, StoreError>

@@ -1,7 +1,7 @@
 // The small tables of a store, read into lists.
 ghost use Rattle.std.specs.Prelude.{◌≡◌, ◌∷◌, [], ℕ, IfOk};
 ghost use Rattle.sqlite_trees.specs.Tree.{Trees};
-ghost use Rattle.page_rows.specs.Files.{IsFaithful, OnlyReads};
+ghost use Rattle.page_files.specs.Files.{IsFaithful, OnlyReads};
 ghost use Rattle.plain_tables.specs.Tables.{Tables};
 ghost use Rattle.run_lists.specs.Listed.{AreListed};
 ghost use Rattle.store_schema.specs.Tables.{Holds, meta_columns};
@@ -10,7 +10,7 @@ ghost use Rattle.page_runs.specs.Shown.{AreRoots, ShowsRows};
 use crate::listing::all_rows;
 use crate::roots::Roots;
 use crate::small::Meta;
-use page_rows::OpenedFile;
+use page_files::PageFile;
 use plain_tables::StoreError;
 use run_lists::RunLists;
 use sqlite_disk::Disk;
@@ -27,7 +27,7 @@ fn next_in(lines: &[Meta]) -> Result<u32, StoreError>
 }
 
 /// The number that the next run gets. `Store` unless `meta` has one row, of schema 2.
-fn next_run<D: Disk>(file: &mut OpenedFile<D>, alloc: Global, root: u32) -> Result<u32, StoreError>
+fn next_run<D: Disk>(file: &mut PageFile<D>, alloc: Global, root: u32) -> Result<u32, StoreError>
     ensures next { IsFaithful file.new → (n : ℕ) → ShowsRows file.old root (meta_columns n ∷ []) → IfOk result (λ next. next ≡ n) }
     ensures reads { OnlyReads file.old file.new }
 {
@@ -37,7 +37,7 @@ fn next_run<D: Disk>(file: &mut OpenedFile<D>, alloc: Global, root: u32) -> Resu
 
 /// Reads the small tables. `Store` where pages cannot be read, or rows are out of form.
 pub(crate) fn read_lists<D: Disk>(
-    file: &mut OpenedFile<D>,
+    file: &mut PageFile<D>,
     alloc: Global,
     roots: &Roots,
 ) -> Result<RunLists, StoreError>

@@ -7,7 +7,7 @@ ghost use Rattle.sqlite_store.specs.Db.{table_row};
 ghost use Rattle.plain_tables.specs.Tables.{NameRow};
 ghost use Rattle.prof_books.specs.Book.{IsHeld};
 ghost use Rattle.run_stores.specs.Names.{AreAmong};
-ghost use Rattle.page_rows.specs.Files.{IsFaithful, OnlyReads};
+ghost use Rattle.page_files.specs.Files.{IsFaithful, OnlyReads};
 ghost use Rattle.store_schema.specs.Tables.{name_columns};
 ghost use Rattle.page_runs.specs.Shown.{ShowsRows};
 ghost use Rattle.page_runs.specs.Sought.{name_read};
@@ -18,7 +18,7 @@ use crate::records::FromRecord;
 use crate::small::key_of;
 use crate::some_rows::rows_among;
 use held_runs::{HeldName, HeldNames};
-use page_rows::OpenedFile;
+use page_files::PageFile;
 use plain_tables::StoreError;
 use sqlite_disk::Disk;
 use sqlite_record::fields::Fields;
@@ -57,7 +57,7 @@ impl FromRecord for HeldName {
 /// The names that are held, in the order of their numbers. `Store` where a page cannot be read, a row is out of
 /// form, or the numbers do not rise.
 pub(crate) fn names_under<D: Disk>(
-    file: &mut OpenedFile<D>,
+    file: &mut PageFile<D>,
     alloc: Global,
     root: u32,
 ) -> Result<HeldNames, StoreError>
@@ -72,7 +72,7 @@ pub(crate) fn names_under<D: Disk>(
 /// Reads the names of some numbers, where they are held. `Memory`; `Store` where a page cannot be read, or a name
 /// that is read is out of form.
 pub(crate) fn names_among<D: Disk>(
-    file: &mut OpenedFile<D>,
+    file: &mut PageFile<D>,
     alloc: Global,
     root: u32,
     numbers: &[u32],
@@ -115,7 +115,7 @@ fn has_all(sorted: &[u32], numbers: &[u32]) -> bool
 
 /// Whether all of some numbers have a name that is held. `Memory`; `Store` where a page cannot be read.
 pub(crate) fn holds_names<D: Disk>(
-    file: &mut OpenedFile<D>,
+    file: &mut PageFile<D>,
     alloc: Global,
     root: u32,
     numbers: &[u32],

@@ -3,14 +3,15 @@ ghost use Rattle.std.specs.Prelude.{◌≡◌, List, map, IfOk};
 ghost use Rattle.sqlite_value.specs.Order.{Row};
 ghost use Rattle.plain_tables.specs.Tables.{NameRow};
 ghost use Rattle.run_stores.specs.Names.{IsNumberOf};
-ghost use Rattle.page_rows.specs.Files.{IsFaithful, OnlyReads};
+ghost use Rattle.page_files.specs.Files.{IsFaithful, OnlyReads};
 ghost use Rattle.store_schema.specs.Tables.{name_columns};
 ghost use Rattle.page_runs.specs.Shown.{ShowsRows};
 
 use crate::failures::error_of_walk;
 use crate::names::name_in;
 use held_runs::is_name;
-use page_rows::{OpenedFile, RowSink};
+use page_files::PageFile;
+use page_rows::RowSink;
 use plain_tables::StoreError;
 use sqlite_disk::Disk;
 use std::alloc::Global;
@@ -50,7 +51,7 @@ impl RowSink for Sought<'_> {
 /// The number of a name, if it is held. It reads the names up to that one, and holds none. `Memory`; `Store` where a
 /// page cannot be read, or a name that is read is out of form.
 pub(crate) fn number_of<D: Disk>(
-    file: &mut OpenedFile<D>,
+    file: &mut PageFile<D>,
     alloc: Global,
     root: u32,
     name: &[u8],

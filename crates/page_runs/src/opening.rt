@@ -1,7 +1,7 @@
 // Opens a store by the pages of its file.
 ghost use Rattle.std.specs.Prelude.{◌≡◌, IfOk, MatchResult};
 ghost use Rattle.sqlite_trees.specs.Tree.{Trees};
-ghost use Rattle.page_rows.specs.Files.{IsFaithful, OnlyReads};
+ghost use Rattle.page_files.specs.Files.{IsFaithful, OnlyReads};
 ghost use Rattle.plain_tables.specs.Tables.{Tables};
 ghost use Rattle.run_lists.specs.Listed.{AreListed};
 ghost use Rattle.page_runs.specs.Shown.{AreRoots, IsStoreOf};
@@ -9,7 +9,7 @@ ghost use Rattle.page_runs.specs.Shown.{AreRoots, IsStoreOf};
 use crate::lists::read_lists;
 use crate::roots::{Roots, find_roots};
 use crate::texts::has_our_texts;
-use page_rows::OpenedFile;
+use page_files::PageFile;
 use plain_tables::StoreError;
 use run_lists::RunLists;
 use sqlite_disk::Disk;
@@ -17,7 +17,7 @@ use std::alloc::Global;
 
 /// Finds the tables, and reads the small ones. `Store` where they are not ours, or rows are out of form.
 fn read_store<D: Disk>(
-    file: &mut OpenedFile<D>,
+    file: &mut PageFile<D>,
     alloc: Global,
 ) -> Result<(Roots, RunLists), StoreError>
     ensures read { IsFaithful file.new → (t : Tables) (db : Trees) → IsStoreOf file.old t db → IfOk result (λ r. AreRoots file.new db r.0 × AreListed t r.1) }
@@ -35,8 +35,8 @@ fn read_store<D: Disk>(
 /// which a caller opens it then, says what is wrong.
 pub(crate) fn open_store<D: Disk>(
     alloc: Global,
-    mut file: OpenedFile<D>,
-) -> Result<(OpenedFile<D>, Roots, RunLists), OpenedFile<D>>
+    mut file: PageFile<D>,
+) -> Result<(PageFile<D>, Roots, RunLists), PageFile<D>>
     ensures opened { IfOk result (λ r. IsFaithful r.0 → (t : Tables) (db : Trees) → IsStoreOf file t db → IsStoreOf r.0 t db × AreRoots r.0 db r.1 × AreListed t r.2) }
     ensures reads { MatchResult result (λ r. OnlyReads file r.0) (OnlyReads file) }
 {

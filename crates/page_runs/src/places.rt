@@ -2,14 +2,15 @@
 ghost use Rattle.std.specs.Prelude.{◌≡◌, ◌<◌, ◌+ℤ◌, ℕ, ℤ, pos, FitsSigned, List, Some, IfOk, IfSome};
 ghost use Rattle.std.specs.Int.{w64};
 ghost use Rattle.sqlite_value.specs.Order.{Row};
-ghost use Rattle.page_rows.specs.Files.{IsFaithful, OnlyReads};
+ghost use Rattle.page_files.specs.Files.{IsFaithful, OnlyReads};
 ghost use Rattle.page_rows.specs.Rows.{from_rowid};
 ghost use Rattle.page_runs.specs.Shown.{ShowsRows};
 ghost use Rattle.page_runs.specs.Walks.{AllEarlier, InOrder, IsFirstOf};
 
 use crate::failures::error_of_walk;
 use crate::fields::number_in;
-use page_rows::{OpenedFile, RowSink};
+use page_files::PageFile;
+use page_rows::RowSink;
 use plain_tables::StoreError;
 use sqlite_disk::Disk;
 use sqlite_record::fields::Fields;
@@ -44,7 +45,7 @@ impl RowSink for First {
 
 /// The rowid and the run of the first row from a rowid on, if there is one.
 fn first_from<D: Disk>(
-    file: &mut OpenedFile<D>,
+    file: &mut PageFile<D>,
     alloc: Global,
     root: u32,
     from: i64,
@@ -76,7 +77,7 @@ fn behind_earlier(found: Option<(i64, u32)>, run: u32) -> Option<i64>
 /// A rowid before which no row is of this run or a later one. It is found by halves, since the rows stand in the
 /// order of the runs: as imports write them.
 pub(crate) fn place_of<D: Disk>(
-    file: &mut OpenedFile<D>,
+    file: &mut PageFile<D>,
     alloc: Global,
     root: u32,
     run: u32,

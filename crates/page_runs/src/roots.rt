@@ -2,14 +2,14 @@
 ghost use Rattle.std.specs.Prelude.{◌≡◌, ℕ, slice_get, Some, IfOk};
 ghost use Rattle.sqlite_schema.specs.declared.schema.Table.{Table};
 ghost use Rattle.sqlite_trees.specs.Tree.{Trees};
-ghost use Rattle.page_rows.specs.Files.{IsFaithful, OnlyReads};
+ghost use Rattle.page_files.specs.Files.{IsFaithful, OnlyReads};
 ghost use Rattle.plain_tables.specs.Tables.{Tables};
 ghost use Rattle.store_schema.specs.Schema.{schema_two};
 ghost use Rattle.page_runs.specs.Found.{AreFound, AreNames};
 ghost use Rattle.page_runs.specs.Shown.{AreRoots, IsStoreOf, ShowsRows};
 
 use crate::failures::error_of;
-use page_rows::OpenedFile;
+use page_files::PageFile;
 use plain_tables::StoreError;
 use sqlite_disk::Disk;
 use std::alloc::Global;
@@ -46,7 +46,7 @@ pub(crate) const NAMES: [&str; 11] = [
 ];
 
 /// The root page of a table. `Store` where the file has no table of this name.
-fn root_of<D: Disk>(file: &mut OpenedFile<D>, alloc: Global, name: &str) -> Result<u32, StoreError>
+fn root_of<D: Disk>(file: &mut PageFile<D>, alloc: Global, name: &str) -> Result<u32, StoreError>
     ensures found { IsFaithful file.new → (t : Tables) (db : Trees) (at : ℕ) (table : Table) → slice_get schema_two.tables at ≡ Some table → table.name ≡ name.now
         → IsStoreOf file.old t db → IfOk result (λ root. ShowsRows file.old root (db table.tree)) }
     ensures reads { OnlyReads file.old file.new }
@@ -60,7 +60,7 @@ fn root_of<D: Disk>(file: &mut OpenedFile<D>, alloc: Global, name: &str) -> Resu
 
 /// The root pages of all tables, which have these names.
 fn roots_of<D: Disk>(
-    file: &mut OpenedFile<D>,
+    file: &mut PageFile<D>,
     alloc: Global,
     names: &[&str; 11],
 ) -> Result<[u32; 11], StoreError>
@@ -76,7 +76,7 @@ fn roots_of<D: Disk>(
 
 /// Finds the tables. `Store` where one is not there, or pages cannot be read.
 pub(crate) fn find_roots<D: Disk>(
-    file: &mut OpenedFile<D>,
+    file: &mut PageFile<D>,
     alloc: Global,
 ) -> Result<Roots, StoreError>
     ensures found { IsFaithful file.new → (t : Tables) (db : Trees) → IsStoreOf file.old t db → IfOk result (AreRoots file.new db) }

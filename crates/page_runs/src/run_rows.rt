@@ -1,14 +1,15 @@
 // The rows of a run in one of its tables, handed on one at a time.
 ghost use Rattle.std.specs.Prelude.{◌≡◌, ◌+◌, [], List, sum_by, IfOk};
 ghost use Rattle.sqlite_value.specs.Order.{Row};
-ghost use Rattle.page_rows.specs.Files.{IsFaithful, OnlyReads};
+ghost use Rattle.page_files.specs.Files.{IsFaithful, OnlyReads};
 ghost use Rattle.page_runs.specs.Shown.{ShowsRows};
 ghost use Rattle.page_runs.specs.Walks.{AreOfRun, InOrder};
 
 use crate::failures::error_of_walk;
 use crate::fields::number_in;
 use crate::places::place_of;
-use page_rows::{OpenedFile, RowSink};
+use page_files::PageFile;
+use page_rows::RowSink;
 use plain_tables::StoreError;
 use sqlite_disk::Disk;
 use sqlite_record::fields::Fields;
@@ -102,7 +103,7 @@ impl<T: LineSink + Drop> RowSink for RunRows<T> {
 /// Errors: `Memory`; `Store` for pages that cannot be read, for rows out of form, and where the lines do not sum to
 /// what the small tables say, as where some lie behind those of a later run; and those of the taker.
 pub(crate) fn each_line<D: Disk, T: LineSink + Drop>(
-    file: &mut OpenedFile<D>,
+    file: &mut PageFile<D>,
     alloc: Global,
     table: RunTable,
     sink: T,

@@ -2,13 +2,14 @@
 ghost use Rattle.std.specs.Prelude.{◌≡◌, ◌≤◌, ◌<◌, ◌-◌, ◌++◌, List, length, map, filter, slice_index, IfOk};
 ghost use Rattle.std.specs.List.Sorted.{IsNonDecreasing};
 ghost use Rattle.sqlite_value.specs.Order.{Row};
-ghost use Rattle.page_rows.specs.Files.{IsFaithful, OnlyReads};
+ghost use Rattle.page_files.specs.Files.{IsFaithful, OnlyReads};
 ghost use Rattle.page_runs.specs.Among.{IsPassedTo, is_among};
 ghost use Rattle.page_runs.specs.Shown.{ShowsRows};
 
 use crate::failures::error_of_walk;
 use crate::records::FromRecord;
-use page_rows::{OpenedFile, RowSink};
+use page_files::PageFile;
+use page_rows::RowSink;
 use plain_tables::StoreError;
 use sqlite_disk::Disk;
 use std::alloc::Global;
@@ -74,7 +75,7 @@ impl<L: FromRecord + Drop> RowSink for Among<'_, L> {
 
 /// Adds the rows of numbers that rise to lines, in one walk.
 fn with_group<D: Disk, L: FromRecord + Drop>(
-    file: &mut OpenedFile<D>,
+    file: &mut PageFile<D>,
     alloc: Global,
     root: u32,
     group: &[u32],
@@ -115,7 +116,7 @@ fn end_of_group(sorted: &[u32], from: usize) -> usize
 
 /// The rows of numbers that rise: a walk for each group of them, so that the rows between groups are not read.
 fn rows_of_sorted<D: Disk, L: FromRecord + Drop>(
-    file: &mut OpenedFile<D>,
+    file: &mut PageFile<D>,
     alloc: Global,
     root: u32,
     sorted: &[u32],
@@ -138,7 +139,7 @@ fn rows_of_sorted<D: Disk, L: FromRecord + Drop>(
 /// Rows that lie far from these are not read. `Memory`; `Store` where a page cannot be read or a row that is read is
 /// out of form.
 pub(crate) fn rows_among<D: Disk, L: FromRecord + Drop>(
-    file: &mut OpenedFile<D>,
+    file: &mut PageFile<D>,
     alloc: Global,
     root: u32,
     numbers: &[u32],

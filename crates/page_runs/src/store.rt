@@ -2,7 +2,7 @@
 ghost use Rattle.std.specs.Prelude.{◌≡◌, IsTrue, IfOk, IfSome};
 ghost use Rattle.sqlite_wal.specs.Files.{outcomes, seen_image};
 ghost use Rattle.sqlite_wal.specs.Reads.{AreClean};
-ghost use Rattle.page_rows.specs.Files.{page_size};
+ghost use Rattle.page_files.specs.Files.{page_size};
 ghost use Rattle.plain_tables.specs.Tables.{Tables};
 ghost use Rattle.profile_records.specs.declared.kinds.Kind.{Kind as RunKind};
 ghost use Rattle.run_stores.specs.Lookups.{IsKindOf};
@@ -23,7 +23,7 @@ use cg_formulas::FileHead;
 use cg_text::ListVec;
 use cost_rows::FileTotals;
 use held_runs::HeldNames;
-use page_rows::OpenedFile;
+use page_files::PageFile;
 use plain_tables::StoreError;
 use profile_records::Kind;
 use run_lists::RunLists;
@@ -38,7 +38,7 @@ use std::alloc::Global;
 /// from the pages of its file when they are asked for. Each change is refused, as `Store`.
 #[derive(Drop)]
 pub struct PageRuns<D: Disk> {
-    pub(crate) file: OpenedFile<D>,
+    pub(crate) file: PageFile<D>,
     pub(crate) alloc: Global,
     pub(crate) roots: Roots,
     pub(crate) lists: RunLists,
@@ -108,7 +108,7 @@ impl<D: Disk> PageRuns<D> {
     }
 
     /// Hands the opened file back.
-    pub fn into_file(self) -> OpenedFile<D>
+    pub fn into_file(self) -> PageFile<D>
         ensures { result ≡ self.file }
     {
         let PageRuns {

@@ -1,11 +1,12 @@
 // Whether a file was made with our tables.
 ghost use Rattle.std.specs.Prelude.{◌≡◌, ◌<◌, map, IsTrue};
-ghost use Rattle.page_rows.specs.Files.{OnlyReads};
+ghost use Rattle.page_files.specs.Files.{OnlyReads};
 ghost use Rattle.page_runs.specs.Texts.{table_texts};
 
 use crate::failures::error_of_walk;
 use crate::roots::NAMES;
-use page_rows::{OpenedFile, RowSink, read_row};
+use page_files::PageFile;
+use page_rows::{RowSink, read_row};
 use plain_tables::StoreError;
 use sqlite_disk::Disk;
 use sqlite_trees::sound::is_word;
@@ -90,7 +91,7 @@ impl RowSink for Listed {
 /// their columns stand where we read them: a file that was made elsewhere is left to SQL. Indexes and other entries
 /// are not looked at. No clause says so: only that the file is read.
 pub(crate) fn has_our_texts<D: Disk>(
-    file: &mut OpenedFile<D>,
+    file: &mut PageFile<D>,
     alloc: Global,
 ) -> Result<bool, StoreError>
     ensures reads { OnlyReads file.old file.new }

@@ -3,7 +3,7 @@ use Rattle.sqlite_pool.specs.Stored.{Recovers, RecoversAs}
 use Rattle.sqlite_wal.proofs.CleanLemmas.{both_clean}
 use Rattle.sqlite_wal.specs.Files.{outcomes, seen_image}
 use Rattle.sqlite_wal.specs.Reads.{AreClean}
-use Rattle.page_rows.specs.Files.{page_size}
+use Rattle.page_files.specs.Files.{page_size}
 use Rattle.page_runs.specs.Sizes.{IsSizeOf}
 use Rattle.page_runs.proofs.Probing.{clean_files, left_before, left_files, same_image}
 use Rattle.page_runs.proofs.files.open_file.Goals as goal

@@ -30,12 +30,12 @@ returns-clause-reads g c =
 
 pub returns-clause-listed : goal.returns-clause-listed
 returns-clause-listed g c members = λ t db holds roots.
-    let groups = c.all_rows-6.ensures.reads.faithful members in
-    let coefs = c.all_rows-5.ensures.reads.faithful groups in
-    let derived = c.all_rows-4.ensures.reads.faithful coefs in
-    let events = c.all_rows-3.ensures.reads.faithful derived in
-    let runs = c.all_rows-2.ensures.reads.faithful events in
-    let next = c.all_rows.ensures.reads.faithful runs in
+    let groups = c.all_rows-6.ensures.reads.keeps.stays.clean members in
+    let coefs = c.all_rows-5.ensures.reads.keeps.stays.clean groups in
+    let derived = c.all_rows-4.ensures.reads.keeps.stays.clean coefs in
+    let events = c.all_rows-3.ensures.reads.keeps.stays.clean derived in
+    let runs = c.all_rows-2.ensures.reads.keeps.stays.clean events in
+    let next = c.all_rows.ensures.reads.keeps.stays.clean runs in
     let to_runs = c.next_run.ensures.reads in
     let to_events = to_runs ⊳ c.all_rows.ensures.reads in
     let to_derived = to_events ⊳ c.all_rows-2.ensures.reads in

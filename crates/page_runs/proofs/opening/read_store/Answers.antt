@@ -4,7 +4,7 @@ use Rattle.page_runs.proofs.opening.read_store.Goals as goal
 
 pub returns-clause-read : goal.returns-clause-read
 returns-clause-read g c faithful = λ t db is.
-    let found = c.read_lists.ensures.reads.faithful faithful in
+    let found = c.read_lists.ensures.reads.keeps.stays.clean faithful in
     let there = store_after _ _ t db c.has_our_texts.ensures.reads is in
     let roots = c.in_ok-roots.ensures.found found t db there in
     (roots_after _ _ db _ c.read_lists.ensures.reads roots, c.in_ok-lists.ensures.listed faithful t db is.holds roots)

@@ -1,6 +1,6 @@
 use Rattle.std.proofs.Common.{arith, ◌<◌, subst, sym, ◌∙◌, to_z-of_z}
 use Rattle.page_runs.specs.Walks.{AllEarlier, IsFirstOf}
-use Rattle.page_rows.proofs.Reading.{OnlyReads-trans}
+use Rattle.page_files.proofs.Reading.{OnlyReads-trans}
 use Rattle.page_runs.proofs.RunRows.{earlier_behind, earlier_from_least}
 use Rattle.page_runs.proofs.Shows.{OnlyReads-refl, all_from_least, rows_behind, shows_after}
 use Rattle.page_runs.proofs.places.place_of.Goals as goal
@@ -20,7 +20,7 @@ pub halves-preserved : goal.halves-preserved
 halves-preserved g c = (
   (λ faithful rows is order.
       let here = shows_after _ _ _ rows c.halves.invariant.1 is in
-      let was = c.halves.invariant.0 (c.first_from.ensures.reads.faithful faithful) rows is order in
+      let was = c.halves.invariant.0 (c.first_from.ensures.reads.keeps.stays.clean faithful) rows is order in
       let found = c.in_ok-found.ensures.found faithful rows here in
       elim c.match-behind_earlier.branch [
         | in-Some w ↦

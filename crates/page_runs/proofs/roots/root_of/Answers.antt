@@ -1,5 +1,5 @@
 use Rattle.std.proofs.Common.{◌≡◌, Some, subst, sym, ◌∙◌}
-use Rattle.page_rows.specs.Files.{page_size}
+use Rattle.page_files.specs.Files.{page_size}
 use Rattle.page_rows.specs.Tables.{IsNamed, root_of_tree}
 use Rattle.page_runs.proofs.Rooting.{table_placed, table_shows}
 use Rattle.page_runs.proofs.roots.root_of.Goals as goal

@@ -1,5 +1,5 @@
 use Rattle.std.proofs.Common.{◌≡◌, refl, ◌∙◌, length-set, arith, subst}
-use Rattle.page_rows.proofs.Reading.{OnlyReads-trans}
+use Rattle.page_files.proofs.Reading.{OnlyReads-trans}
 use Rattle.page_runs.specs.Found.{AreFound}
 use Rattle.page_runs.proofs.Rooting.{found_after, name_there, one_found, store_after}
 use Rattle.page_runs.proofs.Shows.{OnlyReads-refl, shows_after}
@@ -17,7 +17,7 @@ tables-preserved g c = record {
   reads = OnlyReads-trans _ _ _ c.tables.invariant.reads c.root_of.ensures.reads;
   found = λ names faithful t db is.
       let reads = c.root_of.ensures.reads in
-      let before = c.tables.invariant.found names (reads.faithful faithful) t db is in
+      let before = c.tables.invariant.found names (reads.keeps.stays.clean faithful) t db is in
       one_found _ db c.tables.roots c.tables.at _ (omega arith) (found_after _ _ db c.tables.roots c.tables.at reads before)
       (λ table there. shows_after _ _ _ _ reads (c.in_ok-roots.ensures.found faithful t db c.tables.at table there (name_there _ _ _ names table there) (store_after _ _ t db c.tables.invariant.reads is)));
 }

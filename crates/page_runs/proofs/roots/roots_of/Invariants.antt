@@ -1,6 +1,6 @@
 use Rattle.std.proofs.Common.{◌≡◌, length}
 use Rattle.sqlite_trees.specs.Tree.{Trees}
-use Rattle.page_rows.specs.Files.{IsFaithful, OnlyReads}
+use Rattle.page_files.specs.Files.{IsFaithful, OnlyReads}
 use Rattle.plain_tables.specs.Tables.{Tables}
 use Rattle.page_runs.specs.Found.{AreFound, AreNames}
 use Rattle.page_runs.specs.Shown.{IsStoreOf}

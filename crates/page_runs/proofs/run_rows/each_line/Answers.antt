@@ -1,7 +1,7 @@
 use Rattle.std.proofs.Common.{w64, of_z, to_z, subst, [], ap₂, sym, refl, inl, inr, ◌∙◌, ◌≡◌, to_z-of_z, FitsSigned, rules}
 use Rattle.page_rows.specs.Rows.{from_rowid}
 use Rattle.page_runs.specs.Walks.{AreOfRun}
-use Rattle.page_rows.proofs.Reading.{OnlyReads-trans}
+use Rattle.page_files.proofs.Reading.{OnlyReads-trans}
 use Rattle.page_runs.proofs.RunRows.{all_taken, taken_to_later}
 use Rattle.page_runs.proofs.Shows.{shows_after}
 use Rattle.page_runs.proofs.run_rows.each_line.Goals as goal
@@ -11,7 +11,7 @@ returns-in-Ok-clause-handed g c faithful = λ rows is order start begun.
     let t = g.T.LineSink in
     let run = c.args.table.run in
     let from = c.in_ok-from.from in
-    let earlier = c.in_ok-from.ensures.earlier (c.walk.ensures.reads.faithful faithful) rows is order in
+    let earlier = c.in_ok-from.ensures.earlier (c.walk.ensures.reads.keeps.stays.clean faithful) rows is order in
     let there = shows_after _ _ _ rows c.place_of.ensures.reads is in
     let fits : FitsSigned w64 from = c.in_ok-from.ensures.fits in
     let here : from_rowid (to_z w64 (of_z w64 from)) _ ≡ from_rowid from rows = ap₂ from_rowid (to_z-of_z fits) there.rows_are in

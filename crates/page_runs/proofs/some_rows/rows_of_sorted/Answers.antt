@@ -2,7 +2,7 @@ use Rattle.std.proofs.Common.{◌≡◌, ◌++◌, ◌-◌, [], map, filter, len
 use Rattle.std.proofs.lemmas.List.{map-append}
 use Rattle.std.proofs.lemmas.List.Sorted.{IsNonDecreasingBy-drop, IsNonDecreasingBy-take}
 use Rattle.std.proofs.Math.Seq.{take-length}
-use Rattle.page_rows.proofs.Reading.{OnlyReads-trans}
+use Rattle.page_files.proofs.Reading.{OnlyReads-trans}
 use Rattle.page_runs.specs.Among.{is_among}
 use Rattle.page_runs.proofs.Among.{among_group, among_none, shown_rise}
 use Rattle.page_runs.proofs.Shows.{OnlyReads-refl, shows_after}
@@ -29,7 +29,7 @@ groups-preserved g c = record {
       let at = c.groups.at in
       let end = c.end_of_group-end.result in
       let reads = c.with_group.ensures.reads in
-      let before = c.groups.invariant.read up (reads.faithful faithful) rows is in
+      let before = c.groups.invariant.read up (reads.keeps.stays.clean faithful) rows is in
       let rises = IsNonDecreasingBy-take (λ n. n) (end - at) (drop at numbers) (IsNonDecreasingBy-drop (λ n. n) at numbers up) in
       let here = c.in_ok-lines.ensures.read rises faithful rows (shows_after _ _ _ rows c.groups.invariant.reads is) in
       let parts = among_group numbers at end up c.groups.invariant.far c.end_of_group-end.ensures.onward c.end_of_group-end.ensures.within rows (shown_rise _ _ rows is) in

@@ -1,7 +1,7 @@
 use Rattle.std.proofs.Common.{◌≡◌, ◌≤◌, ◌<◌, ◌-◌, List, length, get_or, map, filter, take}
 use Rattle.std.specs.List.Sorted.{IsNonDecreasing}
 use Rattle.sqlite_value.specs.Order.{Row}
-use Rattle.page_rows.specs.Files.{IsFaithful, OnlyReads}
+use Rattle.page_files.specs.Files.{IsFaithful, OnlyReads}
 use Rattle.page_runs.specs.Among.{is_among}
 use Rattle.page_runs.specs.Shown.{ShowsRows}
 use Rattle.page_runs.proofs.some_rows.rows_of_sorted.Given as goal

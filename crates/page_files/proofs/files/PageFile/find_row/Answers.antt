@@ -1,16 +1,17 @@
-use Rattle.std.proofs.Common.{sym, ap, subst, subst₂, ◌∙◌, to_z-of_z, MatchResult}
+use Rattle.std.proofs.Common.{subst₂, to_z-of_z}
+use Rattle.std.proofs.lemmas.Result.{err_from_is_err_and}
 use Rattle.sqlite_pages.proofs.Doubt.{no_doubt}
 use Rattle.sqlite_trees.specs.View.{Finds}
 use Rattle.sqlite_store.specs.Db.{table_row}
-use Rattle.page_rows.specs.Rows.{HasTable, rows_of}
-use Rattle.page_rows.specs.Files.{page_size, FailsToRead}
 use Rattle.page_rows.proofs.FileTables.{table_there, table_shown}
-use Rattle.page_rows.proofs.files.OpenedFile.find_row.Goals as goal
+use Rattle.page_files.proofs.files.PageFile.find_row.Goals as goal
+
+pub returns-in_err-found-clause-done : goal.returns-in_err-found-clause-done
+returns-in_err-found-clause-done g c faithful = λ wanted t shows.
+    let p = err_from_is_err_and c.from_residual.result c.from_residual.ensures.1 in
+    rw (p.1, p.2) (c.in_err-found.ensures.done (no_doubt _ faithful) (table_there shows.is_db shows.rooted))
 
 pub returns-clause-done : goal.returns-clause-done
-returns-clause-done g c faithful = λ wanted pages t shows file rooted.
-    let size = page_size c.args.self.now in
-    subst₂ (λ id rows. MatchResult c.find_row.result (Finds rows id (table_row (id, c.find_row.new.payload.items)))
-    (FailsToRead c.args.self.now (record { pool = c.find_row.new.store }))) (to_z-of_z c.ranges.rowid)
-    (ap (λ p. rows_of size p c.args.root) shows ∙ table_shown file rooted)
-    (c.find_row.ensures.done (no_doubt _ faithful) (subst (λ p. HasTable size p c.args.root) (sym shows) (table_there file rooted)))
+returns-clause-done g c faithful = λ wanted t shows.
+    subst₂ (λ id rows. Finds rows id (table_row (id, c.find_row.new.payload.items)) c.in_ok-found.found) (to_z-of_z c.ranges.rowid) (table_shown shows.is_db shows.rooted)
+    (c.in_ok-found.ensures.done (no_doubt _ faithful) (table_there shows.is_db shows.rooted))

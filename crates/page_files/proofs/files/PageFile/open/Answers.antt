@@ -1,14 +1,14 @@
-use Rattle.std.proofs.Common.{sym, ap, subst, ◌∙◌}
+use Rattle.std.proofs.Common.{sym, subst}
 use Rattle.sqlite_pool.specs.Pool.{state}
 use Rattle.sqlite_pool.specs.Opening.{image}
 use Rattle.sqlite_pool.specs.Stored.{Recovers}
 use Rattle.sqlite_pool.specs.StoredLaws.{recovers_once}
-use Rattle.sqlite_pool.specs.File.{in_use}
-use Rattle.page_rows.proofs.files.OpenedFile.open.Goals as goal
+use Rattle.page_files.proofs.Opened.{opened}
+use Rattle.page_files.proofs.files.PageFile.open.Goals as goal
 
-pub returns-in-Ok-clause-shows : goal.returns-in-Ok-clause-shows
-returns-in-Ok-clause-shows g c faithful = λ pages found.
-    let sized = c.recover.ensures.kept.size in
+pub returns-in-Ok-clause-rests : goal.returns-in-Ok-clause-rests
+returns-in-Ok-clause-rests g c faithful = λ wanted db pages found has.
     let it = state c.recover.new.self in
-    let here = subst (λ n. Recovers n (image c.args.pool) it.committed) (sym sized) (c.in-Ok.ensures.found faithful) in
-    (c.in-Ok.ensures.clean faithful).fresh ∙ ap (in_use it.page_size) (recovers_once it.page_size (image c.args.pool) it.committed pages here found)
+    let here = subst (λ n. Recovers n (image c.args.pool) it.committed) (sym c.recover.ensures.kept.size) (c.in-Ok.ensures.found faithful) in
+    opened (record { pool = c.recover.new.self; scratch = c.new.result }) g.met.D.Disk.seen_may_stay (c.in-Ok.ensures.clean faithful)
+    (recovers_once it.page_size (image c.args.pool) it.committed pages here found) has
