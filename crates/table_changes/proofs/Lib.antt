@@ -2,6 +2,8 @@ pub mod Behind
 pub mod Contents
 pub mod Groups
 pub mod Keys
+pub mod Members
+pub mod References
 pub mod Replaced
 pub mod Store
 pub mod TakenOut

@@ -1,6 +1,6 @@
 -- A database that obeys its schema still does once rows of a table were replaced by rows with their keys.
 use Rattle.std.proofs.Common.{◌≡◌, ◌≢◌, ℕ, not, ◌&&◌, ◌||◌, ◌==◌, if◌then◌else◌, true, false, Bool, List, [], ◌∷◌, map, Option, Some, None, refl, sym, ap, ap₂, subst, inl, inr, ◌∙◌}
-use Rattle.std.specs.List.{list_all, list_any}
+use Rattle.std.specs.List.{flat_map, list_all}
 use Rattle.std.proofs.lemmas.Bool.{and_from, and_parts, both_ways, cases_eq, eq-eqb, false_from_ne_true, not-true, not_from_false, or_cases, or_left, or_right}
 use Rattle.sqlite_value.specs.declared.keys.Order.{Order}
 use Rattle.sqlite_value.specs.Keys.{first_key, later}
@@ -15,11 +15,11 @@ use Rattle.sqlite_schema.specs.declared.schema.Schema.{Schema}
 use Rattle.sqlite_schema.specs.declared.schema.Table.{Table}
 use Rattle.sqlite_schema.specs.Rules.{ParentKey, agree, clashes, differ, equal, guards, has_null, has_parent, is_held, parent_key, passes}
 use Rattle.sqlite_rules.specs.Lists.{Has}
-use Rattle.sqlite_rules.proofs.ListLemmas.{some_from, some_has, test_from, test_has}
+use Rattle.sqlite_rules.proofs.ListLemmas.{all_has, has_left, has_right, some_from, some_has, test_from, test_has}
 use Rattle.sqlite_rules.proofs.ProbeLemmas.{has_mapped, mapped_has}
 use Rattle.sqlite_rules.proofs.RuleLemmas.{keeps_at, keeps_from, obeyed, parent_is_table, refers_at, refers_from, same_table}
 use Rattle.sqlite_catalog.specs.Listing.{IsSound, Lists}
-use Rattle.table_changes.specs.Changes.{AreReplaced, IsOneOf, OnlyChanges, has_place, is_key_place, points_at}
+use Rattle.table_changes.specs.Changes.{AreReplaced, IsOneOf, OnlyChanges, key_places, places_at}
 
 -- a row with the same values at the places that are compared
 agree_left : (o : Order) (ps qs : List ℕ) (new old b : Row) → ((p : ℕ) → Has ps p → column new p ≡ column old p) → agree o ps new qs b ≡ agree o ps old qs b
@@ -36,20 +36,28 @@ agree_right o (p ∷ ps) [] a new old same = refl
 agree_right o (p ∷ ps) (q ∷ qs) a new old same =
     ap₂ ◌&&◌ (ap (λ v. equal (first_key o).collation (column a p) v) (same q (inl refl))) (agree_right (later o) ps qs a new old (λ r there. same r (inr there)))
 
-has_it : (places : List ℕ) (p : ℕ) → Has places p → has_place places p ≡ true
-has_it places p there = some_from (λ q. q == p) places p there (eq-eqb p p refl)
+has_flat : {X : Type 0} (f : X → List ℕ) (xs : List X) (x : X) (p : ℕ) → Has xs x → Has (f x) p → Has (flat_map f xs) p
+has_flat f [] x p known there = absurd known
+has_flat f (y ∷ xs) x p (inl same) there = has_left (f y) (flat_map f xs) p (subst (λ z. Has (f z) p) same there)
+has_flat f (y ∷ xs) x p (inr later) there = has_right (f y) (flat_map f xs) p (has_flat f xs x p later there)
 
 module _ (schema : Schema) (table : Table) where
-  key_of_index : (i : Index) (p : ℕ) → Has schema.indexes i → guards i table ≡ true → Has i.columns p → is_key_place schema table p ≡ true
-  key_of_index i p known on there =
-      or_right (p == 0) _ (or_left _ _ (some_from (λ (j : Index). if guards j table then has_place j.columns p else false) schema.indexes i known (ap (λ b. if b then has_place i.columns p else false) on ∙ has_it i.columns p there)))
+  abbrev of_indexes : List ℕ
+  of_indexes = flat_map (λ (i : Index). if guards i table then i.columns else []) schema.indexes
 
-  key_of_reference : (t : Table) (ref : Reference) (key : ParentKey) (p : ℕ) → Has schema.tables t → Has t.references ref → parent_key schema.tables ref ≡ Some key → key.0 ≡ table.tree → Has key.1 p → is_key_place schema table p ≡ true
+  abbrev of_references : List ℕ
+  of_references = flat_map (λ (t : Table). flat_map (λ (ref : Reference). places_at table.tree (parent_key schema.tables ref)) t.references) schema.tables
+
+  key_of_index : (i : Index) (p : ℕ) → Has schema.indexes i → guards i table ≡ true → Has i.columns p → Has (key_places schema table) p
+  key_of_index i p known on there =
+      inr (has_left of_indexes of_references p (has_flat (λ (j : Index). if guards j table then j.columns else []) schema.indexes i p known (subst (λ b. Has (if b then i.columns else []) p) (sym on) there)))
+
+  key_of_reference : (t : Table) (ref : Reference) (key : ParentKey) (p : ℕ) → Has schema.tables t → Has t.references ref → parent_key schema.tables ref ≡ Some key → key.0 ≡ table.tree → Has key.1 p → Has (key_places schema table) p
   key_of_reference t ref key p listed known is same there =
-      let here : points_at table.tree p (parent_key schema.tables ref) ≡ true =
-      ap (points_at table.tree p) is ∙ ap (λ b. if b then has_place key.1 p else false) (eq-eqb key.0 table.tree same) ∙ has_it key.1 p there in
-      or_right (p == 0) _ (or_right _ _ (some_from (λ (u : Table). list_any (λ (r : Reference). points_at table.tree p (parent_key schema.tables r)) u.references) schema.tables t listed
-      (some_from (λ (r : Reference). points_at table.tree p (parent_key schema.tables r)) t.references ref known here)))
+      let here : Has (places_at table.tree (parent_key schema.tables ref)) p =
+      subst (λ k. Has (places_at table.tree k) p) (sym is) (subst (λ b. Has (if b then key.1 else []) p) (sym (eq-eqb key.0 table.tree same)) there) in
+      inr (has_right of_indexes of_references p (has_flat (λ (u : Table). flat_map (λ (r : Reference). places_at table.tree (parent_key schema.tables r)) u.references) schema.tables t p listed
+      (has_flat (λ (r : Reference). places_at table.tree (parent_key schema.tables r)) t.references ref p known here)))
 
 module _ (schema : Schema) (old new : Trees) (table : Table) (turn : Row → Row) (one : IsOneOf schema table) (only : OnlyChanges schema old new table) (turned : new table.tree ≡ map turn (old table.tree))
     (fit : AreReplaced schema old new table turn) where
@@ -60,13 +68,13 @@ module _ (schema : Schema) (old new : Trees) (table : Table) (turn : Row → Row
   stands row there = subst (λ l. Has l (turn row)) (sym turned) (mapped_has turn (old table.tree) row there)
 
   same_id : (row : Row) → Has (old table.tree) row → rowid (turn row) ≡ rowid row
-  same_id row there = fit.keys row there 0 refl
+  same_id row there = (fit.keys row there).0
 
   -- keys that clash did so before
   clashed : (i : Index) (x y : Row) → Has schema.indexes i → guards i table ≡ true → Has (old table.tree) x → Has (old table.tree) y → agree i.order i.columns (turn x) i.columns (turn y) && differ (rowid (turn x)) (rowid (turn y)) ≡ true
       → agree i.order i.columns x i.columns y && differ (rowid x) (rowid y) ≡ true
   clashed i x y known on has_x has_y clash =
-      let kept = λ (r : Row) (there : Has (old table.tree) r) (p : ℕ) (among : Has i.columns p). fit.keys r there p (key_of_index schema table i p known on among) in
+      let kept = λ (r : Row) (there : Has (old table.tree) r) (p : ℕ) (among : Has i.columns p). all_has (λ q. column (turn r) q ≡ column r q) (key_places schema table) p (fit.keys r there) (key_of_index schema table i p known on among) in
       let keys : agree i.order i.columns (turn x) i.columns (turn y) ≡ agree i.order i.columns x i.columns y =
       agree_left i.order i.columns i.columns (turn x) x (turn y) (kept x has_x) ∙ agree_right i.order i.columns i.columns x (turn y) y (kept y has_y) in
       let ids : differ (rowid (turn x)) (rowid (turn y)) ≡ differ (rowid x) (rowid y) = ap₂ differ (same_id x has_x) (same_id y has_y) in
@@ -105,7 +113,7 @@ module _ (schema : Schema) (old new : Trees) (table : Table) (turn : Row → Row
         | inl same ↦
             let was : Has (old table.tree) parent.0 = subst (λ n. Has (old n) parent.0) same parent.1 in
             some_from (λ p. agree key.2 key.1 p ref.columns row) (new key.0) (turn parent.0) (subst (λ n. Has (new n) (turn parent.0)) (sym same) (stands parent.0 was))
-            (agree_left key.2 key.1 ref.columns (turn parent.0) parent.0 row (λ p among. fit.keys parent.0 was p (key_of_reference schema table t ref key p listed known is same among)) ∙ parent.2)
+            (agree_left key.2 key.1 ref.columns (turn parent.0) parent.0 row (λ p among. all_has (λ q. column (turn parent.0) q ≡ column parent.0 q) (key_places schema table) p (fit.keys parent.0 was) (key_of_reference schema table t ref key p listed known is same among)) ∙ parent.2)
         | inr other ↦
             let u = parent_is_table schema.tables ref key is in
             let rows : new key.0 ≡ old key.0 = ap new (sym u.2) ∙ only.others u.0 u.1 (λ e. other (sym u.2 ∙ e)) ∙ ap old u.2 in some_from _ (new key.0) parent.0 (subst (λ l. Has l parent.0) (sym rows) parent.1) parent.2

@@ -27,7 +27,7 @@ use Rattle.plain_tables.specs.Tables.{Tables, RunRow, GroupRow}
 use Rattle.store_schema.specs.Schema.{schema_two, to, grp_at, member_at}
 use Rattle.store_schema.specs.Tables.{Holds, contents_of, run_columns, group_columns, member_columns, number}
 use Rattle.table_changes.specs.Changes.{IsOneOf, OnlyChanges}
-use Rattle.table_changes.proofs.Contents.{Lined, line_of, row_of_line}
+use Rattle.table_changes.proofs.Contents.{Lined, line_of, lined_content, row_of_line}
 
 -- ---- the tables
 
@@ -96,6 +96,12 @@ module _ (t : Tables) (db : Trees) (was : Holds t db) where
 
   pub members_there : IsContent member_at (map member_columns t.members) (db 21)
   members_there = content_there schema_two.tables (contents_of t) db 9 member_at refl was.contain.contents_are
+
+  pub groups_lined : Lined grp_at group_columns (db 19) t.groups
+  groups_lined = lined_content grp_at group_columns (db 19) t.groups groups_there
+
+  pub members_lined : Lined member_at member_columns (db 21) t.members
+  members_lined = lined_content member_at member_columns (db 21) t.members members_there
 
 -- a run among these is the parent of a row with its number
 pub run_parent : (next : Trees) (runs : List RunRow) → next 1 ≡ map run_columns runs → (n place : ℕ) (ref : Reference) → parent_key schema_two.tables ref ≡ Some (1, 0 ∷ [], plain) → ref.columns ≡ place ∷ []

@@ -1,5 +1,6 @@
 -- A database that obeys its schema still does once a table lost rows that no row refers to.
-use Rattle.std.proofs.Common.{◌≡◌, ◌≢◌, ◌==◌, eqb, true, false, Bool, filter, Option, Some, None, refl, sym, ap, subst, inl, inr, ◌∙◌}
+use Rattle.std.proofs.Common.{◌≡◌, ◌≢◌, ◌==◌, eqb, true, false, not, Bool, filter, Option, Some, None, refl, sym, ap, subst, inl, inr, ◌∙◌}
+use Rattle.std.specs.List.{list_all}
 use Rattle.std.proofs.lemmas.Bool.{and_from, and_parts, both_ways, cases_eq, cases_Bool, eq-eqb, false_from_ne_true, not-true, not_from_false, or_cases, or_left, or_right}
 use Rattle.sqlite_value.specs.Order.{Row}
 use Rattle.sqlite_trees.specs.Tree.{Trees}
@@ -11,7 +12,7 @@ use Rattle.sqlite_schema.specs.declared.schema.Schema.{Schema}
 use Rattle.sqlite_schema.specs.declared.schema.Table.{Table}
 use Rattle.sqlite_schema.specs.Rules.{ParentKey, guards, has_null, has_parent, is_held, parent_key, passes}
 use Rattle.sqlite_rules.specs.Lists.{Has}
-use Rattle.sqlite_rules.proofs.ListLemmas.{all_has, has_filtered, some_from, some_has, test_from, test_has}
+use Rattle.sqlite_rules.proofs.ListLemmas.{all_from, all_has, has_filtered, some_from, some_has, test_from, test_has}
 use Rattle.sqlite_rules.proofs.RuleLemmas.{keeps_at, keeps_from, obeyed, parent_is_table, refers_at, refers_from}
 use Rattle.sqlite_catalog.specs.Listing.{IsSound, Lists}
 use Rattle.table_changes.specs.Changes.{OnlyChanges, StillRefer, Where, is_to}
@@ -19,6 +20,15 @@ use Rattle.table_changes.specs.Changes.{OnlyChanges, StillRefer, Where, is_to}
 where_true : (b : Bool) (P : Type 0) → Where b P → b ≡ true → P
 where_true true P h is = h
 where_true false P h is = absurd cc
+
+where_false : (b : Bool) (P : Type 0) → not b ≡ true → Where b P
+where_false true P h = absurd cc
+where_false false P h = tt
+
+-- nothing refers to the table
+pub still_unreferred : (schema : Schema) (new : Trees) (table : Table) → list_all (λ t. list_all (λ ref. not (is_to table.tree (parent_key schema.tables ref))) t.references) schema.tables ≡ true → StillRefer schema new table
+still_unreferred schema new table none = all_from _ schema.tables (λ t listed. all_from _ t.references (λ ref known.
+    where_false (is_to table.tree (parent_key schema.tables ref)) _ (test_has _ t.references ref (test_has _ schema.tables t none listed) known)))
 
 module _ (schema : Schema) (old new : Trees) (table : Table) (only : OnlyChanges schema old new table) (fewer : (row : Row) → Has (new table.tree) row → Has (old table.tree) row) where
   was : (t : Table) (row : Row) → Has schema.tables t → Has (new t.tree) row → Has (old t.tree) row

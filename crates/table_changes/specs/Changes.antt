@@ -1,6 +1,6 @@
 -- One table of a database changes, its indexes with it, and nothing else; and what its rows have to be then.
-use Rattle.std.specs.Prelude.{◌≡◌, ◌≢◌, ℕ, Bool, true, false, ◌||◌, ◌==◌, if◌then◌else◌, ⊤, List, Option, Some, None}
-use Rattle.std.specs.List.{AllByRecursion, list_any}
+use Rattle.std.specs.Prelude.{◌≡◌, ◌≢◌, ℕ, Bool, true, false, ◌==◌, if◌then◌else◌, ⊤, List, [], ◌∷◌, ◌++◌, Option, Some, None}
+use Rattle.std.specs.List.{AllByRecursion, flat_map}
 use Rattle.sqlite_value.specs.Order.{Row, column}
 use Rattle.sqlite_trees.specs.Objects.{catalog_tree}
 use Rattle.sqlite_trees.specs.Tree.{Trees, IsAscending}
@@ -49,22 +49,19 @@ StillRefer schema new table = AllByRecursion (λ t. AllByRecursion (λ ref.
 
 -- ---- rows replaced
 
-abbrev pub has_place : List ℕ → ℕ → Bool
-has_place places place = list_any (λ p. p == place) places
+abbrev pub places_at : ℕ → Option ParentKey → List ℕ
+places_at tree None = []
+places_at tree (Some key) = if key.0 == tree then key.1 else []
 
-abbrev pub points_at : ℕ → ℕ → Option ParentKey → Bool
-points_at tree place None = false
-points_at tree place (Some key) = if key.0 == tree then has_place key.1 place else false
-
--- the rowid, a unique index of the table or a reference to the table reads the place
-abbrev pub is_key_place : Schema → Table → ℕ → Bool
-is_key_place schema table place =
-    (place == 0)
-    || (list_any (λ i. if guards i table then has_place i.columns place else false) schema.indexes
-    || list_any (λ t. list_any (λ ref. points_at table.tree place (parent_key schema.tables ref)) t.references) schema.tables)
+-- the places that the rowid, the unique indexes of the table and the references to it read
+abbrev pub key_places : Schema → Table → List ℕ
+key_places schema table =
+    0
+    ∷ (flat_map (λ i. if guards i table then i.columns else []) schema.indexes
+    ++ flat_map (λ t. flat_map (λ ref. places_at table.tree (parent_key schema.tables ref)) t.references) schema.tables)
 
 -- the rows are such as `AreFit` asks, and each has the keys of the row in whose place it stands
 pub record AreReplaced (schema : Schema) (old new : Trees) (table : Table) (turn : Row → Row) : Type 0 where
   pub alone : PassAlone table (new table.tree)
-  pub keys : (row : Row) → Has (old table.tree) row → (place : ℕ) → is_key_place schema table place ≡ true → column (turn row) place ≡ column row place
+  pub keys : (row : Row) → Has (old table.tree) row → AllByRecursion (λ place. column (turn row) place ≡ column row place) (key_places schema table)
   pub parents : have_parents All schema.tables new table.references (new table.tree) ≡ true
