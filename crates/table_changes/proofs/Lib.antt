@@ -3,6 +3,8 @@ pub mod Contents
 pub mod Groups
 pub mod Keys
 pub mod Members
+pub mod OneRow
+pub mod Only
 pub mod References
 pub mod Replaced
 pub mod Store

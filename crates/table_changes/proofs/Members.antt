@@ -87,3 +87,18 @@ module _ (t : Tables) (db next : Trees) (was : Holds t db) (only : OnlyChanges s
             (content_of member_at member_columns (next 21) (filter kept t.members) shaped (subst (λ l. Lined member_at member_columns l (filter kept t.members)) (sym left) lines)) was.contain;
         below = was.below;
       }
+
+  pub member_taken_out : (keep : Row → Bool) (name : List ℕ) (n : ℕ) → next member_at.tree ≡ filter keep (db member_at.tree)
+      → ((id : ℤ) (m : MemberRow) → Has (db member_at.tree) (Int id ∷ member_columns m) → keep (Int id ∷ member_columns m) ≡ not (is_member name n m)) → Holds (without_member name n t) next
+  member_taken_out keep name n left same = members_filtered keep (λ m. not (is_member name n m)) left same
+
+  -- all members of a group
+  pub members_of_group_taken_out : (keep : Row → Bool) (name : List ℕ) → next member_at.tree ≡ filter keep (db member_at.tree)
+      → ((id : ℤ) (m : MemberRow) → Has (db member_at.tree) (Int id ∷ member_columns m) → keep (Int id ∷ member_columns m) ≡ not (bytes_eq m.group name))
+      → Holds (record t { members = filter (λ (m : MemberRow). not (bytes_eq m.group name)) t.members }) next
+  members_of_group_taken_out keep name left same = members_filtered keep (λ m. not (bytes_eq m.group name)) left same
+
+  -- all members that are a run
+  pub members_of_run_taken_out : (keep : Row → Bool) (n : ℕ) → next member_at.tree ≡ filter keep (db member_at.tree) → ((id : ℤ) (m : MemberRow) → Has (db member_at.tree) (Int id ∷ member_columns m) → keep (Int id ∷ member_columns m) ≡ not (m.run == n))
+      → Holds (record t { members = filter (λ (m : MemberRow). not (m.run == n)) t.members }) next
+  members_of_run_taken_out keep n left same = members_filtered keep (λ m. not (m.run == n)) left same

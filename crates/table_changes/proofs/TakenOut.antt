@@ -17,7 +17,7 @@ use Rattle.sqlite_rules.proofs.RuleLemmas.{keeps_at, keeps_from, obeyed, parent_
 use Rattle.sqlite_catalog.specs.Listing.{IsSound, Lists}
 use Rattle.table_changes.specs.Changes.{OnlyChanges, StillRefer, Where, is_to}
 
-where_true : (b : Bool) (P : Type 0) → Where b P → b ≡ true → P
+pub where_true : (b : Bool) (P : Type 0) → Where b P → b ≡ true → P
 where_true true P h is = h
 where_true false P h is = absurd cc
 

@@ -1,6 +1,6 @@
 -- One table of a database changes, its indexes with it, and nothing else; and what its rows have to be then.
 use Rattle.std.specs.Prelude.{◌≡◌, ◌≢◌, ℕ, Bool, true, false, ◌==◌, if◌then◌else◌, ⊤, List, [], ◌∷◌, ◌++◌, Option, Some, None}
-use Rattle.std.specs.List.{AllByRecursion, flat_map}
+use Rattle.std.specs.List.{AllByRecursion, flat_map, list_any}
 use Rattle.sqlite_value.specs.Order.{Row, column}
 use Rattle.sqlite_trees.specs.Objects.{catalog_tree}
 use Rattle.sqlite_trees.specs.Tree.{Trees, IsAscending}
@@ -23,6 +23,10 @@ pub record OnlyChanges (schema : Schema) (old new : Trees) (table : Table) : Typ
   pub list_stays : new catalog_tree ≡ old catalog_tree
   pub others : (t : Table) → Has schema.tables t → t.tree ≢ table.tree → new t.tree ≡ old t.tree
   pub indexed : AllByRecursion (λ i. IsIndexOf i.columns (new i.table) (new i.tree)) schema.indexes
+
+-- each other tree is as it was
+abbrev pub SparesBut : List ℕ → Trees → Trees → Type 0
+SparesBut trees old new = (tree : ℕ) → list_any (λ changed. changed == tree) trees ≡ false → new tree ≡ old tree
 
 -- ---- rows put behind the others
 
