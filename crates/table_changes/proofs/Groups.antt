@@ -51,10 +51,10 @@ key_columns : (old new : Row) → column new 0 ≡ column old 0 → column new 1
 unfolding everything
 key_columns old new id name = (id, (name, (name, tt)))
 
-abbrev name_of : GroupRow → List ℕ
+abbrev pub name_of : GroupRow → List ℕ
 name_of g = g.name
 
-abbrev baseline_in : GroupRow → Option ℕ
+abbrev pub baseline_in : GroupRow → Option ℕ
 baseline_in g = g.baseline
 
 module _ (t : Tables) (db next : Trees) (was : Holds t db) where

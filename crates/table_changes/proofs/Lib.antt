@@ -3,6 +3,7 @@ pub mod Contents
 pub mod Groups
 pub mod Keys
 pub mod Members
+pub mod OneLine
 pub mod OneRow
 pub mod Only
 pub mod References
