@@ -1,3 +1,5 @@
+pub mod Causes
+pub mod Editing
 mod Opened
 mod Props
 pub mod Reading

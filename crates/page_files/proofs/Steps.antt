@@ -9,22 +9,28 @@ use Rattle.sqlite_pool.specs.File.{version_in, in_use, IsSoundFile, SameButHeade
 use Rattle.sqlite_pool.specs.Pool.{state, usable, version_of, IsClean}
 use Rattle.sqlite_pool.proofs.StateLemmas.{settled}
 use Rattle.sqlite_wal.proofs.LogLemmas.{SeenMayStay}
-use Rattle.sqlite_pool.specs.Stored.{Keeps, LeavesOnly, Recovers}
-use Rattle.sqlite_pool.specs.StoredLaws.{LeavesOnly-keeps, carried}
+use Rattle.sqlite_wal.proofs.StateLemmas.{open_from}
+use Rattle.sqlite_pool.specs.Stored.{Keeps, LeavesOnly, Recovers, RecoversAs}
+use Rattle.sqlite_pool.specs.StoredLaws.{carried}
 use Rattle.sqlite_pool.specs.Commit.{MayCommitUsable}
 use Rattle.sqlite_wal.specs.Recovery.{AreWhole}
 use Rattle.sqlite_value.specs.Order.{Row}
 use Rattle.sqlite_store.specs.declared.catalog.Wanted.{Wanted}
-use Rattle.sqlite_store.specs.Db.{rows_at, Edits}
+use Rattle.sqlite_store.specs.Db.{rows_at, roots_of, Edits, Names}
 use Rattle.sqlite_store.specs.Exact.{IsExact, IsNumberedDb}
 use Rattle.sqlite_store.specs.Listing.{all_trees}
 use Rattle.sqlite_store.proofs.DbLemmas.{resealed}
 use Rattle.sqlite_store.proofs.ListingLemmas.{edited_all, past_version, same_trees}
+use Rattle.sqlite_trees.specs.declared.store.Shape.{Shape}
 use Rattle.sqlite_trees.specs.declared.store.Shape.TheVariants.{Table}
 use Rattle.sqlite_trees.specs.Objects.{with_version, version_tree}
 use Rattle.sqlite_trees.specs.Tree.{Trees, with_tree}
-use Rattle.page_files.specs.Held.{Begins, Has, IsBehind, Rests, Writes}
+use Rattle.page_files.specs.declared.files.PageFile.{PageFile}
+use Rattle.page_files.specs.Files.{page_size, pages_of, IsFaithful, IsUsable, OnlyReads}
+use Rattle.page_files.specs.Held.{Has, IsBehind, Rests, StandsOn, Writes}
+use Rattle.page_files.specs.Writes.{CommitsAtMost, Forgets, IsTreeAt}
 use Rattle.page_files.proofs.Props.{sound_of, file_of}
+use Rattle.page_files.proofs.Reading.{behind_after}
 
 -- a tree below the version's is set beside it
 past : (trees : Trees) (version t : ℕ) (rows : List Row) → t < 2 ^ 32 → with_version (with_tree trees t rows) version ≡ with_tree (with_version trees version) t rows
@@ -47,109 +53,148 @@ sealed {size} {wanted} {roots} {used} pages version n whole sound same is =
       reads = ap₂ with_version (sym (same_trees size wanted used (in_use size pages) r.2)) (sym is);
     }
 
-module _ {D : Type 0} {g : Ghosts D} {old new : Pool D g} {wanted : List Wanted} where
-  pub behind_along : {was : Trees} → Keeps (state old) (state new) → IsBehind wanted was old → IsBehind wanted was new
-  behind_along {was} k b = record {
-    has = λ is_open. subst₂ (λ n p. Has n wanted was p) (sym k.stays.size) (sym (k.committed is_open)) (b.has (k.stays.was_open is_open));
-    left = subst (λ n. LeavesOnly (state new) (Has n wanted was)) (sym k.stays.size) (LeavesOnly-keeps (state old) (state new) (Has (state old).page_size wanted was) k b.left);
+module _ {D : Type 0} {g : Ghosts D} where
+  -- what is below a transaction stays
+  pub stands_on_along : (old new : PageFile D g) {wanted : List Wanted} {roots : List ℕ} {was : Trees} → Keeps (state old.pool) (state new.pool) → StandsOn wanted roots was old → StandsOn wanted roots was new
+  stands_on_along old new {wanted} k s = record {
+    behind = behind_after old new k s.behind;
+    known = λ is_open. s.known (k.stays.was_open is_open) ∙ ap₂ (λ n p. roots_of n wanted (in_use n p)) (sym k.stays.size) (sym (k.committed is_open));
   }
 
-  -- one tree was edited
-  pub edited : {roots : List ℕ} {was now : Trees} {t : ℕ} (edit : List Row → List Row) → Keeps (state old) (state new) → IsTrue (state new).is_open → Writes wanted roots was now old → t < 2 ^ 32
-      → Edits (state old).page_size wanted (usable old) (usable new) t edit → Writes wanted roots was (with_tree now t (edit (now t))) new
-  edited {roots} {was} {now} {t} edit k is_open w low e =
-      let size = (state old).page_size in
-      let trees = all_trees size wanted (usable old) in
-      let version = version_in (state old).committed in
-      let here : now t ≡ trees t = ap (λ f. f t) w.reads ∙ past_version t low trees version in
-      let after = edited_all t low size wanted (usable old) (usable new) edit e.trees in
-      let numbered : IsNumberedDb size wanted roots (usable new) = record { db = e.db; known = w.numbered.known ∙ sym e.roots; exact = subst (IsExact wanted roots) (sym e.listed) w.numbered.exact } in
+  -- between transactions the file stands on what it holds
+  pub stands_on : (it : PageFile D g) {wanted : List Wanted} {roots : List ℕ} {db : Trees} → Rests wanted roots db it → StandsOn wanted roots db it
+  stands_on it r = record { behind = r.behind; known = λ _. r.known }
+
+  -- a transaction begins
+  pub begins : (it : PageFile D g) {wanted : List Wanted} {roots : List ℕ} {db : Trees} → Rests wanted roots db it → Writes wanted roots db db it
+  begins it {wanted} {roots} {db} r =
+      let size = page_size it in
+      let pages = (state it.pool).committed in
+      let has = r.behind.has r.clean.is_open in
+      let used = in_use size pages in
+      let fresh = r.clean.fresh in
+      let numbered : IsNumberedDb size wanted roots used = record { db = has.ours.file.db; known = r.known; exact = subst (λ l. IsExact wanted l (rows_at size used Table 1)) (sym r.known) (has.ours.numbered refl) } in
       record {
-        is_open = is_open;
-        behind = behind_along k w.behind;
-        numbered = subst (λ n. IsNumberedDb n wanted roots (usable new)) (sym k.stays.size) numbered;
-        reads = ap₂ (λ f rows. with_tree f t (edit rows)) w.reads here ∙ sym (past trees version t (edit (trees t)) low) ∙ ap (λ f. with_version f version) (sym after)
-            ∙ ap₂ (λ n p. with_version (all_trees n wanted (usable new)) (version_in p)) (sym k.stays.size) (sym (k.committed is_open));
+        is_open = r.clean.is_open;
+        below = stands_on it r;
+        numbered = subst (IsNumberedDb size wanted roots) (sym fresh) numbered;
+        reads = has.reads ∙ ap (λ u. with_version (all_trees size wanted u) (version_in pages)) (sym fresh);
       }
 
--- it was opened on files of these trees
-pub opened : {D : Type 0} {g : Ghosts D} {size : ℕ} (new : Pool D g) {wanted : List Wanted} {db : Trees} {pages : PageMap} → SeenMayStay g → IsClean new → (state new).page_size ≡ size
-    → (state new).committed ≡ pages → Has size wanted db pages → Rests wanted db new
-opened {size} new {wanted} {db} {pages} stays tidy sized same has =
-    let here : Has (state new).page_size wanted db (state new).committed = subst₂ (λ n p. Has n wanted db p) (sym sized) (sym same) has in
-    record {
-      clean = tidy;
-      behind = record { has = λ _. here; left = λ left may. ((state new).committed, (settled new stays tidy.is_open).durable left may, here) };
-    }
+  -- a call that reads stands in the middle of it
+  pub writes_after : (old new : PageFile D g) {wanted : List Wanted} {roots : List ℕ} {was now : Trees} → OnlyReads old new → IsFaithful new → IsUsable new → Writes wanted roots was now old → Writes wanted roots was now new
+  writes_after old new {wanted} {roots} {was} {now} reads faithful ready w =
+      let is_open = open_from (state new.pool) ready faithful in
+      let size = sym reads.keeps.stays.size in
+      let pages = sym reads.pages in
+      record {
+        is_open = is_open;
+        below = stands_on_along old new reads.keeps w.below;
+        numbered = subst₂ (λ n p. IsNumberedDb n wanted roots p) size pages w.numbered;
+        reads = w.reads ∙ ap₂ (λ n p. with_version (all_trees n wanted p) (version_in (state old.pool).committed)) size pages
+            ∙ ap (λ p. with_version (all_trees (page_size new) wanted (pages_of new)) (version_in p)) (sym (reads.keeps.committed is_open));
+      }
 
-module _ {D : Type 0} {g : Ghosts D} (old new : Pool D g) {wanted : List Wanted} {roots : List ℕ} {was now : Trees} (stays : SeenMayStay g) (w : Writes wanted roots was now old) where
-  -- what was seen is committed
-  pub committed : (state new).page_size ≡ (state old).page_size → IsClean new → SameButHeader (usable old) (usable new) → version_in (state new).committed ≡ version_in (state old).committed
-      → Rests wanted now new
-  committed sized tidy same version =
-      let it = state new in
-      let size = (state old).page_size in
-      let calm = settled new stays tidy.is_open in
-      let pages = it.committed in
-      let whole = subst (λ n. AreWhole n pages) sized calm.whole in
-      let sound = subst (λ n. IsSoundFile n pages) sized (sound_of tidy.sound) in
-      let fresh : usable new ≡ in_use size pages = tidy.fresh ∙ ap (λ n. in_use n pages) sized in
-      let has = sealed pages (version_in (state old).committed) w.numbered whole sound (subst (SameButHeader (usable old)) fresh same) version in
-      opened new stays tidy sized refl (subst (λ db. Has size wanted db pages) (sym w.reads) has)
+  module _ (old new : PageFile D g) {wanted : List Wanted} {roots : List ℕ} {was now : Trees} {t : ℕ} where
+    -- the tree is named to the calls below
+    pub names : {shape : Shape} {root : ℕ} → Writes wanted roots was now old → IsTreeAt wanted roots t shape root → Names (page_size old) wanted (pages_of old) t shape root
+    names {shape} {root} w is = record { shape_is = is.shape_is; root_is = subst (λ l. Rattle.std.specs.Prelude.slice_index l t ≡ root) w.numbered.known is.root_is }
+
+    -- one tree was edited
+    pub edited : (edit : List Row → List Row) → Keeps (state old.pool) (state new.pool) → IsTrue (state new.pool).is_open → Writes wanted roots was now old → t < 2 ^ 32
+        → Edits (page_size old) wanted (pages_of old) (pages_of new) t edit → Writes wanted roots was (with_tree now t (edit (now t))) new
+    edited edit k is_open w low e =
+        let size = page_size old in
+        let trees = all_trees size wanted (pages_of old) in
+        let version = version_in (state old.pool).committed in
+        let here : now t ≡ trees t = ap (λ f. f t) w.reads ∙ past_version t low trees version in
+        let after = edited_all t low size wanted (pages_of old) (pages_of new) edit e.trees in
+        let numbered : IsNumberedDb size wanted roots (pages_of new) = record { db = e.db; known = w.numbered.known ∙ sym e.roots; exact = subst (IsExact wanted roots) (sym e.listed) w.numbered.exact } in
+        record {
+          is_open = is_open;
+          below = stands_on_along old new k w.below;
+          numbered = subst (λ n. IsNumberedDb n wanted roots (pages_of new)) (sym k.stays.size) numbered;
+          reads = ap₂ (λ f rows. with_tree f t (edit rows)) w.reads here ∙ sym (past trees version t (edit (trees t)) low) ∙ ap (λ f. with_version f version) (sym after)
+              ∙ ap₂ (λ n p. with_version (all_trees n wanted (pages_of new)) (version_in p)) (sym k.stays.size) (sym (k.committed is_open));
+        }
+
+  -- it was opened on files of these trees, or has committed them
+  held : (new : PageFile D g) {wanted : List Wanted} {db : Trees} → SeenMayStay g → IsTrue (state new.pool).is_open → Has (page_size new) wanted db (state new.pool).committed → IsBehind wanted db new
+  held new stays is_open here = record { has = λ _. here; left = λ left may. ((state new.pool).committed, (settled new.pool stays is_open).durable left may, here) }
+
+  -- what was written is forgotten
+  pub rests_again : (old new : PageFile D g) {wanted : List Wanted} {roots : List ℕ} {was : Trees} → SeenMayStay g → IsTrue (state old.pool).is_open → page_size new ≡ page_size old → Forgets old new
+      → StandsOn wanted roots was old → Rests wanted roots was new
+  rests_again old new {wanted} {roots} {was} stays was_open sized f s =
+      let size = sym sized in
+      let same = sym f.committed in
+      record {
+        clean = f.clean;
+        behind = held new stays f.clean.is_open (subst₂ (λ n p. Has n wanted was p) size same (s.behind.has was_open));
+        known = s.known was_open ∙ ap₂ (λ n p. roots_of n wanted (in_use n p)) size same;
+      }
+
+  module _ (old new : PageFile D g) (stays : SeenMayStay g) {wanted : List Wanted} {roots : List ℕ} {was now : Trees} (w : Writes wanted roots was now old) where
+    -- what was seen is committed
+    pub committed : page_size new ≡ page_size old → IsClean new.pool → SameButHeader (pages_of old) (pages_of new) → version_in (state new.pool).committed ≡ version_in (state old.pool).committed
+        → Rests wanted roots now new
+    committed sized tidy same version =
+        let size = page_size old in
+        let calm = settled new.pool stays tidy.is_open in
+        let pages = (state new.pool).committed in
+        let whole = subst (λ n. AreWhole n pages) sized calm.whole in
+        let sound = subst (λ n. IsSoundFile n pages) sized (sound_of tidy.sound) in
+        let fresh : pages_of new ≡ in_use size pages = tidy.fresh ∙ ap (λ n. in_use n pages) sized in
+        let under = subst (SameButHeader (pages_of old)) fresh same in
+        let has = sealed pages (version_in (state old.pool).committed) w.numbered whole sound under version in
+        let here = subst₂ (λ n db. Has n wanted db pages) (sym sized) (sym w.reads) has in
+        record {
+          clean = tidy;
+          behind = held new stays tidy.is_open here;
+          known = w.numbered.known ∙ sym (resealed w.numbered.db (in_use size pages) under).1 ∙ ap (λ n. roots_of n wanted (in_use n pages)) (sym sized);
+        }
 
   -- a crash leaves what was there, or what was seen
-  pub may_commit : (mid : Pool D g) → Keeps (state old) (state mid) → usable mid ≡ usable old → version_of mid ≡ version_in (state old).committed → MayCommitUsable mid new
-      → LeavesOnly (state new) (λ pages. Has (state old).page_size wanted was pages ⊎ Has (state old).page_size wanted now pages)
-  may_commit mid k same version m image may =
-      let size = (state old).page_size in
+  pub may_commit : (old new : PageFile D g) (mid : Pool D g) → Keeps (state old.pool) (state mid) → usable mid ≡ pages_of old
+      → (IsTrue (state old.pool).is_open → version_of mid ≡ version_in (state old.pool).committed) → MayCommitUsable mid new.pool → CommitsAtMost old new
+  may_commit old new mid k same version m image may =
+      let size = page_size old in
       let sized : (state mid).page_size ≡ size = k.stays.size in
-      let later : (state new).page_size ≡ size = m.stays.size ∙ sized in
       elim (m.crash image may) [
         | inl kept ↦
-            let found = (behind_along k w.behind).left kept.0 kept.1 in
-            (found.0, subst (λ n. Recovers n image found.0) (sym m.stays.size) (carried (state mid).page_size kept.0 image kept.2 found.0 found.1), inl (subst (λ n. Has n wanted was found.0) sized found.2))
+            let first = k.crash kept.0 kept.1 in
+            inl (first.0, first.1, λ stored found. subst (λ n. RecoversAs n kept.0 image) sized kept.2 stored (first.2 stored found))
         | inr made ↦
             let pages = made.1.0 in
-            let file = file_of made.1.2 in
-            let has = sealed pages (version_in (state old).committed) w.numbered (subst (λ n. AreWhole n pages) sized file.whole) (subst (λ n. IsSoundFile n pages) sized file.sound)
-            (subst₂ (λ u n. SameButHeader u (in_use n pages)) same sized file.same) (made.1.4 ∙ version) in
-            (pages, subst (λ n. Recovers n image pages) (sym m.stays.size) made.1.1, inr (subst (λ db. Has size wanted db pages) (sym w.reads) has))
+            inr (
+              pages,
+              subst (λ n. Recovers n image pages) sized made.1.1,
+              λ wanted roots was now w.
+                  let file = file_of made.1.2 in
+                  let has = sealed pages (version_in (state old.pool).committed) w.numbered (subst (λ n. AreWhole n pages) sized file.whole) (subst (λ n. IsSoundFile n pages) sized file.sound)
+                  (subst₂ (λ u n. SameButHeader u (in_use n pages)) same sized file.same) (made.1.4 ∙ version w.is_open) in
+                  subst (λ db. Has size wanted db pages) (sym w.reads) has,
+            )
       ]
 
--- the commit failed, and the file is still open
-pub uncommitted : {D : Type 0} {g : Ghosts D} (old new : Pool D g) {wanted : List Wanted} {was : Trees} → SeenMayStay g → IsBehind wanted was old → IsTrue (state old).is_open → IsTrue (state new).is_open
-    → (state new).page_size ≡ (state old).page_size → (state new).committed ≡ (state old).committed → IsBehind wanted was new
-uncommitted old new {wanted} {was} stays b was_open is_open sized same =
-    let here : Has (state new).page_size wanted was (state new).committed = subst₂ (λ n p. Has n wanted was p) (sym sized) (sym same) (b.has was_open) in
-    record { has = λ _. here; left = λ left may. ((state new).committed, (settled new stays is_open).durable left may, here) }
+  -- the same, once what is left to write was forgotten
+  pub may_commit_then : (old mid new : PageFile D g) → Keeps (state mid.pool) (state new.pool) → page_size mid ≡ page_size old → CommitsAtMost old mid → CommitsAtMost old new
+  may_commit_then old mid new k sized c image may =
+      let (middle, in_mid, later) = k.crash image may in
+      let along = subst (λ n. RecoversAs n middle image) sized later in
+      elim (c middle in_mid) [
+        | inl was ↦ inl (was.0, was.1, λ stored found. along stored (was.2 stored found))
+        | inr made ↦ inr (made.0, carried (page_size old) middle image along made.0 made.1, made.2)
+      ]
 
--- a transaction begins
-pub begins : {D : Type 0} {g : Ghosts D} (it : Pool D g) {wanted : List Wanted} {roots : List ℕ} {db : Trees} → Begins wanted roots db it → Writes wanted roots db db it
-begins it {wanted} {roots} {db} b =
-    let size = (state it).page_size in
-    let pages = (state it).committed in
-    let has = b.rests.behind.has b.rests.clean.is_open in
-    let used = in_use size pages in
-    let fresh = b.rests.clean.fresh in
-    let numbered : IsNumberedDb size wanted roots used = record { db = has.ours.file.db; known = b.known; exact = subst (λ r. IsExact wanted r (rows_at size used Table 1)) (sym b.known) (has.ours.numbered refl) } in
-    record {
-      is_open = b.rests.clean.is_open;
-      behind = b.rests.behind;
-      numbered = subst (IsNumberedDb size wanted roots) (sym fresh) numbered;
-      reads = has.reads ∙ ap (λ u. with_version (all_trees size wanted u) (version_in pages)) (sym fresh);
-    }
-
--- what a crash leaves once the first call failed and was undone
-pub left_of_was : {D : Type 0} {g : Ghosts D} (old mid new : Pool D g) {wanted : List Wanted} {was now : Trees} → Keeps (state old) (state mid) → Keeps (state mid) (state new) → IsBehind wanted was old
-    → LeavesOnly (state new) (λ pages. Has (state old).page_size wanted was pages ⊎ Has (state old).page_size wanted now pages)
-left_of_was old mid new {wanted} {was} j k b image may =
-    let found = (behind_along {old = mid} {new = new} k (behind_along {old = old} {new = mid} j b)).left image may in
-    (found.0, found.1, inl (subst (λ n. Has n wanted was found.0) (k.stays.size ∙ j.stays.size) found.2))
-
--- the same once a commit was made or tried
-pub left_of_both : {D : Type 0} {g : Ghosts D} (old mid made new : Pool D g) {wanted : List Wanted} {was now : Trees} → Keeps (state old) (state mid) → Keeps (state made) (state new)
-    → LeavesOnly (state made) (λ pages. Has (state mid).page_size wanted was pages ⊎ Has (state mid).page_size wanted now pages)
-    → LeavesOnly (state new) (λ pages. Has (state old).page_size wanted was pages ⊎ Has (state old).page_size wanted now pages)
-left_of_both old mid made new {wanted} {was} {now} j k all image may =
-    let found = LeavesOnly-keeps (state made) (state new) (λ pages. Has (state mid).page_size wanted was pages ⊎ Has (state mid).page_size wanted now pages) k all image may in
-    (found.0, found.1, subst (λ n. Has n wanted was found.0 ⊎ Has n wanted now found.0) j.stays.size found.2)
+  -- what a crash leaves of a transaction whose trees are known
+  pub left_of_commit : (old new : PageFile D g) {wanted : List Wanted} {roots : List ℕ} {was now : Trees} → page_size new ≡ page_size old → Writes wanted roots was now old → CommitsAtMost old new
+      → LeavesOnly (state new.pool) (λ pages. Has (page_size old) wanted was pages ⊎ Has (page_size old) wanted now pages)
+  left_of_commit old new {wanted} {roots} {was} {now} sized w c image may =
+      let size = page_size old in
+      elim (c image may) [
+        | inl kept ↦
+            let found = w.below.behind.left kept.0 kept.1 in
+            (found.0, subst (λ n. Recovers n image found.0) (sym sized) (carried size kept.0 image kept.2 found.0 found.1), inl found.2)
+        | inr made ↦ (made.0, subst (λ n. Recovers n image made.0) (sym sized) made.1, inr (made.2 wanted roots was now w))
+      ]

@@ -31,9 +31,14 @@ module _ {D : Type 0} {g : Ghosts D} where
     pub behind : IsBehind wanted db it
     pub known : roots ≡ roots_of (page_size it) wanted (in_use (page_size it) (pools.state it.pool).committed)
 
+  -- whatever is written since, those trees are what is committed and what a crash leaves, under these roots
+  pub record StandsOn (wanted : List Wanted) (roots : List ℕ) (was : Trees) (it : PageFile D g) : Type 0 where
+    pub behind : IsBehind wanted was it
+    pub known : IsTrue (pools.state it.pool).is_open → roots ≡ roots_of (page_size it) wanted (in_use (page_size it) (pools.state it.pool).committed)
+
   -- within one: a crash leaves those trees, and these are seen, under these roots
   pub record Writes (wanted : List Wanted) (roots : List ℕ) (was now : Trees) (it : PageFile D g) : Type 0 where
     pub is_open : IsTrue (pools.state it.pool).is_open
-    pub behind : IsBehind wanted was it
+    pub below : StandsOn wanted roots was it
     pub numbered : IsNumberedDb (page_size it) wanted roots (pages_of it)
     pub reads : now ≡ with_version (all_trees (page_size it) wanted (pages_of it)) (version_in (pools.state it.pool).committed)

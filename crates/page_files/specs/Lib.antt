@@ -1,3 +1,4 @@
 pub mod Files
 pub mod Held
 pub mod Trees
+pub mod Writes

@@ -4,5 +4,7 @@
 
 // A database file that was opened with no check of its pages, and what is read from it.
 mod files;
+// A transaction: rows and entries are written, and committed or undone.
+mod transactions;
 
 pub use files::{NotOpened, PageFile};
