@@ -1,6 +1,3 @@
 mod Opened
-mod Props
 pub mod Reading
-mod Results
 pub mod Standing
-pub mod Steps
