@@ -2,11 +2,13 @@ pub mod Behind
 pub mod Contents
 pub mod Groups
 pub mod Keys
+pub mod Lines
 pub mod Members
 pub mod OneLine
 pub mod OneRow
 pub mod Only
 pub mod References
 pub mod Replaced
+pub mod Runs
 pub mod Store
 pub mod TakenOut
