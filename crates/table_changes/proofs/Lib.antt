@@ -4,6 +4,7 @@ pub mod Groups
 pub mod Keys
 pub mod Lines
 pub mod Members
+pub mod Numbered
 pub mod OfRuns
 pub mod OneLine
 pub mod OneRow
