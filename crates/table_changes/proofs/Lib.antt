@@ -1,5 +1,6 @@
 pub mod Behind
 pub mod Contents
+pub mod Edits
 pub mod Entries
 pub mod Groups
 pub mod Keys
