@@ -1,5 +1,6 @@
 pub mod Behind
 pub mod Contents
+pub mod Distinct
 pub mod Edits
 pub mod Entries
 pub mod Groups
@@ -7,6 +8,7 @@ pub mod Keys
 pub mod Lines
 pub mod Members
 pub mod Numbered
+pub mod NumberedEdits
 pub mod OfRuns
 pub mod OneLine
 pub mod OneRow
@@ -16,3 +18,4 @@ pub mod Replaced
 pub mod Runs
 pub mod Store
 pub mod TakenOut
+pub mod Thinned

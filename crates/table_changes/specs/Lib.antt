@@ -1,3 +1,4 @@
 pub mod Changes
 pub mod Keys
 pub mod Unused
+pub mod Thinned
