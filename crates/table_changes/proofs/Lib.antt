@@ -1,8 +1,10 @@
 pub mod Behind
 pub mod Contents
 pub mod Distinct
+pub mod Drops
 pub mod Edits
 pub mod Entries
+pub mod Fills
 pub mod Groups
 pub mod Keys
 pub mod Lines

@@ -2,3 +2,4 @@ pub mod Changes
 pub mod Keys
 pub mod Unused
 pub mod Thinned
+pub mod Fills
