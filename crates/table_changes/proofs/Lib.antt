@@ -1,4 +1,5 @@
 pub mod Behind
+pub mod Cleared
 pub mod Contents
 pub mod Distinct
 pub mod Drops

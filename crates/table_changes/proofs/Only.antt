@@ -47,6 +47,14 @@ only_from schema table trees old new own sound spared indexed = record {
   ]);
 }
 
+-- one change of a table after another
+pub only_then : (schema : Schema) (table : Table) (old mid new : Trees) → OnlyChanges schema old mid table → OnlyChanges schema mid new table → OnlyChanges schema old new table
+only_then schema table old mid new one two = record {
+  list_stays = two.list_stays ∙ one.list_stays;
+  others = λ t listed other. two.others t listed other ∙ one.others t listed other;
+  indexed = two.indexed;
+}
+
 module _ (db next : Trees) (sound : IsSound schema_two db) where
   pub only_meta : SparesBut (0 ∷ []) db next → OnlyChanges schema_two db next meta_at
   only_meta spared = only_from schema_two meta_at (0 ∷ []) db next (record { list = refl; tables = refl; indexes = refl }) sound spared (tt, (tt, (tt, (tt, (tt, (tt, (tt, (tt, (tt, (tt, (tt, (tt, tt))))))))))))

@@ -1,8 +1,8 @@
 -- What goes before the row of a run goes.
-use Rattle.std.specs.Prelude.{◌≡◌, ℕ, false, ◌==◌}
+use Rattle.std.specs.Prelude.{◌≡◌, ℕ, false, ◌==◌, if◌then◌else◌}
 use Rattle.std.specs.List.{list_any}
-use Rattle.plain_tables.specs.Changes.{has_baseline, without_run}
-use Rattle.plain_tables.specs.Tables.{Tables, EventRow, DerivedRow, CoefRow, CellRow, CallRow, StackRow, MemberRow}
+use Rattle.plain_tables.specs.Changes.{has_baseline, unbased, without_run}
+use Rattle.plain_tables.specs.Tables.{Tables, EventRow, DerivedRow, CoefRow, CellRow, CallRow, StackRow, GroupRow, MemberRow}
 
 -- no line is of the run, and no group has it as a member or as its baseline
 pub record IsUnused (n : ℕ) (t : Tables) : Type 0 where
@@ -18,3 +18,7 @@ pub record IsUnused (n : ℕ) (t : Tables) : Type 0 where
 -- without a run, but for its own row
 abbrev pub but_its_row : ℕ → Tables → Tables
 but_its_row n t = record (without_run n t) { runs = t.runs }
+
+-- a group without the run as its baseline
+abbrev pub cleared : ℕ → GroupRow → GroupRow
+cleared n g = if has_baseline n g then unbased g else g
