@@ -1,5 +1,5 @@
 -- Lines whose entries were sorted and differ have keys that differ.
-use Rattle.std.proofs.Common.{◌≡◌, ◌≢◌, ℕ, ℤ, List, [], ◌∷◌, map, take, Bool, true, false, is_eq, IsPermutation, refl, sym, ap, ap₂, subst, ◌∙◌}
+use Rattle.std.proofs.Common.{◌≡◌, ◌≢◌, ℕ, ℤ, List, [], ◌∷◌, map, take, false, is_eq, refl, sym, ap, ap₂, ◌∙◌}
 use Rattle.std.specs.List.{AllByRecursion, IsDistinct}
 use Rattle.std.specs.Ordering.{ordering_reverse}
 use Rattle.std.specs.declared.cmp.Ordering.{Ordering}
@@ -9,7 +9,7 @@ use Rattle.std.proofs.lemmas.Cmp.{tied_itself}
 use Rattle.std.proofs.lemmas.Map.Keys.{IsDistinct-IsPermutation}
 use Rattle.std.proofs.lemmas.List.Sorted.{IsPermutation-sym}
 use Rattle.sqlite_value.specs.declared.value.Value.{Value}
-use Rattle.sqlite_value.specs.declared.value.Value.TheVariants.{Int, Text, Blob}
+use Rattle.sqlite_value.specs.declared.value.Value.TheVariants.{Int, Blob}
 use Rattle.sqlite_value.specs.Order.{Row, row_cmp}
 use Rattle.sqlite_value.proofs.OrderLemmas.{row_cmp_total}
 use Rattle.sqlite_schema.specs.declared.schema.Table.{Table}
@@ -158,4 +158,3 @@ stack_heads a b x y same =
 
 pub stacks_differ : (rows : List Row) (xs : List StackRow) (es : List Row) → Lined stack_at stack_columns rows xs → IsIndexOf (1 ∷ 2 ∷ []) rows es → HeadsDiffer 2 es → Differ stack_key xs
 stacks_differ = differ_by_entries stack_at stack_columns stack_key (1 ∷ 2 ∷ []) 2 stack_heads
-

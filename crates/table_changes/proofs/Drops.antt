@@ -1,8 +1,6 @@
 -- The rows of a run are taken out of a table and its indexes, one at a time.
-use Rattle.std.proofs.Common.{◌≡◌, ◌≢◌, ℕ, ℤ, List, [], ◌∷◌, ◌++◌, map, filter, Bool, true, false, not, ◌==◌, bytes_eq, IsPermutation, refl, sym, ap, subst, ◌∙◌}
+use Rattle.std.proofs.Common.{◌≡◌, ℕ, List, [], ◌∷◌, filter, false, not, ◌==◌, bytes_eq, ap}
 use Rattle.std.specs.List.{list_any}
-use Rattle.sqlite_value.specs.declared.value.Value.TheVariants.{Int}
-use Rattle.sqlite_value.specs.Order.{Row}
 use Rattle.sqlite_trees.specs.Tree.{Trees}
 use Rattle.sqlite_trees.specs.View.{IsShaped}
 use Rattle.sqlite_trees.specs.declared.store.Shape.TheVariants as shape
@@ -10,12 +8,10 @@ use Rattle.sqlite_sql.specs.Catalog.{IsIndexOf}
 use Rattle.sql_tables.proofs.Rows.{numbers_equal, texts_equal}
 use Rattle.plain_tables.specs.Tables.{Tables, EventRow, DerivedRow, CoefRow, CellRow, CallRow, StackRow, MemberRow}
 use Rattle.sqlite_value.specs.declared.value.Value.TheVariants.{Text}
-use Rattle.store_schema.specs.Schema.{run_event_at, derived_at, coef_at, thread_cell_at, arc_at, stack_at, member_at}
 use Rattle.store_schema.specs.Seen.{is_at}
-use Rattle.store_schema.specs.Tables.{Holds, event_columns, derived_columns, coef_columns, cell_columns, arc_columns, stack_columns, member_columns, number}
+use Rattle.store_schema.specs.Tables.{Holds, number}
 use Rattle.table_changes.specs.Changes.{SparesBut}
 use Rattle.table_changes.specs.Thinned.{AreThinned, is_of_run}
-use Rattle.table_changes.proofs.Lines.{lines_there}
 use Rattle.table_changes.proofs.Members.{members_of_group_taken_out, members_of_run_taken_out}
 use Rattle.table_changes.proofs.Only.{only_calls, only_cells, only_coefs, only_derived, only_events, only_members, only_stacks}
 use Rattle.table_changes.proofs.Runs.{calls_taken_out, cells_taken_out, coefs_taken_out, derived_taken_out, events_taken_out, stacks_taken_out}

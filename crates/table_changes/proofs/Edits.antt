@@ -1,5 +1,5 @@
 -- One edit of a table of groups or members and one of its index, as trees are edited: a row put, deleted or put over another.
-use Rattle.std.proofs.Common.{◌≡◌, ◌≢◌, ℕ, ℤ, List, [], ◌∷◌, ◌++◌, map, filter, Bool, true, false, not, ◌||◌, ◌==◌, if◌then◌else◌, bytes_eq, Less, Option, Some, None, refl, sym, ap, ap₂, subst, ◌∙◌}
+use Rattle.std.proofs.Common.{◌≡◌, ℕ, ℤ, List, [], ◌∷◌, ◌++◌, map, filter, Bool, true, false, not, ◌||◌, ◌==◌, if◌then◌else◌, bytes_eq, Less, Some, refl, sym, ap, subst, ◌∙◌}
 use Rattle.std.specs.List.{AllByRecursion, list_any}
 use Rattle.std.proofs.lemmas.Bool.{or_from, or_parts}
 use Rattle.sqlite_value.specs.declared.value.Value.TheVariants.{Int, Text, Null}
@@ -12,15 +12,14 @@ use Rattle.sqlite_trees.proofs.TreeLemmas.{IsShaped-filter, IsShaped-put_row}
 use Rattle.sqlite_sql.specs.Catalog.{IsIndexOf}
 use Rattle.sqlite_rules.specs.Lists.{Has}
 use Rattle.sql_tables.proofs.Rows.{own_id, put_last}
-use Rattle.plain_tables.specs.Changes.{has_group, has_member, has_run, is_named, rebased, with_baseline, with_group, with_member, without_member}
+use Rattle.plain_tables.specs.Changes.{has_group, has_member, has_run, is_named, joined, rebased, with_baseline, with_group, with_member, without_member}
 use Rattle.plain_tables.specs.Tables.{Tables, GroupRow, MemberRow}
-use Rattle.store_schema.specs.Schema.{schema_two, grp_at, member_at}
 use Rattle.store_schema.specs.Tables.{Holds, group_columns, member_columns, number}
 use Rattle.table_changes.specs.Changes.{SparesBut}
 use Rattle.table_changes.proofs.Entries.{entries_still, entry_put, entry_removed}
 use Rattle.table_changes.proofs.Groups.{group_behind}
 use Rattle.table_changes.proofs.Members.{member_behind}
-use Rattle.table_changes.proofs.OneLine.{baseline_put, group_put, group_removed, member_removed}
+use Rattle.table_changes.proofs.OneLine.{group_put, group_removed, member_removed}
 use Rattle.table_changes.proofs.OneRow.{one_row, put_over, put_replaces}
 use Rattle.table_changes.proofs.Only.{only_groups, only_members}
 use Rattle.table_changes.proofs.Store.{groups_there, members_there}
@@ -86,6 +85,10 @@ module _ (t : Tables) (db next : Trees) (was : Holds t db) where
       let behind : next 21 ≡ db 21 ++ row ∷ [] = rows ∙ put_last row (db 21) above in
       let indexed : IsIndexOf (1 ∷ 2 ∷ []) (next 21) (next 22) = subst (λ l. IsIndexOf (1 ∷ 2 ∷ []) l (next 22)) (sym behind) (subst (IsIndexOf (1 ∷ 2 ∷ []) (db 21 ++ row ∷ [])) (sym entries) (entry_put plain (1 ∷ 2 ∷ []) id (Text name ∷ number n ∷ []) (db 21) (db 22) above members_indexed)) in
       member_behind t db next was (only_members db next was.contain.sound spared indexed) (subst (IsShaped shape.Table) (sym rows) (IsShaped-put_row row (db 21) refl (members_there t db was).numbered)) name n id behind grouped held none
+
+  pub member_joined : (name : List ℕ) (n : ℕ) (id : ℤ) → AreBelow id (db 21) → SparesBut (21 ∷ 22 ∷ []) db next → next 21 ≡ put_row (Int id ∷ Text name ∷ number n ∷ []) (db 21) → next 22 ≡ insert_entry plain (Text name ∷ number n ∷ Int id ∷ []) (db 22)
+      → has_group t name ≡ true → has_run t n ≡ true → has_member t name n ≡ false → Holds (joined name n t) next
+  member_joined name n id above spared rows entries grouped held none = subst (λ b. Holds (if b then t else with_member name n t) next) (sym none) (member_added name n id above spared rows entries grouped held none)
 
   pub member_deleted : (id : ℤ) (m : MemberRow) → Has (db 21) (Int id ∷ member_columns m) → SparesBut (21 ∷ 22 ∷ []) db next → next 21 ≡ without_rowid id (db 21) → next 22 ≡ remove_entry plain (Text m.group ∷ number m.run ∷ Int id ∷ []) (db 22)
       → Holds (without_member m.group m.run t) next

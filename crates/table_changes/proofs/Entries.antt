@@ -1,5 +1,5 @@
 -- An index has an entry for each row after rows were put behind the others, one was taken out, or some were replaced.
-use Rattle.std.proofs.Common.{◌≡◌, ◌≢◌, ℕ, ℤ, List, [], ◌∷◌, ◌++◌, map, filter, Bool, true, false, not, cond, is_eq, Ordering, Less, Equal, Greater, IsPermutation, true≢false, refl, sym, ap, ap₂, subst, inl, inr, ◌∙◌, arith}
+use Rattle.std.proofs.Common.{◌≡◌, ℕ, ℤ, List, [], ◌∷◌, ◌++◌, map, Bool, true, false, not, is_eq, Ordering, Less, Equal, Greater, IsPermutation, true≢false, refl, sym, ap, ap₂, subst, inl, inr, ◌∙◌, arith}
 use Rattle.std.specs.List.{AllByRecursion}
 use Rattle.std.specs.Ordering.{match_ordering, ordering_then}
 use Rattle.std.proofs.lemmas.Cmp.{tied_itself}
@@ -9,8 +9,7 @@ use Rattle.sqlite_value.specs.declared.keys.Order.{Order}
 use Rattle.sqlite_value.specs.Keys.{entry_cmp, first_key, later}
 use Rattle.sqlite_value.specs.Order.{Row, class, column, value_cmp}
 use Rattle.sqlite_value.specs.declared.value.Value.TheVariants.{Int}
-use Rattle.sqlite_value.proofs.KeyLemmas.{class_tied, entry_cmp_total, tied_no_text}
-use Rattle.sqlite_value.proofs.OrderLemmas.{value_cmp_total}
+use Rattle.sqlite_value.proofs.KeyLemmas.{entry_cmp_total, tied_no_text}
 use Rattle.sqlite_trees.specs.Tree.{has_rowid, insert_entry, remove_entry, rowid, without_rowid}
 use Rattle.sqlite_trees.specs.View.{IsShaped}
 use Rattle.sqlite_trees.specs.declared.store.Shape.TheVariants as shape
@@ -19,7 +18,6 @@ use Rattle.sqlite_sql.specs.Catalog.{IsIndexOf, entry_of}
 use Rattle.sqlite_rules.specs.Lists.{Has}
 use Rattle.sqlite_rules.proofs.ListLemmas.{all_from, all_has}
 use Rattle.sqlite_rules.proofs.ProbeLemmas.{has_mapped}
-use Rattle.sql_tables.proofs.Rows.{Numbered, id_is, id_of}
 use Rattle.table_changes.proofs.OneRow.{one_row}
 
 equal : (o : Ordering) → is_eq o ≡ true → o ≡ Equal

@@ -1,6 +1,5 @@
 -- A table and its indexes are filled with the rows of a run that is held and has none yet.
-use Rattle.std.proofs.Common.{◌≡◌, ◌≢◌, ℕ, ℤ, List, [], ◌∷◌, ◌++◌, map, filter, Bool, true, false, not, ◌==◌, IsPermutation, refl, sym, ap, subst, ◌∙◌}
-use Rattle.std.specs.List.{list_any}
+use Rattle.std.proofs.Common.{◌≡◌, ℕ, List, [], ◌∷◌, ◌++◌, map, true, refl, sym, subst}
 use Rattle.std.proofs.lemmas.List.Sorted.{IsPermutation-trans}
 use Rattle.sqlite_value.specs.Order.{Row}
 use Rattle.sqlite_trees.specs.Tree.{Trees}
@@ -14,7 +13,7 @@ use Rattle.store_schema.specs.Schema.{run_event_at, derived_at, coef_at, thread_
 use Rattle.store_schema.specs.Tables.{Holds, event_columns, derived_columns, coef_columns, cell_columns, arc_columns, stack_columns}
 use Rattle.table_changes.specs.Changes.{SparesBut}
 use Rattle.table_changes.specs.Fills.{Fills}
-use Rattle.table_changes.specs.Keys.{AreOfNewRun, HeadsDiffer}
+use Rattle.table_changes.specs.Keys.{AreOfNewRun}
 use Rattle.table_changes.proofs.Contents.{Lined}
 use Rattle.table_changes.proofs.Distinct.{events_differ, event_names_differ, derived_differ, derived_names_differ, coefs_differ, cells_differ, calls_differ, stacks_differ}
 use Rattle.table_changes.proofs.Entries.{entries_behind}
@@ -69,4 +68,3 @@ module _ (t : Tables) (db next : Trees) (was : Holds t db) (n : ℕ) (held : has
       let only = only_stacks db next was.contain.sound spared (filled_index (1 ∷ 2 ∷ []) 2 (db 17) news (db 18) (next 18) (next 17) behind was.contain.sound.obeys.indexed.1.1.1.1.1.1.1.1.0 filled) in
       let lines : Lined stack_at stack_columns news xs = new_lines t db was 7 stack_at stack_columns t.stacks refl refl next refl only shaped news xs behind news_are in
       stacks_of_run t db next was news n held only shaped xs behind news_are of_new (stacks_differ news xs filled.entries lines filled.are_of filled.differ)
-

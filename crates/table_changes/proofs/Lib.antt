@@ -22,3 +22,4 @@ pub mod Runs
 pub mod Store
 pub mod TakenOut
 pub mod Thinned
+pub mod Whole

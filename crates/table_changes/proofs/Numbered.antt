@@ -1,5 +1,5 @@
 -- The tables whose rows are numbered: a run or names behind the others, and the next run's number.
-use Rattle.std.proofs.Common.{◌≡◌, ◌≢◌, ℕ, ℤ, pos, ◌<◌, List, [], ◌∷◌, ◌++◌, map, Bool, true, false, not, ◌==◌, bytes_eq, Option, Some, None, refl, sym, ap, ap₂, subst, inl, inr, ◌∙◌}
+use Rattle.std.proofs.Common.{◌≡◌, ◌≢◌, ℕ, ℤ, pos, ◌<◌, List, [], ◌∷◌, ◌++◌, map, true, false, not, bytes_eq, refl, sym, ap, subst, inl, inr, ◌∙◌}
 use Rattle.std.specs.List.{AllByRecursion, list_any}
 use Rattle.std.proofs.lemmas.Bool.{and_from, both_ways}
 use Rattle.std.proofs.lemmas.Slice.Eq.{bytes_eq-Decides}
@@ -22,9 +22,9 @@ use Rattle.plain_tables.proofs.Lists.{all-append}
 use Rattle.plain_tables.specs.Tables.{Tables, RunRow, NameRow}
 use Rattle.store_schema.specs.Schema.{schema_two, meta_at, run_at, name_at}
 use Rattle.store_schema.specs.Tables.{Holds, contents_of, meta_columns, run_columns, name_columns}
-use Rattle.table_changes.specs.Changes.{AreReplaced, OnlyChanges, key_places}
+use Rattle.table_changes.specs.Changes.{OnlyChanges, key_places}
 use Rattle.table_changes.specs.Keys.{AreNew}
-use Rattle.table_changes.proofs.Contents.{Lined, contain_changed, content_of}
+use Rattle.table_changes.proofs.Contents.{Lined, contain_changed}
 use Rattle.table_changes.proofs.Keys.{agrees_at, blob_is, none_clash}
 use Rattle.table_changes.proofs.Lines.{lines_behind, lines_there, new_lines}
 use Rattle.table_changes.proofs.Replaced.{sound_replaced}

@@ -1,8 +1,8 @@
 -- The rows of a run go behind the others.
-use Rattle.std.proofs.Common.{◌≡◌, ◌≢◌, ℕ, ℤ, List, [], ◌∷◌, ◌++◌, map, Bool, true, false, not, ◌&&◌, ◌==◌, codes, Option, Some, None, refl, sym, ap, ap₂, subst, ◌∙◌}
-use Rattle.std.specs.List.{AllByRecursion, list_all, list_any}
+use Rattle.std.proofs.Common.{◌≡◌, ℕ, ℤ, List, [], ◌∷◌, ◌++◌, map, true, false, not, ◌&&◌, ◌==◌, codes, Option, Some, None, refl, sym, ap, ap₂, subst, ◌∙◌}
+use Rattle.std.specs.List.{list_all}
 use Rattle.std.proofs.lemmas.Bool.{and_from, both_ways, eq-eqb}
-use Rattle.sqlite_value.specs.declared.value.Value.TheVariants.{Int, Text}
+use Rattle.sqlite_value.specs.declared.value.Value.TheVariants.{Int}
 use Rattle.sqlite_value.specs.Keys.{plain}
 use Rattle.sqlite_value.specs.Order.{Row, column}
 use Rattle.sqlite_trees.specs.Tree.{Trees}
@@ -10,18 +10,16 @@ use Rattle.sqlite_trees.specs.View.{IsShaped}
 use Rattle.sqlite_trees.specs.declared.store.Shape.TheVariants as shape
 use Rattle.sqlite_schema.specs.declared.schema.Table.{Table}
 use Rattle.sqlite_schema.specs.Rules.{agree, has_parent}
-use Rattle.sqlite_rules.specs.Lists.{Has}
 use Rattle.sqlite_rules.specs.Steps.{PassAlone, is_typed}
 use Rattle.sqlite_rules.proofs.ListLemmas.{all_from, all_has, some_from, test_from}
 use Rattle.sql_tables.proofs.Deletes.{row_of}
 use Rattle.sql_tables.proofs.Rows.{id_of}
 use Rattle.plain_tables.specs.Changes.{has_run, with_calls, with_cells, with_coefs, with_derived, with_events, with_stacks}
-use Rattle.plain_tables.specs.Lists.{IsAscending}
 use Rattle.plain_tables.specs.Sound.{AreOfRuns}
 use Rattle.plain_tables.specs.Tables.{Tables, EventRow, DerivedRow, CoefRow, CellRow, CallRow, StackRow}
-use Rattle.sql_tables.specs.Contents.{Contain, rows_that_count, with_content}
+use Rattle.sql_tables.specs.Contents.{rows_that_count}
 use Rattle.store_schema.specs.Schema.{schema_two, to, run_at, run_event_at, derived_at, coef_at, thread_cell_at, arc_at, stack_at}
-use Rattle.store_schema.specs.Tables.{Holds, contents_of, event_columns, derived_columns, coef_columns, cell_columns, arc_columns, stack_columns, number, text_or_null}
+use Rattle.store_schema.specs.Tables.{Holds, event_columns, derived_columns, coef_columns, cell_columns, arc_columns, stack_columns, number}
 use Rattle.table_changes.specs.Changes.{OnlyChanges}
 use Rattle.table_changes.specs.Keys.{AreNew, AreOfNewRun, Differ, event_key, event_name_key, derived_key, derived_name_key, coef_key, cell_key, call_key, stack_key}
 use Rattle.table_changes.proofs.Contents.{Lined, line_of}
@@ -209,4 +207,3 @@ module _ (t : Tables) (db next : Trees) (was : Holds t db) (news : List Row) whe
         → AreOfNewRun (λ (x : StackRow). x.run) n t.stacks xs → Differ stack_key xs → Holds (with_stacks xs t) next
     stacks_of_run only shaped xs behind news_are of_new new =
         stacks_behind only shaped xs behind news_are (of_runs (λ (x : StackRow). x.run) n t.stacks xs of_new t held) (new_keys (λ (x : StackRow). x.run) n t.stacks xs of_new stack_key (λ x y same. head_same same) new)
-
