@@ -8,10 +8,10 @@ use Rattle.sqlite_pool.specs.FreeList.{live}
 use Rattle.sqlite_store.specs.declared.catalog.Wanted.{Wanted}
 use Rattle.sqlite_store.specs.Catalog.{shape_at, reals_at}
 use Rattle.sqlite_store.specs.Db.{roots_of, IsDb, IsFile}
-use Rattle.sqlite_store.specs.Listing.{all_trees}
+use Rattle.sqlite_store.specs.Listing.{all_trees, listed_from}
 use Rattle.sqlite_store.proofs.ListingLemmas.{named_tree, past_version}
 use Rattle.sqlite_trees.specs.declared.store.Shape.TheVariants.{Table}
-use Rattle.sqlite_trees.specs.Objects.{with_version}
+use Rattle.sqlite_trees.specs.Objects.{catalog_tree, with_version}
 use Rattle.sqlite_trees.specs.Tree.{Trees}
 use Rattle.page_files.specs.declared.files.PageFile.{PageFile}
 use Rattle.page_files.specs.Files.{page_size, pages_of, OnlyReads}
@@ -54,6 +54,11 @@ module _ {D : Type 0} {g : Ghosts D} where
   -- within one
   pub stands_writing : (it : PageFile D g) {wanted : List Wanted} {known : List ℕ} {was now : Trees} → Writes wanted known was now it → StandsIn wanted known now it
   stands_writing it writes = record { is_db = writes.numbered.db; known_are = writes.numbered.known; version = version_in (pools.state it.pool).committed; reads = writes.reads }
+
+  -- the list of its trees
+  pub catalog_shown : (it : PageFile D g) {wanted : List Wanted} {known : List ℕ} {db : Trees} → StandsIn wanted known db it → db catalog_tree ≡ listed_from 0 wanted
+  unfolding all_trees
+  catalog_shown it stands = ap (λ (trees : Trees). trees catalog_tree) stands.reads
 
   -- calls that read leave it
   pub stands_after : (old new : PageFile D g) {wanted : List Wanted} {known : List ℕ} {db : Trees} → OnlyReads old new → StandsIn wanted known db old → StandsIn wanted known db new

@@ -56,9 +56,7 @@ rise_of (row ∷ rows) table numbered = (all_below row rows numbered.0 numbered.
 
 module _ {D : Type 0} {g : Ghosts D} (file : PageFile D g) (root : ℕ) (rows : List Row) (is : ShowsRows file root rows) where
   shaped : IsShaped Table rows
-  shaped =
-      subst (IsShaped Table) is.rows_are (subst (λ s. IsShaped s (file_trees (page_size file) is.wanted is.pages is.t)) (named_shape is.t is.rooted.low is.wanted ∙ is.rooted.shape)
-      (all_ordered is.is_file.db (version_in is.pages) is.t))
+  shaped = subst (IsShaped Table) is.rows_are (subst (λ s. IsShaped s (trees_of is.wanted file is.t)) is.shows.rooted.shape (ordered is.shows.is_db is.t))
 
   pub shown_numbered : AreNumbered rows
   shown_numbered = shaped.1

@@ -3,7 +3,7 @@ use Rattle.std.proofs.Common.{◌≡◌, ℕ, suc, ◌+◌, pos, List, [], ◌�
 use Rattle.std.specs.List.{AllByRecursion}
 use Rattle.sqlite_value.specs.declared.value.Value.TheVariants.{Int}
 use Rattle.sqlite_value.specs.Order.{Row, column}
-use Rattle.sqlite_trees.specs.Tree.{rowid}
+use Rattle.sqlite_trees.specs.Tree.{Trees, rowid}
 use Rattle.sqlite_trees.specs.Objects.{catalog_tree, listing, number_in, shape_code}
 use Rattle.sqlite_trees.specs.declared.store.Shape.{Shape}
 use Rattle.sqlite_trees.specs.declared.store.Shape.TheVariants as shape
@@ -14,10 +14,9 @@ use Rattle.sqlite_rules.specs.Lists.{Has}
 use Rattle.sqlite_rules.proofs.ListLemmas.{all_has, has_filtered, has_got}
 use Rattle.sqlite_catalog.specs.Listing.{IsSound, IsTableRow, is_table_row}
 use Rattle.sqlite_catalog.proofs.LayoutLemmas.{zipped_left}
-use Rattle.sqlite_pages.specs.PageMap.{PageMap}
 use Rattle.sqlite_store.specs.declared.catalog.Wanted.{Wanted}
 use Rattle.sqlite_store.specs.Catalog.{shape_at, reals_at}
-use Rattle.sqlite_store.specs.Listing.{listed, listed_from, all_trees, file_trees}
+use Rattle.sqlite_store.specs.Listing.{listed, listed_from}
 use Rattle.plain_tables.specs.Tables.{Tables}
 use Rattle.sql_tables.specs.Contents.{IsContent, content_at}
 use Rattle.sql_tables.proofs.Contents.{content_there}
@@ -80,20 +79,15 @@ one_is_table shape.Pageless is = absurd cc
 one_is_table shape.FrozenTable is = absurd cc
 one_is_table (shape.FrozenIndex o) is = let no : ⊥ = omega arith in absurd no
 
--- the list of trees that a file is read as
-catalog_rows : (size : ℕ) (wanted : List Wanted) (pages : PageMap) → file_trees size wanted pages catalog_tree ≡ listed_from 0 wanted
-unfolding all_trees
-catalog_rows size wanted pages = refl
-
 -- ---- the tables of a schema
 
--- a file that lists a schema has each of its tables under its name, where it has no REAL column
-pub table_placed : (schema : Schema) (size : ℕ) (wanted : List Wanted) (pages : PageMap) → IsSound schema (file_trees size wanted pages)
+-- a database that lists a schema has each of its tables under its name, where it has no REAL column
+pub table_placed : (schema : Schema) (wanted : List Wanted) (db : Trees) → db catalog_tree ≡ listed_from 0 wanted → IsSound schema db
     → (at : ℕ) (table : Table) → slice_get schema.tables at ≡ Some table → table_reals table ≡ 0 → IsPlaced wanted table
-table_placed schema size wanted pages sound at table there plain =
-    let rows = file_trees size wanted pages catalog_tree in
+table_placed schema wanted db catalog sound at table there plain =
+    let rows = db catalog_tree in
     let (row, kept, is) = zipped_left IsTableRow _ schema.tables table sound.lists.listed.tables (has_got schema.tables at table there) in
-    let place = listed_at 0 wanted row (subst (λ l. Has l row) (catalog_rows size wanted pages) (has_filtered is_table_row rows row kept).0) in
+    let place = listed_at 0 wanted row (subst (λ l. Has l row) catalog (has_filtered is_table_row rows row kept).0) in
     let id : Int (pos (0 + place.0 + 1)) ≡ Int (pos (table.tree + 1)) = sym place.1.id ∙ is.described.id in
     let number : 0 + place.0 + 1 ≡ table.tree + 1 = cc in
     let tree : place.0 ≡ table.tree = omega arith in
@@ -110,13 +104,9 @@ table_placed schema size wanted pages sound at table there plain =
 no_reals : AllByRecursion (λ (table : Table). table_reals table ≡ 0) schema_two.tables
 no_reals = (refl, (refl, (refl, (refl, (refl, (refl, (refl, (refl, (refl, (refl, (refl, tt)))))))))))
 
-module _ {t : Tables} (size : ℕ) (wanted : List Wanted) (pages : PageMap) (holds : Holds t (file_trees size wanted pages)) (at : ℕ) (table : Table) (there : slice_get schema_two.tables at ≡ Some table) where
-  -- a file that holds tables has each of them under its name
-  pub placed_at : IsPlaced wanted table
-  placed_at =
-      table_placed schema_two size wanted pages holds.contain.sound at table there
-      (all_has (λ (it : Table). table_reals it ≡ 0) schema_two.tables table no_reals (has_got schema_two.tables at table there))
-
-  -- with the rows of its lines
-  pub rows_there : IsContent table (content_at at (contents_of t)) (file_trees size wanted pages table.tree)
-  rows_there = content_there schema_two.tables (contents_of t) (file_trees size wanted pages) at table there holds.contain.contents_are
+-- a database that holds tables has each of them under its name
+pub placed_at : {t : Tables} (wanted : List Wanted) (db : Trees) → db catalog_tree ≡ listed_from 0 wanted → Holds t db → (at : ℕ) (table : Table) → slice_get schema_two.tables at ≡ Some table
+    → IsPlaced wanted table
+placed_at wanted db catalog holds at table there =
+    table_placed schema_two wanted db catalog holds.contain.sound at table there
+    (all_has (λ (it : Table). table_reals it ≡ 0) schema_two.tables table no_reals (has_got schema_two.tables at table there))

@@ -1,22 +1,36 @@
--- What calls leave of a store that is only read.
-use Rattle.std.proofs.Common.{◌≡◌, Bool, true, false, map, refl, sym, subst, ◌∙◌, inl}
+-- What calls that read leave of a store.
+use Rattle.std.proofs.Common.{◌≡◌, ◌⊎◌, Bool, true, false, IsTrue, map, refl, sym, ap₂, subst, ◌∙◌, inl, inr}
+use Rattle.std.proofs.lemmas.Bool.{cases_Bool}
+use Rattle.sqlite_disk.specs.Disk.{MoreFaults}
+use Rattle.sqlite_pages.specs.PageMap.{PageMap}
+use Rattle.sqlite_pool.specs.File.{in_use}
+use Rattle.sqlite_pool.specs.Pool as pools
+use Rattle.sqlite_wal.specs.State.{StaysOrFails}
+use Rattle.sqlite_wal.proofs.StateLemmas.{open_from}
+use Rattle.page_files.specs.declared.files.PageFile.{PageFile}
 use Rattle.sqlite_disk.specs.declared.Disk.{Ghosts}
 use Rattle.sqlite_pool.specs.Stored.{RecoversAs}
 use Rattle.plain_tables.specs.Tables.{Tables, CellRow, CallRow, StackRow}
 use Rattle.run_stores.specs.Calls.{Asked, Changed}
-use Rattle.page_files.specs.Files.{page_size, OnlyReads}
+use Rattle.page_files.specs.Files.{IsUsable, OnlyReads}
+use Rattle.page_files.proofs.Reading.{rests_after}
 use Rattle.run_lists.specs.Listed.{AreListed}
 use Rattle.store_schema.specs.Tables.{name_columns, cell_columns, arc_columns, stack_columns}
-use Rattle.page_runs.specs.Shown.{ShowsLines, ShowsRows}
+use Rattle.page_runs.specs.Shown.{AreRootsIn, ShowsLines, ShowsRows}
 use Rattle.page_runs.specs.declared.roots.Roots.{Roots}
-use Rattle.page_runs.specs.States.{HoldsIn, IsFaithful, Left, ReadsAs, Represents, held_by, may_leave, state_of}
+use Rattle.page_runs.specs.States.{IsFaithful, Left, Represents, ShowsTables, kept, may_leave, state_of}
 use Rattle.page_runs.specs.declared.store.PageRuns.{PageRuns}
-use Rattle.page_runs.proofs.Shows.{OnlyReads-refl, lines_after, shows_after}
+use Rattle.page_files.proofs.Reading.{OnlyReads-refl}
+use Rattle.page_runs.proofs.Shows.{lines_after, shows_after}
 
 module _ {D : Type 0} {g : Ghosts D} where
+  -- it can still be used, or failed for good
+  still_or_failed : (old new : PageFile D g) → StaysOrFails (pools.state old.pool) (pools.state new.pool) → IsUsable old → IsUsable new ⊎ MoreFaults (pools.state old.pool).faults (pools.state new.pool).faults
+  still_or_failed old new stays was = elim (cases_Bool (pools.state new.pool).is_ready) [ inl still ↦ inl still | inr shut ↦ inr (stays.stops was shut) ]
+
   module _ (old new : PageRuns D g) (file : OnlyReads old.file new.file) (lists : new.lists ≡ old.lists) (roots : new.roots ≡ old.roots) where
-    reads_after : (t : Tables) → ReadsAs t old → ReadsAs t new
-    reads_after t is = record {
+    shown_after : (t : Tables) → ShowsTables t old → ShowsTables t new
+    shown_after t is = record {
       listed = subst (AreListed t) (sym lists) is.listed;
       names = shows_after old.file new.file new.roots.names _ file (subst (λ (r : Roots). ShowsRows old.file r.names (map name_columns t.names)) (sym roots) is.names);
       apart = is.apart;
@@ -25,38 +39,56 @@ module _ {D : Type 0} {g : Ghosts D} where
       stacks = lines_after old.file new.file new.roots.stacks _ _ _ file (subst (λ (r : Roots). ShowsLines old.file r.stacks stack_columns (λ (s : StackRow). s.run) t.stacks) (sym roots) is.stacks);
     }
 
-    represents_after : (t : Tables) → Represents t old → Represents t new
-    represents_after t was = record {
-      reads = reads_after t was.reads;
-      lasting = λ image may.
-          let (before, might, same) = file.crash image may in
-          subst (λ n. HoldsIn t (n, image)) (sym file.size) (held_by t (page_size old.file) before image same (was.lasting before might));
+    represents_after : (t : Tables) → IsFaithful new → IsUsable new.file → Represents t old → Represents t new
+    represents_after t faithful usable was = record {
+      reads = record { usable = usable; shows = shown_after t was.reads.shows };
+      wanted = was.wanted;
+      known = was.known;
       db = was.db;
+      rests = rests_after old.file new.file file faithful usable was.rests;
+      roots = subst (AreRootsIn was.known) (sym roots) was.roots;
       holds = was.holds;
+      ordered = was.ordered;
     }
 
     leaves_after : (left : Left) → may_leave new left → may_leave old left
     leaves_after left (sized, (image, may, same)) =
-        let (before, might, first) = file.crash image may in
-        let next = subst (λ n. RecoversAs n image left.1) file.size same in
-        (sized ∙ file.size, (before, might, λ pages is. next pages (first pages is)))
+        let (before, might, first) = file.keeps.crash image may in
+        let next = subst (λ n. RecoversAs n image left.1) file.keeps.stays.size same in
+        (sized ∙ file.keeps.stays.size, (before, might, λ pages is. next pages (first pages is)))
+
+    -- the pages as they are read and as they are committed
+    kept_after : IsFaithful new → IsUsable new.file → kept new ≡ kept old
+    kept_after faithful usable =
+        ap₂ (λ (a b : PageMap). (a, b)) file.pages
+        (ap₂ (λ n p. in_use n p) file.keeps.stays.size (file.keeps.committed (open_from (pools.state new.file.pool) usable faithful)))
 
     -- a call that reads its file was only asked
-    pub asked : (answered : Bool) → (IsFaithful new → Asked state_of answered old new)
-    asked answered faithful = record {
-      stays = record { was_faithful = file.faithful faithful; counts = file.counts; closes = λ was. inl refl; was_usable = λ was. refl; is_usable = λ done. refl };
-      kept = record { represents = λ t was usable. represents_after t was; reads = λ t is usable. reads_after t is; same = λ settled usable. file.shows };
+    pub asked : (answered : Bool) → (IsTrue answered → IsUsable new.file) → (IsFaithful new → Asked state_of answered old new)
+    asked answered done faithful = record {
+      stays = record {
+        was_faithful = file.keeps.stays.clean faithful;
+        counts = file.keeps.stays.faults;
+        closes = λ was. still_or_failed old.file new.file file.keeps.stays was;
+        was_usable = file.keeps.stays.was_ready;
+        is_usable = done;
+      };
+      kept = record {
+        represents = λ t was usable. represents_after t faithful usable was;
+        reads = λ t is usable. record { usable = usable; shows = shown_after t is.shows };
+        same = λ settled usable. kept_after faithful usable;
+      };
       crash = λ left may. inl (leaves_after left may);
     }
 
   -- one that reads nothing changes nothing
-  pub asked_nothing : (answered : Bool) (store : PageRuns D g) → (IsFaithful store → Asked state_of answered store store)
-  asked_nothing answered store = asked store store (OnlyReads-refl store.file) refl refl answered
+  pub asked_nothing : (answered : Bool) (store : PageRuns D g) → (IsTrue answered → IsUsable store.file) → (IsFaithful store → Asked state_of answered store store)
+  asked_nothing answered store done = asked store store (OnlyReads-refl store.file) refl refl answered done
 
   -- a change that is refused
   pub refused : {M : Type 0} (Before After : M → Tables → Type 0) (store : PageRuns D g) → (IsFaithful store → Changed state_of Before After false false store store)
   refused Before After store faithful =
-      let nothing = asked_nothing false store faithful in
+      let nothing = asked_nothing false store (λ (none : false ≡ true). absurd cc) faithful in
       record {
         stays = nothing.stays;
         done = λ absurdly m rests. absurd (let e : false ≡ true = absurdly in cc);

@@ -1,23 +1,28 @@
--- What a store that is read from its pages represents.
-use Rattle.std.specs.Prelude.{◌≡◌, ⊤, ℕ, true, map}
+-- What a store in the pages of its file represents.
+use Rattle.std.specs.Prelude.{◌≡◌, ℕ, List, map}
 use Rattle.sqlite_disk.specs.declared.Disk.{Ghosts}
 use Rattle.sqlite_pages.specs.PageMap.{PageMap}
+use Rattle.sqlite_pool.specs.File.{in_use}
 use Rattle.sqlite_pool.specs.Pool as pools
-use Rattle.std.proofs.Common.{refl, subst, sym}
+use Rattle.std.proofs.Common.{subst, sym}
 use Rattle.sqlite_pool.specs.Stored.{RecoversAs}
 use Rattle.sqlite_pool.specs.StoredLaws.{carried}
 use Rattle.sqlite_wal.specs.Recovery.{Image}
 use Rattle.sqlite_trees.specs.Tree.{Trees}
 use Rattle.sqlite.specs.Opening.{HoldsAt}
+use Rattle.sqlite_store.specs.declared.catalog.Wanted.{Wanted}
 use Rattle.page_files.specs.Files as files
-use Rattle.page_files.specs.Files.{page_size}
+use Rattle.page_files.specs.Files.{page_size, pages_of}
+use Rattle.page_files.specs.Held.{Rests}
 use Rattle.plain_tables.specs.Tables.{Tables, CellRow, CallRow, StackRow}
 use Rattle.run_lists.specs.Listed.{AreListed}
+use Rattle.run_order.specs.Order.{AreInOrder}
+use Rattle.store_schema.specs.Schema.{schema_two}
 use Rattle.store_schema.specs.Tables.{Holds, name_columns, cell_columns, arc_columns, stack_columns}
 use Rattle.store_schema.proofs.Sound.{sound_of}
 use Rattle.run_stores.specs.Names.{AreApart}
 use Rattle.run_stores.specs.declared.states.StoreState.{Ghosts as StoreGhosts}
-use Rattle.page_runs.specs.Shown.{ShowsLines, ShowsRows}
+use Rattle.page_runs.specs.Shown.{AreRootsIn, ShowsLines, ShowsRows}
 use Rattle.page_runs.specs.declared.store.PageRuns.{PageRuns}
 
 -- the files, and the size of their pages
@@ -30,10 +35,6 @@ pub record HoldsIn (t : Tables) (left : Left) : Type 0 where
   pub at : HoldsAt left.0 left.1 db
   pub holds : Holds t db
 
--- each of these files, with pages of this size, holds them
-abbrev pub LastsIn : Tables → ℕ → (Image → Type 0) → Type 0
-LastsIn t size images = (image : Image) → images image → HoldsIn t (size, image)
-
 -- files that stand for others hold the same
 pub held_by : (t : Tables) (size : ℕ) (image left : Image) → RecoversAs size image left → HoldsIn t (size, image) → HoldsIn t (size, left)
 held_by t size image left same is = record {
@@ -42,9 +43,17 @@ held_by t size image left same is = record {
   holds = is.holds;
 }
 
+-- the pages as they are read, and as they are committed
+abbrev pub Kept : Type 0
+Kept = PageMap × PageMap
+
+-- nothing is written that is not committed
+abbrev pub IsSettled : Kept → Type 0
+IsSettled kept = kept.0 ≡ kept.1
+
 module _ {D : Type 0} {g : Ghosts D} where
   -- its file shows these rows, those of runs in the order of the runs, and names that are told apart
-  pub record ReadsAs (t : Tables) (store : PageRuns D g) : Type 0 where
+  pub record ShowsTables (t : Tables) (store : PageRuns D g) : Type 0 where
     pub listed : AreListed t store.lists
     pub names : ShowsRows store.file store.roots.names (map name_columns t.names)
     pub apart : AreApart t.names
@@ -56,45 +65,63 @@ module _ {D : Type 0} {g : Ghosts D} where
   IsFaithful store = files.IsFaithful store.file
 
   abbrev pub faults : PageRuns D g → ℕ
-  faults store = (pools.state store.file.pool).faults
+  faults store = files.faults store.file
 
-  -- the pages
-  abbrev pub kept : PageRuns D g → PageMap
-  kept store = pools.usable store.file.pool
+  abbrev pub kept : PageRuns D g → Kept
+  kept store = (pages_of store.file, in_use (page_size store.file) (pools.state store.file.pool).committed)
 
   -- files that stand for what a crash may leave
   abbrev pub may_leave : PageRuns D g → Left → Type 0
   may_leave store left = (left.0 ≡ page_size store.file) × ((image : Image) × files.may_leave store.file image × RecoversAs (page_size store.file) image left.1)
 
-  -- it is read as these rows, and the files hold them whatever happens
+  -- it can be used, and is read as these rows
+  pub record ReadsAs (t : Tables) (store : PageRuns D g) : Type 0 where
+    pub usable : files.IsUsable store.file
+    pub shows : ShowsTables t store
+
+  -- it is read as these rows, and its files rest on a database of them, whatever happens
   pub record Represents (t : Tables) (store : PageRuns D g) : Type 0 where
     pub reads : ReadsAs t store
-    pub lasting : LastsIn t (page_size store.file) (files.may_leave store.file)
+    pub wanted : List Wanted
+    pub known : List ℕ
     pub db : Trees
+    pub rests : Rests wanted known db store.file
+    pub roots : AreRootsIn known store.roots
     pub holds : Holds t db
+    pub ordered : AreInOrder t
 
   -- what a crash may leave holds the rows that it represents
   pub survives : (t : Tables) (store : PageRuns D g) (left : Left) → Represents t store → may_leave store left → HoldsIn t left
   survives t store left was (sized, (image, may, same)) =
-      subst (λ n. HoldsIn t (n, left.1)) (sym sized) (held_by t (page_size store.file) image left.1 same (was.lasting image may))
+      let found = was.rests.behind.left image may in
+      let at : HoldsAt (page_size store.file) image was.db = record {
+        pages = found.0;
+        wanted = was.wanted;
+        schema = schema_two;
+        found = found.1;
+        ours = found.2.ours;
+        reads = found.2.reads;
+        sound = was.holds.contain.sound;
+      } in
+      subst (λ n. HoldsIn t (n, left.1)) (sym sized) (held_by t (page_size store.file) image left.1 same (record { db = was.db; at = at; holds = was.holds }))
 
   abbrev pub state_of : StoreGhosts (PageRuns D g)
   state_of = record {
-    Kept = PageMap;
+    Kept = Kept;
     kept = kept;
-    is_settled = λ _. ⊤;
+    is_settled = IsSettled;
     Left = Left;
     holds = HoldsIn;
     may_leave = may_leave;
     represents = Represents;
     reads_as = ReadsAs;
     is_faithful = IsFaithful;
-    is_usable = λ _. true;
+    is_usable = λ store. (pools.state store.file.pool).is_ready;
     faults = faults;
-    usable = λ t s represents. refl;
+    usable = λ t s represents. represents.reads.usable;
     said = λ t s represents. represents.reads;
-    readable = λ t s reads. refl;
-    apart = λ t s reads. reads.apart;
+    readable = λ t s reads. reads.usable;
+    apart = λ t s reads. reads.shows.apart;
     sound = λ t s represents. sound_of t represents.db represents.holds;
     left_sound = λ t left holds. sound_of t holds.db holds.holds;
   }

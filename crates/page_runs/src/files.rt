@@ -1,12 +1,17 @@
 // A database file, opened so that its pages can be read.
-ghost use Rattle.std.specs.Prelude.{◌≡◌, IsTrue, IfSome};
+ghost use Rattle.std.specs.Prelude.{◌≡◌, List, IsTrue, IfSome};
 ghost use Rattle.sqlite_pages.specs.PageMap.{PageMap};
 ghost use Rattle.sqlite_pool.specs.Stored.{AddsNothing, Recovers};
 ghost use Rattle.sqlite_wal.specs.Files.{outcomes, seen_image};
 ghost use Rattle.sqlite_wal.specs.PageSize.{bytes_of};
 ghost use Rattle.sqlite_wal.specs.Reads.{AreClean};
 ghost use Rattle.sqlite_wal.specs.Reads as disks;
-ghost use Rattle.page_files.specs.Files.{page_size, may_leave, IsFaithful, Shows};
+ghost use Rattle.page_files.specs.Files.{page_size, may_leave, IsFaithful};
+ghost use Rattle.page_files.specs.Held.{Has, Rests};
+ghost use Rattle.sqlite_pool.specs.File.{in_use};
+ghost use Rattle.sqlite_store.specs.declared.catalog.Wanted.{Wanted};
+ghost use Rattle.sqlite_store.specs.Db.{roots_of};
+ghost use Rattle.sqlite_trees.specs.Tree.{Trees};
 ghost use Rattle.page_runs.specs.Sizes.{IsSizeOf};
 
 use page_files::PageFile;
@@ -51,7 +56,9 @@ pub(crate) fn open_file<D: Disk + Drop>(
     requires log { IsTrue (D.Disk.is_usable files.log) }
     requires db { IsTrue (D.Disk.is_usable files.db) }
     ensures size { IfSome result (λ file. IsFaithful file → IsSizeOf (seen_image D.Disk files.log files.db) (page_size file)) }
-    ensures shows { IfSome result (λ file. IsFaithful file → (pages : PageMap) → Recovers (page_size file) (seen_image D.Disk files.log files.db) pages → Shows file pages) }
+    ensures rests { IfSome result (λ file. IsFaithful file → (wanted : List Wanted) (db : Trees) (pages : PageMap)
+        → Recovers (page_size file) (seen_image D.Disk files.log files.db) pages → Has (page_size file) wanted db pages
+        → Rests wanted (roots_of (page_size file) wanted (in_use (page_size file) pages)) db file) }
     ensures honest { IfSome result (λ file. IsFaithful file → AreClean D.Disk files.log files.db) }
     ensures crash { IfSome result (λ file. AddsNothing (page_size file) (outcomes D.Disk files.log files.db) (may_leave file)) }
 {
@@ -64,7 +71,7 @@ pub(crate) fn open_file<D: Disk + Drop>(
     let Ok(pool) = Pool::new(alloc, pager, false) else {
         return None;
     };
-    match PageFile::open(pool) {
+    match PageFile::open(alloc, pool) {
         Ok(file) => Some(file),
         Err(_) => None,
     }

@@ -1,7 +1,7 @@
 // All rows of a table, read into a list.
-ghost use Rattle.std.specs.Prelude.{◌≡◌, ℕ, List, map, IfOk};
+ghost use Rattle.std.specs.Prelude.{◌≡◌, ℕ, List, map, IfOk, OnOk};
 ghost use Rattle.sqlite_value.specs.Order.{Row};
-ghost use Rattle.page_files.specs.Files.{IsFaithful, OnlyReads};
+ghost use Rattle.page_files.specs.Files.{IsFaithful, IsUsable, OnlyReads};
 ghost use Rattle.page_runs.specs.Shown.{ShowsRows};
 
 use crate::failures::error_of_walk;
@@ -50,6 +50,7 @@ pub(crate) fn all_rows<D: Disk, L: FromRecord + Drop>(
 ) -> Result<Vec<L>, StoreError>
     ensures read { IsFaithful file.new → (rows : List Row) → ShowsRows file.old root rows
         → IfOk result (λ lines. map L.columns lines.items ≡ map L.seen rows) }
+    ensures usable { OnOk result (IsUsable file.new) }
     ensures reads { OnlyReads file.old file.new }
 {
     let mut lines = Lines {

@@ -1,7 +1,7 @@
 // The small tables of a store, read into lists.
-ghost use Rattle.std.specs.Prelude.{◌≡◌, ◌∷◌, [], ℕ, IfOk};
+ghost use Rattle.std.specs.Prelude.{◌≡◌, ◌∷◌, [], ℕ, IfOk, OnOk};
 ghost use Rattle.sqlite_trees.specs.Tree.{Trees};
-ghost use Rattle.page_files.specs.Files.{IsFaithful, OnlyReads};
+ghost use Rattle.page_files.specs.Files.{IsFaithful, IsUsable, OnlyReads};
 ghost use Rattle.plain_tables.specs.Tables.{Tables};
 ghost use Rattle.run_lists.specs.Listed.{AreListed};
 ghost use Rattle.store_schema.specs.Tables.{Holds, meta_columns};
@@ -42,6 +42,7 @@ pub(crate) fn read_lists<D: Disk>(
     roots: &Roots,
 ) -> Result<RunLists, StoreError>
     ensures listed { IsFaithful file.new → (t : Tables) (db : Trees) → Holds t db → AreRoots file.old db roots.now → IfOk result (AreListed t) }
+    ensures usable { OnOk result (IsUsable file.new) }
     ensures reads { OnlyReads file.old file.new }
 {
     let next = next_run(file, alloc, roots.meta)?;

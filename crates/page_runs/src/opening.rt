@@ -1,10 +1,10 @@
 // Opens a store by the pages of its file.
-ghost use Rattle.std.specs.Prelude.{◌≡◌, IfOk, MatchResult};
+ghost use Rattle.std.specs.Prelude.{◌≡◌, ℕ, List, IfOk, OnOk, MatchResult};
 ghost use Rattle.sqlite_trees.specs.Tree.{Trees};
-ghost use Rattle.page_files.specs.Files.{IsFaithful, OnlyReads};
+ghost use Rattle.page_files.specs.Files.{IsFaithful, IsUsable, OnlyReads};
 ghost use Rattle.plain_tables.specs.Tables.{Tables};
 ghost use Rattle.run_lists.specs.Listed.{AreListed};
-ghost use Rattle.page_runs.specs.Shown.{AreRoots, IsStoreOf};
+ghost use Rattle.page_runs.specs.Shown.{AreRootsIn, IsStoreOf};
 
 use crate::lists::read_lists;
 use crate::roots::{Roots, find_roots};
@@ -20,7 +20,8 @@ fn read_store<D: Disk>(
     file: &mut PageFile<D>,
     alloc: Global,
 ) -> Result<(Roots, RunLists), StoreError>
-    ensures read { IsFaithful file.new → (t : Tables) (db : Trees) → IsStoreOf file.old t db → IfOk result (λ r. AreRoots file.new db r.0 × AreListed t r.1) }
+    ensures read { IsFaithful file.new → (t : Tables) (db : Trees) (known : List ℕ) → IsStoreOf file.old t db known → IfOk result (λ r. AreRootsIn known r.0 × AreListed t r.1) }
+    ensures usable { OnOk result (IsUsable file.new) }
     ensures reads { OnlyReads file.old file.new }
 {
     if !has_our_texts(file, alloc)? {
@@ -37,7 +38,8 @@ pub(crate) fn open_store<D: Disk>(
     alloc: Global,
     mut file: PageFile<D>,
 ) -> Result<(PageFile<D>, Roots, RunLists), PageFile<D>>
-    ensures opened { IfOk result (λ r. IsFaithful r.0 → (t : Tables) (db : Trees) → IsStoreOf file t db → IsStoreOf r.0 t db × AreRoots r.0 db r.1 × AreListed t r.2) }
+    ensures opened { IfOk result (λ r. IsFaithful r.0 → (t : Tables) (db : Trees) (known : List ℕ) → IsStoreOf file t db known → AreRootsIn known r.1 × AreListed t r.2) }
+    ensures usable { IfOk result (λ r. IsUsable r.0) }
     ensures reads { MatchResult result (λ r. OnlyReads file r.0) (OnlyReads file) }
 {
     match read_store(&mut file, alloc) {

@@ -1,12 +1,12 @@
 // Where the tables of a store stand.
-ghost use Rattle.std.specs.Prelude.{◌≡◌, ℕ, slice_get, Some, IfOk};
+ghost use Rattle.std.specs.Prelude.{◌≡◌, ℕ, List, slice_get, slice_index, Some, IfOk};
 ghost use Rattle.sqlite_schema.specs.declared.schema.Table.{Table};
 ghost use Rattle.sqlite_trees.specs.Tree.{Trees};
 ghost use Rattle.page_files.specs.Files.{IsFaithful, OnlyReads};
 ghost use Rattle.plain_tables.specs.Tables.{Tables};
 ghost use Rattle.store_schema.specs.Schema.{schema_two};
 ghost use Rattle.page_runs.specs.Found.{AreFound, AreNames};
-ghost use Rattle.page_runs.specs.Shown.{AreRoots, IsStoreOf, ShowsRows};
+ghost use Rattle.page_runs.specs.Shown.{AreRootsIn, IsStoreOf};
 
 use crate::failures::error_of;
 use page_files::PageFile;
@@ -48,10 +48,10 @@ pub(crate) const NAMES: [&str; 11] = [
 /// The root page of a table. `Store` where the file has no table of this name.
 fn root_of<D: Disk>(file: &mut PageFile<D>, alloc: Global, name: &str) -> Result<u32, StoreError>
     ensures found { IsFaithful file.new → (t : Tables) (db : Trees) (at : ℕ) (table : Table) → slice_get schema_two.tables at ≡ Some table → table.name ≡ name.now
-        → IsStoreOf file.old t db → IfOk result (λ root. ShowsRows file.old root (db table.tree)) }
+        → (known : List ℕ) → IsStoreOf file.old t db known → IfOk result (λ root. root ≡ slice_index known table.tree) }
     ensures reads { OnlyReads file.old file.new }
 {
-    match file.root_named(alloc, name.as_bytes()) {
+    match file.table_root(alloc, name.as_bytes()) {
         Ok(Some(root)) => Ok(root),
         Ok(None) => Err(StoreError::Store),
         Err(error) => Err(error_of(error)),
@@ -64,7 +64,8 @@ fn roots_of<D: Disk>(
     alloc: Global,
     names: &[&str; 11],
 ) -> Result<[u32; 11], StoreError>
-    ensures found { AreNames names.now → IsFaithful file.new → (t : Tables) (db : Trees) → IsStoreOf file.old t db → IfOk result (λ roots. AreFound file.new db roots 11) }
+    ensures found { AreNames names.now → IsFaithful file.new → (t : Tables) (db : Trees) (known : List ℕ) → IsStoreOf file.old t db known
+        → IfOk result (λ roots. AreFound known roots 11) }
     ensures reads { OnlyReads file.old file.new }
 {
     let mut roots = [0; 11];
@@ -79,7 +80,7 @@ pub(crate) fn find_roots<D: Disk>(
     file: &mut PageFile<D>,
     alloc: Global,
 ) -> Result<Roots, StoreError>
-    ensures found { IsFaithful file.new → (t : Tables) (db : Trees) → IsStoreOf file.old t db → IfOk result (AreRoots file.new db) }
+    ensures found { IsFaithful file.new → (t : Tables) (db : Trees) (known : List ℕ) → IsStoreOf file.old t db known → IfOk result (AreRootsIn known) }
     ensures reads { OnlyReads file.old file.new }
 {
     let roots = roots_of(file, alloc, &NAMES)?;

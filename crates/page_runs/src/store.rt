@@ -1,16 +1,18 @@
 // A store of runs over the pages of its file.
-ghost use Rattle.std.specs.Prelude.{◌≡◌, IsTrue, IfOk, IfSome};
+ghost use Rattle.std.specs.Prelude.{◌≡◌, IsTrue, IfOk, IfSome, OnOk};
 ghost use Rattle.sqlite_wal.specs.Files.{outcomes, seen_image};
 ghost use Rattle.sqlite_wal.specs.Reads.{AreClean};
-ghost use Rattle.page_files.specs.Files.{page_size};
+ghost use Rattle.page_files.specs.Files.{page_size, IsUsable, may_leave as files_may_leave};
+ghost use Rattle.sqlite_pool.specs.Stored.{AddsNothing};
 ghost use Rattle.plain_tables.specs.Tables.{Tables};
 ghost use Rattle.profile_records.specs.declared.kinds.Kind.{Kind as RunKind};
 ghost use Rattle.run_stores.specs.Lookups.{IsKindOf};
 ghost use Rattle.run_lists.specs.Listed.{AreListed};
 ghost use Rattle.run_lists.specs.RowSums.{calls_of_run, cells_of_run, stacks_of_run};
 ghost use Rattle.run_order.specs.Order.{AreInOrder};
-ghost use Rattle.page_runs.specs.States.{HoldsIn, IsFaithful, LastsIn, ReadsAs, Represents};
+ghost use Rattle.page_runs.specs.States.{HoldsIn, IsFaithful, Represents};
 
+use crate::failures::error_of;
 use crate::files::open_file;
 use crate::handed::{each_call, each_cell, each_stack};
 use crate::heads::head_of;
@@ -52,9 +54,9 @@ impl<D: Disk + Drop> PageRuns<D> {
         requires log { IsTrue (D.Disk.is_usable files.log) }
         requires db { IsTrue (D.Disk.is_usable files.db) }
         ensures honest { IfSome result (λ store. IsFaithful store → AreClean D.Disk files.log files.db) }
-        ensures reads { IfSome result (λ store. IsFaithful store → (t : Tables) → HoldsIn t (page_size store.file, seen_image D.Disk files.log files.db) → AreInOrder t → ReadsAs t store) }
-        ensures lasting { IfSome result (λ store. IsFaithful store → (t : Tables) → HoldsIn t (page_size store.file, seen_image D.Disk files.log files.db) → AreInOrder t
-            → LastsIn t (page_size store.file) (outcomes D.Disk files.log files.db) → Represents t store) }
+        ensures represents { IfSome result (λ store. IsFaithful store → (t : Tables) → HoldsIn t (page_size store.file, seen_image D.Disk files.log files.db) → AreInOrder t
+            → Represents t store) }
+        ensures crash { IfSome result (λ store. AddsNothing (page_size store.file) (outcomes D.Disk files.log files.db) (files_may_leave store.file)) }
     {
         let Some(file) = open_file(alloc, files, options) else {
             return None;
@@ -72,6 +74,16 @@ impl<D: Disk + Drop> PageRuns<D> {
 }
 
 impl<D: Disk> PageRuns<D> {
+    /// `Store` where its files have failed for good: each call fails then.
+    fn if_usable(&self) -> Result<(), StoreError>
+        ensures { OnOk result (IsUsable self.now.file) }
+    {
+        match self.file.if_usable() {
+            Ok(()) => Ok(()),
+            Err(error) => Err(error_of(error)),
+        }
+    }
+
     /// Where the cells of a run are, and what they have to sum to.
     fn cells_of(&self, run: u32) -> Result<RunTable, StoreError>
         ensures { (t : Tables) → AreListed t self.now.lists → IfOk result (λ table. table ≡ record { root = self.now.roots.cells; run = run; sum = cells_of_run run t }) }
@@ -122,17 +134,15 @@ impl<D: Disk> PageRuns<D> {
 }
 
 impl<D: Disk> StoreState for PageRuns<D> {
-    ghost use Rattle.std.specs.Prelude.{⊤, true};
-    ghost use Rattle.std.proofs.Common.{refl};
-    ghost use Rattle.sqlite_pages.specs.PageMap.{PageMap};
+    ghost use Rattle.sqlite_pool.specs.Pool as pools;
     ghost use Rattle.store_schema.proofs.Sound.{sound_of};
-    ghost use Rattle.page_runs.specs.States.{HoldsIn, IsFaithful, Left, ReadsAs, Represents, faults, kept, may_leave};
+    ghost use Rattle.page_runs.specs.States.{HoldsIn, IsFaithful, IsSettled, Kept as KeptPages, Left, ReadsAs, Represents, faults, kept, may_leave};
 
-    ghost Kept = { PageMap };
+    ghost Kept = { KeptPages };
 
     ghost kept = { kept };
 
-    ghost is_settled = { λ _. ⊤ };
+    ghost is_settled = { IsSettled };
 
     ghost Left = { Left };
 
@@ -146,17 +156,17 @@ impl<D: Disk> StoreState for PageRuns<D> {
 
     ghost is_faithful = { IsFaithful };
 
-    ghost is_usable = { λ _. true };
+    ghost is_usable = { λ store. (pools.state store.file.pool).is_ready };
 
     ghost faults = { faults };
 
-    ghost usable = { λ t s represents. refl };
+    ghost usable = { λ t s represents. represents.reads.usable };
 
     ghost said = { λ t s represents. represents.reads };
 
-    ghost readable = { λ t s reads. refl };
+    ghost readable = { λ t s reads. reads.usable };
 
-    ghost apart = { λ t s reads. reads.apart };
+    ghost apart = { λ t s reads. reads.shows.apart };
 
     ghost sound = { λ t s represents. sound_of t represents.db represents.holds };
 
@@ -167,50 +177,62 @@ impl<D: Disk> RunStore for PageRuns<D> {
     type Names = HeldNames;
 
     fn has_run(&mut self, run: u32) -> Result<bool, StoreError> {
+        self.if_usable()?;
         Ok(self.lists.has_run(run))
     }
 
     fn has_group(&mut self, name: &str) -> Result<bool, StoreError> {
+        self.if_usable()?;
         Ok(self.lists.has_group(name))
     }
 
     fn run_count(&mut self) -> Result<u64, StoreError> {
+        self.if_usable()?;
         Ok(self.lists.run_count())
     }
 
     fn group_count(&mut self) -> Result<u64, StoreError> {
+        self.if_usable()?;
         Ok(self.lists.group_count())
     }
 
     fn next_run(&mut self) -> Result<u32, StoreError> {
+        self.if_usable()?;
         Ok(self.lists.next_run())
     }
 
     fn run_of_digest(&mut self, digest: &[u8]) -> Result<Option<u32>, StoreError> {
+        self.if_usable()?;
         Ok(self.lists.run_of_digest(digest))
     }
 
     fn runs(&mut self, alloc: Global) -> Result<Vec<RunEntry>, StoreError> {
+        self.if_usable()?;
         self.lists.runs(alloc)
     }
 
     fn groups(&mut self, alloc: Global) -> Result<Vec<GroupEntry>, StoreError> {
+        self.if_usable()?;
         self.lists.groups(alloc)
     }
 
     fn run_numbers(&mut self, alloc: Global) -> Result<ListVec<u32>, StoreError> {
+        self.if_usable()?;
         self.lists.run_numbers(alloc)
     }
 
     fn members_of(&mut self, alloc: Global, name: &str) -> Result<ListVec<u32>, StoreError> {
+        self.if_usable()?;
         self.lists.members_of(alloc, name)
     }
 
     fn kind_of(&mut self, run: u32) -> Result<Kind, StoreError> {
+        self.if_usable()?;
         self.lists.kind_of(run)
     }
 
     fn baseline_of(&mut self, name: &str) -> Result<Option<u32>, StoreError> {
+        self.if_usable()?;
         self.lists.baseline_of(name)
     }
 
@@ -219,31 +241,42 @@ impl<D: Disk> RunStore for PageRuns<D> {
         alloc: Global,
         events: &[ListVec<u8>],
     ) -> Result<FileTotals, StoreError> {
+        self.if_usable()?;
         self.lists.totals_of(alloc, events)
     }
 
     fn sums_of(&mut self, alloc: Global, run: u32) -> Result<ListVec<u128>, StoreError> {
+        self.if_usable()?;
         self.lists.sums_of(alloc, run)
     }
 
     fn head_of(&mut self, alloc: Global, run: u32) -> Result<FileHead, StoreError> {
+        self.if_usable()?;
         head_of(alloc, &self.lists, run)
     }
 
     fn names_of(&mut self, alloc: Global) -> Result<HeldNames, StoreError> {
-        names_under(&mut self.file, alloc, self.roots.names)
+        let answer = names_under(&mut self.file, alloc, self.roots.names)?;
+        self.if_usable()?;
+        Ok(answer)
     }
 
     fn names_among(&mut self, alloc: Global, numbers: &[u32]) -> Result<HeldNames, StoreError> {
-        names_among(&mut self.file, alloc, self.roots.names, numbers)
+        let answer = names_among(&mut self.file, alloc, self.roots.names, numbers)?;
+        self.if_usable()?;
+        Ok(answer)
     }
 
     fn number_of(&mut self, alloc: Global, name: &[u8]) -> Result<Option<u32>, StoreError> {
-        number_of(&mut self.file, alloc, self.roots.names, name)
+        let answer = number_of(&mut self.file, alloc, self.roots.names, name)?;
+        self.if_usable()?;
+        Ok(answer)
     }
 
     fn holds_names(&mut self, alloc: Global, numbers: &[u32]) -> Result<bool, StoreError> {
-        holds_names(&mut self.file, alloc, self.roots.names, numbers)
+        let answer = holds_names(&mut self.file, alloc, self.roots.names, numbers)?;
+        self.if_usable()?;
+        Ok(answer)
     }
 
     fn each_cell<T: CellSink + Drop>(
@@ -253,7 +286,9 @@ impl<D: Disk> RunStore for PageRuns<D> {
         sink: T,
     ) -> Result<T, StoreError> {
         let table = self.cells_of(run)?;
-        each_cell(&mut self.file, self.alloc, table, events, sink)
+        let taken = each_cell(&mut self.file, self.alloc, table, events, sink)?;
+        self.if_usable()?;
+        Ok(taken)
     }
 
     fn each_call<T: CallSink + Drop>(
@@ -264,12 +299,16 @@ impl<D: Disk> RunStore for PageRuns<D> {
         sink: T,
     ) -> Result<T, StoreError> {
         let table = self.calls_of(run)?;
-        each_call(&mut self.file, alloc, table, events, sink)
+        let taken = each_call(&mut self.file, alloc, table, events, sink)?;
+        self.if_usable()?;
+        Ok(taken)
     }
 
     fn each_stack<T: StackRowSink + Drop>(&mut self, run: u32, sink: T) -> Result<T, StoreError> {
         let table = self.stacks_of(run)?;
-        each_stack(&mut self.file, self.alloc, table, sink)
+        let taken = each_stack(&mut self.file, self.alloc, table, sink)?;
+        self.if_usable()?;
+        Ok(taken)
     }
 
     fn put_run(

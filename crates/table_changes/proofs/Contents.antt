@@ -1,9 +1,9 @@
 -- What a table holds once rows stand behind the others, some are taken out, or some are replaced.
-use Rattle.std.proofs.Common.{◌≡◌, ◌≢◌, ℕ, ℤ, List, [], ◌∷◌, ◌++◌, map, drop, filter, slice_get, is_some, Bool, true, false, cond, if◌then◌else◌, Option, Some, None, refl, sym, ap, ap₂, subst, inl, inr, ◌∙◌}
+use Rattle.std.proofs.Common.{◌≡◌, ℕ, List, [], ◌∷◌, ◌++◌, map, drop, filter, slice_get, is_some, Bool, true, false, cond, if◌then◌else◌, Some, refl, sym, ap, ap₂, subst, inl, inr, ◌∙◌}
 use Rattle.std.specs.List.{AllByRecursion}
 use Rattle.sqlite_value.specs.declared.value.Value.TheVariants.{Int}
 use Rattle.sqlite_value.specs.Order.{Row}
-use Rattle.sqlite_trees.specs.Tree.{Trees, IsAscending}
+use Rattle.sqlite_trees.specs.Tree.{Trees}
 use Rattle.sqlite_trees.specs.View.{IsShaped}
 use Rattle.sqlite_trees.specs.declared.store.Shape.TheVariants as shape
 use Rattle.sqlite_schema.specs.declared.schema.Schema.{Schema}

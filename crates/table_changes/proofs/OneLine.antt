@@ -1,10 +1,10 @@
 -- A group or a member that is known by its rowid: taken out, or another put over it.
-use Rattle.std.proofs.Common.{◌≡◌, ◌≢◌, ℕ, ℤ, List, [], ◌∷◌, map, filter, Bool, true, false, not, ◌&&◌, ◌||◌, cond, if◌then◌else◌, bytes_eq, Option, Some, None, refl, sym, ap, ap₂, subst, ◌∙◌}
+use Rattle.std.proofs.Common.{◌≡◌, ℕ, ℤ, List, [], ◌∷◌, map, filter, Bool, true, false, not, ◌&&◌, if◌then◌else◌, bytes_eq, Option, Some, None, refl, sym, ap, ap₂, subst, ◌∙◌}
 use Rattle.std.specs.List.{list_any}
 use Rattle.std.proofs.lemmas.Bool.{and_from, and_parts, eq-eqb, not-true}
 use Rattle.std.proofs.lemmas.Slice.Eq.{bytes_eq-Decides}
 use Rattle.sqlite_tied.proofs.RuleLemmas.{and_true}
-use Rattle.sqlite_value.specs.declared.value.Value.TheVariants.{Int, Text}
+use Rattle.sqlite_value.specs.declared.value.Value.TheVariants.{Int}
 use Rattle.sqlite_value.specs.Keys.{first_key, plain}
 use Rattle.sqlite_value.specs.Order.{Row, column}
 use Rattle.sqlite_trees.specs.Tree.{Trees, has_rowid, put_row, without_rowid}
@@ -23,6 +23,7 @@ use Rattle.store_schema.specs.Tables.{Holds, group_columns, member_columns, numb
 use Rattle.table_changes.specs.Changes.{OnlyChanges}
 use Rattle.table_changes.proofs.Contents.{row_of_line}
 use Rattle.table_changes.proofs.Groups.{baseline_in, group_taken_out, groups_replaced, name_of}
+use Rattle.table_changes.proofs.Lines.{none_left}
 use Rattle.table_changes.proofs.Members.{member_taken_out}
 use Rattle.table_changes.proofs.OneRow.{one_key, one_row, put_over, put_replaces, same_truth}
 use Rattle.table_changes.proofs.References.{group_refers}
@@ -124,14 +125,6 @@ module _ (t : Tables) (db : Trees) (was : Holds t db) where
     baseline_put n id g there only shaped put held = group_put (rebased n) id g there only shaped put refl (λ m is. let same : n ≡ m = cc in subst (λ k. has_run t k ≡ true) same held)
 
 -- ---- a group goes once its members are gone
-
-none_left : {X : Type 0} (p : X → Bool) (xs : List X) → list_any p (filter (λ x. not (p x)) xs) ≡ false
-none_left p [] = refl
-none_left {X} p (x ∷ xs) = go (p x) refl (none_left p xs)
-  where
-    go : (b : Bool) → p x ≡ b → list_any p (filter (λ y. not (p y)) xs) ≡ false → list_any p (cond (not b) (x ∷ filter (λ y. not (p y)) xs) (filter (λ y. not (p y)) xs)) ≡ false
-    go true e more = more
-    go false e more = ap (λ b. b || list_any p (filter (λ y. not (p y)) xs)) e ∙ more
 
 -- the members of a group are gone, and then the group
 pub without_group_from : (name : List ℕ) (t : Tables) (db next : Trees) → Holds (record t { members = filter (λ (m : MemberRow). not (bytes_eq m.group name)) t.members }) db → OnlyChanges schema_two db next grp_at

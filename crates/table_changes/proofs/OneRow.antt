@@ -1,11 +1,10 @@
 -- One row of a table, known by its rowid: it alone has its key; to put a row over it replaces it.
-use Rattle.std.proofs.Common.{◌≡◌, ◌≢◌, ℕ, ℤ, List, [], ◌∷◌, ◌++◌, map, Bool, true, false, not, ◌&&◌, ◌||◌, cond, if◌then◌else◌, is_eq, Ordering, Less, Equal, Greater, Some, IsTrue, refl, sym, ap, ap₂, subst, inl, inr, ◌∙◌}
+use Rattle.std.proofs.Common.{◌≡◌, ℕ, ℤ, List, [], ◌∷◌, ◌++◌, map, Bool, true, false, ◌&&◌, if◌then◌else◌, is_eq, Ordering, Less, Equal, Greater, Some, refl, sym, ap, ap₂, inl, inr, ◌∙◌}
 use Rattle.std.specs.List.{AllByRecursion}
 use Rattle.std.specs.Ordering.{is_ne, match_ordering}
 use Rattle.std.proofs.lemmas.Bool.{and_from, both_ways}
 use Rattle.std.proofs.lemmas.Cmp.{alike_right, tied_back}
-use Rattle.sqlite_value.specs.declared.value.Value.{Value}
-use Rattle.sqlite_value.specs.declared.value.Value.TheVariants.{Null, Int}
+use Rattle.sqlite_value.specs.declared.value.Value.TheVariants.{Int}
 use Rattle.sqlite_value.specs.Keys.{plain}
 use Rattle.sqlite_value.specs.Order.{Row, value_cmp}
 use Rattle.sqlite_value.proofs.OrderLemmas.{value_cmp_total}

@@ -1,5 +1,5 @@
 -- A change of a table's tree and of its indexes' is a change of that table alone.
-use Rattle.std.proofs.Common.{◌≡◌, ◌≢◌, ℕ, List, [], ◌∷◌, Bool, true, false, not, ◌&&◌, ◌||◌, ◌==◌, refl, sym, ap, ap₂, subst, ◌∙◌, inl, inr}
+use Rattle.std.proofs.Common.{◌≡◌, ℕ, List, [], ◌∷◌, Bool, true, false, not, ◌&&◌, ◌||◌, ◌==◌, refl, sym, subst, ◌∙◌, inl, inr}
 use Rattle.std.specs.List.{AllByRecursion, list_all, list_any}
 use Rattle.std.proofs.lemmas.Bool.{and_parts, eqb-true, not-true, or_cases}
 use Rattle.sqlite_trees.specs.Objects.{catalog_tree}
@@ -8,7 +8,6 @@ use Rattle.sqlite_sql.specs.Catalog.{IsIndexOf}
 use Rattle.sqlite_schema.specs.declared.schema.Index.{Index}
 use Rattle.sqlite_schema.specs.declared.schema.Schema.{Schema}
 use Rattle.sqlite_schema.specs.declared.schema.Table.{Table}
-use Rattle.sqlite_rules.specs.Lists.{Has}
 use Rattle.sqlite_rules.proofs.ListLemmas.{all_from, all_has, test_has}
 use Rattle.sqlite_catalog.specs.Listing.{IsSound}
 use Rattle.store_schema.specs.Schema.{schema_two, meta_at, run_at, run_event_at, derived_at, coef_at, name_at, arc_at, stack_at, grp_at, member_at, thread_cell_at}
@@ -45,6 +44,14 @@ only_from schema table trees old new own sound spared indexed = record {
         subst (λ rows. IsIndexOf i.columns rows (new i.tree)) (sym (spared i.table (not-true _ parts.0)))
         (subst (IsIndexOf i.columns (old i.table)) (sym (spared i.tree (not-true _ parts.1))) (all_has _ schema.indexes i sound.obeys.indexed known))
   ]);
+}
+
+-- one change of a table after another
+pub only_then : (schema : Schema) (table : Table) (old mid new : Trees) → OnlyChanges schema old mid table → OnlyChanges schema mid new table → OnlyChanges schema old new table
+only_then schema table old mid new one two = record {
+  list_stays = two.list_stays ∙ one.list_stays;
+  others = λ t listed other. two.others t listed other ∙ one.others t listed other;
+  indexed = two.indexed;
 }
 
 module _ (db next : Trees) (sound : IsSound schema_two db) where

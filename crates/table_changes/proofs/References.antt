@@ -1,7 +1,7 @@
 -- What the references of rows say of the lines: their runs and groups are held.
-use Rattle.std.proofs.Common.{◌≡◌, ℕ, List, [], ◌∷◌, map, Bool, true, false, ◌||◌, ◌==◌, codes, Option, Some, None, refl, sym, ap, ap₂, subst, inl, inr, ◌∙◌}
+use Rattle.std.proofs.Common.{◌≡◌, ℕ, List, [], ◌∷◌, true, false, ◌||◌, ◌==◌, codes, Some, refl, sym, ap, ap₂, subst, inl, inr, ◌∙◌}
 use Rattle.std.proofs.lemmas.Bool.{both_ways, or_cases}
-use Rattle.sqlite_value.specs.declared.value.Value.TheVariants.{Int, Text}
+use Rattle.sqlite_value.specs.declared.value.Value.TheVariants.{Text}
 use Rattle.sqlite_value.specs.Keys.{plain}
 use Rattle.sqlite_value.specs.Order.{Row, column}
 use Rattle.sqlite_trees.specs.Tree.{Trees}
@@ -14,7 +14,6 @@ use Rattle.sqlite_rules.specs.Lists.{Has}
 use Rattle.sqlite_rules.proofs.ListLemmas.{has_got, some_from, some_has}
 use Rattle.sqlite_rules.proofs.ProbeLemmas.{has_mapped}
 use Rattle.sqlite_rules.proofs.RuleLemmas.{refers_at}
-use Rattle.sql_tables.proofs.Rows.{id_of}
 use Rattle.plain_tables.specs.Changes.{has_group, has_run, is_named}
 use Rattle.plain_tables.specs.Tables.{Tables, RunRow, GroupRow, MemberRow}
 use Rattle.store_schema.specs.Schema.{schema_two, to, grp_at, member_at}

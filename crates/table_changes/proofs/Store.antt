@@ -1,22 +1,21 @@
 -- What each change of a table of the store needs: its place, its rows' columns, and the parents of its rows.
-use Rattle.std.proofs.Common.{◌≡◌, ◌≢◌, ℕ, ℤ, List, [], ◌∷◌, ◌++◌, map, slice_get, Bool, true, false, not, ◌&&◌, ◌||◌, ◌==◌, codes, Option, Some, None, bytes_eq, refl, sym, ap, ap₂, subst, ◌∙◌}
+use Rattle.std.proofs.Common.{◌≡◌, ℕ, ℤ, List, [], ◌∷◌, map, slice_get, Bool, true, false, not, ◌&&◌, ◌==◌, codes, Some, bytes_eq, refl, sym, ap, ap₂, subst, ◌∙◌}
 use Rattle.std.specs.List.{AllByRecursion, list_all, list_any}
-use Rattle.std.proofs.lemmas.Bool.{and_parts, both_ways, eq-eqb, not-true, or_left, or_right}
+use Rattle.std.proofs.lemmas.Bool.{and_parts, both_ways, eq-eqb, not-true, or_right}
 use Rattle.sqlite_tied.proofs.RuleLemmas.{and_true}
 use Rattle.sqlite_tied.specs.Compute.{everything}
 use Rattle.sqlite_value.specs.declared.keys.Collation.TheVariants.{Binary}
-use Rattle.sqlite_value.specs.declared.value.Value.TheVariants.{Null, Int, Text}
+use Rattle.sqlite_value.specs.declared.value.Value.TheVariants.{Int, Text}
 use Rattle.sqlite_value.specs.Keys.{first_key, plain}
 use Rattle.sqlite_value.specs.Order.{Row, column}
 use Rattle.sqlite_trees.specs.Tree.{Trees, IsAscending}
-use Rattle.sqlite_sql.specs.Ops.{is_null}
 use Rattle.sqlite_schema.specs.declared.schema.Action.TheVariants.{SetNull}
 use Rattle.sqlite_schema.specs.declared.schema.Reference.{Reference}
 use Rattle.sqlite_schema.specs.declared.schema.Table.{Table}
 use Rattle.sqlite_schema.specs.Rules.{ParentKey, agree, equal, has_parent, is_held, parent_key, passes_checks}
 use Rattle.sqlite_rules.specs.Lists.{Has}
 use Rattle.sqlite_rules.specs.Steps.{PassAlone, is_present, is_typed}
-use Rattle.sqlite_rules.proofs.ListLemmas.{has_got, some_from, some_has, test_from, test_has}
+use Rattle.sqlite_rules.proofs.ListLemmas.{has_got, some_from, some_has, test_from}
 use Rattle.sqlite_rules.proofs.ProbeLemmas.{mapped_has}
 use Rattle.sql_tables.specs.Contents.{IsContent}
 use Rattle.sql_tables.proofs.Contents.{content_there}
@@ -24,8 +23,8 @@ use Rattle.sql_tables.proofs.Deletes.{row_of}
 use Rattle.sql_tables.proofs.Rows.{id_of, numbers_equal, texts_equal}
 use Rattle.plain_tables.specs.Changes.{is_named}
 use Rattle.plain_tables.specs.Tables.{Tables, RunRow, GroupRow}
-use Rattle.store_schema.specs.Schema.{schema_two, to, grp_at, member_at}
-use Rattle.store_schema.specs.Tables.{Holds, contents_of, run_columns, group_columns, member_columns, number}
+use Rattle.store_schema.specs.Schema.{schema_two, to, grp_at, member_at, run_event_at, derived_at, coef_at, thread_cell_at, arc_at, stack_at}
+use Rattle.store_schema.specs.Tables.{Holds, contents_of, run_columns, group_columns, member_columns, event_columns, derived_columns, coef_columns, cell_columns, arc_columns, stack_columns, number}
 use Rattle.table_changes.specs.Changes.{IsOneOf, OnlyChanges}
 use Rattle.table_changes.proofs.Contents.{Lined, line_of, lined_content, row_of_line}
 
@@ -96,6 +95,24 @@ module _ (t : Tables) (db : Trees) (was : Holds t db) where
 
   pub members_there : IsContent member_at (map member_columns t.members) (db 21)
   members_there = content_there schema_two.tables (contents_of t) db 9 member_at refl was.contain.contents_are
+
+  pub events_there : IsContent run_event_at (map event_columns t.events) (db 3)
+  events_there = content_there schema_two.tables (contents_of t) db 2 run_event_at refl was.contain.contents_are
+
+  pub derived_there : IsContent derived_at (map derived_columns t.derived) (db 6)
+  derived_there = content_there schema_two.tables (contents_of t) db 3 derived_at refl was.contain.contents_are
+
+  pub coefs_there : IsContent coef_at (map coef_columns t.coefs) (db 9)
+  coefs_there = content_there schema_two.tables (contents_of t) db 4 coef_at refl was.contain.contents_are
+
+  pub cells_there : IsContent thread_cell_at (map cell_columns t.cells) (db 23)
+  cells_there = content_there schema_two.tables (contents_of t) db 10 thread_cell_at refl was.contain.contents_are
+
+  pub calls_there : IsContent arc_at (map arc_columns t.calls) (db 15)
+  calls_there = content_there schema_two.tables (contents_of t) db 6 arc_at refl was.contain.contents_are
+
+  pub stacks_there : IsContent stack_at (map stack_columns t.stacks) (db 17)
+  stacks_there = content_there schema_two.tables (contents_of t) db 7 stack_at refl was.contain.contents_are
 
   pub groups_lined : Lined grp_at group_columns (db 19) t.groups
   groups_lined = lined_content grp_at group_columns (db 19) t.groups groups_there

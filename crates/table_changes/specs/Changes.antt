@@ -6,6 +6,7 @@ use Rattle.sqlite_trees.specs.Objects.{catalog_tree}
 use Rattle.sqlite_trees.specs.Tree.{Trees, IsAscending}
 use Rattle.sqlite_sql.specs.Catalog.{IsIndexOf}
 use Rattle.sqlite_schema.specs.declared.schema.Among.TheVariants.{All}
+use Rattle.sqlite_schema.specs.declared.schema.Reference.{Reference}
 use Rattle.sqlite_schema.specs.declared.schema.Schema.{Schema}
 use Rattle.sqlite_schema.specs.declared.schema.Table.{Table}
 use Rattle.sqlite_schema.specs.Rules.{ParentKey, guards, has_parent, parent_key}
@@ -38,21 +39,28 @@ pub record AreFit (schema : Schema) (new : Trees) (table : Table) (news : List R
 
 -- ---- rows taken out
 
+-- whether a reference is to this tree
 abbrev pub is_to : ℕ → Option ParentKey → Bool
 is_to tree None = false
 is_to tree (Some key) = key.0 == tree
 
+-- a fact, where a test holds
 abbrev pub Where : Bool → Type 0 → Type 0
 Where true P = P
 Where false P = ⊤
 
+-- each row of the table has the parent that it refers to
+abbrev pub HaveParents : Schema → Trees → Table → Reference → Type 0
+HaveParents schema db table ref = (row : Row) → Has (db table.tree) row → has_parent schema.tables db row ref ≡ true
+
 -- each row that refers to the table still has its parent
 abbrev pub StillRefer : Schema → Trees → Table → Type 0
-StillRefer schema new table = AllByRecursion (λ t. AllByRecursion (λ ref.
-    Where (is_to table.tree (parent_key schema.tables ref)) ((row : Row) → Has (new t.tree) row → has_parent schema.tables new row ref ≡ true)) t.references) schema.tables
+StillRefer schema new table =
+    AllByRecursion (λ t. AllByRecursion (λ ref. Where (is_to table.tree (parent_key schema.tables ref)) (HaveParents schema new t ref)) t.references) schema.tables
 
 -- ---- rows replaced
 
+-- the places of the tree that a reference reads
 abbrev pub places_at : ℕ → Option ParentKey → List ℕ
 places_at tree None = []
 places_at tree (Some key) = if key.0 == tree then key.1 else []

@@ -1,6 +1,8 @@
 -- The keys of the lines that tables hold, as numbers, and when lines are new.
-use Rattle.std.specs.Prelude.{◌≢◌, ℕ, List, [], ◌∷◌}
-use Rattle.std.specs.List.{AllByRecursion}
+use Rattle.std.specs.Prelude.{◌≡◌, ◌≢◌, ℕ, ◌==◌, Bool, false, take, List, [], ◌∷◌}
+use Rattle.std.specs.List.{AllByRecursion, list_any}
+use Rattle.std.specs.Ordering.{is_eq}
+use Rattle.sqlite_value.specs.Order.{Row, row_cmp}
 use Rattle.plain_tables.specs.Lists.{IsAscending}
 use Rattle.plain_tables.specs.Tables.{EventRow, DerivedRow, CoefRow, CellRow, CallRow, StackRow, MemberRow}
 
@@ -8,6 +10,22 @@ use Rattle.plain_tables.specs.Tables.{EventRow, DerivedRow, CoefRow, CellRow, Ca
 pub record AreNew {X : Type 0} (key : X → List ℕ) (olds news : List X) : Type 0 where
   pub apart : AllByRecursion (λ x. AllByRecursion (λ y. key x ≢ key y) news) olds
   pub among : IsAscending (λ x y. key x ≢ key y) news
+
+-- lines of one run, of which the others have none
+pub record AreOfNewRun {X : Type 0} (run : X → ℕ) (n : ℕ) (olds news : List X) : Type 0 where
+  pub of_run : AllByRecursion (λ x. run x ≡ n) news
+  pub none : list_any (λ x. run x == n) olds ≡ false
+
+-- lines whose keys differ from one another
+abbrev pub Differ : {X : Type 0} → (X → List ℕ) → List X → Type 0
+Differ key lines = IsAscending (λ x y. key x ≢ key y) lines
+
+-- entries of which no two have the same first columns
+abbrev pub same_head : ℕ → Row → Row → Bool
+same_head count a b = is_eq (row_cmp (take count a) (take count b))
+
+abbrev pub HeadsDiffer : ℕ → List Row → Type 0
+HeadsDiffer count = IsAscending (λ a b. same_head count a b ≡ false)
 
 abbrev pub member_key : MemberRow → List ℕ
 member_key m = m.run ∷ m.group

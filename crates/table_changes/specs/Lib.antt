@@ -1,2 +1,5 @@
 pub mod Changes
 pub mod Keys
+pub mod Unused
+pub mod Thinned
+pub mod Fills

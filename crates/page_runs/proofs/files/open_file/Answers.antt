@@ -15,10 +15,10 @@ returns-in-Ok-open g c = record {
       let clean = subst (λ fs. AreClean g.D.Disk fs.0 fs.1) there (clean_files _ (c.in-Ok-open.ensures.honest faithful)) in
       let size = c.in-Ok-open.ensures.size ∙ c.in-Ok-new.ensures.size ∙ c.in-Ok.ensures.size in
       subst (IsSizeOf (seen_image g.D.Disk c.args.files.log c.args.files.db)) (sym size) (c.in-Some.ensures.size clean);
-  shows = λ faithful pages found.
+  rests = λ faithful wanted db pages found has.
       let there = ap (λ fs. seen_image g.D.Disk fs.0 fs.1) (c.in-Ok-new.ensures.files ∙ c.in-Ok.ensures.files) in
       let before = same_image c.plain_size.ensures.log c.plain_size.ensures.db in
-      c.in-Ok-open.ensures.shows faithful pages (subst (λ image. Recovers (page_size c.in-Ok-open.file) image pages) (sym (there ∙ before)) found);
+      c.in-Ok-open.ensures.rests faithful wanted db pages (subst (λ image. Recovers (page_size c.in-Ok-open.file) image pages) (sym (there ∙ before)) found) has;
   honest = λ faithful.
       let there = c.in-Ok-new.ensures.files ∙ c.in-Ok.ensures.files in
       let clean = subst (λ fs. AreClean g.D.Disk fs.0 fs.1) there (clean_files _ (c.in-Ok-open.ensures.honest faithful)) in

@@ -13,8 +13,8 @@ use Rattle.page_runs.proofs.number_of.number_of.Goals as goal
 pub returns-in-Ok-clause-read : goal.returns-in-Ok-clause-read
 returns-in-Ok-clause-read g c faithful rows is names are =
     let name = c.args.name.now in
-    let whole = all_shown_from_least is.is_file is.rooted ∙ is.rows_are ∙ are in
-    elim (c.in-Ok.ensures.done faithful is.wanted is.pages is.t is.shows is.is_file is.rooted name (refl, refl, tt)) [
+    let whole = all_shown_from_least is.shows.is_db is.shows.rooted ∙ is.rows_are ∙ are in
+    elim (c.in-Ok.ensures.done faithful is.wanted is.t is.shows name (refl, refl, tt)) [
       | inl all ↦
           subst (IsNumberOf names name) (sym all.1) (none_named name c.is_name.ensures names (other_names name names (subst (AreOthers name) whole all.2)))
       | inr (front, rest, parts, ends) ↦

@@ -1,13 +1,14 @@
 use Rattle.page_runs.proofs.Chains.{◌⊳◌}
-use Rattle.page_runs.proofs.Rooting.{roots_after, store_after}
+use Rattle.page_runs.proofs.Rooting.{store_after, tables_show}
 use Rattle.page_runs.proofs.opening.read_store.Goals as goal
 
 pub returns-clause-read : goal.returns-clause-read
-returns-clause-read g c faithful = λ t db is.
+returns-clause-read g c faithful = λ t db known is.
     let found = c.read_lists.ensures.reads.keeps.stays.clean faithful in
-    let there = store_after _ _ t db c.has_our_texts.ensures.reads is in
-    let roots = c.in_ok-roots.ensures.found found t db there in
-    (roots_after _ _ db _ c.read_lists.ensures.reads roots, c.in_ok-lists.ensures.listed faithful t db is.holds roots)
+    let there = store_after _ _ t db known c.has_our_texts.ensures.reads is in
+    let roots = c.in_ok-roots.ensures.found found t db known there in
+    let later = store_after _ _ t db known c.find_roots.ensures.reads there in
+    (roots, c.in_ok-lists.ensures.listed faithful t db is.holds (tables_show _ t db known later.stands is.holds _ roots))
 
 pub returns-clause-reads : goal.returns-clause-reads
 returns-clause-reads g c = c.has_our_texts.ensures.reads ⊳ c.find_roots.ensures.reads ⊳ c.read_lists.ensures.reads

@@ -2,7 +2,8 @@ use Rattle.std.proofs.Common.{arith, ◌<◌, subst, sym, ◌∙◌, to_z-of_z}
 use Rattle.page_runs.specs.Walks.{AllEarlier, IsFirstOf}
 use Rattle.page_files.proofs.Reading.{OnlyReads-trans}
 use Rattle.page_runs.proofs.RunRows.{earlier_behind, earlier_from_least}
-use Rattle.page_runs.proofs.Shows.{OnlyReads-refl, all_from_least, rows_behind, shows_after}
+use Rattle.page_files.proofs.Reading.{OnlyReads-refl}
+use Rattle.page_runs.proofs.Shows.{all_from_least, rows_behind, shows_after}
 use Rattle.page_runs.proofs.places.place_of.Goals as goal
 use Rattle.page_runs.proofs.places.place_of.Goals.{in-Some, in-None}
 

@@ -1,4 +1,4 @@
-use Rattle.std.proofs.Common.{◌≡◌, length}
+use Rattle.std.proofs.Common.{◌≡◌, ℕ, List, length}
 use Rattle.sqlite_trees.specs.Tree.{Trees}
 use Rattle.page_files.specs.Files.{IsFaithful, OnlyReads}
 use Rattle.plain_tables.specs.Tables.{Tables}
@@ -10,5 +10,5 @@ abbrev pub invariant-tables : goal.invariant-tables
 invariant-tables g l = record {
   sized : length l.roots ≡ 11;
   reads : OnlyReads l.fn.file l.file;
-  found : AreNames l.names → IsFaithful l.file → (t : Tables) (db : Trees) → IsStoreOf l.fn.file t db → AreFound l.file db l.roots l.at;
+  found : AreNames l.names → IsFaithful l.file → (t : Tables) (db : Trees) (known : List ℕ) → IsStoreOf l.fn.file t db known → AreFound known l.roots l.at;
 }

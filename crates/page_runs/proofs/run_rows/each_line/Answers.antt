@@ -16,7 +16,7 @@ returns-in-Ok-clause-handed g c faithful = λ rows is order start begun.
     let fits : FitsSigned w64 from = c.in_ok-from.ensures.fits in
     let here : from_rowid (to_z w64 (of_z w64 from)) _ ≡ from_rowid from rows = ap₂ from_rowid (to_z-of_z fits) there.rows_are in
     let same : c.walk.new.sink.sum ≡ c.args.table.sum = search rules in
-    elim (c.in-Ok.ensures.done faithful there.wanted there.pages there.t there.shows there.is_file there.rooted (run, start) (refl, ([], refl, refl, begun))) [
+    elim (c.in-Ok.ensures.done faithful there.wanted there.t there.shows (run, start) (refl, ([], refl, refl, begun))) [
       | inl (is_run, (lines, are, sums, has)) ↦ (lines, all_taken t.columns run from rows lines earlier (subst (λ l. AreOfRun t.columns run l lines) here are), sym sums ∙ same, has)
       | inr (taken, rest, parts, (front, last, is_front, high, (lines, are, sums, has))) ↦
           (lines, taken_to_later t.columns run from rows lines order earlier taken rest front last (sym here ∙ parts) is_front high are, sym sums ∙ same, has)

@@ -5,7 +5,8 @@ use Rattle.std.proofs.Math.Seq.{take-length}
 use Rattle.page_files.proofs.Reading.{OnlyReads-trans}
 use Rattle.page_runs.specs.Among.{is_among}
 use Rattle.page_runs.proofs.Among.{among_group, among_none, shown_rise}
-use Rattle.page_runs.proofs.Shows.{OnlyReads-refl, shows_after}
+use Rattle.page_files.proofs.Reading.{OnlyReads-refl}
+use Rattle.page_runs.proofs.Shows.{shows_after}
 use Rattle.page_runs.proofs.some_rows.rows_of_sorted.Goals as goal
 
 pub groups-init : goal.groups-init

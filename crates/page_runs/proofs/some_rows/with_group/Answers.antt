@@ -21,7 +21,7 @@ returns-in-Ok-clause-read g c up faithful rows is =
     let rise : Rise (from_rowid (pos first) rows) = rise_from (pos first) rows (shown_rise _ _ rows is) in
     let least : (k : ℕ) → k < length group → first ≤ get_or group k 0 = λ k low. (let e = c.in-Some.ensures.item.3.1 0 in let r = up 0 k 0 (omega arith) low in omega (arith, e, r)) in
     let all = ap (λ list. before ++ map l.seen list) (among_from group first rows least (shown_numbered _ _ rows is)) in
-    elim (c.in-Ok.ensures.done faithful is.wanted is.pages is.t is.shows is.is_file is.rooted (group, before) (refl, λ rises none. nothing_taken l.columns l.seen group c.args.lines.items)) [
+    elim (c.in-Ok.ensures.done faithful is.wanted is.t is.shows (group, before) (refl, λ rises none. nothing_taken l.columns l.seen group c.args.lines.items)) [
       | inl (same, has) ↦ (has up (subst Rise (sym here) rise)).taken ∙ ap (λ list. before ++ map l.seen (filter (is_among group) list)) here ∙ all
       | inr (front, rest, parts, ends) ↦
           let whole = sym here ∙ parts in
