@@ -1,0 +1,3 @@
+pub mod FilledLemmas
+pub mod NewCells
+pub mod Rising
