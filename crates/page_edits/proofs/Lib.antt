@@ -1,3 +1,5 @@
 pub mod FilledLemmas
 pub mod NewCells
 pub mod Rising
+pub mod Placing
+pub mod Filling

@@ -3,3 +3,4 @@ pub mod Filled
 pub mod Leaves
 pub mod Rows
 pub mod Fills
+pub mod Places

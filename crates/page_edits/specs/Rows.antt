@@ -8,7 +8,7 @@ use Rattle.sqlite_btree.specs.Aims.{new_entry}
 use Rattle.sqlite_btree.specs.Chain.{Entry, entry_of}
 use Rattle.sqlite_btree.specs.Items.{item_in}
 use Rattle.sqlite_btree.specs.Part.{Part}
-use Rattle.sqlite_btree.specs.Stored.{Order, precedes}
+use Rattle.sqlite_btree.specs.Stored.{Order, precedes, rowid_of}
 use Rattle.page_edits.specs.Leaves.{leaf_of}
 
 abbrev pub NewRow : Type 0
@@ -39,6 +39,10 @@ key_of rowid = flip_sign (cast_unsigned w64 rowid)
 
 abbrev pub table_rows : List (ℤ × Bor (List ℕ)) → List NewRow
 table_rows = map (λ row. (key_of row.0, row.1.now))
+
+-- the rowid of row i is the one that its key stands for
+abbrev pub IsOfRowid : List (ℤ × Bor (List ℕ)) → ℕ → Type 0
+IsOfRowid rows i = (d : ℤ × Bor (List ℕ)) → i < length rows → rowid_of (key_of (slice_index_or rows i d).0) ≡ (slice_index_or rows i d).0
 
 abbrev pub index_rows : List (Bor (List ℕ)) → List NewRow
 index_rows = map (λ entry. (0, entry.now))

@@ -1,5 +1,5 @@
 // Rows put behind those of a leaf (specs/Leaves.antt).
-ghost use Rattle.std.specs.Prelude.{◌≡◌, ◌≤◌, ◌<◌, true, [], ◌∷◌, length, take, IfOk, IsOkAnd};
+ghost use Rattle.std.specs.Prelude.{◌≡◌, ◌≤◌, ◌<◌, ℕ, true, [], ◌∷◌, length, take, IfOk, IsOkAnd};
 ghost use Rattle.std.specs.Bool.{OnTrue, OnFalse};
 ghost use Rattle.sqlite_pages.specs.PageMap.{IsUsableSize};
 ghost use Rattle.sqlite_format.specs.Page.{IsPage};
@@ -57,6 +57,7 @@ pub fn put_rows<R: NewRows>(
     requires header { header ≤ 100 }
     ensures len { length bytes.new ≡ length bytes.old }
     ensures within { IfOk result (λ taken. taken ≤ length (R.rows rows.now)) }
+    ensures keyed { IfOk result (λ taken. (i : ℕ) → i < taken → R.is_keyed rows.now i) }
     ensures rise { IfOk result (λ taken. Rise (R.kind rows.now) (R.order rows.now) (R.rows rows.now) taken) }
     ensures done { IsPage (leaf_of (R.kind rows.now)) bytes.old header → IfOk result (λ taken.
         TakesRows (R.kind rows.now) bytes.old bytes.new header (entries_of (R.kind rows.now) (take taken (R.rows rows.now)))) }

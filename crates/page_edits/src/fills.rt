@@ -1,5 +1,5 @@
 // New rows in the last leaf of a tree.
-ghost use Rattle.std.specs.Prelude.{◌≡◌};
+ghost use Rattle.std.specs.Prelude.{◌≡◌, ◌<◌, ◌≤◌, ℕ, length, IfOk};
 ghost use Rattle.sqlite_pages.specs.Calls.{Continues};
 ghost use Rattle.page_edits.specs.Fills.{FillsLeaf};
 
@@ -19,6 +19,8 @@ pub fn fill<P: Pages, R: NewRows>(
     rows: &R,
 ) -> Result<usize, Error>
     ensures done { FillsLeaf P.Pages store.old store.new (R.kind rows.now) (R.order rows.now) (R.rows rows.now) root result }
+    ensures within { IfOk result (λ taken. taken ≤ length (R.rows rows.now)) }
+    ensures keyed { IfOk result (λ taken. (i : ℕ) → i < taken → R.is_keyed rows.now i) }
     ensures kept { Continues P.Pages store.old store.new }
 {
     if rows.count() == 0 {

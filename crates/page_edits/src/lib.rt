@@ -3,6 +3,8 @@
 //! and all else stays. After an error nothing is said of the pages: the caller rolls back.
 #![tactic(auto)]
 
+// Many rows at a time (specs/Places.antt).
+mod appends;
 // Rows put behind those of a leaf (specs/Leaves.antt).
 mod cells;
 // One row or entry at a time.
@@ -20,4 +22,5 @@ mod rows;
 // The pages' calls, said of the part that a tree has.
 mod store;
 
+pub use appends::{append, append_entries};
 pub use edits::{delete, insert, put, remove};

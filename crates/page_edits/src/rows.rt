@@ -1,10 +1,10 @@
 // Rows that are to stand behind those of a tree (specs/Rows.antt).
-ghost use Rattle.std.specs.Prelude.{◌≡◌, ◌<◌, List, true, length, IsTrue};
+ghost use Rattle.std.specs.Prelude.{◌≡◌, ◌<◌, ℕ, ⊤, List, true, length, IsTrue};
 ghost use Rattle.sqlite_format.specs.declared.kind.Tree.{Tree as TreeKind};
 ghost use Rattle.sqlite_format.specs.declared.kind.Tree.TheVariants.{Table, Index};
-ghost use Rattle.sqlite_btree.specs.Stored.{Order as RecordOrder, no_order, precedes};
+ghost use Rattle.sqlite_btree.specs.Stored.{Order as RecordOrder, no_order, precedes, rowid_of};
 ghost use Rattle.sqlite_store.specs.Db.{record_order};
-ghost use Rattle.page_edits.specs.Rows.{NewRow, entry_from, row_at, key_of, table_rows, index_rows};
+ghost use Rattle.page_edits.specs.Rows.{NewRow, entry_from, row_at, key_of, table_rows, index_rows, IsOfRowid};
 
 use sqlite_format::Tree;
 use sqlite_format::cell::{Key, toggle_sign};
@@ -20,6 +20,9 @@ pub trait NewRows {
 
     ghost rows: { Self → List NewRow };
 
+    // What the key of row i comes from.
+    ghost is_keyed: { Self → ℕ → Type 0 };
+
     fn tree(&self) -> Tree
         ensures { result ≡ kind self.now };
 
@@ -28,7 +31,8 @@ pub trait NewRows {
 
     fn key(&self, i: usize) -> Key
         requires { i < length (rows self.now) }
-        ensures { result ≡ (row_at (rows self.now) i).0 };
+        ensures value { result ≡ (row_at (rows self.now) i).0 }
+        ensures keyed { is_keyed self.now i };
 
     fn payload(&self, i: usize) -> &[u8]
         requires { i < length (rows self.now) }
@@ -43,7 +47,8 @@ pub trait NewRows {
 
 /// The key of a row with this rowid.
 fn key_from(rowid: i64) -> Key
-    ensures { result ≡ key_of rowid }
+    ensures value { result ≡ key_of rowid }
+    ensures back { rowid_of result ≡ rowid }
 {
     toggle_sign(rowid.cast_unsigned())
 }
@@ -58,6 +63,8 @@ impl NewRows for TableRows<'_> {
     ghost order = { λ _. no_order };
 
     ghost rows = { λ it. table_rows it.0.now };
+
+    ghost is_keyed = { λ it i. IsOfRowid it.0.now i };
 
     fn tree(&self) -> Tree {
         Tree::Table
@@ -90,6 +97,8 @@ impl NewRows for IndexEntries<'_> {
     ghost order = { λ it. record_order it.0 };
 
     ghost rows = { λ it. index_rows it.1.now };
+
+    ghost is_keyed = { λ _ _. ⊤ };
 
     fn tree(&self) -> Tree {
         Tree::Index

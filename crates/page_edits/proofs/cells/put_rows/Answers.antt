@@ -18,12 +18,16 @@ loop-i-preserved g c =
     let within : i < length rows = omega (arith, c.count-i-end.ensures) in
     let entry = entry_from t (row_at rows i) in
     record {
+      keyed = λ j below. elim (cases_eq j i) [
+        | inl e ↦ subst (g.R.NewRows.is_keyed c.args.rows.now) (sym e) c.key-in-loop-i.ensures.keyed
+        | inr other ↦ c.loop-i.invariant.keyed j (omega (arith, other))
+      ];
       rise = λ j below. elim (cases_eq (suc j) i) [
         | inl e ↦ elim c.else-i-gt0.branch [
           | else-i-gt0-via-then-i-gt0+else-not-follows w ↦
             let here : i - 1 ≡ j = omega (arith, e) in
             let before : entry_from t (w.key.result, w.payload.result.now) ≡ entry_from t (row_at rows j) =
-            ap₂ (new_entry t) w.key.ensures w.payload.ensures ∙ ap (λ k. entry_from t (row_at rows k)) here in
+            ap₂ (new_entry t) w.key.ensures.value w.payload.ensures ∙ ap (λ k. entry_from t (row_at rows k)) here in
             subst (λ k. precedes t order (entry_from t (row_at rows j)) (entry_from t (row_at rows k)) ≡ true) (sym e)
             (subst (λ x. precedes t order x entry ≡ true) before (w.if-not-follows.ensures refl))
           | else-i-gt0-via-else-i-gt0 w ↦ absurd (omega (arith, w.if-i-gt0.false, e))
@@ -36,7 +40,7 @@ loop-i-preserved g c =
           let mid = c.loop-i.bytes in
           let new = c.put_cell.new.bytes in
           let header = c.args.header in
-          let next : entry_from c.tree-tree.result (c.key-in-loop-i.result, c.payload-in-loop-i.result.now) ≡ entry = ap₂ (λ u (r : NewRow). new_entry u r.0 r.1) c.tree-tree.ensures (ap₂ (λ (k : ℕ) (p : List ℕ). (k, p)) c.key-in-loop-i.ensures c.payload-in-loop-i.ensures) in
+          let next : entry_from c.tree-tree.result (c.key-in-loop-i.result, c.payload-in-loop-i.result.now) ≡ entry = ap₂ (λ u (r : NewRow). new_entry u r.0 r.1) c.tree-tree.ensures (ap₂ (λ (k : ℕ) (p : List ℕ). (k, p)) c.key-in-loop-i.ensures.value c.payload-in-loop-i.ensures) in
           let made = OnTrue_at {P = TakesRows c.tree-tree.result mid new header (entry_from c.tree-tree.result (c.key-in-loop-i.result, c.payload-in-loop-i.result.now) ∷ [])} c.if-not-put.false
           (c.in_ok-put.ensures.done (subst (λ u. IsPage (leaf_of u) mid header) (sym c.tree-tree.ensures) was.sound)) in
           let put : TakesRows t mid new header (entry ∷ []) = subst₂ (λ u e. TakesRows u mid new header (e ∷ [])) c.tree-tree.ensures next made in
