@@ -1,5 +1,5 @@
 -- Rows placed one after another, and edits of a tree one after another.
-use Rattle.std.proofs.Common.{◌≡◌, ℕ, ◌+◌, ◌≤◌, ◌<◌, Bool, true, List, [], ◌∷◌, ◌++◌, length, map, take, drop, get_or, All, Result, Ok, Err, MatchResult, refl, sym, ap, subst, ◌∙◌, inl, inr, arith, append-nil, eq-eqb, ne_eqb, take-append-drop}
+use Rattle.std.proofs.Common.{◌≡◌, ℕ, zero, suc, ◌+◌, ◌-◌, ◌≤◌, ◌<◌, Bool, true, List, [], ◌∷◌, ◌++◌, length, map, take, drop, get_or, All, Result, Ok, Err, MatchResult, refl, sym, ap, subst, ◌∙◌, inl, inr, arith, append-nil, eq-eqb, ne_eqb, take-append-drop, take_all, length-drop}
 use Rattle.std.proofs.Math.Path.{fun_ext}
 use Rattle.std.proofs.lemmas.Bool.{cases_eq}
 use Rattle.std.proofs.lemmas.List.{append_assoc, take_more}
@@ -103,7 +103,7 @@ deepens_later {size} {t} {root} {schema} {before} {mid} {place} done news e d =
       deep = d.deep;
     }
 
-module _ {P : Type 0} (g : Ghosts P) {first old new : P} (so : Continues g first old) {schema : List Wanted} {t root : ℕ} {shape : Shape} {place : Place}
+module _ {P : Type 0} (g : Ghosts P) {first old : P} (new : P) (so : Continues g first old) {schema : List Wanted} {t root : ℕ} {shape : Shape} (place : Place)
     (names : Names (g.size first) schema (g.pages first) t shape root) (clean : IsClean g new) where
   -- after some rows the first of the rest are placed
   pub placed_more : (done rest : List Row) → Edits (g.size first) schema (g.pages first) (g.pages old) t (place_all place done) → All (λ row. shown shape (reals_at schema t) row ≡ row) rest
@@ -132,3 +132,17 @@ module _ {P : Type 0} (g : Ghosts P) {first old new : P} (so : Continues g first
       (subst (λ r. show r ≡ r) (sym is) (same n [] within)))
       (λ _ e. edits_as (λ rows. sym (ap (λ l. place_all place l rows) (take_more news n [] within ∙ ap (λ r. take n news ++ r ∷ []) (sym is)) ∙ place_all-append place (take n news) (row ∷ []) rows))
       (edits_twice edits (subst (λ s. Edits s schema (g.pages old) (g.pages new) t (place row)) size e)))
+
+take_none : {X : Type 0} (n : ℕ) → take {A = X} n [] ≡ []
+take_none zero = refl
+take_none (suc n) = refl
+
+-- some, and then some of the rest
+pub take_more_of : {X : Type 0} (xs : List X) (d n : ℕ) → take d xs ++ take n (drop d xs) ≡ take (d + n) xs
+take_more_of xs zero n = let same : n ≡ 0 + n = omega arith in ap (λ k. take k xs) same
+take_more_of [] (suc d) n = take_none n ∙ sym (take_none (suc d + n))
+take_more_of (x ∷ xs) (suc d) n = let same : suc (d + n) ≡ suc d + n = omega arith in ap (λ l. x ∷ l) (take_more_of xs d n) ∙ ap (λ k. take k (x ∷ xs)) same
+
+-- what a range up to the end is
+pub range_to_end : {X : Type 0} (xs : List X) (d : ℕ) → take (length xs - d) (drop d xs) ≡ drop d xs
+range_to_end xs d = take_all (length xs - d) (drop d xs) (omega (arith, length-drop d xs))
