@@ -1,13 +1,13 @@
 -- What a filled leaf comes to for the rows that the pages read as.
-use Rattle.std.proofs.Common.{◌≡◌, ℕ, zero, suc, ◌<◌, true, List, [], ◌∷◌, ◌++◌, length, map, take, All, refl, sym, ap, ap₂, subst, ◌∙◌, arith, ℤ, int_lt, int_cmp, Ordering, Less}
+use Rattle.std.proofs.Common.{◌≡◌, ℕ, zero, suc, ◌<◌, true, List, [], ◌∷◌, ◌++◌, map, take, All, refl, sym, ap, ap₂, ◌∙◌, arith, ℤ, int_lt, int_cmp, Less}
 use Rattle.std.specs.Borrow.{Bor}
 use Rattle.std.proofs.lemmas.Int.{ints}
 use Rattle.std.proofs.lemmas.List.{map-append, take-map}
 use Rattle.std.proofs.lemmas.List.Elements.{All-take}
 use Rattle.sqlite_format.specs.declared.kind.Tree.TheVariants as kind
 use Rattle.sqlite_pages.specs.PageMap.{PageMap}
-use Rattle.sqlite_btree.specs.Cut.{Ascends, Each}
-use Rattle.sqlite_btree.specs.Stored.{IsTable, IsIndex, IsWhole, IsWritten, as_row, as_record, no_order, rowid_of}
+use Rattle.sqlite_btree.specs.Cut.{Each}
+use Rattle.sqlite_btree.specs.Stored.{IsTable, IsIndex, IsWhole, IsWritten, as_row, as_record, no_order}
 use Rattle.sqlite_btree.proofs.CutLemmas.{Each-append}
 use Rattle.sqlite_btree.proofs.ViewLemmas.{ascends_rows, ascends_records}
 use Rattle.sqlite_value.specs.Order.{Row}

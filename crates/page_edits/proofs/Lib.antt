@@ -3,3 +3,4 @@ pub mod NewCells
 pub mod Rising
 pub mod Placing
 pub mod Filling
+pub mod Ordered

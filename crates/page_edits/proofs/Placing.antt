@@ -1,5 +1,5 @@
 -- Rows placed one after another, and edits of a tree one after another.
-use Rattle.std.proofs.Common.{◌≡◌, ℕ, zero, suc, ◌+◌, ◌-◌, ◌≤◌, ◌<◌, Bool, true, List, [], ◌∷◌, ◌++◌, length, map, take, drop, get_or, All, Result, Ok, Err, MatchResult, refl, sym, ap, subst, ◌∙◌, inl, inr, arith, append-nil, eq-eqb, ne_eqb, take-append-drop, take_all, length-drop}
+use Rattle.std.proofs.Common.{◌≡◌, ℕ, zero, suc, ◌+◌, ◌-◌, ◌<◌, Bool, true, List, [], ◌∷◌, ◌++◌, length, map, take, drop, get_or, All, Result, MatchResult, refl, sym, ap, subst, ◌∙◌, inl, inr, arith, append-nil, eq-eqb, ne_eqb, take-append-drop, take_all, length-drop}
 use Rattle.std.proofs.Math.Path.{fun_ext}
 use Rattle.std.proofs.lemmas.Bool.{cases_eq}
 use Rattle.std.proofs.lemmas.List.{append_assoc, take_more}
@@ -7,9 +7,8 @@ use Rattle.std.proofs.lemmas.List.Elements.{All-head, All-tail}
 use Rattle.sqlite_pages.specs.PageMap.{PageMap}
 use Rattle.sqlite_pages.specs.declared.error.Error.{Error}
 use Rattle.sqlite_pages.specs.declared.pages.Pages.{Ghosts}
-use Rattle.sqlite_pages.specs.Calls.{IsClean, Continues, FailsFor}
+use Rattle.sqlite_pages.specs.Calls.{IsClean, Continues}
 use Rattle.sqlite_btree.specs.Cut.{Ascends, Each}
-use Rattle.sqlite_btree.proofs.CutLemmas.{Ascends-across, in_right}
 use Rattle.sqlite_btree.proofs.Results.{so_ok}
 use Rattle.sqlite_value.specs.Order.{Row}
 use Rattle.sqlite_trees.specs.declared.store.Shape.{Shape}

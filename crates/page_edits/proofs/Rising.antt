@@ -10,11 +10,11 @@ use Rattle.sqlite_btree.specs.Items.{Form, Item, IsOrder, cell_item}
 use Rattle.sqlite_btree.specs.Part.{Part}
 use Rattle.sqlite_btree.specs.Stored.{IsStored, IsStrict, Order, form_of, precedes, rank}
 use Rattle.sqlite_btree.specs.Tree.{IsTree, IsTop, cells_of, child_at, items_before, items_behind, right_of, tree_items}
-use Rattle.sqlite_btree.proofs.CutLemmas.{Ascends-across, Ascends-append, Each-in, in_either, in_right}
+use Rattle.sqlite_btree.proofs.CutLemmas.{Ascends-across, Ascends-append, in_either}
 use Rattle.sqlite_btree.proofs.StoredLemmas.{order_of}
 use Rattle.sqlite_btree.proofs.TreeLemmas.{behind_none, child_at-last, items_focus, last_tree}
 use Rattle.page_edits.specs.Filled.{last_leaf}
-use Rattle.page_edits.specs.Leaves.{leaf_of, HoldRows}
+use Rattle.page_edits.specs.Leaves.{HoldRows}
 use Rattle.page_edits.specs.Rows.{NewRow, entry_from, entries_of, row_at, Rise, ComesAfter}
 use Rattle.page_edits.proofs.NewCells.{one_more_suc}
 

@@ -1,5 +1,5 @@
 -- A leaf that takes rows behind its own.
-use Rattle.std.specs.Prelude.{◌≡◌, ℕ, ◌+◌, ◌<◌, true, List, [], ◌∷◌, ◌++◌, map, length, Result, MatchResult}
+use Rattle.std.specs.Prelude.{◌≡◌, ℕ, ◌+◌, ◌<◌, true, List, ◌++◌, map, length, Result, MatchResult}
 use Rattle.sqlite_pages.specs.declared.error.Error.{Error}
 use Rattle.sqlite_pages.specs.declared.pages.Pages.{Ghosts}
 use Rattle.sqlite_pages.specs.Calls.{IsClean, FailsFor}
@@ -8,7 +8,7 @@ use Rattle.sqlite_format.specs.declared.kind.Tree.{Tree}
 use Rattle.sqlite_format.specs.Page.{IsPage, page_cells}
 use Rattle.sqlite_btree.specs.Cut.{Each}
 use Rattle.sqlite_btree.specs.Part.{Part, IsPartOf}
-use Rattle.sqlite_btree.specs.Items.{Form, Item, item_in, body_of}
+use Rattle.sqlite_btree.specs.Items.{Form, item_in, body_of}
 use Rattle.sqlite_btree.specs.Chain.{Entry, Layout, HasChain, entry_of}
 use Rattle.sqlite_btree.specs.Tree.{IsTop}
 use Rattle.page_edits.specs.Filled.{last_leaf}

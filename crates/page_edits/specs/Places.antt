@@ -48,7 +48,9 @@ module _ {P : Type 0} (g : Ghosts P) (old new : P) where
   abbrev pub PlacesFirst : Shape → ℕ → Place → List Row → Result ℕ Error → Type 0
   PlacesFirst shape root place news result =
       AtTree g old new shape root (λ schema t. All (λ row. shown shape (reals_at schema t) row ≡ row) news
-      → MatchResult result (λ n. Edits (g.size old) schema (g.pages old) (g.pages new) t (place_all place (take n news))) (FailsToPlace schema t root place news))
+      → MatchResult result
+      (λ n. Edits (g.size old) schema (g.pages old) (g.pages new) t (place_all place (take n news)))
+      (FailsToPlace schema t root place news))
 
   -- all of them are, where each is shown as it is given
   abbrev pub PlacesRows : {A : Type 0} → Shape → ℕ → Place → List Row → Result A Error → Type 0

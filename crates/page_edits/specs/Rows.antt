@@ -1,5 +1,5 @@
 -- New rows, each a key and a payload.
-use Rattle.std.specs.Prelude.{◌≡◌, ℕ, suc, ℤ, ◌-◌, ◌<◌, true, List, [], ◌++◌, ◌∷◌, length, map, take, slice_index_or}
+use Rattle.std.specs.Prelude.{◌≡◌, ℕ, suc, ℤ, ◌-◌, ◌<◌, true, List, [], length, map, slice_index_or}
 use Rattle.std.specs.Int.{w64, cast_unsigned}
 use Rattle.std.specs.Borrow.{Bor}
 use Rattle.sqlite_format.specs.declared.kind.Tree.{Tree}
@@ -31,7 +31,9 @@ Rise tree order rows n = (i : ℕ) → suc i < n → precedes tree order (entry_
 abbrev pub ComesAfter : Tree → Order → ℕ → List (List ℕ) → NewRow → Type 0
 ComesAfter tree order usable cells row =
     (spill : Part) → 0 < length cells
-    → precedes tree order (entry_of tree usable spill (item_in (leaf_of tree) usable (slice_index_or cells (length cells - 1) []))) (entry_from tree row) ≡ true
+    → precedes tree order
+    (entry_of tree usable spill (item_in (leaf_of tree) usable (slice_index_or cells (length cells - 1) [])))
+    (entry_from tree row) ≡ true
 
 -- a rowid as a number that sorts as it does
 abbrev pub key_of : ℤ → ℕ

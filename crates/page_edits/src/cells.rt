@@ -1,14 +1,12 @@
 // Rows put behind those of a leaf (specs/Leaves.antt).
-ghost use Rattle.std.specs.Prelude.{◌≡◌, ◌≤◌, ◌<◌, ℕ, true, [], ◌∷◌, length, take, IfOk, IsOkAnd};
+ghost use Rattle.std.specs.Prelude.{◌≡◌, ◌≤◌, ◌<◌, ℕ, true, [], ◌∷◌, length, take, IfOk};
 ghost use Rattle.std.specs.Bool.{OnTrue, OnFalse};
 ghost use Rattle.sqlite_pages.specs.PageMap.{IsUsableSize};
 ghost use Rattle.sqlite_format.specs.Page.{IsPage};
 ghost use Rattle.sqlite_btree.specs.Aims.{new_entry};
-ghost use Rattle.sqlite_btree.specs.Items.{Form};
-ghost use Rattle.sqlite_btree.specs.Part.{Part};
-ghost use Rattle.sqlite_btree.specs.Tree.{IsNode, cells_of};
 ghost use Rattle.page_edits.specs.Leaves.{leaf_of, TakesRows};
-ghost use Rattle.page_edits.specs.Rows.{entries_of, row_at, Rise, ComesAfter};
+ghost use Rattle.page_edits.specs.Rows.{entries_of, row_at, Rise};
+ghost use Rattle.page_edits.specs.Fills.{ComesBehind};
 
 use crate::rows::NewRows;
 use crate::{reads, store};
@@ -80,8 +78,7 @@ pub fn put_rows<R: NewRows>(
 pub fn starts_after<R: NewRows>(bytes: &[u8], page: u32, rows: &R) -> Result<bool, Error>
     requires usable { IsUsableSize (length bytes.now) }
     requires some { 0 < length (R.rows rows.now) }
-    ensures { (form : Form) (part : Part) → form.tree ≡ R.kind rows.now → bytes.now ≡ part page → IsNode form true part page
-        → IsOkAnd result (λ after. OnTrue after (ComesAfter form.tree (R.order rows.now) form.usable (cells_of form true part page) (row_at (R.rows rows.now) 0))) }
+    ensures { ComesBehind (R.kind rows.now) (R.order rows.now) bytes.now page (row_at (R.rows rows.now) 0) result }
 {
     let tree = rows.tree();
     let node = store::parse(bytes, page)?;

@@ -1,4 +1,4 @@
-use Rattle.std.proofs.Common.{◌≡◌, ◌-◌, ◌+◌, ◌++◌, ℤ, ℕ, List, Ok, Err, All, Result, length, take, drop, sym, ap, subst, ◌∙◌, arith, take-append-drop}
+use Rattle.std.proofs.Common.{◌≡◌, ◌-◌, ℤ, ℕ, List, Ok, Err, Result, length, take, drop, sym, ap, subst, ◌∙◌, arith, take-append-drop}
 use Rattle.std.specs.Borrow.{Bor}
 use Rattle.std.proofs.lemmas.List.{drop-map}
 use Rattle.std.proofs.lemmas.List.Elements.{All-drop}

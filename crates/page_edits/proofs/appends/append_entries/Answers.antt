@@ -1,4 +1,4 @@
-use Rattle.std.proofs.Common.{◌≡◌, ◌-◌, ◌+◌, ◌++◌, ℤ, ℕ, List, Ok, Err, All, Result, length, take, drop, sym, ap, subst, ◌∙◌, arith, take-append-drop}
+use Rattle.std.proofs.Common.{◌≡◌, ◌-◌, ℕ, List, Ok, Err, Result, length, take, drop, sym, ap, subst, ◌∙◌, arith, take-append-drop}
 use Rattle.std.specs.Borrow.{Bor}
 use Rattle.std.proofs.lemmas.List.{drop-map}
 use Rattle.std.proofs.lemmas.List.Elements.{All-drop}
@@ -9,7 +9,7 @@ use Rattle.sqlite_trees.specs.Tree.{insert_entry}
 use Rattle.sqlite_trees.specs.declared.store.Shape.TheVariants.{Index}
 use Rattle.sqlite_record.specs.Record.{decode}
 use Rattle.sqlite_store.specs.Catalog.{reals_at}
-use Rattle.sqlite_store.specs.Db.{shown, table_row, Edits}
+use Rattle.sqlite_store.specs.Db.{shown, Edits}
 use Rattle.page_edits.specs.Places.{place_all, entries_given, FailsToPlace, PlacesFirst}
 use Rattle.page_edits.proofs.Placing.{placed_more, range_to_end, take_more_of}
 use Rattle.page_edits.proofs.appends.append_entries.Goals as goal

@@ -1,11 +1,11 @@
 use Rattle.std.proofs.Common.{◌≡◌, ◌-◌, ◌≤◌, ℕ, List, length, take, All}
 use Rattle.sqlite_pages.specs.Calls.{IsClean, Continues}
-use Rattle.sqlite_trees.specs.Tree.{put_row, insert_entry}
-use Rattle.sqlite_trees.specs.declared.store.Shape.TheVariants.{Table, Index}
+use Rattle.sqlite_trees.specs.Tree.{insert_entry}
+use Rattle.sqlite_trees.specs.declared.store.Shape.TheVariants.{Index}
 use Rattle.sqlite_store.specs.declared.catalog.Wanted.{Wanted}
 use Rattle.sqlite_store.specs.Catalog.{reals_at}
 use Rattle.sqlite_store.specs.Db.{shown, IsDb, Names, Edits}
-use Rattle.page_edits.specs.Places.{place_all, rows_given, entries_given}
+use Rattle.page_edits.specs.Places.{place_all, entries_given}
 use Rattle.page_edits.proofs.appends.append_entries.Given as goal
 
 pub record HasCome (W K E : Type 0) : Type 0 where

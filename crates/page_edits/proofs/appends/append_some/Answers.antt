@@ -1,11 +1,10 @@
-use Rattle.std.proofs.Common.{◌≡◌, ◌<◌, rules, to_z, of_z, w64, to_z-of_z, ℤ, pos, ℕ, List, [], length, map, take, get_or, Ok, Err, Result, refl, sym, ap, ◌∙◌, arith}
+use Rattle.std.proofs.Common.{◌≡◌, ◌<◌, rules, to_z, of_z, w64, ℤ, pos, ℕ, List, [], length, get_or, Ok, Err, Result, sym, ap, ◌∙◌, arith}
 use Rattle.std.specs.Borrow.{Bor}
 use Rattle.std.proofs.lemmas.List.{get_or-map, length-map}
 use Rattle.sqlite_pages.specs.declared.error.Error.{Error}
 use Rattle.std.proofs.lemmas.Result.{err_from_is_err_and}
 use Rattle.sqlite_btree.proofs.SpreadLemmas.{no_cell}
 use Rattle.sqlite_trees.specs.Tree.{put_row}
-use Rattle.sqlite_value.specs.Order.{Row}
 use Rattle.sqlite_store.specs.Db.{table_row}
 use Rattle.page_edits.specs.Places.{rows_given}
 use Rattle.page_edits.proofs.Placing.{one_placed}

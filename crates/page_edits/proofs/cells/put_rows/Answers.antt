@@ -1,10 +1,10 @@
-use Rattle.std.proofs.Common.{◌≡◌, suc, ◌-◌, ◌+◌, ◌<◌, ◌++◌, take, true, ℕ, List, length, get_or, [], ◌∷◌, inl, inr, refl, sym, ap, ap₂, subst, subst₂, ◌∙◌, arith}
+use Rattle.std.proofs.Common.{◌≡◌, suc, ◌-◌, ◌<◌, true, ℕ, List, length, [], ◌∷◌, inl, inr, refl, sym, ap, ap₂, subst, subst₂, ◌∙◌, arith}
 use Rattle.std.proofs.lemmas.Bool.{OnTrue_at, cases_eq}
 use Rattle.sqlite_format.specs.Page.{IsPage}
 use Rattle.sqlite_btree.specs.Aims.{new_entry}
 use Rattle.sqlite_btree.specs.Stored.{precedes}
 use Rattle.page_edits.specs.Leaves.{leaf_of, TakesRows}
-use Rattle.page_edits.specs.Rows.{NewRow, entries_of, entry_from, row_at}
+use Rattle.page_edits.specs.Rows.{NewRow, entry_from, row_at}
 use Rattle.page_edits.proofs.NewCells.{more_rows, one_more}
 use Rattle.page_edits.proofs.cells.put_rows.Goals.{else-i-gt0-via-then-i-gt0+else-not-follows, else-i-gt0-via-else-i-gt0}
 use Rattle.page_edits.proofs.cells.put_rows.Goals as goal
@@ -25,11 +25,11 @@ loop-i-preserved g c =
       rise = λ j below. elim (cases_eq (suc j) i) [
         | inl e ↦ elim c.else-i-gt0.branch [
           | else-i-gt0-via-then-i-gt0+else-not-follows w ↦
-            let here : i - 1 ≡ j = omega (arith, e) in
-            let before : entry_from t (w.key.result, w.payload.result.now) ≡ entry_from t (row_at rows j) =
-            ap₂ (new_entry t) w.key.ensures.value w.payload.ensures ∙ ap (λ k. entry_from t (row_at rows k)) here in
-            subst (λ k. precedes t order (entry_from t (row_at rows j)) (entry_from t (row_at rows k)) ≡ true) (sym e)
-            (subst (λ x. precedes t order x entry ≡ true) before (w.if-not-follows.ensures refl))
+              let here : i - 1 ≡ j = omega (arith, e) in
+              let before : entry_from t (w.key.result, w.payload.result.now) ≡ entry_from t (row_at rows j) =
+              ap₂ (new_entry t) w.key.ensures.value w.payload.ensures ∙ ap (λ k. entry_from t (row_at rows k)) here in
+              subst (λ k. precedes t order (entry_from t (row_at rows j)) (entry_from t (row_at rows k)) ≡ true) (sym e)
+              (subst (λ x. precedes t order x entry ≡ true) before (w.if-not-follows.ensures refl))
           | else-i-gt0-via-else-i-gt0 w ↦ absurd (omega (arith, w.if-i-gt0.false, e))
         ]
         | inr other ↦ c.loop-i.invariant.rise j (omega (arith, other))

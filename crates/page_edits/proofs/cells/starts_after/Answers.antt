@@ -1,6 +1,5 @@
-use Rattle.std.proofs.Common.{◌≡◌, ◌-◌, ◌<◌, true, length, get_or, [], sym, ap, ap₂, subst, subst₂, ◌∙◌, arith}
+use Rattle.std.proofs.Common.{◌≡◌, ◌-◌, true, length, get_or, [], sym, ap, subst, subst₂, ◌∙◌, arith}
 use Rattle.std.proofs.lemmas.Bool.{OnTrue_from}
-use Rattle.sqlite_format.specs.declared.kind.Kind.{Kind}
 use Rattle.sqlite_format.specs.Cell.{IsBody, body_key}
 use Rattle.sqlite_format.specs.Payload.{IsPayloadOf}
 use Rattle.sqlite_btree.specs.Chain.{entry_of}

@@ -1,17 +1,15 @@
-use Rattle.std.proofs.Common.{◌≡◌, ◌++◌, ◌≤◌, ℕ, true, length, map, sym, ap, subst, subst₂, ◌∙◌, arith, take, take_all, List, refl}
+use Rattle.std.proofs.Common.{◌≡◌, ◌++◌, ◌≤◌, true, length, sym, ap, subst, subst₂, ◌∙◌, arith, take, List, refl}
 use Rattle.std.proofs.lemmas.Result.{err_from_is_err_and}
 use Rattle.std.proofs.lemmas.Bool.{OnTrue_at}
 use Rattle.sqlite_format.specs.Page.{IsPage, page_cells}
-use Rattle.sqlite_btree.specs.Chain.{IsChained, Layout, Entry, entry_of}
-use Rattle.sqlite_btree.specs.Cut.{Each}
-use Rattle.sqlite_btree.specs.Items.{Form, cell_item, rows_of}
-use Rattle.sqlite_btree.specs.Part.{ChangesOwn, Part, IsPartOf, with_page}
-use Rattle.sqlite_btree.specs.Stored.{IsLaidIn, IsStored, IsWhole, IsWritten, form_of}
+use Rattle.sqlite_btree.specs.Chain.{Entry}
+use Rattle.sqlite_btree.specs.Part.{ChangesOwn, IsPartOf, with_page}
+use Rattle.sqlite_btree.specs.Stored.{IsWhole, IsWritten, form_of}
 use Rattle.sqlite_btree.specs.Tree.{IsNode, cells_of}
 use Rattle.sqlite_btree.proofs.Results.{within_limit}
 use Rattle.sqlite_btree.proofs.TreeLemmas.{node_live}
-use Rattle.page_edits.specs.Filled.{IsFilled, last_leaf}
-use Rattle.page_edits.specs.Leaves.{leaf_of, HoldRows, TakesRows}
+use Rattle.page_edits.specs.Filled.{IsFilled}
+use Rattle.page_edits.specs.Leaves.{leaf_of, HoldRows}
 use Rattle.page_edits.specs.Rows.{ComesAfter, entries_of, row_at}
 use Rattle.page_edits.proofs.FilledLemmas.{stored_filled, top_leaf}
 use Rattle.page_edits.proofs.NewCells.{row_entries, each_chained, written_back}
@@ -89,8 +87,7 @@ returns-clause-done g c = λ clean strict layout entries laid whole.
     let within : taken ≤ length rows = c.in_ok-taken.ensures.within in
     let rises = rows_rise stored strict rows taken put.more within c.in_ok-taken.ensures.rise hold (subst (λ l. ComesAfter tree order size (cells_of form true layout.nodes l) (row_at rows 0)) is after) in
     let w = stored_filled bytes put.more (pages c.args.store.now) (pages c.put.new.store) stored whole.1 strict laid leaf (sym is) filled rises (each_chained form layout put.more (hold.chained layout))
-    (subst (λ p. ChangesOwn layout.nodes p (with_page layout.nodes leaf bytes) (pages c.put.new.store)) (c.copy.ensures.pages ∙ c.last_below.ensures.pages) changed) in
-    (
+    (subst (λ p. ChangesOwn layout.nodes p (with_page layout.nodes leaf bytes) (pages c.put.new.store)) (c.copy.ensures.pages ∙ c.last_below.ensures.pages) changed) in (
       within,
       subst (λ (news : List Entry). IsWritten layout (pages c.args.store.now) (pages c.put.new.store) (λ new. IsWhole tree order size new c.args.root (entries ++ news))) (row_entries form layout.spill put.more (entries_of tree (take taken rows)) (hold.says layout.spill)) w,
     )
