@@ -1,0 +1,6 @@
+pub mod FilledLemmas
+pub mod NewCells
+pub mod Rising
+pub mod Placing
+pub mod Filling
+pub mod Ordered

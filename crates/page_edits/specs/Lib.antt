@@ -1,1 +1,6 @@
 pub mod Trees
+pub mod Filled
+pub mod Leaves
+pub mod Rows
+pub mod Fills
+pub mod Places

@@ -18,7 +18,8 @@ module _ {P : Type 0} (g : Ghosts P) (old new : P) where
   -- if the pages hold a database in which this root is that of tree `t` of this shape: what the fact says of the schema and `t`
   abbrev pub AtTree : Shape → ℕ → (List Wanted → ℕ → Type 0) → Type 0
   AtTree shape root Fact =
-      IsClean g new → (schema : List Wanted) (t : ℕ) → IsDb (g.size old) schema (g.pages old) → Names (g.size old) schema (g.pages old) t shape root → Fact schema t
+      IsClean g new → (schema : List Wanted) (t : ℕ) → IsDb (g.size old) schema (g.pages old)
+      → Names (g.size old) schema (g.pages old) t shape root → Fact schema t
 
   -- the tree's rows are edited, and nothing else; or there is a cause
   abbrev pub EditsOrFails : {A : Type 0} → ℕ → (List Row → List Row) → Result A Error → List Wanted → ℕ → Type 0

@@ -3,9 +3,24 @@
 //! and all else stays. After an error nothing is said of the pages: the caller rolls back.
 #![tactic(auto)]
 
+// Many rows at a time (specs/Places.antt).
+mod appends;
+// Rows put behind those of a leaf (specs/Leaves.antt).
+mod cells;
 // One row or entry at a time.
 mod edits;
+// New rows in the last leaf of a tree.
+mod fills;
+// The last leaf of a tree.
+mod leaves;
 // The place of a row in an index.
 mod probes;
+// The last row of a leaf.
+mod reads;
+// Rows that are to stand behind those of a tree.
+mod rows;
+// The pages' calls, said of the part that a tree has.
+mod store;
 
+pub use appends::{append, append_entries};
 pub use edits::{delete, insert, put, remove};

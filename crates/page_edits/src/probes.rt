@@ -1,4 +1,4 @@
-// The place of a row in an index.
+// The place of an entry in an index.
 ghost use Rattle.sqlite_value.specs.Keys.{entry_cmp};
 ghost use Rattle.sqlite_record.specs.Record.{decode};
 
@@ -17,5 +17,17 @@ impl Probe for AtRow<'_> {
 
     fn compare(&self, bytes: &[u8]) -> Ordering {
         compare::with_row(self.0, bytes, self.1)
+    }
+}
+
+/// The same, for an entry that is given as its record.
+#[derive(Clone, Copy, Debug)]
+pub struct AtRecord<'a>(pub Order, pub &'a [u8]);
+
+impl Probe for AtRecord<'_> {
+    ghost side = { λ it bytes. entry_cmp it.0 (decode bytes) (decode it.1.now) };
+
+    fn compare(&self, bytes: &[u8]) -> Ordering {
+        compare::with_record(self.0, bytes, self.1)
     }
 }

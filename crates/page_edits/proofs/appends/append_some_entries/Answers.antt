@@ -1,0 +1,35 @@
+use Rattle.std.proofs.Common.{◌≡◌, ◌<◌, ℕ, List, [], length, get_or, Ok, Err, Result, sym, arith}
+use Rattle.std.specs.Borrow.{Bor}
+use Rattle.std.proofs.lemmas.List.{get_or-map, length-map}
+use Rattle.sqlite_pages.specs.declared.error.Error.{Error}
+use Rattle.std.proofs.lemmas.Result.{err_from_is_err_and}
+use Rattle.sqlite_btree.proofs.SpreadLemmas.{no_cell}
+use Rattle.sqlite_trees.specs.Tree.{insert_entry}
+use Rattle.sqlite_record.specs.Record.{decode}
+use Rattle.page_edits.specs.Places.{entries_given}
+use Rattle.page_edits.proofs.Placing.{one_placed}
+use Rattle.page_edits.proofs.appends.append_some_entries.Goals as goal
+
+pub returns-in_err-insert_one-clause-done : goal.returns-in_err-insert_one-clause-done
+returns-in_err-insert_one-clause-done g c = λ clean schema t db names same.
+    let rows = c.args.entries.now in
+    let given = entries_given rows in
+    let n = c.in_ok-taken.taken in
+    let within : n < length given = omega (arith, c.in_ok-taken.ensures.within, c.if-taken-entries.false, length-map rows (λ (entry : Bor (List ℕ)). decode entry.now)) in
+    let edits = c.in_ok-taken.ensures.done (omega (arith, clean, c.insert_one.ensures.kept.clean)) schema t db names same in
+    let row = get_or rows n no_cell in
+    let is : decode row.now ≡ get_or given n [] = sym (get_or-map (λ (r : Bor (List ℕ)). decode r.now) rows n no_cell [] (omega (arith, c.in_ok-taken.ensures.within, c.if-taken-entries.false))) in
+    let p = err_from_is_err_and c.from_residual-in_err-insert_one.result c.from_residual-in_err-insert_one.ensures.1 in
+    let failed : Result (Unit {0}) Error = Err c.in_err-insert_one.field-0.0 in
+    rw (p.1, p.2) (one_placed g.P.Pages c.insert_one.new.store c.fill_index.ensures.kept (insert_entry c.args.order) names clean n given (decode row.now) within is edits same failed c.in_err-insert_one.ensures.done)
+
+pub returns-clause-done : goal.returns-clause-done
+returns-clause-done g c = λ clean schema t db names same.
+    let rows = c.args.entries.now in
+    let given = entries_given rows in
+    let n = c.in_ok-taken.taken in
+    let within : n < length given = omega (arith, c.in_ok-taken.ensures.within, c.if-taken-entries.false, length-map rows (λ (entry : Bor (List ℕ)). decode entry.now)) in
+    let edits = c.in_ok-taken.ensures.done (omega (arith, clean, c.insert_one.ensures.kept.clean)) schema t db names same in
+    let row = get_or rows n no_cell in
+    let is : decode row.now ≡ get_or given n [] = sym (get_or-map (λ (r : Bor (List ℕ)). decode r.now) rows n no_cell [] (omega (arith, c.in_ok-taken.ensures.within, c.if-taken-entries.false))) in
+    one_placed g.P.Pages c.insert_one.new.store c.fill_index.ensures.kept (insert_entry c.args.order) names clean n given (decode row.now) within is edits same (Ok c.in_ok-insert_one.field-0) c.in_ok-insert_one.ensures.done

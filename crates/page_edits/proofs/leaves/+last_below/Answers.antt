@@ -1,0 +1,21 @@
+use Rattle.std.proofs.Common.{◌≡◌, suc, sym, ap, subst, ◌∙◌, arith}
+use Rattle.sqlite_format.specs.declared.kind.Kind.{Kind}
+use Rattle.sqlite_btree.specs.Part.{IsPartOf}
+use Rattle.sqlite_btree.specs.Tree.{IsTop, is_leaf_at, right_of}
+use Rattle.sqlite_btree.proofs.Results.{so_ok}
+use Rattle.sqlite_btree.proofs.TreeLemmas.{IsTree-top, interior_height, last_tree, node_live}
+use Rattle.page_edits.specs.Filled.{last_leaf}
+use Rattle.page_edits.proofs.leaves.+last_below.Goals as goal
+
+pub returns-clause-done : goal.returns-clause-done
+returns-clause-done g t c = λ clean form part height laid top shallow.
+    let page = c.args.page in
+    let read = c.in_ok-load.ensures.done (omega (arith, c.load.ensures.kept.clean)) part laid (node_live top.0) in
+    let node = c.in_ok-node.ensures.found form (is_leaf_at height) part (c.loaded.ensures.value ∙ read) top.0 in
+    let down = interior_height height (sym (ap (λ (k : Kind). k.leaf) node.kind) ∙ c.if-node.false) in
+    let tall : IsTop form part (suc down.0) page = subst (λ h. IsTop form part h page) down.1 top in
+    let right : c.right-right.result ≡ right_of part page = c.right-right.ensures ∙ node.right in
+    let below : IsTop form part down.0 (right_of part page) = (IsTree-top form part down.0 (right_of part page) (last_tree form part down.0 page tall.1)).0 in
+    so_ok c.last_below.result _ _ _ (g.P.Pages.faults c.load.new.store) _ ⊥ ⊥ (omega (arith, c.load.ensures.kept.more_faults)) (λ x. x)
+    (c.last_below.ensures.done (omega (arith, clean)) form part down.0 (subst (IsPartOf part) (sym c.load.ensures.pages) laid) (subst (IsTop form part down.0) (sym right) below) (omega (arith, down.1)))
+    (λ leaf is. is ∙ ap (last_leaf part down.0) right ∙ ap (λ h. last_leaf part h page) (sym down.1))
