@@ -61,10 +61,32 @@ places_low wanted roots [] (i ∷ indexes) h = absurd h
 places_low wanted roots (p ∷ places) [] h = absurd h
 places_low wanted roots (p ∷ places) (i ∷ indexes) h = (h.0.at.low, places_low wanted roots places indexes h.1)
 
-module _ (schema : Schema) (spaced : IsSpaced schema) (table : Table) (listed : Has schema.tables table) (edit : EntryEdit) (row : Row) where
-  own : (i : Index) → Has (indexes_of schema table) i → Has schema.indexes i × (i.table ≡ table.tree)
-  own i there = let f = has_filtered (λ (x : Index). x.table == table.tree) schema.indexes i there in (f.0, eqb-true i.table table.tree f.1)
+-- trees of which only the table's and its indexes' are others
+module _ (schema : Schema) (spaced : IsSpaced schema) (table : Table) (listed : Has schema.tables table) where
+  pub mine_of : (i : Index) → Has (indexes_of schema table) i → Has schema.indexes i × (i.table ≡ table.tree)
+  mine_of i there = let f = has_filtered (λ (x : Index). x.table == table.tree) schema.indexes i there in (f.0, eqb-true i.table table.tree f.1)
 
+  pub only_own : (now next : Trees) (rows : List Row) → table.tree < 2 ^ 32 → AllByRecursion (λ (i : Index). i.tree < 2 ^ 32) (indexes_of schema table) → AreIndexed schema now → next table.tree ≡ rows
+      → ((u : ℕ) → u ≢ table.tree → AllByRecursion (λ (i : Index). u ≢ i.tree) (indexes_of schema table) → next u ≡ now u)
+      → ((i : Index) → Has (indexes_of schema table) i → IsIndexOf i.columns (now table.tree) (now i.tree) → IsIndexOf i.columns rows (next i.tree))
+      → OnlyChanges schema now next table
+  only_own now next rows low all_low indexed is elsewhere entries = record {
+    list_stays = elsewhere catalog_tree (λ same. omega (arith, low)) (all_from _ (indexes_of schema table) (λ i there same. let below = all_has (λ (x : Index). x.tree < 2 ^ 32) (indexes_of schema table) i all_low there in omega arith));
+    others = λ t there other. elsewhere t.tree other (all_from _ (indexes_of schema table) (λ i mine. table_apart schema spaced t i there (mine_of i mine).0));
+    indexed = all_from _ schema.indexes (λ i there. elim (cases_eq i.table table.tree) [
+      | inl mine ↦
+          let here = has_kept (λ (x : Index). x.table == table.tree) schema.indexes i there (eq-eqb i.table table.tree mine) in
+          subst (λ l. IsIndexOf i.columns l (next i.tree)) (sym (ap next mine ∙ is))
+          (entries i here (subst (λ n. IsIndexOf i.columns (now n) (now i.tree)) mine (all_has _ schema.indexes i indexed there)))
+      | inr other ↦
+          let away = elsewhere i.table other (all_from _ (indexes_of schema table) (λ j mine. its_table_apart schema spaced i j there (mine_of j mine).0)) in
+          let tree = elsewhere i.tree (λ same. table_apart schema spaced table i listed there (sym same))
+          (all_from _ (indexes_of schema table) (λ j mine same. other (ap (λ (x : Index). x.table) (same_index schema spaced i j there (mine_of j mine).0 same) ∙ (mine_of j mine).1))) in
+          subst (λ l. IsIndexOf i.columns l (next i.tree)) (sym away) (subst (IsIndexOf i.columns (now i.table)) (sym tree) (all_has _ schema.indexes i indexed there))
+    ]);
+  }
+
+module _ (schema : Schema) (spaced : IsSpaced schema) (table : Table) (listed : Has schema.tables table) (edit : EntryEdit) (row : Row) where
   -- the table's tree has these rows, and the indexes' are edited
   abbrev changed : Trees → List Row → Trees
   changed now rows = with_entries edit row (with_tree now table.tree rows) (indexes_of schema table)
@@ -75,30 +97,18 @@ module _ (schema : Schema) (spaced : IsSpaced schema) (table : Table) (listed : 
 
     pub rows_changed : changed now rows table.tree ≡ rows
     rows_changed =
-        entries_other edit row (with_tree now table.tree rows) (indexes_of schema table) table.tree (all_from _ (indexes_of schema table) (λ i there. table_apart schema spaced table i listed (own i there).0)) ∙ with_same now table.tree rows
+        entries_other edit row (with_tree now table.tree rows) (indexes_of schema table) table.tree (all_from _ (indexes_of schema table) (λ i there. table_apart schema spaced table i listed (mine_of schema spaced table listed i there).0)) ∙ with_same now table.tree rows
 
     entry_changed : (i : Index) → Has (indexes_of schema table) i → changed now rows i.tree ≡ edit plain (entry_of i.columns row) (now i.tree)
     entry_changed i there =
         entries_at edit row (with_tree now table.tree rows) (indexes_of schema table) i (indexes_apart schema spaced table) there
-        ∙ ap (edit plain (entry_of i.columns row)) (with_other now table.tree i.tree rows (λ same. table_apart schema spaced table i listed (own i there).0 (sym same)))
+        ∙ ap (edit plain (entry_of i.columns row)) (with_other now table.tree i.tree rows (λ same. table_apart schema spaced table i listed (mine_of schema spaced table listed i there).0 (sym same)))
 
     pub only_changed : AreIndexed schema now → ((cs : List ℕ) (entries : List Row) → IsIndexOf cs (now table.tree) entries → IsIndexOf cs rows (edit plain (entry_of cs row) entries))
         → OnlyChanges schema now (changed now rows) table
-    only_changed indexed step = record {
-      list_stays = elsewhere catalog_tree (λ same. omega (arith, low)) (all_from _ (indexes_of schema table) (λ i there same. let below = all_has (λ (x : Index). x.tree < 2 ^ 32) (indexes_of schema table) i all_low there in omega arith));
-      others = λ t there other. elsewhere t.tree other (all_from _ (indexes_of schema table) (λ i mine. table_apart schema spaced t i there (own i mine).0));
-      indexed = all_from _ schema.indexes (λ i there. elim (cases_eq i.table table.tree) [
-        | inl mine ↦
-            let here = has_kept (λ (x : Index). x.table == table.tree) schema.indexes i there (eq-eqb i.table table.tree mine) in
-            subst (λ l. IsIndexOf i.columns l (changed now rows i.tree)) (sym (ap (changed now rows) mine ∙ rows_changed))
-            (subst (IsIndexOf i.columns rows) (sym (entry_changed i here)) (step i.columns (now i.tree) (subst (λ n. IsIndexOf i.columns (now n) (now i.tree)) mine (all_has _ schema.indexes i indexed there))))
-        | inr other ↦
-            let away = elsewhere i.table other (all_from _ (indexes_of schema table) (λ j mine. its_table_apart schema spaced i j there (own j mine).0)) in
-            let tree = elsewhere i.tree (λ same. table_apart schema spaced table i listed there (sym same))
-            (all_from _ (indexes_of schema table) (λ j mine same. other (ap (λ (x : Index). x.table) (same_index schema spaced i j there (own j mine).0 same) ∙ (own j mine).1))) in
-            subst (λ l. IsIndexOf i.columns l (changed now rows i.tree)) (sym away) (subst (IsIndexOf i.columns (now i.table)) (sym tree) (all_has _ schema.indexes i indexed there))
-      ]);
-    }
+    only_changed indexed step =
+        only_own schema spaced table listed now (changed now rows) rows low all_low indexed rows_changed elsewhere
+        (λ i there was. subst (IsIndexOf i.columns rows) (sym (entry_changed i there)) (step i.columns (now i.tree) was))
 
 module _ {D : Type 0} {g : Ghosts D} where
   -- a table's rows are in order

@@ -20,7 +20,7 @@ use Rattle.page_files.specs.Held.{Writes}
 use Rattle.page_files.specs.Writes.{FailsToWrite}
 use Rattle.page_files.proofs.Causes.{fails_later}
 use Rattle.row_writes.specs.declared.errors.RowError.{RowError}
-use Rattle.row_writes.specs.declared.errors.RowError.TheVariants.{Pages, Unstorable}
+use Rattle.row_writes.specs.declared.errors.RowError.TheVariants.{Pages, Unstorable, NoRowid}
 use Rattle.row_writes.specs.declared.places.IndexPlace.{IndexPlace}
 use Rattle.row_writes.specs.Causes.{FailsToChange, IsRefused}
 use Rattle.row_writes.specs.Changes.{AreStorable}
@@ -108,8 +108,10 @@ module _ {D : Type 0} {g : Ghosts D} where
   pub refused_fails : (old new : PageFile D g) (P Q : Type 0) (e : RowError) → (Q → P) → IsRefused P e → FailsToChange old new Q e
   refused_fails old new P Q (Pages e) so h = subst (FailsToWrite old new) (sym h) tt
   refused_fails old new P Q Unstorable so h = λ q. h (so q)
+  refused_fails old new P Q NoRowid so h = absurd h
 
   -- a later call fails
   pub changes_later : (old mid new : PageFile D g) (P Q : Type 0) (e : RowError) → Keeps (state old.pool) (state mid.pool) → (Q → P) → FailsToChange mid new P e → FailsToChange old new Q e
   changes_later old mid new P Q (Pages e) k so h = fails_later old mid new e k h
   changes_later old mid new P Q Unstorable k so h = λ q. h (so q)
+  changes_later old mid new P Q NoRowid k so h = absurd h

@@ -1,8 +1,9 @@
 -- The rows of one table change, its indexes with them, and nothing else.
-use Rattle.std.specs.Prelude.{◌≡◌, ℕ, List, Result, MatchResult}
+use Rattle.std.specs.Prelude.{◌≡◌, ◌∷◌, ℕ, ℤ, List, Result, MatchResult, ⊤}
 use Rattle.std.specs.declared.cmp.Ordering.TheVariants.{Less}
 use Rattle.std.specs.List.{AllByRecursion}
 use Rattle.sqlite_disk.specs.declared.Disk.{Ghosts}
+use Rattle.sqlite_rules.specs.Lists.{Has}
 use Rattle.sqlite_schema.specs.declared.schema.Index.{Index}
 use Rattle.sqlite_schema.specs.declared.schema.Schema.{Schema}
 use Rattle.sqlite_schema.specs.declared.schema.Table.{Table}
@@ -12,7 +13,8 @@ use Rattle.sqlite_trees.specs.declared.store.Shape.TheVariants as shape
 use Rattle.sqlite_trees.specs.Tree.{Trees, rowid}
 use Rattle.sqlite_trees.specs.View.{IsShaped, IsStorable}
 use Rattle.sqlite_value.specs.declared.value.Value.{Value}
-use Rattle.sqlite_value.specs.Order.{Row, value_cmp}
+use Rattle.sqlite_value.specs.declared.value.Value.TheVariants.{Int}
+use Rattle.sqlite_value.specs.Order.{Row, column, value_cmp}
 use Rattle.page_files.specs.declared.files.PageFile.{PageFile}
 use Rattle.page_files.specs.Files.{IsFaithful}
 use Rattle.page_files.specs.Held.{Writes}
@@ -29,6 +31,16 @@ AreIndexed schema now = AllByRecursion (λ (i : Index). IsIndexOf i.columns (now
 -- the row and its entries can be written as records
 abbrev pub AreStorable : Row → List Index → Type 0
 AreStorable row indexes = AllByRecursion (λ (i : Index). IsStorable 0 (entry_of i.columns row)) indexes
+
+-- nothing more is wanted
+abbrev pub Anything : List Row → List Index → Type 0
+Anything rows indexes = ⊤
+
+-- the row with this rowid has the values of these columns in each column of an index
+abbrev pub KeepsEntries : ℤ → Row → List Row → List Index → Type 0
+KeepsEntries id columns rows indexes =
+    (old : Row) × Has rows (Int id ∷ old)
+    × AllByRecursion (λ (i : Index). AllByRecursion (λ at. column (Int id ∷ columns) at ≡ column (Int id ∷ old) at) i.columns) indexes
 
 -- each row has a rowid below this one
 abbrev pub AreBelow : Value → List Row → Type 0
@@ -51,8 +63,8 @@ module _ {D : Type 0} {g : Ghosts D} where
 
   module _ (old new : PageFile D g) where
     -- the rows of the table at this place are edited, or there is a cause
-    abbrev pub EditsRows : {A : Type 0} → Place → (List Row → Type 0) → (List Row → List Row) → (List Row → List Index → Type 0) → Result A RowError → Type 0
+    abbrev pub EditsRows : {A : Type 0} → Place → (List Row → List Index → Type 0) → (List Row → List Row) → (List Row → List Index → Type 0) → Result A RowError → Type 0
     EditsRows place Needs edit CanStore result =
         IsFaithful new → (schema : Schema) (wanted : List Wanted) (roots : List ℕ) (was now : Trees) (table : Table)
-        → Shows place schema wanted roots was now table old → Needs (now table.tree)
+        → Shows place schema wanted roots was now table old → Needs (now table.tree) (indexes_of schema table)
         → MatchResult result (λ _. HasRows schema wanted roots was now table (edit (now table.tree)) new) (FailsToChange old new (CanStore (now table.tree) (indexes_of schema table)))

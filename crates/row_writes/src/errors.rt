@@ -10,6 +10,8 @@ pub enum RowError {
     Pages(Error),
     /// The row, or an entry of it, has a NaN, no column or too many, or is over a billion bytes.
     Unstorable,
+    /// A row of the table has the greatest rowid, so there is none above it.
+    NoRowid,
 }
 
 impl From<Error> for RowError {

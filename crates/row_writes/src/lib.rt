@@ -10,9 +10,12 @@ mod errors;
 mod places;
 // The records of rows and entries.
 mod records;
+// Rowids that are free.
+mod rowids;
 // One row at a time.
 mod rows;
 
 pub use errors::RowError;
 pub use places::{IndexPlace, Place};
-pub use rows::insert;
+pub use rowids::free_rowid;
+pub use rows::{erase, insert, replace};
