@@ -1,15 +1,11 @@
 // Rows that a test takes are erased.
-ghost use Rattle.std.specs.Prelude.{◌≡◌, ℕ, List, Bool, filter, OnOk, MatchResult, ⊤};
+ghost use Rattle.std.specs.Prelude.{◌≡◌, filter, OnOk, MatchResult, ⊤};
 ghost use Rattle.sqlite_pool.specs.Pool as pools;
 ghost use Rattle.sqlite_pool.specs.Stored.{Keeps};
 ghost use Rattle.sqlite_rules.specs.Edit.{without_all};
-ghost use Rattle.sqlite_schema.specs.declared.schema.Schema.{Schema};
-ghost use Rattle.sqlite_schema.specs.declared.schema.Table.{Table};
-ghost use Rattle.sqlite_store.specs.declared.catalog.Wanted.{Wanted};
-ghost use Rattle.sqlite_trees.specs.Tree.{Trees};
-ghost use Rattle.page_files.specs.Files.{IsFaithful, IsUsable, OnlyReads};
+ghost use Rattle.page_files.specs.Files.{IsUsable, OnlyReads};
 ghost use Rattle.row_writes.specs.Causes.{FailsToChange};
-ghost use Rattle.row_writes.specs.Changes.{Anything, EditsRows, Shows};
+ghost use Rattle.row_writes.specs.Changes.{Anything, AtRows, EditsRows};
 ghost use Rattle.row_writes.specs.Tests.{rowids_of, rows_left};
 
 use crate::errors::RowError;
@@ -71,8 +67,8 @@ fn pick<D: Disk, T: RowTest>(
     place: &Place<'_>,
     test: &T,
 ) -> Result<Vec<i64>, RowError>
-    ensures done { IsFaithful file.new → (schema : Schema) (wanted : List Wanted) (roots : List ℕ) (was now : Trees) (table : Table) → Shows place.now schema wanted roots was now table file.old
-        → MatchResult result (λ rowids. rowids.items ≡ rowids_of (filter (T.takes test.now) (now table.tree))) (FailsToChange file.old file.new ⊤) }
+    ensures done { AtRows file.old file.new place.now
+        (λ rows. MatchResult result (λ rowids. rowids.items ≡ rowids_of (filter (T.takes test.now) rows)) (FailsToChange file.old file.new ⊤)) }
     ensures reads { OnlyReads file.old file.new }
     ensures usable { OnOk result (IsUsable file.new) }
 {
