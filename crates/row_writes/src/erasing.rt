@@ -60,8 +60,11 @@ impl<T: RowTest> RowSink for Picker<'_, T> {
     }
 }
 
-/// The rowids of the rows that a test takes.
-fn pick<D: Disk, T: RowTest>(
+/// The rowids of the rows of a table that a test takes, in their order. It walks over the table.
+///
+/// # Errors
+/// `Pages`, as `PageFile::walk`.
+pub fn rowids_where<D: Disk, T: RowTest>(
     file: &mut PageFile<D>,
     alloc: Global,
     place: &Place<'_>,
@@ -114,6 +117,6 @@ pub fn erase_where<D: Disk, T: RowTest>(
     ensures usable { OnOk result (IsUsable file.new) }
     ensures keeps { Keeps (pools.state file.old.pool) (pools.state file.new.pool) }
 {
-    let rowids = pick(file, alloc, place, test)?;
+    let rowids = rowids_where(file, alloc, place, test)?;
     erase_all(file, alloc, place, rowids.as_slice())
 }

@@ -17,7 +17,7 @@ mod rowids;
 // One row at a time.
 mod rows;
 
-pub use erasing::{RowTest, erase_where};
+pub use erasing::{RowTest, erase_where, rowids_where};
 pub use errors::RowError;
 pub use places::{IndexPlace, Place};
 pub use rowids::free_rowid;

@@ -3,7 +3,7 @@ use Rattle.page_rows.proofs.FileTables.{all_shown_from_least}
 use Rattle.page_files.proofs.Causes.{fails_to_read}
 use Rattle.row_writes.specs.Tests.{rowids_of}
 use Rattle.row_writes.proofs.Outcomes.{table_shows}
-use Rattle.row_writes.proofs.erasing.pick.Goals as goal
+use Rattle.row_writes.proofs.erasing.rowids_where.Goals as goal
 
 pub returns-in-Ok-clause-done : goal.returns-in-Ok-clause-done
 returns-in-Ok-clause-done g c faithful = λ schema wanted roots was now table shows.
