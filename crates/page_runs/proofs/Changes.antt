@@ -17,7 +17,7 @@ use Rattle.plain_tables.specs.Tables.{Tables}
 use Rattle.plain_tables.specs.declared.errors.StoreError.{StoreError}
 use Rattle.run_order.specs.Order.{AreInOrder}
 use Rattle.run_stores.specs.Calls as calls
-use Rattle.run_stores.specs.Calls.{Become, Changed, Given}
+use Rattle.run_stores.specs.Calls.{Are, Become, Changed, Given}
 use Rattle.store_schema.specs.Schema.{schema_two}
 use Rattle.store_schema.specs.Tables.{Holds}
 use Rattle.page_runs.specs.Finished.{Finishes, IsUndone}
@@ -149,3 +149,21 @@ module _ {D : Type 0} {g : Ghosts D} where
           };
           crash = leaves;
         }
+
+    -- one that any rows may undergo
+    pub changed_any : ((t : Tables) → given t) → Changed (state_of {D = D} {g = g}) Are (Become change) (is_ok result) (is_ok result) old new
+    changed_any any =
+        let it = changed in
+        record {
+          stays = it.stays;
+          done = λ done m was. it.done done m (record { t = was.t; holds = (any m, was.holds); represents = was.represents });
+          kept = it.kept;
+          crash = λ m was. it.crash m (record { t = was.t; holds = (any m, was.holds); represents = was.represents });
+        }
+
+    -- over a store that could not be used nothing was written, and a crash leaves nothing new
+    pub kept_shut : OnOk written (IsUsable mid.file) → calls.KeepsIfShut (state_of {D = D} {g = g}) old new
+    kept_shut usable shut left (sized, (image, may, same)) =
+        either written usable fin.unwritten
+        (λ still. absurd (shut (k.stays.was_ready still)))
+        (λ kept. let (before, might, then) = kept.crash image may in inl (leaves_old left image same sized before might then))
