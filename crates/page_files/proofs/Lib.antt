@@ -1,5 +1,6 @@
 pub mod Causes
 pub mod Editing
+pub mod LastRows
 mod Opened
 mod Props
 pub mod Reading

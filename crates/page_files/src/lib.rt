@@ -4,6 +4,8 @@
 
 // A database file that was opened with no check of its pages, and what is read from it.
 mod files;
+// The last row of a table.
+mod lasts;
 // A transaction: rows and entries are written, and committed or undone.
 mod transactions;
 

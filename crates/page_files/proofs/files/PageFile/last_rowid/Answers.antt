@@ -1,0 +1,15 @@
+use Rattle.std.proofs.Common.{subst}
+use Rattle.std.proofs.lemmas.Result.{err_from_is_err_and}
+use Rattle.sqlite_pages.proofs.Doubt.{no_doubt}
+use Rattle.page_rows.proofs.FileTables.{table_there, table_shown}
+use Rattle.page_files.specs.Lasts.{IsLastRowid}
+use Rattle.page_files.proofs.files.PageFile.last_rowid.Goals as goal
+
+pub returns-in_err-last-clause-done : goal.returns-in_err-last-clause-done
+returns-in_err-last-clause-done g c faithful = λ wanted t shows.
+    let p = err_from_is_err_and c.from_residual.result c.from_residual.ensures.1 in
+    rw (p.1, p.2) (c.in_err-last.ensures.done (no_doubt _ faithful) (table_there shows.is_db shows.rooted))
+
+pub returns-clause-done : goal.returns-clause-done
+returns-clause-done g c faithful = λ wanted t shows.
+    subst (λ rows. IsLastRowid rows c.in_ok-last.last) (table_shown shows.is_db shows.rooted) (c.in_ok-last.ensures.done (no_doubt _ faithful) (table_there shows.is_db shows.rooted))

@@ -1,0 +1,4 @@
+pub mod Changed
+pub mod Filling
+pub mod Outcomes
+pub mod Spaced

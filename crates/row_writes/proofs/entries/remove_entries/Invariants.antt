@@ -1,0 +1,6 @@
+use Rattle.sqlite_trees.specs.Tree.{remove_entry}
+use Rattle.row_writes.proofs.Filling.{HasEdited}
+use Rattle.row_writes.proofs.entries.remove_entries.Given as goal
+
+abbrev pub invariant-loop-index : goal.invariant-loop-index
+invariant-loop-index g l = HasEdited l.initial.file l.file l.indexes remove_entry l.row l.index-index

@@ -1,0 +1,4 @@
+pub mod Causes
+pub mod Changes
+pub mod Entries
+pub mod Places

@@ -1,0 +1,15 @@
+// Where a table and its indexes stand.
+
+/// An index: its root page, and the places of its columns in a row, where place 0 is the rowid.
+#[derive(Clone, Copy, Debug)]
+pub struct IndexPlace<'a> {
+    pub root: u32,
+    pub columns: &'a [usize],
+}
+
+/// A table: its root page, and its indexes.
+#[derive(Clone, Copy, Debug)]
+pub struct Place<'a> {
+    pub root: u32,
+    pub indexes: &'a [IndexPlace<'a>],
+}
