@@ -1,4 +1,5 @@
 pub mod Changed
+pub mod Erased
 pub mod Filling
 pub mod Outcomes
 pub mod Spaced

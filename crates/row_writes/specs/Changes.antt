@@ -48,13 +48,15 @@ AreBelow id rows = AllByRecursion (λ r. value_cmp (rowid r) id ≡ Less) rows
 
 module _ {D : Type 0} {g : Ghosts D} where
   -- within a transaction that shows these trees, the table stands at this place, and each index is that of its table
-  pub record Shows (place : Place) (schema : Schema) (wanted : List Wanted) (roots : List ℕ) (was now : Trees) (table : Table) (it : PageFile D g) : Type 0 where
+  pub record Shows (place : Place) (schema : Schema) (wanted : List Wanted) (roots : List ℕ) (was now : Trees) (table : Table)
+      (it : PageFile D g) : Type 0 where
     pub writes : Writes wanted roots was now it
     pub placed : IsPlaceOf place wanted roots schema table
     pub indexed : AreIndexed schema now
 
   -- the transaction shows other trees, in which the table has these rows; nothing else but its indexes has changed
-  pub record HasRows (schema : Schema) (wanted : List Wanted) (roots : List ℕ) (was now : Trees) (table : Table) (rows : List Row) (it : PageFile D g) : Type 0 where
+  pub record HasRows (schema : Schema) (wanted : List Wanted) (roots : List ℕ) (was now : Trees) (table : Table) (rows : List Row)
+      (it : PageFile D g) : Type 0 where
     pub next : Trees
     pub writes : Writes wanted roots was next it
     pub only : OnlyChanges schema now next table
@@ -62,9 +64,26 @@ module _ {D : Type 0} {g : Ghosts D} where
     pub shaped : IsShaped shape.Table rows
 
   module _ (old new : PageFile D g) where
-    -- the rows of the table at this place are edited, or there is a cause
-    abbrev pub EditsRows : {A : Type 0} → Place → (List Row → List Index → Type 0) → (List Row → List Row) → (List Row → List Index → Type 0) → Result A RowError → Type 0
-    EditsRows place Needs edit CanStore result =
+    -- within a transaction, of a table at this place: what the fact says of it and of the trees
+    abbrev pub AtTable : Place → (Schema → List Wanted → List ℕ → Trees → Trees → Table → Type 0) → Type 0
+    AtTable place Fact =
         IsFaithful new → (schema : Schema) (wanted : List Wanted) (roots : List ℕ) (was now : Trees) (table : Table)
-        → Shows place schema wanted roots was now table old → Needs (now table.tree) (indexes_of schema table)
-        → MatchResult result (λ _. HasRows schema wanted roots was now table (edit (now table.tree)) new) (FailsToChange old new (CanStore (now table.tree) (indexes_of schema table)))
+        → Shows place schema wanted roots was now table old → Fact schema wanted roots was now table
+
+    -- the same of its rows alone
+    abbrev pub AtRows : Place → (List Row → Type 0) → Type 0
+    AtRows place Fact = AtTable place (λ schema wanted roots was now table. Fact (now table.tree))
+
+    -- its rows are edited, or there is a cause
+    abbrev pub EditsOrFails : {A : Type 0} → (List Row → List Row) → (List Row → List Index → Type 0) → Result A RowError
+        → Schema → List Wanted → List ℕ → Trees → Trees → Table → Type 0
+    EditsOrFails edit CanStore result schema wanted roots was now table =
+        MatchResult result (λ _. HasRows schema wanted roots was now table (edit (now table.tree)) new)
+        (FailsToChange old new (CanStore (now table.tree) (indexes_of schema table)))
+
+    -- the rows of the table at this place, where they are such as it needs, are edited
+    abbrev pub EditsRows : {A : Type 0} → Place → (List Row → List Index → Type 0) → (List Row → List Row)
+        → (List Row → List Index → Type 0) → Result A RowError → Type 0
+    EditsRows place Needs edit CanStore result =
+        AtTable place (λ schema wanted roots was now table.
+        Needs (now table.tree) (indexes_of schema table) → EditsOrFails edit CanStore result schema wanted roots was now table)

@@ -32,5 +32,6 @@ module _ {D : Type 0} {g : Ghosts D} (old new : PageFile D g) where
   -- within a transaction, the row's entries are edited in the indexes of these places
   abbrev pub EditsEntries : {A : Type 0} → List IndexPlace → EntryEdit → Row → (List Index → Type 0) → Result A RowError → Type 0
   EditsEntries places edit row AreStorable result =
-      IsFaithful new → (wanted : List Wanted) (roots : List ℕ) (was now : Trees) (indexes : List Index) → Writes wanted roots was now old → AreIndexPlaces wanted roots places indexes
+      IsFaithful new → (wanted : List Wanted) (roots : List ℕ) (was now : Trees) (indexes : List Index)
+      → Writes wanted roots was now old → AreIndexPlaces wanted roots places indexes
       → MatchResult result (λ _. Writes wanted roots was (with_entries edit row now indexes) new) (FailsToChange old new (AreStorable indexes))

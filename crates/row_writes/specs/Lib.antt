@@ -2,3 +2,4 @@ pub mod Causes
 pub mod Changes
 pub mod Entries
 pub mod Places
+pub mod Tests

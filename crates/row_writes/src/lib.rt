@@ -4,6 +4,8 @@
 
 // The entries of a row in the indexes of its table.
 mod entries;
+// Rows that a test takes are erased.
+mod erasing;
 // Why a row was not written.
 mod errors;
 // Where a table and its indexes stand.
@@ -15,6 +17,7 @@ mod rowids;
 // One row at a time.
 mod rows;
 
+pub use erasing::{RowTest, erase_where};
 pub use errors::RowError;
 pub use places::{IndexPlace, Place};
 pub use rowids::free_rowid;

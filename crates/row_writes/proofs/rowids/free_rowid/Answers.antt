@@ -1,10 +1,9 @@
-use Rattle.std.proofs.Common.{rules, arith, ◌≡◌, ◌^◌, ◌-◌, ℤ, pos, ◌+ℤ◌, Some, None, sym, ap, subst, subst₂, ◌∙◌, to_z-of_z, to_z, of_z, w64}
+use Rattle.std.proofs.Common.{rules, arith, ◌≡◌, ◌^◌, ◌-◌, ℤ, pos, ◌+ℤ◌, Some, sym, ap, subst, subst₂, ◌∙◌, to_z-of_z, to_z, of_z, w64}
 use Rattle.std.proofs.lemmas.Int.{ints}
 use Rattle.std.proofs.lemmas.Result.{err_from_is_err_and}
 use Rattle.sqlite_rules.specs.Edit.{next_rowid}
 use Rattle.sqlite_value.specs.declared.value.Value.TheVariants.{Int}
 use Rattle.sql_tables.proofs.Rows.{below_next}
-use Rattle.page_files.specs.Files.{FailsToRead}
 use Rattle.page_files.specs.Lasts.{IsLastRowid}
 use Rattle.page_files.specs.Trees.{trees_of}
 use Rattle.row_writes.specs.Changes.{AreBelow}

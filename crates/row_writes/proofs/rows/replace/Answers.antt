@@ -1,4 +1,4 @@
-use Rattle.std.proofs.Common.{◌≡◌, ℤ, List, ◌∷◌, ◌<◌, drop, length, sym, ap, subst, ◌∙◌, to_z-of_z, to_z, of_z, w64}
+use Rattle.std.proofs.Common.{◌≡◌, ℤ, ◌∷◌, ◌<◌, drop, length, sym, ap, subst, ◌∙◌, to_z-of_z, to_z, of_z, w64}
 use Rattle.std.proofs.lemmas.Result.{err_from_is_err_and}
 use Rattle.sqlite_pool.specs.Pool.{state}
 use Rattle.sqlite_pool.specs.StoredLaws.{Keeps-refl}
