@@ -3,7 +3,9 @@ use command_line::Plan;
 use file_reading::total_file;
 use http_service::Service;
 use prof_store::OpenError;
-use program_stores::{database_at, error_line, is_new_at, pages_at, serve_in, work_in, work_in_pages};
+use program_stores::{
+    database_at, error_line, is_new_at, pages_at, serve_in, work_in, work_in_pages,
+};
 use sessions::{Task, Work, print_total, task_of};
 use sqlite::{Alter, Connection};
 use std::io;
