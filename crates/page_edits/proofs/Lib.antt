@@ -4,3 +4,4 @@ pub mod Rising
 pub mod Placing
 pub mod Filling
 pub mod Ordered
+pub mod Nothing

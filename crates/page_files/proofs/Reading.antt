@@ -11,7 +11,7 @@ use Rattle.sqlite_store.specs.Db.{IsDb, roots_of, trees_in}
 use Rattle.sqlite_trees.specs.Tree.{Trees}
 use Rattle.page_rows.specs.Tables.{IsRooted}
 use Rattle.page_files.specs.declared.files.PageFile.{PageFile}
-use Rattle.page_files.specs.Files.{page_size, IsFaithful, IsUsable, OnlyReads}
+use Rattle.page_files.specs.Files.{page_size, pages_of, IsFaithful, IsUsable, OnlyReads}
 use Rattle.page_files.specs.Held.{Has, IsBehind, Rests}
 use Rattle.page_files.specs.Trees.{ShowsTable, trees_of}
 
@@ -33,19 +33,27 @@ module _ {D : Type 0} {g : Ghosts D} where
     left = subst (λ n. LeavesOnly (pools.state new.pool) (Has n wanted was)) (sym k.stays.size) (LeavesOnly-keeps (pools.state old.pool) (pools.state new.pool) (Has (page_size old) wanted was) k b.left);
   }
 
+  -- files that show the same pages show the same trees
+  module _ (old new : PageFile D g) (size : page_size new ≡ page_size old) (pages : pages_of new ≡ pages_of old) where
+    pub same_trees : (wanted : List Wanted) → trees_of wanted new ≡ trees_of wanted old
+    same_trees wanted = ap₂ (λ n p. trees_in n wanted p) size pages
+
+    pub same_table : {wanted : List Wanted} {t root : ℕ} → ShowsTable wanted t root old → ShowsTable wanted t root new
+    same_table {wanted} {t} {root} is = record {
+      is_db = subst₂ (λ n p. IsDb n wanted p) (sym size) (sym pages) is.is_db;
+      rooted = subst₂ (λ n p. IsRooted n wanted p t root) (sym size) (sym pages) is.rooted;
+    }
+
   module _ (old new : PageFile D g) (reads : OnlyReads old new) where
     sized : page_size new ≡ page_size old
     sized = reads.keeps.stays.size
 
     -- the trees that are shown
     pub trees_after : (wanted : List Wanted) → trees_of wanted new ≡ trees_of wanted old
-    trees_after wanted = ap₂ (λ n p. trees_in n wanted p) sized reads.pages
+    trees_after wanted = same_trees old new sized reads.pages wanted
 
     pub table_after : {wanted : List Wanted} {t root : ℕ} → ShowsTable wanted t root old → ShowsTable wanted t root new
-    table_after {wanted} {t} {root} is = record {
-      is_db = subst₂ (λ n p. IsDb n wanted p) (sym sized) (sym reads.pages) is.is_db;
-      rooted = subst₂ (λ n p. IsRooted n wanted p t root) (sym sized) (sym reads.pages) is.rooted;
-    }
+    table_after is = same_table old new sized reads.pages is
 
     -- what is held between transactions
     pub rests_after : {wanted : List Wanted} {roots : List ℕ} {db : Trees} → IsFaithful new → IsUsable new → Rests wanted roots db old → Rests wanted roots db new

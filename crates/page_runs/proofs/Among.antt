@@ -10,7 +10,6 @@ use Rattle.std.proofs.lemmas.List.Elements.{filter-append, filter_agree}
 use Rattle.std.proofs.lemmas.List.Sorted.{list_any-IsPermutation}
 use Rattle.std.proofs.lemmas.List.Folds.{list_any-append, list_any_at, list_any_none}
 use Rattle.sqlite_disk.specs.declared.Disk.{Ghosts}
-use Rattle.sqlite_pool.specs.File.{version_in}
 use Rattle.sqlite_value.specs.declared.value.Value.{Value}
 use Rattle.sqlite_value.specs.declared.value.Value.TheVariants.{Null, Int, Real, Text, Blob}
 use Rattle.sqlite_value.specs.Order.{Row, value_cmp}
@@ -18,10 +17,9 @@ use Rattle.sqlite_value.proofs.OrderLemmas.{value_cmp-Int}
 use Rattle.sqlite_trees.specs.declared.store.Shape.TheVariants.{Table}
 use Rattle.sqlite_trees.specs.Tree.{IsTable, rowid}
 use Rattle.sqlite_trees.specs.View.{IsShaped, is_int}
-use Rattle.sqlite_store.specs.Listing.{file_trees}
-use Rattle.sqlite_store.proofs.ListingLemmas.{all_ordered, named_shape}
 use Rattle.page_files.specs.declared.files.PageFile.{PageFile}
-use Rattle.page_files.specs.Files.{page_size}
+use Rattle.page_files.specs.Trees.{trees_of}
+use Rattle.sqlite_store.proofs.DbLemmas.{ordered}
 use Rattle.page_rows.specs.Rows.{from_rowid}
 use Rattle.page_runs.specs.Among.{HasTaken, IsPassedTo, Rise, id_of, integer, is_among}
 use Rattle.page_runs.specs.Shown.{ShowsRows}

@@ -1,6 +1,8 @@
 pub mod Among
+mod Changes
 mod Chains
 mod Columns
+mod Concluding
 mod HeadLists
 mod HeadTold
 pub mod NameColumns

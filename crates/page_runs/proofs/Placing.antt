@@ -18,10 +18,8 @@ use Rattle.sqlite_store.specs.declared.catalog.Wanted.{Wanted}
 use Rattle.sqlite_store.specs.Catalog.{shape_at, reals_at}
 use Rattle.sqlite_store.specs.Listing.{listed, listed_from}
 use Rattle.plain_tables.specs.Tables.{Tables}
-use Rattle.sql_tables.specs.Contents.{IsContent, content_at}
-use Rattle.sql_tables.proofs.Contents.{content_there}
 use Rattle.store_schema.specs.Schema.{schema_two}
-use Rattle.store_schema.specs.Tables.{Holds, contents_of}
+use Rattle.store_schema.specs.Tables.{Holds}
 use Rattle.page_rows.specs.Tables.{description_at}
 use Rattle.page_runs.specs.Placed.{IsPlaced}
 

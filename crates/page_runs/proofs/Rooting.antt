@@ -1,5 +1,5 @@
 -- The tables of a store, under their roots.
-use Rattle.std.proofs.Common.{◌≡◌, ℕ, ◌+◌, ◌<◌, List, map, length, set, get_or, slice_get, option_map, Some, refl, sym, ap, subst, ◌∙◌, arith, below_more, get_or-set_other, get_or-set_same, Bor}
+use Rattle.std.proofs.Common.{◌≡◌, ℕ, ◌+◌, ◌<◌, List, map, length, set, get_or, slice_get, slice_index, option_map, Some, refl, sym, ap, ◌∙◌, arith, below_more, get_or-set_other, get_or-set_same, Bor}
 use Rattle.std.proofs.Math.ListN.{get_or-map}
 use Rattle.std.proofs.lemmas.Option.{get_or_from_slice_get, slice_get-map}
 use Rattle.sqlite_disk.specs.declared.Disk.{Ghosts}

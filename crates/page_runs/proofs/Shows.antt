@@ -1,30 +1,33 @@
 -- Files that show rows.
-use Rattle.std.proofs.Common.{◌≡◌, ℕ, ℤ, negsuc, ◌-◌, ◌^◌, pos, ◌+ℤ◌, List, ◌∷◌, refl, sym, ap, subst, ◌∙◌, arith}
+use Rattle.std.proofs.Common.{◌≡◌, ℕ, ℤ, negsuc, ◌-◌, ◌^◌, pos, ◌+ℤ◌, List, ◌∷◌, ap, subst, ◌∙◌}
 use Rattle.sqlite_disk.specs.declared.Disk.{Ghosts}
 use Rattle.sqlite_value.specs.declared.value.Value.TheVariants.{Int}
 use Rattle.sqlite_value.specs.Order.{Row}
 use Rattle.sqlite_trees.specs.Tree.{Trees, rowid}
 use Rattle.page_files.specs.declared.files.PageFile.{PageFile}
-use Rattle.page_files.specs.Files.{OnlyReads}
+use Rattle.page_files.specs.Files.{OnlyReads, page_size, pages_of}
 use Rattle.page_rows.specs.Rows.{from_rowid}
-use Rattle.page_files.proofs.Reading.{table_after, trees_after}
+use Rattle.page_files.proofs.Reading.{same_table, same_trees}
 use Rattle.page_rows.proofs.FileTables.{all_shown_from_least, shown_behind}
 use Rattle.page_runs.specs.Shown.{ShowsLines, ShowsRows}
 
 module _ {D : Type 0} {g : Ghosts D} where
+  -- files that show the same pages show the same rows
+  module _ (old new : PageFile D g) (size : page_size new ≡ page_size old) (pages : pages_of new ≡ pages_of old) where
+    pub same_rows : (root : ℕ) (rows : List Row) → ShowsRows old root rows → ShowsRows new root rows
+    same_rows root rows is = record {
+      wanted = is.wanted;
+      t = is.t;
+      shows = same_table old new size pages is.shows;
+      rows_are = ap (λ (trees : Trees). trees is.t) (same_trees old new size pages is.wanted) ∙ is.rows_are;
+    }
+
+    pub same_lines : {X : Type 0} (root : ℕ) (columns : X → Row) (run : X → ℕ) (lines : List X) → ShowsLines old root columns run lines → ShowsLines new root columns run lines
+    same_lines root columns run lines is = record { rows = is.rows; shows = same_rows root is.rows is.shows; lines_are = is.lines_are; in_order = is.in_order }
+
   -- calls that read leave the rows
   pub shows_after : (old new : PageFile D g) (root : ℕ) (rows : List Row) → OnlyReads old new → ShowsRows old root rows → ShowsRows new root rows
-  shows_after old new root rows reads is = record {
-    wanted = is.wanted;
-    t = is.t;
-    shows = table_after old new reads is.shows;
-    rows_are = ap (λ (trees : Trees). trees is.t) (trees_after old new reads is.wanted) ∙ is.rows_are;
-  }
-
-  -- so are those of lines of runs
-  pub lines_after : {X : Type 0} (old new : PageFile D g) (root : ℕ) (columns : X → Row) (run : X → ℕ) (lines : List X) → OnlyReads old new
-      → ShowsLines old root columns run lines → ShowsLines new root columns run lines
-  lines_after old new root columns run lines reads is = record { rows = is.rows; shows = shows_after old new root is.rows reads is.shows; lines_are = is.lines_are; in_order = is.in_order }
+  shows_after old new root rows reads is = same_rows old new reads.keeps.stays.size reads.pages root rows is
 
   module _ (file : PageFile D g) (root : ℕ) (rows : List Row) (is : ShowsRows file root rows) where
     pub all_from_least : from_rowid (negsuc (2 ^ 63 - 1)) rows ≡ rows

@@ -1,6 +1,7 @@
 -- What calls that read leave of a store.
-use Rattle.std.proofs.Common.{◌≡◌, ◌⊎◌, Bool, true, false, IsTrue, map, refl, sym, ap₂, subst, ◌∙◌, inl, inr}
-use Rattle.std.proofs.lemmas.Bool.{cases_Bool}
+use Rattle.std.proofs.Common.{◌≡◌, ◌⊎◌, Bool, true, false, IsTrue, ◌&&◌, Result, Ok, Err, map, refl, sym, ap₂, subst, ◌∙◌, inl, inr}
+use Rattle.std.proofs.lemmas.Bool.{and_parts, cases_Bool}
+use Rattle.std.specs.Result.{IsErr, is_ok}
 use Rattle.sqlite_disk.specs.Disk.{MoreFaults}
 use Rattle.sqlite_pages.specs.PageMap.{PageMap}
 use Rattle.sqlite_pool.specs.File.{in_use}
@@ -12,36 +13,57 @@ use Rattle.sqlite_disk.specs.declared.Disk.{Ghosts}
 use Rattle.sqlite_pool.specs.Stored.{RecoversAs}
 use Rattle.plain_tables.specs.Tables.{Tables, CellRow, CallRow, StackRow}
 use Rattle.run_stores.specs.Calls.{Asked, Changed}
-use Rattle.page_files.specs.Files.{IsUsable, OnlyReads}
+use Rattle.page_files.specs.Files.{IsUsable, OnlyReads, page_size, pages_of}
 use Rattle.page_files.proofs.Reading.{rests_after}
 use Rattle.run_lists.specs.Listed.{AreListed}
 use Rattle.store_schema.specs.Tables.{name_columns, cell_columns, arc_columns, stack_columns}
 use Rattle.page_runs.specs.Shown.{AreRootsIn, ShowsLines, ShowsRows}
 use Rattle.page_runs.specs.declared.roots.Roots.{Roots}
-use Rattle.page_runs.specs.States.{IsFaithful, Left, Represents, ShowsTables, kept, may_leave, state_of}
+use Rattle.page_runs.specs.States.{IsFaithful, IsSettled, Left, Represents, ShowsTables, kept, may_leave, state_of}
 use Rattle.page_runs.specs.declared.store.PageRuns.{PageRuns}
 use Rattle.page_files.proofs.Reading.{OnlyReads-refl}
-use Rattle.page_runs.proofs.Shows.{lines_after, shows_after}
+use Rattle.page_runs.proofs.Shows.{same_lines, same_rows}
+
+-- an error is no answer
+pub none_answered : {T E P : Type 0} (r : Result T E) → IsErr r → IsTrue (is_ok r) → P
+none_answered (Ok x) failed done = absurd (let none : false ≡ true = failed in cc)
+none_answered (Err e) failed done = absurd (let none : false ≡ true = done in cc)
+
+pub none_told : {T E P : Type 0} (r : Result T E) (b : Bool) → IsErr r → IsTrue (is_ok r && b) → P
+none_told r b failed done = none_answered r failed (and_parts (is_ok r) b done).0
 
 module _ {D : Type 0} {g : Ghosts D} where
   -- it can still be used, or failed for good
-  still_or_failed : (old new : PageFile D g) → StaysOrFails (pools.state old.pool) (pools.state new.pool) → IsUsable old → IsUsable new ⊎ MoreFaults (pools.state old.pool).faults (pools.state new.pool).faults
+  pub still_or_failed : (old new : PageFile D g) → StaysOrFails (pools.state old.pool) (pools.state new.pool) → IsUsable old → IsUsable new ⊎ MoreFaults (pools.state old.pool).faults (pools.state new.pool).faults
   still_or_failed old new stays was = elim (cases_Bool (pools.state new.pool).is_ready) [ inl still ↦ inl still | inr shut ↦ inr (stays.stops was shut) ]
+
+  -- stores that show the same pages, with the same lists and roots, are read as the same rows
+  pub shown_same : (old new : PageRuns D g) → page_size new.file ≡ page_size old.file → pages_of new.file ≡ pages_of old.file → new.lists ≡ old.lists → new.roots ≡ old.roots
+      → (t : Tables) → ShowsTables t old → ShowsTables t new
+  shown_same old new size pages lists roots t is = record {
+    listed = subst (AreListed t) (sym lists) is.listed;
+    names = same_rows old.file new.file size pages new.roots.names _ (subst (λ (r : Roots). ShowsRows old.file r.names (map name_columns t.names)) (sym roots) is.names);
+    apart = is.apart;
+    cells = same_lines old.file new.file size pages new.roots.cells _ _ _ (subst (λ (r : Roots). ShowsLines old.file r.cells cell_columns (λ (c : CellRow). c.run) t.cells) (sym roots) is.cells);
+    calls = same_lines old.file new.file size pages new.roots.calls _ _ _ (subst (λ (r : Roots). ShowsLines old.file r.calls arc_columns (λ (a : CallRow). a.run) t.calls) (sym roots) is.calls);
+    stacks = same_lines old.file new.file size pages new.roots.stacks _ _ _ (subst (λ (r : Roots). ShowsLines old.file r.stacks stack_columns (λ (s : StackRow). s.run) t.stacks) (sym roots) is.stacks);
+  }
 
   module _ (old new : PageRuns D g) (file : OnlyReads old.file new.file) (lists : new.lists ≡ old.lists) (roots : new.roots ≡ old.roots) where
     shown_after : (t : Tables) → ShowsTables t old → ShowsTables t new
-    shown_after t is = record {
-      listed = subst (AreListed t) (sym lists) is.listed;
-      names = shows_after old.file new.file new.roots.names _ file (subst (λ (r : Roots). ShowsRows old.file r.names (map name_columns t.names)) (sym roots) is.names);
-      apart = is.apart;
-      cells = lines_after old.file new.file new.roots.cells _ _ _ file (subst (λ (r : Roots). ShowsLines old.file r.cells cell_columns (λ (c : CellRow). c.run) t.cells) (sym roots) is.cells);
-      calls = lines_after old.file new.file new.roots.calls _ _ _ file (subst (λ (r : Roots). ShowsLines old.file r.calls arc_columns (λ (a : CallRow). a.run) t.calls) (sym roots) is.calls);
-      stacks = lines_after old.file new.file new.roots.stacks _ _ _ file (subst (λ (r : Roots). ShowsLines old.file r.stacks stack_columns (λ (s : StackRow). s.run) t.stacks) (sym roots) is.stacks);
-    }
+    shown_after t is = shown_same old new file.keeps.stays.size file.pages lists roots t is
+
+    kept_after : IsFaithful new → IsUsable new.file → kept new ≡ kept old
+    kept_after faithful usable =
+        ap₂ (λ (a b : PageMap). (a, b)) file.pages
+        (ap₂ (λ n p. in_use n p) file.keeps.stays.size (file.keeps.committed (open_from (pools.state new.file.pool) usable faithful)))
+
+    settled_after : IsFaithful new → IsUsable new.file → IsSettled (kept old) → IsSettled (kept new)
+    settled_after faithful usable was = subst IsSettled (sym (kept_after faithful usable)) was
 
     represents_after : (t : Tables) → IsFaithful new → IsUsable new.file → Represents t old → Represents t new
     represents_after t faithful usable was = record {
-      reads = record { usable = usable; shows = shown_after t was.reads.shows };
+      reads = record { usable = usable; settled = settled_after faithful usable was.reads.settled; shows = shown_after t was.reads.shows };
       wanted = was.wanted;
       known = was.known;
       db = was.db;
@@ -58,11 +80,6 @@ module _ {D : Type 0} {g : Ghosts D} where
         (sized ∙ file.keeps.stays.size, (before, might, λ pages is. next pages (first pages is)))
 
     -- the pages as they are read and as they are committed
-    kept_after : IsFaithful new → IsUsable new.file → kept new ≡ kept old
-    kept_after faithful usable =
-        ap₂ (λ (a b : PageMap). (a, b)) file.pages
-        (ap₂ (λ n p. in_use n p) file.keeps.stays.size (file.keeps.committed (open_from (pools.state new.file.pool) usable faithful)))
-
     -- a call that reads its file was only asked
     pub asked : (answered : Bool) → (IsTrue answered → IsUsable new.file) → (IsFaithful new → Asked state_of answered old new)
     asked answered done faithful = record {
@@ -75,7 +92,7 @@ module _ {D : Type 0} {g : Ghosts D} where
       };
       kept = record {
         represents = λ t was usable. represents_after t faithful usable was;
-        reads = λ t is usable. record { usable = usable; shows = shown_after t is.shows };
+        reads = λ t is usable. record { usable = usable; settled = settled_after faithful usable is.settled; shows = shown_after t is.shows };
         same = λ settled usable. kept_after faithful usable;
       };
       crash = λ left may. inl (leaves_after left may);
@@ -84,6 +101,13 @@ module _ {D : Type 0} {g : Ghosts D} where
   -- one that reads nothing changes nothing
   pub asked_nothing : (answered : Bool) (store : PageRuns D g) → (IsTrue answered → IsUsable store.file) → (IsFaithful store → Asked state_of answered store store)
   asked_nothing answered store done = asked store store (OnlyReads-refl store.file) refl refl answered done
+
+  -- and may be answered where the store can be used
+  pub asked_usable : (store : PageRuns D g) → IsUsable store.file → (answered : Bool) → (IsFaithful store → Asked state_of answered store store)
+  asked_usable store usable answered = asked_nothing answered store (λ _. usable)
+
+  pub asked_refused : (store : PageRuns D g) → (IsFaithful store → Asked state_of false store store)
+  asked_refused store = asked_nothing false store (λ (none : false ≡ true). absurd cc)
 
   -- a change that is refused
   pub refused : {M : Type 0} (Before After : M → Tables → Type 0) (store : PageRuns D g) → (IsFaithful store → Changed state_of Before After false false store store)

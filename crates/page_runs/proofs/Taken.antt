@@ -45,7 +45,7 @@ module _ {D : Type 0} {g : Ghosts D} where
   pub represents_as : (t : Tables) (store : PageRuns D g) (db : Trees) (known : List ℕ) {wanted : List Wanted} → Rests wanted known db store.file → Holds t db → AreInOrder t
       → AreRootsIn known store.roots → AreListed t store.lists → IsUsable store.file → Represents t store
   represents_as t store db known {wanted} rests holds order roots listed usable = record {
-    reads = record { usable = usable; shows = tables_shown t db store holds order (tables_show store.file t db known (stands_resting store.file rests) holds store.roots roots) listed };
+    reads = record { usable = usable; settled = rests.clean.fresh; shows = tables_shown t db store holds order (tables_show store.file t db known (stands_resting store.file rests) holds store.roots roots) listed };
     wanted = wanted;
     known = known;
     db = db;

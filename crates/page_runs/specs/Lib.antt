@@ -1,5 +1,6 @@
 pub mod Among
 pub mod Failures
+pub mod Finished
 pub mod Found
 pub mod Placed
 pub mod Shown

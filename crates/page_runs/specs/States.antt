@@ -74,9 +74,10 @@ module _ {D : Type 0} {g : Ghosts D} where
   abbrev pub may_leave : PageRuns D g → Left → Type 0
   may_leave store left = (left.0 ≡ page_size store.file) × ((image : Image) × files.may_leave store.file image × RecoversAs (page_size store.file) image left.1)
 
-  -- it can be used, and is read as these rows
+  -- it can be used, has written nothing, and is read as these rows
   pub record ReadsAs (t : Tables) (store : PageRuns D g) : Type 0 where
     pub usable : files.IsUsable store.file
+    pub settled : IsSettled (kept store)
     pub shows : ShowsTables t store
 
   -- it is read as these rows, and its files rest on a database of them, whatever happens

@@ -1,5 +1,5 @@
 // A store of runs over the pages of its file.
-ghost use Rattle.std.specs.Prelude.{◌≡◌, IsTrue, IfOk, IfSome, OnOk};
+ghost use Rattle.std.specs.Prelude.{◌≡◌, IsTrue, Ok, IfOk, IfSome, OnOk};
 ghost use Rattle.sqlite_wal.specs.Files.{outcomes, seen_image};
 ghost use Rattle.sqlite_wal.specs.Reads.{AreClean};
 ghost use Rattle.page_files.specs.Files.{page_size, IsUsable, may_leave as files_may_leave};
@@ -10,12 +10,14 @@ ghost use Rattle.run_stores.specs.Lookups.{IsKindOf};
 ghost use Rattle.run_lists.specs.Listed.{AreListed};
 ghost use Rattle.run_lists.specs.RowSums.{calls_of_run, cells_of_run, stacks_of_run};
 ghost use Rattle.run_order.specs.Order.{AreInOrder};
+ghost use Rattle.page_runs.specs.Finished.{Commits, Finishes};
 ghost use Rattle.page_runs.specs.States.{HoldsIn, IsFaithful, Represents};
 
 use crate::failures::error_of;
 use crate::files::open_file;
 use crate::handed::{each_call, each_cell, each_stack};
 use crate::heads::head_of;
+use crate::lists::read_lists;
 use crate::names::{holds_names, names_among, names_under};
 use crate::number_of::number_of;
 use crate::opening::open_store;
@@ -117,6 +119,46 @@ impl<D: Disk> PageRuns<D> {
             run,
             sum,
         })
+    }
+
+    /// Ends a change that was written into the file, or failed: it is committed, with the small tables read anew, or
+    /// all that was written is forgotten. `Store` and `Memory`, also those of the writing.
+    fn finish(&mut self, written: Result<(), StoreError>) -> Result<(), StoreError>
+        ensures { Finishes written result self.old self.new }
+    {
+        match written {
+            Ok(()) => self.conclude(),
+            Err(error) => {
+                self.file.undo();
+                Err(error)
+            }
+        }
+    }
+
+    /// Reads the small tables anew and commits what was written, or forgets it.
+    fn conclude(&mut self) -> Result<(), StoreError>
+        ensures { Finishes (Ok tt) result self.old self.new }
+    {
+        match read_lists(&mut self.file, self.alloc, &self.roots) {
+            Ok(lists) => self.commit(lists),
+            Err(error) => {
+                self.file.undo();
+                Err(error)
+            }
+        }
+    }
+
+    /// Commits what was written into the file, with these lists of the small tables.
+    fn commit(&mut self, lists: RunLists) -> Result<(), StoreError>
+        ensures { Commits lists result self.old self.new }
+    {
+        match self.file.commit() {
+            Ok(()) => {
+                self.lists = lists;
+                Ok(())
+            }
+            Err(error) => Err(error_of(error)),
+        }
     }
 
     /// Hands the opened file back.

@@ -3,7 +3,9 @@ use command_line::Plan;
 use file_reading::total_file;
 use http_service::Service;
 use prof_store::OpenError;
-use program_stores::{database_at, error_line, is_new_at, pages_at, read_over, serve_in, work_in};
+use program_stores::{
+    database_at, error_line, is_new_at, pages_at, serve_in, work_in, work_in_pages,
+};
 use sessions::{Task, Work, print_total, task_of};
 use sqlite::{Alter, Connection};
 use std::io;
@@ -72,7 +74,7 @@ fn only_reads(work: &Work<'_>) -> bool {
 fn read_at<'a>(rt: &'a HostRuntime, db: &str, work: Work<'a>) -> Result<io::Result<u8>, OpenError> {
     match pages_at(rt, db) {
         Some(store) => {
-            let (printed, _out, _store) = read_over(rt, io::writer(rt), store, work);
+            let (printed, _out, _store) = work_in_pages(rt, io::writer(rt), store, work);
             Ok(printed)
         }
         None => work_in_database(rt, db, false, Job::Work(work)),

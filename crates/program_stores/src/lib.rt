@@ -3,7 +3,7 @@
 
 // Laws: which history a store has that is in memory, or was of version 1, and what the rows of each run sum to.
 mod laws;
-// Works that only read, over a store that is read from its pages.
+// Works over a store in the pages of its file.
 mod reading;
 // The store of a database is served (specs/Works.antt).
 mod serving;
@@ -15,7 +15,7 @@ mod working;
 pub use laws::{
     memory_keeps_its_history, migrated_stores_have_their_history, rows_sum_to_the_small_tables,
 };
-pub use reading::{pages_at, read_over, store_in_pages};
+pub use reading::{pages_at, store_in_pages, work_in_pages};
 pub use serving::serve_in;
 pub use stores::{StoreFile, database_at, error_line, is_new_at, store_in};
 pub use working::work_in;

@@ -1,14 +1,14 @@
-// Works that only read, over a store that is read from its pages.
+// Works over a store in the pages of its file: those that only read, and those that change it.
 ghost use Rattle.std.specs.Prelude.{IfSome};
 ghost use Rattle.sqlite_wal.specs.Files.{seen_image};
 ghost use Rattle.read_only_disks.specs.Untouched.{IsUntouched};
-ghost use Rattle.page_rows.specs.Files.{page_size};
+ghost use Rattle.page_files.specs.Files.{page_size};
 ghost use Rattle.plain_tables.specs.Tables.{Tables};
 ghost use Rattle.run_stores.specs.Calls.{IsFaithful};
 ghost use Rattle.page_runs.specs.States.{HoldsIn, state_of};
 ghost use Rattle.histories.specs.History.{History};
 ghost use Rattle.histories.specs.Representation.{TablesRepresent};
-ghost use Rattle.store_histories.specs.Answered.{HasHistory};
+ghost use Rattle.store_histories.specs.Answered.{RepresentsHistory};
 ghost use Rattle.sessions.specs.Sessions.{Wants};
 ghost use Rattle.sessions.specs.Works.{CameTo};
 
@@ -29,7 +29,7 @@ const LONGEST_LOG: usize = 0x400_0000;
 
 /// The store in files that are as they were found, to be read from its pages. No byte of them is written. None
 /// where they are not plainly a store of this version, or cannot be read so; their database says why. Where they
-/// hold rows that represent a history, the store has this history.
+/// hold rows that represent a history, the store represents it.
 pub fn store_in_pages<D: Disk + Drop, S: Start>(
     alloc: Global,
     files: DiskFiles<D>,
@@ -38,7 +38,7 @@ pub fn store_in_pages<D: Disk + Drop, S: Start>(
     requires log { IsUntouched D.Disk S.Start.log files.log }
     requires db { IsUntouched D.Disk S.Start.db files.db }
     ensures { IfSome result (λ store. IsFaithful state_of store → (h : History) (t : Tables) → TablesRepresent h t
-        → HoldsIn t (page_size store.file, seen_image D.Disk files.log files.db) → HasHistory state_of h store) }
+        → HoldsIn t (page_size store.file, seen_image D.Disk files.log files.db) → RepresentsHistory state_of h store) }
 {
     let files = read_only(alloc, files, LONGEST_LOG)?;
     PageRuns::open(alloc, files, options)
@@ -57,8 +57,8 @@ pub fn pages_at(rt: &HostRuntime, path: &str) -> Option<PageRuns<ReadOnly<File, 
     store_in_pages(rt.alloc(), files, options)
 }
 
-/// Does a work over a store that is read from its pages, which refuses each change.
-pub fn read_over<'a, R: Files + AllocGlobal, W: Write + Drop, D: Disk + Drop>(
+/// Does a work over a store in the pages of its file.
+pub fn work_in_pages<'a, R: Files + AllocGlobal, W: Write + Drop, D: Disk + Drop>(
     rt: &'a R,
     out: W,
     store: PageRuns<D>,

@@ -13,6 +13,7 @@ use Rattle.page_edits.specs.Leaves.{leaf_of, HoldRows}
 use Rattle.page_edits.specs.Rows.{ComesAfter, entries_of, row_at}
 use Rattle.page_edits.proofs.FilledLemmas.{stored_filled, top_leaf}
 use Rattle.page_edits.proofs.NewCells.{row_entries, each_chained, written_back}
+use Rattle.page_edits.proofs.Nothing.{none_taken}
 use Rattle.page_edits.proofs.Rising.{rows_rise}
 use Rattle.page_edits.proofs.fills.fill.Goals as goal
 
@@ -91,3 +92,9 @@ returns-clause-done g c = λ clean strict layout entries laid whole.
       within,
       subst (λ (news : List Entry). IsWritten layout (pages c.args.store.now) (pages c.put.new.store) (λ new. IsWhole tree order size new c.args.root (entries ++ news))) (row_entries form layout.spill put.more (entries_of tree (take taken rows)) (hold.says layout.spill)) w,
     )
+
+pub returns-then-count-eq0-clause-done : goal.returns-then-count-eq0-clause-done
+returns-then-count-eq0-clause-done g c = λ clean strict layout entries laid whole. none_taken (g.R.NewRows.rows c.args.rows.now) refl laid whole
+
+pub returns-then-not-branch-clause-done : goal.returns-then-not-branch-clause-done
+returns-then-not-branch-clause-done g c = λ clean strict layout entries laid whole. none_taken (g.R.NewRows.rows c.args.rows.now) (c.copy.ensures.pages ∙ c.last_below.ensures.pages) laid whole

@@ -3,7 +3,6 @@ use Rattle.page_files.proofs.Reading.{OnlyReads-trans}
 use Rattle.page_runs.specs.Found.{AreFound}
 use Rattle.page_runs.proofs.Rooting.{name_there, one_found, store_after}
 use Rattle.page_files.proofs.Reading.{OnlyReads-refl}
-use Rattle.page_runs.proofs.Shows.{shows_after}
 use Rattle.page_runs.proofs.roots.roots_of.Goals as goal
 
 pub tables-init : goal.tables-init

@@ -1,5 +1,5 @@
 use Rattle.std.proofs.Common.{Option, None, Some, IfSome, subst, sym}
-use Rattle.page_rows.specs.Files.{page_size}
+use Rattle.page_files.specs.Files.{page_size}
 use Rattle.page_runs.specs.States.{HoldsIn}
 use Rattle.program_stores.proofs.reading.store_in_pages.Goals as goal
 
@@ -11,15 +11,9 @@ pub returns : goal.returns
 returns g c =
     let kept = c.in_ok-files.ensures in
     both c.open.result
-    (λ store honest lasting faithful h t represent holds.
-    let size = page_size store.file in
-    let there = subst (λ image. HoldsIn t (size, image)) (sym (kept.shows (honest faithful))) holds in
-    record {
-      legal = represent.legal;
-      represents = λ usable. record {
-        t = t;
-        represents = lasting faithful t there represent.in_order (λ image may. subst (λ left. HoldsIn t (size, left)) (sym (kept.lasting image may)) there);
-        agrees = represent;
-      };
+    (λ store honest represents faithful h t agrees holds. record {
+      t = t;
+      represents = represents faithful t (subst (λ image. HoldsIn t (page_size store.file, image)) (sym (kept.shows (honest faithful))) holds) agrees.in_order;
+      agrees = agrees;
     })
-    c.open.ensures.honest c.open.ensures.lasting
+    c.open.ensures.honest c.open.ensures.represents

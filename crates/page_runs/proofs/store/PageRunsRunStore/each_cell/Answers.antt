@@ -1,23 +1,28 @@
 use Rattle.std.proofs.Common.{refl, sym, ap, subst}
-use Rattle.std.proofs.lemmas.Result.{IfOk-weaker}
 use Rattle.run_stores.specs.Walks.{CellsFoldTo}
 use Rattle.plain_tables.specs.RunRows.{cells_in}
 use Rattle.plain_tables.specs.Tables.{CellRow}
 use Rattle.store_schema.specs.Tables.{cell_columns}
 use Rattle.page_runs.specs.Shown.{ShowsLines}
 use Rattle.page_runs.specs.declared.run_rows.RunTable.{RunTable}
-use Rattle.page_runs.proofs.States.{asked}
+use Rattle.page_runs.proofs.States.{asked, none_told}
 use Rattle.page_runs.proofs.store.PageRunsRunStore.each_cell.Goals as goal
 
 pub returns-clause-told : goal.returns-clause-told
 returns-clause-told g c faithful t is =
     let sink = g.T.CellSink in
     let start = sink.meaning c.args.sink in
-    let made = c.in_ok-table.ensures t is.listed in
+    let made = c.in_ok-table.ensures t is.shows.listed in
     let root = ap (λ (r : RunTable). r.root) made in
     let run = ap (λ (r : RunTable). r.run) made in
-    let there = subst (λ n. ShowsLines c.args.self.now.file n cell_columns (λ (r : CellRow). r.run) t.cells) (sym root) is.cells in
-    IfOk-weaker c.each_cell.result _ _ (λ taken both. subst (λ n. CellsFoldTo c.args.events sink.step start (sink.meaning taken) (cells_in n t)) run both.0) (c.each_cell.ensures.told faithful t there)
+    let there = subst (λ n. ShowsLines c.args.self.now.file n cell_columns (λ (r : CellRow). r.run) t.cells) (sym root) is.shows.cells in
+    (let both = c.in_ok-taken.ensures.told faithful t there in subst (λ n. CellsFoldTo c.args.events sink.step start (sink.meaning c.in_ok-taken.taken) (cells_in n t)) run both.0)
 
 pub returns-clause-asks : goal.returns-clause-asks
-returns-clause-asks g c = asked _ _ c.each_cell.ensures.reads refl refl _
+returns-clause-asks g c = asked _ _ c.each_cell.ensures.reads refl refl _ (λ _. c.in_ok-if_usable.ensures)
+
+pub returns-in_err-taken-clause-asks : goal.returns-in_err-taken-clause-asks
+returns-in_err-taken-clause-asks g c = asked _ _ c.each_cell.ensures.reads refl refl _ (none_told _ _ c.from_residual-in_err-taken.ensures.0)
+
+pub returns-in_err-if_usable-clause-asks : goal.returns-in_err-if_usable-clause-asks
+returns-in_err-if_usable-clause-asks g c = asked _ _ c.each_cell.ensures.reads refl refl _ (none_told _ _ c.from_residual-in_err-if_usable.ensures.0)

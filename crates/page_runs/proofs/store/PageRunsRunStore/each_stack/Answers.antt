@@ -1,22 +1,27 @@
 use Rattle.std.proofs.Common.{fold, refl, sym, ap, subst, ◌∙◌}
-use Rattle.std.proofs.lemmas.Result.{IfOk-weaker}
 use Rattle.prof_books.specs.Book.{stacks_held}
 use Rattle.plain_tables.specs.Tables.{StackRow}
 use Rattle.store_schema.specs.Tables.{stack_columns}
 use Rattle.page_runs.specs.Shown.{ShowsLines}
 use Rattle.page_runs.specs.declared.run_rows.RunTable.{RunTable}
-use Rattle.page_runs.proofs.States.{asked}
+use Rattle.page_runs.proofs.States.{asked, none_told}
 use Rattle.page_runs.proofs.store.PageRunsRunStore.each_stack.Goals as goal
 
 pub returns-clause-told : goal.returns-clause-told
 returns-clause-told g c faithful t is =
     let sink = g.T.StackRowSink in
     let start = sink.meaning c.args.sink in
-    let made = (c.in_ok-table.ensures t is.listed).2 in
+    let made = (c.in_ok-table.ensures t is.shows.listed).2 in
     let root = ap (λ (r : RunTable). r.root) made in
     let run = ap (λ (r : RunTable). r.run) made in
-    let there = subst (λ n. ShowsLines c.args.self.now.file n stack_columns (λ (r : StackRow). r.run) t.stacks) (sym root) is.stacks in
-    IfOk-weaker c.each_stack.result _ _ (λ taken both. both.0 ∙ ap (λ n. fold sink.step start (stacks_held n t)) run) (c.each_stack.ensures.told faithful t there)
+    let there = subst (λ n. ShowsLines c.args.self.now.file n stack_columns (λ (r : StackRow). r.run) t.stacks) (sym root) is.shows.stacks in
+    (let both = c.in_ok-taken.ensures.told faithful t there in both.0 ∙ ap (λ n. fold sink.step start (stacks_held n t)) run)
 
 pub returns-clause-asks : goal.returns-clause-asks
-returns-clause-asks g c = asked _ _ c.each_stack.ensures.reads refl refl _
+returns-clause-asks g c = asked _ _ c.each_stack.ensures.reads refl refl _ (λ _. c.in_ok-if_usable.ensures)
+
+pub returns-in_err-taken-clause-asks : goal.returns-in_err-taken-clause-asks
+returns-in_err-taken-clause-asks g c = asked _ _ c.each_stack.ensures.reads refl refl _ (none_told _ _ c.from_residual-in_err-taken.ensures.0)
+
+pub returns-in_err-if_usable-clause-asks : goal.returns-in_err-if_usable-clause-asks
+returns-in_err-if_usable-clause-asks g c = asked _ _ c.each_stack.ensures.reads refl refl _ (none_told _ _ c.from_residual-in_err-if_usable.ensures.0)

@@ -1,10 +1,16 @@
 use Rattle.std.proofs.Common.{map, refl}
 use Rattle.store_schema.specs.Tables.{name_columns}
-use Rattle.page_runs.proofs.States.{asked}
+use Rattle.page_runs.proofs.States.{asked, none_answered}
 use Rattle.page_runs.proofs.store.PageRunsRunStore.number_of.Goals as goal
 
 pub returns-clause-told : goal.returns-clause-told
-returns-clause-told g c faithful t is = c.number_of.ensures.read faithful (map name_columns t.names) is.names t.names refl
+returns-clause-told g c faithful t is = c.in_ok-answer.ensures.read faithful (map name_columns t.names) is.shows.names t.names refl
 
 pub returns-clause-asks : goal.returns-clause-asks
-returns-clause-asks g c = asked _ _ c.number_of.ensures.reads refl refl _
+returns-clause-asks g c = asked _ _ c.number_of.ensures.reads refl refl _ (λ _. c.in_ok-if_usable.ensures)
+
+pub returns-in_err-answer-clause-asks : goal.returns-in_err-answer-clause-asks
+returns-in_err-answer-clause-asks g c = asked _ _ c.number_of.ensures.reads refl refl _ (none_answered _ c.from_residual.ensures.0)
+
+pub returns-in_err-if_usable-clause-asks : goal.returns-in_err-if_usable-clause-asks
+returns-in_err-if_usable-clause-asks g c = asked _ _ c.number_of.ensures.reads refl refl _ (none_answered _ c.from_residual-in_err-if_usable.ensures.0)
