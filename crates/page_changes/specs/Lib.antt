@@ -1,0 +1,4 @@
+pub mod Failures
+pub mod Named
+pub mod Placed
+pub mod Shown
