@@ -1,5 +1,5 @@
 -- The rowid behind those of rows.
-use Rattle.std.proofs.Common.{◌≡◌, ℤ, pos, ◌+ℤ◌, ◌<ℤ◌, ◌≤ℤ◌, List, [], ◌∷◌, ◌++◌, int_cmp, Less, Bool, true, false, refl, sym, ap, subst, ◌∙◌, inl, inr, arith, ◌⊎◌, is_lt}
+use Rattle.std.proofs.Common.{◌≡◌, ℤ, pos, ◌+ℤ◌, ◌<ℤ◌, ◌≤ℤ◌, List, [], ◌∷◌, ◌++◌, int_cmp, Less, FitsSigned, w64, Bool, true, false, refl, sym, ap, subst, ◌∙◌, inl, inr, arith, ◌⊎◌, is_lt}
 use Rattle.std.specs.List.{AllByRecursion}
 use Rattle.std.proofs.lemmas.Bool.{cases_Bool}
 use Rattle.std.proofs.lemmas.Int.{by_lt_z, ints}
@@ -28,15 +28,16 @@ below_more id (first ∷ rows) row below here = (below.0, below_more id rows row
 
 module _ (rows : List Row) (row : Row) (id next : ℤ) (is : rowid row ≡ Int id) (was : IsNextRowid rows next) where
   -- the new row is behind those
-  pub raised : next ≤ℤ id → IsNextRowid (rows ++ row ∷ []) (id +ℤ pos 1)
-  raised up = record {
+  pub raised : next ≤ℤ id → FitsSigned w64 (id +ℤ pos 1) → IsNextRowid (rows ++ row ∷ []) (id +ℤ pos 1)
+  raised up fits = record {
+    fits = fits;
     above = below_more (id +ℤ pos 1) rows row (below_still next (id +ℤ pos 1) rows (grind (arith, ints)) was.above) (one_below row id (id +ℤ pos 1) is (grind (arith, ints)));
     least = inr (row, id, has_right rows (row ∷ []) row (inl refl), is, refl);
   }
 
   -- or is not
   pub unraised : id <ℤ next → IsNextRowid (rows ++ row ∷ []) next
-  unraised below = record { above = below_more next rows row was.above (one_below row id next is below); least = found was.least }
+  unraised below = record { fits = was.fits; above = below_more next rows row was.above (one_below row id next is below); least = found was.least }
     where
       found : (next ≡ pos 1) ⊎ ((r : Row) × (last : ℤ) × Has rows r × (rowid r ≡ Int last) × (next ≡ last +ℤ pos 1))
           → (next ≡ pos 1) ⊎ ((r : Row) × (last : ℤ) × Has (rows ++ row ∷ []) r × (rowid r ≡ Int last) × (next ≡ last +ℤ pos 1))

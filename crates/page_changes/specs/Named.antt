@@ -1,5 +1,6 @@
 -- Rows of a name and a number: groups with their baselines, and members.
-use Rattle.std.specs.Prelude.{◌≡◌, ℕ, ℤ, pos, ◌+ℤ◌, ◌⊎◌, ⊤, List, [], ◌∷◌, Option, None, Some}
+use Rattle.std.specs.Prelude.{◌≡◌, ℕ, ℤ, pos, ◌+ℤ◌, ◌⊎◌, ⊤, List, [], ◌∷◌, Option, None, Some, FitsSigned}
+use Rattle.std.specs.Int.{w64}
 use Rattle.std.specs.declared.cmp.Ordering.TheVariants.{Less}
 use Rattle.std.specs.List.{AllByRecursion}
 use Rattle.sqlite_value.specs.declared.value.Value.TheVariants.{Int, Text}
@@ -29,6 +30,7 @@ AreOthers name sought rows = AllByRecursion (IsOther name sought) rows
 pub record IsFoundIn (name : List ℕ) (sought : Option ℕ) (rows : List Row) (found : NamedRow) : Type 0 where
   pub there : Has rows (named found.rowid name found.number)
   pub is : IsSought sought found.number
+  pub fits : FitsSigned w64 found.rowid
 
 -- the row that was found, or there is none
 abbrev pub IsFound : List ℕ → Option ℕ → List Row → Option NamedRow → Type 0
@@ -45,5 +47,6 @@ AreBelow id rows = AllByRecursion (λ row. value_cmp (rowid row) (Int id) ≡ Le
 
 -- it is above each rowid, and 1 or one above some rowid
 pub record IsNextRowid (rows : List Row) (id : ℤ) : Type 0 where
+  pub fits : FitsSigned w64 id
   pub above : AreBelow id rows
   pub least : (id ≡ pos 1) ⊎ ((row : Row) × (last : ℤ) × Has rows row × (rowid row ≡ Int last) × (id ≡ last +ℤ pos 1))

@@ -25,15 +25,14 @@ struct Above {
 }
 
 impl RowSink for Above {
-    ghost use Rattle.std.specs.Prelude.{⊤, FitsSigned};
-    ghost use Rattle.std.specs.Int.{w64};
+    ghost use Rattle.std.specs.Prelude.{⊤};
     ghost use Rattle.page_changes.specs.Named.{IsNextRowid};
 
     type Refusal = StoreError;
 
     ghost Start = { ⊤ };
 
-    ghost Has = { λ _ rows s. IsNextRowid rows s.next × FitsSigned w64 s.next };
+    ghost Has = { λ _ rows s. IsNextRowid rows s.next };
 
     ghost Ends = { λ _ _ _. ⊥ };
 

@@ -14,5 +14,5 @@ returns-in-Ok-clause-found g c faithful rows is =
       | inl all ↦ subst (IsFound name number rows) (sym all.2) (subst (AreOthers name number) whole all.3)
       | inr (front, rest, parts, ends) ↦
           let (row, found, at) = ends in
-          subst (IsFound name number rows) (sym found) (record { there = subst (λ l. Has l (named row.rowid name row.number)) (sym parts ∙ whole) (has_left front rest (named row.rowid name row.number) at.there); is = at.is })
+          subst (IsFound name number rows) (sym found) (record { there = subst (λ l. Has l (named row.rowid name row.number)) (sym parts ∙ whole) (has_left front rest (named row.rowid name row.number) at.there); is = at.is; fits = at.fits })
     ]

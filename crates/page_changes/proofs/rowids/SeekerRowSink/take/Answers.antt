@@ -1,4 +1,4 @@
-use Rattle.std.proofs.Common.{◌≡◌, ◌∙◌, true, false, not, ap, ap₂, sym, refl, inl, subst, to_z-of_z, to_z, of_z, w64, ◌++◌, ◌∷◌, [], Bool, List, ℤ, ℕ, Option}
+use Rattle.std.proofs.Common.{◌≡◌, ◌∙◌, true, false, not, ap, ap₂, sym, refl, inl, subst, to_z-of_z, to_z, of_z, w64, FitsSigned, ◌++◌, ◌∷◌, [], Bool, List, ℤ, ℕ, Option}
 use Rattle.std.proofs.lemmas.Bool.{not-false}
 use Rattle.std.proofs.lemmas.Slice.Eq.{bytes_eq-Decides}
 use Rattle.sqlite_rules.specs.Lists.{Has}
@@ -28,4 +28,5 @@ returns-clause-last c ok start rows has =
     (_, refl, record {
       there = has_right rows (row ∷ []) (named (to_z w64 (of_z w64 c.args.rowid)) start.0 c.in_ok-name.number) (inl (ap (λ n. named (to_z w64 (of_z w64 c.args.rowid)) n c.in_ok-name.number) (sym name) ∙ sym is));
       is = sought;
+      fits = subst (FitsSigned w64) (sym same) c.ranges.rowid;
     })

@@ -1,0 +1,84 @@
+-- The tables of groups and members with their indexes, in a file and as trees that are edited.
+use Rattle.std.proofs.Common.{◌≡◌, ◌≢◌, ◌+◌, ℕ, List, [], ◌∷◌, ◌||◌, ◌==◌, Bool, true, false, slice_get, slice_index, map, Some, refl, sym, ap, subst, ◌∙◌, ne_eqb, eq-eqb, arith}
+use Rattle.std.specs.List.{list_any}
+use Rattle.std.proofs.lemmas.Bool.{or_parts, true≢false}
+use Rattle.sqlite_disk.specs.declared.Disk.{Ghosts}
+use Rattle.sqlite_schema.specs.declared.schema.Index.{Index as KeyIndex}
+use Rattle.sqlite_schema.specs.declared.schema.Table.{Table as AnyTable}
+use Rattle.sqlite_store.specs.declared.catalog.Wanted.{Wanted}
+use Rattle.sqlite_trees.specs.Tree.{Trees, with_tree}
+use Rattle.sqlite_trees.specs.declared.store.Shape.TheVariants.{Index}
+use Rattle.sqlite_value.specs.Keys.{plain}
+use Rattle.sqlite_value.specs.Order.{Row}
+use Rattle.page_files.specs.declared.files.PageFile.{PageFile}
+use Rattle.page_files.specs.Trees.{StandsIn}
+use Rattle.page_files.proofs.Standing.{catalog_shown, table_stands, tree_shown}
+use Rattle.plain_tables.specs.Changes.{has_member, is_member}
+use Rattle.plain_tables.specs.Tables.{Tables}
+use Rattle.run_lists.specs.Listed.{AreListed, member_row}
+use Rattle.run_lists.specs.declared.listed.RunLists.{RunLists}
+use Rattle.store_schema.specs.Schema.{schema_two, grp_at, member_at}
+use Rattle.store_schema.specs.Tables.{Holds}
+use Rattle.table_changes.specs.Changes.{SparesBut}
+use Rattle.page_changes.specs.Lines.{StandAs}
+use Rattle.page_changes.specs.Shown.{ShowsRows}
+use Rattle.page_changes.proofs.Placing.{index_placed_at, placed_at}
+
+not_at : (tree a : ℕ) → (a == tree) ≡ false → tree ≢ a
+not_at tree a other same = true≢false (sym (eq-eqb a tree (sym same)) ∙ other)
+
+any_mapped : {A B : Type 0} (p : B → Bool) (f : A → B) (xs : List A) → list_any (λ x. p (f x)) xs ≡ list_any p (map f xs)
+any_mapped p f [] = refl
+any_mapped p f (x ∷ xs) = ap (λ b. p (f x) || b) (any_mapped p f xs)
+
+-- whether a run is in a group, by the lists
+pub listed_member : (t : Tables) (lists : RunLists) → AreListed t lists → (name : List ℕ) (run : ℕ) → list_any (λ m. is_member name run (member_row m)) lists.members.items ≡ has_member t name run
+listed_member t lists listed name run = any_mapped (is_member name run) member_row lists.members.items ∙ ap (list_any (is_member name run)) listed.members
+
+-- two trees that are set leave the others
+pub spares_two : (a b : ℕ) (db : Trees) (rows entries : List Row) → SparesBut (a ∷ b ∷ []) db (with_tree (with_tree db a rows) b entries)
+spares_two a b db rows entries tree none =
+    let parts = or_parts (a == tree) ((b == tree) || false) none in
+    let first = ne_eqb tree a (not_at tree a parts.0) in
+    let second = ne_eqb tree b (not_at tree b (or_parts (b == tree) false parts.1).0) in
+    rw (second, first) refl
+
+-- and one
+pub spares_one : (a : ℕ) (db : Trees) (rows : List Row) → SparesBut (a ∷ []) db (with_tree db a rows)
+spares_one a db rows tree none = rw (ne_eqb tree a (not_at tree a (or_parts (a == tree) false none).0)) refl
+
+module _ {D : Type 0} {g : Ghosts D} (file : PageFile D g) {wanted : List Wanted} {known : List ℕ} {db : Trees} {t : Tables} (stands : StandsIn wanted known db file) (holds : Holds t db) where
+  shows_at : (at : ℕ) (table : AnyTable) → slice_get schema_two.tables at ≡ Some table → (root : ℕ) → root ≡ slice_index known table.tree → ShowsRows file root (db table.tree)
+  shows_at at table there root root_is =
+      let placed = placed_at wanted db (catalog_shown file stands) holds at table there in
+      record {
+        wanted = wanted;
+        t = table.tree;
+        shows = table_stands file stands table.tree placed.low root placed.named.shape placed.plain root_is;
+        rows_are = tree_shown file stands table.tree placed.low;
+      }
+
+  stand_at : (at under : ℕ) (table : AnyTable) (index : KeyIndex) → slice_get schema_two.tables at ≡ Some table → slice_get schema_two.indexes under ≡ Some index → index.order ≡ plain → index.tree ≢ table.tree
+      → (root key : ℕ) → root ≡ slice_index known table.tree → key ≡ slice_index known index.tree → StandAs wanted known table.tree index.tree root key
+  stand_at at under table index there listed order apart root key root_is key_is =
+      let placed = placed_at wanted db (catalog_shown file stands) holds at table there in
+      let keyed = index_placed_at wanted db (catalog_shown file stands) holds under index listed in
+      record {
+        table_at = record { low = placed.low; shape_is = placed.named.shape; root_is = sym root_is };
+        index_at = record { low = keyed.low; shape_is = keyed.named.shape ∙ ap (λ o. Index o) order; root_is = sym key_is };
+        table_plain = placed.plain;
+        index_plain = keyed.plain;
+        apart = apart;
+      }
+
+  pub groups_shown : (root : ℕ) → root ≡ slice_index known 19 → ShowsRows file root (db 19)
+  groups_shown = shows_at 8 grp_at refl
+
+  pub members_shown : (root : ℕ) → root ≡ slice_index known 21 → ShowsRows file root (db 21)
+  members_shown = shows_at 9 member_at refl
+
+  pub groups_stand : (root key : ℕ) → root ≡ slice_index known 19 → key ≡ slice_index known 20 → StandAs wanted known 19 20 root key
+  groups_stand = stand_at 8 9 grp_at _ refl refl refl (λ same. absurd (let no : ◌≡◌ {A = ℕ} 20 19 = same in omega (arith, no)))
+
+  pub members_stand : (root key : ℕ) → root ≡ slice_index known 21 → key ≡ slice_index known 22 → StandAs wanted known 21 22 root key
+  members_stand = stand_at 9 10 member_at _ refl refl refl (λ same. absurd (let no : ◌≡◌ {A = ℕ} 22 21 = same in omega (arith, no)))
