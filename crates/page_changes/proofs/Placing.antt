@@ -1,6 +1,8 @@
 -- Where the tables and indexes of a schema stand in a file that holds it.
-use Rattle.std.proofs.Common.{◌≡◌, ℕ, suc, ◌+◌, ◌*◌, pos, List, [], ◌∷◌, ◌++◌, slice_get, Some, refl, sym, ap, subst, ◌∙◌, inl, inr, arith}
+use Rattle.std.proofs.Common.{◌≡◌, ℕ, suc, ◌+◌, ◌*◌, pos, List, [], ◌∷◌, ◌++◌, slice_get, codes, Some, refl, sym, ap, subst, ◌∙◌, inl, inr, arith}
 use Rattle.std.specs.List.{AllByRecursion}
+use Rattle.std.specs.Fmt.{decimal}
+use Rattle.std.proofs.lemmas.Fmt.{decimal_digit}
 use Rattle.sqlite_value.specs.declared.value.Value.TheVariants.{Int}
 use Rattle.sqlite_value.specs.declared.keys.Order.{Order}
 use Rattle.sqlite_value.specs.Order.{Row, column}
@@ -151,3 +153,11 @@ index_placed_at wanted db catalog holds at index there =
       };
       plain = sym placed.reals ∙ is.described.reals_are ∙ ap (λ n. index_reals n index.columns) none ∙ plain;
     }
+
+-- ---- the names of the keys of groups and of members
+
+pub group_key_name : codes "sqlite_autoindex_grp_" ++ decimal 1 ≡ codes "sqlite_autoindex_grp_1"
+group_key_name = ap (λ number. codes "sqlite_autoindex_grp_" ++ number) (decimal_digit 1 (omega arith))
+
+pub member_key_name : codes "sqlite_autoindex_member_" ++ decimal 1 ≡ codes "sqlite_autoindex_member_1"
+member_key_name = ap (λ number. codes "sqlite_autoindex_member_" ++ number) (decimal_digit 1 (omega arith))
