@@ -1,5 +1,5 @@
 -- The tables of groups and members with their indexes, in a file and as trees that are edited.
-use Rattle.std.proofs.Common.{◌≡◌, ◌≢◌, ◌+◌, ℕ, List, [], ◌∷◌, ◌||◌, ◌==◌, Bool, true, false, slice_get, slice_index, map, Some, refl, sym, ap, subst, ◌∙◌, ne_eqb, eq-eqb, arith}
+use Rattle.std.proofs.Common.{◌≡◌, ◌≢◌, ◌+◌, ℕ, List, [], ◌∷◌, ◌||◌, ◌==◌, Bool, true, false, slice_get, slice_index, map, filter, not, if◌then◌else◌, Some, refl, sym, ap, subst, ◌∙◌, ne_eqb, eq-eqb, arith}
 use Rattle.std.specs.List.{list_any}
 use Rattle.std.proofs.lemmas.Bool.{or_parts, true≢false}
 use Rattle.sqlite_disk.specs.declared.Disk.{Ghosts}
@@ -13,7 +13,7 @@ use Rattle.sqlite_value.specs.Order.{Row}
 use Rattle.page_files.specs.declared.files.PageFile.{PageFile}
 use Rattle.page_files.specs.Trees.{StandsIn}
 use Rattle.page_files.proofs.Standing.{catalog_shown, table_stands, tree_shown}
-use Rattle.plain_tables.specs.Changes.{has_member, is_member}
+use Rattle.plain_tables.specs.Changes.{has_group, has_member, is_member, is_named, rebased, with_baseline, without_member}
 use Rattle.plain_tables.specs.Tables.{Tables}
 use Rattle.run_lists.specs.Listed.{AreListed, member_row}
 use Rattle.run_lists.specs.declared.listed.RunLists.{RunLists}
@@ -23,6 +23,28 @@ use Rattle.table_changes.specs.Changes.{SparesBut}
 use Rattle.page_changes.specs.Lines.{StandAs}
 use Rattle.page_changes.specs.Shown.{ShowsRows}
 use Rattle.page_changes.proofs.Placing.{index_placed_at, placed_at}
+
+-- ---- changes that change nothing
+
+without_none : {A : Type 0} (p : A → Bool) (xs : List A) → list_any p xs ≡ false → filter (λ x. not (p x)) xs ≡ xs
+without_none p [] none = refl
+without_none p (x ∷ xs) none =
+    let parts = or_parts (p x) (list_any p xs) none in
+    rw parts.0 (ap (λ l. x ∷ l) (without_none p xs parts.1))
+
+pub not_member : (t : Tables) (name : List ℕ) (run : ℕ) → has_member t name run ≡ false → without_member name run t ≡ t
+not_member t name run none = ap (λ ms. record t { members = ms }) (without_none (is_member name run) t.members none)
+
+none_turned : {A : Type 0} (p : A → Bool) (f : A → A) (xs : List A) → list_any p xs ≡ false → map (λ x. if p x then f x else x) xs ≡ xs
+none_turned p f [] none = refl
+none_turned p f (x ∷ xs) none =
+    let parts = or_parts (p x) (list_any p xs) none in
+    rw parts.0 (ap (λ l. x ∷ l) (none_turned p f xs parts.1))
+
+pub not_group : (t : Tables) (name : List ℕ) (run : ℕ) → has_group t name ≡ false → with_baseline name run t ≡ t
+not_group t name run none = ap (λ gs. record t { groups = gs }) (none_turned (is_named name) (rebased run) t.groups none)
+
+-- ---- trees
 
 not_at : (tree a : ℕ) → (a == tree) ≡ false → tree ≢ a
 not_at tree a other same = true≢false (sym (eq-eqb a tree (sym same)) ∙ other)

@@ -32,6 +32,12 @@ module _ {D : Type 0} {g : Ghosts D} where
       IsFaithful new → (wanted : List Wanted) (known : List ℕ) (db : Trees) (t : Tables) → Rests wanted known db old → Holds t db
       → table ≡ slice_index known tree → index ≡ slice_index known (tree + 1) → Fact t → OnOk result ((next : Trees) × Writes wanted known db next new × Holds (change t) next)
 
+  -- the same within a transaction, for tables and trees of which a fact holds
+  abbrev pub ChangesWithin : PageFile D g → PageFile D g → ℕ → ℕ → ℕ → (Tables → Trees → Type 0) → (Tables → Tables) → {A E : Type 0} → Result A E → Type 0
+  ChangesWithin old new tree table index Fact change result =
+      IsFaithful new → (wanted : List Wanted) (known : List ℕ) (was now : Trees) (t : Tables) → Writes wanted known was now old → Holds t now
+      → table ≡ slice_index known tree → index ≡ slice_index known (tree + 1) → Fact t now → OnOk result ((next : Trees) × Writes wanted known was next new × Holds (change t) next)
+
 -- the group and the run are held, and the run is not in the group
 pub record CanJoin (name : List ℕ) (run : ℕ) (t : Tables) : Type 0 where
   pub grouped : has_group t name ≡ true

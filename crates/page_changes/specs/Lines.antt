@@ -35,3 +35,9 @@ module _ {D : Type 0} {g : Ghosts D} where
   Turns old new table index edit result =
       IsFaithful new → (wanted : List Wanted) (known : List ℕ) (was now : Trees) (t i : ℕ) → Writes wanted known was now old → StandAs wanted known t i table index
       → OnOk result (Writes wanted known was (edit t i now) new)
+
+  -- within a transaction, the rows of the table under this root become these
+  abbrev pub TurnsTable : PageFile D g → PageFile D g → ℕ → (List Row → List Row) → {A E : Type 0} → Result A E → Type 0
+  TurnsTable old new table edit result =
+      IsFaithful new → (wanted : List Wanted) (known : List ℕ) (was now : Trees) (t : ℕ) → Writes wanted known was now old → IsTreeAt wanted known t Table table → reals_at wanted t ≡ 0
+      → OnOk result (Writes wanted known was (with_tree now t (edit (now t))) new)

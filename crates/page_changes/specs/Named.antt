@@ -5,13 +5,18 @@ use Rattle.std.specs.declared.cmp.Ordering.TheVariants.{Less}
 use Rattle.std.specs.List.{AllByRecursion}
 use Rattle.sqlite_value.specs.declared.value.Value.TheVariants.{Int, Text}
 use Rattle.sqlite_value.specs.Order.{Row, value_cmp}
-use Rattle.sqlite_trees.specs.Tree.{rowid}
+use Rattle.sqlite_trees.specs.Tree.{Trees, rowid}
 use Rattle.sqlite_rules.specs.Lists.{Has}
+use Rattle.store_schema.specs.Schema.{member_at}
 use Rattle.store_schema.specs.Tables.{number_or_null}
 use Rattle.page_changes.specs.declared.rowids.NamedRow.{NamedRow}
 
 abbrev pub named : ℤ → List ℕ → Option ℕ → Row
 named id name n = Int id ∷ Text name ∷ number_or_null n ∷ []
+
+-- the trees have the member of this group and run under this rowid
+abbrev pub HasMember : List ℕ → ℕ → ℤ → Trees → Type 0
+HasMember name run id trees = Has (trees member_at.tree) (named id name (Some run))
 
 -- the number is the one that is sought, if one is
 abbrev pub IsSought : Option ℕ → Option ℕ → Type 0

@@ -4,10 +4,11 @@ ghost use Rattle.sqlite_pool.specs.Pool as pools;
 ghost use Rattle.sqlite_pool.specs.Stored.{Keeps};
 ghost use Rattle.sqlite_record.specs.Record.{decode};
 ghost use Rattle.sqlite_record.specs.Strict.{IsRecord};
+ghost use Rattle.sqlite_trees.specs.Tree.{put_row};
 ghost use Rattle.sqlite_value.specs.declared.value.Value.TheVariants.{Int, Text};
 ghost use Rattle.store_schema.specs.Tables.{number_or_null};
 ghost use Rattle.page_files.specs.Files.{IsUsable};
-ghost use Rattle.page_changes.specs.Lines.{Turns, with_line, without_line};
+ghost use Rattle.page_changes.specs.Lines.{Turns, TurnsTable, with_line, without_line};
 
 use crate::failures::error_of;
 use page_files::PageFile;
@@ -75,6 +76,26 @@ pub(crate) fn record_of(alloc: Global, row: &Row) -> Result<Vec<u8>, StoreError>
         Ok(()) => Ok(bytes),
         Err(RecordError::OutOfMemory) => Err(StoreError::Memory),
         Err(_) => Err(StoreError::Store),
+    }
+}
+
+/// Puts a row into a table, in the place of the row with its rowid. `columns` is the row without its rowid. Errors as
+/// `put_line`.
+pub(crate) fn put_alone<D: Disk>(
+    file: &mut PageFile<D>,
+    alloc: Global,
+    table: u32,
+    rowid: i64,
+    columns: &Row,
+) -> Result<(), StoreError>
+    ensures done { TurnsTable file.old file.new table (put_row (Int rowid ∷ columns.now)) result }
+    ensures usable { OnOk result (IsUsable file.new) }
+    ensures keeps { Keeps (pools.state file.old.pool) (pools.state file.new.pool) }
+{
+    let fields = record_of(alloc, columns)?;
+    match file.put(table, rowid, fields.as_slice()) {
+        Ok(()) => Ok(()),
+        Err(error) => Err(error_of(error)),
     }
 }
 
