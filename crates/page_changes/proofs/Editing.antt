@@ -1,7 +1,8 @@
 -- The tables of groups and members with their indexes, in a file and as trees that are edited.
-use Rattle.std.proofs.Common.{◌≡◌, ◌≢◌, ◌+◌, ℕ, List, [], ◌∷◌, ◌||◌, ◌==◌, Bool, true, false, slice_get, slice_index, map, filter, not, if◌then◌else◌, Some, refl, sym, ap, subst, ◌∙◌, ne_eqb, eq-eqb, arith}
+use Rattle.std.proofs.Common.{◌≡◌, ◌≢◌, ◌+◌, ℕ, List, [], ◌∷◌, ◌||◌, ◌==◌, Bool, true, false, slice_get, slice_index, map, filter, not, if◌then◌else◌, Some, None, bytes_eq, ◌&&◌, refl, sym, ap, subst, ◌∙◌, ne_eqb, eq-eqb, arith}
 use Rattle.std.specs.List.{list_any}
-use Rattle.std.proofs.lemmas.Bool.{or_parts, true≢false}
+use Rattle.std.proofs.lemmas.Bool.{and_parts, or_parts, true≢false}
+use Rattle.std.proofs.lemmas.Slice.Eq.{bytes_eq-Decides}
 use Rattle.sqlite_disk.specs.declared.Disk.{Ghosts}
 use Rattle.sqlite_schema.specs.declared.schema.Index.{Index as KeyIndex}
 use Rattle.sqlite_schema.specs.declared.schema.Table.{Table as AnyTable}
@@ -14,11 +15,17 @@ use Rattle.page_files.specs.declared.files.PageFile.{PageFile}
 use Rattle.page_files.specs.Trees.{StandsIn}
 use Rattle.page_files.proofs.Standing.{catalog_shown, table_stands, tree_shown}
 use Rattle.plain_tables.specs.Changes.{has_group, has_member, is_member, is_named, rebased, with_baseline, without_member}
-use Rattle.plain_tables.specs.Tables.{Tables}
+use Rattle.plain_tables.specs.Tables.{Tables, MemberRow}
 use Rattle.run_lists.specs.Listed.{AreListed, member_row}
 use Rattle.run_lists.specs.declared.listed.RunLists.{RunLists}
 use Rattle.store_schema.specs.Schema.{schema_two, grp_at, member_at}
-use Rattle.store_schema.specs.Tables.{Holds}
+use Rattle.store_schema.specs.Tables.{Holds, member_columns, number}
+use Rattle.sql_tables.proofs.Rows.{Numbered, id_is, id_of, row_of_entry}
+use Rattle.sqlite_rules.proofs.ListLemmas.{all_has, some_has}
+use Rattle.table_changes.proofs.Store.{members_there}
+use Rattle.sqlite_value.specs.declared.value.Value.TheVariants.{Int, Text}
+use Rattle.page_changes.specs.Changes.{HasNoMember, without_members}
+use Rattle.page_changes.specs.Named.{AreOthers, IsOther}
 use Rattle.table_changes.specs.Changes.{SparesBut}
 use Rattle.page_changes.specs.Lines.{StandAs}
 use Rattle.page_changes.specs.Shown.{ShowsRows}
@@ -43,6 +50,43 @@ none_turned p f (x ∷ xs) none =
 
 pub not_group : (t : Tables) (name : List ℕ) (run : ℕ) → has_group t name ≡ false → with_baseline name run t ≡ t
 not_group t name run none = ap (λ gs. record t { groups = gs }) (none_turned (is_named name) (rebased run) t.groups none)
+
+-- members that go one by one, and then all of a group
+gone_before : {A : Type 0} (p q : A → Bool) → ((x : A) → q x ≡ true → p x ≡ true) → (xs : List A) → filter (λ x. not (p x)) (filter (λ x. not (q x)) xs) ≡ filter (λ x. not (p x)) xs
+gone_before p q within [] = refl
+gone_before {A} p q within (x ∷ xs) = step (gone_before p q within xs) (q x) (p x) refl refl
+  where
+    step : filter (λ y. not (p y)) (filter (λ y. not (q y)) xs) ≡ filter (λ y. not (p y)) xs → (b c : Bool) → q x ≡ b → p x ≡ c → filter (λ y. not (p y)) (filter (λ y. not (q y)) (x ∷ xs)) ≡ filter (λ y. not (p y)) (x ∷ xs)
+    step rest true true e f = rw (e, f) rest
+    step rest true false e f = absurd (true≢false (sym (within x e) ∙ f))
+    step rest false true e f = rw (e, f) rest
+    step rest false false e f = rw (e, f) (ap (λ l. x ∷ l) rest)
+
+pub gone_first : (t : Tables) (name : List ℕ) (run : ℕ) → without_members name (without_member name run t) ≡ without_members name t
+gone_first t name run =
+    ap (λ ms. record t { members = ms }) (gone_before (λ (m : MemberRow). bytes_eq m.group name) (is_member name run) (λ m is. (and_parts (bytes_eq m.group name) (m.run == run) is).0) t.members)
+
+pub none_gone : (t : Tables) (name : List ℕ) → HasNoMember name t → without_members name t ≡ t
+none_gone t name none = ap (λ ms. record t { members = ms }) (without_none (λ (m : MemberRow). bytes_eq m.group name) t.members none)
+
+pub still_none : (t u : Tables) (name : List ℕ) → HasNoMember name u → u ≡ without_members name t → HasNoMember name (without_members name t)
+still_none t u name none is = subst (HasNoMember name) is none
+
+-- where no row is of the group, no member is
+pub none_there : (t : Tables) (db : Trees) (name : List ℕ) → Holds t db → AreOthers name None (db 21) → HasNoMember name t
+none_there t db name holds others = decide (list_any (λ (m : MemberRow). bytes_eq m.group name) t.members) refl
+  where
+    decide : (b : Bool) → list_any (λ (m : MemberRow). bytes_eq m.group name) t.members ≡ b → b ≡ false
+    decide false is = refl
+    decide true is =
+        let (m, there, same) = some_has (λ (it : MemberRow). bytes_eq it.group name) t.members is in
+        let content = members_there t db holds in
+        let (v, has) = row_of_entry member_columns (db 21) t.members content.numbered.1 content.rows_are m there in
+        let numbered = all_has Numbered (db 21) (v ∷ member_columns m) content.numbered.1 has in
+        let id = id_is (v ∷ member_columns m) numbered in
+        let name_is = (bytes_eq-Decides m.group name).0 same in
+        absurd (all_has (IsOther name None) (db 21) (v ∷ member_columns m) others has (id_of (v ∷ member_columns m)) (Some m.run)
+        (ap (λ x. x ∷ member_columns m) id ∙ ap (λ n. Int (id_of (v ∷ member_columns m)) ∷ Text n ∷ number m.run ∷ []) name_is) tt)
 
 -- ---- trees
 

@@ -1,13 +1,14 @@
 -- What a change of the groups makes of a store.
-use Rattle.std.specs.Prelude.{◌≡◌, ℕ, ◌+◌, true, false, List, slice_index, Result, OnOk}
+use Rattle.std.specs.Prelude.{◌≡◌, ℕ, ◌+◌, true, false, not, bytes_eq, List, filter, slice_index, Result, OnOk}
+use Rattle.std.specs.List.{list_any}
 use Rattle.sqlite_disk.specs.declared.Disk.{Ghosts}
 use Rattle.sqlite_store.specs.declared.catalog.Wanted.{Wanted}
 use Rattle.sqlite_trees.specs.Tree.{Trees}
 use Rattle.page_files.specs.declared.files.PageFile.{PageFile}
 use Rattle.page_files.specs.Files.{IsFaithful}
 use Rattle.page_files.specs.Held.{Rests, Writes}
-use Rattle.plain_tables.specs.Changes.{has_group, has_member, has_run}
-use Rattle.plain_tables.specs.Tables.{Tables}
+use Rattle.plain_tables.specs.Changes.{has_group, has_member, has_run, is_named}
+use Rattle.plain_tables.specs.Tables.{Tables, MemberRow}
 use Rattle.run_lists.specs.Listed.{AreListed}
 use Rattle.run_lists.specs.declared.listed.RunLists.{RunLists}
 use Rattle.store_schema.specs.Schema.{grp_at, member_at}
@@ -43,3 +44,15 @@ pub record CanJoin (name : List ℕ) (run : ℕ) (t : Tables) : Type 0 where
   pub grouped : has_group t name ≡ true
   pub held : has_run t run ≡ true
   pub none : has_member t name run ≡ false
+
+-- no run is in the group
+abbrev pub HasNoMember : List ℕ → Tables → Type 0
+HasNoMember name t = list_any (λ (m : MemberRow). bytes_eq m.group name) t.members ≡ false
+
+-- the members of a group are gone
+abbrev pub without_members : List ℕ → Tables → Tables
+without_members name t = record t { members = filter (λ (m : MemberRow). not (bytes_eq m.group name)) t.members }
+
+-- the group itself is gone
+abbrev pub without_named : List ℕ → Tables → Tables
+without_named name t = record t { groups = filter (λ g. not (is_named name g)) t.groups }

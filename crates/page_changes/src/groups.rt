@@ -1,15 +1,15 @@
 // The changes of groups and members, each within a transaction.
-ghost use Rattle.std.specs.Prelude.{◌≡◌, false, OnOk};
+ghost use Rattle.std.specs.Prelude.{◌≡◌, false, ⊤, OnOk};
 ghost use Rattle.std.specs.List.{list_any};
 ghost use Rattle.sqlite_pool.specs.Pool as pools;
 ghost use Rattle.sqlite_pool.specs.Stored.{Keeps};
 ghost use Rattle.page_files.specs.Files.{IsUsable};
-ghost use Rattle.plain_tables.specs.Changes.{has_group, is_member, joined, with_baseline, with_group, without_member};
+ghost use Rattle.plain_tables.specs.Changes.{has_group, is_member, joined, with_baseline, with_group, without_group, without_member};
 ghost use Rattle.plain_tables.specs.Labels.{IsGroupName};
 ghost use Rattle.run_lists.specs.Listed.{member_row};
 ghost use Rattle.store_schema.specs.Schema.{grp_at, member_at};
 ghost use Rattle.page_changes.specs.Named.{HasMember};
-ghost use Rattle.page_changes.specs.Changes.{CanJoin, Changes, ChangesAt, ChangesWithin};
+ghost use Rattle.page_changes.specs.Changes.{CanJoin, Changes, ChangesAt, ChangesWithin, HasNoMember, without_members, without_named};
 
 use crate::keys::{GROUP_KEY, MEMBER_KEY, index_root};
 use crate::lines::{
@@ -194,4 +194,71 @@ pub fn set_baseline<D: Disk>(
         Some(row) => put_alone(file, alloc, roots.groups, row.rowid, &columns),
         None => Err(StoreError::Store),
     }
+}
+
+/// Deletes the members of a group, which are no more than `most`.
+fn delete_members<D: Disk>(
+    file: &mut PageFile<D>,
+    alloc: Global,
+    members: u32,
+    index: u32,
+    name: &str,
+    most: usize,
+) -> Result<(), StoreError>
+    ensures done { ChangesWithin file.old file.new member_at.tree members index (λ _ _. ⊤) (without_members name.now) result }
+    ensures usable { OnOk result (IsUsable file.new) }
+    ensures keeps { Keeps (pools.state file.old.pool) (pools.state file.new.pool) }
+{
+    'members: for _ in 0..=most {
+        let Some(row) = find_named(file, alloc, members, name.as_bytes(), None)? else {
+            return Ok(());
+        };
+        let Some(run) = row.number else {
+            return Err(StoreError::Store);
+        };
+        delete_member(file, alloc, members, index, name, run, row.rowid)?;
+    }
+    Err(StoreError::Store)
+}
+
+/// Deletes the row of a group that has no member.
+fn delete_group<D: Disk>(
+    file: &mut PageFile<D>,
+    alloc: Global,
+    groups: u32,
+    index: u32,
+    name: &str,
+) -> Result<(), StoreError>
+    ensures done { ChangesWithin file.old file.new grp_at.tree groups index (λ t _. HasNoMember name.now t) (without_named name.now) result }
+    ensures usable { OnOk result (IsUsable file.new) }
+    ensures keeps { Keeps (pools.state file.old.pool) (pools.state file.new.pool) }
+{
+    let Some(row) = find_named(file, alloc, groups, name.as_bytes(), None)? else {
+        return Err(StoreError::Store);
+    };
+    let entry = group_entry(alloc, name, row.rowid)?;
+    take_line(file, groups, index, row.rowid, &entry)
+}
+
+/// Drops a group with its members; the runs stay. `Store` where no group has this name, the file failed, or it is at a
+/// limit; `Memory`. After an error `PageFile::undo` is due.
+pub fn drop_group<D: Disk>(
+    file: &mut PageFile<D>,
+    alloc: Global,
+    roots: &GroupTables,
+    lists: &RunLists,
+    name: &str,
+) -> Result<(), StoreError>
+    ensures done { Changes file.old file.new roots.now lists.now (without_group name.now) result }
+    ensures usable { OnOk result (IsUsable file.new) }
+    ensures keeps { Keeps (pools.state file.old.pool) (pools.state file.new.pool) }
+{
+    if !lists.has_group(name) {
+        return Err(StoreError::Store);
+    }
+    let member_key = index_root(file, alloc, MEMBER_KEY)?;
+    let group_key = index_root(file, alloc, GROUP_KEY)?;
+    let most = lists.members.len();
+    delete_members(file, alloc, roots.members, member_key, name, most)?;
+    delete_group(file, alloc, roots.groups, group_key, name)
 }
