@@ -69,8 +69,17 @@ gone_first t name run =
 pub none_gone : (t : Tables) (name : List ℕ) → HasNoMember name t → without_members name t ≡ t
 none_gone t name none = ap (λ ms. record t { members = ms }) (without_none (λ (m : MemberRow). bytes_eq m.group name) t.members none)
 
-pub still_none : (t u : Tables) (name : List ℕ) → HasNoMember name u → u ≡ without_members name t → HasNoMember name (without_members name t)
-still_none t u name none is = subst (HasNoMember name) is none
+-- then no member is left
+none_kept : {A : Type 0} (p : A → Bool) (xs : List A) → list_any p (filter (λ x. not (p x)) xs) ≡ false
+none_kept p [] = refl
+none_kept p (x ∷ xs) = step (none_kept p xs) (p x) refl
+  where
+    step : list_any p (filter (λ y. not (p y)) xs) ≡ false → (b : Bool) → p x ≡ b → list_any p (filter (λ y. not (p y)) (x ∷ xs)) ≡ false
+    step rest true is = rw is rest
+    step rest false is = rw (is, is) rest
+
+pub none_left : (t : Tables) (name : List ℕ) → HasNoMember name (without_members name t)
+none_left t name = none_kept (λ (m : MemberRow). bytes_eq m.group name) t.members
 
 -- where no row is of the group, no member is
 pub none_there : (t : Tables) (db : Trees) (name : List ℕ) → Holds t db → AreOthers name None (db 21) → HasNoMember name t
