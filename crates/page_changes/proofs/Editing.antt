@@ -1,5 +1,5 @@
 -- The tables of groups and members with their indexes, in a file and as trees that are edited.
-use Rattle.std.proofs.Common.{◌≡◌, ◌≢◌, ◌+◌, ℕ, List, [], ◌∷◌, ◌||◌, ◌==◌, Bool, true, false, slice_get, slice_index, map, filter, not, if◌then◌else◌, Some, None, bytes_eq, ◌&&◌, refl, sym, ap, subst, ◌∙◌, ne_eqb, eq-eqb, arith}
+use Rattle.std.proofs.Common.{◌≡◌, ◌≢◌, ℕ, List, [], ◌∷◌, ◌||◌, ◌==◌, Bool, true, false, slice_get, slice_index, map, filter, not, if◌then◌else◌, Some, None, bytes_eq, refl, sym, ap, ◌∙◌, ne_eqb, eq-eqb, arith}
 use Rattle.std.specs.List.{list_any}
 use Rattle.std.proofs.lemmas.Bool.{and_parts, or_parts, true≢false}
 use Rattle.std.proofs.lemmas.Slice.Eq.{bytes_eq-Decides}

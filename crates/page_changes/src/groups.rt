@@ -12,9 +12,7 @@ ghost use Rattle.page_changes.specs.Named.{HasMember};
 ghost use Rattle.page_changes.specs.Changes.{CanJoin, Changes, ChangesAt, ChangesWithin, HasNoMember, without_members, without_named};
 
 use crate::keys::{GROUP_KEY, MEMBER_KEY, index_root};
-use crate::lines::{
-    group_entry, member_entry, named_columns, put_alone, put_line, take_line,
-};
+use crate::lines::{group_entry, member_entry, named_columns, put_alone, put_line, take_line};
 use crate::rowids::{find_named, next_rowid};
 use page_files::PageFile;
 use plain_tables::StoreError;
@@ -135,7 +133,7 @@ fn delete_member<D: Disk>(
     run: u32,
     rowid: i64,
 ) -> Result<(), StoreError>
-    ensures done { ChangesWithin file.old file.new member_at.tree members index (λ _ now. HasMember name.now run rowid now) (without_member name.now run) result }
+    ensures done { ChangesWithin file.old file.new member_at.tree members index (λ _. HasMember name.now run rowid) (without_member name.now run) result }
     ensures usable { OnOk result (IsUsable file.new) }
     ensures keeps { Keeps (pools.state file.old.pool) (pools.state file.new.pool) }
 {

@@ -1,13 +1,7 @@
 // The indexes of a store, by name.
-ghost use Rattle.std.specs.Prelude.{◌≡◌, ℕ, List, slice_get, slice_index, Some, IfOk, OnOk};
-ghost use Rattle.sqlite_schema.specs.declared.schema.Index.{Index};
-ghost use Rattle.sqlite_store.specs.declared.catalog.Wanted.{Wanted};
-ghost use Rattle.sqlite_trees.specs.Tree.{Trees};
-ghost use Rattle.page_files.specs.Files.{IsFaithful, IsUsable, OnlyReads};
-ghost use Rattle.page_files.specs.Held.{Rests};
-ghost use Rattle.plain_tables.specs.Tables.{Tables};
-ghost use Rattle.store_schema.specs.Schema.{schema_two};
-ghost use Rattle.store_schema.specs.Tables.{Holds};
+ghost use Rattle.std.specs.Prelude.{IfOk, OnOk};
+ghost use Rattle.page_files.specs.Files.{IsUsable, OnlyReads};
+ghost use Rattle.page_changes.specs.Shown.{FindsKey};
 
 use crate::failures::error_of;
 use page_files::PageFile;
@@ -27,8 +21,7 @@ pub(crate) fn index_root<D: Disk>(
     alloc: Global,
     name: &str,
 ) -> Result<u32, StoreError>
-    ensures found { IsFaithful file.new → (wanted : List Wanted) (known : List ℕ) (db : Trees) (t : Tables) → Rests wanted known db file.old → Holds t db
-        → (at : ℕ) (index : Index) → slice_get schema_two.indexes at ≡ Some index → index.name ≡ name.now → IfOk result (λ root. root ≡ slice_index known index.tree) }
+    ensures found { IfOk result (FindsKey file.old file.new name.now) }
     ensures reads { OnlyReads file.old file.new }
     ensures usable { OnOk result (IsUsable file.new) }
 {

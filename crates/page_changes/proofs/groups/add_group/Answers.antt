@@ -1,4 +1,4 @@
-use Rattle.std.proofs.Common.{◌≡◌, ◌∷◌, [], sym, ap, ap₂, subst, refl, to_z-of_z, to_z, of_z, w64, ◌∙◌, Some}
+use Rattle.std.proofs.Common.{◌∷◌, [], sym, subst, refl, to_z-of_z, to_z, of_z, w64}
 use Rattle.sqlite_pool.specs.StoredLaws.{Keeps-trans}
 use Rattle.sqlite_value.specs.declared.value.Value.TheVariants.{Int, Null, Text}
 use Rattle.table_changes.proofs.Edits.{AreBelow, group_added}
@@ -24,10 +24,12 @@ returns-clause-done g c clean = λ wanted known db t rests holds table_is index_
     let above = subst (λ z. AreBelow z (db 19)) (sym (to_z-of_z next.fits)) next.above in
     let made = with_line 19 20 (Int id ∷ Text name ∷ Null ∷ []) (Text name ∷ Int id ∷ []) db in
     let done = c.put_line.ensures.done clean wanted known db db 19 20 (begins mid still) (groups_stand old stands holds c.args.groups c.args.index table_is index_is) in
-    on_ok c.put_line.result (λ writes. (made,
-    subst (λ cs. Writes wanted known db (with_line 19 20 (Int id ∷ cs) (Text name ∷ Int id ∷ []) db) c.put_line.new.file) c.in_ok-columns.ensures
-    (subst (λ e. Writes wanted known db (with_line 19 20 (Int id ∷ c.in_ok-columns.columns) e db) c.put_line.new.file) c.in_ok-entry.ensures writes),
-    group_added t db made holds name id above (spares_two 19 20 db _ _) refl refl can)) done
+    on_ok c.put_line.result (λ writes. (
+      made,
+      subst (λ cs. Writes wanted known db (with_line 19 20 (Int id ∷ cs) (Text name ∷ Int id ∷ []) db) c.put_line.new.file) c.in_ok-columns.ensures
+          (subst (λ e. Writes wanted known db (with_line 19 20 (Int id ∷ c.in_ok-columns.columns) e db) c.put_line.new.file) c.in_ok-entry.ensures writes),
+      group_added t db made holds name id above (spares_two 19 20 db _ _) refl refl can,
+    )) done
 
 pub returns-clause-keeps : goal.returns-clause-keeps
 returns-clause-keeps g c = Keeps-trans _ _ _ c.next_rowid.ensures.reads.keeps c.put_line.ensures.keeps

@@ -1,4 +1,4 @@
-use Rattle.std.proofs.Common.{◌≡◌, ◌∷◌, [], sym, ap, ap₂, subst, refl, to_z-of_z, to_z, of_z, w64, ◌∙◌, Some}
+use Rattle.std.proofs.Common.{◌∷◌, [], sym, subst, refl, to_z-of_z, to_z, of_z, w64}
 use Rattle.sqlite_pool.specs.StoredLaws.{Keeps-trans}
 use Rattle.sqlite_value.specs.declared.value.Value.TheVariants.{Int, Text}
 use Rattle.store_schema.specs.Tables.{number}
@@ -26,10 +26,12 @@ returns-clause-done g c clean = λ wanted known db t rests holds table_is index_
     let above = subst (λ z. AreBelow z (db 21)) (sym (to_z-of_z next.fits)) next.above in
     let made = with_line 21 22 (Int id ∷ Text name ∷ number run ∷ []) (Text name ∷ number run ∷ Int id ∷ []) db in
     let done = c.put_line.ensures.done clean wanted known db db 21 22 (begins mid still) (members_stand old stands holds c.args.members c.args.index table_is index_is) in
-    on_ok c.put_line.result (λ writes. (made,
-    subst (λ cs. Writes wanted known db (with_line 21 22 (Int id ∷ cs) (Text name ∷ number run ∷ Int id ∷ []) db) c.put_line.new.file) c.in_ok-columns.ensures
-    (subst (λ e. Writes wanted known db (with_line 21 22 (Int id ∷ c.in_ok-columns.columns) e db) c.put_line.new.file) c.in_ok-entry.ensures writes),
-    member_joined t db made holds name run id above (spares_two 21 22 db _ _) refl refl can.grouped can.held can.none)) done
+    on_ok c.put_line.result (λ writes. (
+      made,
+      subst (λ cs. Writes wanted known db (with_line 21 22 (Int id ∷ cs) (Text name ∷ number run ∷ Int id ∷ []) db) c.put_line.new.file) c.in_ok-columns.ensures
+          (subst (λ e. Writes wanted known db (with_line 21 22 (Int id ∷ c.in_ok-columns.columns) e db) c.put_line.new.file) c.in_ok-entry.ensures writes),
+      member_joined t db made holds name run id above (spares_two 21 22 db _ _) refl refl can.grouped can.held can.none,
+    )) done
 
 pub returns-clause-keeps : goal.returns-clause-keeps
 returns-clause-keeps g c = Keeps-trans _ _ _ c.next_rowid.ensures.reads.keeps c.put_line.ensures.keeps

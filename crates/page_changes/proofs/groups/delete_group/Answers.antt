@@ -1,4 +1,4 @@
-use Rattle.std.proofs.Common.{◌≡◌, ◌∷◌, [], sym, ap, subst, refl, ◌∙◌, to_z-of_z, to_z, of_z, w64, Some, None}
+use Rattle.std.proofs.Common.{◌∷◌, [], sym, subst, refl, to_z-of_z, to_z, of_z, w64, None}
 use Rattle.sqlite_pool.specs.StoredLaws.{Keeps-trans}
 use Rattle.sqlite_rules.specs.Lists.{Has}
 use Rattle.sqlite_value.specs.declared.value.Value.TheVariants.{Int, Text}
@@ -28,8 +28,11 @@ returns-clause-done g c clean = λ wanted known was now t w holds table_is index
     let there = subst (λ z. Has (now 19) (named z name row.number)) (sym (to_z-of_z at.fits)) here in
     let made = without_line 19 20 id (Text name ∷ Int id ∷ []) now in
     let done = c.take_line.ensures.done clean wanted known was now 19 20 still (groups_stand old stands holds c.args.groups c.args.index table_is index_is) in
-    on_ok c.take_line.result (λ writes. (made, subst (λ e. Writes wanted known was (without_line 19 20 id e now) c.take_line.new.file) c.in_ok-entry.ensures writes,
-    group_deleted t now made holds id (record { name = name; baseline = row.number }) there (spares_two 19 20 now _ _) refl refl none)) done
+    on_ok c.take_line.result (λ writes. (
+      made,
+      subst (λ e. Writes wanted known was (without_line 19 20 id e now) c.take_line.new.file) c.in_ok-entry.ensures writes,
+      group_deleted t now made holds id (record { name = name; baseline = row.number }) there (spares_two 19 20 now _ _) refl refl none,
+    )) done
 
 pub returns-clause-keeps : goal.returns-clause-keeps
 returns-clause-keeps g c = Keeps-trans _ _ _ c.find_named.ensures.reads.keeps c.take_line.ensures.keeps

@@ -1,4 +1,4 @@
-use Rattle.std.proofs.Common.{◌≡◌, ◌∷◌, [], sym, subst, refl, to_z-of_z, to_z, of_z, w64, ◌∙◌}
+use Rattle.std.proofs.Common.{◌∷◌, [], sym, subst, refl, to_z-of_z, to_z, of_z, w64}
 use Rattle.sqlite_value.specs.declared.value.Value.TheVariants.{Int, Text}
 use Rattle.store_schema.specs.Tables.{number}
 use Rattle.table_changes.proofs.Edits.{member_deleted}
@@ -19,5 +19,8 @@ returns-clause-done g c clean = λ wanted known was now t w holds table_is index
     let has = subst (λ z. HasMember name run z now) (sym (to_z-of_z c.ranges.rowid)) there in
     let made = without_line 21 22 id (Text name ∷ number run ∷ Int id ∷ []) now in
     let done = c.take_line.ensures.done clean wanted known was now 21 22 w (members_stand old (stands_writing old w) holds c.args.members c.args.index table_is index_is) in
-    on_ok c.take_line.result (λ writes. (made, subst (λ e. Writes wanted known was (without_line 21 22 id e now) c.take_line.new.file) c.in_ok-entry.ensures writes,
-    member_deleted t now made holds id (record { group = name; run = run }) has (spares_two 21 22 now _ _) refl refl)) done
+    on_ok c.take_line.result (λ writes. (
+      made,
+      subst (λ e. Writes wanted known was (without_line 21 22 id e now) c.take_line.new.file) c.in_ok-entry.ensures writes,
+      member_deleted t now made holds id (record { group = name; run = run }) has (spares_two 21 22 now _ _) refl refl,
+    )) done

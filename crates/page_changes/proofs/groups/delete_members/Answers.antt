@@ -1,11 +1,10 @@
-use Rattle.std.proofs.Common.{◌≡◌, sym, ap, subst, refl, ◌∙◌, to_z-of_z, to_z, of_z, w64, Some, None}
+use Rattle.std.proofs.Common.{sym, subst, refl, ◌∙◌, to_z-of_z, Some, None}
 use Rattle.sqlite_pool.specs.StoredLaws.{Keeps-refl, Keeps-trans}
 use Rattle.sqlite_rules.specs.Lists.{Has}
 use Rattle.store_schema.specs.Tables.{Holds}
 use Rattle.plain_tables.specs.Changes.{without_member}
 use Rattle.page_files.proofs.Standing.{stands_writing}
 use Rattle.page_files.proofs.Steps.{writes_after}
-use Rattle.page_changes.specs.Changes.{without_members}
 use Rattle.page_changes.specs.Named.{AreOthers, HasMember, IsFound, named}
 use Rattle.page_changes.proofs.Editing.{gone_first, members_shown, none_gone, none_there}
 use Rattle.page_changes.proofs.groups.delete_members.Goals as goal
@@ -55,7 +54,7 @@ members-preserved g c = record {
       let there : HasMember name run row.rowid next = subst (λ n. Has (next 21) (named row.rowid n (Some run))) c.as_bytes.ensures.value here in
       let still = writes_after old new c.find_named.ensures.reads later c.in_ok-row.ensures.usable within in
       let (last, gone, holds_last) =
-          c.in_ok-delete_member.ensures.done clean wanted known was next u still has table_is index_is (subst (λ z. HasMember name run z next) (sym (to_z-of_z at.fits)) there) in
+      c.in_ok-delete_member.ensures.done clean wanted known was next u still has table_is index_is (subst (λ z. HasMember name run z next) (sym (to_z-of_z at.fits)) there) in
       (last, without_member name run u, gone, holds_last, gone_first u name run ∙ same);
 }
 

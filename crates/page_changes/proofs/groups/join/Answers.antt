@@ -1,4 +1,4 @@
-use Rattle.std.proofs.Common.{◌≡◌, sym, subst, refl, ◌∙◌, if◌then◌else◌}
+use Rattle.std.proofs.Common.{sym, subst, refl, ◌∙◌, if◌then◌else◌}
 use Rattle.sqlite_pool.specs.StoredLaws.{Keeps-trans}
 use Rattle.plain_tables.specs.Changes.{with_member}
 use Rattle.store_schema.specs.Tables.{Holds}

@@ -1,4 +1,4 @@
-use Rattle.std.proofs.Common.{◌≡◌, sym, ap, subst, refl, ◌∙◌, to_z-of_z, to_z, of_z, w64, Some}
+use Rattle.std.proofs.Common.{sym, subst, refl, ◌∙◌, to_z-of_z, Some}
 use Rattle.sqlite_pool.specs.StoredLaws.{Keeps-trans}
 use Rattle.store_schema.specs.Tables.{Holds}
 use Rattle.sqlite_rules.specs.Lists.{Has}

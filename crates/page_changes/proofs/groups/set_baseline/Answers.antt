@@ -1,4 +1,4 @@
-use Rattle.std.proofs.Common.{◌≡◌, ◌∷◌, [], sym, ap, subst, refl, ◌∙◌, to_z-of_z, to_z, of_z, w64, Some, None, slice_index}
+use Rattle.std.proofs.Common.{◌∷◌, [], sym, subst, refl, ◌∙◌, to_z-of_z, to_z, of_z, w64, None, slice_index}
 use Rattle.sqlite_pool.specs.StoredLaws.{Keeps-trans}
 use Rattle.sqlite_trees.specs.Tree.{put_row, with_tree}
 use Rattle.sqlite_value.specs.declared.value.Value.TheVariants.{Int, Text}
@@ -42,8 +42,11 @@ returns-in-Some-clause-done g c clean wanted known db t rests holds listed are =
     let stand = groups_stand old stands holds root (slice_index known 20) are.groups refl in
     let made = with_tree db 19 (put_row (Int id ∷ Text name ∷ number run ∷ []) (db 19)) in
     let held = sym (c.has_run.ensures.told t listed) ∙ c.if-not-has_run.false in
-    on_ok c.put_alone.result (λ writes. (made, subst (λ cs. Writes wanted known db (with_tree db 19 (put_row (Int id ∷ cs) (db 19))) c.put_alone.new.file) c.in_ok-columns.ensures writes,
-    baseline_edited t db made holds run id (record { name = name; baseline = row.number }) there (spares_one 19 db _) refl held))
+    on_ok c.put_alone.result (λ writes. (
+      made,
+      subst (λ cs. Writes wanted known db (with_tree db 19 (put_row (Int id ∷ cs) (db 19))) c.put_alone.new.file) c.in_ok-columns.ensures writes,
+      baseline_edited t db made holds run id (record { name = name; baseline = row.number }) there (spares_one 19 db _) refl held,
+    ))
     (c.put_alone.ensures.done clean wanted known db db 19 (begins mid still) stand.table_at stand.table_plain)
 
 pub returns-in-Some-clause-keeps : goal.returns-in-Some-clause-keeps

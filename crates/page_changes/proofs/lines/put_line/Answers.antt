@@ -1,4 +1,4 @@
-use Rattle.std.proofs.Common.{◌≡◌, ◌∷◌, sym, ap, ap₂, subst, refl, ne_eqb, to_z-of_z, to_z, of_z, w64, ◌∙◌}
+use Rattle.std.proofs.Common.{◌≡◌, ◌∷◌, ap, ap₂, subst, refl, ne_eqb, to_z-of_z, to_z, of_z, w64, ◌∙◌}
 use Rattle.sqlite_pool.specs.StoredLaws.{Keeps-trans}
 use Rattle.sqlite_record.specs.Record.{decode}
 use Rattle.sqlite_record.proofs.AffinityLemmas.{widen-zero}

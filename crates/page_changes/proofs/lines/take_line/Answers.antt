@@ -1,4 +1,4 @@
-use Rattle.std.proofs.Common.{◌≡◌, ◌∷◌, sym, ap, subst, refl, ne_eqb, to_z-of_z, to_z, of_z, w64, ◌∙◌}
+use Rattle.std.proofs.Common.{◌≡◌, subst, refl, ne_eqb, to_z-of_z, to_z, of_z, w64}
 use Rattle.sqlite_pool.specs.StoredLaws.{Keeps-trans}
 use Rattle.sqlite_trees.specs.Tree.{remove_entry, with_tree, without_rowid}
 use Rattle.sqlite_value.specs.Keys.{plain}

@@ -1,4 +1,4 @@
-use Rattle.std.proofs.Common.{◌≡◌, ◌∙◌, ◌++◌, ap, sym, refl, subst, inl, inr, List, Some}
+use Rattle.std.proofs.Common.{◌∙◌, sym, refl, subst, inl, inr}
 use Rattle.sqlite_rules.specs.Lists.{Has}
 use Rattle.sqlite_rules.proofs.ListLemmas.{has_left}
 use Rattle.page_rows.proofs.FileTables.{all_shown_from_least}

@@ -1,4 +1,4 @@
-use Rattle.std.proofs.Common.{◌≡◌, ◌∙◌, ap, sym, refl, subst, inl, inr, to_z-of_z, pos, List, w64, FitsSigned, rules}
+use Rattle.std.proofs.Common.{◌∙◌, sym, refl, subst, inl, inr, to_z-of_z, pos, w64, FitsSigned, rules}
 use Rattle.page_rows.proofs.FileTables.{all_shown_from_least}
 use Rattle.page_changes.specs.Named.{IsNextRowid}
 use Rattle.page_changes.proofs.rowids.next_rowid.Goals as goal

@@ -1,10 +1,7 @@
-use Rattle.std.proofs.Common.{◌≡◌, ◌≢◌, ◌∙◌, ◌-◌, ◌^◌, ◌++◌, ◌∷◌, [], ℤ, List, ap, ap₂, sym, refl, subst, to_z-of_z, to_z, of_z, w64, SFits, FitsSigned, pos, ◌+ℤ◌, ◌≤ℤ◌, ◌<ℤ◌, arith, true, false, int_le, rules}
+use Rattle.std.proofs.Common.{◌≡◌, ◌≢◌, ◌∙◌, ◌-◌, ◌^◌, ◌++◌, ◌∷◌, [], ℤ, ap, sym, refl, subst, to_z-of_z, to_z, of_z, w64, FitsSigned, pos, ◌+ℤ◌, ◌≤ℤ◌, ◌<ℤ◌, arith}
 use borrow.Author.Differences.{fits_in}
 use Rattle.std.proofs.lemmas.Int.{ints}
 use Rattle.sqlite_store.specs.Db.{table_row}
-use Rattle.sqlite_value.specs.declared.value.Value.TheVariants.{Int}
-use Rattle.sqlite_value.specs.Order.{Row}
-use Rattle.sqlite_trees.specs.Tree.{rowid}
 use Rattle.page_changes.specs.Named.{IsNextRowid}
 use Rattle.page_changes.proofs.NextRowid.{raised, unraised}
 use Rattle.page_changes.proofs.rowids.AboveRowSink.take.Goals as goal

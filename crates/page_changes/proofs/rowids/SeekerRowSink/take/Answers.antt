@@ -1,11 +1,9 @@
-use Rattle.std.proofs.Common.{◌≡◌, ◌∙◌, true, false, not, ap, ap₂, sym, refl, inl, subst, to_z-of_z, to_z, of_z, w64, FitsSigned, ◌++◌, ◌∷◌, [], Bool, List, ℤ, ℕ, Option}
+use Rattle.std.proofs.Common.{◌≡◌, ◌∙◌, true, false, not, ap, sym, refl, inl, subst, to_z-of_z, to_z, of_z, w64, FitsSigned, ◌∷◌, []}
 use Rattle.std.proofs.lemmas.Bool.{not-false}
 use Rattle.std.proofs.lemmas.Slice.Eq.{bytes_eq-Decides}
-use Rattle.sqlite_rules.specs.Lists.{Has}
 use Rattle.sqlite_rules.proofs.ListLemmas.{has_right}
 use Rattle.sqlite_store.specs.Db.{table_row}
-use Rattle.sqlite_value.specs.Order.{Row}
-use Rattle.page_changes.proofs.Naming.{other_name, other_number, others_more}
+use Rattle.page_changes.proofs.Naming.{other_name, others_more}
 use Rattle.page_changes.specs.Named.{IsSought, named}
 use Rattle.page_changes.proofs.rowids.SeekerRowSink.take.Goals as goal
 
@@ -24,9 +22,12 @@ returns-clause-last c ok start rows has =
     let same : to_z w64 (of_z w64 c.args.rowid) ≡ c.args.rowid = to_z-of_z c.ranges.rowid in
     let is : row ≡ named (to_z w64 (of_z w64 c.args.rowid)) read c.in_ok-name.number = ap (λ z. table_row (z, c.args.payload.now)) (sym same) ∙ c.in_ok-name.ensures in
     let name : read ≡ start.0 = (bytes_eq-Decides read c.args.self.now.name.now).0 (not-false _ (sym c.if-ne.ensures)) ∙ has.0 in
-    let sought : IsSought start.1 c.in_ok-name.number = subst (λ n. IsSought n c.in_ok-name.number) has.1 (c.if-not-is_sought.ensures.0 refl) in
-    (_, refl, record {
-      there = has_right rows (row ∷ []) (named (to_z w64 (of_z w64 c.args.rowid)) start.0 c.in_ok-name.number) (inl (ap (λ n. named (to_z w64 (of_z w64 c.args.rowid)) n c.in_ok-name.number) (sym name) ∙ sym is));
-      is = sought;
-      fits = subst (FitsSigned w64) (sym same) c.ranges.rowid;
-    })
+    let sought : IsSought start.1 c.in_ok-name.number = subst (λ n. IsSought n c.in_ok-name.number) has.1 (c.if-not-is_sought.ensures.0 refl) in (
+      _,
+      refl,
+      record {
+        there = has_right rows (row ∷ []) (named (to_z w64 (of_z w64 c.args.rowid)) start.0 c.in_ok-name.number) (inl (ap (λ n. named (to_z w64 (of_z w64 c.args.rowid)) n c.in_ok-name.number) (sym name) ∙ sym is));
+        is = sought;
+        fits = subst (FitsSigned w64) (sym same) c.ranges.rowid;
+      },
+    )
