@@ -1,0 +1,5 @@
+pub mod Editing
+pub mod Naming
+pub mod NextRowid
+pub mod Placing
+pub mod Results

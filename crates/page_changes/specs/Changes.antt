@@ -1,0 +1,58 @@
+-- What a change of the groups makes of a store.
+use Rattle.std.specs.Prelude.{◌≡◌, ℕ, ◌+◌, true, false, not, bytes_eq, List, filter, slice_index, Result, OnOk}
+use Rattle.std.specs.List.{list_any}
+use Rattle.sqlite_disk.specs.declared.Disk.{Ghosts}
+use Rattle.sqlite_store.specs.declared.catalog.Wanted.{Wanted}
+use Rattle.sqlite_trees.specs.Tree.{Trees}
+use Rattle.page_files.specs.declared.files.PageFile.{PageFile}
+use Rattle.page_files.specs.Files.{IsFaithful}
+use Rattle.page_files.specs.Held.{Rests, Writes}
+use Rattle.plain_tables.specs.Changes.{has_group, has_member, has_run, is_named}
+use Rattle.plain_tables.specs.Tables.{Tables, MemberRow}
+use Rattle.run_lists.specs.Listed.{AreListed}
+use Rattle.run_lists.specs.declared.listed.RunLists.{RunLists}
+use Rattle.store_schema.specs.Schema.{grp_at, member_at}
+use Rattle.store_schema.specs.Tables.{Holds}
+use Rattle.page_changes.specs.declared.groups.GroupTables.{GroupTables}
+
+-- these are the roots of the two tables, among those of all trees
+pub record AreGroupRoots (known : List ℕ) (roots : GroupTables) : Type 0 where
+  pub groups : roots.groups ≡ slice_index known grp_at.tree
+  pub members : roots.members ≡ slice_index known member_at.tree
+
+module _ {D : Type 0} {g : Ghosts D} where
+  -- where the file rests on a store, a transaction has begun in it that holds the changed tables
+  abbrev pub Changes : PageFile D g → PageFile D g → GroupTables → RunLists → (Tables → Tables) → {A E : Type 0} → Result A E → Type 0
+  Changes old new roots lists change result =
+      IsFaithful new → (wanted : List Wanted) (known : List ℕ) (db : Trees) (t : Tables) → Rests wanted known db old → Holds t db → AreListed t lists → AreGroupRoots known roots
+      → OnOk result ((next : Trees) × Writes wanted known db next new × Holds (change t) next)
+
+  -- the same where these are the roots of a table and its index, for tables of which a fact holds
+  abbrev pub ChangesAt : PageFile D g → PageFile D g → ℕ → ℕ → ℕ → (Tables → Type 0) → (Tables → Tables) → {A E : Type 0} → Result A E → Type 0
+  ChangesAt old new tree table index Fact change result =
+      IsFaithful new → (wanted : List Wanted) (known : List ℕ) (db : Trees) (t : Tables) → Rests wanted known db old → Holds t db
+      → table ≡ slice_index known tree → index ≡ slice_index known (tree + 1) → Fact t → OnOk result ((next : Trees) × Writes wanted known db next new × Holds (change t) next)
+
+  -- the same within a transaction, for tables and trees of which a fact holds
+  abbrev pub ChangesWithin : PageFile D g → PageFile D g → ℕ → ℕ → ℕ → (Tables → Trees → Type 0) → (Tables → Tables) → {A E : Type 0} → Result A E → Type 0
+  ChangesWithin old new tree table index Fact change result =
+      IsFaithful new → (wanted : List Wanted) (known : List ℕ) (was now : Trees) (t : Tables) → Writes wanted known was now old → Holds t now
+      → table ≡ slice_index known tree → index ≡ slice_index known (tree + 1) → Fact t now → OnOk result ((next : Trees) × Writes wanted known was next new × Holds (change t) next)
+
+-- the group and the run are held, and the run is not in the group
+pub record CanJoin (name : List ℕ) (run : ℕ) (t : Tables) : Type 0 where
+  pub grouped : has_group t name ≡ true
+  pub held : has_run t run ≡ true
+  pub none : has_member t name run ≡ false
+
+-- no run is in the group
+abbrev pub HasNoMember : List ℕ → Tables → Type 0
+HasNoMember name t = list_any (λ (m : MemberRow). bytes_eq m.group name) t.members ≡ false
+
+-- the members of a group are gone
+abbrev pub without_members : List ℕ → Tables → Tables
+without_members name t = record t { members = filter (λ (m : MemberRow). not (bytes_eq m.group name)) t.members }
+
+-- the group itself is gone
+abbrev pub without_named : List ℕ → Tables → Tables
+without_named name t = record t { groups = filter (λ g. not (is_named name g)) t.groups }
