@@ -1,4 +1,5 @@
 pub mod Among
+mod Grouping
 mod Changes
 mod Chains
 mod Columns

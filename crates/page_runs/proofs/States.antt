@@ -1,5 +1,5 @@
 -- What calls that read leave of a store.
-use Rattle.std.proofs.Common.{◌≡◌, ◌⊎◌, Bool, true, false, IsTrue, ◌&&◌, Result, Ok, Err, map, refl, sym, ap₂, subst, ◌∙◌, inl, inr}
+use Rattle.std.proofs.Common.{◌≡◌, ◌⊎◌, ℕ, Bool, true, false, IsTrue, ◌&&◌, List, Result, Ok, Err, map, refl, sym, ap₂, subst, ◌∙◌, inl, inr}
 use Rattle.std.proofs.lemmas.Bool.{and_parts, cases_Bool}
 use Rattle.std.specs.Result.{IsErr, is_ok}
 use Rattle.sqlite_disk.specs.Disk.{MoreFaults}
@@ -10,10 +10,14 @@ use Rattle.sqlite_wal.specs.State.{StaysOrFails}
 use Rattle.sqlite_wal.proofs.StateLemmas.{open_from}
 use Rattle.page_files.specs.declared.files.PageFile.{PageFile}
 use Rattle.sqlite_disk.specs.declared.Disk.{Ghosts}
-use Rattle.sqlite_pool.specs.Stored.{RecoversAs}
+use Rattle.sqlite_pool.specs.Stored.{Keeps, RecoversAs}
+use Rattle.sqlite_store.specs.declared.catalog.Wanted.{Wanted}
+use Rattle.sqlite_trees.specs.Tree.{Trees}
 use Rattle.plain_tables.specs.Tables.{Tables, CellRow, CallRow, StackRow}
 use Rattle.run_stores.specs.Calls.{Asked, Changed}
+use Rattle.page_files.specs.Files as files
 use Rattle.page_files.specs.Files.{IsUsable, OnlyReads, page_size, pages_of}
+use Rattle.page_files.specs.Held.{Rests}
 use Rattle.page_files.proofs.Reading.{rests_after}
 use Rattle.run_lists.specs.Listed.{AreListed}
 use Rattle.store_schema.specs.Tables.{name_columns, cell_columns, arc_columns, stack_columns}
@@ -49,13 +53,26 @@ module _ {D : Type 0} {g : Ghosts D} where
     stacks = same_lines old.file new.file size pages new.roots.stacks _ _ _ (subst (λ (r : Roots). ShowsLines old.file r.stacks stack_columns (λ (s : StackRow). s.run) t.stacks) (sym roots) is.stacks);
   }
 
-  module _ (old new : PageRuns D g) (file : OnlyReads old.file new.file) (lists : new.lists ≡ old.lists) (roots : new.roots ≡ old.roots) where
-    shown_after : (t : Tables) → ShowsTables t old → ShowsTables t new
-    shown_after t is = shown_same old new file.keeps.stays.size file.pages lists roots t is
+  -- a file that shows the same pages, commits nothing, and rests on what it rested on, if it can be used
+  pub record StaysSame (old new : PageFile D g) : Type 0 where
+    pub keeps : Keeps (pools.state old.pool) (pools.state new.pool)
+    pub pages : files.IsFaithful new → IsUsable new → pages_of new ≡ pages_of old
+    pub rests : files.IsFaithful new → IsUsable new → (wanted : List Wanted) (known : List ℕ) (db : Trees) → Rests wanted known db old → Rests wanted known db new
+
+  stays_read : (old new : PageFile D g) → OnlyReads old new → StaysSame old new
+  stays_read old new reads = record {
+    keeps = reads.keeps;
+    pages = λ faithful usable. reads.pages;
+    rests = λ faithful usable wanted known db was. rests_after old new reads faithful usable was;
+  }
+
+  module _ (old new : PageRuns D g) (file : StaysSame old.file new.file) (lists : new.lists ≡ old.lists) (roots : new.roots ≡ old.roots) where
+    shown_after : IsFaithful new → IsUsable new.file → (t : Tables) → ShowsTables t old → ShowsTables t new
+    shown_after faithful usable t is = shown_same old new file.keeps.stays.size (file.pages faithful usable) lists roots t is
 
     kept_after : IsFaithful new → IsUsable new.file → kept new ≡ kept old
     kept_after faithful usable =
-        ap₂ (λ (a b : PageMap). (a, b)) file.pages
+        ap₂ (λ (a b : PageMap). (a, b)) (file.pages faithful usable)
         (ap₂ (λ n p. in_use n p) file.keeps.stays.size (file.keeps.committed (open_from (pools.state new.file.pool) usable faithful)))
 
     settled_after : IsFaithful new → IsUsable new.file → IsSettled (kept old) → IsSettled (kept new)
@@ -63,11 +80,11 @@ module _ {D : Type 0} {g : Ghosts D} where
 
     represents_after : (t : Tables) → IsFaithful new → IsUsable new.file → Represents t old → Represents t new
     represents_after t faithful usable was = record {
-      reads = record { usable = usable; settled = settled_after faithful usable was.reads.settled; shows = shown_after t was.reads.shows };
+      reads = record { usable = usable; settled = settled_after faithful usable was.reads.settled; shows = shown_after faithful usable t was.reads.shows };
       wanted = was.wanted;
       known = was.known;
       db = was.db;
-      rests = rests_after old.file new.file file faithful usable was.rests;
+      rests = file.rests faithful usable was.wanted was.known was.db was.rests;
       roots = subst (AreRootsIn was.known) (sym roots) was.roots;
       holds = was.holds;
       ordered = was.ordered;
@@ -79,10 +96,9 @@ module _ {D : Type 0} {g : Ghosts D} where
         let next = subst (λ n. RecoversAs n image left.1) file.keeps.stays.size same in
         (sized ∙ file.keeps.stays.size, (before, might, λ pages is. next pages (first pages is)))
 
-    -- the pages as they are read and as they are committed
-    -- a call that reads its file was only asked
-    pub asked : (answered : Bool) → (IsTrue answered → IsUsable new.file) → (IsFaithful new → Asked state_of answered old new)
-    asked answered done faithful = record {
+    -- a call that leaves its file so was only asked
+    pub asked_same : (answered : Bool) → (IsTrue answered → IsUsable new.file) → (IsFaithful new → Asked state_of answered old new)
+    asked_same answered done faithful = record {
       stays = record {
         was_faithful = file.keeps.stays.clean faithful;
         counts = file.keeps.stays.faults;
@@ -92,11 +108,16 @@ module _ {D : Type 0} {g : Ghosts D} where
       };
       kept = record {
         represents = λ t was usable. represents_after t faithful usable was;
-        reads = λ t is usable. record { usable = usable; settled = settled_after faithful usable is.settled; shows = shown_after t is.shows };
+        reads = λ t is usable. record { usable = usable; settled = settled_after faithful usable is.settled; shows = shown_after faithful usable t is.shows };
         same = λ settled usable. kept_after faithful usable;
       };
       crash = λ left may. inl (leaves_after left may);
     }
+
+  -- one that reads its file
+  pub asked : (old new : PageRuns D g) → OnlyReads old.file new.file → new.lists ≡ old.lists → new.roots ≡ old.roots
+      → (answered : Bool) → (IsTrue answered → IsUsable new.file) → (IsFaithful new → Asked state_of answered old new)
+  asked old new reads lists roots = asked_same old new (stays_read old.file new.file reads) lists roots
 
   -- one that reads nothing changes nothing
   pub asked_nothing : (answered : Bool) (store : PageRuns D g) → (IsTrue answered → IsUsable store.file) → (IsFaithful store → Asked state_of answered store store)

@@ -4,6 +4,7 @@ use Rattle.sqlite_disk.specs.declared.Disk.{Ghosts}
 use Rattle.sqlite_store.specs.declared.catalog.Wanted.{Wanted}
 use Rattle.sqlite_trees.specs.Tree.{Trees}
 use Rattle.sqlite_value.specs.Order.{Row}
+use Rattle.page_changes.specs.declared.groups.GroupTables.{GroupTables}
 use Rattle.page_files.specs.declared.files.PageFile.{PageFile}
 use Rattle.page_files.specs.Files.{pages_of}
 use Rattle.page_files.specs.Trees.{ShowsTable, StandsIn, trees_of}
@@ -26,6 +27,10 @@ pub record AreRootsIn (known : List ℕ) (roots : Roots) : Type 0 where
   pub stacks : roots.stacks ≡ slice_index known stack_at.tree
   pub groups : roots.groups ≡ slice_index known grp_at.tree
   pub members : roots.members ≡ slice_index known member_at.tree
+
+-- the tables of groups and of members among them
+abbrev pub group_tables : Roots → GroupTables
+group_tables roots = record { groups = roots.groups; members = roots.members }
 
 module _ {D : Type 0} {g : Ghosts D} where
   -- it is a database, in which the table under this root has these rows

@@ -6,9 +6,10 @@ ghost use Rattle.page_files.specs.Files.{IsFaithful, OnlyReads};
 ghost use Rattle.plain_tables.specs.Tables.{Tables};
 ghost use Rattle.store_schema.specs.Schema.{schema_two};
 ghost use Rattle.page_runs.specs.Found.{AreFound, AreNames};
-ghost use Rattle.page_runs.specs.Shown.{AreRootsIn, IsStoreOf};
+ghost use Rattle.page_runs.specs.Shown.{AreRootsIn, IsStoreOf, group_tables};
 
 use crate::failures::error_of;
+use page_changes::GroupTables;
 use page_files::PageFile;
 use plain_tables::StoreError;
 use sqlite_disk::Disk;
@@ -28,6 +29,18 @@ pub(crate) struct Roots {
     pub stacks: u32,
     pub groups: u32,
     pub members: u32,
+}
+
+impl Roots {
+    /// Those of the tables of groups.
+    pub fn of_groups(&self) -> GroupTables
+        ensures { result ≡ group_tables self.now }
+    {
+        GroupTables {
+            groups: self.groups,
+            members: self.members,
+        }
+    }
 }
 
 /// The names of the tables, in the order of schema 2.

@@ -11,7 +11,9 @@ ghost use Rattle.run_lists.specs.Listed.{AreListed};
 ghost use Rattle.run_lists.specs.RowSums.{calls_of_run, cells_of_run, stacks_of_run};
 ghost use Rattle.run_order.specs.Order.{AreInOrder};
 ghost use Rattle.page_runs.specs.Finished.{Commits, Finishes};
-ghost use Rattle.page_runs.specs.States.{HoldsIn, IsFaithful, Represents};
+ghost use Rattle.page_runs.specs.States.{HoldsIn, IsFaithful, Represents, state_of};
+ghost use Rattle.run_stores.specs.Calls.{Asks};
+ghost use Rattle.std.specs.Result.{is_ok};
 
 use crate::failures::error_of;
 use crate::files::open_file;
@@ -38,8 +40,8 @@ use sqlite_disk::{Disk, Files};
 use sqlite_pager::Options;
 use std::alloc::Global;
 
-/// A store of runs that is only read: its small tables are held, and the rows of runs and the names are read
-/// from the pages of its file when they are asked for. Each change is refused, as `Store`.
+/// A store of runs whose small tables are held; the rows of runs and the names are read from the pages of its file
+/// when they are asked for. Changes of groups are written into the pages; runs are not put or dropped: `Store`.
 #[derive(Drop)]
 pub struct PageRuns<D: Disk> {
     pub(crate) file: PageFile<D>,
@@ -157,6 +159,16 @@ impl<D: Disk> PageRuns<D> {
                 self.lists = lists;
                 Ok(())
             }
+            Err(error) => Err(error_of(error)),
+        }
+    }
+
+    /// Copies what is committed from the log into the database file. Errors: `Store`, and `Memory`.
+    pub fn checkpoint(&mut self) -> Result<(), StoreError>
+        ensures { Asks state_of (is_ok result) self.old self.new }
+    {
+        match self.file.checkpoint() {
+            Ok(()) => Ok(()),
             Err(error) => Err(error_of(error)),
         }
     }
@@ -369,24 +381,39 @@ impl<D: Disk> RunStore for PageRuns<D> {
         Err(StoreError::Store)
     }
 
-    fn put_group(&mut self, _name: &str) -> Result<(), StoreError> {
-        Err(StoreError::Store)
+    fn put_group(&mut self, name: &str) -> Result<(), StoreError> {
+        let tables = self.roots.of_groups();
+        let (file, lists) = (&mut self.file, &self.lists);
+        let written = page_changes::put_group(file, self.alloc, &tables, lists, name);
+        self.finish(written)
     }
 
-    fn drop_group(&mut self, _name: &str) -> Result<(), StoreError> {
-        Err(StoreError::Store)
+    fn drop_group(&mut self, name: &str) -> Result<(), StoreError> {
+        let tables = self.roots.of_groups();
+        let (file, lists) = (&mut self.file, &self.lists);
+        let written = page_changes::drop_group(file, self.alloc, &tables, lists, name);
+        self.finish(written)
     }
 
-    fn join(&mut self, _name: &str, _run: u32) -> Result<(), StoreError> {
-        Err(StoreError::Store)
+    fn join(&mut self, name: &str, run: u32) -> Result<(), StoreError> {
+        let tables = self.roots.of_groups();
+        let (file, lists) = (&mut self.file, &self.lists);
+        let written = page_changes::join(file, self.alloc, &tables, lists, name, run);
+        self.finish(written)
     }
 
-    fn leave(&mut self, _name: &str, _run: u32) -> Result<(), StoreError> {
-        Err(StoreError::Store)
+    fn leave(&mut self, name: &str, run: u32) -> Result<(), StoreError> {
+        let tables = self.roots.of_groups();
+        let (file, lists) = (&mut self.file, &self.lists);
+        let written = page_changes::leave(file, self.alloc, &tables, lists, name, run);
+        self.finish(written)
     }
 
-    fn set_baseline(&mut self, _name: &str, _run: u32) -> Result<(), StoreError> {
-        Err(StoreError::Store)
+    fn set_baseline(&mut self, name: &str, run: u32) -> Result<(), StoreError> {
+        let tables = self.roots.of_groups();
+        let (file, lists) = (&mut self.file, &self.lists);
+        let written = page_changes::set_baseline(file, self.alloc, &tables, lists, name, run);
+        self.finish(written)
     }
 
     ghost use Rattle.page_runs.specs.States.{survives};

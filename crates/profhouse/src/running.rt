@@ -4,7 +4,8 @@ use file_reading::total_file;
 use http_service::Service;
 use prof_store::OpenError;
 use program_stores::{
-    database_at, error_line, is_new_at, pages_at, serve_in, work_in, work_in_pages,
+    database_at, error_line, is_new_at, pages_at, pages_to_change_at, serve_in, work_in,
+    work_in_pages,
 };
 use sessions::{Task, Work, print_total, task_of};
 use sqlite::{Alter, Connection};
@@ -60,32 +61,46 @@ fn work_in_database<'a>(
     came_to
 }
 
-/// Whether a work changes nothing, whatever it finds. No guarantee: as `run_over`; a store that is read from its
-/// pages refuses a change.
-fn only_reads(work: &Work<'_>) -> bool {
+/// Does a work that only reads over the store at a path, in its pages; none where it is not plainly a store of this
+/// version. No guarantee: as `run_over`.
+fn read_pages_at<'a>(rt: &'a HostRuntime, db: &str, work: Work<'a>) -> Result<io::Result<u8>, Work<'a>> {
+    let Some(store) = pages_at(rt, db) else {
+        return Err(work);
+    };
+    let (printed, _out, _store) = work_in_pages(rt, io::writer(rt), store, work);
+    Ok(printed)
+}
+
+/// Does a work over the store at a path, in its pages, and copies what it committed from the log into the file; where
+/// that fails, it stands in the log, and the next opening finds it there. As `read_pages_at`.
+fn change_pages_at<'a>(rt: &'a HostRuntime, db: &str, work: Work<'a>) -> Result<io::Result<u8>, Work<'a>> {
+    let Some(store) = pages_to_change_at(rt, db) else {
+        return Err(work);
+    };
+    let (printed, _out, mut store) = work_in_pages(rt, io::writer(rt), store, work);
+    let _copied = store.checkpoint();
+    Ok(printed)
+}
+
+/// Does a work over the store at a path, in its pages; the work comes back where they are not plainly a store of this
+/// version, or the work writes a run. No guarantee: as `run_over`; a store that is opened to be read refuses a change.
+fn work_in_pages_at<'a>(rt: &'a HostRuntime, db: &str, work: Work<'a>) -> Result<io::Result<u8>, Work<'a>> {
     match work {
-        Work::Ask(_) | Work::Annotate { .. } => true,
-        Work::Import(..) | Work::Remove(_) | Work::Group(..) => false,
+        Work::Ask(_) | Work::Annotate { .. } => read_pages_at(rt, db, work),
+        Work::Group(..) => change_pages_at(rt, db, work),
+        Work::Import(..) | Work::Remove(_) => Err(work),
     }
 }
 
-/// Does a work that only reads over the store at a path: from its pages, or by its database where it is not
-/// plainly a store of this version. No guarantee: as `run_over`.
-fn read_at<'a>(rt: &'a HostRuntime, db: &str, work: Work<'a>) -> Result<io::Result<u8>, OpenError> {
-    match pages_at(rt, db) {
-        Some(store) => {
-            let (printed, _out, _store) = work_in_pages(rt, io::writer(rt), store, work);
-            Ok(printed)
-        }
-        None => work_in_database(rt, db, false, Job::Work(work)),
-    }
-}
-
-/// Does a job over the store at a path. No guarantee: as `run_over`.
+/// Does a job over the store at a path: a work in its pages where that can be, else by its database. No guarantee:
+/// as `run_over`.
 fn work_at<'a>(rt: &'a HostRuntime, db: &str, job: Job<'a>) -> Result<io::Result<u8>, OpenError> {
     let is_new = is_new_at(rt, db)?;
     match job {
-        Job::Work(work) if !is_new && only_reads(&work) => read_at(rt, db, work),
+        Job::Work(work) if !is_new => match work_in_pages_at(rt, db, work) {
+            Ok(printed) => Ok(printed),
+            Err(work) => work_in_database(rt, db, false, Job::Work(work)),
+        },
         job => work_in_database(rt, db, is_new, job),
     }
 }

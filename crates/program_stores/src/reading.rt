@@ -57,6 +57,20 @@ pub fn pages_at(rt: &HostRuntime, path: &str) -> Option<PageRuns<ReadOnly<File, 
     store_in_pages(rt.alloc(), files, options)
 }
 
+/// The store at a path, to be read and changed in its pages. None where its files are not plainly a store of this
+/// version, or cannot be opened so; their database says why. No guarantee: as `pages_at`; `PageRuns::open` says what
+/// the store represents.
+pub fn pages_to_change_at(rt: &HostRuntime, path: &str) -> Option<PageRuns<File>> {
+    if is_no_file(path) {
+        return None;
+    }
+    let Ok(files) = sqlite_std_file::open(rt, path, Unknown) else {
+        return None;
+    };
+    let options = options_for(rt).ok()?;
+    PageRuns::open(rt.alloc(), files, options)
+}
+
 /// Does a work over a store in the pages of its file.
 pub fn work_in_pages<'a, R: Files + AllocGlobal, W: Write + Drop, D: Disk + Drop>(
     rt: &'a R,

@@ -1,0 +1,29 @@
+-- A change of groups that was written into the pages, and ended: what the trait's calls say of it.
+use Rattle.std.proofs.Common.{Result, Ok, Err, OnOk, refl, sym, subst}
+use Rattle.sqlite_disk.specs.declared.Disk.{Ghosts}
+use Rattle.sqlite_pool.specs.Pool as pools
+use Rattle.sqlite_pool.specs.Stored.{Keeps}
+use Rattle.page_changes.specs.Changes as groups
+use Rattle.page_changes.specs.Changes.{AreGroupRoots}
+use Rattle.plain_tables.specs.Tables.{Tables}
+use Rattle.plain_tables.specs.declared.errors.StoreError.{StoreError}
+use Rattle.store_schema.specs.Tables.{Holds}
+use Rattle.page_files.specs.Held.{Writes}
+use Rattle.sqlite_trees.specs.Tree.{Trees}
+use Rattle.page_runs.specs.Shown.{group_tables}
+use Rattle.page_runs.specs.States.{IsFaithful, Represents}
+use Rattle.page_runs.specs.declared.store.PageRuns.{PageRuns}
+use Rattle.page_runs.proofs.Changes.{IsMade}
+
+on_ok : {T E : Type 0} (r : Result T E) {P Q : Type 0} → (P → Q) → OnOk r P → OnOk r Q
+on_ok (Ok x) so p = so p
+on_ok (Err e) so p = tt
+
+module _ {D : Type 0} {g : Ghosts D} (old mid : PageRuns D g) (change : Tables → Tables) (written : Result (Unit {0}) StoreError) where
+  -- what was written holds the changed rows
+  pub group_made : groups.Changes old.file mid.file (group_tables old.roots) old.lists change written
+      → IsFaithful mid → (t : Tables) → (was : Represents t old) → OnOk written (IsMade (change t) was mid)
+  group_made done faithful t was =
+      let roots : AreGroupRoots was.known (group_tables old.roots) = record { groups = was.roots.groups; members = was.roots.members } in
+      on_ok written (λ (it : (next : Trees) × Writes was.wanted was.known was.db next mid.file × Holds (change t) next). record { next = it.0; writes = it.1; holds = it.2 })
+      (done faithful was.wanted was.known was.db t was.rests was.holds was.reads.shows.listed roots)
