@@ -1,10 +1,11 @@
 -- A change of groups that was written into the pages, and ended: what the trait's calls say of it.
-use Rattle.std.proofs.Common.{Result, Ok, Err, OnOk, refl, sym, subst}
+use Rattle.std.proofs.Common.{◌≡◌, ◌∙◌, Result, Ok, Err, OnOk, ap}
 use Rattle.sqlite_disk.specs.declared.Disk.{Ghosts}
 use Rattle.sqlite_pool.specs.Pool as pools
 use Rattle.sqlite_pool.specs.Stored.{Keeps}
 use Rattle.page_changes.specs.Changes as groups
 use Rattle.page_changes.specs.Changes.{AreGroupRoots}
+use Rattle.page_changes.specs.declared.groups.GroupTables.{GroupTables}
 use Rattle.plain_tables.specs.Tables.{Tables}
 use Rattle.plain_tables.specs.declared.errors.StoreError.{StoreError}
 use Rattle.store_schema.specs.Tables.{Holds}
@@ -21,9 +22,9 @@ on_ok (Err e) so p = tt
 
 module _ {D : Type 0} {g : Ghosts D} (old mid : PageRuns D g) (change : Tables → Tables) (written : Result (Unit {0}) StoreError) where
   -- what was written holds the changed rows
-  pub group_made : groups.Changes old.file mid.file (group_tables old.roots) old.lists change written
+  pub group_made : (tables : GroupTables) → tables ≡ group_tables old.roots → groups.Changes old.file mid.file tables old.lists change written
       → IsFaithful mid → (t : Tables) → (was : Represents t old) → OnOk written (IsMade (change t) was mid)
-  group_made done faithful t was =
-      let roots : AreGroupRoots was.known (group_tables old.roots) = record { groups = was.roots.groups; members = was.roots.members } in
+  group_made tables same done faithful t was =
+      let roots : AreGroupRoots was.known tables = record { groups = ap (λ (r : GroupTables). r.groups) same ∙ was.roots.groups; members = ap (λ (r : GroupTables). r.members) same ∙ was.roots.members } in
       on_ok written (λ (it : (next : Trees) × Writes was.wanted was.known was.db next mid.file × Holds (change t) next). record { next = it.0; writes = it.1; holds = it.2 })
       (done faithful was.wanted was.known was.db t was.rests was.holds was.reads.shows.listed roots)

@@ -1,25 +1,22 @@
-use Rattle.std.proofs.Common.{⊤, refl, subst, sym}
+use Rattle.std.specs.Prelude.{⊤}
+use Rattle.std.proofs.Common.{refl}
 use Rattle.plain_tables.specs.Changes.{without_member}
 use Rattle.run_order.proofs.Ordered.{without_member_in_order}
+use Rattle.page_runs.specs.declared.store.PageRuns.{PageRuns}
 use Rattle.page_runs.proofs.Changes.{changed_any, kept_shut}
 use Rattle.page_runs.proofs.Grouping.{group_made}
-use Rattle.page_runs.specs.Shown.{group_tables}
-use Rattle.page_runs.specs.declared.store.PageRuns.{PageRuns}
 use Rattle.page_runs.proofs.store.PageRunsRunStore.leave.Goals as goal
-use Rattle.page_changes.specs.Changes as groups
 
 pub returns-clause-changes : goal.returns-clause-changes
 returns-clause-changes g c faithful =
     let old = c.args.self.now in
-    let mid : PageRuns g.row.D.Denot g.D.Disk = record { file = c.leave.new.file; alloc = old.alloc; roots = old.roots; lists = old.lists } in
-    let done = subst (λ tables. groups.Changes old.file mid.file tables old.lists (without_member c.args.name.now c.args.run) _) c.of_groups.ensures c.leave.ensures.done in
-    changed_any (λ _. ⊤) (without_member c.args.name.now c.args.run) old mid _ c.leave.ensures.keeps refl refl _ _ c.finish.ensures
-    (λ clean t given was. group_made old mid (without_member c.args.name.now c.args.run) _ done clean t was) (λ t given. without_member_in_order c.args.name.now c.args.run t) faithful (λ t. tt)
+    let mid : PageRuns g.row.D.Denot g.D.Disk = record { file = c.leave-written.new.file; alloc = old.alloc; roots = old.roots; lists = old.lists } in
+    changed_any (λ _. ⊤) (without_member c.args.name.now c.args.run) old mid _ c.leave-written.ensures.keeps refl refl c.leave-written.result _ c.finish.ensures
+    (λ clean t given was. group_made old mid (without_member c.args.name.now c.args.run) c.leave-written.result _ c.of_groups-tables.ensures c.leave-written.ensures.done clean t was) (λ t given. without_member_in_order c.args.name.now c.args.run t) faithful (λ t. tt)
 
 pub returns-clause-shut : goal.returns-clause-shut
 returns-clause-shut g c faithful =
     let old = c.args.self.now in
-    let mid : PageRuns g.row.D.Denot g.D.Disk = record { file = c.leave.new.file; alloc = old.alloc; roots = old.roots; lists = old.lists } in
-    let done = subst (λ tables. groups.Changes old.file mid.file tables old.lists (without_member c.args.name.now c.args.run) _) c.of_groups.ensures c.leave.ensures.done in
-    kept_shut (λ _. ⊤) (without_member c.args.name.now c.args.run) old mid _ c.leave.ensures.keeps refl refl _ _ c.finish.ensures
-    (λ clean t given was. group_made old mid (without_member c.args.name.now c.args.run) _ done clean t was) (λ t given. without_member_in_order c.args.name.now c.args.run t) faithful c.leave.ensures.usable
+    let mid : PageRuns g.row.D.Denot g.D.Disk = record { file = c.leave-written.new.file; alloc = old.alloc; roots = old.roots; lists = old.lists } in
+    kept_shut (λ _. ⊤) (without_member c.args.name.now c.args.run) old mid _ c.leave-written.ensures.keeps refl refl c.leave-written.result _ c.finish.ensures
+    (λ clean t given was. group_made old mid (without_member c.args.name.now c.args.run) c.leave-written.result _ c.of_groups-tables.ensures c.leave-written.ensures.done clean t was) (λ t given. without_member_in_order c.args.name.now c.args.run t) faithful c.leave-written.ensures.usable

@@ -1,25 +1,22 @@
-use Rattle.std.proofs.Common.{⊤, refl, subst, sym}
+use Rattle.std.specs.Prelude.{⊤}
+use Rattle.std.proofs.Common.{refl}
 use Rattle.plain_tables.specs.Changes.{with_group}
 use Rattle.run_order.proofs.Ordered.{with_group_in_order}
+use Rattle.page_runs.specs.declared.store.PageRuns.{PageRuns}
 use Rattle.page_runs.proofs.Changes.{changed_any, kept_shut}
 use Rattle.page_runs.proofs.Grouping.{group_made}
-use Rattle.page_runs.specs.Shown.{group_tables}
-use Rattle.page_runs.specs.declared.store.PageRuns.{PageRuns}
 use Rattle.page_runs.proofs.store.PageRunsRunStore.put_group.Goals as goal
-use Rattle.page_changes.specs.Changes as groups
 
 pub returns-clause-changes : goal.returns-clause-changes
 returns-clause-changes g c faithful =
     let old = c.args.self.now in
-    let mid : PageRuns g.row.D.Denot g.D.Disk = record { file = c.put_group.new.file; alloc = old.alloc; roots = old.roots; lists = old.lists } in
-    let done = subst (λ tables. groups.Changes old.file mid.file tables old.lists (with_group c.args.name.now) _) c.of_groups.ensures c.put_group.ensures.done in
-    changed_any (λ _. ⊤) (with_group c.args.name.now) old mid _ c.put_group.ensures.keeps refl refl _ _ c.finish.ensures
-    (λ clean t given was. group_made old mid (with_group c.args.name.now) _ done clean t was) (λ t given. with_group_in_order c.args.name.now t) faithful (λ t. tt)
+    let mid : PageRuns g.row.D.Denot g.D.Disk = record { file = c.put_group-written.new.file; alloc = old.alloc; roots = old.roots; lists = old.lists } in
+    changed_any (λ _. ⊤) (with_group c.args.name.now) old mid _ c.put_group-written.ensures.keeps refl refl c.put_group-written.result _ c.finish.ensures
+    (λ clean t given was. group_made old mid (with_group c.args.name.now) c.put_group-written.result _ c.of_groups-tables.ensures c.put_group-written.ensures.done clean t was) (λ t given. with_group_in_order c.args.name.now t) faithful (λ t. tt)
 
 pub returns-clause-shut : goal.returns-clause-shut
 returns-clause-shut g c faithful =
     let old = c.args.self.now in
-    let mid : PageRuns g.row.D.Denot g.D.Disk = record { file = c.put_group.new.file; alloc = old.alloc; roots = old.roots; lists = old.lists } in
-    let done = subst (λ tables. groups.Changes old.file mid.file tables old.lists (with_group c.args.name.now) _) c.of_groups.ensures c.put_group.ensures.done in
-    kept_shut (λ _. ⊤) (with_group c.args.name.now) old mid _ c.put_group.ensures.keeps refl refl _ _ c.finish.ensures
-    (λ clean t given was. group_made old mid (with_group c.args.name.now) _ done clean t was) (λ t given. with_group_in_order c.args.name.now t) faithful c.put_group.ensures.usable
+    let mid : PageRuns g.row.D.Denot g.D.Disk = record { file = c.put_group-written.new.file; alloc = old.alloc; roots = old.roots; lists = old.lists } in
+    kept_shut (λ _. ⊤) (with_group c.args.name.now) old mid _ c.put_group-written.ensures.keeps refl refl c.put_group-written.result _ c.finish.ensures
+    (λ clean t given was. group_made old mid (with_group c.args.name.now) c.put_group-written.result _ c.of_groups-tables.ensures c.put_group-written.ensures.done clean t was) (λ t given. with_group_in_order c.args.name.now t) faithful c.put_group-written.ensures.usable
