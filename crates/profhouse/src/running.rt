@@ -63,7 +63,11 @@ fn work_in_database<'a>(
 
 /// Does a work that only reads over the store at a path, in its pages; none where it is not plainly a store of this
 /// version. No guarantee: as `run_over`.
-fn read_pages_at<'a>(rt: &'a HostRuntime, db: &str, work: Work<'a>) -> Result<io::Result<u8>, Work<'a>> {
+fn read_pages_at<'a>(
+    rt: &'a HostRuntime,
+    db: &str,
+    work: Work<'a>,
+) -> Result<io::Result<u8>, Work<'a>> {
     let Some(store) = pages_at(rt, db) else {
         return Err(work);
     };
@@ -73,7 +77,11 @@ fn read_pages_at<'a>(rt: &'a HostRuntime, db: &str, work: Work<'a>) -> Result<io
 
 /// Does a work over the store at a path, in its pages, and copies what it committed from the log into the file; where
 /// that fails, it stands in the log, and the next opening finds it there. As `read_pages_at`.
-fn change_pages_at<'a>(rt: &'a HostRuntime, db: &str, work: Work<'a>) -> Result<io::Result<u8>, Work<'a>> {
+fn change_pages_at<'a>(
+    rt: &'a HostRuntime,
+    db: &str,
+    work: Work<'a>,
+) -> Result<io::Result<u8>, Work<'a>> {
     let Some(store) = pages_to_change_at(rt, db) else {
         return Err(work);
     };
@@ -84,7 +92,11 @@ fn change_pages_at<'a>(rt: &'a HostRuntime, db: &str, work: Work<'a>) -> Result<
 
 /// Does a work over the store at a path, in its pages; the work comes back where they are not plainly a store of this
 /// version, or the work writes a run. No guarantee: as `run_over`; a store that is opened to be read refuses a change.
-fn work_in_pages_at<'a>(rt: &'a HostRuntime, db: &str, work: Work<'a>) -> Result<io::Result<u8>, Work<'a>> {
+fn work_in_pages_at<'a>(
+    rt: &'a HostRuntime,
+    db: &str,
+    work: Work<'a>,
+) -> Result<io::Result<u8>, Work<'a>> {
     match work {
         Work::Ask(_) | Work::Annotate { .. } => read_pages_at(rt, db, work),
         Work::Group(..) => change_pages_at(rt, db, work),
