@@ -1,4 +1,5 @@
 pub mod Rows
+pub mod Indexes
 pub mod Roots
 pub mod Tables
 pub mod Walks
