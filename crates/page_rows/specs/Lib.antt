@@ -4,3 +4,4 @@ pub mod Roots
 pub mod Tables
 pub mod Walks
 pub mod Places
+pub mod Batches

@@ -4,9 +4,11 @@
 #![tactic(auto)]
 
 // The walk over the entries of an index.
-mod entries;
+mod entry_walks;
 // Why a walk ends early.
 mod errors;
+// Places among the entries of an index.
+mod probes;
 // A record read as a row.
 mod records;
 // The root page of a table or an index, by its name.
@@ -16,7 +18,7 @@ mod sinks;
 // The walk over the rows of a table.
 mod walks;
 
-pub use entries::walk_entries;
+pub use entry_walks::walk_entries;
 pub use errors::WalkError;
 pub use records::read_row;
 pub use roots::root_named;
