@@ -21,7 +21,7 @@ use Rattle.sqlite_store.specs.Db.{record_order}
 use Rattle.sqlite_store.proofs.DbLemmas.{index_reads}
 use Rattle.sqlite_store.proofs.OrderLemmas.{less}
 use Rattle.page_rows.specs.Batches.{shown_of, last_of, EndIn, HandedOn, TookBatch}
-use Rattle.page_rows.specs.Indexes.{at_row, behind_record, entries_of, from_entry, up_to}
+use Rattle.page_rows.specs.Indexes.{at_row, behind_record, entries_of, from_entry}
 use Rattle.page_rows.specs.Walks.{HasWalked, IsBehind}
 use Rattle.page_rows.proofs.Steps.{ends_here}
 

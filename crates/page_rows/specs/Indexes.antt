@@ -1,8 +1,7 @@
 -- The entries of an index, as the pages of a file have them.
 use Rattle.std.specs.Prelude.{ℕ, List, [], ◌∷◌, if◌then◌else◌}
 use Rattle.std.specs.declared.cmp.Ordering.{Ordering}
-use Rattle.std.specs.declared.cmp.Ordering.TheVariants.{Less, Greater}
-use Rattle.std.specs.Ordering.{is_lt, is_gt}
+use Rattle.std.specs.Ordering.{is_lt}
 use Rattle.sqlite_pages.specs.PageMap.{PageMap}
 use Rattle.sqlite_btree.specs.Chain.{Layout}
 use Rattle.sqlite_btree.specs.Stored.{IsIndex, IsLaidIn}
@@ -11,6 +10,7 @@ use Rattle.sqlite_value.specs.declared.keys.Order.{Order}
 use Rattle.sqlite_value.specs.Order.{Row}
 use Rattle.sqlite_value.specs.Keys.{entry_cmp}
 use Rattle.sqlite_trees.specs.declared.store.Shape.TheVariants.{Index}
+use Rattle.sqlite_store.specs.Sides.{up_to_or_above}
 use Rattle.sqlite_store.specs.Db.{record_order, rows_at}
 
 -- the pages hold an index of this order under this root
@@ -26,14 +26,10 @@ abbrev pub from_entry : Order → Row → List Row → List Row
 from_entry order from [] = []
 from_entry order from (entry ∷ entries) = if is_lt (entry_cmp order entry from) then from_entry order from entries else entry ∷ entries
 
--- the side of what lies at or below a target, or above it, where the target's own place is behind what equals it
-abbrev pub up_to : Ordering → Ordering
-up_to order = if is_gt order then Greater else Less
-
 -- where an entry lies against the place of a row
 abbrev pub at_row : Order → Row → List ℕ → Ordering
 at_row order row bytes = entry_cmp order (decode bytes) row
 
--- and against the place behind the entry of a record
+-- and against the place behind the entry of a record: what equals it lies below
 abbrev pub behind_record : Order → List ℕ → List ℕ → Ordering
-behind_record order last bytes = up_to (entry_cmp order (decode bytes) (decode last))
+behind_record order last bytes = up_to_or_above (entry_cmp order (decode bytes) (decode last))

@@ -1,5 +1,5 @@
 // The walk over the entries of an index.
-ghost use Rattle.std.specs.Prelude.{◌≡◌, ◌⊎◌, ℕ, List, [], ◌∷◌, ◌++◌, map, true, MatchResult, OnOk, IfOk};
+ghost use Rattle.std.specs.Prelude.{◌≡◌, ◌⊎◌, ℕ, List, [], ◌∷◌, ◌++◌, map, true, MatchResult, OnOk, IfErr};
 ghost use Rattle.std.specs.Bool.{OnTrue};
 ghost use Rattle.std.specs.Ordering.{is_gt};
 ghost use Rattle.sqlite_pages.specs.Calls.{IsClean, Continues, FailsFor};
@@ -87,7 +87,8 @@ fn rises(order: Order, fields: &[u8], last: &[u8]) -> bool
 
 /// Copies the record that a batch gave.
 fn keep(last: &mut Vec<u8>, fields: &[u8]) -> Result<(), Error>
-    ensures { OnOk result (last.new.items ≡ fields.now) }
+    ensures copied { OnOk result (last.new.items ≡ fields.now) }
+    ensures cause { IfErr result (λ e. e ≡ Error.OutOfMemory) }
 {
     last.clear();
     last.extend_from_slice(fields)?;
