@@ -1,1 +1,4 @@
+pub mod Cuts
 pub mod Held
+pub mod Numbers
+pub mod Rising

@@ -24,7 +24,7 @@ pub fn fill<D: Disk, L: PageLine>(
     place: &Place<'_>,
     lines: &[L],
 ) -> Result<(), StoreError>
-    ensures done { FillsTable file.old file.new place.now (map (λ line. L.columns (L.plain line)) lines.now) result }
+    ensures done { FillsTable file.old file.new place.now (map L.columns lines.now) result }
     ensures usable { OnOk result (IsUsable file.new) }
     ensures keeps { Keeps (pools.state file.old.pool) (pools.state file.new.pool) }
 {

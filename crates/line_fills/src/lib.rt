@@ -2,10 +2,20 @@
 //! pages of the file, with no SQL. A call stands within a transaction of `page_files`; after an error its `undo` is due.
 #![tactic(auto)]
 
+// The records of some lines, to be handed to the pages at once.
+mod batches;
+// The record of some values.
+mod encoder;
 // Lines behind a table, and in its indexes (specs/Filled.antt).
 mod fills;
 // A line of a table.
 mod lines;
+// Records that lie in one buffer (specs/Records.antt).
+mod records;
+// The lines in the order of an index (specs/Rows.antt).
+mod sorting;
+// The row of a line: the rowid, and then the line's columns.
+mod values;
 
 pub use fills::fill;
 pub use lines::PageLine;
