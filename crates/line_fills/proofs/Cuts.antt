@@ -1,5 +1,5 @@
 -- Records in one buffer, and one more.
-use Rattle.std.proofs.Common.{◌≡◌, ℕ, ◌+◌, List, [], ◌∷◌, ◌++◌, All, drop, length, map, take, sum, ap, ap₂, sym, ◌∙◌, arith, length-drop}
+use Rattle.std.proofs.Common.{◌≡◌, ℕ, ◌+◌, List, [], ◌∷◌, ◌++◌, drop, length, sum, ap, ap₂, sym, ◌∙◌, arith, length-drop}
 use Rattle.std.proofs.lemmas.List.{drop-append-le, map-append, take-append-le, take_all}
 use Rattle.std.proofs.lemmas.List.Sums.{sum_by-cons}
 use Rattle.std.proofs.lemmas.List.Elements.{All-append, All-cons, All-nil}
@@ -15,9 +15,7 @@ cut-append bytes more (n ∷ lengths) same =
     ap₂ ◌∷◌ (take-append-le n bytes more (omega (arith, parts)))
     (ap (λ l. cut l (lengths ++ length more ∷ [])) (drop-append-le n bytes more (omega (arith, parts))) ∙ cut-append (drop n bytes) more lengths (omega (arith, parts, length-drop n bytes)))
 
-pub none_written : AreRecordsOf [] []
-none_written = record { rows_are = refl; writable = All-nil IsWritable }
-
+-- one more row is written
 pub one_written : (rows : List Row) (records : List (List ℕ)) (row : Row) (bytes : List ℕ) → AreRecordsOf rows records → decode bytes ≡ row → IsWritable bytes → AreRecordsOf (rows ++ row ∷ []) (records ++ bytes ∷ [])
 one_written rows records row bytes was is writable = record {
   rows_are = map-append decode records (bytes ∷ []) ∙ ap₂ ◌++◌ was.rows_are (ap (λ r. r ∷ []) is);

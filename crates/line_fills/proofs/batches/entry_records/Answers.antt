@@ -1,4 +1,4 @@
-use Rattle.std.proofs.Common.{◌≡◌, ◌+◌, ℕ, [], ◌∷◌, ◌++◌, get_or, map, take, sym, ap, subst₂, ◌∙◌}
+use Rattle.std.proofs.Common.{ℕ, get_or, map, take, sym, ap, subst₂, ◌∙◌}
 use Rattle.std.proofs.lemmas.List.{map_more}
 use Rattle.sqlite_sql.specs.Catalog.{entry_of}
 use Rattle.line_fills.specs.Records.{AreRecordsOf}

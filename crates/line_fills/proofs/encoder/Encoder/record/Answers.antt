@@ -1,4 +1,4 @@
-use Rattle.std.proofs.Common.{arith, sym, ap, ◌∙◌}
+use Rattle.std.proofs.Common.{arith, ap, ◌∙◌}
 use Rattle.sqlite_record.specs.Record.{decode}
 use Rattle.sqlite_record.proofs.StrictLemmas.{IsRecord-written}
 use Rattle.line_fills.proofs.encoder.Encoder.record.Goals as goal

@@ -1,4 +1,4 @@
-use Rattle.std.proofs.Common.{◌≡◌, ◌<◌, ◌^◌, ◌+◌, ℤ, List, ℕ, pos, [], ◌∷◌, ◌++◌, get_or, length, map, take, to_z, w64, arith, sym, ap, ap₂, subst, ◌∙◌}
+use Rattle.std.proofs.Common.{◌≡◌, ◌<◌, ◌^◌, ◌+◌, ℤ, List, ℕ, [], ◌∷◌, ◌++◌, get_or, length, map, take, to_z, w64, arith, sym, ap, ap₂, ◌∙◌}
 use Rattle.std.specs.Borrow.{Bor}
 use Rattle.std.proofs.lemmas.Int.{to_z_pos}
 use Rattle.std.proofs.lemmas.List.{get_or-map, length-map, map-append, take_more}
@@ -7,7 +7,7 @@ use Rattle.sqlite_store.specs.Db.{table_row}
 use Rattle.sqlite_value.specs.declared.value.Value.TheVariants.{Int}
 use Rattle.sqlite_value.specs.Order.{Row}
 use Rattle.page_edits.specs.Places.{rows_given}
-use Rattle.line_fills.specs.Rows.{numbered, row_at}
+use Rattle.line_fills.specs.Rows.{row_at}
 use Rattle.line_fills.proofs.Numbers.{numbered-more}
 use Rattle.line_fills.proofs.records.Records.rows.Goals as goal
 
