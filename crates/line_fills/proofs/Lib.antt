@@ -1,4 +1,6 @@
 pub mod Cuts
+pub mod Entered
 pub mod Held
 pub mod Numbers
 pub mod Rising
+pub mod Sorted

@@ -8,7 +8,8 @@ use Rattle.sqlite_store.specs.declared.catalog.Wanted.{Wanted}
 use Rattle.sqlite_store.specs.Catalog.{reals_at}
 use Rattle.sqlite_trees.specs.declared.store.Shape.{Shape}
 use Rattle.sqlite_trees.specs.declared.store.Shape.TheVariants as shape
-use Rattle.sqlite_trees.specs.Tree.{Trees, IsAscending, IsTable, insert_entry, with_tree}
+use Rattle.sqlite_trees.specs.Tree.{Trees, IsAscending, insert_entry, with_tree}
+use Rattle.sqlite_trees.specs.View.{IsShaped}
 use Rattle.sqlite_value.specs.Keys.{plain}
 use Rattle.sqlite_value.specs.Order.{Row}
 use Rattle.page_edits.specs.Places.{Place, place_all}
@@ -27,10 +28,10 @@ pub record AreEntriesOf (columns : List ℕ) (news entries : List Row) : Type 0 
   pub are_of : IsIndexOf columns news entries
   pub differ : HeadsDiffer (length columns) entries
 
--- what indexes need before the entries of new rows: each has an entry for each of the old rows, which are below the new ones
+-- no two indexes share a tree, each has an entry for each of the old rows, and the new rows stand behind these
 pub record CanBeFilled (now : Trees) (indexes : List Index) (olds news : List Row) : Type 0 where
   pub apart : IsAscending (λ (i j : Index). i.tree ≢ j.tree) indexes
-  pub rising : IsTable (olds ++ news)
+  pub shaped : IsShaped shape.Table (olds ++ news)
   pub indexed : AllByRecursion (λ (i : Index). IsIndexOf i.columns olds (now i.tree)) indexes
 
 module _ {D : Type 0} {g : Ghosts D} where

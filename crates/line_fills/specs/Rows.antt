@@ -2,7 +2,7 @@
 use Rattle.std.specs.Prelude.{◌≡◌, ◌+◌, ◌<◌, ◌^◌, ℕ, suc, pos, List, [], ◌∷◌, All, length, map, slice_index_or}
 use Rattle.std.specs.declared.cmp.Ordering.TheVariants.{Less}
 use Rattle.sqlite_sql.specs.Catalog.{entry_of}
-use Rattle.sqlite_trees.specs.Tree.{IsAscending}
+use Rattle.plain_tables.specs.Lists.{IsAscending}
 use Rattle.sqlite_value.specs.declared.value.Value.TheVariants.{Int}
 use Rattle.sqlite_value.specs.Order.{Row, column, row_cmp}
 
