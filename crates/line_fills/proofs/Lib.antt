@@ -4,3 +4,4 @@ pub mod Held
 pub mod Numbers
 pub mod Rising
 pub mod Sorted
+pub mod Steps

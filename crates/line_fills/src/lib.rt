@@ -14,6 +14,8 @@ mod lines;
 mod records;
 // The lines in the order of an index (specs/Rows.antt).
 mod sorting;
+// The lines of a run, as lines of its tables.
+mod store_lines;
 // The row of a line: the rowid, and then the line's columns.
 mod values;
 
