@@ -6,7 +6,11 @@ use Rattle.sqlite_disk.specs.declared.Disk.{Ghosts}
 use Rattle.sqlite_pool.specs.Pool.{state}
 use Rattle.sqlite_pool.specs.Stored.{Keeps}
 use Rattle.sqlite_store.specs.declared.catalog.Wanted.{Wanted}
+use Rattle.sqlite_record.proofs.AffinityLemmas.{widen-zero}
 use Rattle.sqlite_store.specs.Catalog.{reals_at}
+use Rattle.sqlite_store.specs.Db.{shown}
+use Rattle.sqlite_trees.specs.declared.store.Shape.TheVariants.{Index}
+use Rattle.sqlite_value.specs.Keys.{plain}
 use Rattle.sqlite_trees.specs.declared.store.Shape.{Shape}
 use Rattle.sqlite_trees.specs.Tree.{Trees, with_tree}
 use Rattle.sqlite_value.specs.Order.{Row}
@@ -34,6 +38,17 @@ with_twice now t rows more = fun_ext (λ u. elim (cases_eq u t) [
   | inl same ↦ rw (eq-eqb u t same) refl
   | inr other ↦ rw (ne_eqb u t other) refl
 ])
+
+-- an entry is shown as it is given where no column is REAL
+pub entry_as_given : (wanted : List Wanted) (t : ℕ) (entry : Row) → reals_at wanted t ≡ 0 → shown (Index plain) (reals_at wanted t) entry ≡ entry
+entry_as_given wanted t entry none = subst (λ n. shown (Index plain) n entry ≡ entry) (sym none) (widen-zero entry)
+
+-- how far a loop over batches has come
+pub record HasCome (W K U P : Type 0) : Type 0 where
+  pub within : W
+  pub keeps : K
+  pub usable : U
+  pub placed : P
 
 module _ {D : Type 0} {g : Ghosts D} (shape : Shape) (root : ℕ) (place : Place) where
   -- within a transaction these rows were placed
