@@ -1,5 +1,5 @@
 // Whole numbers that a column can hold.
-ghost use Rattle.std.specs.Prelude.{◌≡◌, ◌<◌, ◌^◌, IfSome, None, ◌↔◌, ◌≤◌};
+ghost use Rattle.std.specs.Prelude.{◌≡◌, ◌<◌, ◌^◌, IfSome, None, ◌↔◌, ◌≤◌, pos};
 
 use sqlite::types::{ToSql, ValueRef};
 use std::marker::Model;
@@ -37,6 +37,12 @@ impl ColumnInt {
         ensures { result ≡ self.now }
     {
         self.number
+    }
+
+    pub fn as_i64(&self) -> i64
+        ensures { result ≡ pos self.now }
+    {
+        self.number as i64
     }
 }
 
