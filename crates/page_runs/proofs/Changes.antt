@@ -15,11 +15,13 @@ use Rattle.page_files.specs.Held.{Writes}
 use Rattle.page_files.proofs.Steps.{stands_on, stands_on_along}
 use Rattle.plain_tables.specs.Tables.{Tables}
 use Rattle.plain_tables.specs.declared.errors.StoreError.{StoreError}
+use Rattle.plain_tables.specs.Sound.{AreSound}
 use Rattle.run_order.specs.Order.{AreInOrder}
 use Rattle.run_stores.specs.Calls as calls
 use Rattle.run_stores.specs.Calls.{Are, Become, Changed, Given}
 use Rattle.store_schema.specs.Schema.{schema_two}
 use Rattle.store_schema.specs.Tables.{Holds}
+use Rattle.store_schema.proofs.Sound.{sound_of}
 use Rattle.page_runs.specs.Finished.{Finishes, IsUndone}
 use Rattle.page_runs.specs.Shown.{AreRootsIn}
 use Rattle.page_runs.specs.States.{HoldsIn, IsFaithful, IsSettled, Left, ReadsAs, Represents, ShowsTables, held_by, kept, may_leave, state_of}
@@ -48,7 +50,7 @@ module _ {D : Type 0} {g : Ghosts D} where
   module _ (given : Tables → Type 0) (change : Tables → Tables) (old mid new : PageRuns D g) (k : Keeps (pools.state old.file.pool) (pools.state mid.file.pool))
       (lists : mid.lists ≡ old.lists) (roots : mid.roots ≡ old.roots) (written result : Result (Unit {0}) StoreError) (fin : Finishes written result mid new)
       (made : IsFaithful mid → (t : Tables) → given t → (was : Represents t old) → OnOk written (IsMade (change t) was mid))
-      (ordered : (t : Tables) → given t → AreInOrder t → AreInOrder (change t)) (faithful : IsFaithful new) where
+      (ordered : (t : Tables) → given t → AreSound t → AreInOrder t → AreInOrder (change t)) (faithful : IsFaithful new) where
     later : StaysOrFails (pools.state mid.file.pool) (pools.state new.file.pool)
     later = fin.stays
 
@@ -59,7 +61,7 @@ module _ {D : Type 0} {g : Ghosts D} where
     represented m t is same was done =
         let now = subst (λ (u : Tables). Represents u old) same was in
         let it = is_done written (fin.wrote done) (made earlier m is now) in
-        is_done result done (fin.made faithful now.wanted now.known now.db it.next (change m) it.writes (subst (AreRootsIn now.known) (sym roots) now.roots) it.holds (ordered m is now.ordered))
+        is_done result done (fin.made faithful now.wanted now.known now.db it.next (change m) it.writes (subst (AreRootsIn now.known) (sym roots) now.roots) it.holds (ordered m is (sound_of m now.db now.holds) now.ordered))
 
     undone : is_ok result ≡ false → IsUsable new.file → IsUndone mid new
     undone failed = is_refused result failed (fin.undone faithful)

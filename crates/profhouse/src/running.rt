@@ -4,11 +4,10 @@ use file_reading::total_file;
 use http_service::Service;
 use prof_store::OpenError;
 use program_stores::{
-    database_at, error_line, is_new_at, pages_at, pages_to_change_at, serve_in, work_in,
-    work_in_pages,
+    StoreInPages, database_at, error_line, is_new_at, make_in, pages_at, pages_to_change_at,
+    serve_in, serve_in_pages, work_in, work_in_pages,
 };
 use sessions::{Task, Work, print_total, task_of};
-use sqlite::{Alter, Connection};
 use std::io;
 use std::process::ExitCode;
 use std::rt::HostRuntime;
@@ -32,88 +31,80 @@ enum Job<'a> {
     Serve(Service),
 }
 
-/// Does a job over a database, as `work_in` and `serve_in`, and prints to the standard output. No guarantee:
-/// nothing of it would reach the caller, who closes the database.
-fn work_on<'a, S: Alter>(
-    rt: &'a HostRuntime,
-    conn: Connection<S>,
-    is_new: bool,
-    job: Job<'a>,
-) -> (Result<io::Result<u8>, OpenError>, Connection<S>) {
-    match job {
-        Job::Work(work) => work_in(rt, io::writer(rt), conn, is_new, work),
-        Job::Serve(service) => serve_in(rt, conn, is_new, service),
-    }
+/// Makes a store in the database at a path, where there is none. No guarantee: as `run_over`.
+fn make_at(rt: &HostRuntime, db: &str) -> Result<(), OpenError> {
+    let (made, conn) = make_in(rt.alloc(), database_at(rt, db)?);
+    let _closed = conn.close();
+    made
 }
 
-/// Does a job over the database of the store at a path, and closes that: what was committed is copied from the
-/// log into the file; where that fails, it stands in the log, and the next opening finds it there. No guarantee:
-/// as `run_over`.
+/// Does a job over the store in the database at a path, and closes that: what was committed is copied from the log into
+/// the file; where that fails, it stands in the log, and the next opening finds it there. No guarantee: as `run_over`.
 fn work_in_database<'a>(
     rt: &'a HostRuntime,
     db: &str,
-    is_new: bool,
     job: Job<'a>,
 ) -> Result<io::Result<u8>, OpenError> {
     let conn = database_at(rt, db)?;
-    let (came_to, conn) = work_on(rt, conn, is_new, job);
+    let (came_to, conn) = match job {
+        Job::Work(work) => work_in(rt, io::writer(rt), conn, work),
+        Job::Serve(service) => serve_in(rt, conn, service),
+    };
     let _closed = conn.close();
     came_to
 }
 
-/// Does a work that only reads over the store at a path, in its pages; none where it is not plainly a store of this
-/// version. No guarantee: as `run_over`.
-fn read_pages_at<'a>(
-    rt: &'a HostRuntime,
-    db: &str,
-    work: Work<'a>,
-) -> Result<io::Result<u8>, Work<'a>> {
-    let Some(store) = pages_at(rt, db) else {
-        return Err(work);
+/// Does a job over a store in its pages, and copies what was committed from the log into the file, as
+/// `work_in_database` does.
+fn change_pages<'a>(rt: &'a HostRuntime, store: StoreInPages, job: Job<'a>) -> io::Result<u8> {
+    let (came_to, mut store) = match job {
+        Job::Work(work) => {
+            let (printed, _out, store) = work_in_pages(rt, io::writer(rt), store, work);
+            (printed, store)
+        }
+        Job::Serve(service) => serve_in_pages(rt, store, service),
     };
-    let (printed, _out, _store) = work_in_pages(rt, io::writer(rt), store, work);
-    Ok(printed)
-}
-
-/// Does a work over the store at a path, in its pages, and copies what it committed from the log into the file; where
-/// that fails, it stands in the log, and the next opening finds it there. As `read_pages_at`.
-fn change_pages_at<'a>(
-    rt: &'a HostRuntime,
-    db: &str,
-    work: Work<'a>,
-) -> Result<io::Result<u8>, Work<'a>> {
-    let Some(store) = pages_to_change_at(rt, db) else {
-        return Err(work);
-    };
-    let (printed, _out, mut store) = work_in_pages(rt, io::writer(rt), store, work);
     let _copied = store.checkpoint();
-    Ok(printed)
+    came_to
 }
 
-/// Does a work over the store at a path, in its pages; the work comes back where they are not plainly a store of this
-/// version, or the work writes a run. No guarantee: as `run_over`; a store that is opened to be read refuses a change.
-fn work_in_pages_at<'a>(
-    rt: &'a HostRuntime,
-    db: &str,
-    work: Work<'a>,
-) -> Result<io::Result<u8>, Work<'a>> {
+/// Whether a work changes nothing, whatever it finds. No guarantee: as `run_over`; a store that is opened to be read
+/// refuses a change.
+fn only_reads(work: &Work<'_>) -> bool {
     match work {
-        Work::Ask(_) | Work::Annotate { .. } => read_pages_at(rt, db, work),
-        Work::Group(..) => change_pages_at(rt, db, work),
-        Work::Import(..) | Work::Remove(_) => Err(work),
+        Work::Ask(_) | Work::Annotate { .. } => true,
+        Work::Import(..) | Work::Remove(_) | Work::Group(..) => false,
     }
 }
 
-/// Does a job over the store at a path: a work in its pages where that can be, else by its database. No guarantee:
-/// as `run_over`.
-fn work_at<'a>(rt: &'a HostRuntime, db: &str, job: Job<'a>) -> Result<io::Result<u8>, OpenError> {
-    let is_new = is_new_at(rt, db)?;
+/// Does a job over the store at a path, in its pages. The job comes back where they are not plainly a store of this
+/// version. No guarantee: as `run_over`.
+fn work_in_pages_at<'a>(
+    rt: &'a HostRuntime,
+    db: &str,
+    job: Job<'a>,
+) -> Result<io::Result<u8>, Job<'a>> {
     match job {
-        Job::Work(work) if !is_new => match work_in_pages_at(rt, db, work) {
-            Ok(printed) => Ok(printed),
-            Err(work) => work_in_database(rt, db, false, Job::Work(work)),
+        Job::Work(work) if only_reads(&work) => match pages_at(rt, db) {
+            Some(store) => Ok(work_in_pages(rt, io::writer(rt), store, work).0),
+            None => Err(Job::Work(work)),
         },
-        job => work_in_database(rt, db, is_new, job),
+        job => match pages_to_change_at(rt, db) {
+            Some(store) => Ok(change_pages(rt, store, job)),
+            None => Err(job),
+        },
+    }
+}
+
+/// Does a job over the store at a path, which is made where there is none: in its pages, or else in its database, which
+/// migrates a store of version 1 and says what is wrong with others. No guarantee: as `run_over`.
+fn work_at<'a>(rt: &'a HostRuntime, db: &str, job: Job<'a>) -> Result<io::Result<u8>, OpenError> {
+    if is_new_at(rt, db)? {
+        make_at(rt, db)?;
+    }
+    match work_in_pages_at(rt, db, job) {
+        Ok(came_to) => Ok(came_to),
+        Err(job) => work_in_database(rt, db, job),
     }
 }
 

@@ -1,4 +1,4 @@
-//! The store at a path: it is made, opened or migrated in a database, and worked over or served.
+//! The store at a path: made or migrated in a database, opened by its pages or in a database, worked over or served.
 #![tactic(auto)]
 
 // Laws: which history a store has that is in memory, or was of version 1, and what the rows of each run sum to.
@@ -15,7 +15,7 @@ mod working;
 pub use laws::{
     memory_keeps_its_history, migrated_stores_have_their_history, rows_sum_to_the_small_tables,
 };
-pub use reading::{pages_at, pages_to_change_at, store_in_pages, work_in_pages};
+pub use reading::{StoreInPages, pages_at, pages_to_change_at, serve_in_pages, store_in_pages, work_in_pages};
 pub use serving::serve_in;
-pub use stores::{StoreFile, database_at, error_line, is_new_at, store_in};
+pub use stores::{StoreFile, database_at, error_line, is_new_at, make_in, store_in};
 pub use working::work_in;

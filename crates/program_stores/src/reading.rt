@@ -1,4 +1,4 @@
-// Works over a store in the pages of its file: those that only read, and those that change it.
+// Works over a store in the pages of its file, and a server of it.
 ghost use Rattle.std.specs.Prelude.{IfSome};
 ghost use Rattle.sqlite_wal.specs.Files.{seen_image};
 ghost use Rattle.read_only_disks.specs.Untouched.{IsUntouched};
@@ -7,12 +7,14 @@ ghost use Rattle.plain_tables.specs.Tables.{Tables};
 ghost use Rattle.run_stores.specs.Calls.{IsFaithful};
 ghost use Rattle.page_runs.specs.States.{HoldsIn, state_of};
 ghost use Rattle.histories.specs.History.{History};
+ghost use Rattle.http_service.specs.Served.{CameToServed};
 ghost use Rattle.histories.specs.Representation.{TablesRepresent};
 ghost use Rattle.store_histories.specs.Answered.{RepresentsHistory};
 ghost use Rattle.sessions.specs.Sessions.{Wants};
 ghost use Rattle.sessions.specs.Works.{CameTo};
 
 use crate::stores::{is_no_file, options_for};
+use http_service::{Service, serve_over};
 use page_runs::PageRuns;
 use read_only_disks::{ReadOnly, read_only};
 use sessions::{Work, work_over};
@@ -26,6 +28,9 @@ use std::rt::{Files, HostRuntime};
 
 /// The longest log that is read whole into memory, in bytes: 64 MiB. A longer one is left to the database.
 const LONGEST_LOG: usize = 0x400_0000;
+
+/// A store in the pages of its file, to be read and changed.
+pub type StoreInPages = PageRuns<File>;
 
 /// The store in files that are as they were found, to be read from its pages. No byte of them is written. None
 /// where they are not plainly a store of this version, or cannot be read so; their database says why. Where they
@@ -60,7 +65,7 @@ pub fn pages_at(rt: &HostRuntime, path: &str) -> Option<PageRuns<ReadOnly<File, 
 /// The store at a path, to be read and changed in its pages. None where its files are not plainly a store of this
 /// version, or cannot be opened so; their database says why. No guarantee: as `pages_at`; `PageRuns::open` says what
 /// the store represents.
-pub fn pages_to_change_at(rt: &HostRuntime, path: &str) -> Option<PageRuns<File>> {
+pub fn pages_to_change_at(rt: &HostRuntime, path: &str) -> Option<StoreInPages> {
     if is_no_file(path) {
         return None;
     }
@@ -81,4 +86,15 @@ pub fn work_in_pages<'a, R: Files + AllocGlobal, W: Write + Drop, D: Disk + Drop
     ensures { IsFaithful state_of result.2 → CameTo state_of W.contents (Wants R.File.remaining work.entry) result.0 out result.1 store result.2 }
 {
     work_over(rt, out, store, work)
+}
+
+/// Serves a store in the pages of its file.
+pub fn serve_in_pages<D: Disk + Drop>(
+    rt: &HostRuntime,
+    store: PageRuns<D>,
+    service: Service,
+) -> (io::Result<u8>, PageRuns<D>)
+    ensures { IsFaithful state_of result.1 → CameToServed state_of service.requests store result.1 }
+{
+    serve_over(rt, store, service)
 }

@@ -15,12 +15,11 @@ use std::rt::HostRuntime;
 pub fn serve_in<S: Alter>(
     rt: &HostRuntime,
     conn: Connection<S>,
-    is_new: bool,
     service: Service,
 ) -> (Result<io::Result<u8>, OpenError>, Connection<S>)
-    ensures { HasCleanDisk (state S.Store result.1) → WasServed S.Store is_new service.requests result.0 conn result.1 }
+    ensures { HasCleanDisk (state S.Store result.1) → WasServed S.Store service.requests result.0 conn result.1 }
 {
-    match store_in(rt.alloc(), conn, is_new) {
+    match store_in(rt.alloc(), conn, false) {
         Ok(store) => {
             let (served, runs) = serve_over(rt, SqlRuns { store }, service);
             (Ok(served), runs.into_connection())

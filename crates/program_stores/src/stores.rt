@@ -5,6 +5,7 @@ ghost use Rattle.sqlite.specs.State.{HasCleanDisk};
 ghost use Rattle.prof_store.specs.Shown.{shown, IsFaithful};
 ghost use Rattle.store_schema.specs.Errors.{error_for, opening};
 ghost use Rattle.program_stores.specs.Stores.{Refuses, TakesUp, store_text};
+ghost use Rattle.program_stores.specs.Works.{IsMadeIn};
 
 use prof_store::{OpenError, Store};
 use sqlite::{Alter, Connection, Error, ErrorCode, File, FileStore};
@@ -105,6 +106,19 @@ pub fn store_in<S: Alter>(
         Store::create(alloc, conn)
     } else {
         Store::open(alloc, conn)
+    }
+}
+
+/// Makes a store in a database, and hands back the database.
+pub fn make_in<S: Alter>(
+    alloc: Global,
+    conn: Connection<S>,
+) -> (Result<(), OpenError>, Connection<S>)
+    ensures { HasCleanDisk (state S.Store result.1) → IsMadeIn S.Store result.0 conn result.1 }
+{
+    match store_in(alloc, conn, true) {
+        Ok(store) => (Ok(()), store.into_connection()),
+        Err((end, conn)) => (Err(end), conn),
     }
 }
 

@@ -18,12 +18,11 @@ pub fn work_in<'a, R: Files + AllocGlobal, W: Write + Drop, S: Alter>(
     rt: &'a R,
     out: W,
     conn: Connection<S>,
-    is_new: bool,
     work: Work<'a>,
 ) -> (Result<io::Result<u8>, OpenError>, Connection<S>)
-    ensures { HasCleanDisk (state S.Store result.1) → WasWorked S.Store W.contents (Wants R.File.remaining work.entry) is_new result.0 out conn result.1 }
+    ensures { HasCleanDisk (state S.Store result.1) → WasWorked S.Store W.contents (Wants R.File.remaining work.entry) result.0 out conn result.1 }
 {
-    match store_in(rt.alloc(), conn, is_new) {
+    match store_in(rt.alloc(), conn, false) {
         Ok(store) => {
             let (printed, _out, runs) = work_over(rt, out, SqlRuns { store }, work);
             (Ok(printed), runs.into_connection())
