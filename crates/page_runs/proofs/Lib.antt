@@ -1,5 +1,5 @@
 pub mod Among
-mod Grouping
+mod Making
 mod Changes
 mod Chains
 mod Columns

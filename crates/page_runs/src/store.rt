@@ -40,8 +40,8 @@ use sqlite_disk::{Disk, Files};
 use sqlite_pager::Options;
 use std::alloc::Global;
 
-/// A store of runs whose small tables are held; the rows of runs and the names are read from the pages of its file
-/// when they are asked for. Changes of groups are written into the pages; runs are not put or dropped: `Store`.
+/// A store of runs in the pages of its file. Its small tables are held; the rows of runs and the names are read from
+/// the pages when they are asked for. A change is written into the pages in one transaction.
 #[derive(Drop)]
 pub struct PageRuns<D: Disk> {
     pub(crate) file: PageFile<D>,
@@ -367,18 +367,22 @@ impl<D: Disk> RunStore for PageRuns<D> {
 
     fn put_run(
         &mut self,
-        _alloc: Global,
-        _number: u32,
-        _kind: Kind,
-        _digest: &[u8; 32],
-        _label: &str,
-        _file: &SummedFile<'_>,
+        alloc: Global,
+        number: u32,
+        kind: Kind,
+        digest: &[u8; 32],
+        label: &str,
+        file: &SummedFile<'_>,
     ) -> Result<(), StoreError> {
-        Err(StoreError::Store)
+        let (pages, lists) = (&mut self.file, &self.lists);
+        let written =
+            page_imports::put_run(pages, alloc, lists, number, kind, digest, label, file);
+        self.finish(written)
     }
 
-    fn drop_run(&mut self, _run: u32) -> Result<(), StoreError> {
-        Err(StoreError::Store)
+    fn drop_run(&mut self, run: u32) -> Result<(), StoreError> {
+        let written = page_removals::drop_run(&mut self.file, self.alloc, &self.lists, run);
+        self.finish(written)
     }
 
     fn put_group(&mut self, name: &str) -> Result<(), StoreError> {

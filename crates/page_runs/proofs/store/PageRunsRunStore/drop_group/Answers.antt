@@ -4,7 +4,7 @@ use Rattle.plain_tables.specs.Changes.{has_group, without_group}
 use Rattle.run_order.proofs.Ordered.{without_group_in_order}
 use Rattle.page_runs.specs.declared.store.PageRuns.{PageRuns}
 use Rattle.page_runs.proofs.Changes.{changed, kept_shut}
-use Rattle.page_runs.proofs.Grouping.{group_made}
+use Rattle.page_runs.proofs.Making.{group_made}
 use Rattle.page_runs.proofs.store.PageRunsRunStore.drop_group.Goals as goal
 
 pub returns-clause-changes : goal.returns-clause-changes

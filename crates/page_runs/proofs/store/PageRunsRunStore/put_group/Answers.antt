@@ -4,7 +4,7 @@ use Rattle.plain_tables.specs.Changes.{with_group}
 use Rattle.run_order.proofs.Ordered.{with_group_in_order}
 use Rattle.page_runs.specs.declared.store.PageRuns.{PageRuns}
 use Rattle.page_runs.proofs.Changes.{changed_any, kept_shut}
-use Rattle.page_runs.proofs.Grouping.{group_made}
+use Rattle.page_runs.proofs.Making.{group_made}
 use Rattle.page_runs.proofs.store.PageRunsRunStore.put_group.Goals as goal
 
 pub returns-clause-changes : goal.returns-clause-changes

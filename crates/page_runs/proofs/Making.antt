@@ -1,5 +1,5 @@
--- A change of groups that was written into the pages, and ended: what the trait's calls say of it.
-use Rattle.std.proofs.Common.{◌≡◌, ◌∙◌, Result, Ok, Err, OnOk, ap}
+-- A change that was written into the pages: the transaction holds the changed rows.
+use Rattle.std.proofs.Common.{◌≡◌, ◌∙◌, ℕ, List, Result, Ok, Err, OnOk, ap}
 use Rattle.sqlite_disk.specs.declared.Disk.{Ghosts}
 use Rattle.sqlite_pool.specs.Pool as pools
 use Rattle.sqlite_pool.specs.Stored.{Keeps}
@@ -9,7 +9,9 @@ use Rattle.page_changes.specs.declared.groups.GroupTables.{GroupTables}
 use Rattle.plain_tables.specs.Tables.{Tables}
 use Rattle.plain_tables.specs.declared.errors.StoreError.{StoreError}
 use Rattle.store_schema.specs.Tables.{Holds}
-use Rattle.page_files.specs.Held.{Writes}
+use Rattle.page_files.specs.Held.{Rests, Writes}
+use Rattle.run_lists.specs.Listed.{AreListed}
+use Rattle.sqlite_store.specs.declared.catalog.Wanted.{Wanted}
 use Rattle.sqlite_trees.specs.Tree.{Trees}
 use Rattle.page_runs.specs.Shown.{group_tables}
 use Rattle.page_runs.specs.States.{IsFaithful, Represents}
@@ -22,6 +24,14 @@ on_ok (Err e) so p = tt
 
 module _ {D : Type 0} {g : Ghosts D} (old mid : PageRuns D g) (change : Tables → Tables) (written : Result (Unit {0}) StoreError) where
   -- what was written holds the changed rows
+  pub listed_made : (IsFaithful mid → (wanted : List Wanted) (known : List ℕ) (db : Trees) (t : Tables) → Rests wanted known db old.file → Holds t db → AreListed t old.lists
+      → OnOk written ((next : Trees) × Writes wanted known db next mid.file × Holds (change t) next))
+      → IsFaithful mid → (t : Tables) → (was : Represents t old) → OnOk written (IsMade (change t) was mid)
+  listed_made done faithful t was =
+      on_ok written (λ (it : (next : Trees) × Writes was.wanted was.known was.db next mid.file × Holds (change t) next). record { next = it.0; writes = it.1; holds = it.2 })
+      (done faithful was.wanted was.known was.db t was.rests was.holds was.reads.shows.listed)
+
+  -- the same of a change of groups, which is told where its tables stand
   pub group_made : (tables : GroupTables) → tables ≡ group_tables old.roots → groups.Changes old.file mid.file tables old.lists change written
       → IsFaithful mid → (t : Tables) → (was : Represents t old) → OnOk written (IsMade (change t) was mid)
   group_made tables same done faithful t was =
