@@ -30,7 +30,7 @@ Differ a b = is_eq (entry_cmp plain a b) ≡ false
 abbrev AllDiffer : List Row → List Row → Type 0
 AllDiffer olds news = AllByRecursion (λ a. AllByRecursion (Differ a) news) olds
 
-each : {X : Type 0} (P Q : X → Type 0) → ((x : X) → P x → Q x) → (xs : List X) → AllByRecursion P xs → AllByRecursion Q xs
+pub each : {X : Type 0} (P Q : X → Type 0) → ((x : X) → P x → Q x) → (xs : List X) → AllByRecursion P xs → AllByRecursion Q xs
 each P Q so [] all = tt
 each P Q so (x ∷ xs) all = (so x all.0, each P Q so xs all.1)
 
