@@ -65,11 +65,18 @@ front_all P [] i all = (tt, all.0)
 front_all P (j ∷ done) i all = let more = front_all P done i all.1 in ((all.0, more.0), more.1)
 
 -- filled indexes stay so where other trees are those that change
-pub still_filled : (now next after : Trees) (news : List Row) (indexes : List Index) → AllByRecursion (λ (j : Index). after j.tree ≡ next j.tree) indexes → AllByRecursion (IsIndexFilled now next news) indexes
+still_filled : (now next after : Trees) (news : List Row) (indexes : List Index) → AllByRecursion (λ (j : Index). after j.tree ≡ next j.tree) indexes → AllByRecursion (IsIndexFilled now next news) indexes
     → AllByRecursion (IsIndexFilled now after news) indexes
 still_filled now next after news [] same filled = tt
 still_filled now next after news (j ∷ indexes) same filled =
     (subst (Fills j.columns (length j.columns) news (now j.tree)) (sym same.0) filled.0, still_filled now next after news indexes same.1 filled.1)
+
+-- and where they were the same before
+pub still_filled_from : (now before next : Trees) (news : List Row) (indexes : List Index) → AllByRecursion (λ (j : Index). now j.tree ≡ before j.tree) indexes → AllByRecursion (IsIndexFilled now next news) indexes
+    → AllByRecursion (IsIndexFilled before next news) indexes
+still_filled_from now before next news [] same filled = tt
+still_filled_from now before next news (j ∷ indexes) same filled =
+    (subst (λ rows. Fills j.columns (length j.columns) news rows (next j.tree)) same.0 filled.0, still_filled_from now before next news indexes same.1 filled.1)
 
 module _ {D : Type 0} {g : Ghosts D} where
   -- the indexes of the first k places are filled

@@ -8,3 +8,4 @@ pub mod Raised
 pub mod Rising
 pub mod Sorted
 pub mod Steps
+pub mod Whole

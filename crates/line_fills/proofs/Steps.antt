@@ -57,7 +57,7 @@ module _ {D : Type 0} {g : Ghosts D} (shape : Shape) (root : ℕ) (place : Place
       AtTree old new shape root (λ wanted roots was now t. reals_at wanted t ≡ 0 → Writes wanted roots was (with_tree now t (place_all place news (now t))) new)
 
   pub none_placed : (file : PageFile D g) → HasPlaced file file []
-  none_placed file faithful wanted roots was now t w is plain = subst (λ trees. Writes wanted roots was trees file) (sym (with_itself now t)) w
+  none_placed file faithful wanted roots was now t w is none = subst (λ trees. Writes wanted roots was trees file) (sym (with_itself now t)) w
 
   module _ (old mid new : PageFile D g) (k : Keeps (state mid.pool) (state new.pool)) (front back : List Row) (first : HasPlaced old mid front) where
     -- and then more of them
@@ -68,4 +68,4 @@ module _ {D : Type 0} {g : Ghosts D} (shape : Shape) (root : ℕ) (place : Place
         let rows : place_all place back (middle t) ≡ place_all place (front ++ back) (now t) = ap (place_all place back) there ∙ sym (place_all-append place front back (now t)) in
         let same : with_tree middle t (place_all place back (middle t)) ≡ with_tree now t (place_all place (front ++ back) (now t)) =
         with_twice now t (place_all place front (now t)) (place_all place back (middle t)) ∙ ap (with_tree now t) rows in
-        subst (λ trees. Writes wanted roots was trees new) same (second faithful wanted roots was middle t (first (k.stays.clean faithful) wanted roots was now t w is plain) is plain)
+        subst (λ trees. Writes wanted roots was trees new) same (second faithful wanted roots was middle t (first (k.stays.clean faithful) wanted roots was now t w is none) is none)
