@@ -15,7 +15,6 @@ use Rattle.page_edits.specs.Places.{place_all}
 use Rattle.page_files.specs.declared.files.PageFile.{PageFile}
 use Rattle.page_files.specs.Files.{IsFaithful, IsUsable}
 use Rattle.page_files.specs.Held.{Writes}
-use Rattle.table_changes.specs.Changes.{SparesBut}
 use Rattle.table_changes.specs.Fills.{Fills}
 use Rattle.row_writes.specs.declared.places.IndexPlace.{IndexPlace}
 use Rattle.row_writes.specs.Places.{AreIndexPlaces, IsIndexPlace}

@@ -1,8 +1,7 @@
 -- A table and then its indexes are filled.
-use Rattle.std.proofs.Common.{◌≡◌, ◌≢◌, ◌==◌, ◌||◌, ℕ, Bool, true, false, true≢false, pos, List, [], ◌∷◌, ◌++◌, refl, sym, ap, subst, ◌∙◌, eq-eqb}
+use Rattle.std.proofs.Common.{◌≡◌, ◌≢◌, ◌==◌, ◌||◌, ℕ, Bool, true, false, true≢false, pos, List, ◌∷◌, ◌++◌, refl, sym, subst, ◌∙◌, eq-eqb}
 use Rattle.std.specs.List.{AllByRecursion, list_any}
 use Rattle.sqlite_disk.specs.declared.Disk.{Ghosts}
-use Rattle.sqlite_rules.specs.Lists.{Has}
 use Rattle.sqlite_rules.proofs.ListLemmas.{all_from, all_has}
 use Rattle.sqlite_schema.specs.declared.schema.Index.{Index}
 use Rattle.sqlite_schema.specs.declared.schema.Schema.{Schema}
@@ -23,10 +22,10 @@ use Rattle.row_writes.specs.Changes.{AreBelow, AreIndexed}
 use Rattle.row_writes.specs.Places.{indexes_of, IsPlaceOf}
 use Rattle.row_writes.proofs.Changed.{mine_of, table_shaped, with_other, with_same}
 use Rattle.row_writes.proofs.Spaced.{indexes_apart, table_apart}
-use Rattle.line_fills.specs.Filled.{HasFilled, IsIndexFilled, trees_over}
+use Rattle.line_fills.specs.Filled.{HasFilled}
 use Rattle.line_fills.specs.Placed.{CanBeFilled, HasEntries}
 use Rattle.line_fills.specs.Rows.{numbered}
-use Rattle.line_fills.proofs.Indexes.{among_none, not_among, still_filled_from, trees_of}
+use Rattle.line_fills.proofs.Indexes.{among_none, still_filled_from, trees_of}
 use Rattle.line_fills.proofs.Numbers.{columns_numbered, rise_behind}
 
 -- a tree is neither of two

@@ -1,8 +1,7 @@
-use Rattle.std.proofs.Common.{◌+◌, map, arith}
-use Rattle.sqlite_pool.specs.Pool.{state}
-use Rattle.sqlite_pool.specs.StoredLaws.{Keeps-refl, Keeps-trans}
+use Rattle.std.proofs.Common.{map, arith}
+use Rattle.sqlite_pool.specs.StoredLaws.{Keeps-trans}
 use Rattle.line_fills.specs.Rows.{numbered}
-use Rattle.line_fills.proofs.Indexes.{all_filled, none_filled, one_more}
+use Rattle.line_fills.proofs.Indexes.{all_filled, one_more}
 use Rattle.line_fills.proofs.fills.fill_indexes.Goals as goal
 
 pub returns-in_err-fill_index-clause-keeps : goal.returns-in_err-fill_index-clause-keeps
