@@ -1,5 +1,5 @@
 -- The entries of new rows go among those of an index, and each of these stays.
-use Rattle.std.proofs.Common.{◌≡◌, ℕ, zero, suc, List, [], ◌∷◌, ◌++◌, length, map, take, Bool, true, false, is_eq, IsTrue, IsPermutation, Ordering, Less, Equal, Greater, true≢false, refl, sym, ap, ap₂, subst, ◌∙◌, append-nil}
+use Rattle.std.proofs.Common.{◌≡◌, ℕ, zero, suc, List, [], ◌∷◌, ◌++◌, length, map, take, true, false, is_eq, IsTrue, IsPermutation, Ordering, Less, Equal, Greater, true≢false, refl, sym, ap, ap₂, subst, ◌∙◌, append-nil}
 use Rattle.std.specs.List.{AllByRecursion}
 use Rattle.std.specs.Ordering.{ordering_then}
 use Rattle.std.proofs.lemmas.Bool.{both_ways, false_from_ne_true}
@@ -30,7 +30,7 @@ Differ a b = is_eq (entry_cmp plain a b) ≡ false
 abbrev AllDiffer : List Row → List Row → Type 0
 AllDiffer olds news = AllByRecursion (λ a. AllByRecursion (Differ a) news) olds
 
-each : {X : Type 0} (P Q : X → Type 0) → ((x : X) → P x → Q x) → (xs : List X) → AllByRecursion P xs → AllByRecursion Q xs
+pub each : {X : Type 0} (P Q : X → Type 0) → ((x : X) → P x → Q x) → (xs : List X) → AllByRecursion P xs → AllByRecursion Q xs
 each P Q so [] all = tt
 each P Q so (x ∷ xs) all = (so x all.0, each P Q so xs all.1)
 

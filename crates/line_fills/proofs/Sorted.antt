@@ -1,5 +1,5 @@
 -- The entries of lines in a sorted order.
-use Rattle.std.proofs.Common.{◌≡◌, ℕ, List, [], ◌∷◌, ◌++◌, length, map, take, IsPermutation, Less, sym, ap, ap₂, subst, ◌∙◌}
+use Rattle.std.proofs.Common.{◌≡◌, ℕ, List, [], ◌∷◌, length, map, take, IsPermutation, Less, sym, ap, ap₂, subst, ◌∙◌}
 use Rattle.std.specs.List.{AllByRecursion, range_with_len}
 use Rattle.std.proofs.Math.Seq.{take-append_seam}
 use Rattle.std.proofs.lemmas.List.{length-map}
@@ -7,7 +7,7 @@ use Rattle.std.proofs.lemmas.List.Sorted.{IsPermutation-map}
 use Rattle.plain_tables.specs.Lists.{IsAscending}
 use Rattle.sqlite_trees.proofs.ListLemmas.{map-map}
 use Rattle.sqlite_value.specs.Order.{Row, column, row_cmp}
-use Rattle.sqlite_sql.specs.Catalog.{entry_of, IsIndexOf}
+use Rattle.sqlite_sql.specs.Catalog.{entry_of}
 use Rattle.table_changes.proofs.Distinct.{differ_by_rising}
 use Rattle.line_fills.specs.Placed.{AreEntriesOf}
 use Rattle.line_fills.specs.Rows.{KeysRise, entries_at, key_at, numbered, row_at}

@@ -1,5 +1,5 @@
 -- Rows placed in a tree one batch after another.
-use Rattle.std.proofs.Common.{◌≡◌, ◌==◌, ℕ, List, [], ◌++◌, Result, Ok, Err, OnOk, refl, sym, ap, ap₂, subst, ◌∙◌, inl, inr, eq-eqb, ne_eqb}
+use Rattle.std.proofs.Common.{◌≡◌, ℕ, List, [], ◌++◌, Result, Ok, Err, OnOk, refl, sym, ap, subst, ◌∙◌, inl, inr, eq-eqb, ne_eqb}
 use Rattle.std.proofs.Math.Path.{fun_ext}
 use Rattle.std.proofs.lemmas.Bool.{cases_eq}
 use Rattle.sqlite_disk.specs.declared.Disk.{Ghosts}
@@ -20,7 +20,6 @@ use Rattle.page_files.specs.declared.files.PageFile.{PageFile}
 use Rattle.page_files.specs.Held.{Writes}
 use Rattle.page_files.specs.Writes.{AtTree}
 use Rattle.row_writes.proofs.Changed.{with_same}
-use Rattle.line_fills.specs.Placed.{PlacesAll}
 
 pub on_ok : {T E : Type 0} (r : Result T E) {P Q : Type 0} → (P → Q) → OnOk r P → OnOk r Q
 on_ok (Ok x) so p = so p
@@ -57,15 +56,15 @@ module _ {D : Type 0} {g : Ghosts D} (shape : Shape) (root : ℕ) (place : Place
       AtTree old new shape root (λ wanted roots was now t. reals_at wanted t ≡ 0 → Writes wanted roots was (with_tree now t (place_all place news (now t))) new)
 
   pub none_placed : (file : PageFile D g) → HasPlaced file file []
-  none_placed file faithful wanted roots was now t w is plain = subst (λ trees. Writes wanted roots was trees file) (sym (with_itself now t)) w
+  none_placed file faithful wanted roots was now t w is none = subst (λ trees. Writes wanted roots was trees file) (sym (with_itself now t)) w
 
   module _ (old mid new : PageFile D g) (k : Keeps (state mid.pool) (state new.pool)) (front back : List Row) (first : HasPlaced old mid front) where
     -- and then more of them
     pub more_placed : HasPlaced mid new back → HasPlaced old new (front ++ back)
-    more_placed second faithful wanted roots was now t w is plain =
+    more_placed second faithful wanted roots was now t w is none =
         let middle = with_tree now t (place_all place front (now t)) in
         let there : middle t ≡ place_all place front (now t) = with_same now t (place_all place front (now t)) in
         let rows : place_all place back (middle t) ≡ place_all place (front ++ back) (now t) = ap (place_all place back) there ∙ sym (place_all-append place front back (now t)) in
         let same : with_tree middle t (place_all place back (middle t)) ≡ with_tree now t (place_all place (front ++ back) (now t)) =
         with_twice now t (place_all place front (now t)) (place_all place back (middle t)) ∙ ap (with_tree now t) rows in
-        subst (λ trees. Writes wanted roots was trees new) same (second faithful wanted roots was middle t (first (k.stays.clean faithful) wanted roots was now t w is plain) is plain)
+        subst (λ trees. Writes wanted roots was trees new) same (second faithful wanted roots was middle t (first (k.stays.clean faithful) wanted roots was now t w is none) is none)

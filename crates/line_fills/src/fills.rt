@@ -41,7 +41,10 @@ fn first_rowid<D: Disk, L>(
     ensures usable { OnOk result (IsUsable file.new) }
 {
     match free_rowid(file, alloc, place) {
-        Ok(free) => first_of(free, lines.len()).ok_or(StoreError::Store),
+        Ok(free) => match first_of(free, lines.len()) {
+            Some(first) => Ok(first),
+            None => Err(StoreError::Store),
+        },
         Err(error) => Err(error_of_rows(error)),
     }
 }

@@ -1,6 +1,5 @@
-use Rattle.std.proofs.Common.{◌≡◌, ◌<◌, ◌^◌, ℤ, List, ℕ, length, map, ap, subst, ◌∙◌}
+use Rattle.std.proofs.Common.{◌≡◌, ℤ, List, ℕ, map, ap, subst, ◌∙◌}
 use Rattle.std.specs.Borrow.{Bor}
-use Rattle.sqlite_record.specs.Strict.{IsRecord}
 use Rattle.sqlite_trees.specs.Tree.{put_row, with_tree}
 use Rattle.page_edits.specs.Places.{place_all, rows_given}
 use Rattle.page_files.specs.Held.{Writes}

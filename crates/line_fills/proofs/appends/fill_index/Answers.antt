@@ -1,7 +1,7 @@
-use Rattle.std.proofs.Common.{◌≡◌, IsPermutation, length, map, refl, sym, ap, subst, ◌∙◌}
+use Rattle.std.proofs.Common.{◌≡◌, IsPermutation, length, map, refl, sym, subst, ◌∙◌}
 use Rattle.std.specs.List.{range_with_len}
 use Rattle.std.proofs.lemmas.List.{length-map}
-use Rattle.line_fills.specs.Rows.{ArePlacesOf, KeysRise, entries_at}
+use Rattle.line_fills.specs.Rows.{KeysRise, entries_at}
 use Rattle.line_fills.proofs.Parts.{places_within}
 use Rattle.line_fills.proofs.Sorted.{sorted_entries}
 use Rattle.line_fills.proofs.Steps.{on_ok}

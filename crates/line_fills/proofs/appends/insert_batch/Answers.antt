@@ -1,12 +1,9 @@
-use Rattle.std.proofs.Common.{◌≡◌, ◌<◌, ◌^◌, List, ℕ, length, map, ap, sym, subst, ◌∙◌}
+use Rattle.std.proofs.Common.{◌≡◌, List, ℕ, map, ap, sym, subst, ◌∙◌}
 use Rattle.std.specs.Borrow.{Bor}
-use Rattle.sqlite_record.specs.Affinity.{widen}
 use Rattle.sqlite_record.specs.Record.{decode}
-use Rattle.sqlite_record.proofs.AffinityLemmas.{widen-zero}
 use Rattle.sqlite_trees.specs.Tree.{insert_entry, with_tree}
 use Rattle.sqlite_trees.proofs.ListLemmas.{map-map}
 use Rattle.sqlite_value.specs.Keys.{plain}
-use Rattle.sqlite_value.specs.Order.{Row}
 use Rattle.page_edits.specs.Places.{entries_given, place_all}
 use Rattle.page_files.specs.Held.{Writes}
 use Rattle.line_fills.specs.Records.{IsWritable}
