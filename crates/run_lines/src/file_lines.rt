@@ -1,7 +1,7 @@
 // The lines of the tables that the rows of a file become.
 ghost use Rattle.std.specs.Prelude.{◌≡◌, IfSome, slice_index_or};
 ghost use Rattle.prof_books.specs.Files.{cell_row_of, call_row_of};
-ghost use Rattle.run_writing.specs.FromRows.{place_of_cell, call_of_call, line_of_stack};
+ghost use Rattle.run_lines.specs.FromRows.{place_of_cell, call_of_call, line_of_stack};
 ghost use Rattle.store_schema.specs.Lines.{cell_row, call_row, stack_row};
 
 use cost_rows::{CallEdge, Cell, StackCount};

@@ -2,7 +2,7 @@
 ghost use Rattle.std.specs.Prelude.{◌≡◌, ◌<◌, ◌^◌, ◌++◌, ◌∷◌, [], ◌↔◌, map, option_map, string_bytes, slice_index, length, IfOk, OnOk, IsTrue};
 ghost use Rattle.prof_books.specs.Heads as specs;
 ghost use Rattle.prof_books.specs.Heads.{stated_at, event_row_of, coef_rows_at, derived_rows_from, coef_rows_from, AreStated, IsComplete, ColumnFits};
-ghost use Rattle.run_writing.specs.Sums.{OfContent, OfColumn, AllFit};
+ghost use Rattle.run_lines.specs.Sums.{OfContent, OfColumn, AllFit};
 ghost use Rattle.store_schema.specs.Lines.{event_row, derived_row, coef_row};
 
 use cg_formulas::FileHead;

@@ -10,10 +10,10 @@ use Rattle.cost_rows.specs.declared.rows.StackCount.{StackCount}
 use Rattle.cost_rows.specs.ByNumber.{numbered_at, numbered_cells, numbered_calls, plain_numbered}
 use Rattle.cost_rows.specs.Plain.{plain_stack}
 use Rattle.cost_rows.specs.Walks.{counted_stacks}
-use Rattle.sql_tables.proofs.Rows.{map-append}
+use Rattle.std.proofs.lemmas.List.{map-append}
 use Rattle.plain_tables.specs.Tables.{CallRow, StackRow}
 use Rattle.prof_books.specs.Files.{cell_row_of, cell_rows_at, cell_rows, call_row_of, call_rows_from, call_rows_at, call_rows, stack_rows}
-use Rattle.run_writing.specs.FromRows.{line_of_cell, line_of_stack, row_lines}
+use Rattle.run_lines.specs.FromRows.{line_of_cell, line_of_stack, row_lines}
 
 cells_at : (run : ℕ) (numbers : List ℕ) (p : CellPlace) (event : ℕ) (costs : List ℕ) → map (line_of_cell run numbers) (numbered_at p event costs) ≡ cell_rows_at run numbers p event costs
 cells_at run numbers p event [] = refl
