@@ -1,5 +1,5 @@
 -- Where the tables and indexes of a schema stand in a file that holds it.
-use Rattle.std.proofs.Common.{◌≡◌, ℕ, suc, ◌+◌, ◌*◌, pos, List, [], ◌∷◌, ◌++◌, slice_get, codes, Some, refl, sym, ap, subst, ◌∙◌, inl, inr, arith}
+use Rattle.std.proofs.Common.{◌≡◌, ℕ, suc, ◌+◌, ◌*◌, pos, List, [], ◌∷◌, ◌++◌, slice_get, codes, map, Some, refl, sym, ap, ap₂, subst, ◌∙◌, inl, inr, arith}
 use Rattle.std.specs.List.{AllByRecursion}
 use Rattle.std.specs.Fmt.{decimal}
 use Rattle.std.proofs.lemmas.Fmt.{decimal_digit}
@@ -25,7 +25,8 @@ use Rattle.plain_tables.specs.Tables.{Tables}
 use Rattle.store_schema.specs.Schema.{schema_two}
 use Rattle.store_schema.specs.Tables.{Holds}
 use Rattle.page_rows.specs.Tables.{description_at}
-use Rattle.page_changes.specs.Placed.{IsIndexPlaced, IsPlaced}
+use Rattle.page_places.specs.Placed.{IsIndexPlaced, IsPlaced}
+use Rattle.page_places.specs.Roots.{index_name}
 
 -- ---- the rows of the list of trees
 
@@ -154,10 +155,35 @@ index_placed_at wanted db catalog holds at index there =
       plain = sym placed.reals ∙ is.described.reals_are ∙ ap (λ n. index_reals n index.columns) none ∙ plain;
     }
 
--- ---- the names of the keys of groups and of members
+-- ---- the names of the indexes of schema 2
+
+first_is : decimal 1 ≡ codes "1"
+first_is = decimal_digit 1 (omega arith)
+
+second_is : decimal 2 ≡ codes "2"
+second_is = decimal_digit 2 (omega arith)
+
+abbrev names_with : List ℕ → List ℕ → List (List ℕ)
+names_with one two =
+    (codes "sqlite_autoindex_run_" ++ one)
+    ∷ (codes "sqlite_autoindex_run_event_" ++ one)
+    ∷ (codes "sqlite_autoindex_run_event_" ++ two)
+    ∷ (codes "sqlite_autoindex_derived_" ++ one)
+    ∷ (codes "sqlite_autoindex_derived_" ++ two)
+    ∷ (codes "sqlite_autoindex_coef_" ++ one)
+    ∷ (codes "sqlite_autoindex_name_" ++ one)
+    ∷ (codes "sqlite_autoindex_arc_" ++ one)
+    ∷ (codes "sqlite_autoindex_stack_" ++ one)
+    ∷ (codes "sqlite_autoindex_grp_" ++ one)
+    ∷ (codes "sqlite_autoindex_member_" ++ one)
+    ∷ (codes "sqlite_autoindex_thread_cell_" ++ one)
+    ∷ []
+
+pub index_names_are : names_with (codes "1") (codes "2") ≡ map index_name schema_two.indexes
+index_names_are = sym (ap₂ names_with first_is second_is)
 
 pub group_key_name : codes "sqlite_autoindex_grp_" ++ decimal 1 ≡ codes "sqlite_autoindex_grp_1"
-group_key_name = ap (λ number. codes "sqlite_autoindex_grp_" ++ number) (decimal_digit 1 (omega arith))
+group_key_name = ap (λ number. codes "sqlite_autoindex_grp_" ++ number) first_is
 
 pub member_key_name : codes "sqlite_autoindex_member_" ++ decimal 1 ≡ codes "sqlite_autoindex_member_1"
-member_key_name = ap (λ number. codes "sqlite_autoindex_member_" ++ number) (decimal_digit 1 (omega arith))
+member_key_name = ap (λ number. codes "sqlite_autoindex_member_" ++ number) first_is
