@@ -1,0 +1,51 @@
+// The columns of rows, without their rowids.
+ghost use Rattle.std.specs.Prelude.{◌≡◌, ◌∷◌, [], drop, IfOk, pos};
+ghost use Rattle.sqlite_value.specs.declared.value.Value.TheVariants.{Blob, Null};
+ghost use Rattle.store_schema.specs.Lines.{run_row};
+ghost use Rattle.store_schema.specs.Tables.{meta_columns as columns_of_meta, run_columns as columns_of_run};
+
+use sqlite_value::row::Row;
+use sqlite_value::value::ValueRef;
+use std::alloc::{AllocError, Global};
+use store_schema::{ColumnInt, RunRow};
+
+/// A number in a column.
+fn number_value(number: &ColumnInt) -> ValueRef<'static>
+    ensures { result ≡ ValueRef.Int (pos number.now) }
+{
+    ValueRef::Int(number.get() as i64)
+}
+
+/// The row that has the next number.
+pub(crate) fn meta_columns(alloc: Global, next: u32) -> Result<Row, AllocError>
+    ensures { IfOk result (λ row. row ≡ drop 1 (columns_of_meta next)) }
+{
+    let mut row = Row::new(alloc);
+    row.push(ValueRef::Null)?;
+    row.push(ValueRef::Int(2))?;
+    row.push(ValueRef::Int(i64::from(next)))?;
+    Ok(row)
+}
+
+/// The row of a run.
+pub(crate) fn run_columns(alloc: Global, run: &RunRow<'_>) -> Result<Row, AllocError>
+    ensures { IfOk result (λ row. row ≡ drop 1 (columns_of_run (run_row run.now))) }
+{
+    let mut row = Row::new(alloc);
+    row.push(ValueRef::Null)?;
+    row.push(ValueRef::Int(i64::from(run.kind)))?;
+    row.push(ValueRef::Blob(run.digest))?;
+    row.push(ValueRef::Text(run.label.as_bytes()))?;
+    row.push(number_value(&run.call_count))?;
+    Ok(row)
+}
+
+/// The row of a name.
+pub(crate) fn name_columns(alloc: Global, name: &[u8]) -> Result<Row, AllocError>
+    ensures { IfOk result (λ row. row ≡ Null ∷ Blob name.now ∷ []) }
+{
+    let mut row = Row::new(alloc);
+    row.push(ValueRef::Null)?;
+    row.push(ValueRef::Blob(name))?;
+    Ok(row)
+}
