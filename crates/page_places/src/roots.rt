@@ -171,10 +171,7 @@ fn roots_of(tables: &[u32; 11], indexes: &[u32; 12]) -> StoreRoots
 }
 
 /// Finds the tables and indexes. `Store` where one is not there, or pages cannot be read; `Memory`.
-pub fn find_roots<D: Disk>(
-    file: &mut PageFile<D>,
-    alloc: Global,
-) -> Result<StoreRoots, StoreError>
+pub fn find_roots<D: Disk>(file: &mut PageFile<D>, alloc: Global) -> Result<StoreRoots, StoreError>
     ensures found { IsFaithful file.new → (t : Tables) (db : Trees) (known : List ℕ) → IsStoreOf file.old t db known → IfOk result (AreRoots known) }
     ensures reads { OnlyReads file.old file.new }
     ensures usable { OnOk result (IsUsable file.new) }

@@ -1,6 +1,8 @@
 -- The lines that a file's rows become, row by row.
-use Rattle.std.proofs.Common.{◌≡◌, ℕ, suc, ◌+◌, List, [], ◌∷◌, ◌++◌, map, flat_map, length, nat_lt, if◌then◌else◌, Bool, true, false, refl, sym, ap, ap₂, ◌∙◌, add-zero, arith}
+use Rattle.std.proofs.Common.{◌≡◌, ℕ, suc, ◌+◌, List, [], ◌∷◌, ◌++◌, map, flat_map, length, nat_lt, if◌then◌else◌, Bool, true, false, Option, refl, sym, ap, ap₂, ◌∙◌, add-zero, arith}
 use Rattle.std.specs.Borrow.{Bor}
+use Rattle.std.specs.Iterator.{Drains}
+use Rattle.std.proofs.lemmas.Iterator.{YieldsList, items_from_drains}
 use Rattle.cost_rows.specs.declared.places.CellPlace.{CellPlace}
 use Rattle.cost_rows.specs.declared.places.Call.{Call}
 use Rattle.cost_rows.specs.declared.calls.Calls.{Calls}
@@ -84,3 +86,7 @@ stacks_are run (e ∷ stacks) = go (nat_lt 0 e.1) (stacks_are run stacks)
 pub rows_of_stacks : (run : ℕ) (rows : List (StackCount (Bor (List ℕ)))) → flat_map (λ r. line_of_stack run r ∷ []) rows ≡ map (plain_line_of_stack run) (map plain_stack rows)
 rows_of_stacks run [] = refl
 rows_of_stacks run (r ∷ rows) = ap (λ l. line_of_stack run r ∷ l) (rows_of_stacks run rows)
+
+-- rows that were taken one after another to the end are all of them
+pub rows_drained : {I R B : Type 0} (steps : I → Option R → I → Type 0) (view : R → B) (it : I) (all : List B) (rows : List R) → Drains steps it rows → YieldsList steps view it all → map view rows ≡ all
+rows_drained steps view it all rows taken gives = items_from_drains rows (taken.1.0, taken.1.1, λ _. (taken.0, taken.1.2)) gives

@@ -14,7 +14,7 @@ use store_schema::{
 };
 
 /// Adds a line at the end.
-fn add<T: Drop>(lines: &mut Vec<T>, line: T) -> Result<(), AllocError>
+pub(crate) fn add<T: Drop>(lines: &mut Vec<T>, line: T) -> Result<(), AllocError>
     ensures { OnOk result (lines.new.items ≡ lines.old.items ++ line ∷ []) }
 {
     lines.push(line)?;

@@ -2,10 +2,11 @@
 ghost use Rattle.std.specs.Prelude.{◌≡◌, ◌++◌, ◌∷◌, [], map, IfOk, OnOk};
 ghost use Rattle.cost_rows.specs.Rows.{content_of};
 ghost use Rattle.prof_books.specs.Files.{cell_rows, call_rows, stack_rows};
-ghost use Rattle.run_lines.specs.FromRows.{part_line, row_lines};
+ghost use Rattle.run_lines.specs.FromRows.{cost_lines, part_line, row_lines};
 ghost use Rattle.store_schema.specs.Lines.{cell_row, call_row, stack_row};
 
 use crate::file_lines::{call_of, cell_of, stack_of};
+use crate::head_lines::add;
 use cost_rows::{CallEdge, FileRows};
 use std::alloc::Global;
 use store_schema::{CallRow, CellRow, StackRow, StoreError};
@@ -25,7 +26,7 @@ pub fn cell_lines(
         let Some(line) = cell_of(run, numbers, &row) else {
             return Err(StoreError::Store);
         };
-        lines.push(line)?;
+        add(&mut lines, line)?;
     }
     Ok(lines)
 }
@@ -44,8 +45,26 @@ fn add_part(
     let Some(line) = call_of(run, numbers, row, part, sum) else {
         return Err(StoreError::Store);
     };
-    lines.push(line)?;
+    add(lines, line)?;
     Ok(())
+}
+
+/// Adds the line of a cost of the calls of a row, unless it is 0.
+fn add_cost(
+    lines: &mut Vec<CallRow>,
+    run: u32,
+    numbers: &[u32],
+    row: &CallEdge<u32, &[u128]>,
+    part: usize,
+    cost: u128,
+) -> Result<(), StoreError>
+    ensures { OnOk result (map call_row lines.new.items ≡ map call_row lines.old.items ++ cost_lines run numbers.now row.now part cost) }
+{
+    if cost > 0 {
+        add_part(lines, run, numbers, row, part, cost)
+    } else {
+        Ok(())
+    }
 }
 
 /// Adds the lines of a row of calls: their number, and each cost above 0.
@@ -59,10 +78,8 @@ fn add_calls(
 {
     add_part(lines, run, numbers, row, 0, row.count)?;
     let costs = row.costs;
-    'costs: for column in 0..costs.len() {
-        if costs[column] > 0 {
-            add_part(lines, run, numbers, row, column + 1, costs[column])?;
-        }
+    'costs: for (column, cost) in costs.iter().enumerate() {
+        add_cost(lines, run, numbers, row, column + 1, *cost)?;
     }
     Ok(())
 }
@@ -96,7 +113,7 @@ pub fn stack_lines(
         let Some(line) = stack_of(run, &row) else {
             return Err(StoreError::Store);
         };
-        lines.push(line)?;
+        add(&mut lines, line)?;
     }
     Ok(lines)
 }
