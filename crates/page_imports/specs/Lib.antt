@@ -1,2 +1,3 @@
 pub mod Imports
+pub mod Needs
 pub mod Steps

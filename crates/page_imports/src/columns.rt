@@ -2,7 +2,7 @@
 ghost use Rattle.std.specs.Prelude.{◌≡◌, ◌∷◌, [], drop, IfOk, pos};
 ghost use Rattle.sqlite_value.specs.declared.value.Value.TheVariants.{Blob, Null};
 ghost use Rattle.store_schema.specs.Lines.{run_row};
-ghost use Rattle.store_schema.specs.Tables.{meta_columns as columns_of_meta, run_columns as columns_of_run};
+ghost use Rattle.store_schema.specs.Tables as tables;
 
 use sqlite_value::row::Row;
 use sqlite_value::value::ValueRef;
@@ -18,7 +18,7 @@ fn number_value(number: &ColumnInt) -> ValueRef<'static>
 
 /// The row that has the next number.
 pub(crate) fn meta_columns(alloc: Global, next: u32) -> Result<Row, AllocError>
-    ensures { IfOk result (λ row. row ≡ drop 1 (columns_of_meta next)) }
+    ensures { IfOk result (λ row. row ≡ drop 1 (tables.meta_columns next)) }
 {
     let mut row = Row::new(alloc);
     row.push(ValueRef::Null)?;
@@ -29,7 +29,7 @@ pub(crate) fn meta_columns(alloc: Global, next: u32) -> Result<Row, AllocError>
 
 /// The row of a run.
 pub(crate) fn run_columns(alloc: Global, run: &RunRow<'_>) -> Result<Row, AllocError>
-    ensures { IfOk result (λ row. row ≡ drop 1 (columns_of_run (run_row run.now))) }
+    ensures { IfOk result (λ row. row ≡ drop 1 (tables.run_columns (run_row run.now))) }
 {
     let mut row = Row::new(alloc);
     row.push(ValueRef::Null)?;

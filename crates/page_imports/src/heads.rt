@@ -6,29 +6,22 @@ ghost use Rattle.page_files.specs.Files.{IsUsable};
 ghost use Rattle.plain_tables.specs.Changes.{with_coefs, with_derived, with_events, with_next, with_run};
 ghost use Rattle.store_schema.specs.Lines.{coef_row, derived_row, event_row, run_row};
 ghost use Rattle.store_schema.specs.Steps.{IsAbove};
-ghost use Rattle.page_imports.specs.Needs.{CanAdd, CanFillWith};
+ghost use Rattle.page_imports.specs.Needs.{CanAdd, CanFill};
 ghost use Rattle.page_imports.specs.Steps.{Makes};
 
 use crate::columns::{meta_columns, run_columns};
+use crate::failures::error_of_row;
 use line_fills::fill;
 use page_files::PageFile;
-use page_places::{StoreRoots, error_of};
+use page_places::StoreRoots;
 use plain_tables::StoreError;
-use row_writes::{IndexPlace, Place, RowError, insert, replace};
+use row_writes::{IndexPlace, Place, insert, replace};
 use sqlite_disk::Disk;
 use std::alloc::Global;
-use store_schema::{CoefRow, DerivedRow, EventRow, HeadRows, RunRow};
-
-/// What a row that was not written is for a caller.
-pub(crate) fn error_of_row(error: RowError) -> StoreError {
-    match error {
-        RowError::Pages(error) => error_of(error),
-        _ => StoreError::Store,
-    }
-}
+use store_schema::{CoefRow, DerivedRow, EventRow, RunRow};
 
 /// Sets the number of the next run.
-fn put_next<D: Disk>(
+pub(crate) fn put_next<D: Disk>(
     file: &mut PageFile<D>,
     alloc: Global,
     roots: &StoreRoots,
@@ -50,7 +43,7 @@ fn put_next<D: Disk>(
 }
 
 /// Puts the row of a run behind the others.
-fn put_row<D: Disk>(
+pub(crate) fn put_run_row<D: Disk>(
     file: &mut PageFile<D>,
     alloc: Global,
     roots: &StoreRoots,
@@ -61,13 +54,13 @@ fn put_row<D: Disk>(
     ensures keeps { Keeps (pools.state file.old.pool) (pools.state file.new.pool) }
 {
     let columns = run_columns(alloc, run)?;
-    let digests = [IndexPlace {
+    let keys = [IndexPlace {
         root: roots.run_digests,
         columns: &[3],
     }];
     let place = Place {
         root: roots.runs,
-        indexes: &digests,
+        indexes: &keys,
     };
     match insert(file, alloc, &place, i64::from(run.number), &columns) {
         Ok(()) => Ok(()),
@@ -75,15 +68,15 @@ fn put_row<D: Disk>(
     }
 }
 
-/// Puts the lines of events behind the others.
-fn put_events<D: Disk>(
+/// Puts the lines of a run's events behind the others.
+pub(crate) fn put_events<D: Disk>(
     file: &mut PageFile<D>,
     alloc: Global,
     roots: &StoreRoots,
-    run: u32,
     lines: &[EventRow<'_>],
 ) -> Result<(), StoreError>
-    ensures done { Makes file.old file.new roots.now (CanFillWith (λ t. t.events) (λ line. line.run) run (map event_row lines.now)) (with_events (map event_row lines.now)) result }
+    ensures done { (run : _) → Makes file.old file.new roots.now (CanFill (λ t. t.events) (λ line. line.run) run (map event_row lines.now))
+        (with_events (map event_row lines.now)) result }
     ensures usable { OnOk result (IsUsable file.new) }
     ensures keeps { Keeps (pools.state file.old.pool) (pools.state file.new.pool) }
 {
@@ -99,6 +92,58 @@ fn put_events<D: Disk>(
     ];
     let place = Place {
         root: roots.events,
+        indexes: &keys,
+    };
+    fill(file, alloc, &place, lines)
+}
+
+/// Puts the lines of a run's derived events behind the others.
+pub(crate) fn put_derived<D: Disk>(
+    file: &mut PageFile<D>,
+    alloc: Global,
+    roots: &StoreRoots,
+    lines: &[DerivedRow<'_>],
+) -> Result<(), StoreError>
+    ensures done { (run : _) → Makes file.old file.new roots.now (CanFill (λ t. t.derived) (λ line. line.run) run (map derived_row lines.now))
+        (with_derived (map derived_row lines.now)) result }
+    ensures usable { OnOk result (IsUsable file.new) }
+    ensures keeps { Keeps (pools.state file.old.pool) (pools.state file.new.pool) }
+{
+    let keys = [
+        IndexPlace {
+            root: roots.derived_places,
+            columns: &[1, 2],
+        },
+        IndexPlace {
+            root: roots.derived_names,
+            columns: &[1, 3],
+        },
+    ];
+    let place = Place {
+        root: roots.derived,
+        indexes: &keys,
+    };
+    fill(file, alloc, &place, lines)
+}
+
+/// Puts the lines of a run's coefficients behind the others.
+pub(crate) fn put_coefs<D: Disk>(
+    file: &mut PageFile<D>,
+    alloc: Global,
+    roots: &StoreRoots,
+    lines: &[CoefRow],
+) -> Result<(), StoreError>
+    ensures done { (run : _) → Makes file.old file.new roots.now (CanFill (λ t. t.coefs) (λ line. line.run) run (map coef_row lines.now))
+        (with_coefs (map coef_row lines.now)) result }
+    ensures usable { OnOk result (IsUsable file.new) }
+    ensures keeps { Keeps (pools.state file.old.pool) (pools.state file.new.pool) }
+{
+    let keys = [IndexPlace {
+        root: roots.coef_keys,
+        columns: &[1, 2, 3],
+    }];
+    let place = Place {
+        root: roots.coefs,
         indexes: &keys,
     };
     fill(file, alloc, &place, lines)

@@ -4,13 +4,10 @@
 
 // The columns of rows.
 mod columns;
+// What a row that was not written is for a caller.
+mod failures;
 // What a run says of itself: the next number, its own row, and the lines of its head.
 mod heads;
-// A file is put in as a run (specs/Imports.antt).
-mod imports;
-// The names of a file, by their numbers in the store.
-mod names;
 // The lines of a file's rows.
 mod rows;
 
-pub use imports::put_run;

@@ -1,5 +1,5 @@
 // Whole numbers that a column can hold.
-ghost use Rattle.std.specs.Prelude.{◌≡◌, ◌<◌, ◌^◌, IfSome, None, ◌↔◌, ◌≤◌};
+ghost use Rattle.std.specs.Prelude.{◌≡◌, ◌<◌, ◌^◌, IfSome, None, ◌↔◌, ◌≤◌, pos};
 
 use sqlite::types::{ToSql, ValueRef};
 use std::marker::Model;
@@ -38,6 +38,13 @@ impl ColumnInt {
     {
         self.number
     }
+
+    /// The number as SQLite has it in a column.
+    pub fn signed(&self) -> i64
+        ensures { result ≡ pos self.now }
+    {
+        self.number as i64
+    }
 }
 
 /// A sum that a column can hold.
@@ -67,6 +74,6 @@ impl<'a> ToSql<'a> for &'a ColumnInt {
     ghost to_sql = { λ w. Int (pos w.now) };
 
     fn to_sql(self) -> ValueRef<'a> {
-        ValueRef::Int(self.number as i64)
+        ValueRef::Int(self.signed())
     }
 }
