@@ -1,5 +1,5 @@
 // The columns of rows, without their rowids.
-ghost use Rattle.std.specs.Prelude.{◌≡◌, ◌∷◌, [], drop, IfOk, pos};
+ghost use Rattle.std.specs.Prelude.{◌≡◌, ◌∷◌, [], drop, IfOk};
 ghost use Rattle.sqlite_value.specs.declared.value.Value.TheVariants.{Blob, Null};
 ghost use Rattle.store_schema.specs.Lines.{run_row};
 ghost use Rattle.store_schema.specs.Tables as tables;
@@ -7,14 +7,7 @@ ghost use Rattle.store_schema.specs.Tables as tables;
 use sqlite_value::row::Row;
 use sqlite_value::value::ValueRef;
 use std::alloc::{AllocError, Global};
-use store_schema::{ColumnInt, RunRow};
-
-/// A number in a column.
-fn number_value(number: &ColumnInt) -> ValueRef<'static>
-    ensures { result ≡ ValueRef.Int (pos number.now) }
-{
-    ValueRef::Int(number.get() as i64)
-}
+use store_schema::RunRow;
 
 /// The row that has the next number.
 pub(crate) fn meta_columns(alloc: Global, next: u32) -> Result<Row, AllocError>
@@ -36,7 +29,7 @@ pub(crate) fn run_columns(alloc: Global, run: &RunRow<'_>) -> Result<Row, AllocE
     row.push(ValueRef::Int(i64::from(run.kind)))?;
     row.push(ValueRef::Blob(run.digest))?;
     row.push(ValueRef::Text(run.label.as_bytes()))?;
-    row.push(number_value(&run.call_count))?;
+    row.push(ValueRef::Int(run.call_count.signed()))?;
     Ok(row)
 }
 
