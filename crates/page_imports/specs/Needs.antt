@@ -1,7 +1,7 @@
 -- What the steps of an import need of the tables.
 use Rattle.std.specs.Prelude.{◌≡◌, ℕ, ℤ, pos, ◌<◌, false, true, List}
 use Rattle.std.specs.List.{AllByRecursion}
-use Rattle.plain_tables.specs.Changes.{has_run, next_name}
+use Rattle.plain_tables.specs.Changes.{has_name, has_run, next_name}
 use Rattle.plain_tables.specs.Tables.{Tables, RunRow}
 use Rattle.table_changes.specs.Keys.{AreOfNewRun}
 use Rattle.page_imports.specs.Imports.{has_digest}
@@ -20,3 +20,8 @@ pub record CanFill {X : Type 0} (lines : Tables → List X) (run : X → ℕ) (n
 -- the next name gets this number
 abbrev pub IsNextName : ℤ → Tables → Type 0
 IsNextName next t = next ≡ pos (next_name t.names)
+
+-- the name is not held, and the next one gets this number
+pub record CanName (number : ℕ) (name : List ℕ) (t : Tables) : Type 0 where
+  pub next : next_name t.names ≡ number
+  pub none : has_name t name ≡ false

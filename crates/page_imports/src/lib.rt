@@ -8,6 +8,8 @@ mod columns;
 mod failures;
 // What a run says of itself: the next number, its own row, and the lines of its head.
 mod heads;
+// The names of a file, by their numbers in the store (specs/Names.antt).
+mod names;
 // The lines of a file's rows.
 mod rows;
 

@@ -82,6 +82,12 @@ number_of_line (first ∷ lines) name line one there is = go (bytes_eq first.nam
     go false e (inl same) more = absurd (let bad : false ≡ true = sym e ∙ ap (λ (l : NameRow). bytes_eq l.name name) (sym same) ∙ is in cc)
     go false e (inr later) more = more later
 
+-- the name of a line is held, and has the line's number
+pub line_is_held : (t : Tables) (db : Trees) → Holds t db → (line : NameRow) → Has t.names line → (has_name t line.name ≡ true) × (number_in t.names line.name ≡ line.number)
+line_is_held t db was line there =
+    let itself = (bytes_eq-Decides line.name line.name).1 refl in
+    (some_from _ t.names line there itself, number_of_line t.names line.name line (λ a h e. same_number t db was a line h there e) there itself)
+
 -- names that equal a third are equal
 equal_both : (a b c : List ℕ) → bytes_eq a c ≡ true → bytes_eq b c ≡ true → bytes_eq a b ≡ true
 equal_both a b c x y = (bytes_eq-Decides a b).1 ((bytes_eq-Decides a c).0 x ∙ sym ((bytes_eq-Decides b c).0 y))
