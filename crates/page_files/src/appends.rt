@@ -22,12 +22,7 @@ impl<D: Disk> PageFile<D> {
     ///
     /// # Errors
     /// As `put`.
-    pub fn append(
-        &mut self,
-        alloc: Global,
-        root: u32,
-        rows: &[(i64, &[u8])],
-    ) -> Result<(), Error>
+    pub fn append(&mut self, alloc: Global, root: u32, rows: &[(i64, &[u8])]) -> Result<(), Error>
         requires short { All (λ row. length row.1.now < 2 ^ 31) rows.now }
         requires strict { All (λ row. IsRecord row.1.now) rows.now }
         ensures done { PlacesRows self.old self.new Shape.Table root put_row (rows_given rows.now) result }

@@ -1,7 +1,7 @@
 -- The records of an index, cut at a row or behind a record.
-use Rattle.std.proofs.Common.{◌≡◌, ◌≢◌, ℕ, Bool, true, false, List, [], ◌∷◌, ◌++◌, map, refl, sym, ap, ap₂, subst, ◌∙◌, inl, inr, append_assoc, Ordering, Less, Equal, Greater, is_lt, is_gt}
+use Rattle.std.proofs.Common.{◌≡◌, ◌≢◌, ℕ, Bool, true, false, List, [], ◌∷◌, ◌++◌, map, refl, sym, ap, ap₂, subst, ◌∙◌, inl, inr, append_assoc, Ordering, Greater, is_lt, is_gt}
 use Rattle.std.specs.Ordering.{ordering_reverse}
-use Rattle.std.proofs.lemmas.Bool.{cases_Bool, true≢false}
+use Rattle.std.proofs.lemmas.Bool.{cases_Bool}
 use Rattle.std.proofs.lemmas.Cmp.{tied_itself}
 use Rattle.std.proofs.lemmas.List.{map-append}
 use Rattle.sqlite_pages.specs.PageMap.{PageMap}
@@ -11,7 +11,6 @@ use Rattle.sqlite_btree.specs.Cut.{Each, Ascends, before_cut, from_cut}
 use Rattle.sqlite_btree.specs.Stored.{as_record, IsIndex, IsLaidIn}
 use Rattle.sqlite_btree.specs.declared.batch.Batch.{Batch}
 use Rattle.sqlite_btree.proofs.CutLemmas.{before-from}
-use Rattle.sqlite_btree.proofs.ViewLemmas.{ascends_records}
 use Rattle.sqlite_record.specs.Record.{decode}
 use Rattle.sqlite_value.specs.declared.keys.Order.{Order}
 use Rattle.sqlite_value.specs.Order.{Row}
@@ -20,7 +19,7 @@ use Rattle.sqlite_value.proofs.KeyLemmas.{entry_cmp_total}
 use Rattle.sqlite_store.specs.Db.{record_order}
 use Rattle.sqlite_store.proofs.DbLemmas.{index_reads}
 use Rattle.sqlite_store.proofs.OrderLemmas.{less}
-use Rattle.page_rows.specs.Batches.{shown_of, last_of, EndIn, HandedOn, TookBatch}
+use Rattle.page_rows.specs.Batches.{shown_of, last_of, HandedOn, TookBatch}
 use Rattle.page_rows.specs.Indexes.{at_row, behind_record, entries_of, from_entry}
 use Rattle.page_rows.specs.Walks.{HasWalked, IsBehind}
 use Rattle.page_rows.proofs.Steps.{ends_here}
@@ -107,10 +106,10 @@ module _ {A S : Type 0} (Has Ends : A → List Row → S → Type 0) (layout : L
   took_some some sink true handed = elim handed.1 [
     | inl none ↦ absurd (some none)
     | inr (front, parts) ↦ (
-        map as_record front,
-        filled.rest,
-        filled.parts ∙ ap (λ l. map as_record l ++ filled.rest) parts ∙ ap (λ l. l ++ filled.rest) (map-append as_record front (taken new ∷ []))
-        ∙ append_assoc (map as_record front) (last_of new ∷ []) filled.rest,
-        handed.0,
-      )
+      map as_record front,
+      filled.rest,
+      filled.parts ∙ ap (λ l. map as_record l ++ filled.rest) parts ∙ ap (λ l. l ++ filled.rest) (map-append as_record front (taken new ∷ []))
+          ∙ append_assoc (map as_record front) (last_of new ∷ []) filled.rest,
+      handed.0,
+    )
   ]

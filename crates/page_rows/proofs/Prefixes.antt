@@ -1,15 +1,17 @@
 -- The entries of an index that begin with a key stand together, and a walk from the key on begins with them.
-use Rattle.std.proofs.Common.{◌≡◌, ◌⊎◌, ℕ, suc, ◌+◌, arith, take, Bool, true, false, List, [], ◌∷◌, filter, take_while, refl, sym, ap, ◌∙◌, inl, inr, Ordering, Less, Equal, Greater, is_lt, is_gt, is_eq}
+use Rattle.std.proofs.Common.{◌≡◌, ◌⊎◌, ℕ, ℤ, suc, ◌+◌, arith, take, true, false, List, [], ◌∷◌, filter, take_while, refl, sym, ap, ◌∙◌, inl, inr, Ordering, Less, Equal, Greater, is_lt, is_gt, is_eq, int_cmp}
 use Rattle.std.proofs.lemmas.Bool.{cases_Bool, true≢false}
 use Rattle.std.proofs.lemmas.Cmp.{tied_itself}
+use Rattle.std.proofs.lemmas.Int.{ints}
 use Rattle.std.specs.List.{AllByRecursion}
 use Rattle.sqlite_value.specs.declared.value.Value.{Value}
 use Rattle.sqlite_value.specs.declared.keys.Order.{Order}
 use Rattle.sqlite_value.specs.Keys.{by_key, entry_cmp, first_key, later, prefix_cmp}
 use Rattle.sqlite_value.specs.Order.{Row}
-use Rattle.sqlite_value.proofs.KeyLemmas.{by_key_total}
+use Rattle.sqlite_value.specs.declared.value.Value.TheVariants.{Int}
+use Rattle.sqlite_value.proofs.KeyLemmas.{by_key_total, tied_no_text}
+use Rattle.sqlite_value.proofs.OrderLemmas.{then-Equal, value_cmp-Int}
 use Rattle.sqlite_trees.specs.Tree.{IsIndex, from_key}
-use Rattle.sqlite_trees.proofs.ListLemmas.{all_weaker}
 use Rattle.sqlite_trees.proofs.TreeLemmas.{prefix_cmp_follows}
 use Rattle.page_rows.specs.Indexes.{begins_with, from_entry}
 
@@ -84,3 +86,18 @@ module _ (order : Order) (key : Row) where
   -- where there is none from it on, none begins with it
   pub none_begins : (entries : List Row) → IsIndex order entries → from_entry order key entries ≡ [] → filter (begins_with order key) entries ≡ []
   none_begins entries up none = those_that_begin entries up ∙ ap (take_while (begins_with order key)) none
+
+is_tied : (o : Ordering) → is_eq o ≡ true → o ≡ Equal
+is_tied Less tie = absurd (true≢false (sym tie))
+is_tied Equal tie = refl
+is_tied Greater tie = absurd (true≢false (sym tie))
+
+-- an entry begins with its own first column
+pub begins_itself : (order : Order) (value : Value) (rest : Row) → begins_with order (value ∷ []) (value ∷ rest) ≡ true
+begins_itself order value rest = ap is_eq (then-Equal _ ∙ tied_itself (by_key_total (first_key order)) value)
+
+-- one whose first column is an integer begins with that integer alone
+pub begins_with_integer : (order : Order) (m n : ℤ) (rest : Row) → begins_with order (Int n ∷ []) (Int m ∷ rest) ≡ true → m ≡ n
+begins_with_integer order m n rest begins =
+    let tie = tied_no_text (first_key order) (Int m) (Int n) (λ e. omega arith) (sym (then-Equal _) ∙ is_tied _ begins) in
+    let same : int_cmp m n ≡ Equal = sym (value_cmp-Int m n) ∙ tie in grind (arith, ints)

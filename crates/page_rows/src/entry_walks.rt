@@ -1,20 +1,12 @@
 // The walk over the entries of an index.
-ghost use Rattle.std.specs.Prelude.{◌≡◌, ◌⊎◌, ℕ, List, [], ◌∷◌, ◌++◌, map, true, MatchResult, OnOk, IfErr};
-ghost use Rattle.std.specs.Bool.{OnTrue};
+ghost use Rattle.std.specs.Prelude.{◌≡◌, [], OnOk, IfErr};
 ghost use Rattle.std.specs.Ordering.{is_gt};
 ghost use Rattle.sqlite_pages.specs.Calls.{IsClean, Continues, FailsFor};
-ghost use Rattle.sqlite_btree.specs.Batch.{left_in, taken, IsBatchOf};
-ghost use Rattle.sqlite_btree.specs.Chain.{Entry, Layout};
-ghost use Rattle.sqlite_btree.specs.Cut.{from_cut};
-ghost use Rattle.sqlite_btree.specs.Stored.{IsIndex, IsLaidIn, IsProbe};
 ghost use Rattle.sqlite_record.specs.Record.{decode};
-ghost use Rattle.sqlite_value.specs.Order.{Row as Entries};
-ghost use Rattle.sqlite_value.specs.declared.keys.Order.{Order as Keys};
 ghost use Rattle.sqlite_value.specs.Keys.{entry_cmp};
-ghost use Rattle.sqlite_store.specs.Db.{record_order};
-ghost use Rattle.page_rows.specs.Batches.{shown_of, last_of, HandedOn, TookBatch};
+ghost use Rattle.page_rows.specs.Batches.{HandsOn, WalksBatch};
 ghost use Rattle.page_rows.specs.Indexes.{HasIndex, entries_of, from_entry};
-ghost use Rattle.page_rows.specs.Walks.{FailsToWalk, IsBehind, MayRefuse, Walks};
+ghost use Rattle.page_rows.specs.Walks.{Walks};
 
 use crate::errors::WalkError;
 use crate::probes::{AtRow, BehindRecord};
@@ -33,10 +25,7 @@ fn hand_on<P: Pages, T: EntrySink>(
     batch: &mut Batch,
     sink: &mut T,
 ) -> Result<bool, WalkError<T::Refusal>>
-    ensures done { IsClean P.Pages store.new → (layout : Layout) → IsLaidIn layout (P.Pages.pages store.old) → IsBatchOf layout (P.Pages.size store.old) batch.old
-        → (start : T.Start) (rest all : List Entries) → IsBehind T.Has start (shown_of (left_in (P.Pages.pages store.old) batch.old) ++ rest) sink.old all
-        → MatchResult result (HandedOn T.Has T.Ends start sink.new all (left_in (P.Pages.pages store.old) batch.old) rest batch.new)
-        (FailsToWalk (FailsFor P.Pages store.old store.new ⊥) (MayRefuse T.Refuses all)) }
+    ensures done { HandsOn P.Pages store.old store.new T.Has T.Ends T.Refuses batch.old batch.new sink.old sink.new result }
     ensures kept { Continues P.Pages store.old store.new }
     ensures pages { P.Pages.pages store.new ≡ P.Pages.pages store.old }
 {
@@ -63,11 +52,7 @@ fn walk_batch<P: Pages, C: Probe, T: EntrySink>(
     batch: &mut Batch,
     sink: &mut T,
 ) -> Result<bool, WalkError<T::Refusal>>
-    ensures done { IsClean P.Pages store.new → (order : Keys) → IsProbe (record_order order) (C.Probe.side probe.now)
-        → (layout : Layout) (records : List (List ℕ)) → IsLaidIn layout (P.Pages.pages store.old) → IsIndex (record_order order) (P.Pages.size store.old) layout root records
-        → (start : T.Start) (all : List Entries) → IsBehind T.Has start (map decode (from_cut (C.Probe.side probe.now) records)) sink.old all
-        → MatchResult result (TookBatch T.Has T.Ends start sink.new all (C.Probe.side probe.now) records batch.new)
-        (FailsToWalk (FailsFor P.Pages store.old store.new ⊥) (MayRefuse T.Refuses all)) }
+    ensures done { WalksBatch P.Pages store.old store.new T.Has T.Ends T.Refuses (C.Probe.side probe.now) root batch.new sink.old sink.new result }
     ensures kept { Continues P.Pages store.old store.new }
     ensures pages { P.Pages.pages store.new ≡ P.Pages.pages store.old }
 {
@@ -96,8 +81,9 @@ fn keep(last: &mut Vec<u8>, fields: &[u8]) -> Result<(), Error>
 }
 
 /// Hands the entries of the index under a root page on, by its order, from the first that is not below
-/// `from`, until no more are wanted. It holds one page and two entries at a time. Errors: `Pages`, of which
-/// `Corrupt` is for pages that hold no such index, and `Refused`.
+/// `from`, until no more are wanted. A `from` of fewer columns is below each entry that it begins. It holds one
+/// page and two entries at a time. Errors: `Pages`, of which `Corrupt` is for pages that hold no such index, and
+/// `Refused`.
 pub fn walk_entries<P: Pages, T: EntrySink>(
     store: &mut P,
     alloc: Global,
@@ -114,7 +100,14 @@ pub fn walk_entries<P: Pages, T: EntrySink>(
 {
     let mut scratch = Scratch::new(alloc);
     let mut batch = Batch::new(alloc);
-    if !walk_batch(store, &mut scratch, root, &AtRow(order, from), &mut batch, sink)? {
+    if !walk_batch(
+        store,
+        &mut scratch,
+        root,
+        &AtRow(order, from),
+        &mut batch,
+        sink,
+    )? {
         return Ok(());
     }
     let mut last = Vec::new(alloc);

@@ -53,7 +53,9 @@ pub trait EntrySink {
     /// Takes an entry: the bytes of its record, which `sqlite_record::fields` reads in place.
     /// Says whether it wants more. An error ends the walk, and nothing is said of what was taken then.
     fn take(&mut self, payload: &[u8]) -> Result<bool, Self::Refusal>
-        ensures more { result ≡ Ok true → (start : Start) (entries : List Row) → Has start entries self.old → Has start (entries ++ decode payload.now ∷ []) self.new }
-        ensures last { result ≡ Ok false → (start : Start) (entries : List Row) → Has start entries self.old → Ends start (entries ++ decode payload.now ∷ []) self.new }
+        ensures more { result ≡ Ok true → (start : Start) (entries : List Row) → Has start entries self.old
+            → Has start (entries ++ decode payload.now ∷ []) self.new }
+        ensures last { result ≡ Ok false → (start : Start) (entries : List Row) → Has start entries self.old
+            → Ends start (entries ++ decode payload.now ∷ []) self.new }
         ensures refuses { IfErr result (Refuses (decode payload.now)) };
 }

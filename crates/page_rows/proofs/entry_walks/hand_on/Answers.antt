@@ -1,4 +1,4 @@
-use Rattle.std.proofs.Common.{rules, arith, ◌≡◌, Ok, ap, subst, ◌∙◌}
+use Rattle.std.proofs.Common.{arith, Ok, ap, subst, ◌∙◌}
 use Rattle.std.proofs.lemmas.Result.{err_from_is_err_and}
 use Rattle.sqlite_pages.specs.Calls.{FailsFor}
 use Rattle.sqlite_btree.specs.Batch.{TookFirst}

@@ -1,4 +1,4 @@
-use Rattle.std.proofs.Common.{arith, ◌≡◌, true, [], ◌++◌, sym, subst, ◌∙◌, map}
+use Rattle.std.proofs.Common.{arith, ◌≡◌, [], ◌++◌, sym, subst, ◌∙◌, map}
 use Rattle.std.proofs.lemmas.Bool.{true≢false}
 use Rattle.std.proofs.lemmas.Result.{err_from_is_err_and, MatchResult-weaker}
 use Rattle.sqlite_btree.specs.Batch.{left_in, IsBatchOf}

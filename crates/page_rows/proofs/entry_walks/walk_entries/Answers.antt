@@ -1,4 +1,4 @@
-use Rattle.std.proofs.Common.{arith, true, false, [], refl, sym, ap₂, subst, ◌∙◌, map, is_gt}
+use Rattle.std.proofs.Common.{arith, [], refl, sym, ap₂, subst, ◌∙◌, map, is_gt}
 use Rattle.std.proofs.lemmas.Bool.{true≢false}
 use Rattle.std.proofs.lemmas.Result.{err_from_is_err_and}
 use Rattle.sqlite_pages.specs.Calls.{FailsFor}
