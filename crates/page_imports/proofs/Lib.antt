@@ -1,2 +1,5 @@
+pub mod Finding
+pub mod Numbers
 pub mod Results
 pub mod Showing
+pub mod Stepping

@@ -1,5 +1,5 @@
 -- What the steps of an import need of the tables.
-use Rattle.std.specs.Prelude.{◌≡◌, ℕ, ℤ, pos, ◌<◌, false, true, List}
+use Rattle.std.specs.Prelude.{◌≡◌, ℕ, ◌<◌, false, true, List}
 use Rattle.std.specs.List.{AllByRecursion}
 use Rattle.plain_tables.specs.Changes.{has_name, has_run, next_name}
 use Rattle.plain_tables.specs.Tables.{Tables, RunRow}
@@ -18,10 +18,10 @@ pub record CanFill {X : Type 0} (lines : Tables → List X) (run : X → ℕ) (n
   pub of_run : AreOfNewRun run n (lines t) news
 
 -- the next name gets this number
-abbrev pub IsNextName : ℤ → Tables → Type 0
-IsNextName next t = next ≡ pos (next_name t.names)
+abbrev pub IsNextName : ℕ → Tables → Type 0
+IsNextName next t = next ≡ next_name t.names
 
 -- the name is not held, and the next one gets this number
 pub record CanName (number : ℕ) (name : List ℕ) (t : Tables) : Type 0 where
-  pub next : next_name t.names ≡ number
+  pub next : IsNextName number t
   pub none : has_name t name ≡ false

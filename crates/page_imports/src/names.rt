@@ -1,5 +1,5 @@
 // The names of a file, by their numbers in the store.
-ghost use Rattle.std.specs.Prelude.{◌≡◌, ◌∷◌, [], ℕ, List, IfOk, OnOk};
+ghost use Rattle.std.specs.Prelude.{◌≡◌, ◌∷◌, [], ℕ, List, ⊤, IfOk, OnOk};
 ghost use Rattle.sqlite_pool.specs.Pool as pools;
 ghost use Rattle.sqlite_pool.specs.Stored.{Keeps};
 ghost use Rattle.sqlite_record.specs.Record.{decode};
@@ -134,7 +134,7 @@ fn next_name<D: Disk>(
     file: &mut PageFile<D>,
     alloc: Global,
     roots: &StoreRoots,
-) -> Result<i64, StoreError>
+) -> Result<u64, StoreError>
     ensures told { IsFaithful file.new → (wanted : List Wanted) (known : List ℕ) (was : Trees) (t : Tables) → ShowsTables wanted known was t file.old
         → AreRoots known roots.now → IfOk result (λ next. IsNextName next t) }
     ensures reads { OnlyReads file.old file.new }
@@ -148,8 +148,58 @@ fn next_name<D: Disk>(
         root: roots.names,
         indexes: &keys,
     };
-    match free_rowid(file, alloc, &place) {
+    let rowid = match free_rowid(file, alloc, &place) {
+        Ok(rowid) => rowid,
+        Err(error) => return Err(error_of_row(error)),
+    };
+    match u64::try_from(rowid) {
         Ok(next) => Ok(next),
-        Err(error) => Err(error_of_row(error)),
+        Err(_) => Err(StoreError::Store),
     }
+}
+
+/// The number of a name, which is held from now on. The next new name gets the number `next`.
+fn number_name<D: Disk>(
+    file: &mut PageFile<D>,
+    alloc: Global,
+    roots: &StoreRoots,
+    name: &[u8],
+    next: &mut u64,
+) -> Result<u32, StoreError>
+    ensures done { MakesTelling file.old file.new roots.now (IsNextName next.old) (named name.now) result
+        (λ t number. (number ≡ number_in t.names name.now) × IsNextName next.new t) }
+    ensures usable { OnOk result (IsUsable file.new) }
+    ensures keeps { Keeps (pools.state file.old.pool) (pools.state file.new.pool) }
+{
+    if let Some(number) = find_name(file, alloc, roots, name)? {
+        return Ok(number);
+    }
+    let Ok(number) = u32::try_from(*next) else {
+        return Err(StoreError::Store);
+    };
+    add_name(file, alloc, roots, name, number)?;
+    *next = u64::from(number) + 1;
+    Ok(number)
+}
+
+/// The numbers of a file's names, which are held from now on.
+pub(crate) fn number_names<D: Disk>(
+    file: &mut PageFile<D>,
+    alloc: Global,
+    roots: &StoreRoots,
+    names: &Names,
+) -> Result<Vec<u32>, StoreError>
+    ensures done { MakesTelling file.old file.new roots.now (λ _. ⊤) (all_named names.now) result (λ t numbers. numbers.items ≡ numbers_in t names.now) }
+    ensures usable { OnOk result (IsUsable file.new) }
+    ensures keeps { Keeps (pools.state file.old.pool) (pools.state file.new.pool) }
+{
+    let mut next = next_name(file, alloc, roots)?;
+    let mut numbers = Vec::new(alloc);
+    'names: for at in 0..names.len() {
+        let number = number_name(file, alloc, roots, names.name(at as u32), &mut next)?;
+        if numbers.push(number).is_err() {
+            return Err(StoreError::Memory);
+        }
+    }
+    Ok(numbers)
 }

@@ -1,5 +1,5 @@
 -- The table tells names apart, and a query finds the number of one.
-use Rattle.std.proofs.Common.{◌≡◌, inl, inr, ℕ, List, [], ◌∷◌, map, pos, Bool, true, false, not, ◌&&◌, bytes_eq, Some, refl, sym, ap, ap₂, subst, ◌∙◌, arith, eqb, int_cmp, if◌then◌else◌}
+use Rattle.std.proofs.Common.{◌≡◌, inl, inr, ℕ, List, [], ◌∷◌, map, pos, Bool, true, false, not, ◌&&◌, bytes_eq, None, Some, refl, sym, ap, ap₂, subst, ◌∙◌, arith, eqb, int_cmp, if◌then◌else◌}
 use Rattle.std.proofs.lemmas.Bool.{and_parts}
 use Rattle.std.proofs.lemmas.Bool.Decides.{nat_tests}
 use Rattle.std.proofs.lemmas.Int.{ints}
@@ -24,6 +24,7 @@ use Rattle.sql_tables.proofs.Rows.{passes}
 use Rattle.sql_tables.proofs.Queries.{Selects, shown_row, row_shown}
 use Rattle.store_schema.specs.Schema.{schema_two, name_at}
 use Rattle.plain_tables.specs.Tables.{Tables, NameRow}
+use Rattle.store_schema.specs.Names.{number_if_held}
 use Rattle.store_schema.specs.Tables.{Holds, contents_of, name_columns, number}
 use Rattle.plain_tables.specs.Changes.{has_name}
 use Rattle.plain_tables.specs.Files.{number_in}
@@ -117,3 +118,21 @@ module _ (t : Tables) (db : Trees) (was : Holds t db) (name : List ℕ) where
           let l = some_has (λ (line : NameRow). bytes_eq line.name name) t.names e in
           let there = subst (λ rows. Has rows (name_columns l.0)) (sym (name_rows t db was)) (mapped_has name_columns t.names l.0 l.1) in
           absurd (row_shown 11 id_of_name_terms id_of_name_shown id_of_name_order (db 11) (Blob name ∷ []) [] s (name_columns l.0) there (name_passes name l.0 ∙ l.2))
+
+-- ---- the number of a name, if it is held
+
+-- a name that is not held
+pub not_held : (t : Tables) (name : List ℕ) → None ≡ number_if_held t name → has_name t name ≡ false
+not_held t name h = go (has_name t name) h
+  where
+    go : (b : Bool) → None ≡ (if b then Some (number_in t.names name) else None) → b ≡ false
+    go false e = refl
+    go true e = cc
+
+-- and one that is
+pub is_held : (t : Tables) (name : List ℕ) (n : ℕ) → Some n ≡ number_if_held t name → (has_name t name ≡ true) × (n ≡ number_in t.names name)
+is_held t name n h = go (has_name t name) h
+  where
+    go : (b : Bool) → Some n ≡ (if b then Some (number_in t.names name) else None) → (b ≡ true) × (n ≡ number_in t.names name)
+    go true e = (refl, cc)
+    go false e = cc
