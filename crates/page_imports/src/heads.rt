@@ -6,7 +6,8 @@ ghost use Rattle.page_files.specs.Files.{IsUsable};
 ghost use Rattle.plain_tables.specs.Changes.{with_coefs, with_derived, with_events, with_next, with_run};
 ghost use Rattle.store_schema.specs.Lines.{coef_row, derived_row, event_row, run_row};
 ghost use Rattle.store_schema.specs.Steps.{IsAbove};
-ghost use Rattle.page_imports.specs.Needs.{CanAdd, CanFill};
+ghost use Rattle.run_lines.specs.Runs.{with_head_of};
+ghost use Rattle.page_imports.specs.Needs.{CanAdd, CanBegin, CanFill};
 ghost use Rattle.page_imports.specs.Steps.{Makes};
 
 use crate::columns::{meta_columns, run_columns};
@@ -18,10 +19,10 @@ use plain_tables::StoreError;
 use row_writes::{IndexPlace, Place, insert, replace};
 use sqlite_disk::Disk;
 use std::alloc::Global;
-use store_schema::{CoefRow, DerivedRow, EventRow, RunRow};
+use store_schema::{CoefRow, DerivedRow, EventRow, HeadRows, RunRow};
 
 /// Sets the number of the next run.
-pub(crate) fn put_next<D: Disk>(
+fn put_next<D: Disk>(
     file: &mut PageFile<D>,
     alloc: Global,
     roots: &StoreRoots,
@@ -43,7 +44,7 @@ pub(crate) fn put_next<D: Disk>(
 }
 
 /// Puts the row of a run behind the others.
-pub(crate) fn put_run_row<D: Disk>(
+fn put_run_row<D: Disk>(
     file: &mut PageFile<D>,
     alloc: Global,
     roots: &StoreRoots,
@@ -69,7 +70,7 @@ pub(crate) fn put_run_row<D: Disk>(
 }
 
 /// Puts the lines of a run's events behind the others.
-pub(crate) fn put_events<D: Disk>(
+fn put_events<D: Disk>(
     file: &mut PageFile<D>,
     alloc: Global,
     roots: &StoreRoots,
@@ -98,7 +99,7 @@ pub(crate) fn put_events<D: Disk>(
 }
 
 /// Puts the lines of a run's derived events behind the others.
-pub(crate) fn put_derived<D: Disk>(
+fn put_derived<D: Disk>(
     file: &mut PageFile<D>,
     alloc: Global,
     roots: &StoreRoots,
@@ -127,7 +128,7 @@ pub(crate) fn put_derived<D: Disk>(
 }
 
 /// Puts the lines of a run's coefficients behind the others.
-pub(crate) fn put_coefs<D: Disk>(
+fn put_coefs<D: Disk>(
     file: &mut PageFile<D>,
     alloc: Global,
     roots: &StoreRoots,
@@ -147,4 +148,26 @@ pub(crate) fn put_coefs<D: Disk>(
         indexes: &keys,
     };
     fill(file, alloc, &place, lines)
+}
+
+/// Puts what a new run says of itself behind the others, and raises the next number above its own.
+pub(crate) fn put_head<D: Disk>(
+    file: &mut PageFile<D>,
+    alloc: Global,
+    roots: &StoreRoots,
+    run: &RunRow<'_>,
+    head: &HeadRows<'_>,
+) -> Result<(), StoreError>
+    ensures done { Makes file.old file.new roots.now (CanBegin run.now head.now) (with_head_of run.now head.now) result }
+    ensures usable { OnOk result (IsUsable file.new) }
+    ensures keeps { Keeps (pools.state file.old.pool) (pools.state file.new.pool) }
+{
+    let Some(next) = run.number.checked_add(1) else {
+        return Err(StoreError::Store);
+    };
+    put_next(file, alloc, roots, next)?;
+    put_run_row(file, alloc, roots, run)?;
+    put_events(file, alloc, roots, &head.events)?;
+    put_derived(file, alloc, roots, &head.derived)?;
+    put_coefs(file, alloc, roots, &head.coefs)
 }

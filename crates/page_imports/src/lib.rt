@@ -8,8 +8,12 @@ mod columns;
 mod failures;
 // What a run says of itself: the next number, its own row, and the lines of its head.
 mod heads;
+// A file is put in as a run (specs/Imports.antt).
+mod imports;
 // The names of a file, by their numbers in the store (specs/Names.antt).
 mod names;
-// The lines of a file's rows.
+// The rows of a file.
 mod rows;
+
+pub use imports::put_run;
 

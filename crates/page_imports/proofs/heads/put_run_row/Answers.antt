@@ -12,6 +12,7 @@ use Rattle.store_schema.specs.Tables.{number, run_columns}
 use Rattle.store_schema.proofs.Rows.{runs_below}
 use Rattle.table_changes.proofs.Numbered.{run_behind}
 use Rattle.table_changes.proofs.Store.{runs_there}
+use Rattle.page_imports.proofs.Runs.{none_equal}
 use Rattle.page_imports.proofs.Showing.{index_at, table_at}
 use Rattle.page_imports.proofs.heads.put_run_row.Goals as goal
 
@@ -26,4 +27,4 @@ returns-in-Ok-clause-done g c clean = λ wanted known was t shows are can.
     let at = table_at file shows.writes shows.holds 1 run_at refl _ are.runs (index_at file shows.writes shows.holds 0 _ refl refl _ are.run_digests refl, tt) in
     let made = c.in-Ok.ensures.done clean schema_two wanted known was now run_at at above in
     let behind : made.next 1 ≡ now 1 ++ run_columns run ∷ [] = made.rows_are ∙ ap (λ z. now 1 ++ (Int z ∷ c.in_ok-columns.columns) ∷ []) id ∙ ap (λ l. now 1 ++ (number run.number ∷ l) ∷ []) c.in_ok-columns.ensures in
-    record { next = made.next; writes = made.writes; holds = run_behind t now made.next shows.holds made.only (subst (IsShaped shape.Table) (sym made.rows_are) made.shaped) run behind can.none can.low }
+    record { next = made.next; writes = made.writes; holds = run_behind t now made.next shows.holds made.only (subst (IsShaped shape.Table) (sym made.rows_are) made.shaped) run behind (none_equal t.runs run.digest can.none) can.low }
