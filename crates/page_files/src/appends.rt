@@ -18,7 +18,7 @@ use std::alloc::Global;
 impl<D: Disk> PageFile<D> {
     /// Puts rows into the table under a root page, one after another, as `put` does. Each is a rowid and
     /// the record of its columns. Rows that rise, above all that are there, are written a page at a time.
-    /// After an error `undo` is due: some of them may be written.
+    /// After an error call `undo`: some of them may be written.
     ///
     /// # Errors
     /// As `put`.
@@ -35,7 +35,7 @@ impl<D: Disk> PageFile<D> {
 
     /// Inserts entries into the index under a root page, one after another, as `insert` does. Each is given
     /// as its record. Entries that rise, above all that are there, are written a page at a time. After an
-    /// error `undo` is due.
+    /// error call `undo`.
     ///
     /// # Errors
     /// As `put`.

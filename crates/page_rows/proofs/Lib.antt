@@ -4,6 +4,6 @@ pub mod FileIndexes
 pub mod FileTables
 pub mod Prefixes
 mod Steps
-pub mod EntrySteps
-pub mod IndexCuts
+mod EntrySteps
+mod IndexCuts
 mod Turns

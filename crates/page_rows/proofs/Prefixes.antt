@@ -101,3 +101,14 @@ pub begins_with_integer : (order : Order) (m n : ℤ) (rest : Row) → begins_wi
 begins_with_integer order m n rest begins =
     let tie = tied_no_text (first_key order) (Int m) (Int n) (λ e. omega arith) (sym (then-Equal _) ∙ is_tied _ begins) in
     let same : int_cmp m n ≡ Equal = sym (value_cmp-Int m n) ∙ tie in grind (arith, ints)
+
+-- where no entry begins with a value, none has it as its first column
+pub none_has : (order : Order) (value : Value) (entries : List Row) → filter (begins_with order (value ∷ [])) entries ≡ [] → AllByRecursion (λ e. (rest : Row) → ¬ (e ≡ value ∷ rest)) entries
+none_has order value [] none = tt
+none_has order value (e ∷ es) none = elim (cases_Bool (begins_with order (value ∷ []) e)) [
+  | inl begins ↦ absurd (let n = rw begins at none in cc)
+  | inr other ↦ (
+    (λ rest is. true≢false (sym (ap (begins_with order (value ∷ [])) is ∙ begins_itself order value rest) ∙ other)),
+    none_has order value es (rw other at none),
+  )
+]

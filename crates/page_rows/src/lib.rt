@@ -1,6 +1,6 @@
 //! The rows of a table, and the entries of an index, straight from the pages of a database file, which nobody
 //! has checked: no SQL, and no pass over the file before. They are handed on one at a time to what takes them.
-//! Whatever the file holds, each call ends, and where a table or an index stands in its pages, they are its own.
+//! Whatever the file holds, each call ends, and where a table or an index stands in its pages, they are what it holds.
 #![tactic(auto)]
 
 // The walk over the entries of an index.
