@@ -1,1 +1,11 @@
+pub mod Cuts
+pub mod Entered
 pub mod Held
+pub mod Indexes
+pub mod Numbers
+pub mod Parts
+pub mod Raised
+pub mod Rising
+pub mod Sorted
+pub mod Steps
+pub mod Whole

@@ -1,16 +1,72 @@
 // Lines behind a table, and in its indexes (specs/Filled.antt).
-ghost use Rattle.std.specs.Prelude.{map, OnOk};
+ghost use Rattle.std.specs.Prelude.{◌+◌, ◌<◌, ◌^◌, ◌≤ℤ◌, pos, map, IfOk, IfSome, OnOk};
 ghost use Rattle.sqlite_pool.specs.Pool as pools;
 ghost use Rattle.sqlite_pool.specs.Stored.{Keeps};
-ghost use Rattle.page_files.specs.Files.{IsUsable};
+ghost use Rattle.sqlite_value.specs.declared.value.Value.TheVariants.{Int};
+ghost use Rattle.page_files.specs.Files.{IsUsable, OnlyReads};
+ghost use Rattle.row_writes.specs.Changes.{AreBelow, AtRows};
 ghost use Rattle.line_fills.specs.Filled.{FillsTable};
+ghost use Rattle.line_fills.specs.Placed.{FillsIndexes};
+ghost use Rattle.line_fills.specs.Rows.{HaveRowids, numbered};
 
+use crate::appends::{append_rows, fill_index};
+use crate::failures::error_of_rows;
 use crate::lines::PageLine;
 use page_files::PageFile;
 use plain_tables::StoreError;
-use row_writes::Place;
+use row_writes::{IndexPlace, Place, free_rowid};
 use sqlite_disk::Disk;
 use std::alloc::Global;
+
+/// A rowid above those of a table, or `None` where too few are left for so many rows.
+fn first_of(free: i64, count: usize) -> Option<u64>
+    ensures room { IfSome result (λ first. first + count < 2 ^ 63) }
+    ensures above { IfSome result (λ first. free ≤ℤ pos first) }
+{
+    let first = u64::try_from(free.max(1)).ok()?;
+    let end = first.checked_add(u64::try_from(count).ok()?)?;
+    if end < 1 << 63 { Some(first) } else { None }
+}
+
+/// A rowid above those of a table, with room for the lines behind it.
+fn first_rowid<D: Disk, L>(
+    file: &mut PageFile<D>,
+    alloc: Global,
+    place: &Place<'_>,
+    lines: &[L],
+) -> Result<u64, StoreError>
+    ensures above { IfOk result (λ first. AtRows file.old file.new place.now (AreBelow (Int (pos first)))) }
+    ensures room { IfOk result (λ first. HaveRowids first lines.now) }
+    ensures reads { OnlyReads file.old file.new }
+    ensures usable { OnOk result (IsUsable file.new) }
+{
+    match free_rowid(file, alloc, place) {
+        Ok(free) => match first_of(free, lines.len()) {
+            Some(first) => Ok(first),
+            None => Err(StoreError::Store),
+        },
+        Err(error) => Err(error_of_rows(error)),
+    }
+}
+
+/// Inserts the entries of lines, which are numbered from `first` on, into each index.
+fn fill_indexes<D: Disk, L: PageLine>(
+    file: &mut PageFile<D>,
+    alloc: Global,
+    indexes: &[IndexPlace<'_>],
+    first: u64,
+    lines: &[L],
+) -> Result<(), StoreError>
+    requires room { HaveRowids first lines.now }
+    ensures done { FillsIndexes file.old file.new indexes.now (numbered first (map L.columns lines.now)) result }
+    ensures usable { IsUsable file.old → OnOk result (IsUsable file.new) }
+    ensures keeps { Keeps (pools.state file.old.pool) (pools.state file.new.pool) }
+{
+    for number in 0..indexes.len() {
+        fill_index(file, alloc, number, &indexes[number], first, lines)?;
+    }
+    Ok(())
+}
 
 /// Puts a row for each line behind those of a table, with an entry in each of its indexes. After an error some of it
 /// may be written.
@@ -24,9 +80,11 @@ pub fn fill<D: Disk, L: PageLine>(
     place: &Place<'_>,
     lines: &[L],
 ) -> Result<(), StoreError>
-    ensures done { FillsTable file.old file.new place.now (map (λ line. L.columns (L.plain line)) lines.now) result }
+    ensures done { FillsTable file.old file.new place.now (map L.columns lines.now) result }
     ensures usable { OnOk result (IsUsable file.new) }
     ensures keeps { Keeps (pools.state file.old.pool) (pools.state file.new.pool) }
 {
-    Err(StoreError::Store)
+    let first = first_rowid(file, alloc, place, lines)?;
+    append_rows(file, alloc, place.root, first, lines)?;
+    fill_indexes(file, alloc, place.indexes, first, lines)
 }

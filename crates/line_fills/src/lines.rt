@@ -9,24 +9,18 @@ pub trait PageLine {
     ghost use Rattle.sqlite_value.specs.Order.{Row, column};
     ghost use Rattle.sqlite_value.specs.Value.{owned};
 
-    /// A line as plain data.
-    ghost Plain: { Type 0 };
-
-    /// The line as plain data.
-    ghost plain: { Self → Plain };
-
     /// Its columns, without the rowid.
-    ghost columns: { Plain → Row };
+    ghost columns: { Self → Row };
 
     /// How many columns it has.
     fn width(&self) -> usize
-        ensures { result ≡ length (columns (plain self.now)) };
+        ensures { result ≡ length (columns self.now) };
 
-    /// The value in a column, and NULL past the end.
+    /// The value in a column, and NULL past the last one.
     fn value(&self, at: usize) -> ValueRef<'_>
-        ensures { owned result ≡ column (columns (plain self.now)) at };
+        ensures { owned result ≡ column (columns self.now) at };
 
     /// How two lines stand in the order of an index, by its place among the indexes of the table. Lines are sorted by
-    /// it. A wrong answer costs time, or refuses the lines as if two had one key.
+    /// it. A wrong answer costs time, or the lines are refused as if two had one key.
     fn compare(&self, other: &Self, index: usize) -> Ordering;
 }

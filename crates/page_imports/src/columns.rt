@@ -29,7 +29,7 @@ pub(crate) fn run_columns(alloc: Global, run: &RunRow<'_>) -> Result<Row, AllocE
     row.push(ValueRef::Int(i64::from(run.kind)))?;
     row.push(ValueRef::Blob(run.digest))?;
     row.push(ValueRef::Text(run.label.as_bytes()))?;
-    row.push(ValueRef::Int(run.call_count.signed()))?;
+    row.push(ValueRef::Int(run.call_count.as_i64()))?;
     Ok(row)
 }
 

@@ -28,12 +28,12 @@ use Rattle.row_writes.specs.Entries.{EntryEdit, with_entry, with_entries}
 use Rattle.row_writes.specs.Places.{AreIndexPlaces, IsIndexPlace}
 
 -- the first of the places that are left is that of the first index that is left
-first_place : (wanted : List Wanted) (roots : List ℕ) (place : IndexPlace) (places : List IndexPlace) (indexes : List Index) → AreIndexPlaces wanted roots (place ∷ places) indexes
+pub first_place : (wanted : List Wanted) (roots : List ℕ) (place : IndexPlace) (places : List IndexPlace) (indexes : List Index) → AreIndexPlaces wanted roots (place ∷ places) indexes
     → (i : Index) × (rest : List Index) × (indexes ≡ i ∷ rest) × IsIndexPlace wanted roots place i × AreIndexPlaces wanted roots places rest
 first_place wanted roots place places [] h = absurd h
 first_place wanted roots place places (i ∷ rest) h = (i, rest, refl, h.0, h.1)
 
-none_left : (wanted : List Wanted) (roots : List ℕ) (indexes : List Index) → AreIndexPlaces wanted roots [] indexes → indexes ≡ []
+pub none_left : (wanted : List Wanted) (roots : List ℕ) (indexes : List Index) → AreIndexPlaces wanted roots [] indexes → indexes ≡ []
 none_left wanted roots [] h = refl
 none_left wanted roots (i ∷ rest) h = absurd h
 

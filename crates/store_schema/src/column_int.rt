@@ -39,8 +39,7 @@ impl ColumnInt {
         self.number
     }
 
-    /// The number as SQLite has it in a column.
-    pub fn signed(&self) -> i64
+    pub fn as_i64(&self) -> i64
         ensures { result ≡ pos self.now }
     {
         self.number as i64
@@ -74,6 +73,6 @@ impl<'a> ToSql<'a> for &'a ColumnInt {
     ghost to_sql = { λ w. Int (pos w.now) };
 
     fn to_sql(self) -> ValueRef<'a> {
-        ValueRef::Int(self.signed())
+        ValueRef::Int(self.number as i64)
     }
 }

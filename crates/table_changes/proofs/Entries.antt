@@ -31,11 +31,12 @@ then_equal Equal b h = (refl, h)
 then_equal Greater b h = absurd (true≢false (sym h))
 
 -- equal entries have one rowid
-rowid_of_entry : (o : Order) (cs : List ℕ) (a b : Row) → class (rowid b) ≡ 1 → is_eq (entry_cmp o (entry_of cs a) (entry_of cs b)) ≡ true → is_eq (value_cmp (rowid a) (rowid b)) ≡ true
+pub rowid_of_entry : (o : Order) (cs : List ℕ) (a b : Row) → class (rowid b) ≡ 1 → is_eq (entry_cmp o (entry_of cs a) (entry_of cs b)) ≡ true → is_eq (value_cmp (rowid a) (rowid b)) ≡ true
 rowid_of_entry o [] a b number h = ap is_eq (tied_no_text (first_key o) (rowid a) (rowid b) (λ e. omega arith) (equal _ (then_equal _ _ h).0))
 rowid_of_entry o (c ∷ cs) a b number h = rowid_of_entry (later o) cs a b number (then_equal _ _ h).1
 
-insert_entry_same : (o : Order) (new : Row) (es : List Row) → AllByRecursion (λ e. is_eq (entry_cmp o e new) ≡ false) es → IsPermutation (new ∷ es) (insert_entry o new es)
+-- an entry that equals none of these goes among them
+pub insert_entry_same : (o : Order) (new : Row) (es : List Row) → AllByRecursion (λ e. is_eq (entry_cmp o e new) ≡ false) es → IsPermutation (new ∷ es) (insert_entry o new es)
 insert_entry_same k new [] fresh = IsPermutation-refl _
 insert_entry_same k new (e ∷ es) fresh = go (entry_cmp k e new) fresh.0 (insert_entry_same k new es fresh.1)
   where

@@ -1,0 +1,23 @@
+use Rattle.std.proofs.Common.{ℕ, get_or, map, take, sym, ap, subst₂, ◌∙◌}
+use Rattle.std.proofs.lemmas.List.{map_more}
+use Rattle.sqlite_sql.specs.Catalog.{entry_of}
+use Rattle.line_fills.specs.Records.{AreRecordsOf}
+use Rattle.line_fills.specs.Rows.{entries_at, row_at}
+use Rattle.line_fills.proofs.Cuts.{one_written}
+use Rattle.line_fills.proofs.Numbers.{row_of_line}
+use Rattle.line_fills.proofs.batches.entry_records.Goals as goal
+
+pub loop-place-preserved : goal.loop-place-preserved
+loop-place-preserved g c =
+    let columns = c.args.columns.now in
+    let first = c.args.first in
+    let lines = map g.L.PageLine.columns c.args.lines.now in
+    let places = c.args.places.now in
+    let i = c.loop-place.place-index in
+    let place = get_or places i 0 in
+    let x = c.index-lines-place.result in
+    let entry = λ (k : ℕ). entry_of columns (row_at first lines k) in
+    let is = row_of_line g.L.PageLine.columns first c.args.lines.now place x (c.requires.within i 0 c.loop-place-test.true) c.index-lines-place.is in
+    subst₂ AreRecordsOf (sym (map_more entry places i 0 c.loop-place-test.true)) (sym c.in_ok-push.ensures)
+    (one_written (entries_at columns first lines (take i places)) c.loop-place.records (entry place) c.in_ok-record.field-0.now c.loop-place.invariant
+    (c.in_ok-record.ensures.decoded ∙ c.in_ok-push_entry.ensures ∙ ap (entry_of columns) is) c.in_ok-record.ensures.writable)

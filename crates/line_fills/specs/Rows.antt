@@ -1,0 +1,36 @@
+-- The rows of new lines, and their entries in an index.
+use Rattle.std.specs.Prelude.{◌≡◌, ◌+◌, ◌<◌, ◌^◌, ℕ, suc, pos, List, [], ◌∷◌, All, length, map, slice_index_or}
+use Rattle.std.specs.declared.cmp.Ordering.TheVariants.{Less}
+use Rattle.sqlite_sql.specs.Catalog.{entry_of}
+use Rattle.plain_tables.specs.Lists.{IsAscending}
+use Rattle.sqlite_value.specs.declared.value.Value.TheVariants.{Int}
+use Rattle.sqlite_value.specs.Order.{Row, column, row_cmp}
+
+-- there are rowids for the lines, from this one on
+abbrev pub HaveRowids : {X : Type 0} → ℕ → List X → Type 0
+HaveRowids first lines = first + length lines < 2 ^ 63
+
+-- each is the place of one of the lines
+abbrev pub ArePlacesOf : {X : Type 0} → List X → List ℕ → Type 0
+ArePlacesOf lines places = All (λ place. place < length lines) places
+
+-- rows of these columns, numbered from a rowid on
+abbrev pub numbered : ℕ → List Row → List Row
+numbered first [] = []
+numbered first (line ∷ lines) = (Int (pos first) ∷ line) ∷ numbered (suc first) lines
+
+-- the one at a place
+abbrev pub row_at : ℕ → List Row → ℕ → Row
+row_at first lines place = Int (pos (first + place)) ∷ slice_index_or lines place []
+
+-- the entries of those at some places, in an index of these columns
+abbrev pub entries_at : List ℕ → ℕ → List Row → List ℕ → List Row
+entries_at columns first lines places = map (λ place. entry_of columns (row_at first lines place)) places
+
+-- such an entry without its rowid
+abbrev pub key_at : List ℕ → ℕ → List Row → ℕ → Row
+key_at columns first lines place = map (column (row_at first lines place)) columns
+
+-- from each place to each later one the keys rise
+abbrev pub KeysRise : List ℕ → ℕ → List Row → List ℕ → Type 0
+KeysRise columns first lines places = IsAscending (λ a b. row_cmp (key_at columns first lines a) (key_at columns first lines b) ≡ Less) places
