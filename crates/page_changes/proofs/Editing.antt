@@ -29,7 +29,7 @@ use Rattle.page_changes.specs.Named.{AreOthers, IsOther}
 use Rattle.table_changes.specs.Changes.{SparesBut}
 use Rattle.page_changes.specs.Lines.{StandAs}
 use Rattle.page_changes.specs.Shown.{ShowsRows}
-use Rattle.page_changes.proofs.Placing.{index_placed_at, placed_at}
+use Rattle.page_places.proofs.Placing.{index_placed_at, placed_at}
 
 -- ---- changes that change nothing
 

@@ -1,5 +1,4 @@
 pub mod Editing
 pub mod Naming
 pub mod NextRowid
-pub mod Placing
 pub mod Results

@@ -11,14 +11,20 @@ ghost use Rattle.store_schema.specs.Schema.{grp_at, member_at};
 ghost use Rattle.page_changes.specs.Named.{HasMember};
 ghost use Rattle.page_changes.specs.Changes.{CanJoin, Changes, ChangesAt, ChangesWithin, HasNoMember, without_members, without_named};
 
-use crate::keys::{GROUP_KEY, MEMBER_KEY, index_root};
 use crate::lines::{group_entry, member_entry, named_columns, put_alone, put_line, take_line};
 use crate::rowids::{find_named, next_rowid};
 use page_files::PageFile;
+use page_places::index_root;
 use plain_tables::StoreError;
 use run_lists::{ListedMember, RunLists};
 use sqlite_disk::Disk;
 use std::alloc::Global;
+
+/// The index of the names of groups.
+const GROUP_KEY: &str = "sqlite_autoindex_grp_1";
+
+/// The index of the groups and runs of members.
+const MEMBER_KEY: &str = "sqlite_autoindex_member_1";
 
 /// The root pages of the tables of groups and of members.
 #[derive(Clone, Copy, Debug, PartialEq, Eq)]

@@ -2,12 +2,8 @@
 //! transaction that the caller commits or undoes.
 #![tactic(auto)]
 
-// What a failure of the pages is for a caller.
-mod failures;
 // The changes of groups and members.
 mod groups;
-// The indexes of a store, by name.
-mod keys;
 // A row with the entry of its key.
 mod lines;
 // Rowids: the next one of a table, and those of the rows of a name.

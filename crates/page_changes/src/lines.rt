@@ -10,8 +10,8 @@ ghost use Rattle.store_schema.specs.Tables.{number_or_null};
 ghost use Rattle.page_files.specs.Files.{IsUsable};
 ghost use Rattle.page_changes.specs.Lines.{Turns, TurnsTable, with_line, without_line};
 
-use crate::failures::error_of;
 use page_files::PageFile;
+use page_places::error_of;
 use plain_tables::StoreError;
 use sqlite_disk::Disk;
 use sqlite_record::encode::encode;

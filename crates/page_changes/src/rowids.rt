@@ -9,8 +9,8 @@ ghost use Rattle.page_files.specs.Files.{IsFaithful, IsUsable, OnlyReads};
 ghost use Rattle.page_changes.specs.Named.{IsFound, IsNextRowid, IsSought, named};
 ghost use Rattle.page_changes.specs.Shown.{ShowsRows};
 
-use crate::failures::error_of_walk;
 use page_files::PageFile;
+use page_places::error_of_walk;
 use page_rows::RowSink;
 use plain_tables::StoreError;
 use sqlite_disk::Disk;

@@ -27,19 +27,3 @@ finds t name old new (row ∷ rows) shown was h first =
     let s = selected schema_two id_of_name_sql 11 id_of_name_terms id_of_name_shown id_of_name_order _ id_of_name_means id_of_name_plain id_of_name_unlisted old new was.schema_is refl (Blob name ∷ []) (row ∷ rows) h in
     let it = shows_number t old.now.trees was.holds name (row ∷ rows) row s (inl refl) in
     first.1 ∙ ap Some (same_numbers first.0 (number_in t.names name) (sym first.2 ∙ it.1)) ∙ sym (ap (λ b. if b then Some (number_in t.names name) else None) it.0)
-
--- a name that is not held
-pub not_held : (t : Tables) (name : List ℕ) → None ≡ number_if_held t name → has_name t name ≡ false
-not_held t name h = go (has_name t name) h
-  where
-    go : (b : Bool) → None ≡ (if b then Some (number_in t.names name) else None) → b ≡ false
-    go false e = refl
-    go true e = cc
-
--- and one that is
-pub is_held : (t : Tables) (name : List ℕ) (n : ℕ) → Some n ≡ number_if_held t name → (has_name t name ≡ true) × (n ≡ number_in t.names name)
-is_held t name n h = go (has_name t name) h
-  where
-    go : (b : Bool) → Some n ≡ (if b then Some (number_in t.names name) else None) → (b ≡ true) × (n ≡ number_in t.names name)
-    go true e = (refl, cc)
-    go false e = cc

@@ -1,7 +1,7 @@
 // A run is written, within a transaction.
 ghost use Rattle.std.specs.Prelude.{◌≡◌, false};
 ghost use Rattle.std.specs.Result.{is_ok};
-ghost use Rattle.run_writing.specs.Runs.{with_head_of, with_run_of};
+ghost use Rattle.run_lines.specs.Runs.{with_head_of, with_run_of};
 ghost use Rattle.store_schema.specs.Steps.{IsAbove};
 ghost use Rattle.store_schema.specs.Within.{CommitsIf, CommitsUnlessShut, FoundOpen, WritesIf};
 

@@ -8,14 +8,10 @@ mod call_rows;
 mod cell_rows;
 // The statements that write the events of a head, and their coefficients.
 mod event_rows;
-// The lines that a file's rows become (specs/FromRows.antt).
-mod file_lines;
 // Writes the rows of a file, within a transaction.
 mod file_rows;
 // The statements on a run's own line and on the next number.
 mod head_texts;
-// The lines that the head of a file becomes (specs/Sums.antt).
-mod head_inserts;
 // Writes lines, one or fifty a statement (specs/Queues.antt).
 mod line_writing;
 // The trait of a line: its texts, and what they make of the tables (specs/LineInserts.antt).
@@ -24,7 +20,7 @@ mod lines;
 mod name_texts;
 // Writes a run, within a transaction.
 mod inserting;
-// The trait of a file's row: the lines that it becomes (specs/FromRows.antt).
+// The trait of a file's row: the lines that it becomes.
 mod row_lines;
 // Inserts a file as a run.
 mod run_inserts;
@@ -34,7 +30,6 @@ mod stack_rows;
 mod values;
 
 pub use file_rows::{insert_calls, insert_cells, insert_stacks, number_names};
-pub use head_inserts::head_rows;
 pub use head_texts::{insert_line_of_run, raise_next};
 pub use line_writing::insert_lines;
 pub use lines::Line;

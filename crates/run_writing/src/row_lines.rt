@@ -1,12 +1,12 @@
 // The rows of a file, and the lines that each becomes.
 ghost use Rattle.std.specs.Result.{is_ok};
-ghost use Rattle.run_writing.specs.FromRows.{cost_lines};
+ghost use Rattle.run_lines.specs.FromRows.{cost_lines};
 ghost use Rattle.run_writing.specs.Queues.{QueuesCalls};
 
-use crate::file_lines::{call_of, cell_of, stack_of};
 use crate::line_writing::queue;
 use crate::lines::RowOfMany;
 use cost_rows::{CallEdge, Cell, StackCount};
+use run_lines::{call_of, cell_of, stack_of};
 use sqlite::{Alter, Transaction};
 use std::alloc::Global;
 use store_schema::{CallRow, CellRow, StackRow, StoreError};
@@ -37,7 +37,7 @@ pub(crate) trait BecomesRows<L: RowOfMany + Drop> {
 impl BecomesRows<CellRow> for Cell<u32> {
     ghost use Rattle.std.specs.Prelude.{◌∷◌, []};
     ghost use Rattle.plain_tables.specs.Changes.{with_cells};
-    ghost use Rattle.run_writing.specs.FromRows.{line_of_cell};
+    ghost use Rattle.run_lines.specs.FromRows.{line_of_cell};
 
     ghost change = { λ run numbers row. with_cells (line_of_cell run numbers row ∷ []) };
 
@@ -56,7 +56,7 @@ impl BecomesRows<CellRow> for Cell<u32> {
 impl<'a> BecomesRows<StackRow<'a>> for StackCount<&'a [u8]> {
     ghost use Rattle.std.specs.Prelude.{◌∷◌, []};
     ghost use Rattle.plain_tables.specs.Changes.{with_stacks};
-    ghost use Rattle.run_writing.specs.FromRows.{line_of_stack};
+    ghost use Rattle.run_lines.specs.FromRows.{line_of_stack};
 
     ghost change = { λ run numbers row. with_stacks (line_of_stack run row ∷ []) };
 
@@ -95,7 +95,7 @@ fn insert_cost<S: Alter>(
 /// Their number, and each cost above 0.
 impl BecomesRows<CallRow> for CallEdge<u32, &[u128]> {
     ghost use Rattle.plain_tables.specs.Changes.{with_calls};
-    ghost use Rattle.run_writing.specs.FromRows.{row_lines};
+    ghost use Rattle.run_lines.specs.FromRows.{row_lines};
 
     ghost change = { λ run numbers row. with_calls (row_lines run numbers row) };
 

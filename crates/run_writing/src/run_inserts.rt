@@ -5,14 +5,14 @@ ghost use Rattle.cost_rows.specs.Totals.{count_total};
 ghost use Rattle.cost_rows.specs.Rows.{content_of};
 ghost use Rattle.plain_tables.specs.Lists.{Has};
 ghost use Rattle.prof_books.specs.Heads.{IsComplete};
-ghost use Rattle.run_writing.specs.Sums.{AllFit};
+ghost use Rattle.run_lines.specs.Sums.{AllFit};
 ghost use Rattle.run_stores.specs.Runs.{with_summed};
 ghost use Rattle.prof_store.specs.Shown.{ChangesIf, KeepsShut, MakesOf};
 
-use crate::head_rows;
 use crate::inserting::put_in;
 use prof_store::Store;
 use profile_records::Kind;
+use run_lines::head_rows;
 use run_stores::SummedFile;
 use sqlite::Alter;
 use std::alloc::Global;

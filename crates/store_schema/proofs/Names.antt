@@ -1,5 +1,5 @@
 -- The table tells names apart, and a query finds the number of one.
-use Rattle.std.proofs.Common.{◌≡◌, inl, inr, ℕ, List, [], ◌∷◌, map, pos, Bool, true, false, not, ◌&&◌, bytes_eq, Some, refl, sym, ap, ap₂, subst, ◌∙◌, arith, eqb, int_cmp, if◌then◌else◌}
+use Rattle.std.proofs.Common.{◌≡◌, inl, inr, ℕ, List, [], ◌∷◌, map, pos, Bool, true, false, not, ◌&&◌, bytes_eq, None, Some, refl, sym, ap, ap₂, subst, ◌∙◌, arith, eqb, int_cmp, if◌then◌else◌}
 use Rattle.std.proofs.lemmas.Bool.{and_parts}
 use Rattle.std.proofs.lemmas.Bool.Decides.{nat_tests}
 use Rattle.std.proofs.lemmas.Int.{ints}
@@ -24,6 +24,7 @@ use Rattle.sql_tables.proofs.Rows.{passes}
 use Rattle.sql_tables.proofs.Queries.{Selects, shown_row, row_shown}
 use Rattle.store_schema.specs.Schema.{schema_two, name_at}
 use Rattle.plain_tables.specs.Tables.{Tables, NameRow}
+use Rattle.store_schema.specs.Names.{number_if_held}
 use Rattle.store_schema.specs.Tables.{Holds, contents_of, name_columns, number}
 use Rattle.plain_tables.specs.Changes.{has_name}
 use Rattle.plain_tables.specs.Files.{number_in}
@@ -82,6 +83,12 @@ number_of_line (first ∷ lines) name line one there is = go (bytes_eq first.nam
     go false e (inl same) more = absurd (let bad : false ≡ true = sym e ∙ ap (λ (l : NameRow). bytes_eq l.name name) (sym same) ∙ is in cc)
     go false e (inr later) more = more later
 
+-- the name of a line is held, and has the line's number
+pub line_is_held : (t : Tables) (db : Trees) → Holds t db → (line : NameRow) → Has t.names line → (has_name t line.name ≡ true) × (number_in t.names line.name ≡ line.number)
+line_is_held t db was line there =
+    let itself = (bytes_eq-Decides line.name line.name).1 refl in
+    (some_from _ t.names line there itself, number_of_line t.names line.name line (λ a h e. same_number t db was a line h there e) there itself)
+
 -- names that equal a third are equal
 equal_both : (a b c : List ℕ) → bytes_eq a c ≡ true → bytes_eq b c ≡ true → bytes_eq a b ≡ true
 equal_both a b c x y = (bytes_eq-Decides a b).1 ((bytes_eq-Decides a c).0 x ∙ sym ((bytes_eq-Decides b c).0 y))
@@ -111,3 +118,21 @@ module _ (t : Tables) (db : Trees) (was : Holds t db) (name : List ℕ) where
           let l = some_has (λ (line : NameRow). bytes_eq line.name name) t.names e in
           let there = subst (λ rows. Has rows (name_columns l.0)) (sym (name_rows t db was)) (mapped_has name_columns t.names l.0 l.1) in
           absurd (row_shown 11 id_of_name_terms id_of_name_shown id_of_name_order (db 11) (Blob name ∷ []) [] s (name_columns l.0) there (name_passes name l.0 ∙ l.2))
+
+-- ---- the number of a name, if it is held
+
+-- a name that is not held
+pub not_held : (t : Tables) (name : List ℕ) → None ≡ number_if_held t name → has_name t name ≡ false
+not_held t name h = go (has_name t name) h
+  where
+    go : (b : Bool) → None ≡ (if b then Some (number_in t.names name) else None) → b ≡ false
+    go false e = refl
+    go true e = cc
+
+-- and one that is
+pub is_held : (t : Tables) (name : List ℕ) (n : ℕ) → Some n ≡ number_if_held t name → (has_name t name ≡ true) × (n ≡ number_in t.names name)
+is_held t name n h = go (has_name t name) h
+  where
+    go : (b : Bool) → Some n ≡ (if b then Some (number_in t.names name) else None) → (b ≡ true) × (n ≡ number_in t.names name)
+    go true e = (refl, cc)
+    go false e = cc

@@ -23,14 +23,14 @@ use Rattle.plain_tables.specs.Changes.{with_run, with_events, with_derived, with
 use Rattle.store_schema.proofs.Means.{begin_terms, insert_run_terms, insert_event_terms, insert_derived_terms, insert_coef_terms, insert_name_terms, insert_cell_terms, insert_arc_terms, insert_stack_terms, insert_group_terms, insert_member_terms}
 use Rattle.store_schema.proofs.Values.{cast_null, cast_number, cast_text_or_null, number_below}
 
-next_is : (names : List NameRow) (n : ℕ) → fold (λ _ r. id_in (rowid r) +ℤ pos 1) (pos n) (map name_columns names) ≡ pos (fold (λ _ (line : NameRow). suc line.number) n names)
+pub next_is : (names : List NameRow) (n : ℕ) → fold (λ _ r. id_in (rowid r) +ℤ pos 1) (pos n) (map name_columns names) ≡ pos (fold (λ _ (line : NameRow). suc line.number) n names)
 next_is [] n = refl
 next_is (line ∷ names) n = ap (λ z. fold (λ _ r. id_in (rowid r) +ℤ pos 1) z (map name_columns names)) (more line.number) ∙ next_is names (suc line.number)
   where
     more : (m : ℕ) → pos m +ℤ pos 1 ≡ pos (suc m)
     more m = grind (arith, ints)
 
-runs_below : (runs : List RunRow) (n : ℕ) → AllByRecursion (λ (r : RunRow). r.number < n) runs → AllByRecursion (λ (r : Row). value_cmp (rowid r) (number n) ≡ Less) (map run_columns runs)
+pub runs_below : (runs : List RunRow) (n : ℕ) → AllByRecursion (λ (r : RunRow). r.number < n) runs → AllByRecursion (λ (r : Row). value_cmp (rowid r) (number n) ≡ Less) (map run_columns runs)
 runs_below [] n h = tt
 runs_below (r ∷ runs) n h = (number_below r.number n h.0, runs_below runs n h.1)
 

@@ -5,7 +5,8 @@ use Rattle.store_schema.specs.Tables.{Holds}
 use Rattle.page_files.proofs.Reading.{rests_after}
 use Rattle.page_files.proofs.Steps.{begins}
 use Rattle.page_changes.proofs.Editing.{listed_member}
-use Rattle.page_changes.proofs.Placing.{member_key_name}
+use Rattle.page_places.proofs.Rooting.{store_resting}
+use Rattle.page_places.proofs.Placing.{member_key_name}
 use Rattle.page_changes.proofs.groups.join.Goals as goal
 
 pub returns-then-has_member-clause-done : goal.returns-then-has_member-clause-done
@@ -21,7 +22,7 @@ returns-clause-done g c clean wanted known db t rests holds listed are =
     let faithful = c.add_member.ensures.keeps.stays.clean clean in
     let mid = c.index_root.new.file in
     let still = rests_after c.args.file.now mid c.index_root.ensures.reads faithful c.in_ok-index.ensures.usable rests in
-    let index_is = c.in_ok-index.ensures.found faithful wanted known db t rests holds 10 _ refl member_key_name in
+    let index_is = c.in_ok-index.ensures.found faithful t db known (store_resting c.args.file.now t db known wanted rests holds) 10 _ refl member_key_name in
     c.add_member.ensures.done clean wanted known db t still holds are.members index_is
     (record { grouped = sym (c.has_group.ensures.told t listed) ∙ c.if-not-has_group.false; held = sym (c.has_run.ensures.told t listed) ∙ c.if-not-has_run.false; none = sym (c.has_member.ensures ∙ listed_member t c.args.lists.now listed c.args.name.now c.args.run) ∙ c.if-has_member.false })
 

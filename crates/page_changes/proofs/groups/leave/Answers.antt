@@ -7,7 +7,8 @@ use Rattle.page_files.proofs.Standing.{stands_resting}
 use Rattle.page_files.proofs.Steps.{begins}
 use Rattle.page_changes.specs.Named.{HasMember, IsFound, named}
 use Rattle.page_changes.proofs.Editing.{listed_member, members_shown, not_member}
-use Rattle.page_changes.proofs.Placing.{member_key_name}
+use Rattle.page_places.proofs.Rooting.{store_resting}
+use Rattle.page_places.proofs.Placing.{member_key_name}
 use Rattle.page_changes.proofs.groups.leave.Goals as goal
 
 pub returns-then-not-has_member-clause-done : goal.returns-then-not-has_member-clause-done
@@ -29,7 +30,7 @@ returns-in-Some-clause-done g c clean wanted known db t rests holds listed are =
     let faithful = c.find_named.ensures.reads.keeps.stays.clean later in
     let first = rests_after c.args.file.now mid c.index_root.ensures.reads faithful c.in_ok-index.ensures.usable rests in
     let second = rests_after mid new c.find_named.ensures.reads later c.in_ok-row.ensures.usable first in
-    let index_is = c.in_ok-index.ensures.found faithful wanted known db t rests holds 10 _ refl member_key_name in
+    let index_is = c.in_ok-index.ensures.found faithful t db known (store_resting c.args.file.now t db known wanted rests holds) 10 _ refl member_key_name in
     let found = c.in_ok-row.ensures.found later (db 21) (members_shown mid (stands_resting mid first) holds c.args.roots.now.members are.members) in
     let row = c.in-Some.row in
     let at = subst (IsFound c.as_bytes.result.now (Some run) (db 21)) c.in-Some.is found in

@@ -3,9 +3,9 @@ use Rattle.std.proofs.lemmas.Iterator.Consumers.{YieldsList-from_first}
 use Rattle.cost_rows.specs.Rows.{content_of}
 use Rattle.cost_rows.specs.ByNumber.{plain_numbered}
 use Rattle.plain_tables.specs.Changes.{with_calls}
-use Rattle.run_writing.specs.FromRows.{row_lines}
+use Rattle.run_lines.specs.FromRows.{row_lines}
 use Rattle.run_writing.specs.LineInserts.{no_calls, more_calls}
-use Rattle.run_writing.proofs.RowLines.{lines_of_calls, rows_of_calls, calls_are}
+use Rattle.run_lines.proofs.RowLines.{lines_of_calls, rows_of_calls, calls_are}
 use Rattle.run_writing.proofs.RowsWritten.{rows_written}
 use Rattle.run_writing.proofs.file_rows.insert_calls.Goals as goal
 

@@ -3,9 +3,9 @@ use Rattle.std.proofs.lemmas.Iterator.Consumers.{YieldsList-from_first}
 use Rattle.std.proofs.lemmas.List.Concat.{flat_map_single}
 use Rattle.cost_rows.specs.Rows.{content_of}
 use Rattle.plain_tables.specs.Changes.{with_cells}
-use Rattle.run_writing.specs.FromRows.{line_of_cell}
+use Rattle.run_lines.specs.FromRows.{line_of_cell}
 use Rattle.run_writing.specs.LineInserts.{no_cells, more_cells}
-use Rattle.run_writing.proofs.RowLines.{cells_are}
+use Rattle.run_lines.proofs.RowLines.{cells_are}
 use Rattle.run_writing.proofs.RowsWritten.{rows_written}
 use Rattle.run_writing.proofs.file_rows.insert_cells.Goals as goal
 

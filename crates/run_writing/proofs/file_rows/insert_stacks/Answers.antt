@@ -3,9 +3,9 @@ use Rattle.std.proofs.lemmas.Iterator.Consumers.{YieldsList-from_first}
 use Rattle.cost_rows.specs.Rows.{content_of}
 use Rattle.cost_rows.specs.Plain.{plain_stack}
 use Rattle.plain_tables.specs.Changes.{with_stacks}
-use Rattle.run_writing.specs.FromRows.{line_of_stack}
+use Rattle.run_lines.specs.FromRows.{line_of_stack}
 use Rattle.run_writing.specs.LineInserts.{no_stacks, more_stacks}
-use Rattle.run_writing.proofs.RowLines.{plain_line_of_stack, rows_of_stacks, stacks_are}
+use Rattle.run_lines.proofs.RowLines.{plain_line_of_stack, rows_of_stacks, stacks_are}
 use Rattle.run_writing.proofs.RowsWritten.{rows_written}
 use Rattle.run_writing.proofs.file_rows.insert_stacks.Goals as goal
 

@@ -9,7 +9,7 @@ use Rattle.plain_tables.specs.Tables.{RunRow}
 use Rattle.prof_books.specs.Files.{cell_rows, call_rows, stack_rows, with_rows}
 use Rattle.store_schema.specs.Steps.{IsAbove}
 use Rattle.store_schema.proofs.Within.{both, writes_same, writes_then, writes_asking, was_faithful}
-use Rattle.run_writing.specs.Runs.{with_head_of}
+use Rattle.run_lines.specs.Runs.{with_head_of}
 use Rattle.run_writing.proofs.inserting.insert_contents.Goals as goal
 
 pub returns-clause-writes : goal.returns-clause-writes

@@ -7,7 +7,7 @@ use Rattle.plain_tables.specs.Changes.{with_next, with_run, with_events, with_de
 use Rattle.store_schema.specs.Lines.{run_row, event_row, derived_row, coef_row}
 use Rattle.store_schema.specs.Steps.{IsAbove, IsNext}
 use Rattle.store_schema.proofs.Within.{was_faithful, writes_then, writes_same, writes_asking}
-use Rattle.run_writing.specs.Runs.{with_head_of}
+use Rattle.run_lines.specs.Runs.{with_head_of}
 use Rattle.run_writing.proofs.inserting.insert_head.Goals as goal
 
 pub returns-clause-writes : goal.returns-clause-writes

@@ -1,7 +1,7 @@
 use Rattle.std.proofs.Common.{true, refl, ◌∙◌, sym}
 use Rattle.plain_tables.specs.Changes.{with_new_name}
 use Rattle.store_schema.proofs.Within.{both, was_faithful}
-use Rattle.run_writing.proofs.Finding.{is_held}
+use Rattle.store_schema.proofs.Names.{is_held}
 use Rattle.run_writing.proofs.name_texts.add_name.Goals as goal
 
 pub returns-in-Some-clause-writes : goal.returns-in-Some-clause-writes

@@ -7,7 +7,7 @@ use Rattle.plain_tables.specs.Changes.{named, with_new_name}
 use Rattle.plain_tables.specs.Files.{number_in}
 use Rattle.plain_tables.proofs.Numbering.{named_held, named_new}
 use Rattle.store_schema.proofs.Within.{both, writes_same, was_faithful}
-use Rattle.run_writing.proofs.Finding.{is_held, not_held}
+use Rattle.store_schema.proofs.Names.{is_held, not_held}
 use Rattle.run_writing.proofs.name_texts.number_name.Goals as goal
 
 pub returns-in-Some-clause-writes : goal.returns-in-Some-clause-writes

@@ -1,7 +1,7 @@
 use Rattle.std.proofs.Common.{◌≡◌, rules, true, false, nat_lt, [], ◌∷◌, if◌then◌else◌, sym, subst, lt-ltb}
 use Rattle.std.specs.Result.{is_ok}
 use Rattle.plain_tables.specs.Changes.{with_calls}
-use Rattle.run_writing.specs.FromRows.{part_line}
+use Rattle.run_lines.specs.FromRows.{part_line}
 use Rattle.run_writing.specs.LineInserts.{no_calls}
 use Rattle.run_writing.specs.Queues.{Queues}
 use Rattle.store_schema.specs.Lines.{call_row}

@@ -12,7 +12,7 @@ use Rattle.prof_store.proofs.HeldDigests.{taken}
 use Rattle.prof_store.proofs.Members.{kit_has}
 use Rattle.prof_store.proofs.Reading.{on_ok}
 use Rattle.run_stores.specs.Runs.{with_summed}
-use Rattle.run_writing.proofs.FileInserts.{file_is}
+use Rattle.run_lines.proofs.FileInserts.{file_is}
 use Rattle.run_writing.proofs.run_inserts.put_run.Goals as goal
 
 pub returns-clause-fits : goal.returns-clause-fits

@@ -3,13 +3,13 @@ use Rattle.std.specs.Bool.{⊤}
 use Rattle.std.proofs.lemmas.List.{take_more}
 use Rattle.plain_tables.specs.Changes.{with_calls}
 use Rattle.prof_books.specs.Files.{call_rows_from}
-use Rattle.run_writing.specs.FromRows.{call_of_call, part_line, cost_lines, row_lines}
+use Rattle.run_lines.specs.FromRows.{call_of_call, part_line, cost_lines, row_lines}
 use Rattle.run_writing.specs.LineInserts.{more_calls}
 use Rattle.run_writing.specs.Queues.{Queues}
 use Rattle.store_schema.specs.Lines.{call_row}
 use Rattle.store_schema.proofs.Within.{then_refused}
 use Rattle.run_writing.proofs.Queueing.{queues_then, queues_err}
-use Rattle.run_writing.proofs.RowLines.{parts_more}
+use Rattle.run_lines.proofs.RowLines.{parts_more}
 use Rattle.run_writing.proofs.row_lines.CallEdgeU32RefSliceU128BecomesRowsCallRow.queue_lines.Goals as goal
 
 pub costs-preserved : goal.costs-preserved

@@ -1,5 +1,5 @@
 use Rattle.std.proofs.Common.{[], ◌∷◌, refl}
-use Rattle.run_writing.specs.FromRows.{line_of_stack}
+use Rattle.run_lines.specs.FromRows.{line_of_stack}
 use Rattle.run_writing.proofs.row_lines.StackCountRefSliceU8BecomesRowsStackRow.queue_lines.Goals as goal
 
 pub returns : goal.returns

@@ -1,0 +1,6 @@
+pub mod Finding
+pub mod Numbers
+pub mod Results
+pub mod Runs
+pub mod Showing
+pub mod Stepping

@@ -1,0 +1,46 @@
+-- A run that is new, and one that was added.
+use Rattle.std.proofs.Common.{◌≡◌, ◌≢◌, ℕ, suc, ◌<◌, ◌+◌, List, [], ◌∷◌, ◌++◌, Bool, true, false, ◌||◌, ◌==◌, bytes_eq, refl, sym, ap, ◌∙◌, inl, inr, arith}
+use Rattle.std.specs.List.{AllByRecursion, list_any}
+use Rattle.std.proofs.lemmas.Bool.{true≢false}
+use Rattle.std.proofs.lemmas.Bool.Decides.{nat_tests}
+use Rattle.std.proofs.lemmas.Slice.Eq.{bytes_eq-Decides}
+use Rattle.plain_tables.specs.Changes.{has_run}
+use Rattle.plain_tables.specs.Lists.{Has}
+use Rattle.plain_tables.specs.Sound.{AreOfRuns}
+use Rattle.plain_tables.specs.Tables.{Tables, RunRow}
+use Rattle.plain_tables.proofs.Lists.{all_has, some_has}
+
+not_any : {X : Type 0} (p : X → Bool) (xs : List X) → (list_any p xs ≡ true → ⊥) → list_any p xs ≡ false
+not_any p xs never = step (list_any p xs) refl
+  where
+    step : (b : Bool) → list_any p xs ≡ b → list_any p xs ≡ false
+    step true e = absurd (never e)
+    step false e = e
+
+-- no run has the digest
+pub none_equal : (runs : List RunRow) (digest : List ℕ) → ((r : RunRow) → Has runs r → r.digest ≢ digest) → list_any (λ (r : RunRow). bytes_eq r.digest digest) runs ≡ false
+none_equal runs digest none = not_any (λ (r : RunRow). bytes_eq r.digest digest) runs (λ some.
+    let (r, there, same) = some_has (λ (it : RunRow). bytes_eq it.digest digest) runs some in none r there ((bytes_eq-Decides r.digest digest).0 same))
+
+-- a run above all is not held
+pub above_is_new : (t : Tables) (n : ℕ) → AllByRecursion (λ (r : RunRow). r.number < n) t.runs → has_run t n ≡ false
+above_is_new t n above = not_any (λ (r : RunRow). r.number == n) t.runs (λ some.
+    let (r, there, same) = some_has (λ (it : RunRow). it.number == n) t.runs some in
+    let low = all_has (λ (it : RunRow). it.number < n) t.runs r above there in
+    let no : ⊥ = grind (arith, nat_tests, low, same) in no)
+
+-- so no line is of it
+pub no_lines : {X : Type 0} (t : Tables) (n : ℕ) → has_run t n ≡ false → (run : X → ℕ) (lines : List X) → AreOfRuns t run lines → list_any (λ x. run x == n) lines ≡ false
+no_lines t n new run lines all = not_any (λ x. run x == n) lines (λ some.
+    let (x, there, same) = some_has (λ it. run it == n) lines some in
+    let is : run x ≡ n = grind (arith, nat_tests, same) in
+    true≢false (sym (all_has (λ it. has_run t (run it) ≡ true) lines x all there) ∙ ap (has_run t) is ∙ new))
+
+-- one that was added is held
+pub added_is_held : (runs : List RunRow) (r : RunRow) → list_any (λ (it : RunRow). it.number == r.number) (runs ++ r ∷ []) ≡ true
+added_is_held [] r = ap (λ b. b || false) (let same : (r.number == r.number) ≡ true = grind (arith, nat_tests) in same)
+added_is_held (first ∷ runs) r = step (first.number == r.number) (added_is_held runs r)
+  where
+    step : (b : Bool) → list_any (λ (it : RunRow). it.number == r.number) (runs ++ r ∷ []) ≡ true → (b || list_any (λ (it : RunRow). it.number == r.number) (runs ++ r ∷ [])) ≡ true
+    step true more = refl
+    step false more = more

@@ -1,0 +1,60 @@
+use Rattle.std.proofs.Common.{◌≡◌, refl, [], ◌∷◌, ◌++◌, ◌+◌, ◌<◌, ◌≤◌, take, length, not, if◌then◌else◌, sym, ap, ap₂, subst, ◌∙◌, rules, arith}
+use Rattle.std.proofs.lemmas.List.{take_more}
+use Rattle.std.proofs.Math.Seq.{take-length}
+use Rattle.std.proofs.lemmas.Option.{get_or_from_slice_get}
+use Rattle.sqlite_pool.specs.StoredLaws.{Keeps-trans}
+use Rattle.plain_tables.specs.Files.{all_named, numbers_in}
+use Rattle.plain_tables.specs.Tables.{Tables}
+use Rattle.plain_tables.proofs.Numbering.{one_named, numbers_more}
+use Rattle.page_imports.specs.Needs.{IsNextName}
+use Rattle.page_imports.specs.Steps.{ShowsTables}
+use Rattle.page_imports.proofs.Stepping.{shows_after}
+use Rattle.page_imports.proofs.names.number_names.Goals as goal
+
+pub names-init : goal.names-init
+names-init g c = record {
+  usable = c.in_ok-next.ensures.usable;
+  keeps = c.next_name.ensures.reads.keeps;
+  made = λ clean wanted known was t shows are. (
+    shows_after c.args.file.now c.next_name.new.file c.next_name.ensures.reads clean c.in_ok-next.ensures.usable shows,
+    c.new-numbers.ensures.items,
+    c.in_ok-next.ensures.told clean wanted known was t shows are,
+  );
+}
+
+pub names-preserved : goal.names-preserved
+names-preserved g c = record {
+  usable = c.in_ok-number.ensures.usable;
+  keeps = Keeps-trans _ _ _ c.names.invariant.keeps c.number_name.ensures.keeps;
+  made = λ clean wanted known was t shows are.
+      let names = c.args.names.now in
+      let at = c.names.at in
+      let name = c.name.result.now in
+      let new = c.number_name.new.file in
+      let before = c.names.invariant.made (c.number_name.ensures.keeps.stays.clean clean) wanted known was t shows are in
+      let one = c.in_ok-number.ensures.done clean wanted known was (all_named (take at names) t) before.0 are before.2 in
+      let within : at < length names = search rules in
+      let more : take (at + 1) names ≡ take at names ++ name ∷ [] = take_more names at name within ∙ ap (λ n. take at names ++ n ∷ []) (get_or_from_slice_get names at name name c.name.ensures) in
+      let known_now = sym (ap (λ l. all_named l t) more ∙ one_named t (take at names) name) in
+      let pushed = c.push.ensures.items ∙ ap (λ b. if b then c.names.numbers.items ++ c.in_ok-number.number ∷ [] else c.names.numbers.items) (c.is_err.ensures.negation ∙ ap not c.if-is_err.false) in (
+        subst (λ u. ShowsTables wanted known was u new) known_now one.0,
+        pushed ∙ ap₂ (λ l n. l ++ n ∷ []) before.1 one.1.0 ∙ sym (ap (λ l. numbers_in (all_named l t) l) more ∙ numbers_more t (take at names) name),
+        subst (IsNextName c.number_name.new.next) known_now one.1.1,
+      );
+}
+
+pub returns-in_err-number-clause-keeps : goal.returns-in_err-number-clause-keeps
+returns-in_err-number-clause-keeps g c = Keeps-trans _ _ _ c.names.invariant.keeps c.number_name.ensures.keeps
+
+pub returns-then-is_err-clause-keeps : goal.returns-then-is_err-clause-keeps
+returns-then-is_err-clause-keeps g c = Keeps-trans _ _ _ c.names.invariant.keeps c.number_name.ensures.keeps
+
+pub returns-clause-done : goal.returns-clause-done
+returns-clause-done g c clean = λ wanted known was t shows are needs.
+    let names = c.args.names.now in
+    let done = c.names.invariant.made clean wanted known was t shows are in
+    let end : c.names.at ≡ length names = search rules in
+    let all : take c.names.at names ≡ names = ap (λ n. take n names) end ∙ take-length names in (
+      subst (λ l. ShowsTables wanted known was (all_named l t) c.names.file) all done.0,
+      subst (λ l. c.names.numbers.items ≡ numbers_in (all_named l t) l) all done.1,
+    )

@@ -1,0 +1,173 @@
+// What a run says of itself: the next number, its own row, and the lines of its head.
+ghost use Rattle.std.specs.Prelude.{map, OnOk};
+ghost use Rattle.sqlite_pool.specs.Pool as pools;
+ghost use Rattle.sqlite_pool.specs.Stored.{Keeps};
+ghost use Rattle.page_files.specs.Files.{IsUsable};
+ghost use Rattle.plain_tables.specs.Changes.{with_coefs, with_derived, with_events, with_next, with_run};
+ghost use Rattle.store_schema.specs.Lines.{coef_row, derived_row, event_row, run_row};
+ghost use Rattle.store_schema.specs.Steps.{IsAbove};
+ghost use Rattle.run_lines.specs.Runs.{with_head_of};
+ghost use Rattle.page_imports.specs.Needs.{CanAdd, CanBegin, CanFill};
+ghost use Rattle.page_imports.specs.Steps.{Makes};
+
+use crate::columns::{meta_columns, run_columns};
+use crate::failures::error_of_row;
+use line_fills::fill;
+use page_files::PageFile;
+use page_places::StoreRoots;
+use plain_tables::StoreError;
+use row_writes::{IndexPlace, Place, insert, replace};
+use sqlite_disk::Disk;
+use std::alloc::Global;
+use store_schema::{CoefRow, DerivedRow, EventRow, HeadRows, RunRow};
+
+/// Sets the number of the next run.
+fn put_next<D: Disk>(
+    file: &mut PageFile<D>,
+    alloc: Global,
+    roots: &StoreRoots,
+    next: u32,
+) -> Result<(), StoreError>
+    ensures done { Makes file.old file.new roots.now (IsAbove next) (with_next next) result }
+    ensures usable { OnOk result (IsUsable file.new) }
+    ensures keeps { Keeps (pools.state file.old.pool) (pools.state file.new.pool) }
+{
+    let columns = meta_columns(alloc, next)?;
+    let place = Place {
+        root: roots.meta,
+        indexes: &[],
+    };
+    match replace(file, alloc, &place, 1, &columns) {
+        Ok(()) => Ok(()),
+        Err(error) => Err(error_of_row(error)),
+    }
+}
+
+/// Puts the row of a run behind the others.
+fn put_run_row<D: Disk>(
+    file: &mut PageFile<D>,
+    alloc: Global,
+    roots: &StoreRoots,
+    run: &RunRow<'_>,
+) -> Result<(), StoreError>
+    ensures done { Makes file.old file.new roots.now (CanAdd run.now.number run.now.digest.now) (with_run (run_row run.now)) result }
+    ensures usable { OnOk result (IsUsable file.new) }
+    ensures keeps { Keeps (pools.state file.old.pool) (pools.state file.new.pool) }
+{
+    let columns = run_columns(alloc, run)?;
+    let keys = [IndexPlace {
+        root: roots.run_digests,
+        columns: &[3],
+    }];
+    let place = Place {
+        root: roots.runs,
+        indexes: &keys,
+    };
+    match insert(file, alloc, &place, i64::from(run.number), &columns) {
+        Ok(()) => Ok(()),
+        Err(error) => Err(error_of_row(error)),
+    }
+}
+
+/// Puts the lines of a run's events behind the others.
+fn put_events<D: Disk>(
+    file: &mut PageFile<D>,
+    alloc: Global,
+    roots: &StoreRoots,
+    lines: &[EventRow<'_>],
+) -> Result<(), StoreError>
+    ensures done { (run : _) → Makes file.old file.new roots.now (CanFill (λ t. t.events) (λ line. line.run) run (map event_row lines.now))
+        (with_events (map event_row lines.now)) result }
+    ensures usable { OnOk result (IsUsable file.new) }
+    ensures keeps { Keeps (pools.state file.old.pool) (pools.state file.new.pool) }
+{
+    let keys = [
+        IndexPlace {
+            root: roots.event_places,
+            columns: &[1, 2],
+        },
+        IndexPlace {
+            root: roots.event_names,
+            columns: &[1, 3],
+        },
+    ];
+    let place = Place {
+        root: roots.events,
+        indexes: &keys,
+    };
+    fill(file, alloc, &place, lines)
+}
+
+/// Puts the lines of a run's derived events behind the others.
+fn put_derived<D: Disk>(
+    file: &mut PageFile<D>,
+    alloc: Global,
+    roots: &StoreRoots,
+    lines: &[DerivedRow<'_>],
+) -> Result<(), StoreError>
+    ensures done { (run : _) → Makes file.old file.new roots.now (CanFill (λ t. t.derived) (λ line. line.run) run (map derived_row lines.now))
+        (with_derived (map derived_row lines.now)) result }
+    ensures usable { OnOk result (IsUsable file.new) }
+    ensures keeps { Keeps (pools.state file.old.pool) (pools.state file.new.pool) }
+{
+    let keys = [
+        IndexPlace {
+            root: roots.derived_places,
+            columns: &[1, 2],
+        },
+        IndexPlace {
+            root: roots.derived_names,
+            columns: &[1, 3],
+        },
+    ];
+    let place = Place {
+        root: roots.derived,
+        indexes: &keys,
+    };
+    fill(file, alloc, &place, lines)
+}
+
+/// Puts the lines of a run's coefficients behind the others.
+fn put_coefs<D: Disk>(
+    file: &mut PageFile<D>,
+    alloc: Global,
+    roots: &StoreRoots,
+    lines: &[CoefRow],
+) -> Result<(), StoreError>
+    ensures done { (run : _) → Makes file.old file.new roots.now (CanFill (λ t. t.coefs) (λ line. line.run) run (map coef_row lines.now))
+        (with_coefs (map coef_row lines.now)) result }
+    ensures usable { OnOk result (IsUsable file.new) }
+    ensures keeps { Keeps (pools.state file.old.pool) (pools.state file.new.pool) }
+{
+    let keys = [IndexPlace {
+        root: roots.coef_keys,
+        columns: &[1, 2, 3],
+    }];
+    let place = Place {
+        root: roots.coefs,
+        indexes: &keys,
+    };
+    fill(file, alloc, &place, lines)
+}
+
+/// Puts what a new run says of itself behind the others, and raises the next number above its own.
+pub(crate) fn put_head<D: Disk>(
+    file: &mut PageFile<D>,
+    alloc: Global,
+    roots: &StoreRoots,
+    run: &RunRow<'_>,
+    head: &HeadRows<'_>,
+) -> Result<(), StoreError>
+    ensures done { Makes file.old file.new roots.now (CanBegin run.now head.now) (with_head_of run.now head.now) result }
+    ensures usable { OnOk result (IsUsable file.new) }
+    ensures keeps { Keeps (pools.state file.old.pool) (pools.state file.new.pool) }
+{
+    let Some(next) = run.number.checked_add(1) else {
+        return Err(StoreError::Store);
+    };
+    put_next(file, alloc, roots, next)?;
+    put_run_row(file, alloc, roots, run)?;
+    put_events(file, alloc, roots, &head.events)?;
+    put_derived(file, alloc, roots, &head.derived)?;
+    put_coefs(file, alloc, roots, &head.coefs)
+}

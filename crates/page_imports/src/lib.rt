@@ -1,0 +1,19 @@
+//! A file is put into a store as a run, by the pages of the store's file: no SQL. A call stands within a transaction of
+//! `page_files` that it begins; the caller commits or undoes it.
+#![tactic(auto)]
+
+// The columns of rows.
+mod columns;
+// What a row that was not written is for a caller.
+mod failures;
+// What a run says of itself: the next number, its own row, and the lines of its head.
+mod heads;
+// A file is put in as a run (specs/Imports.antt).
+mod imports;
+// The names of a file, by their numbers in the store (specs/Names.antt).
+mod names;
+// The rows of a file.
+mod rows;
+
+pub use imports::put_run;
+

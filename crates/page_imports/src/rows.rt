@@ -1,0 +1,114 @@
+// The rows of a file.
+ghost use Rattle.std.specs.Prelude.{OnOk};
+ghost use Rattle.sqlite_pool.specs.Pool as pools;
+ghost use Rattle.sqlite_pool.specs.Stored.{Keeps};
+ghost use Rattle.cost_rows.specs.Rows.{content_of};
+ghost use Rattle.page_files.specs.Files.{IsUsable};
+ghost use Rattle.plain_tables.specs.Changes.{with_calls, with_cells, with_stacks};
+ghost use Rattle.prof_books.specs.Files.{call_rows, cell_rows, stack_rows, with_rows};
+ghost use Rattle.page_imports.specs.Needs.{HasNoCall, HasNoCell, HasNoRow, HasNoStack};
+ghost use Rattle.page_imports.specs.Steps.{Makes};
+
+use crate::names::number_names;
+use cost_rows::FileRows;
+use line_fills::fill;
+use page_files::PageFile;
+use page_places::StoreRoots;
+use plain_tables::StoreError;
+use row_writes::{IndexPlace, Place};
+use run_lines::{call_lines, cell_lines, stack_lines};
+use sqlite_disk::Disk;
+use std::alloc::Global;
+
+/// Puts the cells of a file behind the others, under the tables' numbers of its names.
+fn put_cells<D: Disk>(
+    file: &mut PageFile<D>,
+    alloc: Global,
+    roots: &StoreRoots,
+    run: u32,
+    numbers: &[u32],
+    rows: &FileRows,
+) -> Result<(), StoreError>
+    ensures done { Makes file.old file.new roots.now (HasNoCell run) (with_cells (cell_rows run numbers.now (content_of rows.now).cells)) result }
+    ensures usable { OnOk result (IsUsable file.new) }
+    ensures keeps { Keeps (pools.state file.old.pool) (pools.state file.new.pool) }
+{
+    let lines = cell_lines(alloc, run, numbers, rows)?;
+    let keys = [IndexPlace {
+        root: roots.cell_keys,
+        columns: &[1, 5, 6, 4, 3, 2, 7],
+    }];
+    let place = Place {
+        root: roots.cells,
+        indexes: &keys,
+    };
+    fill(file, alloc, &place, &lines)
+}
+
+/// Puts the calls of a file behind the others, as `put_cells`.
+fn put_calls<D: Disk>(
+    file: &mut PageFile<D>,
+    alloc: Global,
+    roots: &StoreRoots,
+    run: u32,
+    numbers: &[u32],
+    rows: &FileRows,
+) -> Result<(), StoreError>
+    ensures done { Makes file.old file.new roots.now (HasNoCall run) (with_calls (call_rows run numbers.now (content_of rows.now).calls)) result }
+    ensures usable { OnOk result (IsUsable file.new) }
+    ensures keeps { Keeps (pools.state file.old.pool) (pools.state file.new.pool) }
+{
+    let lines = call_lines(alloc, run, numbers, rows)?;
+    let keys = [IndexPlace {
+        root: roots.call_keys,
+        columns: &[1, 2, 3, 4, 5, 6, 7, 8, 9],
+    }];
+    let place = Place {
+        root: roots.calls,
+        indexes: &keys,
+    };
+    fill(file, alloc, &place, &lines)
+}
+
+/// Puts the stacks of a file behind the others.
+fn put_stacks<D: Disk>(
+    file: &mut PageFile<D>,
+    alloc: Global,
+    roots: &StoreRoots,
+    run: u32,
+    rows: &FileRows,
+) -> Result<(), StoreError>
+    ensures done { Makes file.old file.new roots.now (HasNoStack run) (with_stacks (stack_rows run (content_of rows.now).stacks)) result }
+    ensures usable { OnOk result (IsUsable file.new) }
+    ensures keeps { Keeps (pools.state file.old.pool) (pools.state file.new.pool) }
+{
+    let lines = stack_lines(alloc, run, rows)?;
+    let keys = [IndexPlace {
+        root: roots.stack_frames,
+        columns: &[1, 2],
+    }];
+    let place = Place {
+        root: roots.stacks,
+        indexes: &keys,
+    };
+    fill(file, alloc, &place, &lines)
+}
+
+/// Puts the names of a file, where they are not held, and its rows behind the others. It holds the lines of one table
+/// at a time.
+pub(crate) fn put_rows<D: Disk>(
+    file: &mut PageFile<D>,
+    alloc: Global,
+    roots: &StoreRoots,
+    run: u32,
+    rows: &FileRows,
+) -> Result<(), StoreError>
+    ensures done { Makes file.old file.new roots.now (HasNoRow run) (with_rows run (content_of rows.now)) result }
+    ensures usable { OnOk result (IsUsable file.new) }
+    ensures keeps { Keeps (pools.state file.old.pool) (pools.state file.new.pool) }
+{
+    let numbers = number_names(file, alloc, roots, rows.names())?;
+    put_cells(file, alloc, roots, run, &numbers, rows)?;
+    put_calls(file, alloc, roots, run, &numbers, rows)?;
+    put_stacks(file, alloc, roots, run, rows)
+}

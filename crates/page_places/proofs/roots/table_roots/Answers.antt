@@ -1,0 +1,28 @@
+use Rattle.std.proofs.Common.{◌≡◌, refl, ◌∙◌, length-set, arith, subst}
+use Rattle.store_schema.specs.Schema.{schema_two}
+use Rattle.page_files.proofs.Reading.{OnlyReads-refl, OnlyReads-trans}
+use Rattle.page_places.specs.Roots.{AreFound, table_name, table_tree}
+use Rattle.page_places.proofs.Rooting.{name_there, one_found, store_after}
+use Rattle.page_places.proofs.roots.table_roots.Goals as goal
+
+pub tables-init : goal.tables-init
+tables-init g c = record { sized = refl; reads = OnlyReads-refl _; found = λ names faithful t db known is. record { is = λ k low. absurd (omega arith) } }
+
+pub returns-in_err-roots-clause-reads : goal.returns-in_err-roots-clause-reads
+returns-in_err-roots-clause-reads g c = OnlyReads-trans _ _ _ c.tables.invariant.reads c.table_root.ensures.reads
+
+pub tables-preserved : goal.tables-preserved
+tables-preserved g c = record {
+  sized = length-set c.tables.roots c.tables.at _ ∙ c.tables.invariant.sized;
+  reads = OnlyReads-trans _ _ _ c.tables.invariant.reads c.table_root.ensures.reads;
+  found = λ names faithful t db known is.
+      let reads = c.table_root.ensures.reads in
+      let before = c.tables.invariant.found names (reads.keeps.stays.clean faithful) t db known is in
+      one_found schema_two.tables table_tree known c.tables.roots c.tables.at _ (omega arith) before
+      (λ x there. c.in_ok-roots.ensures.found faithful t db known (store_after _ _ t db known c.tables.invariant.reads is) c.tables.at x there (name_there schema_two.tables table_name _ _ _ names x there));
+}
+
+pub returns-clause-found : goal.returns-clause-found
+returns-clause-found g c names faithful = λ t db known is.
+    let all : c.tables.at ≡ 11 = omega arith in
+    subst (AreFound schema_two.tables table_tree known c.tables.roots) all (c.tables.invariant.found names faithful t db known is)

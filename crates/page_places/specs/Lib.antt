@@ -1,0 +1,3 @@
+pub mod Failures
+pub mod Placed
+pub mod Roots

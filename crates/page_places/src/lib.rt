@@ -1,0 +1,11 @@
+//! Where the tables and indexes of a store stand in the pages of its file, found by their names, and what a failure
+//! of the pages is for a caller of the store.
+#![tactic(auto)]
+
+// What a failure of the pages is for a caller (specs/Failures.antt).
+mod failures;
+// The root pages of tables and indexes (specs/Roots.antt).
+mod roots;
+
+pub use failures::{error_of, error_of_walk};
+pub use roots::{StoreRoots, find_roots, index_root, table_root};

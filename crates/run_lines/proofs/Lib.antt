@@ -1,0 +1,2 @@
+pub mod FileInserts
+pub mod RowLines

@@ -1,0 +1,92 @@
+-- The lines that a file's rows become, row by row.
+use Rattle.std.proofs.Common.{◌≡◌, ℕ, suc, ◌+◌, List, [], ◌∷◌, ◌++◌, map, flat_map, length, nat_lt, if◌then◌else◌, Bool, true, false, Option, refl, sym, ap, ap₂, ◌∙◌, add-zero, arith}
+use Rattle.std.specs.Borrow.{Bor}
+use Rattle.std.specs.Iterator.{Drains}
+use Rattle.std.proofs.lemmas.Iterator.{YieldsList, items_from_drains}
+use Rattle.cost_rows.specs.declared.places.CellPlace.{CellPlace}
+use Rattle.cost_rows.specs.declared.places.Call.{Call}
+use Rattle.cost_rows.specs.declared.calls.Calls.{Calls}
+use Rattle.cost_rows.specs.declared.rows.Cell.{Cell}
+use Rattle.cost_rows.specs.declared.rows.CallEdge.{CallEdge}
+use Rattle.cost_rows.specs.declared.rows.StackCount.{StackCount}
+use Rattle.cost_rows.specs.ByNumber.{numbered_at, numbered_cells, numbered_calls, plain_numbered}
+use Rattle.cost_rows.specs.Plain.{plain_stack}
+use Rattle.cost_rows.specs.Walks.{counted_stacks}
+use Rattle.std.proofs.lemmas.List.{map-append}
+use Rattle.plain_tables.specs.Tables.{CallRow, StackRow}
+use Rattle.prof_books.specs.Files.{cell_row_of, cell_rows_at, cell_rows, call_row_of, call_rows_from, call_rows_at, call_rows, stack_rows}
+use Rattle.run_lines.specs.FromRows.{line_of_cell, line_of_stack, row_lines}
+
+cells_at : (run : ℕ) (numbers : List ℕ) (p : CellPlace) (event : ℕ) (costs : List ℕ) → map (line_of_cell run numbers) (numbered_at p event costs) ≡ cell_rows_at run numbers p event costs
+cells_at run numbers p event [] = refl
+cells_at run numbers p event (cost ∷ costs) = go (nat_lt 0 cost) (cells_at run numbers p (suc event) costs)
+  where
+    rest : List (Cell ℕ)
+    rest = numbered_at p (suc event) costs
+
+    go : (b : Bool) → map (line_of_cell run numbers) rest ≡ cell_rows_at run numbers p (suc event) costs
+        → map (line_of_cell run numbers) (if b then record { object = p.place.object; file = p.place.file; function = p.place.function; line = p.place.line; thread = p.thread; event = event; cost = cost } ∷ rest else rest)
+        ≡ (if b then cell_row_of run numbers p event cost ∷ cell_rows_at run numbers p (suc event) costs else cell_rows_at run numbers p (suc event) costs)
+    go true more = ap (λ l. cell_row_of run numbers p event cost ∷ l) more
+    go false more = more
+
+pub cells_are : (run : ℕ) (numbers : List ℕ) (cells : List (CellPlace × List ℕ)) → map (line_of_cell run numbers) (numbered_cells cells) ≡ cell_rows run numbers cells
+cells_are run numbers [] = refl
+cells_are run numbers (e ∷ cells) = map-append (line_of_cell run numbers) (numbered_at e.0 0 e.1) (numbered_cells cells) ∙ ap₂ ◌++◌ (cells_at run numbers e.0 0 e.1) (cells_are run numbers cells)
+
+-- the lines of a row of calls
+abbrev pub lines_of_call : ℕ → List ℕ → CallEdge ℕ (List ℕ) → List CallRow
+lines_of_call run numbers r =
+    call_rows_at run numbers
+    (record { place = record { object = r.object; file = r.file; function = r.function; line = r.line }; object = r.called_object; file = r.called_file; function = r.called_function })
+    (record { count = r.count; costs = r.costs })
+
+abbrev pub lines_of_calls : ℕ → List ℕ → List (CallEdge ℕ (List ℕ)) → List CallRow
+lines_of_calls run numbers [] = []
+lines_of_calls run numbers (r ∷ rows) = lines_of_call run numbers r ++ lines_of_calls run numbers rows
+
+pub calls_are : (run : ℕ) (numbers : List ℕ) (calls : List (Call × Calls)) → lines_of_calls run numbers (numbered_calls calls) ≡ call_rows run numbers calls
+calls_are run numbers [] = refl
+calls_are run numbers (e ∷ calls) = ap (λ l. call_rows_at run numbers e.0 e.1 ++ l) (calls_are run numbers calls)
+
+pub rows_of_calls : (run : ℕ) (numbers : List ℕ) (rows : List (CallEdge ℕ (Bor (List ℕ)))) → flat_map (row_lines run numbers) rows ≡ lines_of_calls run numbers (map plain_numbered rows)
+rows_of_calls run numbers [] = refl
+rows_of_calls run numbers (r ∷ rows) = ap (λ l. row_lines run numbers r ++ l) (rows_of_calls run numbers rows)
+
+-- a part more
+pub parts_more : (run : ℕ) (numbers : List ℕ) (c : Call) (part : ℕ) (costs : List ℕ) (cost : ℕ)
+    → call_rows_from run numbers c part (costs ++ cost ∷ []) ≡ call_rows_from run numbers c part costs ++ (if nat_lt 0 cost then call_row_of run numbers c (part + length costs) cost ∷ [] else [])
+parts_more run numbers c part [] cost = ap (λ n. if nat_lt 0 cost then call_row_of run numbers c n cost ∷ [] else []) (sym (add-zero part))
+parts_more run numbers c part (first ∷ costs) cost = go (nat_lt 0 first) (parts_more run numbers c (suc part) costs cost ∙ ap (λ n. call_rows_from run numbers c (suc part) costs ++ (if nat_lt 0 cost then call_row_of run numbers c n cost ∷ [] else [])) here)
+  where
+    here : suc part + length costs ≡ part + suc (length costs)
+    here = omega arith
+
+    go : (b : Bool)
+        → call_rows_from run numbers c (suc part) (costs ++ cost ∷ []) ≡ call_rows_from run numbers c (suc part) costs ++ (if nat_lt 0 cost then call_row_of run numbers c (part + suc (length costs)) cost ∷ [] else [])
+        → (if b then call_row_of run numbers c part first ∷ call_rows_from run numbers c (suc part) (costs ++ cost ∷ []) else call_rows_from run numbers c (suc part) (costs ++ cost ∷ []))
+        ≡ (if b then call_row_of run numbers c part first ∷ call_rows_from run numbers c (suc part) costs else call_rows_from run numbers c (suc part) costs)
+        ++ (if nat_lt 0 cost then call_row_of run numbers c (part + suc (length costs)) cost ∷ [] else [])
+    go true more = ap (λ l. call_row_of run numbers c part first ∷ l) more
+    go false more = more
+
+abbrev pub plain_line_of_stack : ℕ → StackCount (List ℕ) → StackRow
+plain_line_of_stack run r = record { run = run; frames = r.stack; count = r.count }
+
+pub stacks_are : (run : ℕ) (stacks : List (List ℕ × ℕ)) → map (plain_line_of_stack run) (counted_stacks stacks) ≡ stack_rows run stacks
+stacks_are run [] = refl
+stacks_are run (e ∷ stacks) = go (nat_lt 0 e.1) (stacks_are run stacks)
+  where
+    go : (b : Bool) → map (plain_line_of_stack run) (counted_stacks stacks) ≡ stack_rows run stacks
+        → map (plain_line_of_stack run) (if b then record { stack = e.0; count = e.1 } ∷ counted_stacks stacks else counted_stacks stacks)
+        ≡ (if b then record { run = run; frames = e.0; count = e.1 } ∷ stack_rows run stacks else stack_rows run stacks)
+    go true more = ap (λ l. record { run = run; frames = e.0; count = e.1 } ∷ l) more
+    go false more = more
+
+pub rows_of_stacks : (run : ℕ) (rows : List (StackCount (Bor (List ℕ)))) → flat_map (λ r. line_of_stack run r ∷ []) rows ≡ map (plain_line_of_stack run) (map plain_stack rows)
+rows_of_stacks run [] = refl
+rows_of_stacks run (r ∷ rows) = ap (λ l. line_of_stack run r ∷ l) (rows_of_stacks run rows)
+
+-- rows that were taken one after another to the end are all of them
+pub rows_drained : {I R B : Type 0} (steps : I → Option R → I → Type 0) (view : R → B) (it : I) (all : List B) (rows : List R) → Drains steps it rows → YieldsList steps view it all → map view rows ≡ all
+rows_drained steps view it all rows taken gives = items_from_drains rows (taken.1.0, taken.1.1, λ _. (taken.0, taken.1.2)) gives

@@ -1,0 +1,8 @@
+use Rattle.std.proofs.Common.{◌≡◌, ◌++◌, map, drop}
+use Rattle.prof_books.specs.Heads.{coef_rows_at}
+use Rattle.store_schema.specs.Lines.{coef_row}
+use Rattle.run_lines.proofs.head_lines.push_coefs.Given as goal
+
+-- the lines so far, and those of the events that are left, are all of them
+abbrev pub invariant-events : goal.invariant-events
+invariant-events l = map coef_row l.lines.items ++ coef_rows_at l.run l.fn.place l.event (drop l.event l.coefficients) ≡ map coef_row l.fn.lines.items ++ coef_rows_at l.run l.fn.place 0 l.coefficients

@@ -1,0 +1,8 @@
+use Rattle.std.proofs.Common.{◌≡◌, map}
+use Rattle.run_lines.specs.FromRows.{line_of_stack}
+use Rattle.store_schema.specs.Lines.{stack_row}
+use Rattle.run_lines.proofs.row_lists.stack_lines.Given as goal
+
+-- the lines of the rows so far
+abbrev pub invariant-rows : goal.invariant-rows
+invariant-rows l = map stack_row l.lines.items ≡ map (line_of_stack l.run) l.yielded

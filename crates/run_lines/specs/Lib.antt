@@ -1,0 +1,3 @@
+pub mod FromRows
+pub mod Runs
+pub mod Sums

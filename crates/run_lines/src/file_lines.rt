@@ -1,0 +1,69 @@
+// The lines of the tables that the rows of a file become.
+ghost use Rattle.std.specs.Prelude.{◌≡◌, IfSome, slice_index_or};
+ghost use Rattle.prof_books.specs.Files.{cell_row_of, call_row_of};
+ghost use Rattle.run_lines.specs.FromRows.{place_of_cell, call_of_call, line_of_stack};
+ghost use Rattle.store_schema.specs.Lines.{cell_row, call_row, stack_row};
+
+use cost_rows::{CallEdge, Cell, StackCount};
+use store_schema::{CallRow, CellRow, ColumnInt, StackRow, column_int_of, small_of};
+
+/// The table's number of a name that the file has under a number of its own.
+fn number_of(numbers: &[u32], name: u32) -> Option<u32>
+    ensures { IfSome result (λ n. n ≡ slice_index_or numbers.now name 0) }
+{
+    match numbers.get(name as usize) {
+        Some(number) => Some(*number),
+        None => None,
+    }
+}
+
+/// The line of a cell, unless a number in it is too great for its column.
+pub fn cell_of(run: u32, numbers: &[u32], row: &Cell<u32>) -> Option<CellRow>
+    ensures { IfSome result (λ c. cell_row c ≡ cell_row_of run numbers.now (place_of_cell row.now) row.now.event row.now.cost) }
+{
+    Some(CellRow {
+        run,
+        object: number_of(numbers, row.object)?,
+        file: number_of(numbers, row.file)?,
+        function: number_of(numbers, row.function)?,
+        line: ColumnInt::of(row.line)?,
+        thread: ColumnInt::of(row.thread)?,
+        event: small_of(row.event)?,
+        cost: column_int_of(row.cost)?,
+    })
+}
+
+/// The line of a part of calls, unless a number in it is too great for its column.
+pub fn call_of(
+    run: u32,
+    numbers: &[u32],
+    row: &CallEdge<u32, &[u128]>,
+    part: usize,
+    sum: u128,
+) -> Option<CallRow>
+    ensures { IfSome result (λ a. call_row a ≡ call_row_of run numbers.now (call_of_call row.now) part sum) }
+{
+    Some(CallRow {
+        run,
+        object: number_of(numbers, row.object)?,
+        file: number_of(numbers, row.file)?,
+        function: number_of(numbers, row.function)?,
+        line: ColumnInt::of(row.line)?,
+        called_object: number_of(numbers, row.called_object)?,
+        called_file: number_of(numbers, row.called_file)?,
+        called_function: number_of(numbers, row.called_function)?,
+        part: small_of(part)?,
+        sum: column_int_of(sum)?,
+    })
+}
+
+/// The line of a stack, unless its count is too great for its column.
+pub fn stack_of<'a>(run: u32, row: &StackCount<&'a [u8]>) -> Option<StackRow<'a>>
+    ensures { IfSome result (λ s. stack_row s ≡ line_of_stack run row.now) }
+{
+    Some(StackRow {
+        run,
+        frames: row.stack,
+        count: column_int_of(row.count)?,
+    })
+}

@@ -1,8 +1,0 @@
-use Rattle.std.proofs.Common.{◌≡◌, ◌++◌, map, drop}
-use Rattle.prof_books.specs.Heads.{coef_rows_from}
-use Rattle.store_schema.specs.Lines.{coef_row}
-use Rattle.run_writing.proofs.head_inserts.coef_rows.Given as goal
-
--- the lines so far, and those of the derived events that are left, are all of them
-abbrev pub invariant-derived : goal.invariant-derived
-invariant-derived l = map coef_row l.lines.items ++ coef_rows_from l.run l.at (drop l.at l.derived) ≡ coef_rows_from l.run 0 l.derived
