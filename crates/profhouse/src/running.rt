@@ -77,22 +77,23 @@ fn only_reads(work: &Work<'_>) -> bool {
     }
 }
 
-/// Does a job over the store at a path, in its pages. The job comes back where they are not plainly a store of this
-/// version. No guarantee: as `run_over`.
+/// Does a job over the store at a path, in its pages: one that only reads over the files as they are, if their log is
+/// not long. The job comes back where they are not plainly a store of this version. No guarantee: as `run_over`.
 fn work_in_pages_at<'a>(
     rt: &'a HostRuntime,
     db: &str,
     job: Job<'a>,
 ) -> Result<io::Result<u8>, Job<'a>> {
-    match job {
+    let job = match job {
         Job::Work(work) if only_reads(&work) => match pages_at(rt, db) {
-            Some(store) => Ok(work_in_pages(rt, io::writer(rt), store, work).0),
-            None => Err(Job::Work(work)),
+            Some(store) => return Ok(work_in_pages(rt, io::writer(rt), store, work).0),
+            None => Job::Work(work),
         },
-        job => match pages_to_change_at(rt, db) {
-            Some(store) => Ok(change_pages(rt, store, job)),
-            None => Err(job),
-        },
+        job => job,
+    };
+    match pages_to_change_at(rt, db) {
+        Some(store) => Ok(change_pages(rt, store, job)),
+        None => Err(job),
     }
 }
 
