@@ -1,5 +1,5 @@
 -- The number of a name, found in the index of names.
-use Rattle.std.proofs.Common.{◌≡◌, ◌≢◌, ◌⊎◌, ℕ, Bool, true, false, List, [], ◌∷◌, ◌++◌, map, filter, Option, Some, None, Ordering, Less, Equal, Greater, is_eq, is_lt, if◌then◌else◌, bytes_eq, refl, sym, ap, subst, ◌∙◌, inl, inr, arith}
+use Rattle.std.proofs.Common.{◌≡◌, ℕ, Bool, true, false, List, [], ◌∷◌, ◌++◌, map, filter, Option, Some, None, Ordering, Less, Equal, Greater, is_eq, is_lt, if◌then◌else◌, bytes_eq, refl, sym, ap, subst, ◌∙◌, inl, inr, arith}
 use Rattle.std.proofs.lemmas.Bool.{true≢false}
 use Rattle.std.proofs.lemmas.Map.Text.{is_eq-slice_cmp}
 use Rattle.std.proofs.lemmas.Slice.Eq.{bytes_eq-Decides}
@@ -10,7 +10,7 @@ use Rattle.sqlite_value.proofs.KeyLemmas.{tied_no_text}
 use Rattle.sqlite_value.proofs.OrderLemmas.{then-Equal, value_cmp-Blob}
 use Rattle.sqlite_trees.specs.Tree.{IsIndex, Trees}
 use Rattle.sqlite_rules.specs.Lists.{Has}
-use Rattle.sqlite_rules.proofs.ListLemmas.{has_right, has_left, some_has}
+use Rattle.sqlite_rules.proofs.ListLemmas.{some_has}
 use Rattle.sqlite_rules.proofs.ProbeLemmas.{has_mapped, mapped_has}
 use Rattle.sqlite_sql.specs.Catalog.{entry_of}
 use Rattle.sql_tables.proofs.Contents.{content_there}
@@ -25,7 +25,7 @@ use Rattle.store_schema.specs.Names.{number_if_held}
 use Rattle.store_schema.specs.Schema.{schema_two, name_at}
 use Rattle.store_schema.specs.Tables.{Holds, contents_of, name_columns, number}
 use Rattle.store_schema.proofs.Names.{line_is_held}
-use Rattle.page_imports.specs.Names.{EndsAt, IsFound}
+use Rattle.page_imports.specs.Names.{EndsAt}
 
 is_tied : (o : Ordering) → is_eq o ≡ true → o ≡ Equal
 is_tied Less tie = absurd (true≢false (sym tie))

@@ -1,5 +1,5 @@
 -- The numbers of names, as rowids.
-use Rattle.std.proofs.Common.{◌≡◌, ℕ, suc, Bool, true, false, ◌||◌, if◌then◌else◌, bytes_eq, pos, List, [], ◌∷◌, ◌++◌, map, ap, refl, subst, sym, ◌∙◌}
+use Rattle.std.proofs.Common.{◌≡◌, ℕ, suc, Bool, true, false, ◌||◌, if◌then◌else◌, bytes_eq, pos, List, [], ◌∷◌, ◌++◌, ap, refl, subst, ◌∙◌}
 use Rattle.std.specs.List.{list_any}
 use Rattle.std.proofs.lemmas.List.Sums.{fold-append}
 use Rattle.std.proofs.lemmas.Slice.Eq.{bytes_eq-Decides}
@@ -13,7 +13,7 @@ use Rattle.plain_tables.specs.Tables.{Tables, NameRow}
 use Rattle.sql_tables.proofs.Contents.{content_there}
 use Rattle.sql_tables.proofs.Rows.{below_next}
 use Rattle.store_schema.specs.Schema.{schema_two, name_at}
-use Rattle.store_schema.specs.Tables.{Holds, contents_of, name_columns}
+use Rattle.store_schema.specs.Tables.{Holds, contents_of}
 use Rattle.store_schema.proofs.Rows.{next_is}
 
 module _ (t : Tables) (now : Trees) (holds : Holds t now) where

@@ -16,4 +16,3 @@ mod names;
 mod rows;
 
 pub use imports::put_run;
-

@@ -1,15 +1,13 @@
-use Rattle.std.proofs.Common.{rules, ◌≡◌, ◌<◌, ◌^◌, None, map, ap, subst, sym, ◌∙◌}
+use Rattle.std.proofs.Common.{rules, ◌≡◌, ◌<◌, ◌^◌, None, subst, sym, ◌∙◌}
 use Rattle.std.specs.List.{AllByRecursion}
 use Rattle.cost_rows.specs.Rows.{content_of}
-use Rattle.cost_rows.specs.Totals.{count_total}
 use Rattle.sqlite_pool.specs.StoredLaws.{Keeps-trans}
 use Rattle.page_files.proofs.Reading.{rests_after}
 use Rattle.page_files.proofs.Steps.{begins}
 use Rattle.page_places.proofs.Rooting.{store_resting}
-use Rattle.plain_tables.specs.Tables.{Tables, EventRow, DerivedRow, CoefRow}
+use Rattle.plain_tables.specs.Tables.{EventRow, DerivedRow, CoefRow}
 use Rattle.prof_books.proofs.Filed.{head_of_run}
 use Rattle.run_lines.proofs.FileInserts.{file_is}
-use Rattle.run_lists.specs.Listed.{AreListed}
 use Rattle.run_stores.specs.Lookups.{IsRunOf}
 use Rattle.store_schema.specs.Tables.{Holds}
 use Rattle.page_imports.specs.Steps.{ShowsTables}

@@ -1,7 +1,6 @@
-use Rattle.std.proofs.Common.{◌≡◌, [], ◌∷◌, ◌++◌, ap, refl, subst, sym, ◌∙◌, inl, inr}
+use Rattle.std.proofs.Common.{[], ◌∷◌, ◌++◌, ap, refl, subst, sym, ◌∙◌, inl, inr}
 use Rattle.sqlite_value.specs.declared.value.Value.TheVariants.{Blob}
 use Rattle.sqlite_value.specs.Keys.{plain}
-use Rattle.store_schema.specs.Names.{number_if_held}
 use Rattle.page_files.proofs.Standing.{catalog_shown, entries_in_order, index_stands, stands_writing, tree_shown}
 use Rattle.page_places.proofs.Placing.{index_placed_at}
 use Rattle.page_rows.specs.Indexes.{from_entry}

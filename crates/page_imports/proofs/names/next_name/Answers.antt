@@ -1,5 +1,4 @@
-use Rattle.std.proofs.Common.{◌≡◌, rules, to_z-of_z, to_z, of_z, w64, nat_abs, pos, refl, ap, ◌∙◌}
-use Rattle.plain_tables.specs.Changes.{next_name}
+use Rattle.std.proofs.Common.{◌≡◌, rules, to_z-of_z, to_z, of_z, w64, nat_abs, refl, ap, ◌∙◌}
 use Rattle.store_schema.specs.Schema.{schema_two, name_at}
 use Rattle.page_imports.proofs.Numbers.{next_rowid_is}
 use Rattle.page_imports.proofs.Showing.{index_at, table_at}

@@ -1,6 +1,6 @@
-use Rattle.std.proofs.Common.{rules, arith, ℕ, suc, ◌≡◌, ◌+◌, ap, subst, sym, ◌∙◌}
+use Rattle.std.proofs.Common.{rules, suc, ◌≡◌, ◌+◌, ap, subst, sym, ◌∙◌}
 use Rattle.sqlite_pool.specs.StoredLaws.{Keeps-trans}
-use Rattle.plain_tables.specs.Changes.{named, next_name, with_new_name}
+use Rattle.plain_tables.specs.Changes.{next_name}
 use Rattle.plain_tables.specs.Files.{number_in}
 use Rattle.plain_tables.specs.Tables.{Tables}
 use Rattle.plain_tables.proofs.Numbering.{named_held, named_new}

@@ -1,10 +1,9 @@
-use Rattle.std.proofs.Common.{◌≡◌, refl, [], ◌∷◌, ◌++◌, ◌+◌, ◌<◌, ◌≤◌, take, length, not, if◌then◌else◌, sym, ap, ap₂, subst, ◌∙◌, rules, arith}
+use Rattle.std.proofs.Common.{◌≡◌, [], ◌∷◌, ◌++◌, ◌+◌, ◌<◌, take, length, not, if◌then◌else◌, sym, ap, ap₂, subst, ◌∙◌, rules}
 use Rattle.std.proofs.lemmas.List.{take_more}
 use Rattle.std.proofs.Math.Seq.{take-length}
 use Rattle.std.proofs.lemmas.Option.{get_or_from_slice_get}
 use Rattle.sqlite_pool.specs.StoredLaws.{Keeps-trans}
 use Rattle.plain_tables.specs.Files.{all_named, numbers_in}
-use Rattle.plain_tables.specs.Tables.{Tables}
 use Rattle.plain_tables.proofs.Numbering.{one_named, numbers_more}
 use Rattle.page_imports.specs.Needs.{IsNextName}
 use Rattle.page_imports.specs.Steps.{ShowsTables}

@@ -1,4 +1,4 @@
-use Rattle.std.proofs.Common.{◌≡◌, ℕ, List, OnOk, ap, ap₂, subst, sym, ◌∙◌}
+use Rattle.std.proofs.Common.{ℕ, List, OnOk, ap, ap₂, subst, sym, ◌∙◌}
 use Rattle.cost_rows.specs.Rows.{content_of}
 use Rattle.sqlite_pool.specs.StoredLaws.{Keeps-trans}
 use Rattle.plain_tables.specs.Changes.{with_calls, with_cells, with_stacks}
