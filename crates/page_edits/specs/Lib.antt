@@ -4,3 +4,5 @@ pub mod Leaves
 pub mod Rows
 pub mod Fills
 pub mod Places
+pub mod Removals
+pub mod Sought

@@ -17,6 +17,8 @@ mod leaves;
 mod probes;
 // The last row of a leaf.
 mod reads;
+// Many rows taken out of a tree.
+mod removals;
 // Rows that are to stand behind those of a tree.
 mod rows;
 // The pages' calls, said of the part that a tree has.
@@ -24,3 +26,4 @@ mod store;
 
 pub use appends::{append, append_entries};
 pub use edits::{delete, insert, put, remove};
+pub use removals::{delete_all, remove_under};
