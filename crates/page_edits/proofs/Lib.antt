@@ -1,6 +1,7 @@
 pub mod FilledLemmas
 pub mod NewCells
 pub mod Rising
+pub mod Thinning
 pub mod Placing
 pub mod Filling
 pub mod Ordered
