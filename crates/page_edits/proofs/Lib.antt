@@ -2,6 +2,8 @@ pub mod FilledLemmas
 pub mod NewCells
 pub mod Rising
 pub mod Thinning
+pub mod Losing
+pub mod Seeking
 pub mod Placing
 pub mod Filling
 pub mod Ordered

@@ -14,7 +14,6 @@ use sqlite_trees::store::Shape;
 use sqlite_value::keys::Order;
 use sqlite_value::row::Row;
 use std::alloc::Global;
-use std::cmp::Ordering;
 
 /// Takes the rows of the first of these rowids out, at least one. Says of how many.
 fn delete_some<P: Pages>(
@@ -72,11 +71,11 @@ fn find_under<P: Pages>(
     if !batch.next(store)? {
         return Ok(false);
     }
-    Ok(compare::with_key(order, batch.payload(), prefix) == Ordering::Equal)
+    Ok(compare::with_key(order, batch.payload(), prefix).is_eq())
 }
 
-/// Takes entries that begin so out, at least one. The answer is no where none was left.
-fn remove_some<P: Pages>(
+/// Takes the first entry that begins so out. The answer is no where there was none.
+fn remove_first<P: Pages>(
     store: &mut P,
     scratch: &mut Scratch,
     root: u32,
@@ -114,7 +113,7 @@ pub fn remove_under<P: Pages>(
     let mut scratch = Scratch::new(alloc);
     let mut batch = Batch::new(alloc);
     'entries: for _ in 0..u64::MAX {
-        if !remove_some(store, &mut scratch, root, order, prefix, &mut batch)? {
+        if !remove_first(store, &mut scratch, root, order, prefix, &mut batch)? {
             return Ok(());
         }
     }
