@@ -1,5 +1,5 @@
 -- A tree loses rows that a test picks, one part after another.
-use Rattle.std.proofs.Common.{◌≡◌, ℕ, suc, Bool, true, false, not, List, [], ◌∷◌, map, filter, refl, sym, ap, subst, ◌∙◌, inl, inr, is_lt, is_eq, is_gt, Ordering, Less, Equal, Greater}
+use Rattle.std.proofs.Common.{◌≡◌, ℕ, suc, eq-eqb, Bool, true, false, not, List, [], ◌∷◌, map, filter, refl, sym, ap, subst, ◌∙◌, inl, inr, is_lt, is_eq, is_gt, Ordering, Less, Equal, Greater}
 use Rattle.std.specs.Ordering.{ordering_reverse}
 use Rattle.std.proofs.lemmas.Bool.{cases_Bool}
 use Rattle.std.proofs.lemmas.Cmp.{tied_itself}
@@ -20,14 +20,14 @@ use Rattle.sqlite_store.proofs.OrderLemmas.{less}
 use Rattle.sqlite_store.proofs.RowLemmas.{remove_entry-map}
 use Rattle.sqlite_store.proofs.ShownLemmas.{remove_entry-shown}
 use Rattle.sqlite_trees.specs.declared.store.Shape.TheVariants.{Index}
-use Rattle.sqlite_trees.specs.Tree.{remove_entry}
+use Rattle.sqlite_trees.specs.Tree.{remove_entry, with_tree}
 use Rattle.sqlite_trees.proofs.TreeLemmas.{prefix_cmp_follows}
 use Rattle.sqlite_value.specs.declared.keys.Order.{Order}
 use Rattle.sqlite_value.specs.Keys.{entry_cmp, prefix_cmp}
 use Rattle.sqlite_value.specs.Order.{Row}
 use Rattle.sqlite_value.proofs.KeyLemmas.{entry_cmp_total}
 use Rattle.page_edits.specs.Removals.{has_prefix, without, Loses, LosesUntil}
-use Rattle.page_edits.proofs.Placing.{edits_none}
+use Rattle.page_edits.proofs.Placing.{edits_none, edits_twice}
 
 -- a record that an index has is found in it
 pub there_hit : (k : Order) (found : List ℕ) (records : List (List ℕ)) → Ascends (record_order k) records → IsIn found records → is_hit (λ x. entry_cmp k (decode x) (decode found)) records ≡ true
@@ -94,3 +94,31 @@ module _ (k : Order) (prefix : Row) where
         };
         none = λ no. absurd cc;
       }
+
+module _ {size t : ℕ} {schema : List Wanted} where
+  -- the rows of an edited tree
+  edited_rows : {before after : PageMap} {edit : List Row → List Row} → Edits size schema before after t edit → trees_in size schema after t ≡ edit (trees_in size schema before t)
+  edited_rows e = ap (λ trees. trees t) e.trees ∙ rw (eq-eqb t t refl) refl
+
+  pub loses_none : {picks : Row → Bool} {pages : PageMap} → IsDb size schema pages → Loses picks size schema pages pages t
+  loses_none db = record { edit = λ rows. rows; edits = edits_none db; keeps = refl }
+
+  pub loses_more : {picks : Row → Bool} {before mid after : PageMap} {more : Bool} → Loses picks size schema before mid t → LosesUntil picks size schema mid after t more
+      → LosesUntil picks size schema before after t more
+  loses_more {picks} a b =
+      record {
+        loses = record {
+          edit = λ rows. b.loses.edit (a.edit rows);
+          edits = edits_twice a.edits b.loses.edits;
+          keeps = ap (λ rows. without picks (b.loses.edit rows)) (sym (edited_rows a.edits)) ∙ b.loses.keeps ∙ ap (without picks) (edited_rows a.edits) ∙ a.keeps;
+        };
+        none = b.none;
+      }
+
+  -- none is left
+  pub loses_all : {picks : Row → Bool} {before after : PageMap} → LosesUntil picks size schema before after t false → Edits size schema before after t (without picks)
+  loses_all {picks} {before} {after} l =
+      let e = l.loses.edits in
+      let rows : l.loses.edit (trees_in size schema before t) ≡ without picks (trees_in size schema before t) =
+      sym (edited_rows e) ∙ sym (l.none refl) ∙ ap (without picks) (edited_rows e) ∙ l.loses.keeps in
+      record { db = e.db; roots = e.roots; listed = e.listed; trees = e.trees ∙ ap (with_tree (trees_in size schema before) t) rows }
