@@ -41,8 +41,11 @@ returns-in_err-remove-clause-done g c = λ clean schema t db names.
     let p = err_from_is_err_and c.from_residual-in_err-remove.result c.from_residual-in_err-remove.ensures.1 in
     let failed = c.in_err-remove.ensures.done clean (record_order k) (db.layouts (suc t)) laid.1.0 (strict k) (probe_at k mark) now index in
     rw (p.1, p.2) (later_fault (g.P.Pages.faults c.args.store.now) (g.P.Pages.faults c.find_under.new.store) _ _ (WasDeep g.P.Pages c.args.store.now c.args.root) _ c.find_under.ensures.kept.more_faults
-    (λ limit. record { mid = c.find_under.new.store; kept = c.find_under.ensures.kept;
-    deep = record { tree = kind.Index; keys = k; layout = db.layouts (suc t); entries = index.entries; stored = index.stored; laid = now; deep = limit.0 } }) failed)
+    (λ limit. record {
+      mid = c.find_under.new.store;
+      kept = c.find_under.ensures.kept;
+      deep = record { tree = kind.Index; keys = k; layout = db.layouts (suc t); entries = index.entries; stored = index.stored; laid = now; deep = limit.0 };
+    }) failed)
 
 pub returns-then-not-branch-2-clause-done : goal.returns-then-not-branch-2-clause-done
 returns-then-not-branch-2-clause-done g c = λ clean schema t db names.
