@@ -6,3 +6,4 @@ pub mod Fills
 pub mod Places
 pub mod Removals
 pub mod Sought
+pub mod Trims
