@@ -2,6 +2,8 @@ pub mod FilledLemmas
 pub mod NewCells
 pub mod Rising
 pub mod Thinning
+pub mod Ranges
+pub mod Ways
 pub mod Losing
 pub mod Seeking
 pub mod Placing
