@@ -2,6 +2,8 @@ pub mod FilledLemmas
 pub mod NewCells
 pub mod Rising
 pub mod Thinning
+pub mod Trimming
+pub mod Rewritten
 pub mod Ranges
 pub mod Ways
 pub mod Losing
