@@ -1,5 +1,5 @@
 -- A stored tree one of whose leaves has lost cells, one after another.
-use Rattle.std.proofs.Common.{◌≡◌, ◌≢◌, ◌⊎◌, ℕ, zero, suc, ◌+◌, ◌-◌, ◌<◌, ◌≤◌, Bool, true, false, List, [], ◌∷◌, ◌++◌, length, map, take, drop, get_or, refl, sym, ap, ap₂, subst, ◌∙◌, inl, inr, arith, take-append-drop, length-drop}
+use Rattle.std.proofs.Common.{◌≡◌, ◌≢◌, ◌⊎◌, ℕ, zero, suc, ◌+◌, ◌-◌, ◌<◌, ◌≤◌, Bool, true, false, List, [], ◌∷◌, ◌++◌, length, map, take, drop, get_or, refl, sym, ap, ap₂, subst, ◌∙◌, inl, inr, arith, append-nil, take-append-drop, length-drop}
 use Rattle.std.proofs.lemmas.List.{append_assoc, drop-drop, get_or-drop, get_or-take, length-map, length-take-le, map-append}
 use Rattle.sqlite_pages.specs.PageMap.{PageMap}
 use Rattle.sqlite_format.specs.Cell.{first_overflow, spilled_len}
@@ -137,3 +137,21 @@ stored_trimmed {tree} {order} {usable} {root} {layout} {entries} {bytes} {leaf} 
   where
     grouped : {X : Type 0} (front xs ys back : List X) → front ++ ((xs ++ ys) ++ back) ≡ (front ++ xs) ++ (ys ++ back)
     grouped front xs ys back = ap (λ l. front ++ l) (append_assoc xs ys back) ∙ sym (append_assoc front xs (ys ++ back))
+
+-- a call that takes nothing leaves the tree as it is
+pub none_trimmed : {tree : Tree} {order : Order} {usable root : ℕ} {layout : Layout} {entries : List Entry} {before after : PageMap} (Fact : ℕ → Entry → Type 0) → after ≡ before → IsLaidIn layout before
+    → IsWhole tree order usable layout root entries → HasTrimmed tree order usable layout before after root entries Fact 0
+none_trimmed {tree} {order} {usable} {root} {layout} {entries} {before} {after} Fact same laid whole =
+    record {
+      first = entries;
+      gone = [];
+      rest = [];
+      parts = sym (append-nil entries);
+      count = refl;
+      facts = tt;
+      written = subst (λ pages. IsWritten layout before pages (λ new. IsWhole tree order usable new root (entries ++ []))) (sym same) (record {
+        new = layout;
+        moves = record { laid = laid; others = λ n free some. (refl, free); no_stray = λ n some free. (some, free) };
+        fact = subst (IsWhole tree order usable layout root) (sym (append-nil entries)) whole;
+      });
+    }
