@@ -2,6 +2,7 @@ pub mod FilledLemmas
 pub mod NewCells
 pub mod Rising
 pub mod Thinning
+pub mod TrimmedRows
 pub mod Trimming
 pub mod Rewritten
 pub mod Ranges

@@ -1,5 +1,5 @@
 -- A tree loses rows that a test picks, one part after another.
-use Rattle.std.proofs.Common.{◌≡◌, ℕ, suc, eq-eqb, Bool, true, false, not, List, [], ◌∷◌, map, filter, refl, sym, ap, subst, ◌∙◌, inl, inr, is_lt, is_eq, is_gt, Ordering, Less, Equal, Greater}
+use Rattle.std.proofs.Common.{◌≡◌, ℕ, suc, eq-eqb, Result, MatchResult, Ok, Err, Bool, true, false, not, List, [], ◌∷◌, map, filter, refl, sym, ap, subst, ◌∙◌, inl, inr, is_lt, is_eq, is_gt, Ordering, Less, Equal, Greater}
 use Rattle.std.specs.Ordering.{ordering_reverse}
 use Rattle.std.proofs.lemmas.Bool.{cases_Bool}
 use Rattle.std.proofs.lemmas.Cmp.{tied_itself}
@@ -122,3 +122,8 @@ module _ {size t : ℕ} {schema : List Wanted} where
       let rows : l.loses.edit (trees_in size schema before t) ≡ without picks (trees_in size schema before t) =
       sym (edited_rows e) ∙ sym (l.none refl) ∙ ap (without picks) (edited_rows e) ∙ l.loses.keeps in
       record { db = e.db; roots = e.roots; listed = e.listed; trees = e.trees ∙ ap (with_tree (trees_in size schema before) t) rows }
+
+-- where a call succeeds, a fact from another
+pub where_ok : {X E : Type 0} (r : Result X E) (P R : X → Type 0) (Q : E → Type 0) → ((x : X) → P x → R x) → MatchResult r P Q → MatchResult r R Q
+where_ok (Ok x) P R Q so h = so x h
+where_ok (Err e) P R Q so h = h

@@ -112,10 +112,10 @@ stored_trimmed {tree} {order} {usable} {root} {layout} {entries} {bytes} {leaf} 
     let tight_now = tight_from now
     (λ k live. subst (λ high. Reaches form r.new high root k) high (r.tight k live (elim (owned_or_not (layout.nodes k)) [ inl none ↦ inl none | inr mine ↦ inr (whole.0 k mine) ])))
     (λ k live.
-        let l = whole.1 k live in
-        let among = in_less l.row F M B (λ at. no_link tree usable layout.spill (body_of l.row) k (Each-in (λ x. spilled_len tree usable (body_of x) ≡ 0) M l.row alone at) l.link) (subst (IsIn l.row) was l.among) in
-        let there = from_rows l.row (tree_items form r.new r.height root) (subst (IsIn l.row) (sym r.alike.rows) (in_rows l.row (F ++ B) among l.a_row)) in
-        record { row = l.row; among = subst (λ high. IsIn l.row (tree_items form r.new high root)) high there.0; a_row = l.a_row; link = l.link }) in
+    let l = whole.1 k live in
+    let among = in_less l.row F M B (λ at. no_link tree usable layout.spill (body_of l.row) k (Each-in (λ x. spilled_len tree usable (body_of x) ≡ 0) M l.row alone at) l.link) (subst (IsIn l.row) was l.among) in
+    let there = from_rows l.row (tree_items form r.new r.height root) (subst (IsIn l.row) (sym r.alike.rows) (in_rows l.row (F ++ B) among l.a_row)) in
+    record { row = l.row; among = subst (λ high. IsIn l.row (tree_items form r.new high root)) high there.0; a_row = l.a_row; link = l.link }) in
     let shown = λ (xs : List Item). map says (rows_of xs) in
     let left : shown (F ++ B) ≡ shown F ++ shown B = ap (map says) (rows_of-append F B) ∙ map-append says (rows_of F) (rows_of B) in
     let entry = λ (cell : List ℕ). says (item_in (leaf_of tree) usable cell) in

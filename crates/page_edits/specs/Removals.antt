@@ -33,6 +33,9 @@ pub record Loses (picks : Row → Bool) (size : ℕ) (schema : List Wanted) (bef
   pub edits : Edits size schema before after t edit
   pub keeps : without picks (edit (trees_in size schema before t)) ≡ without picks (trees_in size schema before t)
 
+abbrev pub LosesSome : {A : Type 0} → (Row → Bool) → ℕ → List Wanted → PageMap → PageMap → ℕ → A → Type 0
+LosesSome picks size schema before after t answer = Loses picks size schema before after t
+
 -- the same, and where the answer is no, none of its rows is left
 pub record LosesUntil (picks : Row → Bool) (size : ℕ) (schema : List Wanted) (before after : PageMap) (t : ℕ) (more : Bool) : Type 0 where
   pub loses : Loses picks size schema before after t

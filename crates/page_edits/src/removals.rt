@@ -2,11 +2,13 @@
 ghost use Rattle.std.specs.Prelude.{◌≡◌, ◌<◌, ◌≤◌, ℕ, take, length, IfOk};
 ghost use Rattle.sqlite_pages.specs.Calls.{Continues};
 ghost use Rattle.sqlite_btree.specs.Batch.{taken};
-ghost use Rattle.page_edits.specs.Removals.{has_prefix, without, without_rowids, LosesUntil, Thins, ThinsBy};
+ghost use Rattle.page_edits.specs.Removals.{has_prefix, without, without_rowids, LosesSome, LosesUntil, Thins, ThinsBy};
 ghost use Rattle.page_edits.specs.Sought.{FindsUnder};
 
 use crate::edits::delete;
 use crate::probes::{AtRecord, BeforePrefix};
+use crate::stretches::{UnderPrefix, WithRowids};
+use crate::trims::trim;
 use sqlite_btree::{Batch, Scratch, index};
 use sqlite_pages::{Error, Pages};
 use sqlite_record::compare;
@@ -15,9 +17,26 @@ use sqlite_value::keys::Order;
 use sqlite_value::row::Row;
 use std::alloc::Global;
 
+/// Takes rows of the first of these rowids out of one leaf, but for the last of them. Says of how many.
+fn trim_rows<P: Pages>(
+    store: &mut P,
+    alloc: Global,
+    root: u32,
+    rowids: &[i64],
+) -> Result<usize, Error>
+    requires some { 0 < length rowids.now }
+    ensures done { Thins P.Pages store.old store.new Shape.Table root (λ (n : ℕ). without_rowids (take n rowids.now)) result }
+    ensures few { IfOk result (λ n. n < length rowids.now) }
+    ensures kept { Continues P.Pages store.old store.new }
+{
+    let taken = trim(store, alloc, root, &WithRowids(rowids))?;
+    Ok(taken)
+}
+
 /// Takes the rows of the first of these rowids out, at least one. Says of how many.
 fn delete_some<P: Pages>(
     store: &mut P,
+    alloc: Global,
     scratch: &mut Scratch,
     root: u32,
     rowids: &[i64],
@@ -28,8 +47,9 @@ fn delete_some<P: Pages>(
     ensures some { IfOk result (λ n. 0 < n) }
     ensures kept { Continues P.Pages store.old store.new }
 {
-    delete(store, scratch, root, rowids[0])?;
-    Ok(1)
+    let taken = trim_rows(store, alloc, root, rowids)?;
+    delete(store, scratch, root, rowids[taken])?;
+    Ok(taken + 1)
 }
 
 /// Takes the rows with these rowids, where there are such, out of the table under this root. Rowids that rise are
@@ -49,7 +69,7 @@ pub fn delete_all<P: Pages>(
     let mut scratch = Scratch::new(alloc);
     let mut done = 0;
     while done < rowids.len() {
-        done += delete_some(store, &mut scratch, root, &rowids[done..])?;
+        done += delete_some(store, alloc, &mut scratch, root, &rowids[done..])?;
     }
     Ok(())
 }
@@ -96,6 +116,38 @@ fn remove_first<P: Pages>(
     Ok(true)
 }
 
+/// Takes entries that begin so out of one leaf, but for the last of them.
+fn trim_under<P: Pages>(
+    store: &mut P,
+    alloc: Global,
+    root: u32,
+    order: Order,
+    prefix: &Row,
+) -> Result<(), Error>
+    ensures done { ThinsBy P.Pages store.old store.new (Shape.Index order) root (LosesSome (has_prefix order prefix.now)) result }
+    ensures kept { Continues P.Pages store.old store.new }
+{
+    trim(store, alloc, root, &UnderPrefix(order, prefix))?;
+    Ok(())
+}
+
+/// Takes entries that begin so out, at least one. The answer is no where none was left.
+fn remove_some<P: Pages>(
+    store: &mut P,
+    alloc: Global,
+    scratch: &mut Scratch,
+    root: u32,
+    order: Order,
+    prefix: &Row,
+    batch: &mut Batch,
+) -> Result<bool, Error>
+    ensures done { ThinsBy P.Pages store.old store.new (Shape.Index order) root (LosesUntil (has_prefix order prefix.now)) result }
+    ensures kept { Continues P.Pages store.old store.new }
+{
+    trim_under(store, alloc, root, order, prefix)?;
+    remove_first(store, scratch, root, order, prefix, batch)
+}
+
 /// Takes each entry that begins with the columns of this prefix out of the index under this root.
 ///
 /// # Errors
@@ -113,7 +165,7 @@ pub fn remove_under<P: Pages>(
     let mut scratch = Scratch::new(alloc);
     let mut batch = Batch::new(alloc);
     'entries: for _ in 0..u64::MAX {
-        if !remove_first(store, &mut scratch, root, order, prefix, &mut batch)? {
+        if !remove_some(store, alloc, &mut scratch, root, order, prefix, &mut batch)? {
             return Ok(());
         }
     }

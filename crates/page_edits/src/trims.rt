@@ -10,8 +10,7 @@ ghost use Rattle.page_edits.specs.Trims.{FindsBelow, GoesAt, GoFrom, TrimsLeaf};
 
 use crate::stretches::Stretch;
 use crate::{reads, store};
-use sqlite_format::cell;
-use sqlite_format::{Node, Tree, page};
+use sqlite_format::{Node, Tree, cell, page};
 use sqlite_pages::{Error, Pages};
 use std::alloc::Global;
 
@@ -78,12 +77,7 @@ fn leaf_below<P: Pages, S: Stretch>(
 }
 
 /// Whether the row of cell `at` of a leaf may go as row `i`. Where it has overflow pages, the answer is no.
-fn goes_at<S: Stretch>(
-    node: &Node<'_>,
-    at: usize,
-    i: usize,
-    stretch: &S,
-) -> Result<bool, Error>
+fn goes_at<S: Stretch>(node: &Node<'_>, at: usize, i: usize, stretch: &S) -> Result<bool, Error>
     requires within { at < node.now.count }
     requires few { i < S.most stretch.now }
     ensures { GoesAt (S.kind stretch.now) (S.goes stretch.now i) node.now at result }

@@ -27,6 +27,6 @@ returns-clause-done c = λ sound.
     let whole : All Whole (bytes c.as_slice.result.now) = subst (All Whole) (sym all) (All-append Whole (take from cells) (drop to cells) (All-take Whole from cells each) (All-drop Whole to cells each)) in
     let kept = take from cells ++ drop to cells in
     OnTrue_from c.build.result (IsPage node.kind c.build.new.page node.header × (page_cells node.kind c.build.new.page node.header ≡ kept)) (λ yes.
-        let built = if_true c.build.result (IsBuiltOf node.kind c.build.new.page node.header c.right.result (bytes c.as_slice.result.now)) _ yes
-        (c.build.ensures (all_of_map (λ (cell : Bor (List ℕ)). cell.now) Whole c.as_slice.result.now whole)) in
-        (built.sound, built.holds ∙ all))
+    let built = if_true c.build.result (IsBuiltOf node.kind c.build.new.page node.header c.right.result (bytes c.as_slice.result.now)) _ yes
+    (c.build.ensures (all_of_map (λ (cell : Bor (List ℕ)). cell.now) Whole c.as_slice.result.now whole)) in
+    (built.sound, built.holds ∙ all))

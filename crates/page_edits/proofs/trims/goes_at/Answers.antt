@@ -42,6 +42,6 @@ returns g c = λ form part page tree is.
     let key = subst (λ u. c.in_ok-key.key ≡ body_key u true body) kind (c.in_ok-key.ensures.found form.usable (subst (λ u. IsBody u true form.usable body) (sym kind) whole)) in
     let none : spilled_len t form.usable body ≡ 0 = omega (arith, payload.spilled) in
     OnTrue_from _ (HoldsAlone form.tree form.usable Fact cell) (λ yes. subst (λ u. HoldsAlone u form.usable Fact cell) (sym tree) (record {
-        says = λ spill. subst Fact (sym (last_entry t form.usable c.in_ok-key.key cell body c.in_ok-payload.payload.local.now spill says none payload.local key)) (c.takes.ensures yes);
-        alone = ap (λ x. spilled_len t form.usable (body_of x)) says ∙ none;
+      says = λ spill. subst Fact (sym (last_entry t form.usable c.in_ok-key.key cell body c.in_ok-payload.payload.local.now spill says none payload.local key)) (c.takes.ensures yes);
+      alone = ap (λ x. spilled_len t form.usable (body_of x)) says ∙ none;
     }))
