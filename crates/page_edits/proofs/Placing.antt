@@ -17,6 +17,7 @@ use Rattle.sqlite_store.specs.declared.catalog.Wanted.{Wanted}
 use Rattle.sqlite_store.specs.Catalog.{reals_at}
 use Rattle.sqlite_store.specs.Db.{shown, trees_in, IsDb, Names, Edits}
 use Rattle.sqlite_store.specs.Limit.{HasDeepTree}
+use Rattle.sqlite_store.proofs.Causes.{Continues-trans}
 use Rattle.page_edits.specs.Places.{Place, place_all, Deepens, PlacesFirst, FailsToPlace}
 use Rattle.page_edits.specs.Trees.{PlacesRow}
 
@@ -90,29 +91,31 @@ module _ {size t : ℕ} {schema : List Wanted} where
   names_after {before} {after} e names = record { shape_is = names.shape_is; root_is = ap (λ roots. get_or roots t 0) e.roots ∙ names.root_is }
 
 -- a limit that is met later
-pub deepens_later : {size t root : ℕ} {schema : List Wanted} {before mid : PageMap} {place : Place} (done news : List Row) → Edits size schema before mid t (place_all place done)
-    → Deepens size schema mid t root place news → Deepens size schema before t root place (done ++ news)
-deepens_later {size} {t} {root} {schema} {before} {mid} {place} done news e d =
+pub deepens_later : {P : Type 0} (g : Ghosts P) → ((a b c : P) → g.follows a b → g.follows b c → g.follows a c) → {first old : P} → Continues g first old → {t root : ℕ} {schema : List Wanted} {place : Place}
+    (done news : List Row) → Edits (g.size first) schema (g.pages first) (g.pages old) t (place_all place done) → Deepens g old schema t root place news → Deepens g first schema t root place (done ++ news)
+deepens_later g trans {first} {old} so {t} {root} {schema} {place} done news e d =
     record {
       front = done ++ d.front;
       back = d.back;
       parts = ap (λ l. done ++ l) d.parts ∙ sym (append_assoc done d.front d.back);
-      pages = d.pages;
-      edits = edits_as (λ rows. sym (place_all-append place done d.front rows)) (edits_twice e d.edits);
+      now = d.now;
+      comes = Continues-trans g trans so d.comes;
+      edits = edits_as (λ rows. sym (place_all-append place done d.front rows))
+          (edits_twice e (subst (λ s. Edits s schema (g.pages old) (g.pages d.now) t (place_all place d.front)) so.same_size d.edits));
       deep = d.deep;
     }
 
 module _ {P : Type 0} (g : Ghosts P) {first old : P} (new : P) (so : Continues g first old) {schema : List Wanted} {t root : ℕ} {shape : Shape} (place : Place)
     (names : Names (g.size first) schema (g.pages first) t shape root) (clean : IsClean g new) where
   -- after some rows the first of the rest are placed
-  pub placed_more : (done rest : List Row) → Edits (g.size first) schema (g.pages first) (g.pages old) t (place_all place done) → All (λ row. shown shape (reals_at schema t) row ≡ row) rest
+  pub placed_more : ((a b c : P) → g.follows a b → g.follows b c → g.follows a c) → (done rest : List Row) → Edits (g.size first) schema (g.pages first) (g.pages old) t (place_all place done) → All (λ row. shown shape (reals_at schema t) row ≡ row) rest
       → (result : Result ℕ Error) → PlacesFirst g old new shape root place rest result
       → MatchResult result (λ n. Edits (g.size first) schema (g.pages first) (g.pages new) t (place_all place (done ++ take n rest))) (FailsToPlace g first new schema t root place (done ++ rest))
-  placed_more done rest edits same result places =
+  placed_more trans done rest edits same result places =
       let size = so.same_size in
       so_ok result (λ n. Edits (g.size old) schema (g.pages old) (g.pages new) t (place_all place (take n rest))) _ (g.faults first) (g.faults old) _
-      (Deepens (g.size old) schema (g.pages old) t root place rest) (Deepens (g.size first) schema (g.pages first) t root place (done ++ rest)) (omega (arith, so.more_faults))
-      (λ d. deepens_later done rest edits (subst (λ s. Deepens s schema (g.pages old) t root place rest) size d))
+      (Deepens g old schema t root place rest) (Deepens g first schema t root place (done ++ rest)) (omega (arith, so.more_faults))
+      (λ d. deepens_later g trans so done rest edits d)
       (places clean schema t (subst (λ s. IsDb s schema (g.pages old)) (sym size) edits.db) (subst (λ s. Names s schema (g.pages old) t shape root) (sym size) (names_after edits names)) same)
       (λ n e. edits_as (λ rows. sym (place_all-append place done (take n rest) rows))
       (edits_twice edits (subst (λ s. Edits s schema (g.pages old) (g.pages new) t (place_all place (take n rest))) size e)))
@@ -125,8 +128,8 @@ module _ {P : Type 0} (g : Ghosts P) {first old : P} (new : P) (so : Continues g
       let size = so.same_size in
       let show = shown shape (reals_at schema t) in
       so_ok result (λ _. Edits (g.size old) schema (g.pages old) (g.pages new) t (place row)) _ (g.faults first) (g.faults old) _
-      (HasDeepTree (g.size old) (g.pages old) root) (Deepens (g.size first) schema (g.pages first) t root place news) (omega (arith, so.more_faults))
-      (λ d. record { front = take n news; back = drop n news; parts = sym (take-append-drop n news); pages = g.pages old; edits = edits; deep = subst (λ s. HasDeepTree s (g.pages old) root) size d })
+      (HasDeepTree (g.size old) (g.pages old) root) (Deepens g first schema t root place news) (omega (arith, so.more_faults))
+      (λ d. record { front = take n news; back = drop n news; parts = sym (take-append-drop n news); now = old; comes = so; edits = edits; deep = d })
       (places clean schema t (subst (λ s. IsDb s schema (g.pages old)) (sym size) edits.db) (subst (λ s. Names s schema (g.pages old) t shape root) (sym size) (names_after edits names))
       (subst (λ r. show r ≡ r) (sym is) (same n [] within)))
       (λ _ e. edits_as (λ rows. sym (ap (λ l. place_all place l rows) (take_more news n [] within ∙ ap (λ r. take n news ++ r ∷ []) (sym is)) ∙ place_all-append place (take n news) (row ∷ []) rows))

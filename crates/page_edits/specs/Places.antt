@@ -1,10 +1,9 @@
 -- Rows that are placed in a tree one after another.
 use Rattle.std.specs.Prelude.{◌≡◌, ℕ, ℤ, List, [], ◌∷◌, ◌++◌, map, take, All, Result, MatchResult}
 use Rattle.std.specs.Borrow.{Bor}
-use Rattle.sqlite_pages.specs.PageMap.{PageMap}
 use Rattle.sqlite_pages.specs.declared.error.Error.{Error}
 use Rattle.sqlite_pages.specs.declared.pages.Pages.{Ghosts}
-use Rattle.sqlite_pages.specs.Calls.{FailsFor}
+use Rattle.sqlite_pages.specs.Calls.{Continues, FailsFor}
 use Rattle.sqlite_value.specs.Order.{Row}
 use Rattle.sqlite_record.specs.Record.{decode}
 use Rattle.sqlite_trees.specs.declared.store.Shape.{Shape}
@@ -30,19 +29,20 @@ rows_given = map (λ row. table_row (row.0, row.1.now))
 abbrev pub entries_given : List (Bor (List ℕ)) → List Row
 entries_given = map (λ entry. decode entry.now)
 
--- once the first of these rows are placed, the tree has the 20 levels that SQLite reads
-pub record Deepens (size : ℕ) (schema : List Wanted) (before : PageMap) (t root : ℕ) (place : Place) (news : List Row) : Type 0 where
+-- from there on the first of these rows were placed, and then the tree had the 20 levels that SQLite reads
+pub record Deepens {P : Type 0} (g : Ghosts P) (old : P) (schema : List Wanted) (t root : ℕ) (place : Place) (news : List Row) : Type 0 where
   pub front : List Row
   pub back : List Row
   pub parts : news ≡ front ++ back
-  pub pages : PageMap
-  pub edits : Edits size schema before pages t (place_all place front)
-  pub deep : HasDeepTree size pages root
+  pub now : P
+  pub comes : Continues g old now
+  pub edits : Edits (g.size old) schema (g.pages old) (g.pages now) t (place_all place front)
+  pub deep : HasDeepTree (g.size now) (g.pages now) root
 
 module _ {P : Type 0} (g : Ghosts P) (old new : P) where
   -- the disk failed, memory ran out, the file is full, or the tree has become too deep
   abbrev pub FailsToPlace : List Wanted → ℕ → ℕ → Place → List Row → Error → Type 0
-  FailsToPlace schema t root place news = FailsFor g old new (Deepens (g.size old) schema (g.pages old) t root place news)
+  FailsToPlace schema t root place news = FailsFor g old new (Deepens g old schema t root place news)
 
   -- the first of these rows, as many as the answer says, are placed in the tree with this root
   abbrev pub PlacesFirst : Shape → ℕ → Place → List Row → Result ℕ Error → Type 0

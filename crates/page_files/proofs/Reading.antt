@@ -9,11 +9,12 @@ use Rattle.sqlite_wal.proofs.StateLemmas.{open_from}
 use Rattle.sqlite_store.specs.declared.catalog.Wanted.{Wanted}
 use Rattle.sqlite_store.specs.Db.{IsDb, roots_of, trees_in}
 use Rattle.sqlite_trees.specs.Tree.{Trees}
-use Rattle.page_rows.specs.Tables.{IsRooted}
+use Rattle.sqlite_value.specs.declared.keys.Order.{Order}
+use Rattle.page_rows.specs.Tables.{IsIndexRooted, IsRooted}
 use Rattle.page_files.specs.declared.files.PageFile.{PageFile}
 use Rattle.page_files.specs.Files.{page_size, pages_of, IsFaithful, IsUsable, OnlyReads}
 use Rattle.page_files.specs.Held.{Has, IsBehind, Rests}
-use Rattle.page_files.specs.Trees.{ShowsTable, trees_of}
+use Rattle.page_files.specs.Trees.{ShowsIndex, ShowsTable, trees_of}
 
 module _ {D : Type 0} {g : Ghosts D} where
   pub OnlyReads-refl : (it : PageFile D g) → OnlyReads it it
@@ -44,6 +45,12 @@ module _ {D : Type 0} {g : Ghosts D} where
       rooted = subst₂ (λ n p. IsRooted n wanted p t root) (sym size) (sym pages) is.rooted;
     }
 
+    pub same_index : {wanted : List Wanted} {t root : ℕ} {order : Order} → ShowsIndex wanted t order root old → ShowsIndex wanted t order root new
+    same_index {wanted} {t} {root} {order} is = record {
+      is_db = subst₂ (λ n p. IsDb n wanted p) (sym size) (sym pages) is.is_db;
+      rooted = subst₂ (λ n p. IsIndexRooted n wanted p t order root) (sym size) (sym pages) is.rooted;
+    }
+
   module _ (old new : PageFile D g) (reads : OnlyReads old new) where
     sized : page_size new ≡ page_size old
     sized = reads.keeps.stays.size
@@ -54,6 +61,9 @@ module _ {D : Type 0} {g : Ghosts D} where
 
     pub table_after : {wanted : List Wanted} {t root : ℕ} → ShowsTable wanted t root old → ShowsTable wanted t root new
     table_after is = same_table old new sized reads.pages is
+
+    pub index_after : {wanted : List Wanted} {t root : ℕ} {order : Order} → ShowsIndex wanted t order root old → ShowsIndex wanted t order root new
+    index_after is = same_index old new sized reads.pages is
 
     -- what is held between transactions
     pub rests_after : {wanted : List Wanted} {roots : List ℕ} {db : Trees} → IsFaithful new → IsUsable new → Rests wanted roots db old → Rests wanted roots db new

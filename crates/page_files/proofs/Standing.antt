@@ -9,14 +9,19 @@ use Rattle.sqlite_store.specs.declared.catalog.Wanted.{Wanted}
 use Rattle.sqlite_store.specs.Catalog.{shape_at, reals_at}
 use Rattle.sqlite_store.specs.Db.{roots_of, IsDb, IsFile}
 use Rattle.sqlite_store.specs.Listing.{all_trees, listed_from}
+use Rattle.sqlite_store.proofs.DbLemmas.{ordered}
 use Rattle.sqlite_store.proofs.ListingLemmas.{named_tree, past_version}
-use Rattle.sqlite_trees.specs.declared.store.Shape.TheVariants.{Table}
+use Rattle.sqlite_trees.specs.declared.store.Shape.{Shape}
+use Rattle.sqlite_trees.specs.declared.store.Shape.TheVariants.{Index, Table}
 use Rattle.sqlite_trees.specs.Objects.{catalog_tree, with_version}
-use Rattle.sqlite_trees.specs.Tree.{Trees}
+use Rattle.sqlite_trees.specs.Tree.{IsIndex, Trees}
+use Rattle.sqlite_trees.specs.View.{IsShaped}
+use Rattle.sqlite_value.specs.declared.keys.Order.{Order}
 use Rattle.page_files.specs.declared.files.PageFile.{PageFile}
 use Rattle.page_files.specs.Files.{page_size, pages_of, OnlyReads}
 use Rattle.page_files.specs.Held.{Rests, Writes}
-use Rattle.page_files.specs.Trees.{ShowsDb, ShowsTable, StandsIn, trees_of}
+use Rattle.page_files.specs.Trees.{ShowsDb, ShowsIndex, ShowsTable, StandsIn, trees_of}
+use Rattle.page_files.specs.Writes.{IsTreeAt}
 
 none_kept : (a b : Bool) (page : Option (List ℕ)) → page ≡ None → cond a (cond b None page) None ≡ None
 none_kept true true page none = refl
@@ -82,3 +87,25 @@ module _ {D : Type 0} {g : Ghosts D} where
     pub table_stands : (root : ℕ) → shape_at wanted t ≡ Table → reals_at wanted t ≡ 0 → root ≡ slice_index known t → ShowsTable wanted t root it
     table_stands root shape plain root_is =
         record { is_db = stands.is_db; rooted = record { low = low; shape = shape; plain = plain; root_is = root_is ∙ ap (λ l. slice_index l t) stands.known_are } }
+
+    -- an index under its root
+    pub index_stands : (root : ℕ) {order : Order} → shape_at wanted t ≡ Index order → reals_at wanted t ≡ 0 → root ≡ slice_index known t → ShowsIndex wanted t order root it
+    index_stands root shape plain root_is =
+        record { is_db = stands.is_db; rooted = record { low = low; shape = shape; plain = plain; root_is = root_is ∙ ap (λ l. slice_index l t) stands.known_are } }
+
+  module _ (it : PageFile D g) {wanted : List Wanted} {known : List ℕ} {was now : Trees} (writes : Writes wanted known was now it) {t root : ℕ} where
+    -- within a transaction, a tree of the shape of a table is one
+    pub table_in : IsTreeAt wanted known t Table root → reals_at wanted t ≡ 0 → ShowsTable wanted t root it
+    table_in is plain = table_stands it (stands_writing it writes) t is.low root is.shape_is plain (sym is.root_is)
+
+    -- one of the shape of an index is one
+    pub index_in : {order : Order} → IsTreeAt wanted known t (Index order) root → reals_at wanted t ≡ 0 → ShowsIndex wanted t order root it
+    index_in is plain = index_stands it (stands_writing it writes) t is.low root is.shape_is plain (sym is.root_is)
+
+    -- and what they show is seen
+    pub tree_in : {shape : Shape} → IsTreeAt wanted known t shape root → trees_of wanted it t ≡ now t
+    tree_in is = tree_shown it (stands_writing it writes) t is.low
+
+-- the entries of an index stand in its order
+pub entries_in_order : {D : Type 0} {g : Ghosts D} (it : PageFile D g) {wanted : List Wanted} {t root : ℕ} {order : Order} → ShowsIndex wanted t order root it → IsIndex order (trees_of wanted it t)
+entries_in_order it {wanted} {t} shows = subst (λ shape. IsShaped shape (trees_of wanted it t)) shows.rooted.shape (ordered shows.is_db t)

@@ -6,7 +6,8 @@ use Rattle.sqlite_store.specs.Db.{roots_of, trees_in, IsDb}
 use Rattle.sqlite_store.specs.Listing.{all_trees}
 use Rattle.sqlite_trees.specs.Objects.{with_version}
 use Rattle.sqlite_trees.specs.Tree.{Trees}
-use Rattle.page_rows.specs.Tables.{IsRooted}
+use Rattle.sqlite_value.specs.declared.keys.Order.{Order}
+use Rattle.page_rows.specs.Tables.{IsIndexRooted, IsRooted}
 use Rattle.page_files.specs.declared.files.PageFile.{PageFile}
 use Rattle.page_files.specs.Files.{page_size, pages_of}
 
@@ -31,3 +32,8 @@ module _ {D : Type 0} {g : Ghosts D} where
   pub record ShowsTable (wanted : List Wanted) (t root : ℕ) (it : PageFile D g) : Type 0 where
     pub is_db : IsDb (page_size it) wanted (pages_of it)
     pub rooted : IsRooted (page_size it) wanted (pages_of it) t root
+
+  -- in it tree t is an index of this order under this root, with no REAL column
+  pub record ShowsIndex (wanted : List Wanted) (t : ℕ) (order : Order) (root : ℕ) (it : PageFile D g) : Type 0 where
+    pub is_db : IsDb (page_size it) wanted (pages_of it)
+    pub rooted : IsIndexRooted (page_size it) wanted (pages_of it) t order root

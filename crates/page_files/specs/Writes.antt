@@ -1,5 +1,5 @@
 -- What the calls of a transaction do to the trees, and why they may fail.
-use Rattle.std.specs.Prelude.{◌≡◌, ◌⊎◌, ℕ, ◌^◌, ◌<◌, List, slice_index, Result, MatchResult}
+use Rattle.std.specs.Prelude.{◌≡◌, ◌⊎◌, ℕ, ◌^◌, ◌<◌, List, slice_index, All, Result, MatchResult}
 use Rattle.sqlite_disk.specs.declared.Disk.{Ghosts}
 use Rattle.sqlite_pages.specs.PageMap.{PageMap}
 use Rattle.sqlite_pages.specs.declared.error.Error.{Error}
@@ -13,6 +13,7 @@ use Rattle.sqlite_trees.specs.declared.store.Shape.{Shape}
 use Rattle.sqlite_trees.specs.Tree.{Trees, with_tree}
 use Rattle.sqlite_value.specs.Order.{Row}
 use Rattle.sqlite_wal.specs.Recovery.{Image}
+use Rattle.page_edits.specs.Places.{Place, place_all}
 use Rattle.page_files.specs.declared.files.PageFile.{PageFile}
 use Rattle.page_files.specs.Files.{faults, may_leave, page_size, pages_of, IsFaithful}
 use Rattle.page_files.specs.Held.{Has, Writes}
@@ -55,6 +56,12 @@ module _ {D : Type 0} {g : Ghosts D} where
     abbrev pub PlacesRow : {A : Type 0} → Shape → ℕ → Row → (Row → List Row → List Row) → Result A Error → Type 0
     PlacesRow shape root row place result =
         AtTree shape root (λ wanted roots was now t. shown shape (reals_at wanted t) row ≡ row → EditsOrFails (place row) result wanted roots was now t)
+
+    -- the same for these rows, one after another
+    abbrev pub PlacesRows : {A : Type 0} → Shape → ℕ → Place → List Row → Result A Error → Type 0
+    PlacesRows shape root place news result =
+        AtTree shape root (λ wanted roots was now t. All (λ row. shown shape (reals_at wanted t) row ≡ row) news
+        → EditsOrFails (place_all place news) result wanted roots was now t)
 
     -- each outcome of a crash is one from before, or has the trees that were seen
     abbrev pub CommitsAtMost : Type 0

@@ -2,6 +2,10 @@
 //! holds trees, a transaction changes some of them and nothing else; a failure or a crash leaves the old or the new.
 #![tactic(auto)]
 
+// Many rows or entries at a time, within a transaction.
+mod appends;
+// The entries of an index.
+mod entries;
 // A database file that was opened with no check of its pages, and what is read from it.
 mod files;
 // The last row of a table.

@@ -1,5 +1,7 @@
 pub mod Rows
+pub mod Indexes
 pub mod Roots
 pub mod Tables
 pub mod Walks
 pub mod Places
+pub mod Batches

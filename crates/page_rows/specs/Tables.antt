@@ -34,3 +34,10 @@ pub record IsRooted (size : ℕ) (wanted : List Wanted) (pages : PageMap) (t roo
   pub shape : shape_at wanted t ≡ Table
   pub plain : reals_at wanted t ≡ 0
   pub root_is : root ≡ root_of_tree size wanted pages t
+
+-- tree t is an index of this order under this root, with no REAL column
+pub record IsIndexRooted (size : ℕ) (wanted : List Wanted) (pages : PageMap) (t : ℕ) (order : Order) (root : ℕ) : Type 0 where
+  pub low : t < 2 ^ 32
+  pub shape : shape_at wanted t ≡ Index order
+  pub plain : reals_at wanted t ≡ 0
+  pub root_is : root ≡ root_of_tree size wanted pages t

@@ -2,12 +2,12 @@
 
 use sqlite_pages::Error;
 
-/// Why a walk ended before its last row.
+/// Why a walk ended before its last row or entry.
 #[derive(Debug, Drop)]
 pub enum WalkError<E> {
-    /// The pages could not be read, or hold no table there.
+    /// The pages could not be read, or hold no such tree there.
     Pages(Error),
-    /// What takes the rows refused one.
+    /// What takes them refused one.
     Refused(E),
 }
 

@@ -1,21 +1,26 @@
-//! The rows of a table straight from the pages of a database file, which nobody has checked: no SQL,
-//! and no pass over the file before. Rows are handed on one at a time to what takes them.
-//! Whatever the file holds, each call ends, and where a table stands in its pages, the rows are the table's.
+//! The rows of a table, and the entries of an index, straight from the pages of a database file, which nobody
+//! has checked: no SQL, and no pass over the file before. They are handed on one at a time to what takes them.
+//! Whatever the file holds, each call ends, and where a table or an index stands in its pages, they are its own.
 #![tactic(auto)]
 
+// The walk over the entries of an index.
+mod entry_walks;
 // Why a walk ends early.
 mod errors;
+// Places among the entries of an index.
+mod probes;
 // A record read as a row.
 mod records;
 // The root page of a table or an index, by its name.
 mod roots;
-// What takes rows.
+// What takes rows, and what takes entries.
 mod sinks;
 // The walk over the rows of a table.
 mod walks;
 
+pub use entry_walks::walk_entries;
 pub use errors::WalkError;
 pub use records::read_row;
 pub use roots::root_named;
-pub use sinks::RowSink;
+pub use sinks::{EntrySink, RowSink};
 pub use walks::{find_row, walk};

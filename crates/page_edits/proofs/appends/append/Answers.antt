@@ -30,7 +30,7 @@ returns-in_err-done-clause-done g c = λ clean schema t db names same.
     let failed : Result ℕ Error = Err e in
     let step = subst (λ news. PlacesFirst g.P.Pages old new Table c.args.root put_row news failed) (rest_of c.args.rows.now d) c.in_err-done.ensures.done in
     rw (p.1, p.2) (subst (λ news. FailsToPlace g.P.Pages c.args.store.now new schema t c.args.root put_row news e) (take-append-drop d given)
-    (placed_more g.P.Pages new c.loop-done.invariant.kept put_row names clean (take d given) (drop d given) edits (All-drop (λ row. show row ≡ row) d given same) failed step))
+    (placed_more g.P.Pages new c.loop-done.invariant.kept put_row names clean g.met.P.Pages.follows_trans (take d given) (drop d given) edits (All-drop (λ row. show row ≡ row) d given same) failed step))
 
 pub loop-done-preserved : goal.loop-done-preserved
 loop-done-preserved g c =
@@ -48,5 +48,5 @@ loop-done-preserved g c =
           let taken : Result ℕ Error = Ok n in
           let step = subst (λ news. PlacesFirst g.P.Pages old new Table c.args.root put_row news taken) (rest_of c.args.rows.now d) c.in_ok-done.ensures.done in
           subst (λ news. Edits (g.P.Pages.size c.args.store.now) schema (g.P.Pages.pages c.args.store.now) (g.P.Pages.pages new) t (place_all put_row news)) (take_more_of given d n)
-          (placed_more g.P.Pages new c.loop-done.invariant.kept put_row names clean (take d given) (drop d given) edits (All-drop (λ row. show row ≡ row) d given same) taken step);
+          (placed_more g.P.Pages new c.loop-done.invariant.kept put_row names clean g.met.P.Pages.follows_trans (take d given) (drop d given) edits (All-drop (λ row. show row ≡ row) d given same) taken step);
     }

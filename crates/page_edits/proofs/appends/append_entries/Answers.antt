@@ -31,7 +31,7 @@ returns-in_err-done-clause-done g c = λ clean schema t db names same.
     let failed : Result ℕ Error = Err e in
     let step = subst (λ news. PlacesFirst g.P.Pages old new (Index c.args.order) c.args.root (insert_entry c.args.order) news failed) (rest_of c.args.entries.now d) c.in_err-done.ensures.done in
     rw (p.1, p.2) (subst (λ news. FailsToPlace g.P.Pages c.args.store.now new schema t c.args.root (insert_entry c.args.order) news e) (take-append-drop d given)
-    (placed_more g.P.Pages new c.loop-done.invariant.kept (insert_entry c.args.order) names clean (take d given) (drop d given) edits (All-drop (λ row. show row ≡ row) d given same) failed step))
+    (placed_more g.P.Pages new c.loop-done.invariant.kept (insert_entry c.args.order) names clean g.met.P.Pages.follows_trans (take d given) (drop d given) edits (All-drop (λ row. show row ≡ row) d given same) failed step))
 
 pub loop-done-preserved : goal.loop-done-preserved
 loop-done-preserved g c =
@@ -49,5 +49,5 @@ loop-done-preserved g c =
           let taken : Result ℕ Error = Ok n in
           let step = subst (λ news. PlacesFirst g.P.Pages old new (Index c.args.order) c.args.root (insert_entry c.args.order) news taken) (rest_of c.args.entries.now d) c.in_ok-done.ensures.done in
           subst (λ news. Edits (g.P.Pages.size c.args.store.now) schema (g.P.Pages.pages c.args.store.now) (g.P.Pages.pages new) t (place_all (insert_entry c.args.order) news)) (take_more_of given d n)
-          (placed_more g.P.Pages new c.loop-done.invariant.kept (insert_entry c.args.order) names clean (take d given) (drop d given) edits (All-drop (λ row. show row ≡ row) d given same) taken step);
+          (placed_more g.P.Pages new c.loop-done.invariant.kept (insert_entry c.args.order) names clean g.met.P.Pages.follows_trans (take d given) (drop d given) edits (All-drop (λ row. show row ≡ row) d given same) taken step);
     }
