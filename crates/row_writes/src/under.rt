@@ -149,13 +149,13 @@ pub fn erase_under<D: Disk>(
     ensures usable { OnOk result (IsUsable file.new) }
     ensures keeps { Keeps (pools.state file.old.pool) (pools.state file.new.pool) }
 {
-    let Some(first) = place.indexes.first() else {
+    if place.indexes.is_empty() {
         file.if_usable()?;
         return Ok(());
-    };
+    }
     let mut prefix = Row::new(alloc);
     prefix.push(ValueRef::Int(number))?;
-    let rowids = rowids_under(file, alloc, first.root, &prefix)?;
+    let rowids = rowids_under(file, alloc, place.indexes[0].root, &prefix)?;
     file.delete_all(alloc, place.root, rowids.as_slice())?;
     remove_all_under(file, alloc, place.indexes, &prefix)
 }
