@@ -1,6 +1,14 @@
 pub mod FilledLemmas
 pub mod NewCells
 pub mod Rising
+pub mod Thinning
+pub mod TrimmedRows
+pub mod Trimming
+pub mod Rewritten
+pub mod Ranges
+pub mod Ways
+pub mod Losing
+pub mod Seeking
 pub mod Placing
 pub mod Filling
 pub mod Ordered

@@ -4,3 +4,6 @@ pub mod Leaves
 pub mod Rows
 pub mod Fills
 pub mod Places
+pub mod Removals
+pub mod Sought
+pub mod Trims

@@ -15,12 +15,19 @@ mod fills;
 mod leaves;
 // The place of a row in an index.
 mod probes;
-// The last row of a leaf.
+// The cells of a page.
 mod reads;
+// Many rows taken out of a tree.
+mod removals;
 // Rows that are to stand behind those of a tree.
 mod rows;
 // The pages' calls, said of the part that a tree has.
 mod store;
+// Rows of a tree that are to go, one after another.
+mod stretches;
+// Rows taken out of one leaf in one write.
+mod trims;
 
 pub use appends::{append, append_entries};
 pub use edits::{delete, insert, put, remove};
+pub use removals::{delete_all, remove_under};

@@ -1,6 +1,8 @@
 // The place of an entry in an index.
-ghost use Rattle.sqlite_value.specs.Keys.{entry_cmp};
+ghost use Rattle.std.specs.Prelude.{◌≡◌};
+ghost use Rattle.sqlite_value.specs.Keys.{entry_cmp, prefix_cmp};
 ghost use Rattle.sqlite_record.specs.Record.{decode};
+ghost use Rattle.sqlite_store.specs.Sides.{below_or_above};
 
 use sqlite_btree::Probe;
 use sqlite_record::compare;
@@ -29,5 +31,28 @@ impl Probe for AtRecord<'_> {
 
     fn compare(&self, bytes: &[u8]) -> Ordering {
         compare::with_record(self.0, bytes, self.1)
+    }
+}
+
+/// Puts the place before what is equal.
+fn before_equal(order: Ordering) -> Ordering
+    ensures { result ≡ below_or_above order }
+{
+    if order.is_lt() {
+        Ordering::Less
+    } else {
+        Ordering::Greater
+    }
+}
+
+/// The place before the entries that begin with the columns of this row.
+#[derive(Clone, Copy, Debug)]
+pub struct BeforePrefix<'a>(pub Order, pub &'a Row);
+
+impl Probe for BeforePrefix<'_> {
+    ghost side = { λ it bytes. below_or_above (prefix_cmp it.0 (decode bytes) it.1.now) };
+
+    fn compare(&self, bytes: &[u8]) -> Ordering {
+        before_equal(compare::with_key(self.0, bytes, self.1))
     }
 }

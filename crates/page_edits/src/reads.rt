@@ -1,10 +1,12 @@
-// The last row of a leaf, with an error where the bytes are not sound.
-ghost use Rattle.std.specs.Prelude.{◌≡◌, ◌<◌, ℕ, true, IfErr, IsOkAnd};
+// The cells of a page, with an error where the bytes are not sound.
+ghost use Rattle.std.specs.Prelude.{◌≡◌, ◌<◌, ℕ, true, [], slice_index_or, IfErr, IsOkAnd};
 ghost use Rattle.sqlite_pages.specs.PageMap.{IsUsableSize};
 ghost use Rattle.sqlite_pages.specs.Outcome.{IsDamage};
 ghost use Rattle.sqlite_format.specs.Cell.{IsBody, body_key};
 ghost use Rattle.sqlite_format.specs.Payload.{IsPayloadOf};
-ghost use Rattle.sqlite_format.specs.Node.{IsSound, node_body};
+ghost use Rattle.sqlite_format.specs.Node.{IsSound, node_body, node_cells};
+ghost use Rattle.sqlite_format.specs.Page.{right_child};
+ghost use Rattle.sqlite_btree.specs.Tree.{child_at};
 
 use sqlite_format::cell::{self, Key, Payload};
 use sqlite_format::{Node, Tree};
@@ -43,4 +45,24 @@ pub fn key_of_row(tree: Tree, row: &[u8]) -> Result<Key, Error>
         Tree::Table => row_key(row),
         Tree::Index => Ok(0),
     }
+}
+
+/// The bytes of cell `i`.
+pub fn cell_at<'a>(node: &Node<'a>, i: usize) -> Result<&'a [u8], Error>
+    requires { i < node.now.count }
+    ensures found { IsSound node.now → IsOkAnd result (λ cell. cell.now ≡ slice_index_or (node_cells node.now) i []) }
+    ensures damage { IfErr result IsDamage }
+{
+    node.cell(i).ok_or(Error::Corrupt)
+}
+
+/// The child at place `i` of an interior page.
+pub fn child_page(node: &Node<'_>, i: usize) -> Result<u32, Error>
+    ensures found { IsSound node.now → IsOkAnd result (λ page. page ≡ child_at (node_cells node.now) (right_child node.now.bytes.now node.now.header) i) }
+    ensures damage { IfErr result IsDamage }
+{
+    if i >= node.count {
+        return Ok(node.right());
+    }
+    node.child(i).ok_or(Error::Corrupt)
 }

@@ -46,7 +46,7 @@ pub trait NewRows {
 }
 
 /// The key of a row with this rowid.
-fn key_from(rowid: i64) -> Key
+pub(crate) fn key_from(rowid: i64) -> Key
     ensures value { result ≡ key_of rowid }
     ensures back { rowid_of result ≡ rowid }
 {

@@ -10,6 +10,8 @@ mod entries;
 mod files;
 // The last row of a table.
 mod lasts;
+// Many rows taken out of one tree.
+mod removals;
 // A transaction: rows and entries are written, and committed or undone.
 mod transactions;
 

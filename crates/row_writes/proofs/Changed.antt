@@ -92,14 +92,14 @@ module _ (schema : Schema) (spaced : IsSpaced schema) (table : Table) (listed : 
   changed now rows = with_entries edit row (with_tree now table.tree rows) (indexes_of schema table)
 
   module _ (now : Trees) (rows : List Row) (low : table.tree < 2 ^ 32) (all_low : AllByRecursion (λ (i : Index). i.tree < 2 ^ 32) (indexes_of schema table)) where
-    elsewhere : (u : ℕ) → u ≢ table.tree → AllByRecursion (λ (i : Index). u ≢ i.tree) (indexes_of schema table) → changed now rows u ≡ now u
+    pub elsewhere : (u : ℕ) → u ≢ table.tree → AllByRecursion (λ (i : Index). u ≢ i.tree) (indexes_of schema table) → changed now rows u ≡ now u
     elsewhere u other apart = entries_other edit row (with_tree now table.tree rows) (indexes_of schema table) u apart ∙ with_other now table.tree u rows other
 
     pub rows_changed : changed now rows table.tree ≡ rows
     rows_changed =
         entries_other edit row (with_tree now table.tree rows) (indexes_of schema table) table.tree (all_from _ (indexes_of schema table) (λ i there. table_apart schema spaced table i listed (mine_of schema spaced table listed i there).0)) ∙ with_same now table.tree rows
 
-    entry_changed : (i : Index) → Has (indexes_of schema table) i → changed now rows i.tree ≡ edit plain (entry_of i.columns row) (now i.tree)
+    pub entry_changed : (i : Index) → Has (indexes_of schema table) i → changed now rows i.tree ≡ edit plain (entry_of i.columns row) (now i.tree)
     entry_changed i there =
         entries_at edit row (with_tree now table.tree rows) (indexes_of schema table) i (indexes_apart schema spaced table) there
         ∙ ap (edit plain (entry_of i.columns row)) (with_other now table.tree i.tree rows (λ same. table_apart schema spaced table i listed (mine_of schema spaced table listed i there).0 (sym same)))

@@ -3,3 +3,4 @@ pub mod Erased
 pub mod Filling
 pub mod Outcomes
 pub mod Spaced
+pub mod RowsUnder

@@ -27,3 +27,9 @@ abbrev pub FailsToNumber : {D : Type 0} {g : Ghosts D} → PageFile D g → Page
 FailsToNumber old new rows (Pages e) = FailsToRead old new e
 FailsToNumber old new rows Unstorable = ⊥
 FailsToNumber old new rows NoRowid = IsLastRowid rows (Some (pos (2 ^ 63 - 1)))
+
+-- the pages were not read for a cause
+abbrev pub FailsToFind : {D : Type 0} {g : Ghosts D} → PageFile D g → PageFile D g → RowError → Type 0
+FailsToFind old new (Pages e) = FailsToRead old new e
+FailsToFind old new Unstorable = ⊥
+FailsToFind old new NoRowid = ⊥

@@ -3,3 +3,4 @@ pub mod Changes
 pub mod Entries
 pub mod Places
 pub mod Tests
+pub mod Under

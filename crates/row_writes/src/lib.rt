@@ -16,9 +16,12 @@ mod records;
 mod rowids;
 // One row at a time.
 mod rows;
+// Rows whose first column is a number are erased.
+mod under;
 
 pub use erasing::{RowTest, erase_where, rowids_where};
 pub use errors::RowError;
 pub use places::{IndexPlace, Place};
 pub use rowids::free_rowid;
 pub use rows::{erase, insert, replace};
+pub use under::erase_under;
