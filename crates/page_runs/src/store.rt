@@ -375,8 +375,7 @@ impl<D: Disk> RunStore for PageRuns<D> {
         file: &SummedFile<'_>,
     ) -> Result<(), StoreError> {
         let (pages, lists) = (&mut self.file, &self.lists);
-        let written =
-            page_imports::put_run(pages, alloc, lists, number, kind, digest, label, file);
+        let written = page_imports::put_run(pages, alloc, lists, number, kind, digest, label, file);
         self.finish(written)
     }
 

@@ -15,7 +15,9 @@ mod working;
 pub use laws::{
     memory_keeps_its_history, migrated_stores_have_their_history, rows_sum_to_the_small_tables,
 };
-pub use reading::{StoreInPages, pages_at, pages_to_change_at, serve_in_pages, store_in_pages, work_in_pages};
+pub use reading::{
+    StoreInPages, pages_at, pages_to_change_at, serve_in_pages, store_in_pages, work_in_pages,
+};
 pub use serving::serve_in;
 pub use stores::{StoreFile, database_at, error_line, is_new_at, make_in, store_in};
 pub use working::work_in;
