@@ -1,0 +1,2 @@
+mod Plain
+mod Handing
