@@ -1,2 +1,3 @@
 mod Plain
 mod Handing
+mod Keeping

@@ -5,11 +5,15 @@ use Rattle.sqlite.specs.Held.{Held}
 use Rattle.sqlite.specs.State.{HasCleanDisk, store_error}
 use Rattle.sqlite.specs.declared.error.Error.{Error}
 use Rattle.sqlite.specs.declared.file.Leftover.{Leftover}
+use Rattle.sqlite.specs.declared.file.Leftover.TheVariants as left
 use Rattle.sqlite_disk.specs.Disk.{MoreFaults}
 use Rattle.sqlite_disk.specs.declared.Disk.{Ghosts}
+use Rattle.sqlite_store.specs.FileStore.{recovers}
+use Rattle.sqlite_store.specs.Unopened.{state_of}
 use Rattle.sqlite_store.specs.declared.store.FileStore.{FileStore}
 use Rattle.sqlite_trees.specs.Tree.{Trees}
 use Rattle.sqlite_trees.specs.declared.error.StoreError.TheVariants.{OutOfMemory, Io, Corrupt, Full}
+use Rattle.sqlite_wal.specs.Files.{outcomes}
 use Rattle.sqlite_wal.specs.Recovery.{Image}
 use Rattle.plain_tables.specs.Tables.{Tables}
 use Rattle.sql_tables.specs.States.{Rests}
@@ -41,3 +45,13 @@ module _ {D : Type 0} {g : Ghosts D} where
   -- what is left of the files of a store that represents rows is never refused for what it holds
   abbrev pub FailsForCause : PageRuns D g → Leftover D g → Error → Type 0
   FailsForCause store rest e = IsCleanLeft rest → (t : Tables) → Represents t store → HasCause store rest e
+
+  -- whatever a crash leaves then, it holds these rows
+  abbrev pub LeavesRows : Tables → Leftover D g → Type 0
+  LeavesRows t (left.Files now) = (image : Image) → outcomes g now.log now.db image → HoldsRows t image
+  LeavesRows t (left.Unopened now) = (image : Image) → (state_of now).may_leave image → HoldsRows t image
+  LeavesRows t (left.Store now) = (db : Trees) → recovers now db → Holds t db
+
+  -- a database that is not opened has lost nothing
+  abbrev pub LeavesRepresented : PageRuns D g → Leftover D g → Type 0
+  LeavesRepresented store rest = IsCleanLeft rest → (t : Tables) → Represents t store → LeavesRows t rest

@@ -1,6 +1,6 @@
 // From pages to SQL (specs/Databases.antt).
 ghost use Rattle.std.specs.Prelude.{IfOk, IfErr};
-ghost use Rattle.hand_overs.specs.Databases.{FailsForCause, HoldsRepresented};
+ghost use Rattle.hand_overs.specs.Databases.{FailsForCause, HoldsRepresented, LeavesRepresented};
 
 use page_runs::PageRuns;
 use sqlite::{Connection, Error, ErrorCode, FileStore, Leftover};
@@ -15,7 +15,7 @@ const IO: Error = Error::SqliteFailure(ErrorCode::SystemIoFailure);
 ///
 /// # Errors
 /// Out of memory, a failure of the disk, or a limit of the format; with what is left of the files. Those of a store
-/// that was in use are never refused for what they hold.
+/// that represents rows are never refused for what they hold, and hold these rows as before.
 pub fn to_database<D: Disk + Drop>(
     alloc: Global,
     store: PageRuns<D>,
@@ -23,6 +23,7 @@ pub fn to_database<D: Disk + Drop>(
 ) -> Result<Connection<FileStore<D>>, (Error, Leftover<D>)>
     ensures holds { IfOk result (HoldsRepresented store) }
     ensures cause { IfErr result (λ e. FailsForCause store e.1 e.0) }
+    ensures left { IfErr result (λ e. LeavesRepresented store e.1) }
 {
     let files = store.into_file().close();
     if !files.may_be_used() {

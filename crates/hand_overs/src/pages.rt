@@ -10,7 +10,7 @@ use std::alloc::Global;
 
 /// Closes a database, and opens the store in it by its pages. What was not committed is rolled back. None where the
 /// log could not be copied into the file, or where the files are not plainly a store of this version or cannot be
-/// read: they are closed then, and hold what they held.
+/// read. They are closed then.
 pub fn to_pages<D: Disk + Drop>(
     alloc: Global,
     conn: Connection<FileStore<D>>,
