@@ -4,11 +4,10 @@ use Rattle.std.proofs.lemmas.Bool.{cases_eq}
 use Rattle.sqlite_disk.specs.declared.Disk.{Ghosts}
 use Rattle.sqlite_pages.specs.PageMap.{PageMap}
 use Rattle.sqlite_pool.specs.File.{IsSoundFile}
-use Rattle.sqlite_pool.specs.Stored.{Recovers, reserved, stored_size}
+use Rattle.sqlite_pool.specs.Stored.{Adopts, reserved, stored_size}
 use Rattle.sqlite_pool.specs.Pool.{files, state}
 use Rattle.sqlite_pool.specs.declared.pool.Pool.{Pool}
 use Rattle.sqlite_pool.proofs.ProbeLemmas.{reserved_word, size_by_file, size_by_log}
-use Rattle.sqlite_pool.proofs.ResealLemmas.{adopts_of}
 use Rattle.sqlite_wal.specs.Files.{outcomes, seen_image}
 use Rattle.sqlite_wal.specs.Format.{be32}
 use Rattle.sqlite_wal.specs.PageSize.{IsPageSize, size_in_file}
@@ -16,14 +15,13 @@ use Rattle.sqlite_wal.specs.Reads.{AreClean, OnlyReads}
 use Rattle.sqlite_wal.specs.Recovery as raw
 use Rattle.sqlite_wal.specs.Recovery.{Image, IsIgnored}
 
-module _ (image : Image) (size : ℕ) (pages : PageMap) (valid : IsPageSize (stored_size size)) (found : Recovers size image pages) (sound : IsSoundFile size pages) where
+module _ (image : Image) (size : ℕ) (pages : PageMap) (valid : IsPageSize (stored_size size)) (adopts : Adopts size image pages) (sound : IsSoundFile size pages) where
   large : 504 ≤ size
   large = let few : reserved size ≤ 8 = grind arith in omega (arith, valid.0)
 
   -- the size that is named is the one of the pages as they are stored
   pub size_named : (n : ℕ) → (¬ IsIgnored image.log → n ≡ be32 image.log 8) → (IsIgnored image.log → n ≡ size_in_file image.db) → stored_size size ≡ n
   size_named n by_log by_file =
-      let adopts = adopts_of size image pages found in
       elim (cases_eq (stored_size size) n) [
         | inl same ↦ same
         | inr other ↦
@@ -35,7 +33,6 @@ module _ (image : Image) (size : ℕ) (pages : PageMap) (valid : IsPageSize (sto
   pub plain_size : (n word : ℕ) → stored_size size ≡ n → word ≢ 0x0840_2020
       → ((stored : PageMap) (first : List ℕ) → raw.Recovers n image stored → stored 1 ≡ Some first → length first ≡ n → word ≡ be32 first 20) → size ≡ n
   plain_size n word is other says =
-      let adopts = adopts_of size image pages found in
       let (first, there, len, reads, begins) = reserved_word size image pages adopts large sound in
       let same : word ≡ reserved size * 0x100_0000 + 0x0040_2020 = says adopts.stored first (subst (λ m. raw.Recovers m image adopts.stored) is adopts.found) there (len ∙ is) ∙ reads in
       elim (cases_eq (size % 16) 8) [

@@ -11,6 +11,7 @@ ghost use Rattle.run_lists.specs.Listed.{AreListed};
 ghost use Rattle.run_lists.specs.RowSums.{calls_of_run, cells_of_run, stacks_of_run};
 ghost use Rattle.run_order.specs.Order.{AreInOrder};
 ghost use Rattle.page_runs.specs.Finished.{Commits, Finishes};
+ghost use Rattle.page_runs.specs.Sizes.{IsSizeOf};
 ghost use Rattle.page_runs.specs.States.{HoldsIn, IsFaithful, Represents, state_of};
 ghost use Rattle.run_stores.specs.Calls.{Asks};
 ghost use Rattle.std.specs.Result.{is_ok};
@@ -58,6 +59,7 @@ impl<D: Disk + Drop> PageRuns<D> {
         requires log { IsTrue (D.Disk.is_usable files.log) }
         requires db { IsTrue (D.Disk.is_usable files.db) }
         ensures honest { IfSome result (λ store. IsFaithful store → AreClean D.Disk files.log files.db) }
+        ensures size { IfSome result (λ store. IsFaithful store → IsSizeOf (seen_image D.Disk files.log files.db) (page_size store.file)) }
         ensures represents { IfSome result (λ store. IsFaithful store → (t : Tables) → HoldsIn t (page_size store.file, seen_image D.Disk files.log files.db) → AreInOrder t
             → Represents t store) }
         ensures crash { IfSome result (λ store. AddsNothing (page_size store.file) (outcomes D.Disk files.log files.db) (files_may_leave store.file)) }

@@ -6,6 +6,7 @@ use Rattle.page_files.specs.Files.{page_size, may_leave}
 use Rattle.page_files.proofs.Reading.{rests_after}
 use Rattle.page_files.specs.Held.{Has}
 use Rattle.sqlite_pool.specs.Stored.{Recovers}
+use Rattle.page_runs.specs.Sizes.{IsSizeOf}
 use Rattle.page_runs.specs.declared.store.PageRuns.{PageRuns}
 use Rattle.page_runs.proofs.Taken.{represents_as, store_there}
 use Rattle.page_runs.proofs.store.PageRuns.open.Goals as goal
@@ -17,6 +18,7 @@ returns-in-Ok g c =
     let store : PageRuns g.row.D.Denot g.D.Disk = record { file = c.in-Ok.file; alloc = c.args.alloc; roots = c.in-Ok.roots; lists = c.in-Ok.lists } in
     record {
       honest = λ faithful. c.in-Some.ensures.honest (reads.keeps.stays.clean faithful);
+      size = λ faithful. subst (IsSizeOf (seen_image g.D.Disk c.args.files.log c.args.files.db)) (sym size) (c.in-Some.ensures.size (reads.keeps.stays.clean faithful));
       represents = λ faithful t is order.
           let opened = c.in-Some.file in
           let has : Has (page_size opened) is.at.wanted is.db is.at.pages = subst (λ n. Has n is.at.wanted is.db is.at.pages) size (record { ours = is.at.ours; reads = is.at.reads }) in

@@ -1,0 +1,2 @@
+pub mod Databases
+pub mod Pages
