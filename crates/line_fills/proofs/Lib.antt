@@ -1,4 +1,5 @@
 pub mod Cuts
+pub mod Encoded
 pub mod Entered
 pub mod Held
 pub mod Indexes

@@ -1,8 +1,9 @@
 // The records of some lines, to be handed to the pages at once.
-ghost use Rattle.std.specs.Prelude.{◌≡◌, ◌<◌, ◌^◌, ◌∷◌, pos, IfOk, OnOk, map};
+ghost use Rattle.std.specs.Prelude.{◌<◌, ◌^◌, ◌∷◌, pos, IfOk, OnOk, map};
 ghost use Rattle.sqlite_sql.specs.Catalog.{entry_of};
 ghost use Rattle.sqlite_value.specs.declared.value.Value.TheVariants.{Int};
 ghost use Rattle.line_fills.specs.Records.{AreRecordsOf};
+ghost use Rattle.line_fills.specs.Written.{HasValues};
 ghost use Rattle.line_fills.specs.Rows.{ArePlacesOf, HaveRowids, entries_at};
 
 use crate::encoder::Encoder;
@@ -10,11 +11,11 @@ use crate::lines::PageLine;
 use crate::records::Records;
 use crate::values::row_value;
 use plain_tables::StoreError;
-use std::alloc::{AllocError, Global};
+use std::alloc::Global;
 
 /// Takes the columns of a line.
-fn push_columns<L: PageLine>(encoder: &mut Encoder, line: &L) -> Result<(), AllocError>
-    ensures { OnOk result (encoder.new.row ≡ L.columns line.now) }
+fn push_columns<L: PageLine>(encoder: &mut Encoder, line: &L) -> Result<(), StoreError>
+    ensures { OnOk result (HasValues encoder.new (L.columns line.now)) }
 {
     encoder.clear();
     for at in 0..line.width() {
@@ -29,9 +30,9 @@ fn push_entry<L: PageLine>(
     columns: &[usize],
     line: &L,
     rowid: u64,
-) -> Result<(), AllocError>
+) -> Result<(), StoreError>
     requires { rowid < 2 ^ 63 }
-    ensures { OnOk result (encoder.new.row ≡ entry_of columns.now (Int (pos rowid) ∷ L.columns line.now)) }
+    ensures { OnOk result (HasValues encoder.new (entry_of columns.now (Int (pos rowid) ∷ L.columns line.now))) }
 {
     encoder.clear();
     for at in columns {

@@ -1,6 +1,7 @@
-use Rattle.std.proofs.Common.{ℕ, get_or, map, take, sym, ap, subst₂, ◌∙◌}
+use Rattle.std.proofs.Common.{◌+◌, ◌∷◌, ℕ, get_or, map, pos, take, sym, ap, subst₂, ◌∙◌}
 use Rattle.std.proofs.lemmas.List.{map_more}
 use Rattle.sqlite_sql.specs.Catalog.{entry_of}
+use Rattle.sqlite_value.specs.declared.value.Value.TheVariants.{Int}
 use Rattle.line_fills.specs.Records.{AreRecordsOf}
 use Rattle.line_fills.specs.Rows.{entries_at, row_at}
 use Rattle.line_fills.proofs.Cuts.{one_written}
@@ -18,6 +19,7 @@ loop-place-preserved g c =
     let x = c.index-lines-place.result in
     let entry = λ (k : ℕ). entry_of columns (row_at first lines k) in
     let is = row_of_line g.L.PageLine.columns first c.args.lines.now place x (c.requires.within i 0 c.loop-place-test.true) c.index-lines-place.is in
+    let made = entry_of columns (Int (pos (first + place)) ∷ g.L.PageLine.columns x) in
     subst₂ AreRecordsOf (sym (map_more entry places i 0 c.loop-place-test.true)) (sym c.in_ok-push.ensures)
     (one_written (entries_at columns first lines (take i places)) c.loop-place.records (entry place) c.in_ok-record.field-0.now c.loop-place.invariant
-    (c.in_ok-record.ensures.decoded ∙ c.in_ok-push_entry.ensures ∙ ap (entry_of columns) is) c.in_ok-record.ensures.writable)
+    (c.in_ok-record.ensures.decoded made c.in_ok-push_entry.ensures ∙ ap (entry_of columns) is) (c.in_ok-record.ensures.writable made c.in_ok-push_entry.ensures))

@@ -14,4 +14,4 @@ loop-line-preserved g c =
     map_more columns lines i x c.loop-line-test.true ∙ ap (λ y. map columns (take i lines) ++ columns y ∷ []) (sym c.line-item.is) in
     subst₂ AreRecordsOf (sym rows) (sym c.in_ok-push.ensures)
     (one_written (map columns (take i lines)) c.loop-line.records (columns x) c.in_ok-record.field-0.now c.loop-line.invariant
-    (c.in_ok-record.ensures.decoded ∙ c.in_ok-push_columns.ensures) c.in_ok-record.ensures.writable)
+    (c.in_ok-record.ensures.decoded (columns x) c.in_ok-push_columns.ensures) (c.in_ok-record.ensures.writable (columns x) c.in_ok-push_columns.ensures))

@@ -1,15 +1,26 @@
-use Rattle.std.proofs.Common.{arith, ap, ◌∙◌}
+use Rattle.std.proofs.Common.{◌≡◌, [], ◌∷◌, ◌++◌, ◌+◌, ◌<◌, ◌≤◌, length, arith, sym, ap, subst, ◌∙◌, length-append}
 use Rattle.sqlite_record.specs.Record.{decode}
+use Rattle.sqlite_record.proofs.RecordLemmas.{decode-written}
 use Rattle.sqlite_record.proofs.StrictLemmas.{IsRecord-written}
+use Rattle.line_fills.specs.Records.{IsWritable}
+use Rattle.line_fills.proofs.Encoded.{few_values, header_of, record_of, some_values}
 use Rattle.line_fills.proofs.encoder.Encoder.record.Goals as goal
 
-pub returns-in-Ok : goal.returns-in-Ok
-returns-in-Ok c =
-    let same = c.as_slice.ensures.value in
+pub returns : goal.returns
+returns c =
+    let types = c.args.self.now.types.items in
+    let body = c.args.self.now.body.items in
+    let count : c.len-header.result ≡ length types = omega (arith, c.len-header.ensures, c.args.self.now.types.ok.0) in
+    let few : length types < 127 = omega (arith, count, c.if-header-gt126.false) in
+    let some : 0 < length types = omega (arith, count, c.if-header-eq0.false) in
+    let long : length body ≤ 1000000000 = omega (arith, c.len.ensures, c.if-len-gt-MAX_LEN.false, c.args.self.now.body.ok.0) in
+    let both = length-append types body in
+    let is : c.as_slice.result.now ≡ (length types + 1) ∷ (types ++ body) = c.as_slice.ensures.value ∙ c.in_ok-finish.ensures ∙ ap (λ n. (n + 1) ∷ (types ++ body)) count in
     record {
-      decoded = ap decode same ∙ c.in-Ok.ensures.ok;
-      writable = rw same (record {
-        short = omega (arith, c.in-Ok.ensures.short);
-        strict = IsRecord-written c.encode.new.out.items c.args.self.now.row c.in-Ok.ensures.layout (omega (arith, c.len.ensures, c.if-len-eq0.false)) (omega (arith, c.if-len-gt-MAX_VALUES.false));
-      });
+      decoded = λ row was. ap decode is ∙ decode-written row ((length types + 1) ∷ []) types body (header_of types few) was.typed was.filled;
+      writable = λ row was.
+          subst IsWritable (sym is) (record {
+            short = omega (arith, both, few, long);
+            strict = IsRecord-written _ row (record_of types body row was.typed was.filled few) (some_values types row was.typed some) (omega (arith, few_values types row was.typed, few));
+          });
     }

@@ -1,0 +1,23 @@
+use Rattle.std.proofs.Common.{[], ◌∷◌, ◌++◌, map, pos, take, arith, sym, ap, ap₂, subst, ◌∙◌, take_all}
+use Rattle.std.proofs.lemmas.List.{map_more}
+use Rattle.sqlite_value.specs.declared.value.Value.TheVariants.{Int}
+use Rattle.sqlite_value.specs.Order.{Row, column}
+use Rattle.line_fills.specs.Written.{HasValues}
+use Rattle.line_fills.proofs.Steps.{on_ok}
+use Rattle.line_fills.proofs.batches.push_entry.Goals as goal
+
+pub loop-at-preserved : goal.loop-at-preserved
+loop-at-preserved g c =
+    let row : Row = Int (pos c.args.rowid) ∷ g.L.PageLine.columns c.args.line.now in
+    let i = c.loop-at.at-index in
+    let front = map (column row) (take i c.args.columns.now) in
+    subst (HasValues c.push.new.self) (ap (λ v. front ++ v ∷ []) c.row_value.ensures ∙ sym (map_more (column row) c.args.columns.now i 0 c.loop-at-test.true))
+    (c.in_ok-push.ensures front c.loop-at.invariant)
+
+pub returns : goal.returns
+returns g c =
+    let row : Row = Int (pos c.args.rowid) ∷ g.L.PageLine.columns c.args.line.now in
+    let columns = c.args.columns.now in
+    let all = take_all c.loop-at.at-index columns (omega (arith, c.loop-at-test.false)) in
+    on_ok c.push-2.result (subst (HasValues c.push-2.new.self) (ap₂ (λ (places : _) v. map (column row) places ++ v ∷ []) all c.row_value-2.ensures))
+    (c.push-2.ensures (map (column row) (take c.loop-at.at-index columns)) c.loop-at.invariant)
