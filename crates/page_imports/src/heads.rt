@@ -7,8 +7,8 @@ ghost use Rattle.plain_tables.specs.Changes.{with_coefs, with_derived, with_even
 ghost use Rattle.store_schema.specs.Lines.{coef_row, derived_row, event_row, run_row};
 ghost use Rattle.store_schema.specs.Steps.{IsAbove};
 ghost use Rattle.run_lines.specs.Runs.{with_head_of};
-ghost use Rattle.page_imports.specs.Needs.{CanAdd, CanBegin, CanFill};
-ghost use Rattle.page_imports.specs.Steps.{Makes};
+ghost use Rattle.page_imports.specs.Needs.{CanAdd, CanBegin};
+ghost use Rattle.page_imports.specs.Steps.{Makes, PutsLines};
 
 use crate::columns::{meta_columns, run_columns};
 use crate::failures::error_of_row;
@@ -76,8 +76,7 @@ fn put_events<D: Disk>(
     roots: &StoreRoots,
     lines: &[EventRow<'_>],
 ) -> Result<(), StoreError>
-    ensures done { (run : _) → Makes file.old file.new roots.now (CanFill (λ t. t.events) (λ line. line.run) run (map event_row lines.now))
-        (with_events (map event_row lines.now)) result }
+    ensures done { PutsLines file.old file.new roots.now (λ t. t.events) (λ line. line.run) with_events (map event_row lines.now) result }
     ensures usable { OnOk result (IsUsable file.new) }
     ensures keeps { Keeps (pools.state file.old.pool) (pools.state file.new.pool) }
 {
@@ -105,8 +104,7 @@ fn put_derived<D: Disk>(
     roots: &StoreRoots,
     lines: &[DerivedRow<'_>],
 ) -> Result<(), StoreError>
-    ensures done { (run : _) → Makes file.old file.new roots.now (CanFill (λ t. t.derived) (λ line. line.run) run (map derived_row lines.now))
-        (with_derived (map derived_row lines.now)) result }
+    ensures done { PutsLines file.old file.new roots.now (λ t. t.derived) (λ line. line.run) with_derived (map derived_row lines.now) result }
     ensures usable { OnOk result (IsUsable file.new) }
     ensures keeps { Keeps (pools.state file.old.pool) (pools.state file.new.pool) }
 {
@@ -134,8 +132,7 @@ fn put_coefs<D: Disk>(
     roots: &StoreRoots,
     lines: &[CoefRow],
 ) -> Result<(), StoreError>
-    ensures done { (run : _) → Makes file.old file.new roots.now (CanFill (λ t. t.coefs) (λ line. line.run) run (map coef_row lines.now))
-        (with_coefs (map coef_row lines.now)) result }
+    ensures done { PutsLines file.old file.new roots.now (λ t. t.coefs) (λ line. line.run) with_coefs (map coef_row lines.now) result }
     ensures usable { OnOk result (IsUsable file.new) }
     ensures keeps { Keeps (pools.state file.old.pool) (pools.state file.new.pool) }
 {

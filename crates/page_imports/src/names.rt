@@ -1,20 +1,16 @@
 // The names of a file, by their numbers in the store.
-ghost use Rattle.std.specs.Prelude.{◌≡◌, ◌∷◌, [], ℕ, List, ⊤, IfOk, OnOk};
+ghost use Rattle.std.specs.Prelude.{◌≡◌, ◌∷◌, [], ⊤, IfOk, OnOk};
 ghost use Rattle.sqlite_pool.specs.Pool as pools;
 ghost use Rattle.sqlite_pool.specs.Stored.{Keeps};
 ghost use Rattle.sqlite_record.specs.Record.{decode};
-ghost use Rattle.sqlite_trees.specs.Tree.{Trees};
-ghost use Rattle.sqlite_store.specs.declared.catalog.Wanted.{Wanted};
 ghost use Rattle.sqlite_value.specs.declared.value.Value.TheVariants.{Blob};
-ghost use Rattle.page_files.specs.Files.{IsFaithful, IsUsable, OnlyReads};
-ghost use Rattle.page_places.specs.Roots.{AreRoots};
-ghost use Rattle.plain_tables.specs.Changes.{has_name, named, with_new_name};
+ghost use Rattle.page_files.specs.Files.{IsUsable, OnlyReads};
+ghost use Rattle.plain_tables.specs.Changes.{named, with_new_name};
 ghost use Rattle.plain_tables.specs.Files.{all_named, number_in, numbers_in};
-ghost use Rattle.plain_tables.specs.Tables.{Tables};
 ghost use Rattle.store_schema.specs.Names.{number_if_held};
 ghost use Rattle.store_schema.specs.Tables.{number};
 ghost use Rattle.page_imports.specs.Needs.{CanName, IsNextName};
-ghost use Rattle.page_imports.specs.Steps.{Makes, MakesTelling, ShowsTables};
+ghost use Rattle.page_imports.specs.Steps.{Makes, MakesTelling, Tells};
 
 use crate::columns::name_columns;
 use crate::failures::error_of_row;
@@ -88,8 +84,7 @@ fn find_name<D: Disk>(
     roots: &StoreRoots,
     name: &[u8],
 ) -> Result<Option<u32>, StoreError>
-    ensures told { IsFaithful file.new → (wanted : List Wanted) (known : List ℕ) (was : Trees) (t : Tables) → ShowsTables wanted known was t file.old
-        → AreRoots known roots.now → IfOk result (λ found. found ≡ number_if_held t name.now) }
+    ensures told { Tells file.old file.new roots.now result (λ t found. found ≡ number_if_held t name.now) }
     ensures reads { OnlyReads file.old file.new }
     ensures usable { OnOk result (IsUsable file.new) }
 {
@@ -135,8 +130,7 @@ fn next_name<D: Disk>(
     alloc: Global,
     roots: &StoreRoots,
 ) -> Result<u64, StoreError>
-    ensures told { IsFaithful file.new → (wanted : List Wanted) (known : List ℕ) (was : Trees) (t : Tables) → ShowsTables wanted known was t file.old
-        → AreRoots known roots.now → IfOk result (λ next. IsNextName next t) }
+    ensures told { Tells file.old file.new roots.now result (λ t next. IsNextName next t) }
     ensures reads { OnlyReads file.old file.new }
     ensures usable { OnOk result (IsUsable file.new) }
 {
