@@ -1,8 +1,6 @@
 -- A change of groups that was written into the pages, and ended: what the trait's calls say of it.
 use Rattle.std.proofs.Common.{◌≡◌, ◌∙◌, Result, Ok, Err, OnOk, ap}
 use Rattle.sqlite_disk.specs.declared.Disk.{Ghosts}
-use Rattle.sqlite_pool.specs.Pool as pools
-use Rattle.sqlite_pool.specs.Stored.{Keeps}
 use Rattle.page_changes.specs.Changes as groups
 use Rattle.page_changes.specs.Changes.{AreGroupRoots}
 use Rattle.page_changes.specs.declared.groups.GroupTables.{GroupTables}
