@@ -11,6 +11,8 @@ use Rattle.store_schema.specs.Tables.{Holds}
 use Rattle.page_runs.specs.States.{IsFaithful, Represents}
 use Rattle.page_runs.specs.declared.store.PageRuns.{PageRuns}
 
+-- The kit promises of closed files only that some database is in them (`∥ ∥₁`), with no part of it to take out. So only
+-- this is promised here: whatever has one proof at most, as an equation, follows.
 module _ {D : Type 0} {g : Ghosts D} where
   -- it represents the rows that the last commit of the database holds, where those of runs are in the order of the runs
   abbrev pub RepresentsCommitted : Held (FileStore D g) → PageRuns D g → Type 0

@@ -1,8 +1,6 @@
 -- A change that was written into the pages: the transaction holds the changed rows.
 use Rattle.std.proofs.Common.{◌≡◌, ◌∙◌, ℕ, List, Result, Ok, Err, OnOk, ap}
 use Rattle.sqlite_disk.specs.declared.Disk.{Ghosts}
-use Rattle.sqlite_pool.specs.Pool as pools
-use Rattle.sqlite_pool.specs.Stored.{Keeps}
 use Rattle.page_changes.specs.Changes as groups
 use Rattle.page_changes.specs.Changes.{AreGroupRoots}
 use Rattle.page_changes.specs.declared.groups.GroupTables.{GroupTables}
