@@ -42,7 +42,7 @@ use sqlite_pager::Options;
 use std::alloc::Global;
 
 /// A store of runs in the pages of its file. Its small tables are held; the rows of runs and the names are read from
-/// the pages when they are asked for. A change is written into the pages in one transaction; no run is dropped: `Store`.
+/// the pages when they are asked for. A change is written into the pages in one transaction.
 #[derive(Drop)]
 pub struct PageRuns<D: Disk> {
     pub(crate) file: PageFile<D>,
@@ -381,8 +381,9 @@ impl<D: Disk> RunStore for PageRuns<D> {
         self.finish(written)
     }
 
-    fn drop_run(&mut self, _run: u32) -> Result<(), StoreError> {
-        Err(StoreError::Store)
+    fn drop_run(&mut self, run: u32) -> Result<(), StoreError> {
+        let written = page_removals::drop_run(&mut self.file, self.alloc, &self.lists, run);
+        self.finish(written)
     }
 
     fn put_group(&mut self, name: &str) -> Result<(), StoreError> {

@@ -68,14 +68,6 @@ fn change_pages<'a>(rt: &'a HostRuntime, store: StoreInPages, job: Job<'a>) -> i
     came_to
 }
 
-/// Whether a job is done by SQL: a removal, and a server, which may be asked for one. No guarantee: as `run_over`.
-fn needs_sql(job: &Job<'_>) -> bool {
-    match job {
-        Job::Work(work) => matches!(work, Work::Remove(_)),
-        Job::Serve(_) => true,
-    }
-}
-
 /// Whether a work changes nothing, whatever it finds. No guarantee: as `run_over`; a store that is opened to be read
 /// refuses a change.
 fn only_reads(work: &Work<'_>) -> bool {
@@ -92,9 +84,6 @@ fn work_in_pages_at<'a>(
     db: &str,
     job: Job<'a>,
 ) -> Result<io::Result<u8>, Job<'a>> {
-    if needs_sql(&job) {
-        return Err(job);
-    }
     let job = match job {
         Job::Work(work) if only_reads(&work) => match pages_at(rt, db) {
             Some(store) => return Ok(work_in_pages(rt, io::writer(rt), store, work).0),
