@@ -7,7 +7,7 @@ use plain_tables::StoreError;
 use sqlite_pages::Error;
 
 /// What an error of the pages is for a caller.
-pub(crate) fn error_of(error: Error) -> StoreError
+pub fn error_of(error: Error) -> StoreError
     ensures { result ≡ failure_of error }
 {
     match error {
@@ -17,7 +17,7 @@ pub(crate) fn error_of(error: Error) -> StoreError
 }
 
 /// What ended a walk.
-pub(crate) fn error_of_walk(error: WalkError<StoreError>) -> StoreError
+pub fn error_of_walk(error: WalkError<StoreError>) -> StoreError
     ensures { result ≡ end_of_walk error }
 {
     match error {

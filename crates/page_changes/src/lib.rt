@@ -6,11 +6,13 @@
 mod failures;
 // The changes of groups and members.
 mod groups;
-// The indexes of a store, by name.
+// The tables and indexes of a store, by name.
 mod keys;
 // A row with the entry of its key.
 mod lines;
 // Rowids: the next one of a table, and those of the rows of a name.
 mod rowids;
 
+pub use failures::{error_of, error_of_walk};
 pub use groups::{GroupTables, drop_group, join, leave, put_group, set_baseline};
+pub use keys::{index_root, table_root};
