@@ -1,0 +1,9 @@
+//! A run is taken out of a store by the pages of its file: no SQL. It reads and writes what there is of the run, and
+//! nothing else of the large tables. It is within a transaction that the caller commits or undoes.
+#![tactic(auto)]
+
+// The rows of a run in one table.
+mod lines;
+// Where the tables and indexes stand.
+mod roots;
+
