@@ -1,2 +1,4 @@
 pub mod Chains
 pub mod Names
+pub mod Places
+pub mod Results
