@@ -2,3 +2,5 @@ pub mod Chains
 pub mod Names
 pub mod Places
 pub mod Results
+pub mod Clearing
+pub mod Columns

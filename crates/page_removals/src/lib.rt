@@ -2,8 +2,15 @@
 //! nothing else of the large tables. It is within a transaction that the caller commits or undoes.
 #![tactic(auto)]
 
+// Groups whose baseline is a run.
+mod baselines;
 // The rows of a run in one table.
 mod lines;
+// The memberships of a run.
+mod members;
 // Where the tables and indexes stand.
 mod roots;
+// A run, taken out of a store.
+mod runs;
 
+pub use runs::drop_run;
