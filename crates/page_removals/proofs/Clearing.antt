@@ -1,8 +1,7 @@
 -- A run is the baseline of groups no more, one row after another.
-use Rattle.std.proofs.Common.{◌≡◌, ℕ, ℤ, pos, ◌+◌, ◌<◌, Bool, true, false, if◌then◌else◌, List, [], ◌∷◌, map, filter, drop, get_or, length, Option, None, Some, refl, sym, ap, subst, inl, inr, ◌∙◌}
+use Rattle.std.proofs.Common.{◌≡◌, ℕ, ℤ, Bool, true, false, if◌then◌else◌, List, [], ◌∷◌, map, filter, drop, Option, None, Some, refl, sym, ap, subst, inl, inr, ◌∙◌}
 use Rattle.std.specs.List.{list_any}
 use Rattle.std.proofs.lemmas.Bool.{both_ways, eq-eqb, false_from_ne_true}
-use Rattle.std.proofs.lemmas.List.{drop_more}
 use Rattle.sqlite_disk.specs.declared.Disk.{Ghosts}
 use Rattle.sqlite_pool.specs.Pool.{state}
 use Rattle.sqlite_pool.specs.Stored.{Keeps}
@@ -26,7 +25,7 @@ use Rattle.row_writes.specs.declared.places.Place.{Place}
 use Rattle.row_writes.specs.Changes.{Shows}
 use Rattle.row_writes.specs.Tests.{rowids_of}
 use Rattle.store_schema.specs.Schema.{schema_two, grp_at}
-use Rattle.store_schema.specs.Tables.{Holds, group_columns, number_or_null}
+use Rattle.store_schema.specs.Tables.{Holds, group_columns}
 use Rattle.table_changes.specs.Unused.{cleared}
 use Rattle.table_changes.proofs.Cleared.{cleared_all, still_to_clear}
 use Rattle.table_changes.proofs.Contents.{row_of_line}

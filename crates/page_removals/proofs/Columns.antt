@@ -1,5 +1,5 @@
 -- The columns of a record, read one after another.
-use Rattle.std.proofs.Common.{◌≡◌, ℕ, ℤ, pos, false, List, [], ◌∷◌, Option, None, Some, refl, sym, ap, subst, ◌∙◌}
+use Rattle.std.proofs.Common.{◌≡◌, ℕ, ℤ, pos, false, [], ◌∷◌, Option, None, refl, ap, subst, ◌∙◌}
 use Rattle.std.specs.Ordering.{is_eq}
 use Rattle.sqlite_record.specs.declared.fields.Fields.{Fields}
 use Rattle.sqlite_record.specs.Fields.{GivesField, fields_left}

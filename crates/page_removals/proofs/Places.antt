@@ -1,5 +1,5 @@
 -- Where the tables of runs stand in a transaction over a store.
-use Rattle.std.proofs.Common.{◌≡◌, ◌==◌, ℕ, pos, List, [], ◌∷◌, slice_get, slice_index, Some, is_eq, int_cmp, not, filter, refl, sym, ap, subst, ◌∙◌, arith}
+use Rattle.std.proofs.Common.{◌≡◌, ◌==◌, ℕ, pos, List, slice_get, slice_index, Some, is_eq, not, filter, refl, sym, ap, subst, ◌∙◌, arith}
 use Rattle.std.proofs.lemmas.Bool.Decides.{nat_tests}
 use Rattle.std.proofs.lemmas.Int.{ints}
 use Rattle.sqlite_disk.specs.declared.Disk.{Ghosts}
@@ -16,7 +16,6 @@ use Rattle.sqlite_value.proofs.OrderLemmas.{value_cmp-Int}
 use Rattle.page_changes.proofs.Placing.{index_placed_at, placed_at}
 use Rattle.page_files.specs.declared.files.PageFile.{PageFile}
 use Rattle.page_files.specs.Held.{Writes}
-use Rattle.page_files.specs.Writes.{IsTreeAt}
 use Rattle.page_files.proofs.Standing.{catalog_shown, stands_writing}
 use Rattle.plain_tables.specs.Tables.{Tables, EventRow, DerivedRow, CoefRow, CellRow, CallRow, StackRow}
 use Rattle.row_writes.specs.declared.places.IndexPlace.{IndexPlace}

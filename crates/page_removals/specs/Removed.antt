@@ -1,8 +1,7 @@
 -- What a removal of a run makes of a store.
-use Rattle.std.specs.Prelude.{◌≡◌, ◌==◌, ℕ, ℤ, pos, Bool, true, not, List, [], ◌∷◌, filter, map, Some, Result, OnOk}
+use Rattle.std.specs.Prelude.{◌≡◌, ◌==◌, ℕ, ℤ, pos, Bool, true, not, List, ◌∷◌, filter, map, Some, Result, OnOk}
 use Rattle.std.specs.Ordering.{is_eq}
 use Rattle.sqlite_disk.specs.declared.Disk.{Ghosts}
-use Rattle.sqlite_schema.specs.declared.schema.Table.{Table}
 use Rattle.sqlite_store.specs.declared.catalog.Wanted.{Wanted}
 use Rattle.sqlite_trees.specs.Tree.{Trees, put_row, rowid}
 use Rattle.sqlite_rules.specs.Edit.{id_in}

@@ -104,8 +104,14 @@ pub(crate) fn clear_baselines<D: Disk>(
     ensures usable { OnOk result (IsUsable file.new) }
     ensures keeps { Keeps (pools.state file.old.pool) (pools.state file.new.pool) }
 {
-    let keys = [IndexPlace { root: roots.group_keys, columns: &[1] }];
-    let place = Place { root: roots.groups, indexes: &keys };
+    let keys = [IndexPlace {
+        root: roots.group_keys,
+        columns: &[1],
+    }];
+    let place = Place {
+        root: roots.groups,
+        indexes: &keys,
+    };
     let rowids = match rowids_where(file, alloc, &place, &OfRun(run)) {
         Ok(rowids) => rowids,
         Err(error) => return Err(error_of_row(error)),

@@ -50,17 +50,56 @@ pub(crate) fn drop_events<D: Disk>(
     ensures keeps { Keeps (pools.state file.old.pool) (pools.state file.new.pool) }
 {
     let event_keys = [
-        IndexPlace { root: roots.event_places, columns: &[1, 2] },
-        IndexPlace { root: roots.event_names, columns: &[1, 3] },
+        IndexPlace {
+            root: roots.event_places,
+            columns: &[1, 2],
+        },
+        IndexPlace {
+            root: roots.event_names,
+            columns: &[1, 3],
+        },
     ];
     let derived_keys = [
-        IndexPlace { root: roots.derived_places, columns: &[1, 2] },
-        IndexPlace { root: roots.derived_names, columns: &[1, 3] },
+        IndexPlace {
+            root: roots.derived_places,
+            columns: &[1, 2],
+        },
+        IndexPlace {
+            root: roots.derived_names,
+            columns: &[1, 3],
+        },
     ];
-    let coef_keys = [IndexPlace { root: roots.coef_keys, columns: &[1, 2, 3] }];
-    erase_run(file, alloc, &Place { root: roots.events, indexes: &event_keys }, run)?;
-    erase_run(file, alloc, &Place { root: roots.derived, indexes: &derived_keys }, run)?;
-    erase_run(file, alloc, &Place { root: roots.coefs, indexes: &coef_keys }, run)
+    let coef_keys = [IndexPlace {
+        root: roots.coef_keys,
+        columns: &[1, 2, 3],
+    }];
+    erase_run(
+        file,
+        alloc,
+        &Place {
+            root: roots.events,
+            indexes: &event_keys,
+        },
+        run,
+    )?;
+    erase_run(
+        file,
+        alloc,
+        &Place {
+            root: roots.derived,
+            indexes: &derived_keys,
+        },
+        run,
+    )?;
+    erase_run(
+        file,
+        alloc,
+        &Place {
+            root: roots.coefs,
+            indexes: &coef_keys,
+        },
+        run,
+    )
 }
 
 /// Erases the costs of a run.
@@ -74,10 +113,43 @@ pub(crate) fn drop_costs<D: Disk>(
     ensures usable { OnOk result (IsUsable file.new) }
     ensures keeps { Keeps (pools.state file.old.pool) (pools.state file.new.pool) }
 {
-    let cell_keys = [IndexPlace { root: roots.cell_keys, columns: &[1, 5, 6, 4, 3, 2, 7] }];
-    let call_keys = [IndexPlace { root: roots.call_keys, columns: &[1, 2, 3, 4, 5, 6, 7, 8, 9] }];
-    let stack_keys = [IndexPlace { root: roots.stack_keys, columns: &[1, 2] }];
-    erase_run(file, alloc, &Place { root: roots.cells, indexes: &cell_keys }, run)?;
-    erase_run(file, alloc, &Place { root: roots.calls, indexes: &call_keys }, run)?;
-    erase_run(file, alloc, &Place { root: roots.stacks, indexes: &stack_keys }, run)
+    let cell_keys = [IndexPlace {
+        root: roots.cell_keys,
+        columns: &[1, 5, 6, 4, 3, 2, 7],
+    }];
+    let call_keys = [IndexPlace {
+        root: roots.call_keys,
+        columns: &[1, 2, 3, 4, 5, 6, 7, 8, 9],
+    }];
+    let stack_keys = [IndexPlace {
+        root: roots.stack_keys,
+        columns: &[1, 2],
+    }];
+    erase_run(
+        file,
+        alloc,
+        &Place {
+            root: roots.cells,
+            indexes: &cell_keys,
+        },
+        run,
+    )?;
+    erase_run(
+        file,
+        alloc,
+        &Place {
+            root: roots.calls,
+            indexes: &call_keys,
+        },
+        run,
+    )?;
+    erase_run(
+        file,
+        alloc,
+        &Place {
+            root: roots.stacks,
+            indexes: &stack_keys,
+        },
+        run,
+    )
 }

@@ -48,8 +48,14 @@ pub(crate) fn drop_members<D: Disk>(
     ensures usable { OnOk result (IsUsable file.new) }
     ensures keeps { Keeps (pools.state file.old.pool) (pools.state file.new.pool) }
 {
-    let keys = [IndexPlace { root: roots.member_keys, columns: &[1, 2] }];
-    let place = Place { root: roots.members, indexes: &keys };
+    let keys = [IndexPlace {
+        root: roots.member_keys,
+        columns: &[1, 2],
+    }];
+    let place = Place {
+        root: roots.members,
+        indexes: &keys,
+    };
     match erase_where(file, alloc, &place, &OfRun(run)) {
         Ok(()) => Ok(()),
         Err(error) => Err(error_of_row(error)),

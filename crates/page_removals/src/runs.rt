@@ -26,8 +26,14 @@ fn drop_its_row<D: Disk>(
     ensures usable { OnOk result (IsUsable file.new) }
     ensures keeps { Keeps (pools.state file.old.pool) (pools.state file.new.pool) }
 {
-    let keys = [IndexPlace { root: roots.run_digests, columns: &[3] }];
-    let place = Place { root: roots.runs, indexes: &keys };
+    let keys = [IndexPlace {
+        root: roots.run_digests,
+        columns: &[3],
+    }];
+    let place = Place {
+        root: roots.runs,
+        indexes: &keys,
+    };
     match erase(file, alloc, &place, i64::from(run)) {
         Ok(()) => Ok(()),
         Err(error) => Err(error_of_row(error)),

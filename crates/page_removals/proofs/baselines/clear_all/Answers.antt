@@ -1,4 +1,4 @@
-use Rattle.std.proofs.Common.{rules, ◌≡◌, pos, ◌+◌, drop, get_or, sym, subst, to_z-of_z, to_z, of_z, w64}
+use Rattle.std.proofs.Common.{rules, ◌≡◌, pos, ◌+◌, drop, get_or, subst, to_z-of_z, to_z, of_z, w64}
 use Rattle.std.proofs.lemmas.List.{drop_all, drop_more}
 use Rattle.sqlite_pool.specs.Pool.{state}
 use Rattle.sqlite_pool.specs.StoredLaws.{Keeps-refl, Keeps-trans}

@@ -1,4 +1,4 @@
-use Rattle.std.proofs.Common.{◌≡◌, ℕ, ℤ, List, [], ◌∷◌, true, Some, filter, refl, sym, ap, subst, subst₂, inl, ◌∙◌, to_z-of_z, to_z, of_z, w64}
+use Rattle.std.proofs.Common.{◌≡◌, ℤ, [], ◌∷◌, true, Some, filter, refl, sym, ap, subst, subst₂, inl, ◌∙◌, to_z-of_z, to_z, of_z, w64}
 use Rattle.sqlite_pool.specs.StoredLaws.{Keeps-trans}
 use Rattle.sqlite_record.specs.Record.{decode}
 use Rattle.sqlite_rules.specs.Lists.{Has}

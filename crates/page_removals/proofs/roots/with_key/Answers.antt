@@ -1,4 +1,3 @@
-use Rattle.std.proofs.Common.{subst}
 use Rattle.page_files.proofs.Reading.{rests_after}
 use Rattle.page_removals.proofs.Chains.{◌⊳◌}
 use Rattle.page_removals.proofs.roots.with_key.Goals as goal

@@ -1,4 +1,4 @@
-use Rattle.std.proofs.Common.{◌≡◌, sym, ◌∙◌}
+use Rattle.std.proofs.Common.{sym, ◌∙◌}
 use Rattle.page_removals.proofs.Columns.{no_column, none_left, one_column}
 use Rattle.page_removals.proofs.members.OfRunRowTest.test.Goals as goal
 
