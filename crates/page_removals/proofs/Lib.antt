@@ -1,0 +1,4 @@
+pub mod Places
+pub mod Results
+pub mod Clearing
+pub mod Columns

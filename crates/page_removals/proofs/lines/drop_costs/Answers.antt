@@ -1,0 +1,28 @@
+use Rattle.std.proofs.Common.{[], ◌∷◌, refl}
+use Rattle.sqlite_pool.specs.StoredLaws.{Keeps-trans}
+use Rattle.store_schema.specs.Schema.{schema_two, thread_cell_at, arc_at, stack_at}
+use Rattle.page_removals.proofs.Places.{calls_out, cells_out, stacks_out, key_at, table_at}
+use Rattle.page_removals.proofs.Results.{on_ok}
+use Rattle.page_removals.proofs.lines.drop_costs.Goals as goal
+
+pub returns-in_err-erase_run-2-clause-keeps : goal.returns-in_err-erase_run-2-clause-keeps
+returns-in_err-erase_run-2-clause-keeps g c = Keeps-trans _ _ _ c.erase_run.ensures.keeps c.erase_run-2.ensures.keeps
+
+pub returns-clause-keeps : goal.returns-clause-keeps
+returns-clause-keeps g c = Keeps-trans _ _ _ (Keeps-trans _ _ _ c.erase_run.ensures.keeps c.erase_run-2.ensures.keeps) c.erase_run-3.ensures.keeps
+
+pub returns-clause-done : goal.returns-clause-done
+returns-clause-done g c faithful = λ wanted known was now t writes holds roots.
+    let n = c.args.run in
+    let after_two = c.erase_run-3.ensures.keeps.stays.clean faithful in
+    let after_one = c.erase_run-2.ensures.keeps.stays.clean after_two in
+    let cells = cells_out n c.erase_run.new.file wanted known was now t holds (c.in_ok-erase_run.ensures.done after_one schema_two wanted known was now thread_cell_at
+    (table_at c.args.file.now writes holds 10 thread_cell_at refl _ roots.cells (key_at c.args.file.now writes holds 11 _ refl refl _ roots.cell_keys refl, tt))
+    ((5 ∷ 6 ∷ 4 ∷ 3 ∷ 2 ∷ 7 ∷ [], refl), tt)) in
+    let calls = calls_out n c.erase_run-2.new.file wanted known was cells.next _ cells.holds_left (c.in_ok-erase_run-2.ensures.done after_two schema_two wanted known was cells.next arc_at
+    (table_at c.erase_run.new.file cells.writes cells.holds_left 6 arc_at refl _ roots.calls (key_at c.erase_run.new.file cells.writes cells.holds_left 7 _ refl refl _ roots.call_keys refl, tt))
+    ((2 ∷ 3 ∷ 4 ∷ 5 ∷ 6 ∷ 7 ∷ 8 ∷ 9 ∷ [], refl), tt)) in
+    on_ok c.erase_run-3.result (λ erased. let stacks = stacks_out n c.erase_run-3.new.file wanted known was calls.next _ calls.holds_left erased in (stacks.next, stacks.writes, stacks.holds_left))
+    (c.erase_run-3.ensures.done faithful schema_two wanted known was calls.next stack_at
+    (table_at c.erase_run-2.new.file calls.writes calls.holds_left 7 stack_at refl _ roots.stacks (key_at c.erase_run-2.new.file calls.writes calls.holds_left 8 _ refl refl _ roots.stack_frames refl, tt))
+    ((2 ∷ [], refl), tt))
