@@ -10,9 +10,8 @@ ghost use Rattle.page_removals.specs.Removed.{ClearsAll, ClearsOne, DropsWithin,
 
 use crate::lines::error_of_row;
 use crate::members::OfRun;
-use page_places::StoreRoots;
-use page_places::error_of;
 use page_files::PageFile;
+use page_places::{StoreRoots, error_of};
 use plain_tables::StoreError;
 use row_writes::{IndexPlace, Place, replace, rowids_where};
 use sqlite_disk::Disk;

@@ -5,9 +5,8 @@ ghost use Rattle.sqlite_pool.specs.Stored.{Keeps};
 ghost use Rattle.page_files.specs.Files.{IsUsable};
 ghost use Rattle.page_removals.specs.Removed.{DropsWithin, ErasesRun, without_costs, without_events};
 
-use page_places::StoreRoots;
-use page_places::error_of;
 use page_files::PageFile;
+use page_places::{StoreRoots, error_of};
 use plain_tables::StoreError;
 use row_writes::{IndexPlace, Place, RowError, erase_under};
 use sqlite_disk::Disk;

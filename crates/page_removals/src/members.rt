@@ -6,8 +6,8 @@ ghost use Rattle.page_files.specs.Files.{IsUsable};
 ghost use Rattle.page_removals.specs.Removed.{DropsWithin, without_memberships};
 
 use crate::lines::error_of_row;
-use page_places::StoreRoots;
 use page_files::PageFile;
+use page_places::StoreRoots;
 use plain_tables::StoreError;
 use row_writes::{IndexPlace, Place, RowTest, erase_where};
 use sqlite_disk::Disk;
