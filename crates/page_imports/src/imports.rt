@@ -68,6 +68,10 @@ pub fn put_run<D: Disk>(
     ensures usable { OnOk result (IsUsable file.new) }
     ensures keeps { Keeps (pools.state file.old.pool) (pools.state file.new.pool) }
 {
+    // Where another program set the next number back, no run is written over.
+    if lists.runs.iter().any(|line| line.entry.number >= number) {
+        return Err(StoreError::Store);
+    }
     if lists.next_run() != number || lists.run_of_digest(digest).is_some() {
         return Err(StoreError::Store);
     }
