@@ -46,8 +46,45 @@ fn put_contents<D: Disk>(
     put_rows(file, alloc, roots, run.number, rows)
 }
 
+/// Puts a file in as the run of the next number, as `put_run`, where each run has a lower one.
+fn put_next_run<D: Disk>(
+    file: &mut PageFile<D>,
+    alloc: Global,
+    lists: &RunLists,
+    number: u32,
+    kind: Kind,
+    digest: &[u8; 32],
+    label: &str,
+    summed: &SummedFile<'_>,
+) -> Result<(), StoreError>
+    ensures done { Imports file.old file.new lists.now (with_summed number kind digest.now label.now summed.now) result }
+    ensures is_new { (t : Tables) → AreListed t lists.now → OnOk result (IsNew number digest.now t) }
+    ensures complete { OnOk result (IsComplete summed.now.head.now) }
+    ensures fits { OnOk result (AllFit summed.now.head.now (content_of summed.now.rows.now)) }
+    ensures counted { OnOk result (count_total (content_of summed.now.rows.now).calls < 2 ^ 63) }
+    ensures usable { OnOk result (IsUsable file.new) }
+    ensures keeps { Keeps (pools.state file.old.pool) (pools.state file.new.pool) }
+{
+    if lists.next_run() != number || lists.run_of_digest(digest).is_some() {
+        return Err(StoreError::Store);
+    }
+    let lines = head_rows(alloc, number, summed.head, &summed.totals)?;
+    let Some(call_count) = column_int_of(summed.totals.call_count) else {
+        return Err(StoreError::Store);
+    };
+    let run = RunRow {
+        number,
+        kind: number_of_kind(kind),
+        digest,
+        label,
+        call_count,
+    };
+    let roots = find_roots(file, alloc)?;
+    put_contents(file, alloc, &roots, &run, &lines, summed.rows)
+}
+
 /// Puts a file in as the run of the next number. `digest` is the SHA-256 of the file, `label` a text in form
-/// (`is_label`). `Store` where the number is not the next one, a run has the digest, a sum of a column or a number of
+/// (`is_label`). `Store` where the number is not the next one, or not above those of all runs; a run has the digest, a sum of a column or a number of
 /// calls is above 2^63-1, the head states a total for some events alone, the file failed, or it is at a limit;
 /// `Memory`. After an error `PageFile::undo` is due.
 pub fn put_run<D: Disk>(
@@ -72,20 +109,5 @@ pub fn put_run<D: Disk>(
     if lists.runs.iter().any(|line| line.entry.number >= number) {
         return Err(StoreError::Store);
     }
-    if lists.next_run() != number || lists.run_of_digest(digest).is_some() {
-        return Err(StoreError::Store);
-    }
-    let lines = head_rows(alloc, number, summed.head, &summed.totals)?;
-    let Some(call_count) = column_int_of(summed.totals.call_count) else {
-        return Err(StoreError::Store);
-    };
-    let run = RunRow {
-        number,
-        kind: number_of_kind(kind),
-        digest,
-        label,
-        call_count,
-    };
-    let roots = find_roots(file, alloc)?;
-    put_contents(file, alloc, &roots, &run, &lines, summed.rows)
+    put_next_run(file, alloc, lists, number, kind, digest, label, summed)
 }

@@ -12,7 +12,7 @@ use Rattle.run_stores.specs.Lookups.{IsRunOf}
 use Rattle.store_schema.specs.Tables.{Holds}
 use Rattle.page_imports.specs.Steps.{ShowsTables}
 use Rattle.page_imports.proofs.Results.{on_ok, on_any}
-use Rattle.page_imports.proofs.imports.put_run.Goals as goal
+use Rattle.page_imports.proofs.imports.put_next_run.Goals as goal
 
 pub returns-clause-is_new : goal.returns-clause-is_new
 returns-clause-is_new g c t listed =
