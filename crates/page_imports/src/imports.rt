@@ -84,9 +84,9 @@ fn put_next_run<D: Disk>(
 }
 
 /// Puts a file in as the run of the next number. `digest` is the SHA-256 of the file, `label` a text in form
-/// (`is_label`). `Store` where the number is not the next one, or not above those of all runs; a run has the digest, a sum of a column or a number of
-/// calls is above 2^63-1, the head states a total for some events alone, the file failed, or it is at a limit;
-/// `Memory`. After an error `PageFile::undo` is due.
+/// (`is_label`). `Store` where the number is not the next one, or not above those of all runs; a run has the digest,
+/// a sum of a column or a number of calls is above 2^63-1, the head states a total for some events alone, the file
+/// failed, or it is at a limit; `Memory`. After an error call `PageFile::undo`.
 pub fn put_run<D: Disk>(
     file: &mut PageFile<D>,
     alloc: Global,
