@@ -13,7 +13,7 @@ ghost use Rattle.store_histories.specs.Answered.{RepresentsHistory};
 ghost use Rattle.sessions.specs.Sessions.{Wants};
 ghost use Rattle.sessions.specs.Works.{CameTo};
 
-use crate::stores::{is_no_file, options_for};
+use crate::stores::{PAGES_TO_CHANGE, PAGES_TO_READ, is_no_file, options_for};
 use http_service::{Service, serve_over};
 use page_runs::PageRuns;
 use read_only_disks::{ReadOnly, read_only};
@@ -58,7 +58,7 @@ pub fn pages_at(rt: &HostRuntime, path: &str) -> Option<PageRuns<ReadOnly<File, 
     let Ok(files) = sqlite_std_file::open(rt, path, Unknown) else {
         return None;
     };
-    let options = options_for(rt).ok()?;
+    let options = options_for(rt, PAGES_TO_READ).ok()?;
     store_in_pages(rt.alloc(), files, options)
 }
 
@@ -72,7 +72,7 @@ pub fn pages_to_change_at(rt: &HostRuntime, path: &str) -> Option<StoreInPages> 
     let Ok(files) = sqlite_std_file::open(rt, path, Unknown) else {
         return None;
     };
-    let options = options_for(rt).ok()?;
+    let options = options_for(rt, PAGES_TO_CHANGE).ok()?;
     PageRuns::open(rt.alloc(), files, options)
 }
 

@@ -18,9 +18,12 @@ use std::hash::{BuildHasher, RandomState};
 use std::io::ErrorKind;
 use std::rt::HostRuntime;
 
-/// How many pages that were read are kept in memory. An open checks each page and a report reads each
-/// once, so more would only have to be made: the database's own 2,000 are 8 MB, blank at each command.
-const CACHED_PAGES: usize = 100;
+/// How many pages are kept in memory where a store is only read, or opened by SQL, which checks each page once: each
+/// is read once, and more would only have to be made.
+pub(crate) const PAGES_TO_READ: usize = 100;
+
+/// How many are kept where a store is changed or served, 8 MB: names and their index are written where they fall.
+pub(crate) const PAGES_TO_CHANGE: usize = 2000;
 
 /// What a database in a file is kept in.
 pub type StoreFile = FileStore<File>;
@@ -61,13 +64,13 @@ pub(crate) fn is_no_file(path: &str) -> bool {
     path == ":memory:" || path.starts_with("file:")
 }
 
-/// How its pages are read and written: few are held, and a salt of chance marks its log.
-pub(crate) fn options_for(rt: &HostRuntime) -> Result<Options, OpenError> {
+/// How its pages are read and written: so many are kept, and a salt of chance marks its log.
+pub(crate) fn options_for(rt: &HostRuntime, pages: usize) -> Result<Options, OpenError> {
     let Ok(keys) = RandomState::new(rt) else {
         return Err(OpenError::Store);
     };
     let mut options = Options::new(keys.hash_one(&0u8));
-    options.cache_pages = CACHED_PAGES;
+    options.cache_pages = pages;
     Ok(options)
 }
 
@@ -85,7 +88,7 @@ pub fn database_at(rt: &HostRuntime, path: &str) -> Result<Connection<StoreFile>
         }
         Err(_) => return Err(OpenError::Store),
     };
-    let options = options_for(rt)?;
+    let options = options_for(rt, PAGES_TO_READ)?;
     match Connection::open_files_with(rt.alloc(), files, options, false) {
         Ok(conn) => Ok(conn),
         Err((error, _)) => Err(error_of_open(error)),
