@@ -26,7 +26,7 @@ use std::io;
 use std::io::Write;
 use std::rt::{Files, HostRuntime};
 
-/// The longest log that is read whole into memory, in bytes: 64 MiB. A longer one is left to the database.
+/// The longest log that is read whole into memory, in bytes: 64 MiB. A longer one is recovered in its file.
 const LONGEST_LOG: usize = 0x400_0000;
 
 /// A store in the pages of its file, to be read and changed.
