@@ -8,42 +8,44 @@ ghost use Rattle.page_runs.specs.Shown.{AreRootsIn, IsStoreOf};
 
 use crate::lists::read_lists;
 use crate::roots::{Roots, find_roots};
-use crate::texts::has_our_texts;
+use crate::texts::{Found, find_tables};
 use page_files::PageFile;
 use plain_tables::StoreError;
 use run_lists::RunLists;
 use sqlite_disk::Disk;
 use std::alloc::Global;
 
-/// Finds the tables, and reads the small ones. `Store` where they are not ours, or rows are out of form.
+/// Finds the tables, and reads the small ones; and whether nothing of others stands on them. `Store` where they are not ours,
+/// or rows are out of form.
 fn read_store<D: Disk>(
     file: &mut PageFile<D>,
     alloc: Global,
-) -> Result<(Roots, RunLists), StoreError>
+) -> Result<(Roots, RunLists, bool), StoreError>
     ensures read { IsFaithful file.new → (t : Tables) (db : Trees) (known : List ℕ) → IsStoreOf file.old t db known → IfOk result (λ r. AreRootsIn known r.0 × AreListed t r.1) }
     ensures usable { OnOk result (IsUsable file.new) }
     ensures reads { OnlyReads file.old file.new }
 {
-    if !has_our_texts(file, alloc)? {
+    let tables = find_tables(file, alloc)?;
+    if tables == Found::Others {
         return Err(StoreError::Store);
     }
     let roots = find_roots(file, alloc)?;
     let lists = read_lists(file, alloc, &roots)?;
-    Ok((roots, lists))
+    Ok((roots, lists, tables == Found::Ours))
 }
 
-/// Opens a store: where its tables stand, and the rows of the small ones. Any failure hands the file back: SQL, by
-/// which a caller opens it then, says what is wrong.
+/// Opens a store: where its tables stand, the rows of the small ones, and whether nothing of others stands on them. Any
+/// failure hands the file back: SQL, by which a caller opens it then, says what is wrong.
 pub(crate) fn open_store<D: Disk>(
     alloc: Global,
     mut file: PageFile<D>,
-) -> Result<(PageFile<D>, Roots, RunLists), PageFile<D>>
+) -> Result<(PageFile<D>, Roots, RunLists, bool), PageFile<D>>
     ensures opened { IfOk result (λ r. IsFaithful r.0 → (t : Tables) (db : Trees) (known : List ℕ) → IsStoreOf file t db known → AreRootsIn known r.1 × AreListed t r.2) }
     ensures usable { IfOk result (λ r. IsUsable r.0) }
     ensures reads { MatchResult result (λ r. OnlyReads file r.0) (OnlyReads file) }
 {
     match read_store(&mut file, alloc) {
-        Ok((roots, lists)) => Ok((file, roots, lists)),
+        Ok((roots, lists, is_alone)) => Ok((file, roots, lists, is_alone)),
         Err(_) => Err(file),
     }
 }

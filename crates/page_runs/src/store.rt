@@ -49,6 +49,8 @@ pub struct PageRuns<D: Disk> {
     pub(crate) alloc: Global,
     pub(crate) roots: Roots,
     pub(crate) lists: RunLists,
+    /// Whether no index and no trigger of others stands on the tables.
+    is_alone: bool,
 }
 
 impl<D: Disk + Drop> PageRuns<D> {
@@ -68,11 +70,12 @@ impl<D: Disk + Drop> PageRuns<D> {
             return None;
         };
         match open_store(alloc, file) {
-            Ok((file, roots, lists)) => Some(PageRuns {
+            Ok((file, roots, lists, is_alone)) => Some(PageRuns {
                 file,
                 alloc,
                 roots,
                 lists,
+                is_alone,
             }),
             Err(_) => None,
         }
@@ -175,6 +178,14 @@ impl<D: Disk> PageRuns<D> {
         }
     }
 
+    /// Whether no other program has put an index or a trigger on the tables: a change of the pages would pass it by, so
+    /// such a store is only to be read. That `open` looks for them no clause says.
+    pub fn may_be_changed(&self) -> bool
+        ensures { result ≡ self.now.is_alone }
+    {
+        self.is_alone
+    }
+
     /// Hands the opened file back.
     pub fn into_file(self) -> PageFile<D>
         ensures { result ≡ self.file }
@@ -184,6 +195,7 @@ impl<D: Disk> PageRuns<D> {
             alloc: _,
             roots: _,
             lists: _,
+            is_alone: _,
         } = self;
         file
     }

@@ -11,6 +11,7 @@ use plain_tables::StoreError;
 use sqlite_disk::Disk;
 use sqlite_trees::sound::is_word;
 use sqlite_value::row::Row;
+use sqlite_value::value::ValueRef;
 use std::alloc::Global;
 
 /// The root of `sqlite_schema`, the table that lists the others.
@@ -39,6 +40,17 @@ fn texts_of_tables() -> [&'static str; 11]
     TEXTS
 }
 
+/// Whose tables a file has, and whose indexes.
+#[derive(Clone, Copy, Debug, PartialEq, Eq)]
+pub(crate) enum Found {
+    /// Ours, and what stands on them is ours too.
+    Ours,
+    /// Ours, on which another program has put an index or a trigger: a change of their pages would pass it by.
+    OursWithMore,
+    /// Others, or such with our names and another text.
+    Others,
+}
+
 /// Whether an entry of `sqlite_schema` has the name and the text of the table at a place of schema 2.
 fn is_table_at(entry: &Row, at: usize) -> bool
     ensures { IsTrue result → at < 11 }
@@ -52,12 +64,43 @@ fn is_table_at(entry: &Row, at: usize) -> bool
     }
 }
 
-/// Takes the entries of `sqlite_schema` that are tables, as long as they are ours, in the order of schema 2.
+/// Whether a column of an entry of `sqlite_schema` names one of our tables.
+fn is_ours(entry: &Row, column: usize) -> bool {
+    NAMES
+        .iter()
+        .any(|name| is_word(name.as_bytes(), entry.get(column)))
+}
+
+/// Whether an entry of `sqlite_schema` is an index with a text of its own, or a trigger. An index that a table has by its
+/// text has none.
+fn is_added(entry: &Row) -> bool {
+    is_word(b"trigger", entry.get(1))
+        || (is_word(b"index", entry.get(1)) && matches!(entry.get(5), ValueRef::Text(_)))
+}
+
+/// Takes the entries of `sqlite_schema`, as long as those with the names of our tables are ours, in the order of schema 2.
 #[derive(Drop)]
 struct Listed {
     entry: Row,
     ours: usize,
     has_other: bool,
+    has_more: bool,
+}
+
+impl Listed {
+    /// Takes an entry: whether the tables may still be ours.
+    fn take_entry(&mut self) -> bool {
+        if is_word(b"table", self.entry.get(1)) {
+            if is_table_at(&self.entry, self.ours) {
+                self.ours += 1;
+            } else if is_ours(&self.entry, 2) {
+                self.has_other = true;
+            }
+        } else if is_added(&self.entry) && is_ours(&self.entry, 3) {
+            self.has_more = true;
+        }
+        !self.has_other
+    }
 }
 
 impl RowSink for Listed {
@@ -75,34 +118,28 @@ impl RowSink for Listed {
 
     fn take(&mut self, rowid: i64, payload: &[u8]) -> Result<bool, StoreError> {
         read_row(rowid, payload, &mut self.entry)?;
-        if !is_word(b"table", self.entry.get(1)) {
-            return Ok(true);
-        }
-        if is_table_at(&self.entry, self.ours) {
-            self.ours += 1;
-            return Ok(true);
-        }
-        self.has_other = true;
-        Ok(false)
+        Ok(self.take_entry())
     }
 }
 
-/// Whether the tables of a file are those of schema 2 and no others, each made by our text byte for byte, so that
-/// their columns stand where we read them: a file that was made elsewhere is left to SQL. Indexes and other entries
-/// are not looked at. No clause says so: only that the file is read.
-pub(crate) fn has_our_texts<D: Disk>(
+/// Whose tables a file has. Ours are those of schema 2, each made by our text byte for byte, so that their columns stand where
+/// we read them. Other tables and views may stand beside them. No clause says so: only that the file is read.
+pub(crate) fn find_tables<D: Disk>(
     file: &mut PageFile<D>,
     alloc: Global,
-) -> Result<bool, StoreError>
+) -> Result<Found, StoreError>
     ensures reads { OnlyReads file.old file.new }
 {
     let mut listed = Listed {
         entry: Row::new(alloc),
         ours: 0,
         has_other: false,
+        has_more: false,
     };
     match file.walk(alloc, SCHEMA_ROOT, i64::MIN, &mut listed) {
-        Ok(()) => Ok(listed.ours == 11 && !listed.has_other),
+        Ok(()) if listed.ours < 11 || listed.has_other => Ok(Found::Others),
+        Ok(()) if listed.has_more => Ok(Found::OursWithMore),
+        Ok(()) => Ok(Found::Ours),
         Err(error) => Err(error_of_walk(error)),
     }
 }
