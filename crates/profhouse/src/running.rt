@@ -4,8 +4,8 @@ use file_reading::total_file;
 use http_service::Service;
 use prof_store::OpenError;
 use program_stores::{
-    StoreInPages, database_at, error_line, is_new_at, make_in, pages_at, pages_to_change_at,
-    serve_in, serve_in_pages, work_in, work_in_pages,
+    StoreInPages, database_at, error_line, is_new_at, pages_at, pages_to_change_at, ready_in,
+    serve_in_pages, work_in_pages,
 };
 use sessions::{Task, Work, print_total, task_of};
 use std::io;
@@ -31,31 +31,17 @@ enum Job<'a> {
     Serve(Service),
 }
 
-/// Makes a store in the database at a path, where there is none. No guarantee: as `run_over`.
-fn make_at(rt: &HostRuntime, db: &str) -> Result<(), OpenError> {
-    let (made, conn) = make_in(rt.alloc(), database_at(rt, db)?);
+/// Makes a store in the database at a path that is to become one, or looks at the one that it holds (`ready_in`), and
+/// closes that: what was committed is copied from the log into the file; where that fails, it stands in the log, and
+/// the next opening finds it there. No guarantee: as `run_over`.
+fn ready_at(rt: &HostRuntime, db: &str, is_new: bool) -> Result<(), OpenError> {
+    let (found, conn) = ready_in(rt.alloc(), database_at(rt, db)?, is_new);
     let _closed = conn.close();
-    made
+    found
 }
 
-/// Does a job over the store in the database at a path, and closes that: what was committed is copied from the log into
-/// the file; where that fails, it stands in the log, and the next opening finds it there. No guarantee: as `run_over`.
-fn work_in_database<'a>(
-    rt: &'a HostRuntime,
-    db: &str,
-    job: Job<'a>,
-) -> Result<io::Result<u8>, OpenError> {
-    let conn = database_at(rt, db)?;
-    let (came_to, conn) = match job {
-        Job::Work(work) => work_in(rt, io::writer(rt), conn, work),
-        Job::Serve(service) => serve_in(rt, conn, service),
-    };
-    let _closed = conn.close();
-    came_to
-}
-
-/// Does a job over a store in its pages, and copies what was committed from the log into the file, as
-/// `work_in_database` does.
+/// Does a job over a store in its pages, and copies what was committed from the log into the file, as `ready_at`
+/// does.
 fn change_pages<'a>(rt: &'a HostRuntime, store: StoreInPages, job: Job<'a>) -> io::Result<u8> {
     let (came_to, mut store) = match job {
         Job::Work(work) => {
@@ -78,12 +64,13 @@ fn only_reads(work: &Work<'_>) -> bool {
 }
 
 /// Does a job over the store at a path, in its pages: one that only reads over the files as they are, if their log is
-/// not long. The job comes back where they are not plainly a store of this version. No guarantee: as `run_over`.
+/// not long. The job comes back, and why, where they are not plainly a store of this version. No guarantee: as
+/// `run_over`.
 fn work_in_pages_at<'a>(
     rt: &'a HostRuntime,
     db: &str,
     job: Job<'a>,
-) -> Result<io::Result<u8>, Job<'a>> {
+) -> Result<io::Result<u8>, (OpenError, Job<'a>)> {
     let job = match job {
         Job::Work(work) if only_reads(&work) => match pages_at(rt, db) {
             Some(store) => return Ok(work_in_pages(rt, io::writer(rt), store, work).0),
@@ -92,20 +79,27 @@ fn work_in_pages_at<'a>(
         job => job,
     };
     match pages_to_change_at(rt, db) {
-        Some(store) => Ok(change_pages(rt, store, job)),
-        None => Err(job),
+        Ok(store) => Ok(change_pages(rt, store, job)),
+        Err(end) => Err((end, job)),
     }
 }
 
-/// Does a job over the store at a path, which is made where there is none: in its pages, or else in its database, which
-/// migrates a store of version 1 and says what is wrong with others. No guarantee: as `run_over`.
+/// Does a job over the store at a path, which is made where there is none, in its pages. What is not plainly ours is
+/// looked at in its database first, which migrates a store of version 1 and says what is wrong with others. No
+/// guarantee: as `run_over`.
 fn work_at<'a>(rt: &'a HostRuntime, db: &str, job: Job<'a>) -> Result<io::Result<u8>, OpenError> {
     if is_new_at(rt, db)? {
-        make_at(rt, db)?;
+        ready_at(rt, db, true)?;
     }
+    let job = match work_in_pages_at(rt, db, job) {
+        Ok(came_to) => return Ok(came_to),
+        Err((OpenError::WrongSchema, _)) => return Err(OpenError::WrongSchema),
+        Err((_, job)) => job,
+    };
+    ready_at(rt, db, false)?;
     match work_in_pages_at(rt, db, job) {
         Ok(came_to) => Ok(came_to),
-        Err(job) => work_in_database(rt, db, job),
+        Err((end, _)) => Err(end),
     }
 }
 
@@ -120,7 +114,7 @@ fn run_over<'a>(rt: &'a HostRuntime, db: &str, job: Job<'a>) -> io::Result<ExitC
 }
 
 /// Does what a plan says, and prints what it came to. No guarantee: which files stand at the paths of a plan
-/// the checker does not know; `task_of`, `total_read` and `work_in` say what is made of them.
+/// the checker does not know; `task_of`, `total_read` and `work_in_pages` say what is made of them.
 pub(crate) fn run_plan<'a>(rt: &'a HostRuntime, plan: Plan<'a>) -> io::Result<ExitCode> {
     match task_of(plan) {
         Task::Total(path) => {

@@ -1,5 +1,5 @@
 -- What comes of a database in which a store is wanted, and what is printed where none is opened.
-use Rattle.std.specs.Prelude.{◌≡◌, ◌↔◌, ℕ, Bool, true, false, List, Ok, Err, codes}
+use Rattle.std.specs.Prelude.{◌≡◌, ◌↔◌, ℕ, Bool, true, false, List, Result, MatchResult, Ok, Err, codes}
 use Rattle.sqlite_trees.specs.declared.store.Store.{Ghosts}
 use Rattle.sqlite.specs.Held.{Held, state}
 use Rattle.store_schema.specs.Schema.{empty_schema}
@@ -17,6 +17,10 @@ TakesUp g false old new = IsOpenedBy g old new (Ok tt) × Opened true (state g o
 abbrev pub Refuses : {S : Type 0} → Ghosts S → Bool → OpenError → Held S → Held S → Type 0
 Refuses g true end old new = Creates false (state g old) (state g new) × ((end ≡ ends.WrongSchema) ↔ (¬ ((state g old).now.schema ≡ empty_schema)))
 Refuses g false end old new = IsOpenedBy g old new (Err end) × Opened false (state g old) (state g new)
+
+-- a store stands in a database, made or found; or there was none to be had, and all is as it was
+abbrev pub IsReadyIn : {S T : Type 0} → Ghosts S → Bool → Result T OpenError → Held S → Held S → Type 0
+IsReadyIn g is_new result old new = MatchResult result (λ _. TakesUp g is_new old new) (λ end. Refuses g is_new end old new)
 
 abbrev pub store_text : OpenError → List ℕ
 store_text ends.Memory = codes "store: out of memory"

@@ -4,12 +4,11 @@ ghost use Rattle.sqlite.specs.Held.{state};
 ghost use Rattle.sqlite.specs.State.{HasCleanDisk};
 ghost use Rattle.prof_store.specs.Shown.{shown, IsFaithful};
 ghost use Rattle.store_schema.specs.Errors.{error_for, opening};
-ghost use Rattle.program_stores.specs.Stores.{Refuses, TakesUp, store_text};
-ghost use Rattle.program_stores.specs.Works.{IsMadeIn};
+ghost use Rattle.program_stores.specs.Stores.{IsReadyIn, Refuses, TakesUp, store_text};
 
 use prof_store::{OpenError, Store};
 use sqlite::{Alter, Connection, Error, ErrorCode, File, FileStore};
-use sqlite_disk::Unknown;
+use sqlite_disk::{Files, Unknown};
 use sqlite_pager::Options;
 use sqlite_std_file::OpenError as PathError;
 use std::alloc::Global;
@@ -18,7 +17,7 @@ use std::hash::{BuildHasher, RandomState};
 use std::io::ErrorKind;
 use std::rt::HostRuntime;
 
-/// How many pages are kept in memory where a store is only read, or opened by SQL, which checks each page once: each
+/// How many pages are kept in memory where a store is only read, or looked at by SQL, which checks each page once: each
 /// is read once, and more would only have to be made.
 pub(crate) const PAGES_TO_READ: usize = 100;
 
@@ -59,11 +58,6 @@ pub fn is_new_at(rt: &HostRuntime, path: &str) -> Result<bool, OpenError> {
     }
 }
 
-/// Whether a path is one that SQLite takes for something else than a file.
-pub(crate) fn is_no_file(path: &str) -> bool {
-    path == ":memory:" || path.starts_with("file:")
-}
-
 /// How its pages are read and written: so many are kept, and a salt of chance marks its log.
 pub(crate) fn options_for(rt: &HostRuntime, pages: usize) -> Result<Options, OpenError> {
     let Ok(keys) = RandomState::new(rt) else {
@@ -74,20 +68,24 @@ pub(crate) fn options_for(rt: &HostRuntime, pages: usize) -> Result<Options, Ope
     Ok(options)
 }
 
-/// The database at a path, opened with few pages in its cache. No guarantee: of the files at a path the
-/// checker knows nothing.
-pub fn database_at(rt: &HostRuntime, path: &str) -> Result<Connection<StoreFile>, OpenError> {
-    if is_no_file(path) {
+/// The files of the database at a path, opened. No guarantee: of the files at a path the checker knows nothing.
+pub(crate) fn files_at(rt: &HostRuntime, path: &str) -> Result<Files<File>, OpenError> {
+    if path == ":memory:" || path.starts_with("file:") {
         return Err(OpenError::Store);
     }
-    let files = match sqlite_std_file::open(rt, path, Unknown) {
-        Ok(files) => files,
-        Err(PathError::OutOfMemory) => return Err(OpenError::Memory),
+    match sqlite_std_file::open(rt, path, Unknown) {
+        Ok(files) => Ok(files),
+        Err(PathError::OutOfMemory) => Err(OpenError::Memory),
         Err(PathError::Io(error)) if error.kind() == ErrorKind::OutOfMemory => {
-            return Err(OpenError::Memory);
+            Err(OpenError::Memory)
         }
-        Err(_) => return Err(OpenError::Store),
-    };
+        Err(_) => Err(OpenError::Store),
+    }
+}
+
+/// The database at a path, opened with few pages in its cache. No guarantee: as `files_at`.
+pub fn database_at(rt: &HostRuntime, path: &str) -> Result<Connection<StoreFile>, OpenError> {
+    let files = files_at(rt, path)?;
     let options = options_for(rt, PAGES_TO_READ)?;
     match Connection::open_files_with(rt.alloc(), files, options, false) {
         Ok(conn) => Ok(conn),
@@ -97,7 +95,7 @@ pub fn database_at(rt: &HostRuntime, path: &str) -> Result<Connection<StoreFile>
 
 /// The store of a database: a new one where it is to become one, else the one that it holds. A refusal
 /// hands the connection back.
-pub fn store_in<S: Alter>(
+fn store_in<S: Alter>(
     alloc: Global,
     conn: Connection<S>,
     is_new: bool,
@@ -112,14 +110,16 @@ pub fn store_in<S: Alter>(
     }
 }
 
-/// Makes a store in a database, and hands back the database.
-pub fn make_in<S: Alter>(
+/// Makes a store in a database that is to become one, or looks at the one that it holds: a store of version 1 is
+/// migrated, and a damaged one refused. Hands back the database.
+pub fn ready_in<S: Alter>(
     alloc: Global,
     conn: Connection<S>,
+    is_new: bool,
 ) -> (Result<(), OpenError>, Connection<S>)
-    ensures { HasCleanDisk (state S.Store result.1) → IsMadeIn S.Store result.0 conn result.1 }
+    ensures { HasCleanDisk (state S.Store result.1) → IsReadyIn S.Store is_new result.0 conn result.1 }
 {
-    match store_in(alloc, conn, true) {
+    match store_in(alloc, conn, is_new) {
         Ok(store) => (Ok(()), store.into_connection()),
         Err((end, conn)) => (Err(end), conn),
     }

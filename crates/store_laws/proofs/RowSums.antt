@@ -27,8 +27,8 @@ use Rattle.histories.proofs.Invariants.{IsBefore, numbered}
 use Rattle.histories.proofs.Tests.{Pairs}
 use Rattle.run_stores.specs.Lookups.{IsKindOf}
 use Rattle.run_lists.specs.RowSums.{calls_of_run, cells_of_run, stacks_of_run}
-use Rattle.program_stores.proofs.Columns.{at, by_column, over, over_later, over_same}
-use Rattle.program_stores.proofs.Widths.{file_narrow, no_calls, no_self}
+use Rattle.store_laws.proofs.Columns.{at, by_column, over, over_later, over_same}
+use Rattle.store_laws.proofs.Widths.{file_narrow, no_calls, no_self}
 
 -- ---- the rows of events
 

@@ -37,8 +37,8 @@ use Rattle.histories.proofs.Held.{stays, taken, held_more}
 use Rattle.histories.proofs.StepsTo.{by_steps}
 use Rattle.histories.proofs.Tests.{all_filter, all_push, bytes-self}
 use Rattle.run_lists.specs.RowSums.{calls_of_run, cells_of_run}
-use Rattle.program_stores.proofs.Columns.{over}
-use Rattle.program_stores.proofs.RowSums.{call_costs, count_alone, held_file, self_costs}
+use Rattle.store_laws.proofs.Columns.{over}
+use Rattle.store_laws.proofs.RowSums.{call_costs, count_alone, held_file, self_costs}
 
 -- ---- a file without a fault has few events
 

@@ -1,6 +1,6 @@
-use Rattle.program_stores.proofs.Bounds.{sums_small}
-use Rattle.program_stores.proofs.RowSums.{calls_told, cells_told, stacks_told}
-use Rattle.program_stores.proofs.laws.rows_sum_to_the_small_tables.Goals as goal
+use Rattle.store_laws.proofs.Bounds.{sums_small}
+use Rattle.store_laws.proofs.RowSums.{calls_told, cells_told, stacks_told}
+use Rattle.store_laws.proofs.laws.rows_sum_to_the_small_tables.Goals as goal
 
 pub returns-clause-cells : goal.returns-clause-cells
 returns-clause-cells c h t r represent there = cells_told h t represent r there

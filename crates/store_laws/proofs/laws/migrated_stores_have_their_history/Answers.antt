@@ -1,6 +1,6 @@
 use Rattle.std.proofs.Common.{inl, inr, refl}
 use Rattle.histories.proofs.Marks.{marked_at_end}
-use Rattle.program_stores.proofs.laws.migrated_stores_have_their_history.Goals as goal
+use Rattle.store_laws.proofs.laws.migrated_stores_have_their_history.Goals as goal
 
 pub returns-clause-opened : goal.returns-clause-opened
 returns-clause-opened g c h conn store was opened = (

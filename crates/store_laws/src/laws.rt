@@ -19,7 +19,7 @@ ghost use Rattle.histories.specs.Representation.{TablesRepresent};
 ghost use Rattle.store_histories.specs.Answered.{HasHistory, RepresentsHistory};
 ghost use Rattle.sql_runs.specs.States.{state_of};
 ghost use Rattle.sql_runs.specs.declared.store.SqlRuns.{SqlRuns};
-ghost use Rattle.program_stores.specs.First.{RepresentsFirst, AgreesEither};
+ghost use Rattle.store_laws.specs.First.{RepresentsFirst, AgreesEither};
 
 use prof_store::what_stands_survives;
 use sql_runs::memory_never_fails;
