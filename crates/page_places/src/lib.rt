@@ -8,4 +8,4 @@ mod failures;
 mod roots;
 
 pub use failures::{error_of, error_of_walk};
-pub use roots::{StoreRoots, find_roots, index_root, table_root};
+pub use roots::{StoreRoots, TABLE_NAMES, find_roots, index_root, table_root};

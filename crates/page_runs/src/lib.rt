@@ -1,8 +1,6 @@
 //! A store of runs that is read straight from the pages of its file: no SQL, and no pass over the file before.
 #![tactic(auto)]
 
-// What a failure to read pages is for a caller.
-mod failures;
 // The values of a record.
 mod fields;
 // A database file, opened.
@@ -11,6 +9,8 @@ mod files;
 mod handed;
 // The head of a run, from the rows of the small tables.
 mod heads;
+// Where the rows of runs began when they were last walked.
+mod hints;
 // All rows of a table, read into a list.
 mod listing;
 // The small tables of a store, read into lists.
@@ -25,8 +25,6 @@ mod opening;
 mod places;
 // Records as rows of the tables.
 mod records;
-// Where the tables of a store stand.
-mod roots;
 // The rows of a run in one of its tables.
 mod run_rows;
 // The rows of the small tables, and of the names.

@@ -3,9 +3,8 @@ ghost use Rattle.std.specs.Prelude.{◌≡◌, ◌<◌, map, IsTrue};
 ghost use Rattle.page_files.specs.Files.{OnlyReads};
 ghost use Rattle.page_runs.specs.Texts.{table_texts};
 
-use crate::failures::error_of_walk;
-use crate::roots::NAMES;
 use page_files::PageFile;
+use page_places::{TABLE_NAMES, error_of_walk};
 use page_rows::{RowSink, read_row};
 use plain_tables::StoreError;
 use sqlite_disk::Disk;
@@ -43,7 +42,7 @@ fn texts_of_tables() -> [&'static str; 11]
 fn is_table_at(entry: &Row, at: usize) -> bool
     ensures { IsTrue result → at < 11 }
 {
-    let names = NAMES;
+    let names = TABLE_NAMES;
     let texts = texts_of_tables();
     if at < 11 {
         is_word(names[at].as_bytes(), entry.get(2)) && is_word(texts[at].as_bytes(), entry.get(5))
