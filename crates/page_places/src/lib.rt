@@ -9,6 +9,6 @@ mod names;
 // The root pages of tables and indexes (specs/Roots.antt).
 mod roots;
 
-pub use failures::{error_of, error_of_walk};
+pub use failures::{error_of, error_of_row, error_of_walk};
 pub use names::find_name;
 pub use roots::{StoreRoots, find_roots, index_root, table_root};
