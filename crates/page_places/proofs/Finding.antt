@@ -1,6 +1,7 @@
 -- The number of a name, found in the index of names.
-use Rattle.std.proofs.Common.{◌≡◌, ℕ, Bool, true, false, List, [], ◌∷◌, ◌++◌, map, filter, Option, Some, None, Ordering, Less, Equal, Greater, is_eq, is_lt, if◌then◌else◌, bytes_eq, refl, sym, ap, subst, ◌∙◌, inl, inr, arith}
+use Rattle.std.proofs.Common.{◌≡◌, ◌^◌, ℕ, Bool, true, false, List, [], ◌∷◌, ◌++◌, map, filter, Option, Some, None, Ordering, Less, Equal, Greater, is_eq, is_lt, if◌then◌else◌, bytes_eq, refl, sym, ap, subst, ◌∙◌, inl, inr, arith}
 use Rattle.std.proofs.lemmas.Bool.{true≢false}
+use Rattle.std.proofs.lemmas.Bool.Decides.{leb_tells}
 use Rattle.std.proofs.lemmas.Map.Text.{is_eq-slice_cmp}
 use Rattle.std.proofs.lemmas.Slice.Eq.{bytes_eq-Decides}
 use Rattle.sqlite_value.specs.declared.value.Value.TheVariants.{Blob}
@@ -21,11 +22,14 @@ use Rattle.page_rows.proofs.Prefixes.{begins_itself, first_begins, none_begins}
 use Rattle.plain_tables.specs.Changes.{has_name}
 use Rattle.plain_tables.specs.Files.{number_in}
 use Rattle.plain_tables.specs.Tables.{Tables, NameRow}
+use Rattle.plain_tables.specs.declared.errors.StoreError.{StoreError}
+use Rattle.plain_tables.specs.declared.errors.StoreError.TheVariants.{Store}
 use Rattle.store_schema.specs.Names.{number_if_held}
 use Rattle.store_schema.specs.Schema.{schema_two, name_at}
 use Rattle.store_schema.specs.Tables.{Holds, contents_of, name_columns, number}
 use Rattle.store_schema.proofs.Names.{line_is_held}
-use Rattle.page_imports.specs.Names.{EndsAt}
+use Rattle.page_rows.specs.Walks.{MayRefuse}
+use Rattle.page_places.specs.Names.{EndsAt, HasWideNumber, IsRefused}
 
 is_tied : (o : Ordering) → is_eq o ≡ true → o ≡ Equal
 is_tied Less tie = absurd (true≢false (sym tie))
@@ -54,6 +58,12 @@ kept_by p (first ∷ rows) row (inr later) is none = step (p first) none (kept_b
     step : (b : Bool) → (if b then first ∷ filter p rows else filter p rows) ≡ [] → (filter p rows ≡ [] → ⊥) → ⊥
     step true empty more = cc
     step false empty more = more empty
+
+-- the entry that was refused
+refused_one : (entries : List Row) (e : StoreError) → MayRefuse IsRefused entries e → (entry : Row) × Has entries entry × IsRefused entry e
+refused_one [] e may = absurd may
+refused_one (entry ∷ entries) e (inl here) = (entry, inl refl, here)
+refused_one (entry ∷ entries) e (inr later) = let (one, there, is) = refused_one entries e later in (one, inr there, is)
 
 from_has : (from : Row) (entries : List Row) (row : Row) → Has (from_entry plain from entries) row → Has entries row
 from_has from [] row there = there
@@ -113,3 +123,13 @@ module _ (t : Tables) (now : Trees) (holds : Holds t now) (name : List ℕ) wher
   -- nothing is from the name on
   pub nothing_is : IsIndex plain (now 12) → from_entry plain (Blob name ∷ []) (now 12) ≡ [] → None ≡ number_if_held t name
   nothing_is up none = not_there (none_begins plain (Blob name ∷ []) (now 12) up none)
+
+  -- only an entry whose number has more than 32 bits is refused
+  pub refused_is_wide : (from : Row) (e : StoreError) → MayRefuse IsRefused (from_entry plain from (now 12)) e → (e ≡ Store) × HasWideNumber t
+  refused_is_wide from e may =
+      let (entry, there, why) = refused_one (from_entry plain from (now 12)) e may in
+      let (line, has, is) = line_there entry (from_has from (now 12) entry there) in
+      elim (leb_tells (2 ^ 32) line.number) [
+        | inl wide ↦ (why.0, record { line = line; there = has; wide = wide.1 })
+        | inr low ↦ absurd (why.1 line.name line.number low.1 is)
+      ]
