@@ -9,7 +9,7 @@ ghost use Rattle.page_runs.specs.Shown.{ShowsRows};
 
 use crate::failures::error_of_walk;
 use crate::names::name_in;
-use held_runs::is_name;
+use held_lines::is_name;
 use page_files::PageFile;
 use page_rows::RowSink;
 use plain_tables::StoreError;

@@ -29,7 +29,7 @@ use crate::run_rows::RunTable;
 use cg_formulas::FileHead;
 use cg_text::ListVec;
 use cost_rows::FileTotals;
-use held_runs::HeldNames;
+use held_lines::HeldNames;
 use page_files::PageFile;
 use plain_tables::StoreError;
 use profile_records::Kind;
