@@ -7,6 +7,7 @@ use Rattle.held_lines.specs.declared.head_lines.HeadEvent.{HeadEvent}
 use Rattle.held_lines.specs.declared.head_lines.HeadDerived.{HeadDerived}
 use Rattle.held_lines.specs.declared.head_lines.HeadCoef.{HeadCoef}
 
+-- of the line of an event its place with its name, and the total that it states
 abbrev pub event_place : HeadEvent → PlacedName
 event_place e = record { place = e.place; name = e.name.items }
 
@@ -17,6 +18,7 @@ event_total e = option_map string_bytes e.stated
 abbrev pub States : List HeadEvent → Option (List ℕ) → Type 0
 States lines stated = MatchOption stated (All (λ (line : HeadEvent). line.stated ≡ None) lines) (λ sums. map event_total lines ≡ map (λ n. Some (decimal n)) sums)
 
+-- what a line says: of an event, of a derived event, and of how often an event counts in one
 abbrev pub entry_of_event : HeadEvent → EventEntry
 entry_of_event e = record { place = e.place; name = e.name.items; stated = option_map string_bytes e.stated }
 

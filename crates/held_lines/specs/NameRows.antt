@@ -6,13 +6,15 @@ use Rattle.plain_tables.specs.Tables.{NameRow}
 use Rattle.store_schema.specs.Tables.{number}
 use Rattle.held_lines.specs.declared.held_names.HeldName.{HeldName}
 
+-- the line that a name and its number are
 abbrev pub name_row : HeldName → NameRow
 name_row n = record { number = n.number; name = n.bytes.items }
 
--- of a name its number and its bytes, which the query shows
+-- of a row of names its number and its bytes
 abbrev pub name_seen : Row → Row
 name_seen r = column r 0 ∷ column r 2 ∷ []
 
+-- the columns that show them
 abbrev pub name_shown : NameRow → Row
 name_shown line = number line.number ∷ Blob line.name ∷ []
 
