@@ -7,7 +7,7 @@ use Rattle.sql_tables.proofs.Contents.{content_there}
 use Rattle.plain_tables.specs.Tables.{Tables}
 use Rattle.store_schema.specs.Schema.{schema_two, name_at, thread_cell_at, arc_at, stack_at}
 use Rattle.store_schema.specs.Tables.{Holds, contents_of}
-use Rattle.held_runs.proofs.Apart.{apart_held}
+use Rattle.held_lines.proofs.Apart.{apart_held}
 use Rattle.run_lists.specs.Listed.{AreListed}
 use Rattle.page_files.specs.declared.files.PageFile.{PageFile}
 use Rattle.page_files.specs.Files.{IsUsable}

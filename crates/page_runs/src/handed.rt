@@ -13,7 +13,7 @@ ghost use Rattle.page_runs.specs.Shown.{ShowsLines};
 use crate::fields::{copied_in, end_of, number_in, whole_in};
 use crate::hints::Hints;
 use crate::run_rows::{LineSink, RunTable, each_line};
-use held_runs::{CallLines, CellLines, StackLines};
+use held_lines::{CallLines, CellLines, StackLines};
 use page_files::PageFile;
 use plain_tables::StoreError;
 use run_stores::{CallSink, CellSink, StackRowSink};
@@ -88,7 +88,7 @@ impl<T: CellSink + Drop> LineSink for CellLines<T> {
     ghost use Rattle.std.specs.Prelude.{ℕ};
     ghost use Rattle.plain_tables.specs.Tables.{CellRow as Cell};
     ghost use Rattle.store_schema.specs.Tables.{cell_columns};
-    ghost use Rattle.held_runs.specs.HeldCells.{HasTakenCellLines};
+    ghost use Rattle.held_lines.specs.HeldCells.{HasTakenCellLines};
 
     ghost Line = { Cell };
 
@@ -112,7 +112,7 @@ impl<T: CallSink + Drop> LineSink for CallLines<T> {
     ghost use Rattle.std.specs.Prelude.{ℕ};
     ghost use Rattle.plain_tables.specs.Tables.{CallRow as Call};
     ghost use Rattle.store_schema.specs.Tables.{arc_columns};
-    ghost use Rattle.held_runs.specs.HeldCalls.{HasTakenCallLines};
+    ghost use Rattle.held_lines.specs.HeldCalls.{HasTakenCallLines};
 
     ghost Line = { Call };
 
@@ -142,7 +142,7 @@ struct CopiedStacks<T> {
 impl<T: StackRowSink + Drop> LineSink for CopiedStacks<T> {
     ghost use Rattle.plain_tables.specs.Tables.{StackRow as Stack};
     ghost use Rattle.store_schema.specs.Tables.{stack_columns};
-    ghost use Rattle.held_runs.specs.HeldStacks.{HasTakenStackLines};
+    ghost use Rattle.held_lines.specs.HeldStacks.{HasTakenStackLines};
 
     ghost Line = { Stack };
 

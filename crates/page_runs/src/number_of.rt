@@ -8,7 +8,7 @@ ghost use Rattle.store_schema.specs.Tables.{name_columns};
 ghost use Rattle.page_runs.specs.Shown.{ShowsRows};
 
 use crate::names::name_in;
-use held_runs::is_name;
+use held_lines::is_name;
 use page_files::PageFile;
 use page_places::error_of_walk;
 use page_rows::RowSink;

@@ -28,7 +28,7 @@ use crate::run_rows::RunTable;
 use cg_formulas::FileHead;
 use cg_text::ListVec;
 use cost_rows::FileTotals;
-use held_runs::HeldNames;
+use held_lines::HeldNames;
 use page_files::PageFile;
 use page_places::{StoreRoots, error_of};
 use plain_tables::StoreError;
