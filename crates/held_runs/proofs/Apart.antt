@@ -23,24 +23,13 @@ use Rattle.sqlite_rules.proofs.ListLemmas.{all_has, some_from}
 use Rattle.sqlite_tied.proofs.RuleLemmas.{and_true}
 use Rattle.plain_tables.specs.Tables.{Tables, NameRow}
 use Rattle.store_schema.specs.Schema.{name_at, schema_two}
-use Rattle.store_schema.specs.Tables.{Holds, name_columns, number}
+use Rattle.store_schema.specs.Tables.{name_columns, number}
 use Rattle.store_schema.proofs.Values.{blobs_equal}
-use Rattle.prof_books.specs.Book.{name_of, IsHeld}
+use Rattle.held_lines.proofs.Apart.{line_of}
 use Rattle.prof_store.specs.Readings.{as_read, IsSaidBy, RowsSay}
 use Rattle.prof_store.proofs.Readings.{Says, blob_read, equals_read, names_said, not_null, row_of_line}
-use Rattle.prof_store.proofs.Told.{held_said, said}
+use Rattle.prof_store.proofs.Told.{said}
 use Rattle.run_stores.specs.Names.{AreApart}
-
--- a number that is held is that of a line, whose name it has
-line_of : (names : List NameRow) (n : ℕ) → IsHeld names n → (line : NameRow) × Has names line × (line.number ≡ n) × (name_of names n ≡ line.name)
-line_of [] n held = cc
-line_of (line ∷ lines) n held = go (line.number == n) refl held (line_of lines n)
-  where
-    go : (b : Bool) → (line.number == n) ≡ b → (b || list_any (λ (l : NameRow). l.number == n) lines) ≡ true
-        → (IsHeld lines n → (later : NameRow) × Has lines later × (later.number ≡ n) × (name_of lines n ≡ later.name))
-        → (found : NameRow) × Has (line ∷ lines) found × (found.number ≡ n) × ((if b then line.name else name_of lines n) ≡ found.name)
-    go true is h more = (line, inl refl, grind (arith, nat_tests), refl)
-    go false is h more = let found = more h in (found.0, inr found.1, found.2, found.3)
 
 -- values that do not differ for SQL are equal for it, where none is NULL
 equal_for_sql : (u v : Value) → is_null u ≡ false → is_null v ≡ false → differ u v ≡ false → is_true (binary (Compare Eq Binary) u v) ≡ true
@@ -107,6 +96,3 @@ module _ (t : Tables) (db : Trees) (was : IsSaidBy t db) where
 
 pub apart_read : (t : Tables) (db : Trees) → RowsSay t db → AreApart t.names
 apart_read t db was = apart_said t db (said t db was)
-
-pub apart_held : (t : Tables) (db : Trees) → Holds t db → AreApart t.names
-apart_held t db was = apart_read t db (held_said t db was)

@@ -37,18 +37,18 @@ use Rattle.prof_store.proofs.Members.{plain_has}
 use Rattle.prof_store.proofs.RunRows.{of_run}
 use Rattle.prof_store.proofs.Told.{said}
 use Rattle.prof_store.proofs.Readings.{runs_rise as rows_rise, names_rise, cells_shaped, calls_shaped, stacks_shaped, Says, SaysBehind, values_read, number_read, equals_read, not_null, number_at, text_at, picked_said, seen_said, line_of_row, row_of_line, shown_read, permutes_read, runs_said, event_entries, derived_entries, coef_entries, names_said, groups_said, members_said}
-use Rattle.held_runs.specs.HeadRows as heads
+use Rattle.held_lines.specs.HeadColumns as heads
 use Rattle.held_runs.specs.HeadRows.{events_in_tables, derived_in_tables, coefs_in_tables, events_in_rows, derived_in_rows, coefs_in_rows}
 use Rattle.run_stores.specs.Lookups.{IsBaselineOf, IsKindOf, members_in_tables, numbers_in_tables}
 use Rattle.held_runs.specs.Lookups.{IsKindAt, IsBaselineAt}
-use Rattle.held_runs.specs.NameRows.{name_seen, name_shown}
+use Rattle.held_lines.specs.NameRows.{name_seen, name_shown}
 use Rattle.run_stores.specs.SelfSums.{AreSelfSums, events_of_run, sums_from}
 use Rattle.held_runs.specs.SelfSums.{self_seen, self_shown, sum_columns, AreSelfSumsAt}
 use Rattle.held_runs.specs.RunNumbers.{first_one, number_shown, numbers_in_rows, members_in_rows}
 use Rattle.held_runs.specs.Walks.{IsReady, tree_of}
-use Rattle.held_runs.specs.declared.head_rows.HeadEvent.{HeadEvent}
-use Rattle.held_runs.specs.declared.head_rows.HeadDerived.{HeadDerived}
-use Rattle.held_runs.specs.declared.head_rows.HeadCoef.{HeadCoef}
+use Rattle.held_lines.specs.declared.head_lines.HeadEvent.{HeadEvent}
+use Rattle.held_lines.specs.declared.head_lines.HeadDerived.{HeadDerived}
+use Rattle.held_lines.specs.declared.head_lines.HeadCoef.{HeadCoef}
 use Rattle.held_runs.specs.declared.walks.Listed.{Listed}
 use Rattle.held_runs.specs.declared.walks.Listed.TheVariants.{Cells, Calls, Stacks}
 use Rattle.held_runs.proofs.PlainLines.{self_told}

@@ -12,7 +12,7 @@ use Rattle.store_schema.specs.Seen.{is_at}
 use Rattle.store_schema.specs.Tables.{number}
 use Rattle.run_stores.specs.SelfSums.{PlacedSum, sums_from}
 use Rattle.prof_store.proofs.Listing.{read_on, read_permutes}
-use Rattle.held_runs.specs.HeadRows.{first_two}
+use Rattle.held_lines.specs.HeadColumns.{first_two}
 use Rattle.held_runs.specs.SelfSums.{self_seen, sum_columns, sum_rows}
 use Rattle.held_runs.specs.RunTexts.{self_sums_sql}
 use Rattle.held_runs.proofs.RunTexts.{self_sums_terms, self_sums_shown, self_sums_order, self_sums_means, self_sums_plain, self_sums_unlisted}

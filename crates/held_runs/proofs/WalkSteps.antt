@@ -1,7 +1,6 @@
 -- The steps of a walk over the store.
-use Rattle.std.proofs.Common.{◌≡◌, ℕ, ◌≤◌, suc, ◌+◌, List, [], ◌∷◌, ◌++◌, drop, length, get_or, ◌<◌, true, false, Option, Some, Result, Ok, Err, OnOk, refl, sym, ap, subst, ◌∙◌, add-one}
+use Rattle.std.proofs.Common.{◌≡◌, ℕ, ◌≤◌, ◌+◌, List, [], ◌∷◌, ◌++◌, drop, length, get_or, ◌<◌, true, false, Option, Some, refl, sym, ap, subst, ◌∙◌}
 use Rattle.std.specs.Prelude.{IfSome}
-use Rattle.std.proofs.Math.Seq.{drop-cons}
 use Rattle.sqlite_value.specs.Order.{Row}
 use Rattle.sqlite_trees.specs.View.{IsShaped}
 use Rattle.sqlite_trees.specs.declared.store.Store.{Ghosts}
@@ -10,6 +9,7 @@ use Rattle.sqlite.specs.Effect.{Database}
 use Rattle.sqlite.specs.State.{State}
 use Rattle.sql_tables.specs.Walks.{read_from, Reads, Lie}
 use Rattle.sql_tables.proofs.Walks.{reads_begin, reads_placed, reads_turned, reads_took, reads_ended}
+use Rattle.held_lines.proofs.Steps.{drop_at}
 use Rattle.prof_store.specs.declared.store.Store.{Store}
 use Rattle.held_runs.specs.declared.walks.Listed.{Listed}
 use Rattle.held_runs.specs.declared.walks.End.TheVariants.{First, Last}
@@ -17,10 +17,6 @@ use Rattle.held_runs.specs.declared.walks.Span.{Span}
 use Rattle.held_runs.specs.declared.walks.Walk.{Walk}
 use Rattle.prof_store.specs.Shown.{shown}
 use Rattle.held_runs.specs.Walks.{tree_of, asked, page_of, rows_of, IsEnd, IsReady, Walks, HasWalked}
-
-pub on_ok_then : {T E : Type 0} (r : Result T E) (P Q : Type 0) → OnOk r P → (P → Q) → OnOk r Q
-on_ok_then (Ok x) P Q h f = f h
-on_ok_then (Err e) P Q h f = h
 
 pub ready_if_now : (old new : State) → new.now ≡ old.now → IsReady old → IsReady new
 ready_if_now old new same was = record {
@@ -85,9 +81,6 @@ module _ {S : Type 0} (g : Ghosts S) where
       }
 
 -- ---- one line is given
-
-pub drop_at : {X : Type 0} (xs : List X) (i : ℕ) (x : X) → i < length xs → x ≡ get_or xs i x → drop i xs ≡ x ∷ drop (i + 1) xs
-drop_at xs i x within is = rw (add-one, drop-cons xs i x within) (ap (λ y. y ∷ drop (suc i) xs) (sym is))
 
 module _ {S : Type 0} (g : Ghosts S) where
   -- the row at hand is read

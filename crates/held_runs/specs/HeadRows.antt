@@ -1,31 +1,10 @@
--- The rows of one run that its head was read from.
-use Rattle.std.specs.Prelude.{ℕ, ◌==◌, List, [], ◌∷◌, map, filter, option_map, string_bytes}
-use Rattle.sqlite_value.specs.declared.value.Value.TheVariants.{Blob}
-use Rattle.sqlite_value.specs.Order.{Row, column}
+-- The rows of one run that its head is read from.
+use Rattle.std.specs.Prelude.{ℕ, ◌==◌, List, map, filter}
+use Rattle.sqlite_value.specs.Order.{Row}
 use Rattle.sqlite_trees.specs.Tree.{Trees}
 use Rattle.store_schema.specs.Seen.{is_at, event_seen, derived_seen, coef_seen, event_shown, derived_shown, coef_shown}
 use Rattle.plain_tables.specs.Tables.{Tables, EventRow, DerivedRow, CoefRow}
-use Rattle.store_schema.specs.Tables.{number, text_or_null}
-use Rattle.held_runs.specs.declared.head_rows.HeadEvent.{HeadEvent}
-use Rattle.held_runs.specs.declared.head_rows.HeadDerived.{HeadDerived}
-use Rattle.held_runs.specs.declared.head_rows.HeadCoef.{HeadCoef}
-
-abbrev pub first_two : Row → Row
-first_two r = column r 0 ∷ column r 1 ∷ []
-
-abbrev pub first_three : Row → Row
-first_three r = column r 0 ∷ column r 1 ∷ column r 2 ∷ []
-
-abbrev pub event_columns : HeadEvent → Row
-event_columns e = number e.place ∷ Blob e.name.items ∷ text_or_null (option_map string_bytes e.stated) ∷ []
-
-abbrev pub derived_columns : HeadDerived → Row
-derived_columns d = number d.place ∷ Blob d.name.items ∷ []
-
-abbrev pub coef_columns : HeadCoef → Row
-coef_columns c = number c.place ∷ number c.event ∷ number c.times ∷ []
-
--- ---- what is read of a run
+use Rattle.store_schema.specs.Tables.{number}
 
 -- of the lines of the tables
 abbrev pub events_in_tables : ℕ → Tables → List Row

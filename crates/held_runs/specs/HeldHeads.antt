@@ -1,6 +1,5 @@
 -- The head of a run, as the rows of its lines say it.
-use Rattle.std.specs.Prelude.{◌≡◌, ℕ, IsTrue, List, [], ◌∷◌, map, Option, Some, None, option_map, string_bytes, IsPermutation, MatchOption, All}
-use Rattle.std.specs.Fmt.{decimal}
+use Rattle.std.specs.Prelude.{ℕ, IsTrue, List, [], ◌∷◌, map, IsPermutation}
 use Rattle.sqlite_value.specs.declared.value.Value.TheVariants.{Blob}
 use Rattle.sqlite_value.specs.Order.{Row}
 use Rattle.std.specs.List.{list_any}
@@ -11,9 +10,6 @@ use Rattle.plain_tables.specs.Tables.{Tables}
 use Rattle.prof_books.specs.HeldHeads.{CoefEntry, EventEntry, IsSound, PlacedName, coef_entries, derived_entries, event_entries}
 use Rattle.store_schema.specs.Tables.{number, text_or_null}
 use Rattle.held_runs.specs.HeadRows.{events_in_tables, derived_in_tables, coefs_in_tables, events_in_rows, derived_in_rows, coefs_in_rows}
-use Rattle.held_runs.specs.declared.head_rows.HeadEvent.{HeadEvent}
-use Rattle.held_runs.specs.declared.head_rows.HeadDerived.{HeadDerived}
-use Rattle.held_runs.specs.declared.head_rows.HeadCoef.{HeadCoef}
 
 -- ---- what is said, as rows
 
@@ -34,34 +30,6 @@ pub record IsHeadOf (head : FileHead) (events derived coefs : List Row) : Type 0
   pub events_are : IsPermutation events (map entry_columns (event_entries head))
   pub derived_are : IsPermutation derived (map name_columns (derived_entries head))
   pub coefs_are : IsPermutation coefs (map times_columns (coef_entries head))
-
--- ---- the lines that are read
-
-abbrev pub event_place : HeadEvent → PlacedName
-event_place e = record { place = e.place; name = e.name.items }
-
-abbrev pub event_total : HeadEvent → Option (List ℕ)
-event_total e = option_map string_bytes e.stated
-
--- the totals that lines state: each of them one, or none
-abbrev pub States : List HeadEvent → Option (List ℕ) → Type 0
-States lines stated = MatchOption stated (All (λ (line : HeadEvent). line.stated ≡ None) lines) (λ sums. map event_total lines ≡ map (λ n. Some (decimal n)) sums)
-
-abbrev pub entry_of_event : HeadEvent → EventEntry
-entry_of_event e = record { place = e.place; name = e.name.items; stated = option_map string_bytes e.stated }
-
-abbrev pub derived_place : HeadDerived → PlacedName
-derived_place d = record { place = d.place; name = d.name.items }
-
-abbrev pub entry_of_coef : HeadCoef → CoefEntry
-entry_of_coef c = record { place = c.place; event = c.event; times = c.times }
-
--- it is what these lines say
-pub record IsReadFrom (head : FileHead) (events : List HeadEvent) (derived : List HeadDerived) (coefs : List HeadCoef) : Type 0 where
-  pub sound : IsSound head
-  pub events_are : map entry_of_event events ≡ event_entries head
-  pub derived_are : map derived_place derived ≡ derived_entries head
-  pub coefs_are : map entry_of_coef coefs ≡ coef_entries head
 
 -- ---- in the tables
 

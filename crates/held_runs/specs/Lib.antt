@@ -1,10 +1,7 @@
+pub mod Handed
 pub mod HeadRows
-pub mod HeldCalls
-pub mod HeldCells
 pub mod HeldHeads
-pub mod HeldStacks
 pub mod Lookups
-pub mod NameRows
 pub mod SelfSums
 pub mod RunNumbers
 pub mod RunTexts

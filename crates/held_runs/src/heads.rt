@@ -6,8 +6,8 @@ ghost use Rattle.held_runs.specs.HeldHeads.{IsHeadAt, IsReadIn, IsReadAt};
 ghost use Rattle.prof_store.specs.Shown.{Told, Found, Asks};
 
 use crate::head_rows::{coefs_of, derived_of, events_of};
-use crate::heads_held::head_in;
 use cg_formulas::FileHead;
+use held_lines::head_in;
 use prof_store::Store;
 use sqlite::Alter;
 use std::alloc::Global;

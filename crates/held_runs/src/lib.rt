@@ -2,25 +2,21 @@
 //! sums, and their rows one at a time.
 #![tactic(auto)]
 
-// The calls of a run, as they lie in the table (specs/NameRows.antt).
+// The calls of a run, as they lie in the table.
 mod call_lines;
-// The rows of a run's calls, made of their lines (specs/HeldCalls.antt).
-mod call_rows;
-// The cells of a run, as they lie in the table (specs/NameRows.antt).
+// The cells of a run, as they lie in the table.
 mod cell_lines;
-// Hands on the calls of a run (specs/HeldCalls.antt).
+// Hands on the calls of a run (specs/Handed.antt).
 mod handed_calls;
-// Hands on each cell of a run (specs/HeldCells.antt).
+// Hands on each cell of a run (specs/Handed.antt).
 mod handed_cells;
-// Hands on each stack of a run (specs/HeldStacks.antt).
+// Hands on each stack of a run (specs/Handed.antt).
 mod handed_stacks;
-// The lines of the head of a run.
+// Reads the lines of the head of a run (specs/HeadRows.antt).
 mod head_rows;
 // The head of a run by its number (specs/HeldHeads.antt).
 mod heads;
-// The head of a run, made of its lines (specs/HeldHeads.antt).
-mod heads_held;
-// Names and their numbers (specs/NameRows.antt).
+// Reads the names with their numbers.
 mod held_names;
 // The lines of a run in one of its tables, one at a time (specs/Walks.antt).
 mod lines;
@@ -30,18 +26,17 @@ mod lookups;
 mod numbers;
 // The sums of a run's self costs.
 mod self_sums;
-// The stacks of a run, as they lie in the table (specs/NameRows.antt).
+// The stacks of a run, as they lie in the table.
 mod stack_lines;
 // Walks over windows of rowids.
 mod walks;
 
-pub use handed_calls::{CallLines, each_call};
-pub use handed_cells::{CellLines, each_cell};
-pub use handed_stacks::{StackLines, each_stack};
-pub use head_rows::{HeadCoef, HeadDerived, HeadEvent};
+pub use handed_calls::each_call;
+pub use handed_cells::each_cell;
+pub use handed_stacks::each_stack;
 pub use heads::head_of;
-pub use heads_held::head_in;
-pub use held_names::{HeldName, HeldNames, is_name, names_of};
+pub use held_lines::HeldNames;
+pub use held_names::names_of;
 pub use lookups::{baseline_of, kind_of};
 pub use numbers::{members_of, run_numbers};
 pub use run_stores::{CallSink, CellSink, NameTable, StackRowSink};

@@ -1,7 +1,7 @@
 // The sums of a run's self costs.
 ghost use Rattle.std.specs.Prelude.{◌≡◌, [], map, IfOk};
 ghost use Rattle.std.specs.Result.{is_ok};
-ghost use Rattle.held_runs.specs.HeadRows.{first_two};
+ghost use Rattle.held_lines.specs.HeadColumns.{first_two};
 ghost use Rattle.run_stores.specs.SelfSums.{AreSelfSums, events_of_run};
 ghost use Rattle.held_runs.specs.SelfSums.{AreSelfSumsAt, sum_rows};
 ghost use Rattle.prof_store.specs.Shown.{Told, Found, Asks};

@@ -11,20 +11,15 @@ use Rattle.plain_tables.specs.Changes.{has_group, has_member, has_run, is_named}
 use Rattle.plain_tables.specs.Tables.{Tables, MemberRow}
 use Rattle.run_lists.specs.Listed.{AreListed}
 use Rattle.run_lists.specs.declared.listed.RunLists.{RunLists}
-use Rattle.store_schema.specs.Schema.{grp_at, member_at}
 use Rattle.store_schema.specs.Tables.{Holds}
-use Rattle.page_changes.specs.declared.groups.GroupTables.{GroupTables}
-
--- these are the roots of the two tables, among those of all trees
-pub record AreGroupRoots (known : List ℕ) (roots : GroupTables) : Type 0 where
-  pub groups : roots.groups ≡ slice_index known grp_at.tree
-  pub members : roots.members ≡ slice_index known member_at.tree
+use Rattle.page_places.specs.declared.roots.StoreRoots.{StoreRoots}
+use Rattle.page_places.specs.Roots.{AreRoots}
 
 module _ {D : Type 0} {g : Ghosts D} where
   -- where the file rests on a store, a transaction has begun in it that holds the changed tables
-  abbrev pub Changes : PageFile D g → PageFile D g → GroupTables → RunLists → (Tables → Tables) → {A E : Type 0} → Result A E → Type 0
+  abbrev pub Changes : PageFile D g → PageFile D g → StoreRoots → RunLists → (Tables → Tables) → {A E : Type 0} → Result A E → Type 0
   Changes old new roots lists change result =
-      IsFaithful new → (wanted : List Wanted) (known : List ℕ) (db : Trees) (t : Tables) → Rests wanted known db old → Holds t db → AreListed t lists → AreGroupRoots known roots
+      IsFaithful new → (wanted : List Wanted) (known : List ℕ) (db : Trees) (t : Tables) → Rests wanted known db old → Holds t db → AreListed t lists → AreRoots known roots
       → OnOk result ((next : Trees) × Writes wanted known db next new × Holds (change t) next)
 
   -- the same where these are the roots of a table and its index, for tables of which a fact holds

@@ -11,27 +11,16 @@ ghost use Rattle.store_schema.specs.Schema.{grp_at, member_at};
 ghost use Rattle.page_changes.specs.Named.{HasMember};
 ghost use Rattle.page_changes.specs.Changes.{CanJoin, Changes, ChangesAt, ChangesWithin, HasNoMember, without_members, without_named};
 
-use crate::lines::{group_entry, member_entry, named_columns, put_alone, put_line, take_line};
+use crate::lines::{
+    group_entry, if_usable, member_entry, named_columns, put_alone, put_line, take_line,
+};
 use crate::rowids::{find_named, next_rowid};
 use page_files::PageFile;
-use page_places::index_root;
+use page_places::StoreRoots;
 use plain_tables::StoreError;
 use run_lists::{ListedMember, RunLists};
 use sqlite_disk::Disk;
 use std::alloc::Global;
-
-/// The index of the names of groups.
-const GROUP_KEY: &str = "sqlite_autoindex_grp_1";
-
-/// The index of the groups and runs of members.
-const MEMBER_KEY: &str = "sqlite_autoindex_member_1";
-
-/// The root pages of the tables of groups and of members.
-#[derive(Clone, Copy, Debug, PartialEq, Eq)]
-pub struct GroupTables {
-    pub groups: u32,
-    pub members: u32,
-}
 
 /// Whether a member is of a group and a run.
 fn is_of(line: &ListedMember, name: &str, run: u32) -> bool
@@ -71,7 +60,7 @@ fn add_member<D: Disk>(
 pub fn join<D: Disk>(
     file: &mut PageFile<D>,
     alloc: Global,
-    roots: &GroupTables,
+    roots: &StoreRoots,
     lists: &RunLists,
     name: &str,
     run: u32,
@@ -83,11 +72,10 @@ pub fn join<D: Disk>(
     if !lists.has_group(name) || !lists.has_run(run) {
         return Err(StoreError::Store);
     }
-    let index = index_root(file, alloc, MEMBER_KEY)?;
     if has_member(lists, name, run) {
-        return Ok(());
+        return if_usable(file);
     }
-    add_member(file, alloc, roots.members, index, name, run)
+    add_member(file, alloc, roots.members, roots.member_keys, name, run)
 }
 
 /// Puts a group of a name that is not held behind the others.
@@ -113,7 +101,7 @@ fn add_group<D: Disk>(
 pub fn put_group<D: Disk>(
     file: &mut PageFile<D>,
     alloc: Global,
-    roots: &GroupTables,
+    roots: &StoreRoots,
     lists: &RunLists,
     name: &str,
 ) -> Result<(), StoreError>
@@ -125,8 +113,7 @@ pub fn put_group<D: Disk>(
     if lists.has_group(name) {
         return Err(StoreError::Store);
     }
-    let index = index_root(file, alloc, GROUP_KEY)?;
-    add_group(file, alloc, roots.groups, index, name)
+    add_group(file, alloc, roots.groups, roots.group_names, name)
 }
 
 /// Deletes the member of a group and a run, whose row has this rowid.
@@ -152,7 +139,7 @@ fn delete_member<D: Disk>(
 pub fn leave<D: Disk>(
     file: &mut PageFile<D>,
     alloc: Global,
-    roots: &GroupTables,
+    roots: &StoreRoots,
     lists: &RunLists,
     name: &str,
     run: u32,
@@ -161,12 +148,12 @@ pub fn leave<D: Disk>(
     ensures usable { OnOk result (IsUsable file.new) }
     ensures keeps { Keeps (pools.state file.old.pool) (pools.state file.new.pool) }
 {
-    let index = index_root(file, alloc, MEMBER_KEY)?;
     if !has_member(lists, name, run) {
-        return Ok(());
+        return if_usable(file);
     }
-    match find_named(file, alloc, roots.members, name.as_bytes(), Some(run))? {
-        Some(row) => delete_member(file, alloc, roots.members, index, name, run, row.rowid),
+    let (members, index) = (roots.members, roots.member_keys);
+    match find_named(file, alloc, members, name.as_bytes(), Some(run))? {
+        Some(row) => delete_member(file, alloc, members, index, name, run, row.rowid),
         None => Err(StoreError::Store),
     }
 }
@@ -177,7 +164,7 @@ pub fn leave<D: Disk>(
 pub fn set_baseline<D: Disk>(
     file: &mut PageFile<D>,
     alloc: Global,
-    roots: &GroupTables,
+    roots: &StoreRoots,
     lists: &RunLists,
     name: &str,
     run: u32,
@@ -249,7 +236,7 @@ fn delete_group<D: Disk>(
 pub fn drop_group<D: Disk>(
     file: &mut PageFile<D>,
     alloc: Global,
-    roots: &GroupTables,
+    roots: &StoreRoots,
     lists: &RunLists,
     name: &str,
 ) -> Result<(), StoreError>
@@ -260,9 +247,7 @@ pub fn drop_group<D: Disk>(
     if !lists.has_group(name) {
         return Err(StoreError::Store);
     }
-    let member_key = index_root(file, alloc, MEMBER_KEY)?;
-    let group_key = index_root(file, alloc, GROUP_KEY)?;
     let most = lists.members.len();
-    delete_members(file, alloc, roots.members, member_key, name, most)?;
-    delete_group(file, alloc, roots.groups, group_key, name)
+    delete_members(file, alloc, roots.members, roots.member_keys, name, most)?;
+    delete_group(file, alloc, roots.groups, roots.group_names, name)
 }

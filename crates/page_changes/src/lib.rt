@@ -9,4 +9,4 @@ mod lines;
 // Rowids: the next one of a table, and those of the rows of a name.
 mod rowids;
 
-pub use groups::{GroupTables, drop_group, join, leave, put_group, set_baseline};
+pub use groups::{drop_group, join, leave, put_group, set_baseline};

@@ -21,6 +21,16 @@ use sqlite_value::row::Row;
 use sqlite_value::value::ValueRef;
 use std::alloc::Global;
 
+/// `Store` where the file has failed for good.
+pub(crate) fn if_usable<D: Disk>(file: &PageFile<D>) -> Result<(), StoreError>
+    ensures { OnOk result (IsUsable file.now) }
+{
+    match file.if_usable() {
+        Ok(()) => Ok(()),
+        Err(error) => Err(error_of(error)),
+    }
+}
+
 /// The columns of a name and a number, or NULL.
 pub(crate) fn named_columns(
     alloc: Global,

@@ -1,4 +1,3 @@
-pub mod Finding
 pub mod Numbers
 pub mod Results
 pub mod Runs

@@ -1,4 +1,3 @@
 pub mod Imports
-pub mod Names
 pub mod Needs
 pub mod Steps

@@ -1,2 +1,4 @@
+pub mod Finding
 pub mod Placing
 pub mod Rooting
+pub mod Stores

@@ -1,3 +1,5 @@
 pub mod Failures
+pub mod Names
 pub mod Placed
 pub mod Roots
+pub mod Stores

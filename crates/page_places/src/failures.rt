@@ -1,9 +1,10 @@
 // What a failure to read pages is for a caller.
 ghost use Rattle.std.specs.Prelude.{◌≡◌};
-ghost use Rattle.page_places.specs.Failures.{end_of_walk, failure_of};
+ghost use Rattle.page_places.specs.Failures.{end_of_walk, failure_of, failure_of_row};
 
 use page_rows::WalkError;
 use plain_tables::StoreError;
+use row_writes::RowError;
 use sqlite_pages::Error;
 
 /// What an error of the pages is for a caller.
@@ -13,6 +14,16 @@ pub fn error_of(error: Error) -> StoreError
     match error {
         Error::OutOfMemory => StoreError::Memory,
         _ => StoreError::Store,
+    }
+}
+
+/// What a row that was not written is for a caller. `Store` where it cannot be stored, or no rowid is left.
+pub fn error_of_row(error: RowError) -> StoreError
+    ensures { result ≡ failure_of_row error }
+{
+    match error {
+        RowError::Pages(error) => error_of(error),
+        RowError::Unstorable | RowError::NoRowid => StoreError::Store,
     }
 }
 

@@ -1,11 +1,14 @@
-//! Where the tables and indexes of a store stand in the pages of its file, found by their names, and what a failure
-//! of the pages is for a caller of the store.
+//! Where the tables and indexes of a store stand in the pages of its file, found by their names; the number of a name;
+//! and what a failure of the pages is for a caller of the store.
 #![tactic(auto)]
 
 // What a failure of the pages is for a caller (specs/Failures.antt).
 mod failures;
+// The number of a name, found by the index of names (specs/Names.antt).
+mod names;
 // The root pages of tables and indexes (specs/Roots.antt).
 mod roots;
 
-pub use failures::{error_of, error_of_walk};
-pub use roots::{StoreRoots, find_roots, index_root, table_root};
+pub use failures::{error_of, error_of_row, error_of_walk};
+pub use names::find_name;
+pub use roots::{StoreRoots, TABLE_NAMES, find_roots, index_root, table_root};

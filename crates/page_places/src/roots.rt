@@ -41,7 +41,7 @@ pub struct StoreRoots {
 }
 
 /// The names of the tables, in the order of schema 2.
-const TABLES: [&str; 11] = [
+pub const TABLE_NAMES: [&str; 11] = [
     "meta",
     "run",
     "run_event",
@@ -176,7 +176,7 @@ pub fn find_roots<D: Disk>(file: &mut PageFile<D>, alloc: Global) -> Result<Stor
     ensures reads { OnlyReads file.old file.new }
     ensures usable { OnOk result (IsUsable file.new) }
 {
-    let tables = table_roots(file, alloc, &TABLES)?;
+    let tables = table_roots(file, alloc, &TABLE_NAMES)?;
     let indexes = index_roots(file, alloc, &INDEXES)?;
     match file.if_usable() {
         Ok(()) => Ok(roots_of(&tables, &indexes)),

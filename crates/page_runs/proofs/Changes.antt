@@ -23,7 +23,7 @@ use Rattle.store_schema.specs.Schema.{schema_two}
 use Rattle.store_schema.specs.Tables.{Holds}
 use Rattle.store_schema.proofs.Sound.{sound_of}
 use Rattle.page_runs.specs.Finished.{Finishes, IsUndone}
-use Rattle.page_runs.specs.Shown.{AreRootsIn}
+use Rattle.page_places.specs.Roots.{AreRoots}
 use Rattle.page_runs.specs.States.{HoldsIn, IsFaithful, IsSettled, Left, ReadsAs, Represents, ShowsTables, held_by, kept, may_leave, state_of}
 use Rattle.page_runs.specs.declared.store.PageRuns.{PageRuns}
 use Rattle.page_runs.proofs.States.{shown_same, still_or_failed}
@@ -61,7 +61,7 @@ module _ {D : Type 0} {g : Ghosts D} where
     represented m t is same was done =
         let now = subst (λ (u : Tables). Represents u old) same was in
         let it = is_done written (fin.wrote done) (made earlier m is now) in
-        is_done result done (fin.made faithful now.wanted now.known now.db it.next (change m) it.writes (subst (AreRootsIn now.known) (sym roots) now.roots) it.holds (ordered m is (sound_of m now.db now.holds) now.ordered))
+        is_done result done (fin.made faithful now.wanted now.known now.db it.next (change m) it.writes (subst (AreRoots now.known) (sym roots) now.roots) it.holds (ordered m is (sound_of m now.db now.holds) now.ordered))
 
     undone : is_ok result ≡ false → IsUsable new.file → IsUndone mid new
     undone failed = is_refused result failed (fin.undone faithful)
@@ -100,7 +100,7 @@ module _ {D : Type 0} {g : Ghosts D} where
           known = was.known;
           db = was.db;
           rests = u.rests was.wanted was.known was.db (stands_on_along old.file mid.file k (stands_on old.file was.rests));
-          roots = subst (AreRootsIn was.known) (sym (u.roots ∙ roots)) was.roots;
+          roots = subst (AreRoots was.known) (sym (u.roots ∙ roots)) was.roots;
           holds = was.holds;
           ordered = was.ordered;
         }

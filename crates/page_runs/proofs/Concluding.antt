@@ -19,7 +19,8 @@ use Rattle.run_lists.specs.Listed.{AreListed}
 use Rattle.run_lists.specs.declared.listed.RunLists.{RunLists}
 use Rattle.store_schema.specs.Tables.{Holds}
 use Rattle.page_runs.specs.Finished.{Commits, Finishes, IsUndone}
-use Rattle.page_runs.specs.Shown.{AreRoots, AreRootsIn}
+use Rattle.page_places.specs.Roots.{AreRoots}
+use Rattle.page_runs.specs.Shown.{StandUnder}
 use Rattle.page_runs.specs.declared.store.PageRuns.{PageRuns}
 use Rattle.page_runs.proofs.Rooting.{tables_show}
 use Rattle.page_runs.proofs.Taken.{represents_as}
@@ -67,7 +68,7 @@ module _ {D : Type 0} {g : Ghosts D} where
 
     -- read and committed, or undone
     pub concluded : (read : RunLists) (result : Result (Unit {0}) StoreError) → IsUsable mid.file
-        → (IsFaithful mid.file → (t : Tables) (db : Trees) → Holds t db → AreRoots old.file db old.roots → AreListed t read)
+        → (IsFaithful mid.file → (t : Tables) (db : Trees) → Holds t db → StandUnder old.file db old.roots → AreListed t read)
         → Commits read result mid new → Finishes (Ok tt) result old new
     concluded read result usable listed commits = record {
       stays = StaysOrFails-trans _ _ _ k.stays commits.stays;
@@ -78,7 +79,7 @@ module _ {D : Type 0} {g : Ghosts D} where
           let later = writes_after old.file mid.file reads earlier usable writes in
           let shown = tables_show old.file t next known (stands_writing old.file writes) holds old.roots are in
           let told = listed earlier t next holds shown in
-          three_ok result (λ same rests still. represents_as t new next known rests holds order (subst (AreRootsIn known) (sym (same.1 ∙ roots)) are) (subst (AreListed t) (sym same.0) told) still)
+          three_ok result (λ same rests still. represents_as t new next known rests holds order (subst (AreRoots known) (sym (same.1 ∙ roots)) are) (subst (AreListed t) (sym same.0) told) still)
           commits.made (commits.rests faithful wanted known was next later) commits.usable;
       undone = λ faithful. if_err result (λ u still. undone_behind commits.stays (u still)) (commits.undone faithful);
       crash = commits_behind usable commits.stays.clean commits.crash;

@@ -8,7 +8,6 @@ mod HeadLists
 mod HeadTold
 pub mod NameColumns
 pub mod NumberOfName
-pub mod Placing
 mod Probing
 mod Rooting
 pub mod RunRows

@@ -1,9 +1,7 @@
 -- A change that was written into the pages: the transaction holds the changed rows.
-use Rattle.std.proofs.Common.{◌≡◌, ◌∙◌, ℕ, List, Result, Ok, Err, OnOk, ap}
+use Rattle.std.proofs.Common.{ℕ, List, Result, Ok, Err, OnOk}
 use Rattle.sqlite_disk.specs.declared.Disk.{Ghosts}
 use Rattle.page_changes.specs.Changes as groups
-use Rattle.page_changes.specs.Changes.{AreGroupRoots}
-use Rattle.page_changes.specs.declared.groups.GroupTables.{GroupTables}
 use Rattle.plain_tables.specs.Tables.{Tables}
 use Rattle.plain_tables.specs.declared.errors.StoreError.{StoreError}
 use Rattle.store_schema.specs.Tables.{Holds}
@@ -11,7 +9,6 @@ use Rattle.page_files.specs.Held.{Rests, Writes}
 use Rattle.run_lists.specs.Listed.{AreListed}
 use Rattle.sqlite_store.specs.declared.catalog.Wanted.{Wanted}
 use Rattle.sqlite_trees.specs.Tree.{Trees}
-use Rattle.page_runs.specs.Shown.{group_tables}
 use Rattle.page_runs.specs.States.{IsFaithful, Represents}
 use Rattle.page_runs.specs.declared.store.PageRuns.{PageRuns}
 use Rattle.page_runs.proofs.Changes.{IsMade}
@@ -29,10 +26,8 @@ module _ {D : Type 0} {g : Ghosts D} (old mid : PageRuns D g) (change : Tables �
       on_ok written (λ (it : (next : Trees) × Writes was.wanted was.known was.db next mid.file × Holds (change t) next). record { next = it.0; writes = it.1; holds = it.2 })
       (done faithful was.wanted was.known was.db t was.rests was.holds was.reads.shows.listed)
 
-  -- the same of a change of groups, which is told where its tables stand
-  pub group_made : (tables : GroupTables) → tables ≡ group_tables old.roots → groups.Changes old.file mid.file tables old.lists change written
-      → IsFaithful mid → (t : Tables) → (was : Represents t old) → OnOk written (IsMade (change t) was mid)
-  group_made tables same done faithful t was =
-      let roots : AreGroupRoots was.known tables = record { groups = ap (λ (r : GroupTables). r.groups) same ∙ was.roots.groups; members = ap (λ (r : GroupTables). r.members) same ∙ was.roots.members } in
+  -- the same of a change of groups, which is told where their tables stand
+  pub group_made : groups.Changes old.file mid.file old.roots old.lists change written → IsFaithful mid → (t : Tables) → (was : Represents t old) → OnOk written (IsMade (change t) was mid)
+  group_made done faithful t was =
       on_ok written (λ (it : (next : Trees) × Writes was.wanted was.known was.db next mid.file × Holds (change t) next). record { next = it.0; writes = it.1; holds = it.2 })
-      (done faithful was.wanted was.known was.db t was.rests was.holds was.reads.shows.listed roots)
+      (done faithful was.wanted was.known was.db t was.rests was.holds was.reads.shows.listed was.roots)

@@ -3,8 +3,8 @@ use Rattle.std.proofs.Common.{◌≡◌, List, [], ◌∷◌, map, refl, ap, ap�
 use Rattle.sqlite_value.specs.Order.{Row}
 use Rattle.plain_tables.specs.Tables.{NameRow}
 use Rattle.store_schema.specs.Tables.{name_columns}
-use Rattle.held_runs.specs.NameRows.{name_row}
-use Rattle.held_runs.specs.declared.held_names.HeldName.{HeldName}
+use Rattle.held_lines.specs.NameRows.{name_row}
+use Rattle.held_lines.specs.declared.held_names.HeldName.{HeldName}
 
 pub one_name : (a b : NameRow) → name_columns a ≡ name_columns b → a ≡ b
 one_name a b h =

@@ -8,7 +8,7 @@ use Rattle.sqlite_trees.specs.Tree.{IsAscending}
 use Rattle.plain_tables.specs.Tables.{NameRow}
 use Rattle.store_schema.specs.Tables.{name_columns}
 use Rattle.run_stores.specs.Names.{IsNumberOf}
-use Rattle.held_runs.proofs.NumbersOfNames.{IsOther}
+use Rattle.held_lines.proofs.NumbersOfNames.{IsOther}
 use Rattle.page_runs.specs.Sought.{AreOthers, name_read}
 use Rattle.page_runs.proofs.SomeNames.{IsBelow}
 

@@ -21,8 +21,9 @@ use Rattle.page_files.specs.Held.{Rests}
 use Rattle.page_files.proofs.Reading.{rests_after}
 use Rattle.run_lists.specs.Listed.{AreListed}
 use Rattle.store_schema.specs.Tables.{name_columns, cell_columns, arc_columns, stack_columns}
-use Rattle.page_runs.specs.Shown.{AreRootsIn, ShowsLines, ShowsRows}
-use Rattle.page_runs.specs.declared.roots.Roots.{Roots}
+use Rattle.page_places.specs.Roots.{AreRoots}
+use Rattle.page_places.specs.declared.roots.StoreRoots.{StoreRoots}
+use Rattle.page_runs.specs.Shown.{ShowsLines, ShowsRows}
 use Rattle.page_runs.specs.States.{IsFaithful, IsSettled, Left, Represents, ShowsTables, kept, may_leave, state_of}
 use Rattle.page_runs.specs.declared.store.PageRuns.{PageRuns}
 use Rattle.page_files.proofs.Reading.{OnlyReads-refl}
@@ -46,11 +47,11 @@ module _ {D : Type 0} {g : Ghosts D} where
       → (t : Tables) → ShowsTables t old → ShowsTables t new
   shown_same old new size pages lists roots t is = record {
     listed = subst (AreListed t) (sym lists) is.listed;
-    names = same_rows old.file new.file size pages new.roots.names _ (subst (λ (r : Roots). ShowsRows old.file r.names (map name_columns t.names)) (sym roots) is.names);
+    names = same_rows old.file new.file size pages new.roots.names _ (subst (λ (r : StoreRoots). ShowsRows old.file r.names (map name_columns t.names)) (sym roots) is.names);
     apart = is.apart;
-    cells = same_lines old.file new.file size pages new.roots.cells _ _ _ (subst (λ (r : Roots). ShowsLines old.file r.cells cell_columns (λ (c : CellRow). c.run) t.cells) (sym roots) is.cells);
-    calls = same_lines old.file new.file size pages new.roots.calls _ _ _ (subst (λ (r : Roots). ShowsLines old.file r.calls arc_columns (λ (a : CallRow). a.run) t.calls) (sym roots) is.calls);
-    stacks = same_lines old.file new.file size pages new.roots.stacks _ _ _ (subst (λ (r : Roots). ShowsLines old.file r.stacks stack_columns (λ (s : StackRow). s.run) t.stacks) (sym roots) is.stacks);
+    cells = same_lines old.file new.file size pages new.roots.cells _ _ _ (subst (λ (r : StoreRoots). ShowsLines old.file r.cells cell_columns (λ (c : CellRow). c.run) t.cells) (sym roots) is.cells);
+    calls = same_lines old.file new.file size pages new.roots.calls _ _ _ (subst (λ (r : StoreRoots). ShowsLines old.file r.calls arc_columns (λ (a : CallRow). a.run) t.calls) (sym roots) is.calls);
+    stacks = same_lines old.file new.file size pages new.roots.stacks _ _ _ (subst (λ (r : StoreRoots). ShowsLines old.file r.stacks stack_columns (λ (s : StackRow). s.run) t.stacks) (sym roots) is.stacks);
   }
 
   -- a file that shows the same pages, commits nothing, and rests on what it rested on, if it can be used
@@ -85,7 +86,7 @@ module _ {D : Type 0} {g : Ghosts D} where
       known = was.known;
       db = was.db;
       rests = file.rests faithful usable was.wanted was.known was.db was.rests;
-      roots = subst (AreRootsIn was.known) (sym roots) was.roots;
+      roots = subst (AreRoots was.known) (sym roots) was.roots;
       holds = was.holds;
       ordered = was.ordered;
     }

@@ -15,7 +15,7 @@ use Rattle.plain_tables.specs.declared.errors.StoreError.{StoreError}
 use Rattle.run_lists.specs.declared.listed.RunLists.{RunLists}
 use Rattle.run_order.specs.Order.{AreInOrder}
 use Rattle.store_schema.specs.Tables.{Holds}
-use Rattle.page_runs.specs.Shown.{AreRootsIn}
+use Rattle.page_places.specs.Roots.{AreRoots}
 use Rattle.page_runs.specs.States.{Represents}
 use Rattle.page_runs.specs.declared.store.PageRuns.{PageRuns}
 
@@ -42,7 +42,7 @@ module _ {D : Type 0} {g : Ghosts D} where
     pub usable : OnOk result (IsUsable new.file)
     pub wrote : IsTrue (is_ok result) → IsTrue (is_ok written)
     pub made : IsFaithful new.file → (wanted : List Wanted) (known : List ℕ) (was next : Trees) (t : Tables)
-        → Writes wanted known was next old.file → AreRootsIn known old.roots → Holds t next → AreInOrder t → OnOk result (Represents t new)
+        → Writes wanted known was next old.file → AreRoots known old.roots → Holds t next → AreInOrder t → OnOk result (Represents t new)
     pub undone : IsFaithful new.file → OnErr result (IsUsable new.file → IsUndone old new)
     pub crash : CommitsAtMost old.file new.file
     pub unwritten : OnErr written (Keeps (pools.state old.file.pool) (pools.state new.file.pool))

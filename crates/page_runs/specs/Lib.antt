@@ -1,8 +1,5 @@
 pub mod Among
-pub mod Failures
 pub mod Finished
-pub mod Found
-pub mod Placed
 pub mod Shown
 pub mod Sizes
 pub mod Sought

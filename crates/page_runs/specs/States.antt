@@ -22,7 +22,8 @@ use Rattle.store_schema.specs.Tables.{Holds, name_columns, cell_columns, arc_col
 use Rattle.store_schema.proofs.Sound.{sound_of}
 use Rattle.run_stores.specs.Names.{AreApart}
 use Rattle.run_stores.specs.declared.states.StoreState.{Ghosts as StoreGhosts}
-use Rattle.page_runs.specs.Shown.{AreRootsIn, ShowsLines, ShowsRows}
+use Rattle.page_places.specs.Roots.{AreRoots}
+use Rattle.page_runs.specs.Shown.{ShowsLines, ShowsRows}
 use Rattle.page_runs.specs.declared.store.PageRuns.{PageRuns}
 
 -- the files, and the size of their pages
@@ -87,7 +88,7 @@ module _ {D : Type 0} {g : Ghosts D} where
     pub known : List ℕ
     pub db : Trees
     pub rests : Rests wanted known db store.file
-    pub roots : AreRootsIn known store.roots
+    pub roots : AreRoots known store.roots
     pub holds : Holds t db
     pub ordered : AreInOrder t
 

@@ -11,8 +11,9 @@ ghost use Rattle.store_schema.specs.Tables.{number, cell_columns, arc_columns, s
 ghost use Rattle.page_runs.specs.Shown.{ShowsLines};
 
 use crate::fields::{copied_in, end_of, number_in, whole_in};
+use crate::hints::Hints;
 use crate::run_rows::{LineSink, RunTable, each_line};
-use held_runs::{CallLines, CellLines, StackLines};
+use held_lines::{CallLines, CellLines, StackLines};
 use page_files::PageFile;
 use plain_tables::StoreError;
 use run_stores::{CallSink, CellSink, StackRowSink};
@@ -87,7 +88,7 @@ impl<T: CellSink + Drop> LineSink for CellLines<T> {
     ghost use Rattle.std.specs.Prelude.{ℕ};
     ghost use Rattle.plain_tables.specs.Tables.{CellRow as Cell};
     ghost use Rattle.store_schema.specs.Tables.{cell_columns};
-    ghost use Rattle.held_runs.specs.HeldCells.{HasTakenCellLines};
+    ghost use Rattle.held_lines.specs.HeldCells.{HasTakenCellLines};
 
     ghost Line = { Cell };
 
@@ -111,7 +112,7 @@ impl<T: CallSink + Drop> LineSink for CallLines<T> {
     ghost use Rattle.std.specs.Prelude.{ℕ};
     ghost use Rattle.plain_tables.specs.Tables.{CallRow as Call};
     ghost use Rattle.store_schema.specs.Tables.{arc_columns};
-    ghost use Rattle.held_runs.specs.HeldCalls.{HasTakenCallLines};
+    ghost use Rattle.held_lines.specs.HeldCalls.{HasTakenCallLines};
 
     ghost Line = { Call };
 
@@ -141,7 +142,7 @@ struct CopiedStacks<T> {
 impl<T: StackRowSink + Drop> LineSink for CopiedStacks<T> {
     ghost use Rattle.plain_tables.specs.Tables.{StackRow as Stack};
     ghost use Rattle.store_schema.specs.Tables.{stack_columns};
-    ghost use Rattle.held_runs.specs.HeldStacks.{HasTakenStackLines};
+    ghost use Rattle.held_lines.specs.HeldStacks.{HasTakenStackLines};
 
     ghost Line = { Stack };
 
@@ -166,6 +167,7 @@ pub(crate) fn each_cell<D: Disk, T: CellSink + Drop>(
     file: &mut PageFile<D>,
     alloc: Global,
     table: RunTable,
+    hints: &mut Hints,
     events: usize,
     sink: T,
 ) -> Result<T, StoreError>
@@ -174,7 +176,7 @@ pub(crate) fn each_cell<D: Disk, T: CellSink + Drop>(
     ensures reads { OnlyReads file.old file.new }
 {
     let lines = CellLines::new(events, sink);
-    let lines = each_line(file, alloc, table, lines)?;
+    let lines = each_line(file, alloc, table, hints, lines)?;
     Ok(lines.finish())
 }
 
@@ -183,6 +185,7 @@ pub(crate) fn each_call<D: Disk, T: CallSink + Drop>(
     file: &mut PageFile<D>,
     alloc: Global,
     table: RunTable,
+    hints: &mut Hints,
     events: usize,
     sink: T,
 ) -> Result<T, StoreError>
@@ -191,7 +194,7 @@ pub(crate) fn each_call<D: Disk, T: CallSink + Drop>(
     ensures reads { OnlyReads file.old file.new }
 {
     let lines = CallLines::new(alloc, events, sink);
-    let lines = each_line(file, alloc, table, lines)?;
+    let lines = each_line(file, alloc, table, hints, lines)?;
     lines.finish()
 }
 
@@ -200,6 +203,7 @@ pub(crate) fn each_stack<D: Disk, T: StackRowSink + Drop>(
     file: &mut PageFile<D>,
     alloc: Global,
     table: RunTable,
+    hints: &mut Hints,
     sink: T,
 ) -> Result<T, StoreError>
     ensures told { IsFaithful file.new → (t : Tables) → ShowsLines file.old table.root stack_columns (λ (s : Stack). s.run) t.stacks
@@ -210,6 +214,6 @@ pub(crate) fn each_stack<D: Disk, T: StackRowSink + Drop>(
         alloc,
         lines: StackLines::new(sink),
     };
-    let lines = each_line(file, alloc, table, lines)?;
+    let lines = each_line(file, alloc, table, hints, lines)?;
     Ok(lines.lines.finish())
 }

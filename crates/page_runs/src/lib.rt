@@ -1,8 +1,8 @@
 //! A store of runs that is read straight from the pages of its file: no SQL, and no pass over the file before.
 #![tactic(auto)]
 
-// What a failure to read pages is for a caller.
-mod failures;
+// Whether two texts make tables with the same rows.
+mod alike;
 // The values of a record.
 mod fields;
 // A database file, opened.
@@ -11,6 +11,8 @@ mod files;
 mod handed;
 // The head of a run, from the rows of the small tables.
 mod heads;
+// Where the rows of runs began when they were last walked.
+mod hints;
 // All rows of a table, read into a list.
 mod listing;
 // The small tables of a store, read into lists.
@@ -25,8 +27,6 @@ mod opening;
 mod places;
 // Records as rows of the tables.
 mod records;
-// Where the tables of a store stand.
-mod roots;
 // The rows of a run in one of its tables.
 mod run_rows;
 // The rows of the small tables, and of the names.
@@ -35,7 +35,7 @@ mod small;
 mod some_rows;
 // The store (specs/States.antt).
 mod store;
-// Whether a file was made with our tables.
+// Whether a file has our tables.
 mod texts;
 
 pub use store::PageRuns;

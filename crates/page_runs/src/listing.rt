@@ -4,9 +4,9 @@ ghost use Rattle.sqlite_value.specs.Order.{Row};
 ghost use Rattle.page_files.specs.Files.{IsFaithful, IsUsable, OnlyReads};
 ghost use Rattle.page_runs.specs.Shown.{ShowsRows};
 
-use crate::failures::error_of_walk;
 use crate::records::FromRecord;
 use page_files::PageFile;
+use page_places::error_of_walk;
 use page_rows::RowSink;
 use plain_tables::StoreError;
 use sqlite_disk::Disk;

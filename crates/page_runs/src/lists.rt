@@ -5,12 +5,12 @@ ghost use Rattle.page_files.specs.Files.{IsFaithful, IsUsable, OnlyReads};
 ghost use Rattle.plain_tables.specs.Tables.{Tables};
 ghost use Rattle.run_lists.specs.Listed.{AreListed};
 ghost use Rattle.store_schema.specs.Tables.{Holds, meta_columns};
-ghost use Rattle.page_runs.specs.Shown.{AreRoots, ShowsRows};
+ghost use Rattle.page_runs.specs.Shown.{StandUnder, ShowsRows};
 
 use crate::listing::all_rows;
-use crate::roots::Roots;
 use crate::small::Meta;
 use page_files::PageFile;
+use page_places::StoreRoots;
 use plain_tables::StoreError;
 use run_lists::RunLists;
 use sqlite_disk::Disk;
@@ -39,9 +39,9 @@ fn next_run<D: Disk>(file: &mut PageFile<D>, alloc: Global, root: u32) -> Result
 pub(crate) fn read_lists<D: Disk>(
     file: &mut PageFile<D>,
     alloc: Global,
-    roots: &Roots,
+    roots: &StoreRoots,
 ) -> Result<RunLists, StoreError>
-    ensures listed { IsFaithful file.new → (t : Tables) (db : Trees) → Holds t db → AreRoots file.old db roots.now → IfOk result (AreListed t) }
+    ensures listed { IsFaithful file.new → (t : Tables) (db : Trees) → Holds t db → StandUnder file.old db roots.now → IfOk result (AreListed t) }
     ensures usable { OnOk result (IsUsable file.new) }
     ensures reads { OnlyReads file.old file.new }
 {

@@ -7,10 +7,10 @@ ghost use Rattle.page_files.specs.Files.{IsFaithful, OnlyReads};
 ghost use Rattle.store_schema.specs.Tables.{name_columns};
 ghost use Rattle.page_runs.specs.Shown.{ShowsRows};
 
-use crate::failures::error_of_walk;
 use crate::names::name_in;
-use held_runs::is_name;
+use held_lines::is_name;
 use page_files::PageFile;
+use page_places::error_of_walk;
 use page_rows::RowSink;
 use plain_tables::StoreError;
 use sqlite_disk::Disk;

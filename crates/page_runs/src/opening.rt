@@ -4,12 +4,12 @@ ghost use Rattle.sqlite_trees.specs.Tree.{Trees};
 ghost use Rattle.page_files.specs.Files.{IsFaithful, IsUsable, OnlyReads};
 ghost use Rattle.plain_tables.specs.Tables.{Tables};
 ghost use Rattle.run_lists.specs.Listed.{AreListed};
-ghost use Rattle.page_runs.specs.Shown.{AreRootsIn, IsStoreOf};
+ghost use Rattle.page_places.specs.Roots.{AreRoots, IsStoreOf};
 
 use crate::lists::read_lists;
-use crate::roots::{Roots, find_roots};
 use crate::texts::{Found, find_tables};
 use page_files::PageFile;
+use page_places::{StoreRoots, find_roots};
 use plain_tables::StoreError;
 use run_lists::RunLists;
 use sqlite_disk::Disk;
@@ -20,8 +20,8 @@ use std::alloc::Global;
 fn read_store<D: Disk>(
     file: &mut PageFile<D>,
     alloc: Global,
-) -> Result<(Roots, RunLists, bool), StoreError>
-    ensures read { IsFaithful file.new → (t : Tables) (db : Trees) (known : List ℕ) → IsStoreOf file.old t db known → IfOk result (λ r. AreRootsIn known r.0 × AreListed t r.1) }
+) -> Result<(StoreRoots, RunLists, bool), StoreError>
+    ensures read { IsFaithful file.new → (t : Tables) (db : Trees) (known : List ℕ) → IsStoreOf file.old t db known → IfOk result (λ r. AreRoots known r.0 × AreListed t r.1) }
     ensures usable { OnOk result (IsUsable file.new) }
     ensures reads { OnlyReads file.old file.new }
 {
@@ -39,8 +39,8 @@ fn read_store<D: Disk>(
 pub(crate) fn open_store<D: Disk>(
     alloc: Global,
     mut file: PageFile<D>,
-) -> Result<(PageFile<D>, Roots, RunLists, bool), PageFile<D>>
-    ensures opened { IfOk result (λ r. IsFaithful r.0 → (t : Tables) (db : Trees) (known : List ℕ) → IsStoreOf file t db known → AreRootsIn known r.1 × AreListed t r.2) }
+) -> Result<(PageFile<D>, StoreRoots, RunLists, bool), PageFile<D>>
+    ensures opened { IfOk result (λ r. IsFaithful r.0 → (t : Tables) (db : Trees) (known : List ℕ) → IsStoreOf file t db known → AreRoots known r.1 × AreListed t r.2) }
     ensures usable { IfOk result (λ r. IsUsable r.0) }
     ensures reads { MatchResult result (λ r. OnlyReads file r.0) (OnlyReads file) }
 {

@@ -1,5 +1,5 @@
 // Where the rows of a run begin.
-ghost use Rattle.std.specs.Prelude.{◌≡◌, ◌<◌, ◌+ℤ◌, ℕ, ℤ, pos, FitsSigned, List, Some, IfOk, IfSome};
+ghost use Rattle.std.specs.Prelude.{◌≡◌, ◌<◌, ◌≤◌, ◌^◌, ◌+ℤ◌, ℕ, ℤ, pos, FitsSigned, List, Some, IfOk, IfSome};
 ghost use Rattle.std.specs.Int.{w64};
 ghost use Rattle.sqlite_value.specs.Order.{Row};
 ghost use Rattle.page_files.specs.Files.{IsFaithful, OnlyReads};
@@ -7,9 +7,9 @@ ghost use Rattle.page_rows.specs.Rows.{from_rowid};
 ghost use Rattle.page_runs.specs.Shown.{ShowsRows};
 ghost use Rattle.page_runs.specs.Walks.{AllEarlier, InOrder, IsFirstOf};
 
-use crate::failures::error_of_walk;
 use crate::fields::number_in;
 use page_files::PageFile;
+use page_places::{error_of, error_of_walk};
 use page_rows::RowSink;
 use plain_tables::StoreError;
 use sqlite_disk::Disk;
@@ -74,9 +74,24 @@ fn behind_earlier(found: Option<(i64, u32)>, run: u32) -> Option<i64>
     }
 }
 
+/// The number above the last rowid of a table, or 0 where there is none from 0 on.
+fn above_last<D: Disk>(file: &mut PageFile<D>, alloc: Global, root: u32) -> Result<u64, StoreError>
+    ensures fits { IfOk result (λ above. above ≤ 2 ^ 63) }
+    ensures reads { OnlyReads file.old file.new }
+{
+    match file.last_rowid(alloc, root) {
+        Ok(Some(last)) => match u64::try_from(last) {
+            Ok(last) => Ok(last + 1),
+            Err(_) => Ok(0),
+        },
+        Ok(None) => Ok(0),
+        Err(error) => Err(error_of(error)),
+    }
+}
+
 /// A rowid before which no row is of this run or a later one. It is found by halves, since the rows stand in the
 /// order of the runs: as imports write them.
-pub(crate) fn place_of<D: Disk>(
+fn place_of<D: Disk>(
     file: &mut PageFile<D>,
     alloc: Global,
     root: u32,
@@ -89,8 +104,8 @@ pub(crate) fn place_of<D: Disk>(
 {
     let mut from = i64::MIN;
     let mut low: u64 = 0;
-    let mut high: u64 = 1 << 32;
-    'halves: for _ in 0..33 {
+    let mut high = above_last(file, alloc, root)?;
+    'halves: for _ in 0..64 {
         if low >= high {
             return Ok(from);
         }
@@ -105,4 +120,45 @@ pub(crate) fn place_of<D: Disk>(
         }
     }
     Ok(from)
+}
+
+/// The rowid at which a run is thought to begin, or a later one, if no row before it is of this run or a later one.
+fn proved_place<D: Disk>(
+    file: &mut PageFile<D>,
+    alloc: Global,
+    root: u32,
+    run: u32,
+    hint: i64,
+) -> Result<Option<i64>, StoreError>
+    ensures earlier { IsFaithful file.new → (rows : List Row) → ShowsRows file.old root rows → InOrder rows
+        → IfOk result (λ found. IfSome found (λ from. AllEarlier run from rows)) }
+    ensures fits { IfOk result (λ found. IfSome found (FitsSigned w64)) }
+    ensures reads { OnlyReads file.old file.new }
+{
+    let Some(before) = hint.checked_sub(1) else {
+        return Ok(Some(i64::MIN));
+    };
+    let found = first_from(file, alloc, root, before)?;
+    Ok(behind_earlier(found, run))
+}
+
+/// A rowid before which no row is of this run or a later one: the hint, if that is right.
+pub(crate) fn begin_of<D: Disk>(
+    file: &mut PageFile<D>,
+    alloc: Global,
+    root: u32,
+    run: u32,
+    hint: Option<i64>,
+) -> Result<i64, StoreError>
+    ensures earlier { IsFaithful file.new → (rows : List Row) → ShowsRows file.old root rows → InOrder rows
+        → IfOk result (λ from. AllEarlier run from rows) }
+    ensures fits { IfOk result (FitsSigned w64) }
+    ensures reads { OnlyReads file.old file.new }
+{
+    if let Some(hint) = hint {
+        if let Some(from) = proved_place(file, alloc, root, run, hint)? {
+            return Ok(from);
+        }
+    }
+    place_of(file, alloc, root, run)
 }

@@ -5,10 +5,11 @@ ghost use Rattle.page_files.specs.Files.{IsFaithful, OnlyReads};
 ghost use Rattle.page_runs.specs.Shown.{ShowsRows};
 ghost use Rattle.page_runs.specs.Walks.{AreOfRun, InOrder};
 
-use crate::failures::error_of_walk;
 use crate::fields::number_in;
-use crate::places::place_of;
+use crate::hints::Hints;
+use crate::places::begin_of;
 use page_files::PageFile;
+use page_places::error_of_walk;
 use page_rows::RowSink;
 use plain_tables::StoreError;
 use sqlite_disk::Disk;
@@ -52,6 +53,8 @@ pub(crate) struct RunTable {
     pub run: u32,
     /// What the amounts of its lines sum to, as the small tables say.
     pub sum: u128,
+    /// How many runs are held.
+    pub runs: u64,
 }
 
 /// A sum with one more amount. `Store` where it passes all that rows can sum to.
@@ -67,6 +70,10 @@ struct RunRows<T: Drop> {
     run: u32,
     sink: T,
     sum: u128,
+    /// The rowid behind the last row that it took.
+    behind: i64,
+    /// The later run at whose first row it ended.
+    next: Option<u32>,
 }
 
 impl<T: LineSink + Drop> RowSink for RunRows<T> {
@@ -85,27 +92,31 @@ impl<T: LineSink + Drop> RowSink for RunRows<T> {
 
     ghost Refuses = { λ _ _. ⊤ };
 
-    fn take(&mut self, _rowid: i64, payload: &[u8]) -> Result<bool, StoreError> {
+    fn take(&mut self, rowid: i64, payload: &[u8]) -> Result<bool, StoreError> {
         let mut fields = Fields::new(payload);
         let run = number_in(&mut fields)?;
         if run > self.run {
+            self.next = Some(run);
             return Ok(false);
         }
         if run == self.run {
             let added = self.sink.take(run, fields)?;
             self.sum = sum_with(self.sum, added)?;
         }
+        self.behind = rowid.saturating_add(1);
         Ok(true)
     }
 }
 
 /// Hands the lines of a run on, in a table whose rows stand in the order of the runs. What took them is handed back.
-/// Errors: `Memory`; `Store` for pages that cannot be read, for rows out of form, and where the lines do not sum to
-/// what the small tables say, as where some lie behind those of a later run; and those of the taker.
+/// Where the run begins is looked for at its hint first, and kept as one; so is where the next run does. Errors:
+/// `Memory`; `Store` for pages that cannot be read, for rows out of form, and where the lines do not sum to what the
+/// small tables say, as where some lie behind those of a later run; and those of the taker.
 pub(crate) fn each_line<D: Disk, T: LineSink + Drop>(
     file: &mut PageFile<D>,
     alloc: Global,
     table: RunTable,
+    hints: &mut Hints,
     sink: T,
 ) -> Result<T, StoreError>
     ensures handed { IsFaithful file.new → (rows : List Row) → ShowsRows file.old table.root rows → InOrder rows
@@ -114,10 +125,23 @@ pub(crate) fn each_line<D: Disk, T: LineSink + Drop>(
     ensures reads { OnlyReads file.old file.new }
 {
     let run = table.run;
-    let from = place_of(file, alloc, table.root, run)?;
-    let mut rows = RunRows { run, sink, sum: 0 };
+    let hint = hints.begin_of(run);
+    let from = begin_of(file, alloc, table.root, run, hint)?;
+    hints.keep(run, from, table.runs);
+    let mut rows = RunRows {
+        run,
+        sink,
+        sum: 0,
+        behind: from,
+        next: None,
+    };
     match file.walk(alloc, table.root, from, &mut rows) {
-        Ok(()) if rows.sum == table.sum => Ok(rows.sink),
+        Ok(()) if rows.sum == table.sum => {
+            if let Some(next) = rows.next {
+                hints.keep(next, rows.behind, table.runs);
+            }
+            Ok(rows.sink)
+        }
         Ok(()) => Err(StoreError::Store),
         Err(error) => Err(error_of_walk(error)),
     }

@@ -1,5 +1,5 @@
 // A store of runs over the pages of its file.
-ghost use Rattle.std.specs.Prelude.{◌≡◌, IsTrue, Ok, IfOk, IfSome, OnOk};
+ghost use Rattle.std.specs.Prelude.{◌≡◌, length, IsTrue, Ok, IfOk, IfSome, OnOk};
 ghost use Rattle.sqlite_wal.specs.Files.{outcomes, seen_image};
 ghost use Rattle.sqlite_wal.specs.Reads.{AreClean};
 ghost use Rattle.page_files.specs.Files.{page_size, IsUsable, may_leave as files_may_leave};
@@ -16,21 +16,21 @@ ghost use Rattle.page_runs.specs.States.{HoldsIn, IsFaithful, Represents, state_
 ghost use Rattle.run_stores.specs.Calls.{Asks};
 ghost use Rattle.std.specs.Result.{is_ok};
 
-use crate::failures::error_of;
 use crate::files::open_file;
 use crate::handed::{each_call, each_cell, each_stack};
 use crate::heads::head_of;
+use crate::hints::RunHints;
 use crate::lists::read_lists;
 use crate::names::{holds_names, names_among, names_under};
 use crate::number_of::number_of;
 use crate::opening::open_store;
-use crate::roots::Roots;
 use crate::run_rows::RunTable;
 use cg_formulas::FileHead;
 use cg_text::ListVec;
 use cost_rows::FileTotals;
-use held_runs::HeldNames;
+use held_lines::HeldNames;
 use page_files::PageFile;
+use page_places::{StoreRoots, error_of};
 use plain_tables::StoreError;
 use profile_records::Kind;
 use run_lists::RunLists;
@@ -47,10 +47,12 @@ use std::alloc::Global;
 pub struct PageRuns<D: Disk> {
     pub(crate) file: PageFile<D>,
     pub(crate) alloc: Global,
-    pub(crate) roots: Roots,
+    pub(crate) roots: StoreRoots,
     pub(crate) lists: RunLists,
     /// Whether no index and no trigger of others stands on the tables.
     is_alone: bool,
+    /// Where the rows of runs began. Nothing rests on it.
+    pub(crate) hints: RunHints,
 }
 
 impl<D: Disk + Drop> PageRuns<D> {
@@ -76,6 +78,7 @@ impl<D: Disk + Drop> PageRuns<D> {
                 roots,
                 lists,
                 is_alone,
+                hints: RunHints::new(alloc),
             }),
             Err(_) => None,
         }
@@ -95,36 +98,39 @@ impl<D: Disk> PageRuns<D> {
 
     /// Where the cells of a run are, and what they have to sum to.
     fn cells_of(&self, run: u32) -> Result<RunTable, StoreError>
-        ensures { (t : Tables) → AreListed t self.now.lists → IfOk result (λ table. table ≡ record { root = self.now.roots.cells; run = run; sum = cells_of_run run t }) }
+        ensures { (t : Tables) → AreListed t self.now.lists → IfOk result (λ table. table ≡ record { root = self.now.roots.cells; run = run; sum = cells_of_run run t; runs = length t.runs }) }
     {
         Ok(RunTable {
             root: self.roots.cells,
             run,
             sum: self.lists.cells_sum_of(run)?,
+            runs: self.lists.run_count(),
         })
     }
 
     /// Where the calls of a run are, and what their parts have to sum to.
     fn calls_of(&self, run: u32) -> Result<RunTable, StoreError>
-        ensures { (t : Tables) → AreListed t self.now.lists → IfOk result (λ table. table ≡ record { root = self.now.roots.calls; run = run; sum = calls_of_run run t }) }
+        ensures { (t : Tables) → AreListed t self.now.lists → IfOk result (λ table. table ≡ record { root = self.now.roots.calls; run = run; sum = calls_of_run run t; runs = length t.runs }) }
     {
         Ok(RunTable {
             root: self.roots.calls,
             run,
             sum: self.lists.calls_sum_of(run)?,
+            runs: self.lists.run_count(),
         })
     }
 
     /// Where the stacks of a run are, and what their counts have to sum to.
     fn stacks_of(&self, run: u32) -> Result<RunTable, StoreError>
         ensures { (t : Tables) → AreListed t self.now.lists → IfOk result (λ table. (kind : RunKind) × IsKindOf run t kind
-            × (table ≡ record { root = self.now.roots.stacks; run = run; sum = stacks_of_run kind run t })) }
+            × (table ≡ record { root = self.now.roots.stacks; run = run; sum = stacks_of_run kind run t; runs = length t.runs })) }
     {
         let sum = self.lists.stacks_sum_of(run)?;
         Ok(RunTable {
             root: self.roots.stacks,
             run,
             sum,
+            runs: self.lists.run_count(),
         })
     }
 
@@ -196,6 +202,7 @@ impl<D: Disk> PageRuns<D> {
             roots: _,
             lists: _,
             is_alone: _,
+            hints: _,
         } = self;
         file
     }
@@ -354,7 +361,14 @@ impl<D: Disk> RunStore for PageRuns<D> {
         sink: T,
     ) -> Result<T, StoreError> {
         let table = self.cells_of(run)?;
-        let taken = each_cell(&mut self.file, self.alloc, table, events, sink)?;
+        let taken = each_cell(
+            &mut self.file,
+            self.alloc,
+            table,
+            &mut self.hints.cells,
+            events,
+            sink,
+        )?;
         self.if_usable()?;
         Ok(taken)
     }
@@ -367,14 +381,27 @@ impl<D: Disk> RunStore for PageRuns<D> {
         sink: T,
     ) -> Result<T, StoreError> {
         let table = self.calls_of(run)?;
-        let taken = each_call(&mut self.file, alloc, table, events, sink)?;
+        let taken = each_call(
+            &mut self.file,
+            alloc,
+            table,
+            &mut self.hints.calls,
+            events,
+            sink,
+        )?;
         self.if_usable()?;
         Ok(taken)
     }
 
     fn each_stack<T: StackRowSink + Drop>(&mut self, run: u32, sink: T) -> Result<T, StoreError> {
         let table = self.stacks_of(run)?;
-        let taken = each_stack(&mut self.file, self.alloc, table, sink)?;
+        let taken = each_stack(
+            &mut self.file,
+            self.alloc,
+            table,
+            &mut self.hints.stacks,
+            sink,
+        )?;
         self.if_usable()?;
         Ok(taken)
     }
@@ -399,37 +426,32 @@ impl<D: Disk> RunStore for PageRuns<D> {
     }
 
     fn put_group(&mut self, name: &str) -> Result<(), StoreError> {
-        let tables = self.roots.of_groups();
-        let (file, lists) = (&mut self.file, &self.lists);
-        let written = page_changes::put_group(file, self.alloc, &tables, lists, name);
+        let (file, roots, lists) = (&mut self.file, &self.roots, &self.lists);
+        let written = page_changes::put_group(file, self.alloc, roots, lists, name);
         self.finish(written)
     }
 
     fn drop_group(&mut self, name: &str) -> Result<(), StoreError> {
-        let tables = self.roots.of_groups();
-        let (file, lists) = (&mut self.file, &self.lists);
-        let written = page_changes::drop_group(file, self.alloc, &tables, lists, name);
+        let (file, roots, lists) = (&mut self.file, &self.roots, &self.lists);
+        let written = page_changes::drop_group(file, self.alloc, roots, lists, name);
         self.finish(written)
     }
 
     fn join(&mut self, name: &str, run: u32) -> Result<(), StoreError> {
-        let tables = self.roots.of_groups();
-        let (file, lists) = (&mut self.file, &self.lists);
-        let written = page_changes::join(file, self.alloc, &tables, lists, name, run);
+        let (file, roots, lists) = (&mut self.file, &self.roots, &self.lists);
+        let written = page_changes::join(file, self.alloc, roots, lists, name, run);
         self.finish(written)
     }
 
     fn leave(&mut self, name: &str, run: u32) -> Result<(), StoreError> {
-        let tables = self.roots.of_groups();
-        let (file, lists) = (&mut self.file, &self.lists);
-        let written = page_changes::leave(file, self.alloc, &tables, lists, name, run);
+        let (file, roots, lists) = (&mut self.file, &self.roots, &self.lists);
+        let written = page_changes::leave(file, self.alloc, roots, lists, name, run);
         self.finish(written)
     }
 
     fn set_baseline(&mut self, name: &str, run: u32) -> Result<(), StoreError> {
-        let tables = self.roots.of_groups();
-        let (file, lists) = (&mut self.file, &self.lists);
-        let written = page_changes::set_baseline(file, self.alloc, &tables, lists, name, run);
+        let (file, roots, lists) = (&mut self.file, &self.roots, &self.lists);
+        let written = page_changes::set_baseline(file, self.alloc, roots, lists, name, run);
         self.finish(written)
     }
 

@@ -1,18 +1,18 @@
-// Whether a file was made with our tables.
-ghost use Rattle.std.specs.Prelude.{◌≡◌, ◌<◌, map, IsTrue};
+// Whether a file has our tables.
+ghost use Rattle.std.specs.Prelude.{◌≡◌, ◌<◌, map, IfSome};
 ghost use Rattle.page_files.specs.Files.{OnlyReads};
 ghost use Rattle.page_runs.specs.Texts.{table_texts};
 
-use crate::failures::error_of_walk;
-use crate::roots::NAMES;
+use crate::alike::have_same_rows;
 use page_files::PageFile;
+use page_places::{TABLE_NAMES, error_of_walk};
 use page_rows::{RowSink, read_row};
 use plain_tables::StoreError;
 use sqlite_disk::Disk;
 use sqlite_trees::sound::is_word;
 use sqlite_value::row::Row;
 use sqlite_value::value::ValueRef;
-use std::alloc::Global;
+use std::alloc::{AllocError, Global};
 
 /// The root of `sqlite_schema`, the table that lists the others.
 const SCHEMA_ROOT: u32 = 1;
@@ -47,28 +47,33 @@ pub(crate) enum Found {
     Ours,
     /// Ours, on which another program has put an index or a trigger: a change of their pages would pass it by.
     OursWithMore,
-    /// Others, or such with our names and another text.
+    /// Others, or not all of ours.
     Others,
 }
 
-/// Whether an entry of `sqlite_schema` has the name and the text of the table at a place of schema 2.
-fn is_table_at(entry: &Row, at: usize) -> bool
-    ensures { IsTrue result → at < 11 }
+/// The place in schema 2 of the table that a column of an entry of `sqlite_schema` names.
+fn place_of_table(entry: &Row, column: usize) -> Option<usize>
+    ensures { IfSome result (λ at. at < 11) }
 {
-    let names = NAMES;
-    let texts = texts_of_tables();
-    if at < 11 {
-        is_word(names[at].as_bytes(), entry.get(2)) && is_word(texts[at].as_bytes(), entry.get(5))
-    } else {
-        false
+    let names = TABLE_NAMES;
+    for at in 0..11 {
+        if is_word(names[at].as_bytes(), entry.get(column)) {
+            return Some(at);
+        }
     }
+    None
 }
 
-/// Whether a column of an entry of `sqlite_schema` names one of our tables.
-fn is_ours(entry: &Row, column: usize) -> bool {
-    NAMES
-        .iter()
-        .any(|name| is_word(name.as_bytes(), entry.get(column)))
+/// Whether an entry of `sqlite_schema` is the table at a place of schema 2: made by our text, or with the same rows.
+fn is_table_at(alloc: Global, entry: &Row, at: usize) -> Result<bool, AllocError>
+    requires { at < 11 }
+{
+    let ours = texts_of_tables()[at].as_bytes();
+    match entry.get(5) {
+        ValueRef::Text(text) if text == ours => Ok(true),
+        ValueRef::Text(text) => have_same_rows(alloc, text, ours),
+        _ => Ok(false),
+    }
 }
 
 /// Whether an entry of `sqlite_schema` is an index with a text of its own, or a trigger. An index that a table has by its
@@ -78,9 +83,10 @@ fn is_added(entry: &Row) -> bool {
         || (is_word(b"index", entry.get(1)) && matches!(entry.get(5), ValueRef::Text(_)))
 }
 
-/// Takes the entries of `sqlite_schema`, as long as those with the names of our tables are ours, in the order of schema 2.
+/// Takes the entries of `sqlite_schema`, as long as those with the names of our tables are ours.
 #[derive(Drop)]
 struct Listed {
+    alloc: Global,
     entry: Row,
     ours: usize,
     has_other: bool,
@@ -88,18 +94,17 @@ struct Listed {
 }
 
 impl Listed {
-    /// Takes an entry: whether the tables may still be ours.
-    fn take_entry(&mut self) -> bool {
-        if is_word(b"table", self.entry.get(1)) {
-            if is_table_at(&self.entry, self.ours) {
-                self.ours += 1;
-            } else if is_ours(&self.entry, 2) {
-                self.has_other = true;
-            }
-        } else if is_added(&self.entry) && is_ours(&self.entry, 3) {
-            self.has_more = true;
+    /// Takes the entry of a table.
+    fn take_table(&mut self) -> Result<(), AllocError> {
+        let Some(at) = place_of_table(&self.entry, 2) else {
+            return Ok(());
+        };
+        if is_table_at(self.alloc, &self.entry, at)? {
+            self.ours = self.ours.saturating_add(1);
+        } else {
+            self.has_other = true;
         }
-        !self.has_other
+        Ok(())
     }
 }
 
@@ -118,12 +123,18 @@ impl RowSink for Listed {
 
     fn take(&mut self, rowid: i64, payload: &[u8]) -> Result<bool, StoreError> {
         read_row(rowid, payload, &mut self.entry)?;
-        Ok(self.take_entry())
+        if is_word(b"table", self.entry.get(1)) {
+            self.take_table()?;
+        } else if is_added(&self.entry) && place_of_table(&self.entry, 3).is_some() {
+            self.has_more = true;
+        }
+        Ok(!self.has_other)
     }
 }
 
-/// Whose tables a file has. Ours are those of schema 2, each made by our text byte for byte, so that their columns stand where
-/// we read them. Other tables and views may stand beside them. No clause says so: only that the file is read.
+/// Whose tables a file has. Ours are those of schema 2, with our columns and keys, so that their rows and those of their
+/// indexes are as we read and write them. Other tables and views may stand beside them. No clause says so: only that
+/// the file is read.
 pub(crate) fn find_tables<D: Disk>(
     file: &mut PageFile<D>,
     alloc: Global,
@@ -131,13 +142,14 @@ pub(crate) fn find_tables<D: Disk>(
     ensures reads { OnlyReads file.old file.new }
 {
     let mut listed = Listed {
+        alloc,
         entry: Row::new(alloc),
         ours: 0,
         has_other: false,
         has_more: false,
     };
     match file.walk(alloc, SCHEMA_ROOT, i64::MIN, &mut listed) {
-        Ok(()) if listed.ours < 11 || listed.has_other => Ok(Found::Others),
+        Ok(()) if listed.ours != 11 || listed.has_other => Ok(Found::Others),
         Ok(()) if listed.has_more => Ok(Found::OursWithMore),
         Ok(()) => Ok(Found::Ours),
         Err(error) => Err(error_of_walk(error)),

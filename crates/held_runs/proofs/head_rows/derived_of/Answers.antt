@@ -6,7 +6,7 @@ use Rattle.store_schema.specs.Schema.{schema_two}
 use Rattle.store_schema.specs.Seen.{derived_seen}
 use Rattle.store_schema.proofs.Means.{derived_of_plain}
 use Rattle.store_schema.proofs.RunLists.{derived_listed}
-use Rattle.held_runs.specs.HeadRows.{derived_columns, first_two}
+use Rattle.held_lines.specs.HeadColumns.{derived_columns, first_two}
 use Rattle.prof_store.proofs.Listing.{read_permutes}
 use Rattle.held_runs.proofs.Said.{derived_told}
 use Rattle.prof_store.proofs.Told.{said}

@@ -6,7 +6,7 @@ use Rattle.store_schema.specs.Schema.{schema_two}
 use Rattle.store_schema.specs.Seen.{event_seen}
 use Rattle.store_schema.proofs.Means.{events_of_plain}
 use Rattle.store_schema.proofs.RunLists.{events_listed}
-use Rattle.held_runs.specs.HeadRows.{event_columns, first_three}
+use Rattle.held_lines.specs.HeadColumns.{event_columns, first_three}
 use Rattle.prof_store.proofs.Listing.{read_permutes}
 use Rattle.held_runs.proofs.Said.{events_told}
 use Rattle.prof_store.proofs.Told.{said}

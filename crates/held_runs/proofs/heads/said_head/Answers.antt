@@ -5,8 +5,10 @@ use Rattle.sqlite.specs.Effect.{Database}
 use Rattle.sql_tables.proofs.Calls.{asked_err, asked_if, asked_rests, asked_then}
 use Rattle.store_schema.specs.Schema.{schema_two}
 use Rattle.prof_store.specs.Readings.{RowsSay}
-use Rattle.held_runs.specs.HeadRows.{derived_columns, coef_columns, derived_in_rows, coefs_in_rows}
-use Rattle.held_runs.proofs.HeadReading.{is_head_of, read_from_same}
+use Rattle.held_lines.specs.HeadColumns.{derived_columns, coef_columns}
+use Rattle.held_runs.specs.HeadRows.{derived_in_rows, coefs_in_rows}
+use Rattle.held_lines.proofs.HeadReading.{read_from_same}
+use Rattle.held_runs.proofs.HeadsFound.{is_head_of}
 use Rattle.held_runs.proofs.heads.said_head.Goals as goal
 
 pub returns-clause-told : goal.returns-clause-told

@@ -1,6 +1,6 @@
 use Rattle.std.proofs.Common.{◌∙◌, map, ap}
 use Rattle.sqlite_keyed.proofs.ListLemmas.{map-map}
-use Rattle.held_runs.specs.NameRows.{name_row, name_shown}
+use Rattle.held_lines.specs.NameRows.{name_row, name_shown}
 use Rattle.held_runs.proofs.held_names.names_in.Goals as goal
 
 pub returns-clause-read : goal.returns-clause-read

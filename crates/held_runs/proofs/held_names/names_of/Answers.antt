@@ -6,8 +6,8 @@ use Rattle.store_schema.specs.Schema.{schema_two}
 use Rattle.plain_tables.specs.Tables.{NameRow}
 use Rattle.store_schema.proofs.Lists.{numbered_table}
 use Rattle.store_schema.proofs.Means.{names_plain}
-use Rattle.held_runs.specs.HeadRows.{first_two}
-use Rattle.held_runs.specs.NameRows.{name_seen, name_shown}
+use Rattle.held_lines.specs.HeadColumns.{first_two}
+use Rattle.held_lines.specs.NameRows.{name_seen, name_shown}
 use Rattle.prof_store.proofs.Listing.{read_permutes, map_injective}
 use Rattle.prof_store.proofs.Reading.{both_ok}
 use Rattle.held_runs.proofs.NameLists.{names_listed, same_line}

@@ -1,6 +1,6 @@
 use Rattle.std.proofs.Common.{◌≡◌, ◌+◌, ◌++◌, ◌∷◌, ◌∙◌, [], length, map, take, ap, subst, sym}
 use Rattle.prof_store.proofs.Reading.{is_ok_then}
-use Rattle.held_runs.specs.HeadRows.{first_two}
+use Rattle.held_lines.specs.HeadColumns.{first_two}
 use Rattle.held_runs.specs.SelfSums.{sum_rows}
 use Rattle.held_runs.proofs.SelfSumLists.{sums_more}
 use Rattle.held_runs.proofs.self_sums.sums_in.Goals as goal

@@ -1,5 +1,5 @@
 use Rattle.std.proofs.Common.{◌≡◌, map, take}
-use Rattle.held_runs.specs.HeadRows.{first_two}
+use Rattle.held_lines.specs.HeadColumns.{first_two}
 use Rattle.held_runs.specs.SelfSums.{sum_rows}
 use Rattle.held_runs.proofs.self_sums.sums_in.Given as goal
 

@@ -3,7 +3,7 @@ use Rattle.std.proofs.Common.{◌∙◌, map, ap, arith}
 use Rattle.sqlite_exec.proofs.MarkLemmas.{if_ok_then}
 use Rattle.sql_tables.proofs.Calls.{asked_err, asked_if}
 use Rattle.store_schema.specs.Schema.{schema_two}
-use Rattle.held_runs.specs.HeadRows.{first_two}
+use Rattle.held_lines.specs.HeadColumns.{first_two}
 use Rattle.held_runs.proofs.SelfSumLists.{sums_listed, sums_read}
 use Rattle.held_runs.proofs.RunTexts.{self_sums_plain}
 use Rattle.held_runs.proofs.Said.{sums_told}

@@ -1,4 +1,4 @@
-use Rattle.std.proofs.Common.{sym, subst, refl, ◌∙◌, to_z-of_z, Some}
+use Rattle.std.proofs.Common.{sym, subst, ◌∙◌, to_z-of_z, Some}
 use Rattle.sqlite_pool.specs.StoredLaws.{Keeps-trans}
 use Rattle.store_schema.specs.Tables.{Holds}
 use Rattle.sqlite_rules.specs.Lists.{Has}
@@ -7,42 +7,30 @@ use Rattle.page_files.proofs.Standing.{stands_resting}
 use Rattle.page_files.proofs.Steps.{begins}
 use Rattle.page_changes.specs.Named.{HasMember, IsFound, named}
 use Rattle.page_changes.proofs.Editing.{listed_member, members_shown, not_member}
-use Rattle.page_places.proofs.Rooting.{store_resting}
-use Rattle.page_places.proofs.Placing.{member_key_name}
+use Rattle.page_changes.proofs.Results.{given_ok}
 use Rattle.page_changes.proofs.groups.leave.Goals as goal
 
 pub returns-then-not-has_member-clause-done : goal.returns-then-not-has_member-clause-done
 returns-then-not-has_member-clause-done g c clean wanted known db t rests holds listed are =
     let name = c.args.name.now in
     let run = c.args.run in
-    let new = c.index_root.new.file in
-    let still = rests_after c.args.file.now new c.index_root.ensures.reads clean c.in_ok-index.ensures.usable rests in
     let none = sym (c.has_member.ensures ∙ listed_member t c.args.lists.now listed name run) ∙ c.if-not-has_member.true in
-    (db, begins new still, subst (λ u. Holds u db) (sym (not_member t name run none)) holds)
+    given_ok c.if_usable.result (db, begins c.args.file.now rests, subst (λ u. Holds u db) (sym (not_member t name run none)) holds)
 
 pub returns-in-Some-clause-done : goal.returns-in-Some-clause-done
 returns-in-Some-clause-done g c clean wanted known db t rests holds listed are =
     let name = c.args.name.now in
     let run = c.args.run in
-    let mid = c.index_root.new.file in
+    let old = c.args.file.now in
     let new = c.find_named.new.file in
     let later = c.delete_member.ensures.keeps.stays.clean clean in
-    let faithful = c.find_named.ensures.reads.keeps.stays.clean later in
-    let first = rests_after c.args.file.now mid c.index_root.ensures.reads faithful c.in_ok-index.ensures.usable rests in
-    let second = rests_after mid new c.find_named.ensures.reads later c.in_ok-row.ensures.usable first in
-    let index_is = c.in_ok-index.ensures.found faithful t db known (store_resting c.args.file.now t db known wanted rests holds) 10 _ refl member_key_name in
-    let found = c.in_ok-row.ensures.found later (db 21) (members_shown mid (stands_resting mid first) holds c.args.roots.now.members are.members) in
+    let still = rests_after old new c.find_named.ensures.reads later c.in_ok-row.ensures.usable rests in
+    let found = c.in_ok-row.ensures.found later (db 21) (members_shown old (stands_resting old rests) holds c.args.roots.now.members are.members) in
     let row = c.in-Some.row in
     let at = subst (IsFound c.as_bytes.result.now (Some run) (db 21)) c.in-Some.is found in
     let here = subst (λ n. Has (db 21) (named row.rowid c.as_bytes.result.now n)) at.is at.there in
     let there : HasMember name run row.rowid db = subst (λ n. Has (db 21) (named row.rowid n (Some run))) c.as_bytes.ensures.value here in
-    c.delete_member.ensures.done clean wanted known db db t (begins new second) holds are.members index_is (subst (λ z. HasMember name run z db) (sym (to_z-of_z at.fits)) there)
+    c.delete_member.ensures.done clean wanted known db db t (begins new still) holds are.members are.member_keys (subst (λ z. HasMember name run z db) (sym (to_z-of_z at.fits)) there)
 
 pub returns-in-Some-clause-keeps : goal.returns-in-Some-clause-keeps
-returns-in-Some-clause-keeps g c = Keeps-trans _ _ _ c.index_root.ensures.reads.keeps (Keeps-trans _ _ _ c.find_named.ensures.reads.keeps c.delete_member.ensures.keeps)
-
-pub returns-in-None-clause-keeps : goal.returns-in-None-clause-keeps
-returns-in-None-clause-keeps g c = Keeps-trans _ _ _ c.index_root.ensures.reads.keeps c.find_named.ensures.reads.keeps
-
-pub returns-in_err-row-clause-keeps : goal.returns-in_err-row-clause-keeps
-returns-in_err-row-clause-keeps g c = Keeps-trans _ _ _ c.index_root.ensures.reads.keeps c.find_named.ensures.reads.keeps
+returns-in-Some-clause-keeps g c = Keeps-trans _ _ _ c.find_named.ensures.reads.keeps c.delete_member.ensures.keeps

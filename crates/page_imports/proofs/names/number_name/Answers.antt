@@ -5,6 +5,7 @@ use Rattle.plain_tables.specs.Files.{number_in}
 use Rattle.plain_tables.specs.Tables.{Tables}
 use Rattle.plain_tables.proofs.Numbering.{named_held, named_new}
 use Rattle.store_schema.proofs.Names.{is_held, not_held}
+use Rattle.page_places.proofs.Stores.{shows_writing}
 use Rattle.page_imports.specs.Needs.{IsNextName}
 use Rattle.page_imports.specs.Steps.{ShowsTables}
 use Rattle.page_imports.proofs.Numbers.{new_next, new_number}
@@ -15,7 +16,7 @@ pub returns-in-Some-clause-done : goal.returns-in-Some-clause-done
 returns-in-Some-clause-done g c clean = λ wanted known was t shows are next.
     let name = c.args.name.now in
     let new = c.find_name.new.file in
-    let it = is_held t name c.in-Some.number (sym c.in-Some.is ∙ c.in_ok-number.ensures.told clean wanted known was t shows are) in
+    let it = is_held t name c.in-Some.number (sym c.in-Some.is ∙ c.in_ok-number.ensures.told clean t known (shows_writing c.args.file.now shows.writes shows.holds) are.name_bytes) in
     let same = sym (named_held t name it.0) in (
       subst (λ u. ShowsTables wanted known was u new) same (shows_after c.args.file.now new c.find_name.ensures.reads clean c.in_ok-number.ensures.usable shows),
       (it.1 ∙ ap (λ (u : Tables). number_in u.names name) same, subst (IsNextName c.args.next.now) same next),
@@ -27,7 +28,7 @@ returns-clause-done g c clean = λ wanted known was t shows are next.
     let mid = c.find_name.new.file in
     let new = c.add_name.new.file in
     let early = c.add_name.ensures.keeps.stays.clean clean in
-    let none = not_held t name (sym c.in_default.is ∙ c.in_ok-number.ensures.told early wanted known was t shows are) in
+    let none = not_held t name (sym c.in_default.is ∙ c.in_ok-number.ensures.told early t known (shows_writing c.args.file.now shows.writes shows.holds) are.name_bytes) in
     let there = shows_after c.args.file.now mid c.find_name.ensures.reads early c.in_ok-number.ensures.usable shows in
     let given : c.in-Ok.number ≡ c.args.next.now = search rules in
     let number : c.in-Ok.number ≡ next_name t.names = given ∙ next in

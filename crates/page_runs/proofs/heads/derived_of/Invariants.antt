@@ -1,7 +1,7 @@
 use Rattle.std.proofs.Common.{◌≡◌, ◌==◌, map, take}
 use Rattle.plain_tables.specs.Tables.{DerivedRow}
 use Rattle.prof_books.specs.HeldHeads.{name_of_line}
-use Rattle.held_runs.specs.HeldHeads.{derived_place}
+use Rattle.held_lines.specs.HeadLines.{derived_place}
 use Rattle.run_lists.specs.Listed.{derived_row}
 use Rattle.page_runs.proofs.HeadLists.{kept}
 use Rattle.page_runs.proofs.heads.derived_of.Given as goal

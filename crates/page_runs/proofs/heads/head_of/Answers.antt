@@ -1,6 +1,6 @@
 use Rattle.std.proofs.Common.{sym, ◌∙◌}
 use Rattle.std.proofs.lemmas.Result.{IfOk-weaker}
-use Rattle.held_runs.proofs.HeadReading.{read_from_same}
+use Rattle.held_lines.proofs.HeadReading.{read_from_same}
 use Rattle.page_runs.proofs.HeadTold.{run_held, head_told}
 use Rattle.page_runs.proofs.heads.head_of.Goals as goal
 

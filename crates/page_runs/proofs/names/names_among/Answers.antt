@@ -1,5 +1,5 @@
 use Rattle.std.proofs.Common.{map, filter, ap, sym, subst, ◌∙◌}
-use Rattle.held_runs.specs.NameRows.{name_row}
+use Rattle.held_lines.specs.NameRows.{name_row}
 use Rattle.store_schema.specs.Tables.{name_columns}
 use Rattle.run_stores.specs.Names.{AreAmong}
 use Rattle.page_runs.specs.Among.{is_among}

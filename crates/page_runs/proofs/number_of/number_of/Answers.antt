@@ -1,7 +1,7 @@
 use Rattle.std.proofs.Common.{◌++◌, ◌∷◌, [], append_assoc, ap, refl, subst, sym, inl, inr, ◌∙◌}
 use Rattle.store_schema.specs.Tables.{name_columns}
 use Rattle.run_stores.specs.Names.{IsNumberOf}
-use Rattle.held_runs.proofs.NumbersOfNames.{none_named}
+use Rattle.held_lines.proofs.NumbersOfNames.{none_named}
 use Rattle.page_rows.proofs.FileTables.{all_shown_from_least}
 use Rattle.page_runs.specs.Among.{Rise}
 use Rattle.page_runs.specs.Sought.{AreOthers, name_read}

@@ -1,5 +1,6 @@
 use Rattle.page_runs.proofs.Chains.{◌⊳◌}
-use Rattle.page_runs.proofs.Rooting.{store_after, tables_show}
+use Rattle.page_places.proofs.Rooting.{store_after}
+use Rattle.page_runs.proofs.Rooting.{tables_show}
 use Rattle.page_runs.proofs.opening.read_store.Goals as goal
 
 pub returns-clause-read : goal.returns-clause-read

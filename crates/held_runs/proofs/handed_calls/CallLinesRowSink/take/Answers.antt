@@ -1,5 +1,5 @@
 use Rattle.store_schema.specs.Lines.{call_row}
-use Rattle.held_runs.proofs.WalkSteps.{on_ok_then}
+use Rattle.held_lines.proofs.Steps.{on_ok_then}
 use Rattle.held_runs.proofs.handed_calls.CallLinesRowSink.take.Goals as goal
 
 pub returns : goal.returns

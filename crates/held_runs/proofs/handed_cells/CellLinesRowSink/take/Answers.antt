@@ -1,5 +1,5 @@
 use Rattle.store_schema.specs.Lines.{cell_row}
-use Rattle.held_runs.proofs.WalkSteps.{on_ok_then}
+use Rattle.held_lines.proofs.Steps.{on_ok_then}
 use Rattle.held_runs.proofs.handed_cells.CellLinesRowSink.take.Goals as goal
 
 pub returns : goal.returns

@@ -7,14 +7,14 @@ use Rattle.page_runs.proofs.store.PageRuns.conclude.Goals as goal
 pub returns-in-Ok : goal.returns-in-Ok
 returns-in-Ok g c =
     let old = c.args.self.now in
-    let mid : PageRuns g.row.D.Denot g.D.Disk = record { file = c.read_lists.new.file; alloc = old.alloc; roots = old.roots; lists = old.lists } in
+    let mid : PageRuns g.row.D.Denot g.D.Disk = record old { file = c.read_lists.new.file } in
     concluded old mid _ c.read_lists.ensures.reads refl refl _ _ c.in-Ok.ensures.usable (λ faithful t db holds roots. c.in-Ok.ensures.listed faithful t db holds roots) c.commit.ensures
 
 pub returns-in-Err : goal.returns-in-Err
 returns-in-Err g c =
     let old = c.args.self.now in
-    let mid : PageRuns g.row.D.Denot g.D.Disk = record { file = c.read_lists.new.file; alloc = old.alloc; roots = old.roots; lists = old.lists } in
-    let new : PageRuns g.row.D.Denot g.D.Disk = record { file = c.undo.new.self; alloc = old.alloc; roots = old.roots; lists = old.lists } in
+    let mid : PageRuns g.row.D.Denot g.D.Disk = record old { file = c.read_lists.new.file } in
+    let new : PageRuns g.row.D.Denot g.D.Disk = record old { file = c.undo.new.self } in
     let keeps = Keeps-trans _ _ _ c.read_lists.ensures.reads.keeps c.undo.ensures.keeps in
     record {
       stays = keeps.stays;

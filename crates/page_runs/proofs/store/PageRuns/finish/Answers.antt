@@ -7,7 +7,7 @@ use Rattle.page_runs.proofs.store.PageRuns.finish.Goals as goal
 pub returns-in-Err : goal.returns-in-Err
 returns-in-Err g c =
     let old = c.args.self.now in
-    let new : PageRuns g.row.D.Denot g.D.Disk = record { file = c.undo.new.self; alloc = old.alloc; roots = old.roots; lists = old.lists } in
+    let new : PageRuns g.row.D.Denot g.D.Disk = record old { file = c.undo.new.self } in
     let refused : Finishes (Err c.in-Err.error) (Err c.in-Err.error) old new = record {
       stays = c.undo.ensures.keeps.stays;
       usable = tt;

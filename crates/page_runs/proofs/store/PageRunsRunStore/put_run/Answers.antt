@@ -16,7 +16,7 @@ pub returns-clause-changes : goal.returns-clause-changes
 returns-clause-changes g c faithful =
     let a = c.args in
     let old = a.self.now in
-    let mid : PageRuns g.row.D.Denot g.D.Disk = record { file = c.put_run-written.new.file; alloc = old.alloc; roots = old.roots; lists = old.lists } in
+    let mid : PageRuns g.row.D.Denot g.D.Disk = record old { file = c.put_run-written.new.file } in
     let change : Tables → Tables = with_summed a.number a.kind a.digest.now a.label.now a.file.now in
     let ordered : (t : Tables) → t.next ≡ a.number → AreSound t → AreInOrder t → AreInOrder (change t) =
     λ t given sound order. filed_in_order (filed a.number a.kind a.digest.now a.label.now a.file.now.head.now (content_of a.file.now.rows.now)) t (sym given) sound order in
@@ -27,7 +27,7 @@ pub returns-clause-shut : goal.returns-clause-shut
 returns-clause-shut g c faithful =
     let a = c.args in
     let old = a.self.now in
-    let mid : PageRuns g.row.D.Denot g.D.Disk = record { file = c.put_run-written.new.file; alloc = old.alloc; roots = old.roots; lists = old.lists } in
+    let mid : PageRuns g.row.D.Denot g.D.Disk = record old { file = c.put_run-written.new.file } in
     let change : Tables → Tables = with_summed a.number a.kind a.digest.now a.label.now a.file.now in
     let ordered : (t : Tables) → t.next ≡ a.number → AreSound t → AreInOrder t → AreInOrder (change t) =
     λ t given sound order. filed_in_order (filed a.number a.kind a.digest.now a.label.now a.file.now.head.now (content_of a.file.now.rows.now)) t (sym given) sound order in

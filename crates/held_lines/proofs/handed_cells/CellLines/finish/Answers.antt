@@ -1,0 +1,4 @@
+use Rattle.held_lines.proofs.handed_cells.CellLines.finish.Goals as goal
+
+pub returns : goal.returns
+returns g c events start lines was = was.folded

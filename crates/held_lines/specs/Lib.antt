@@ -1,0 +1,6 @@
+pub mod HeadColumns
+pub mod HeadLines
+pub mod HeldCalls
+pub mod HeldCells
+pub mod HeldStacks
+pub mod NameRows

@@ -1,7 +1,0 @@
-use Rattle.std.proofs.Common.{◌≡◌, ◌≤◌, map, take, length}
-use Rattle.prof_books.specs.HeldHeads.{coefs_at}
-use Rattle.held_runs.specs.HeldHeads.{entry_of_coef}
-use Rattle.held_runs.proofs.heads_held.row_in.Given as goal
-
-abbrev pub invariant-events : goal.invariant-events
-invariant-events l = (length l.row ≡ l.event) × (l.used ≤ length l.coefs) × (map entry_of_coef (take l.used l.coefs) ≡ coefs_at l.place 0 l.row)

@@ -1,0 +1,51 @@
+// Whether two texts make tables with the same rows.
+
+use sqlite_items::Items;
+use sqlite_resolve::{CompileError, define_table};
+use sqlite_schema::names::same_name;
+use sqlite_schema::schema::{Column, Table};
+use std::alloc::{AllocError, Global};
+
+/// The table that a text makes. `None` where it makes none.
+fn table_of(alloc: Global, text: &[u8]) -> Result<Option<Table>, AllocError> {
+    match define_table(alloc, text) {
+        Ok(table) => Ok(Some(table)),
+        Err(CompileError::OutOfMemory) => Err(AllocError),
+        Err(_) => Ok(None),
+    }
+}
+
+/// Whether two columns have one name and hold the same values.
+fn are_same_columns(a: &Column, b: &Column) -> bool {
+    same_name(a.name.as_slice(), b.name.as_slice())
+        && a.kind == b.kind
+        && a.is_strict == b.is_strict
+        && a.not_null == b.not_null
+        && a.collation == b.collation
+}
+
+/// Whether two tables have the same columns, in one order.
+fn have_same_columns(a: &Table, b: &Table) -> bool {
+    let (a, b) = (a.columns.as_slice(), b.columns.as_slice());
+    a.len() == b.len() && a.iter().zip(b).all(|(a, b)| are_same_columns(a, b))
+}
+
+/// Whether two lists of keys are the same.
+fn are_same_keys(a: &Items<Items<usize>>, b: &Items<Items<usize>>) -> bool {
+    let (a, b) = (a.as_slice(), b.as_slice());
+    a.len() == b.len() && a.iter().zip(b).all(|(a, b)| a.as_slice() == b.as_slice())
+}
+
+/// Whether two texts make tables whose rows, and those of the indexes that they have by their keys, are the same. Rules and
+/// references may differ: what a row says is tested where it is read. No clause says so.
+pub(crate) fn have_same_rows(alloc: Global, one: &[u8], other: &[u8]) -> Result<bool, AllocError> {
+    let (Some(one), Some(other)) = (table_of(alloc, one)?, table_of(alloc, other)?) else {
+        return Ok(false);
+    };
+    Ok(
+        have_same_columns(&one, &other)
+            && one.key == other.key
+            && are_same_keys(&one.uniques, &other.uniques)
+            && one.orders.as_slice() == other.orders.as_slice(),
+    )
+}
