@@ -56,9 +56,9 @@ pub struct PageRuns<D: Disk> {
 }
 
 impl<D: Disk + Drop> PageRuns<D> {
-    /// Opens the store in the files of a database, which are closed where it is none: where a text of its
-    /// schema is not ours byte for byte, where its version is another, or where what is read of it is damaged or
-    /// out of form. Its database tells then what it is. Of the rows of runs and of the names nothing is read.
+    /// Opens the store in the files of a database, which are closed where it is none: where a table has other columns
+    /// or keys than ours, where its version is another, or where what is read of it is damaged or out of form. Its
+    /// database tells then what it is. Of the rows of runs and of the names nothing is read.
     pub fn open(alloc: Global, files: Files<D>, options: Options) -> Option<PageRuns<D>>
         requires log { IsTrue (D.Disk.is_usable files.log) }
         requires db { IsTrue (D.Disk.is_usable files.db) }
