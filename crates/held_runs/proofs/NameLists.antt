@@ -1,5 +1,5 @@
 -- The names that are held, as the query lists them.
-use Rattle.std.proofs.Common.{◌≡◌, List, [], ◌∷◌, map, refl, ap₂, IsPermutation}
+use Rattle.std.proofs.Common.{◌≡◌, List, [], map, refl, ap₂, IsPermutation}
 use Rattle.sqlite_value.specs.Order.{Row}
 use Rattle.sqlite.specs.State.{State, Shown}
 use Rattle.sql_tables.proofs.Orders.{all_shown}
