@@ -2,7 +2,6 @@ pub mod Among
 pub mod Finished
 pub mod Shown
 pub mod Sizes
-pub mod Sought
 pub mod States
 pub mod Texts
 pub mod Walks

@@ -75,11 +75,7 @@ fn behind_earlier(found: Option<(i64, u32)>, run: u32) -> Option<i64>
 }
 
 /// The number above the last rowid of a table, or 0 where there is none from 0 on.
-fn above_last<D: Disk>(
-    file: &mut PageFile<D>,
-    alloc: Global,
-    root: u32,
-) -> Result<u64, StoreError>
+fn above_last<D: Disk>(file: &mut PageFile<D>, alloc: Global, root: u32) -> Result<u64, StoreError>
     ensures fits { IfOk result (λ above. above ≤ 2 ^ 63) }
     ensures reads { OnlyReads file.old file.new }
 {
