@@ -1,5 +1,5 @@
 -- The number that was found of a name, as the trait of stores says it.
-use Rattle.std.proofs.Common.{◌≡◌, ◌≢◌, ◌<◌, ℕ, eqb, Bool, true, false, Some, None, Option, List, [], ◌∷◌, bytes_eq, if◌then◌else◌, refl, sym, ap, subst, ◌∙◌, arith}
+use Rattle.std.proofs.Common.{◌≡◌, ◌≢◌, ◌<◌, ◌||◌, ℕ, eqb, Bool, true, false, Some, None, Option, List, [], ◌∷◌, bytes_eq, if◌then◌else◌, refl, sym, ap, subst, ◌∙◌, arith}
 use Rattle.std.specs.List.{AllByRecursion, list_any}
 use Rattle.std.proofs.lemmas.Bool.{or_parts}
 use Rattle.std.proofs.lemmas.Bool.Decides.{nat_tests}
@@ -22,22 +22,26 @@ held_above low n (line ∷ names) above held = go (eqb line.number n) refl held 
   where
     go : (b : Bool) → eqb line.number n ≡ b → list_any (λ (l : NameRow). eqb l.number n) (line ∷ names) ≡ true → (IsHeld names n → low < n) → low < n
     go true is here later = let same : line.number ≡ n = grind (arith, nat_tests, is) in let first = above.0 in omega (arith, same, first)
-    go false is here later = later (rw is here)
+    go false is here later = later (subst (λ b. (b || list_any (λ (l : NameRow). eqb l.number n) names) ≡ true) is here)
 
 -- numbers rise, and so no line before it has the number of a name
 number_held : (name : List ℕ) (names : List NameRow) → IsAscending IsBelow names → list_any (λ (line : NameRow). bytes_eq line.name name) names ≡ true → IsNumberOf names name (Some (number_in names name))
 number_held name [] rise held = absurd cc
-number_held name (line ∷ names) rise held = go (bytes_eq line.name name) refl held
+number_held name (line ∷ names) rise held = go (bytes_eq line.name name) refl held (number_held name names rise.1)
   where
-    go : (b : Bool) → bytes_eq line.name name ≡ b → list_any (λ (l : NameRow). bytes_eq l.name name) (line ∷ names) ≡ true → IsNumberOf (line ∷ names) name (Some (number_in (line ∷ names) name))
-    go true is here =
+    go : (b : Bool) → bytes_eq line.name name ≡ b → list_any (λ (l : NameRow). bytes_eq l.name name) (line ∷ names) ≡ true
+        → (list_any (λ (l : NameRow). bytes_eq l.name name) names ≡ true → IsNumberOf names name (Some (number_in names name)))
+        → IsNumberOf (line ∷ names) name (Some (number_in (line ∷ names) name))
+    go true is here more =
         let itself : eqb line.number line.number ≡ true = grind (arith, nat_tests) in
         rw is (rw itself (refl, (bytes_eq-Decides line.name name).0 is))
-    go false is here =
-        let later = number_held name names rise.1 (rw is here) in
+    go false is here more =
+        let later = more (subst (λ b. (b || list_any (λ (l : NameRow). bytes_eq l.name name) names) ≡ true) is here) in
         let above = held_above line.number (number_in names name) names rise.0 later.0 in
         let other : eqb line.number (number_in names name) ≡ false = grind (arith, nat_tests, above) in
-        rw is (rw other later)
+        let same : number_in (line ∷ names) name ≡ number_in names name = rw is refl in
+        let here : IsNumberOf (line ∷ names) name (Some (number_in names name)) = rw other later in
+        subst (λ m. IsNumberOf (line ∷ names) name (Some m)) (sym same) here
 
 others : (name : List ℕ) (names : List NameRow) → list_any (λ (line : NameRow). bytes_eq line.name name) names ≡ false → AllByRecursion (IsOther name) names
 others name [] none = tt
