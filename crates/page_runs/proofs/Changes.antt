@@ -28,7 +28,7 @@ use Rattle.page_runs.specs.States.{HoldsIn, IsFaithful, IsSettled, Left, ReadsAs
 use Rattle.page_runs.specs.declared.store.PageRuns.{PageRuns}
 use Rattle.page_runs.proofs.States.{shown_same, still_or_failed}
 
-is_done : {T E : Type 0} (r : Result T E) {P : Type 0} → IsTrue (is_ok r) → OnOk r P → P
+pub is_done : {T E : Type 0} (r : Result T E) {P : Type 0} → IsTrue (is_ok r) → OnOk r P → P
 is_done (Ok x) done p = p
 is_done (Err e) done p = absurd (let none : false ≡ true = done in cc)
 

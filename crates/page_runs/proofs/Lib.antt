@@ -1,6 +1,7 @@
 pub mod Among
 mod Making
 mod Changes
+mod Begins
 mod Chains
 mod Columns
 mod Concluding

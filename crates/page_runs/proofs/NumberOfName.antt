@@ -1,58 +1,57 @@
--- The number of a name, found among the rows of names.
-use Rattle.std.proofs.Common.{◌≡◌, ◌≢◌, ◌<◌, ℕ, eqb, true, false, Some, List, [], ◌∷◌, ◌++◌, map, refl, ap, subst, arith}
-use Rattle.std.specs.List.{AllByRecursion}
+-- The number that was found of a name, as the trait of stores says it.
+use Rattle.std.proofs.Common.{◌≡◌, ◌≢◌, ◌<◌, ◌||◌, ℕ, eqb, Bool, true, false, Some, None, Option, List, [], ◌∷◌, bytes_eq, if◌then◌else◌, refl, sym, ap, subst, ◌∙◌, arith}
+use Rattle.std.specs.List.{AllByRecursion, list_any}
+use Rattle.std.proofs.lemmas.Bool.{or_parts}
 use Rattle.std.proofs.lemmas.Bool.Decides.{nat_tests}
-use Rattle.sqlite_value.specs.declared.value.Value.TheVariants.{Blob}
-use Rattle.sqlite_value.specs.Order.{Row, column}
-use Rattle.sqlite_trees.specs.Tree.{IsAscending}
-use Rattle.plain_tables.specs.Tables.{NameRow}
-use Rattle.store_schema.specs.Tables.{name_columns}
+use Rattle.std.proofs.lemmas.Slice.Eq.{bytes_eq-Decides}
+use Rattle.plain_tables.specs.Changes.{has_name}
+use Rattle.plain_tables.specs.Files.{number_in}
+use Rattle.plain_tables.specs.Tables.{Tables, NameRow}
+use Rattle.prof_books.specs.Book.{name_of, no_name, IsHeld}
 use Rattle.run_stores.specs.Names.{IsNumberOf}
-use Rattle.held_lines.proofs.NumbersOfNames.{IsOther}
-use Rattle.page_runs.specs.Sought.{AreOthers, name_read}
+use Rattle.sqlite_trees.specs.Tree.{IsAscending}
+use Rattle.store_schema.specs.Names.{number_if_held}
+use Rattle.store_schema.proofs.Names.{is_held, not_held}
+use Rattle.held_lines.proofs.NumbersOfNames.{IsOther, none_named}
 use Rattle.page_runs.proofs.SomeNames.{IsBelow}
 
--- ---- rows of other names
+-- a number that is held is above one that is below all
+held_above : (low n : ℕ) (names : List NameRow) → AllByRecursion (λ (line : NameRow). low < line.number) names → IsHeld names n → low < n
+held_above low n [] above held = absurd (let none : false ≡ true = held in cc)
+held_above low n (line ∷ names) above held = go (eqb line.number n) refl held (held_above low n names above.1)
+  where
+    go : (b : Bool) → eqb line.number n ≡ b → list_any (λ (l : NameRow). eqb l.number n) (line ∷ names) ≡ true → (IsHeld names n → low < n) → low < n
+    go true is here later = let same : line.number ≡ n = grind (arith, nat_tests, is) in let first = above.0 in omega (arith, same, first)
+    go false is here later = later (subst (λ b. (b || list_any (λ (l : NameRow). eqb l.number n) names) ≡ true) is here)
 
-pub other_row : (row : Row) (number : ℕ) (bytes name : List ℕ) → name_columns (name_read number bytes) ≡ row → bytes ≢ name → column row 2 ≢ Blob name
-other_row row number bytes name is other = subst (λ r. column r 2 ≢ Blob name) is (λ same. other (let here : bytes ≡ name = cc in here))
+-- numbers rise, and so no line before it has the number of a name
+number_held : (name : List ℕ) (names : List NameRow) → IsAscending IsBelow names → list_any (λ (line : NameRow). bytes_eq line.name name) names ≡ true → IsNumberOf names name (Some (number_in names name))
+number_held name [] rise held = absurd cc
+number_held name (line ∷ names) rise held = go (bytes_eq line.name name) refl held (number_held name names rise.1)
+  where
+    go : (b : Bool) → bytes_eq line.name name ≡ b → list_any (λ (l : NameRow). bytes_eq l.name name) (line ∷ names) ≡ true
+        → (list_any (λ (l : NameRow). bytes_eq l.name name) names ≡ true → IsNumberOf names name (Some (number_in names name)))
+        → IsNumberOf (line ∷ names) name (Some (number_in (line ∷ names) name))
+    go true is here more =
+        let itself : eqb line.number line.number ≡ true = grind (arith, nat_tests) in
+        rw is (rw itself (refl, (bytes_eq-Decides line.name name).0 is))
+    go false is here more =
+        let later = more (subst (λ b. (b || list_any (λ (l : NameRow). bytes_eq l.name name) names) ≡ true) is here) in
+        let above = held_above line.number (number_in names name) names rise.0 later.0 in
+        let other : eqb line.number (number_in names name) ≡ false = grind (arith, nat_tests, above) in
+        let same : number_in (line ∷ names) name ≡ number_in names name = rw is refl in
+        let here : IsNumberOf (line ∷ names) name (Some (number_in names name)) = rw other later in
+        subst (λ m. IsNumberOf (line ∷ names) name (Some m)) (sym same) here
 
-pub others_more : (name : List ℕ) (rows : List Row) (row : Row) → AreOthers name rows → column row 2 ≢ Blob name → AreOthers name (rows ++ row ∷ [])
-others_more name [] row others other = (other, tt)
-others_more name (first ∷ rows) row others other = (others.0, others_more name rows row others.1 other)
+others : (name : List ℕ) (names : List NameRow) → list_any (λ (line : NameRow). bytes_eq line.name name) names ≡ false → AllByRecursion (IsOther name) names
+others name [] none = tt
+others name (line ∷ names) none =
+    let parts = or_parts (bytes_eq line.name name) (list_any (λ (l : NameRow). bytes_eq l.name name) names) none in
+    ((λ same. let is = (bytes_eq-Decides line.name name).1 same in let no : false ≡ true = sym parts.0 ∙ is in cc), others name names parts.1)
 
-pub other_names : (name : List ℕ) (names : List NameRow) → AreOthers name (map name_columns names) → AllByRecursion (IsOther name) names
-other_names name [] others = tt
-other_names name (line ∷ names) others = ((λ same. others.0 (ap Blob same)), other_names name names others.1)
-
--- ---- the row of the name
-
-module _ (number : ℕ) (name : List ℕ) (rest : List Row) where
-  abbrev sought : Row
-  sought = name_columns (name_read number name)
-
-  number_above : (low : ℕ) (names : List NameRow) (front : List Row) → AllByRecursion (λ (line : NameRow). low < line.number) names → map name_columns names ≡ front ++ sought ∷ rest → low < number
-  number_above low [] [] above is = absurd cc
-  number_above low [] (row ∷ front) above is = absurd cc
-  number_above low (line ∷ names) [] above is =
-      let here : line.number ≡ number = cc in
-      let less = above.0 in
-      omega (arith, here, less)
-  number_above low (line ∷ names) (row ∷ front) above is =
-      let later : map name_columns names ≡ front ++ sought ∷ rest = cc in
-      number_above low names front above.1 later
-
-  -- numbers rise, and so no line before it has its number
-  pub number_found : (names : List NameRow) (front : List Row) → IsAscending IsBelow names → map name_columns names ≡ front ++ sought ∷ rest → IsNumberOf names name (Some number)
-  number_found [] [] rise is = absurd cc
-  number_found [] (row ∷ front) rise is = absurd cc
-  number_found (line ∷ names) [] rise is =
-      let here : line.number ≡ number = cc in
-      let name_is : line.name ≡ name = cc in
-      let same : eqb line.number number ≡ true = grind (arith, nat_tests, here) in
-      rw same (refl, name_is)
-  number_found (line ∷ names) (row ∷ front) rise is =
-      let later : map name_columns names ≡ front ++ sought ∷ rest = cc in
-      let less = number_above line.number names front rise.0 later in
-      let other : eqb line.number number ≡ false = grind (arith, nat_tests, less) in
-      rw other (number_found names front rise.1 later)
+-- the number of a name that is held has it, and where none is held no number has it
+pub is_number : (t : Tables) (name : List ℕ) → name ≢ no_name → IsAscending IsBelow t.names → (found : Option ℕ) → found ≡ number_if_held t name → IsNumberOf t.names name found
+is_number t name some rise (Some n) is =
+    let held = is_held t name n is in
+    subst (λ m. IsNumberOf t.names name (Some m)) (sym held.1) (number_held name t.names rise held.0)
+is_number t name some rise None is = none_named name some t.names (others name t.names (not_held t name is))

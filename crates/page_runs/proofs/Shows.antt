@@ -1,5 +1,5 @@
 -- Files that show rows.
-use Rattle.std.proofs.Common.{◌≡◌, ℕ, ℤ, negsuc, ◌-◌, ◌^◌, pos, ◌+ℤ◌, List, ◌∷◌, ap, subst, ◌∙◌}
+use Rattle.std.proofs.Common.{◌≡◌, ℕ, ℤ, negsuc, ◌-◌, ◌^◌, pos, ◌+ℤ◌, List, ◌∷◌, sym, ap, ap₂, subst, subst₂, ◌∙◌}
 use Rattle.sqlite_disk.specs.declared.Disk.{Ghosts}
 use Rattle.sqlite_value.specs.declared.value.Value.TheVariants.{Int}
 use Rattle.sqlite_value.specs.Order.{Row}
@@ -9,7 +9,12 @@ use Rattle.page_files.specs.Files.{OnlyReads, page_size, pages_of}
 use Rattle.page_rows.specs.Rows.{from_rowid}
 use Rattle.page_files.proofs.Reading.{same_table, same_trees}
 use Rattle.page_rows.proofs.FileTables.{all_shown_from_least, shown_behind}
-use Rattle.page_runs.specs.Shown.{ShowsLines, ShowsRows}
+use Rattle.page_places.specs.Stores.{ShowsStore}
+use Rattle.plain_tables.specs.Tables.{Tables}
+use Rattle.sqlite_store.specs.Db.{roots_of, IsDb}
+use Rattle.sqlite_store.specs.Listing.{all_trees}
+use Rattle.sqlite_trees.specs.Objects.{with_version}
+use Rattle.page_runs.specs.Shown.{ShowsRows}
 
 module _ {D : Type 0} {g : Ghosts D} where
   -- files that show the same pages show the same rows
@@ -22,8 +27,19 @@ module _ {D : Type 0} {g : Ghosts D} where
       rows_are = ap (λ (trees : Trees). trees is.t) (same_trees old new size pages is.wanted) ∙ is.rows_are;
     }
 
-    pub same_lines : {X : Type 0} (root : ℕ) (columns : X → Row) (run : X → ℕ) (lines : List X) → ShowsLines old root columns run lines → ShowsLines new root columns run lines
-    same_lines root columns run lines is = record { rows = is.rows; shows = same_rows root is.rows is.shows; lines_are = is.lines_are; in_order = is.in_order }
+    -- and the same store
+    pub same_store : {t : Tables} {known : List ℕ} → ShowsStore t known old → ShowsStore t known new
+    same_store is = record {
+      wanted = is.wanted;
+      db = is.db;
+      stands = record {
+        is_db = subst₂ (λ n p. IsDb n is.wanted p) (sym size) (sym pages) is.stands.is_db;
+        known_are = is.stands.known_are ∙ ap₂ (λ n p. roots_of n is.wanted p) (sym size) (sym pages);
+        version = is.stands.version;
+        reads = is.stands.reads ∙ ap₂ (λ n p. with_version (all_trees n is.wanted p) is.stands.version) (sym size) (sym pages);
+      };
+      holds = is.holds;
+    }
 
   -- calls that read leave the rows
   pub shows_after : (old new : PageFile D g) (root : ℕ) (rows : List Row) → OnlyReads old new → ShowsRows old root rows → ShowsRows new root rows

@@ -1,5 +1,5 @@
 -- What calls that read leave of a store.
-use Rattle.std.proofs.Common.{◌≡◌, ◌⊎◌, ℕ, Bool, true, false, IsTrue, ◌&&◌, List, Result, Ok, Err, map, refl, sym, ap₂, subst, ◌∙◌, inl, inr}
+use Rattle.std.proofs.Common.{◌≡◌, ◌⊎◌, ℕ, Bool, true, false, IsTrue, ◌&&◌, List, Result, Ok, Err, refl, sym, ap₂, subst, ◌∙◌, inl, inr}
 use Rattle.std.proofs.lemmas.Bool.{and_parts, cases_Bool}
 use Rattle.std.specs.Result.{IsErr, is_ok}
 use Rattle.sqlite_disk.specs.Disk.{MoreFaults}
@@ -13,21 +13,18 @@ use Rattle.sqlite_disk.specs.declared.Disk.{Ghosts}
 use Rattle.sqlite_pool.specs.Stored.{Keeps, RecoversAs}
 use Rattle.sqlite_store.specs.declared.catalog.Wanted.{Wanted}
 use Rattle.sqlite_trees.specs.Tree.{Trees}
-use Rattle.plain_tables.specs.Tables.{Tables, CellRow, CallRow, StackRow}
+use Rattle.plain_tables.specs.Tables.{Tables}
 use Rattle.run_stores.specs.Calls.{Asked, Changed}
 use Rattle.page_files.specs.Files as files
 use Rattle.page_files.specs.Files.{IsUsable, OnlyReads, page_size, pages_of}
 use Rattle.page_files.specs.Held.{Rests}
 use Rattle.page_files.proofs.Reading.{rests_after}
 use Rattle.run_lists.specs.Listed.{AreListed}
-use Rattle.store_schema.specs.Tables.{name_columns, cell_columns, arc_columns, stack_columns}
 use Rattle.page_places.specs.Roots.{AreRoots}
-use Rattle.page_places.specs.declared.roots.StoreRoots.{StoreRoots}
-use Rattle.page_runs.specs.Shown.{ShowsLines, ShowsRows}
 use Rattle.page_runs.specs.States.{IsFaithful, IsSettled, Left, Represents, ShowsTables, kept, may_leave, state_of}
 use Rattle.page_runs.specs.declared.store.PageRuns.{PageRuns}
 use Rattle.page_files.proofs.Reading.{OnlyReads-refl}
-use Rattle.page_runs.proofs.Shows.{same_lines, same_rows}
+use Rattle.page_runs.proofs.Shows.{same_store}
 
 -- an error is no answer
 pub none_answered : {T E P : Type 0} (r : Result T E) → IsErr r → IsTrue (is_ok r) → P
@@ -46,12 +43,11 @@ module _ {D : Type 0} {g : Ghosts D} where
   pub shown_same : (old new : PageRuns D g) → page_size new.file ≡ page_size old.file → pages_of new.file ≡ pages_of old.file → new.lists ≡ old.lists → new.roots ≡ old.roots
       → (t : Tables) → ShowsTables t old → ShowsTables t new
   shown_same old new size pages lists roots t is = record {
+    known = is.known;
+    stored = same_store old.file new.file size pages is.stored;
+    roots = subst (AreRoots is.known) (sym roots) is.roots;
     listed = subst (AreListed t) (sym lists) is.listed;
-    names = same_rows old.file new.file size pages new.roots.names _ (subst (λ (r : StoreRoots). ShowsRows old.file r.names (map name_columns t.names)) (sym roots) is.names);
-    apart = is.apart;
-    cells = same_lines old.file new.file size pages new.roots.cells _ _ _ (subst (λ (r : StoreRoots). ShowsLines old.file r.cells cell_columns (λ (c : CellRow). c.run) t.cells) (sym roots) is.cells);
-    calls = same_lines old.file new.file size pages new.roots.calls _ _ _ (subst (λ (r : StoreRoots). ShowsLines old.file r.calls arc_columns (λ (a : CallRow). a.run) t.calls) (sym roots) is.calls);
-    stacks = same_lines old.file new.file size pages new.roots.stacks _ _ _ (subst (λ (r : StoreRoots). ShowsLines old.file r.stacks stack_columns (λ (s : StackRow). s.run) t.stacks) (sym roots) is.stacks);
+    ordered = is.ordered;
   }
 
   -- a file that shows the same pages, commits nothing, and rests on what it rested on, if it can be used

@@ -1,8 +1,8 @@
 pub mod Among
 pub mod Finished
+pub mod Names
 pub mod Shown
 pub mod Sizes
-pub mod Sought
 pub mod States
 pub mod Texts
 pub mod Walks

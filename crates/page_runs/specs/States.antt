@@ -1,5 +1,5 @@
 -- What a store in the pages of its file represents.
-use Rattle.std.specs.Prelude.{◌≡◌, ℕ, List, map}
+use Rattle.std.specs.Prelude.{◌≡◌, ℕ, List}
 use Rattle.sqlite_disk.specs.declared.Disk.{Ghosts}
 use Rattle.sqlite_pages.specs.PageMap.{PageMap}
 use Rattle.sqlite_pool.specs.File.{in_use}
@@ -14,16 +14,16 @@ use Rattle.sqlite_store.specs.declared.catalog.Wanted.{Wanted}
 use Rattle.page_files.specs.Files as files
 use Rattle.page_files.specs.Files.{page_size, pages_of}
 use Rattle.page_files.specs.Held.{Rests}
-use Rattle.plain_tables.specs.Tables.{Tables, CellRow, CallRow, StackRow}
+use Rattle.plain_tables.specs.Tables.{Tables}
 use Rattle.run_lists.specs.Listed.{AreListed}
 use Rattle.run_order.specs.Order.{AreInOrder}
 use Rattle.store_schema.specs.Schema.{schema_two}
-use Rattle.store_schema.specs.Tables.{Holds, name_columns, cell_columns, arc_columns, stack_columns}
+use Rattle.store_schema.specs.Tables.{Holds}
 use Rattle.store_schema.proofs.Sound.{sound_of}
-use Rattle.run_stores.specs.Names.{AreApart}
+use Rattle.held_lines.proofs.Apart.{apart_held}
 use Rattle.run_stores.specs.declared.states.StoreState.{Ghosts as StoreGhosts}
 use Rattle.page_places.specs.Roots.{AreRoots}
-use Rattle.page_runs.specs.Shown.{ShowsLines, ShowsRows}
+use Rattle.page_places.specs.Stores.{ShowsStore}
 use Rattle.page_runs.specs.declared.store.PageRuns.{PageRuns}
 
 -- the files, and the size of their pages
@@ -53,14 +53,13 @@ abbrev pub IsSettled : Kept → Type 0
 IsSettled kept = kept.0 ≡ kept.1
 
 module _ {D : Type 0} {g : Ghosts D} where
-  -- its file shows these rows, those of runs in the order of the runs, and names that are told apart
+  -- its file shows a store of these rows, its tables and indexes under these roots, and the rows of runs in the order of the runs
   pub record ShowsTables (t : Tables) (store : PageRuns D g) : Type 0 where
+    pub known : List ℕ
+    pub stored : ShowsStore t known store.file
+    pub roots : AreRoots known store.roots
     pub listed : AreListed t store.lists
-    pub names : ShowsRows store.file store.roots.names (map name_columns t.names)
-    pub apart : AreApart t.names
-    pub cells : ShowsLines store.file store.roots.cells cell_columns (λ (c : CellRow). c.run) t.cells
-    pub calls : ShowsLines store.file store.roots.calls arc_columns (λ (a : CallRow). a.run) t.calls
-    pub stacks : ShowsLines store.file store.roots.stacks stack_columns (λ (s : StackRow). s.run) t.stacks
+    pub ordered : AreInOrder t
 
   abbrev pub IsFaithful : PageRuns D g → Type 0
   IsFaithful store = files.IsFaithful store.file
@@ -123,7 +122,7 @@ module _ {D : Type 0} {g : Ghosts D} where
     usable = λ t s represents. represents.reads.usable;
     said = λ t s represents. represents.reads;
     readable = λ t s reads. reads.usable;
-    apart = λ t s reads. reads.shows.apart;
+    apart = λ t s reads. apart_held t reads.shows.stored.db reads.shows.stored.holds;
     sound = λ t s represents. sound_of t represents.db represents.holds;
     left_sound = λ t left holds. sound_of t holds.db holds.holds;
   }

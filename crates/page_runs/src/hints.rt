@@ -35,6 +35,15 @@ impl Hints {
             let _kept = self.begins.insert(run, begin);
         }
     }
+
+    /// The same of a run that was found, if one was.
+    pub fn keep_found(&mut self, run: Option<u32>, begin: i64, most: u64)
+        ensures { (btree_map_len self.new.begins ≤ most) ⊎ (btree_map_len self.new.begins ≤ btree_map_len self.old.begins) }
+    {
+        if let Some(run) = run {
+            self.keep(run, begin, most);
+        }
+    }
 }
 
 /// The hints of the tables whose rows are lines of runs.

@@ -19,8 +19,6 @@ mod listing;
 mod lists;
 // The names that are held.
 mod names;
-// The number of a name (specs/Sought.antt).
-mod number_of;
 // Opens a store by the pages of its file.
 mod opening;
 // Where the rows of a run begin.

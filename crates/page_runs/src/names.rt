@@ -10,7 +10,7 @@ ghost use Rattle.run_stores.specs.Names.{AreAmong};
 ghost use Rattle.page_files.specs.Files.{IsFaithful, OnlyReads};
 ghost use Rattle.store_schema.specs.Tables.{name_columns};
 ghost use Rattle.page_runs.specs.Shown.{ShowsRows};
-ghost use Rattle.page_runs.specs.Sought.{name_read};
+ghost use Rattle.page_runs.specs.Names.{name_read};
 
 use crate::fields::{bytes_in, end_of, key_in};
 use crate::listing::all_rows;

@@ -155,10 +155,11 @@ pub(crate) fn begin_of<D: Disk>(
     ensures fits { IfOk result (FitsSigned w64) }
     ensures reads { OnlyReads file.old file.new }
 {
-    if let Some(hint) = hint {
-        if let Some(from) = proved_place(file, alloc, root, run, hint)? {
-            return Ok(from);
-        }
+    match hint {
+        Some(hint) => match proved_place(file, alloc, root, run, hint)? {
+            Some(from) => Ok(from),
+            None => place_of(file, alloc, root, run),
+        },
+        None => place_of(file, alloc, root, run),
     }
-    place_of(file, alloc, root, run)
 }

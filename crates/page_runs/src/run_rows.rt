@@ -99,11 +99,11 @@ impl<T: LineSink + Drop> RowSink for RunRows<T> {
             self.next = Some(run);
             return Ok(false);
         }
+        self.behind = rowid.saturating_add(1);
         if run == self.run {
             let added = self.sink.take(run, fields)?;
             self.sum = sum_with(self.sum, added)?;
         }
-        self.behind = rowid.saturating_add(1);
         Ok(true)
     }
 }
@@ -137,9 +137,7 @@ pub(crate) fn each_line<D: Disk, T: LineSink + Drop>(
     };
     match file.walk(alloc, table.root, from, &mut rows) {
         Ok(()) if rows.sum == table.sum => {
-            if let Some(next) = rows.next {
-                hints.keep(next, rows.behind, table.runs);
-            }
+            hints.keep_found(rows.next, rows.behind, table.runs);
             Ok(rows.sink)
         }
         Ok(()) => Err(StoreError::Store),

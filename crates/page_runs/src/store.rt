@@ -22,15 +22,14 @@ use crate::heads::head_of;
 use crate::hints::RunHints;
 use crate::lists::read_lists;
 use crate::names::{holds_names, names_among, names_under};
-use crate::number_of::number_of;
 use crate::opening::open_store;
 use crate::run_rows::RunTable;
 use cg_formulas::FileHead;
 use cg_text::ListVec;
 use cost_rows::FileTotals;
-use held_lines::HeldNames;
+use held_lines::{HeldNames, is_name};
 use page_files::PageFile;
-use page_places::{StoreRoots, error_of};
+use page_places::{StoreRoots, error_of, find_name};
 use plain_tables::StoreError;
 use profile_records::Kind;
 use run_lists::RunLists;
@@ -211,6 +210,7 @@ impl<D: Disk> PageRuns<D> {
 impl<D: Disk> StoreState for PageRuns<D> {
     ghost use Rattle.sqlite_pool.specs.Pool as pools;
     ghost use Rattle.store_schema.proofs.Sound.{sound_of};
+    ghost use Rattle.held_lines.proofs.Apart.{apart_held};
     ghost use Rattle.page_runs.specs.States.{HoldsIn, IsFaithful, IsSettled, Kept as KeptPages, Left, ReadsAs, Represents, faults, kept, may_leave};
 
     ghost Kept = { KeptPages };
@@ -241,7 +241,7 @@ impl<D: Disk> StoreState for PageRuns<D> {
 
     ghost readable = { λ t s reads. reads.usable };
 
-    ghost apart = { λ t s reads. reads.shows.apart };
+    ghost apart = { λ t s reads. apart_held t reads.shows.stored.db reads.shows.stored.holds };
 
     ghost sound = { λ t s represents. sound_of t represents.db represents.holds };
 
@@ -343,9 +343,8 @@ impl<D: Disk> RunStore for PageRuns<D> {
     }
 
     fn number_of(&mut self, alloc: Global, name: &[u8]) -> Result<Option<u32>, StoreError> {
-        let answer = number_of(&mut self.file, alloc, self.roots.names, name)?;
-        self.if_usable()?;
-        Ok(answer)
+        is_name(name);
+        find_name(&mut self.file, alloc, self.roots.name_bytes, name)
     }
 
     fn holds_names(&mut self, alloc: Global, numbers: &[u32]) -> Result<bool, StoreError> {

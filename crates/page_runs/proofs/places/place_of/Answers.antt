@@ -1,17 +1,17 @@
-use Rattle.std.proofs.Common.{arith, ◌<◌, subst, sym, ◌∙◌, to_z-of_z}
-use Rattle.page_runs.specs.Walks.{AllEarlier, IsFirstOf}
+use Rattle.std.proofs.Common.{arith, subst, sym, ◌∙◌, to_z-of_z}
+use Rattle.page_runs.specs.Walks.{AllEarlier}
 use Rattle.page_files.proofs.Reading.{OnlyReads-trans}
-use Rattle.page_runs.proofs.RunRows.{earlier_behind, earlier_from_least}
-use Rattle.page_files.proofs.Reading.{OnlyReads-refl}
-use Rattle.page_runs.proofs.Shows.{all_from_least, rows_behind, shows_after}
+use Rattle.page_runs.proofs.Begins.{earlier_found}
+use Rattle.page_runs.proofs.RunRows.{earlier_from_least}
+use Rattle.page_runs.proofs.Shows.{all_from_least, shows_after}
 use Rattle.page_runs.proofs.places.place_of.Goals as goal
 use Rattle.page_runs.proofs.places.place_of.Goals.{in-Some, in-None}
 
 pub halves-init : goal.halves-init
 halves-init g c = (
   λ faithful rows is order. earlier_from_least _ _ rows (all_from_least _ _ rows is),
-  OnlyReads-refl _,
-  omega (arith),
+  c.above_last.ensures.reads,
+  c.in_ok-high.ensures.fits,
 )
 
 pub returns-in_err-found-clause-reads : goal.returns-in_err-found-clause-reads
@@ -25,11 +25,7 @@ halves-preserved g c = (
       let found = c.in_ok-found.ensures.found faithful rows here in
       elim c.match-behind_earlier.branch [
         | in-Some w ↦
-            (let (id, of, is_found, low, behind) = w.in-Some.ensures.behind in
-            let (row, rest, first, numbered, run_is) = subst (IsFirstOf _) is_found found in
-            let next = w.from-is ∙ to_z-of_z w.in-Some.ensures.fits ∙ behind in
-            subst (λ n. AllEarlier c.args.run n rows) (sym next)
-            (earlier_behind c.args.run rows _ id row rest order first (subst (λ n. n < c.args.run) (sym run_is) low) (rows_behind _ _ rows here _ id row rest numbered first)))
+            subst (λ n. AllEarlier c.args.run n rows) (sym (w.from-is ∙ to_z-of_z w.in-Some.ensures.fits)) (earlier_found _ _ rows here c.args.run _ _ _ order found w.in-Some.ensures.behind)
         | in-None w ↦ subst (λ n. AllEarlier c.args.run n rows) (sym w.from-is) was
       ]),
   OnlyReads-trans _ _ _ c.halves.invariant.1 c.first_from.ensures.reads,

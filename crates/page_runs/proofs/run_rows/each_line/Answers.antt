@@ -12,7 +12,7 @@ returns-in-Ok-clause-handed g c faithful = λ rows is order start begun.
     let run = c.args.table.run in
     let from = c.in_ok-from.from in
     let earlier = c.in_ok-from.ensures.earlier (c.walk.ensures.reads.keeps.stays.clean faithful) rows is order in
-    let there = shows_after _ _ _ rows c.place_of.ensures.reads is in
+    let there = shows_after _ _ _ rows c.begin_of.ensures.reads is in
     let fits : FitsSigned w64 from = c.in_ok-from.ensures.fits in
     let here : from_rowid (to_z w64 (of_z w64 from)) _ ≡ from_rowid from rows = ap₂ from_rowid (to_z-of_z fits) there.rows_are in
     let same : c.walk.new.sink.sum ≡ c.args.table.sum = search rules in
@@ -23,10 +23,10 @@ returns-in-Ok-clause-handed g c faithful = λ rows is order start begun.
     ]
 
 pub returns-in-Ok-clause-reads : goal.returns-in-Ok-clause-reads
-returns-in-Ok-clause-reads g c = OnlyReads-trans _ _ _ c.place_of.ensures.reads c.walk.ensures.reads
+returns-in-Ok-clause-reads g c = OnlyReads-trans _ _ _ c.begin_of.ensures.reads c.walk.ensures.reads
 
 pub returns-in-Err-clause-reads : goal.returns-in-Err-clause-reads
-returns-in-Err-clause-reads g c = OnlyReads-trans _ _ _ c.place_of.ensures.reads c.walk.ensures.reads
+returns-in-Err-clause-reads g c = OnlyReads-trans _ _ _ c.begin_of.ensures.reads c.walk.ensures.reads
 
 pub returns-in-Ok-2-clause-reads : goal.returns-in-Ok-2-clause-reads
-returns-in-Ok-2-clause-reads g c = OnlyReads-trans _ _ _ c.place_of.ensures.reads c.walk.ensures.reads
+returns-in-Ok-2-clause-reads g c = OnlyReads-trans _ _ _ c.begin_of.ensures.reads c.walk.ensures.reads

@@ -5,6 +5,7 @@ use Rattle.plain_tables.specs.Tables.{CellRow}
 use Rattle.store_schema.specs.Tables.{cell_columns}
 use Rattle.page_runs.specs.Shown.{ShowsLines}
 use Rattle.page_runs.specs.declared.run_rows.RunTable.{RunTable}
+use Rattle.page_runs.proofs.Taken.{large_shown}
 use Rattle.page_runs.proofs.States.{asked, none_told}
 use Rattle.page_runs.proofs.store.PageRunsRunStore.each_cell.Goals as goal
 
@@ -15,7 +16,7 @@ returns-clause-told g c faithful t is =
     let made = c.in_ok-table.ensures t is.shows.listed in
     let root = ap (λ (r : RunTable). r.root) made in
     let run = ap (λ (r : RunTable). r.run) made in
-    let there = subst (λ n. ShowsLines c.args.self.now.file n cell_columns (λ (r : CellRow). r.run) t.cells) (sym root) is.shows.cells in
+    let there = subst (λ n. ShowsLines c.args.self.now.file n cell_columns (λ (r : CellRow). r.run) t.cells) (sym root) (large_shown t c.args.self.now is.shows).cells in
     (let both = c.in_ok-taken.ensures.told faithful t there in subst (λ n. CellsFoldTo c.args.events sink.step start (sink.meaning c.in_ok-taken.taken) (cells_in n t)) run both.0)
 
 pub returns-clause-asks : goal.returns-clause-asks
