@@ -6,6 +6,7 @@ pub mod Indexes
 pub mod Numbers
 pub mod Parts
 pub mod Raised
+pub mod Refused
 pub mod Rising
 pub mod Sorted
 pub mod Steps

@@ -11,17 +11,17 @@ use Rattle.line_fills.proofs.appends.append_batch.Goals as goal
 
 pub append-requires-clause-short : goal.append-requires-clause-short
 append-requires-clause-short g c =
-    let all = all_shown (λ (row : ℤ × Bor (List ℕ)). row.1.now) IsWritable c.in_ok-rows.rows.items c.in_ok-records.records c.in_ok-rows.ensures.records c.in_ok-records.ensures.writable in
+    let all = all_shown (λ (row : ℤ × Bor (List ℕ)). row.1.now) IsWritable c.in_ok-rows.rows.items c.in_ok-records.records c.in_ok-rows.ensures.records c.in_ok-records.ensures.made.writable in
     rw c.as_slice.ensures.value (λ k d low. (all k d low).short)
 
 pub append-requires-clause-strict : goal.append-requires-clause-strict
 append-requires-clause-strict g c =
-    let all = all_shown (λ (row : ℤ × Bor (List ℕ)). row.1.now) IsWritable c.in_ok-rows.rows.items c.in_ok-records.records c.in_ok-rows.ensures.records c.in_ok-records.ensures.writable in
+    let all = all_shown (λ (row : ℤ × Bor (List ℕ)). row.1.now) IsWritable c.in_ok-rows.rows.items c.in_ok-records.records c.in_ok-rows.ensures.records c.in_ok-records.ensures.made.writable in
     rw c.as_slice.ensures.value (λ k d low. (all k d low).strict)
 
 pub returns-in-Ok-clause-done : goal.returns-in-Ok-clause-done
 returns-in-Ok-clause-done g c faithful = λ wanted roots was now t w is plain.
     let rows : rows_given c.as_slice.result.now ≡ numbered c.args.first (map g.L.PageLine.columns c.args.lines.now) =
-    ap rows_given c.as_slice.ensures.value ∙ c.in_ok-rows.ensures.rows ∙ ap (numbered c.args.first) c.in_ok-records.ensures.rows_are in
+    ap rows_given c.as_slice.ensures.value ∙ c.in_ok-rows.ensures.rows ∙ ap (numbered c.args.first) c.in_ok-records.ensures.made.rows_are in
     subst (λ news. Writes wanted roots was (with_tree now t (place_all put_row news (now t))) c.append.new.self) rows
     (c.in-Ok.ensures.done faithful wanted roots was now t w is (λ k d low. as_given wanted t _ plain))

@@ -14,17 +14,17 @@ use Rattle.line_fills.proofs.appends.insert_batch.Goals as goal
 
 pub append_entries-requires-clause-short : goal.append_entries-requires-clause-short
 append_entries-requires-clause-short g c =
-    let all = all_shown (λ (entry : Bor (List ℕ)). entry.now) IsWritable c.in_ok-entries.entries.items c.in_ok-records.records c.in_ok-entries.ensures c.in_ok-records.ensures.writable in
+    let all = all_shown (λ (entry : Bor (List ℕ)). entry.now) IsWritable c.in_ok-entries.entries.items c.in_ok-records.records c.in_ok-entries.ensures c.in_ok-records.ensures.made.writable in
     rw c.as_slice.ensures.value (λ k d low. (all k d low).short)
 
 pub append_entries-requires-clause-strict : goal.append_entries-requires-clause-strict
 append_entries-requires-clause-strict g c =
-    let all = all_shown (λ (entry : Bor (List ℕ)). entry.now) IsWritable c.in_ok-entries.entries.items c.in_ok-records.records c.in_ok-entries.ensures c.in_ok-records.ensures.writable in
+    let all = all_shown (λ (entry : Bor (List ℕ)). entry.now) IsWritable c.in_ok-entries.entries.items c.in_ok-records.records c.in_ok-entries.ensures c.in_ok-records.ensures.made.writable in
     rw c.as_slice.ensures.value (λ k d low. (all k d low).strict)
 
 pub returns-in-Ok-clause-done : goal.returns-in-Ok-clause-done
 returns-in-Ok-clause-done g c faithful = λ wanted roots was now t w is none.
     let entries : entries_given c.as_slice.result.now ≡ entries_at c.args.index.now.columns.now c.args.first (map g.L.PageLine.columns c.args.lines.now) c.args.places.now =
-    ap entries_given c.as_slice.ensures.value ∙ sym (map-map decode (λ (entry : Bor (List ℕ)). entry.now) c.in_ok-entries.entries.items) ∙ ap (map decode) c.in_ok-entries.ensures ∙ c.in_ok-records.ensures.rows_are in
+    ap entries_given c.as_slice.ensures.value ∙ sym (map-map decode (λ (entry : Bor (List ℕ)). entry.now) c.in_ok-entries.entries.items) ∙ ap (map decode) c.in_ok-entries.ensures ∙ c.in_ok-records.ensures.made.rows_are in
     subst (λ news. Writes wanted roots was (with_tree now t (place_all (insert_entry plain) news (now t))) c.append_entries.new.self) entries
     (c.in-Ok.ensures.done faithful wanted roots was now t w is (λ k d low. entry_as_given wanted t _ none))
