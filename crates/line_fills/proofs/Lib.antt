@@ -1,6 +1,7 @@
 pub mod Cuts
 pub mod Encoded
 pub mod Entered
+pub mod Failing
 pub mod Held
 pub mod Indexes
 pub mod Numbers

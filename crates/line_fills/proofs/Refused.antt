@@ -1,8 +1,9 @@
 -- Rows of which no record is made.
-use Rattle.std.proofs.Common.{◌≡◌, ◌⊎◌, ℕ, ◌+◌, ◌*◌, ◌<◌, ◌≤◌, ◌^◌, List, [], ◌∷◌, ◌++◌, get_or, length, map, sum_by, sym, ap, subst, ◌∙◌, zero, suc, refl, inl, inr, arith, length-append, Result, Ok, Err, IfErr}
+use Rattle.std.proofs.Common.{◌≡◌, ◌⊎◌, ℕ, ◌+◌, ◌*◌, ◌<◌, ◌≤◌, ◌^◌, List, [], ◌∷◌, ◌++◌, drop, get_or, length, map, take, sum_by, sym, ap, subst, ◌∙◌, zero, suc, refl, inl, inr, arith, length-append, Result, Ok, Err, IfErr}
 use Rattle.std.proofs.Math.ListN.{get_or-append}
 use Rattle.std.proofs.Math.Seq.{get_or-append_seam}
 use Rattle.std.proofs.lemmas.List.{get_or-map, length-map}
+use Rattle.std.proofs.lemmas.List.Elements.{All-drop, All-take}
 use Rattle.std.proofs.lemmas.List.Sums.{sum_by-cons}
 use Rattle.sqlite_format.specs.Varint.{varint_len}
 use Rattle.sqlite_format.proofs.VarintLemmas.{varint_len_most}
@@ -27,6 +28,16 @@ refused_for e so (inr (is, none)) = inr (is, λ all. none (so all))
 pub if_err : {T E : Type 0} (r : Result T E) {P Q : E → Type 0} → ((e : E) → P e → Q e) → IfErr r P → IfErr r Q
 if_err (Ok x) so p = tt
 if_err (Err e) so p = so e p
+
+take_mapped : {X : Type 0} (f : X → Row) (xs : List X) (n : ℕ) → take n (map f xs) ≡ map f (take n xs)
+take_mapped f xs zero = refl
+take_mapped f [] (suc n) = refl
+take_mapped f (x ∷ xs) (suc n) = ap (λ l. f x ∷ l) (take_mapped f xs n)
+
+drop_mapped : {X : Type 0} (f : X → Row) (xs : List X) (n : ℕ) → drop n (map f xs) ≡ map f (drop n xs)
+drop_mapped f xs zero = refl
+drop_mapped f [] (suc n) = refl
+drop_mapped f (x ∷ xs) (suc n) = drop_mapped f xs n
 
 types_short : (types : List ℕ) (row : Row) → AreTypesOf types row → length types ≤ 9 * length row
 types_short types [] are = omega (arith, ap length are)
@@ -83,6 +94,11 @@ module _ (columns : List ℕ) (row : Row) (fits : HasRecord (entry_of columns ro
       let count = length-map columns (column row) in
       let there : column (entry_of columns row) (length (map (column row) columns)) ≡ column row 0 = get_or-append_seam (map (column row) columns) (column row 0) [] Null in
       subst IsShort there (value_short (entry_of columns row) (length (map (column row) columns)) (omega (arith, length-append (map (column row) columns) (column row 0 ∷ []))) fits)
+
+-- where each has a record, each of a part has
+pub part_of_all : {X : Type 0} (f : X → Row) (xs : List X) (n m : ℕ) → HaveRecords (map f xs) → HaveRecords (map f (take n (drop m xs)))
+part_of_all f xs n m all =
+    subst HaveRecords (take_mapped f (drop m xs) n) (All-take HasRecord n (map f (drop m xs)) (subst HaveRecords (drop_mapped f xs m) (All-drop HasRecord m (map f xs) all)))
 
 -- where each has a record, that at a place has one
 pub one_of_all : {X : Type 0} (f : X → Row) (xs : List X) (at : ℕ) (x : X) → at < length xs → HaveRecords (map f xs) → HasRecord (f (get_or xs at x))

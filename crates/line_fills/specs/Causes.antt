@@ -1,5 +1,5 @@
 -- Why lines may not be put in.
-use Rattle.std.specs.Prelude.{◌≡◌, ◌⊎◌, ◌+◌, ◌<◌, ◌≤◌, ◌^◌, ◌≤ℤ◌, pos, ℕ, List, All, length, map}
+use Rattle.std.specs.Prelude.{◌≡◌, ◌⊎◌, ◌+◌, ◌<◌, ◌≤◌, ◌^◌, ◌≤ℤ◌, pos, ℕ, ℤ, List, All, length, map}
 use Rattle.std.specs.Float.{NotNan}
 use Rattle.std.specs.List.{AllByRecursion}
 use Rattle.plain_tables.specs.declared.errors.StoreError.{StoreError}
@@ -29,11 +29,24 @@ HasRecord row = IsStorable 0 row × (length row ≤ 14)
 abbrev pub HaveRecords : List Row → Type 0
 HaveRecords rows = All HasRecord rows
 
--- an index of these columns can take the entries of lines that are numbered from a rowid on: no two have one key
-pub record CanEnter (columns : List ℕ) (first : ℕ) (lines : List Row) : Type 0 where
-  pub records : HaveRecords (map (entry_of columns) (numbered first lines))
-  pub apart : HeadsDiffer (length columns) (map (entry_of columns) (numbered first lines))
+-- an index of these columns can take the entries of new rows: no two have one key
+pub record CanEnter (columns : List ℕ) (news : List Row) : Type 0 where
+  pub records : HaveRecords (map (entry_of columns) news)
+  pub apart : HeadsDiffer (length columns) (map (entry_of columns) news)
 
--- behind the rows there are rowids for so many lines
+-- from this number on there are so many rowids
+pub record HasRoomFrom (free : ℤ) (count : ℕ) : Type 0 where
+  pub first : ℕ
+  pub some : 1 ≤ first
+  pub behind : free ≤ℤ pos first
+  pub room : first + count < 2 ^ 63
+
+-- and behind these rows
 abbrev pub HasRoom : List Row → ℕ → Type 0
-HasRoom rows count = (first : ℕ) × (1 ≤ first) × (next_rowid rows ≤ℤ pos first) × (first + count < 2 ^ 63)
+HasRoom rows count = HasRoomFrom (next_rowid rows) count
+
+-- lines can be put behind the rows of a table that has these indexes, whatever rowids they get
+pub record CanBeFilledIn (lines rows : List Row) (indexes : List Index) : Type 0 where
+  pub room : HasRoom rows (length lines)
+  pub records : HaveRecords lines
+  pub entered : (first : ℕ) → first + length lines < 2 ^ 63 → AllByRecursion (λ (i : Index). CanEnter i.columns (numbered first lines)) indexes
