@@ -11,4 +11,5 @@ pub mod Refused
 pub mod Rising
 pub mod Sorted
 pub mod Steps
+pub mod Tied
 pub mod Whole

@@ -29,8 +29,9 @@ HasRecord row = IsStorable 0 row × (length row ≤ 14)
 abbrev pub HaveRecords : List Row → Type 0
 HaveRecords rows = All HasRecord rows
 
--- an index of these columns can take the entries of new rows: no two have one key
+-- an index of these columns can take the entries of new rows: it is not over the rowid, and no two have one key
 pub record CanEnter (columns : List ℕ) (news : List Row) : Type 0 where
+  pub of_columns : AllByRecursion (λ at. 1 ≤ at) columns
   pub records : HaveRecords (map (entry_of columns) news)
   pub apart : HeadsDiffer (length columns) (map (entry_of columns) news)
 

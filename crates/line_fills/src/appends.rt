@@ -11,7 +11,7 @@ ghost use Rattle.line_fills.specs.Rows.{ArePlacesOf, HaveRowids, entries_at, num
 
 use crate::batches::{entry_records, row_records};
 use crate::lines::PageLine;
-use crate::sorting::{keys_rise, sorted};
+use crate::sorting::in_order;
 use page_files::PageFile;
 use page_places::error_of;
 use plain_tables::StoreError;
@@ -133,9 +133,8 @@ pub(crate) fn fill_index<D: Disk, L: PageLine>(
     ensures usable { IsUsable file.old → OnOk result (IsUsable file.new) }
     ensures keeps { Keeps (pools.state file.old.pool) (pools.state file.new.pool) }
 {
-    let places = sorted(alloc, number, lines)?;
-    if !keys_rise(index.columns, first, lines, places.as_slice()) {
+    let Some(places) = in_order(alloc, number, index.columns, first, lines)? else {
         return Err(StoreError::Store);
-    }
+    };
     insert_entries(file, alloc, index, first, lines, places.as_slice())
 }

@@ -35,9 +35,12 @@ returns-then-header-eq0 c = record {
   refused = λ row was.
       let it = c.args.self.now in
       let count : c.len-header.result ≡ length it.types.items = omega (arith, c.len-header.ensures, it.types.ok.0) in
-      inr (refl, elim c.then-header-eq0.branch [
-        | then-header-eq0-via-then-header-eq0 w ↦ none_without_types it.types.items it.body.items row was.typed was.filled (omega (arith, count, w.if-header-eq0.true))
-        | then-header-eq0-via-else-header-eq0+then-header-gt126 w ↦ none_with_many it.types.items it.body.items row was.typed was.filled (omega (arith, count, w.if-header-gt126.true))
-        | then-header-eq0-via-else-header-eq0+else-header-gt126+then-len-gt-MAX_LEN w ↦ none_with_much it.types.items it.body.items row was.typed was.filled (omega (arith, w.len.ensures, w.if-len-gt-MAX_LEN.true, it.body.ok.0))
-      ]);
+      inr (
+        refl,
+        elim c.then-header-eq0.branch [
+          | then-header-eq0-via-then-header-eq0 w ↦ none_without_types it.types.items it.body.items row was.typed was.filled (omega (arith, count, w.if-header-eq0.true))
+          | then-header-eq0-via-else-header-eq0+then-header-gt126 w ↦ none_with_many it.types.items it.body.items row was.typed was.filled (omega (arith, count, w.if-header-gt126.true))
+          | then-header-eq0-via-else-header-eq0+else-header-gt126+then-len-gt-MAX_LEN w ↦ none_with_much it.types.items it.body.items row was.typed was.filled (omega (arith, w.len.ensures, w.if-len-gt-MAX_LEN.true, it.body.ok.0))
+        ],
+      );
 }
