@@ -1,13 +1,12 @@
 -- The number that was found of a name, as the trait of stores says it.
-use Rattle.std.proofs.Common.{◌≡◌, ◌≢◌, ◌<◌, ◌||◌, ℕ, eqb, Bool, true, false, Some, None, Option, List, [], ◌∷◌, bytes_eq, if◌then◌else◌, refl, sym, ap, subst, ◌∙◌, arith}
+use Rattle.std.proofs.Common.{◌≡◌, ◌≢◌, ◌<◌, ◌||◌, ℕ, eqb, Bool, true, false, Some, None, Option, List, [], ◌∷◌, bytes_eq, refl, sym, subst, ◌∙◌, arith}
 use Rattle.std.specs.List.{AllByRecursion, list_any}
 use Rattle.std.proofs.lemmas.Bool.{or_parts}
 use Rattle.std.proofs.lemmas.Bool.Decides.{nat_tests}
 use Rattle.std.proofs.lemmas.Slice.Eq.{bytes_eq-Decides}
-use Rattle.plain_tables.specs.Changes.{has_name}
 use Rattle.plain_tables.specs.Files.{number_in}
 use Rattle.plain_tables.specs.Tables.{Tables, NameRow}
-use Rattle.prof_books.specs.Book.{name_of, no_name, IsHeld}
+use Rattle.prof_books.specs.Book.{no_name, IsHeld}
 use Rattle.run_stores.specs.Names.{IsNumberOf}
 use Rattle.sqlite_trees.specs.Tree.{IsAscending}
 use Rattle.store_schema.specs.Names.{number_if_held}

@@ -8,7 +8,6 @@ use Rattle.plain_tables.specs.Tables.{Tables, CellRow, CallRow, StackRow}
 use Rattle.store_schema.specs.Schema.{schema_two, name_at, thread_cell_at, arc_at, stack_at}
 use Rattle.store_schema.specs.Tables.{Holds, contents_of, name_columns, cell_columns, arc_columns, stack_columns}
 use Rattle.run_lists.specs.Listed.{AreListed}
-use Rattle.page_files.specs.declared.files.PageFile.{PageFile}
 use Rattle.page_files.specs.Files.{IsUsable}
 use Rattle.page_files.specs.Held.{Rests}
 use Rattle.run_order.specs.Order.{AreInOrder}

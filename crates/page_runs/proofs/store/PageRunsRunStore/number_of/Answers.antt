@@ -1,6 +1,5 @@
 use Rattle.std.proofs.Common.{Result, Ok, Err, IfOk, MatchResult, map, refl}
 use Rattle.store_schema.specs.Tables.{name_columns}
-use Rattle.run_stores.specs.Names.{IsNumberOf}
 use Rattle.page_runs.proofs.Among.{shown_rise}
 use Rattle.page_runs.proofs.Changes.{is_done}
 use Rattle.page_runs.proofs.NumberOfName.{is_number}

@@ -1,4 +1,4 @@
-use Rattle.std.specs.Prelude.{◌≡◌, ℕ}
+use Rattle.std.specs.Prelude.{◌≡◌}
 use Rattle.std.proofs.Common.{refl, sym}
 use Rattle.cost_rows.specs.Rows.{content_of}
 use Rattle.plain_tables.specs.Sound.{AreSound}
