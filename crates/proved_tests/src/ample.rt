@@ -44,7 +44,10 @@ fn put_run(alloc: Global, conn: &mut Held, number: u32, kind: u32, calls: u32) -
     }
     let name = format!(in alloc; "x{number}")?;
     let text = "INSERT INTO name VALUES (?1, ?2)";
-    if conn.execute(text, params![number, name.as_bytes()]).is_err() {
+    if conn
+        .execute(text, params![number, name.as_bytes()])
+        .is_err()
+    {
         Err("no name")?;
     }
     Ok(())
@@ -148,7 +151,11 @@ fn many_runs_and_rows_are_asked(rt: HostRuntime) -> Result<(), Fail> {
         let Answer::Text(text) = answer else {
             return Err("a question is refused")?;
         };
-        let found = text.as_slice().iter().filter(|byte| **byte == b'\n').count();
+        let found = text
+            .as_slice()
+            .iter()
+            .filter(|byte| **byte == b'\n')
+            .count();
         assert_eq!(rt; found, lines);
     }
     Ok(())

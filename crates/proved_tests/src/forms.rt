@@ -188,7 +188,7 @@ fn command_of(alloc: Global, asked: Asked) -> Result<Command<Given>, AllocError>
         Asked::Functions => functions(alloc)?,
         Asked::Callers => callers(alloc)?,
         Asked::Stacks => Query::Folded(Selection::All),
-        Asked::Import => return import(alloc, Kind::Folded, b"g 1\n"),
+        Asked::Import => return import(alloc, Kind::Callgrind, b"events: Ir Dr\n1 1 1\n"),
     }))
 }
 
@@ -224,7 +224,9 @@ fn rows_out_of_form_are_the_stores_fault(rt: HostRuntime) -> Result<(), Fail> {
         execute(&mut conn, fault)?;
         let (answer, left) = answered(alloc, conn, command_of(alloc, asked)?)?;
         conn = left;
-        assert!(rt; matches!(answer, Answer::Refused(Refusal::Store)));
+        let Answer::Refused(Refusal::Store) = answer else {
+            return Err(fault)?;
+        };
         execute(&mut conn, mend)?;
     }
     let (after, _conn) = told_by(alloc, conn)?;
