@@ -461,17 +461,17 @@ fn sql_stops(alloc: Global, stops: Stops) -> Result<(), Fail> {
 }
 
 #[test]
-fn the_log_of_pages_stops(rt: HostRuntime) -> Result<(), Fail> {
+fn the_log_stops(rt: HostRuntime) -> Result<(), Fail> {
     pages_stop(rt.alloc(), Stops::Log)
 }
 
 #[test]
-fn the_database_file_of_pages_stops(rt: HostRuntime) -> Result<(), Fail> {
+fn the_database_file_stops(rt: HostRuntime) -> Result<(), Fail> {
     pages_stop(rt.alloc(), Stops::Database)
 }
 
 #[test]
-fn both_files_of_pages_stop(rt: HostRuntime) -> Result<(), Fail> {
+fn both_files_stop(rt: HostRuntime) -> Result<(), Fail> {
     pages_stop(rt.alloc(), Stops::Both)
 }
 
