@@ -14,7 +14,8 @@
    LOG             a file into which each change of a file of STORE is written, what is printed, and what a socket is
                    given; with how many allocations came before
    NAMES           into LOG is also written where a file of STORE is made (`make`), and where its folder is synced
-                   (`folder`) */
+                   (`folder`)
+   LOOKS           into LOG is also written where a file of STORE is read (`look`) */
 #define _GNU_SOURCE
 #include <errno.h>
 #include <dlfcn.h>
@@ -33,7 +34,7 @@ enum kind { ALLOCATION, READ, CHANGE, LOOK, RECEIVE, SEND, KINDS };
 static const char *const names[KINDS] = {"allocation", "read", "change", "look", "receive", "send"};
 static unsigned long counts[KINDS], at, most;
 static enum kind failing = KINDS;
-static int error, is_torn, has_names, log_file = -1;
+static int error, is_torn, has_names, has_looks, log_file = -1;
 static const char *store, *inputs;
 
 void *__libc_malloc(size_t);
@@ -62,6 +63,7 @@ __attribute__((constructor)) static void begin(void)
     error = number("ERROR");
     is_torn = number("TORN");
     has_names = number("NAMES");
+    has_looks = number("LOOKS");
     if (log)
         log_file = open(log, O_WRONLY | O_CREAT | O_TRUNC, 0600);
     memset(counts, 0, sizeof counts);
@@ -140,6 +142,16 @@ static void keep(const char *what, int file, off_t place, const void *bytes, siz
         NEXT(write)(log_file, bytes, length);
 }
 
+/* Whether a read of a file fails that is one of STORE. */
+static int look_fails(int file, off_t place)
+{
+    if (!has_path(file, store))
+        return 0;
+    if (has_looks)
+        keep("look", file, place, NULL, 0);
+    return fails(LOOK);
+}
+
 void *malloc(size_t size)
 {
     return fails(ALLOCATION) ? NULL : __libc_malloc(size);
@@ -176,7 +188,7 @@ ssize_t read(int file, void *bytes, size_t length)
             return -1;
         if (most && length > most)
             length = most;
-    } else if (has_path(file, store) && fails(LOOK)) {
+    } else if (look_fails(file, 0)) {
         return -1;
     }
     return NEXT(read)(file, bytes, length);
@@ -213,7 +225,7 @@ int open(const char *path, int flags, ...)
 
 ssize_t pread64(int file, void *bytes, size_t length, off64_t place)
 {
-    if (has_path(file, store) && fails(LOOK))
+    if (look_fails(file, place))
         return -1;
     return NEXT(pread64)(file, bytes, length, place);
 }

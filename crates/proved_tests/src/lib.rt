@@ -1,12 +1,21 @@
 //! Tests of what no command line of the program reaches, over the public calls of the other crates.
 #![tactic(auto)]
 
+// A store by SQL of ample size.
+#[cfg(test)]
+mod ample;
 // A file in memory of which only so many changes are made.
 #[cfg(test)]
 mod disk;
+// Rows out of form in a store by SQL.
+#[cfg(test)]
+mod forms;
 // A file whose reads are given by hand.
 #[cfg(test)]
 mod given;
+// The two stores in files that may stop.
+#[cfg(test)]
+mod in_files;
 // Imports into a warehouse with small limits.
 #[cfg(test)]
 mod imports;

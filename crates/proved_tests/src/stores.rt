@@ -1,9 +1,15 @@
 // A store in memory whose rows are written by hand. No guarantees: what the tests over it want fails where it is
 // another.
+use crate::given::Given;
 use prof_store::{Store, StoreError};
 use sql_runs::SqlRuns;
 use sqlite::{Connection, MemStore, params};
 use std::alloc::Global;
+use std::test::Fail;
+use warehouse::{Answer, Command, Limits, Warehouse};
+
+/// A database in memory.
+pub(crate) type Held = Connection<MemStore>;
 
 /// A store in which a text was run, with the run 1, the names `a` (1), `b` (2), `c` (3) and `g` (7), and
 /// cells of the run on the lines 1, 2, .., each of which costs as much as its line says.
@@ -52,6 +58,29 @@ pub(crate) fn empty(alloc: Global, is_within: bool) -> Result<Store<MemStore>, S
         Ok(store) => Ok(store),
         Err(_) => Err(StoreError::Store),
     }
+}
+
+/// Changes rows by SQL.
+pub(crate) fn execute(conn: &mut Held, text: &str) -> Result<(), Fail> {
+    if conn.execute(text, &[]).is_err() {
+        Err("the rows are not changed")?;
+    }
+    Ok(())
+}
+
+/// Does a command over the store of a database.
+pub(crate) fn answered(
+    alloc: Global,
+    conn: Held,
+    command: Command<Given>,
+) -> Result<(Answer, Held), Fail> {
+    let store = match Store::open(alloc, conn) {
+        Ok(store) => store,
+        Err(_) => Err("no store")?,
+    };
+    let mut house = Warehouse::new(SqlRuns { store }, Limits::standard());
+    let answer = house.apply(alloc, command);
+    Ok((answer, house.into_store().into_connection()))
 }
 
 /// The same as a store of runs, empty.
