@@ -16,7 +16,7 @@ pub returns-in-Ok : goal.returns-in-Ok
 returns-in-Ok g c =
     let reads = c.in-Ok.ensures.reads in
     let size = reads.keeps.stays.size in
-    let store : PageRuns g.row.D.Denot g.D.Disk = record { file = c.in-Ok.file; alloc = c.args.alloc; roots = c.in-Ok.roots; lists = c.in-Ok.lists; hints = c.new.result } in
+    let store : PageRuns g.row.D.Denot g.D.Disk = record { file = c.in-Ok.file; alloc = c.args.alloc; roots = c.in-Ok.roots; lists = c.in-Ok.lists; is_alone = c.in-Ok.is_alone; hints = c.new.result } in
     record {
       honest = λ faithful. c.in-Some.ensures.honest (reads.keeps.stays.clean faithful);
       size = λ faithful. subst (IsSizeOf (seen_image g.D.Disk c.args.files.log c.args.files.db)) (sym size) (c.in-Some.ensures.size (reads.keeps.stays.clean faithful));
