@@ -108,7 +108,8 @@ pub fn put_run<D: Disk>(
     ensures keeps { Keeps (pools.state file.old.pool) (pools.state file.new.pool) }
 {
     // Where another program set the next number back, no run is written over.
-    if lists.runs.iter().any(|line| line.entry.number >= number) || !is_next(lists, number, digest)
+    if lists.runs.iter().any(|line| line.entry.number >= number)
+        || !is_next(lists, number, digest)
     {
         return Err(StoreError::Store);
     }
