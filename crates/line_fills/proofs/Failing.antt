@@ -1,5 +1,5 @@
 -- Why lines could not be put in.
-use Rattle.std.proofs.Common.{inl, inr, refl}
+use Rattle.std.proofs.Common.{inl, inr}
 use Rattle.sqlite_disk.specs.declared.Disk.{Ghosts}
 use Rattle.sqlite_pages.specs.declared.error.Error.TheVariants.{OutOfMemory}
 use Rattle.page_files.specs.declared.files.PageFile.{PageFile}

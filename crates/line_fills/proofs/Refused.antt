@@ -1,15 +1,14 @@
 -- Rows of which no record is made.
-use Rattle.std.proofs.Common.{◌≡◌, ◌⊎◌, ℕ, ◌+◌, ◌*◌, ◌<◌, ◌≤◌, ◌^◌, List, [], ◌∷◌, ◌++◌, drop, get_or, length, map, take, sum_by, sym, ap, subst, ◌∙◌, zero, suc, refl, inl, inr, arith, length-append, Result, Ok, Err, IfErr}
+use Rattle.std.proofs.Common.{◌≡◌, ℕ, ◌+◌, ◌*◌, ◌<◌, ◌≤◌, ◌^◌, List, [], ◌∷◌, drop, get_or, length, map, take, sum_by, ap, subst, ◌∙◌, zero, suc, refl, inl, inr, arith, length-append, Result, Ok, Err, IfErr}
 use Rattle.std.proofs.Math.ListN.{get_or-append}
 use Rattle.std.proofs.Math.Seq.{get_or-append_seam}
 use Rattle.std.proofs.lemmas.List.{get_or-map, length-map}
 use Rattle.std.proofs.lemmas.List.Elements.{All-drop, All-take}
 use Rattle.std.proofs.lemmas.List.Sums.{sum_by-cons}
-use Rattle.sqlite_format.specs.Varint.{varint_len}
 use Rattle.sqlite_format.proofs.VarintLemmas.{varint_len_most}
 use Rattle.sqlite_record.specs.Record.{AreBodiesOf, AreTypesOf, IsBodyOf}
 use Rattle.sqlite_record.specs.Refusal.{body_room}
-use Rattle.sqlite_record.specs.Serial.{serial_of, serial_size}
+use Rattle.sqlite_record.specs.Serial.{serial_size}
 use Rattle.sqlite_record.proofs.RecordLemmas.{room_split}
 use Rattle.sqlite_record.proofs.SerialLemmas.{blob_body, int_size, null_body, text_body}
 use Rattle.sqlite_value.specs.declared.value.Value.{Value}

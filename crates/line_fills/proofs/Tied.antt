@@ -1,5 +1,5 @@
 -- Where sorted keys do not rise, two lines have one key.
-use Rattle.std.proofs.Common.{◌≡◌, ◌≢◌, ℕ, zero, suc, ◌+◌, ◌<◌, ◌≤◌, pos, nat_eq, nat_lt, Bool, true, false, if◌then◌else◌, List, [], ◌∷◌, ◌++◌, drop, get_or, length, map, sum_by, take, IsPermutation, Ordering, Less, Equal, Greater, is_eq, is_lt, true≢false, refl, sym, ap, ap₂, subst, ◌∙◌, inl, inr, arith, eq-eqb, ne_eqb, lt-ltb, eqb-true}
+use Rattle.std.proofs.Common.{◌≡◌, ◌≢◌, ℕ, zero, suc, ◌+◌, ◌<◌, ◌≤◌, pos, nat_eq, Bool, true, false, if◌then◌else◌, List, [], ◌∷◌, ◌++◌, get_or, length, map, sum_by, take, IsPermutation, Ordering, Less, Equal, Greater, is_eq, is_lt, true≢false, refl, sym, ap, ap₂, subst, ◌∙◌, inl, inr, arith, eq-eqb, ne_eqb, lt-ltb, eqb-true}
 use Rattle.std.specs.List.{AllByRecursion, range_with_len}
 use Rattle.std.specs.Ordering.{ordering_reverse, ordering_then}
 use Rattle.std.proofs.lemmas.Bool.Decides.{leb_tells}
@@ -13,7 +13,7 @@ use Rattle.sqlite_sql.specs.Catalog.{entry_of}
 use Rattle.sqlite_trees.proofs.ListLemmas.{map-map}
 use Rattle.sqlite_value.specs.declared.value.Value.{Value}
 use Rattle.sqlite_value.specs.declared.value.Value.TheVariants.{Int, Null}
-use Rattle.sqlite_value.specs.Order.{Row, column, row_cmp, value_cmp}
+use Rattle.sqlite_value.specs.Order.{Row, column, row_cmp}
 use Rattle.sqlite_value.proofs.OrderLemmas.{row_cmp_total, value_cmp_total}
 use Rattle.table_changes.specs.Keys.{HeadsDiffer, same_head}
 use Rattle.line_fills.specs.Causes.{CanEnter}

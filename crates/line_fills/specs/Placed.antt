@@ -58,7 +58,8 @@ module _ {D : Type 0} {g : Ghosts D} where
     FillsIndex place news result =
         AtTree old new (shape.Index plain) place.root (λ wanted roots was now t. reals_at wanted t ≡ 0
         → MatchResult result (λ _. (entries : List Row) × AreEntriesOf place.columns.now news entries
-        × Writes wanted roots was (with_tree now t (place_all (insert_entry plain) entries (now t))) new) (FailsToStore old new (CanEnter place.columns.now news)))
+        × Writes wanted roots was (with_tree now t (place_all (insert_entry plain) entries (now t))) new)
+        (FailsToStore old new (CanEnter place.columns.now news)))
 
     -- the same in each of the indexes at these places
     abbrev pub FillsIndexes : List IndexPlace → List Row → {A : Type 0} → Result A StoreError → Type 0

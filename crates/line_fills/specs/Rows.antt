@@ -39,7 +39,8 @@ KeysRise columns first lines places = IsAscending (λ a b. row_cmp (key_at colum
 -- at one place the key is not below the next
 abbrev pub IsTied : List ℕ → ℕ → List Row → List ℕ → Type 0
 IsTied columns first lines places =
-    (i : ℕ) × (suc i < length places) × (row_cmp (key_at columns first lines (slice_index_or places i 0)) (key_at columns first lines (slice_index_or places (suc i) 0)) ≢ Less)
+    (i : ℕ) × (suc i < length places)
+    × (row_cmp (key_at columns first lines (slice_index_or places i 0)) (key_at columns first lines (slice_index_or places (suc i) 0)) ≢ Less)
 
 -- the key of the line at a place, with another rowid, behind a NULL; and nothing where there is no line
 abbrev pub rank_at : List ℕ → List Row → ℕ → Row

@@ -33,7 +33,8 @@ fn append_batch<D: Disk, L: PageLine>(
     lines: &[L],
 ) -> Result<(), StoreError>
     requires room { HaveRowids first lines.now }
-    ensures done { PlacesAll file.old file.new Shape.Table root put_row (numbered first (map L.columns lines.now)) (HaveRecords (map L.columns lines.now)) result }
+    ensures done { PlacesAll file.old file.new Shape.Table root put_row (numbered first (map L.columns lines.now))
+        (HaveRecords (map L.columns lines.now)) result }
     ensures usable { OnOk result (IsUsable file.new) }
     ensures keeps { Keeps (pools.state file.old.pool) (pools.state file.new.pool) }
 {
@@ -54,7 +55,8 @@ pub(crate) fn append_rows<D: Disk, L: PageLine>(
     lines: &[L],
 ) -> Result<(), StoreError>
     requires room { HaveRowids first lines.now }
-    ensures done { PlacesAll file.old file.new Shape.Table root put_row (numbered first (map L.columns lines.now)) (HaveRecords (map L.columns lines.now)) result }
+    ensures done { PlacesAll file.old file.new Shape.Table root put_row (numbered first (map L.columns lines.now))
+        (HaveRecords (map L.columns lines.now)) result }
     ensures usable { IsUsable file.old → OnOk result (IsUsable file.new) }
     ensures keeps { Keeps (pools.state file.old.pool) (pools.state file.new.pool) }
 {

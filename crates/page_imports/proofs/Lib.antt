@@ -3,3 +3,4 @@ pub mod Results
 pub mod Runs
 pub mod Showing
 pub mod Stepping
+pub mod Unnamed

@@ -1,17 +1,18 @@
 // The names of a file, by their numbers in the store.
-ghost use Rattle.std.specs.Prelude.{◌≡◌, ⊤, OnOk};
+ghost use Rattle.std.specs.Prelude.{◌≡◌, [], ⊤, false, IsTrue, OnOk};
 ghost use Rattle.sqlite_pool.specs.Pool as pools;
 ghost use Rattle.sqlite_pool.specs.Stored.{Keeps};
 ghost use Rattle.page_files.specs.Files.{IsUsable, OnlyReads};
-ghost use Rattle.plain_tables.specs.Changes.{named, with_new_name};
+ghost use Rattle.plain_tables.specs.Changes.{has_name, named, with_new_name};
 ghost use Rattle.plain_tables.specs.Files.{all_named, number_in, numbers_in};
-ghost use Rattle.page_imports.specs.Needs.{CanName, IsNextName};
+ghost use Rattle.store_schema.specs.Names.{number_if_held};
+ghost use Rattle.page_imports.specs.Needs.{CanName, CanNumber, IsNextName};
 ghost use Rattle.page_imports.specs.Steps.{Makes, MakesTelling, Tells};
 
 use crate::columns::name_columns;
 use cost_rows::Names;
 use page_files::PageFile;
-use page_places::{StoreRoots, error_of_row, find_name};
+use page_places::{StoreRoots, error_of, error_of_row, find_name};
 use plain_tables::StoreError;
 use row_writes::{IndexPlace, Place, free_rowid, insert};
 use sqlite_disk::Disk;
@@ -72,20 +73,57 @@ fn next_name<D: Disk>(
     }
 }
 
+/// Whether no name is held.
+fn holds_none<D: Disk>(
+    file: &mut PageFile<D>,
+    alloc: Global,
+    roots: &StoreRoots,
+) -> Result<bool, StoreError>
+    ensures told { Tells file.old file.new roots.now result (λ t none. IsTrue none → t.names ≡ []) }
+    ensures reads { OnlyReads file.old file.new }
+    ensures usable { OnOk result (IsUsable file.new) }
+{
+    match file.last_rowid(alloc, roots.names) {
+        Ok(Some(_)) => Ok(false),
+        Ok(None) => Ok(true),
+        Err(error) => Err(error_of(error)),
+    }
+}
+
+/// The number of a name, if it is held. A name that is new is not sought.
+fn held_number<D: Disk>(
+    file: &mut PageFile<D>,
+    alloc: Global,
+    roots: &StoreRoots,
+    name: &[u8],
+    is_new: bool,
+) -> Result<Option<u32>, StoreError>
+    ensures told { MakesTelling file.old file.new roots.now (λ _. ⊤) (λ t. t) result
+        (λ t found. (IsTrue is_new → has_name t name.now ≡ false) → found ≡ number_if_held t name.now) }
+    ensures usable { IsUsable file.old → OnOk result (IsUsable file.new) }
+    ensures keeps { Keeps (pools.state file.old.pool) (pools.state file.new.pool) }
+{
+    if is_new {
+        return Ok(None);
+    }
+    find_name(file, alloc, roots.name_bytes, name)
+}
+
 /// The number of a name, which is held from now on. The next new name gets the number `next`.
 fn number_name<D: Disk>(
     file: &mut PageFile<D>,
     alloc: Global,
     roots: &StoreRoots,
     name: &[u8],
+    is_new: bool,
     next: &mut u64,
 ) -> Result<u32, StoreError>
-    ensures done { MakesTelling file.old file.new roots.now (IsNextName next.old) (named name.now) result
+    ensures done { MakesTelling file.old file.new roots.now (CanNumber next.old is_new name.now) (named name.now) result
         (λ t number. (number ≡ number_in t.names name.now) × IsNextName next.new t) }
-    ensures usable { OnOk result (IsUsable file.new) }
+    ensures usable { IsUsable file.old → OnOk result (IsUsable file.new) }
     ensures keeps { Keeps (pools.state file.old.pool) (pools.state file.new.pool) }
 {
-    if let Some(number) = find_name(file, alloc, roots.name_bytes, name)? {
+    if let Some(number) = held_number(file, alloc, roots, name, is_new)? {
         return Ok(number);
     }
     let Ok(number) = u32::try_from(*next) else {
@@ -96,7 +134,7 @@ fn number_name<D: Disk>(
     Ok(number)
 }
 
-/// The numbers of a file's names, which are held from now on.
+/// The numbers of a file's names, which are held from now on. Where none is held yet, none is sought.
 pub(crate) fn number_names<D: Disk>(
     file: &mut PageFile<D>,
     alloc: Global,
@@ -107,10 +145,12 @@ pub(crate) fn number_names<D: Disk>(
     ensures usable { OnOk result (IsUsable file.new) }
     ensures keeps { Keeps (pools.state file.old.pool) (pools.state file.new.pool) }
 {
+    let is_new = holds_none(file, alloc, roots)?;
     let mut next = next_name(file, alloc, roots)?;
     let mut numbers = Vec::new(alloc);
     'names: for at in 0..names.len() {
-        let number = number_name(file, alloc, roots, names.name(at as u32), &mut next)?;
+        let name = names.name(at as u32);
+        let number = number_name(file, alloc, roots, name, is_new, &mut next)?;
         if numbers.push(number).is_err() {
             return Err(StoreError::Memory);
         }

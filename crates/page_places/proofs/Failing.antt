@@ -1,6 +1,5 @@
 -- Failures of steps that stand one after another in a transaction.
-use Rattle.std.proofs.Common.{◌≡◌, ◌≤◌, ℕ, IsTrue, refl, inl, inr, arith}
-use Rattle.sqlite_disk.specs.Disk.{MoreFaults}
+use Rattle.std.proofs.Common.{◌≡◌, ◌≤◌, ℕ, IsTrue, inl, inr, arith}
 use Rattle.sqlite_pages.specs.Outcome.{End, HasCause}
 use Rattle.sqlite_disk.specs.declared.Disk.{Ghosts}
 use Rattle.sqlite_pages.specs.declared.error.Error.{Error}

@@ -4,7 +4,8 @@ ghost use Rattle.sqlite_trees.specs.Tree.{Trees};
 ghost use Rattle.page_files.specs.Files.{IsFaithful, IsUsable, OnlyReads};
 ghost use Rattle.plain_tables.specs.Tables.{Tables};
 ghost use Rattle.store_schema.specs.Schema.{schema_two};
-ghost use Rattle.page_places.specs.Roots.{AreFound, AreNames, AreRoots, FailsInStore, FindsIndex, FindsTable, IsStoreOf, MissesIndex, MissesTable, index_name, index_tree, table_name, table_tree};
+ghost use Rattle.page_places.specs.Roots.{AreFound, AreNames, AreRoots, FailsInStore, FindsIndex, FindsTable, IsStoreOf, MissesIndex, MissesTable};
+ghost use Rattle.page_places.specs.Roots.{index_name, index_tree, table_name, table_tree};
 
 use crate::failures::error_of;
 use page_files::PageFile;

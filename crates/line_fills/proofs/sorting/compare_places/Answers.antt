@@ -1,4 +1,4 @@
-use Rattle.std.proofs.Common.{◌≡◌, ap₂, sym, ◌∙◌, ltb-true}
+use Rattle.std.proofs.Common.{ap₂, sym, ◌∙◌, ltb-true}
 use Rattle.sqlite_value.specs.Order.{row_cmp}
 use Rattle.line_fills.proofs.Tied.{nulls_aside, rank_of_line}
 use Rattle.line_fills.proofs.sorting.compare_places.Goals as goal

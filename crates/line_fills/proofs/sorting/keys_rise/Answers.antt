@@ -1,4 +1,4 @@
-use Rattle.std.proofs.Common.{◌≡◌, ◌-◌, ◌∷◌, true, false, not, ◌==◌, suc, get_or, map, Less, true≢false, arith, refl, sym, ap, ap₂, ◌∙◌}
+use Rattle.std.proofs.Common.{◌≡◌, ◌-◌, not, ◌==◌, suc, get_or, map, Less, true≢false, arith, sym, ap, ap₂, ◌∙◌}
 use Rattle.std.specs.Ordering.{ordering_index}
 use Rattle.sqlite_value.specs.Order.{Row, column, row_cmp}
 use Rattle.line_fills.specs.Rows.{key_at}

@@ -1,4 +1,4 @@
-use Rattle.std.proofs.Common.{◌≡◌, ℕ, List, map, is_lt, ap, sym, ◌∙◌, rules}
+use Rattle.std.proofs.Common.{map, is_lt, rules}
 use Rattle.std.proofs.lemmas.Fn.{always_returns_same}
 use Rattle.std.proofs.lemmas.List.Sorted.{ranks_by}
 use Rattle.sqlite_value.specs.Order.{row_cmp}

@@ -1,4 +1,4 @@
-use Rattle.std.proofs.Common.{◌≡◌, ℕ, List, take}
+use Rattle.std.proofs.Common.{◌≡◌, ℕ, List, [], IsTrue, take}
 use Rattle.sqlite_pool.specs.Pool as pools
 use Rattle.sqlite_pool.specs.Stored.{Keeps}
 use Rattle.sqlite_store.specs.declared.catalog.Wanted.{Wanted}
@@ -19,5 +19,6 @@ invariant-names g l =
       usable : IsUsable l.file;
       keeps : Keeps (pools.state l.fn.file.pool) (pools.state l.file.pool);
       made : IsFaithful l.file → (wanted : List Wanted) (known : List ℕ) (was : Trees) (t : Tables) → ShowsTables wanted known was t l.fn.file → AreRoots known l.roots
-          → ShowsTables wanted known was (all_named names t) l.file × (l.numbers.items ≡ numbers_in (all_named names t) names) × IsNextName l.next (all_named names t);
+          → ShowsTables wanted known was (all_named names t) l.file × (l.numbers.items ≡ numbers_in (all_named names t) names) × IsNextName l.next (all_named names t)
+          × (IsTrue l.is_new → t.names ≡ []);
     }
