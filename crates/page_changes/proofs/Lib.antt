@@ -1,4 +1,4 @@
-pub mod Editing
-pub mod Naming
-pub mod NextRowid
-pub mod Results
+mod Editing
+mod Naming
+mod Places
+mod Results

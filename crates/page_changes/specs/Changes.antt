@@ -1,9 +1,18 @@
 -- What a change of the groups makes of a store.
-use Rattle.std.specs.Prelude.{◌≡◌, ℕ, ◌+◌, true, false, not, bytes_eq, List, filter, slice_index, Result, OnOk}
+use Rattle.std.specs.Prelude.{◌≡◌, ◌∷◌, ◌++◌, [], ℕ, true, false, not, bytes_eq, List, Option, filter, Result, OnOk}
 use Rattle.std.specs.List.{list_any}
 use Rattle.sqlite_disk.specs.declared.Disk.{Ghosts}
 use Rattle.sqlite_store.specs.declared.catalog.Wanted.{Wanted}
-use Rattle.sqlite_trees.specs.Tree.{Trees}
+use Rattle.sqlite_rules.specs.Edit.{next_rowid}
+use Rattle.sqlite_schema.specs.declared.schema.Schema.{Schema}
+use Rattle.sqlite_schema.specs.declared.schema.Table.{Table}
+use Rattle.sqlite_trees.specs.Tree.{Trees, without_rowid}
+use Rattle.sqlite_value.specs.declared.value.Value.TheVariants.{Int}
+use Rattle.sqlite_value.specs.Order.{Row}
+use Rattle.row_writes.specs.declared.places.Place.{Place}
+use Rattle.row_writes.specs.Changes.{AtTable, HasRows}
+use Rattle.page_changes.specs.declared.finding.NamedRow.{NamedRow}
+use Rattle.page_changes.specs.Named.{IsFoundIn}
 use Rattle.page_files.specs.declared.files.PageFile.{PageFile}
 use Rattle.page_files.specs.Files.{IsFaithful}
 use Rattle.page_files.specs.Held.{Rests, Writes}
@@ -22,17 +31,27 @@ module _ {D : Type 0} {g : Ghosts D} where
       IsFaithful new → (wanted : List Wanted) (known : List ℕ) (db : Trees) (t : Tables) → Rests wanted known db old → Holds t db → AreListed t lists → AreRoots known roots
       → OnOk result ((next : Trees) × Writes wanted known db next new × Holds (change t) next)
 
-  -- the same where these are the roots of a table and its index, for tables of which a fact holds
-  abbrev pub ChangesAt : PageFile D g → PageFile D g → ℕ → ℕ → ℕ → (Tables → Type 0) → (Tables → Tables) → {A E : Type 0} → Result A E → Type 0
-  ChangesAt old new tree table index Fact change result =
-      IsFaithful new → (wanted : List Wanted) (known : List ℕ) (db : Trees) (t : Tables) → Rests wanted known db old → Holds t db
-      → table ≡ slice_index known tree → index ≡ slice_index known (tree + 1) → Fact t → OnOk result ((next : Trees) × Writes wanted known db next new × Holds (change t) next)
+  -- the same within a transaction, for tables of which a fact holds
+  abbrev pub ChangesWithin : PageFile D g → PageFile D g → StoreRoots → (Tables → Type 0) → (Tables → Tables) → {A E : Type 0} → Result A E → Type 0
+  ChangesWithin old new roots Fact change result =
+      IsFaithful new → (wanted : List Wanted) (known : List ℕ) (was now : Trees) (t : Tables) → Writes wanted known was now old → Holds t now → AreRoots known roots → Fact t
+      → OnOk result ((next : Trees) × Writes wanted known was next new × Holds (change t) next)
 
-  -- the same within a transaction, for tables and trees of which a fact holds
-  abbrev pub ChangesWithin : PageFile D g → PageFile D g → ℕ → ℕ → ℕ → (Tables → Trees → Type 0) → (Tables → Tables) → {A E : Type 0} → Result A E → Type 0
-  ChangesWithin old new tree table index Fact change result =
-      IsFaithful new → (wanted : List Wanted) (known : List ℕ) (was now : Trees) (t : Tables) → Writes wanted known was now old → Holds t now
-      → table ≡ slice_index known tree → index ≡ slice_index known (tree + 1) → Fact t now → OnOk result ((next : Trees) × Writes wanted known was next new × Holds (change t) next)
+  module _ (old new : PageFile D g) where
+    -- the table at this place has a row of these columns behind the others
+    abbrev pub PutsBehind : Place → Row → {A E : Type 0} → Result A E → Type 0
+    PutsBehind place columns result =
+        AtTable old new place (λ schema wanted roots was now table.
+        OnOk result (HasRows schema wanted roots was now table (now table.tree ++ (Int (next_rowid (now table.tree)) ∷ columns) ∷ []) new))
+
+    -- a row of the name, and of the number that is sought, is gone from the table
+    pub record HasErased (schema : Schema) (wanted : List Wanted) (roots : List ℕ) (was now : Trees) (table : Table) (name : List ℕ) (sought : Option ℕ) : Type 0 where
+      pub row : NamedRow
+      pub found : IsFoundIn name sought (now table.tree) row
+      pub rows : HasRows schema wanted roots was now table (without_rowid row.rowid (now table.tree)) new
+
+    abbrev pub ErasesNamed : Place → List ℕ → Option ℕ → {A E : Type 0} → Result A E → Type 0
+    ErasesNamed place name sought result = AtTable old new place (λ schema wanted roots was now table. OnOk result (HasErased schema wanted roots was now table name sought))
 
 -- the group and the run are held, and the run is not in the group
 pub record CanJoin (name : List ℕ) (run : ℕ) (t : Tables) : Type 0 where

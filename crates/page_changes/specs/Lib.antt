@@ -1,4 +1,3 @@
 pub mod Changes
-pub mod Lines
 pub mod Named
 pub mod Shown

@@ -1,22 +1,16 @@
 -- Rows of a name and a number: groups with their baselines, and members.
-use Rattle.std.specs.Prelude.{◌≡◌, ℕ, ℤ, pos, ◌+ℤ◌, ◌⊎◌, ⊤, List, [], ◌∷◌, Option, None, Some, FitsSigned}
+use Rattle.std.specs.Prelude.{◌≡◌, ℕ, ℤ, ⊤, Bool, List, [], ◌∷◌, Option, None, Some, FitsSigned}
 use Rattle.std.specs.Int.{w64}
-use Rattle.std.specs.declared.cmp.Ordering.TheVariants.{Less}
+use Rattle.std.specs.Ordering.{is_eq}
 use Rattle.std.specs.List.{AllByRecursion}
 use Rattle.sqlite_value.specs.declared.value.Value.TheVariants.{Int, Text}
-use Rattle.sqlite_value.specs.Order.{Row, value_cmp}
-use Rattle.sqlite_trees.specs.Tree.{Trees, rowid}
+use Rattle.sqlite_value.specs.Order.{Row, column, value_cmp}
 use Rattle.sqlite_rules.specs.Lists.{Has}
-use Rattle.store_schema.specs.Schema.{member_at}
 use Rattle.store_schema.specs.Tables.{number_or_null}
-use Rattle.page_changes.specs.declared.rowids.NamedRow.{NamedRow}
+use Rattle.page_changes.specs.declared.finding.NamedRow.{NamedRow}
 
 abbrev pub named : ℤ → List ℕ → Option ℕ → Row
 named id name n = Int id ∷ Text name ∷ number_or_null n ∷ []
-
--- the trees have the member of this group and run under this rowid
-abbrev pub HasMember : List ℕ → ℕ → ℤ → Trees → Type 0
-HasMember name run id trees = Has (trees member_at.tree) (named id name (Some run))
 
 -- the number is the one that is sought, if one is
 abbrev pub IsSought : Option ℕ → Option ℕ → Type 0
@@ -46,12 +40,6 @@ IsFound name sought rows (Some found) = IsFoundIn name sought rows found
 abbrev pub EndsFound : List ℕ → Option ℕ → List Row → Option NamedRow → Type 0
 EndsFound name sought rows found = (row : NamedRow) × (found ≡ Some row) × IsFoundIn name sought rows row
 
--- each rowid is below this one
-abbrev pub AreBelow : ℤ → List Row → Type 0
-AreBelow id rows = AllByRecursion (λ row. value_cmp (rowid row) (Int id) ≡ Less) rows
-
--- it is above each rowid, and 1 or one above some rowid
-pub record IsNextRowid (rows : List Row) (id : ℤ) : Type 0 where
-  pub fits : FitsSigned w64 id
-  pub above : AreBelow id rows
-  pub least : (id ≡ pos 1) ⊎ ((row : Row) × (last : ℤ) × Has rows row × (rowid row ≡ Int last) × (id ≡ last +ℤ pos 1))
+-- whether the first column of a row is this name
+abbrev pub is_of_name : List ℕ → Row → Bool
+is_of_name name row = is_eq (value_cmp (column row 1) (Text name))

@@ -2,11 +2,11 @@
 //! transaction that the caller commits or undoes.
 #![tactic(auto)]
 
+// The rows of a name.
+mod finding;
 // The changes of groups and members.
 mod groups;
-// A row with the entry of its key.
-mod lines;
-// Rowids: the next one of a table, and those of the rows of a name.
-mod rowids;
+// One row or the rows of one group, within a transaction (specs/Changes.antt).
+mod rows;
 
 pub use groups::{drop_group, join, leave, put_group, set_baseline};

@@ -1,9 +1,9 @@
-use Rattle.std.proofs.Common.{sym, subst, ◌∙◌, if◌then◌else◌}
+use Rattle.std.proofs.Common.{sym, subst, ◌∙◌, if◌then◌else◌, false}
 use Rattle.plain_tables.specs.Changes.{with_member}
 use Rattle.store_schema.specs.Tables.{Holds}
 use Rattle.page_files.proofs.Steps.{begins}
 use Rattle.page_changes.proofs.Editing.{listed_member}
-use Rattle.page_changes.proofs.Results.{given_ok}
+use Rattle.page_changes.proofs.Results.{given_ok, on_ok}
 use Rattle.page_changes.proofs.groups.join.Goals as goal
 
 pub returns-then-has_member-clause-done : goal.returns-then-has_member-clause-done
@@ -15,5 +15,9 @@ returns-then-has_member-clause-done g c clean wanted known db t rests holds list
 
 pub returns-clause-done : goal.returns-clause-done
 returns-clause-done g c clean wanted known db t rests holds listed are =
-    c.add_member.ensures.done clean wanted known db t rests holds are.members are.member_keys
-    (record { grouped = sym (c.has_group.ensures.told t listed) ∙ c.if-not-has_group.false; held = sym (c.has_run.ensures.told t listed) ∙ c.if-not-has_run.false; none = sym (c.has_member.ensures ∙ listed_member t c.args.lists.now listed c.args.name.now c.args.run) ∙ c.if-has_member.false })
+    let name = c.args.name.now in
+    let run = c.args.run in
+    let none = sym (c.has_member.ensures ∙ listed_member t c.args.lists.now listed name run) ∙ c.if-has_member.false in
+    on_ok c.add_member.result (λ it. (it.0, it.1, subst (λ b. Holds (if b then t else with_member name run t) it.0) (sym none) it.2))
+    (c.add_member.ensures.done clean wanted known db db t (begins c.args.file.now rests) holds are
+    (record { grouped = sym (c.has_group.ensures.told t listed) ∙ c.if-not-has_group.false; held = sym (c.has_run.ensures.told t listed) ∙ c.if-not-has_run.false; none = none }))

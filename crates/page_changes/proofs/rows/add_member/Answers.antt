@@ -1,0 +1,24 @@
+use Rattle.std.proofs.Common.{◌++◌, ◌∷◌, [], ap, refl, sym, subst, ◌∙◌}
+use Rattle.sqlite_rules.specs.Edit.{next_rowid}
+use Rattle.sqlite_trees.specs.declared.store.Shape.TheVariants as shape
+use Rattle.sqlite_trees.specs.View.{IsShaped}
+use Rattle.sqlite_value.specs.declared.value.Value.TheVariants.{Int}
+use Rattle.store_schema.specs.Schema.{schema_two, member_at}
+use Rattle.table_changes.proofs.Members.{member_behind}
+use Rattle.page_changes.proofs.Places.{members_at}
+use Rattle.page_changes.proofs.Results.{on_ok}
+use Rattle.page_changes.proofs.rows.add_member.Goals as goal
+
+pub returns-clause-done : goal.returns-clause-done
+returns-clause-done g c clean = λ wanted known was now t writes holds are can.
+    let name = c.args.name.now in
+    let run = c.args.run in
+    let id = next_rowid (now 21) in
+    let shows = members_at c.args.file.now writes holds c.args.roots.now are _ _ refl refl refl refl in
+    on_ok c.put_behind.result (λ h. (
+      h.next,
+      h.writes,
+      member_behind t now h.next holds h.only (subst (IsShaped shape.Table) (sym h.rows_are) h.shaped) name run id
+          (h.rows_are ∙ ap (λ l. now 21 ++ (Int id ∷ l) ∷ []) c.in_ok-columns.ensures) can.grouped can.held can.none,
+    ))
+    (c.put_behind.ensures.done clean schema_two wanted known was now member_at shows)

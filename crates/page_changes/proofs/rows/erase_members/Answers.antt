@@ -1,0 +1,18 @@
+use Rattle.std.proofs.Common.{not, refl, sym, ap, subst}
+use Rattle.sqlite_trees.specs.declared.store.Shape.TheVariants as shape
+use Rattle.sqlite_trees.specs.View.{IsShaped}
+use Rattle.store_schema.specs.Schema.{schema_two, member_at}
+use Rattle.table_changes.proofs.Members.{members_of_group_taken_out}
+use Rattle.page_changes.specs.Named.{is_of_name}
+use Rattle.page_changes.proofs.Naming.{same_text}
+use Rattle.page_changes.proofs.Places.{members_at}
+use Rattle.page_changes.proofs.rows.erase_members.Goals as goal
+
+pub returns-in-Ok-clause-done : goal.returns-in-Ok-clause-done
+returns-in-Ok-clause-done g c faithful = λ wanted known was now t writes holds are any.
+    let name = c.args.name.now in
+    let h = c.in-Ok.ensures.done faithful schema_two wanted known was now member_at (members_at c.args.file.now writes holds c.args.roots.now are _ _ refl refl refl refl) tt in (
+      h.next,
+      h.writes,
+      members_of_group_taken_out t now h.next holds h.only (subst (IsShaped shape.Table) (sym h.rows_are) h.shaped) (λ r. not (is_of_name name r)) name h.rows_are (λ id m there. ap not (same_text m.group name)),
+    )

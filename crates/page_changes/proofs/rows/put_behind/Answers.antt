@@ -1,0 +1,23 @@
+use Rattle.std.proofs.Common.{◌≡◌, rules, to_z, of_z, w64, ◌++◌, ◌∷◌, [], refl, sym, subst, ◌∙◌, to_z-of_z, FitsSigned}
+use Rattle.sqlite_pool.specs.StoredLaws.{Keeps-trans}
+use Rattle.sqlite_value.specs.declared.value.Value.TheVariants.{Int}
+use Rattle.page_files.proofs.Steps.{writes_after}
+use Rattle.row_writes.specs.Changes.{AreBelow, HasRows}
+use Rattle.page_changes.proofs.rows.put_behind.Goals as goal
+
+pub returns-in-Ok-insert-clause-done : goal.returns-in-Ok-insert-clause-done
+returns-in-Ok-insert-clause-done g c faithful = λ schema wanted roots was now table shows.
+    let old = c.args.file.now in
+    let mid = c.free_rowid.new.file in
+    let before = c.insert.ensures.keeps.stays.clean faithful in
+    let told = c.in-Ok.ensures.done before schema wanted roots was now table shows in
+    let w = writes_after old mid c.free_rowid.ensures.reads before c.in-Ok.ensures.usable shows.writes in
+    let same : to_z w64 (of_z w64 c.in-Ok.rowid) ≡ c.in-Ok.rowid = search (rules, to_z-of_z) in
+    let h = c.in-Ok-insert.ensures.done faithful schema wanted roots was now table (record { writes = w; placed = shows.placed; indexed = shows.indexed }) (subst (λ z. AreBelow (Int z) (now table.tree)) (sym same) told.1) in
+    subst (λ z. HasRows schema wanted roots was now table (now table.tree ++ (Int z ∷ c.args.columns.now) ∷ []) c.insert.new.file) (same ∙ told.0) h
+
+pub returns-in-Ok-insert-clause-keeps : goal.returns-in-Ok-insert-clause-keeps
+returns-in-Ok-insert-clause-keeps g c = Keeps-trans _ _ _ c.free_rowid.ensures.reads.keeps c.insert.ensures.keeps
+
+pub returns-in-Err-insert-clause-keeps : goal.returns-in-Err-insert-clause-keeps
+returns-in-Err-insert-clause-keeps g c = Keeps-trans _ _ _ c.free_rowid.ensures.reads.keeps c.insert.ensures.keeps
