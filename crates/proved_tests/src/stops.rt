@@ -161,15 +161,28 @@ struct Left {
 }
 
 impl Left {
-    /// What may be left: all that was written, all that was synced, and one file of each.
-    fn images(&self) -> [(&[u8], &[u8]); 4] {
+    /// What may be left: all that was written, all that was synced, and one file of each; each with whether it is
+    /// another than those before it.
+    fn images(&self) -> [(&[u8], &[u8], bool); 4] {
         let (written, synced) = (&self.written, &self.synced);
+        let log_differs = written.log.as_slice() != synced.log.as_slice();
+        let database_differs = written.database.as_slice() != synced.database.as_slice();
+        let both_differ = log_differs && database_differs;
         [
-            (&written.log, &written.database),
-            (&written.log, &synced.database),
-            (&synced.log, &written.database),
-            (&synced.log, &synced.database),
+            (&written.log, &written.database, true),
+            (&written.log, &synced.database, database_differs),
+            (&synced.log, &written.database, log_differs),
+            (&synced.log, &synced.database, both_differ),
         ]
+    }
+
+    /// Whether this image was left, with the step answered as done or not.
+    fn has_image(&self, is_done: bool, log: &[u8], database: &[u8]) -> bool {
+        self.is_done == is_done
+            && self
+                .images()
+                .iter()
+                .any(|image| image.0 == log && image.1 == database)
     }
 }
 
@@ -291,13 +304,6 @@ fn told_of(alloc: Global, image: (&[u8], &[u8]), step: Step) -> Result<Vec<u8>, 
     Ok(told)
 }
 
-/// Whether an image is one of some.
-fn is_among(images: &[(&[u8], &[u8])], image: (&[u8], &[u8])) -> bool {
-    images
-        .iter()
-        .any(|other| other.0 == image.0 && other.1 == image.1)
-}
-
 /// Whether an image may be left, by what is told before the step and with it.
 fn is_right(
     alloc: Global,
@@ -319,16 +325,15 @@ fn look_at(
     last: Option<&Left>,
     wanted: &Told,
 ) -> Result<(), Fail> {
-    let images = left.images();
-    for (at, image) in images.iter().enumerate() {
+    for (log, database, is_another) in left.images() {
         let was_seen = match last {
-            Some(last) => last.is_done == left.is_done && is_among(&last.images(), *image),
+            Some(last) => last.has_image(left.is_done, log, database),
             None => false,
         };
-        if was_seen || is_among(&images[..at], *image) {
-            continue;
-        }
-        if !is_right(alloc, step, left.is_done, *image, wanted)? {
+        if is_another
+            && !was_seen
+            && !is_right(alloc, step, left.is_done, (log, database), wanted)?
+        {
             Err("neither before nor with it")?;
         }
     }
