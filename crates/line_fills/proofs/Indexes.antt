@@ -117,6 +117,13 @@ module _ {D : Type 0} {g : Ghosts D} where
       next_place : (i : Index) × (rest : List Index) × (part.left ≡ i ∷ rest) × IsIndexPlace wanted roots place i × AreIndexPlaces wanted roots (drop (suc k) places) rest
       next_place = first_place wanted roots place (drop (suc k) places) part.left (subst (λ l. AreIndexPlaces wanted roots l part.left) (drop-cons places k d low) part.places_left)
 
+      -- what each of the indexes has, that at the next place has
+      pub next_one : (P : Index → Type 0) → (i : Index) × IsIndexPlace wanted roots (get_or places k d) i × (AllByRecursion P indexes → P i)
+      next_one P =
+          let n = next_place in
+          let whole : indexes ≡ part.done ++ n.0 ∷ n.1 = part.split ∙ ap (λ l. part.done ++ l) n.2 in
+          (n.0, n.3, λ all. in_middle P part.done n.0 n.1 (subst (AllByRecursion P) whole all))
+
       pub one_more : ((i : Index) → IsIndexPlace wanted roots place i → (entries : List Row) × AreEntriesOf place.columns.now news entries
           × Writes wanted roots was (with_tree part.has.next i.tree (place_all (insert_entry plain) entries (part.has.next i.tree))) new)
           → IsPart wanted roots was now places indexes news (k + 1) new

@@ -1,12 +1,15 @@
 pub mod Cuts
 pub mod Encoded
 pub mod Entered
+pub mod Failing
 pub mod Held
 pub mod Indexes
 pub mod Numbers
 pub mod Parts
 pub mod Raised
+pub mod Refused
 pub mod Rising
 pub mod Sorted
 pub mod Steps
+pub mod Tied
 pub mod Whole

@@ -15,7 +15,7 @@ use Rattle.line_fills.proofs.Numbers.{numbered_at_places}
 
 module _ (columns : List ℕ) (first : ℕ) (lines : List Row) where
   -- the first columns of an entry are the key
-  head_is : (place : ℕ) → take (length columns) (entry_of columns (row_at first lines place)) ≡ key_at columns first lines place
+  pub head_is : (place : ℕ) → take (length columns) (entry_of columns (row_at first lines place)) ≡ key_at columns first lines place
   head_is place =
       let row = row_at first lines place in
       ap (λ n. take n (entry_of columns row)) (sym (length-map columns (column row))) ∙ take-append_seam (map (column row) columns) (column row 0 ∷ [])

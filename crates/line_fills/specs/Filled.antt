@@ -1,5 +1,5 @@
 -- Rows stand behind those of a table, and their entries in its indexes.
-use Rattle.std.specs.Prelude.{◌≡◌, ℕ, List, ◌∷◌, ◌++◌, drop, length, map, Result, OnOk}
+use Rattle.std.specs.Prelude.{◌≡◌, ℕ, List, ◌∷◌, ◌++◌, drop, length, map, Result, MatchResult}
 use Rattle.std.specs.List.{AllByRecursion}
 use Rattle.sqlite_disk.specs.declared.Disk.{Ghosts}
 use Rattle.sqlite_schema.specs.declared.schema.Index.{Index}
@@ -14,7 +14,10 @@ use Rattle.page_files.specs.declared.files.PageFile.{PageFile}
 use Rattle.page_files.specs.Held.{Writes}
 use Rattle.table_changes.specs.Changes.{SparesBut}
 use Rattle.table_changes.specs.Fills.{Fills}
+use Rattle.page_places.specs.Failures.{FailsToStore}
+use Rattle.plain_tables.specs.declared.errors.StoreError.{StoreError}
 use Rattle.row_writes.specs.declared.places.Place.{Place}
+use Rattle.line_fills.specs.Causes.{CanBeFilledIn}
 use Rattle.row_writes.specs.Changes.{AtTable}
 use Rattle.row_writes.specs.Places.{indexes_of}
 
@@ -43,7 +46,8 @@ module _ {D : Type 0} {g : Ghosts D} where
     pub writes : Writes wanted roots was next it
     pub filled : IsTableFilled schema now next table columns
 
-  -- within a transaction, rows of these columns are put into the table at this place
-  abbrev pub FillsTable : PageFile D g → PageFile D g → Place → List Row → {A E : Type 0} → Result A E → Type 0
+  -- within a transaction, rows of these columns are put into the table at this place, or there is a cause
+  abbrev pub FillsTable : PageFile D g → PageFile D g → Place → List Row → {A : Type 0} → Result A StoreError → Type 0
   FillsTable old new place columns result =
-      AtTable old new place (λ schema wanted roots was now table. OnOk result (HasFilled schema wanted roots was now table columns new))
+      AtTable old new place (λ schema wanted roots was now table. MatchResult result (λ _. HasFilled schema wanted roots was now table columns new)
+      (FailsToStore old new (CanBeFilledIn columns (now table.tree) (indexes_of schema table))))

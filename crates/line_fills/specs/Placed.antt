@@ -1,5 +1,5 @@
 -- Rows placed in a table, and their entries in its indexes.
-use Rattle.std.specs.Prelude.{◌≡◌, ◌≢◌, ℕ, List, ◌++◌, length, map, Result, OnOk}
+use Rattle.std.specs.Prelude.{◌≡◌, ◌≢◌, ℕ, List, ◌++◌, length, map, Result, MatchResult}
 use Rattle.std.specs.List.{AllByRecursion}
 use Rattle.sqlite_disk.specs.declared.Disk.{Ghosts}
 use Rattle.sqlite_schema.specs.declared.schema.Index.{Index}
@@ -21,6 +21,9 @@ use Rattle.table_changes.specs.Changes.{SparesBut}
 use Rattle.table_changes.specs.Keys.{HeadsDiffer}
 use Rattle.row_writes.specs.declared.places.IndexPlace.{IndexPlace}
 use Rattle.row_writes.specs.Places.{AreIndexPlaces}
+use Rattle.page_places.specs.Failures.{FailsToStore}
+use Rattle.plain_tables.specs.declared.errors.StoreError.{StoreError}
+use Rattle.line_fills.specs.Causes.{CanEnter}
 use Rattle.line_fills.specs.Filled.{IsIndexFilled}
 
 -- the entries of new rows in an index of these columns, no two of which have one key
@@ -43,22 +46,24 @@ module _ {D : Type 0} {g : Ghosts D} where
     pub filled : AllByRecursion (IsIndexFilled now next news) indexes
 
   module _ (old new : PageFile D g) where
-    -- within a transaction, rows are placed one after another in the tree of this shape under this root, which has no REAL column
-    abbrev pub PlacesAll : Shape → ℕ → Place → List Row → {A E : Type 0} → Result A E → Type 0
-    PlacesAll shape root place news result =
+    -- within a transaction, rows are placed one after another in the tree of this shape under this root, which has no REAL column;
+    -- or there is a cause, where this may be missing
+    abbrev pub PlacesAll : Shape → ℕ → Place → List Row → Type 0 → {A : Type 0} → Result A StoreError → Type 0
+    PlacesAll shape root place news CanBePlaced result =
         AtTree old new shape root (λ wanted roots was now t. reals_at wanted t ≡ 0
-        → OnOk result (Writes wanted roots was (with_tree now t (place_all place news (now t))) new))
+        → MatchResult result (λ _. Writes wanted roots was (with_tree now t (place_all place news (now t))) new) (FailsToStore old new CanBePlaced))
 
     -- the same of the entries of new rows in the index at this place
-    abbrev pub FillsIndex : IndexPlace → List Row → {A E : Type 0} → Result A E → Type 0
+    abbrev pub FillsIndex : IndexPlace → List Row → {A : Type 0} → Result A StoreError → Type 0
     FillsIndex place news result =
         AtTree old new (shape.Index plain) place.root (λ wanted roots was now t. reals_at wanted t ≡ 0
-        → OnOk result ((entries : List Row) × AreEntriesOf place.columns.now news entries
-        × Writes wanted roots was (with_tree now t (place_all (insert_entry plain) entries (now t))) new))
+        → MatchResult result (λ _. (entries : List Row) × AreEntriesOf place.columns.now news entries
+        × Writes wanted roots was (with_tree now t (place_all (insert_entry plain) entries (now t))) new) (FailsToStore old new (CanEnter place.columns.now news)))
 
     -- the same in each of the indexes at these places
-    abbrev pub FillsIndexes : List IndexPlace → List Row → {A E : Type 0} → Result A E → Type 0
+    abbrev pub FillsIndexes : List IndexPlace → List Row → {A : Type 0} → Result A StoreError → Type 0
     FillsIndexes places news result =
         IsFaithful new → (wanted : List Wanted) (roots : List ℕ) (was now : Trees) (indexes : List Index) (olds : List Row)
         → Writes wanted roots was now old → AreIndexPlaces wanted roots places indexes → CanBeFilled now indexes olds news
-        → OnOk result (HasEntries wanted roots was now indexes news new)
+        → MatchResult result (λ _. HasEntries wanted roots was now indexes news new)
+        (FailsToStore old new (AllByRecursion (λ (i : Index). CanEnter i.columns news) indexes))

@@ -1,9 +1,10 @@
 -- The rows of new lines, and their entries in an index.
-use Rattle.std.specs.Prelude.{◌≡◌, ◌+◌, ◌<◌, ◌^◌, ℕ, suc, pos, List, [], ◌∷◌, All, length, map, slice_index_or}
+use Rattle.std.specs.Prelude.{◌≡◌, ◌≢◌, ◌+◌, ◌<◌, ◌^◌, ℕ, suc, pos, nat_lt, if◌then◌else◌, List, [], ◌∷◌, All, length, map, slice_index_or, IsSortedBy}
+use Rattle.std.specs.Ordering.{is_lt}
 use Rattle.std.specs.declared.cmp.Ordering.TheVariants.{Less}
 use Rattle.sqlite_sql.specs.Catalog.{entry_of}
 use Rattle.plain_tables.specs.Lists.{IsAscending}
-use Rattle.sqlite_value.specs.declared.value.Value.TheVariants.{Int}
+use Rattle.sqlite_value.specs.declared.value.Value.TheVariants.{Int, Null}
 use Rattle.sqlite_value.specs.Order.{Row, column, row_cmp}
 
 -- there are rowids for the lines, from this one on
@@ -34,3 +35,16 @@ key_at columns first lines place = map (column (row_at first lines place)) colum
 -- from each place to each later one the keys rise
 abbrev pub KeysRise : List ℕ → ℕ → List Row → List ℕ → Type 0
 KeysRise columns first lines places = IsAscending (λ a b. row_cmp (key_at columns first lines a) (key_at columns first lines b) ≡ Less) places
+
+-- at one place the key is not below the next
+abbrev pub IsTied : List ℕ → ℕ → List Row → List ℕ → Type 0
+IsTied columns first lines places =
+    (i : ℕ) × (suc i < length places) × (row_cmp (key_at columns first lines (slice_index_or places i 0)) (key_at columns first lines (slice_index_or places (suc i) 0)) ≢ Less)
+
+-- the key of the line at a place, with another rowid, behind a NULL; and nothing where there is no line
+abbrev pub rank_at : List ℕ → List Row → ℕ → Row
+rank_at columns lines place = if nat_lt place (length lines) then Null ∷ map (column (Int (pos 0) ∷ slice_index_or lines place [])) columns else []
+
+-- the places stand in the order of these
+abbrev pub SortsByRank : List ℕ → List Row → List ℕ → Type 0
+SortsByRank columns lines = IsSortedBy (λ a b. is_lt (row_cmp (rank_at columns lines a) (rank_at columns lines b)))

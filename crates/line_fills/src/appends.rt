@@ -5,14 +5,15 @@ ghost use Rattle.sqlite_pool.specs.Stored.{Keeps};
 ghost use Rattle.sqlite_trees.specs.Tree.{insert_entry, put_row};
 ghost use Rattle.sqlite_value.specs.Keys.{plain};
 ghost use Rattle.page_files.specs.Files.{IsUsable};
+ghost use Rattle.line_fills.specs.Causes.{HaveRecords};
 ghost use Rattle.line_fills.specs.Placed.{FillsIndex, PlacesAll};
 ghost use Rattle.line_fills.specs.Rows.{ArePlacesOf, HaveRowids, entries_at, numbered};
 
 use crate::batches::{entry_records, row_records};
-use crate::failures::error_of;
 use crate::lines::PageLine;
-use crate::sorting::{keys_rise, sorted};
+use crate::sorting::in_order;
 use page_files::PageFile;
+use page_places::error_of;
 use plain_tables::StoreError;
 use row_writes::IndexPlace;
 use sqlite_disk::Disk;
@@ -32,7 +33,7 @@ fn append_batch<D: Disk, L: PageLine>(
     lines: &[L],
 ) -> Result<(), StoreError>
     requires room { HaveRowids first lines.now }
-    ensures done { PlacesAll file.old file.new Shape.Table root put_row (numbered first (map L.columns lines.now)) result }
+    ensures done { PlacesAll file.old file.new Shape.Table root put_row (numbered first (map L.columns lines.now)) (HaveRecords (map L.columns lines.now)) result }
     ensures usable { OnOk result (IsUsable file.new) }
     ensures keeps { Keeps (pools.state file.old.pool) (pools.state file.new.pool) }
 {
@@ -53,7 +54,7 @@ pub(crate) fn append_rows<D: Disk, L: PageLine>(
     lines: &[L],
 ) -> Result<(), StoreError>
     requires room { HaveRowids first lines.now }
-    ensures done { PlacesAll file.old file.new Shape.Table root put_row (numbered first (map L.columns lines.now)) result }
+    ensures done { PlacesAll file.old file.new Shape.Table root put_row (numbered first (map L.columns lines.now)) (HaveRecords (map L.columns lines.now)) result }
     ensures usable { IsUsable file.old → OnOk result (IsUsable file.new) }
     ensures keeps { Keeps (pools.state file.old.pool) (pools.state file.new.pool) }
 {
@@ -78,7 +79,8 @@ fn insert_batch<D: Disk, L: PageLine>(
     requires room { HaveRowids first lines.now }
     requires within { ArePlacesOf lines.now places.now }
     ensures done { PlacesAll file.old file.new (Shape.Index plain) index.now.root (insert_entry plain)
-        (entries_at index.now.columns.now first (map L.columns lines.now) places.now) result }
+        (entries_at index.now.columns.now first (map L.columns lines.now) places.now)
+        (HaveRecords (entries_at index.now.columns.now first (map L.columns lines.now) places.now)) result }
     ensures usable { OnOk result (IsUsable file.new) }
     ensures keeps { Keeps (pools.state file.old.pool) (pools.state file.new.pool) }
 {
@@ -102,7 +104,8 @@ fn insert_entries<D: Disk, L: PageLine>(
     requires room { HaveRowids first lines.now }
     requires within { ArePlacesOf lines.now places.now }
     ensures done { PlacesAll file.old file.new (Shape.Index plain) index.now.root (insert_entry plain)
-        (entries_at index.now.columns.now first (map L.columns lines.now) places.now) result }
+        (entries_at index.now.columns.now first (map L.columns lines.now) places.now)
+        (HaveRecords (entries_at index.now.columns.now first (map L.columns lines.now) places.now)) result }
     ensures usable { IsUsable file.old → OnOk result (IsUsable file.new) }
     ensures keeps { Keeps (pools.state file.old.pool) (pools.state file.new.pool) }
 {
@@ -130,9 +133,8 @@ pub(crate) fn fill_index<D: Disk, L: PageLine>(
     ensures usable { IsUsable file.old → OnOk result (IsUsable file.new) }
     ensures keeps { Keeps (pools.state file.old.pool) (pools.state file.new.pool) }
 {
-    let places = sorted(alloc, number, lines)?;
-    if !keys_rise(index.columns, first, lines, places.as_slice()) {
+    let Some(places) = in_order(alloc, number, index.columns, first, lines)? else {
         return Err(StoreError::Store);
-    }
+    };
     insert_entries(file, alloc, index, first, lines, places.as_slice())
 }

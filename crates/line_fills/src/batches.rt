@@ -1,7 +1,8 @@
 // The records of some lines, to be handed to the pages at once.
-ghost use Rattle.std.specs.Prelude.{◌<◌, ◌^◌, ◌∷◌, pos, IfOk, OnOk, map};
+ghost use Rattle.std.specs.Prelude.{◌<◌, ◌^◌, ◌∷◌, pos, IfErr, IfOk, OnOk, map};
 ghost use Rattle.sqlite_sql.specs.Catalog.{entry_of};
 ghost use Rattle.sqlite_value.specs.declared.value.Value.TheVariants.{Int};
+ghost use Rattle.line_fills.specs.Causes.{HasRecord, HaveRecords, IsRefused};
 ghost use Rattle.line_fills.specs.Records.{AreRecordsOf};
 ghost use Rattle.line_fills.specs.Written.{HasValues};
 ghost use Rattle.line_fills.specs.Rows.{ArePlacesOf, HaveRowids, entries_at};
@@ -15,7 +16,8 @@ use std::alloc::Global;
 
 /// Takes the columns of a line.
 fn push_columns<L: PageLine>(encoder: &mut Encoder, line: &L) -> Result<(), StoreError>
-    ensures { OnOk result (HasValues encoder.new (L.columns line.now)) }
+    ensures taken { OnOk result (HasValues encoder.new (L.columns line.now)) }
+    ensures refused { IfErr result (IsRefused (HasRecord (L.columns line.now))) }
 {
     encoder.clear();
     for at in 0..line.width() {
@@ -32,7 +34,8 @@ fn push_entry<L: PageLine>(
     rowid: u64,
 ) -> Result<(), StoreError>
     requires { rowid < 2 ^ 63 }
-    ensures { OnOk result (HasValues encoder.new (entry_of columns.now (Int (pos rowid) ∷ L.columns line.now))) }
+    ensures taken { OnOk result (HasValues encoder.new (entry_of columns.now (Int (pos rowid) ∷ L.columns line.now))) }
+    ensures refused { IfErr result (IsRefused (HasRecord (entry_of columns.now (Int (pos rowid) ∷ L.columns line.now)))) }
 {
     encoder.clear();
     for at in columns {
@@ -43,7 +46,8 @@ fn push_entry<L: PageLine>(
 
 /// The records of the columns of lines.
 pub(crate) fn row_records<L: PageLine>(alloc: Global, lines: &[L]) -> Result<Records, StoreError>
-    ensures { IfOk result (AreRecordsOf (map L.columns lines.now)) }
+    ensures made { IfOk result (AreRecordsOf (map L.columns lines.now)) }
+    ensures refused { IfErr result (IsRefused (HaveRecords (map L.columns lines.now))) }
 {
     let mut encoder = Encoder::new(alloc);
     let mut records = Records::new(alloc);
@@ -64,7 +68,8 @@ pub(crate) fn entry_records<L: PageLine>(
 ) -> Result<Records, StoreError>
     requires room { HaveRowids first lines.now }
     requires within { ArePlacesOf lines.now places.now }
-    ensures { IfOk result (AreRecordsOf (entries_at columns.now first (map L.columns lines.now) places.now)) }
+    ensures made { IfOk result (AreRecordsOf (entries_at columns.now first (map L.columns lines.now) places.now)) }
+    ensures refused { IfErr result (IsRefused (HaveRecords (entries_at columns.now first (map L.columns lines.now) places.now))) }
 {
     let mut encoder = Encoder::new(alloc);
     let mut records = Records::new(alloc);

@@ -1,11 +1,12 @@
 // The record of some values: whole numbers straight, any other value by its type and its bytes.
-ghost use Rattle.std.specs.Prelude.{◌≡◌, ◌<◌, ◌≤◌, ◌^◌, [], ◌∷◌, ◌++◌, IfOk, OnOk};
+ghost use Rattle.std.specs.Prelude.{◌≡◌, ◌<◌, ◌≤◌, ◌^◌, [], ◌∷◌, ◌++◌, IfErr, IfOk, OnOk};
 ghost use Rattle.sqlite_record.specs.Record.{decode, IsBodyOf};
 ghost use Rattle.sqlite_record.specs.Serial.{int_serial, serial_of, serial_size};
 ghost use Rattle.sqlite_value.specs.declared.value.Value.{Value};
 ghost use Rattle.sqlite_value.specs.declared.value.Value.TheVariants.{Int};
 ghost use Rattle.sqlite_value.specs.Order.{Row};
 ghost use Rattle.sqlite_value.specs.Value.{owned};
+ghost use Rattle.line_fills.specs.Causes.{HasRecord, IsRefused, IsShort};
 ghost use Rattle.line_fills.specs.Records.{IsWritable};
 ghost use Rattle.line_fills.specs.Written.{HasValues, Takes};
 
@@ -110,7 +111,8 @@ impl Encoder {
     /// Adds a value. `Store` where it is a NaN, or too long.
     #[inline(always)]
     pub(crate) fn push(&mut self, value: ValueRef<'_>) -> Result<(), StoreError>
-        ensures { Takes self.old self.new (owned value.entry) result }
+        ensures taken { Takes self.old self.new (owned value.entry) result }
+        ensures refused { IfErr result (IsRefused (IsShort (owned value.entry))) }
     {
         match value {
             ValueRef::Int(n) => self.push_int(n)?,
@@ -143,6 +145,7 @@ impl Encoder {
     pub(crate) fn record(&mut self) -> Result<&[u8], StoreError>
         ensures decoded { (row : Row) → HasValues self.old row → IfOk result (λ bytes. decode bytes.now ≡ row) }
         ensures writable { (row : Row) → HasValues self.old row → IfOk result (λ bytes. IsWritable bytes.now) }
+        ensures refused { (row : Row) → HasValues self.old row → IfErr result (IsRefused (HasRecord row)) }
     {
         let header = self.types.len();
         if header == 0 || header > 126 || self.body.len() > MAX_LEN {

@@ -1,18 +1,20 @@
 // Lines behind a table, and in its indexes (specs/Filled.antt).
-ghost use Rattle.std.specs.Prelude.{◌+◌, ◌<◌, ◌^◌, ◌≤ℤ◌, pos, map, IfOk, IfSome, OnOk};
+ghost use Rattle.std.specs.Prelude.{◌≡◌, ◌+◌, ◌<◌, ◌^◌, ◌≤ℤ◌, pos, map, length, None, IfErr, IfOk, IfSome, OnOk};
 ghost use Rattle.sqlite_pool.specs.Pool as pools;
 ghost use Rattle.sqlite_pool.specs.Stored.{Keeps};
 ghost use Rattle.sqlite_value.specs.declared.value.Value.TheVariants.{Int};
 ghost use Rattle.page_files.specs.Files.{IsUsable, OnlyReads};
 ghost use Rattle.row_writes.specs.Changes.{AreBelow, AtRows};
+ghost use Rattle.page_places.specs.Failures.{FailsToStore};
+ghost use Rattle.line_fills.specs.Causes.{HasRoom, HasRoomFrom};
 ghost use Rattle.line_fills.specs.Filled.{FillsTable};
 ghost use Rattle.line_fills.specs.Placed.{FillsIndexes};
 ghost use Rattle.line_fills.specs.Rows.{HaveRowids, numbered};
 
 use crate::appends::{append_rows, fill_index};
-use crate::failures::error_of_rows;
 use crate::lines::PageLine;
 use page_files::PageFile;
+use page_places::error_of_row;
 use plain_tables::StoreError;
 use row_writes::{IndexPlace, Place, free_rowid};
 use sqlite_disk::Disk;
@@ -22,6 +24,7 @@ use std::alloc::Global;
 fn first_of(free: i64, count: usize) -> Option<u64>
     ensures room { IfSome result (λ first. first + count < 2 ^ 63) }
     ensures above { IfSome result (λ first. free ≤ℤ pos first) }
+    ensures none { result ≡ None → ¬ (HasRoomFrom free count) }
 {
     let first = u64::try_from(free.max(1)).ok()?;
     let end = first.checked_add(u64::try_from(count).ok()?)?;
@@ -37,6 +40,7 @@ fn first_rowid<D: Disk, L>(
 ) -> Result<u64, StoreError>
     ensures above { IfOk result (λ first. AtRows file.old file.new place.now (AreBelow (Int (pos first)))) }
     ensures room { IfOk result (λ first. HaveRowids first lines.now) }
+    ensures failed { AtRows file.old file.new place.now (λ rows. IfErr result (FailsToStore file.old file.new (HasRoom rows (length lines.now)))) }
     ensures reads { OnlyReads file.old file.new }
     ensures usable { OnOk result (IsUsable file.new) }
 {
@@ -45,7 +49,7 @@ fn first_rowid<D: Disk, L>(
             Some(first) => Ok(first),
             None => Err(StoreError::Store),
         },
-        Err(error) => Err(error_of_rows(error)),
+        Err(error) => Err(error_of_row(error)),
     }
 }
 

@@ -8,8 +8,6 @@ mod appends;
 mod batches;
 // The record of some values.
 mod encoder;
-// What a failure of the pages is for a caller.
-mod failures;
 // Lines behind a table, and in its indexes (specs/Filled.antt).
 mod fills;
 // A line of a table.

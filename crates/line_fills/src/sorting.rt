@@ -1,7 +1,9 @@
 // The lines in the order of an index (specs/Rows.antt).
-ghost use Rattle.std.specs.Prelude.{IfOk, IsPermutation, IsTrue, length, map};
+ghost use Rattle.std.specs.Prelude.{◌≡◌, Ok, None, false, IfOk, IfSome, IsPermutation, IsTrue, length, map};
 ghost use Rattle.std.specs.List.{range_with_len};
-ghost use Rattle.line_fills.specs.Rows.{ArePlacesOf, HaveRowids, KeysRise};
+ghost use Rattle.sqlite_value.specs.Order.{row_cmp};
+ghost use Rattle.line_fills.specs.Causes.{CanEnter};
+ghost use Rattle.line_fills.specs.Rows.{ArePlacesOf, HaveRowids, IsTied, KeysRise, SortsByRank, numbered, rank_at};
 
 use crate::lines::PageLine;
 use crate::values::compare_keys;
@@ -27,6 +29,31 @@ pub(crate) fn sorted<L: PageLine>(
     Ok(places)
 }
 
+/// How two places stand by the keys of their lines, in an index of these columns. A place of no line stands before others.
+fn compare_places<L: PageLine>(
+    columns: &[usize],
+    lines: &[L],
+    place: usize,
+    other: usize,
+) -> Ordering
+    ensures { result ≡ row_cmp (rank_at columns.now (map L.columns lines.now) place) (rank_at columns.now (map L.columns lines.now) other) }
+{
+    match (lines.get(place), lines.get(other)) {
+        (Some(line), Some(other)) => compare_keys(columns, line, 0, other, 0),
+        (Some(_), None) => Ordering::Greater,
+        (None, Some(_)) => Ordering::Less,
+        (None, None) => Ordering::Equal,
+    }
+}
+
+/// Puts places of lines into the order of an index of these columns, by the very keys: this takes longer than `sorted`.
+fn sort_by_keys<L: PageLine>(columns: &[usize], lines: &[L], places: &mut [usize])
+    ensures same { IsPermutation places.old places.new }
+    ensures sorted { SortsByRank columns.now (map L.columns lines.now) places.new }
+{
+    places.sort_unstable_by(|a, b| compare_places(columns, lines, *a, *b));
+}
+
 /// Whether the keys of lines rise from each place to the next, in an index of these columns. The lines are numbered from
 /// `first` on.
 pub(crate) fn keys_rise<L: PageLine>(
@@ -37,7 +64,8 @@ pub(crate) fn keys_rise<L: PageLine>(
 ) -> bool
     requires room { HaveRowids first lines.now }
     requires within { ArePlacesOf lines.now places.now }
-    ensures { IsTrue result → KeysRise columns.now first (map L.columns lines.now) places.now }
+    ensures rise { IsTrue result → KeysRise columns.now first (map L.columns lines.now) places.now }
+    ensures tied { result ≡ false → IsTied columns.now first (map L.columns lines.now) places.now }
 {
     for i in 1..places.len() {
         let (before, after) = (places[i - 1], places[i]);
@@ -53,4 +81,31 @@ pub(crate) fn keys_rise<L: PageLine>(
         }
     }
     true
+}
+
+/// The places of the lines in the order of an index of these columns, or `None` where two lines have one key. `number` is
+/// its place among the indexes of the table.
+pub(crate) fn in_order<L: PageLine>(
+    alloc: Global,
+    number: usize,
+    columns: &[usize],
+    first: u64,
+    lines: &[L],
+) -> Result<Option<Vec<usize>>, AllocError>
+    requires room { HaveRowids first lines.now }
+    ensures all { IfOk result (λ found. IfSome found (λ places. IsPermutation (range_with_len 0 (length lines.now)) places.items)) }
+    ensures rise { IfOk result (λ found. IfSome found (λ places. KeysRise columns.now first (map L.columns lines.now) places.items)) }
+    ensures none { result ≡ Ok None → ¬ (CanEnter columns.now (numbered first (map L.columns lines.now))) }
+{
+    let mut places = sorted(alloc, number, lines)?;
+    if keys_rise(columns, first, lines, places.as_slice()) {
+        return Ok(Some(places));
+    }
+    // Two lines have one key, or their own order is not that of the index.
+    sort_by_keys(columns, lines, places.as_mut_slice());
+    if keys_rise(columns, first, lines, places.as_slice()) {
+        Ok(Some(places))
+    } else {
+        Ok(None)
+    }
 }

@@ -23,3 +23,9 @@ module _ {D : Type 0} {g : Ghosts D} where
   Imports old new lists change result =
       IsFaithful new → (wanted : List Wanted) (known : List ℕ) (db : Trees) (t : Tables) → Rests wanted known db old → Holds t db → AreListed t lists
       → OnOk result ((next : Trees) × Writes wanted known db next new × Holds (change t) next)
+
+  -- the same of a store in which a run under this number and with this digest would be a new one
+  abbrev pub ImportsNew : PageFile D g → PageFile D g → ℕ → List ℕ → (Tables → Tables) → {A E : Type 0} → Result A E → Type 0
+  ImportsNew old new number digest change result =
+      IsFaithful new → (wanted : List Wanted) (known : List ℕ) (db : Trees) (t : Tables) → Rests wanted known db old → Holds t db → IsNew number digest t
+      → OnOk result ((next : Trees) × Writes wanted known db next new × Holds (change t) next)

@@ -11,10 +11,9 @@ ghost use Rattle.page_imports.specs.Needs.{CanAdd, CanBegin};
 ghost use Rattle.page_imports.specs.Steps.{Makes, PutsLines};
 
 use crate::columns::{meta_columns, run_columns};
-use crate::failures::error_of_row;
 use line_fills::fill;
 use page_files::PageFile;
-use page_places::StoreRoots;
+use page_places::{StoreRoots, error_of_row};
 use plain_tables::StoreError;
 use row_writes::{IndexPlace, Place, insert, replace};
 use sqlite_disk::Disk;

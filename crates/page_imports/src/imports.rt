@@ -1,5 +1,5 @@
 // A file is put in as a run.
-ghost use Rattle.std.specs.Prelude.{◌<◌, ◌^◌, OnOk};
+ghost use Rattle.std.specs.Prelude.{◌<◌, ◌^◌, IsTrue, OnOk};
 ghost use Rattle.sqlite_pool.specs.Pool as pools;
 ghost use Rattle.sqlite_pool.specs.Stored.{Keeps};
 ghost use Rattle.cost_rows.specs.Rows.{content_of};
@@ -11,7 +11,7 @@ ghost use Rattle.run_lines.specs.Runs.{with_run_of};
 ghost use Rattle.run_lines.specs.Sums.{AllFit};
 ghost use Rattle.run_lists.specs.Listed.{AreListed};
 ghost use Rattle.run_stores.specs.Runs.{with_summed};
-ghost use Rattle.page_imports.specs.Imports.{Imports, IsNew};
+ghost use Rattle.page_imports.specs.Imports.{Imports, ImportsNew, IsNew};
 ghost use Rattle.page_imports.specs.Needs.{CanBegin};
 ghost use Rattle.page_imports.specs.Steps.{Makes};
 
@@ -46,28 +46,30 @@ fn put_contents<D: Disk>(
     put_rows(file, alloc, roots, run.number, rows)
 }
 
-/// Puts a file in as the run of the next number, as `put_run`, where each run has a lower one.
-fn put_next_run<D: Disk>(
+/// Whether a run of this number and digest would be the next one.
+fn is_next(lists: &RunLists, number: u32, digest: &[u8; 32]) -> bool
+    ensures told { (t : Tables) → AreListed t lists.now → IsTrue result → IsNew number digest.now t }
+{
+    lists.next_run() == number && lists.run_of_digest(digest).is_none()
+}
+
+/// Puts a file in as a run, as `put_run`, where it is the next one.
+fn put_new_run<D: Disk>(
     file: &mut PageFile<D>,
     alloc: Global,
-    lists: &RunLists,
     number: u32,
     kind: Kind,
     digest: &[u8; 32],
     label: &str,
     summed: &SummedFile<'_>,
 ) -> Result<(), StoreError>
-    ensures done { Imports file.old file.new lists.now (with_summed number kind digest.now label.now summed.now) result }
-    ensures is_new { (t : Tables) → AreListed t lists.now → OnOk result (IsNew number digest.now t) }
+    ensures done { ImportsNew file.old file.new number digest.now (with_summed number kind digest.now label.now summed.now) result }
     ensures complete { OnOk result (IsComplete summed.now.head.now) }
     ensures fits { OnOk result (AllFit summed.now.head.now (content_of summed.now.rows.now)) }
     ensures counted { OnOk result (count_total (content_of summed.now.rows.now).calls < 2 ^ 63) }
     ensures usable { OnOk result (IsUsable file.new) }
     ensures keeps { Keeps (pools.state file.old.pool) (pools.state file.new.pool) }
 {
-    if lists.next_run() != number || lists.run_of_digest(digest).is_some() {
-        return Err(StoreError::Store);
-    }
     let lines = head_rows(alloc, number, summed.head, &summed.totals)?;
     let Some(call_count) = column_int_of(summed.totals.call_count) else {
         return Err(StoreError::Store);
@@ -106,8 +108,9 @@ pub fn put_run<D: Disk>(
     ensures keeps { Keeps (pools.state file.old.pool) (pools.state file.new.pool) }
 {
     // Where another program set the next number back, no run is written over.
-    if lists.runs.iter().any(|line| line.entry.number >= number) {
+    if lists.runs.iter().any(|line| line.entry.number >= number) || !is_next(lists, number, digest)
+    {
         return Err(StoreError::Store);
     }
-    put_next_run(file, alloc, lists, number, kind, digest, label, summed)
+    put_new_run(file, alloc, number, kind, digest, label, summed)
 }

@@ -4,13 +4,11 @@
 
 // The columns of rows.
 mod columns;
-// What a row that was not written is for a caller.
-mod failures;
 // What a run says of itself: the next number, its own row, and the lines of its head.
 mod heads;
 // A file is put in as a run (specs/Imports.antt).
 mod imports;
-// The names of a file, by their numbers in the store (specs/Names.antt).
+// The names of a file, by their numbers in the store.
 mod names;
 // The rows of a file.
 mod rows;

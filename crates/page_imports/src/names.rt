@@ -9,10 +9,9 @@ ghost use Rattle.page_imports.specs.Needs.{CanName, IsNextName};
 ghost use Rattle.page_imports.specs.Steps.{Makes, MakesTelling, Tells};
 
 use crate::columns::name_columns;
-use crate::failures::error_of_row;
 use cost_rows::Names;
 use page_files::PageFile;
-use page_places::{StoreRoots, find_name};
+use page_places::{StoreRoots, error_of_row, find_name};
 use plain_tables::StoreError;
 use row_writes::{IndexPlace, Place, free_rowid, insert};
 use sqlite_disk::Disk;

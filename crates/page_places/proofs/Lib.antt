@@ -1,3 +1,4 @@
+pub mod Failing
 pub mod Finding
 pub mod Placing
 pub mod Rooting

@@ -7,11 +7,13 @@ use Rattle.sqlite_schema.specs.declared.schema.Table.{Table}
 use Rattle.sqlite_store.specs.declared.catalog.Wanted.{Wanted}
 use Rattle.sqlite_trees.specs.Tree.{Trees}
 use Rattle.page_files.specs.declared.files.PageFile.{PageFile}
-use Rattle.page_files.specs.Files.{pages_of, IsFaithful}
+use Rattle.page_files.specs.Files.{pages_of, IsFaithful, FailsToRead}
 use Rattle.page_files.specs.Trees.{StandsIn}
 use Rattle.plain_tables.specs.Tables.{Tables}
 use Rattle.store_schema.specs.Schema.{schema_two, meta_at, run_at, run_event_at, derived_at, coef_at, name_at, arc_at, stack_at, grp_at, member_at, thread_cell_at}
 use Rattle.store_schema.specs.Tables.{Holds}
+use Rattle.plain_tables.specs.declared.errors.StoreError.{StoreError}
+use Rattle.page_places.specs.Failures.{IsFailureOf}
 use Rattle.page_places.specs.declared.roots.StoreRoots.{StoreRoots}
 
 abbrev pub table_name : Table → List ℕ
@@ -73,6 +75,22 @@ module _ {D : Type 0} {g : Ghosts D} where
   FindsTable old new name root =
       IsFaithful new → (t : Tables) (db : Trees) (known : List ℕ) → IsStoreOf old t db known
       → (at : ℕ) (table : Table) → slice_get schema_two.tables at ≡ Some table → table.name ≡ name → root ≡ slice_index known table.tree
+
+  -- in a store a table of this name is missed only where the pages were not read for a cause
+  abbrev pub MissesTable : PageFile D g → PageFile D g → List ℕ → StoreError → Type 0
+  MissesTable old new name e =
+      IsFaithful new → (t : Tables) (db : Trees) (known : List ℕ) → IsStoreOf old t db known
+      → (at : ℕ) (table : Table) → slice_get schema_two.tables at ≡ Some table → table.name ≡ name → IsFailureOf (FailsToRead old new) e
+
+  -- and so an index
+  abbrev pub MissesIndex : PageFile D g → PageFile D g → List ℕ → StoreError → Type 0
+  MissesIndex old new name e =
+      IsFaithful new → (t : Tables) (db : Trees) (known : List ℕ) → IsStoreOf old t db known
+      → (at : ℕ) (index : Index) → slice_get schema_two.indexes at ≡ Some index → index.name ≡ name → IsFailureOf (FailsToRead old new) e
+
+  -- in a store the pages were not read for a cause
+  abbrev pub FailsInStore : PageFile D g → PageFile D g → StoreError → Type 0
+  FailsInStore old new e = IsFaithful new → (t : Tables) (db : Trees) (known : List ℕ) → IsStoreOf old t db known → IsFailureOf (FailsToRead old new) e
 
   -- this is the root of the index of this name in a store
   abbrev pub FindsIndex : PageFile D g → PageFile D g → List ℕ → ℕ → Type 0

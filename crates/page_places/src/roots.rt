@@ -1,10 +1,10 @@
 // The root pages of the tables and indexes of a store, found by their names.
-ghost use Rattle.std.specs.Prelude.{◌≡◌, ℕ, List, IfOk, OnOk};
+ghost use Rattle.std.specs.Prelude.{◌≡◌, ℕ, List, IfErr, IfOk, OnOk};
 ghost use Rattle.sqlite_trees.specs.Tree.{Trees};
 ghost use Rattle.page_files.specs.Files.{IsFaithful, IsUsable, OnlyReads};
 ghost use Rattle.plain_tables.specs.Tables.{Tables};
 ghost use Rattle.store_schema.specs.Schema.{schema_two};
-ghost use Rattle.page_places.specs.Roots.{AreFound, AreNames, AreRoots, FindsIndex, FindsTable, IsStoreOf, index_name, index_tree, table_name, table_tree};
+ghost use Rattle.page_places.specs.Roots.{AreFound, AreNames, AreRoots, FailsInStore, FindsIndex, FindsTable, IsStoreOf, MissesIndex, MissesTable, index_name, index_tree, table_name, table_tree};
 
 use crate::failures::error_of;
 use page_files::PageFile;
@@ -78,6 +78,7 @@ pub fn table_root<D: Disk>(
     name: &str,
 ) -> Result<u32, StoreError>
     ensures found { IfOk result (FindsTable file.old file.new name.now) }
+    ensures failed { IfErr result (MissesTable file.old file.new name.now) }
     ensures reads { OnlyReads file.old file.new }
     ensures usable { OnOk result (IsUsable file.new) }
 {
@@ -95,6 +96,7 @@ pub fn index_root<D: Disk>(
     name: &str,
 ) -> Result<u32, StoreError>
     ensures found { IfOk result (FindsIndex file.old file.new name.now) }
+    ensures failed { IfErr result (MissesIndex file.old file.new name.now) }
     ensures reads { OnlyReads file.old file.new }
     ensures usable { OnOk result (IsUsable file.new) }
 {
@@ -113,7 +115,9 @@ fn table_roots<D: Disk>(
 ) -> Result<[u32; 11], StoreError>
     ensures found { AreNames schema_two.tables table_name names.now → IsFaithful file.new → (t : Tables) (db : Trees) (known : List ℕ)
         → IsStoreOf file.old t db known → IfOk result (λ roots. AreFound schema_two.tables table_tree known roots 11) }
+    ensures failed { AreNames schema_two.tables table_name names.now → IfErr result (FailsInStore file.old file.new) }
     ensures reads { OnlyReads file.old file.new }
+    ensures usable { OnOk result (IsUsable file.new) }
 {
     let mut roots = [0; 11];
     'tables: for (at, name) in names.iter().enumerate() {
@@ -130,7 +134,9 @@ fn index_roots<D: Disk>(
 ) -> Result<[u32; 12], StoreError>
     ensures found { AreNames schema_two.indexes index_name names.now → IsFaithful file.new → (t : Tables) (db : Trees) (known : List ℕ)
         → IsStoreOf file.old t db known → IfOk result (λ roots. AreFound schema_two.indexes index_tree known roots 12) }
+    ensures failed { AreNames schema_two.indexes index_name names.now → IfErr result (FailsInStore file.old file.new) }
     ensures reads { OnlyReads file.old file.new }
+    ensures usable { OnOk result (IsUsable file.new) }
 {
     let mut roots = [0; 12];
     'indexes: for (at, name) in names.iter().enumerate() {
@@ -173,13 +179,11 @@ fn roots_of(tables: &[u32; 11], indexes: &[u32; 12]) -> StoreRoots
 /// Finds the tables and indexes. `Store` where one is not there, or pages cannot be read; `Memory`.
 pub fn find_roots<D: Disk>(file: &mut PageFile<D>, alloc: Global) -> Result<StoreRoots, StoreError>
     ensures found { IsFaithful file.new → (t : Tables) (db : Trees) (known : List ℕ) → IsStoreOf file.old t db known → IfOk result (AreRoots known) }
+    ensures failed { IfErr result (FailsInStore file.old file.new) }
     ensures reads { OnlyReads file.old file.new }
     ensures usable { OnOk result (IsUsable file.new) }
 {
     let tables = table_roots(file, alloc, &TABLE_NAMES)?;
     let indexes = index_roots(file, alloc, &INDEXES)?;
-    match file.if_usable() {
-        Ok(()) => Ok(roots_of(&tables, &indexes)),
-        Err(error) => Err(error_of(error)),
-    }
+    Ok(roots_of(&tables, &indexes))
 }

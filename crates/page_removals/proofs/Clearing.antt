@@ -1,5 +1,5 @@
 -- A run is the baseline of groups no more, one row after another.
-use Rattle.std.proofs.Common.{◌≡◌, ℕ, ℤ, Bool, true, false, if◌then◌else◌, List, [], ◌∷◌, map, filter, drop, Option, None, Some, refl, sym, ap, subst, inl, inr, ◌∙◌}
+use Rattle.std.proofs.Common.{◌≡◌, ◌<◌, ℕ, ℤ, Bool, true, false, if◌then◌else◌, List, [], ◌∷◌, map, filter, drop, length, Option, None, Some, arith, refl, sym, ap, subst, inl, inr, ◌∙◌}
 use Rattle.std.specs.List.{list_any}
 use Rattle.std.proofs.lemmas.Bool.{both_ways, eq-eqb, false_from_ne_true}
 use Rattle.sqlite_disk.specs.declared.Disk.{Ghosts}
@@ -7,7 +7,7 @@ use Rattle.sqlite_pool.specs.Pool.{state}
 use Rattle.sqlite_pool.specs.Stored.{Keeps}
 use Rattle.sqlite_rules.specs.Edit.{id_in}
 use Rattle.sqlite_rules.specs.Lists.{Has}
-use Rattle.sqlite_rules.proofs.ListLemmas.{all_has, has_kept, some_has}
+use Rattle.sqlite_rules.proofs.ListLemmas.{all_has, has_filtered, has_kept, some_from, some_has}
 use Rattle.sqlite_rules.proofs.ProbeLemmas.{has_mapped, mapped_has}
 use Rattle.sqlite_store.specs.declared.catalog.Wanted.{Wanted}
 use Rattle.sqlite_trees.specs.declared.store.Shape.TheVariants as shape
@@ -28,7 +28,7 @@ use Rattle.store_schema.specs.Schema.{schema_two, grp_at}
 use Rattle.store_schema.specs.Tables.{Holds, group_columns}
 use Rattle.table_changes.specs.Unused.{cleared}
 use Rattle.table_changes.proofs.Cleared.{cleared_all, still_to_clear}
-use Rattle.table_changes.proofs.Contents.{row_of_line}
+use Rattle.table_changes.proofs.Contents.{line_of, row_of_line}
 use Rattle.table_changes.proofs.OneLine.{group_put}
 use Rattle.table_changes.proofs.OneRow.{put_over, put_replaces}
 use Rattle.table_changes.proofs.Store.{groups_lined, groups_there}
@@ -52,6 +52,16 @@ AreSought n now ids = (row : Row) → Has (now 19) row → is_second n row ≡ t
 pub sought_picked : (n : ℕ) (now : Trees) (ids : List ℤ) → ids ≡ rowids_of (filter (is_second n) (now 19)) → AreSought n now ids
 sought_picked n now ids is row there second =
     subst (λ l. Has l (id_in (rowid row))) (sym is) (mapped_has (λ (r : Row). id_in (rowid r)) (filter (is_second n) (now 19)) row (has_kept (is_second n) (now 19) row there second))
+
+-- where the run is no baseline, none is sought
+pub none_sought : (n : ℕ) (t : Tables) (now : Trees) (ids : List ℤ) → Holds t now → ids ≡ rowids_of (filter (is_second n) (now 19)) → list_any (has_baseline n) t.groups ≡ false → 0 < length ids → ⊥
+none_sought n t now [] holds is none some = omega (arith, some)
+none_sought n t now (id ∷ ids) holds is none some =
+    let row = has_mapped (λ (r : Row). id_in (rowid r)) (filter (is_second n) (now 19)) id (subst (λ l. Has l id) is (inl refl)) in
+    let kept = has_filtered (is_second n) (now 19) row.0 row.1 in
+    let line = line_of grp_at group_columns (now 19) t.groups (groups_lined t now holds) row.0 kept.0 in
+    let based : has_baseline n line.0 ≡ true = sym (second_based n (id_of row.0) line.0) ∙ sym (ap (is_second n) line.2) ∙ kept.1 in
+    both_ways _ none (some_from (has_baseline n) t.groups line.0 line.1 based)
 
 module _ {D : Type 0} {g : Ghosts D} where
   -- some groups have lost it; the rows of those that have it have these rowids

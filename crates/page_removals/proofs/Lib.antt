@@ -1,4 +1,3 @@
 pub mod Places
-pub mod Results
 pub mod Clearing
 pub mod Columns

@@ -1,5 +1,6 @@
 -- What a removal of a run makes of a store.
-use Rattle.std.specs.Prelude.{◌≡◌, ◌==◌, ℕ, ℤ, pos, Bool, true, not, List, ◌∷◌, filter, map, Some, Result, OnOk}
+use Rattle.std.specs.Prelude.{◌≡◌, ◌==◌, ℕ, ℤ, pos, Bool, true, false, not, List, ◌∷◌, filter, map, Some, Result, MatchResult, OnOk, ⊤}
+use Rattle.std.specs.List.{list_any}
 use Rattle.std.specs.Ordering.{is_eq}
 use Rattle.sqlite_disk.specs.declared.Disk.{Ghosts}
 use Rattle.sqlite_store.specs.declared.catalog.Wanted.{Wanted}
@@ -11,7 +12,9 @@ use Rattle.sqlite_value.specs.Order.{Row, column, value_cmp}
 use Rattle.page_files.specs.declared.files.PageFile.{PageFile}
 use Rattle.page_files.specs.Files.{IsFaithful}
 use Rattle.page_files.specs.Held.{Rests, Writes}
-use Rattle.plain_tables.specs.Changes.{unbased, without_run}
+use Rattle.plain_tables.specs.Changes.{has_baseline, has_run, unbased, without_run}
+use Rattle.page_places.specs.Failures.{FailsToStore}
+use Rattle.plain_tables.specs.declared.errors.StoreError.{StoreError}
 use Rattle.plain_tables.specs.Tables.{Tables, EventRow, DerivedRow, CoefRow, CellRow, CallRow, StackRow, GroupRow, MemberRow}
 use Rattle.row_writes.specs.declared.places.Place.{Place}
 use Rattle.row_writes.specs.Changes.{AtTable, HasRows, Shows}
@@ -52,6 +55,23 @@ without_memberships n t = record t { members = filter (λ (m : MemberRow). not (
 abbrev pub without_baselines : ℕ → Tables → Tables
 without_baselines n t = record t { groups = map (cleared n) t.groups }
 
+-- ---- what a removal needs, so that only the pages can fail
+
+-- the run is no group's baseline
+abbrev pub IsNoBaseline : ℕ → Tables → Type 0
+IsNoBaseline n t = list_any (has_baseline n) t.groups ≡ false
+
+-- and it is held
+pub record CanDrop (n : ℕ) (t : Tables) : Type 0 where
+  pub held : has_run t n ≡ true
+  pub unbased : IsNoBaseline n t
+
+-- nothing
+abbrev pub Anything : Tables → Type 0
+Anything t = ⊤
+
+-- ---- rows
+
 -- whether the second column of a row is this run
 abbrev pub is_second : ℕ → Row → Bool
 is_second n row = is_eq (value_cmp (column row 2) (Int (pos n)))
@@ -61,23 +81,24 @@ abbrev pub group_at : ℤ → GroupRow → Row
 group_at id g = Int id ∷ group_columns g
 
 module _ {D : Type 0} {g : Ghosts D} (old new : PageFile D g) where
-  -- where the file rests on a store whose small tables are in the lists, a transaction has begun in it that holds the tables without the run
-  abbrev pub Drops : RunLists → ℕ → {A E : Type 0} → Result A E → Type 0
+  -- where the file rests on a store whose small tables are in the lists, a transaction has begun in it that holds the tables without the run;
+  -- or the pages were not read or written for a cause, or the run is not held, or is a baseline
+  abbrev pub Drops : RunLists → ℕ → {A : Type 0} → Result A StoreError → Type 0
   Drops lists run result =
       IsFaithful new → (wanted : List Wanted) (known : List ℕ) (db : Trees) (t : Tables) → Rests wanted known db old → Holds t db → AreListed t lists
-      → OnOk result ((next : Trees) × Writes wanted known db next new × Holds (without_run run t) next)
+      → MatchResult result (λ _. (next : Trees) × Writes wanted known db next new × Holds (without_run run t) next) (FailsToStore old new (CanDrop run t))
 
-  -- within a transaction that holds tables, under these roots, it holds the changed tables
-  abbrev pub DropsWithin : StoreRoots → (Tables → Tables) → {A E : Type 0} → Result A E → Type 0
-  DropsWithin roots change result =
+  -- within a transaction that holds tables, under these roots, it holds the changed tables; or there is a cause, where this may be missing
+  abbrev pub DropsWithin : StoreRoots → (Tables → Tables) → (Tables → Type 0) → {A : Type 0} → Result A StoreError → Type 0
+  DropsWithin roots change Can result =
       IsFaithful new → (wanted : List Wanted) (known : List ℕ) (was now : Trees) (t : Tables) → Writes wanted known was now old → Holds t now → AreRoots known roots
-      → OnOk result ((next : Trees) × Writes wanted known was next new × Holds (change t) next)
+      → MatchResult result (λ _. (next : Trees) × Writes wanted known was next new × Holds (change t) next) (FailsToStore old new (Can t))
 
-  -- the rows of a run are gone from the table at this place
-  abbrev pub ErasesRun : Place → ℕ → {A E : Type 0} → Result A E → Type 0
+  -- the rows of a run are gone from the table at this place, or the pages were not read or written for a cause
+  abbrev pub ErasesRun : Place → ℕ → {A : Type 0} → Result A StoreError → Type 0
   ErasesRun place run result =
       AtTable old new place (λ schema wanted roots was now table. AreLed (now table.tree) (indexes_of schema table)
-      → OnOk result (HasRows schema wanted roots was now table (rows_left (is_under (pos run)) (now table.tree)) new))
+      → MatchResult result (λ _. HasRows schema wanted roots was now table (rows_left (is_under (pos run)) (now table.tree)) new) (FailsToStore old new ⊤))
 
   -- the group whose row has this rowid has lost its baseline, which was the run
   pub record HasCleared (wanted : List Wanted) (known : List ℕ) (was now : Trees) (id : ℤ) (n : ℕ) : Type 0 where
@@ -98,8 +119,8 @@ module _ {D : Type 0} {g : Ghosts D} (old new : PageFile D g) where
       → ((row : Row) → Has (now 19) row → is_second n row ≡ true → Has ids (id_in (rowid row)))
       → OnOk result ((next : Trees) × Writes wanted known was next new × Holds (without_baselines n t) next)
 
-  -- where nothing else is of the run, its row goes
-  abbrev pub DropsRow : StoreRoots → ℕ → {A E : Type 0} → Result A E → Type 0
+  -- where nothing else is of the run, its row goes, or the pages were not read or written for a cause
+  abbrev pub DropsRow : StoreRoots → ℕ → {A : Type 0} → Result A StoreError → Type 0
   DropsRow roots n result =
       IsFaithful new → (wanted : List Wanted) (known : List ℕ) (was now : Trees) (t : Tables) → Writes wanted known was now old → Holds (but_its_row n t) now → AreRoots known roots
-      → OnOk result ((next : Trees) × Writes wanted known was next new × Holds (without_run n t) next)
+      → MatchResult result (λ _. (next : Trees) × Writes wanted known was next new × Holds (without_run n t) next) (FailsToStore old new ⊤)

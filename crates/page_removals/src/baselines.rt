@@ -1,17 +1,16 @@
 // Groups whose baseline is a run.
-ghost use Rattle.std.specs.Prelude.{◌≡◌, ◌∷◌, [], IfOk, OnOk};
+ghost use Rattle.std.specs.Prelude.{◌≡◌, ◌<◌, ◌∷◌, [], length, IfErr, IfOk, OnOk};
 ghost use Rattle.sqlite_pool.specs.Pool as pools;
 ghost use Rattle.sqlite_pool.specs.Stored.{Keeps};
 ghost use Rattle.sqlite_record.specs.Record.{decode};
 ghost use Rattle.sqlite_value.specs.declared.value.Value.TheVariants.{Text, Null};
 ghost use Rattle.store_schema.specs.Tables.{number};
 ghost use Rattle.page_files.specs.Files.{IsUsable};
-ghost use Rattle.page_removals.specs.Removed.{ClearsAll, ClearsOne, DropsWithin, without_baselines};
+ghost use Rattle.page_removals.specs.Removed.{ClearsAll, ClearsOne, DropsWithin, IsNoBaseline, without_baselines};
 
-use crate::lines::error_of_row;
 use crate::members::OfRun;
 use page_files::PageFile;
-use page_places::{StoreRoots, error_of};
+use page_places::{StoreRoots, error_of, error_of_row};
 use plain_tables::StoreError;
 use row_writes::{IndexPlace, Place, replace, rowids_where};
 use sqlite_disk::Disk;
@@ -83,6 +82,7 @@ fn clear_all<D: Disk>(
     run: u32,
 ) -> Result<(), StoreError>
     ensures done { ClearsAll file.old file.new place.now rowids.now run result }
+    ensures some { IfErr result (λ _. 0 < length rowids.now) }
     ensures usable { IsUsable file.old → OnOk result (IsUsable file.new) }
     ensures keeps { Keeps (pools.state file.old.pool) (pools.state file.new.pool) }
 {
@@ -99,7 +99,7 @@ pub(crate) fn clear_baselines<D: Disk>(
     roots: &StoreRoots,
     run: u32,
 ) -> Result<(), StoreError>
-    ensures done { DropsWithin file.old file.new roots.now (without_baselines run) result }
+    ensures done { DropsWithin file.old file.new roots.now (without_baselines run) (IsNoBaseline run) result }
     ensures usable { OnOk result (IsUsable file.new) }
     ensures keeps { Keeps (pools.state file.old.pool) (pools.state file.new.pool) }
 {

@@ -3,22 +3,14 @@ ghost use Rattle.std.specs.Prelude.{OnOk};
 ghost use Rattle.sqlite_pool.specs.Pool as pools;
 ghost use Rattle.sqlite_pool.specs.Stored.{Keeps};
 ghost use Rattle.page_files.specs.Files.{IsUsable};
-ghost use Rattle.page_removals.specs.Removed.{DropsWithin, ErasesRun, without_costs, without_events};
+ghost use Rattle.page_removals.specs.Removed.{Anything, DropsWithin, ErasesRun, without_costs, without_events};
 
 use page_files::PageFile;
-use page_places::{StoreRoots, error_of};
+use page_places::{StoreRoots, error_of_row};
 use plain_tables::StoreError;
-use row_writes::{IndexPlace, Place, RowError, erase_under};
+use row_writes::{IndexPlace, Place, erase_under};
 use sqlite_disk::Disk;
 use std::alloc::Global;
-
-/// What a failed write of rows is for a caller.
-pub(crate) fn error_of_row(error: RowError) -> StoreError {
-    match error {
-        RowError::Pages(error) => error_of(error),
-        _ => StoreError::Store,
-    }
-}
 
 /// Erases the rows of a run in a table whose indexes begin with the run.
 fn erase_run<D: Disk>(
@@ -44,7 +36,7 @@ pub(crate) fn drop_events<D: Disk>(
     roots: &StoreRoots,
     run: u32,
 ) -> Result<(), StoreError>
-    ensures done { DropsWithin file.old file.new roots.now (without_events run) result }
+    ensures done { DropsWithin file.old file.new roots.now (without_events run) Anything result }
     ensures usable { OnOk result (IsUsable file.new) }
     ensures keeps { Keeps (pools.state file.old.pool) (pools.state file.new.pool) }
 {
@@ -108,7 +100,7 @@ pub(crate) fn drop_costs<D: Disk>(
     roots: &StoreRoots,
     run: u32,
 ) -> Result<(), StoreError>
-    ensures done { DropsWithin file.old file.new roots.now (without_costs run) result }
+    ensures done { DropsWithin file.old file.new roots.now (without_costs run) Anything result }
     ensures usable { OnOk result (IsUsable file.new) }
     ensures keeps { Keeps (pools.state file.old.pool) (pools.state file.new.pool) }
 {

@@ -3,11 +3,10 @@ ghost use Rattle.std.specs.Prelude.{OnOk};
 ghost use Rattle.sqlite_pool.specs.Pool as pools;
 ghost use Rattle.sqlite_pool.specs.Stored.{Keeps};
 ghost use Rattle.page_files.specs.Files.{IsUsable};
-ghost use Rattle.page_removals.specs.Removed.{DropsWithin, without_memberships};
+ghost use Rattle.page_removals.specs.Removed.{Anything, DropsWithin, without_memberships};
 
-use crate::lines::error_of_row;
 use page_files::PageFile;
-use page_places::StoreRoots;
+use page_places::{StoreRoots, error_of_row};
 use plain_tables::StoreError;
 use row_writes::{IndexPlace, Place, RowTest, erase_where};
 use sqlite_disk::Disk;
@@ -44,7 +43,7 @@ pub(crate) fn drop_members<D: Disk>(
     roots: &StoreRoots,
     run: u32,
 ) -> Result<(), StoreError>
-    ensures done { DropsWithin file.old file.new roots.now (without_memberships run) result }
+    ensures done { DropsWithin file.old file.new roots.now (without_memberships run) Anything result }
     ensures usable { OnOk result (IsUsable file.new) }
     ensures keeps { Keeps (pools.state file.old.pool) (pools.state file.new.pool) }
 {

@@ -6,10 +6,10 @@ ghost use Rattle.page_files.specs.Files.{IsUsable};
 ghost use Rattle.page_removals.specs.Removed.{Drops, DropsRow};
 
 use crate::baselines::clear_baselines;
-use crate::lines::{drop_costs, drop_events, error_of_row};
+use crate::lines::{drop_costs, drop_events};
 use crate::members::drop_members;
 use page_files::PageFile;
-use page_places::{StoreRoots, find_roots};
+use page_places::{StoreRoots, error_of_row, find_roots};
 use plain_tables::StoreError;
 use row_writes::{IndexPlace, Place, erase};
 use run_lists::RunLists;

@@ -3,6 +3,9 @@ use Rattle.sqlite_pool.specs.Pool.{state}
 use Rattle.sqlite_pool.specs.StoredLaws.{Keeps-refl, Keeps-trans}
 use Rattle.sqlite_trees.specs.Tree.{put_row}
 use Rattle.sqlite_trees.specs.declared.store.Shape.TheVariants.{Table}
+use Rattle.std.proofs.lemmas.Result.{err_from_is_err_and}
+use Rattle.page_places.proofs.Failing.{store_fails_later}
+use Rattle.line_fills.proofs.Refused.{part_of_all}
 use Rattle.line_fills.specs.Rows.{numbered}
 use Rattle.line_fills.proofs.Parts.{numbered_batch}
 use Rattle.line_fills.proofs.Steps.{HasPlaced, more_placed, none_placed}
@@ -44,3 +47,14 @@ pub returns-clause-done : goal.returns-clause-done
 returns-clause-done g c =
     subst (λ lines. HasPlaced Table c.args.root put_row c.args.file.now c.loop-done.file (numbered c.args.first (map g.L.PageLine.columns lines)))
     (take_all c.loop-done.done c.args.lines.now (omega (arith, c.loop-done-test.false))) c.loop-done.invariant.placed
+
+pub returns-in_err-append_batch-clause-done : goal.returns-in_err-append_batch-clause-done
+returns-in_err-append_batch-clause-done g c faithful = λ wanted roots was now t w is plain.
+    let mid = c.loop-done.file in
+    let done = c.loop-done.done in
+    let lines = c.args.lines.now in
+    let columns = g.L.PageLine.columns in
+    let before = c.loop-done.invariant.placed (c.append_batch.ensures.keeps.stays.clean faithful) wanted roots was now t w is plain in
+    let p = err_from_is_err_and c.from_residual.result c.from_residual.ensures.1 in
+    rw (p.1, p.2) (store_fails_later c.args.file.now mid c.append_batch.new.file _ c.loop-done.invariant.keeps (part_of_all columns lines (c.min-end.result - done) done)
+    (c.in_err-append_batch.ensures.done faithful wanted roots was _ t before is plain))

@@ -5,7 +5,11 @@ use Rattle.sqlite_pool.specs.StoredLaws.{Keeps-refl, Keeps-trans}
 use Rattle.sqlite_trees.specs.Tree.{insert_entry}
 use Rattle.sqlite_trees.specs.declared.store.Shape.TheVariants.{Index}
 use Rattle.sqlite_value.specs.Keys.{plain}
-use Rattle.line_fills.specs.Rows.{entries_at}
+use Rattle.std.proofs.lemmas.Result.{err_from_is_err_and}
+use Rattle.page_places.proofs.Failing.{store_fails_later}
+use Rattle.line_fills.proofs.Refused.{part_of_all}
+use Rattle.sqlite_sql.specs.Catalog.{entry_of}
+use Rattle.line_fills.specs.Rows.{entries_at, row_at}
 use Rattle.line_fills.proofs.Parts.{entries_batch}
 use Rattle.line_fills.proofs.Steps.{HasPlaced, more_placed, none_placed}
 use Rattle.line_fills.proofs.appends.insert_entries.Goals as goal
@@ -54,3 +58,14 @@ returns-clause-done g c =
     let index = c.args.index.now in
     subst (λ places. HasPlaced (Index plain) index.root (insert_entry plain) c.args.file.now c.loop-done.file (entries_at index.columns.now c.args.first (map g.L.PageLine.columns c.args.lines.now) places))
     (take_all c.loop-done.done c.args.places.now (omega (arith, c.loop-done-test.false))) c.loop-done.invariant.placed
+
+pub returns-in_err-insert_batch-clause-done : goal.returns-in_err-insert_batch-clause-done
+returns-in_err-insert_batch-clause-done g c faithful = λ wanted roots was now t w is none.
+    let mid = c.loop-done.file in
+    let done = c.loop-done.done in
+    let lines = map g.L.PageLine.columns c.args.lines.now in
+    let entry = λ (place : ℕ). entry_of c.args.index.now.columns.now (row_at c.args.first lines place) in
+    let before = c.loop-done.invariant.placed (c.insert_batch.ensures.keeps.stays.clean faithful) wanted roots was now t w is none in
+    let p = err_from_is_err_and c.from_residual.result c.from_residual.ensures.1 in
+    rw (p.1, p.2) (store_fails_later c.args.file.now mid c.insert_batch.new.file _ c.loop-done.invariant.keeps (part_of_all entry c.args.places.now (c.min-end.result - done) done)
+    (c.in_err-insert_batch.ensures.done faithful wanted roots was _ t before is none))

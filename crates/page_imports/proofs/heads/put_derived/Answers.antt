@@ -4,7 +4,7 @@ use Rattle.line_fills.proofs.Held.{derived_filled}
 use Rattle.store_schema.specs.Lines.{derived_row}
 use Rattle.store_schema.specs.Schema.{schema_two, derived_at}
 use Rattle.store_schema.specs.Tables.{derived_columns}
-use Rattle.page_imports.proofs.Results.{on_ok}
+use Rattle.page_imports.proofs.Results.{on_match}
 use Rattle.page_imports.proofs.Showing.{index_at, mapped_twice, table_at}
 use Rattle.page_imports.proofs.heads.put_derived.Goals as goal
 
@@ -14,7 +14,7 @@ returns-clause-done g c run clean = λ wanted known was t shows are can.
     let lines = c.args.lines.now in
     let now = shows.next in
     let at = table_at file shows.writes shows.holds 3 derived_at refl _ are.derived (index_at file shows.writes shows.holds 3 _ refl refl _ are.derived_places refl, (index_at file shows.writes shows.holds 4 _ refl refl _ are.derived_names refl, tt)) in
-    on_ok c.fill.result (λ made. record {
+    on_match c.fill.result _ (λ made. record {
       next = made.next;
       writes = made.writes;
       holds = derived_filled t now made.next shows.holds run can.held (map derived_row lines) can.of_run (subst (IsTableFilled schema_two now made.next derived_at) (mapped_twice derived_columns derived_row lines) made.filled);

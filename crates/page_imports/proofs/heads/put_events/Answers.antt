@@ -4,7 +4,7 @@ use Rattle.line_fills.proofs.Held.{events_filled}
 use Rattle.store_schema.specs.Lines.{event_row}
 use Rattle.store_schema.specs.Schema.{schema_two, run_event_at}
 use Rattle.store_schema.specs.Tables.{event_columns}
-use Rattle.page_imports.proofs.Results.{on_ok}
+use Rattle.page_imports.proofs.Results.{on_match}
 use Rattle.page_imports.proofs.Showing.{index_at, mapped_twice, table_at}
 use Rattle.page_imports.proofs.heads.put_events.Goals as goal
 
@@ -14,7 +14,7 @@ returns-clause-done g c run clean = λ wanted known was t shows are can.
     let lines = c.args.lines.now in
     let now = shows.next in
     let at = table_at file shows.writes shows.holds 2 run_event_at refl _ are.events (index_at file shows.writes shows.holds 1 _ refl refl _ are.event_places refl, (index_at file shows.writes shows.holds 2 _ refl refl _ are.event_names refl, tt)) in
-    on_ok c.fill.result (λ made. record {
+    on_match c.fill.result _ (λ made. record {
       next = made.next;
       writes = made.writes;
       holds = events_filled t now made.next shows.holds run can.held (map event_row lines) can.of_run (subst (IsTableFilled schema_two now made.next run_event_at) (mapped_twice event_columns event_row lines) made.filled);

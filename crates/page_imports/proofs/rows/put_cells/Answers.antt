@@ -7,7 +7,7 @@ use Rattle.prof_books.proofs.Rows.{cells_of_run}
 use Rattle.store_schema.specs.Lines.{cell_row}
 use Rattle.store_schema.specs.Schema.{schema_two, thread_cell_at}
 use Rattle.store_schema.specs.Tables.{cell_columns}
-use Rattle.page_imports.proofs.Results.{on_ok}
+use Rattle.page_imports.proofs.Results.{on_match}
 use Rattle.page_imports.proofs.Showing.{index_at, mapped_twice, table_at}
 use Rattle.page_imports.proofs.rows.put_cells.Goals as goal
 
@@ -20,7 +20,7 @@ returns-clause-done g c clean = λ wanted known was t shows are can.
     let now = shows.next in
     let at = table_at file shows.writes shows.holds 10 thread_cell_at refl _ are.cells (index_at file shows.writes shows.holds 11 _ refl refl _ are.cell_keys refl, tt) in
     let columns = ap (map (λ line. cell_columns (cell_row line))) c.deref.ensures.value ∙ mapped_twice cell_columns cell_row lines ∙ ap (map cell_columns) c.in_ok-lines.ensures in
-    on_ok c.fill.result (λ made. record {
+    on_match c.fill.result _ (λ made. record {
       next = made.next;
       writes = made.writes;
       holds = cells_filled t now made.next shows.holds run can.held news (record { of_run = cells_of_run run c.args.numbers.now (content_of c.args.rows.now).cells; none = can.none }) (subst (IsTableFilled schema_two now made.next thread_cell_at) columns made.filled);

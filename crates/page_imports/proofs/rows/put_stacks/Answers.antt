@@ -7,7 +7,7 @@ use Rattle.prof_books.proofs.Rows.{stacks_of_run}
 use Rattle.store_schema.specs.Lines.{stack_row}
 use Rattle.store_schema.specs.Schema.{schema_two, stack_at}
 use Rattle.store_schema.specs.Tables.{stack_columns}
-use Rattle.page_imports.proofs.Results.{on_ok}
+use Rattle.page_imports.proofs.Results.{on_match}
 use Rattle.page_imports.proofs.Showing.{index_at, mapped_twice, table_at}
 use Rattle.page_imports.proofs.rows.put_stacks.Goals as goal
 
@@ -20,7 +20,7 @@ returns-clause-done g c clean = λ wanted known was t shows are can.
     let now = shows.next in
     let at = table_at file shows.writes shows.holds 7 stack_at refl _ are.stacks (index_at file shows.writes shows.holds 8 _ refl refl _ are.stack_frames refl, tt) in
     let columns = ap (map (λ line. stack_columns (stack_row line))) c.deref.ensures.value ∙ mapped_twice stack_columns stack_row lines ∙ ap (map stack_columns) c.in_ok-lines.ensures in
-    on_ok c.fill.result (λ made. record {
+    on_match c.fill.result _ (λ made. record {
       next = made.next;
       writes = made.writes;
       holds = stacks_filled t now made.next shows.holds run can.held news (record { of_run = stacks_of_run run (content_of c.args.rows.now).stacks; none = can.none }) (subst (IsTableFilled schema_two now made.next stack_at) columns made.filled);

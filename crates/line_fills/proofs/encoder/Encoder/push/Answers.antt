@@ -6,17 +6,17 @@ use Rattle.sqlite_record.proofs.SerialLemmas.{blob_body, null_body, real_body, t
 use Rattle.sqlite_value.specs.declared.value.Value.TheVariants.{Null, Real, Text, Blob}
 use Rattle.line_fills.proofs.encoder.Encoder.push.Goals as goal
 
-pub returns-in_ok-push_as-in-Null : goal.returns-in_ok-push_as-in-Null
-returns-in_ok-push_as-in-Null c = rw c.in-Null.is (c.in_ok-push_as-in-Null.ensures Null refl null_body)
+pub returns-in_ok-push_as-in-Null-clause-taken : goal.returns-in_ok-push_as-in-Null-clause-taken
+returns-in_ok-push_as-in-Null-clause-taken c = rw c.in-Null.is (c.in_ok-push_as-in-Null.ensures Null refl null_body)
 
-pub returns-in_ok-push_as-in-Text : goal.returns-in_ok-push_as-in-Text
-returns-in_ok-push_as-in-Text c = rw c.in-Text.is (c.in_ok-push_as-in-Text.ensures (Text c.in-Text.text.now) refl (text_body c.in-Text.text.now))
+pub returns-in_ok-push_as-in-Text-clause-taken : goal.returns-in_ok-push_as-in-Text-clause-taken
+returns-in_ok-push_as-in-Text-clause-taken c = rw c.in-Text.is (c.in_ok-push_as-in-Text.ensures (Text c.in-Text.text.now) refl (text_body c.in-Text.text.now))
 
-pub returns-in_ok-push_as-in-Blob : goal.returns-in_ok-push_as-in-Blob
-returns-in_ok-push_as-in-Blob c = rw c.in-Blob.is (c.in_ok-push_as-in-Blob.ensures (Blob c.in-Blob.blob.now) refl (blob_body c.in-Blob.blob.now))
+pub returns-in_ok-push_as-in-Blob-clause-taken : goal.returns-in_ok-push_as-in-Blob-clause-taken
+returns-in_ok-push_as-in-Blob-clause-taken c = rw c.in-Blob.is (c.in_ok-push_as-in-Blob.ensures (Blob c.in-Blob.blob.now) refl (blob_body c.in-Blob.blob.now))
 
-pub returns-in_ok-push_as-in-Real : goal.returns-in_ok-push_as-in-Real
-returns-in_ok-push_as-in-Real c =
+pub returns-in_ok-push_as-in-Real-clause-taken : goal.returns-in_ok-push_as-in-Real-clause-taken
+returns-in_ok-push_as-in-Real-clause-taken c =
     let x = c.in-Real.x in
     let fits : T (Ieee.fits binary64 x) = search rules in
     let number : NotNan x = c.if-not-is_nan.ensures.not_nan in

@@ -1,6 +1,0 @@
--- A fact of what succeeds, from another.
-use Rattle.std.proofs.Common.{Result, Ok, Err, OnOk}
-
-pub on_ok : {T E : Type 0} (r : Result T E) {P Q : Type 0} → (P → Q) → OnOk r P → OnOk r Q
-on_ok (Ok x) so p = so p
-on_ok (Err e) so p = tt
