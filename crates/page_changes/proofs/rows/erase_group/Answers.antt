@@ -12,9 +12,9 @@ returns-clause-done g c clean = λ wanted known was now t writes holds are none.
     let name = c.args.name.now in
     let shows = groups_at c.args.file.now writes holds c.args.roots.now are _ _ refl refl refl refl in
     on_ok c.erase_named.result (λ e.
-      let h = e.rows in (
-        h.next,
-        h.writes,
-        group_removed t now holds h.next e.row.rowid (record { name = name; baseline = e.row.number }) e.found.there h.only (subst (IsShaped shape.Table) (sym h.rows_are) h.shaped) h.rows_are none,
-      ))
+    let h = e.rows in (
+      h.next,
+      h.writes,
+      group_removed t now holds h.next e.row.rowid (record { name = name; baseline = e.row.number }) e.found.there h.only (subst (IsShaped shape.Table) (sym h.rows_are) h.shaped) h.rows_are none,
+    ))
     (c.erase_named.ensures.done clean schema_two wanted known was now grp_at shows)

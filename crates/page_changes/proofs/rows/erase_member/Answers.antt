@@ -15,10 +15,10 @@ returns-clause-done g c clean = λ wanted known was now t writes holds are any.
     let run = c.args.run in
     let shows = members_at c.args.file.now writes holds c.args.roots.now are _ _ refl refl refl refl in
     on_ok c.erase_named.result (λ e.
-      let h = e.rows in
-      let there = subst (λ n. Has (now 21) (named e.row.rowid name n)) e.found.is e.found.there in (
-        h.next,
-        h.writes,
-        member_removed t now holds h.next e.row.rowid (record { group = name; run = run }) there h.only (subst (IsShaped shape.Table) (sym h.rows_are) h.shaped) h.rows_are,
-      ))
+    let h = e.rows in
+    let there = subst (λ n. Has (now 21) (named e.row.rowid name n)) e.found.is e.found.there in (
+      h.next,
+      h.writes,
+      member_removed t now holds h.next e.row.rowid (record { group = name; run = run }) there h.only (subst (IsShaped shape.Table) (sym h.rows_are) h.shaped) h.rows_are,
+    ))
     (c.erase_named.ensures.done clean schema_two wanted known was now member_at shows)
