@@ -17,9 +17,9 @@ on_ok : {T E : Type 0} (r : Result T E) {P Q : Type 0} → (P → Q) → OnOk r 
 on_ok (Ok x) so p = so p
 on_ok (Err e) so p = tt
 
-done_ok : {T E : Type 0} (r : Result T E) {P : Type 0} (F : E → Type 0) → MatchResult r (λ _. P) F → OnOk r P
-done_ok (Ok x) F p = p
-done_ok (Err e) F p = tt
+done_ok : {T E : Type 0} (r : Result T E) (P : Type 0) (F : E → Type 0) → MatchResult r (λ _. P) F → OnOk r P
+done_ok (Ok x) P F p = p
+done_ok (Err e) P F p = tt
 
 module _ {D : Type 0} {g : Ghosts D} (old mid : PageRuns D g) (change : Tables → Tables) (written : Result (Unit {0}) StoreError) where
   -- what was written holds the changed rows
@@ -34,7 +34,7 @@ module _ {D : Type 0} {g : Ghosts D} (old mid : PageRuns D g) (change : Tables �
   pub listed_done : (Fails : Tables → StoreError → Type 0) → (IsFaithful mid → (wanted : List Wanted) (known : List ℕ) (db : Trees) (t : Tables) → Rests wanted known db old.file → Holds t db → AreListed t old.lists
       → MatchResult written (λ _. (next : Trees) × Writes wanted known db next mid.file × Holds (change t) next) (Fails t))
       → IsFaithful mid → (t : Tables) → (was : Represents t old) → OnOk written (IsMade (change t) was mid)
-  listed_done Fails done = listed_made (λ faithful wanted known db t rests holds listed. done_ok written (Fails t) (done faithful wanted known db t rests holds listed))
+  listed_done Fails done = listed_made (λ faithful wanted known db t rests holds listed. done_ok written _ (Fails t) (done faithful wanted known db t rests holds listed))
 
   -- the same of a change of groups, which is told where their tables stand
   pub group_made : groups.Changes old.file mid.file old.roots old.lists change written → IsFaithful mid → (t : Tables) → (was : Represents t old) → OnOk written (IsMade (change t) was mid)
