@@ -12,6 +12,6 @@ returns-clause-done g c clean wanted known db t rests holds listed are =
 pub returns-clause-failed : goal.returns-clause-failed
 returns-clause-failed g c =
     if_err c.add_group.result _ (λ e is clean wanted known db t rests holds listed are.
-      let fresh = sym (c.has_group.ensures.told t listed) ∙ c.if-has_group.false in
-      let done = c.add_group.ensures.done clean wanted known db db t (begins c.args.file.now rests) holds are fresh in
-      fails_with_more c.args.file.now c.add_group.new.file {Q = CanMake c.args.name.now t db} e (λ can. can.room) (at_err c.add_group.result _ _ e is done))
+    let fresh = sym (c.has_group.ensures.told t listed) ∙ c.if-has_group.false in
+    let done = c.add_group.ensures.done clean wanted known db db t (begins c.args.file.now rests) holds are fresh in
+    fails_with_more c.args.file.now c.add_group.new.file {Q = CanMake c.args.name.now t db} e (λ can. can.room) (at_err c.add_group.result _ _ e is done))

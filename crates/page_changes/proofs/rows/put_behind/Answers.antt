@@ -1,4 +1,4 @@
-use Rattle.std.proofs.Common.{◌≡◌, rules, to_z, of_z, w64, ◌++◌, ◌∷◌, [], refl, sym, subst, ◌∙◌, to_z-of_z, FitsSigned}
+use Rattle.std.proofs.Common.{◌≡◌, rules, to_z, of_z, w64, ◌++◌, ◌∷◌, [], sym, subst, ◌∙◌, to_z-of_z}
 use Rattle.sqlite_pool.specs.StoredLaws.{Keeps-trans}
 use Rattle.sqlite_value.specs.declared.value.Value.TheVariants.{Int}
 use Rattle.page_files.proofs.Steps.{writes_after}
