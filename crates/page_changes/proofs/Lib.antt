@@ -1,4 +1,5 @@
 mod Editing
+mod Failing
 mod Naming
 mod Places
 mod Results

@@ -1,5 +1,5 @@
 -- What a change of the groups makes of a store.
-use Rattle.std.specs.Prelude.{◌≡◌, ◌∷◌, ◌++◌, [], ℕ, true, false, not, bytes_eq, List, Option, filter, Result, OnOk}
+use Rattle.std.specs.Prelude.{◌≡◌, ◌∷◌, ◌++◌, [], ℕ, true, false, not, bytes_eq, List, Option, filter, Result, MatchResult, OnOk}
 use Rattle.std.specs.List.{list_any}
 use Rattle.sqlite_disk.specs.declared.Disk.{Ghosts}
 use Rattle.sqlite_store.specs.declared.catalog.Wanted.{Wanted}
@@ -12,7 +12,11 @@ use Rattle.sqlite_value.specs.Order.{Row}
 use Rattle.row_writes.specs.declared.places.Place.{Place}
 use Rattle.row_writes.specs.Changes.{AtTable, HasRows}
 use Rattle.page_changes.specs.declared.finding.NamedRow.{NamedRow}
+use Rattle.page_changes.specs.Causes.{CanFollow}
 use Rattle.page_changes.specs.Named.{IsFoundIn}
+use Rattle.page_places.specs.Failures.{FailsToStore}
+use Rattle.plain_tables.specs.declared.errors.StoreError.{StoreError}
+use Rattle.row_writes.specs.Places.{indexes_of}
 use Rattle.page_files.specs.declared.files.PageFile.{PageFile}
 use Rattle.page_files.specs.Files.{IsFaithful}
 use Rattle.page_files.specs.Held.{Rests, Writes}
@@ -37,12 +41,19 @@ module _ {D : Type 0} {g : Ghosts D} where
       IsFaithful new → (wanted : List Wanted) (known : List ℕ) (was now : Trees) (t : Tables) → Writes wanted known was now old → Holds t now → AreRoots known roots → Fact t
       → OnOk result ((next : Trees) × Writes wanted known was next new × Holds (change t) next)
 
+  -- the same, or there is a cause, where this may be missing
+  abbrev pub MakesWithin : PageFile D g → PageFile D g → StoreRoots → (Tables → Type 0) → (Tables → Tables) → (Trees → Type 0) → {A : Type 0} → Result A StoreError → Type 0
+  MakesWithin old new roots Fact change Can result =
+      IsFaithful new → (wanted : List Wanted) (known : List ℕ) (was now : Trees) (t : Tables) → Writes wanted known was now old → Holds t now → AreRoots known roots → Fact t
+      → MatchResult result (λ _. (next : Trees) × Writes wanted known was next new × Holds (change t) next) (FailsToStore old new (Can now))
+
   module _ (old new : PageFile D g) where
-    -- the table at this place has a row of these columns behind the others
-    abbrev pub PutsBehind : Place → Row → {A E : Type 0} → Result A E → Type 0
+    -- the table at this place has a row of these columns behind the others, or there is a cause
+    abbrev pub PutsBehind : Place → Row → {A : Type 0} → Result A StoreError → Type 0
     PutsBehind place columns result =
         AtTable old new place (λ schema wanted roots was now table.
-        OnOk result (HasRows schema wanted roots was now table (now table.tree ++ (Int (next_rowid (now table.tree)) ∷ columns) ∷ []) new))
+        MatchResult result (λ _. HasRows schema wanted roots was now table (now table.tree ++ (Int (next_rowid (now table.tree)) ∷ columns) ∷ []) new)
+        (FailsToStore old new (CanFollow columns (now table.tree) (indexes_of schema table))))
 
     -- a row of the name, and of the number that is sought, is gone from the table
     pub record HasErased (schema : Schema) (wanted : List Wanted) (roots : List ℕ) (was now : Trees) (table : Table) (name : List ℕ) (sought : Option ℕ) : Type 0 where

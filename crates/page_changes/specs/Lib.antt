@@ -1,3 +1,4 @@
+pub mod Causes
 pub mod Changes
 pub mod Named
 pub mod Shown

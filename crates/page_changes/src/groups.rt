@@ -1,5 +1,5 @@
 // The changes of groups and members, each within a transaction.
-ghost use Rattle.std.specs.Prelude.{◌≡◌, OnOk};
+ghost use Rattle.std.specs.Prelude.{◌≡◌, IfErr, OnOk};
 ghost use Rattle.std.specs.List.{list_any};
 ghost use Rattle.sqlite_pool.specs.Pool as pools;
 ghost use Rattle.sqlite_pool.specs.Stored.{Keeps};
@@ -7,6 +7,7 @@ ghost use Rattle.page_files.specs.Files.{IsUsable};
 ghost use Rattle.plain_tables.specs.Changes.{is_member, joined, with_baseline, with_group, without_group, without_member};
 ghost use Rattle.plain_tables.specs.Labels.{IsGroupName};
 ghost use Rattle.run_lists.specs.Listed.{member_row};
+ghost use Rattle.page_changes.specs.Causes.{CanMake, CanTakeIn, FailsWithout};
 ghost use Rattle.page_changes.specs.Changes.{Changes};
 
 use crate::rows::{add_group, add_member, erase_group, erase_member, erase_members, put_baseline};
@@ -33,7 +34,8 @@ fn has_member(lists: &RunLists, name: &str, run: u32) -> bool
 
 /// `Store` where the file has failed for good.
 fn if_usable<D: Disk>(file: &PageFile<D>) -> Result<(), StoreError>
-    ensures { OnOk result (IsUsable file.now) }
+    ensures usable { OnOk result (IsUsable file.now) }
+    ensures failed { IfErr result (λ e. (e ≡ StoreError.Store) × (IsUsable file.now → ⊥)) }
 {
     match file.if_usable() {
         Ok(()) => Ok(()),
@@ -52,6 +54,7 @@ pub fn join<D: Disk>(
     run: u32,
 ) -> Result<(), StoreError>
     ensures done { Changes file.old file.new roots.now lists.now (joined name.now run) result }
+    ensures failed { IfErr result (FailsWithout file.old file.new roots.now lists.now (CanTakeIn file.old name.now run)) }
     ensures usable { OnOk result (IsUsable file.new) }
     ensures keeps { Keeps (pools.state file.old.pool) (pools.state file.new.pool) }
 {
@@ -75,6 +78,7 @@ pub fn put_group<D: Disk>(
 ) -> Result<(), StoreError>
     requires { IsGroupName name.now }
     ensures done { Changes file.old file.new roots.now lists.now (with_group name.now) result }
+    ensures failed { IfErr result (FailsWithout file.old file.new roots.now lists.now (CanMake name.now)) }
     ensures usable { OnOk result (IsUsable file.new) }
     ensures keeps { Keeps (pools.state file.old.pool) (pools.state file.new.pool) }
 {

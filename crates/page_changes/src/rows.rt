@@ -1,12 +1,13 @@
 // One row of a group or of a member, or the members of a group, within a transaction.
-ghost use Rattle.std.specs.Prelude.{◌≡◌, ◌∷◌, [], ⊤, true, false, IfOk, OnOk};
+ghost use Rattle.std.specs.Prelude.{◌≡◌, ◌∷◌, [], ⊤, true, false, IfErr, IfOk, OnOk};
 ghost use Rattle.sqlite_pool.specs.Pool as pools;
 ghost use Rattle.sqlite_pool.specs.Stored.{Keeps};
 ghost use Rattle.sqlite_value.specs.declared.value.Value.TheVariants.{Text};
 ghost use Rattle.store_schema.specs.Tables.{number_or_null};
 ghost use Rattle.page_files.specs.Files.{IsUsable};
 ghost use Rattle.plain_tables.specs.Changes.{has_group, has_run, with_baseline, with_group, with_member, without_member};
-ghost use Rattle.page_changes.specs.Changes.{CanJoin, ChangesWithin, ErasesNamed, HasNoMember, PutsBehind, without_members, without_named};
+ghost use Rattle.page_changes.specs.Causes.{HasRoomForGroup, HasRoomForMember};
+ghost use Rattle.page_changes.specs.Changes.{CanJoin, ChangesWithin, ErasesNamed, HasNoMember, MakesWithin, PutsBehind, without_members, without_named};
 
 use crate::finding::find_named;
 use page_files::PageFile;
@@ -22,7 +23,8 @@ use std::alloc::Global;
 
 /// The columns of a name and a number, or NULL.
 fn named_columns(alloc: Global, name: &str, number: Option<u32>) -> Result<Row, StoreError>
-    ensures { IfOk result (λ row. row ≡ Text name.now ∷ number_or_null number ∷ []) }
+    ensures made { IfOk result (λ row. row ≡ Text name.now ∷ number_or_null number ∷ []) }
+    ensures failed { IfErr result (λ e. e ≡ StoreError.Memory) }
 {
     let mut row = Row::new(alloc);
     row.push(ValueRef::Text(name.as_bytes()))?;
@@ -62,7 +64,7 @@ pub(crate) fn add_member<D: Disk>(
     name: &str,
     run: u32,
 ) -> Result<(), StoreError>
-    ensures done { ChangesWithin file.old file.new roots.now (CanJoin name.now run) (with_member name.now run) result }
+    ensures done { MakesWithin file.old file.new roots.now (CanJoin name.now run) (with_member name.now run) (HasRoomForMember name.now run) result }
     ensures usable { OnOk result (IsUsable file.new) }
     ensures keeps { Keeps (pools.state file.old.pool) (pools.state file.new.pool) }
 {
@@ -85,7 +87,7 @@ pub(crate) fn add_group<D: Disk>(
     roots: &StoreRoots,
     name: &str,
 ) -> Result<(), StoreError>
-    ensures done { ChangesWithin file.old file.new roots.now (λ t. has_group t name.now ≡ false) (with_group name.now) result }
+    ensures done { MakesWithin file.old file.new roots.now (λ t. has_group t name.now ≡ false) (with_group name.now) (HasRoomForGroup name.now) result }
     ensures usable { OnOk result (IsUsable file.new) }
     ensures keeps { Keeps (pools.state file.old.pool) (pools.state file.new.pool) }
 {

@@ -167,6 +167,8 @@ impl<D: Disk> PageRuns<D> {
         match self.file.commit() {
             Ok(()) => {
                 self.lists = lists;
+                // Those of runs that are gone would take the places of others.
+                self.hints = RunHints::new(self.alloc);
                 Ok(())
             }
             Err(error) => Err(error_of(error)),

@@ -1,9 +1,11 @@
-use Rattle.std.proofs.Common.{sym, subst, ◌∙◌, if◌then◌else◌, false}
+use Rattle.std.proofs.Common.{sym, subst, ◌∙◌, if◌then◌else◌}
 use Rattle.plain_tables.specs.Changes.{with_member}
 use Rattle.store_schema.specs.Tables.{Holds}
 use Rattle.page_files.proofs.Steps.{begins}
 use Rattle.page_changes.proofs.Editing.{listed_member}
-use Rattle.page_changes.proofs.Results.{given_ok, on_ok}
+use Rattle.page_changes.specs.Causes.{CanTakeIn}
+use Rattle.page_changes.proofs.Failing.{fails_with_more}
+use Rattle.page_changes.proofs.Results.{at_err, given_ok, if_err, when_ok}
 use Rattle.page_changes.proofs.groups.join.Goals as goal
 
 pub returns-then-has_member-clause-done : goal.returns-then-has_member-clause-done
@@ -18,6 +20,17 @@ returns-clause-done g c clean wanted known db t rests holds listed are =
     let name = c.args.name.now in
     let run = c.args.run in
     let none = sym (c.has_member.ensures ∙ listed_member t c.args.lists.now listed name run) ∙ c.if-has_member.false in
-    on_ok c.add_member.result (λ it. (it.0, it.1, subst (λ b. Holds (if b then t else with_member name run t) it.0) (sym none) it.2))
+    when_ok c.add_member.result _ (λ it. (it.0, it.1, subst (λ b. Holds (if b then t else with_member name run t) it.0) (sym none) it.2))
     (c.add_member.ensures.done clean wanted known db db t (begins c.args.file.now rests) holds are
     (record { grouped = sym (c.has_group.ensures.told t listed) ∙ c.if-not-has_group.false; held = sym (c.has_run.ensures.told t listed) ∙ c.if-not-has_run.false; none = none }))
+
+pub returns-clause-failed : goal.returns-clause-failed
+returns-clause-failed g c =
+    if_err c.add_member.result _ (λ e is clean wanted known db t rests holds listed are.
+    let name = c.args.name.now in
+    let run = c.args.run in
+    let none = sym (c.has_member.ensures ∙ listed_member t c.args.lists.now listed name run) ∙ c.if-has_member.false in
+    let done =
+    c.add_member.ensures.done clean wanted known db db t (begins c.args.file.now rests) holds are
+    (record { grouped = sym (c.has_group.ensures.told t listed) ∙ c.if-not-has_group.false; held = sym (c.has_run.ensures.told t listed) ∙ c.if-not-has_run.false; none = none }) in
+    fails_with_more c.args.file.now c.add_member.new.file {Q = CanTakeIn c.args.file.now name run t db} e (λ can. can.room none) (at_err c.add_member.result _ _ e is done))

@@ -1,7 +1,17 @@
 use Rattle.std.proofs.Common.{sym, ◌∙◌}
 use Rattle.page_files.proofs.Steps.{begins}
+use Rattle.page_changes.specs.Causes.{CanMake}
+use Rattle.page_changes.proofs.Failing.{fails_with_more}
+use Rattle.page_changes.proofs.Results.{at_err, if_err, when_ok}
 use Rattle.page_changes.proofs.groups.put_group.Goals as goal
 
 pub returns-clause-done : goal.returns-clause-done
 returns-clause-done g c clean wanted known db t rests holds listed are =
-    c.add_group.ensures.done clean wanted known db db t (begins c.args.file.now rests) holds are (sym (c.has_group.ensures.told t listed) ∙ c.if-has_group.false)
+    when_ok c.add_group.result _ (λ it. it) (c.add_group.ensures.done clean wanted known db db t (begins c.args.file.now rests) holds are (sym (c.has_group.ensures.told t listed) ∙ c.if-has_group.false))
+
+pub returns-clause-failed : goal.returns-clause-failed
+returns-clause-failed g c =
+    if_err c.add_group.result _ (λ e is clean wanted known db t rests holds listed are.
+    let fresh = sym (c.has_group.ensures.told t listed) ∙ c.if-has_group.false in
+    let done = c.add_group.ensures.done clean wanted known db db t (begins c.args.file.now rests) holds are fresh in
+    fails_with_more c.args.file.now c.add_group.new.file {Q = CanMake c.args.name.now t db} e (λ can. can.room) (at_err c.add_group.result _ _ e is done))

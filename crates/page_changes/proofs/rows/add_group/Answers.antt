@@ -1,4 +1,5 @@
 use Rattle.std.proofs.Common.{◌++◌, ◌∷◌, [], ap, refl, sym, subst, ◌∙◌}
+use Rattle.std.proofs.lemmas.Result.{err_from_is_err_and}
 use Rattle.sqlite_rules.specs.Edit.{next_rowid}
 use Rattle.sqlite_trees.specs.declared.store.Shape.TheVariants as shape
 use Rattle.sqlite_trees.specs.View.{IsShaped}
@@ -6,7 +7,11 @@ use Rattle.sqlite_value.specs.declared.value.Value.TheVariants.{Int}
 use Rattle.store_schema.specs.Schema.{schema_two, grp_at}
 use Rattle.table_changes.proofs.Groups.{group_behind}
 use Rattle.page_changes.proofs.Places.{groups_at}
-use Rattle.page_changes.proofs.Results.{on_ok}
+use Rattle.page_places.specs.Failures.{FailsToStore}
+use Rattle.page_places.proofs.Failing.{memory_fails}
+use Rattle.row_writes.specs.Places.{indexes_of}
+use Rattle.row_writes.proofs.Outcomes.{match_result}
+use Rattle.page_changes.specs.Causes.{CanFollow}
 use Rattle.page_changes.proofs.rows.add_group.Goals as goal
 
 pub returns-clause-done : goal.returns-clause-done
@@ -14,9 +19,15 @@ returns-clause-done g c clean = λ wanted known was now t writes holds are none.
     let name = c.args.name.now in
     let id = next_rowid (now 19) in
     let shows = groups_at c.args.file.now writes holds c.args.roots.now are _ _ refl refl refl refl in
-    on_ok c.put_behind.result (λ h. (
+    match_result c.put_behind.result (λ h. (
       h.next,
       h.writes,
-      group_behind t now h.next holds name id h.only (h.rows_are ∙ ap (λ l. now 19 ++ (Int id ∷ l) ∷ []) c.in_ok-columns.ensures) (subst (IsShaped shape.Table) (sym h.rows_are) h.shaped) none,
+      group_behind t now h.next holds name id h.only (h.rows_are ∙ ap (λ l. now 19 ++ (Int id ∷ l) ∷ []) c.in_ok-columns.ensures.made) (subst (IsShaped shape.Table) (sym h.rows_are) h.shaped) none,
     ))
+    (λ e fails. subst (λ l. FailsToStore c.args.file.now c.put_behind.new.file (CanFollow l (now 19) (indexes_of schema_two grp_at)) e) c.in_ok-columns.ensures.made fails)
     (c.put_behind.ensures.done clean schema_two wanted known was now grp_at shows)
+
+pub returns-in_err-columns-clause-done : goal.returns-in_err-columns-clause-done
+returns-in_err-columns-clause-done g c clean = λ wanted known was now t writes holds are fact.
+    let p = err_from_is_err_and c.from_residual.result c.from_residual.ensures.1 in
+    rw (p.1, p.2) (memory_fails c.args.file.now c.args.file.now _ c.in_err-columns.ensures.failed)

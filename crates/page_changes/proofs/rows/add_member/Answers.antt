@@ -1,4 +1,5 @@
 use Rattle.std.proofs.Common.{◌++◌, ◌∷◌, [], ap, refl, sym, subst, ◌∙◌}
+use Rattle.std.proofs.lemmas.Result.{err_from_is_err_and}
 use Rattle.sqlite_rules.specs.Edit.{next_rowid}
 use Rattle.sqlite_trees.specs.declared.store.Shape.TheVariants as shape
 use Rattle.sqlite_trees.specs.View.{IsShaped}
@@ -6,7 +7,11 @@ use Rattle.sqlite_value.specs.declared.value.Value.TheVariants.{Int}
 use Rattle.store_schema.specs.Schema.{schema_two, member_at}
 use Rattle.table_changes.proofs.Members.{member_behind}
 use Rattle.page_changes.proofs.Places.{members_at}
-use Rattle.page_changes.proofs.Results.{on_ok}
+use Rattle.page_places.specs.Failures.{FailsToStore}
+use Rattle.page_places.proofs.Failing.{memory_fails}
+use Rattle.row_writes.specs.Places.{indexes_of}
+use Rattle.row_writes.proofs.Outcomes.{match_result}
+use Rattle.page_changes.specs.Causes.{CanFollow}
 use Rattle.page_changes.proofs.rows.add_member.Goals as goal
 
 pub returns-clause-done : goal.returns-clause-done
@@ -15,10 +20,16 @@ returns-clause-done g c clean = λ wanted known was now t writes holds are can.
     let run = c.args.run in
     let id = next_rowid (now 21) in
     let shows = members_at c.args.file.now writes holds c.args.roots.now are _ _ refl refl refl refl in
-    on_ok c.put_behind.result (λ h. (
+    match_result c.put_behind.result (λ h. (
       h.next,
       h.writes,
       member_behind t now h.next holds h.only (subst (IsShaped shape.Table) (sym h.rows_are) h.shaped) name run id
-          (h.rows_are ∙ ap (λ l. now 21 ++ (Int id ∷ l) ∷ []) c.in_ok-columns.ensures) can.grouped can.held can.none,
+          (h.rows_are ∙ ap (λ l. now 21 ++ (Int id ∷ l) ∷ []) c.in_ok-columns.ensures.made) can.grouped can.held can.none,
     ))
+    (λ e fails. subst (λ l. FailsToStore c.args.file.now c.put_behind.new.file (CanFollow l (now 21) (indexes_of schema_two member_at)) e) c.in_ok-columns.ensures.made fails)
     (c.put_behind.ensures.done clean schema_two wanted known was now member_at shows)
+
+pub returns-in_err-columns-clause-done : goal.returns-in_err-columns-clause-done
+returns-in_err-columns-clause-done g c clean = λ wanted known was now t writes holds are fact.
+    let p = err_from_is_err_and c.from_residual.result c.from_residual.ensures.1 in
+    rw (p.1, p.2) (memory_fails c.args.file.now c.args.file.now _ c.in_err-columns.ensures.failed)

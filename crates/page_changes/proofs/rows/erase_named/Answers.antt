@@ -1,4 +1,4 @@
-use Rattle.std.proofs.Common.{refl, sym, subst, to_z-of_z}
+use Rattle.std.proofs.Common.{subst, to_z-of_z}
 use Rattle.sqlite_pool.specs.StoredLaws.{Keeps-trans}
 use Rattle.sqlite_trees.specs.Tree.{without_rowid}
 use Rattle.page_files.proofs.Steps.{writes_after}

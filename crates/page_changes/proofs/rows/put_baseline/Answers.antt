@@ -33,8 +33,8 @@ returns-in-Ok-clause-done g c faithful = λ wanted known was now t writes holds 
     let keeps : KeepsEntries row.rowid (Text name ∷ number run ∷ []) (now 19) (indexes_of schema_two grp_at) = (Text name ∷ number_or_null row.number ∷ [], there.there, ((refl, tt), tt)) in
     let w = writes_after old mid c.find_named.ensures.reads before c.in_ok-row.ensures.usable writes in
     let put = c.in-Ok.ensures.done faithful schema_two wanted known was now grp_at (record { writes = w; placed = shows.placed; indexed = shows.indexed })
-    (subst₂ (λ (n : ℤ) (r : Row). KeepsEntries n r (now 19) (indexes_of schema_two grp_at)) (sym same) (sym c.in_ok-columns.ensures) keeps) in
-    let h = subst₂ (λ (n : ℤ) (r : Row). HasRows schema_two wanted known was now grp_at (put_row (Int n ∷ r) (now 19)) c.replace.new.file) same c.in_ok-columns.ensures put in (
+    (subst₂ (λ (n : ℤ) (r : Row). KeepsEntries n r (now 19) (indexes_of schema_two grp_at)) (sym same) (sym c.in_ok-columns.ensures.made) keeps) in
+    let h = subst₂ (λ (n : ℤ) (r : Row). HasRows schema_two wanted known was now grp_at (put_row (Int n ∷ r) (now 19)) c.replace.new.file) same c.in_ok-columns.ensures.made put in (
       h.next,
       h.writes,
       baseline_put t now holds h.next run row.rowid (record { name = name; baseline = row.number }) there.there h.only (subst (IsShaped shape.Table) (sym h.rows_are) h.shaped) h.rows_are held,
