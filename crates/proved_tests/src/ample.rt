@@ -124,28 +124,38 @@ fn inclusive(alloc: Global) -> Result<Query, AllocError> {
     })
 }
 
-/// What is asked, each with how many lines its answer has.
-fn questions(alloc: Global) -> Result<Vec<(Query, usize)>, AllocError> {
-    let mut questions = Vec::new(alloc);
+/// Questions, each with how many lines its answer has.
+type Questions = Vec<(Query, usize)>;
+
+/// Adds those for lists and sums.
+fn push_lists(alloc: Global, questions: &mut Questions) -> Result<(), AllocError> {
     questions.push((Query::Runs, 301))?;
     questions.push((Query::Groups, 1))?;
     questions.push((Query::Verify(Selection::All), 301))?;
     questions.push((Query::Verify(group(alloc)?), 300))?;
+    questions.push((Query::Csv(Selection::All), 302))?;
+    questions.push((Query::Folded(Selection::All), 600))?;
+    Ok(())
+}
+
+/// Adds those for reports.
+fn push_reports(alloc: Global, questions: &mut Questions) -> Result<(), AllocError> {
     questions.push((by_function(alloc, Selection::All)?, 303))?;
     questions.push((by_function(alloc, group(alloc)?)?, 303))?;
     questions.push((by_function(alloc, Selection::Run(7))?, 4))?;
     questions.push((callers(alloc)?, 302))?;
     questions.push((inclusive(alloc)?, 302))?;
-    questions.push((Query::Csv(Selection::All), 302))?;
-    questions.push((Query::Folded(Selection::All), 600))?;
-    Ok(questions)
+    Ok(())
 }
 
 #[test]
 fn many_runs_and_rows_are_asked(rt: HostRuntime) -> Result<(), Fail> {
     let alloc = rt.alloc();
     let mut conn = ample(alloc)?;
-    for (query, lines) in questions(alloc)? {
+    let mut questions = Vec::new(alloc);
+    push_lists(alloc, &mut questions)?;
+    push_reports(alloc, &mut questions)?;
+    for (query, lines) in questions {
         let (answer, left) = answered(alloc, conn, Command::Ask(query))?;
         conn = left;
         let Answer::Text(text) = answer else {
