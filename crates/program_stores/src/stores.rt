@@ -21,8 +21,9 @@ use std::rt::HostRuntime;
 /// is read once, and more would only have to be made.
 pub(crate) const PAGES_TO_READ: usize = 100;
 
-/// How many are kept where a store is changed or served, 8 MB: names and their index are written where they fall.
-pub(crate) const PAGES_TO_CHANGE: usize = 2000;
+/// How many are kept where a store is changed or served, 2 MB, and as many again of those that were written: rows are
+/// appended, but names and their index are written where they fall.
+pub(crate) const PAGES_TO_CHANGE: usize = 500;
 
 /// What a database in a file is kept in.
 pub type StoreFile = FileStore<File>;
@@ -58,13 +59,15 @@ pub fn is_new_at(rt: &HostRuntime, path: &str) -> Result<bool, OpenError> {
     }
 }
 
-/// How its pages are read and written: so many are kept, and a salt of chance marks its log.
+/// How its pages are read and written: so many are kept, and so many that were written, before these go to the log,
+/// which a salt of chance marks.
 pub(crate) fn options_for(rt: &HostRuntime, pages: usize) -> Result<Options, OpenError> {
     let Ok(keys) = RandomState::new(rt) else {
         return Err(OpenError::Store);
     };
     let mut options = Options::new(keys.hash_one(&0u8));
     options.cache_pages = pages;
+    options.spill_pages = pages;
     Ok(options)
 }
 
