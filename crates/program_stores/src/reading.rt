@@ -13,7 +13,7 @@ ghost use Rattle.store_histories.specs.Answered.{RepresentsHistory};
 ghost use Rattle.sessions.specs.Sessions.{Wants};
 ghost use Rattle.sessions.specs.Works.{CameTo};
 
-use crate::stores::{PAGES_TO_CHANGE, PAGES_TO_READ, files_at, options_for};
+use crate::stores::{PAGES_TO_CHANGE, PAGES_TO_READ, error_of_path, is_no_file, options_for};
 use http_service::{Service, serve_over};
 use page_runs::PageRuns;
 use prof_store::OpenError;
@@ -53,7 +53,12 @@ pub fn store_in_pages<D: Disk + Drop, S: Start>(
 /// The store at a path, to be read from its pages, as `store_in_pages`. No guarantee: of the files at a path the
 /// checker knows nothing.
 pub fn pages_at(rt: &HostRuntime, path: &str) -> Option<PageRuns<ReadOnly<File, Unknown>>> {
-    let files = files_at(rt, path).ok()?;
+    if is_no_file(path) {
+        return None;
+    }
+    let Ok(files) = sqlite_std_file::open(rt, path, Unknown) else {
+        return None;
+    };
     let options = options_for(rt, PAGES_TO_READ).ok()?;
     store_in_pages(rt.alloc(), files, options)
 }
@@ -62,7 +67,13 @@ pub fn pages_at(rt: &HostRuntime, path: &str) -> Option<PageRuns<ReadOnly<File, 
 /// trigger on its tables; `Store` where its files are not plainly a store of this version, or cannot be opened so: their
 /// database says why. No guarantee: as `pages_at`; `PageRuns::open` says what the store represents.
 pub fn pages_to_change_at(rt: &HostRuntime, path: &str) -> Result<StoreInPages, OpenError> {
-    let files = files_at(rt, path)?;
+    if is_no_file(path) {
+        return Err(OpenError::Store);
+    }
+    let files = match sqlite_std_file::open(rt, path, Unknown) {
+        Ok(files) => files,
+        Err(error) => return Err(error_of_path(error)),
+    };
     let options = options_for(rt, PAGES_TO_CHANGE)?;
     match PageRuns::open(rt.alloc(), files, options) {
         Some(store) if store.may_be_changed() => Ok(store),

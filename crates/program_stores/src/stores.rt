@@ -8,7 +8,7 @@ ghost use Rattle.program_stores.specs.Stores.{IsReadyIn, Refuses, TakesUp, store
 
 use prof_store::{OpenError, Store};
 use sqlite::{Alter, Connection, Error, ErrorCode, File, FileStore};
-use sqlite_disk::{Files, Unknown};
+use sqlite_disk::Unknown;
 use sqlite_pager::Options;
 use sqlite_std_file::OpenError as PathError;
 use std::alloc::Global;
@@ -59,6 +59,11 @@ pub fn is_new_at(rt: &HostRuntime, path: &str) -> Result<bool, OpenError> {
     }
 }
 
+/// Whether a path is one that SQLite takes for something else than a file.
+pub(crate) fn is_no_file(path: &str) -> bool {
+    path == ":memory:" || path.starts_with("file:")
+}
+
 /// How its pages are read and written: so many are kept, and so many that were written, before these go to the log,
 /// which a salt of chance marks.
 pub(crate) fn options_for(rt: &HostRuntime, pages: usize) -> Result<Options, OpenError> {
@@ -71,24 +76,25 @@ pub(crate) fn options_for(rt: &HostRuntime, pages: usize) -> Result<Options, Ope
     Ok(options)
 }
 
-/// The files of the database at a path, opened. No guarantee: of the files at a path the checker knows nothing.
-pub(crate) fn files_at(rt: &HostRuntime, path: &str) -> Result<Files<File>, OpenError> {
-    if path == ":memory:" || path.starts_with("file:") {
-        return Err(OpenError::Store);
-    }
-    match sqlite_std_file::open(rt, path, Unknown) {
-        Ok(files) => Ok(files),
-        Err(PathError::OutOfMemory) => Err(OpenError::Memory),
-        Err(PathError::Io(error)) if error.kind() == ErrorKind::OutOfMemory => {
-            Err(OpenError::Memory)
-        }
-        Err(_) => Err(OpenError::Store),
+/// Why the files at a path are not opened. No guarantee: what the host says of a path the checker does not know.
+pub(crate) fn error_of_path(error: PathError) -> OpenError {
+    match error {
+        PathError::OutOfMemory => OpenError::Memory,
+        PathError::Io(error) if error.kind() == ErrorKind::OutOfMemory => OpenError::Memory,
+        _ => OpenError::Store,
     }
 }
 
-/// The database at a path, opened with few pages in its cache. No guarantee: as `files_at`.
+/// The database at a path, opened with few pages in its cache. No guarantee: of the files at a path the
+/// checker knows nothing.
 pub fn database_at(rt: &HostRuntime, path: &str) -> Result<Connection<StoreFile>, OpenError> {
-    let files = files_at(rt, path)?;
+    if is_no_file(path) {
+        return Err(OpenError::Store);
+    }
+    let files = match sqlite_std_file::open(rt, path, Unknown) {
+        Ok(files) => files,
+        Err(error) => return Err(error_of_path(error)),
+    };
     let options = options_for(rt, PAGES_TO_READ)?;
     match Connection::open_files_with(rt.alloc(), files, options, false) {
         Ok(conn) => Ok(conn),
