@@ -39,41 +39,6 @@ impl Stopping {
             caught: 0,
         })
     }
-
-    /// A file without bytes that any number of changes is made of, with room for so many bytes: while they are enough,
-    /// it takes no memory. No guarantee: as of `new`.
-    pub(crate) fn with_room(alloc: Global, room: usize) -> Result<Stopping, AllocError> {
-        Ok(Stopping {
-            written: Vec::with_capacity(alloc, room)?,
-            synced: Vec::with_capacity(alloc, room)?,
-            changes: Rc::new(alloc, Cell::new(u64::MAX))?,
-            usable: true,
-            faults: 0,
-            caught: 0,
-        })
-    }
-
-    /// A file with the same bytes, that shares the number of its changes. No guarantee: as of `new`.
-    pub(crate) fn again(&self, alloc: Global) -> Result<Stopping, AllocError> {
-        Ok(Stopping {
-            written: self.written.to_vec(alloc)?,
-            synced: self.synced.to_vec(alloc)?,
-            changes: self.changes.clone()?,
-            usable: self.usable,
-            faults: 0,
-            caught: 0,
-        })
-    }
-
-    /// How many changes are still made. No guarantee: a counter is shared.
-    pub(crate) fn changes_left(&self) -> u64 {
-        self.changes.get()
-    }
-
-    /// So many changes are made from now on. No guarantee: as of `changes_left`.
-    pub(crate) fn allow(&self, changes: u64) {
-        self.changes.set(changes);
-    }
 }
 
 /// Takes what a call needs of the changes that are left; where none is left, reads fail too.
@@ -137,8 +102,8 @@ fn overwrite(file: &mut Vec<u8>, at: usize, bytes: &[u8]) -> Result<(), AllocErr
 }
 
 fn replace(file: &mut Vec<u8>, bytes: &[u8]) -> Result<(), AllocError> {
-    resize(file, bytes.len())?;
-    file.copy_from_slice(bytes);
+    let copy = bytes.to_vec(*file.allocator())?;
+    *file = copy;
     Ok(())
 }
 

@@ -13,9 +13,6 @@ mod forms;
 // A file whose reads are given by hand.
 #[cfg(test)]
 mod given;
-// The two stores in files that may stop.
-#[cfg(test)]
-mod in_files;
 // Imports into a warehouse with small limits.
 #[cfg(test)]
 mod imports;

@@ -1,12 +1,12 @@
-// A list of commands over a store in pages, of which one allocation is refused, by tests/by_hand/refuse_each: what meets it
-// is refused as out of memory and changes nothing, the others are answered, and the next call is whole.
-use crate::disk::Stopping;
+// A list of commands of which one allocation is refused, by tests/by_hand/refuse_each: what meets it is refused as
+// out of memory and changes nothing, the others are answered, and the next call is whole.
 use crate::given::Given;
-use crate::in_files::{InFiles, InPages, made};
+use crate::stores::empty_runs;
 use cg_text::ListVec;
 use cost_rows::Key;
 use report_texts::Cut;
-use sqlite::Files;
+use sql_runs::SqlRuns;
+use sqlite::MemStore;
 use std::alloc::{AllocError, Global};
 use std::test::Fail;
 use warehouse::{Answer, Command, GroupChange, Kind, Limits, Query, Refusal, Selection, Warehouse};
@@ -73,26 +73,8 @@ fn letter(answer: &Answer) -> u8 {
     }
 }
 
-/// How many bytes a file has room for, so that it is never the disk that wants memory.
-const ROOM: usize = 0x10_0000;
-
-/// An empty store in pages.
-fn empty_pages(alloc: Global) -> Result<InPages, AllocError> {
-    let files = Files {
-        log: Stopping::with_room(alloc, ROOM)?,
-        db: Stopping::with_room(alloc, ROOM)?,
-    };
-    let (true, files) = made(alloc, files) else {
-        return Err(AllocError);
-    };
-    match InPages::open_files(alloc, files) {
-        Ok(store) => Ok(store),
-        Err(_) => Err(AllocError),
-    }
-}
-
 /// The letters of the answers to the list, or none where the list was refused.
-fn ran(alloc: Global, house: &mut Warehouse<InPages>) -> Result<[u8; 5], AllocError> {
+fn ran(alloc: Global, house: &mut Warehouse<SqlRuns<MemStore>>) -> Result<[u8; 5], AllocError> {
     let answers = house.run(alloc, commands(alloc)?)?;
     let mut letters = [b'?'; 5];
     for (place, answer) in letters.iter_mut().zip(answers.iter()) {
@@ -124,9 +106,9 @@ fn wanted(first: Result<[u8; 5], AllocError>) -> [u8; 5] {
 #[test]
 fn memory_refused_to_run(rt: HostRuntime) -> Result<(), Fail> {
     let alloc = rt.alloc();
-    let store = match empty_pages(alloc) {
+    let store = match empty_runs(alloc, false) {
         Ok(store) => store,
-        Err(_) => empty_pages(alloc)?,
+        Err(_) => empty_runs(alloc, false)?,
     };
     let mut house = Warehouse::new(store, Limits::standard());
     let first = ran(alloc, &mut house);
