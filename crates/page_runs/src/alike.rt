@@ -3,7 +3,7 @@
 use sqlite_items::Items;
 use sqlite_resolve::{CompileError, define_table};
 use sqlite_schema::names::same_name;
-use sqlite_schema::schema::{Column, Table};
+use sqlite_schema::schema::{Column, Kind, Table};
 use std::alloc::{AllocError, Global};
 
 /// The table that a text makes. `None` where it makes none.
@@ -15,13 +15,12 @@ fn table_of(alloc: Global, text: &[u8]) -> Result<Option<Table>, AllocError> {
     }
 }
 
-/// Whether two columns have one name and hold the same values.
+/// Whether two columns have one name and one order, and values are stored in them alike: in a REAL column alone whole
+/// numbers are not stored as they are given.
 fn are_same_columns(a: &Column, b: &Column) -> bool {
     same_name(a.name.as_slice(), b.name.as_slice())
-        && a.kind == b.kind
-        && a.is_strict == b.is_strict
-        && a.not_null == b.not_null
         && a.collation == b.collation
+        && (a.kind == Kind::Real) == (b.kind == Kind::Real)
 }
 
 /// Whether two tables have the same columns, in one order.
@@ -36,8 +35,8 @@ fn are_same_keys(a: &Items<Items<usize>>, b: &Items<Items<usize>>) -> bool {
     a.len() == b.len() && a.iter().zip(b).all(|(a, b)| a.as_slice() == b.as_slice())
 }
 
-/// Whether two texts make tables whose rows, and those of the indexes that they have by their keys, are the same. Rules and
-/// references may differ: what a row says is tested where it is read. No clause says so.
+/// Whether two texts make tables whose rows, and those of the indexes that they have by their keys, are the same. Types,
+/// rules and references may differ: what a row says is tested where it is read. No clause says so.
 pub(crate) fn have_same_rows(alloc: Global, one: &[u8], other: &[u8]) -> Result<bool, AllocError> {
     let (Some(one), Some(other)) = (table_of(alloc, one)?, table_of(alloc, other)?) else {
         return Ok(false);
