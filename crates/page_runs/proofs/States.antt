@@ -62,7 +62,7 @@ module _ {D : Type 0} {g : Ghosts D} where
     pub pages : files.IsFaithful new → IsUsable new → pages_of new ≡ pages_of old
     pub rests : files.IsFaithful new → IsUsable new → (wanted : List Wanted) (known : List ℕ) (db : Trees) → Rests wanted known db old → Rests wanted known db new
 
-  stays_read : (old new : PageFile D g) → OnlyReads old new → StaysSame old new
+  pub stays_read : (old new : PageFile D g) → OnlyReads old new → StaysSame old new
   stays_read old new reads = record {
     keeps = reads.keeps;
     pages = λ faithful usable. reads.pages;
