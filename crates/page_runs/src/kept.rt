@@ -44,10 +44,7 @@ impl Gathered {
     pub fn add(&mut self, line: &CellRow)
         ensures { (lines : List Line) → HasGathered lines self.old → HasGathered (lines ++ cell_row line.now ∷ []) self.new }
     {
-        if self.is_whole
-            && self.cells.len() < self.most
-            && self.cells.push(cell_of(line)).is_ok()
-        {
+        if self.is_whole && self.cells.len() < self.most && self.cells.push(cell_of(line)).is_ok() {
             return;
         }
         self.is_whole = false;

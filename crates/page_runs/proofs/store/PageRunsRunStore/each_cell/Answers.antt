@@ -25,11 +25,11 @@ returns-clause-asks g c =
     let store = c.args.self.now in
     asked_keeping _ _ (stays_read _ _ c.each_cell.ensures.reads) refl refl
     (λ clean t is.
-        let made = c.in_ok-table.ensures t is.listed in
-        let root = ap (λ (r : RunTable). r.root) made in
-        let run = ap (λ (r : RunTable). r.run) made in
-        let there = subst (λ n. ShowsLines store.file n cell_columns (λ (r : CellRow). r.run) t.cells) (sym root) (large_shown t store is).cells in
-        c.keep.ensures.kept t is.kept_cells (subst (λ n. HasGathered (cells_in n t) c.in_ok-taken.gathered) run (c.in_ok-taken.ensures.told clean t there).2))
+    let made = c.in_ok-table.ensures t is.listed in
+    let root = ap (λ (r : RunTable). r.root) made in
+    let run = ap (λ (r : RunTable). r.run) made in
+    let there = subst (λ n. ShowsLines store.file n cell_columns (λ (r : CellRow). r.run) t.cells) (sym root) (large_shown t store is).cells in
+    c.keep.ensures.kept t is.kept_cells (subst (λ n. HasGathered (cells_in n t) c.in_ok-taken.gathered) run (c.in_ok-taken.ensures.told clean t there).2))
     _ (λ _. c.in_ok-if_usable-2.ensures)
 
 pub returns-in_err-taken-clause-asks : goal.returns-in_err-taken-clause-asks
