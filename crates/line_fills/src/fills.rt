@@ -74,8 +74,8 @@ fn fill_indexes<D: Disk, L: PageLine>(
     Ok(())
 }
 
-/// Puts a row for each line behind those of a table, with an entry in each of its indexes. After an error some of it
-/// may be written.
+/// Puts a row for each line behind those of a table, numbered from the next rowid on, with an entry in each of its
+/// indexes. After an error some of it may be written.
 ///
 /// # Errors
 /// `Memory`; `Store` where the file failed or is at a limit, a record is too long, two lines have the same key in an

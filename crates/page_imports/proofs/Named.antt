@@ -8,7 +8,7 @@ use Rattle.sqlite_trees.specs.Tree.{Trees}
 use Rattle.sqlite_value.specs.declared.value.Value.TheVariants.{Blob, Int, Null}
 use Rattle.sqlite_value.specs.Order.{Row}
 use Rattle.plain_tables.specs.Changes.{has_name, named, next_name, with_new_name}
-use Rattle.plain_tables.specs.Files.{all_named, number_in, numbers_in}
+use Rattle.plain_tables.specs.Files.{all_named, number_in}
 use Rattle.plain_tables.specs.Tables.{Tables, NameRow}
 use Rattle.plain_tables.proofs.Lists.{all-append}
 use Rattle.plain_tables.proofs.Numbering.{named_held, named_new, numbers_more, one_named}

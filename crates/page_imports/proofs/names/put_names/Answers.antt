@@ -1,4 +1,4 @@
-use Rattle.std.proofs.Common.{map, refl, subst, sym}
+use Rattle.std.proofs.Common.{refl, subst}
 use Rattle.line_fills.specs.Filled.{IsTableFilled}
 use Rattle.store_schema.specs.Schema.{schema_two, name_at}
 use Rattle.page_imports.specs.declared.numbering.NewName.{NewName}
