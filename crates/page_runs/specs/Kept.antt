@@ -16,6 +16,6 @@ HasGathered lines g = IsTrue g.is_whole → g.cells.items ≡ map cell_numbers l
 abbrev pub AreKept : Tables → KeptCells → Type 0
 AreKept t kept = (run : ℕ) → IfSome (get nat_cmp kept.runs run) (λ cells. cells.items ≡ map cell_numbers (cells_in run t))
 
--- none are kept that the rows of any tables would not have
+-- nothing is kept: it is of any tables
 abbrev pub IsForgotten : KeptCells → Type 0
 IsForgotten kept = (t : Tables) → AreKept t kept

@@ -54,7 +54,7 @@ abbrev pub IsSettled : Kept → Type 0
 IsSettled kept = kept.0 ≡ kept.1
 
 module _ {D : Type 0} {g : Ghosts D} where
-  -- its file shows a store of these rows, its tables and indexes under these roots, and the rows of runs in the order of the runs; what it keeps in memory is of these rows
+  -- its file shows a store of these rows, its tables and indexes under these roots, and the rows of runs in the order of the runs; what is kept is of them
   pub record ShowsTables (t : Tables) (store : PageRuns D g) : Type 0 where
     pub known : List ℕ
     pub stored : ShowsStore t known store.file

@@ -180,7 +180,8 @@ pub(crate) fn each_kept<T: CellSink + Drop>(
     events: usize,
     mut sink: T,
 ) -> Result<T, StoreError>
-    ensures { (lines : List Cell) → cells.now ≡ map cell_numbers lines → IfOk result (λ taken. CellsFoldTo events T.step (T.meaning sink) (T.meaning taken) lines) }
+    ensures { (lines : List Cell) → cells.now ≡ map cell_numbers lines
+        → IfOk result (λ taken. CellsFoldTo events T.step (T.meaning sink) (T.meaning taken) lines) }
 {
     for cell in cells {
         if cell.event >= events {
@@ -202,8 +203,8 @@ pub(crate) fn each_cell<D: Disk, T: CellSink + Drop>(
     sink: T,
 ) -> Result<(T, Gathered), StoreError>
     ensures told { IsFaithful file.new → (t : Tables) → ShowsLines file.old table.root cell_columns (λ (c : Cell). c.run) t.cells
-        → IfOk result (λ r. CellsFoldTo events T.step (T.meaning sink) (T.meaning r.0) (cells_in table.run t) × (sum_by (λ (c : Cell). c.cost) (cells_in table.run t) ≡ table.sum)
-        × HasGathered (cells_in table.run t) r.1) }
+        → IfOk result (λ r. CellsFoldTo events T.step (T.meaning sink) (T.meaning r.0) (cells_in table.run t)
+        × (sum_by (λ (c : Cell). c.cost) (cells_in table.run t) ≡ table.sum) × HasGathered (cells_in table.run t) r.1) }
     ensures reads { OnlyReads file.old file.new }
 {
     let lines = GatheredLines {
