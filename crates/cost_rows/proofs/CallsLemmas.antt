@@ -1,15 +1,16 @@
 -- Sums of which the first is the number of calls.
-use Rattle.std.proofs.Common.{◌≡◌, ℕ, suc, ◌+◌, ◌<◌, ◌^◌, List, [], ◌∷◌, All, slice_index, refl, ap, ap₂, arith}
+use Rattle.std.proofs.Common.{◌≡◌, ℕ, zero, suc, ◌+◌, ◌<◌, ◌^◌, List, [], ◌∷◌, All, drop, slice_index, refl, ap, ap₂, ◌∙◌, arith, length-drop}
 use Rattle.std.specs.declared.cmp.Ordering.{Ordering}
 use Rattle.std.specs.declared.cmp.Ordering.TheVariants.{Less, Equal, Greater}
 use Rattle.std.specs.Ordering.{match_ordering}
 use Rattle.std.specs.Map.{values_of}
+use Rattle.std.proofs.lemmas.List.{get_or-drop}
 use Rattle.std.proofs.lemmas.List.Elements.{All-nil, All-cons, All-head, All-tail}
 use Rattle.profile_records.specs.Columns.{added, HaveRoom}
 use Rattle.cost_rows.specs.Calls.{Calls, calls_added, calls_from, calls_in, AreSmall}
 use Rattle.cost_rows.specs.Merging.{merge}
 use Rattle.cost_rows.specs.Places.{call_cmp}
-use Rattle.cost_rows.specs.Totals.{column_total, call_total, count_total}
+use Rattle.cost_rows.specs.Totals.{AreColumns, column_total, call_total, count_total}
 use Rattle.cost_rows.specs.declared.places.Call.{Call}
 
 added-calls : (sums : List ℕ) (count : ℕ) (costs : List ℕ) → calls_from (added sums (count ∷ costs)) ≡ calls_added (calls_from sums) (record { count = count; costs = costs })
@@ -59,3 +60,24 @@ count-column (e ∷ es) = ap₂ ◌+◌ (count-each e.1) (count-column es)
 pub cost-column : (k : ℕ) (es : List (Call × List ℕ)) → column_total (λ sums. sums) (suc k) es ≡ call_total k (calls_in es)
 cost-column k [] = refl
 cost-column k (e ∷ es) = ap₂ ◌+◌ (cost-each k e.1) (cost-column k es)
+
+pub columns-small : (es rest : List (Call × List ℕ)) (calls : List (Call × Calls)) → rest ≡ es → calls_in es ≡ calls → count_total calls < 2 ^ 128 → ((k : ℕ) → call_total k calls < 2 ^ 128) → (k : ℕ) → column_total (λ sums. sums) k rest < 2 ^ 128
+columns-small es rest calls is seen counts costs zero =
+    let e : column_total (λ sums. sums) 0 rest ≡ count_total calls = ap (column_total (λ sums. sums) 0) is ∙ count-column es ∙ ap count_total seen in
+    rw e counts
+columns-small es rest calls is seen counts costs (suc k) =
+    let e : column_total (λ sums. sums) (suc k) rest ≡ call_total k calls = ap (column_total (λ sums. sums) (suc k)) is ∙ cost-column k es ∙ ap (call_total k) seen in
+    rw e (costs k)
+
+-- the first of the columns' totals is the number of all calls
+pub count-first : (es rest : List (Call × List ℕ)) (calls : List (Call × Calls)) (totals : List ℕ) (columns : ℕ) → rest ≡ es → calls_in es ≡ calls → 0 < columns → AreColumns columns (λ k. column_total (λ sums. sums) k rest) totals → slice_index totals 0 ≡ count_total calls
+count-first es rest calls totals columns is seen some are = are.sums 0 some ∙ ap (column_total (λ sums. sums) 0) is ∙ count-column es ∙ ap count_total seen
+
+-- and those behind it are what they cost
+pub costs-behind : (es rest : List (Call × List ℕ)) (calls : List (Call × Calls)) (totals : List ℕ) (columns events : ℕ) → rest ≡ es → calls_in es ≡ calls → columns ≡ events + 1 → AreColumns columns (λ k. column_total (λ sums. sums) k rest) totals → AreColumns events (λ k. call_total k calls) (drop 1 totals)
+costs-behind es rest calls totals columns events is seen wide are = record {
+  many = omega (arith, length-drop 1 totals, are.many, wide);
+  sums = λ k below.
+      get_or-drop 1 totals k 0 ∙ (let n : 1 + k ≡ suc k = omega arith in ap (slice_index totals) n)
+      ∙ are.sums (suc k) (omega (arith, wide, below)) ∙ ap (column_total (λ sums. sums) (suc k)) is ∙ cost-column k es ∙ ap (call_total k) seen;
+}

@@ -4,7 +4,7 @@ use Rattle.std.specs.Map.{values_of}
 use Rattle.std.proofs.lemmas.List.Elements.{All-cons, All-weaker, All-from_get_or}
 use Rattle.cost_rows.specs.Calls.{Calls, calls_added, AreSmall}
 use Rattle.profile_records.specs.Columns.{added}
-use Rattle.cost_rows.specs.Merging.{merge, sum_where}
+use Rattle.cost_rows.specs.Merging.{merge}
 use Rattle.cost_rows.specs.Places.{cell_cmp, call_cmp}
 use Rattle.cost_rows.specs.Stacks.{bytes_cmp, counts_added}
 use Rattle.cost_rows.specs.Content.{Content}

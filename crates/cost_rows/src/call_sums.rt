@@ -56,12 +56,7 @@ impl CallSums {
     }
 
     /// Merges so many calls and their costs. A refusal leaves the sums as they were.
-    pub(crate) fn merge(
-        &mut self,
-        call: Call,
-        count: u64,
-        costs: &[u64],
-    ) -> Result<(), AllocError>
+    pub(crate) fn merge(&mut self, call: Call, count: u64, costs: &[u64]) -> Result<(), AllocError>
         requires { All AreSmall (values_of self.old) }
         ensures ok { OnOk result (self.new ≡ merge call_cmp calls_added self.old call (record { count = count; costs = costs.now })) }
         ensures err { OnErr result (self.new ≡ self.old) }
@@ -82,13 +77,19 @@ impl CallSums {
     }
 
     /// How many calls there were, and what they cost by column, of so many columns.
-    pub(crate) fn totals(&self, alloc: Global, events: usize) -> Result<(u128, Vec<u128>), AllocError>
+    pub(crate) fn totals(
+        &self,
+        alloc: Global,
+        events: usize,
+    ) -> Result<(u128, Vec<u128>), AllocError>
         requires counts { count_total self.now < 2 ^ 128 }
         requires costs { (k : ℕ) → call_total k self.now < 2 ^ 128 }
         ensures count { IfOk result (λ t. t.0 ≡ count_total self.now) }
         ensures costs { IfOk result (λ t. AreColumns events (λ k. call_total k self.now) t.1.items) }
     {
-        let columns = events.checked_add(1).ok_or(AllocError)?;
+        let Some(columns) = events.checked_add(1) else {
+            return Err(AllocError);
+        };
         let mut costs = total_columns(alloc, self.sums.iter(), columns)?;
         let count = costs.remove(0);
         Ok((count, costs))

@@ -155,12 +155,7 @@ impl Sink for FileRows {
 
     fn self_cost(&mut self, r: SelfCost<'_>) -> Result<(), AllocError> {
         let held = self.names.len();
-        if let Err(refused) = merge_self(
-            &mut self.names,
-            &mut self.marks,
-            &mut self.cells,
-            r,
-        ) {
+        if let Err(refused) = merge_self(&mut self.names, &mut self.marks, &mut self.cells, r) {
             take_back(&mut self.names, &mut self.marks, held);
             return Err(refused);
         }
@@ -171,12 +166,7 @@ impl Sink for FileRows {
 
     fn call(&mut self, r: CallCost<'_>) -> Result<(), AllocError> {
         let held = self.names.len();
-        if let Err(refused) = merge_call(
-            &mut self.names,
-            &mut self.marks,
-            &mut self.calls,
-            r,
-        ) {
+        if let Err(refused) = merge_call(&mut self.names, &mut self.marks, &mut self.calls, r) {
             take_back(&mut self.names, &mut self.marks, held);
             return Err(refused);
         }

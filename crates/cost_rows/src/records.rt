@@ -82,7 +82,7 @@ fn add_leaf(
     function: &[u8],
     costs: &[u64],
 ) -> Result<(), AllocError>
-    requires small { All HaveRoom (values_of cells.old) }
+    requires { All HaveRoom (values_of cells.old) }
     ensures names { OnOk result (names.new ≡ with_three unknown unknown function.now names.old) }
     ensures cells { OnOk result (cells.new ≡ merge cell_cmp added cells.old (leaf_cell names.new function.now) costs.now) }
     ensures grows { Grows names.old names.new }
@@ -102,7 +102,7 @@ pub(crate) fn merge_leaf(
     function: &[u8],
     costs: &[u64],
 ) -> Result<(), AllocError>
-    requires small { All HaveRoom (values_of cells.old) }
+    requires { All HaveRoom (values_of cells.old) }
     ensures names { OnOk result (names.new ≡ with_three unknown unknown function.now names.old) }
     ensures cells { OnOk result (cells.new ≡ merge cell_cmp added cells.old (leaf_cell names.new function.now) costs.now) }
     ensures grows { Grows names.old names.new }

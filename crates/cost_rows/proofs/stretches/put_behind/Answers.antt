@@ -1,8 +1,8 @@
-use Rattle.std.proofs.Common.{◌≡◌, ℕ, ◌+◌, ◌++◌, List, length, slice_index, ◌∙◌, ap, sym, arith}
+use Rattle.std.proofs.Common.{◌≡◌, ℕ, ◌+◌, ◌++◌, List, length, slice_index, ◌∙◌, ap, arith}
 use Rattle.std.proofs.lemmas.List.{take_all}
 use Rattle.profile_records.specs.Columns.{added}
 use Rattle.cost_rows.specs.Stretches.{sums_at}
-use Rattle.cost_rows.proofs.StretchLemmas.{length-sums, length-added_to, column-low, column-put}
+use Rattle.cost_rows.proofs.StretchLemmas.{length-sums, length-added_to, column-put}
 use Rattle.cost_rows.proofs.stretches.put_behind.Goals as goal
 
 pub loop-k-preserved : goal.loop-k-preserved
@@ -26,4 +26,4 @@ returns-clause-stretch c =
     let more : List ℕ = added (sums_at old c.args.held) c.args.costs.now in
     let size : length more ≡ length c.args.costs.now =
     length-added_to (sums_at old c.args.held) c.args.costs.now (omega (arith, c.requires.short, length-sums old c.args.held c.requires.within)) in
-    (omega (arith, c.in_ok-stretch.ensures.0, c.len.ensures.len), omega (arith, c.in_ok-stretch.ensures.1, size))
+    (omega (arith, c.in_ok-stretch.ensures.0, c.len.ensures, c.args.sums.now.ok.0), omega (arith, c.in_ok-stretch.ensures.1, size))

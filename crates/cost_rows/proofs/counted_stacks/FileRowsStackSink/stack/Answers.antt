@@ -14,13 +14,13 @@ use Rattle.cost_rows.proofs.TotalsLemmas.{cells-small, within-stack, content-sam
 use Rattle.cost_rows.proofs.counted_stacks.FileRowsStackSink.stack.Goals as goal
 use Rattle.cost_rows.proofs.counted_stacks.FileRowsStackSink.stack.Goals.{in-Some+in_ok-merge_leaf-in-Some, in-None+in_ok-put-in-None+in_default}
 
-pub merge_leaf-requires-clause-small : goal.merge_leaf-requires-clause-small
-merge_leaf-requires-clause-small c =
+pub merge_leaf-requires : goal.merge_leaf-requires
+merge_leaf-requires c =
     let few : c.args.self.now.last < 2 ^ 64 = omega arith in
     cells-small c.args.self.now.cells c.args.self.now.last few c.args.self.now.within.cells_fit
 
-pub merge_leaf-requires-in-None-clause-small : goal.merge_leaf-requires-in-None-clause-small
-merge_leaf-requires-in-None-clause-small c =
+pub merge_leaf-requires-in-None : goal.merge_leaf-requires-in-None
+merge_leaf-requires-in-None c =
     let few : c.args.self.now.last < 2 ^ 64 = omega arith in
     cells-small c.args.self.now.cells c.args.self.now.last few c.args.self.now.within.cells_fit
 

@@ -1,4 +1,4 @@
-use Rattle.std.proofs.Common.{◌≡◌, ℕ, List, All, length, sym, ◌∙◌, ap, subst, arith}
+use Rattle.std.proofs.Common.{◌≡◌, ℕ, ◌++◌, List, All, length, sym, ◌∙◌, ap, subst, arith}
 use Rattle.std.proofs.lemmas.List.{with_items_is}
 use Rattle.std.specs.BTreeMap.{is_at}
 use Rattle.std.specs.Map.{values_of}
@@ -59,7 +59,9 @@ pub invariant_of-self-2 : goal.invariant_of-self-2
 invariant_of-self-2 g c =
     let sums : List ℕ = c.self.inside.sums.items in
     let more : List ℕ = added (sums_at sums c.unwrap_or-held.result) c.args.costs.now in
-    subst (λ xs. HaveOwn c.insert.new.self.entries (length xs)) (sym c.in_ok-stretch.ensures.sums)
+    let now : c.put_behind.new.sums.items ≡ sums ++ more = c.in_ok-stretch.ensures.sums in
+    let P : List ℕ → Type 0 = λ xs. HaveOwn c.insert.new.self.entries (length xs) in
+    subst P (sym now)
     (own-put g.K.Ord.cmp c.self.inside.stretches.entries c.insert.new.self.entries sums more c.args.key c.in_ok-stretch.stretch c.self.invariant
     c.in_ok-stretch.ensures.stretch.0 c.in_ok-stretch.ensures.stretch.1 c.in_ok-insert.ensures.entries)
 
