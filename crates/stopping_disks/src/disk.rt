@@ -1,5 +1,5 @@
 // A file in memory of which only so many changes are made, alone or together with another.
-ghost use Rattle.std.specs.Prelude.{◌≡◌, length, true, false, refl, is_ok, OnOk, OnErr, ◌+◌, ◌<◌};
+ghost use Rattle.std.specs.Prelude.{◌≡◌, length, true, false, refl, is_ok, OnOk, OnErr, IfOk, ◌+◌, ◌<◌};
 ghost use Rattle.sqlite_disk.specs.Disk.{Holds, Torn, Mixed, Cut, CountsFault};
 ghost use Rattle.sqlite_disk.specs.Refusal.{finds_no_room};
 
@@ -12,7 +12,7 @@ use std::rc::Rc;
 /// A file whose machine stops: from then on each call fails. One sync makes all that was written before it last,
 /// as of the program's files.
 #[derive(Drop)]
-pub(crate) struct Stopping {
+pub struct Stopping {
     pub(crate) written: Vec<u8>,
     /// What was synced last.
     pub(crate) synced: Vec<u8>,
@@ -24,21 +24,44 @@ pub(crate) struct Stopping {
 }
 
 impl Stopping {
-    /// A file with these bytes, all of them synced. No guarantee: the tests see what it holds.
-    pub(crate) fn new(
+    /// A file with these bytes, all of them synced, and room for so many: while that is enough, no change takes memory.
+    pub fn new(
         alloc: Global,
         bytes: &[u8],
+        room: usize,
         changes: Rc<Cell<u64>>,
-    ) -> Result<Stopping, AllocError> {
+    ) -> Result<Stopping, AllocError>
+        ensures written { IfOk result (λ file. file.written.items ≡ bytes.now) }
+        ensures synced { IfOk result (λ file. file.synced.items ≡ bytes.now) }
+    {
         Ok(Stopping {
-            written: bytes.to_vec(alloc)?,
-            synced: bytes.to_vec(alloc)?,
+            written: with_room(alloc, bytes, room)?,
+            synced: with_room(alloc, bytes, room)?,
             changes,
             usable: true,
             faults: 0,
             caught: 0,
         })
     }
+
+    /// What was written, and what of it was synced.
+    pub fn into_bytes(self) -> (Vec<u8>, Vec<u8>)
+        ensures { result ≡ (self.written, self.synced) }
+    {
+        let Stopping {
+            written, synced, changes: _, usable: _, faults: _, caught: _,
+        } = self;
+        (written, synced)
+    }
+}
+
+/// Bytes in a list with room for so many.
+fn with_room(alloc: Global, bytes: &[u8], room: usize) -> Result<Vec<u8>, AllocError>
+    ensures { IfOk result (λ list. list.items ≡ bytes.now) }
+{
+    let mut list = Vec::with_capacity(alloc, room)?;
+    list.extend_from_slice(bytes)?;
+    Ok(list)
 }
 
 /// Takes what a call needs of the changes that are left; where none is left, reads fail too.
@@ -101,9 +124,11 @@ fn overwrite(file: &mut Vec<u8>, at: usize, bytes: &[u8]) -> Result<(), AllocErr
     Ok(())
 }
 
-fn replace(file: &mut Vec<u8>, bytes: &[u8]) -> Result<(), AllocError> {
-    let copy = bytes.to_vec(*file.allocator())?;
-    *file = copy;
+fn replace(file: &mut Vec<u8>, bytes: &[u8]) -> Result<(), AllocError>
+    ensures { OnOk result (file.new.items ≡ bytes.now) }
+{
+    resize(file, bytes.len())?;
+    file.copy_from_slice(bytes);
     Ok(())
 }
 

@@ -1,0 +1,199 @@
+// A machine that stops at a change of the store's files: of the log, of the database file, or of both. Opened again, they
+// hold the rows of before the call or of after it, and of after it where it was answered as done.
+use crate::changes::{Change, change_pages};
+use crate::stores::{made_in, pages_in, told_by_pages, told_by_sql};
+use run_stores::Kind;
+use sqlite_disk::{Disk, Files};
+use std::alloc::Global;
+use std::test::Fail;
+use stopping_disks::{Image, Left, Meter, Stops, files_of};
+
+/// The manual's example of calls.
+pub(crate) const CALLS: &[u8] =
+    b"# callgrind format\nevents: Instructions\n\nfl=file1.c\nfn=main\n16 20\ncfn=func1\ncalls=1 50\n16 400\ncfi=file2.c\ncfn=func2\ncalls=3 20\n16 400\n\nfn=func1\n51 100\ncfi=file2.c\ncfn=func2\ncalls=2 20\n51 300\n\nfl=file2.c\nfn=func2\n20 700\n";
+
+/// Stacks in which a frame calls itself.
+pub(crate) const STACKS: &[u8] = b"a;b;a 3\na;b 2\n";
+
+/// Changes, each over what the one before left in the log; and how many changes of both files, of the log and of the database
+/// file it takes at least.
+const CHANGES: [(Change, [u64; 3]); 11] = [
+    (Change::Import(Kind::Callgrind, CALLS), [3, 3, 0]),
+    (Change::Import(Kind::Folded, STACKS), [3, 3, 0]),
+    (Change::PutGroup, [3, 3, 0]),
+    (Change::Join(1), [3, 3, 0]),
+    (Change::Join(2), [3, 3, 0]),
+    (Change::SetBaseline(1), [3, 3, 0]),
+    (Change::Checkpoint, [3, 0, 3]),
+    (Change::Leave(2), [3, 3, 0]),
+    (Change::DropRun(1), [3, 3, 0]),
+    (Change::DropGroup, [3, 3, 0]),
+    (Change::Checkpoint, [3, 0, 3]),
+];
+
+/// By SQL every so many stops are looked at too.
+const BY_SQL: u64 = 5;
+
+/// Opens the store in files, and changes it while so many changes are made of them: whether that is answered as done, and
+/// the files.
+fn changed_in<D: Disk + Drop>(
+    alloc: Global,
+    files: Files<D>,
+    change: Change,
+    meter: &Meter,
+    changes: u64,
+) -> Result<(bool, Files<D>), Fail> {
+    let mut store = pages_in(alloc, files)?;
+    meter.allow(changes);
+    let is_done = change_pages(&mut store, alloc, change).is_ok();
+    Ok((is_done, store.into_file().close()))
+}
+
+/// What a call comes to over files that stop.
+#[derive(Drop)]
+struct Ended {
+    is_done: bool,
+    has_stopped: bool,
+    left: Left,
+}
+
+/// Does a change over files that stop after so many changes.
+fn ended_by(
+    alloc: Global,
+    image: &Image,
+    change: Change,
+    stops: Stops,
+    changes: u64,
+) -> Result<Ended, Fail> {
+    let meter = Meter::new(alloc, stops)?;
+    let files = files_of(alloc, &image.log, &image.database, 0, &meter)?;
+    let (is_done, files) = changed_in(alloc, files, change, &meter, changes)?;
+    Ok(Ended {
+        is_done,
+        has_stopped: meter.is_spent(),
+        left: Left::of(files),
+    })
+}
+
+/// By what files are read.
+#[derive(Clone, Copy)]
+enum Reader {
+    Pages,
+    Sql,
+}
+
+/// What files tell.
+fn told_in(alloc: Global, log: &[u8], database: &[u8], by: Reader) -> Result<Vec<u8>, Fail> {
+    let meter = Meter::new(alloc, Stops::Both)?;
+    let files = files_of(alloc, log, database, 0, &meter)?;
+    match by {
+        Reader::Pages => told_by_pages(alloc, files),
+        Reader::Sql => told_by_sql(alloc, files),
+    }
+}
+
+/// What is told before a change, and after it.
+#[derive(Drop)]
+struct Told {
+    before: Vec<u8>,
+    after: Vec<u8>,
+}
+
+impl Told {
+    /// Whether that may be told, where the change is answered as done or not.
+    fn allows(&self, is_done: bool, told: &[u8]) -> bool {
+        told == self.after.as_slice() || (!is_done && told == self.before.as_slice())
+    }
+}
+
+/// Looks at what a stop left.
+fn look_at(alloc: Global, ended: &Ended, told: &Told, by: Reader) -> Result<(), Fail> {
+    for (log, database, is_another) in ended.left.images() {
+        if is_another && !told.allows(ended.is_done, &told_in(alloc, log, database, by)?) {
+            return Err("neither as before nor as after it")?;
+        }
+    }
+    Ok(())
+}
+
+/// Stops at each change of the files in turn: how many there were before it ended without a stop.
+fn stops_of(
+    alloc: Global,
+    image: &Image,
+    change: Change,
+    stops: Stops,
+    told: &Told,
+) -> Result<u64, Fail> {
+    for changes in 0..1000u64 {
+        let ended = ended_by(alloc, image, change, stops, changes)?;
+        look_at(alloc, &ended, told, Reader::Pages)?;
+        if changes % BY_SQL == 0 {
+            look_at(alloc, &ended, told, Reader::Sql)?;
+        }
+        if !ended.has_stopped {
+            return Ok(changes);
+        }
+    }
+    Err("no end")?
+}
+
+/// What is told before a change, and after it is done without a stop; and what that leaves.
+fn done(alloc: Global, image: &Image, change: Change) -> Result<(Told, Image), Fail> {
+    let ended = ended_by(alloc, image, change, Stops::Both, u64::MAX)?;
+    if !ended.is_done {
+        return Err("it is not done")?;
+    }
+    let Left { written, synced: _ } = ended.left;
+    let told = Told {
+        before: told_in(alloc, &image.log, &image.database, Reader::Pages)?,
+        after: told_in(alloc, &written.log, &written.database, Reader::Pages)?,
+    };
+    let is_checkpoint = matches!(change, Change::Checkpoint);
+    if is_checkpoint != (told.before.as_slice() == told.after.as_slice()) {
+        return Err("it does not show, or a checkpoint does")?;
+    }
+    Ok((told, written))
+}
+
+/// The files of an empty store.
+fn new_store(alloc: Global) -> Result<Image, Fail> {
+    let meter = Meter::new(alloc, Stops::Both)?;
+    let files = made_in(alloc, files_of(alloc, &[], &[], 0, &meter)?)?;
+    let Left { written, synced: _ } = Left::of(files);
+    Ok(written)
+}
+
+/// Stops at each change of the files in each change of a store.
+fn all_stops(alloc: Global, stops: Stops) -> Result<(), Fail> {
+    let mut image = new_store(alloc)?;
+    for (change, least) in CHANGES {
+        let (told, after) = done(alloc, &image, change)?;
+        let seen = stops_of(alloc, &image, change, stops, &told)?;
+        let [of_both, of_log, of_database] = least;
+        let least = match stops {
+            Stops::Both => of_both,
+            Stops::Log => of_log,
+            Stops::Database => of_database,
+        };
+        if seen < least {
+            return Err("it changes too little")?;
+        }
+        image = after;
+    }
+    Ok(())
+}
+
+#[test]
+fn both_files_stop(rt: HostRuntime) -> Result<(), Fail> {
+    all_stops(rt.alloc(), Stops::Both)
+}
+
+#[test]
+fn the_log_stops(rt: HostRuntime) -> Result<(), Fail> {
+    all_stops(rt.alloc(), Stops::Log)
+}
+
+#[test]
+fn the_database_file_stops(rt: HostRuntime) -> Result<(), Fail> {
+    all_stops(rt.alloc(), Stops::Database)
+}
