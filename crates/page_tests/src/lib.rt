@@ -9,10 +9,10 @@ mod changes;
 mod given;
 // A store of which one allocation is refused.
 #[cfg(test)]
-mod refused;
+mod page_memory;
 // A machine that stops at each change of the store's files.
 #[cfg(test)]
-mod stops;
+mod page_stops;
 // Stores in files: made by SQL, opened by their pages and by SQL.
 #[cfg(test)]
 mod stores;

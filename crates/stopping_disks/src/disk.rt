@@ -49,7 +49,12 @@ impl Stopping {
         ensures { result ≡ (self.written, self.synced) }
     {
         let Stopping {
-            written, synced, changes: _, usable: _, faults: _, caught: _,
+            written,
+            synced,
+            changes: _,
+            usable: _,
+            faults: _,
+            caught: _,
         } = self;
         (written, synced)
     }

@@ -86,10 +86,11 @@ enum Reader {
 fn told_in(alloc: Global, log: &[u8], database: &[u8], by: Reader) -> Result<Vec<u8>, Fail> {
     let meter = Meter::new(alloc, Stops::Both)?;
     let files = files_of(alloc, log, database, 0, &meter)?;
-    match by {
-        Reader::Pages => told_by_pages(alloc, files),
-        Reader::Sql => told_by_sql(alloc, files),
-    }
+    let told = match by {
+        Reader::Pages => told_by_pages(alloc, files)?,
+        Reader::Sql => told_by_sql(alloc, files)?,
+    };
+    Ok(told)
 }
 
 /// What is told before a change, and after it.

@@ -1,7 +1,7 @@
 // A store in pages of which one allocation is refused, by tests/by_hand/refuse_each: the call that meets it says so and changes
 // nothing, and the next call goes on.
 use crate::changes::{Change, change_pages};
-use crate::stops::{CALLS, STACKS};
+use crate::page_stops::{CALLS, STACKS};
 use crate::stores::{made_in, pages_in};
 use crate::told::told_by;
 use page_runs::PageRuns;
