@@ -7,6 +7,13 @@ use run_stores::{Kind, RunStore, StoreError, SummedFile, is_group_name};
 use sqlite_disk::Disk;
 use std::alloc::Global;
 
+/// The manual's example of calls.
+const CALLS: &[u8] =
+    b"# callgrind format\nevents: Instructions\n\nfl=file1.c\nfn=main\n16 20\ncfn=func1\ncalls=1 50\n16 400\ncfi=file2.c\ncfn=func2\ncalls=3 20\n16 400\n\nfn=func1\n51 100\ncfi=file2.c\ncfn=func2\ncalls=2 20\n51 300\n\nfl=file2.c\nfn=func2\n20 700\n";
+
+/// Stacks in which a frame calls itself.
+const STACKS: &[u8] = b"a;b;a 3\na;b 2\n";
+
 /// The group that is changed.
 const GROUP: &str = "g";
 
@@ -26,6 +33,22 @@ pub(crate) enum Change {
     /// The log is copied into the database file: no row changes.
     Checkpoint,
 }
+
+/// What the tests do, each over what the one before left.
+pub(crate) const CHANGES: [Change; 12] = [
+    Change::Import(Kind::Callgrind, CALLS),
+    Change::Import(Kind::Folded, STACKS),
+    Change::PutGroup,
+    Change::Join(1),
+    Change::Leave(1),
+    Change::Join(1),
+    Change::Join(2),
+    Change::SetBaseline(1),
+    Change::Checkpoint,
+    Change::DropRun(1),
+    Change::DropGroup,
+    Change::Checkpoint,
+];
 
 /// Puts a file that was read as the next run.
 fn put_file<S: RunStore>(

@@ -1,11 +1,10 @@
 // A store in pages of which one allocation is refused, by tests/by_hand/refuse_each: the call that meets it says so and changes
 // nothing, and the next call goes on.
-use crate::changes::{Change, change_pages};
-use crate::page_stops::{CALLS, STACKS};
+use crate::changes::{CHANGES, Change, change_pages};
 use crate::stores::{made_in, pages_in};
 use crate::told::told_by;
 use page_runs::PageRuns;
-use run_stores::{Kind, StoreError};
+use run_stores::StoreError;
 use sqlite_disk::{Disk, Files};
 use std::alloc::{AllocError, Global};
 use std::test::Fail;
@@ -13,21 +12,6 @@ use stopping_disks::{Meter, Stopping, Stops, files_of};
 
 /// How many bytes a file has room for, so that it is never the disk that wants memory.
 const ROOM: usize = 0x4_0000;
-
-/// What is done to two stores.
-const CHANGES: [Change; 11] = [
-    Change::Import(Kind::Callgrind, CALLS),
-    Change::Import(Kind::Folded, STACKS),
-    Change::PutGroup,
-    Change::Join(1),
-    Change::Join(2),
-    Change::SetBaseline(1),
-    Change::Checkpoint,
-    Change::Leave(2),
-    Change::DropRun(1),
-    Change::DropGroup,
-    Change::Checkpoint,
-];
 
 /// Empty files.
 fn empty_files(alloc: Global) -> Result<Files<Stopping>, AllocError> {
