@@ -1,5 +1,5 @@
 // A file in memory of which only so many changes are made, alone or together with another.
-ghost use Rattle.std.specs.Prelude.{◌≡◌, length, true, false, refl, is_ok, OnOk, OnErr, IfOk, ◌+◌, ◌<◌};
+ghost use Rattle.std.specs.Prelude.{◌≡◌, length, true, false, refl, is_ok, OnOk, OnErr, IfOk, IfSome, IsErr, ◌≤◌, ◌+◌, ◌<◌};
 ghost use Rattle.sqlite_disk.specs.Disk.{Holds, Torn, Mixed, Cut, CountsFault};
 ghost use Rattle.sqlite_disk.specs.Refusal.{finds_no_room};
 
@@ -16,7 +16,7 @@ pub struct Stopping {
     pub(crate) written: Vec<u8>,
     /// What was synced last.
     pub(crate) synced: Vec<u8>,
-    /// How many writes, cuts and syncs are still made, by all files that share it.
+    /// How many pieces of writes, cuts and syncs are still made, by all files that share it.
     changes: Rc<Cell<u64>>,
     usable: bool,
     faults: u64,
@@ -77,10 +77,37 @@ fn spend(changes: &Cell<u64>, needed: u64, faults: &mut u64) -> io::Result<()>
     let left = changes.get();
     changes.set(left.saturating_sub(needed));
     if left == 0 {
-        *faults = faults.saturating_add(1);
-        return Err(io::Error::other("stopped"));
+        return stopped(faults);
     }
     Ok(())
+}
+
+/// How many bytes of a write are one change.
+const PIECE: usize = 4096;
+
+/// Takes what a write of so many bytes needs of the changes that are left, one for each piece. Where too few are left, the
+/// machine stops in the middle of it: behind so many bytes.
+fn stop_within(changes: &Cell<u64>, len: usize) -> Option<usize>
+    ensures { IfSome result (λ count. count ≤ len) }
+{
+    let left = changes.get();
+    let needed = len.div_ceil(PIECE).max(1) as u64;
+    changes.set(left.saturating_sub(needed));
+    if left < needed {
+        Some((left as usize).saturating_mul(PIECE).min(len))
+    } else {
+        None
+    }
+}
+
+/// The call fails, since the machine has stopped.
+fn stopped(faults: &mut u64) -> io::Result<()>
+    ensures err { IsErr result }
+    ensures faults { CountsFault result faults.old faults.new }
+    ensures kind { finds_no_room result ≡ false }
+{
+    *faults = faults.saturating_add(1);
+    Err(io::Error::other("stopped"))
 }
 
 /// A want of memory is a fault of the file.
@@ -127,6 +154,14 @@ fn overwrite(file: &mut Vec<u8>, at: usize, bytes: &[u8]) -> Result<(), AllocErr
     }
     file[at..end].copy_from_slice(bytes);
     Ok(())
+}
+
+/// Writes the first bytes of what was to be written.
+fn overwrite_front(file: &mut Vec<u8>, at: usize, bytes: &[u8], count: usize)
+    requires { count ≤ length bytes.now }
+    ensures { Mixed at bytes.now file.old.items file.new.items }
+{
+    let _is_written = overwrite(file, at, &bytes[..count]);
 }
 
 fn replace(file: &mut Vec<u8>, bytes: &[u8]) -> Result<(), AllocError>
@@ -203,8 +238,13 @@ impl Disk for Stopping {
     }
 
     fn write_at(&mut self, at: usize, bytes: &[u8]) -> io::Result<()> {
-        spend(&self.changes, 1, &mut self.faults)?;
-        counted(overwrite(&mut self.written, at, bytes), &mut self.faults)
+        match stop_within(&self.changes, bytes.len()) {
+            Some(count) => {
+                overwrite_front(&mut self.written, at, bytes, count);
+                stopped(&mut self.faults)
+            }
+            None => counted(overwrite(&mut self.written, at, bytes), &mut self.faults),
+        }
     }
 
     fn set_len(&mut self, len: usize) -> io::Result<()> {
