@@ -1,5 +1,5 @@
 // The two files of a database, and what a stop leaves of them.
-ghost use Rattle.std.specs.Prelude.{◌≡◌, IfOk};
+ghost use Rattle.std.specs.Prelude.{◌≡◌, IfOk, []};
 
 use crate::disk::Stopping;
 use crate::meters::Meter;
@@ -15,7 +15,10 @@ pub struct Image {
 
 impl Image {
     /// Two empty files.
-    pub fn empty(alloc: Global) -> Image {
+    pub fn empty(alloc: Global) -> Image
+        ensures log { result.log.items ≡ [] }
+        ensures database { result.database.items ≡ [] }
+    {
         Image {
             log: Vec::new(alloc),
             database: Vec::new(alloc),
@@ -49,7 +52,10 @@ pub struct Left {
 
 impl Left {
     /// What files hold.
-    pub fn of(files: Files<Stopping>) -> Left {
+    pub fn of(files: Files<Stopping>) -> Left
+        ensures written { result.written ≡ record { log = files.log.written; database = files.db.written } }
+        ensures synced { result.synced ≡ record { log = files.log.synced; database = files.db.synced } }
+    {
         let Files { log, db } = files;
         let (log, synced_log) = log.into_bytes();
         let (database, synced_database) = db.into_bytes();
@@ -63,7 +69,7 @@ impl Left {
     }
 
     /// What a power cut may leave of them: all that was written, all that was synced, and one file of each. Each with
-    /// whether it is another than those before it.
+    /// whether it is another than those before it. No guarantee: a test that is shown fewer of them sees less.
     pub fn images(&self) -> [(&[u8], &[u8], bool); 4] {
         let (written, synced) = (&self.written, &self.synced);
         let log_differs = written.log.as_slice() != synced.log.as_slice();
