@@ -138,30 +138,37 @@ fn stops_of(
     Err("no end")?
 }
 
-/// What is told before a change, and after it is done without a stop; and what that leaves.
-fn done(alloc: Global, image: &Image, change: Change) -> Result<(Told, Image), Fail> {
-    let ended = ended_by(alloc, image, change, Stops::Both, u64::MAX)?;
-    if !ended.is_done {
+/// What a change leaves that is done without a stop.
+fn done(alloc: Global, image: &Image, change: Change) -> Result<Image, Fail> {
+    let Ended {
+        is_done,
+        has_stopped: _,
+        left,
+    } = ended_by(alloc, image, change, Stops::Both, u64::MAX)?;
+    if !is_done {
         return Err("it is not done")?;
     }
-    let Left { written, synced: _ } = ended.left;
+    Ok(left.into_written())
+}
+
+/// What is told before a change and after it. Only the copying of the log does not show.
+fn told_around(alloc: Global, image: &Image, change: Change, after: &Image) -> Result<Told, Fail> {
     let told = Told {
         before: told_in(alloc, &image.log, &image.database, Reader::Pages)?,
-        after: told_in(alloc, &written.log, &written.database, Reader::Pages)?,
+        after: told_in(alloc, &after.log, &after.database, Reader::Pages)?,
     };
-    let is_checkpoint = matches!(change, Change::Checkpoint);
-    if is_checkpoint != (told.before.as_slice() == told.after.as_slice()) {
+    let shows = told.before.as_slice() != told.after.as_slice();
+    if shows == matches!(change, Change::Checkpoint) {
         return Err("it does not show, or a checkpoint does")?;
     }
-    Ok((told, written))
+    Ok(told)
 }
 
 /// The files of an empty store.
 fn new_store(alloc: Global) -> Result<Image, Fail> {
     let meter = Meter::new(alloc, Stops::Both)?;
     let files = made_in(alloc, files_of(alloc, &[], &[], 0, &meter)?)?;
-    let Left { written, synced: _ } = Left::of(files);
-    Ok(written)
+    Ok(Left::of(files).into_written())
 }
 
 /// At least how many stops there are while a change writes so many pages: before each page, before they are synced, and
@@ -178,7 +185,8 @@ fn least_stops(change: Change, stops: Stops, pages: u64) -> u64 {
 fn all_stops(alloc: Global, stops: Stops) -> Result<(), Fail> {
     let mut image = new_store(alloc)?;
     for (change, pages) in CHANGES.into_iter().zip(PAGES) {
-        let (told, after) = done(alloc, &image, change)?;
+        let after = done(alloc, &image, change)?;
+        let told = told_around(alloc, &image, change, &after)?;
         if stops_of(alloc, &image, change, stops, &told)? < least_stops(change, stops, pages) {
             return Err("it writes too few pages")?;
         }

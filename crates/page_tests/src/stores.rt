@@ -42,7 +42,10 @@ pub(crate) fn made_in<D: Disk + Drop>(
     };
     match store.into_connection().close_files() {
         Ok(files) => Ok(files),
-        Err(_) => Err("the log is not copied"),
+        Err((_, store)) => {
+            drop(store.close());
+            Err("the log is not copied")
+        }
     }
 }
 

@@ -211,12 +211,15 @@ fn stops_of(
 
 /// Does a step without a stop: what it leaves.
 fn done_on(alloc: Global, image: &Image, step: Step) -> Result<Image, Fail> {
-    let ended = ended_by(alloc, image, step, Stops::Both, u64::MAX)?;
-    if !ended.is_done {
+    let Ended {
+        is_done,
+        has_stopped: _,
+        left,
+    } = ended_by(alloc, image, step, Stops::Both, u64::MAX)?;
+    if !is_done {
         Err("the step is not done")?;
     }
-    let Left { written, synced: _ } = ended.left;
-    Ok(written)
+    Ok(left.into_written())
 }
 
 /// Stops at each change of the making of a store: what it leaves.
@@ -248,8 +251,7 @@ fn as_first(alloc: Global, image: &Image) -> Result<Image, Fail> {
             Err("no store of version 1")?;
         }
     }
-    let Left { written, synced: _ } = Left::of(closed(conn));
-    Ok(written)
+    Ok(Left::of(closed(conn)).into_written())
 }
 
 /// Stops at each change of the opening of a store of version 1, which tells what it told before.

@@ -68,6 +68,14 @@ impl Left {
         }
     }
 
+    /// All that was written.
+    pub fn into_written(self) -> Image
+        ensures { result ≡ self.written }
+    {
+        let Left { written, synced: _ } = self;
+        written
+    }
+
     /// What a power cut may leave of them: all that was written, all that was synced, and one file of each. Each with
     /// whether it is another than those before it. No guarantee: a test that is shown fewer of them sees less.
     pub fn images(&self) -> [(&[u8], &[u8], bool); 4] {
