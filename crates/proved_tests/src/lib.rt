@@ -4,9 +4,6 @@
 // A store by SQL of ample size.
 #[cfg(test)]
 mod ample;
-// A file in memory of which only so many changes are made.
-#[cfg(test)]
-mod disk;
 // Rows out of form in a store by SQL.
 #[cfg(test)]
 mod forms;
@@ -25,7 +22,7 @@ mod lines;
 // A list of commands of which one allocation is refused.
 #[cfg(test)]
 mod refused;
-// A machine that stops at each change of the store's files.
+// A machine that stops while a store is made or migrated by SQL.
 #[cfg(test)]
 mod stops;
 // A store in memory whose rows are written by hand.

@@ -1,6 +1,5 @@
-// A machine that stops at a change of the store's files: of the log, of the database file, or of both. Opened again, they
-// tell what they told before the command or with it, and where it was answered as done, with it.
-use crate::disk::Stopping;
+// A machine that stops at a change of the files of a store that is made, or migrated, by SQL: of the log, of the database
+// file, or of both. Opened again, they tell what they told before or with it, and where it was answered as done, with it.
 use crate::given::Given;
 use crate::refused::CALLS;
 use cg_text::ListVec;
@@ -9,39 +8,18 @@ use prof_store::Store;
 use report_texts::Cut;
 use sql_runs::SqlRuns;
 use sqlite::{Connection, FileStore, Files, Options};
-use sqlite_disk::Disk;
 use std::alloc::{AllocError, Global};
-use std::cell::Cell;
-use std::rc::Rc;
 use std::test::Fail;
-use warehouse::{Answer, Command, GroupChange, Kind, Limits, Query, Selection, Warehouse};
+use stopping_disks::{Image, Left, Meter, Stopping, Stops, files_of};
+use warehouse::{Answer, Command, Kind, Limits, Query, Selection, Warehouse};
 
-/// Stacks in which a frame calls itself.
-const STACKS: &[u8] = b"a;b;a 3\na;b 2\n";
-
-/// Makes a store, or opens one of version 1, or does a command.
+/// Makes a store, imports a file into it, or opens one of version 1.
 #[derive(Clone, Copy)]
 enum Step {
     Create,
+    Import,
     Open,
-    Import(Kind, &'static [u8]),
-    Remove(u32),
-    /// What is done to the group `g`.
-    Group(GroupChange),
 }
-
-/// What is done, each over what the one before left.
-const STEPS: [Step; 9] = [
-    Step::Create,
-    Step::Import(Kind::Callgrind, CALLS),
-    Step::Import(Kind::Folded, STACKS),
-    Step::Group(GroupChange::Make),
-    Step::Group(GroupChange::Join(1)),
-    Step::Group(GroupChange::SetBaseline(1)),
-    Step::Group(GroupChange::Leave(1)),
-    Step::Group(GroupChange::Drop),
-    Step::Remove(1),
-];
 
 /// What makes a store of version 1 of one of version 2 whose costs are of thread 0.
 const BACK: [&str; 4] = [
@@ -51,55 +29,8 @@ const BACK: [&str; 4] = [
     "UPDATE meta SET schema = 1",
 ];
 
-/// Which files stop.
-#[derive(Clone, Copy)]
-enum Stops {
-    Log,
-    Database,
-    Both,
-}
-
-/// What the two files hold.
-#[derive(Drop)]
-struct Image {
-    log: Vec<u8>,
-    database: Vec<u8>,
-}
-
 /// A database over such files.
 type Held = Connection<FileStore<Stopping>>;
-
-/// How many changes are still made of the log and of the database file.
-type Changes = Rc<Cell<u64>>;
-
-/// So many of the files that stop, in all, and any number of the other.
-fn changes_of(alloc: Global, stops: Stops, changes: u64) -> Result<(Changes, Changes), AllocError> {
-    let some = Rc::new(alloc, Cell::new(changes))?;
-    if let Stops::Both = stops {
-        let same = some.clone()?;
-        return Ok((some, same));
-    }
-    let all = Rc::new(alloc, Cell::new(u64::MAX))?;
-    match stops {
-        Stops::Log => Ok((some, all)),
-        _ => Ok((all, some)),
-    }
-}
-
-/// Files with these bytes that stop after so many changes.
-fn files_of(
-    alloc: Global,
-    log: &[u8],
-    database: &[u8],
-    stops: Stops,
-    changes: u64,
-) -> Result<Files<Stopping>, AllocError> {
-    let (of_log, of_database) = changes_of(alloc, stops, changes)?;
-    Ok(Files {
-        log: Stopping::new(alloc, log, of_log)?,
-        db: Stopping::new(alloc, database, of_database)?,
-    })
-}
 
 /// Opens the database that files hold, or hands them back.
 fn opened(alloc: Global, files: Files<Stopping>) -> Result<Held, Files<Stopping>> {
@@ -127,95 +58,65 @@ fn house_over(alloc: Global, conn: Held) -> Result<Warehouse<SqlRuns<FileStore<S
     }
 }
 
-fn command_of(alloc: Global, step: Step) -> Result<Command<Given>, AllocError> {
-    Ok(match step {
-        Step::Create | Step::Open => Command::Ask(Query::Runs),
-        Step::Import(kind, bytes) => Command::Import {
-            kind,
-            label: b"a".to_vec(alloc)?,
-            source: Given::sound(bytes, 4096),
+/// Whether the import of a file is answered as done.
+fn is_imported(alloc: Global, house: &mut Warehouse<SqlRuns<FileStore<Stopping>>>) -> bool {
+    let mut source = Given::sound(CALLS, 4096);
+    let answer = house.import(alloc, Kind::Callgrind, b"a", &mut source);
+    matches!(answer, Answer::Run(_))
+}
+
+/// Imports a file into a store: whether that is done.
+fn imported(alloc: Global, store: Store<FileStore<Stopping>>) -> (bool, Held) {
+    let mut house = Warehouse::new(SqlRuns { store }, Limits::standard());
+    let is_done = is_imported(alloc, &mut house);
+    (is_done, house.into_store().into_connection())
+}
+
+/// Does a step over a database: whether it is done.
+fn done(alloc: Global, conn: Held, step: Step) -> (bool, Held) {
+    let opened = match step {
+        Step::Create => Store::create(alloc, conn),
+        _ => Store::open(alloc, conn),
+    };
+    match opened {
+        Ok(store) => match step {
+            Step::Import => imported(alloc, store),
+            _ => (true, store.into_connection()),
         },
-        Step::Remove(number) => Command::Remove(number),
-        Step::Group(change) => Command::Group(b"g".to_vec(alloc)?, change),
-    })
-}
-
-/// Whether a command is answered as done.
-fn is_answered(
-    alloc: Global,
-    house: &mut Warehouse<SqlRuns<FileStore<Stopping>>>,
-    step: Step,
-) -> Result<bool, AllocError> {
-    let answer = house.apply(alloc, command_of(alloc, step)?);
-    Ok(matches!(answer, Answer::Run(_) | Answer::Done))
-}
-
-/// Does a step over a database: whether it is answered as done.
-fn done(alloc: Global, conn: Held, step: Step) -> Result<(bool, Held), AllocError> {
-    if let Step::Create = step {
-        return Ok(match Store::create(alloc, conn) {
-            Ok(store) => (true, store.into_connection()),
-            Err((_, conn)) => (false, conn),
-        });
-    }
-    if let Step::Open = step {
-        return Ok(match Store::open(alloc, conn) {
-            Ok(store) => (true, store.into_connection()),
-            Err((_, conn)) => (false, conn),
-        });
-    }
-    match house_over(alloc, conn) {
-        Ok(mut house) => {
-            let is_done = is_answered(alloc, &mut house, step)?;
-            Ok((is_done, house.into_store().into_connection()))
-        }
-        Err(conn) => Ok((false, conn)),
+        Err((_, conn)) => (false, conn),
     }
 }
 
-/// What a step left: whether it was answered as done, and what was written and what was synced.
+/// What a step comes to over files that stop.
 #[derive(Drop)]
-struct Left {
+struct Ended {
     is_done: bool,
     has_stopped: bool,
-    written: Image,
-    synced: Image,
-}
-
-/// Whether the machine of a file has stopped.
-fn has_stopped(file: &mut Stopping) -> bool {
-    !file.may_be_used() || file.len().is_err()
+    left: Left,
 }
 
 /// Does a step over files that stop after so many changes.
-fn left_by(
+fn ended_by(
     alloc: Global,
     image: &Image,
     step: Step,
     stops: Stops,
     changes: u64,
-) -> Result<Left, AllocError> {
-    let files = files_of(alloc, &image.log, &image.database, stops, changes)?;
-    let (is_done, mut files) = match opened(alloc, files) {
+) -> Result<Ended, AllocError> {
+    let meter = Meter::new(alloc, stops)?;
+    meter.allow(changes);
+    let files = files_of(alloc, &image.log, &image.database, 0, &meter)?;
+    let (is_done, files) = match opened(alloc, files) {
         Ok(conn) => {
-            let (is_done, conn) = done(alloc, conn, step)?;
+            let (is_done, conn) = done(alloc, conn, step);
             (is_done, closed(conn))
         }
         Err(files) => (false, files),
     };
-    let log_stopped = has_stopped(&mut files.log);
-    let database_stopped = has_stopped(&mut files.db);
-    Ok(Left {
+    Ok(Ended {
         is_done,
-        has_stopped: log_stopped || database_stopped,
-        written: Image {
-            log: files.log.written.to_vec(alloc)?,
-            database: files.db.written.to_vec(alloc)?,
-        },
-        synced: Image {
-            log: files.log.synced.to_vec(alloc)?,
-            database: files.db.synced.to_vec(alloc)?,
-        },
+        has_stopped: meter.is_spent(),
+        left: Left::of(files),
     })
 }
 
@@ -251,7 +152,8 @@ fn ask(
 /// What files tell of runs, groups, sums and costs; nothing where they hold no store, and then one can be made.
 fn told_by(alloc: Global, log: &[u8], database: &[u8]) -> Result<Vec<u8>, Fail> {
     let mut told = Vec::new(alloc);
-    let files = files_of(alloc, log, database, Stops::Both, u64::MAX)?;
+    let meter = Meter::new(alloc, Stops::Both)?;
+    let files = files_of(alloc, log, database, 0, &meter)?;
     let conn = match opened(alloc, files) {
         Ok(conn) => conn,
         Err(_) => Err("the files cannot be opened")?,
@@ -269,25 +171,18 @@ fn told_by(alloc: Global, log: &[u8], database: &[u8]) -> Result<Vec<u8>, Fail> 
     ask(alloc, house, Query::Verify(Selection::All), &mut told)?;
     let costs = by_function(alloc, b"Instructions")?;
     ask(alloc, house, costs, &mut told)?;
-    let samples = by_function(alloc, b"samples")?;
-    ask(alloc, house, samples, &mut told)?;
     Ok(told)
 }
 
-/// Whether what a stop left tells what it has to, by what was told before the step and is told with it: all that was
-/// written, all that was synced, and one file of each.
-fn is_right(alloc: Global, left: &Left, before: &[u8], after: &[u8]) -> Result<bool, Fail> {
-    let (written, synced) = (&left.written, &left.synced);
-    for (log, database) in [
-        (&written.log, &written.database),
-        (&written.log, &synced.database),
-        (&synced.log, &written.database),
-        (&synced.log, &synced.database),
-    ] {
-        let told = told_by(alloc, log, database)?;
-        let told = told.as_slice();
-        if told != after && (left.is_done || told != before) {
-            return Ok(false);
+/// Whether what a stop left tells what it has to, by what was told before the step and is told with it.
+fn is_right(alloc: Global, ended: &Ended, before: &[u8], after: &[u8]) -> Result<bool, Fail> {
+    for (log, database, is_another) in ended.left.images() {
+        if is_another {
+            let told = told_by(alloc, log, database)?;
+            let told = told.as_slice();
+            if told != after && (ended.is_done || told != before) {
+                return Ok(false);
+            }
         }
     }
     Ok(true)
@@ -303,38 +198,50 @@ fn stops_of(
     after: &[u8],
 ) -> Result<u64, Fail> {
     for changes in 0..10000u64 {
-        let left = left_by(alloc, image, step, stops, changes)?;
-        if !is_right(alloc, &left, before, after)? {
+        let ended = ended_by(alloc, image, step, stops, changes)?;
+        if !is_right(alloc, &ended, before, after)? {
             Err("neither before nor with it")?;
         }
-        if !left.has_stopped {
+        if !ended.has_stopped {
             return Ok(changes);
         }
     }
     Err("no end")?
 }
 
-/// Does a step without a stop, and then stops at each of its changes: what it leaves.
-fn step_on(alloc: Global, image: &Image, step: Step, stops: Stops) -> Result<Image, Fail> {
-    let whole = left_by(alloc, image, step, stops, u64::MAX)?;
-    if !whole.is_done || whole.has_stopped {
+/// Does a step without a stop: what it leaves.
+fn done_on(alloc: Global, image: &Image, step: Step) -> Result<Image, Fail> {
+    let Ended {
+        is_done,
+        has_stopped: _,
+        left,
+    } = ended_by(alloc, image, step, Stops::Both, u64::MAX)?;
+    if !is_done {
         Err("the step is not done")?;
     }
-    let before = told_by(alloc, &image.log, &image.database)?;
-    let after = told_by(alloc, &whole.written.log, &whole.written.database)?;
+    Ok(left.into_written())
+}
+
+/// Stops at each change of the making of a store: what it leaves.
+fn making_stops(alloc: Global, stops: Stops) -> Result<Image, Fail> {
+    let empty = Image::empty(alloc);
+    let made = done_on(alloc, &empty, Step::Create)?;
+    let before = told_by(alloc, &empty.log, &empty.database)?;
+    let after = told_by(alloc, &made.log, &made.database)?;
     let (before, after) = (before.as_slice(), after.as_slice());
     if before == after {
-        Err("the step does not show")?;
+        Err("that it is made does not show")?;
     }
-    if stops_of(alloc, image, step, stops, before, after)? < 2 {
+    if stops_of(alloc, &empty, Step::Create, stops, before, after)? < 2 {
         Err("it changes no file")?;
     }
-    Ok(whole.written)
+    Ok(made)
 }
 
 /// The files of a store of version 1 with what a store holds.
 fn as_first(alloc: Global, image: &Image) -> Result<Image, Fail> {
-    let files = files_of(alloc, &image.log, &image.database, Stops::Both, u64::MAX)?;
+    let meter = Meter::new(alloc, Stops::Both)?;
+    let files = files_of(alloc, &image.log, &image.database, 0, &meter)?;
     let mut conn = match opened(alloc, files) {
         Ok(conn) => conn,
         Err(_) => Err("the files cannot be opened")?,
@@ -344,21 +251,14 @@ fn as_first(alloc: Global, image: &Image) -> Result<Image, Fail> {
             Err("no store of version 1")?;
         }
     }
-    let files = closed(conn);
-    Ok(Image {
-        log: files.log.written.to_vec(alloc)?,
-        database: files.db.written.to_vec(alloc)?,
-    })
+    Ok(Left::of(closed(conn)).into_written())
 }
 
 /// Stops at each change of the opening of a store of version 1, which tells what it told before.
 fn opening_stops(alloc: Global, image: &Image, stops: Stops) -> Result<(), Fail> {
     let told = told_by(alloc, &image.log, &image.database)?;
     let first = as_first(alloc, image)?;
-    let whole = left_by(alloc, &first, Step::Open, stops, u64::MAX)?;
-    if !whole.is_done || whole.has_stopped {
-        Err("it is not opened")?;
-    }
+    done_on(alloc, &first, Step::Open)?;
     let told = told.as_slice();
     if stops_of(alloc, &first, Step::Open, stops, told, told)? < 2 {
         Err("it changes no file")?;
@@ -366,16 +266,11 @@ fn opening_stops(alloc: Global, image: &Image, stops: Stops) -> Result<(), Fail>
     Ok(())
 }
 
-/// Stops at each change of each step.
+/// Stops at each change of the making of a store, and of the opening of one of version 1.
 fn all_stops(alloc: Global, stops: Stops) -> Result<(), Fail> {
-    let mut image = Image {
-        log: Vec::new(alloc),
-        database: Vec::new(alloc),
-    };
-    for step in STEPS {
-        image = step_on(alloc, &image, step, stops)?;
-    }
-    opening_stops(alloc, &image, stops)
+    let made = making_stops(alloc, stops)?;
+    let filled = done_on(alloc, &made, Step::Import)?;
+    opening_stops(alloc, &filled, stops)
 }
 
 #[test]

@@ -1,5 +1,5 @@
 // A file in memory of which only so many changes are made, alone or together with another.
-ghost use Rattle.std.specs.Prelude.{◌≡◌, length, true, false, refl, is_ok, OnOk, OnErr, ◌+◌, ◌<◌};
+ghost use Rattle.std.specs.Prelude.{◌≡◌, length, true, false, refl, is_ok, OnOk, OnErr, IfOk, IfSome, IsErr, ◌≤◌, ◌+◌, ◌<◌};
 ghost use Rattle.sqlite_disk.specs.Disk.{Holds, Torn, Mixed, Cut, CountsFault};
 ghost use Rattle.sqlite_disk.specs.Refusal.{finds_no_room};
 
@@ -12,11 +12,11 @@ use std::rc::Rc;
 /// A file whose machine stops: from then on each call fails. One sync makes all that was written before it last,
 /// as of the program's files.
 #[derive(Drop)]
-pub(crate) struct Stopping {
+pub struct Stopping {
     pub(crate) written: Vec<u8>,
     /// What was synced last.
     pub(crate) synced: Vec<u8>,
-    /// How many writes, cuts and syncs are still made, by all files that share it.
+    /// How many pieces of writes, cuts and syncs are still made, by all files that share it.
     changes: Rc<Cell<u64>>,
     usable: bool,
     faults: u64,
@@ -24,21 +24,49 @@ pub(crate) struct Stopping {
 }
 
 impl Stopping {
-    /// A file with these bytes, all of them synced. No guarantee: the tests see what it holds.
-    pub(crate) fn new(
+    /// A file with these bytes, all of them synced, and room for so many: while that is enough, no change takes memory.
+    pub fn new(
         alloc: Global,
         bytes: &[u8],
+        room: usize,
         changes: Rc<Cell<u64>>,
-    ) -> Result<Stopping, AllocError> {
+    ) -> Result<Stopping, AllocError>
+        ensures written { IfOk result (λ file. file.written.items ≡ bytes.now) }
+        ensures synced { IfOk result (λ file. file.synced.items ≡ bytes.now) }
+    {
         Ok(Stopping {
-            written: bytes.to_vec(alloc)?,
-            synced: bytes.to_vec(alloc)?,
+            written: with_room(alloc, bytes, room)?,
+            synced: with_room(alloc, bytes, room)?,
             changes,
             usable: true,
             faults: 0,
             caught: 0,
         })
     }
+
+    /// What was written, and what of it was synced.
+    pub fn into_bytes(self) -> (Vec<u8>, Vec<u8>)
+        ensures { result ≡ (self.written, self.synced) }
+    {
+        let Stopping {
+            written,
+            synced,
+            changes: _,
+            usable: _,
+            faults: _,
+            caught: _,
+        } = self;
+        (written, synced)
+    }
+}
+
+/// Bytes in a list with room for so many.
+fn with_room(alloc: Global, bytes: &[u8], room: usize) -> Result<Vec<u8>, AllocError>
+    ensures { IfOk result (λ list. list.items ≡ bytes.now) }
+{
+    let mut list = Vec::with_capacity(alloc, room)?;
+    list.extend_from_slice(bytes)?;
+    Ok(list)
 }
 
 /// Takes what a call needs of the changes that are left; where none is left, reads fail too.
@@ -49,10 +77,37 @@ fn spend(changes: &Cell<u64>, needed: u64, faults: &mut u64) -> io::Result<()>
     let left = changes.get();
     changes.set(left.saturating_sub(needed));
     if left == 0 {
-        *faults = faults.saturating_add(1);
-        return Err(io::Error::other("stopped"));
+        return stopped(faults);
     }
     Ok(())
+}
+
+/// How many bytes of a write are one change.
+const PIECE: usize = 4096;
+
+/// Takes what a write of so many bytes needs of the changes that are left, one for each piece. Where too few are left, the
+/// machine stops in the middle of it: behind so many bytes.
+fn stop_within(changes: &Cell<u64>, len: usize) -> Option<usize>
+    ensures { IfSome result (λ count. count ≤ len) }
+{
+    let left = changes.get();
+    let needed = len.div_ceil(PIECE).max(1) as u64;
+    changes.set(left.saturating_sub(needed));
+    if left < needed {
+        Some((left as usize).saturating_mul(PIECE).min(len))
+    } else {
+        None
+    }
+}
+
+/// The call fails, since the machine has stopped.
+fn stopped(faults: &mut u64) -> io::Result<()>
+    ensures err { IsErr result }
+    ensures faults { CountsFault result faults.old faults.new }
+    ensures kind { finds_no_room result ≡ false }
+{
+    *faults = faults.saturating_add(1);
+    Err(io::Error::other("stopped"))
 }
 
 /// A want of memory is a fault of the file.
@@ -101,9 +156,19 @@ fn overwrite(file: &mut Vec<u8>, at: usize, bytes: &[u8]) -> Result<(), AllocErr
     Ok(())
 }
 
-fn replace(file: &mut Vec<u8>, bytes: &[u8]) -> Result<(), AllocError> {
-    let copy = bytes.to_vec(*file.allocator())?;
-    *file = copy;
+/// Writes the first bytes of what was to be written.
+fn overwrite_front(file: &mut Vec<u8>, at: usize, bytes: &[u8], count: usize)
+    requires { count ≤ length bytes.now }
+    ensures { Mixed at bytes.now file.old.items file.new.items }
+{
+    let _is_written = overwrite(file, at, &bytes[..count]);
+}
+
+fn replace(file: &mut Vec<u8>, bytes: &[u8]) -> Result<(), AllocError>
+    ensures { OnOk result (file.new.items ≡ bytes.now) }
+{
+    resize(file, bytes.len())?;
+    file.copy_from_slice(bytes);
     Ok(())
 }
 
@@ -173,8 +238,13 @@ impl Disk for Stopping {
     }
 
     fn write_at(&mut self, at: usize, bytes: &[u8]) -> io::Result<()> {
-        spend(&self.changes, 1, &mut self.faults)?;
-        counted(overwrite(&mut self.written, at, bytes), &mut self.faults)
+        match stop_within(&self.changes, bytes.len()) {
+            Some(count) => {
+                overwrite_front(&mut self.written, at, bytes, count);
+                stopped(&mut self.faults)
+            }
+            None => counted(overwrite(&mut self.written, at, bytes), &mut self.faults),
+        }
     }
 
     fn set_len(&mut self, len: usize) -> io::Result<()> {

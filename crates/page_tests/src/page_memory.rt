@@ -1,0 +1,88 @@
+// A store in pages of which one allocation is refused, by tests/by_hand/refuse_each: the call that meets it says so and changes
+// nothing, and the next call goes on.
+use crate::changes::{CHANGES, Change, change_pages};
+use crate::stores::{made_in, pages_in};
+use crate::told::told_by;
+use page_runs::PageRuns;
+use run_stores::StoreError;
+use sqlite_disk::{Disk, Files};
+use std::alloc::{AllocError, Global};
+use std::test::Fail;
+use stopping_disks::{Meter, Stopping, Stops, files_of};
+
+/// How many bytes a file has room for, so that it is never the disk that wants memory.
+const ROOM: usize = 0x4_0000;
+
+/// Empty files.
+fn empty_files(alloc: Global) -> Result<Files<Stopping>, AllocError> {
+    let meter = Meter::new(alloc, Stops::Both)?;
+    files_of(alloc, &[], &[], ROOM, &meter)
+}
+
+/// A store in pages, empty.
+fn empty_pages(alloc: Global) -> Result<PageRuns<Stopping>, &'static str> {
+    let Ok(files) = empty_files(alloc) else {
+        return Err("no memory for files");
+    };
+    pages_in(alloc, made_in(alloc, files)?)
+}
+
+/// What a store tells, asked again where memory is refused.
+fn told_again<D: Disk>(store: &mut PageRuns<D>, alloc: Global) -> Result<Vec<u8>, StoreError> {
+    match told_by(store, alloc) {
+        Err(StoreError::Memory) => told_by(store, alloc),
+        told => told,
+    }
+}
+
+/// Changes a store, again where memory is refused, which changes nothing: what it told before, and tells then.
+fn change_again<D: Disk>(
+    store: &mut PageRuns<D>,
+    alloc: Global,
+    change: Change,
+) -> Result<(Vec<u8>, Vec<u8>), Fail> {
+    let before = told_again(store, alloc)?;
+    if let Err(error) = change_pages(store, alloc, change) {
+        let left = told_by(store, alloc)?;
+        if error != StoreError::Memory || left.as_slice() != before.as_slice() {
+            return Err("another refusal, or it changed the store")?;
+        }
+        change_pages(store, alloc, change)?;
+    }
+    Ok((before, told_again(store, alloc)?))
+}
+
+/// Changes two stores, of which one at most meets the refusal: both tell the same, and each change shows.
+fn change_both<D: Disk>(
+    first: &mut PageRuns<D>,
+    second: &mut PageRuns<D>,
+    alloc: Global,
+) -> Result<(), Fail> {
+    for change in CHANGES {
+        let (before, after) = change_again(first, alloc, change)?;
+        let (_, expected) = change_again(second, alloc, change)?;
+        let shows = before.as_slice() != after.as_slice();
+        if after.as_slice() != expected.as_slice()
+            || shows == matches!(change, Change::Checkpoint)
+        {
+            return Err("another change")?;
+        }
+    }
+    Ok(())
+}
+
+/// A store is made again where memory is refused.
+fn made_again(alloc: Global) -> Result<PageRuns<Stopping>, &'static str> {
+    match empty_pages(alloc) {
+        Ok(store) => Ok(store),
+        Err(_) => empty_pages(alloc),
+    }
+}
+
+#[test]
+fn memory_refused_to_change_pages(rt: HostRuntime) -> Result<(), Fail> {
+    let alloc = rt.alloc();
+    let mut first = made_again(alloc)?;
+    let mut second = made_again(alloc)?;
+    change_both(&mut first, &mut second, alloc)
+}
