@@ -2,7 +2,6 @@
 import os
 import socket
 import subprocess
-import time
 from base64 import b64encode
 
 from tried import SCRIPTS, TOP
@@ -182,11 +181,12 @@ def cases_of_a_late_server(tried):
         port = str(held.getsockname()[1])
     client = subprocess.Popen([os.path.join(SCRIPTS, NAME), "import", "--api", f"http://127.0.0.1:{port}", "a.cg"], cwd=tried.folder,
                               stdout=subprocess.PIPE, stderr=subprocess.PIPE)
-    time.sleep(0.5)
+    # It has asked in vain once it says so.
+    said = client.stderr.readline()
     with subprocess.Popen([tried.program, "serve", "--db", tried.path("late.db"), "--port", port, "--requests", "1"],
                           stdout=subprocess.DEVNULL):
-        out, err = client.communicate(timeout=20)
-    tried.expect("a server that comes later", (client.returncode, out, b"yet (Connection refused)" in err), (0, b"run 1\n", True))
+        out, _ = client.communicate(timeout=20)
+    tried.expect("a server that comes later", (client.returncode, out, b"yet (Connection refused)" in said), (0, b"run 1\n", True))
 
 
 def cases_of_restarts(tried):

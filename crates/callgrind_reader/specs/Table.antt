@@ -1,5 +1,5 @@
 -- A table of identifiers, as a function from them.
-use Rattle.std.specs.Prelude.{◌≡◌, ◌==◌, ℕ, ◌<◌, List, Option, Some, None, slice_get, unwrap_or, vec_len, if◌then◌else◌}
+use Rattle.std.specs.Prelude.{◌≡◌, ◌==◌, ℕ, ◌<◌, List, Option, Some, None, length, slice_get, unwrap_or, if◌then◌else◌}
 use Rattle.callgrind_reader.specs.IdPlaces.{place_at}
 use Rattle.callgrind_reader.specs.declared.tables.NameTable.{NameTable}
 
@@ -9,11 +9,11 @@ name_among names None = None
 name_among names (Some place) = slice_get names place
 
 abbrev pub name_at : NameTable → Option ℕ → Option (List ℕ)
-name_at t place = name_among t.names.items place
+name_at t place = name_among t.names place
 
 -- how many names a table has
 abbrev pub names_in : NameTable → ℕ
-names_in t = vec_len t.names
+names_in t = length t.names
 
 -- what an identifier means
 abbrev pub text_at : NameTable → ℕ → Option (List ℕ)

@@ -1,28 +1,18 @@
 // The names that identifiers mean.
-ghost use Rattle.std.specs.Prelude.{◌≡◌, ◌==◌, ℕ, ◌<◌, ◌≤◌, ◌++◌, ◌∷◌, [], IfOk, OnOk, OnErr, Some, None, vec_len, if◌then◌else◌};
+ghost use Rattle.std.specs.Prelude.{◌≡◌, ◌==◌, ℕ, ◌<◌, ◌≤◌, IfOk, OnErr, Some, None, length, if◌then◌else◌};
 ghost use Rattle.callgrind_reader.specs.IdPlaces.{place_at};
 ghost use Rattle.callgrind_reader.specs.Inside.{AreInside, IsInside};
 
 use crate::id_places::IdPlaces;
-use cg_text::ListVec;
+use cg_text::TextList;
 use std::alloc::{AllocError, Global};
 
 /// The names that identifiers mean, each held once: a name is known by its place among them.
 #[derive(Drop)]
 pub struct NameTable {
-    alloc: Global,
     places: IdPlaces,
-    names: Vec<ListVec<u8>>,
-    ghost inside: { AreInside (place_at places) (vec_len names) },
-}
-
-/// Appends a copy of a name to a list of names. Where memory is refused, the list stays as it was.
-fn push_name(names: &mut Vec<ListVec<u8>>, text: &[u8], alloc: Global) -> Result<(), AllocError>
-    ensures ok { OnOk result (names.new.items ≡ names.old.items ++ text.now ∷ []) }
-    ensures err { OnErr result (names.new.items ≡ names.old.items) }
-{
-    names.push(ListVec::from_vec(text.to_vec(alloc)?))?;
-    Ok(())
+    names: TextList,
+    ghost inside: { AreInside (place_at places) (length names) },
 }
 
 impl NameTable {
@@ -33,9 +23,8 @@ impl NameTable {
         ensures { (q : ℕ) → text_at result q ≡ None }
     {
         NameTable {
-            alloc,
             places: IdPlaces::new(alloc),
-            names: Vec::new(alloc),
+            names: TextList::new(alloc),
         }
     }
 
@@ -53,7 +42,7 @@ impl NameTable {
         requires { place < names_in self.now }
         ensures { name_at self.now (Some place) ≡ Some result.now }
     {
-        self.names[place].as_slice()
+        self.names.text(place)
     }
 
     /// The place of the name that an identifier means. One that means nothing gets this name. Where memory
@@ -66,7 +55,7 @@ impl NameTable {
         let next = self.names.len();
         let place = self.places.find_or_add(id, next)?;
         if place == next {
-            if let Err(error) = push_name(&mut self.names, text, self.alloc) {
+            if let Err(error) = self.names.push(text) {
                 self.places.remove(id);
                 return Err(error);
             }

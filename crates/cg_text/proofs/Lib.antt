@@ -4,3 +4,4 @@ pub mod FieldsLemmas
 pub mod NumbersLemmas
 pub mod JoinedLemmas
 pub mod Examples
+pub mod TextsLemmas

@@ -3,6 +3,7 @@ pub mod Lines
 pub mod Fields
 pub mod Numbers
 pub mod Subpositions
+pub mod Texts
 pub mod Names
 pub mod Words
 pub mod Kinds

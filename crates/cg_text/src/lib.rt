@@ -27,6 +27,8 @@ mod readings;
 mod split;
 // The subposition that a field is.
 mod subpositions;
+// Texts in one buffer (specs/Texts.antt).
+mod text_list;
 // The words that lines begin with.
 mod words;
 
@@ -43,4 +45,5 @@ pub use positions::SubPos;
 pub use readings::{LINE_LIMIT, read_line};
 pub use split::{SplitFields, fields, next_field};
 pub use subpositions::subpos;
+pub use text_list::TextList;
 pub use words::{HeaderKey, NameWord, Namespace, Role};

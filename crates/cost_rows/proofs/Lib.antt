@@ -18,4 +18,6 @@ pub mod SeenLemmas
 pub mod KeysLemmas
 pub mod KeySumsLemmas
 pub mod SlotsLemmas
+pub mod StretchLemmas
+pub mod CallsLemmas
 pub mod StackCountsLemmas

@@ -1,5 +1,5 @@
 -- What merging keeps: the order of the keys, which keys there are, and each sum.
-use Rattle.std.proofs.Common.{◌≡◌, ℕ, ◌+◌, Bool, true, false, ◌||◌, cond, List, [], ◌∷◌, Some, None, if◌then◌else◌, refl, sym, ap, ◌∙◌, arith, add_assoc}
+use Rattle.std.proofs.Common.{◌≡◌, ℕ, ◌+◌, Bool, true, false, ◌||◌, cond, List, [], ◌∷◌, Option, Some, None, unwrap_or, if◌then◌else◌, refl, sym, ap, ◌∙◌, arith, add_assoc}
 use Rattle.std.specs.declared.cmp.Ordering.{Ordering}
 use Rattle.std.specs.declared.cmp.Ordering.TheVariants.{Less, Equal, Greater}
 use Rattle.std.specs.Cmp.{IsTotalOrder}
@@ -8,7 +8,6 @@ use Rattle.std.specs.List.{list_any, AllByRecursion}
 use Rattle.std.specs.List.Sorted.{IsStrictlySortedBy}
 use Rattle.std.specs.Map.{lookup, keys_of, set_value}
 use Rattle.std.specs.BTreeMap.{BTreeMap, is_at, insert_entry, WritesThrough}
-use Rattle.std.proofs.lemmas.Map.Steps.{set_value_same}
 use Rattle.std.proofs.lemmas.Map.Keys.{sorted_head, sorted_tail}
 use Rattle.cost_rows.specs.Merging.{merge, merge_all, sum_where, TellsApart}
 
@@ -164,12 +163,30 @@ module _ {K X : Type 0} {cmp : K → K → Ordering} (order : IsTotalOrder cmp) 
   merge-held [] key amount old sorted found = absurd (cc)
   merge-held (e ∷ es) key amount old sorted found = set-step key amount old e es (cmp key e.0) refl sorted found (merge-held es key amount old (sorted_tail cmp e.0 (keys_of es) sorted))
 
+  insert-step-held : (key : K) (old v : X) (e : K × X) (es : List (K × X)) (r : Ordering) → cmp key e.0 ≡ r → IsStrictlySortedBy cmp (keys_of (e ∷ es))
+      → cond (is_eq r) (Some e.1) (lookup (is_at (cmp key)) es) ≡ Some old
+      → (lookup (is_at (cmp key)) es ≡ Some old → insert_entry cmp es key v ≡ set_value (is_at (cmp key)) es v)
+      → match_ordering r ((key, v) ∷ e ∷ es) ((e.0, v) ∷ es) (e ∷ insert_entry cmp es key v) ≡ cond (is_eq r) ((e.0, v) ∷ es) (e ∷ set_value (is_at (cmp key)) es v)
+  insert-step-held key old v e es Less is sorted found rest =
+      let all = lower key e.0 (keys_of es) is (sorted_head cmp e.0 (keys_of es) sorted) in
+      let none : lookup (is_at (cmp key)) es ≡ None = none_above key es all in
+      let clash : None ≡ Some old = sym none ∙ found in
+      absurd (cc)
+  insert-step-held key old v e es Equal is sorted found rest = refl
+  insert-step-held key old v e es Greater is sorted found rest = ap (λ more. e ∷ more) (rest found)
+
+  -- what is put in for a key that is there takes the place of what it had
+  insert-held : (entries : List (K × X)) (key : K) (old v : X) → IsStrictlySortedBy cmp (keys_of entries) → lookup (is_at (cmp key)) entries ≡ Some old → insert_entry cmp entries key v ≡ set_value (is_at (cmp key)) entries v
+  insert-held [] key old v sorted found = absurd (cc)
+  insert-held (e ∷ es) key old v sorted found = insert-step-held key old v e es (cmp key e.0) refl sorted found (insert-held es key old v (sorted_tail cmp e.0 (keys_of es) sorted))
+
+  -- a sum is put in for its key, whether or not this is there
+  pub merge-put : (entries : List (K × X)) (key : K) (amount none : X) (held : Option X) → add none amount ≡ amount → IsStrictlySortedBy cmp (keys_of entries) → lookup (is_at (cmp key)) entries ≡ held
+      → insert_entry cmp entries key (add (unwrap_or held none) amount) ≡ merge cmp add entries key amount
+  merge-put entries key amount none None same sorted found = ap (insert_entry cmp entries key) same ∙ merge-new entries key amount found
+  merge-put entries key amount none (Some old) same sorted found = insert-held entries key old (add old amount) sorted found ∙ merge-held entries key amount old sorted found
+
   -- after a sum was written through what `get_mut` lent
   pub merge-written : (m n : BTreeMap K X) (key : K) (held new amount : X) → WritesThrough cmp (cmp key) m new n → IsStrictlySortedBy cmp (keys_of m.entries) → Some held ≡ lookup (is_at (cmp key)) m.entries → new ≡ add held amount → n.entries ≡ merge cmp add m.entries key amount
   merge-written m n key held new amount written sorted found sum =
       written.0 ∙ ap (set_value (is_at (cmp key)) m.entries) sum ∙ merge-held m.entries key amount held sorted (sym found)
-
-  -- after nothing new was written
-  pub same-written : (m n : BTreeMap K X) (key : K) (held new : X) → WritesThrough cmp (cmp key) m new n → Some held ≡ lookup (is_at (cmp key)) m.entries → new ≡ held → n.entries ≡ m.entries
-  same-written m n key held new written found same =
-      written.0 ∙ ap (set_value (is_at (cmp key)) m.entries) same ∙ set_value_same (is_at (cmp key)) m.entries held (sym found)

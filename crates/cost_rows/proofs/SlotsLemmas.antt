@@ -54,8 +54,8 @@ module _ {K : Type 0} where
         rw further (absent-with_sums test sums es rest)
   ]
 
-  -- what is so of every slot is so of one that is found
-  of_found : (P : ℕ → Type 0) (test : K → Bool) (es : List (K × ℕ)) (slot : ℕ) → lookup test es ≡ Some slot → AllByRecursion P (values_of es) → P slot
+  -- what is so of every value is so of one that is found
+  pub of_found : {X : Type 0} (P : X → Type 0) (test : K → Bool) (es : List (K × X)) (slot : X) → lookup test es ≡ Some slot → AllByRecursion P (values_of es) → P slot
   of_found P test [] slot found all = absurd (cc)
   of_found P test (e ∷ es) slot found all = elim (cases_Bool (test e.0)) [
     | inl here ↦
@@ -150,17 +150,17 @@ module _ {K : Type 0} (cmp : K → K → Ordering) where
   inserted sums cost key [] all = ap (λ n. (key, n) ∷ []) (get_or_push sums cost 0 (length sums) refl)
   inserted sums cost key (e ∷ es) all = inserted-step sums cost key e es (cmp key e.0) all (inserted sums cost key es all.1)
 
-  all-step : (P : ℕ → Type 0) (key : K) (n : ℕ) (e : K × ℕ) (es : List (K × ℕ)) (r : Ordering) → P n → AllByRecursion P (values_of (e ∷ es)) → AllByRecursion P (values_of (insert_entry cmp es key n))
+  all-step : {X : Type 0} (P : X → Type 0) (key : K) (n : X) (e : K × X) (es : List (K × X)) (r : Ordering) → P n → AllByRecursion P (values_of (e ∷ es)) → AllByRecursion P (values_of (insert_entry cmp es key n))
       → AllByRecursion P (values_of (match_ordering r ((key, n) ∷ e ∷ es) ((e.0, n) ∷ es) (e ∷ insert_entry cmp es key n)))
   all-step P key n e es Less new all rest = (new, all)
   all-step P key n e es Equal new all rest = (new, all.1)
   all-step P key n e es Greater new all rest = (all.0, rest)
 
-  all-inserted : (P : ℕ → Type 0) (key : K) (n : ℕ) (es : List (K × ℕ)) → P n → AllByRecursion P (values_of es) → AllByRecursion P (values_of (insert_entry cmp es key n))
+  pub all-inserted : {X : Type 0} (P : X → Type 0) (key : K) (n : X) (es : List (K × X)) → P n → AllByRecursion P (values_of es) → AllByRecursion P (values_of (insert_entry cmp es key n))
   all-inserted P key n [] new all = (new, tt)
   all-inserted P key n (e ∷ es) new all = all-step P key n e es (cmp key e.0) new all (all-inserted P key n es new all.1)
 
-all-weaker : (P Q : ℕ → Type 0) → ((n : ℕ) → P n → Q n) → (xs : List ℕ) → AllByRecursion P xs → AllByRecursion Q xs
+pub all-weaker : {X : Type 0} (P Q : X → Type 0) → ((x : X) → P x → Q x) → (xs : List X) → AllByRecursion P xs → AllByRecursion Q xs
 all-weaker P Q weaker [] all = tt
 all-weaker P Q weaker (x ∷ xs) all = (weaker x all.0, all-weaker P Q weaker xs all.1)
 

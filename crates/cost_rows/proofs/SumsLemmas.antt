@@ -8,7 +8,7 @@ use Rattle.std.specs.Map.{keys_of}
 use Rattle.profile_records.specs.Records.{Cost, Callee, Record, Own, Called}
 use Rattle.cost_rows.specs.Naming.{place_of, with_name}
 use Rattle.profile_records.specs.Columns.{added}
-use Rattle.cost_rows.specs.Calls.{calls_added}
+use Rattle.cost_rows.specs.Calls.{Calls, calls_added}
 use Rattle.cost_rows.specs.Growing.{Grows}
 use Rattle.cost_rows.specs.Held.{IsHeld, CellHeld, CallHeld, AreHeld}
 use Rattle.cost_rows.specs.Merging.{merge, sum_where}
@@ -17,7 +17,6 @@ use Rattle.cost_rows.specs.Content.{Content, empty, number_of, with_three, names
 use Rattle.cost_rows.specs.Sums.{Spot, spot_of, callee_spot, name_at, spot_at, callee_at, passing_cell, passing_call, cells_where, calls_where, counts_where, content_of_records, SumsToRecords, self_sum, call_sum, count_sum, has_edge, has_call, cell_spot, caller_spot}
 use Rattle.cost_rows.specs.declared.places.CellPlace.{CellPlace}
 use Rattle.cost_rows.specs.declared.places.Call.{Call}
-use Rattle.cost_rows.specs.declared.calls.Calls.{Calls}
 use Rattle.cost_rows.proofs.NamingLemmas.{at_place}
 use Rattle.profile_records.proofs.ColumnsLemmas.{slice_index-added}
 use Rattle.cost_rows.proofs.GrowingLemmas.{grows-more, grows-with, kept-by_three, held-three}

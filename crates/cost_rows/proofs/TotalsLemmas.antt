@@ -2,16 +2,15 @@
 use Rattle.std.proofs.Common.{◌≡◌, ℕ, ◌+◌, ◌*◌, ◌<◌, ◌≤◌, ◌^◌, zero, suc, true, List, [], ◌∷◌, slice_index, All, lit<, replicate, refl, ap, ◌∙◌, arith}
 use Rattle.std.specs.Map.{values_of}
 use Rattle.std.proofs.lemmas.List.Elements.{All-cons, All-weaker, All-from_get_or}
-use Rattle.cost_rows.specs.Calls.{calls_added, AreSmall}
+use Rattle.cost_rows.specs.Calls.{Calls, calls_added, AreSmall}
 use Rattle.profile_records.specs.Columns.{added}
-use Rattle.cost_rows.specs.Merging.{merge, sum_where}
+use Rattle.cost_rows.specs.Merging.{merge}
 use Rattle.cost_rows.specs.Places.{cell_cmp, call_cmp}
 use Rattle.cost_rows.specs.Stacks.{bytes_cmp, counts_added}
 use Rattle.cost_rows.specs.Content.{Content}
 use Rattle.cost_rows.specs.Totals.{cell_total, call_total, count_total, stack_total, AreWithin}
 use Rattle.cost_rows.specs.declared.places.CellPlace.{CellPlace}
 use Rattle.cost_rows.specs.declared.places.Call.{Call}
-use Rattle.cost_rows.specs.declared.calls.Calls.{Calls}
 use Rattle.std.proofs.lemmas.Map.Lookups.{exact_bytes}
 use Rattle.profile_records.proofs.ColumnsLemmas.{slice_index-added}
 use Rattle.cost_rows.proofs.MergeLemmas.{sum-merge}
@@ -72,15 +71,15 @@ rises lines at n m more small low = omega arith
 stays : (lines at n : ℕ) → lines < at → n ≤ lines * 2 ^ 63 → n ≤ at * 2 ^ 63
 stays lines at n more small = omega arith
 
-low-at : (costs : List ℕ) (k : ℕ) → All (λ c. c < 2 ^ 63) costs → slice_index costs k < 2 ^ 63
-low-at [] k all = lit< tt
-low-at (c ∷ costs) zero all = all 0 0 (omega arith)
-low-at (c ∷ costs) (suc k) all = low-at costs k (λ j d below. all (suc j) d (omega arith))
+pub low-at : (bound : ℕ) → 0 < bound → (costs : List ℕ) (k : ℕ) → All (λ c. c < bound) costs → slice_index costs k < bound
+low-at bound above [] k all = above
+low-at bound above (c ∷ costs) zero all = all 0 0 (omega arith)
+low-at bound above (c ∷ costs) (suc k) all = low-at bound above costs k (λ j d below. all (suc j) d (omega arith))
 
 pub within-own : (cells : List (CellPlace × List ℕ)) (edges : List (Call × Calls)) (stacks : List (List ℕ × ℕ)) (lines at : ℕ) (place : CellPlace) (costs : List ℕ) → AreWithin cells edges stacks lines → lines < at → All (λ c. c < 2 ^ 63) costs
     → AreWithin (merge cell_cmp added cells place costs) edges stacks at
 within-own cells edges stacks lines at place costs is more low = record {
-  cells_fit = λ k. rw (cell_total-merge k cells place costs) (rises lines at (cell_total k cells) (slice_index costs k) more (is.cells_fit k) (low-at costs k low));
+  cells_fit = λ k. rw (cell_total-merge k cells place costs) (rises lines at (cell_total k cells) (slice_index costs k) more (is.cells_fit k) (low-at (2 ^ 63) (lit< tt) costs k low));
   calls_fit = λ k. stays lines at (call_total k edges) more (is.calls_fit k);
   counts_fit = stays lines at (count_total edges) more is.counts_fit;
   stacks_fit = stays lines at (stack_total stacks) more is.stacks_fit;
@@ -90,7 +89,7 @@ pub within-call : (cells : List (CellPlace × List ℕ)) (edges : List (Call × 
     → AreWithin cells (merge call_cmp calls_added edges call calls) stacks at
 within-call cells edges stacks lines at call calls is more few low = record {
   cells_fit = λ k. stays lines at (cell_total k cells) more (is.cells_fit k);
-  calls_fit = λ k. rw (call_total-merge k edges call calls) (rises lines at (call_total k edges) (slice_index calls.costs k) more (is.calls_fit k) (low-at calls.costs k low));
+  calls_fit = λ k. rw (call_total-merge k edges call calls) (rises lines at (call_total k edges) (slice_index calls.costs k) more (is.calls_fit k) (low-at (2 ^ 63) (lit< tt) calls.costs k low));
   counts_fit = rw (count_total-merge edges call calls) (rises lines at (count_total edges) calls.count more is.counts_fit few);
   stacks_fit = stays lines at (stack_total stacks) more is.stacks_fit;
 }
@@ -114,22 +113,14 @@ content-same names names' cells cells' edges stacks stacks' a b d =
     let e : P names cells stacks ≡ P names' cells' stacks' = ap (λ n. P n cells stacks) a ∙ ap (λ c. P names' c stacks) b ∙ ap (P names' cells') d in
     e
 
--- ---- totals, value by value
-
-abbrev pub sum_over : {X : Type 0} → (X → ℕ) → List X → ℕ
-sum_over measure [] = 0
-sum_over measure (v ∷ vs) = measure v + sum_over measure vs
-
-pub sum_over-all : {K X : Type 0} (measure : X → ℕ) (entries : List (K × X)) → sum_over measure (values_of entries) ≡ sum_where (λ _. true) measure entries
-sum_over-all measure [] = refl
-sum_over-all measure (e ∷ entries) = ap (λ n. measure e.1 + n) (sum_over-all measure entries)
+-- ---- totals, key by key
 
 zero-at : (n k : ℕ) → slice_index (replicate n 0) k ≡ 0
 zero-at zero k = refl
 zero-at (suc n) zero = refl
 zero-at (suc n) (suc k) = zero-at n k
 
--- before the first value
+-- before the first key
 pub totals-start : (totals : List ℕ) (n k : ℕ) (left all : ℕ) → totals ≡ replicate n 0 → left ≡ all → slice_index totals k + left ≡ all
 totals-start totals n k left all zeros same =
     ap (λ ts. slice_index ts k + left) zeros ∙ ap (λ m. m + left) (zero-at n k) ∙ (let e : 0 + left ≡ left = omega arith in e) ∙ same

@@ -11,7 +11,7 @@ use Rattle.cost_rows.specs.WalkSums.{rows_cost, calls_cost, calls_count, has_cal
 use Rattle.cost_rows.specs.declared.rows.Cell.{Cell}
 use Rattle.cost_rows.specs.declared.places.CellPlace.{CellPlace}
 use Rattle.cost_rows.specs.declared.places.Call.{Call}
-use Rattle.cost_rows.specs.declared.calls.Calls.{Calls}
+use Rattle.cost_rows.specs.Calls.{Calls}
 
 pub is_above : (n : ℕ) → nat_lt 0 (suc n) ≡ true
 is_above n = grind (arith, nat_tests)

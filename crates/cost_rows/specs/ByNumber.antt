@@ -4,7 +4,7 @@ use Rattle.std.specs.Borrow.{Bor}
 use Rattle.cost_rows.specs.Above.{rows_above}
 use Rattle.cost_rows.specs.declared.places.CellPlace.{CellPlace}
 use Rattle.cost_rows.specs.declared.places.Call.{Call}
-use Rattle.cost_rows.specs.declared.calls.Calls.{Calls}
+use Rattle.cost_rows.specs.Calls.{Calls}
 use Rattle.cost_rows.specs.declared.rows.Cell.{Cell}
 use Rattle.cost_rows.specs.declared.rows.CallEdge.{CallEdge}
 

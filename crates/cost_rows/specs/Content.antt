@@ -6,14 +6,13 @@ use Rattle.profile_records.specs.Stacks.{Seen}
 use Rattle.profile_records.specs.Frames.{leaf_of}
 use Rattle.cost_rows.specs.Naming.{place_of, with_name}
 use Rattle.profile_records.specs.Columns.{added}
-use Rattle.cost_rows.specs.Calls.{calls_added}
+use Rattle.cost_rows.specs.Calls.{Calls, calls_added}
 use Rattle.cost_rows.specs.Merging.{merge}
 use Rattle.cost_rows.specs.Places.{cell_cmp, call_cmp}
 use Rattle.cost_rows.specs.Stacks.{bytes_cmp, counts_added}
 use Rattle.cost_rows.specs.declared.places.Place.{Place}
 use Rattle.cost_rows.specs.declared.places.CellPlace.{CellPlace}
 use Rattle.cost_rows.specs.declared.places.Call.{Call}
-use Rattle.cost_rows.specs.declared.calls.Calls.{Calls}
 
 -- names in the order in which they first came; self costs by place, calls, and counts of stacks, each key once, in order
 pub record Content : Type 0 where

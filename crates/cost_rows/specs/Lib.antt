@@ -4,6 +4,7 @@ pub mod Numbered
 pub mod Admit
 pub mod Merging
 pub mod Places
+pub mod Stretches
 pub mod Calls
 pub mod Stacks
 pub mod Content

@@ -8,7 +8,7 @@ use Rattle.cost_rows.specs.Slots.{sums_in}
 use Rattle.cost_rows.specs.declared.file_rows.FileRows.{FileRows}
 
 abbrev pub content_of : FileRows → Content
-content_of r = record { names = r.names; cells = r.cells.entries; calls = r.calls.entries; stacks = sums_in r.stacks }
+content_of r = record { names = r.names; cells = r.cells; calls = r.calls; stacks = sums_in r.stacks }
 
 -- the name that a mark of a name space came with, as far as its number is kept
 abbrev pub known_of : FileRows → Namespace → Mark → Option (List ℕ)

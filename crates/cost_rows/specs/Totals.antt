@@ -4,7 +4,7 @@ use Rattle.cost_rows.specs.Merging.{sum_where}
 use Rattle.cost_rows.specs.Content.{Content}
 use Rattle.cost_rows.specs.declared.places.CellPlace.{CellPlace}
 use Rattle.cost_rows.specs.declared.places.Call.{Call}
-use Rattle.cost_rows.specs.declared.calls.Calls.{Calls}
+use Rattle.cost_rows.specs.Calls.{Calls}
 use Rattle.cost_rows.specs.declared.rows.FileTotals.{FileTotals}
 
 -- the sum of column k over all entries

@@ -21,7 +21,6 @@ impl StackSink for FileRows {
         match self.stacks.find(stack)? {
             Some(slot) => {
                 merge_leaf(
-                    self.alloc,
                     &mut self.names,
                     &mut self.guesses,
                     &mut self.cells,
@@ -33,7 +32,6 @@ impl StackSink for FileRows {
             None => {
                 self.stacks.put(stack, count)?;
                 if let Err(refused) = merge_leaf(
-                    self.alloc,
                     &mut self.names,
                     &mut self.guesses,
                     &mut self.cells,

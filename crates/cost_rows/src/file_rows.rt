@@ -5,39 +5,37 @@ ghost use Rattle.cost_rows.specs.Marks.{HaveNames};
 ghost use Rattle.cost_rows.specs.Slots.{sums_in};
 ghost use Rattle.cost_rows.specs.Totals.{AreWithin, AreTotals};
 
-use crate::calls::Calls;
-use crate::costs::Costs;
+use crate::call_sums::CallSums;
 use crate::guesses::{Guesses, NO_CELL};
 use crate::lent_names::take_back;
 use crate::marks::Marks;
 use crate::names::Names;
 use crate::numbered::{NumberedCalls, NumberedCells};
-use crate::places::{Call, CellPlace};
+use crate::places::CellPlace;
 use crate::records::{merge_call, merge_self};
 use crate::rows::FileTotals;
 use crate::stack_counts::StackCounts;
-use crate::totals::{total_columns, total_count};
+use crate::sum_map::SumMap;
+use crate::totals::total_columns;
 use crate::walks::{CallWalk, CellWalk, StackWalk, Walk};
 use cg_text::ListVec;
 use profile_records::{CallCost, SelfCost, Sink};
 use std::alloc::{AllocError, Global};
-use std::collections::BTreeMap;
 
 /// The rows of one file: its names, each held once, and its records merged, one sum for each key.
 /// It takes the records of a Callgrind file or the stacks of a folded one. Ordered maps hold the
 /// sums: no file can choose keys that collide.
 #[derive(Drop)]
 pub struct FileRows {
-    pub(crate) alloc: Global,
     pub(crate) names: Names,
-    pub(crate) cells: BTreeMap<CellPlace, Costs>,
-    pub(crate) calls: BTreeMap<Call, Calls>,
+    pub(crate) cells: SumMap<CellPlace>,
+    pub(crate) calls: CallSums,
     pub(crate) stacks: StackCounts,
     marks: Marks,
     pub(crate) guesses: Guesses,
     pub(crate) last: u64,
     width: Option<u64>,
-    ghost within: { AreWithin cells.entries calls.entries (sums_in stacks) last },
+    ghost within: { AreWithin cells calls (sums_in stacks) last },
     ghost named: { HaveNames names marks },
 }
 
@@ -55,10 +53,9 @@ impl FileRows {
         ensures known { KnowsNothing (known_of result) }
     {
         FileRows {
-            alloc,
             names: Names::new(alloc),
-            cells: BTreeMap::new(alloc),
-            calls: BTreeMap::new(alloc),
+            cells: SumMap::new(alloc),
+            calls: CallSums::new(alloc),
             stacks: StackCounts::new(alloc),
             marks: Marks::new(alloc),
             guesses: Guesses::new(alloc),
@@ -122,8 +119,7 @@ impl FileRows {
     pub fn numbered_calls(&self) -> NumberedCalls<'_>
         ensures { result ≡ numbered_calls (content_of self.now).calls }
     {
-        let rest = self.calls.iter();
-        NumberedCalls { rest }
+        self.calls.iter()
     }
 
     /// The sums of all rows by column, of so many columns: as many as a record has costs, or more.
@@ -131,12 +127,12 @@ impl FileRows {
         ensures { IfOk result (λ t. AreTotals t (content_of self.now) events) }
     {
         let _last = self.last;
-        let self_cost = total_columns(alloc, &self.cells, events)?;
-        let call_cost = total_columns(alloc, &self.calls, events)?;
+        let self_cost = total_columns(alloc, self.cells.iter(), events)?;
+        let (call_count, call_cost) = self.calls.totals(alloc, events)?;
         Ok(FileTotals {
             self_cost: ListVec::from_vec(self_cost),
             call_cost: ListVec::from_vec(call_cost),
-            call_count: total_count(&self.calls),
+            call_count,
         })
     }
 }
@@ -159,13 +155,7 @@ impl Sink for FileRows {
 
     fn self_cost(&mut self, r: SelfCost<'_>) -> Result<(), AllocError> {
         let held = self.names.len();
-        if let Err(refused) = merge_self(
-            self.alloc,
-            &mut self.names,
-            &mut self.marks,
-            &mut self.cells,
-            r,
-        ) {
+        if let Err(refused) = merge_self(&mut self.names, &mut self.marks, &mut self.cells, r) {
             take_back(&mut self.names, &mut self.marks, held);
             return Err(refused);
         }
@@ -176,13 +166,7 @@ impl Sink for FileRows {
 
     fn call(&mut self, r: CallCost<'_>) -> Result<(), AllocError> {
         let held = self.names.len();
-        if let Err(refused) = merge_call(
-            self.alloc,
-            &mut self.names,
-            &mut self.marks,
-            &mut self.calls,
-            r,
-        ) {
+        if let Err(refused) = merge_call(&mut self.names, &mut self.marks, &mut self.calls, r) {
             take_back(&mut self.names, &mut self.marks, held);
             return Err(refused);
         }

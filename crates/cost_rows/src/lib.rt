@@ -1,10 +1,8 @@
 //! The rows of profiles: names interned, records merged, and sums that must fit.
 #![tactic(auto)]
 
-// How many calls there were, and their sums.
-mod calls;
-// The sums of a place, by column.
-mod costs;
+// Sums of calls, with how many there were (specs/Calls.antt).
+mod call_sums;
 // The rows of one file: a sink of records and of stacks (specs/Content.antt, Rows.antt).
 mod file_rows;
 // Which numbers the names of the stacks before had.
@@ -41,8 +39,10 @@ mod stack_counts;
 mod counted_stacks;
 // Sums by key, as rows (specs/KeySums.antt).
 mod sum_rows;
-// One more amount at its key in an ordered map (specs/Merging.antt).
-mod sums;
+// Sums by key, all in one list.
+mod sum_map;
+// The stretch of a key's sums in that list (specs/Stretches.antt).
+mod stretches;
 // A file's sums by column (specs/Sums.antt, WalkSums.antt).
 mod totals;
 // A file's rows with names, one after another.

@@ -4,7 +4,7 @@ ghost use Rattle.cg_text.specs.Distinct.{are_distinct};
 ghost use Rattle.cost_rows.specs.Naming.{place_of, GivesNumber};
 ghost use Rattle.cost_rows.specs.Sums.{name_at};
 
-use cg_text::ListVec;
+use cg_text::TextList;
 use std::alloc::{AllocError, Global};
 use std::collections::BTreeMap;
 use std::marker::Model;
@@ -14,7 +14,7 @@ use std::marker::Model;
 #[derive(Drop)]
 pub struct Names {
     alloc: Global,
-    names: Vec<ListVec<u8>>,
+    names: TextList,
     numbers: BTreeMap<Vec<u8>, u32>,
 }
 
@@ -24,9 +24,9 @@ impl Model for Names {
 
     ghost Value = { List (List ℕ) };
 
-    ghost view = { λ a. a.names.items };
+    ghost view = { λ a. a.names };
 
-    ghost invariant = { λ a. IsNumbered a.names.items a.numbers };
+    ghost invariant = { λ a. IsNumbered a.names a.numbers };
 }
 
 impl Names {
@@ -36,7 +36,7 @@ impl Names {
     {
         Names {
             alloc,
-            names: Vec::new(alloc),
+            names: TextList::new(alloc),
             numbers: BTreeMap::new(alloc),
         }
     }
@@ -55,7 +55,7 @@ impl Names {
         requires { id < length self.now }
         ensures { slice_get self.now id ≡ Some result.now }
     {
-        self.names[id as usize].as_slice()
+        self.names.text(id as usize)
     }
 
     /// The name of a number, empty for one that was not given out. Takes no memory.
@@ -63,7 +63,7 @@ impl Names {
         ensures { result.now ≡ name_at self.now id }
     {
         match self.names.get(id as usize) {
-            Some(name) => name.as_slice(),
+            Some(name) => name,
             None => &[],
         }
     }
@@ -84,10 +84,9 @@ impl Names {
             return Err(AllocError);
         };
         let key = name.to_vec(self.alloc)?;
-        let held = name.to_vec(self.alloc)?;
-        self.names.push(ListVec::from_vec(held))?;
+        self.names.push(name)?;
         if let Err(refused) = self.numbers.insert(key, number) {
-            let _ = self.names.pop();
+            self.names.truncate(number as usize);
             return Err(AllocError::from(refused));
         }
         Ok(number)
@@ -111,9 +110,9 @@ impl Names {
         ensures { self.new ≡ take len self.old }
     {
         while self.names.len() > len {
-            if let Some(name) = self.names.pop() {
-                let _ = self.numbers.remove(name.as_slice());
-            }
+            let last = self.names.len() - 1;
+            let _ = self.numbers.remove(self.names.text(last));
+            self.names.truncate(last);
         }
     }
 }

@@ -1,27 +1,27 @@
 // The rows of a file with names by their numbers, one after another.
 
-use crate::calls::Calls;
-use crate::costs::Costs;
+use crate::call_sums::count_and_costs;
 use crate::places::{Call, CellPlace};
 use crate::rows::{CallEdge, Cell};
-use std::collections::btree_map::Iter;
+use crate::sum_map::SumIter;
 use std::marker::Model;
 
 /// The sums of calls with names by their numbers, in the order of these, the line after the caller's
 /// names. Takes no memory.
 #[derive(Drop)]
 pub struct NumberedCalls<'a> {
-    pub(crate) rest: Iter<'a, Call, Calls>,
+    pub(crate) rest: SumIter<'a, Call>,
 }
 
 impl<'a> Model for NumberedCalls<'a> {
     ghost use Rattle.std.specs.Prelude.{ℕ, List};
     ghost use Rattle.cost_rows.specs.declared.rows.CallEdge.{CallEdge};
     ghost use Rattle.cost_rows.specs.ByNumber.{numbered_calls};
+    ghost use Rattle.cost_rows.specs.Calls.{calls_in};
 
     ghost Value = { List (CallEdge ℕ (List ℕ)) };
 
-    ghost view = { λ a. numbered_calls a.rest };
+    ghost view = { λ a. numbered_calls (calls_in a.rest) };
 }
 
 impl<'a> Iterator for NumberedCalls<'a> {
@@ -35,7 +35,8 @@ impl<'a> Iterator for NumberedCalls<'a> {
     ghost remaining = { item_count (λ s. s) };
 
     fn next(&mut self) -> Option<CallEdge<u32, &'a [u128]>> {
-        let (call, calls) = self.rest.next()?;
+        let (call, sums) = self.rest.next()?;
+        let (count, costs) = count_and_costs(sums);
         Some(CallEdge {
             object: call.place.object,
             file: call.place.file,
@@ -44,8 +45,8 @@ impl<'a> Iterator for NumberedCalls<'a> {
             called_object: call.object,
             called_file: call.file,
             called_function: call.function,
-            count: calls.count,
-            costs: calls.costs.as_slice(),
+            count,
+            costs,
         })
     }
 }
@@ -54,7 +55,7 @@ impl<'a> Iterator for NumberedCalls<'a> {
 /// by thread and by event. Takes no memory.
 #[derive(Drop)]
 pub struct NumberedCells<'a> {
-    pub(crate) rest: Iter<'a, CellPlace, Costs>,
+    pub(crate) rest: SumIter<'a, CellPlace>,
     pub(crate) place: CellPlace,
     pub(crate) costs: &'a [u128],
     pub(crate) event: usize,
@@ -104,7 +105,7 @@ impl<'a> Iterator for NumberedCells<'a> {
                 None => {
                     let (place, costs) = self.rest.next()?;
                     self.place = *place;
-                    self.costs = costs.as_slice();
+                    self.costs = costs;
                     self.event = 0;
                 }
             }

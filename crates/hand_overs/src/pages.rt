@@ -20,7 +20,7 @@ pub fn to_pages<D: Disk + Drop>(
     ensures store { IfSome result (RepresentsStore conn) }
 {
     match conn.close_files() {
-        Ok(files) => PageRuns::open(alloc, files, options),
+        Ok(files) => PageRuns::open(alloc, files, options, 0),
         Err((_, store)) => {
             drop(store.close());
             None

@@ -8,28 +8,36 @@ use Rattle.store_schema.specs.Tables.{Holds, event_columns, derived_columns, coe
 use Rattle.table_changes.specs.Keys.{AreOfNewRun}
 use Rattle.table_changes.proofs.Fills as fills
 use Rattle.line_fills.specs.Filled.{IsTableFilled}
+use Rattle.line_fills.specs.Rows.{rows_behind}
+use Rattle.line_fills.proofs.Numbers.{columns_behind}
 
 module _ (t : Tables) (now next : Trees) (was : Holds t now) (n : ℕ) (held : has_run t n ≡ true) where
   pub events_filled : (xs : List EventRow) → AreOfNewRun (λ (x : EventRow). x.run) n t.events xs
       → IsTableFilled schema_two now next run_event_at (map event_columns xs) → Holds (with_events xs t) next
-  events_filled xs new_run f = fills.events_filled t now next was n held f.news xs f.spared f.shaped f.behind f.columns_are new_run f.filled.0 f.filled.1.0
+  events_filled xs new_run f =
+      fills.events_filled t now next was n held (rows_behind (now run_event_at.tree) (map event_columns xs)) xs f.spared f.shaped f.behind (columns_behind (now run_event_at.tree) (map event_columns xs)) new_run f.filled.0 f.filled.1.0
 
   pub derived_filled : (xs : List DerivedRow) → AreOfNewRun (λ (x : DerivedRow). x.run) n t.derived xs
       → IsTableFilled schema_two now next derived_at (map derived_columns xs) → Holds (with_derived xs t) next
-  derived_filled xs new_run f = fills.derived_filled t now next was n held f.news xs f.spared f.shaped f.behind f.columns_are new_run f.filled.0 f.filled.1.0
+  derived_filled xs new_run f =
+      fills.derived_filled t now next was n held (rows_behind (now derived_at.tree) (map derived_columns xs)) xs f.spared f.shaped f.behind (columns_behind (now derived_at.tree) (map derived_columns xs)) new_run f.filled.0 f.filled.1.0
 
   pub coefs_filled : (xs : List CoefRow) → AreOfNewRun (λ (x : CoefRow). x.run) n t.coefs xs
       → IsTableFilled schema_two now next coef_at (map coef_columns xs) → Holds (with_coefs xs t) next
-  coefs_filled xs new_run f = fills.coefs_filled t now next was n held f.news xs f.spared f.shaped f.behind f.columns_are new_run f.filled.0
+  coefs_filled xs new_run f =
+      fills.coefs_filled t now next was n held (rows_behind (now coef_at.tree) (map coef_columns xs)) xs f.spared f.shaped f.behind (columns_behind (now coef_at.tree) (map coef_columns xs)) new_run f.filled.0
 
   pub cells_filled : (xs : List CellRow) → AreOfNewRun (λ (x : CellRow). x.run) n t.cells xs
       → IsTableFilled schema_two now next thread_cell_at (map cell_columns xs) → Holds (with_cells xs t) next
-  cells_filled xs new_run f = fills.cells_filled t now next was n held f.news xs f.spared f.shaped f.behind f.columns_are new_run f.filled.0
+  cells_filled xs new_run f =
+      fills.cells_filled t now next was n held (rows_behind (now thread_cell_at.tree) (map cell_columns xs)) xs f.spared f.shaped f.behind (columns_behind (now thread_cell_at.tree) (map cell_columns xs)) new_run f.filled.0
 
   pub calls_filled : (xs : List CallRow) → AreOfNewRun (λ (x : CallRow). x.run) n t.calls xs
       → IsTableFilled schema_two now next arc_at (map arc_columns xs) → Holds (with_calls xs t) next
-  calls_filled xs new_run f = fills.calls_filled t now next was n held f.news xs f.spared f.shaped f.behind f.columns_are new_run f.filled.0
+  calls_filled xs new_run f =
+      fills.calls_filled t now next was n held (rows_behind (now arc_at.tree) (map arc_columns xs)) xs f.spared f.shaped f.behind (columns_behind (now arc_at.tree) (map arc_columns xs)) new_run f.filled.0
 
   pub stacks_filled : (xs : List StackRow) → AreOfNewRun (λ (x : StackRow). x.run) n t.stacks xs
       → IsTableFilled schema_two now next stack_at (map stack_columns xs) → Holds (with_stacks xs t) next
-  stacks_filled xs new_run f = fills.stacks_filled t now next was n held f.news xs f.spared f.shaped f.behind f.columns_are new_run f.filled.0
+  stacks_filled xs new_run f =
+      fills.stacks_filled t now next was n held (rows_behind (now stack_at.tree) (map stack_columns xs)) xs f.spared f.shaped f.behind (columns_behind (now stack_at.tree) (map stack_columns xs)) new_run f.filled.0

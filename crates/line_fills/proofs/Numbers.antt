@@ -4,12 +4,13 @@ use Rattle.std.specs.List.{AllByRecursion, range_with_len}
 use Rattle.std.proofs.lemmas.List.{get_or-map, length-take-le, take_more}
 use Rattle.std.proofs.Math.Seq.{get_or-append_seam}
 use Rattle.std.proofs.lemmas.Int.{ints}
+use Rattle.sqlite_rules.specs.Edit.{next_rowid}
 use Rattle.sqlite_trees.specs.Tree.{IsTable, rowid}
 use Rattle.sqlite_value.specs.declared.value.Value.{Value}
 use Rattle.sqlite_value.specs.declared.value.Value.TheVariants.{Int}
 use Rattle.sqlite_value.specs.Order.{Row, value_cmp}
 use Rattle.sqlite_value.proofs.OrderLemmas.{value_cmp-Int, value_cmp_total}
-use Rattle.line_fills.specs.Rows.{numbered, row_at}
+use Rattle.line_fills.specs.Rows.{first_from, numbered, row_at, rows_behind}
 
 pub numbered-append : (first : ℕ) (front back : List Row) → numbered first (front ++ back) ≡ numbered first front ++ numbered (first + length front) back
 numbered-append first [] back = let same : first ≡ first + 0 = omega arith in ap (λ n. numbered n back) same
@@ -83,6 +84,9 @@ rise_behind (r ∷ olds) first lines up below =
     (both (λ q. value_cmp (rowid r) (rowid q) ≡ Less) olds (numbered first lines) up.0 (above (rowid r) first lines below.0), rise_behind olds first lines up.1 below.1)
 
 -- without their rowids they are the lines
-pub columns_numbered : (first : ℕ) (lines : List Row) → map (drop 1) (numbered first lines) ≡ lines
+columns_numbered : (first : ℕ) (lines : List Row) → map (drop 1) (numbered first lines) ≡ lines
 columns_numbered first [] = refl
 columns_numbered first (x ∷ lines) = ap (λ l. x ∷ l) (columns_numbered (suc first) lines)
+
+pub columns_behind : (olds lines : List Row) → map (drop 1) (rows_behind olds lines) ≡ lines
+columns_behind olds lines = columns_numbered (first_from (next_rowid olds)) lines

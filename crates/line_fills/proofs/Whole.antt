@@ -1,7 +1,8 @@
 -- A table and then its indexes are filled.
-use Rattle.std.proofs.Common.{◌≡◌, ◌≢◌, ◌==◌, ◌||◌, ℕ, Bool, true, false, true≢false, pos, List, ◌∷◌, ◌++◌, refl, sym, subst, ◌∙◌, eq-eqb}
+use Rattle.std.proofs.Common.{◌≡◌, ◌≢◌, ◌==◌, ◌||◌, ℕ, Bool, true, false, true≢false, pos, List, ◌∷◌, ◌++◌, refl, sym, ap, subst, ◌∙◌, eq-eqb}
 use Rattle.std.specs.List.{AllByRecursion, list_any}
 use Rattle.sqlite_disk.specs.declared.Disk.{Ghosts}
+use Rattle.sqlite_rules.specs.Edit.{next_rowid}
 use Rattle.sqlite_rules.proofs.ListLemmas.{all_from, all_has}
 use Rattle.sqlite_schema.specs.declared.schema.Index.{Index}
 use Rattle.sqlite_schema.specs.declared.schema.Schema.{Schema}
@@ -22,11 +23,11 @@ use Rattle.row_writes.specs.Changes.{AreBelow, AreIndexed}
 use Rattle.row_writes.specs.Places.{indexes_of, IsPlaceOf}
 use Rattle.row_writes.proofs.Changed.{mine_of, table_shaped, with_other, with_same}
 use Rattle.row_writes.proofs.Spaced.{indexes_apart, table_apart}
-use Rattle.line_fills.specs.Filled.{HasFilled}
+use Rattle.line_fills.specs.Filled.{HasFilled, IsIndexFilled}
 use Rattle.line_fills.specs.Placed.{CanBeFilled, HasEntries}
-use Rattle.line_fills.specs.Rows.{numbered}
+use Rattle.line_fills.specs.Rows.{first_from, numbered, rows_behind}
 use Rattle.line_fills.proofs.Indexes.{among_none, still_filled_from, trees_of}
-use Rattle.line_fills.proofs.Numbers.{columns_numbered, rise_behind}
+use Rattle.line_fills.proofs.Numbers.{rise_behind}
 
 -- a tree is neither of two
 neither : (a tree : ℕ) (more : List ℕ) → list_any (λ n. n == tree) (a ∷ more) ≡ false → (a ≢ tree) × (list_any (λ n. n == tree) more ≡ false)
@@ -76,20 +77,21 @@ module _ {D : Type 0} {g : Ghosts D} (place : Place) (schema : Schema) (wanted :
           subst (IsIndexOf i.columns olds) (sym same) (subst (λ n. IsIndexOf i.columns (now n) (now i.tree)) mine.1 was));
     }
 
-    pub whole_filled : (new : PageFile D g) → HasEntries wanted roots was with_news (indexes_of schema table) (numbered first lines) new → HasFilled schema wanted roots was now table lines new
-    whole_filled new has =
+    pub whole_filled : (new : PageFile D g) → first ≡ first_from (next_rowid (now table.tree)) → HasEntries wanted roots was with_news (indexes_of schema table) (numbered first lines) new
+        → HasFilled schema wanted roots was now table lines new
+    whole_filled new is has =
         let there : has.next t ≡ olds ++ news = has.spared t (among_none t indexes others) ∙ with_same now t (olds ++ news) in
+        let same : news ≡ rows_behind olds lines = ap (λ n. numbered n lines) is in
+        let entered = still_filled_from with_news now has.next news indexes (all_from _ indexes (λ i mine. with_other now t i.tree (olds ++ news) (all_has (λ (j : Index). j.tree ≢ t) indexes i others mine))) has.filled in
         record {
           next = has.next;
           writes = has.writes;
           filled = record {
-            news = news;
-            behind = there;
-            columns_are = columns_numbered first lines;
+            behind = there ∙ ap (λ rows. olds ++ rows) same;
             shaped = subst (IsShaped shape.Table) (sym there) shaped;
             spared = λ tree none.
                 let away = neither t tree (trees_of indexes) none in
                 has.spared tree away.1 ∙ with_other now t tree (olds ++ news) (λ same. away.0 (sym same));
-            filled = still_filled_from with_news now has.next news indexes (all_from _ indexes (λ i mine. with_other now t i.tree (olds ++ news) (all_has (λ (j : Index). j.tree ≢ t) indexes i others mine))) has.filled;
+            filled = subst (λ rows. AllByRecursion (IsIndexFilled now has.next rows) indexes) same entered;
           };
         }

@@ -1,5 +1,5 @@
 -- Rows stand behind those of a table, and their entries in its indexes.
-use Rattle.std.specs.Prelude.{◌≡◌, ℕ, List, ◌∷◌, ◌++◌, drop, length, map, Result, MatchResult}
+use Rattle.std.specs.Prelude.{◌≡◌, ℕ, List, ◌∷◌, ◌++◌, length, map, Result, MatchResult}
 use Rattle.std.specs.List.{AllByRecursion}
 use Rattle.sqlite_disk.specs.declared.Disk.{Ghosts}
 use Rattle.sqlite_schema.specs.declared.schema.Index.{Index}
@@ -18,6 +18,7 @@ use Rattle.page_places.specs.Failures.{FailsToStore}
 use Rattle.plain_tables.specs.declared.errors.StoreError.{StoreError}
 use Rattle.row_writes.specs.declared.places.Place.{Place}
 use Rattle.line_fills.specs.Causes.{CanBeFilledIn}
+use Rattle.line_fills.specs.Rows.{rows_behind}
 use Rattle.row_writes.specs.Changes.{AtTable}
 use Rattle.row_writes.specs.Places.{indexes_of}
 
@@ -29,14 +30,12 @@ trees_over schema table = table.tree ∷ map (λ (i : Index). i.tree) (indexes_o
 abbrev pub IsIndexFilled : Trees → Trees → List Row → Index → Type 0
 IsIndexFilled now next news i = Fills i.columns (length i.columns) news (now i.tree) (next i.tree)
 
--- the table has new rows behind its own, each of which is a rowid and then these columns, and its indexes have their entries
+-- the table has rows of these columns behind its own, numbered from the next rowid on, and its indexes have their entries
 pub record IsTableFilled (schema : Schema) (now next : Trees) (table : Table) (columns : List Row) : Type 0 where
-  pub news : List Row
-  pub behind : next table.tree ≡ now table.tree ++ news
-  pub columns_are : map (drop 1) news ≡ columns
+  pub behind : next table.tree ≡ now table.tree ++ rows_behind (now table.tree) columns
   pub shaped : IsShaped shape.Table (next table.tree)
   pub spared : SparesBut (trees_over schema table) now next
-  pub filled : AllByRecursion (IsIndexFilled now next news) (indexes_of schema table)
+  pub filled : AllByRecursion (IsIndexFilled now next (rows_behind (now table.tree) columns)) (indexes_of schema table)
 
 module _ {D : Type 0} {g : Ghosts D} where
   -- the transaction shows trees in which these rows are filled in

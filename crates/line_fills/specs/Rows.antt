@@ -1,7 +1,9 @@
 -- The rows of new lines, and their entries in an index.
-use Rattle.std.specs.Prelude.{◌≡◌, ◌≢◌, ◌+◌, ◌<◌, ◌^◌, ℕ, suc, pos, nat_lt, if◌then◌else◌, List, [], ◌∷◌, All, length, map, slice_index_or, IsSortedBy}
+use Rattle.std.specs.Prelude.{◌≡◌, ◌≢◌, ◌+◌, ◌<◌, ◌^◌, ℕ, ℤ, suc, pos, nat_abs, nat_lt, if◌then◌else◌, List, [], ◌∷◌, All, length, map, slice_index_or, IsSortedBy}
+use Rattle.std.specs.Int.{int_max}
 use Rattle.std.specs.Ordering.{is_lt}
 use Rattle.std.specs.declared.cmp.Ordering.TheVariants.{Less}
+use Rattle.sqlite_rules.specs.Edit.{next_rowid}
 use Rattle.sqlite_sql.specs.Catalog.{entry_of}
 use Rattle.plain_tables.specs.Lists.{IsAscending}
 use Rattle.sqlite_value.specs.declared.value.Value.TheVariants.{Int, Null}
@@ -19,6 +21,14 @@ ArePlacesOf lines places = All (λ place. place < length lines) places
 abbrev pub numbered : ℕ → List Row → List Row
 numbered first [] = []
 numbered first (line ∷ lines) = (Int (pos first) ∷ line) ∷ numbered (suc first) lines
+
+-- the first rowid that new rows get, where this one is above all: 1 at least
+abbrev pub first_from : ℤ → ℕ
+first_from free = nat_abs (int_max free (pos 1))
+
+-- new rows of these columns, numbered from the next rowid of those that are there
+abbrev pub rows_behind : List Row → List Row → List Row
+rows_behind olds columns = numbered (first_from (next_rowid olds)) columns
 
 -- the one at a place
 abbrev pub row_at : ℕ → List Row → ℕ → Row

@@ -1,7 +1,8 @@
 // Lines behind a table, and in its indexes (specs/Filled.antt).
-ghost use Rattle.std.specs.Prelude.{◌≡◌, ◌+◌, ◌<◌, ◌^◌, ◌≤ℤ◌, pos, map, length, None, IfErr, IfOk, IfSome, OnOk};
+ghost use Rattle.std.specs.Prelude.{◌≡◌, ◌+◌, ◌<◌, ◌^◌, pos, map, length, None, IfErr, IfOk, IfSome, OnOk};
 ghost use Rattle.sqlite_pool.specs.Pool as pools;
 ghost use Rattle.sqlite_pool.specs.Stored.{Keeps};
+ghost use Rattle.sqlite_rules.specs.Edit.{next_rowid};
 ghost use Rattle.sqlite_value.specs.declared.value.Value.TheVariants.{Int};
 ghost use Rattle.page_files.specs.Files.{IsUsable, OnlyReads};
 ghost use Rattle.row_writes.specs.Changes.{AreBelow, AtRows};
@@ -9,7 +10,7 @@ ghost use Rattle.page_places.specs.Failures.{FailsToStore};
 ghost use Rattle.line_fills.specs.Causes.{HasRoom, HasRoomFrom};
 ghost use Rattle.line_fills.specs.Filled.{FillsTable};
 ghost use Rattle.line_fills.specs.Placed.{FillsIndexes};
-ghost use Rattle.line_fills.specs.Rows.{HaveRowids, numbered};
+ghost use Rattle.line_fills.specs.Rows.{HaveRowids, first_from, numbered};
 
 use crate::appends::{append_rows, fill_index};
 use crate::lines::PageLine;
@@ -20,10 +21,10 @@ use row_writes::{IndexPlace, Place, free_rowid};
 use sqlite_disk::Disk;
 use std::alloc::Global;
 
-/// A rowid above those of a table, or `None` where too few are left for so many rows.
+/// The first rowid of new rows, from one above those of a table, or `None` where too few are left for so many rows.
 fn first_of(free: i64, count: usize) -> Option<u64>
     ensures room { IfSome result (λ first. first + count < 2 ^ 63) }
-    ensures above { IfSome result (λ first. free ≤ℤ pos first) }
+    ensures first { IfSome result (λ first. first ≡ first_from free) }
     ensures none { result ≡ None → ¬ (HasRoomFrom free count) }
 {
     let first = u64::try_from(free.max(1)).ok()?;
@@ -31,13 +32,14 @@ fn first_of(free: i64, count: usize) -> Option<u64>
     if end < 1 << 63 { Some(first) } else { None }
 }
 
-/// A rowid above those of a table, with room for the lines behind it.
+/// The first rowid of lines behind those of a table, with room for them.
 fn first_rowid<D: Disk, L>(
     file: &mut PageFile<D>,
     alloc: Global,
     place: &Place<'_>,
     lines: &[L],
 ) -> Result<u64, StoreError>
+    ensures first { IfOk result (λ first. AtRows file.old file.new place.now (λ rows. first ≡ first_from (next_rowid rows))) }
     ensures above { IfOk result (λ first. AtRows file.old file.new place.now (AreBelow (Int (pos first)))) }
     ensures room { IfOk result (λ first. HaveRowids first lines.now) }
     ensures failed { AtRows file.old file.new place.now (λ rows. IfErr result (FailsToStore file.old file.new (HasRoom rows (length lines.now)))) }
@@ -72,8 +74,8 @@ fn fill_indexes<D: Disk, L: PageLine>(
     Ok(())
 }
 
-/// Puts a row for each line behind those of a table, with an entry in each of its indexes. After an error some of it
-/// may be written.
+/// Puts a row for each line behind those of a table, numbered from the next rowid on, with an entry in each of its
+/// indexes. After an error some of it may be written.
 ///
 /// # Errors
 /// `Memory`; `Store` where the file failed or is at a limit, a record is too long, two lines have the same key in an

@@ -1,17 +1,14 @@
 -- The numbers of names, as rowids.
-use Rattle.std.proofs.Common.{◌≡◌, ℕ, suc, Bool, true, false, ◌||◌, if◌then◌else◌, bytes_eq, pos, List, [], ◌∷◌, ◌++◌, ap, refl, subst, ◌∙◌}
+use Rattle.std.proofs.Common.{◌≡◌, ℕ, suc, Bool, true, false, ◌||◌, if◌then◌else◌, bytes_eq, pos, List, [], ◌∷◌, ◌++◌, ap, refl, ◌∙◌}
 use Rattle.std.specs.List.{list_any}
 use Rattle.std.proofs.lemmas.List.Sums.{fold-append}
 use Rattle.std.proofs.lemmas.Slice.Eq.{bytes_eq-Decides}
 use Rattle.sqlite_rules.specs.Edit.{next_rowid}
 use Rattle.sqlite_trees.specs.Tree.{Trees}
-use Rattle.sqlite_value.specs.declared.value.Value.TheVariants.{Int}
-use Rattle.row_writes.specs.Changes.{AreBelow}
 use Rattle.plain_tables.specs.Changes.{has_name, next_name, with_new_name}
 use Rattle.plain_tables.specs.Files.{number_in}
 use Rattle.plain_tables.specs.Tables.{Tables, NameRow}
 use Rattle.sql_tables.proofs.Contents.{content_there}
-use Rattle.sql_tables.proofs.Rows.{below_next}
 use Rattle.store_schema.specs.Schema.{schema_two, name_at}
 use Rattle.store_schema.specs.Tables.{Holds, contents_of}
 use Rattle.store_schema.proofs.Rows.{next_is}
@@ -20,12 +17,6 @@ module _ (t : Tables) (now : Trees) (holds : Holds t now) where
   -- the next rowid is the number of the next name
   pub next_rowid_is : next_rowid (now 11) ≡ pos (next_name t.names)
   next_rowid_is = ap next_rowid (content_there schema_two.tables (contents_of t) now 5 name_at refl holds.contain.contents_are).rows_are ∙ next_is t.names 1
-
-  -- which is above that of each
-  pub names_below_next : AreBelow (Int (pos (next_name t.names))) (now 11)
-  names_below_next =
-      let shaped = (content_there schema_two.tables (contents_of t) now 5 name_at refl holds.contain.contents_are).numbered in
-      subst (λ z. AreBelow (Int z) (now 11)) next_rowid_is (below_next (now 11) shaped.0 shaped.1)
 
 -- the last of these lines is the first of its name
 last_number : (lines : List NameRow) (line : NameRow) → list_any (λ (l : NameRow). bytes_eq l.name line.name) lines ≡ false → number_in (lines ++ line ∷ []) line.name ≡ line.number

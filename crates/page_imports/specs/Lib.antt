@@ -1,3 +1,4 @@
 pub mod Imports
+pub mod Names
 pub mod Needs
 pub mod Steps

@@ -1,7 +1,7 @@
 -- What the steps of an import need of the tables.
-use Rattle.std.specs.Prelude.{◌≡◌, ◌≢◌, ℕ, ◌<◌, ◌==◌, Bool, false, true, IsTrue, List, map}
+use Rattle.std.specs.Prelude.{◌≡◌, ◌≢◌, ℕ, ◌<◌, ◌==◌, false, true, List, map}
 use Rattle.std.specs.List.{AllByRecursion, list_any}
-use Rattle.plain_tables.specs.Changes.{has_name, has_run, next_name}
+use Rattle.plain_tables.specs.Changes.{has_run}
 use Rattle.plain_tables.specs.Lists.{Has}
 use Rattle.plain_tables.specs.Tables.{Tables, RunRow as Run, CellRow, CallRow, StackRow}
 use Rattle.prof_books.specs.Book.{AreOf}
@@ -47,17 +47,3 @@ pub record HasNoRow (n : ℕ) (t : Tables) : Type 0 where
   pub cells : HasNoCell n t
   pub calls : HasNoCall n t
   pub stacks : HasNoStack n t
-
--- the next name gets this number
-abbrev pub IsNextName : ℕ → Tables → Type 0
-IsNextName next t = next ≡ next_name t.names
-
--- the name is not held, and gets this number
-pub record CanName (number : ℕ) (name : List ℕ) (t : Tables) : Type 0 where
-  pub next : IsNextName number t
-  pub none : has_name t name ≡ false
-
--- the next new name gets this number, and where it is said to be new it is not held
-pub record CanNumber (next : ℕ) (is_new : Bool) (name : List ℕ) (t : Tables) : Type 0 where
-  pub next_is : IsNextName next t
-  pub new : IsTrue is_new → has_name t name ≡ false

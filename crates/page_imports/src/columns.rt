@@ -1,6 +1,5 @@
 // The columns of rows, without their rowids.
-ghost use Rattle.std.specs.Prelude.{◌≡◌, ◌∷◌, [], drop, IfOk};
-ghost use Rattle.sqlite_value.specs.declared.value.Value.TheVariants.{Blob, Null};
+ghost use Rattle.std.specs.Prelude.{◌≡◌, drop, IfOk};
 ghost use Rattle.store_schema.specs.Lines.{run_row};
 ghost use Rattle.store_schema.specs.Tables as tables;
 
@@ -30,15 +29,5 @@ pub(crate) fn run_columns(alloc: Global, run: &RunRow<'_>) -> Result<Row, AllocE
     row.push(ValueRef::Blob(run.digest))?;
     row.push(ValueRef::Text(run.label.as_bytes()))?;
     row.push(ValueRef::Int(run.call_count.as_i64()))?;
-    Ok(row)
-}
-
-/// The row of a name.
-pub(crate) fn name_columns(alloc: Global, name: &[u8]) -> Result<Row, AllocError>
-    ensures { IfOk result (λ row. row ≡ Null ∷ Blob name.now ∷ []) }
-{
-    let mut row = Row::new(alloc);
-    row.push(ValueRef::Null)?;
-    row.push(ValueRef::Blob(name))?;
     Ok(row)
 }

@@ -10,6 +10,8 @@ mod heads;
 mod imports;
 // The names of a file, by their numbers in the store.
 mod names;
+// Numbers of names, and the new names among them (specs/Names.antt).
+mod numbering;
 // The rows of a file.
 mod rows;
 

@@ -3,47 +3,21 @@ ghost use Rattle.std.specs.Prelude.{◌≡◌, [], ⊤, false, IsTrue, OnOk};
 ghost use Rattle.sqlite_pool.specs.Pool as pools;
 ghost use Rattle.sqlite_pool.specs.Stored.{Keeps};
 ghost use Rattle.page_files.specs.Files.{IsUsable, OnlyReads};
-ghost use Rattle.plain_tables.specs.Changes.{has_name, named, with_new_name};
-ghost use Rattle.plain_tables.specs.Files.{all_named, number_in, numbers_in};
+ghost use Rattle.plain_tables.specs.Changes.{has_name};
+ghost use Rattle.plain_tables.specs.Files.{all_named, numbers_in};
 ghost use Rattle.store_schema.specs.Names.{number_if_held};
-ghost use Rattle.page_imports.specs.Needs.{CanName, CanNumber, IsNextName};
+ghost use Rattle.page_imports.specs.Names.{AreNumbered, AreUnheld, IsNextName, bytes_of, with_names};
 ghost use Rattle.page_imports.specs.Steps.{Makes, MakesTelling, Tells};
 
-use crate::columns::name_columns;
+use crate::numbering::{NewName, Numbered};
 use cost_rows::Names;
+use line_fills::fill;
 use page_files::PageFile;
 use page_places::{StoreRoots, error_of, error_of_row, find_name};
 use plain_tables::StoreError;
-use row_writes::{IndexPlace, Place, free_rowid, insert};
+use row_writes::{IndexPlace, Place, free_rowid};
 use sqlite_disk::Disk;
 use std::alloc::Global;
-
-/// Puts a name that is not held behind the others.
-fn add_name<D: Disk>(
-    file: &mut PageFile<D>,
-    alloc: Global,
-    roots: &StoreRoots,
-    name: &[u8],
-    number: u32,
-) -> Result<(), StoreError>
-    ensures done { Makes file.old file.new roots.now (CanName number name.now) (with_new_name name.now) result }
-    ensures usable { OnOk result (IsUsable file.new) }
-    ensures keeps { Keeps (pools.state file.old.pool) (pools.state file.new.pool) }
-{
-    let columns = name_columns(alloc, name)?;
-    let keys = [IndexPlace {
-        root: roots.name_bytes,
-        columns: &[2],
-    }];
-    let place = Place {
-        root: roots.names,
-        indexes: &keys,
-    };
-    match insert(file, alloc, &place, i64::from(number), &columns) {
-        Ok(()) => Ok(()),
-        Err(error) => Err(error_of_row(error)),
-    }
-}
 
 /// The number that the next name gets.
 fn next_name<D: Disk>(
@@ -98,10 +72,10 @@ fn held_number<D: Disk>(
     name: &[u8],
     is_new: bool,
 ) -> Result<Option<u32>, StoreError>
-    ensures told { MakesTelling file.old file.new roots.now (λ _. ⊤) (λ t. t) result
+    ensures told { Tells file.old file.new roots.now result
         (λ t found. (IsTrue is_new → has_name t name.now ≡ false) → found ≡ number_if_held t name.now) }
+    ensures reads { OnlyReads file.old file.new }
     ensures usable { IsUsable file.old → OnOk result (IsUsable file.new) }
-    ensures keeps { Keeps (pools.state file.old.pool) (pools.state file.new.pool) }
 {
     if is_new {
         return Ok(None);
@@ -109,32 +83,51 @@ fn held_number<D: Disk>(
     find_name(file, alloc, roots.name_bytes, name)
 }
 
-/// The number of a name, which is held from now on. The next new name gets the number `next`.
-fn number_name<D: Disk>(
+/// The numbers of a file's names. Where none is held yet, none is sought.
+fn find_numbers<'a, D: Disk>(
     file: &mut PageFile<D>,
     alloc: Global,
     roots: &StoreRoots,
-    name: &[u8],
-    is_new: bool,
-    next: &mut u64,
-) -> Result<u32, StoreError>
-    ensures done { MakesTelling file.old file.new roots.now (CanNumber next.old is_new name.now) (named name.now) result
-        (λ t number. (number ≡ number_in t.names name.now) × IsNextName next.new t) }
-    ensures usable { IsUsable file.old → OnOk result (IsUsable file.new) }
-    ensures keeps { Keeps (pools.state file.old.pool) (pools.state file.new.pool) }
+    names: &'a Names,
+) -> Result<Numbered<'a>, StoreError>
+    ensures told { Tells file.old file.new roots.now result (λ t found. AreNumbered t names.now found) }
+    ensures reads { OnlyReads file.old file.new }
+    ensures usable { OnOk result (IsUsable file.new) }
 {
-    if let Some(number) = held_number(file, alloc, roots, name, is_new)? {
-        return Ok(number);
+    let is_new = holds_none(file, alloc, roots)?;
+    let next = next_name(file, alloc, roots)?;
+    let mut found = Numbered::new(alloc, names.len(), next)?;
+    'names: for at in 0..names.len() {
+        let name = names.name(at as u32);
+        let held = held_number(file, alloc, roots, name, is_new)?;
+        found.take(name, held)?;
     }
-    let Ok(number) = u32::try_from(*next) else {
-        return Err(StoreError::Store);
-    };
-    add_name(file, alloc, roots, name, number)?;
-    *next = u64::from(number) + 1;
-    Ok(number)
+    Ok(found)
 }
 
-/// The numbers of a file's names, which are held from now on. Where none is held yet, none is sought.
+/// Puts new names behind those that are held.
+fn put_names<D: Disk>(
+    file: &mut PageFile<D>,
+    alloc: Global,
+    roots: &StoreRoots,
+    news: &[NewName<'_>],
+) -> Result<(), StoreError>
+    ensures done { Makes file.old file.new roots.now (AreUnheld (bytes_of news.now)) (with_names (bytes_of news.now)) result }
+    ensures usable { OnOk result (IsUsable file.new) }
+    ensures keeps { Keeps (pools.state file.old.pool) (pools.state file.new.pool) }
+{
+    let keys = [IndexPlace {
+        root: roots.name_bytes,
+        columns: &[2],
+    }];
+    let place = Place {
+        root: roots.names,
+        indexes: &keys,
+    };
+    fill(file, alloc, &place, news)
+}
+
+/// The numbers of a file's names, which are held from now on.
 pub(crate) fn number_names<D: Disk>(
     file: &mut PageFile<D>,
     alloc: Global,
@@ -145,15 +138,7 @@ pub(crate) fn number_names<D: Disk>(
     ensures usable { OnOk result (IsUsable file.new) }
     ensures keeps { Keeps (pools.state file.old.pool) (pools.state file.new.pool) }
 {
-    let is_new = holds_none(file, alloc, roots)?;
-    let mut next = next_name(file, alloc, roots)?;
-    let mut numbers = Vec::new(alloc);
-    'names: for at in 0..names.len() {
-        let name = names.name(at as u32);
-        let number = number_name(file, alloc, roots, name, is_new, &mut next)?;
-        if numbers.push(number).is_err() {
-            return Err(StoreError::Memory);
-        }
-    }
-    Ok(numbers)
+    let found = find_numbers(file, alloc, roots, names)?;
+    put_names(file, alloc, roots, &found.news)?;
+    Ok(found.numbers)
 }

@@ -26,7 +26,7 @@ use Rattle.page_runs.specs.Finished.{Finishes, IsUndone}
 use Rattle.page_places.specs.Roots.{AreRoots}
 use Rattle.page_runs.specs.States.{HoldsIn, IsFaithful, IsSettled, Left, ReadsAs, Represents, ShowsTables, held_by, kept, may_leave, state_of}
 use Rattle.page_runs.specs.declared.store.PageRuns.{PageRuns}
-use Rattle.page_runs.proofs.States.{shown_same, still_or_failed}
+use Rattle.page_runs.proofs.States.{kept_same, shown_same, still_or_failed}
 
 pub is_done : {T E : Type 0} (r : Result T E) {P : Type 0} → IsTrue (is_ok r) → OnOk r P → P
 is_done (Ok x) done p = p
@@ -48,7 +48,7 @@ module _ {D : Type 0} {g : Ghosts D} where
     pub holds : Holds t next
 
   module _ (given : Tables → Type 0) (change : Tables → Tables) (old mid new : PageRuns D g) (k : Keeps (pools.state old.file.pool) (pools.state mid.file.pool))
-      (lists : mid.lists ≡ old.lists) (roots : mid.roots ≡ old.roots) (written result : Result (Unit {0}) StoreError) (fin : Finishes written result mid new)
+      (lists : mid.lists ≡ old.lists) (roots : mid.roots ≡ old.roots) (kept_cells : mid.kept_cells ≡ old.kept_cells) (written result : Result (Unit {0}) StoreError) (fin : Finishes written result mid new)
       (made : IsFaithful mid → (t : Tables) → given t → (was : Represents t old) → OnOk written (IsMade (change t) was mid))
       (ordered : (t : Tables) → given t → AreSound t → AreInOrder t → AreInOrder (change t)) (faithful : IsFaithful new) where
     later : StaysOrFails (pools.state mid.file.pool) (pools.state new.file.pool)
@@ -82,7 +82,8 @@ module _ {D : Type 0} {g : Ghosts D} where
     shown : is_ok result ≡ false → IsUsable new.file → (t : Tables) → IsSettled (kept old) → ShowsTables t old → ShowsTables t new
     shown failed usable t settled is =
         let u = undone failed usable in
-        shown_same old new (later.size ∙ k.stays.size) (ap (λ (p : PageMap × PageMap). p.0) (same_kept failed settled usable)) (u.lists ∙ lists) (u.roots ∙ roots) t is
+        shown_same old new (later.size ∙ k.stays.size) (ap (λ (p : PageMap × PageMap). p.0) (same_kept failed settled usable)) (u.lists ∙ lists) (u.roots ∙ roots) t
+        (kept_same old new (u.kept_cells ∙ kept_cells) t is) is
 
     read_again : is_ok result ≡ false → (t : Tables) → ReadsAs t old → IsUsable new.file → ReadsAs t new
     read_again failed t is usable = record {

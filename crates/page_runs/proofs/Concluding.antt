@@ -38,7 +38,8 @@ module _ {D : Type 0} {g : Ghosts D} where
   pub commits_nothing : (old new : PageFile D g) → Keeps (pools.state old.pool) (pools.state new.pool) → CommitsAtMost old new
   commits_nothing old new k image may = inl (k.crash image may)
 
-  module _ (old mid new : PageRuns D g) (reads : OnlyReads old.file mid.file) (lists : mid.lists ≡ old.lists) (roots : mid.roots ≡ old.roots) where
+  module _ (old mid new : PageRuns D g) (reads : OnlyReads old.file mid.file) (lists : mid.lists ≡ old.lists) (roots : mid.roots ≡ old.roots)
+      (kept_cells : mid.kept_cells ≡ old.kept_cells) where
     k : Keeps (pools.state old.file.pool) (pools.state mid.file.pool)
     k = reads.keeps
 
@@ -47,6 +48,7 @@ module _ {D : Type 0} {g : Ghosts D} where
     undone_behind stays u = record {
       lists = u.lists ∙ lists;
       roots = u.roots ∙ roots;
+      kept_cells = u.kept_cells ∙ kept_cells;
       forgets = record { clean = u.forgets.clean; committed = u.forgets.committed ∙ k.committed (stays.was_open u.forgets.clean.is_open) };
       rests = λ wanted known was stands. u.rests wanted known was (stands_on_along old.file mid.file k stands);
     }
@@ -79,7 +81,7 @@ module _ {D : Type 0} {g : Ghosts D} where
           let later = writes_after old.file mid.file reads earlier usable writes in
           let shown = tables_show old.file t next known (stands_writing old.file writes) holds old.roots are in
           let told = listed earlier t next holds shown in
-          three_ok result (λ same rests still. represents_as t new next known rests holds order (subst (AreRoots known) (sym (same.1 ∙ roots)) are) (subst (AreListed t) (sym same.0) told) still)
+          three_ok result (λ same rests still. represents_as t new next known rests holds order (subst (AreRoots known) (sym (same.1 ∙ roots)) are) (subst (AreListed t) (sym same.0) told) (same.2 t) still)
           commits.made (commits.rests faithful wanted known was next later) commits.usable;
       undone = λ faithful. if_err result (λ u still. undone_behind commits.stays (u still)) (commits.undone faithful);
       crash = commits_behind usable commits.stays.clean commits.crash;

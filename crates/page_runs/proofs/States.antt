@@ -21,6 +21,7 @@ use Rattle.page_files.specs.Held.{Rests}
 use Rattle.page_files.proofs.Reading.{rests_after}
 use Rattle.run_lists.specs.Listed.{AreListed}
 use Rattle.page_places.specs.Roots.{AreRoots}
+use Rattle.page_runs.specs.Kept.{AreKept}
 use Rattle.page_runs.specs.States.{IsFaithful, IsSettled, Left, Represents, ShowsTables, kept, may_leave, state_of}
 use Rattle.page_runs.specs.declared.store.PageRuns.{PageRuns}
 use Rattle.page_files.proofs.Reading.{OnlyReads-refl}
@@ -39,14 +40,19 @@ module _ {D : Type 0} {g : Ghosts D} where
   pub still_or_failed : (old new : PageFile D g) → StaysOrFails (pools.state old.pool) (pools.state new.pool) → IsUsable old → IsUsable new ⊎ MoreFaults (pools.state old.pool).faults (pools.state new.pool).faults
   still_or_failed old new stays was = elim (cases_Bool (pools.state new.pool).is_ready) [ inl still ↦ inl still | inr shut ↦ inr (stays.stops was shut) ]
 
-  -- stores that show the same pages, with the same lists and roots, are read as the same rows
+  -- what is kept stays
+  pub kept_same : (old new : PageRuns D g) → new.kept_cells ≡ old.kept_cells → (t : Tables) → ShowsTables t old → AreKept t new.kept_cells
+  kept_same old new same t is = subst (AreKept t) (sym same) is.kept_cells
+
+  -- stores that show the same pages, with the same lists and roots, are read as the same rows, if the cells that they keep are of these
   pub shown_same : (old new : PageRuns D g) → page_size new.file ≡ page_size old.file → pages_of new.file ≡ pages_of old.file → new.lists ≡ old.lists → new.roots ≡ old.roots
-      → (t : Tables) → ShowsTables t old → ShowsTables t new
-  shown_same old new size pages lists roots t is = record {
+      → (t : Tables) → AreKept t new.kept_cells → ShowsTables t old → ShowsTables t new
+  shown_same old new size pages lists roots t kept is = record {
     known = is.known;
     stored = same_store old.file new.file size pages is.stored;
     roots = subst (AreRoots is.known) (sym roots) is.roots;
     listed = subst (AreListed t) (sym lists) is.listed;
+    kept_cells = kept;
     ordered = is.ordered;
   }
 
@@ -56,16 +62,17 @@ module _ {D : Type 0} {g : Ghosts D} where
     pub pages : files.IsFaithful new → IsUsable new → pages_of new ≡ pages_of old
     pub rests : files.IsFaithful new → IsUsable new → (wanted : List Wanted) (known : List ℕ) (db : Trees) → Rests wanted known db old → Rests wanted known db new
 
-  stays_read : (old new : PageFile D g) → OnlyReads old new → StaysSame old new
+  pub stays_read : (old new : PageFile D g) → OnlyReads old new → StaysSame old new
   stays_read old new reads = record {
     keeps = reads.keeps;
     pages = λ faithful usable. reads.pages;
     rests = λ faithful usable wanted known db was. rests_after old new reads faithful usable was;
   }
 
-  module _ (old new : PageRuns D g) (file : StaysSame old.file new.file) (lists : new.lists ≡ old.lists) (roots : new.roots ≡ old.roots) where
+  module _ (old new : PageRuns D g) (file : StaysSame old.file new.file) (lists : new.lists ≡ old.lists) (roots : new.roots ≡ old.roots)
+      (kept_now : IsFaithful new → (t : Tables) → ShowsTables t old → AreKept t new.kept_cells) where
     shown_after : IsFaithful new → IsUsable new.file → (t : Tables) → ShowsTables t old → ShowsTables t new
-    shown_after faithful usable t is = shown_same old new file.keeps.stays.size (file.pages faithful usable) lists roots t is
+    shown_after faithful usable t is = shown_same old new file.keeps.stays.size (file.pages faithful usable) lists roots t (kept_now faithful t is) is
 
     kept_after : IsFaithful new → IsUsable new.file → kept new ≡ kept old
     kept_after faithful usable =
@@ -93,9 +100,9 @@ module _ {D : Type 0} {g : Ghosts D} where
         let next = subst (λ n. RecoversAs n image left.1) file.keeps.stays.size same in
         (sized ∙ file.keeps.stays.size, (before, might, λ pages is. next pages (first pages is)))
 
-    -- a call that leaves its file so was only asked
-    pub asked_same : (answered : Bool) → (IsTrue answered → IsUsable new.file) → (IsFaithful new → Asked state_of answered old new)
-    asked_same answered done faithful = record {
+    -- a call that leaves its file so, and keeps cells of these rows, was only asked
+    pub asked_keeping : (answered : Bool) → (IsTrue answered → IsUsable new.file) → (IsFaithful new → Asked state_of answered old new)
+    asked_keeping answered done faithful = record {
       stays = record {
         was_faithful = file.keeps.stays.clean faithful;
         counts = file.keeps.stays.faults;
@@ -111,14 +118,19 @@ module _ {D : Type 0} {g : Ghosts D} where
       crash = λ left may. inl (leaves_after left may);
     }
 
-  -- one that reads its file
-  pub asked : (old new : PageRuns D g) → OnlyReads old.file new.file → new.lists ≡ old.lists → new.roots ≡ old.roots
+  -- so was one that keeps those that were kept
+  pub asked_same : (old new : PageRuns D g) → StaysSame old.file new.file → new.lists ≡ old.lists → new.roots ≡ old.roots → new.kept_cells ≡ old.kept_cells
       → (answered : Bool) → (IsTrue answered → IsUsable new.file) → (IsFaithful new → Asked state_of answered old new)
-  asked old new reads lists roots = asked_same old new (stays_read old.file new.file reads) lists roots
+  asked_same old new file lists roots kept = asked_keeping old new file lists roots (λ faithful. kept_same old new kept)
+
+  -- one that reads its file
+  pub asked : (old new : PageRuns D g) → OnlyReads old.file new.file → new.lists ≡ old.lists → new.roots ≡ old.roots → new.kept_cells ≡ old.kept_cells
+      → (answered : Bool) → (IsTrue answered → IsUsable new.file) → (IsFaithful new → Asked state_of answered old new)
+  asked old new reads = asked_same old new (stays_read old.file new.file reads)
 
   -- one that reads nothing changes nothing
   pub asked_nothing : (answered : Bool) (store : PageRuns D g) → (IsTrue answered → IsUsable store.file) → (IsFaithful store → Asked state_of answered store store)
-  asked_nothing answered store done = asked store store (OnlyReads-refl store.file) refl refl answered done
+  asked_nothing answered store done = asked store store (OnlyReads-refl store.file) refl refl refl answered done
 
   -- and may be answered where the store can be used
   pub asked_usable : (store : PageRuns D g) → IsUsable store.file → (answered : Bool) → (IsFaithful store → Asked state_of answered store store)

@@ -13,6 +13,7 @@ use Rattle.page_files.specs.Held.{Rests}
 use Rattle.run_order.specs.Order.{AreInOrder}
 use Rattle.page_places.specs.Roots.{AreRoots}
 use Rattle.page_places.proofs.Stores.{shows_resting}
+use Rattle.page_runs.specs.Kept.{AreKept}
 use Rattle.page_runs.specs.Shown.{ShowsLines, ShowsRows}
 use Rattle.page_runs.specs.States.{Represents, ShowsTables}
 use Rattle.page_runs.proofs.Rooting.{tables_show}
@@ -44,9 +45,9 @@ module _ {D : Type 0} {g : Ghosts D} where
 
   -- whose roots were found and small tables read
   pub represents_as : (t : Tables) (store : PageRuns D g) (db : Trees) (known : List ℕ) {wanted : List Wanted} → Rests wanted known db store.file → Holds t db → AreInOrder t
-      → AreRoots known store.roots → AreListed t store.lists → IsUsable store.file → Represents t store
-  represents_as t store db known {wanted} rests holds order roots listed usable = record {
-    reads = record { usable = usable; settled = rests.clean.fresh; shows = record { known = known; stored = shows_resting store.file rests holds; roots = roots; listed = listed; ordered = order } };
+      → AreRoots known store.roots → AreListed t store.lists → AreKept t store.kept_cells → IsUsable store.file → Represents t store
+  represents_as t store db known {wanted} rests holds order roots listed kept usable = record {
+    reads = record { usable = usable; settled = rests.clean.fresh; shows = record { known = known; stored = shows_resting store.file rests holds; roots = roots; listed = listed; kept_cells = kept; ordered = order } };
     wanted = wanted;
     known = known;
     db = db;

@@ -16,6 +16,7 @@ use Rattle.run_lists.specs.declared.listed.RunLists.{RunLists}
 use Rattle.run_order.specs.Order.{AreInOrder}
 use Rattle.store_schema.specs.Tables.{Holds}
 use Rattle.page_places.specs.Roots.{AreRoots}
+use Rattle.page_runs.specs.Kept.{IsForgotten}
 use Rattle.page_runs.specs.States.{Represents}
 use Rattle.page_runs.specs.declared.store.PageRuns.{PageRuns}
 
@@ -24,14 +25,15 @@ module _ {D : Type 0} {g : Ghosts D} where
   pub record IsUndone (old new : PageRuns D g) : Type 0 where
     pub lists : new.lists ≡ old.lists
     pub roots : new.roots ≡ old.roots
+    pub kept_cells : new.kept_cells ≡ old.kept_cells
     pub forgets : Forgets old.file new.file
     pub rests : (wanted : List Wanted) (known : List ℕ) (was : Trees) → StandsOn wanted known was old.file → Rests wanted known was new.file
 
-  -- what was written is committed, and these lists are held; or it is undone
+  -- what was written is committed, these lists are held, and the cells that were kept are forgotten; or it is undone
   pub record Commits (lists : RunLists) (result : Result (Unit {0}) StoreError) (old new : PageRuns D g) : Type 0 where
     pub stays : StaysOrFails (pools.state old.file.pool) (pools.state new.file.pool)
     pub usable : OnOk result (IsUsable new.file)
-    pub made : OnOk result ((new.lists ≡ lists) × (new.roots ≡ old.roots))
+    pub made : OnOk result ((new.lists ≡ lists) × (new.roots ≡ old.roots) × IsForgotten new.kept_cells)
     pub rests : IsFaithful new.file → (wanted : List Wanted) (known : List ℕ) (was next : Trees) → Writes wanted known was next old.file → OnOk result (Rests wanted known next new.file)
     pub undone : IsFaithful new.file → OnErr result (IsUsable new.file → IsUndone old new)
     pub crash : CommitsAtMost old.file new.file

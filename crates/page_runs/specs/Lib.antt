@@ -1,5 +1,6 @@
 pub mod Among
 pub mod Finished
+pub mod Kept
 pub mod Names
 pub mod Shown
 pub mod Sizes

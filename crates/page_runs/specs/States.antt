@@ -24,6 +24,7 @@ use Rattle.held_lines.proofs.Apart.{apart_held}
 use Rattle.run_stores.specs.declared.states.StoreState.{Ghosts as StoreGhosts}
 use Rattle.page_places.specs.Roots.{AreRoots}
 use Rattle.page_places.specs.Stores.{ShowsStore}
+use Rattle.page_runs.specs.Kept.{AreKept}
 use Rattle.page_runs.specs.declared.store.PageRuns.{PageRuns}
 
 -- the files, and the size of their pages
@@ -53,12 +54,13 @@ abbrev pub IsSettled : Kept → Type 0
 IsSettled kept = kept.0 ≡ kept.1
 
 module _ {D : Type 0} {g : Ghosts D} where
-  -- its file shows a store of these rows, its tables and indexes under these roots, and the rows of runs in the order of the runs
+  -- its file shows a store of these rows, its tables and indexes under these roots, and the rows of runs in the order of the runs; what is kept is of them
   pub record ShowsTables (t : Tables) (store : PageRuns D g) : Type 0 where
     pub known : List ℕ
     pub stored : ShowsStore t known store.file
     pub roots : AreRoots known store.roots
     pub listed : AreListed t store.lists
+    pub kept_cells : AreKept t store.kept_cells
     pub ordered : AreInOrder t
 
   abbrev pub IsFaithful : PageRuns D g → Type 0

@@ -5,14 +5,17 @@ ghost use Rattle.page_files.specs.Files.{IsFaithful, OnlyReads};
 ghost use Rattle.plain_tables.specs.RunRows.{cells_in, calls_in, stacks_in};
 ghost use Rattle.plain_tables.specs.Tables.{Tables, CellRow as Cell, CallRow as Call, StackRow as Stack};
 ghost use Rattle.prof_books.specs.Book.{stacks_held};
-ghost use Rattle.run_stores.specs.Walks.{CallsFoldTo, CellsFoldTo};
+ghost use Rattle.run_stores.specs.Walks.{CallsFoldTo, CellsFoldTo, cell_numbers};
 ghost use Rattle.store_schema.specs.Lines.{call_row, cell_row, held_stack};
 ghost use Rattle.store_schema.specs.Tables.{number, cell_columns, arc_columns, stack_columns};
+ghost use Rattle.page_runs.specs.Kept.{HasGathered};
 ghost use Rattle.page_runs.specs.Shown.{ShowsLines};
 
 use crate::fields::{copied_in, end_of, number_in, whole_in};
 use crate::hints::Hints;
+use crate::kept::{Gathered, KeptCells};
 use crate::run_rows::{LineSink, RunTable, each_line};
+use cost_rows::Cell as CellOf;
 use held_lines::{CallLines, CellLines, StackLines};
 use page_files::PageFile;
 use plain_tables::StoreError;
@@ -84,11 +87,19 @@ fn read_stack(alloc: Global, run: u32, mut fields: Fields<'_>) -> Result<HeldSta
     Ok(HeldStack { run, frames, count })
 }
 
-impl<T: CellSink + Drop> LineSink for CellLines<T> {
+/// Takes the cells of a run, and gathers them on the way.
+#[derive(Drop)]
+struct GatheredLines<T> {
+    lines: CellLines<T>,
+    gathered: Gathered,
+}
+
+impl<T: CellSink + Drop> LineSink for GatheredLines<T> {
     ghost use Rattle.std.specs.Prelude.{ℕ};
     ghost use Rattle.plain_tables.specs.Tables.{CellRow as Cell};
     ghost use Rattle.store_schema.specs.Tables.{cell_columns};
     ghost use Rattle.held_lines.specs.HeldCells.{HasTakenCellLines};
+    ghost use Rattle.page_runs.specs.Kept.{HasGathered};
 
     ghost Line = { Cell };
 
@@ -98,12 +109,13 @@ impl<T: CellSink + Drop> LineSink for CellLines<T> {
 
     ghost Start = { ℕ × T.Meaning };
 
-    ghost Has = { λ start lines s. HasTakenCellLines start.0 T.meaning T.step start.1 lines s };
+    ghost Has = { λ start lines s. HasTakenCellLines start.0 T.meaning T.step start.1 lines s.lines × HasGathered lines s.gathered };
 
     fn take(&mut self, run: u32, fields: Fields<'_>) -> Result<u64, StoreError> {
         let line = read_cell(run, fields)?;
         let cost = line.cost.get();
-        self.take_line(line)?;
+        self.gathered.add(&line);
+        self.lines.take_line(line)?;
         Ok(cost)
     }
 }
@@ -162,22 +174,45 @@ impl<T: StackRowSink + Drop> LineSink for CopiedStacks<T> {
     }
 }
 
-/// Hands on the cells of a run, with so many events, as `RunStore::each_cell`.
+/// Hands on cells that are kept, as `RunStore::each_cell`.
+pub(crate) fn each_kept<T: CellSink + Drop>(
+    cells: &[CellOf<u32>],
+    events: usize,
+    mut sink: T,
+) -> Result<T, StoreError>
+    ensures { (lines : List Cell) → cells.now ≡ map cell_numbers lines
+        → IfOk result (λ taken. CellsFoldTo events T.step (T.meaning sink) (T.meaning taken) lines) }
+{
+    for cell in cells {
+        if cell.event >= events {
+            return Err(StoreError::Store);
+        }
+        sink.take(cell)?;
+    }
+    Ok(sink)
+}
+
+/// Hands on the cells of a run, with so many events, as `RunStore::each_cell`, and those that were gathered to be kept.
 pub(crate) fn each_cell<D: Disk, T: CellSink + Drop>(
     file: &mut PageFile<D>,
     alloc: Global,
     table: RunTable,
     hints: &mut Hints,
+    kept: &KeptCells,
     events: usize,
     sink: T,
-) -> Result<T, StoreError>
+) -> Result<(T, Gathered), StoreError>
     ensures told { IsFaithful file.new → (t : Tables) → ShowsLines file.old table.root cell_columns (λ (c : Cell). c.run) t.cells
-        → IfOk result (λ taken. CellsFoldTo events T.step (T.meaning sink) (T.meaning taken) (cells_in table.run t) × (sum_by (λ (c : Cell). c.cost) (cells_in table.run t) ≡ table.sum)) }
+        → IfOk result (λ r. CellsFoldTo events T.step (T.meaning sink) (T.meaning r.0) (cells_in table.run t)
+        × (sum_by (λ (c : Cell). c.cost) (cells_in table.run t) ≡ table.sum) × HasGathered (cells_in table.run t) r.1) }
     ensures reads { OnlyReads file.old file.new }
 {
-    let lines = CellLines::new(events, sink);
-    let lines = each_line(file, alloc, table, hints, lines)?;
-    Ok(lines.finish())
+    let lines = GatheredLines {
+        lines: CellLines::new(events, sink),
+        gathered: kept.begin(),
+    };
+    let taken = each_line(file, alloc, table, hints, lines)?;
+    Ok((taken.lines.finish(), taken.gathered))
 }
 
 /// Hands on the calls of a run, row by row, as `RunStore::each_call`.

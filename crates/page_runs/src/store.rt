@@ -17,9 +17,10 @@ ghost use Rattle.run_stores.specs.Calls.{Asks};
 ghost use Rattle.std.specs.Result.{is_ok};
 
 use crate::files::open_file;
-use crate::handed::{each_call, each_cell, each_stack};
+use crate::handed::{each_call, each_cell, each_kept, each_stack};
 use crate::heads::head_of;
 use crate::hints::RunHints;
+use crate::kept::KeptCells;
 use crate::lists::read_lists;
 use crate::names::{holds_names, names_among, names_under};
 use crate::opening::open_store;
@@ -52,13 +53,21 @@ pub struct PageRuns<D: Disk> {
     is_alone: bool,
     /// Where the rows of runs began. Nothing rests on it.
     pub(crate) hints: RunHints,
+    /// The cells of some runs, as they stand in the pages.
+    pub(crate) kept_cells: KeptCells,
 }
 
 impl<D: Disk + Drop> PageRuns<D> {
     /// Opens the store in the files of a database, which are closed where it is none: where a table has other columns
     /// or keys than ours, where its version is another, or where what is read of it is damaged or out of form. Its
-    /// database tells then what it is. Of the rows of runs and of the names nothing is read.
-    pub fn open(alloc: Global, files: Files<D>, options: Options) -> Option<PageRuns<D>>
+    /// database tells then what it is. Of the rows of runs and of the names nothing is read. So many cells of small runs
+    /// are kept in memory once they were asked for: none at 0.
+    pub fn open(
+        alloc: Global,
+        files: Files<D>,
+        options: Options,
+        cells_to_keep: usize,
+    ) -> Option<PageRuns<D>>
         requires log { IsTrue (D.Disk.is_usable files.log) }
         requires db { IsTrue (D.Disk.is_usable files.db) }
         ensures honest { IfSome result (λ store. IsFaithful store → AreClean D.Disk files.log files.db) }
@@ -66,6 +75,7 @@ impl<D: Disk + Drop> PageRuns<D> {
         ensures represents { IfSome result (λ store. IsFaithful store → (t : Tables) → HoldsIn t (page_size store.file, seen_image D.Disk files.log files.db) → AreInOrder t
             → Represents t store) }
         ensures crash { IfSome result (λ store. AddsNothing (page_size store.file) (outcomes D.Disk files.log files.db) (files_may_leave store.file)) }
+        ensures keeps { IfSome result (λ store. store.kept_cells.limit ≡ cells_to_keep) }
     {
         let Some(file) = open_file(alloc, files, options) else {
             return None;
@@ -78,6 +88,7 @@ impl<D: Disk + Drop> PageRuns<D> {
                 lists,
                 is_alone,
                 hints: RunHints::new(alloc),
+                kept_cells: KeptCells::new(alloc, cells_to_keep),
             }),
             Err(_) => None,
         }
@@ -169,6 +180,7 @@ impl<D: Disk> PageRuns<D> {
                 self.lists = lists;
                 // Those of runs that are gone would take the places of others.
                 self.hints = RunHints::new(self.alloc);
+                self.kept_cells.forget();
                 Ok(())
             }
             Err(error) => Err(error_of(error)),
@@ -204,6 +216,7 @@ impl<D: Disk> PageRuns<D> {
             lists: _,
             is_alone: _,
             hints: _,
+            kept_cells: _,
         } = self;
         file
     }
@@ -361,16 +374,22 @@ impl<D: Disk> RunStore for PageRuns<D> {
         events: usize,
         sink: T,
     ) -> Result<T, StoreError> {
+        if let Some(cells) = self.kept_cells.cells_of(run) {
+            self.if_usable()?;
+            return each_kept(cells, events, sink);
+        }
         let table = self.cells_of(run)?;
-        let taken = each_cell(
+        let (taken, gathered) = each_cell(
             &mut self.file,
             self.alloc,
             table,
             &mut self.hints.cells,
+            &self.kept_cells,
             events,
             sink,
         )?;
         self.if_usable()?;
+        self.kept_cells.keep(run, gathered);
         Ok(taken)
     }
 

@@ -10,7 +10,7 @@ use Rattle.cost_rows.specs.ByNumber.{numbered_cell, numbered_at, numbered_cells,
 use Rattle.cost_rows.specs.Walks.{cell_named, named_cells, edge_named, named_calls, counted_stacks}
 use Rattle.cost_rows.specs.declared.places.CellPlace.{CellPlace}
 use Rattle.cost_rows.specs.declared.places.Call.{Call}
-use Rattle.cost_rows.specs.declared.calls.Calls.{Calls}
+use Rattle.cost_rows.specs.Calls.{Calls}
 use Rattle.cost_rows.specs.declared.rows.Cell.{Cell}
 use Rattle.cost_rows.proofs.AboveLemmas.{all-above, map-above}
 use Rattle.plain_tables.specs.Tables.{NameRow, CellRow, CallRow, StackRow}

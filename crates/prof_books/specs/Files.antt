@@ -2,7 +2,7 @@
 use Rattle.std.specs.Prelude.{ℕ, suc, nat_lt, if◌then◌else◌, List, [], ◌∷◌, ◌++◌, slice_index_or}
 use Rattle.cost_rows.specs.declared.places.CellPlace.{CellPlace}
 use Rattle.cost_rows.specs.declared.places.Call.{Call}
-use Rattle.cost_rows.specs.declared.calls.Calls.{Calls}
+use Rattle.cost_rows.specs.Calls.{Calls}
 use Rattle.cost_rows.specs.Above.{rows_above}
 use Rattle.cost_rows.specs.Content.{Content}
 use Rattle.plain_tables.specs.Tables.{Tables, RunRow, EventRow, DerivedRow, CoefRow, CellRow, CallRow, StackRow}

@@ -4,8 +4,8 @@ use file_reading::total_file;
 use http_service::Service;
 use prof_store::OpenError;
 use program_stores::{
-    StoreInPages, database_at, error_line, is_new_at, pages_at, pages_to_change_at, ready_in,
-    serve_in_pages, work_in_pages,
+    StoreInPages, database_at, error_line, is_new_at, pages_at, pages_to_change_at,
+    pages_to_serve_at, ready_in, serve_in_pages, work_in_pages,
 };
 use sessions::{Task, Work, print_total, task_of};
 use std::io;
@@ -78,7 +78,11 @@ fn work_in_pages_at<'a>(
         },
         job => job,
     };
-    match pages_to_change_at(rt, db) {
+    let opened = match &job {
+        Job::Work(_) => pages_to_change_at(rt, db),
+        Job::Serve(_) => pages_to_serve_at(rt, db),
+    };
+    match opened {
         Ok(store) => Ok(change_pages(rt, store, job)),
         Err(end) => Err((end, job)),
     }

@@ -7,6 +7,7 @@ mod reading;
 mod stores;
 
 pub use reading::{
-    StoreInPages, pages_at, pages_to_change_at, serve_in_pages, store_in_pages, work_in_pages,
+    StoreInPages, pages_at, pages_to_change_at, pages_to_serve_at, serve_in_pages, store_in_pages,
+    work_in_pages,
 };
 pub use stores::{StoreFile, database_at, error_line, is_new_at, ready_in};

@@ -13,7 +13,9 @@ ghost use Rattle.store_histories.specs.Answered.{RepresentsHistory};
 ghost use Rattle.sessions.specs.Sessions.{Wants};
 ghost use Rattle.sessions.specs.Works.{CameTo};
 
-use crate::stores::{PAGES_TO_CHANGE, PAGES_TO_READ, error_of_path, is_no_file, options_for};
+use crate::stores::{
+    CELLS_TO_KEEP, PAGES_TO_CHANGE, PAGES_TO_READ, error_of_path, is_no_file, options_for,
+};
 use http_service::{Service, serve_over};
 use page_runs::PageRuns;
 use prof_store::OpenError;
@@ -47,7 +49,7 @@ pub fn store_in_pages<D: Disk + Drop, S: Start>(
         → HoldsIn t (page_size store.file, seen_image D.Disk files.log files.db) → RepresentsHistory state_of h store) }
 {
     let files = read_only(alloc, files, LONGEST_LOG)?;
-    PageRuns::open(alloc, files, options)
+    PageRuns::open(alloc, files, options, 0)
 }
 
 /// The store at a path, to be read from its pages, as `store_in_pages`. No guarantee: of the files at a path the
@@ -63,10 +65,15 @@ pub fn pages_at(rt: &HostRuntime, path: &str) -> Option<PageRuns<ReadOnly<File, 
     store_in_pages(rt.alloc(), files, options)
 }
 
-/// The store at a path, to be read and changed in its pages. `WrongSchema` where another program has put an index or a
-/// trigger on its tables; `Store` where its files are not plainly a store of this version, or cannot be opened so: their
-/// database says why. No guarantee: as `pages_at`; `PageRuns::open` says what the store represents.
-pub fn pages_to_change_at(rt: &HostRuntime, path: &str) -> Result<StoreInPages, OpenError> {
+/// The store at a path, to be read and changed in its pages, which keeps so many cells of small runs in memory.
+/// `WrongSchema` where another program has put an index or a trigger on its tables; `Store` where its files are not plainly
+/// a store of this version, or cannot be opened so: their database says why. No guarantee: as `pages_at`;
+/// `PageRuns::open` says what the store represents.
+fn keeping_pages_at(
+    rt: &HostRuntime,
+    path: &str,
+    cells_to_keep: usize,
+) -> Result<StoreInPages, OpenError> {
     if is_no_file(path) {
         return Err(OpenError::Store);
     }
@@ -75,11 +82,21 @@ pub fn pages_to_change_at(rt: &HostRuntime, path: &str) -> Result<StoreInPages, 
         Err(error) => return Err(error_of_path(error)),
     };
     let options = options_for(rt, PAGES_TO_CHANGE)?;
-    match PageRuns::open(rt.alloc(), files, options) {
+    match PageRuns::open(rt.alloc(), files, options, cells_to_keep) {
         Some(store) if store.may_be_changed() => Ok(store),
         Some(_) => Err(OpenError::WrongSchema),
         None => Err(OpenError::Store),
     }
+}
+
+/// The store at a path, to be changed by one command. No guarantee: as `keeping_pages_at`.
+pub fn pages_to_change_at(rt: &HostRuntime, path: &str) -> Result<StoreInPages, OpenError> {
+    keeping_pages_at(rt, path, 0)
+}
+
+/// The store at a path, to be served. No guarantee: as `keeping_pages_at`.
+pub fn pages_to_serve_at(rt: &HostRuntime, path: &str) -> Result<StoreInPages, OpenError> {
+    keeping_pages_at(rt, path, CELLS_TO_KEEP)
 }
 
 /// Does a work over a store in the pages of its file.

@@ -25,6 +25,9 @@ pub(crate) const PAGES_TO_READ: usize = 100;
 /// appended, but names and their index are written where they fall.
 pub(crate) const PAGES_TO_CHANGE: usize = 500;
 
+/// How many cells of small runs a server keeps in memory, 4 MB.
+pub(crate) const CELLS_TO_KEEP: usize = 65_536;
+
 /// What a database in a file is kept in.
 pub type StoreFile = FileStore<File>;
 

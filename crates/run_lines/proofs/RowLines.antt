@@ -5,7 +5,7 @@ use Rattle.std.specs.Iterator.{Drains}
 use Rattle.std.proofs.lemmas.Iterator.{YieldsList, items_from_drains}
 use Rattle.cost_rows.specs.declared.places.CellPlace.{CellPlace}
 use Rattle.cost_rows.specs.declared.places.Call.{Call}
-use Rattle.cost_rows.specs.declared.calls.Calls.{Calls}
+use Rattle.cost_rows.specs.Calls.{Calls}
 use Rattle.cost_rows.specs.declared.rows.Cell.{Cell}
 use Rattle.cost_rows.specs.declared.rows.CallEdge.{CallEdge}
 use Rattle.cost_rows.specs.declared.rows.StackCount.{StackCount}

@@ -17,9 +17,9 @@ use Rattle.sqlite_sql.specs.Catalog.{IsIndexOf, entry_of}
 use Rattle.sql_tables.proofs.Deletes.{row_of}
 use Rattle.sql_tables.proofs.Rows.{id_of}
 use Rattle.plain_tables.specs.Lists.{IsAscending}
-use Rattle.plain_tables.specs.Tables.{EventRow, DerivedRow, CoefRow, CellRow, CallRow, StackRow}
-use Rattle.store_schema.specs.Schema.{run_event_at, derived_at, coef_at, thread_cell_at, arc_at, stack_at}
-use Rattle.store_schema.specs.Tables.{event_columns, derived_columns, coef_columns, cell_columns, arc_columns, stack_columns, number}
+use Rattle.plain_tables.specs.Tables.{EventRow, DerivedRow, CoefRow, NameRow, CellRow, CallRow, StackRow}
+use Rattle.store_schema.specs.Schema.{run_event_at, derived_at, coef_at, name_at, thread_cell_at, arc_at, stack_at}
+use Rattle.store_schema.specs.Tables.{event_columns, derived_columns, coef_columns, name_columns, cell_columns, arc_columns, stack_columns, number}
 use Rattle.table_changes.specs.Keys.{Differ, HeadsDiffer, same_head, event_key, event_name_key, derived_key, derived_name_key, coef_key, cell_key, call_key, stack_key}
 use Rattle.table_changes.proofs.Contents.{Lined}
 
@@ -119,6 +119,12 @@ coef_heads a b x y same =
 
 pub coefs_differ : (rows : List Row) (xs : List CoefRow) (es : List Row) → Lined coef_at coef_columns rows xs → IsIndexOf (1 ∷ 2 ∷ 3 ∷ []) rows es → HeadsDiffer 3 es → Differ coef_key xs
 coefs_differ = differ_by_entries coef_at coef_columns coef_key (1 ∷ 2 ∷ 3 ∷ []) 3 coef_heads
+
+name_heads : (a b : ℤ) (x y : NameRow) → x.name ≡ y.name → take 1 (entry_of (2 ∷ []) (row_of name_at name_columns (Int a) x)) ≡ take 1 (entry_of (2 ∷ []) (row_of name_at name_columns (Int b) y))
+name_heads a b x y same = ap₂ {A = Value} ◌∷◌ (ap Blob same) refl
+
+pub names_differ : (rows : List Row) (xs : List NameRow) (es : List Row) → Lined name_at name_columns rows xs → IsIndexOf (2 ∷ []) rows es → HeadsDiffer 1 es → Differ (λ (x : NameRow). x.name) xs
+names_differ = differ_by_entries name_at name_columns (λ (x : NameRow). x.name) (2 ∷ []) 1 name_heads
 
 cell_heads : (a b : ℤ) (x y : CellRow) → cell_key x ≡ cell_key y → take 7 (entry_of (1 ∷ 5 ∷ 6 ∷ 4 ∷ 3 ∷ 2 ∷ 7 ∷ []) (row_of thread_cell_at cell_columns (Int a) x)) ≡ take 7 (entry_of (1 ∷ 5 ∷ 6 ∷ 4 ∷ 3 ∷ 2 ∷ 7 ∷ []) (row_of thread_cell_at cell_columns (Int b) y))
 cell_heads a b x y same =

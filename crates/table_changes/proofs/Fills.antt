@@ -1,25 +1,30 @@
--- A table and its indexes are filled with the rows of a run that is held and has none yet.
-use Rattle.std.proofs.Common.{◌≡◌, ℕ, List, [], ◌∷◌, ◌++◌, map, true, refl, sym, subst}
+-- A table and its indexes are filled with the rows of a run that is held and has none yet, or with new names.
+use Rattle.std.proofs.Common.{◌≡◌, ◌≢◌, ℕ, List, [], ◌∷◌, ◌++◌, map, true, false, bytes_eq, refl, sym, subst}
+use Rattle.std.specs.List.{AllByRecursion}
+use Rattle.std.proofs.lemmas.Bool.{both_ways}
 use Rattle.std.proofs.lemmas.List.Sorted.{IsPermutation-trans}
+use Rattle.std.proofs.lemmas.Slice.Eq.{bytes_eq-Decides}
 use Rattle.sqlite_value.specs.Order.{Row}
 use Rattle.sqlite_trees.specs.Tree.{Trees}
 use Rattle.sqlite_trees.specs.View.{IsShaped}
 use Rattle.sqlite_trees.specs.declared.store.Shape.TheVariants as shape
+use Rattle.sqlite_rules.proofs.ListLemmas.{all_from, all_has, some_from}
 use Rattle.sqlite_sql.specs.Catalog.{IsIndexOf}
 use Rattle.sql_tables.specs.Contents.{rows_that_count}
-use Rattle.plain_tables.specs.Changes.{has_run, with_calls, with_cells, with_coefs, with_derived, with_events, with_stacks}
-use Rattle.plain_tables.specs.Tables.{Tables, EventRow, DerivedRow, CoefRow, CellRow, CallRow, StackRow}
-use Rattle.store_schema.specs.Schema.{run_event_at, derived_at, coef_at, thread_cell_at, arc_at, stack_at}
-use Rattle.store_schema.specs.Tables.{Holds, event_columns, derived_columns, coef_columns, cell_columns, arc_columns, stack_columns}
+use Rattle.plain_tables.specs.Changes.{has_name, has_run, with_calls, with_cells, with_coefs, with_derived, with_events, with_stacks}
+use Rattle.plain_tables.specs.Tables.{Tables, EventRow, DerivedRow, CoefRow, NameRow, CellRow, CallRow, StackRow}
+use Rattle.store_schema.specs.Schema.{run_event_at, derived_at, coef_at, name_at, thread_cell_at, arc_at, stack_at}
+use Rattle.store_schema.specs.Tables.{Holds, event_columns, derived_columns, coef_columns, name_columns, cell_columns, arc_columns, stack_columns}
 use Rattle.table_changes.specs.Changes.{SparesBut}
 use Rattle.table_changes.specs.Fills.{Fills}
 use Rattle.table_changes.specs.Keys.{AreOfNewRun}
 use Rattle.table_changes.proofs.Contents.{Lined}
-use Rattle.table_changes.proofs.Distinct.{events_differ, event_names_differ, derived_differ, derived_names_differ, coefs_differ, cells_differ, calls_differ, stacks_differ}
+use Rattle.table_changes.proofs.Distinct.{events_differ, event_names_differ, derived_differ, derived_names_differ, coefs_differ, names_differ, cells_differ, calls_differ, stacks_differ}
 use Rattle.table_changes.proofs.Entries.{entries_behind}
 use Rattle.table_changes.proofs.Lines.{new_lines}
+use Rattle.table_changes.proofs.Numbered.{names_behind}
 use Rattle.table_changes.proofs.OfRuns.{calls_of_run, cells_of_run, coefs_of_run, derived_of_run, events_of_run, stacks_of_run}
-use Rattle.table_changes.proofs.Only.{only_calls, only_cells, only_coefs, only_derived, only_events, only_stacks}
+use Rattle.table_changes.proofs.Only.{only_calls, only_cells, only_coefs, only_derived, only_events, only_names, only_stacks}
 
 -- an index has the entries of the new rows behind, or among, its own
 filled_index : (places : List ℕ) (count : ℕ) (olds news old_entries new_entries rows : List Row) → rows ≡ olds ++ news → IsIndexOf places olds old_entries → Fills places count news old_entries new_entries → IsIndexOf places rows new_entries
@@ -68,3 +73,16 @@ module _ (t : Tables) (db next : Trees) (was : Holds t db) (n : ℕ) (held : has
       let only = only_stacks db next was.contain.sound spared (filled_index (1 ∷ 2 ∷ []) 2 (db 17) news (db 18) (next 18) (next 17) behind was.contain.sound.obeys.indexed.1.1.1.1.1.1.1.1.0 filled) in
       let lines : Lined stack_at stack_columns news xs = new_lines t db was 7 stack_at stack_columns t.stacks refl refl next refl only shaped news xs behind news_are in
       stacks_of_run t db next was news n held only shaped xs behind news_are of_new (stacks_differ news xs filled.entries lines filled.are_of filled.differ)
+
+module _ (t : Tables) (db next : Trees) (was : Holds t db) (xs : List NameRow) (none : AllByRecursion (λ (x : NameRow). has_name t x.name ≡ false) xs) where
+  -- none of the names is that of a line that is there
+  names_apart : AllByRecursion (λ (x : NameRow). AllByRecursion (λ (y : NameRow). x.name ≢ y.name) xs) t.names
+  names_apart = all_from _ t.names (λ x there. all_from _ xs (λ y fresh same.
+      both_ways _ (all_has (λ (z : NameRow). has_name t z.name ≡ false) xs y none fresh) (some_from (λ (z : NameRow). bytes_eq z.name y.name) t.names x there ((bytes_eq-Decides x.name y.name).1 same))))
+
+  pub names_filled : SparesBut (11 ∷ 12 ∷ []) db next → IsShaped shape.Table (next 11) → next 11 ≡ db 11 ++ map name_columns xs → Fills (2 ∷ []) 1 (map name_columns xs) (db 12) (next 12) → Holds (record t { names = t.names ++ xs }) next
+  names_filled spared shaped behind filled =
+      let news : List Row = map name_columns xs in
+      let only = only_names db next was.contain.sound spared (filled_index (2 ∷ []) 1 (db 11) news (db 12) (next 12) (next 11) behind was.contain.sound.obeys.indexed.1.1.1.1.1.1.0 filled) in
+      let lines : Lined name_at name_columns news xs = new_lines t db was 5 name_at name_columns t.names refl refl next refl only shaped news xs behind refl in
+      names_behind t db next was only shaped xs behind (record { apart = names_apart; among = names_differ news xs filled.entries lines filled.are_of filled.differ })

@@ -19,19 +19,19 @@ place_lent-requires-2-clause-agrees c =
 
 pub returns-clause-calls : goal.returns-clause-calls
 returns-clause-calls c =
-    on_ok_weaker c.merge_sums.result
+    on_ok_weaker c.merge.result
     (λ merged. merged
-    ∙ ap (λ call. merge call_cmp calls_added c.args.edges.now.entries call (record { count = c.args.r.count; costs = c.args.r.costs.now }))
+    ∙ ap (λ call. merge call_cmp calls_added c.args.edges.now call (record { count = c.args.r.count; costs = c.args.r.costs.now }))
     (call-numbered c.args.names.now c.place_lent.new.names c.place_lent-2.new.names (callee_of c.args.r) (cost_of c.args.r) c.in_ok-place.place c.in_ok-called.called
     c.in_ok-place.ensures.names c.in_ok-place.ensures.place c.in_ok-called.ensures.names c.in_ok-called.ensures.place))
-    c.merge_sums.ensures.ok
+    c.merge.ensures.ok
 
 pub returns-clause-learns : goal.returns-clause-learns
 returns-clause-learns c =
-    on_ok_weaker c.merge_sums.result
+    on_ok_weaker c.merge.result
     (λ merged. record {
       named = c.in_ok-called.ensures.learns.named;
       learns = learns-both (known_by c.args.names.now c.args.marks.now) (known_by c.place_lent.new.names c.place_lent.new.marks) (known_by c.place_lent-2.new.names c.place_lent-2.new.marks)
           c.args.r.names c.args.r.called c.in_ok-place.ensures.learns.learns c.in_ok-called.ensures.learns.learns;
     })
-    c.merge_sums.ensures.ok
+    c.merge.ensures.ok

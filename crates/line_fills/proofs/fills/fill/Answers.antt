@@ -29,6 +29,7 @@ returns-clause-done g c faithful = λ schema wanted roots was now table shows.
     let still = c.fill_indexes.ensures.keeps.stays.clean faithful in
     let clean = c.append_rows.ensures.keeps.stays.clean still in
     let above = c.in_ok-first.ensures.above clean schema wanted roots was now table shows in
+    let is = c.in_ok-first.ensures.first clean schema wanted roots was now table shows in
     let before = writes_after c.args.file.now read c.first_rowid.ensures.reads clean c.in_ok-first.ensures.usable shows.writes in
     let placed = c.in_ok-append_rows.ensures.done still wanted roots was now table.tree before at.at at.no_reals in
     let place = c.args.place.now in
@@ -36,7 +37,7 @@ returns-clause-done g c faithful = λ schema wanted roots was now table shows.
     let can = can_be_filled place schema wanted roots was now table at shows.indexed read before first lines above mid placed in
     let trees = with_news place schema wanted roots was now table at shows.indexed read before first lines above in
     let keeps = Keeps-trans _ _ _ c.first_rowid.ensures.reads.keeps c.append_rows.ensures.keeps in
-    match_result c.fill_indexes.result (whole_filled place schema wanted roots was now table at shows.indexed read before first lines above mid placed new)
+    match_result c.fill_indexes.result (whole_filled place schema wanted roots was now table at shows.indexed read before first lines above mid placed new is)
     (λ e. store_fails_later c.args.file.now mid new e keeps (λ (can : CanBeFilledIn lines (now table.tree) (indexes_of schema table)). can.entered first (room_for c.args.lines.now g.L.PageLine.columns first c.in_ok-first.ensures.room)))
     (c.fill_indexes.ensures.done faithful wanted roots was trees (indexes_of schema table) (now table.tree) w at.indexes can)
 

@@ -1,5 +1,5 @@
 use Rattle.std.proofs.lemmas.Int.{ints}
-use Rattle.std.proofs.Common.{rules, ◌≡◌, ◌-◌, ◌^◌, ◌≤ℤ◌, ◌+ℤ◌, ℕ, pos, List, length, IsTrue, inr, refl, sym, subst, ◌∙◌, arith, to_z-of_z, to_z, of_z, w64}
+use Rattle.std.proofs.Common.{rules, ◌≡◌, ◌-◌, ◌^◌, ◌≤ℤ◌, ◌+ℤ◌, ℕ, pos, List, length, IsTrue, inr, refl, sym, ap, subst, ◌∙◌, arith, to_z-of_z, to_z, of_z, w64}
 use Rattle.sqlite_disk.specs.declared.Disk.{Ghosts}
 use Rattle.sqlite_pool.specs.Pool.{state}
 use Rattle.sqlite_pool.specs.Stored.{Keeps}
@@ -15,15 +15,23 @@ use Rattle.row_writes.specs.declared.errors.RowError.{RowError}
 use Rattle.row_writes.specs.declared.errors.RowError.TheVariants.{Pages, Unstorable, NoRowid}
 use Rattle.row_writes.proofs.Outcomes.{numbered_next}
 use Rattle.line_fills.specs.Causes.{HasRoom, HasRoomFrom}
-use Rattle.line_fills.proofs.Raised.{all_raised}
+use Rattle.line_fills.specs.Rows.{first_from}
+use Rattle.line_fills.proofs.Raised.{all_raised, first_above}
 use Rattle.line_fills.proofs.fills.first_rowid.Goals as goal
+
+pub returns-in-Some-clause-first : goal.returns-in-Some-clause-first
+returns-in-Some-clause-first g c faithful = λ schema wanted roots was now table shows.
+    let free = c.in-Ok.free in
+    let same : to_z w64 (of_z w64 free) ≡ free = search (rules, to_z-of_z) in
+    c.in-Some.ensures.first ∙ ap first_from (same ∙ (c.in-Ok.ensures.done faithful schema wanted roots was now table shows).0)
 
 pub returns-in-Some-clause-above : goal.returns-in-Some-clause-above
 returns-in-Some-clause-above g c faithful = λ schema wanted roots was now table shows.
     let free = c.in-Ok.free in
     let first = c.in-Some.first in
     let same : to_z w64 (of_z w64 free) ≡ free = search (rules, to_z-of_z) in
-    all_raised free (pos first) (subst (λ n. n ≤ℤ pos first) same c.in-Some.ensures.above) (now table.tree) (c.in-Ok.ensures.done faithful schema wanted roots was now table shows).1
+    let is : first ≡ first_from free = c.in-Some.ensures.first ∙ ap first_from same in
+    all_raised free (pos first) (subst (λ n. free ≤ℤ pos n) (sym is) (first_above free)) (now table.tree) (c.in-Ok.ensures.done faithful schema wanted roots was now table shows).1
 
 -- a rowid could not be found
 not_numbered : {D : Type 0} {g : Ghosts D} (old new : PageFile D g) (rows : List Row) (count : ℕ) (error : RowError) (e : StoreError) → e ≡ failure_of_row error → Keeps (state old.pool) (state new.pool)

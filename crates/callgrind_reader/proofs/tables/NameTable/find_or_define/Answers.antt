@@ -1,4 +1,4 @@
-use Rattle.std.proofs.Common.{◌≡◌, ◌<◌, ◌≤◌, ◌++◌, ◌∷◌, [], length, vec_len, Some, None, refl, sym, ◌∙◌, ap, subst, arith}
+use Rattle.std.proofs.Common.{◌≡◌, ◌<◌, ◌≤◌, ◌++◌, ◌∷◌, [], length, Some, None, refl, sym, ◌∙◌, ap, subst, arith}
 use Rattle.std.proofs.lemmas.List.{length-append}
 use Rattle.callgrind_reader.specs.Inside.{AreInside, IsInside}
 use Rattle.callgrind_reader.specs.IdPlaces.{place_at}
@@ -12,9 +12,9 @@ invariant_of-self c = record { inside = λ q at here. c.args.self.now.inside q a
 pub invariant_of-self-in-Err : goal.invariant_of-self-in-Err
 invariant_of-self-in-Err c =
     let same = ap length c.in-Err.ensures.err in
-    let few : vec_len c.args.self.now.names ≤ vec_len c.push_name.new.names = omega (arith, same) in
+    let few : length c.args.self.now.names ≤ length c.push.new.self = omega (arith, same) in
     record {
-      inside = inside-back (place_at c.args.self.now.places) (place_at c.find_or_add.new.self) (place_at c.remove.new.self) c.args.id c.in_ok-place.place (vec_len c.args.self.now.names) (vec_len c.push_name.new.names)
+      inside = inside-back (place_at c.args.self.now.places) (place_at c.find_or_add.new.self) (place_at c.remove.new.self) c.args.id c.in_ok-place.place (length c.args.self.now.names) (length c.push.new.self)
           c.args.self.now.inside few c.in_ok-place.ensures.ok c.remove.ensures;
     }
 
@@ -22,11 +22,11 @@ pub invariant_of-self-in_default : goal.invariant_of-self-in_default
 invariant_of-self-in_default c =
     let old = c.args.self.now.names in
     let pushed = ap length c.in_default.ensures.ok in
-    let one_more = length-append old.items (c.args.text.now ∷ []) in
-    let few : vec_len old ≤ vec_len c.push_name.new.names = omega (arith, pushed, one_more) in
-    let below : c.in_ok-place.place < vec_len c.push_name.new.names = omega (arith, pushed, one_more) in
+    let one_more = length-append old (c.args.text.now ∷ []) in
+    let few : length old ≤ length c.push.new.self = omega (arith, pushed, one_more) in
+    let below : c.in_ok-place.place < length c.push.new.self = omega (arith, pushed, one_more) in
     record {
-      inside = inside-after (place_at c.args.self.now.places) (place_at c.find_or_add.new.self) c.args.id c.in_ok-place.place (vec_len old) (vec_len c.push_name.new.names)
+      inside = inside-after (place_at c.args.self.now.places) (place_at c.find_or_add.new.self) c.args.id c.in_ok-place.place (length old) (length c.push.new.self)
           c.args.self.now.inside few below c.in_ok-place.ensures.ok;
     }
 
@@ -35,18 +35,18 @@ invariant_of-self-else-place-next c =
     let old = place_at c.args.self.now.places in
     let other : ¬ (c.in_ok-place.place ≡ c.len-next.result) = grind arith in
     let held : old c.args.id ≡ Some c.in_ok-place.place = place-held (old c.args.id) c.in_ok-place.place c.len-next.result c.in_ok-place.ensures.found other in
-    let count = vec_len c.args.self.now.names in
+    let count = length c.args.self.now.names in
     let below : c.in_ok-place.place < count = c.args.self.now.inside c.args.id c.in_ok-place.place held in
     record { inside = inside-after old (place_at c.find_or_add.new.self) c.args.id c.in_ok-place.place count count c.args.self.now.inside (omega arith) below c.in_ok-place.ensures.ok }
 
 pub returns-in_default-clause-defines : goal.returns-in_default-clause-defines
 returns-in_default-clause-defines c =
     let old = place_at c.args.self.now.places in
-    let names = c.args.self.now.names.items in
+    let names = c.args.self.now.names in
     let text = c.args.text.now in
     let place = c.in_ok-place.place in
-    let pushed : c.push_name.new.names.items ≡ names ++ text ∷ [] = c.in_default.ensures.ok in
-    let counted : vec_len c.args.self.now.names ≡ length names = omega arith in
+    let pushed : c.push.new.self ≡ names ++ text ∷ [] = c.in_default.ensures.ok in
+    let counted : length c.args.self.now.names ≡ length names = omega arith in
     let last : place ≡ length names = omega arith in
     let inside : AreInside old (length names) = subst (AreInside old) counted c.args.self.now.inside in
     let none : old c.args.id ≡ None = place-new (old c.args.id) place c.len-next.result (subst (λ n. IsInside n (old c.args.id)) (sym c.len-next.ensures) (c.args.self.now.inside c.args.id)) c.in_ok-place.ensures.found c.if-place-next.true in
@@ -66,10 +66,10 @@ returns-in_default-clause-defines c =
 pub returns-else-place-next-clause-defines : goal.returns-else-place-next-clause-defines
 returns-else-place-next-clause-defines c =
     let old = place_at c.args.self.now.places in
-    let names = c.args.self.now.names.items in
+    let names = c.args.self.now.names in
     let other : ¬ (c.in_ok-place.place ≡ c.len-next.result) = grind arith in
     let held : old c.args.id ≡ Some c.in_ok-place.place = place-held (old c.args.id) c.in_ok-place.place c.len-next.result c.in_ok-place.ensures.found other in
-    let inside : c.in_ok-place.place < vec_len c.args.self.now.names = c.args.self.now.inside c.args.id c.in_ok-place.place held in
+    let inside : c.in_ok-place.place < length c.args.self.now.names = c.args.self.now.inside c.args.id c.in_ok-place.place held in
     let below : c.in_ok-place.place < length names = omega arith in
     record {
       means = λ q. means-held old (place_at c.find_or_add.new.self) names c.args.text.now c.args.id c.in_ok-place.place q below held (c.in_ok-place.ensures.ok q);

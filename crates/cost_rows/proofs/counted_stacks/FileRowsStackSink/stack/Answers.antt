@@ -14,22 +14,22 @@ use Rattle.cost_rows.proofs.TotalsLemmas.{cells-small, within-stack, content-sam
 use Rattle.cost_rows.proofs.counted_stacks.FileRowsStackSink.stack.Goals as goal
 use Rattle.cost_rows.proofs.counted_stacks.FileRowsStackSink.stack.Goals.{in-Some+in_ok-merge_leaf-in-Some, in-None+in_ok-put-in-None+in_default}
 
-pub merge_leaf-requires-clause-small : goal.merge_leaf-requires-clause-small
-merge_leaf-requires-clause-small c =
+pub merge_leaf-requires : goal.merge_leaf-requires
+merge_leaf-requires c =
     let few : c.args.self.now.last < 2 ^ 64 = omega arith in
-    cells-small c.args.self.now.cells.entries c.args.self.now.last few c.args.self.now.within.cells_fit
+    cells-small c.args.self.now.cells c.args.self.now.last few c.args.self.now.within.cells_fit
 
-pub merge_leaf-requires-in-None-clause-small : goal.merge_leaf-requires-in-None-clause-small
-merge_leaf-requires-in-None-clause-small c =
+pub merge_leaf-requires-in-None : goal.merge_leaf-requires-in-None
+merge_leaf-requires-in-None c =
     let few : c.args.self.now.last < 2 ^ 64 = omega arith in
-    cells-small c.args.self.now.cells.entries c.args.self.now.last few c.args.self.now.within.cells_fit
+    cells-small c.args.self.now.cells c.args.self.now.last few c.args.self.now.within.cells_fit
 
 pub invariant_of-self-in-Err : goal.invariant_of-self-in-Err
 invariant_of-self-in-Err c =
     let old = c.args.self.now in
     let back = forgotten_again old.stacks c.find.new.self c.put.new.self c.forget.new.self c.args.stack.now c.args.count c.in_ok-slot.field-0 c.in_ok-slot.ensures.slot c.in-None.is c.in_ok-slot.ensures.same c.in_ok-put-in-None.ensures.ok c.forget.ensures in
-    let P : List (CellPlace × List ℕ) → Type 0 = λ cells. AreWithin cells old.calls.entries (sums_in c.forget.new.self) old.last in
-    let Q : List (List ℕ × ℕ) → Type 0 = λ stacks. AreWithin old.cells.entries old.calls.entries stacks old.last in
+    let P : List (CellPlace × List ℕ) → Type 0 = λ cells. AreWithin cells old.calls (sums_in c.forget.new.self) old.last in
+    let Q : List (List ℕ × ℕ) → Type 0 = λ stacks. AreWithin old.cells old.calls stacks old.last in
     record {
       within = subst P (sym c.in-Err.ensures.err.1) (subst Q (sym back) old.within);
       named = subst (λ names. HaveNames names old.marks) (sym c.in-Err.ensures.err.0) old.named;
@@ -38,7 +38,7 @@ invariant_of-self-in-Err c =
 pub returns-in-Err-clause-err : goal.returns-in-Err-clause-err
 returns-in-Err-clause-err c =
     let old = c.args.self.now in
-    content-same c.merge_leaf-in-None.new.names old.names c.merge_leaf-in-None.new.cells.entries old.cells.entries old.calls.entries (sums_in c.forget.new.self) (sums_in old.stacks)
+    content-same c.merge_leaf-in-None.new.names old.names c.merge_leaf-in-None.new.cells old.cells old.calls (sums_in c.forget.new.self) (sums_in old.stacks)
     c.in-Err.ensures.err.0 c.in-Err.ensures.err.1
     (forgotten_again old.stacks c.find.new.self c.put.new.self c.forget.new.self c.args.stack.now c.args.count c.in_ok-slot.field-0 c.in_ok-slot.ensures.slot c.in-None.is c.in_ok-slot.ensures.same c.in_ok-put-in-None.ensures.ok c.forget.ensures)
 
@@ -51,27 +51,27 @@ invariant_of-self-2 c =
       | in-Some+in_ok-merge_leaf-in-Some w ↦
           let names = w.merge_leaf.new.names in
           let place : CellPlace = record { place = place_in names (63 ∷ 63 ∷ 63 ∷ []) (63 ∷ 63 ∷ 63 ∷ []) c.leaf-function.result.now 0; thread = 0 } in
-          let cells = merge cell_cmp added old.cells.entries place (c.args.count ∷ []) in
+          let cells = merge cell_cmp added old.cells place (c.args.count ∷ []) in
           let same = c.in_ok-slot.ensures.same in
           let known : slot_of_stack frames c.find.new.self.slots ≡ Some w.in-Some.slot = ap (λ (s : Slotted (List ℕ)). slot_of_stack frames s.slots) same ∙ sym c.in_ok-slot.ensures.slot ∙ w.in-Some.is in
           let counted : sums_in w.add.new.self ≡ counts = w.add.ensures frames known ∙ ap (λ (s : Slotted (List ℕ)). stacks_with frames c.args.count (sums_in s)) same in
-          let P : List (CellPlace × List ℕ) → Type 0 = λ cs. AreWithin cs old.calls.entries (sums_in w.add.new.self) c.args.at in
-          let Q : List (List ℕ × ℕ) → Type 0 = λ stacks. AreWithin cells old.calls.entries stacks c.args.at in
+          let P : List (CellPlace × List ℕ) → Type 0 = λ cs. AreWithin cs old.calls (sums_in w.add.new.self) c.args.at in
+          let Q : List (List ℕ × ℕ) → Type 0 = λ stacks. AreWithin cells old.calls stacks c.args.at in
           rw w.self-is (record {
             within = subst P (sym w.in_ok-merge_leaf-in-Some.ensures.cells) (subst Q (sym counted)
-                (within-stack old.cells.entries old.calls.entries (sums_in old.stacks) old.last c.args.at place frames c.args.count old.within c.requires.rises c.requires.small));
+                (within-stack old.cells old.calls (sums_in old.stacks) old.last c.args.at place frames c.args.count old.within c.requires.rises c.requires.small));
             named = have-more old.names names w.merge_leaf.ensures.grows old.marks old.named;
           })
       | in-None+in_ok-put-in-None+in_default w ↦
           let names = w.merge_leaf-in-None.new.names in
           let place : CellPlace = record { place = place_in names (63 ∷ 63 ∷ 63 ∷ []) (63 ∷ 63 ∷ 63 ∷ []) c.leaf-function.result.now 0; thread = 0 } in
-          let cells = merge cell_cmp added old.cells.entries place (c.args.count ∷ []) in
+          let cells = merge cell_cmp added old.cells place (c.args.count ∷ []) in
           let counted : sums_in w.put.new.self ≡ counts = w.in_ok-put-in-None.ensures.ok ∙ ap (λ (s : Slotted (List ℕ)). stacks_with frames c.args.count (sums_in s)) c.in_ok-slot.ensures.same in
-          let P : List (CellPlace × List ℕ) → Type 0 = λ cs. AreWithin cs old.calls.entries (sums_in w.put.new.self) c.args.at in
-          let Q : List (List ℕ × ℕ) → Type 0 = λ stacks. AreWithin cells old.calls.entries stacks c.args.at in
+          let P : List (CellPlace × List ℕ) → Type 0 = λ cs. AreWithin cs old.calls (sums_in w.put.new.self) c.args.at in
+          let Q : List (List ℕ × ℕ) → Type 0 = λ stacks. AreWithin cells old.calls stacks c.args.at in
           rw w.self-is (record {
             within = subst P (sym w.in_default.ensures.cells) (subst Q (sym counted)
-                (within-stack old.cells.entries old.calls.entries (sums_in old.stacks) old.last c.args.at place frames c.args.count old.within c.requires.rises c.requires.small));
+                (within-stack old.cells old.calls (sums_in old.stacks) old.last c.args.at place frames c.args.count old.within c.requires.rises c.requires.small));
             named = have-more old.names names w.merge_leaf-in-None.ensures.grows old.marks old.named;
           })
     ]

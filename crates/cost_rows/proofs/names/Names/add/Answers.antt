@@ -6,11 +6,8 @@ use Rattle.cost_rows.proofs.NamingLemmas.{place-new, with-new}
 use Rattle.cost_rows.proofs.names.Names.add.Goals as goal
 
 -- the name goes to the end
-pushed : (c : goal.In_default-insert) → c.push.new.self.items ≡ c.args.self.now ++ c.args.name.now ∷ []
-pushed c =
-    let all : c.push.new.self.items ≡ c.self.inside.names.items ++ c.from_vec.result ∷ [] = c.in_ok-push.ensures.items in
-    let held : c.from_vec.result ≡ c.args.name.now = c.from_vec.ensures ∙ c.in_ok-held.ensures.items_if_clones_equal (λ x y e. e) in
-    all ∙ ap (λ x. c.self.inside.names.items ++ x ∷ []) held ∙ ap (λ ns. ns ++ c.args.name.now ∷ []) c.self.view_is
+pushed : (c : goal.In_default-insert) → c.push.new.self ≡ c.args.self.now ++ c.args.name.now ∷ []
+pushed c = c.in_ok-push.ensures.ok ∙ ap (λ ns. ns ++ c.args.name.now ∷ []) c.self.view_is
 
 last : (c : goal.In_default-insert) → c.in-Ok.number ≡ length c.args.self.now
 last c = c.in-Ok.ensures.1 ∙ c.len.ensures.len

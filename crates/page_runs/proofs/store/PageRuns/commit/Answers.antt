@@ -7,6 +7,6 @@ returns-in-Err g c = record {
   usable = tt;
   made = tt;
   rests = λ faithful wanted known was next writes. tt;
-  undone = λ faithful usable. record { lists = refl; roots = refl; forgets = c.in-Err.ensures.forgets faithful usable; rests = λ wanted known was stands. c.in-Err.ensures.failed faithful wanted known was stands usable };
+  undone = λ faithful usable. record { lists = refl; roots = refl; kept_cells = refl; forgets = c.in-Err.ensures.forgets faithful usable; rests = λ wanted known was stands. c.in-Err.ensures.failed faithful wanted known was stands usable };
   crash = c.commit.ensures.crash;
 }

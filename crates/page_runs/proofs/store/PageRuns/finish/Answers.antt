@@ -16,6 +16,7 @@ returns-in-Err g c =
       undone = λ faithful usable. record {
         lists = refl;
         roots = refl;
+        kept_cells = refl;
         forgets = c.undo.ensures.forgets faithful usable;
         rests = λ wanted known was stands. c.undo.ensures.done faithful usable wanted known was stands;
       };

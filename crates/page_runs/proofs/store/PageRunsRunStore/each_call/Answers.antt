@@ -20,10 +20,10 @@ returns-clause-told g c faithful t is =
     (let both = c.in_ok-taken.ensures.told faithful t there in subst (λ n. CallsFoldTo c.args.events sink.step start (sink.meaning c.in_ok-taken.taken) (calls_in n t)) run both.0)
 
 pub returns-clause-asks : goal.returns-clause-asks
-returns-clause-asks g c = asked _ _ c.each_call.ensures.reads refl refl _ (λ _. c.in_ok-if_usable.ensures)
+returns-clause-asks g c = asked _ _ c.each_call.ensures.reads refl refl refl _ (λ _. c.in_ok-if_usable.ensures)
 
 pub returns-in_err-taken-clause-asks : goal.returns-in_err-taken-clause-asks
-returns-in_err-taken-clause-asks g c = asked _ _ c.each_call.ensures.reads refl refl _ (none_told _ _ c.from_residual-in_err-taken.ensures.0)
+returns-in_err-taken-clause-asks g c = asked _ _ c.each_call.ensures.reads refl refl refl _ (none_told _ _ c.from_residual-in_err-taken.ensures.0)
 
 pub returns-in_err-if_usable-clause-asks : goal.returns-in_err-if_usable-clause-asks
-returns-in_err-if_usable-clause-asks g c = asked _ _ c.each_call.ensures.reads refl refl _ (none_told _ _ c.from_residual-in_err-if_usable.ensures.0)
+returns-in_err-if_usable-clause-asks g c = asked _ _ c.each_call.ensures.reads refl refl refl _ (none_told _ _ c.from_residual-in_err-if_usable.ensures.0)

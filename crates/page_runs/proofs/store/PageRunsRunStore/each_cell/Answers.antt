@@ -6,7 +6,8 @@ use Rattle.store_schema.specs.Tables.{cell_columns}
 use Rattle.page_runs.specs.Shown.{ShowsLines}
 use Rattle.page_runs.specs.declared.run_rows.RunTable.{RunTable}
 use Rattle.page_runs.proofs.Taken.{large_shown}
-use Rattle.page_runs.proofs.States.{asked, none_told}
+use Rattle.page_runs.specs.Kept.{HasGathered}
+use Rattle.page_runs.proofs.States.{asked, asked_keeping, none_told, stays_read}
 use Rattle.page_runs.proofs.store.PageRunsRunStore.each_cell.Goals as goal
 
 pub returns-clause-told : goal.returns-clause-told
@@ -20,10 +21,19 @@ returns-clause-told g c faithful t is =
     (let both = c.in_ok-taken.ensures.told faithful t there in subst (λ n. CellsFoldTo c.args.events sink.step start (sink.meaning c.in_ok-taken.taken) (cells_in n t)) run both.0)
 
 pub returns-clause-asks : goal.returns-clause-asks
-returns-clause-asks g c = asked _ _ c.each_cell.ensures.reads refl refl _ (λ _. c.in_ok-if_usable.ensures)
+returns-clause-asks g c =
+    let store = c.args.self.now in
+    asked_keeping _ _ (stays_read _ _ c.each_cell.ensures.reads) refl refl
+    (λ clean t is.
+    let made = c.in_ok-table.ensures t is.listed in
+    let root = ap (λ (r : RunTable). r.root) made in
+    let run = ap (λ (r : RunTable). r.run) made in
+    let there = subst (λ n. ShowsLines store.file n cell_columns (λ (r : CellRow). r.run) t.cells) (sym root) (large_shown t store is).cells in
+    c.keep.ensures.kept t is.kept_cells (subst (λ n. HasGathered (cells_in n t) c.in_ok-taken.gathered) run (c.in_ok-taken.ensures.told clean t there).2))
+    _ (λ _. c.in_ok-if_usable-2.ensures)
 
 pub returns-in_err-taken-clause-asks : goal.returns-in_err-taken-clause-asks
-returns-in_err-taken-clause-asks g c = asked _ _ c.each_cell.ensures.reads refl refl _ (none_told _ _ c.from_residual-in_err-taken.ensures.0)
+returns-in_err-taken-clause-asks g c = asked _ _ c.each_cell.ensures.reads refl refl refl _ (none_told _ _ c.from_residual-in_err-taken.ensures.0)
 
-pub returns-in_err-if_usable-clause-asks : goal.returns-in_err-if_usable-clause-asks
-returns-in_err-if_usable-clause-asks g c = asked _ _ c.each_cell.ensures.reads refl refl _ (none_told _ _ c.from_residual-in_err-if_usable.ensures.0)
+pub returns-in_err-if_usable-2-clause-asks : goal.returns-in_err-if_usable-2-clause-asks
+returns-in_err-if_usable-2-clause-asks g c = asked _ _ c.each_cell.ensures.reads refl refl refl _ (none_told _ _ c.from_residual-in_err-if_usable-2.ensures.0)

@@ -19,10 +19,10 @@ returns-clause-told g c faithful t is =
     (let both = c.in_ok-taken.ensures.told faithful t there in both.0 ∙ ap (λ n. fold sink.step start (stacks_held n t)) run)
 
 pub returns-clause-asks : goal.returns-clause-asks
-returns-clause-asks g c = asked _ _ c.each_stack.ensures.reads refl refl _ (λ _. c.in_ok-if_usable.ensures)
+returns-clause-asks g c = asked _ _ c.each_stack.ensures.reads refl refl refl _ (λ _. c.in_ok-if_usable.ensures)
 
 pub returns-in_err-taken-clause-asks : goal.returns-in_err-taken-clause-asks
-returns-in_err-taken-clause-asks g c = asked _ _ c.each_stack.ensures.reads refl refl _ (none_told _ _ c.from_residual-in_err-taken.ensures.0)
+returns-in_err-taken-clause-asks g c = asked _ _ c.each_stack.ensures.reads refl refl refl _ (none_told _ _ c.from_residual-in_err-taken.ensures.0)
 
 pub returns-in_err-if_usable-clause-asks : goal.returns-in_err-if_usable-clause-asks
-returns-in_err-if_usable-clause-asks g c = asked _ _ c.each_stack.ensures.reads refl refl _ (none_told _ _ c.from_residual-in_err-if_usable.ensures.0)
+returns-in_err-if_usable-clause-asks g c = asked _ _ c.each_stack.ensures.reads refl refl refl _ (none_told _ _ c.from_residual-in_err-if_usable.ensures.0)

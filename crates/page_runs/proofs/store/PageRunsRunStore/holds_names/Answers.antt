@@ -8,10 +8,10 @@ pub returns-clause-told : goal.returns-clause-told
 returns-clause-told g c faithful t is = c.in_ok-answer.ensures.read faithful (map name_columns t.names) (large_shown t c.args.self.now is.shows).names t.names refl
 
 pub returns-clause-asks : goal.returns-clause-asks
-returns-clause-asks g c = asked _ _ c.holds_names.ensures.reads refl refl _ (λ _. c.in_ok-if_usable.ensures)
+returns-clause-asks g c = asked _ _ c.holds_names.ensures.reads refl refl refl _ (λ _. c.in_ok-if_usable.ensures)
 
 pub returns-in_err-answer-clause-asks : goal.returns-in_err-answer-clause-asks
-returns-in_err-answer-clause-asks g c = asked _ _ c.holds_names.ensures.reads refl refl _ (none_answered _ c.from_residual.ensures.0)
+returns-in_err-answer-clause-asks g c = asked _ _ c.holds_names.ensures.reads refl refl refl _ (none_answered _ c.from_residual.ensures.0)
 
 pub returns-in_err-if_usable-clause-asks : goal.returns-in_err-if_usable-clause-asks
-returns-in_err-if_usable-clause-asks g c = asked _ _ c.holds_names.ensures.reads refl refl _ (none_answered _ c.from_residual-in_err-if_usable.ensures.0)
+returns-in_err-if_usable-clause-asks g c = asked _ _ c.holds_names.ensures.reads refl refl refl _ (none_answered _ c.from_residual-in_err-if_usable.ensures.0)

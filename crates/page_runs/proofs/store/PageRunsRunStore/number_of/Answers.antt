@@ -19,4 +19,4 @@ returns-clause-told g c faithful t is =
     if_ok c.find_name.result _ _ _ (λ found. is_number t c.args.name.now c.is_name.ensures rise found) (c.find_name.ensures.told faithful t is.shows.known is.shows.stored is.shows.roots.name_bytes)
 
 pub returns-clause-asks : goal.returns-clause-asks
-returns-clause-asks g c = asked _ _ c.find_name.ensures.reads refl refl _ (λ done. is_done c.find_name.result done c.find_name.ensures.usable)
+returns-clause-asks g c = asked _ _ c.find_name.ensures.reads refl refl refl _ (λ done. is_done c.find_name.result done c.find_name.ensures.usable)
