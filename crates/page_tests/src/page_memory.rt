@@ -11,7 +11,7 @@ use std::test::Fail;
 use stopping_disks::{Meter, Stopping, Stops, files_of};
 
 /// How many bytes a file has room for, so that it is never the disk that wants memory.
-const ROOM: usize = 0x4_0000;
+const ROOM: usize = 0x8_0000;
 
 /// Empty files.
 fn empty_files(alloc: Global) -> Result<Files<Stopping>, AllocError> {

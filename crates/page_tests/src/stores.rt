@@ -57,7 +57,7 @@ pub(crate) fn pages_in<D: Disk + Drop>(
     if !files.may_be_used() {
         return Err("a file has failed");
     }
-    match PageRuns::open(alloc, files, options()) {
+    match PageRuns::open(alloc, files, options(), 0) {
         Some(store) => Ok(store),
         None => Err("no store in pages"),
     }
