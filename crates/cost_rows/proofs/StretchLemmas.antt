@@ -121,6 +121,10 @@ held-room test es sums found none held room is nothing here =
     subst HaveRoom (sym (held-sums sums found none held nothing here))
     (room-found test (valued (sums_at sums) es) (option_map (sums_at sums) found) room (lookup-valued (sums_at sums) test es ∙ ap (option_map (sums_at sums)) (sym is)))
 
+pub held-within : {K : Type 0} (test : K → Bool) (es : List (K × Stretch)) (count : ℕ) (found : Option Stretch) (none held : Stretch) → AllByRecursion (IsWithin count) (values_of es) → found ≡ lookup test es → none.start ≡ 0 → none.len ≡ 0 → held ≡ unwrap_or found none → IsWithin count held
+held-within test es count None none held all is start len here = subst (IsWithin count) (sym here) (omega (arith, start, len))
+held-within test es count (Some s) none held all is start len here = subst (IsWithin count) (sym here) (of_found (IsWithin count) test es s (sym is) all)
+
 -- ---- a key's sums are raised where they are
 
 module _ {K : Type 0} (old new : List ℕ) (held : Stretch) (others : (s : Stretch) → IsWithin (length old) s → AreApart s held → sums_at new s ≡ sums_at old s) where

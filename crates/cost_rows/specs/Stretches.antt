@@ -1,7 +1,9 @@
 -- Sums by key, where each key has a stretch of its own among the sums of all.
-use Rattle.std.specs.Prelude.{◌≡◌, ℕ, ◌+◌, ◌≤◌, ◌⊎◌, List, [], ◌∷◌, take, drop, length}
+use Rattle.std.specs.Prelude.{◌≡◌, ℕ, ◌+◌, ◌≤◌, ◌⊎◌, List, [], ◌∷◌, Option, Some, IfSome, take, drop, length}
+use Rattle.std.specs.BTreeMap.{is_at}
 use Rattle.std.specs.List.{AllByRecursion}
-use Rattle.std.specs.Map.{values_of}
+use Rattle.std.specs.Map.{lookup, values_of}
+use Rattle.std.specs.declared.cmp.Ordering.{Ordering}
 use Rattle.profile_records.specs.Columns.{added}
 use Rattle.cost_rows.specs.declared.stretches.Stretch.{Stretch}
 
@@ -37,3 +39,7 @@ pub record AreRaised (held : Stretch) (costs old new : List ℕ) : Type 0 where
   pub same : length new ≡ length old
   pub sums : sums_at new held ≡ added (sums_at old held) costs
   pub others : (s : Stretch) → IsWithin (length old) s → AreApart s held → sums_at new s ≡ sums_at old s
+
+-- a key that is kept with a stretch has this stretch
+abbrev pub IsHeldAt : {K : Type 0} → (K → K → Ordering) → List (K × Stretch) → Option (K × Stretch) → Type 0
+IsHeldAt cmp entries kept = IfSome kept (λ e. lookup (is_at (cmp e.0)) entries ≡ Some e.1)

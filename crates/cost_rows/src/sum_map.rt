@@ -1,11 +1,14 @@
 // Sums by key, all in one list.
 ghost use Rattle.std.specs.Prelude.{◌≡◌, OnOk, OnErr, All, []};
-ghost use Rattle.std.specs.Map.{values_of};
+ghost use Rattle.std.specs.BTreeMap.{is_at};
+ghost use Rattle.std.specs.Map.{lookup, values_of};
 ghost use Rattle.profile_records.specs.Columns.{added, HaveRoom};
 ghost use Rattle.cost_rows.specs.Merging.{merge};
+ghost use Rattle.cost_rows.specs.Stretches.{IsHeldAt};
 
 use crate::stretches::{Stretch, put_behind, raise_at};
 use std::alloc::{AllocError, Global};
+use std::cmp::Ordering;
 use std::collections::BTreeMap;
 use std::collections::btree_map::Iter;
 use std::marker::Model;
@@ -16,17 +19,36 @@ use std::marker::Model;
 pub(crate) struct SumMap<K: Ord> {
     stretches: BTreeMap<K, Stretch>,
     sums: Vec<u128>,
+    /// The key to which costs came last, and its stretch: mostly the next costs are for it, too.
+    recent: Option<(K, Stretch)>,
 }
 
 impl<K: Ord> Model for SumMap<K> {
     ghost use Rattle.std.specs.Prelude.{ℕ, List, length};
-    ghost use Rattle.cost_rows.specs.Stretches.{sums_at, valued, HaveOwn};
+    ghost use Rattle.cost_rows.specs.Stretches.{sums_at, valued, HaveOwn, IsHeldAt};
 
     ghost Value = { List (K × List ℕ) };
 
     ghost view = { λ a. valued (sums_at a.sums.items) a.stretches.entries };
 
-    ghost invariant = { λ a. HaveOwn a.stretches.entries (length a.sums.items) };
+    ghost invariant = { λ a. HaveOwn a.stretches.entries (length a.sums.items) × IsHeldAt K.cmp a.stretches.entries a.recent };
+}
+
+/// The stretch of a key, if it has one: at once where it is the key of before.
+fn find<K: Ord>(
+    stretches: &BTreeMap<K, Stretch>,
+    recent: &Option<(K, Stretch)>,
+    key: &K,
+) -> Option<Stretch>
+    requires { IsHeldAt K.cmp stretches.now.entries recent.now }
+    ensures { result ≡ lookup (is_at (K.cmp key.now)) stretches.now.entries }
+{
+    if let Some((before, stretch)) = recent {
+        if key.cmp(before) == Ordering::Equal {
+            return Some(*stretch);
+        }
+    }
+    stretches.get(key).copied()
 }
 
 impl<K: Ord + Drop> SumMap<K> {
@@ -37,6 +59,7 @@ impl<K: Ord + Drop> SumMap<K> {
         SumMap {
             stretches: BTreeMap::new(alloc),
             sums: Vec::new(alloc),
+            recent: None,
         }
     }
 
@@ -48,12 +71,14 @@ impl<K: Ord + Drop> SumMap<K> {
         ensures err { OnErr result (self.new ≡ self.old) }
     {
         let _in_order = self.stretches.len();
-        let found = self.stretches.get(&key).copied();
+        let found = find(&self.stretches, &self.recent, &key);
         let held = found.unwrap_or(Stretch::empty());
         if found.is_some() && costs.len() <= held.len() {
             raise_at(self.sums.as_mut_slice(), held, costs);
+            self.recent = Some((key, held));
             return Ok(());
         }
+        self.recent = None;
         let stretch = put_behind(&mut self.sums, held, costs)?;
         self.stretches.insert(key, stretch)?;
         Ok(())
