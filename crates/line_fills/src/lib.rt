@@ -1,5 +1,5 @@
-//! Lines, put behind the rows of a table with their entries in each of its indexes: many at a time, by the pages of the
-//! file, with no SQL. A call stands within a transaction of `page_files`; after an error its `undo` is due.
+//! Lines, inserted behind the rows of a table with their entries in each of its indexes: many at a time, by the pages
+//! of the file, with no SQL. A call stands within a transaction of `page_files`; after an error its `undo` is due.
 #![tactic(auto)]
 
 // Rows behind a table, and entries in an index: some hundred at a time (specs/Placed.antt).

@@ -1,4 +1,4 @@
--- Names that are put in many at a time.
+-- Names that are inserted many at a time.
 use Rattle.std.proofs.Common.{◌≡◌, ℕ, suc, ◌≤◌, ◌||◌, pos, nat_abs, int_lt, cond, if◌then◌else◌, Bool, true, false, bytes_eq, List, [], ◌∷◌, ◌++◌, fold, map, refl, sym, ap, ap₂, subst, ◌∙◌, arith, append_assoc, append-nil}
 use Rattle.std.specs.List.{AllByRecursion, list_any}
 use Rattle.std.proofs.lemmas.Int.{ints}
@@ -48,7 +48,7 @@ lines_unheld : (t : Tables) (first : ℕ) (names : List (List ℕ)) → AreUnhel
 lines_unheld t first [] all = tt
 lines_unheld t first (name ∷ names) all = (all.0, lines_unheld t (suc first) names all.1)
 
--- names that are filled in are held
+-- names of which rows are filled in are held
 pub names_filled : (t : Tables) (now next : Trees) → Holds t now → (names : List (List ℕ)) → AreUnheld names t → IsTableFilled schema_two now next name_at (map name_line names) → Holds (with_names names t) next
 names_filled t now next was names unheld f =
     let n = next_name t.names in

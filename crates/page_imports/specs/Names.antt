@@ -28,7 +28,7 @@ AreUnheld names t = AllByRecursion (λ name. has_name t name ≡ false) names
 abbrev pub bytes_of : List NewName → List (List ℕ)
 bytes_of news = map (λ (new : NewName). new.name.now) news
 
--- once the new names are put in, these names are held and have these numbers
+-- once the new names are inserted, these names are held and have these numbers
 pub record AreNumbered (t : Tables) (names : List (List ℕ)) (it : Numbered) : Type 0 where
   pub unheld : AreUnheld (bytes_of it.news.items) t
   pub named : all_named names t ≡ with_names (bytes_of it.news.items) t

@@ -105,7 +105,7 @@ fn find_numbers<'a, D: Disk>(
     Ok(found)
 }
 
-/// Puts new names behind those that are held.
+/// Inserts new names behind those that are held.
 fn put_names<D: Disk>(
     file: &mut PageFile<D>,
     alloc: Global,
