@@ -8,6 +8,7 @@ pub mod Examples
 pub mod PlacesLemmas
 pub mod StacksLemmas
 pub mod GrowingLemmas
+pub mod TrimmedLemmas
 pub mod TotalsLemmas
 pub mod SumsLemmas
 pub mod StackSumsLemmas

@@ -11,6 +11,7 @@ use Rattle.cost_rows.specs.Naming.{with_name}
 use Rattle.cost_rows.specs.Stacks.{counts_added}
 use Rattle.cost_rows.specs.StackSums.{content_of_stacks}
 use Rattle.cost_rows.specs.Sums.{content_of_records, IsInOrder}
+use Rattle.cost_rows.specs.Trimmed.{trimmed}
 use Rattle.cost_rows.proofs.MergeLemmas.{sorted-merge}
 use Rattle.cost_rows.proofs.NamingLemmas.{distinct-with}
 use Rattle.cost_rows.proofs.PlacesLemmas.{cell_cmp-total, call_cmp-total}
@@ -21,7 +22,7 @@ distinct-three names a b d h = distinct-with (with_name b (with_name a names)) d
 
 order-cost : (c : Content) (cost : Cost) → IsInOrder c → IsInOrder (with_cost c cost)
 order-cost c cost is = record {
-  cells = sorted-merge cell_cmp-total added c.cells (cell_of (names_with_cost cost c.names) cost) cost.costs is.cells;
+  cells = sorted-merge cell_cmp-total added c.cells (cell_of (names_with_cost cost c.names) cost) (trimmed cost.costs) is.cells;
   calls = is.calls;
   stacks = is.stacks;
   names = distinct-three c.names cost.object cost.file cost.function is.names;

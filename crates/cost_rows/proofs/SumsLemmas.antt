@@ -14,6 +14,7 @@ use Rattle.cost_rows.specs.Held.{IsHeld, CellHeld, CallHeld, AreHeld}
 use Rattle.cost_rows.specs.Merging.{merge, sum_where}
 use Rattle.cost_rows.specs.Places.{cell_cmp, call_cmp}
 use Rattle.cost_rows.specs.Content.{Content, empty, number_of, with_three, names_with_cost, names_with_callee, place_of_cost, cell_of, call_of, calls_of, with_cost, with_call, with_record}
+use Rattle.cost_rows.specs.Trimmed.{trimmed}
 use Rattle.cost_rows.specs.Sums.{Spot, spot_of, callee_spot, name_at, spot_at, callee_at, passing_cell, passing_call, cells_where, calls_where, counts_where, content_of_records, SumsToRecords, self_sum, call_sum, count_sum, has_edge, has_call, cell_spot, caller_spot}
 use Rattle.cost_rows.specs.declared.places.CellPlace.{CellPlace}
 use Rattle.cost_rows.specs.declared.places.Call.{Call}
@@ -22,6 +23,7 @@ use Rattle.profile_records.proofs.ColumnsLemmas.{slice_index-added}
 use Rattle.cost_rows.proofs.GrowingLemmas.{grows-more, grows-with, kept-by_three, held-three}
 use Rattle.cost_rows.proofs.MergeLemmas.{sum-merge, keys-merge}
 use Rattle.cost_rows.proofs.PlacesLemmas.{cell_cmp-apart, call_cmp-apart}
+use Rattle.cost_rows.proofs.TrimmedLemmas.{column-trimmed}
 
 -- ---- names by their numbers
 
@@ -158,7 +160,7 @@ held-cost c cost held =
     let grows = grows-three c.names cost.object cost.file cost.function in
     let is = named-three c.names cost.object cost.file cost.function in
     record {
-      cells = all-merge cell_cmp added (CellHeld new) c.cells (cell_of new cost) cost.costs (held-grows c.names new c.cells grows held.cells) is.3;
+      cells = all-merge cell_cmp added (CellHeld new) c.cells (cell_of new cost) (trimmed cost.costs) (held-grows c.names new c.cells grows held.cells) is.3;
       calls = edges-grow c.names new c.calls grows held.calls;
     }
 
@@ -180,7 +182,8 @@ cells-cost passes k c cost held =
     let new = names_with_cost cost c.names in
     let is = named-three c.names cost.object cost.file cost.function in
     let spot : cell_spot new (cell_of new cost) ≡ spot_of cost = ap (λ (s : Spot). let at : Spot = record s { thread = cost.thread } in at) (same_spot _ _ _ _ _ _ cost.line is.0 is.1 is.2) in
-    sum-merge cell_cmp-apart added (passing_cell passes new) (λ v. slice_index v k) (λ x y. slice_index-added x y k) c.cells (cell_of new cost) cost.costs
+    sum-merge cell_cmp-apart added (passing_cell passes new) (λ v. slice_index v k) (λ x y. slice_index-added x y k) c.cells (cell_of new cost) (trimmed cost.costs)
+    ∙ ap (λ m. sum_where (passing_cell passes new) (λ v. slice_index v k) c.cells + (if passing_cell passes new (cell_of new cost) then m else 0)) (column-trimmed cost.costs k)
     ∙ ap (λ n. n + (if passing_cell passes new (cell_of new cost) then slice_index cost.costs k else 0))
     (cells-kept passes (λ v. slice_index v k) c.names new c.cells (grows-three c.names cost.object cost.file cost.function) held.cells)
     ∙ ap (λ s. cells_where passes k c + (if passes s then slice_index cost.costs k else 0)) spot
@@ -273,7 +276,9 @@ law-called passes (Called callee cost ∷ records) c held =
 call_sum-is : (passes : Spot → Spot → Bool) (k : ℕ) (records : List Record) → edge_sum (λ calls. slice_index calls.costs k) passes records ≡ call_sum passes k records
 call_sum-is passes k [] = refl
 call_sum-is passes k (Own cost ∷ records) = call_sum-is passes k records
-call_sum-is passes k (Called callee cost ∷ records) = ap (λ n. (if passes (caller_spot cost) (callee_spot callee) then slice_index cost.costs k else 0) + n) (call_sum-is passes k records)
+call_sum-is passes k (Called callee cost ∷ records) =
+    ap (λ n. (if passes (caller_spot cost) (callee_spot callee) then n else 0) + edge_sum (λ calls. slice_index calls.costs k) passes records) (column-trimmed cost.costs k)
+    ∙ ap (λ n. (if passes (caller_spot cost) (callee_spot callee) then slice_index cost.costs k else 0) + n) (call_sum-is passes k records)
 
 count_sum-is : (passes : Spot → Spot → Bool) (records : List Record) → edge_sum (λ calls. calls.count) passes records ≡ count_sum passes records
 count_sum-is passes [] = refl

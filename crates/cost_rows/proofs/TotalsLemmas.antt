@@ -8,6 +8,7 @@ use Rattle.cost_rows.specs.Merging.{merge}
 use Rattle.cost_rows.specs.Places.{cell_cmp, call_cmp}
 use Rattle.cost_rows.specs.Stacks.{bytes_cmp, counts_added}
 use Rattle.cost_rows.specs.Content.{Content}
+use Rattle.cost_rows.specs.Trimmed.{trimmed}
 use Rattle.cost_rows.specs.Totals.{cell_total, call_total, count_total, stack_total, AreWithin}
 use Rattle.cost_rows.specs.declared.places.CellPlace.{CellPlace}
 use Rattle.cost_rows.specs.declared.places.Call.{Call}
@@ -15,6 +16,7 @@ use Rattle.std.proofs.lemmas.Map.Lookups.{exact_bytes}
 use Rattle.profile_records.proofs.ColumnsLemmas.{slice_index-added}
 use Rattle.cost_rows.proofs.MergeLemmas.{sum-merge}
 use Rattle.cost_rows.proofs.PlacesLemmas.{cell_cmp-apart, call_cmp-apart}
+use Rattle.cost_rows.proofs.TrimmedLemmas.{low-trimmed}
 
 -- ---- what a merge adds to a total
 
@@ -95,9 +97,9 @@ within-call cells edges stacks lines at call calls is more few low = record {
 }
 
 pub within-stack : (cells : List (CellPlace × List ℕ)) (edges : List (Call × Calls)) (stacks : List (List ℕ × ℕ)) (lines at : ℕ) (place : CellPlace) (frames : List ℕ) (count : ℕ) → AreWithin cells edges stacks lines → lines < at → count < 2 ^ 63
-    → AreWithin (merge cell_cmp added cells place (count ∷ [])) edges (merge bytes_cmp counts_added stacks frames count) at
+    → AreWithin (merge cell_cmp added cells place (trimmed (count ∷ []))) edges (merge bytes_cmp counts_added stacks frames count) at
 within-stack cells edges stacks lines at place frames count is more low =
-    let own = within-own cells edges stacks lines at place (count ∷ []) is more (All-cons (λ c. c < 2 ^ 63) count [] low (λ k d below. absurd (omega arith))) in
+    let own = within-own cells edges stacks lines at place (trimmed (count ∷ [])) is more (low-trimmed (2 ^ 63) (count ∷ []) (All-cons (λ c. c < 2 ^ 63) count [] low (λ k d below. absurd (omega arith)))) in
     record {
       cells_fit = own.cells_fit;
       calls_fit = own.calls_fit;

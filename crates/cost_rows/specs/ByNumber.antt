@@ -7,6 +7,8 @@ use Rattle.cost_rows.specs.declared.places.Call.{Call}
 use Rattle.cost_rows.specs.Calls.{Calls}
 use Rattle.cost_rows.specs.declared.rows.Cell.{Cell}
 use Rattle.cost_rows.specs.declared.rows.CallEdge.{CallEdge}
+use Rattle.cost_rows.specs.declared.numbered.CallSum.{CallSum}
+use Rattle.cost_rows.specs.declared.numbered.CellSum.{CellSum}
 
 -- the row of an event's sum at a place
 abbrev pub numbered_cell : CellPlace → ℕ → ℕ → Cell ℕ
@@ -50,3 +52,10 @@ plain_numbered r = record {
   count = r.count;
   costs = r.costs.now;
 }
+
+-- so are a place and calls with their sums
+abbrev pub plain_cell_sum : CellSum → CellPlace × List ℕ
+plain_cell_sum r = (r.place.now, r.costs.now)
+
+abbrev pub plain_call : CallSum → Call × Calls
+plain_call r = (r.call.now, record { count = r.count; costs = r.costs.now })

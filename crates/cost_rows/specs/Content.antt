@@ -10,6 +10,7 @@ use Rattle.cost_rows.specs.Calls.{Calls, calls_added}
 use Rattle.cost_rows.specs.Merging.{merge}
 use Rattle.cost_rows.specs.Places.{cell_cmp, call_cmp}
 use Rattle.cost_rows.specs.Stacks.{bytes_cmp, counts_added}
+use Rattle.cost_rows.specs.Trimmed.{trimmed}
 use Rattle.cost_rows.specs.declared.places.Place.{Place}
 use Rattle.cost_rows.specs.declared.places.CellPlace.{CellPlace}
 use Rattle.cost_rows.specs.declared.places.Call.{Call}
@@ -59,13 +60,13 @@ call_of names callee cost = record {
   function = number_of callee.function names;
 }
 
--- the costs of calls, and how many calls there were
+-- the costs of calls, without zeros at their end, and how many calls there were
 abbrev pub calls_of : Callee → Cost → Calls
-calls_of callee cost = record { count = callee.count; costs = cost.costs }
+calls_of callee cost = record { count = callee.count; costs = trimmed cost.costs }
 
--- self costs are added at their place
+-- self costs are added at their place, without zeros at their end
 abbrev pub cells_with : List (List ℕ) → Cost → List (CellPlace × List ℕ) → List (CellPlace × List ℕ)
-cells_with names cost cells = merge cell_cmp added cells (cell_of names cost) cost.costs
+cells_with names cost cells = merge cell_cmp added cells (cell_of names cost) (trimmed cost.costs)
 
 -- the costs of calls and their number are added at their calls
 abbrev pub calls_with : List (List ℕ) → Callee → Cost → List (Call × Calls) → List (Call × Calls)

@@ -7,6 +7,7 @@ pub mod Places
 pub mod Stretches
 pub mod Calls
 pub mod Stacks
+pub mod Trimmed
 pub mod Content
 pub mod Marks
 pub mod Growing

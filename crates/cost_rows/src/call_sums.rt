@@ -7,7 +7,7 @@ ghost use Rattle.cost_rows.specs.Merging.{merge};
 ghost use Rattle.cost_rows.specs.Places.{call_cmp};
 ghost use Rattle.cost_rows.specs.Totals.{AreColumns, call_total, count_total};
 
-use crate::numbered::NumberedCalls;
+use crate::numbered::{CallsByPlace, NumberedCalls};
 use crate::places::Call;
 use crate::sum_map::SumMap;
 use crate::totals::total_columns;
@@ -65,6 +65,15 @@ impl CallSums {
         self.amount.push(count)?;
         self.amount.extend_from_slice(costs)?;
         self.sums.merge(call, self.amount.as_slice())
+    }
+
+    /// The sums, one after another, as they are held. Takes no memory.
+    pub(crate) fn by_place(&self) -> CallsByPlace<'_>
+        ensures { result ≡ self.now }
+    {
+        CallsByPlace {
+            rest: self.sums.iter(),
+        }
     }
 
     /// The sums, one after another, with names by their numbers. Takes no memory.

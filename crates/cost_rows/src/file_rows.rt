@@ -10,7 +10,7 @@ use crate::guesses::{Guesses, NO_CELL};
 use crate::lent_names::take_back;
 use crate::marks::Marks;
 use crate::names::Names;
-use crate::numbered::{NumberedCalls, NumberedCells};
+use crate::numbered::{CallsByPlace, CellsByPlace, NumberedCalls, NumberedCells};
 use crate::places::CellPlace;
 use crate::records::{merge_call, merge_self};
 use crate::rows::FileTotals;
@@ -120,6 +120,22 @@ impl FileRows {
         ensures { result ≡ numbered_calls (content_of self.now).calls }
     {
         self.calls.iter()
+    }
+
+    /// The sums of self costs, as they are held. Takes no memory.
+    pub fn cells_by_place(&self) -> CellsByPlace<'_>
+        ensures { result ≡ (content_of self.now).cells }
+    {
+        CellsByPlace {
+            rest: self.cells.iter(),
+        }
+    }
+
+    /// The sums of calls, every one of them, as they are held. Takes no memory.
+    pub fn calls_by_place(&self) -> CallsByPlace<'_>
+        ensures { result ≡ (content_of self.now).calls }
+    {
+        self.calls.by_place()
     }
 
     /// The sums of all rows by column, of so many columns: as many as a record has costs, or more.

@@ -45,6 +45,8 @@ mod sum_map;
 mod stretches;
 // A file's sums by column (specs/Sums.antt, WalkSums.antt).
 mod totals;
+// Costs without the zeros at their end (specs/Trimmed.antt).
+mod trimmed;
 // A file's rows with names, one after another.
 mod walks;
 
@@ -57,7 +59,10 @@ pub use laws::{
 pub use limits::{Overflow, Side, admit};
 pub use merged::Merged;
 pub use names::Names;
-pub use numbered::{NumberedCalls, NumberedCells};
+pub use numbered::{
+    CallSum, CallsByPlace, CellSum, CellsByPlace, NumberedCalls, NumberedCells,
+};
+pub use places::{Call, CellPlace, Place};
 pub use rows::{CallEdge, Cell, FileTotals, StackCount};
 pub use sum_rows::SumRows;
 pub use walks::{CallWalk, CellWalk, GivesNames, StackWalk, Walk};

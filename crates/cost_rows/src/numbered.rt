@@ -6,6 +6,48 @@ use crate::rows::{CallEdge, Cell};
 use crate::sum_map::SumIter;
 use std::marker::Model;
 
+/// The calls from a place to a function: how many there were, and what they cost by column; nothing of
+/// a column that is absent.
+#[derive(Drop)]
+pub struct CallSum<'a> {
+    pub call: &'a Call,
+    pub count: u128,
+    pub costs: &'a [u128],
+}
+
+/// The sums of calls as they are held, in the order of their places. Takes no memory.
+#[derive(Drop)]
+pub struct CallsByPlace<'a> {
+    pub(crate) rest: SumIter<'a, Call>,
+}
+
+impl<'a> Model for CallsByPlace<'a> {
+    ghost use Rattle.std.specs.Prelude.{List};
+    ghost use Rattle.cost_rows.specs.Calls.{Calls, calls_in};
+    ghost use Rattle.cost_rows.specs.declared.places.Call.{Call};
+
+    ghost Value = { List (Call × Calls) };
+
+    ghost view = { λ a. calls_in a.rest };
+}
+
+impl<'a> Iterator for CallsByPlace<'a> {
+    ghost use Rattle.std.specs.Iterator.{YieldsFirstBy, item_count};
+    ghost use Rattle.cost_rows.specs.ByNumber.{plain_call};
+
+    type Item = CallSum<'a>;
+
+    ghost next_gives = { YieldsFirstBy plain_call (λ s. s) };
+
+    ghost remaining = { item_count (λ s. s) };
+
+    fn next(&mut self) -> Option<CallSum<'a>> {
+        let (call, sums) = self.rest.next()?;
+        let (count, costs) = count_and_costs(sums);
+        Some(CallSum { call, count, costs })
+    }
+}
+
 /// The sums of calls with names by their numbers, in the order of these, the line after the caller's
 /// names. Takes no memory.
 #[derive(Drop)]
@@ -48,6 +90,44 @@ impl<'a> Iterator for NumberedCalls<'a> {
             count,
             costs,
         })
+    }
+}
+
+/// What a place and a thread cost by column; of a column that is absent nothing.
+#[derive(Drop)]
+pub struct CellSum<'a> {
+    pub place: &'a CellPlace,
+    pub costs: &'a [u128],
+}
+
+/// The sums of self costs as they are held, in the order of their places. Takes no memory.
+#[derive(Drop)]
+pub struct CellsByPlace<'a> {
+    pub(crate) rest: SumIter<'a, CellPlace>,
+}
+
+impl<'a> Model for CellsByPlace<'a> {
+    ghost use Rattle.std.specs.Prelude.{ℕ, List};
+    ghost use Rattle.cost_rows.specs.declared.places.CellPlace.{CellPlace};
+
+    ghost Value = { List (CellPlace × List ℕ) };
+
+    ghost view = { λ a. a.rest };
+}
+
+impl<'a> Iterator for CellsByPlace<'a> {
+    ghost use Rattle.std.specs.Iterator.{YieldsFirstBy, item_count};
+    ghost use Rattle.cost_rows.specs.ByNumber.{plain_cell_sum};
+
+    type Item = CellSum<'a>;
+
+    ghost next_gives = { YieldsFirstBy plain_cell_sum (λ s. s) };
+
+    ghost remaining = { item_count (λ s. s) };
+
+    fn next(&mut self) -> Option<CellSum<'a>> {
+        let (place, costs) = self.rest.next()?;
+        Some(CellSum { place, costs })
     }
 }
 

@@ -11,6 +11,7 @@ ghost use Rattle.cost_rows.specs.Lent.{callee_of, cost_of, self_cost, leaf_cell}
 ghost use Rattle.cost_rows.specs.Marks.{HaveNames, known_by, LearnsNames};
 ghost use Rattle.cost_rows.specs.Merging.{merge};
 ghost use Rattle.cost_rows.specs.Places.{cell_cmp};
+ghost use Rattle.cost_rows.specs.Trimmed.{trimmed};
 
 use crate::call_sums::CallSums;
 use crate::guesses::Guesses;
@@ -20,6 +21,7 @@ use crate::names::Names;
 use crate::numbering::number_place;
 use crate::places::{Call, CellPlace};
 use crate::sum_map::SumMap;
+use crate::trimmed::trimmed;
 use profile_records::{CallCost, SelfCost};
 use std::alloc::AllocError;
 
@@ -42,7 +44,7 @@ pub(crate) fn merge_self(
 {
     let place = place_lent(names, marks, r.names, r.line)?;
     let thread = r.thread;
-    cells.merge(CellPlace { place, thread }, r.costs)
+    cells.merge(CellPlace { place, thread }, trimmed(r.costs))
 }
 
 /// Merges a call record. A refusal leaves the calls as they were, and may leave names of the record
@@ -70,7 +72,7 @@ pub(crate) fn merge_call(
         file: called.file,
         function: called.function,
     };
-    edges.merge(call, r.count, r.costs)
+    edges.merge(call, r.count, trimmed(r.costs))
 }
 
 /// Merges the costs of a stack into those of the function that was running. A refusal leaves the
@@ -84,14 +86,14 @@ fn add_leaf(
 ) -> Result<(), AllocError>
     requires { All HaveRoom (values_of cells.old) }
     ensures names { OnOk result (names.new ≡ with_three unknown unknown function.now names.old) }
-    ensures cells { OnOk result (cells.new ≡ merge cell_cmp added cells.old (leaf_cell names.new function.now) costs.now) }
+    ensures cells { OnOk result (cells.new ≡ merge cell_cmp added cells.old (leaf_cell names.new function.now) (trimmed costs.now)) }
     ensures grows { Grows names.old names.new }
     ensures err { OnErr result (cells.new ≡ cells.old) }
 {
     let guess = guesses.guess(names, function);
     let place = number_place(names, guess, b"???", b"???", function, 0)?;
     guesses.keep(place)?;
-    cells.merge(CellPlace { place, thread: 0 }, costs)
+    cells.merge(CellPlace { place, thread: 0 }, trimmed(costs))
 }
 
 /// The same, where a refusal leaves the names as they were too.
@@ -104,7 +106,7 @@ pub(crate) fn merge_leaf(
 ) -> Result<(), AllocError>
     requires { All HaveRoom (values_of cells.old) }
     ensures names { OnOk result (names.new ≡ with_three unknown unknown function.now names.old) }
-    ensures cells { OnOk result (cells.new ≡ merge cell_cmp added cells.old (leaf_cell names.new function.now) costs.now) }
+    ensures cells { OnOk result (cells.new ≡ merge cell_cmp added cells.old (leaf_cell names.new function.now) (trimmed costs.now)) }
     ensures grows { Grows names.old names.new }
     ensures err { OnErr result ((names.new ≡ names.old) × (cells.new ≡ cells.old)) }
 {

@@ -76,7 +76,7 @@ fn insert_batch<D: Disk, L: PageLine>(
     index: &IndexPlace<'_>,
     first: u64,
     lines: &[L],
-    places: &[usize],
+    places: &[u32],
 ) -> Result<(), StoreError>
     requires room { HaveRowids first lines.now }
     requires within { ArePlacesOf lines.now places.now }
@@ -101,7 +101,7 @@ fn insert_entries<D: Disk, L: PageLine>(
     index: &IndexPlace<'_>,
     first: u64,
     lines: &[L],
-    places: &[usize],
+    places: &[u32],
 ) -> Result<(), StoreError>
     requires room { HaveRowids first lines.now }
     requires within { ArePlacesOf lines.now places.now }

@@ -64,7 +64,7 @@ pub(crate) fn entry_records<L: PageLine>(
     columns: &[usize],
     first: u64,
     lines: &[L],
-    places: &[usize],
+    places: &[u32],
 ) -> Result<Records, StoreError>
     requires room { HaveRowids first lines.now }
     requires within { ArePlacesOf lines.now places.now }
@@ -74,7 +74,8 @@ pub(crate) fn entry_records<L: PageLine>(
     let mut encoder = Encoder::new(alloc);
     let mut records = Records::new(alloc);
     for place in places {
-        push_entry(&mut encoder, columns, &lines[*place], first + *place as u64)?;
+        let line = &lines[*place as usize];
+        push_entry(&mut encoder, columns, line, first + *place as u64)?;
         records.push(encoder.record()?)?;
     }
     Ok(records)

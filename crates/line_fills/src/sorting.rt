@@ -10,22 +10,27 @@ use crate::values::compare_keys;
 use std::alloc::{AllocError, Global};
 use std::cmp::Ordering;
 
-/// The places of the lines, in the order of an index.
+/// The places of the lines, in the order of an index. There is no memory for 2^32 lines.
 pub(crate) fn sorted<L: PageLine>(
     alloc: Global,
     index: usize,
     lines: &[L],
-) -> Result<Vec<usize>, AllocError>
+) -> Result<Vec<u32>, AllocError>
     ensures { IfOk result (λ places. IsPermutation (range_with_len 0 (length lines.now)) places.items) }
 {
+    let Ok(count) = u32::try_from(lines.len()) else {
+        return Err(AllocError);
+    };
     let mut places = Vec::with_capacity(alloc, lines.len())?;
-    for at in 0..lines.len() {
+    for at in 0..count {
         places.push(at)?;
     }
-    places.sort_unstable_by(|a, b| match (lines.get(*a), lines.get(*b)) {
-        (Some(line), Some(other)) => line.compare(other, index),
-        _ => Ordering::Equal,
-    });
+    places.sort_unstable_by(
+        |a, b| match (lines.get(*a as usize), lines.get(*b as usize)) {
+            (Some(line), Some(other)) => line.compare(other, index),
+            _ => Ordering::Equal,
+        },
+    );
     Ok(places)
 }
 
@@ -33,12 +38,12 @@ pub(crate) fn sorted<L: PageLine>(
 fn compare_places<L: PageLine>(
     columns: &[usize],
     lines: &[L],
-    place: usize,
-    other: usize,
+    place: u32,
+    other: u32,
 ) -> Ordering
     ensures { result ≡ row_cmp (rank_at columns.now (map L.columns lines.now) place) (rank_at columns.now (map L.columns lines.now) other) }
 {
-    match (lines.get(place), lines.get(other)) {
+    match (lines.get(place as usize), lines.get(other as usize)) {
         (Some(line), Some(other)) => compare_keys(columns, line, 0, other, 0),
         (Some(_), None) => Ordering::Greater,
         (None, Some(_)) => Ordering::Less,
@@ -47,7 +52,7 @@ fn compare_places<L: PageLine>(
 }
 
 /// Puts places of lines into the order of an index of these columns, by the very keys: this takes longer than `sorted`.
-fn sort_by_keys<L: PageLine>(columns: &[usize], lines: &[L], places: &mut [usize])
+fn sort_by_keys<L: PageLine>(columns: &[usize], lines: &[L], places: &mut [u32])
     ensures same { IsPermutation places.old places.new }
     ensures sorted { SortsByRank columns.now (map L.columns lines.now) places.new }
 {
@@ -60,7 +65,7 @@ pub(crate) fn keys_rise<L: PageLine>(
     columns: &[usize],
     first: u64,
     lines: &[L],
-    places: &[usize],
+    places: &[u32],
 ) -> bool
     requires room { HaveRowids first lines.now }
     requires within { ArePlacesOf lines.now places.now }
@@ -71,9 +76,9 @@ pub(crate) fn keys_rise<L: PageLine>(
         let (before, after) = (places[i - 1], places[i]);
         let found = compare_keys(
             columns,
-            &lines[before],
+            &lines[before as usize],
             first + before as u64,
-            &lines[after],
+            &lines[after as usize],
             first + after as u64,
         );
         if found != Ordering::Less {
@@ -91,7 +96,7 @@ pub(crate) fn in_order<L: PageLine>(
     columns: &[usize],
     first: u64,
     lines: &[L],
-) -> Result<Option<Vec<usize>>, AllocError>
+) -> Result<Option<Vec<u32>>, AllocError>
     requires room { HaveRowids first lines.now }
     ensures all { IfOk result (λ found. IfSome found (λ places. IsPermutation (range_with_len 0 (length lines.now)) places.items)) }
     ensures rise { IfOk result (λ found. IfSome found (λ places. KeysRise columns.now first (map L.columns lines.now) places.items)) }

@@ -6,7 +6,7 @@ ghost use Rattle.sqlite_value.specs.Value.{owned};
 use crate::lines::PageLine;
 use sqlite_value::value::ValueRef;
 use std::cmp::Ordering;
-use store_schema::{CallRow, CellRow, CoefRow, ColumnInt, DerivedRow, EventRow, StackRow};
+use store_schema::{CoefRow, ColumnInt, DerivedRow, EventRow, StackRow};
 
 /// A number of 32 bits as a value.
 #[inline(always)]
@@ -22,86 +22,6 @@ fn whole(number: &ColumnInt) -> ValueRef<'static>
     ensures { owned result ≡ Int (pos number.now) }
 {
     ValueRef::Int(number.as_i64())
-}
-
-impl PageLine for CellRow {
-    ghost use Rattle.store_schema.specs.Lines.{cell_row};
-    ghost use Rattle.store_schema.specs.Tables.{cell_columns};
-
-    ghost columns = { λ line. cell_columns (cell_row line) };
-
-    #[inline(always)]
-    fn width(&self) -> usize {
-        8
-    }
-
-    #[inline(always)]
-    fn value(&self, at: usize) -> ValueRef<'_> {
-        match at {
-            0 => small(self.run),
-            1 => whole(&self.thread),
-            2 => small(self.object),
-            3 => small(self.file),
-            4 => small(self.function),
-            5 => whole(&self.line),
-            6 => small(self.event),
-            7 => whole(&self.cost),
-            _ => ValueRef::Null,
-        }
-    }
-
-    fn compare(&self, other: &Self, _index: usize) -> Ordering {
-        self.run
-            .cmp(&other.run)
-            .then_with(|| self.function.cmp(&other.function))
-            .then_with(|| self.line.get().cmp(&other.line.get()))
-            .then_with(|| self.file.cmp(&other.file))
-            .then_with(|| self.object.cmp(&other.object))
-            .then_with(|| self.thread.get().cmp(&other.thread.get()))
-            .then_with(|| self.event.cmp(&other.event))
-    }
-}
-
-impl PageLine for CallRow {
-    ghost use Rattle.store_schema.specs.Lines.{call_row};
-    ghost use Rattle.store_schema.specs.Tables.{arc_columns};
-
-    ghost columns = { λ line. arc_columns (call_row line) };
-
-    #[inline(always)]
-    fn width(&self) -> usize {
-        10
-    }
-
-    #[inline(always)]
-    fn value(&self, at: usize) -> ValueRef<'_> {
-        match at {
-            0 => small(self.run),
-            1 => small(self.object),
-            2 => small(self.file),
-            3 => small(self.function),
-            4 => whole(&self.line),
-            5 => small(self.called_object),
-            6 => small(self.called_file),
-            7 => small(self.called_function),
-            8 => small(self.part),
-            9 => whole(&self.sum),
-            _ => ValueRef::Null,
-        }
-    }
-
-    fn compare(&self, other: &Self, _index: usize) -> Ordering {
-        self.run
-            .cmp(&other.run)
-            .then_with(|| self.object.cmp(&other.object))
-            .then_with(|| self.file.cmp(&other.file))
-            .then_with(|| self.function.cmp(&other.function))
-            .then_with(|| self.line.get().cmp(&other.line.get()))
-            .then_with(|| self.called_object.cmp(&other.called_object))
-            .then_with(|| self.called_file.cmp(&other.called_file))
-            .then_with(|| self.called_function.cmp(&other.called_function))
-            .then_with(|| self.part.cmp(&other.part))
-    }
 }
 
 impl PageLine for StackRow<'_> {

@@ -1,3 +1,4 @@
+pub mod Lines
 pub mod Imports
 pub mod Names
 pub mod Needs

@@ -2,6 +2,10 @@
 //! `page_files` that it begins; the caller commits or undoes it.
 #![tactic(auto)]
 
+// The lines of the calls of a file, each a place in its rows (specs/Lines.antt).
+mod call_lines;
+// The lines of the self costs of a file, each a place in its rows (specs/Lines.antt).
+mod cell_lines;
 // The columns of rows.
 mod columns;
 // What a run says of itself: the next number, its own row, and the lines of its head.
@@ -14,5 +18,7 @@ mod names;
 mod numbering;
 // The rows of a file.
 mod rows;
+// The number of a run, and the numbers of its names in the tables.
+mod run_names;
 
 pub use imports::put_run;

@@ -9,14 +9,17 @@ ghost use Rattle.prof_books.specs.Files.{call_rows, cell_rows, stack_rows, with_
 ghost use Rattle.page_imports.specs.Needs.{HasNoCall, HasNoCell, HasNoRow, HasNoStack};
 ghost use Rattle.page_imports.specs.Steps.{Makes};
 
+use crate::call_lines::call_lines;
+use crate::cell_lines::cell_lines;
 use crate::names::number_names;
+use crate::run_names::RunNames;
 use cost_rows::FileRows;
 use line_fills::fill;
 use page_files::PageFile;
 use page_places::StoreRoots;
 use plain_tables::StoreError;
 use row_writes::{IndexPlace, Place};
-use run_lines::{call_lines, cell_lines, stack_lines};
+use run_lines::stack_lines;
 use sqlite_disk::Disk;
 use std::alloc::Global;
 
@@ -33,7 +36,8 @@ fn put_cells<D: Disk>(
     ensures usable { OnOk result (IsUsable file.new) }
     ensures keeps { Keeps (pools.state file.old.pool) (pools.state file.new.pool) }
 {
-    let lines = cell_lines(alloc, run, numbers, rows)?;
+    let names = RunNames { run, numbers };
+    let lines = cell_lines(alloc, &names, rows)?;
     let keys = [IndexPlace {
         root: roots.cell_keys,
         columns: &[1, 5, 6, 4, 3, 2, 7],
@@ -58,7 +62,8 @@ fn put_calls<D: Disk>(
     ensures usable { OnOk result (IsUsable file.new) }
     ensures keeps { Keeps (pools.state file.old.pool) (pools.state file.new.pool) }
 {
-    let lines = call_lines(alloc, run, numbers, rows)?;
+    let names = RunNames { run, numbers };
+    let lines = call_lines(alloc, &names, rows)?;
     let keys = [IndexPlace {
         root: roots.call_keys,
         columns: &[1, 2, 3, 4, 5, 6, 7, 8, 9],

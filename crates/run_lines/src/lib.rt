@@ -5,9 +5,9 @@
 mod file_lines;
 // The lines that the head of a file becomes (specs/Sums.antt).
 mod head_lines;
-// The lines of all rows of a file.
+// The lines of all stacks of a file.
 mod row_lists;
 
 pub use file_lines::{call_of, cell_of, stack_of};
 pub use head_lines::head_rows;
-pub use row_lists::{call_lines, cell_lines, stack_lines};
+pub use row_lists::stack_lines;

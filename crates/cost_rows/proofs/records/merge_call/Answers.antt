@@ -1,10 +1,12 @@
-use Rattle.std.proofs.Common.{◌∙◌, ap}
+use Rattle.std.proofs.Common.{List, ℕ, ◌∙◌, ap}
 use Rattle.std.proofs.lemmas.Result.{on_ok_weaker}
 use Rattle.cost_rows.specs.Calls.{calls_added}
 use Rattle.cost_rows.specs.Lent.{callee_of, cost_of}
 use Rattle.cost_rows.specs.Marks.{known_by}
 use Rattle.cost_rows.specs.Merging.{merge}
 use Rattle.cost_rows.specs.Places.{call_cmp}
+use Rattle.cost_rows.specs.Trimmed.{trimmed}
+use Rattle.cost_rows.specs.declared.places.Call.{Call}
 use Rattle.cost_rows.proofs.GrowingLemmas.{call-numbered}
 use Rattle.cost_rows.proofs.MarksLemmas.{agrees-own, agrees-called, learns-both}
 use Rattle.cost_rows.proofs.records.merge_call.Goals as goal
@@ -19,9 +21,12 @@ place_lent-requires-2-clause-agrees c =
 
 pub returns-clause-calls : goal.returns-clause-calls
 returns-clause-calls c =
+    let called = c.in_ok-called.called in
+    let call : Call = record { place = c.in_ok-place.place; object = called.object; file = called.file; function = called.function } in
     on_ok_weaker c.merge.result
     (λ merged. merged
-    ∙ ap (λ call. merge call_cmp calls_added c.args.edges.now call (record { count = c.args.r.count; costs = c.args.r.costs.now }))
+    ∙ ap (λ (costs : List ℕ). merge call_cmp calls_added c.args.edges.now call (record { count = c.args.r.count; costs = costs })) c.trimmed.ensures
+    ∙ ap (λ call. merge call_cmp calls_added c.args.edges.now call (record { count = c.args.r.count; costs = trimmed c.args.r.costs.now }))
     (call-numbered c.args.names.now c.place_lent.new.names c.place_lent-2.new.names (callee_of c.args.r) (cost_of c.args.r) c.in_ok-place.place c.in_ok-called.called
     c.in_ok-place.ensures.names c.in_ok-place.ensures.place c.in_ok-called.ensures.names c.in_ok-called.ensures.place))
     c.merge.ensures.ok

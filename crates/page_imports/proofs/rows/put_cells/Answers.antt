@@ -4,9 +4,9 @@ use Rattle.line_fills.specs.Filled.{IsTableFilled}
 use Rattle.line_fills.proofs.Held.{cells_filled}
 use Rattle.prof_books.specs.Files.{cell_rows}
 use Rattle.prof_books.proofs.Rows.{cells_of_run}
-use Rattle.store_schema.specs.Lines.{cell_row}
 use Rattle.store_schema.specs.Schema.{schema_two, thread_cell_at}
 use Rattle.store_schema.specs.Tables.{cell_columns}
+use Rattle.page_imports.specs.Lines.{cell_line}
 use Rattle.page_imports.proofs.Results.{on_match}
 use Rattle.page_imports.proofs.Showing.{index_at, mapped_twice, table_at}
 use Rattle.page_imports.proofs.rows.put_cells.Goals as goal
@@ -19,7 +19,7 @@ returns-clause-done g c clean = λ wanted known was t shows are can.
     let news = cell_rows run c.args.numbers.now (content_of c.args.rows.now).cells in
     let now = shows.next in
     let at = table_at file shows.writes shows.holds 10 thread_cell_at refl _ are.cells (index_at file shows.writes shows.holds 11 _ refl refl _ are.cell_keys refl, tt) in
-    let columns = ap (map (λ line. cell_columns (cell_row line))) c.deref.ensures.value ∙ mapped_twice cell_columns cell_row lines ∙ ap (map cell_columns) c.in_ok-lines.ensures in
+    let columns = ap (map (λ line. cell_columns (cell_line line))) c.deref.ensures.value ∙ mapped_twice cell_columns cell_line lines ∙ ap (map cell_columns) c.in_ok-lines.ensures in
     on_match c.fill.result _ (λ made. record {
       next = made.next;
       writes = made.writes;

@@ -7,6 +7,7 @@ use Rattle.cost_rows.specs.Places.{cell_cmp}
 use Rattle.cost_rows.specs.Slots.{Slotted, sums_in}
 use Rattle.cost_rows.specs.StackCounts.{slot_of_stack}
 use Rattle.cost_rows.specs.Totals.{AreWithin}
+use Rattle.cost_rows.specs.Trimmed.{trimmed}
 use Rattle.cost_rows.specs.declared.places.CellPlace.{CellPlace}
 use Rattle.cost_rows.proofs.MarksLemmas.{have-more}
 use Rattle.cost_rows.proofs.StackCountsLemmas.{forgotten_again}
@@ -51,7 +52,7 @@ invariant_of-self-2 c =
       | in-Some+in_ok-merge_leaf-in-Some w ↦
           let names = w.merge_leaf.new.names in
           let place : CellPlace = record { place = place_in names (63 ∷ 63 ∷ 63 ∷ []) (63 ∷ 63 ∷ 63 ∷ []) c.leaf-function.result.now 0; thread = 0 } in
-          let cells = merge cell_cmp added old.cells place (c.args.count ∷ []) in
+          let cells = merge cell_cmp added old.cells place (trimmed (c.args.count ∷ [])) in
           let same = c.in_ok-slot.ensures.same in
           let known : slot_of_stack frames c.find.new.self.slots ≡ Some w.in-Some.slot = ap (λ (s : Slotted (List ℕ)). slot_of_stack frames s.slots) same ∙ sym c.in_ok-slot.ensures.slot ∙ w.in-Some.is in
           let counted : sums_in w.add.new.self ≡ counts = w.add.ensures frames known ∙ ap (λ (s : Slotted (List ℕ)). stacks_with frames c.args.count (sums_in s)) same in
@@ -65,7 +66,7 @@ invariant_of-self-2 c =
       | in-None+in_ok-put-in-None+in_default w ↦
           let names = w.merge_leaf-in-None.new.names in
           let place : CellPlace = record { place = place_in names (63 ∷ 63 ∷ 63 ∷ []) (63 ∷ 63 ∷ 63 ∷ []) c.leaf-function.result.now 0; thread = 0 } in
-          let cells = merge cell_cmp added old.cells place (c.args.count ∷ []) in
+          let cells = merge cell_cmp added old.cells place (trimmed (c.args.count ∷ [])) in
           let counted : sums_in w.put.new.self ≡ counts = w.in_ok-put-in-None.ensures.ok ∙ ap (λ (s : Slotted (List ℕ)). stacks_with frames c.args.count (sums_in s)) c.in_ok-slot.ensures.same in
           let P : List (CellPlace × List ℕ) → Type 0 = λ cs. AreWithin cs old.calls (sums_in w.put.new.self) c.args.at in
           let Q : List (List ℕ × ℕ) → Type 0 = λ stacks. AreWithin cells old.calls stacks c.args.at in

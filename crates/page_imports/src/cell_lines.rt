@@ -1,0 +1,140 @@
+// The lines of the self costs of a file, each a place in its rows (specs/Lines.antt).
+ghost use Rattle.std.specs.Prelude.{◌≡◌, ◌<◌, ◌^◌, ◌++◌, ◌∷◌, [], map, IfOk, IfSome, OnOk};
+ghost use Rattle.cost_rows.specs.Rows.{content_of};
+ghost use Rattle.prof_books.specs.Files.{cell_rows};
+ghost use Rattle.page_imports.specs.Lines.{cell_line, event_row, event_rows, self_row};
+
+use crate::run_names::{RunNames, name_value};
+use cost_rows::{CellPlace, CellSum, FileRows};
+use line_fills::PageLine;
+use plain_tables::StoreError;
+use sqlite_value::value::ValueRef;
+use std::alloc::Global;
+use std::cmp::Ordering;
+use store_schema::{ColumnInt, column_int_of, small_of};
+
+/// What an event costs at a place. The place is read off the file's rows when the line is written, so that a list of
+/// lines takes little memory.
+#[derive(Drop)]
+pub(crate) struct CellLine<'a> {
+    names: &'a RunNames<'a>,
+    place: &'a CellPlace,
+    event: u32,
+    cost: ColumnInt,
+    ghost line_fits: { place.now.place.line < 2 ^ 63 },
+    ghost thread_fits: { place.now.thread < 2 ^ 63 },
+}
+
+impl PageLine for CellLine<'_> {
+    ghost use Rattle.store_schema.specs.Tables.{cell_columns};
+    ghost use Rattle.page_imports.specs.Lines.{cell_line};
+
+    ghost columns = { λ line. cell_columns (cell_line line) };
+
+    #[inline(always)]
+    fn width(&self) -> usize {
+        8
+    }
+
+    #[inline(always)]
+    fn value(&self, at: usize) -> ValueRef<'_> {
+        let place = &self.place.place;
+        match at {
+            0 => ValueRef::Int(i64::from(self.names.run)),
+            1 => ValueRef::Int(self.place.thread as i64),
+            2 => name_value(self.names, place.object),
+            3 => name_value(self.names, place.file),
+            4 => name_value(self.names, place.function),
+            5 => ValueRef::Int(place.line as i64),
+            6 => ValueRef::Int(i64::from(self.event)),
+            7 => ValueRef::Int(self.cost.as_i64()),
+            _ => ValueRef::Null,
+        }
+    }
+
+    /// Both lines are of one run.
+    fn compare(&self, other: &Self, _index: usize) -> Ordering {
+        let names = self.names;
+        let by_name = |one: u32, two: u32| names.number_of(one).cmp(&names.number_of(two));
+        let (one, two) = (&self.place.place, &other.place.place);
+        by_name(one.function, two.function)
+            .then_with(|| one.line.cmp(&two.line))
+            .then_with(|| by_name(one.file, two.file))
+            .then_with(|| by_name(one.object, two.object))
+            .then_with(|| self.place.thread.cmp(&other.place.thread))
+            .then_with(|| self.event.cmp(&other.event))
+    }
+}
+
+/// The line of an event's cost at a place, unless a number in it is too great for its column.
+fn line_of<'a>(
+    names: &'a RunNames<'a>,
+    place: &'a CellPlace,
+    event: usize,
+    cost: u128,
+) -> Option<CellLine<'a>>
+    ensures { IfSome result (λ line. cell_line line ≡ self_row names.now place.now event cost) }
+{
+    if place.place.line >= 1 << 63 || place.thread >= 1 << 63 {
+        return None;
+    }
+    Some(CellLine {
+        names,
+        place,
+        event: small_of(event)?,
+        cost: column_int_of(cost)?,
+    })
+}
+
+/// Adds the line of an event's cost at a place, unless it is 0.
+fn add_cost<'a>(
+    lines: &mut Vec<CellLine<'a>>,
+    names: &'a RunNames<'a>,
+    place: &'a CellPlace,
+    event: usize,
+    cost: u128,
+) -> Result<(), StoreError>
+    ensures { OnOk result (map cell_line lines.new.items ≡ map cell_line lines.old.items ++ event_row names.now place.now event cost) }
+{
+    if cost == 0 {
+        return Ok(());
+    }
+    let Some(line) = line_of(names, place, event, cost) else {
+        return Err(StoreError::Store);
+    };
+    if lines.push(line).is_err() {
+        return Err(StoreError::Memory);
+    }
+    Ok(())
+}
+
+/// Adds the lines of the costs above 0 at a place.
+fn add_costs<'a>(
+    lines: &mut Vec<CellLine<'a>>,
+    names: &'a RunNames<'a>,
+    sums: &CellSum<'a>,
+) -> Result<(), StoreError>
+    ensures { OnOk result (map cell_line lines.new.items ≡ map cell_line lines.old.items ++ event_rows names.now sums.now) }
+{
+    let place = sums.place;
+    let costs = sums.costs;
+    'costs: for (event, cost) in costs.iter().enumerate() {
+        add_cost(lines, names, place, event, *cost)?;
+    }
+    Ok(())
+}
+
+/// The lines of the sums of self costs. `Store` where a number is too great for its column.
+pub(crate) fn cell_lines<'a>(
+    alloc: Global,
+    names: &'a RunNames<'a>,
+    rows: &'a FileRows,
+) -> Result<Vec<CellLine<'a>>, StoreError>
+    ensures { IfOk result (λ lines. map cell_line lines.items ≡ cell_rows names.now.run names.now.numbers.now (content_of rows.now).cells) }
+{
+    let mut lines = Vec::new(alloc);
+    'rows: for sums in rows.cells_by_place() {
+        add_costs(&mut lines, names, &sums)?;
+    }
+    Ok(lines)
+}
