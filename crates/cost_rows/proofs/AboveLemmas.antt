@@ -1,5 +1,5 @@
 -- Rows of the amounts that are above 0: what holds of each, and what is made of them.
-use Rattle.std.proofs.Common.{◌≡◌, ℕ, zero, suc, ◌<◌, Bool, true, false, List, [], ◌∷◌, ◌++◌, map, nat_lt, if◌then◌else◌, refl, ap₂, arith}
+use Rattle.std.proofs.Common.{◌≡◌, ℕ, zero, suc, ◌+◌, ◌<◌, Bool, true, false, List, [], ◌∷◌, ◌++◌, map, length, nat_lt, if◌then◌else◌, refl, sym, ap, ap₂, ◌∙◌, add-zero, arith}
 use Rattle.std.specs.List.{AllByRecursion}
 use Rattle.cost_rows.specs.Above.{rows_above}
 use Rattle.cost_rows.specs.Walks.{HaveCosts, HaveCounts, cell_named, named_cells, counted_stacks}
@@ -26,6 +26,21 @@ map-above f row other each place (n ∷ ns) = go (nat_lt 0 n) (map-above f row o
         → map f (if b then row place n ∷ rows_above row (suc place) ns else rows_above row (suc place) ns) ≡ (if b then other place n ∷ rows_above other (suc place) ns else rows_above other (suc place) ns)
     go true rest = ap₂ ◌∷◌ (each place n) rest
     go false rest = rest
+
+-- an amount more at the end
+pub above-more : {R : Type 0} (row : ℕ → ℕ → R) (place : ℕ) (ns : List ℕ) (n : ℕ) → rows_above row place (ns ++ n ∷ []) ≡ rows_above row place ns ++ (if nat_lt 0 n then row (place + length ns) n ∷ [] else [])
+above-more row place [] n = ap (λ at. if nat_lt 0 n then row at n ∷ [] else []) (sym (add-zero place))
+above-more row place (first ∷ ns) n = go (nat_lt 0 first) (above-more row (suc place) ns n ∙ ap (λ at. rows_above row (suc place) ns ++ (if nat_lt 0 n then row at n ∷ [] else [])) here)
+  where
+    here : suc place + length ns ≡ place + suc (length ns)
+    here = omega arith
+
+    go : (b : Bool)
+        → rows_above row (suc place) (ns ++ n ∷ []) ≡ rows_above row (suc place) ns ++ (if nat_lt 0 n then row (place + suc (length ns)) n ∷ [] else [])
+        → (if b then row place first ∷ rows_above row (suc place) (ns ++ n ∷ []) else rows_above row (suc place) (ns ++ n ∷ []))
+        ≡ (if b then row place first ∷ rows_above row (suc place) ns else rows_above row (suc place) ns) ++ (if nat_lt 0 n then row (place + suc (length ns)) n ∷ [] else [])
+    go true more = ap (λ l. row place first ∷ l) more
+    go false more = more
 
 -- ---- what is walked
 

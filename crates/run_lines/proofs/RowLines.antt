@@ -1,5 +1,5 @@
 -- The lines that a file's rows become, row by row.
-use Rattle.std.proofs.Common.{◌≡◌, ℕ, suc, ◌+◌, List, [], ◌∷◌, ◌++◌, map, flat_map, length, nat_lt, if◌then◌else◌, Bool, true, false, Option, refl, sym, ap, ap₂, ◌∙◌, add-zero, arith}
+use Rattle.std.proofs.Common.{◌≡◌, ℕ, suc, ◌+◌, List, [], ◌∷◌, ◌++◌, map, flat_map, length, nat_lt, if◌then◌else◌, Bool, true, false, Option, refl, ap, ap₂, ◌∙◌}
 use Rattle.std.specs.Borrow.{Bor}
 use Rattle.std.specs.Iterator.{Drains}
 use Rattle.std.proofs.lemmas.Iterator.{YieldsList, items_from_drains}
@@ -13,6 +13,7 @@ use Rattle.cost_rows.specs.ByNumber.{numbered_at, numbered_cells, numbered_calls
 use Rattle.cost_rows.specs.Plain.{plain_stack}
 use Rattle.cost_rows.specs.Walks.{counted_stacks}
 use Rattle.std.proofs.lemmas.List.{map-append}
+use Rattle.cost_rows.proofs.AboveLemmas.{above-more}
 use Rattle.plain_tables.specs.Tables.{CallRow, StackRow}
 use Rattle.prof_books.specs.Files.{cell_row_of, cell_rows_at, cell_rows, call_row_of, call_rows_from, call_rows_at, call_rows, stack_rows}
 use Rattle.run_lines.specs.FromRows.{line_of_cell, line_of_stack, row_lines}
@@ -56,19 +57,7 @@ rows_of_calls run numbers (r ∷ rows) = ap (λ l. row_lines run numbers r ++ l)
 -- a part more
 pub parts_more : (run : ℕ) (numbers : List ℕ) (c : Call) (part : ℕ) (costs : List ℕ) (cost : ℕ)
     → call_rows_from run numbers c part (costs ++ cost ∷ []) ≡ call_rows_from run numbers c part costs ++ (if nat_lt 0 cost then call_row_of run numbers c (part + length costs) cost ∷ [] else [])
-parts_more run numbers c part [] cost = ap (λ n. if nat_lt 0 cost then call_row_of run numbers c n cost ∷ [] else []) (sym (add-zero part))
-parts_more run numbers c part (first ∷ costs) cost = go (nat_lt 0 first) (parts_more run numbers c (suc part) costs cost ∙ ap (λ n. call_rows_from run numbers c (suc part) costs ++ (if nat_lt 0 cost then call_row_of run numbers c n cost ∷ [] else [])) here)
-  where
-    here : suc part + length costs ≡ part + suc (length costs)
-    here = omega arith
-
-    go : (b : Bool)
-        → call_rows_from run numbers c (suc part) (costs ++ cost ∷ []) ≡ call_rows_from run numbers c (suc part) costs ++ (if nat_lt 0 cost then call_row_of run numbers c (part + suc (length costs)) cost ∷ [] else [])
-        → (if b then call_row_of run numbers c part first ∷ call_rows_from run numbers c (suc part) (costs ++ cost ∷ []) else call_rows_from run numbers c (suc part) (costs ++ cost ∷ []))
-        ≡ (if b then call_row_of run numbers c part first ∷ call_rows_from run numbers c (suc part) costs else call_rows_from run numbers c (suc part) costs)
-        ++ (if nat_lt 0 cost then call_row_of run numbers c (part + suc (length costs)) cost ∷ [] else [])
-    go true more = ap (λ l. call_row_of run numbers c part first ∷ l) more
-    go false more = more
+parts_more run numbers c = above-more (call_row_of run numbers c)
 
 abbrev pub plain_line_of_stack : ℕ → StackCount (List ℕ) → StackRow
 plain_line_of_stack run r = record { run = run; frames = r.stack; count = r.count }
