@@ -59,9 +59,7 @@ pub use laws::{
 pub use limits::{Overflow, Side, admit};
 pub use merged::Merged;
 pub use names::Names;
-pub use numbered::{
-    CallSum, CallsByPlace, CellSum, CellsByPlace, NumberedCalls, NumberedCells,
-};
+pub use numbered::{CallSum, CallsByPlace, CellSum, CellsByPlace, NumberedCalls, NumberedCells};
 pub use places::{Call, CellPlace, Place};
 pub use rows::{CallEdge, Cell, FileTotals, StackCount};
 pub use sum_rows::SumRows;

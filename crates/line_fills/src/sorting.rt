@@ -25,22 +25,15 @@ pub(crate) fn sorted<L: PageLine>(
     for at in 0..count {
         places.push(at)?;
     }
-    places.sort_unstable_by(
-        |a, b| match (lines.get(*a as usize), lines.get(*b as usize)) {
-            (Some(line), Some(other)) => line.compare(other, index),
-            _ => Ordering::Equal,
-        },
-    );
+    places.sort_unstable_by(|a, b| match (lines.get(*a as usize), lines.get(*b as usize)) {
+        (Some(line), Some(other)) => line.compare(other, index),
+        _ => Ordering::Equal,
+    });
     Ok(places)
 }
 
 /// How two places stand by the keys of their lines, in an index of these columns. A place of no line stands before others.
-fn compare_places<L: PageLine>(
-    columns: &[usize],
-    lines: &[L],
-    place: u32,
-    other: u32,
-) -> Ordering
+fn compare_places<L: PageLine>(columns: &[usize], lines: &[L], place: u32, other: u32) -> Ordering
     ensures { result ≡ row_cmp (rank_at columns.now (map L.columns lines.now) place) (rank_at columns.now (map L.columns lines.now) other) }
 {
     match (lines.get(place as usize), lines.get(other as usize)) {

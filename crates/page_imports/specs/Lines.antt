@@ -6,8 +6,8 @@ use Rattle.cost_rows.specs.declared.places.Call.{Call}
 use Rattle.cost_rows.specs.declared.places.CellPlace.{CellPlace}
 use Rattle.plain_tables.specs.Tables.{CallRow, CellRow}
 use Rattle.prof_books.specs.Files.{call_row_of, call_rows_at, cell_row_of, cell_rows_at}
-use Rattle.page_imports.specs.declared.call_lines.CallLine.{CallLine}
-use Rattle.page_imports.specs.declared.cell_lines.CellLine.{CellLine}
+use Rattle.page_imports.specs.declared.row_lines.CallLine.{CallLine}
+use Rattle.page_imports.specs.declared.row_lines.CellLine.{CellLine}
 use Rattle.page_imports.specs.declared.run_names.RunNames.{RunNames}
 
 -- ---- self costs

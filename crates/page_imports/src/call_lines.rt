@@ -1,9 +1,10 @@
 // The lines of the calls of a file, each a place in its rows (specs/Lines.antt).
-ghost use Rattle.std.specs.Prelude.{◌≡◌, ◌<◌, ◌^◌, ◌++◌, ◌∷◌, [], map, IfOk, IfSome, OnOk};
+ghost use Rattle.std.specs.Prelude.{◌≡◌, ◌++◌, ◌∷◌, [], map, IfOk, IfSome, OnOk};
 ghost use Rattle.cost_rows.specs.Rows.{content_of};
 ghost use Rattle.prof_books.specs.Files.{call_rows};
 ghost use Rattle.page_imports.specs.Lines.{call_line, cost_row, part_row, part_rows};
 
+use crate::row_lines::CallLine;
 use crate::run_names::{RunNames, name_value};
 use cost_rows::{Call, CallSum, FileRows};
 use line_fills::PageLine;
@@ -11,18 +12,7 @@ use plain_tables::StoreError;
 use sqlite_value::value::ValueRef;
 use std::alloc::Global;
 use std::cmp::Ordering;
-use store_schema::{ColumnInt, column_int_of, small_of};
-
-/// A part of the calls of a run. Its names are read off the file's rows when it is written, so that a list of lines
-/// takes little memory.
-#[derive(Drop)]
-pub(crate) struct CallLine<'a> {
-    names: &'a RunNames<'a>,
-    call: &'a Call,
-    part: u32,
-    sum: ColumnInt,
-    ghost fits: { call.now.place.line < 2 ^ 63 },
-}
+use store_schema::{column_int_of, small_of};
 
 impl PageLine for CallLine<'_> {
     ghost use Rattle.store_schema.specs.Tables.{arc_columns};

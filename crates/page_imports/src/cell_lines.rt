@@ -1,9 +1,10 @@
 // The lines of the self costs of a file, each a place in its rows (specs/Lines.antt).
-ghost use Rattle.std.specs.Prelude.{◌≡◌, ◌<◌, ◌^◌, ◌++◌, ◌∷◌, [], map, IfOk, IfSome, OnOk};
+ghost use Rattle.std.specs.Prelude.{◌≡◌, ◌++◌, ◌∷◌, [], map, IfOk, IfSome, OnOk};
 ghost use Rattle.cost_rows.specs.Rows.{content_of};
 ghost use Rattle.prof_books.specs.Files.{cell_rows};
 ghost use Rattle.page_imports.specs.Lines.{cell_line, event_row, event_rows, self_row};
 
+use crate::row_lines::CellLine;
 use crate::run_names::{RunNames, name_value};
 use cost_rows::{CellPlace, CellSum, FileRows};
 use line_fills::PageLine;
@@ -11,19 +12,7 @@ use plain_tables::StoreError;
 use sqlite_value::value::ValueRef;
 use std::alloc::Global;
 use std::cmp::Ordering;
-use store_schema::{ColumnInt, column_int_of, small_of};
-
-/// What an event costs at a place. The place is read off the file's rows when the line is written, so that a list of
-/// lines takes little memory.
-#[derive(Drop)]
-pub(crate) struct CellLine<'a> {
-    names: &'a RunNames<'a>,
-    place: &'a CellPlace,
-    event: u32,
-    cost: ColumnInt,
-    ghost line_fits: { place.now.place.line < 2 ^ 63 },
-    ghost thread_fits: { place.now.thread < 2 ^ 63 },
-}
+use store_schema::{column_int_of, small_of};
 
 impl PageLine for CellLine<'_> {
     ghost use Rattle.store_schema.specs.Tables.{cell_columns};

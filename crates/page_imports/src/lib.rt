@@ -16,6 +16,8 @@ mod imports;
 mod names;
 // Numbers of names, and the new names among them (specs/Names.antt).
 mod numbering;
+// The lines of self costs and of calls: places in the rows of a file.
+mod row_lines;
 // The rows of a file.
 mod rows;
 // The number of a run, and the numbers of its names in the tables.
