@@ -3,3 +3,4 @@ mod Failing
 mod Naming
 mod Places
 mod Results
+mod Seeking

@@ -10,7 +10,8 @@ use Rattle.sqlite_trees.specs.Tree.{Trees}
 use Rattle.sqlite_value.specs.Keys.{plain}
 use Rattle.page_files.specs.declared.files.PageFile.{PageFile}
 use Rattle.page_files.specs.Held.{Writes}
-use Rattle.page_files.proofs.Standing.{catalog_shown, stands_writing}
+use Rattle.page_files.specs.Trees.{ShowsTable, trees_of}
+use Rattle.page_files.proofs.Standing.{catalog_shown, stands_writing, table_stands, tree_shown}
 use Rattle.page_places.specs.declared.roots.StoreRoots.{StoreRoots}
 use Rattle.page_places.specs.Roots.{AreRoots}
 use Rattle.page_places.proofs.Placing.{index_placed_at, placed_at}
@@ -51,6 +52,13 @@ module _ {D : Type 0} {g : Ghosts D} (file : PageFile D g) {wanted : List Wanted
   groups_at roots are place key root keys key_root columns =
       table_at 8 grp_at refl place (root ∙ are.groups)
       (subst (λ ks. AreIndexPlaces wanted known ks (indexes_of schema_two grp_at)) (sym keys) (key_at 9 _ refl refl key (key_root ∙ are.group_names) columns, tt))
+
+  -- it is shown under its root
+  pub groups_shown : (roots : StoreRoots) → AreRoots known roots → ShowsTable wanted 19 roots.groups file × (trees_of wanted file 19 ≡ now 19)
+  groups_shown roots are =
+      let stands = stands_writing file writes in
+      let placed = placed_at wanted now (catalog_shown file stands) holds 8 grp_at refl in
+      (table_stands file stands 19 placed.low _ placed.named.shape placed.plain are.groups, tree_shown file stands 19 placed.low)
 
   -- and that of members, with the index of their groups and runs
   pub members_at : (roots : StoreRoots) → AreRoots known roots → (place : Place) (key : IndexPlace) → place.root ≡ roots.members → place.indexes.now ≡ key ∷ [] → key.root ≡ roots.member_keys → key.columns.now ≡ 1 ∷ 2 ∷ []

@@ -1,7 +1,9 @@
 -- What a change of the groups needs, so that only the pages can fail.
-use Rattle.std.specs.Prelude.{◌≡◌, ◌∷◌, ◌^◌, ◌-◌, [], pos, ℕ, true, false, None, Some, List}
+use Rattle.std.specs.Prelude.{◌≡◌, ◌⊎◌, ◌<◌, ◌∷◌, ◌^◌, ◌-◌, [], pos, ℕ, ℤ, true, false, Option, None, Some, List}
+use Rattle.std.specs.List.{AllByRecursion}
 use Rattle.sqlite_disk.specs.declared.Disk.{Ghosts}
 use Rattle.sqlite_rules.specs.Edit.{next_rowid}
+use Rattle.sqlite_rules.specs.Lists.{Has}
 use Rattle.sqlite_schema.specs.declared.schema.Index.{Index}
 use Rattle.sqlite_store.specs.declared.catalog.Wanted.{Wanted}
 use Rattle.sqlite_trees.specs.Tree.{Trees}
@@ -9,15 +11,17 @@ use Rattle.sqlite_trees.specs.View.{IsStorableRow}
 use Rattle.sqlite_value.specs.declared.value.Value.TheVariants.{Int, Text}
 use Rattle.sqlite_value.specs.Order.{Row}
 use Rattle.page_files.specs.declared.files.PageFile.{PageFile}
-use Rattle.page_files.specs.Files.{IsFaithful, IsUsable}
+use Rattle.page_files.specs.Files.{FailsToRead, IsFaithful, IsUsable}
 use Rattle.page_files.specs.Held.{Rests}
 use Rattle.page_files.specs.Lasts.{IsLastRowid}
 use Rattle.page_places.specs.declared.roots.StoreRoots.{StoreRoots}
-use Rattle.page_places.specs.Failures.{FailsToStore}
+use Rattle.page_changes.specs.Named.{CanBeFound, HasOutOfForm, IsNarrow, named}
+use Rattle.page_places.specs.Failures.{FailsToStore, IsFailureOf}
 use Rattle.page_places.specs.Roots.{AreRoots}
 use Rattle.plain_tables.specs.Changes.{has_group, has_member, has_run}
-use Rattle.plain_tables.specs.Tables.{Tables}
+use Rattle.plain_tables.specs.Tables.{Tables, GroupRow, MemberRow}
 use Rattle.plain_tables.specs.declared.errors.StoreError.{StoreError}
+use Rattle.plain_tables.specs.declared.errors.StoreError.TheVariants.{Store}
 use Rattle.row_writes.specs.Changes.{AreStorable}
 use Rattle.row_writes.specs.Places.{indexes_of}
 use Rattle.run_lists.specs.Listed.{AreListed}
@@ -44,7 +48,45 @@ pub record CanMake (name : List ℕ) (t : Tables) (db : Trees) : Type 0 where
   pub fresh : has_group t name ≡ false
   pub room : HasRoomForGroup name db
 
+-- each run that is a member has 32 bits
+abbrev pub HasNarrowMembers : Tables → Type 0
+HasNarrowMembers t = AllByRecursion (λ (m : MemberRow). m.run < 2 ^ 32) t.members
+
+-- and each baseline
+abbrev pub HasNarrowBaselines : Tables → Type 0
+HasNarrowBaselines t = AllByRecursion (λ (x : GroupRow). IsNarrow x.baseline) t.groups
+
+-- the row of a group of this name can be written as a record, with the run as its baseline
+abbrev pub HasRoomForBaseline : List ℕ → ℕ → Trees → Type 0
+HasRoomForBaseline name run db = (id : ℤ) (n : Option ℕ) → Has (db grp_at.tree) (named id name n) → IsStorableRow 0 (named id name (Some run))
+
+-- the row of the group can be found, and written so
+pub record CanPutBaseline (name : List ℕ) (run : ℕ) (db : Trees) : Type 0 where
+  pub found : CanBeFound name None (db grp_at.tree)
+  pub room : HasRoomForBaseline name run db
+
+-- a group of the name is held, and the rows of groups can be read
+pub record CanDropGroup (name : List ℕ) (t : Tables) : Type 0 where
+  pub grouped : has_group t name ≡ true
+  pub narrow : HasNarrowBaselines t
+
 module _ {D : Type 0} {g : Ghosts D} where
+  -- why a row may not be sought among these: the pages were not read for a cause, or one is out of form
+  abbrev pub FailsToSeek : PageFile D g → PageFile D g → List Row → StoreError → Type 0
+  FailsToSeek old new rows e = IsFailureOf (FailsToRead old new) e ⊎ ((e ≡ Store) × HasOutOfForm rows)
+
+  -- the rows of members can be read, and the file can be used
+  pub record CanTakeOut (file : PageFile D g) (t : Tables) : Type 0 where
+    pub usable : IsUsable file
+    pub narrow : HasNarrowMembers t
+
+  -- where the group is held, so is the run; the rows of groups can be read, that of the group can be written, and the file can be used
+  pub record CanRebase (file : PageFile D g) (name : List ℕ) (run : ℕ) (t : Tables) (db : Trees) : Type 0 where
+    pub usable : IsUsable file
+    pub held : has_group t name ≡ true → has_run t run ≡ true
+    pub narrow : HasNarrowBaselines t
+    pub room : HasRoomForBaseline name run db
+
   -- the group and the run are held, there is room where the run is not in the group, and the file can be used
   pub record CanTakeIn (file : PageFile D g) (name : List ℕ) (run : ℕ) (t : Tables) (db : Trees) : Type 0 where
     pub usable : IsUsable file

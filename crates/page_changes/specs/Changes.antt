@@ -13,7 +13,7 @@ use Rattle.row_writes.specs.declared.places.Place.{Place}
 use Rattle.row_writes.specs.Changes.{AtTable, HasRows}
 use Rattle.page_changes.specs.declared.finding.NamedRow.{NamedRow}
 use Rattle.page_changes.specs.Causes.{CanFollow}
-use Rattle.page_changes.specs.Named.{IsFoundIn}
+use Rattle.page_changes.specs.Named.{CanBeFound, IsFoundIn}
 use Rattle.page_places.specs.Failures.{FailsToStore}
 use Rattle.plain_tables.specs.declared.errors.StoreError.{StoreError}
 use Rattle.row_writes.specs.Places.{indexes_of}
@@ -35,13 +35,7 @@ module _ {D : Type 0} {g : Ghosts D} where
       IsFaithful new → (wanted : List Wanted) (known : List ℕ) (db : Trees) (t : Tables) → Rests wanted known db old → Holds t db → AreListed t lists → AreRoots known roots
       → OnOk result ((next : Trees) × Writes wanted known db next new × Holds (change t) next)
 
-  -- the same within a transaction, for tables of which a fact holds
-  abbrev pub ChangesWithin : PageFile D g → PageFile D g → StoreRoots → (Tables → Type 0) → (Tables → Tables) → {A E : Type 0} → Result A E → Type 0
-  ChangesWithin old new roots Fact change result =
-      IsFaithful new → (wanted : List Wanted) (known : List ℕ) (was now : Trees) (t : Tables) → Writes wanted known was now old → Holds t now → AreRoots known roots → Fact t
-      → OnOk result ((next : Trees) × Writes wanted known was next new × Holds (change t) next)
-
-  -- the same, or there is a cause, where this may be missing
+  -- the same within a transaction, for tables of which a fact holds; or there is a cause, where this may be missing
   abbrev pub MakesWithin : PageFile D g → PageFile D g → StoreRoots → (Tables → Type 0) → (Tables → Tables) → (Trees → Type 0) → {A : Type 0} → Result A StoreError → Type 0
   MakesWithin old new roots Fact change Can result =
       IsFaithful new → (wanted : List Wanted) (known : List ℕ) (was now : Trees) (t : Tables) → Writes wanted known was now old → Holds t now → AreRoots known roots → Fact t
@@ -61,8 +55,11 @@ module _ {D : Type 0} {g : Ghosts D} where
       pub found : IsFoundIn name sought (now table.tree) row
       pub rows : HasRows schema wanted roots was now table (without_rowid row.rowid (now table.tree)) new
 
-    abbrev pub ErasesNamed : Place → List ℕ → Option ℕ → {A E : Type 0} → Result A E → Type 0
-    ErasesNamed place name sought result = AtTable old new place (λ schema wanted roots was now table. OnOk result (HasErased schema wanted roots was now table name sought))
+    -- or there is a cause
+    abbrev pub ErasesNamed : Place → List ℕ → Option ℕ → {A : Type 0} → Result A StoreError → Type 0
+    ErasesNamed place name sought result =
+        AtTable old new place (λ schema wanted roots was now table.
+        MatchResult result (λ _. HasErased schema wanted roots was now table name sought) (FailsToStore old new (CanBeFound name sought (now table.tree))))
 
 -- the group and the run are held, and the run is not in the group
 pub record CanJoin (name : List ℕ) (run : ℕ) (t : Tables) : Type 0 where

@@ -1,12 +1,13 @@
 // The rows of a name.
-ghost use Rattle.std.specs.Prelude.{◌≡◌, ◌∷◌, ◌↔◌, List, IsTrue, IfOk, OnOk};
+ghost use Rattle.std.specs.Prelude.{◌≡◌, ◌≢◌, ◌∷◌, ◌↔◌, ℕ, List, Option, IsTrue, IfErr, IfOk, OnOk};
 ghost use Rattle.sqlite_value.specs.Order.{Row};
 ghost use Rattle.sqlite_record.specs.Fields.{fields_left};
 ghost use Rattle.sqlite_store.specs.Db.{table_row};
 ghost use Rattle.sqlite_value.specs.declared.value.Value.TheVariants.{Text};
 ghost use Rattle.store_schema.specs.Tables.{number_or_null};
 ghost use Rattle.page_files.specs.Files.{IsFaithful, IsUsable, OnlyReads};
-ghost use Rattle.page_changes.specs.Named.{IsFound, IsSought, named};
+ghost use Rattle.page_changes.specs.Causes.{FailsToSeek};
+ghost use Rattle.page_changes.specs.Named.{IsFound, IsNarrow, IsRefused, IsSought, named};
 ghost use Rattle.page_changes.specs.Shown.{ShowsRows};
 
 use page_files::PageFile;
@@ -27,7 +28,8 @@ pub(crate) struct NamedRow {
 
 /// A text, where it lies.
 fn text_in<'a>(fields: &mut Fields<'a>) -> Result<&'a [u8], StoreError>
-    ensures { IfOk result (λ text. fields_left fields.old ≡ Text text.now ∷ fields_left fields.new) }
+    ensures read { IfOk result (λ text. fields_left fields.old ≡ Text text.now ∷ fields_left fields.new) }
+    ensures refused { IfErr result (λ e. (e ≡ StoreError.Store) × ((text : List ℕ) (rest : Row) → fields_left fields.old ≢ Text text ∷ rest)) }
 {
     match fields.next() {
         Some(ValueRef::Text(text)) => Ok(text),
@@ -37,7 +39,9 @@ fn text_in<'a>(fields: &mut Fields<'a>) -> Result<&'a [u8], StoreError>
 
 /// A whole number from 0 on, below 2^32, or NULL.
 fn number_in(fields: &mut Fields<'_>) -> Result<Option<u32>, StoreError>
-    ensures { IfOk result (λ n. fields_left fields.old ≡ number_or_null n ∷ fields_left fields.new) }
+    ensures read { IfOk result (λ n. fields_left fields.old ≡ number_or_null n ∷ fields_left fields.new) }
+    ensures refused { IfErr result (λ e. (e ≡ StoreError.Store)
+        × ((n : Option ℕ) (rest : Row) → IsNarrow n → fields_left fields.old ≢ number_or_null n ∷ rest)) }
 {
     match fields.next() {
         Some(ValueRef::Int(number)) => u32::try_from(number)
@@ -50,7 +54,8 @@ fn number_in(fields: &mut Fields<'_>) -> Result<Option<u32>, StoreError>
 
 /// The name and the number of a row. `Store` where it has other columns.
 fn named_in(rowid: i64, payload: &[u8]) -> Result<(&[u8], Option<u32>), StoreError>
-    ensures { IfOk result (λ read. table_row (rowid, payload.now) ≡ named rowid read.0.now read.1) }
+    ensures read { IfOk result (λ read. table_row (rowid, payload.now) ≡ named rowid read.0.now read.1) }
+    ensures refused { IfErr result (IsRefused (table_row (rowid, payload.now))) }
 {
     let mut fields = Fields::new(payload);
     let name = text_in(&mut fields)?;
@@ -80,8 +85,8 @@ struct Seeker<'n> {
 }
 
 impl RowSink for Seeker<'_> {
-    ghost use Rattle.std.specs.Prelude.{◌≡◌, ℕ, List, Option, None, ⊤};
-    ghost use Rattle.page_changes.specs.Named.{AreOthers, EndsFound};
+    ghost use Rattle.std.specs.Prelude.{◌≡◌, ℕ, List, Option, None};
+    ghost use Rattle.page_changes.specs.Named.{AreOthers, EndsFound, IsRefused};
 
     type Refusal = StoreError;
 
@@ -91,7 +96,7 @@ impl RowSink for Seeker<'_> {
 
     ghost Ends = { λ start rows s. EndsFound start.0 start.1 rows s.found };
 
-    ghost Refuses = { λ _ _. ⊤ };
+    ghost Refuses = { IsRefused };
 
     fn take(&mut self, rowid: i64, payload: &[u8]) -> Result<bool, StoreError> {
         let (name, number) = named_in(rowid, payload)?;
@@ -116,6 +121,7 @@ pub(crate) fn find_named<D: Disk>(
     number: Option<u32>,
 ) -> Result<Option<NamedRow>, StoreError>
     ensures found { IsFaithful file.new → (rows : List Row) → ShowsRows file.old root rows → IfOk result (IsFound name.now number rows) }
+    ensures failed { IsFaithful file.new → (rows : List Row) → ShowsRows file.old root rows → IfErr result (FailsToSeek file.old file.new rows) }
     ensures reads { OnlyReads file.old file.new }
     ensures usable { OnOk result (IsUsable file.new) }
 {

@@ -7,7 +7,7 @@ ghost use Rattle.page_files.specs.Files.{IsUsable};
 ghost use Rattle.plain_tables.specs.Changes.{is_member, joined, with_baseline, with_group, without_group, without_member};
 ghost use Rattle.plain_tables.specs.Labels.{IsGroupName};
 ghost use Rattle.run_lists.specs.Listed.{member_row};
-ghost use Rattle.page_changes.specs.Causes.{CanMake, CanTakeIn, FailsWithout};
+ghost use Rattle.page_changes.specs.Causes.{CanDropGroup, CanMake, CanRebase, CanTakeIn, CanTakeOut, FailsWithout};
 ghost use Rattle.page_changes.specs.Changes.{Changes};
 
 use crate::rows::{add_group, add_member, erase_group, erase_member, erase_members, put_baseline};
@@ -88,8 +88,8 @@ pub fn put_group<D: Disk>(
     add_group(file, alloc, roots, name)
 }
 
-/// Takes a run out of a group. Where it is not in it nothing is written. `Store` where the file failed, or it is at a
-/// limit; `Memory`. After an error `PageFile::undo` is due.
+/// Takes a run out of a group. Where it is not in it nothing is written. `Store` where the file failed, it is at a
+/// limit, or a row of members is out of form; `Memory`. After an error `PageFile::undo` is due.
 pub fn leave<D: Disk>(
     file: &mut PageFile<D>,
     alloc: Global,
@@ -99,6 +99,7 @@ pub fn leave<D: Disk>(
     run: u32,
 ) -> Result<(), StoreError>
     ensures done { Changes file.old file.new roots.now lists.now (without_member name.now run) result }
+    ensures failed { IfErr result (FailsWithout file.old file.new roots.now lists.now (λ t _. CanTakeOut file.old t)) }
     ensures usable { OnOk result (IsUsable file.new) }
     ensures keeps { Keeps (pools.state file.old.pool) (pools.state file.new.pool) }
 {
@@ -109,8 +110,8 @@ pub fn leave<D: Disk>(
 }
 
 /// Makes a run that is held the baseline of a group, in place of an older one. Where no group has this name nothing is
-/// written. `Store` where the run is not held, the file failed, or it is at a limit; `Memory`. After an error
-/// `PageFile::undo` is due.
+/// written. `Store` where the run is not held, the file failed, it is at a limit, or a row of groups is out of form;
+/// `Memory`. After an error `PageFile::undo` is due.
 pub fn set_baseline<D: Disk>(
     file: &mut PageFile<D>,
     alloc: Global,
@@ -120,6 +121,7 @@ pub fn set_baseline<D: Disk>(
     run: u32,
 ) -> Result<(), StoreError>
     ensures done { Changes file.old file.new roots.now lists.now (with_baseline name.now run) result }
+    ensures failed { IfErr result (FailsWithout file.old file.new roots.now lists.now (CanRebase file.old name.now run)) }
     ensures usable { OnOk result (IsUsable file.new) }
     ensures keeps { Keeps (pools.state file.old.pool) (pools.state file.new.pool) }
 {
@@ -132,8 +134,8 @@ pub fn set_baseline<D: Disk>(
     put_baseline(file, alloc, roots, name, run)
 }
 
-/// Drops a group with its members; the runs stay. `Store` where no group has this name, the file failed, or it is at a
-/// limit; `Memory`. After an error `PageFile::undo` is due.
+/// Drops a group with its members; the runs stay. `Store` where no group has this name, the file failed, it is at a
+/// limit, or a row of groups is out of form; `Memory`. After an error `PageFile::undo` is due.
 pub fn drop_group<D: Disk>(
     file: &mut PageFile<D>,
     alloc: Global,
@@ -142,6 +144,7 @@ pub fn drop_group<D: Disk>(
     name: &str,
 ) -> Result<(), StoreError>
     ensures done { Changes file.old file.new roots.now lists.now (without_group name.now) result }
+    ensures failed { IfErr result (FailsWithout file.old file.new roots.now lists.now (λ t _. CanDropGroup name.now t)) }
     ensures usable { OnOk result (IsUsable file.new) }
     ensures keeps { Keeps (pools.state file.old.pool) (pools.state file.new.pool) }
 {

@@ -1,13 +1,15 @@
 // One row of a group or of a member, or the members of a group, within a transaction.
-ghost use Rattle.std.specs.Prelude.{◌≡◌, ◌∷◌, [], ⊤, true, false, IfErr, IfOk, OnOk};
+ghost use Rattle.std.specs.Prelude.{◌≡◌, ◌∷◌, [], ⊤, true, false, None, Some, IfErr, IfOk, OnOk};
 ghost use Rattle.sqlite_pool.specs.Pool as pools;
 ghost use Rattle.sqlite_pool.specs.Stored.{Keeps};
 ghost use Rattle.sqlite_value.specs.declared.value.Value.TheVariants.{Text};
 ghost use Rattle.store_schema.specs.Tables.{number_or_null};
 ghost use Rattle.page_files.specs.Files.{IsUsable};
 ghost use Rattle.plain_tables.specs.Changes.{has_group, has_run, with_baseline, with_group, with_member, without_member};
-ghost use Rattle.page_changes.specs.Causes.{HasRoomForGroup, HasRoomForMember};
-ghost use Rattle.page_changes.specs.Changes.{CanJoin, ChangesWithin, ErasesNamed, HasNoMember, MakesWithin, PutsBehind, without_members, without_named};
+ghost use Rattle.store_schema.specs.Schema.{grp_at, member_at};
+ghost use Rattle.page_changes.specs.Causes.{CanPutBaseline, HasRoomForGroup, HasRoomForMember};
+ghost use Rattle.page_changes.specs.Changes.{CanJoin, ErasesNamed, HasNoMember, MakesWithin, PutsBehind, without_members, without_named};
+ghost use Rattle.page_changes.specs.Named.{CanBeFound};
 
 use crate::finding::find_named;
 use page_files::PageFile;
@@ -132,7 +134,8 @@ pub(crate) fn erase_member<D: Disk>(
     name: &str,
     run: u32,
 ) -> Result<(), StoreError>
-    ensures done { ChangesWithin file.old file.new roots.now (λ _. ⊤) (without_member name.now run) result }
+    ensures done { MakesWithin file.old file.new roots.now (λ _. ⊤) (without_member name.now run)
+        (λ now. CanBeFound name.now (Some run) (now member_at.tree)) result }
     ensures usable { OnOk result (IsUsable file.new) }
     ensures keeps { Keeps (pools.state file.old.pool) (pools.state file.new.pool) }
 {
@@ -155,7 +158,7 @@ pub(crate) fn put_baseline<D: Disk>(
     name: &str,
     run: u32,
 ) -> Result<(), StoreError>
-    ensures done { ChangesWithin file.old file.new roots.now (λ t. has_run t run ≡ true) (with_baseline name.now run) result }
+    ensures done { MakesWithin file.old file.new roots.now (λ t. has_run t run ≡ true) (with_baseline name.now run) (CanPutBaseline name.now run) result }
     ensures usable { OnOk result (IsUsable file.new) }
     ensures keeps { Keeps (pools.state file.old.pool) (pools.state file.new.pool) }
 {
@@ -201,7 +204,7 @@ pub(crate) fn erase_members<D: Disk>(
     roots: &StoreRoots,
     name: &str,
 ) -> Result<(), StoreError>
-    ensures done { ChangesWithin file.old file.new roots.now (λ _. ⊤) (without_members name.now) result }
+    ensures done { MakesWithin file.old file.new roots.now (λ _. ⊤) (without_members name.now) (λ _. ⊤) result }
     ensures usable { OnOk result (IsUsable file.new) }
     ensures keeps { Keeps (pools.state file.old.pool) (pools.state file.new.pool) }
 {
@@ -226,7 +229,8 @@ pub(crate) fn erase_group<D: Disk>(
     roots: &StoreRoots,
     name: &str,
 ) -> Result<(), StoreError>
-    ensures done { ChangesWithin file.old file.new roots.now (HasNoMember name.now) (without_named name.now) result }
+    ensures done { MakesWithin file.old file.new roots.now (HasNoMember name.now) (without_named name.now)
+        (λ now. CanBeFound name.now None (now grp_at.tree)) result }
     ensures usable { OnOk result (IsUsable file.new) }
     ensures keeps { Keeps (pools.state file.old.pool) (pools.state file.new.pool) }
 {

@@ -2,6 +2,7 @@ pub mod Among
 pub mod Finished
 pub mod Kept
 pub mod Names
+pub mod Opening
 pub mod Shown
 pub mod Sizes
 pub mod States

@@ -14,7 +14,10 @@ pub(crate) struct Hints {
 }
 
 impl Hints {
-    pub fn new(alloc: Global) -> Hints {
+    /// No hint.
+    pub fn new(alloc: Global) -> Hints
+        ensures { btree_map_len result.begins ≡ 0 }
+    {
         Hints {
             begins: BTreeMap::new(alloc),
         }
@@ -55,7 +58,12 @@ pub(crate) struct RunHints {
 }
 
 impl RunHints {
-    pub fn new(alloc: Global) -> RunHints {
+    /// No hint of any table.
+    pub fn new(alloc: Global) -> RunHints
+        ensures cells { btree_map_len result.cells.begins ≡ 0 }
+        ensures calls { btree_map_len result.calls.begins ≡ 0 }
+        ensures stacks { btree_map_len result.stacks.begins ≡ 0 }
+    {
         RunHints {
             cells: Hints::new(alloc),
             calls: Hints::new(alloc),

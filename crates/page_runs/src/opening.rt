@@ -1,5 +1,5 @@
 // Opens a store by the pages of its file.
-ghost use Rattle.std.specs.Prelude.{◌≡◌, ℕ, List, IfOk, OnOk, MatchResult};
+ghost use Rattle.std.specs.Prelude.{◌≡◌, ℕ, List, IfOk, OnOk};
 ghost use Rattle.sqlite_trees.specs.Tree.{Trees};
 ghost use Rattle.page_files.specs.Files.{IsFaithful, IsUsable, OnlyReads};
 ghost use Rattle.plain_tables.specs.Tables.{Tables};
@@ -34,18 +34,16 @@ fn read_store<D: Disk>(
     Ok((roots, lists, tables == Found::Ours))
 }
 
-/// Opens a store: where its tables stand, the rows of the small ones, and whether nothing of others stands on them. Any
-/// failure hands the file back: SQL, by which a caller opens it then, says what is wrong.
-pub(crate) fn open_store<D: Disk>(
+/// Opens a store: where its tables stand, the rows of the small ones, and whether nothing of others stands on them. At a
+/// failure the file is closed: SQL, by which a caller opens it then, says what is wrong.
+pub(crate) fn open_store<D: Disk + Drop>(
     alloc: Global,
     mut file: PageFile<D>,
-) -> Result<(PageFile<D>, StoreRoots, RunLists, bool), PageFile<D>>
+) -> Result<(PageFile<D>, StoreRoots, RunLists, bool), StoreError>
     ensures opened { IfOk result (λ r. IsFaithful r.0 → (t : Tables) (db : Trees) (known : List ℕ) → IsStoreOf file t db known → AreRoots known r.1 × AreListed t r.2) }
     ensures usable { IfOk result (λ r. IsUsable r.0) }
-    ensures reads { MatchResult result (λ r. OnlyReads file r.0) (OnlyReads file) }
+    ensures reads { IfOk result (λ r. OnlyReads file r.0) }
 {
-    match read_store(&mut file, alloc) {
-        Ok((roots, lists, is_alone)) => Ok((file, roots, lists, is_alone)),
-        Err(_) => Err(file),
-    }
+    let (roots, lists, is_alone) = read_store(&mut file, alloc)?;
+    Ok((file, roots, lists, is_alone))
 }

@@ -1,5 +1,5 @@
 // A store of runs over the pages of its file.
-ghost use Rattle.std.specs.Prelude.{◌≡◌, length, IsTrue, Ok, IfOk, IfSome, OnOk};
+ghost use Rattle.std.specs.Prelude.{◌≡◌, length, IsTrue, Ok, IfOk, OnOk};
 ghost use Rattle.sqlite_wal.specs.Files.{outcomes, seen_image};
 ghost use Rattle.sqlite_wal.specs.Reads.{AreClean};
 ghost use Rattle.page_files.specs.Files.{page_size, IsUsable, may_leave as files_may_leave};
@@ -58,40 +58,39 @@ pub struct PageRuns<D: Disk> {
 }
 
 impl<D: Disk + Drop> PageRuns<D> {
-    /// Opens the store in the files of a database, which are closed where it is none: where a table has other columns
-    /// or keys than ours, where its version is another, or where what is read of it is damaged or out of form. Its
-    /// database tells then what it is. Of the rows of runs and of the names nothing is read. So many cells of small runs
-    /// are kept in memory once they were asked for: none at 0.
+    /// Opens the store in the files of a database, which are closed at an error. Of the rows of runs and of the names
+    /// nothing is read. So many cells of small runs are kept in memory once they were asked for: none at 0.
+    ///
+    /// # Errors
+    /// `Memory`; `Store` where it is none that is read so: where a table has other columns or keys than ours, where its
+    /// version is another, or where what is read of it is damaged or out of form, or cannot be read. Its database tells
+    /// then what it is. Which of them comes no clause says, as none says when `find_tables` and `read_lists` fail.
     pub fn open(
         alloc: Global,
         files: Files<D>,
         options: Options,
         cells_to_keep: usize,
-    ) -> Option<PageRuns<D>>
+    ) -> Result<PageRuns<D>, StoreError>
         requires log { IsTrue (D.Disk.is_usable files.log) }
         requires db { IsTrue (D.Disk.is_usable files.db) }
-        ensures honest { IfSome result (λ store. IsFaithful store → AreClean D.Disk files.log files.db) }
-        ensures size { IfSome result (λ store. IsFaithful store → IsSizeOf (seen_image D.Disk files.log files.db) (page_size store.file)) }
-        ensures represents { IfSome result (λ store. IsFaithful store → (t : Tables) → HoldsIn t (page_size store.file, seen_image D.Disk files.log files.db) → AreInOrder t
+        ensures honest { IfOk result (λ store. IsFaithful store → AreClean D.Disk files.log files.db) }
+        ensures size { IfOk result (λ store. IsFaithful store → IsSizeOf (seen_image D.Disk files.log files.db) (page_size store.file)) }
+        ensures represents { IfOk result (λ store. IsFaithful store → (t : Tables) → HoldsIn t (page_size store.file, seen_image D.Disk files.log files.db) → AreInOrder t
             → Represents t store) }
-        ensures crash { IfSome result (λ store. AddsNothing (page_size store.file) (outcomes D.Disk files.log files.db) (files_may_leave store.file)) }
-        ensures keeps { IfSome result (λ store. store.kept_cells.limit ≡ cells_to_keep) }
+        ensures crash { IfOk result (λ store. AddsNothing (page_size store.file) (outcomes D.Disk files.log files.db) (files_may_leave store.file)) }
+        ensures keeps { IfOk result (λ store. store.kept_cells.limit ≡ cells_to_keep) }
     {
-        let Some(file) = open_file(alloc, files, options) else {
-            return None;
-        };
-        match open_store(alloc, file) {
-            Ok((file, roots, lists, is_alone)) => Some(PageRuns {
-                file,
-                alloc,
-                roots,
-                lists,
-                is_alone,
-                hints: RunHints::new(alloc),
-                kept_cells: KeptCells::new(alloc, cells_to_keep),
-            }),
-            Err(_) => None,
-        }
+        let opened = open_file(alloc, files, options)?;
+        let (file, roots, lists, is_alone) = open_store(alloc, opened)?;
+        Ok(PageRuns {
+            file,
+            alloc,
+            roots,
+            lists,
+            is_alone,
+            hints: RunHints::new(alloc),
+            kept_cells: KeptCells::new(alloc, cells_to_keep),
+        })
     }
 }
 

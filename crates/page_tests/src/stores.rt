@@ -58,8 +58,8 @@ pub(crate) fn pages_in<D: Disk + Drop>(
         return Err("a file has failed");
     }
     match PageRuns::open(alloc, files, options(), 0) {
-        Some(store) => Ok(store),
-        None => Err("no store in pages"),
+        Ok(store) => Ok(store),
+        Err(_) => Err("no store in pages"),
     }
 }
 

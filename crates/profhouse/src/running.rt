@@ -64,8 +64,8 @@ fn only_reads(work: &Work<'_>) -> bool {
 }
 
 /// Does a job over the store at a path, in its pages: one that only reads over the files as they are, if their log is
-/// not long. The job comes back, and why, where they are not plainly a store of this version. No guarantee: as
-/// `run_over`.
+/// not long. The job comes back, and why, where they are not plainly a store of this version, or memory was refused. No
+/// guarantee: as `run_over`.
 fn work_in_pages_at<'a>(
     rt: &'a HostRuntime,
     db: &str,
@@ -73,8 +73,9 @@ fn work_in_pages_at<'a>(
 ) -> Result<io::Result<u8>, (OpenError, Job<'a>)> {
     let job = match job {
         Job::Work(work) if only_reads(&work) => match pages_at(rt, db) {
-            Some(store) => return Ok(work_in_pages(rt, io::writer(rt), store, work).0),
-            None => Job::Work(work),
+            Ok(store) => return Ok(work_in_pages(rt, io::writer(rt), store, work).0),
+            Err(OpenError::Memory) => return Err((OpenError::Memory, Job::Work(work))),
+            Err(_) => Job::Work(work),
         },
         job => job,
     };
@@ -97,6 +98,7 @@ fn work_at<'a>(rt: &'a HostRuntime, db: &str, job: Job<'a>) -> Result<io::Result
     }
     let job = match work_in_pages_at(rt, db, job) {
         Ok(came_to) => return Ok(came_to),
+        Err((OpenError::Memory, _)) => return Err(OpenError::Memory),
         Err((OpenError::WrongSchema, _)) => return Err(OpenError::WrongSchema),
         Err((_, job)) => job,
     };

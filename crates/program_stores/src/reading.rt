@@ -1,5 +1,5 @@
 // Works over a store in the pages of its file, and a server of it.
-ghost use Rattle.std.specs.Prelude.{IfSome};
+ghost use Rattle.std.specs.Prelude.{IfOk};
 ghost use Rattle.sqlite_wal.specs.Files.{seen_image};
 ghost use Rattle.read_only_disks.specs.Untouched.{IsUntouched};
 ghost use Rattle.page_files.specs.Files.{page_size};
@@ -18,6 +18,7 @@ use crate::stores::{
 };
 use http_service::{Service, serve_over};
 use page_runs::PageRuns;
+use plain_tables::StoreError;
 use prof_store::OpenError;
 use read_only_disks::{ReadOnly, read_only};
 use sessions::{Work, work_over};
@@ -35,39 +36,45 @@ const LONGEST_LOG: usize = 0x400_0000;
 /// A store in the pages of its file, to be read and changed.
 pub type StoreInPages = PageRuns<File>;
 
-/// The store in files that are as they were found, to be read from its pages. No byte of them is written. None
-/// where they are not plainly a store of this version, or cannot be read so; their database says why. Where they
-/// hold rows that represent a history, the store represents it.
+/// The store in files that are as they were found, to be read from its pages. No byte of them is written. Where they
+/// hold rows that represent a history, the store represents it. `Memory`; `Store` where they are not plainly a store of
+/// this version, or cannot be read so; their database says why. Where the log cannot be held in memory it is `Store`.
 pub fn store_in_pages<D: Disk + Drop, S: Start>(
     alloc: Global,
     files: DiskFiles<D>,
     options: Options,
-) -> Option<PageRuns<ReadOnly<D, S>>>
+) -> Result<PageRuns<ReadOnly<D, S>>, StoreError>
     requires log { IsUntouched D.Disk S.Start.log files.log }
     requires db { IsUntouched D.Disk S.Start.db files.db }
-    ensures { IfSome result (λ store. IsFaithful state_of store → (h : History) (t : Tables) → TablesRepresent h t
+    ensures { IfOk result (λ store. IsFaithful state_of store → (h : History) (t : Tables) → TablesRepresent h t
         → HoldsIn t (page_size store.file, seen_image D.Disk files.log files.db) → RepresentsHistory state_of h store) }
 {
-    let files = read_only(alloc, files, LONGEST_LOG)?;
+    let Some(files) = read_only(alloc, files, LONGEST_LOG) else {
+        return Err(StoreError::Store);
+    };
     PageRuns::open(alloc, files, options, 0)
 }
 
 /// The store at a path, to be read from its pages, as `store_in_pages`. No guarantee: of the files at a path the
 /// checker knows nothing.
-pub fn pages_at(rt: &HostRuntime, path: &str) -> Option<PageRuns<ReadOnly<File, Unknown>>> {
+pub fn pages_at(
+    rt: &HostRuntime,
+    path: &str,
+) -> Result<PageRuns<ReadOnly<File, Unknown>>, OpenError> {
     if is_no_file(path) {
-        return None;
+        return Err(OpenError::Store);
     }
-    let Ok(files) = sqlite_std_file::open(rt, path, Unknown) else {
-        return None;
+    let files = match sqlite_std_file::open(rt, path, Unknown) {
+        Ok(files) => files,
+        Err(error) => return Err(error_of_path(error)),
     };
-    let options = options_for(rt, PAGES_TO_READ).ok()?;
-    store_in_pages(rt.alloc(), files, options)
+    let options = options_for(rt, PAGES_TO_READ)?;
+    Ok(store_in_pages(rt.alloc(), files, options)?)
 }
 
 /// The store at a path, to be read and changed in its pages, which keeps so many cells of small runs in memory.
-/// `WrongSchema` where another program has put an index or a trigger on its tables; `Store` where its files are not plainly
-/// a store of this version, or cannot be opened so: their database says why. No guarantee: as `pages_at`;
+/// `WrongSchema` where another program has put an index or a trigger on its tables; `Memory`; `Store` where its files are not
+/// plainly a store of this version, or cannot be opened so: their database says why. No guarantee: as `pages_at`;
 /// `PageRuns::open` says what the store represents.
 fn keeping_pages_at(
     rt: &HostRuntime,
@@ -82,10 +89,11 @@ fn keeping_pages_at(
         Err(error) => return Err(error_of_path(error)),
     };
     let options = options_for(rt, PAGES_TO_CHANGE)?;
-    match PageRuns::open(rt.alloc(), files, options, cells_to_keep) {
-        Some(store) if store.may_be_changed() => Ok(store),
-        Some(_) => Err(OpenError::WrongSchema),
-        None => Err(OpenError::Store),
+    let store = PageRuns::open(rt.alloc(), files, options, cells_to_keep)?;
+    if store.may_be_changed() {
+        Ok(store)
+    } else {
+        Err(OpenError::WrongSchema)
     }
 }
 

@@ -1,3 +1,4 @@
+pub mod Fits
 pub mod FromRows
 pub mod Runs
 pub mod Sums

@@ -1,6 +1,7 @@
 // The lines of the tables that the rows of a file become.
-ghost use Rattle.std.specs.Prelude.{◌≡◌, IfSome, slice_index_or};
+ghost use Rattle.std.specs.Prelude.{◌≡◌, ◌≤◌, ◌^◌, ◌↔◌, None, IfSome, length, slice_index_or};
 ghost use Rattle.prof_books.specs.Files.{cell_row_of, call_row_of};
+ghost use Rattle.run_lines.specs.Fits.{CallFits, CellFits};
 ghost use Rattle.run_lines.specs.FromRows.{place_of_cell, call_of_call, line_of_stack};
 ghost use Rattle.store_schema.specs.Lines.{cell_row, call_row, stack_row};
 
@@ -9,7 +10,8 @@ use store_schema::{CallRow, CellRow, ColumnInt, StackRow, column_int_of, small_o
 
 /// The table's number of a name that the file has under a number of its own.
 fn number_of(numbers: &[u32], name: u32) -> Option<u32>
-    ensures { IfSome result (λ n. n ≡ slice_index_or numbers.now name 0) }
+    ensures some { IfSome result (λ n. n ≡ slice_index_or numbers.now name 0) }
+    ensures none { (result ≡ None) ↔ (length numbers.now ≤ name) }
 {
     match numbers.get(name as usize) {
         Some(number) => Some(*number),
@@ -17,9 +19,10 @@ fn number_of(numbers: &[u32], name: u32) -> Option<u32>
     }
 }
 
-/// The line of a cell, unless a number in it is too great for its column.
+/// The line of a cell, unless a number in it is too great for its column, or a name has none.
 pub fn cell_of(run: u32, numbers: &[u32], row: &Cell<u32>) -> Option<CellRow>
-    ensures { IfSome result (λ c. cell_row c ≡ cell_row_of run numbers.now (place_of_cell row.now) row.now.event row.now.cost) }
+    ensures some { IfSome result (λ c. cell_row c ≡ cell_row_of run numbers.now (place_of_cell row.now) row.now.event row.now.cost) }
+    ensures none { result ≡ None → ¬ CellFits numbers.now row.now }
 {
     Some(CellRow {
         run,
@@ -33,7 +36,7 @@ pub fn cell_of(run: u32, numbers: &[u32], row: &Cell<u32>) -> Option<CellRow>
     })
 }
 
-/// The line of a part of calls, unless a number in it is too great for its column.
+/// The line of a part of calls, unless a number in it is too great for its column, or a name has none.
 pub fn call_of(
     run: u32,
     numbers: &[u32],
@@ -41,7 +44,8 @@ pub fn call_of(
     part: usize,
     sum: u128,
 ) -> Option<CallRow>
-    ensures { IfSome result (λ a. call_row a ≡ call_row_of run numbers.now (call_of_call row.now) part sum) }
+    ensures some { IfSome result (λ a. call_row a ≡ call_row_of run numbers.now (call_of_call row.now) part sum) }
+    ensures none { result ≡ None → ¬ CallFits numbers.now row.now part sum }
 {
     Some(CallRow {
         run,
@@ -59,7 +63,8 @@ pub fn call_of(
 
 /// The line of a stack, unless its count is too great for its column.
 pub fn stack_of<'a>(run: u32, row: &StackCount<&'a [u8]>) -> Option<StackRow<'a>>
-    ensures { IfSome result (λ s. stack_row s ≡ line_of_stack run row.now) }
+    ensures some { IfSome result (λ s. stack_row s ≡ line_of_stack run row.now) }
+    ensures none { (result ≡ None) ↔ (2 ^ 63 ≤ row.now.count) }
 {
     Some(StackRow {
         run,

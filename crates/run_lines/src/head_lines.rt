@@ -1,7 +1,8 @@
 // The lines that the head of a file becomes.
-ghost use Rattle.std.specs.Prelude.{◌≡◌, ◌<◌, ◌^◌, ◌++◌, ◌∷◌, [], ◌↔◌, map, option_map, string_bytes, slice_index, length, IfOk, OnOk, IsTrue};
+ghost use Rattle.std.specs.Prelude.{◌≡◌, ◌<◌, ◌≤◌, ◌^◌, ◌++◌, ◌∷◌, [], ◌↔◌, map, option_map, string_bytes, slice_index, length, All, IfErr, IfOk, OnOk, IsTrue};
 ghost use Rattle.prof_books.specs.Heads as specs;
 ghost use Rattle.prof_books.specs.Heads.{stated_at, event_row_of, coef_rows_at, derived_rows_from, coef_rows_from, AreStated, IsComplete, ColumnFits};
+ghost use Rattle.run_lines.specs.Fits.{CoefsFit, DerivedFit, HeadFits, RefusesUnless};
 ghost use Rattle.run_lines.specs.Sums.{OfContent, OfColumn, AllFit};
 ghost use Rattle.store_schema.specs.Lines.{event_row, derived_row, coef_row};
 
@@ -23,7 +24,8 @@ pub(crate) fn add<T: Drop>(lines: &mut Vec<T>, line: T) -> Result<(), AllocError
 
 /// A place that fits its column.
 fn place_of(place: usize) -> Result<u32, StoreError>
-    ensures { IfOk result (λ n. n ≡ place) }
+    ensures value { IfOk result (λ n. n ≡ place) }
+    ensures refused { IfErr result (λ e. (e ≡ StoreError.Store) × (2 ^ 32 ≤ place)) }
 {
     match small_of(place) {
         Some(small) => Ok(small),
@@ -35,6 +37,7 @@ fn place_of(place: usize) -> Result<u32, StoreError>
 fn sum_at(sums: &[u128], place: usize) -> Result<ColumnInt, StoreError>
     ensures value { IfOk result (λ w. w ≡ slice_index sums.now place) }
     ensures fits { OnOk result (slice_index sums.now place < 2 ^ 63) }
+    ensures refused { IfErr result (λ e. (e ≡ StoreError.Store) × (place < length sums.now → 2 ^ 63 ≤ slice_index sums.now place)) }
 {
     let Some(sum) = sums.get(place) else {
         return Err(StoreError::Store);
@@ -51,7 +54,8 @@ fn total_text(
     stated: &Option<ListVec<u128>>,
     place: usize,
 ) -> Result<Option<String>, StoreError>
-    ensures { IfOk result (λ text. option_map string_bytes text ≡ stated_at stated.now place) }
+    ensures value { IfOk result (λ text. option_map string_bytes text ≡ stated_at stated.now place) }
+    ensures memory { IfErr result (λ e. e ≡ StoreError.Memory) }
 {
     let Some(totals) = stated else {
         return Ok(None);
@@ -73,6 +77,7 @@ fn event_of<'a>(
 ) -> Result<EventRow<'a>, StoreError>
     ensures value { OfColumn head.now totals.now place (λ c. IfOk result (λ e. event_row e ≡ event_row_of run head.now c place name.now)) }
     ensures fits { OfColumn head.now totals.now place (λ c. OnOk result (ColumnFits c place)) }
+    ensures refused { OfColumn head.now totals.now place (λ c. IfErr result (RefusesUnless (ColumnFits c place × (place < 2 ^ 32)))) }
 {
     Ok(EventRow {
         run,
@@ -93,6 +98,7 @@ fn event_rows<'a>(
 ) -> Result<Vec<EventRow<'a>>, StoreError>
     ensures value { OfContent head.now totals.now (λ c. IfOk result (λ lines. map event_row lines.items ≡ specs.event_rows run head.now c)) }
     ensures fits { OfContent head.now totals.now (λ c. OnOk result (AllFit head.now c)) }
+    ensures refused { OfContent head.now totals.now (λ c. IfErr result (RefusesUnless (AllFit head.now c × (length head.now.events ≤ 2 ^ 32)))) }
 {
     let events = head.events.as_slice();
     let mut lines = Vec::new(alloc);
@@ -109,7 +115,8 @@ fn derived_rows(
     run: u32,
     derived: &[(ListVec<u8>, ListVec<u64>)],
 ) -> Result<Vec<DerivedRow<'_>>, StoreError>
-    ensures { IfOk result (λ lines. map derived_row lines.items ≡ derived_rows_from run 0 derived.now) }
+    ensures value { IfOk result (λ lines. map derived_row lines.items ≡ derived_rows_from run 0 derived.now) }
+    ensures refused { IfErr result (RefusesUnless (DerivedFit derived.now)) }
 {
     let mut lines = Vec::new(alloc);
     'derived: for at in 0..derived.len() {
@@ -130,7 +137,8 @@ fn push_coefs(
     place: u32,
     coefficients: &[u64],
 ) -> Result<(), StoreError>
-    ensures { OnOk result (map coef_row lines.new.items ≡ map coef_row lines.old.items ++ coef_rows_at run place 0 coefficients.now) }
+    ensures added { OnOk result (map coef_row lines.new.items ≡ map coef_row lines.old.items ++ coef_rows_at run place 0 coefficients.now) }
+    ensures refused { IfErr result (RefusesUnless (CoefsFit coefficients.now)) }
 {
     'events: for event in 0..coefficients.len() {
         if coefficients[event] > 0 {
@@ -155,7 +163,8 @@ fn coef_rows(
     run: u32,
     derived: &[(ListVec<u8>, ListVec<u64>)],
 ) -> Result<Vec<CoefRow>, StoreError>
-    ensures { IfOk result (λ lines. map coef_row lines.items ≡ coef_rows_from run 0 derived.now) }
+    ensures value { IfOk result (λ lines. map coef_row lines.items ≡ coef_rows_from run 0 derived.now) }
+    ensures refused { IfErr result (RefusesUnless (DerivedFit derived.now × All (λ d. CoefsFit d.1) derived.now)) }
 {
     let mut lines = Vec::new(alloc);
     'derived: for at in 0..derived.len() {
@@ -174,8 +183,8 @@ fn are_stated(stated: &Option<ListVec<u128>>, events: usize) -> bool
     }
 }
 
-/// The lines of the head of a file, with the sums of its rows. Refused are a head that is not whole,
-/// and a sum above 2^63-1.
+/// The lines of the head of a file, with the sums of its rows. `Store` where a head is not whole, where a sum or a
+/// coefficient is above 2^63-1, or where places have more than 32 bits; `Memory`.
 pub fn head_rows<'a>(
     alloc: Global,
     run: u32,
@@ -187,6 +196,7 @@ pub fn head_rows<'a>(
     ensures fits { OfContent head.now totals.now (λ c. OnOk result (AllFit head.now c)) }
     ensures derived { IfOk result (λ lines. map derived_row lines.derived.items ≡ specs.derived_rows run head.now) }
     ensures coefs { IfOk result (λ lines. map coef_row lines.coefs.items ≡ specs.coef_rows run head.now) }
+    ensures refused { OfContent head.now totals.now (λ c. IfErr result (RefusesUnless (HeadFits head.now c))) }
 {
     let events = head.events.len();
     if head.derived.events.len() != events || !are_stated(&head.stated, events) {

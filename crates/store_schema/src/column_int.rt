@@ -48,7 +48,8 @@ impl ColumnInt {
 
 /// A sum that a column can hold.
 pub fn column_int_of(sum: u128) -> Option<ColumnInt>
-    ensures { IfSome result (λ w. w ≡ sum) }
+    ensures some { IfSome result (λ w. w ≡ sum) }
+    ensures none { (result ≡ None) ↔ (2 ^ 63 ≤ sum) }
 {
     match u64::try_from(sum) {
         Ok(number) => ColumnInt::of(number),
@@ -58,7 +59,8 @@ pub fn column_int_of(sum: u128) -> Option<ColumnInt>
 
 /// A number of 32 bits.
 pub fn small_of(number: usize) -> Option<u32>
-    ensures { IfSome result (λ n. n ≡ number) }
+    ensures some { IfSome result (λ n. n ≡ number) }
+    ensures none { (result ≡ None) ↔ (2 ^ 32 ≤ number) }
 {
     match u32::try_from(number) {
         Ok(small) => Some(small),

@@ -1,7 +1,14 @@
+use Rattle.std.proofs.Common.{sym, ◌∙◌}
+use Rattle.std.proofs.lemmas.Result.{err_from_is_err_and}
 use Rattle.sqlite_pool.specs.StoredLaws.{Keeps-trans}
 use Rattle.page_files.proofs.Steps.{begins}
+use Rattle.page_places.proofs.Failing.{store_fails_later}
+use Rattle.page_changes.specs.Causes.{CanDropGroup}
 use Rattle.page_changes.specs.Changes.{without_members}
 use Rattle.page_changes.proofs.Editing.{none_left}
+use Rattle.page_changes.proofs.Failing.{fails_with_more}
+use Rattle.page_changes.proofs.Seeking.{group_found}
+use Rattle.page_changes.proofs.Results.{at_err, if_err, when_ok}
 use Rattle.page_changes.proofs.groups.drop_group.Goals as goal
 
 pub returns-clause-done : goal.returns-clause-done
@@ -9,7 +16,25 @@ returns-clause-done g c clean wanted known db t rests holds listed are =
     let name = c.args.name.now in
     let after = c.erase_group.ensures.keeps.stays.clean clean in
     let (next, gone, has) = c.in_ok-erase_members.ensures.done after wanted known db db t (begins c.args.file.now rests) holds are tt in
-    c.erase_group.ensures.done clean wanted known db next (without_members name t) gone has are (none_left t name)
+    when_ok c.erase_group.result _ (λ it. it) (c.erase_group.ensures.done clean wanted known db next (without_members name t) gone has are (none_left t name))
+
+pub returns-in_err-erase_members-clause-failed : goal.returns-in_err-erase_members-clause-failed
+returns-in_err-erase_members-clause-failed g c =
+    let p = err_from_is_err_and c.from_residual.result c.from_residual.ensures.1 in
+    rw (p.1, p.2) (λ clean wanted known db t rests holds listed are.
+    fails_with_more c.args.file.now c.erase_members.new.file {Q = CanDropGroup c.args.name.now t} _ (λ _. tt)
+    (c.in_err-erase_members.ensures.done clean wanted known db db t (begins c.args.file.now rests) holds are tt))
+
+pub returns-clause-failed : goal.returns-clause-failed
+returns-clause-failed g c =
+    if_err c.erase_group.result _ (λ e is clean wanted known db t rests holds listed are.
+    let name = c.args.name.now in
+    let after = c.erase_group.ensures.keeps.stays.clean clean in
+    let grouped = sym (c.has_group.ensures.told t listed) ∙ c.if-not-has_group.false in
+    let (next, gone, has) = c.in_ok-erase_members.ensures.done after wanted known db db t (begins c.args.file.now rests) holds are tt in
+    let done = c.erase_group.ensures.done clean wanted known db next (without_members name t) gone has are (none_left t name) in
+    store_fails_later c.args.file.now c.erase_members.new.file c.erase_group.new.file e c.erase_members.ensures.keeps
+    (λ (can : CanDropGroup name t). group_found (without_members name t) next has name grouped can.narrow) (at_err c.erase_group.result _ _ e is done))
 
 pub returns-clause-keeps : goal.returns-clause-keeps
 returns-clause-keeps g c = Keeps-trans _ _ _ c.erase_members.ensures.keeps c.erase_group.ensures.keeps

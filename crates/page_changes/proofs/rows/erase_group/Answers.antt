@@ -4,17 +4,18 @@ use Rattle.sqlite_trees.specs.View.{IsShaped}
 use Rattle.store_schema.specs.Schema.{schema_two, grp_at}
 use Rattle.table_changes.proofs.OneLine.{group_removed}
 use Rattle.page_changes.proofs.Places.{groups_at}
-use Rattle.page_changes.proofs.Results.{on_ok}
+use Rattle.row_writes.proofs.Outcomes.{match_result}
 use Rattle.page_changes.proofs.rows.erase_group.Goals as goal
 
 pub returns-clause-done : goal.returns-clause-done
 returns-clause-done g c clean = λ wanted known was now t writes holds are none.
     let name = c.args.name.now in
     let shows = groups_at c.args.file.now writes holds c.args.roots.now are _ _ refl refl refl refl in
-    on_ok c.erase_named.result (λ e.
+    match_result c.erase_named.result (λ e.
     let h = e.rows in (
       h.next,
       h.writes,
       group_removed t now holds h.next e.row.rowid (record { name = name; baseline = e.row.number }) e.found.there h.only (subst (IsShaped shape.Table) (sym h.rows_are) h.shaped) h.rows_are none,
     ))
+    (λ e fails. fails)
     (c.erase_named.ensures.done clean schema_two wanted known was now grp_at shows)

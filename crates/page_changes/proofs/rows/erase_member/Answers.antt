@@ -6,7 +6,7 @@ use Rattle.store_schema.specs.Schema.{schema_two, member_at}
 use Rattle.table_changes.proofs.OneLine.{member_removed}
 use Rattle.page_changes.specs.Named.{named}
 use Rattle.page_changes.proofs.Places.{members_at}
-use Rattle.page_changes.proofs.Results.{on_ok}
+use Rattle.row_writes.proofs.Outcomes.{match_result}
 use Rattle.page_changes.proofs.rows.erase_member.Goals as goal
 
 pub returns-clause-done : goal.returns-clause-done
@@ -14,11 +14,12 @@ returns-clause-done g c clean = λ wanted known was now t writes holds are any.
     let name = c.args.name.now in
     let run = c.args.run in
     let shows = members_at c.args.file.now writes holds c.args.roots.now are _ _ refl refl refl refl in
-    on_ok c.erase_named.result (λ e.
+    match_result c.erase_named.result (λ e.
     let h = e.rows in
     let there = subst (λ n. Has (now 21) (named e.row.rowid name n)) e.found.is e.found.there in (
       h.next,
       h.writes,
       member_removed t now holds h.next e.row.rowid (record { group = name; run = run }) there h.only (subst (IsShaped shape.Table) (sym h.rows_are) h.shaped) h.rows_are,
     ))
+    (λ e fails. fails)
     (c.erase_named.ensures.done clean schema_two wanted known was now member_at shows)

@@ -3,6 +3,7 @@ use Rattle.sqlite_trees.specs.declared.store.Shape.TheVariants as shape
 use Rattle.sqlite_trees.specs.View.{IsShaped}
 use Rattle.store_schema.specs.Schema.{schema_two, member_at}
 use Rattle.table_changes.proofs.Members.{members_of_group_taken_out}
+use Rattle.page_places.proofs.Failing.{row_fails}
 use Rattle.page_changes.specs.Named.{is_of_name}
 use Rattle.page_changes.proofs.Naming.{same_text}
 use Rattle.page_changes.proofs.Places.{members_at}
@@ -16,3 +17,8 @@ returns-in-Ok-clause-done g c faithful = λ wanted known was now t writes holds 
       h.writes,
       members_of_group_taken_out t now h.next holds h.only (subst (IsShaped shape.Table) (sym h.rows_are) h.shaped) (λ r. not (is_of_name name r)) name h.rows_are (λ id m there. ap not (same_text m.group name)),
     )
+
+pub returns-in-Err-clause-done : goal.returns-in-Err-clause-done
+returns-in-Err-clause-done g c faithful = λ wanted known was now t writes holds are any.
+    let shows = members_at c.args.file.now writes holds c.args.roots.now are _ _ refl refl refl refl in
+    row_fails c.args.file.now c.erase_where.new.file c.in-Err.error _ c.error_of_row.ensures (c.in-Err.ensures.done faithful schema_two wanted known was now member_at shows tt)

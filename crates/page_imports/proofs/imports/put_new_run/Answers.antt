@@ -19,7 +19,7 @@ returns-clause-fits g c = on_any c.put_contents.result (c.in_ok-lines.ensures.fi
 pub returns-clause-counted : goal.returns-clause-counted
 returns-clause-counted g c =
     let low : c.in-Some.call_count < 2 ^ 63 = search rules in
-    on_any c.put_contents.result (subst (λ n. n < 2 ^ 63) (c.in-Some.ensures ∙ c.args.summed.now.summed.call_count) low)
+    on_any c.put_contents.result (subst (λ n. n < 2 ^ 63) (c.in-Some.ensures.some ∙ c.args.summed.now.summed.call_count) low)
 
 pub returns-clause-keeps : goal.returns-clause-keeps
 returns-clause-keeps g c = Keeps-trans _ _ _ c.find_roots.ensures.reads.keeps c.put_contents.ensures.keeps
@@ -38,7 +38,7 @@ returns-clause-done g c clean = λ wanted known db t rests holds new.
     let shows : ShowsTables wanted known db t mid = record { next = db; writes = begins mid (rests_after file mid c.find_roots.ensures.reads after c.in_ok-roots.ensures.usable rests); holds = holds } in
     let of_run = head_of_run n head content in
     let events = c.in_ok-lines.ensures.events content summed.summed in
-    let same = file_is n c.number_of_kind.result c.in-Some.call_count c.args.digest.now c.args.label.now lines summed.rows.now t c.args.kind head c.number_of_kind.ensures (c.in-Some.ensures ∙ summed.summed.call_count) events c.in_ok-lines.ensures.derived c.in_ok-lines.ensures.coefs in
+    let same = file_is n c.number_of_kind.result c.in-Some.call_count c.args.digest.now c.args.label.now lines summed.rows.now t c.args.kind head c.number_of_kind.ensures (c.in-Some.ensures.some ∙ summed.summed.call_count) events c.in_ok-lines.ensures.derived c.in_ok-lines.ensures.coefs in
     on_ok c.put_contents.result (λ (made : ShowsTables wanted known db _ c.put_contents.new.file). (made.next, made.writes, subst (λ u. Holds u made.next) same made.holds)) (c.put_contents.ensures.done clean wanted known db t shows are (record {
       is_new = new;
       lines = record {

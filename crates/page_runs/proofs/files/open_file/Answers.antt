@@ -14,7 +14,7 @@ returns-in-Ok-open g c = record {
       let there = c.in-Ok-new.ensures.files ∙ c.in-Ok.ensures.files in
       let clean = subst (λ fs. AreClean g.D.Disk fs.0 fs.1) there (clean_files _ (c.in-Ok-open.ensures.honest faithful)) in
       let size = c.in-Ok-open.ensures.size ∙ c.in-Ok-new.ensures.size ∙ c.in-Ok.ensures.size in
-      subst (IsSizeOf (seen_image g.D.Disk c.args.files.log c.args.files.db)) (sym size) (c.in-Some.ensures.size clean);
+      subst (IsSizeOf (seen_image g.D.Disk c.args.files.log c.args.files.db)) (sym size) (c.in_ok-size.ensures.size clean);
   rests = λ faithful wanted db pages found has.
       let there = ap (λ fs. seen_image g.D.Disk fs.0 fs.1) (c.in-Ok-new.ensures.files ∙ c.in-Ok.ensures.files) in
       let before = same_image c.plain_size.ensures.log c.plain_size.ensures.db in

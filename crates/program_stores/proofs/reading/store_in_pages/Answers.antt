@@ -1,11 +1,11 @@
-use Rattle.std.proofs.Common.{Option, None, Some, IfSome, subst, sym}
+use Rattle.std.proofs.Common.{Result, Ok, Err, IfOk, subst, sym}
 use Rattle.page_files.specs.Files.{page_size}
 use Rattle.page_runs.specs.States.{HoldsIn}
 use Rattle.program_stores.proofs.reading.store_in_pages.Goals as goal
 
-both : {X : Type 0} {P Q R : X → Type 0} (found : Option X) → ((x : X) → P x → Q x → R x) → IfSome found P → IfSome found Q → IfSome found R
-both None so one other = tt
-both (Some x) so one other = so x one other
+both : {X E : Type 0} {P Q R : X → Type 0} (opened : Result X E) → ((x : X) → P x → Q x → R x) → IfOk opened P → IfOk opened Q → IfOk opened R
+both (Ok x) so one other = so x one other
+both (Err e) so one other = tt
 
 pub returns : goal.returns
 returns g c =

@@ -11,7 +11,7 @@ use Rattle.run_writing.proofs.row_lines.insert_cost.Goals as goal
 pub returns-then-cost-gt0 : goal.returns-then-cost-gt0
 returns-then-cost-gt0 g c =
     let line = part_line c.args.run c.args.numbers.now c.args.row.now c.args.part c.args.cost in
-    subst (λ b. Queues g.S.Store call_row with_calls (is_ok c.queue.result) c.args.waiting.now.items (if b then line ∷ [] else []) c.queue.new.waiting.items c.args.tx.now c.queue.new.tx) (sym (lt-ltb 0 c.args.cost c.if-cost-gt0.true)) (c.queue.ensures line c.call_of.ensures)
+    subst (λ b. Queues g.S.Store call_row with_calls (is_ok c.queue.result) c.args.waiting.now.items (if b then line ∷ [] else []) c.queue.new.waiting.items c.args.tx.now c.queue.new.tx) (sym (lt-ltb 0 c.args.cost c.if-cost-gt0.true)) (c.queue.ensures line c.call_of.ensures.some)
 
 pub returns-else-cost-gt0 : goal.returns-else-cost-gt0
 returns-else-cost-gt0 g c =

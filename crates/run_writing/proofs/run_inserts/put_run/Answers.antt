@@ -23,7 +23,7 @@ returns-clause-changes g c clean =
     let file = c.args.file.now in
     let content = content_of file.rows.now in
     let given = λ (t : Tables) (db : Trees). (t.next ≡ c.args.number) × Holds t db in
-    let same = λ (t : Tables). file_is c.args.number c.number_of_kind.result c.in-Some.call_count c.args.digest.now c.args.label.now c.in_ok-lines.lines file.rows.now t c.args.kind file.head.now c.number_of_kind.ensures (c.in-Some.ensures ∙ file.summed.call_count) (c.in_ok-lines.ensures.events content file.summed) c.in_ok-lines.ensures.derived c.in_ok-lines.ensures.coefs in
+    let same = λ (t : Tables). file_is c.args.number c.number_of_kind.result c.in-Some.call_count c.args.digest.now c.args.label.now c.in_ok-lines.lines file.rows.now t c.args.kind file.head.now c.number_of_kind.ensures (c.in-Some.ensures.some ∙ file.summed.call_count) (c.in_ok-lines.ensures.events content file.summed) c.in_ok-lines.ensures.derived c.in_ok-lines.ensures.coefs in
     changed_as schema_two _ _ given (λ t. Holds (with_summed c.args.number c.args.kind c.args.digest.now c.args.label.now file t)) (is_ok c.put_in.result) (is_ok c.put_in.result) _ _
     (λ t was. (t, was, λ next h. subst (λ u. Holds u next) (same t) h)) (c.put_in.ensures.commits clean)
 

@@ -36,7 +36,7 @@ pub returns-in_err-queue : goal.returns-in_err-queue
 returns-in_err-queue g c = (
   row_lines c.args.run c.args.numbers.now c.args.self.now,
   refl,
-  queues_err g.S.Store with_calls call_row c.from_residual.result c.from_residual.ensures.0 (c.in_err-queue.ensures _ c.call_of.ensures).writes,
+  queues_err g.S.Store with_calls call_row c.from_residual.result c.from_residual.ensures.0 (c.in_err-queue.ensures _ c.call_of.ensures.some).writes,
 )
 
 pub returns-in_err-insert_cost : goal.returns-in_err-insert_cost
