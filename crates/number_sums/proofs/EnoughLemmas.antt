@@ -13,7 +13,7 @@ use Rattle.report_texts.specs.declared.cuts.Cut.{Cut}
 use Rattle.number_sums.specs.Ranked.{sum_of, sums_of, CostsFall, Reached, IsApart}
 use Rattle.number_sums.specs.Sums.{numbers_cmp, numbers_total}
 use Rattle.number_sums.specs.declared.parts.NumberPart.{NumberPart}
-use Rattle.number_sums.specs.declared.ranked.RankedSum.{RankedSum}
+use Rattle.number_sums.specs.declared.parts.PartSum.{PartSum}
 
 -- ---- totals
 
@@ -38,17 +38,17 @@ total_within (suc n) [] = omega arith
 total_within (suc n) (e ∷ sums) = let rest = total_within n sums in omega (arith, rest)
 
 -- a row, where there is none
-abbrev pub no_row : RankedSum
+abbrev pub no_row : PartSum
 no_row = record { cost = record { 0 = 0 }; part = record { object = 0; file = 0; function = 0; line = 0; thread = 0 } }
 
 -- a front with the next row costs what this one costs more
-next_front : (rows : List RankedSum) (k : ℕ) (d : RankedSum) → k < length rows
+next_front : (rows : List PartSum) (k : ℕ) (d : PartSum) → k < length rows
     → numbers_total (take (suc k) (sums_of rows)) ≡ numbers_total (take k (sums_of rows)) + (get_or rows k d).cost.0
 next_front [] k d within = absurd (omega (arith, within))
 next_front (row ∷ rows) zero d within = omega arith
 next_front (row ∷ rows) (suc k) d within = let rest = next_front rows k d (omega (arith, within)) in omega (arith, rest)
 
-pub total_next : (rows : List RankedSum) (k : ℕ) (d : RankedSum) → k < length rows
+pub total_next : (rows : List PartSum) (k : ℕ) (d : PartSum) → k < length rows
     → numbers_total (take (k + 1) (sums_of rows)) ≡ numbers_total (take k (sums_of rows)) + (get_or rows k d).cost.0
 total_next rows k d within = rw add-one (next_front rows k d within)
 
@@ -68,14 +68,14 @@ falls_front n sums falls i j d order within =
     omega (arith, x, y, fall)
 
 -- from what a sort of rows ensures
-module _ (rows : List RankedSum) (sorted : IsSortedBy (λ (a : RankedSum) (b : RankedSum). is_lt (ordering_then (nat_cmp b.cost.0 a.cost.0) (numbers_cmp a.part b.part))) rows) where
-  not_above : (a b : RankedSum) → is_lt (ordering_then (nat_cmp b.cost.0 a.cost.0) (numbers_cmp a.part b.part)) ≡ false → a.cost.0 ≤ b.cost.0
+module _ (rows : List PartSum) (sorted : IsSortedBy (λ (a : PartSum) (b : PartSum). is_lt (ordering_then (nat_cmp b.cost.0 a.cost.0) (numbers_cmp a.part b.part))) rows) where
+  not_above : (a b : PartSum) → is_lt (ordering_then (nat_cmp b.cost.0 a.cost.0) (numbers_cmp a.part b.part)) ≡ false → a.cost.0 ≤ b.cost.0
   not_above a b h = elim (cases_lt b.cost.0 a.cost.0) [
     | inl less ↦ let k = rw (lt-ltb b.cost.0 a.cost.0 less) at h in absurd cc
     | inr most ↦ most
   ]
 
-  falls_by : (gap i : ℕ) (d : RankedSum) → i + gap < length rows → (get_or rows (i + gap) d).cost.0 ≤ (get_or rows i d).cost.0
+  falls_by : (gap i : ℕ) (d : PartSum) → i + gap < length rows → (get_or rows (i + gap) d).cost.0 ≤ (get_or rows i d).cost.0
   falls_by zero i d within = let e : i + 0 ≡ i = omega arith in rw e (omega arith)
   falls_by (suc gap) i d within =
       let rest = falls_by gap i d (omega (arith, within)) in
@@ -86,7 +86,7 @@ module _ (rows : List RankedSum) (sorted : IsSortedBy (λ (a : RankedSum) (b : R
   pub falls_sorted : CostsFall (sums_of rows)
   falls_sorted i j d order within =
       let inside : j < length rows = omega (arith, length-map rows sum_of, within) in
-      let e : RankedSum = record { cost = record { 0 = d.1 }; part = d.0 } in
+      let e : PartSum = record { cost = record { 0 = d.1 }; part = d.0 } in
       let later = get_or-map sum_of rows j e d inside in
       let sooner = get_or-map sum_of rows i e d (omega (arith, order, inside)) in
       let at : NumberPart × ℕ → ℕ = λ s. s.1 in

@@ -1,4 +1,5 @@
 pub mod NumberLemmas
+pub mod SlotLemmas
 pub mod NamedSums
 pub mod ToldLemmas
 pub mod NamedLemmas

@@ -3,7 +3,7 @@ use Rattle.std.specs.Prelude.{◌≡◌, ◌≢◌, ℕ, ◌-◌, ◌*◌, ◌�
 use Rattle.cost_rows.specs.declared.keys.Key.{Key}
 use Rattle.number_sums.specs.Sums.{numbers_total}
 use Rattle.number_sums.specs.declared.parts.NumberPart.{NumberPart}
-use Rattle.number_sums.specs.declared.ranked.RankedSum.{RankedSum}
+use Rattle.number_sums.specs.declared.parts.PartSum.{PartSum}
 
 -- what rows are added up by, some of the sums, and the total of all
 pub record SumsByCost : Type 0 where
@@ -12,10 +12,10 @@ pub record SumsByCost : Type 0 where
   pub total : ℕ
 
 -- a row as a sum
-abbrev pub sum_of : RankedSum → NumberPart × ℕ
+abbrev pub sum_of : PartSum → NumberPart × ℕ
 sum_of row = (row.part, row.cost.0)
 
-abbrev pub sums_of : List RankedSum → List (NumberPart × ℕ)
+abbrev pub sums_of : List PartSum → List (NumberPart × ℕ)
 sums_of rows = map sum_of rows
 
 -- no cost is above one before it

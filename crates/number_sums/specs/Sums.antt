@@ -34,10 +34,6 @@ pub record SumsByNumber : Type 0 where
 abbrev pub numbers_with : NumberPart → ℕ → List (NumberPart × ℕ) → List (NumberPart × ℕ)
 numbers_with part cost sums = merge numbers_cmp counts_added sums part cost
 
--- a cost of recent rows, if there is any, is added at their part
-abbrev pub with_recent : NumberPart → ℕ → List (NumberPart × ℕ) → List (NumberPart × ℕ)
-with_recent part cost sums = if nat_eq cost 0 then sums else numbers_with part cost sums
-
 -- a row's cost is added at its part; a cost of 0 adds nothing
 abbrev pub with_number : SumsByNumber → Cell ℕ → SumsByNumber
 with_number s row =

@@ -9,11 +9,13 @@ mod laws;
 mod naming;
 // The numbers of the names that sums tell.
 mod numbers;
+// The sums in slots (specs/Slots.antt).
+mod part_sums;
 // The part of a place that a key tells, by number.
 mod parts;
 // The sums, the greatest cost first (specs/Ranked.antt).
 mod ranked;
-// The sums (specs/Sums.antt).
+// What rows cost, added up (specs/Sums.antt).
 mod sums;
 
 pub use laws::{named_sums_are_those_of_the_rows, once_named_sums_are_those_of_the_rows};

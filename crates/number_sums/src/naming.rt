@@ -11,13 +11,13 @@ ghost use Rattle.run_stores.specs.Names.{named_cell};
 ghost use Rattle.number_sums.specs.Named.{named_sum, AreOf};
 ghost use Rattle.number_sums.specs.Sums.{number_rows, numbers_told, numbers_total, told};
 
+use crate::part_sums::PartSums;
 use crate::parts::NumberPart;
-use crate::sums::{NumberSums, settle};
+use crate::sums::NumberSums;
 use cost_rows::{Cell, Key, Merged};
 use named_rows::held_name;
 use run_stores::{NameTable, StoreError};
 use std::alloc::Global;
-use std::collections::BTreeMap;
 
 /// A sum as a row of event 0, with what a key tells of its part; other names are `???`, and other numbers 0.
 /// `Store` where a name is not held.
@@ -58,16 +58,16 @@ fn merge_named<N: NameTable>(
     alloc: Global,
     names: &N,
     key: Key,
-    sums: &BTreeMap<NumberPart, u128>,
+    sums: &PartSums,
 ) -> Result<Merged, StoreError>
-    requires small { numbers_total sums.now.entries < 2 ^ 112 }
+    requires small { numbers_total sums.now < 2 ^ 112 }
     ensures key { IfOk result (λ merged. merged.key ≡ key) }
-    ensures sums { IfOk result (λ merged. merged ≡ fold with_row (record { key = key; sums = [] }) (map (named_cell (N.name_rows names.now)) (number_rows sums.now.entries))) }
-    ensures held { IfOk result (λ _. AllByRecursion (IsHeld (N.name_rows names.now)) (numbers_told key sums.now.entries)) }
+    ensures sums { IfOk result (λ merged. merged ≡ fold with_row (record { key = key; sums = [] }) (map (named_cell (N.name_rows names.now)) (number_rows sums.now))) }
+    ensures held { IfOk result (λ _. AllByRecursion (IsHeld (N.name_rows names.now)) (numbers_told key sums.now)) }
 {
     let mut merged = Merged::new(alloc, key);
-    for (part, cost) in sums {
-        let row = named_row(names, key, part, *cost)?;
+    for (part, cost) in sums.iter() {
+        let row = named_row(names, key, part, cost)?;
         merged.add(&row)?;
     }
     Ok(merged)
@@ -82,14 +82,6 @@ impl NumberSums {
             → merged.sums ≡ sums_by self.key (map (named_cell all) (number_rows self.sums))) }
         ensures held { IfOk result (λ _. AllByRecursion (IsHeld (N.name_rows names.now)) (numbers_told self.key self.sums)) }
     {
-        let NumberSums {
-            key,
-            mut sums,
-            recent,
-            mut cost,
-            ..
-        } = self;
-        settle(&mut sums, recent, &mut cost)?;
-        merge_named(alloc, names, key, &sums)
+        merge_named(alloc, names, self.key, &self.sums)
     }
 }

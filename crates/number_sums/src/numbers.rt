@@ -2,11 +2,11 @@
 ghost use Rattle.std.specs.Prelude.{◌≡◌, ◌++◌, IfOk, OnOk};
 ghost use Rattle.number_sums.specs.Sums.{numbers_told, told};
 
+use crate::part_sums::PartSums;
 use crate::parts::NumberPart;
-use crate::sums::{NumberSums, settle};
+use crate::sums::NumberSums;
 use cost_rows::Key;
 use std::alloc::{AllocError, Global};
-use std::collections::BTreeMap;
 
 /// Adds the numbers of the names that a key tells of a part.
 pub(crate) fn push_told(
@@ -30,15 +30,11 @@ pub(crate) fn push_told(
 }
 
 /// The numbers that sums tell.
-fn numbers_of(
-    alloc: Global,
-    key: Key,
-    sums: &BTreeMap<NumberPart, u128>,
-) -> Result<Vec<u32>, AllocError>
-    ensures { IfOk result (λ numbers. numbers.items ≡ numbers_told key sums.now.entries) }
+fn numbers_of(alloc: Global, key: Key, sums: &PartSums) -> Result<Vec<u32>, AllocError>
+    ensures { IfOk result (λ numbers. numbers.items ≡ numbers_told key sums.now) }
 {
     let mut numbers = Vec::new(alloc);
-    for (part, _) in sums {
+    for (part, _) in sums.iter() {
         push_told(&mut numbers, key, part)?;
     }
     Ok(numbers)
@@ -46,12 +42,10 @@ fn numbers_of(
 
 impl NumberSums {
     /// The numbers of the names that the key tells, of each sum, one after another: a number may come more than
-    /// once. Memory is the only refusal. The sums stay as they were.
-    pub fn numbers(&mut self, alloc: Global) -> Result<Vec<u32>, AllocError>
-        ensures same { self.new ≡ self.old }
-        ensures numbers { IfOk result (λ numbers. numbers.items ≡ numbers_told self.old.key self.old.sums) }
+    /// once. Memory is the only refusal.
+    pub fn numbers(&self, alloc: Global) -> Result<Vec<u32>, AllocError>
+        ensures { IfOk result (λ numbers. numbers.items ≡ numbers_told self.now.key self.now.sums) }
     {
-        settle(&mut self.sums, self.recent, &mut self.cost)?;
         numbers_of(alloc, self.key, &self.sums)
     }
 }

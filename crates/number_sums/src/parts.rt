@@ -3,6 +3,7 @@ ghost use Rattle.std.specs.Prelude.{◌≡◌};
 ghost use Rattle.number_sums.specs.Sums.{numbers_part};
 
 use cost_rows::{Cell, Key};
+use std::cmp::Reverse;
 
 /// A part of a place, with names by their numbers.
 #[derive(Clone, Copy, PartialEq, Eq, PartialOrd, Ord)]
@@ -14,8 +15,16 @@ pub struct NumberPart {
     pub thread: u64,
 }
 
+/// A cost and the part that it is of: the greatest cost comes first, and of equal costs the order is that of the
+/// parts.
+#[derive(Clone, Copy, PartialEq, Eq, PartialOrd, Ord)]
+pub(crate) struct PartSum {
+    pub(crate) cost: Reverse<u128>,
+    pub(crate) part: NumberPart,
+}
+
 /// The part of no place.
-pub(crate) const NO_PART: NumberPart = NumberPart {
+const NO_PART: NumberPart = NumberPart {
     object: 0,
     file: 0,
     function: 0,

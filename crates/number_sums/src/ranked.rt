@@ -12,40 +12,16 @@ ghost use Rattle.number_sums.specs.Sums.{numbers_told, numbers_total};
 
 use crate::naming::named_row;
 use crate::numbers::push_told;
-use crate::parts::NumberPart;
-use crate::sums::{NumberSums, settle};
+use crate::parts::PartSum;
+use crate::sums::NumberSums;
 use cost_rows::{Cell, Key};
 use report_texts::Cut;
 use run_stores::{NameTable, StoreError};
 use std::alloc::{AllocError, Global};
-use std::cmp::Reverse;
-use std::collections::BTreeMap;
 use std::marker::Model;
 
-/// A cost and the part that it is of: the greatest cost comes first, and of equal costs the order is that of the
-/// parts.
-#[derive(Clone, Copy, PartialEq, Eq, PartialOrd, Ord)]
-pub(crate) struct RankedSum {
-    pub(crate) cost: Reverse<u128>,
-    pub(crate) part: NumberPart,
-}
-
-/// The sums as rows, in their order.
-fn rows_of(alloc: Global, sums: &BTreeMap<NumberPart, u128>) -> Result<Vec<RankedSum>, AllocError>
-    ensures { IfOk result (λ rows. sums_of rows.items ≡ sums.now.entries) }
-{
-    let mut rows = Vec::with_capacity(alloc, sums.len())?;
-    for (part, cost) in sums {
-        rows.push(RankedSum {
-            cost: Reverse(*cost),
-            part: *part,
-        })?;
-    }
-    Ok(rows)
-}
-
 /// The greatest cost first.
-fn rank(rows: &mut Vec<RankedSum>)
+fn rank(rows: &mut Vec<PartSum>)
     ensures order { CostsFall (sums_of rows.new.items) }
     ensures same { IsPermutation (sums_of rows.new.items) (sums_of rows.old.items) }
 {
@@ -53,7 +29,7 @@ fn rank(rows: &mut Vec<RankedSum>)
 }
 
 /// How many rows it takes until there are as many as a limit, or they sum to a hundredth of what is needed.
-fn count_reaching(rows: &[RankedSum], need: u128, limit: Option<u64>) -> usize
+fn count_reaching(rows: &[PartSum], need: u128, limit: Option<u64>) -> usize
     requires { numbers_total (sums_of rows.now) < 2 ^ 112 }
     ensures { Reached need limit (sums_of rows.now) result }
 {
@@ -68,7 +44,7 @@ fn count_reaching(rows: &[RankedSum], need: u128, limit: Option<u64>) -> usize
 }
 
 /// How many rows there are up to the last that costs as much as the last of these.
-fn count_tied(rows: &[RankedSum], count: usize) -> usize
+fn count_tied(rows: &[PartSum], count: usize) -> usize
     requires { count ≤ length rows.now }
     ensures least { count ≤ result }
     ensures within { result ≤ length rows.now }
@@ -94,7 +70,7 @@ fn cells_of<'n, N: NameTable>(
     alloc: Global,
     names: &'n N,
     key: Key,
-    rows: &[RankedSum],
+    rows: &[PartSum],
 ) -> Result<Vec<Cell<&'n [u8]>>, StoreError>
     ensures sums { IfOk result (λ cells. map (λ r. sum_of_row (plain_cell r)) cells.items
         ≡ map (named_sum (N.name_rows names.now) key) (sums_of rows.now)) }
@@ -110,7 +86,7 @@ fn cells_of<'n, N: NameTable>(
 }
 
 /// The numbers that rows tell.
-fn numbers_of(alloc: Global, key: Key, rows: &[RankedSum]) -> Result<Vec<u32>, AllocError>
+fn numbers_of(alloc: Global, key: Key, rows: &[PartSum]) -> Result<Vec<u32>, AllocError>
     ensures { IfOk result (λ numbers. numbers.items ≡ numbers_told key (sums_of rows.now)) }
 {
     let mut numbers = Vec::new(alloc);
@@ -125,7 +101,7 @@ fn numbers_of(alloc: Global, key: Key, rows: &[RankedSum]) -> Result<Vec<u32>, A
 #[derive(Drop)]
 pub struct RankedSums {
     key: Key,
-    rows: Vec<RankedSum>,
+    rows: Vec<PartSum>,
     total: u128,
     ghost falling: { CostsFall (sums_of rows.items) },
     ghost within: { numbers_total (sums_of rows.items) ≤ total },
@@ -141,24 +117,16 @@ impl Model for RankedSums {
 }
 
 impl NumberSums {
-    /// The sums, the greatest cost first. Memory is the only refusal.
-    pub fn ranked(self, alloc: Global) -> Result<RankedSums, AllocError>
-        ensures key { IfOk result (λ ranked. ranked.key ≡ self.key) }
-        ensures total { IfOk result (λ ranked. ranked.total ≡ numbers_total self.sums) }
-        ensures sums { IfOk result (λ ranked. IsPermutation ranked.sums self.sums) }
+    /// The sums, the greatest cost first. Takes no memory.
+    pub fn ranked(self) -> RankedSums
+        ensures key { result.key ≡ self.key }
+        ensures total { result.total ≡ numbers_total self.sums }
+        ensures sums { IsPermutation result.sums self.sums }
     {
-        let total = self.total();
-        let NumberSums {
-            key,
-            mut sums,
-            recent,
-            mut cost,
-            ..
-        } = self;
-        settle(&mut sums, recent, &mut cost)?;
-        let mut rows = rows_of(alloc, &sums)?;
+        let NumberSums { key, sums, total } = self;
+        let mut rows = sums.into_slots();
         rank(&mut rows);
-        Ok(RankedSums { key, rows, total })
+        RankedSums { key, rows, total }
     }
 }
 

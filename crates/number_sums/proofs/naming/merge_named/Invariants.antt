@@ -10,8 +10,8 @@ use Rattle.number_sums.proofs.naming.merge_named.Given as goal
 abbrev pub invariant-loop-part : goal.invariant-loop-part
 invariant-loop-part g l =
     (l.merged.key ≡ l.key) ×
-    (total_of l.merged.sums + numbers_total l.part-iterator ≡ numbers_total l.sums.entries) ×
+    (total_of l.merged.sums + numbers_total l.part-iterator ≡ numbers_total l.sums) ×
     (fold with_row l.merged (map (named_cell (g.N.NameTable.name_rows l.names)) (number_rows l.part-iterator))
-    ≡ fold with_row (record { key = l.key; sums = [] }) (map (named_cell (g.N.NameTable.name_rows l.names)) (number_rows l.sums.entries))) ×
+    ≡ fold with_row (record { key = l.key; sums = [] }) (map (named_cell (g.N.NameTable.name_rows l.names)) (number_rows l.sums))) ×
     (AllByRecursion (IsHeld (g.N.NameTable.name_rows l.names)) (numbers_told l.key l.part-iterator)
-    → AllByRecursion (IsHeld (g.N.NameTable.name_rows l.names)) (numbers_told l.key l.sums.entries))
+    → AllByRecursion (IsHeld (g.N.NameTable.name_rows l.names)) (numbers_told l.key l.sums))

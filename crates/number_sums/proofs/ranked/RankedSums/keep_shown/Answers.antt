@@ -4,7 +4,7 @@ use Rattle.cost_reports.specs.Enough.{AreEnough}
 use Rattle.number_sums.specs.Ranked.{SumsByCost, sum_of, sums_of, CostsFall, Reached, IsApart}
 use Rattle.number_sums.specs.Sums.{numbers_total}
 use Rattle.number_sums.specs.declared.parts.NumberPart.{NumberPart}
-use Rattle.number_sums.specs.declared.ranked.RankedSum.{RankedSum}
+use Rattle.number_sums.specs.declared.parts.PartSum.{PartSum}
 use Rattle.number_sums.proofs.EnoughLemmas.{enough_front, falls_front, total_within}
 use Rattle.number_sums.proofs.ranked.RankedSums.keep_shown.Goals as goal
 use Rattle.number_sums.proofs.ranked.RankedSums.keep_shown.Goals.{After-truncate}
@@ -29,19 +29,19 @@ invariant_of-self-inside c =
 pub returns-clause-enough : goal.returns-clause-enough
 returns-clause-enough c = λ whole.
     let at = (goal.at.returns-clause-enough c).After-truncate in
-    let old : List RankedSum = c.self.inside.rows.items in
+    let old : List PartSum = c.self.inside.rows.items in
     let count : ℕ = c.count_reaching-count.result in
     let end : ℕ = c.count_tied-count.result in
     let total : c.self.inside.total ≡ numbers_total (sums_of old) =
     ap (λ (a : SumsByCost). a.total) c.self.view_is ∙ sym whole ∙ ap (λ (a : SumsByCost). numbers_total a.sums) (sym c.self.view_is) in
     let reached : Reached (c.from.result * c.self.inside.total) c.args.cut.limit (sums_of old) count =
-    subst (λ (rows : List RankedSum). Reached (c.from.result * c.self.inside.total) c.args.cut.limit (sums_of rows) count) c.deref.ensures.value c.count_reaching-count.ensures in
+    subst (λ (rows : List PartSum). Reached (c.from.result * c.self.inside.total) c.args.cut.limit (sums_of rows) count) c.deref.ensures.value c.count_reaching-count.ensures in
     let needed : Reached (c.args.cut.threshold * numbers_total (sums_of old)) c.args.cut.limit (sums_of old) count =
     subst (λ (m : ℕ). Reached (m * numbers_total (sums_of old)) c.args.cut.limit (sums_of old) count) c.from.ensures
     (subst (λ (n : ℕ). Reached (c.from.result * n) c.args.cut.limit (sums_of old) count) total reached) in
     let apart : IsApart (sums_of old) end =
-    subst (λ (rows : List RankedSum). IsApart (sums_of rows) end) c.deref-2.ensures.value c.count_tied-count.ensures.apart in
-    let lent = ap (λ (rows : List RankedSum). length rows) c.deref-2.ensures.value in
+    subst (λ (rows : List PartSum). IsApart (sums_of rows) end) c.deref-2.ensures.value c.count_tied-count.ensures.apart in
+    let lent = ap (λ (rows : List PartSum). length rows) c.deref-2.ensures.value in
     let within : end ≤ length (sums_of old) = omega (arith, length-map old sum_of, lent, c.count_tied-count.ensures.within) in
     subst (λ (a : SumsByCost). AreEnough (λ (e : NumberPart × ℕ). e.1) c.args.cut a.sums (sums_of c.truncate.new.self.items)) c.self.view_is
     (subst (λ (left : List (NumberPart × ℕ)). AreEnough (λ (e : NumberPart × ℕ). e.1) c.args.cut (sums_of old) left) (sym (front at))
