@@ -38,6 +38,9 @@ RUN_LINE = re.compile(rb"(%s) (callgrind|folded) ([0-9a-f]{64}) ([^\x00-\x1f\x7f
 GROUP_LINE = re.compile(rb"([A-Za-z0-9._-]{1,64}) (-|%s) (?:-|%s(?:,%s)*)" % (NUMBER, NUMBER, NUMBER))
 SHARE_LINE = re.compile(rb"(%s) [0-9]{1,4000}\.[0-9]{2}%% (%s)" % (COST, NAME))
 COST_LINE = re.compile(rb"(%s) (%s)" % (COST, NAME))
+CALL_LINE = re.compile(rb"%s [0-9]{1,4000} %s" % (COST, NAME))
+# A line of `verify`: run, event, sum, what the file states, and a word.
+SUM_LINE = re.compile(rb"%s [^\x00-\x20\x7f]+ ([0-9]{1,4000}) (?:[0-9]{1,4000}|none) [a-z]+" % NUMBER)
 REFUSAL = re.compile(rb"refused: [^\x00-\x1f\x7f]+\n")
 
 # A run that a server lists; the label is bytes.
@@ -255,11 +258,11 @@ def fields_of(text, form, skipped=0):
     return found
 
 
-def rows_of(report, form):
-    """The total of a report, and the cost and the name of each row: its lines are of this form behind the first."""
+def rows_of(report, form, head, event):
+    """The total of a report, and the cost and the name of each row: its lines are of this form behind the head."""
     rows = [(int(it[1]), it[2]) for it in fields_of(report, form, 1)]
-    if not rows or rows[0][1] != b"total":
-        raise Fault("the answer is no report")
+    if report.partition(b"\n")[0] != f"{head} ".encode() + escaped(os.fsencode(event)) or not rows or rows[0][1] != b"total":
+        raise Fault(f"the answer is no report `{head} {shown(event)}`")
     return rows[0][0], rows[1:]
 
 

@@ -1,0 +1,2 @@
+def results(seed, program):
+    return []
