@@ -1,4 +1,5 @@
 """Hostile answers to each script that asks a server: what tests/hostile_words tries first."""
+import contextlib
 import csv
 import io
 import os
@@ -40,7 +41,7 @@ HELD = [f"1 {'f' * 64}\n", "1\n", "x\n", f"1 {SHA[:-1]}g\n", f"1 {SHA}", "\x1b[2
 PSQL_WORDS = b"-X -A -t -q -v ON_ERROR_STOP=1".split()
 VALUES = {b"run": rb"[1-9][0-9]{0,9}", b"kind": rb"callgrind|folded", b"sha256": rb"[0-9a-f]{64}"}
 # A span of code, which no sign in it ends.
-CODE = r"(?:(?<!`)(`+)(?!`)(?:(?!(?<!`)\1(?!`)).)+(?<!`)\1(?!`))"
+CODE = re.compile(r"(?<!`)(`+)(?!`)(?:(?!(?<!`)\1(?!`)).)+(?<!`)\1(?!`)", re.S)
 
 
 class Case:
@@ -62,6 +63,13 @@ class Case:
         """What the server says to a question, and what it then goes on with."""
         if question.startswith(self.answer.asked) and not self.of_psql:
             return self.answer.data, self.answer.endless
+        return next(response(filled(text)) for asked, text in SOUND if question.startswith(asked)), b""
+
+
+class Sound:
+    """A server with nothing hostile."""
+
+    def data_for(self, question):
         return next(response(filled(text)) for asked, text in SOUND if question.startswith(asked)), b""
 
 
@@ -145,15 +153,14 @@ def psql_wrong(case, outside, rows, words):
 def table_wrong(text):
     """What a page of Markdown would make of a table beside its cells."""
     head, empty, *rows = text.split("\n")[:-1]
-    if not re.fullmatch(rf"\*\*{CODE}: \+20 \(\+[0-9.]+ %\)\*\*, run 2 \({CODE}\) less run 1 \({CODE}\)", head, re.S) or empty:
+    bare = CODE.sub("CODE", head)
+    if not re.fullmatch(r"\*\*CODE: \+20 \(\+[0-9.]+ %\)\*\*, run 2 \(CODE\) less run 1 \(CODE\)", bare) or empty:
         return f"the head is {head!r}"
     for row in rows[2:]:
         # (a backslash keeps the sign behind it, and all else but a | belongs to the cell)
         cells = re.findall(r"\|((?:\\[!-/:-@\[-`{-~]|[^|])*)", row)[:-1]
-        if len(cells) != 4 or not re.fullmatch(rf" [+-][0-9,]+ \| [+-][0-9.]+ % ", "|".join(cells[:2])):
+        if not re.fullmatch(r" [+-][0-9,]+ \| [+-][0-9.]+ % \| CODE \| CODE ", "|".join(CODE.sub("CODE", it) for it in cells)):
             return f"a row has the cells {cells}"
-        if not all(re.fullmatch(f" {CODE} ", it, re.S) for it in cells[2:]):
-            return f"a row has more than names: {cells}"
     return None
 
 
@@ -219,26 +226,33 @@ def in_children(cases, one):
     return found
 
 
+@contextlib.contextmanager
+def listening_for(cases):
+    """The port of a server of these cases."""
+    with socket.create_server(("127.0.0.1", 0), backlog=256) as listening:
+        server = os.fork()
+        if server == 0:
+            serve(listening, cases)
+        try:
+            yield listening.getsockname()[1]
+        finally:
+            os.kill(server, 9)
+            os.waitpid(server, 0)
+
+
 def results(seed):
     """A pair for each case, with what is wrong or None."""
     cases = [Case(seed, script, number) for script in SCRIPTS for number in range(COUNT)]
     top = tempfile.mkdtemp(prefix="hostile.", dir=DISK)
-    listening = socket.create_server(("127.0.0.1", 0), backlog=256)
-    server = os.fork()
-    if server == 0:
-        serve(listening, cases)
     try:
         for name in ("bin", "tmp"):
             os.mkdir(os.path.join(top, name))
         with open(os.path.join(top, "bin", "psql"), "w", encoding="utf-8") as file:
             file.write(PSQL)
         os.chmod(os.path.join(top, "bin", "psql"), 0o755)
-        port = listening.getsockname()[1]
-        found = in_children(cases, lambda case: tried_in(case, top, port))
+        with listening_for(cases) as port:
+            found = in_children(cases, lambda case: tried_in(case, top, port))
         left = sorted({*os.listdir(top), *os.listdir(os.path.join(top, "tmp"))} - {"bin", "tmp"})
         return [*found, (1, f"there is {left} beside the cases" if left else None)]
     finally:
-        os.kill(server, 9)
-        os.waitpid(server, 0)
-        listening.close()
         shutil.rmtree(top)
