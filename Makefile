@@ -55,6 +55,7 @@ test: build
 	tests/readme
 	tests/words_of_help
 	tests/scripts
+	tests/hostile_words
 
 gate:
 	tests/gate
