@@ -4,14 +4,18 @@ import csv
 import io
 import os
 import pickle
+import random
 import re
 import shutil
 import socket
+import subprocess
+import sys
 import tempfile
 
 from forked import ran
-from hostile import SHA, SOUND, answer_of, filled, hidden_in, response, visible
+from hostile import COMMANDS, CONTROLS, MARKUP, SHA, SOUND, answer_of, filled, hidden_in, response, visible
 from tried import DISK
+from tried import SCRIPTS as SCRIPTS_AT
 
 COUNT = 200
 STORE = "it's; a \\store"
@@ -40,6 +44,9 @@ LAST = len(SCRIPTS["profhouse_remote"]) - 1
 HELD = [f"1 {'f' * 64}\n", "1\n", "x\n", f"1 {SHA[:-1]}g\n", f"1 {SHA}", "\x1b[2J\n", f"\uff11 {SHA}\n", f"1 {SHA} 2\n"]
 PSQL_WORDS = b"-X -A -t -q -v ON_ERROR_STOP=1".split()
 VALUES = {b"run": rb"[1-9][0-9]{0,9}", b"kind": rb"callgrind|folded", b"sha256": rb"[0-9a-f]{64}"}
+# The fields of a response of profhouse_web.
+FIELDS = set("""Server Date Content-Type Content-Length Content-Security-Policy Cross-Origin-Resource-Policy Referrer-Policy
+X-Content-Type-Options Cache-Control Allow Connection""".split())
 # A span of code, which no sign in it ends.
 CODE = re.compile(r"(?<!`)(`+)(?!`)(?:(?!(?<!`)\1(?!`)).)+(?<!`)\1(?!`)", re.S)
 
@@ -238,6 +245,66 @@ def listening_for(cases):
         finally:
             os.kill(server, 9)
             os.waitpid(server, 0)
+
+
+def web_cases(seed, top):
+    """Answers of a server behind the page: all that HTTP has, and few that are no answer, since those begin it anew."""
+    chance = random.Random(f"{seed} web")
+    cases = [Sound() for _ in range(COUNT)]
+    for number, case in enumerate(cases):
+        word = chance.choice(COMMANDS + MARKUP + CONTROLS).replace("MARK", f"{top}/mark").encode("utf-8", "surrogateescape")
+        line = word.replace(b"\r", b" ").replace(b"\n", b" ")
+        bodies = [response(word), response(word, "404 " + line.decode("latin-1")), response(word, "422 x", more="Allow: x\r\nSet-Cookie: a=b\r\nAccess-Control-Allow-Origin: *\r\n"),
+                  response(word, kind="text/html"), b"HTTP/1.1 200 OK\r\nAllow: " + line + b"\r\nLocation: " + line + b"\r\nContent-Length: 1\r\n\r\nx",
+                  b"HTTP/1.1 302 Found\r\nLocation: http://e/\r\nContent-Length: 3\r\n\r\nabc", b"HTTP/1.1 200 OK\r\nX: a\r\n b\r\nContent-Length: 0\r\n\r\n"]
+        broken = [line * 9, b"HTTP/1.1 304 Not Modified\r\nContent-Length: 6\r\n\r\nHTTP/1", b"HTTP/1.1 101 x\r\n\r\nHTTP/1.1 200 OK\r\n\r\n", b"",
+                  b"HTTP/1.1 204 x\r\nContent-Length: 38\r\n\r\nHTTP/1.1 200 OK\r\nContent-Length: 0\r\n\r\n", b"HTTP/1.1 200 OK\r\nContent-Length: 99\r\n\r\nx", b"HTTP/1.1 -1\r\n\r\n"]
+        data = chance.choice(broken if number % 10 == 0 else bodies)
+        case.data_for = lambda _, data=data: (data, b"")
+    return cases
+
+
+def asked_of_page(port, number):
+    """What is wrong with a response of the page."""
+    method = "PUT" if number % 10 == 0 else "GET"
+    with socket.create_connection(("127.0.0.1", port)) as peer:
+        peer.sendall(f"{method} /api/{number}/runs HTTP/1.1\r\nHost: 127.0.0.1:{port}\r\nConnection: close\r\n\r\n".encode())
+        came = b"".join(iter(lambda: peer.recv(65536), b""))
+    head, _, body = came.partition(b"\r\n\r\n")
+    status, *fields = head.decode("latin-1").split("\r\n")
+    names = dict(it.split(": ", 1) if ": " in it else (it, "") for it in fields)
+    code = status.split(" ")[1] if status.startswith("HTTP/1.1 ") else ""
+    sound = re.fullmatch("[2-5][0-9][0-9]", code) and set(names) <= FIELDS and len(names) == len(fields) and len(body) == int(names["Content-Length"])
+    if not sound or names["Content-Type"] != "text/plain; charset=utf-8" or number % 10 == 0 and code not in ("502", "503"):
+        return f"profhouse_web {number}: {came[:800]}"
+    return None
+
+
+def results_of_page(seed):
+    """A pair for each answer behind profhouse_web."""
+    top = tempfile.mkdtemp(prefix="hostile.", dir=DISK)
+    try:
+        cases = web_cases(seed, top)
+        with listening_for(cases) as port:
+            with open(f"{top}/serve", "w", encoding="utf-8") as file:
+                file.write(f"#!/bin/sh\necho 'listening 127.0.0.1:{port}'\nexec sleep 60\n")
+            os.chmod(f"{top}/serve", 0o755)
+            with open(f"{top}/s.db", "w", encoding="utf-8") as file:
+                file.write("store")
+            words = [sys.executable, os.path.join(SCRIPTS_AT, "profhouse_web"), "--db", f"{top}/s.db", "--port", "0", "--write", "--log", "--program", f"{top}/serve"]
+            with open(f"{top}/log", "w+b") as log, subprocess.Popen(words, stdout=subprocess.PIPE, stderr=log, cwd=top) as page:
+                try:
+                    at = int(re.search(rb":(\d+)/", page.stdout.readline())[1])
+                    found = [(1, asked_of_page(at, number)) for number in range(COUNT)]
+                finally:
+                    page.terminate()
+                    page.wait()
+                log.seek(0)
+                hidden = hidden_in(log.read())
+        left = sorted(set(os.listdir(top)) - {"serve", "s.db", "log"})
+        return [*found, (1, f"profhouse_web writes {hidden} to its log" if hidden else None), (1, f"profhouse_web leaves {left}" if left else None)]
+    finally:
+        shutil.rmtree(top)
 
 
 def results(seed):
