@@ -14,6 +14,7 @@ FILES = 755:$(PROGRAM):bin/profhouse \
 	644:share/completions/_profhouse:share/zsh/site-functions/_profhouse \
 	644:share/completions/profhouse.fish:share/fish/vendor_completions.d/profhouse.fish \
 	644:share/scripts/profhouse_http.py:share/profhouse/profhouse_http.py \
+	644:share/scripts/profhouse_script.py:share/profhouse/profhouse_script.py \
 	755:share/scripts/backup_store:share/profhouse/backup_store \
 	755:share/scripts/fail_if_costlier:share/profhouse/fail_if_costlier \
 	755:share/scripts/markdown_difference:share/profhouse/markdown_difference \
@@ -54,6 +55,7 @@ test: build
 	tests/readme
 	tests/words_of_help
 	tests/scripts
+	tests/hostile_words
 
 gate:
 	tests/gate

@@ -10,8 +10,9 @@ _profhouse_held()
         [[ ${COMP_WORDS[at]} == --db ]] && db=${COMP_WORDS[at + 1]}
         [[ $db == = ]] && db=${COMP_WORDS[at + 2]}
     done
-    db=${db/#\~\//$HOME/}
-    [[ -s $db ]] && sqlite3 -readonly "$db" "$1" 2>/dev/null
+    db=${db/#\~\//$HOME/} db=${db/#-/./-}
+    # (in a stranger's file a view may stand in place of a table, and edit() in it would run a command)
+    [[ -s $db ]] && sqlite3 -init /dev/null -batch -readonly -cmd 'PRAGMA trusted_schema = OFF' "$db" "$1" 2>/dev/null
 }
 
 _profhouse()
@@ -60,7 +61,8 @@ _profhouse()
     if [[ $held ]]; then
         # (compgen -W would run what stands in $(..) in the name of an event)
         while IFS= read -r held; do
-            [[ $held == "$word"* ]] && COMPREPLY+=("$(printf %q "$held")")
+            # (and in this locale printf leaves no character that a terminal obeys)
+            [[ $held == "$word"* ]] && COMPREPLY+=("$(LC_ALL=C printf %q "$held")")
         done < <(_profhouse_held "$held")
         return
     fi

@@ -13,4 +13,4 @@ WITH of_run AS (
 )
 SELECT run, object, function, sum(cost) AS change FROM steps
 GROUP BY run, object, function HAVING sum(cost) <> 0
-ORDER BY abs(sum(cost)) DESC, run, object, function LIMIT :rows;
+ORDER BY abs(sum(cost)) DESC, run, object, function LIMIT :'rows';

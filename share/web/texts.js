@@ -25,11 +25,16 @@ export function decoded(name) {
   }
 }
 
-// Characters that cannot be seen, or that change the order of those around them.
-const HIDDEN = /[\0-\x1f\x7f-\x9f\u00ad\u061c\u200b-\u200f\u2028-\u202e\u2060-\u206f\ufeff]/g;
+// Characters that cannot be seen, or that change the order of those around them. share/scripts/profhouse_script.py has the
+// same ones, and writes them so.
+const HIDDEN = new RegExp("[\\0-\\x1f\\x7f-\\x9f\\xad\\u034f\\u061c\\u115f\\u1160\\u17b4\\u17b5\\u180b-\\u180f\\u200b-\\u200f"
+  + "\\u2028-\\u202e\\u2060-\\u206f\\u3164\\ufe00-\\ufe0f\\ufeff\\uffa0\\ufff0-\\ufffb"
+  + "\\u{13430}-\\u{1343f}\\u{1bca0}-\\u{1bca3}\\u{1d173}-\\u{1d17a}\\u{e0000}-\\u{e0fff}]", "gu");
 
-const code = it => it.charCodeAt(0) < 256 ? "\\x" + it.charCodeAt(0).toString(16).padStart(2, "0")
-  : "\\u" + it.charCodeAt(0).toString(16).padStart(4, "0");
+function code(it) {
+  const number = it.codePointAt(0), digits = number.toString(16);
+  return number < 0x100 ? "\\x" + digits.padStart(2, "0") : number < 0x10000 ? "\\u" + digits.padStart(4, "0") : "\\U" + digits.padStart(8, "0");
+}
 
 export const shown = name => decoded(name).replace(HIDDEN, code);
 

@@ -2,13 +2,27 @@
 import contextlib
 import fcntl
 import os
+import re
 import sqlite3
 import subprocess
+import sys
 import threading
 import time
 import urllib.request
 
+from tried import TOP
+
 NAME = "backup_store"
+NOBODY = 65534
+# Runs the script as another user, who need not find this Python: all that it uses is loaded before.
+AS_NOBODY = """import sys
+sys.path.insert(0, sys.argv[1])
+import forked
+done = forked.ran("backup_store", *sys.argv[4:], folder=sys.argv[2], environment={"PATH": "/usr/bin:/bin"}, user=int(sys.argv[3]))
+sys.stdout.buffer.write(done.out)
+sys.stderr.buffer.write(done.err)
+sys.exit(done.status)
+"""
 
 
 def copies(tried, folder, name="s.db"):
@@ -20,7 +34,8 @@ def cases_at_rest(tried):
     tried.profhouse("import", "--db", "s.db", "a.cg")
     ran = tried.script(NAME, "--db", "s.db", "rest")
     tried.expect("a copy", (ran.status, ran.err, ran.out.endswith(b"Z: 1 runs\n")), (0, b"", True))
-    tried.expect("one file", os.listdir(tried.path("rest")), [ran.out.decode().partition(":")[0]])
+    tried.expect("one file, and whose it is", sorted(os.listdir(tried.path("rest"))), [ran.out.decode().partition(":")[0], "s.db.origin"])
+    tried.expect("whose it is", tried.read("rest/s.db.origin"), os.fsencode(os.path.realpath(tried.path("s.db"))) + b"\n")
     tried.expect("what it says", tried.profhouse("csv", "--db", os.path.join("rest", copies(tried, "rest")[0])),
                  b"object,file,function,line,event,cost\n???,???,f,1,Ir,5\n")
     # Times that are made up, of copies of this store and of files that only look alike.
@@ -32,7 +47,7 @@ def cases_at_rest(tried):
     tried.expect("another copy", tried.script(NAME, "--db", "s.db", "rest", "--keep", "3").status, 0)
     tried.expect("a log beside an old copy goes with it", os.path.exists(tried.path("rest/s.db.20200101T000000Z-wal")), False)
     # (the first copy was opened, and so has a log)
-    held = {it for it in os.listdir(tried.path("rest")) if not it.endswith("-wal")}
+    held = {it for it in os.listdir(tried.path("rest")) if not it.endswith(("-wal", ".origin"))}
     tried.expect("others are left", held >= set(others), True)
     tried.expect("the newest three are kept", [it[5:13] for it in sorted(held - set(others))][0], "20200105")
     tried.expect("and no more", len(held - set(others)), 3)
@@ -63,6 +78,94 @@ def cases_of_refusals(tried):
     base = sqlite3.connect(tried.path("s.db"))
     base.execute("SELECT count(*) FROM run").fetchall()
     tried.expect_refusal("open in another program", tried.script(NAME, "--db", "s.db", "other"), b"open in other programs: python")
+    base.close()
+
+
+def cases_of_rights(tried):
+    """A copy has the rights of its store, whatever others get by default."""
+    for mode in (0o600, 0o640, 0o644, 0o666):
+        tried.write("rights.db", tried.read("s.db"), mode)
+        ran = tried.run("bash", "-c", 'umask 022; exec "$@"', "run", sys.executable, os.path.join(TOP, "share", "scripts", NAME), "--db", "rights.db", f"r{mode:o}")
+        name = ran.out.decode().partition(":")[0]
+        tried.expect(f"the rights of a store of {mode:o}", os.stat(tried.path(f"r{mode:o}/{name}")).st_mode & 0o7777 if ran.status == 0 else ran.err, mode)
+
+
+def cases_of_two_stores(tried):
+    """Two stores of one name in one folder: the copies of each are counted apart, and others are as they were."""
+    for number in (1, 2):
+        os.mkdir(tried.path(f"p{number}"))
+        tried.profhouse("import", "--db", f"p{number}/perf.db", tried.write(f"two{number}.cg", f"events: Ir\nfn=f\n1 {number}\n"))
+    for _ in range(3):
+        rans = [tried.script(NAME, "--db", f"p{number}/perf.db", "both", "--keep", "2") for number in (1, 2)]
+        tried.expect("copies of two stores", [it.status for it in rans], [0, 0])
+        time.sleep(1)
+    held = os.listdir(tried.path("both"))
+    first, second = ([it for it in held if re.fullmatch(form, it)] for form in (r"perf\.db\.\d{8}T\d{6}Z", r"perf\.db\.2\.\d{8}T\d{6}Z"))
+    tried.expect("two of each", (len(first), len(second)), (2, 2))
+    for names, cost in ((first, b"1"), (second, b"2")):
+        for name in names:
+            said = tried.profhouse("csv", "--db", f"both/{name}").splitlines()[1]
+            tried.expect(f"{name} is of its own store", said, b"???,???,f,1,Ir," + cost)
+    tried.expect("and they are noted", [tried.read(f"both/perf.db{it}.origin") for it in ("", ".2")],
+                 [os.fsencode(tried.path(f"p{it}/perf.db")) + b"\n" for it in (1, 2)])
+
+
+def cases_of_links(tried):
+    """What stands in the folder already, as others who may write there may have it, is not written to."""
+    victim = tried.write("victim", b"not ours\n")
+    os.mkdir(tried.path("shared"))
+    os.chmod(tried.path("shared"), 0o1777)
+    now = time.time()
+    names = [time.strftime("s.db.%Y%m%dT%H%M%SZ", time.gmtime(now + it)) for it in range(30)]
+    for name in ["s.db.origin", "s.db.20200101T000000Z", *(f"{it}.part" for it in names), *(f"{it}.part-wal" for it in names)]:
+        os.symlink(victim, tried.path(f"shared/{name}"))
+    os.mkdir(tried.path("shared/s.db.20200102T000000Z"))
+    os.mkfifo(tried.path("shared/s.db.2.origin"))
+    ran = tried.script(NAME, "--db", "s.db", "shared", "--keep", "1")
+    tried.expect("a folder with links", (ran.status, ran.err, ran.out[:9]), (0, b"", b"s.db.3.20"))
+    tried.expect("what they point to is as it was", tried.read("victim"), b"not ours\n")
+    tried.expect("and they are there", [os.path.lexists(tried.path(f"shared/{it}")) for it in ("s.db.20200101T000000Z", "s.db.20200102T000000Z")], [True, True])
+    os.symlink(tried.path("else"), tried.path("dangling"))
+    tried.expect_refusal("a folder that is a link to nothing", tried.script(NAME, "--db", "s.db", "dangling"), b"File exists")
+    # What a backup that was killed left is removed, and what only looks alike is not.
+    os.mkdir(tried.path("shared/.backup_store.left"))
+    os.symlink(tried.path("p1"), tried.path("shared/.backup_store.link"))
+    time.sleep(1)
+    tried.expect("again", tried.script(NAME, "--db", "s.db", "shared").status, 0)
+    tried.expect("what was left", [os.path.lexists(tried.path(f"shared/.backup_store.{it}")) for it in ("left", "link")], [False, True])
+    tried.expect("what a link points to", os.path.exists(tried.path("p1/perf.db")), True)
+
+
+def cases_of_another_user(tried):
+    """Who may not halt the server, or another program that has the store, is told so at once, and keeps nothing locked."""
+    if os.geteuid() != 0:
+        print("backup_store: another user is skipped, since this is not root")
+        return
+    os.chmod(tried.folder, 0o755)
+    os.chmod(tried.path("s.db"), 0o666)
+    os.mkdir(tried.path("theirs"))
+    os.chown(tried.path("theirs"), NOBODY, NOBODY)
+
+    def asked():
+        begun = time.monotonic()
+        ran = tried.run(sys.executable, "-c", AS_NOBODY, os.path.join(TOP, "tests", "lib"), tried.folder, str(NOBODY), "--db", "s.db", "theirs")
+        return ran, time.monotonic() - begun < 8
+    with tried.serving("s.db") as address:
+        os.chmod(tried.path("s.db-wal"), 0o666)
+        ran, soon = asked()
+        tried.expect_refusal("a server of another user", ran, b"cannot be halted")
+        tried.expect("at once, and nothing is left", (soon, os.listdir(tried.path("theirs"))), (True, []))
+        lock = os.open(tried.path("theirs"), os.O_RDONLY)
+        fcntl.flock(lock, fcntl.LOCK_EX | fcntl.LOCK_NB)
+        os.close(lock)
+        with urllib.request.urlopen(f"{address}/runs", timeout=5) as answer:
+            tried.expect("the server answers", answer.status, 200)
+    base = sqlite3.connect(tried.path("s.db"))
+    base.execute("PRAGMA locking_mode = EXCLUSIVE")
+    base.execute("BEGIN EXCLUSIVE")
+    ran, soon = asked()
+    tried.expect_refusal("another program of another user", ran, b"open in")
+    tried.expect("at once, and nothing is left", (soon, os.listdir(tried.path("theirs"))), (True, []))
     base.close()
 
 
@@ -113,5 +216,9 @@ def cases(tried):
     tried.expect_help(NAME)
     cases_at_rest(tried)
     cases_of_refusals(tried)
+    cases_of_rights(tried)
+    cases_of_two_stores(tried)
+    cases_of_links(tried)
+    cases_of_another_user(tried)
     cases_while_served(tried)
     cases_of_a_halt(tried)

@@ -1,6 +1,8 @@
 """share/completions/profhouse.bash: the events, groups and runs of a store. What the help has, tests/words_of_help tries."""
+import contextlib
 import os
 import shutil
+import sqlite3
 
 from tried import TOP
 
@@ -30,6 +32,17 @@ def cases(tried):
             (("subtract", "--db", "s.db", "--less-run", ""), ["1", "2"]), (("csv", "--run", ""), []),
             (("csv", "--db", "none.db", "--run", ""), []), (("csv", "--db", "a.cg", "--run", ""), [])):
         tried.expect(" ".join(words), offered(*words), (wanted, b""))
+    # What a terminal would obey is offered in the form in which bash reads it again.
+    hidden = "a\u202eb\u009bc"
+    tried.profhouse("import", "--db", "odd.db", tried.write("odd.cg", f"events: {hidden}\nfn=f\n1 5\n"))
+    tried.expect("a hidden character", offered("by", "--db", "odd.db", "--event", "a"), (["$'a\\342\\200\\256b\\302\\233c'"], b""))
+    with contextlib.closing(sqlite3.connect(tried.path("views.db"))) as base:
+        base.execute("CREATE VIEW run_event AS SELECT edit('x', 'touch made; true') AS name")
+        base.execute("CREATE TABLE derived(name)")
+        base.commit()
+    tried.expect("a view that runs a command", offered("by", "--db", "views.db", "--event", ""), ([], b""))
+    shutil.copy(tried.path("s.db"), tried.path("-s.db"))
+    tried.expect("a store that looks like an option", offered("csv", "--db", "-s.db", "--group", "m"), (["main"], b""))
     with tried.serving("s.db"):
         tried.expect("a store that is served", offered("csv", "--db", "s.db", "--run", ""), ([], b""))
     tried.expect("nothing is made", [os.path.exists(tried.path(it)) for it in ("made", "none.db")], [False, False])

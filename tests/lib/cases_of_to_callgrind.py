@@ -1,4 +1,5 @@
 """share/scripts/to_callgrind: what it writes, and that it imports to the same reports."""
+import contextlib
 import os
 import re
 import shutil
@@ -110,8 +111,24 @@ def cases_of_refusals(tried):
         tried.expect_refusal("a store that is served", tried.script(NAME, "--db", "s.db", "1"), b"a profhouse serve may have it open")
 
 
+def cases_of_strange_stores(tried):
+    """Stores that no profhouse has made: a name with a line of its own, and a view in place of a table."""
+    for what, change, has in (
+            ("a name with a line of its own", "UPDATE name SET bytes = CAST('f' || char(10) || '1 99' AS BLOB) WHERE bytes = CAST('f' AS BLOB)", b"end of a line"),
+            ("a view", "ALTER TABLE coef RENAME TO other; CREATE VIEW coef AS WITH RECURSIVE c(run) AS (SELECT 1 UNION ALL SELECT run FROM c)"
+             " SELECT run, 0 AS pos, 0 AS event, 1 AS n FROM c", b"a view in place of the table coef"),
+            ("no table", "DROP TABLE arc", b"no such table")):
+        shutil.copy(tried.path("s.db"), tried.path("strange.db"))
+        with contextlib.closing(sqlite3.connect(tried.path("strange.db"))) as base:
+            base.executescript(f"PRAGMA ignore_check_constraints = ON; {change}")
+        ran = tried.script(NAME, "--db", "strange.db", "1")
+        tried.expect(f"{what} has no line in the file", b"\n1 99" in ran.out, False)
+        tried.expect(what, (ran.status, has in ran.err), (2, True))
+
+
 def cases(tried):
     tried.expect_help(NAME)
     cases_of_files(tried)
     cases_of_threads(tried)
     cases_of_refusals(tried)
+    cases_of_strange_stores(tried)

@@ -1,0 +1,84 @@
+"""What the scripts beside this file share: how words of others are shown, and how a script ends.
+
+It is imported, not run. A script that is copied elsewhere needs this file beside it.
+"""
+import argparse
+import os
+import re
+import signal
+import sys
+
+# Characters that a terminal obeys, that change the order of those around them, or that cannot be seen; and what Python
+# has for a byte that is no UTF-8. share/web/texts.js has the same ones.
+HIDDEN = re.compile("[\0-\x1f\x7f-\x9f\xad\u034f\u061c\u115f\u1160\u17b4\u17b5\u180b-\u180f\u200b-\u200f\u2028-\u202e\u2060-\u206f"
+                    "\u3164\ud800-\udfff\ufe00-\ufe0f\ufeff\uffa0\ufff0-\ufffb\U00013430-\U0001343f\U0001bca0-\U0001bca3\U0001d173-\U0001d17a"
+                    "\U000e0000-\U000e0fff]")
+
+
+class Fault(Exception):
+    """What cannot be done, in one line."""
+
+
+class WordFault(Fault):
+    """What is wrong with the words of the command line."""
+
+
+def code(found):
+    """A hidden character as a backslash and its number."""
+    number = ord(found[0])
+    if 0xdc80 <= number <= 0xdcff:
+        number -= 0xdc00
+    return f"\\x{number:02x}" if number < 0x100 else f"\\u{number:04x}" if number < 0x10000 else f"\\U{number:08x}"
+
+
+def shown(words, kept=""):
+    """Words of a server, a file or a name, as a terminal or a page may have them: one line, in which nothing is hidden
+    but the characters of `kept`. What was shown before stays as it is."""
+    text = words.decode("utf-8", "backslashreplace") if isinstance(words, bytes) else str(words)
+    return HIDDEN.sub(lambda found: found[0] if found[0] in kept else code(found), text)
+
+
+class Words(argparse.ArgumentParser):
+    """The words of a command line. A fault of them is said in one line, whatever they have."""
+
+    def error(self, message):
+        super().error(shown(message))
+
+
+def words_of(name, about, **more):
+    """What reads the words of a script, of which `about` is the help."""
+    return Words(prog=name, description=about, allow_abbrev=False, formatter_class=argparse.RawDescriptionHelpFormatter, **more)
+
+
+def reason_of(error):
+    """Why something failed, in words."""
+    name = getattr(error, "filename", None)
+    named = f": {os.fsdecode(name)}" if isinstance(name, (str, bytes)) else ""
+    return shown(f"{getattr(error, 'strerror', None) or error or type(error).__name__}{named}")
+
+
+def complain(name, why):
+    """Says on the standard error what cannot be done. A line that begins with two blanks goes on with the one before."""
+    print("\n".join(shown(line) for line in f"{name}: {why}".split("\n")), file=sys.stderr)
+
+
+def run(name, main, fault=2):
+    """Runs a script. What it cannot do is said in one line, and ends it with the status `fault`."""
+    def ended(number, _):
+        sys.exit(128 + number)
+    signal.signal(signal.SIGTERM, ended)
+    # (a name may have what the coding of the terminal has not)
+    sys.stdout.reconfigure(errors="backslashreplace")
+    try:
+        status = main()
+        sys.stdout.flush()
+    except KeyboardInterrupt:
+        status = 128 + signal.SIGINT
+    except Exception as error:  # (of one that is not caught Python would end with 1, which says something else to who asked)
+        named = error if isinstance(error, Fault) else reason_of(error) if isinstance(error, OSError) \
+            else f"{type(error).__name__}: {shown(error)}"
+        complain(name, named)
+        status = 2 if isinstance(error, WordFault) else fault
+        # What is not yet written is not, or cannot be, and Python would try again at its end.
+        os.dup2(os.open(os.devnull, os.O_WRONLY), 1)
+    sys.exit(status)
