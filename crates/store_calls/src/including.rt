@@ -106,10 +106,9 @@ impl<S: RunStore> RunFold<S> for InclusiveOfRuns {
 fn names_of_parts<S: RunStore>(
     store: &mut S,
     alloc: Global,
-    parts: &mut InclusiveParts,
+    parts: &InclusiveParts,
 ) -> Result<S::Names, StoreError>
-    ensures same { sums_in parts.new ≡ sums_in parts.old }
-    ensures told { Told S.StoreState result store.old store.new (λ t names. AreNamesFor t (sums_in parts.old) (S.Names.name_rows names)) }
+    ensures told { Told S.StoreState result store.old store.new (λ t names. AreNamesFor t (sums_in parts.now) (S.Names.name_rows names)) }
     ensures asks { Asks S.StoreState (is_ok result) store.old store.new }
 {
     let called = parts.called.numbers(alloc)?;
@@ -156,8 +155,8 @@ fn inclusive_text<S: RunStore>(
     ensures asks { AsksIfOpen S.StoreState (is_ok result) store.old store.new }
 {
     let adder = InclusiveOfRuns { alloc };
-    let mut parts = fold_runs(store, &adder, runs, InclusiveParts::new(alloc))?;
-    let names = names_of_parts(store, alloc, &mut parts)?;
+    let parts = fold_runs(store, &adder, runs, InclusiveParts::new(alloc))?;
+    let names = names_of_parts(store, alloc, &parts)?;
     text_of_parts(alloc, parts, &names, event)
 }
 

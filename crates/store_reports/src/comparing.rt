@@ -87,12 +87,10 @@ fn text_of_numbers<N: NameTable>(
 /// The numbers of the names of two lists of sums.
 fn numbers_of_both(
     alloc: Global,
-    firsts: &mut NumberSums,
-    seconds: &mut NumberSums,
+    firsts: &NumberSums,
+    seconds: &NumberSums,
 ) -> Result<Vec<u32>, AllocError>
-    ensures first { firsts.new ≡ firsts.old }
-    ensures second { seconds.new ≡ seconds.old }
-    ensures numbers { IfOk result (λ numbers. numbers.items ≡ numbers_told firsts.old.key firsts.old.sums ++ numbers_told seconds.old.key seconds.old.sums) }
+    ensures { IfOk result (λ numbers. numbers.items ≡ numbers_told firsts.now.key firsts.now.sums ++ numbers_told seconds.now.key seconds.now.sums) }
 {
     let mut numbers = firsts.numbers(alloc)?;
     let more = seconds.numbers(alloc)?;
@@ -112,9 +110,9 @@ fn difference_text<S: RunStore>(
     ensures told { Told S.StoreState result store.old store.new (λ t text. text ≡ difference_over t firsts.now seconds.now key event.now) }
     ensures asks { AsksIfOpen S.StoreState (is_ok result) store.old store.new }
 {
-    let mut first = number_runs(store, alloc, firsts, key)?;
-    let mut second = number_runs(store, alloc, seconds, key)?;
-    let numbers = numbers_of_both(alloc, &mut first, &mut second)?;
+    let first = number_runs(store, alloc, firsts, key)?;
+    let second = number_runs(store, alloc, seconds, key)?;
+    let numbers = numbers_of_both(alloc, &first, &second)?;
     let names = store.names_among(alloc, &numbers)?;
     text_of_numbers(alloc, &names, first, second, event)
 }

@@ -30,14 +30,14 @@ use std::alloc::Global;
 fn shown_sums<S: RunStore>(
     store: &mut S,
     alloc: Global,
-    mut sums: NumberSums,
+    sums: NumberSums,
     cut: Cut,
 ) -> Result<RankedSums, StoreError>
     ensures told { Told S.StoreState result store.old store.new (λ t shown. AreShown t cut sums shown) }
     ensures asks { AsksIfOpen S.StoreState (is_ok result) store.old store.new }
 {
     let numbers = sums.numbers(alloc)?;
-    let mut shown = sums.ranked(alloc)?;
+    let mut shown = sums.ranked();
     let count = shown.len();
     shown.keep_shown(cut);
     if shown.len() == count {

@@ -2,7 +2,7 @@ use Rattle.std.proofs.Common.{subst}
 use Rattle.run_stores.proofs.Calls.{asked_reads_yet}
 use Rattle.store_histories.proofs.Questions.{if_ok_so}
 use Rattle.store_calls.specs.InclusiveParts.{PartSums, sums_in}
-use Rattle.store_calls.specs.InclusiveRuns.{AddsHeld, AreRowsOfRuns, IsTextNamed}
+use Rattle.store_calls.specs.InclusiveRuns.{AddsHeld, AreRowsOfRuns}
 use Rattle.store_calls.proofs.InclusiveLemmas.{rows_added, text_told}
 use Rattle.store_calls.proofs.including.inclusive_text.Goals as goal
 
@@ -16,5 +16,5 @@ returns-clause-told g c clean t represents =
     let added : AddsHeld t (AreRowsOfRuns t runs) (sums_in c.new.result) all = rows_added t runs _ _ (c.in_ok-parts.ensures.told early t represents) in
     if_ok_so c.text_of_parts.result (λ text is.
     text_told t runs all (g.S.Names.NameTable.name_rows c.in_ok-names.names) event text (g.S.StoreState.apart t _ represents) (subst (λ (s : PartSums). AddsHeld t (AreRowsOfRuns t runs) s all) c.new.ensures added)
-    (c.in_ok-names.ensures.told clean t mid) (subst (λ (s : PartSums). IsTextNamed (g.S.Names.NameTable.name_rows c.in_ok-names.names) s event text) c.names_of_parts.ensures.same is))
+    (c.in_ok-names.ensures.told clean t mid) is)
     c.text_of_parts.ensures

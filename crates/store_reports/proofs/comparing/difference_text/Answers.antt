@@ -1,7 +1,6 @@
 use Rattle.std.proofs.Common.{ap, ap₂, ◌∙◌}
 use Rattle.run_stores.proofs.Calls.{asked_reads_yet}
 use Rattle.report_texts.specs.Differences.{difference_of, difference_text}
-use Rattle.number_sums.specs.Sums.{SumsByNumber}
 use Rattle.store_histories.proofs.Questions.{if_ok_so}
 use Rattle.store_reports.specs.Compared.{named_sums}
 use Rattle.store_reports.proofs.MergeLemmas.{key_is, named_costs}
@@ -22,7 +21,6 @@ returns-clause-told g c clean t represents =
     let second_is = c.in_ok-second.ensures.told later t one in
     let event = c.args.event.now in
     if_ok_so c.text_of_numbers.result (λ text told. told t.names (c.in_ok-names.ensures.told clean t two).same
-    ∙ ap₂ (λ (a b : SumsByNumber). difference_text event (difference_of a.key (named_sums t.names a) (named_sums t.names b))) c.in_ok-numbers.ensures.first c.in_ok-numbers.ensures.second
     ∙ ap (λ k. difference_text event (difference_of k (named_sums t.names first) (named_sums t.names second))) (key_is t key firsts first first_is)
     ∙ ap₂ (λ a b. difference_text event (difference_of key a b)) (named_costs t key firsts first first_is) (named_costs t key seconds second second_is))
     c.text_of_numbers.ensures

@@ -1,25 +1,24 @@
-use Rattle.std.proofs.Common.{◌≡◌, ◌≤◌, ◌∙◌, length, ap, sym, subst, arith, IsPermutation}
+use Rattle.std.proofs.Common.{◌≡◌, ◌≤◌, ◌∙◌, length, sym, subst, arith, IsPermutation}
 use Rattle.std.specs.List.{AllByRecursion}
 use Rattle.prof_books.specs.Book.{IsHeld}
-use Rattle.number_sums.specs.Sums.{SumsByNumber, numbers_total}
+use Rattle.number_sums.specs.Sums.{numbers_total}
 use Rattle.number_sums.proofs.EnoughLemmas.{total_moved}
 use Rattle.store_reports.proofs.ShownLemmas.{held_of_all}
 use Rattle.store_reports.proofs.reporting.shown_sums.Goals as goal
 
 pub returns-then-len-count-clause-told : goal.returns-then-len-count-clause-told
 returns-then-len-count-clause-told g c clean t reads =
-    let same = c.in_ok-numbers.ensures.same in
-    let ranked = c.in_ok-shown.shown.sums in
-    let moved : IsPermutation ranked c.args.sums.sums = subst (λ (s : SumsByNumber). IsPermutation ranked s.sums) same c.in_ok-shown.ensures.sums in
-    let total : c.in_ok-shown.shown.total ≡ numbers_total c.args.sums.sums = c.in_ok-shown.ensures.total ∙ ap (λ (s : SumsByNumber). numbers_total s.sums) same in
-    let whole : numbers_total ranked ≡ c.in_ok-shown.shown.total = sym (total_moved ranked c.args.sums.sums moved) ∙ sym total in
+    let ranked = c.ranked-shown.result.sums in
+    let moved : IsPermutation ranked c.args.sums.sums = c.ranked-shown.ensures.sums in
+    let total : c.ranked-shown.result.total ≡ numbers_total c.args.sums.sums = c.ranked-shown.ensures.total in
+    let whole : numbers_total ranked ≡ c.ranked-shown.result.total = sym (total_moved ranked c.args.sums.sums moved) ∙ sym total in
     let enough = c.keep_shown.ensures.enough whole in
     let few = c.len.ensures in
     let all = c.len-count.ensures in
     let as_many = c.if-len-count.true in
     let many : length ranked ≤ length c.keep_shown.new.self.sums = omega (arith, few, all, as_many) in
     record {
-      key = c.keep_shown.ensures.key ∙ c.in_ok-shown.ensures.key ∙ ap (λ (s : SumsByNumber). s.key) same;
+      key = c.keep_shown.ensures.key ∙ c.ranked-shown.ensures.key;
       total = c.keep_shown.ensures.total ∙ total;
       ranked = ranked;
       moved = moved;
@@ -29,17 +28,16 @@ returns-then-len-count-clause-told g c clean t reads =
 
 pub returns-clause-told : goal.returns-clause-told
 returns-clause-told g c clean t reads =
-    let same = c.in_ok-numbers.ensures.same in
-    let ranked = c.in_ok-shown.shown.sums in
-    let moved : IsPermutation ranked c.args.sums.sums = subst (λ (s : SumsByNumber). IsPermutation ranked s.sums) same c.in_ok-shown.ensures.sums in
-    let total : c.in_ok-shown.shown.total ≡ numbers_total c.args.sums.sums = c.in_ok-shown.ensures.total ∙ ap (λ (s : SumsByNumber). numbers_total s.sums) same in
-    let whole : numbers_total ranked ≡ c.in_ok-shown.shown.total = sym (total_moved ranked c.args.sums.sums moved) ∙ sym total in
+    let ranked = c.ranked-shown.result.sums in
+    let moved : IsPermutation ranked c.args.sums.sums = c.ranked-shown.ensures.sums in
+    let total : c.ranked-shown.result.total ≡ numbers_total c.args.sums.sums = c.ranked-shown.ensures.total in
+    let whole : numbers_total ranked ≡ c.ranked-shown.result.total = sym (total_moved ranked c.args.sums.sums moved) ∙ sym total in
     let held = (c.in_ok-holds_names.ensures.told clean t reads).0 c.if-not-branch.false in
     record {
-      key = c.keep_shown.ensures.key ∙ c.in_ok-shown.ensures.key ∙ ap (λ (s : SumsByNumber). s.key) same;
+      key = c.keep_shown.ensures.key ∙ c.ranked-shown.ensures.key;
       total = c.keep_shown.ensures.total ∙ total;
       ranked = ranked;
       moved = moved;
       enough = c.keep_shown.ensures.enough whole;
-      held = λ _. subst (AllByRecursion (IsHeld t.names)) (c.deref.ensures.value ∙ c.in_ok-numbers.ensures.numbers) held;
+      held = λ _. subst (AllByRecursion (IsHeld t.names)) (c.deref.ensures.value ∙ c.in_ok-numbers.ensures) held;
     }
