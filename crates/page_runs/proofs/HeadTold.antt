@@ -22,9 +22,9 @@ module _ (t : Tables) (lists : RunLists) (listed : AreListed t lists) (run : ℕ
 
   -- the lines of a run, in whatever order, say the head that was read of them
   pub head_told : (head : FileHead) (events : List HeadEvent) (derived : List HeadDerived) (coefs : List HeadCoef) → IsTrue (has_run t run) → IsReadFrom head events derived coefs
-      → IsPermutation (kept event_row (λ (e : EventRow). e.run == run) event_of_line lists.events.items) (map entry_of_event events)
-      → IsPermutation (kept derived_row (λ (d : DerivedRow). d.run == run) name_of_line lists.derived.items) (map derived_place derived)
-      → IsPermutation (kept coef_row (λ (c : CoefRow). c.run == run) coef_of_line lists.coefs.items) (map entry_of_coef coefs) → IsHeadIn run t head
+      → IsPermutation (kept event_row (λ (e : EventRow). e.run == run) event_of_line lists.events) (map entry_of_event events)
+      → IsPermutation (kept derived_row (λ (d : DerivedRow). d.run == run) name_of_line lists.derived) (map derived_place derived)
+      → IsPermutation (kept coef_row (λ (c : CoefRow). c.run == run) coef_of_line lists.coefs) (map entry_of_coef coefs) → IsHeadIn run t head
   head_told head events derived coefs held read es ds cs = record {
     is_held = held;
     sound = read.sound;

@@ -123,8 +123,8 @@ pub(crate) fn head_of(alloc: Global, lists: &RunLists, run: u32) -> Result<FileH
     if !is_listed(&lists.runs, run) {
         return Err(StoreError::Store);
     }
-    let events = events_of(alloc, &lists.events, run)?;
-    let derived = derived_of(alloc, &lists.derived, run)?;
-    let coefs = coefs_of(alloc, &lists.coefs, run)?;
+    let events = events_of(alloc, lists.events.of_run(run), run)?;
+    let derived = derived_of(alloc, lists.derived.of_run(run), run)?;
+    let coefs = coefs_of(alloc, lists.coefs.of_run(run), run)?;
     head_in(alloc, &events, &derived, &coefs)
 }

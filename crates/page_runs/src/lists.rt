@@ -12,7 +12,7 @@ use crate::small::Meta;
 use page_files::PageFile;
 use page_places::StoreRoots;
 use plain_tables::StoreError;
-use run_lists::RunLists;
+use run_lists::{RunLines, RunLists};
 use sqlite_disk::Disk;
 use std::alloc::Global;
 
@@ -55,9 +55,9 @@ pub(crate) fn read_lists<D: Disk>(
     Ok(RunLists {
         next,
         runs,
-        events,
-        derived,
-        coefs,
+        events: RunLines::new(events),
+        derived: RunLines::new(derived),
+        coefs: RunLines::new(coefs),
         groups,
         members,
     })

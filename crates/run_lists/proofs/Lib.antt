@@ -1,4 +1,5 @@
 pub mod Rows
+pub mod LinesOfRuns
 pub mod NumberLists
 pub mod SumLists
 pub mod Permutations

@@ -33,12 +33,12 @@ sums_more placed at sums low same was =
 
 -- what was sorted has the sums of the rows
 pub sums_told : (t : Tables) (lists : RunLists) → AreListed t lists → (run : ℕ) (placed sorted : List (ℕ × ℕ)) (sums : List ℕ)
-    → placed ≡ map (λ (e : ListedEvent). (e.place, e.self_cost)) (filter (λ (e : ListedEvent). e.run == run) lists.events.items) → IsPermutation placed sorted → sums_from 0 sums ≡ map placed_sum sorted → AreSelfSums (events_of_run run t) sums
+    → placed ≡ map (λ (e : ListedEvent). (e.place, e.self_cost)) (filter (λ (e : ListedEvent). e.run == run) lists.events) → IsPermutation placed sorted → sums_from 0 sums ≡ map placed_sum sorted → AreSelfSums (events_of_run run t) sums
 sums_told t lists was run placed sorted sums read moved are =
     let is_it = λ (e : EventRow). e.run == run in
-    let events = filter (λ (e : ListedEvent). e.run == run) lists.events.items in
+    let events = filter (λ (e : ListedEvent). e.run == run) lists.events in
     let rows : map self_of_line (events_of_run run t) ≡ map placed_sum placed =
-    ap (λ l. map self_of_line (filter is_it l)) (sym was.events) ∙ ap (map self_of_line) (filter_row event_row is_it lists.events.items)
+    ap (λ l. map self_of_line (filter is_it l)) (sym was.events) ∙ ap (map self_of_line) (filter_row event_row is_it lists.events)
     ∙ sym (map_row event_row self_of_line events) ∙ map_row (λ (e : ListedEvent). (e.place, e.self_cost)) placed_sum events ∙ ap (map placed_sum) (sym read) in
     subst₂ IsPermutation (sym rows) (sym are) (IsPermutation-map placed_sum placed sorted moved)
 
@@ -49,15 +49,15 @@ pub sum_row : {X Y : Type 0} (row : X → Y) (f : Y → ℕ) (xs : List X) (line
 sum_row row f xs lines was = sym (fold-map (λ n y. n + f y) row 0 xs) ∙ ap (sum_by f) was
 
 module _ (t : Tables) (lists : RunLists) (was : AreListed t lists) where
-  named_rows : (name : List ℕ) → map event_row (events_named name lists.events.items) ≡ filter (λ (e : EventRow). bytes_eq e.name name) t.events
+  named_rows : (name : List ℕ) → map event_row (events_named name lists.events) ≡ filter (λ (e : EventRow). bytes_eq e.name name) t.events
   named_rows name =
-      sym (filter_row event_row (λ (e : EventRow). bytes_eq e.name name) lists.events.items) ∙ ap (filter (λ (e : EventRow). bytes_eq e.name name)) was.events
+      sym (filter_row event_row (λ (e : EventRow). bytes_eq e.name name) lists.events) ∙ ap (filter (λ (e : EventRow). bytes_eq e.name name)) was.events
 
-  pub self_told : (name : List ℕ) → self_sum lists.events.items name ≡ held_self t name
-  self_told name = sum_row event_row (λ (e : EventRow). e.self_cost) (events_named name lists.events.items) (filter (λ (e : EventRow). bytes_eq e.name name) t.events) (named_rows name)
+  pub self_told : (name : List ℕ) → self_sum lists.events name ≡ held_self t name
+  self_told name = sum_row event_row (λ (e : EventRow). e.self_cost) (events_named name lists.events) (filter (λ (e : EventRow). bytes_eq e.name name) t.events) (named_rows name)
 
-  pub calls_told : (name : List ℕ) → calls_sum lists.events.items name ≡ held_calls t name
-  calls_told name = sum_row event_row (λ (e : EventRow). e.call_cost) (events_named name lists.events.items) (filter (λ (e : EventRow). bytes_eq e.name name) t.events) (named_rows name)
+  pub calls_told : (name : List ℕ) → calls_sum lists.events name ≡ held_calls t name
+  calls_told name = sum_row event_row (λ (e : EventRow). e.call_cost) (events_named name lists.events) (filter (λ (e : EventRow). bytes_eq e.name name) t.events) (named_rows name)
 
 -- functions with the same values
 pub map_same : {X Y : Type 0} (f g : X → Y) (xs : List X) → ((x : X) → f x ≡ g x) → map f xs ≡ map g xs

@@ -32,8 +32,8 @@ member_row m = record { group = string_bytes m.group; run = m.run }
 pub record AreListed (t : Tables) (lists : RunLists) : Type 0 where
   pub next : lists.next ≡ t.next
   pub runs : map run_row lists.runs.items ≡ t.runs
-  pub events : map event_row lists.events.items ≡ t.events
-  pub derived : map derived_row lists.derived.items ≡ t.derived
-  pub coefs : map coef_row lists.coefs.items ≡ t.coefs
+  pub events : map event_row lists.events ≡ t.events
+  pub derived : map derived_row lists.derived ≡ t.derived
+  pub coefs : map coef_row lists.coefs ≡ t.coefs
   pub groups : map group_row lists.groups.items ≡ t.groups
   pub members : map member_row lists.members.items ≡ t.members

@@ -12,9 +12,12 @@ mod lookups;
 mod numbers;
 // What the rows of a run sum to (specs/RowSums.antt).
 mod row_sums;
+// Lines of runs, in the order of their table.
+mod run_lines;
 // The sums of events (specs/Sums.antt).
 mod sums;
 
 pub use listed::{
     ListedCoef, ListedDerived, ListedEvent, ListedGroup, ListedMember, ListedRun, RunLists,
 };
+pub use run_lines::{OfRun, RunLines};

@@ -1,5 +1,6 @@
 // The rows of the small tables.
 
+use crate::run_lines::{OfRun, RunLines};
 use run_stores::RunEntry;
 
 /// A run, and how many calls it has.
@@ -20,12 +21,28 @@ pub struct ListedEvent {
     pub stated: Option<String>,
 }
 
+impl OfRun for ListedEvent {
+    ghost run_of = { λ l. l.run };
+
+    fn run(&self) -> u32 {
+        self.run
+    }
+}
+
 /// A derived event of a run.
 #[derive(Drop)]
 pub struct ListedDerived {
     pub run: u32,
     pub place: u32,
     pub name: Vec<u8>,
+}
+
+impl OfRun for ListedDerived {
+    ghost run_of = { λ l. l.run };
+
+    fn run(&self) -> u32 {
+        self.run
+    }
 }
 
 /// How often an event counts in a derived one.
@@ -35,6 +52,14 @@ pub struct ListedCoef {
     pub place: u32,
     pub event: u32,
     pub times: u64,
+}
+
+impl OfRun for ListedCoef {
+    ghost run_of = { λ l. l.run };
+
+    fn run(&self) -> u32 {
+        self.run
+    }
 }
 
 /// A group with its baseline, if it has one.
@@ -56,9 +81,9 @@ pub struct ListedMember {
 pub struct RunLists {
     pub next: u32,
     pub runs: Vec<ListedRun>,
-    pub events: Vec<ListedEvent>,
-    pub derived: Vec<ListedDerived>,
-    pub coefs: Vec<ListedCoef>,
+    pub events: RunLines<ListedEvent>,
+    pub derived: RunLines<ListedDerived>,
+    pub coefs: RunLines<ListedCoef>,
     pub groups: Vec<ListedGroup>,
     pub members: Vec<ListedMember>,
 }

@@ -61,7 +61,7 @@ impl RunLists {
     pub fn cells_sum_of(&self, run: u32) -> Result<u128, StoreError>
         ensures told { (t : Tables) → AreListed t self.now → IfOk result (λ sum. sum ≡ cells_of_run run t) }
     {
-        let sums = event_sums(&self.events, run)?;
+        let sums = event_sums(self.events.of_run(run), run)?;
         Ok(sums.own)
     }
 
@@ -71,7 +71,7 @@ impl RunLists {
         ensures told { (t : Tables) → AreListed t self.now → IfOk result (λ sum. sum ≡ calls_of_run run t) }
     {
         let count = call_count(&self.runs, run)?;
-        let sums = event_sums(&self.events, run)?;
+        let sums = event_sums(self.events.of_run(run), run)?;
         sum_of(count, sums.calls)
     }
 

@@ -94,7 +94,7 @@ impl RunLists {
     pub fn sums_of(&self, alloc: Global, run: u32) -> Result<ListVec<u128>, StoreError>
         ensures told { (t : Tables) → AreListed t self.now → IfOk result (λ sums. AreSelfSums (events_of_run run t) sums) }
     {
-        let mut placed = placed_sums(alloc, &self.events, run)?;
+        let mut placed = placed_sums(alloc, self.events.of_run(run), run)?;
         placed.sort_unstable();
         sums_in_order(alloc, &placed)
     }
@@ -110,7 +110,7 @@ impl RunLists {
         let mut self_cost = ListVec::new(alloc);
         let mut call_cost = ListVec::new(alloc);
         for event in events {
-            let sums = sums_named(&self.events, event.as_slice())?;
+            let sums = sums_named(self.events.all(), event.as_slice())?;
             if self_cost.push(sums.own).is_err() || call_cost.push(sums.calls).is_err() {
                 return Err(StoreError::Memory);
             }

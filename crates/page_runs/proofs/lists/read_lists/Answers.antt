@@ -1,5 +1,6 @@
 use Rattle.page_runs.proofs.Columns.{coefs_told, derived_told, events_told, groups_told, members_told, meta_held, runs_told}
-use Rattle.std.proofs.Common.{subst}
+use Rattle.std.proofs.Common.{map, ap, subst, ◌∙◌}
+use Rattle.run_lists.specs.Listed.{coef_row, derived_row, event_row}
 use Rattle.page_runs.proofs.Chains.{◌⊳◌}
 use Rattle.page_runs.proofs.Shows.{shows_after}
 use Rattle.page_runs.specs.Shown.{ShowsRows}
@@ -45,9 +46,9 @@ returns-clause-listed g c members = λ t db holds roots.
     record {
       next = c.in_ok-next.ensures.next next t.next (subst (ShowsRows _ _) (meta_held holds) roots.meta);
       runs = runs_told holds _ (c.in_ok-runs.ensures.read runs _ (shows_after _ _ _ _ to_runs roots.runs));
-      events = events_told holds _ (c.in_ok-events.ensures.read events _ (shows_after _ _ _ _ to_events roots.events));
-      derived = derived_told holds _ (c.in_ok-derived.ensures.read derived _ (shows_after _ _ _ _ to_derived roots.derived));
-      coefs = coefs_told holds _ (c.in_ok-coefs.ensures.read coefs _ (shows_after _ _ _ _ to_coefs roots.coefs));
+      events = ap (map event_row) c.new.ensures ∙ events_told holds _ (c.in_ok-events.ensures.read events _ (shows_after _ _ _ _ to_events roots.events));
+      derived = ap (map derived_row) c.new-2.ensures ∙ derived_told holds _ (c.in_ok-derived.ensures.read derived _ (shows_after _ _ _ _ to_derived roots.derived));
+      coefs = ap (map coef_row) c.new-3.ensures ∙ coefs_told holds _ (c.in_ok-coefs.ensures.read coefs _ (shows_after _ _ _ _ to_coefs roots.coefs));
       groups = groups_told holds _ (c.in_ok-groups.ensures.read groups _ (shows_after _ _ _ _ to_groups roots.groups));
       members = members_told holds _ (c.in_ok-members.ensures.read members _ (shows_after _ _ _ _ to_members roots.members));
     }

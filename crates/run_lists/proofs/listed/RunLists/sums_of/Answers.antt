@@ -1,4 +1,4 @@
-use Rattle.std.proofs.Common.{◌≡◌, ◌==◌, ◌∙◌, map, filter, ap}
+use Rattle.std.proofs.Common.{◌≡◌, ◌∙◌, map, ap}
 use Rattle.std.proofs.lemmas.Result.{IfOk-weaker}
 use Rattle.run_stores.specs.SelfSums.{AreSelfSums, events_of_run, sums_from}
 use Rattle.run_lists.specs.Sums.{placed_sum}
@@ -11,8 +11,8 @@ returns c = record {
   told = λ t was.
       let run = c.args.run in
       let sorted = c.sort_unstable.new.self.items in
-      let read = c.in_ok-placed.ensures.read ∙ ap (λ l. map (λ (e : ListedEvent). (e.place, e.self_cost)) (filter (λ (e : ListedEvent). e.run == run) l)) c.deref.ensures.value in
-      IfOk-weaker c.sums_in_order.result (λ sums. sums_from 0 sums ≡ map placed_sum c.deref-2.result.now) (AreSelfSums (events_of_run run t))
-      (λ sums are. sums_told t c.args.self.now was run c.in_ok-placed.placed.items sorted sums read c.sort_unstable.ensures.permutation (are ∙ ap (map placed_sum) c.deref-2.ensures.value))
+      let read = c.in_ok-placed.ensures.read ∙ ap (map (λ (e : ListedEvent). (e.place, e.self_cost))) c.of_run.ensures in
+      IfOk-weaker c.sums_in_order.result (λ sums. sums_from 0 sums ≡ map placed_sum c.deref.result.now) (AreSelfSums (events_of_run run t))
+      (λ sums are. sums_told t c.args.self.now was run c.in_ok-placed.placed.items sorted sums read c.sort_unstable.ensures.permutation (are ∙ ap (map placed_sum) c.deref.ensures.value))
       c.sums_in_order.ensures.read;
 }

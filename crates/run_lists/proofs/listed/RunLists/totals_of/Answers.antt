@@ -12,8 +12,8 @@ pub returns-clause-told : goal.returns-clause-told
 returns-clause-told c t was =
     let lists = c.args.self.now in
     let names = c.args.events.now in
-    let own : List ℕ → ℕ = self_sum lists.events.items in
-    let calls : List ℕ → ℕ = calls_sum lists.events.items in
+    let own : List ℕ → ℕ = self_sum lists.events in
+    let calls : List ℕ → ℕ = calls_sum lists.events in
     let all = take_all c.loop-event.event-index names c.loop-event-test.false in
     record {
       self_cost = c.loop-event.invariant.0 ∙ ap (map own) all ∙ map_same own (held_self t) names (self_told t lists was);
