@@ -125,6 +125,11 @@ def cases_of_links(tried):
     tried.expect("a folder with links", (ran.status, ran.err, ran.out[:9]), (0, b"", b"s.db.3.20"))
     tried.expect("what they point to is as it was", tried.read("victim"), b"not ours\n")
     tried.expect("and they are there", [os.path.lexists(tried.path(f"shared/{it}")) for it in ("s.db.20200101T000000Z", "s.db.20200102T000000Z")], [True, True])
+    os.mkdir(tried.path("own"))
+    os.symlink(victim, tried.path("own/s.db.20200101T000000Z"))
+    os.mkdir(tried.path("own/s.db.20200102T000000Z"))
+    tried.expect("a folder that has what is no copy", tried.script(NAME, "--db", "s.db", "own", "--keep", "1").status, 0)
+    tried.expect("it is left", [os.path.lexists(tried.path(f"own/s.db.2020010{it}T000000Z")) for it in (1, 2)], [True, True])
     os.symlink(tried.path("else"), tried.path("dangling"))
     tried.expect_refusal("a folder that is a link to nothing", tried.script(NAME, "--db", "s.db", "dangling"), b"File exists")
     # What a backup that was killed left is removed, and what only looks alike is not.

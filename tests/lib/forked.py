@@ -11,7 +11,8 @@ from tried import SCRIPTS
 
 sys.path.insert(0, SCRIPTS)
 # (what they import, so that a child under another user finds it too)
-import argparse, ctypes, csv, datetime, fcntl, heapq, http.client, sqlite3, ssl, subprocess, tempfile  # noqa: E401, E402, F401
+import argparse, ctypes, csv, datetime, fcntl, heapq, http.client, http.server, pathlib, random, shutil, sqlite3  # noqa: E401, E402, F401
+import ssl, subprocess, tempfile, urllib.parse  # noqa: E401, E402, F401
 import encodings.ascii, encodings.idna, encodings.latin_1  # noqa: E401, E402, F401
 import profhouse_http  # noqa: E402
 import profhouse_script  # noqa: E402, F401

@@ -33,6 +33,12 @@ def hidden_in(text, kept="\n"):
     return sorted({it for it in text.decode("utf-8", "surrogateescape") if is_hidden(it) and it not in kept})
 
 
+def strange_lines(script, err):
+    """The lines on the standard error that begin with words which are not the script's own."""
+    own = re.compile(rb"(?:%s(?: [a-z]+)?: |usage: |no answer from |  ).*" % script.encode(), re.S)
+    return [it for it in err.split(b"\n")[:-1] if not own.fullmatch(it)]
+
+
 def visible(text):
     """A text as it has to be shown, but for what cannot be seen for another reason than that it is hidden."""
     def one(sign):
@@ -96,7 +102,8 @@ def response(body, status="200 OK", kind="text/plain", more=""):
 
 
 class Answer:
-    """What a server says to one question, and what a script has to do then: `refused` it, or show `word` (None: anything)."""
+    """What a server says to one question, and what is wanted of a script then: that it is `refused`, or `shown` with its
+    word; `any` bytes are taken, and a `lie`, whose numbers do not fit, is refused by those who reckon with it."""
 
     def __init__(self, asked, data, wanted, word=None, endless=b""):
         self.asked, self.data, self.wanted, self.word, self.endless = asked, data, wanted, word, endless
@@ -140,6 +147,11 @@ def of_lines(chance, asked, text, *_):
     else:
         bodies = [body[:-1], body.replace(b"\n", b"\r\n"), b"\x1b[2J" + body, b"\n" + body, body + b"\n", body + b"\x00\n", body[:-1] + b"\x1b\n",
                   b"\t" + body, body + b"::error::x\n\xc2\x9b", noise]
+    one, two = body.split(b"\n")[:2] if asked == "GET /runs" else (b"", b"")
+    lies = {"GET /subtract/": [body.replace(b"20 total", b"21 total"), body.replace(b"-10 ", b"-11 "), body + b"1 /lib/x:h\n"],
+            "GET /runs": [two + b"\n" + one + b"\n", one + b"\n" + one + b"\n"]}.get(asked)
+    if lies and chance.randrange(4) == 0:
+        return Answer(asked, response(chance.choice(lies)), "lie")
     return Answer(asked, response(chance.choice(bodies)), "refused")
 
 

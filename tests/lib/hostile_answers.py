@@ -13,7 +13,7 @@ import sys
 import tempfile
 
 from forked import ran
-from hostile import COMMANDS, CONTROLS, MARKUP, SHA, SOUND, answer_of, filled, hidden_in, response, visible
+from hostile import COMMANDS, CONTROLS, MARKUP, SHA, SOUND, answer_of, filled, hidden_in, response, strange_lines, visible
 from tried import DISK
 from tried import SCRIPTS as SCRIPTS_AT
 
@@ -173,13 +173,14 @@ def table_wrong(text):
 
 def outcome(case, done):
     """What is wrong with the status of a script and what it printed."""
-    statuses = {"refused": (case.fault,), "shown": (0,), "any": (0,)}[case.answer.wanted]
+    lie = (0, case.fault) if case.script == "profhouse_remote" else (case.fault,)
+    statuses = {"refused": (case.fault,), "shown": (0,), "any": (0,), "lie": lie}[case.answer.wanted]
     if done.status not in statuses or (done.status == 0) != (done.err == b"") and done.out[:8] != b"refused:":
         return f"the status is {done.status}, and not {statuses}"
     pipe = case.script == "profhouse_remote" and not case.terminal
     hidden = hidden_in(done.err) or [] if pipe else hidden_in(done.out + done.err, "\n\t" if case.terminal else "\n")
-    if hidden:
-        return f"it prints {hidden}"
+    if hidden or strange_lines(case.script, done.err):
+        return f"it prints {hidden or strange_lines(case.script, done.err)}"
     if pipe and done.status == 0 and case.number % len(SCRIPTS[case.script]) != LAST and done.out != case.answer.data.partition(b"\r\n\r\n")[2]:
         return "it prints another answer"
     if pipe and done.status and done.out and not re.fullmatch(rb"refused: [^\x00-\x1f\x7f]+\n", done.out):
