@@ -276,9 +276,19 @@ def asked_of_page(port, number):
     names = dict(it.split(": ", 1) if ": " in it else (it, "") for it in fields)
     code = status.split(" ")[1] if status.startswith("HTTP/1.1 ") else ""
     sound = re.fullmatch("[2-5][0-9][0-9]", code) and set(names) <= FIELDS and len(names) == len(fields) and len(body) == int(names["Content-Length"])
+    sound = sound and re.fullmatch("[A-Z, ]+", names.get("Allow", "GET"))
     if not sound or names["Content-Type"] != "text/plain; charset=utf-8" or number % 10 == 0 and code not in ("502", "503"):
         return f"profhouse_web {number}: {came[:800]}"
     return None
+
+
+def asked_oddly(port, word):
+    """What is wrong with the response to a hostile request: it is refused, and what the log has of it is looked at then."""
+    with socket.create_connection(("127.0.0.1", port)) as peer:
+        peer.sendall(b"GET /x" + word + b" HTTP/1.1\r\nHost: 127.0.0.1:%d\r\nConnection: close\r\n\r\n" % port)
+        peer.shutdown(socket.SHUT_WR)
+        came = b"".join(iter(lambda: peer.recv(65536), b""))
+    return None if re.match(rb"(HTTP/1.1 4\d\d |$)", came) and not hidden_in(came, "\r\n") else f"profhouse_web: {word} is answered by {came[:800]}"
 
 
 def results_of_page(seed):
@@ -297,6 +307,7 @@ def results_of_page(seed):
                 try:
                     at = int(re.search(rb":(\d+)/", page.stdout.readline())[1])
                     found = [(1, asked_of_page(at, number)) for number in range(COUNT)]
+                    found += [(1, asked_oddly(at, word.encode("utf-8"))) for word in (*MARKUP, *CONTROLS) if "\n" not in word]
                 finally:
                     page.terminate()
                     page.wait()
