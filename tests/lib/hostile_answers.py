@@ -11,6 +11,8 @@ import socket
 import subprocess
 import sys
 import tempfile
+import threading
+import traceback
 
 from forked import ran
 from hostile import COMMANDS, CONTROLS, MARKUP, SHA, SOUND, answer_of, filled, hidden_in, response, strange_lines, visible
@@ -80,20 +82,9 @@ class Sound:
         return next(response(filled(text)) for asked, text in SOUND if question.startswith(asked)), b""
 
 
-def serve(listening, cases):
-    """The server of all cases: the front of a path is the number of one."""
-    while True:
-        peer, _ = listening.accept()
-        if os.fork() == 0:
-            break
-        peer.close()
-        # (the children that have ended)
-        try:
-            while os.waitpid(-1, os.WNOHANG)[0]:
-                pass
-        except ChildProcessError:
-            pass
-    try:
+def answered(peer, cases):
+    """Answers one connection: the front of a path is the number of a case."""
+    with contextlib.suppress(OSError, ValueError, IndexError), peer:
         head = b""
         while b"\r\n\r\n" not in head:
             head += peer.recv(65536) or b"\r\n\r\n"
@@ -108,10 +99,12 @@ def serve(listening, cases):
         peer.settimeout(1)
         while peer.recv(65536):
             pass
-    except (OSError, ValueError, IndexError):
-        pass
-    finally:
-        os._exit(0)
+
+
+def serve(listening, cases):
+    """The server of all cases, in a process of its own."""
+    while True:
+        threading.Thread(target=answered, args=(listening.accept()[0], cases), daemon=True).start()
 
 
 def beyond_copy(text):
@@ -221,6 +214,8 @@ def in_children(cases, one):
                 pickle.dump([one(it) for it in cases[part::count]], file)
                 file.flush()
                 status = 0
+            except BaseException:  # pylint: disable=broad-exception-caught
+                traceback.print_exc()
             finally:
                 os._exit(status)
         children.append(process)
