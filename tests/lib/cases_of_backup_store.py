@@ -85,7 +85,8 @@ def cases_of_rights(tried):
     """A copy has the rights of its store, whatever others get by default."""
     for mode in (0o600, 0o640, 0o644, 0o666):
         tried.write("rights.db", tried.read("s.db"), mode)
-        ran = tried.run("bash", "-c", 'umask 022; exec "$@"', "run", sys.executable, os.path.join(TOP, "share", "scripts", NAME), "--db", "rights.db", f"r{mode:o}")
+        script = os.path.join(TOP, "share", "scripts", NAME)
+        ran = tried.run("bash", "-c", 'umask 022; exec "$@"', "run", sys.executable, script, "--db", "rights.db", f"r{mode:o}")
         name = ran.out.decode().partition(":")[0]
         tried.expect(f"the rights of a store of {mode:o}", os.stat(tried.path(f"r{mode:o}/{name}")).st_mode & 0o7777 if ran.status == 0 else ran.err, mode)
 

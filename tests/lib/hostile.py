@@ -147,12 +147,17 @@ def of_lines(chance, asked, text, *_):
     else:
         bodies = [body[:-1], body.replace(b"\n", b"\r\n"), b"\x1b[2J" + body, b"\n" + body, body + b"\n", body + b"\x00\n", body[:-1] + b"\x1b\n",
                   b"\t" + body, body + b"::error::x\n\xc2\x9b", noise]
-    one, two = body.split(b"\n")[:2] if asked == "GET /runs" else (b"", b"")
-    lies = {"GET /subtract/": [body.replace(b"20 total", b"21 total"), body.replace(b"-10 ", b"-11 "), body + b"1 /lib/x:h\n"],
-            "GET /runs": [two + b"\n" + one + b"\n", one + b"\n" + one + b"\n"]}.get(asked)
-    if lies and chance.randrange(4) == 0:
-        return Answer(asked, response(chance.choice(lies)), "lie")
     return Answer(asked, response(chance.choice(bodies)), "refused")
+
+
+# Numbers that are such, and do not fit: what is put in place of what.
+LIES = {"GET /subtract/": [(b"20 total", b"21 total"), (b"-10 ", b"-11 "), (b"30 ", b"1 /lib/x:h\n30 ")],
+        "GET /runs": [(b"\n2 ", b"\n1 "), (b"1 callgrind", b"3 callgrind")]}
+
+
+def of_lies(chance, asked, text, *_):
+    """An answer in its form that cannot be so."""
+    return Answer(asked, response(filled(text).replace(*chance.choice(LIES[asked]))), "lie")
 
 
 def of_http(chance, asked, text, mark, _):
@@ -161,7 +166,8 @@ def of_http(chance, asked, text, mark, _):
     line = word.replace(b"\r", b"").replace(b"\n", b"")
     return Answer(asked, *chance.choice([
         (word * 50, "refused"), (b"", "refused"), (b"HTTP/1.1 " + line + b"\r\n\r\n", "refused"), (b"HTTP/1.1 999 x\r\n\r\n", "refused"),
-        (response(body, kind="text/html"), "refused"), (response(word, "404 Not Found"), "refused"), (response(word, "500 " + line.decode("latin-1")), "refused"),
+        (response(body, kind="text/html"), "refused"), (response(word, "404 Not Found"), "refused"),
+        (response(word, "500 " + line.decode("latin-1")), "refused"),
         (b"HTTP/1.1 302 Found\r\nLocation: " + line + b"\r\nContent-Length: 0\r\n\r\n", "refused"), (response(word, "401 Unauthorized"), "refused"),
         (b"HTTP/1.1 200 OK\r\nContent-Type: " + line + b"\r\nContent-Length: 0\r\n\r\n", "refused"),
         (response(b"refused: " + word + b"\n", "422 Unprocessable Entity"), "refused"), (response(b"refused: no such run\n", "422 x"), "refused"),
@@ -178,5 +184,5 @@ def answer_of(seed, asked_by, mark, exports):
     chance = random.Random(seed)
     asked, text = chance.choice([it for it in SOUND if it[0] in asked_by])
     exported = asked in exports
-    kinds = [of_a_word] * 5 + ([of_http] if exported else [of_http] * 2 + [of_lines])
+    kinds = [of_a_word] * 5 + ([of_http] if exported else [of_http] * 2 + [of_lines]) + [of_lies] * (asked in LIES)
     return chance.choice(kinds)(chance, asked, text, mark, exported)

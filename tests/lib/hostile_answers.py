@@ -22,7 +22,14 @@ from tried import SCRIPTS as SCRIPTS_AT
 COUNT = 200
 STORE = "it's; a \\store"
 # It notes what it is given, and answers what the file `held` has.
-PSQL = '#!/bin/sh\nn=1\nwhile [ -e "$CASE/psql$n" ]; do n=$((n+1)); done\ncat > "$CASE/psql$n"\nprintf "%s\\0" "$@" > "$CASE/words$n"\n[ $n = 1 ] && cat "$CASE/held"\nexit 0\n'
+PSQL = r"""#!/bin/sh
+n=1
+while [ -e "$CASE/psql$n" ]; do n=$((n+1)); done
+cat > "$CASE/psql$n"
+printf "%s\0" "$@" > "$CASE/words$n"
+[ $n = 1 ] && cat "$CASE/held"
+exit 0
+"""
 REPORTS = ("GET /reports/object?run=1&", "GET /reports/object?run=2&", "GET /subtract/")
 EXPORTS = ("GET /csv", "GET /folded", "POST /annotate")
 # The words of each script, its status for a fault, what it asks, and which answers may have any bytes.
@@ -33,7 +40,8 @@ SCRIPTS = {
     "profhouse_remote": [(words, 1, (asked,), EXPORTS) for words, asked in (
         (("runs",), "GET /runs"), (("groups",), "GET /groups"), (("verify",), "GET /verify"), (("csv",), "GET /csv"), (("folded",), "GET /folded"),
         (("by", "--event", "Ir", "object"), "GET /reports/"), (("inclusive", "--event", "Ir"), "GET /inclusive"),
-        (("callers", "--event", "Ir", "--object", "/opt/app", "f"), "GET /call"), (("subtract", "--run", "2", "--less-run", "1", "--event", "Ir", "function"), "GET /subtract/"),
+        (("callers", "--event", "Ir", "--object", "/opt/app", "f"), "GET /call"),
+        (("subtract", "--run", "2", "--less-run", "1", "--event", "Ir", "function"), "GET /subtract/"),
         (("annotate", "--event", "Ir", "--file", "a.c", "source.c"), "POST /annotate"), (("import", "source.c"), "POST /runs/"),
         (("group", "main"), "PUT /groups/"), (("remove", "1"), "DELETE /"), (("csv", "--run", "last"), "GET /runs"))],
 }
@@ -250,11 +258,13 @@ def web_cases(seed, top):
     for number, case in enumerate(cases):
         word = chance.choice(COMMANDS + MARKUP + CONTROLS).replace("MARK", f"{top}/mark").encode("utf-8", "surrogateescape")
         line = word.replace(b"\r", b" ").replace(b"\n", b" ")
-        bodies = [response(word), response(word, "404 " + line.decode("latin-1")), response(word, "422 x", more="Allow: x\r\nSet-Cookie: a=b\r\nAccess-Control-Allow-Origin: *\r\n"),
+        bodies = [response(word), response(word, "404 " + line.decode("latin-1")),
+                  response(word, "422 x", more="Allow: x\r\nSet-Cookie: a=b\r\nAccess-Control-Allow-Origin: *\r\n"),
                   response(word, kind="text/html"), b"HTTP/1.1 200 OK\r\nAllow: " + line + b"\r\nLocation: " + line + b"\r\nContent-Length: 1\r\n\r\nx",
                   b"HTTP/1.1 302 Found\r\nLocation: http://e/\r\nContent-Length: 3\r\n\r\nabc", b"HTTP/1.1 200 OK\r\nX: a\r\n b\r\nContent-Length: 0\r\n\r\n"]
         broken = [line * 9, b"HTTP/1.1 304 Not Modified\r\nContent-Length: 6\r\n\r\nHTTP/1", b"HTTP/1.1 101 x\r\n\r\nHTTP/1.1 200 OK\r\n\r\n", b"",
-                  b"HTTP/1.1 204 x\r\nContent-Length: 38\r\n\r\nHTTP/1.1 200 OK\r\nContent-Length: 0\r\n\r\n", b"HTTP/1.1 200 OK\r\nContent-Length: 99\r\n\r\nx", b"HTTP/1.1 -1\r\n\r\n"]
+                  b"HTTP/1.1 204 x\r\nContent-Length: 38\r\n\r\nHTTP/1.1 200 OK\r\nContent-Length: 0\r\n\r\n",
+                  b"HTTP/1.1 200 OK\r\nContent-Length: 99\r\n\r\nx", b"HTTP/1.1 -1\r\n\r\n"]
         data = chance.choice(broken if number % 10 == 0 else bodies)
         case.data_for = lambda _, data=data: (data, b"")
     return cases
@@ -297,7 +307,8 @@ def results_of_page(seed):
             os.chmod(f"{top}/serve", 0o755)
             with open(f"{top}/s.db", "w", encoding="utf-8") as file:
                 file.write("store")
-            words = [sys.executable, os.path.join(SCRIPTS_AT, "profhouse_web"), "--db", f"{top}/s.db", "--port", "0", "--write", "--log", "--program", f"{top}/serve"]
+            words = [sys.executable, os.path.join(SCRIPTS_AT, "profhouse_web"), "--db", f"{top}/s.db", "--port", "0", "--write", "--log",
+                     "--program", f"{top}/serve"]
             with open(f"{top}/log", "w+b") as log, subprocess.Popen(words, stdout=subprocess.PIPE, stderr=log, cwd=top) as page:
                 try:
                     at = int(re.search(rb":(\d+)/", page.stdout.readline())[1])
