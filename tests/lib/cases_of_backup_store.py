@@ -85,7 +85,8 @@ def cases_of_rights(tried):
     """A copy has the rights of its store, whatever others get by default."""
     for mode in (0o600, 0o640, 0o644, 0o666):
         tried.write("rights.db", tried.read("s.db"), mode)
-        ran = tried.run("bash", "-c", 'umask 022; exec "$@"', "run", sys.executable, os.path.join(TOP, "share", "scripts", NAME), "--db", "rights.db", f"r{mode:o}")
+        script = os.path.join(TOP, "share", "scripts", NAME)
+        ran = tried.run("bash", "-c", 'umask 022; exec "$@"', "run", sys.executable, script, "--db", "rights.db", f"r{mode:o}")
         name = ran.out.decode().partition(":")[0]
         tried.expect(f"the rights of a store of {mode:o}", os.stat(tried.path(f"r{mode:o}/{name}")).st_mode & 0o7777 if ran.status == 0 else ran.err, mode)
 
@@ -125,6 +126,11 @@ def cases_of_links(tried):
     tried.expect("a folder with links", (ran.status, ran.err, ran.out[:9]), (0, b"", b"s.db.3.20"))
     tried.expect("what they point to is as it was", tried.read("victim"), b"not ours\n")
     tried.expect("and they are there", [os.path.lexists(tried.path(f"shared/{it}")) for it in ("s.db.20200101T000000Z", "s.db.20200102T000000Z")], [True, True])
+    os.mkdir(tried.path("own"))
+    os.symlink(victim, tried.path("own/s.db.20200101T000000Z"))
+    os.mkdir(tried.path("own/s.db.20200102T000000Z"))
+    tried.expect("a folder that has what is no copy", tried.script(NAME, "--db", "s.db", "own", "--keep", "1").status, 0)
+    tried.expect("it is left", [os.path.lexists(tried.path(f"own/s.db.2020010{it}T000000Z")) for it in (1, 2)], [True, True])
     os.symlink(tried.path("else"), tried.path("dangling"))
     tried.expect_refusal("a folder that is a link to nothing", tried.script(NAME, "--db", "s.db", "dangling"), b"File exists")
     # What a backup that was killed left is removed, and what only looks alike is not.

@@ -114,7 +114,8 @@ def cases_of_refusals(tried):
 def cases_of_strange_stores(tried):
     """Stores that no profhouse has made: a name with a line of its own, and a view in place of a table."""
     for what, change, has in (
-            ("a name with a line of its own", "UPDATE name SET bytes = CAST('f' || char(10) || '1 99' AS BLOB) WHERE bytes = CAST('f' AS BLOB)", b"end of a line"),
+            ("a name with a line of its own", "UPDATE name SET bytes = CAST('f' || char(10) || '1 99' AS BLOB) WHERE bytes = CAST('f' AS BLOB)",
+             b"end of a line"),
             ("a view", "ALTER TABLE coef RENAME TO other; CREATE VIEW coef AS WITH RECURSIVE c(run) AS (SELECT 1 UNION ALL SELECT run FROM c)"
              " SELECT run, 0 AS pos, 0 AS event, 1 AS n FROM c", b"a view in place of the table coef"),
             ("no table", "DROP TABLE arc", b"no such table")):

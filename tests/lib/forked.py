@@ -1,5 +1,5 @@
-"""Runs scripts of share/scripts in children of this process, in which Python and their modules are loaded already: for
-tests that run them a thousand times."""
+"""Runs scripts of share/scripts in this process, or in a child of it, in which Python and their modules are loaded already:
+for tests that run them thousands of times."""
 import os
 import pty
 import signal
@@ -11,7 +11,8 @@ from tried import SCRIPTS
 
 sys.path.insert(0, SCRIPTS)
 # (what they import, so that a child under another user finds it too)
-import argparse, ctypes, csv, datetime, fcntl, heapq, http.client, sqlite3, ssl, subprocess, tempfile  # noqa: E401, E402, F401
+import argparse, ctypes, csv, datetime, fcntl, heapq, http.client, http.server, pathlib, random, shutil, sqlite3  # noqa: E401, E402, F401
+import ssl, subprocess, tempfile, urllib.parse  # noqa: E401, E402, F401
 import encodings.ascii, encodings.idna, encodings.latin_1  # noqa: E401, E402, F401
 import profhouse_http  # noqa: E402
 import profhouse_script  # noqa: E402, F401
@@ -39,33 +40,70 @@ def become(user):
         os.setuid(user)
 
 
-def child(name, words, folder, environment, files, user):
-    """The rest of a child's life."""
-    status = 99
+class Late(BaseException):
+    """A script takes too long."""
+
+
+def late(*_):
+    raise Late()
+
+
+def run_here(name, words, folder, environment, files):
+    """Runs a script in this process, which is as it was before but for these, and gives its status."""
+    for number, file in enumerate(files):
+        os.dup2(file, number)
+    sys.stdin, sys.stdout = open(0, closefd=False), open(1, "w", encoding="utf-8", closefd=False)
+    sys.stderr = open(2, "w", encoding="utf-8", errors="backslashreplace", closefd=False)
+    os.chdir(folder)
+    os.environ.clear()
+    os.environ.update(environment)
+    tempfile.tempdir, profhouse_http.LONGEST_ANSWER = environment.get("TMPDIR"), LONGEST_ANSWER
+    sys.argv = [name, *map(os.fsdecode, words)]
+    signal.signal(signal.SIGALRM, late)
+    signal.alarm(SECONDS)
+    status = 0
     try:
-        for number, file in enumerate(files):
-            os.dup2(file, number)
-        sys.stdin, sys.stdout, sys.stderr = open(0), open(1, "w", encoding="utf-8"), open(2, "w", encoding="utf-8", errors="backslashreplace")
-        os.chdir(folder)
-        os.environ.clear()
-        os.environ.update(environment)
-        tempfile.tempdir, profhouse_http.LONGEST_ANSWER = environment.get("TMPDIR"), LONGEST_ANSWER
-        become(user)
-        signal.alarm(SECONDS)
-        sys.argv = [name, *map(os.fsdecode, words)]
         exec(program(name), {"__name__": "__main__", "__file__": os.path.join(SCRIPTS, name)})  # pylint: disable=exec-used
-        status = 0
     except SystemExit as ended:
         status = ended.code if isinstance(ended.code, int) else 0 if ended.code is None else 1
     except BaseException:  # pylint: disable=broad-exception-caught
         traceback.print_exc()
+        status = 99
+    signal.alarm(0)
+    for file in (sys.stdout, sys.stderr):
+        try:
+            file.flush()
+        except OSError:
+            pass
+    return status
+
+
+def child(user, *words):
+    """The rest of a child's life."""
+    try:
+        become(user)
+        status = run_here(*words)
     finally:
-        for file in (sys.stdout, sys.stderr):
-            try:
-                file.flush()
-            except OSError:
-                pass
         os._exit(status)
+
+
+def kept(*words):
+    """Runs a script in this process, which is then as it was before."""
+    ends, streams = [os.dup(it) for it in range(3)], (sys.stdin, sys.stdout, sys.stderr)
+    before, folder, place, most = dict(os.environ), os.getcwd(), tempfile.tempdir, profhouse_http.LONGEST_ANSWER
+    try:
+        return run_here(*words)
+    finally:
+        for number, end in enumerate(ends):
+            os.dup2(end, number)
+            os.close(end)
+        sys.stdin, sys.stdout, sys.stderr = streams
+        os.chdir(folder)
+        os.environ.clear()
+        os.environ.update(before)
+        tempfile.tempdir, profhouse_http.LONGEST_ANSWER = place, most
+        for number in (signal.SIGTERM, signal.SIGHUP):
+            signal.signal(number, signal.SIG_DFL)
 
 
 def all_of(terminal):
@@ -88,23 +126,32 @@ def held(file):
         return data.read()
 
 
+def in_child(files, user, above, words):
+    """The status of a script in a child, and what a terminal shows of it; one that a signal ended has its number below 0."""
+    sys.stdout.flush()
+    process = os.fork()
+    if process == 0:
+        child(user, *words, files)
+    printed = b""
+    if above is not None:
+        os.close(files[1])
+        printed = all_of(above)
+        os.close(above)
+    status = os.waitpid(process, 0)[1]
+    return os.WEXITSTATUS(status) if os.WIFEXITED(status) else -os.WTERMSIG(status), printed.replace(b"\r\n", b"\n")
+
+
 def ran(name, *words, folder, environment, given=b"", user=None, terminal=False):
-    """What a script prints, and its status; one that a signal ended has its number below 0."""
+    """What a script prints, and its status."""
     program(name)
     source, out, err = (os.memfd_create(it) for it in ("in", "out", "err"))
     os.write(source, given)
     os.lseek(source, 0, os.SEEK_SET)
     above, below = pty.openpty() if terminal else (None, out)
-    sys.stdout.flush()
-    process = os.fork()
-    if process == 0:
-        child(name, words, folder, environment, (source, below, err), user)
-    printed = b""
-    if terminal:
-        os.close(below)
-        printed = all_of(above)
-        os.close(above)
-    status = os.waitpid(process, 0)[1]
+    if terminal or user is not None:
+        # (a terminal has to be read meanwhile, and rights do not come back)
+        status, printed = in_child((source, below, err), user, above, (name, words, folder, environment))
+    else:
+        status, printed = kept(name, words, folder, environment, (source, out, err)), b""
     os.close(source)
-    ended = os.WEXITSTATUS(status) if os.WIFEXITED(status) else -os.WTERMSIG(status)
-    return Ran(ended, (held(out), printed.replace(b"\r\n", b"\n"))[terminal], held(err))
+    return Ran(status, (held(out), printed)[terminal], held(err))

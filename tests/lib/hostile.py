@@ -33,6 +33,12 @@ def hidden_in(text, kept="\n"):
     return sorted({it for it in text.decode("utf-8", "surrogateescape") if is_hidden(it) and it not in kept})
 
 
+def strange_lines(script, err):
+    """The lines on the standard error that begin with words which are not the script's own."""
+    own = re.compile(rb"(?:%s(?: [a-z]+)?: |usage: |no answer from |  ).*" % script.encode(), re.S)
+    return [it for it in err.split(b"\n")[:-1] if not own.fullmatch(it)]
+
+
 def visible(text):
     """A text as it has to be shown, but for what cannot be seen for another reason than that it is hidden."""
     def one(sign):
@@ -96,7 +102,8 @@ def response(body, status="200 OK", kind="text/plain", more=""):
 
 
 class Answer:
-    """What a server says to one question, and what a script has to do then: `refused` it, or show `word` (None: anything)."""
+    """What a server says to one question, and what is wanted of a script then: that it is `refused`, or `shown` with its
+    word; `any` bytes are taken, and a `lie`, whose numbers do not fit, is refused by those who reckon with it."""
 
     def __init__(self, asked, data, wanted, word=None, endless=b""):
         self.asked, self.data, self.wanted, self.word, self.endless = asked, data, wanted, word, endless
@@ -143,13 +150,24 @@ def of_lines(chance, asked, text, *_):
     return Answer(asked, response(chance.choice(bodies)), "refused")
 
 
+# Numbers that are such, and do not fit: what is put in place of what.
+LIES = {"GET /subtract/": [(b"20 total", b"21 total"), (b"-10 ", b"-11 "), (b"30 ", b"1 /lib/x:h\n30 ")],
+        "GET /runs": [(b"\n2 ", b"\n1 "), (b"1 callgrind", b"3 callgrind")]}
+
+
+def of_lies(chance, asked, text, *_):
+    """An answer in its form that cannot be so."""
+    return Answer(asked, response(filled(text).replace(*chance.choice(LIES[asked]))), "lie")
+
+
 def of_http(chance, asked, text, mark, _):
     """An answer that HTTP does not know, or of something else."""
     body, word = filled(text), chance.choice(COMMANDS + MARKUP + CONTROLS).replace("MARK", mark).encode("utf-8", "surrogateescape")
     line = word.replace(b"\r", b"").replace(b"\n", b"")
     return Answer(asked, *chance.choice([
         (word * 50, "refused"), (b"", "refused"), (b"HTTP/1.1 " + line + b"\r\n\r\n", "refused"), (b"HTTP/1.1 999 x\r\n\r\n", "refused"),
-        (response(body, kind="text/html"), "refused"), (response(word, "404 Not Found"), "refused"), (response(word, "500 " + line.decode("latin-1")), "refused"),
+        (response(body, kind="text/html"), "refused"), (response(word, "404 Not Found"), "refused"),
+        (response(word, "500 " + line.decode("latin-1")), "refused"),
         (b"HTTP/1.1 302 Found\r\nLocation: " + line + b"\r\nContent-Length: 0\r\n\r\n", "refused"), (response(word, "401 Unauthorized"), "refused"),
         (b"HTTP/1.1 200 OK\r\nContent-Type: " + line + b"\r\nContent-Length: 0\r\n\r\n", "refused"),
         (response(b"refused: " + word + b"\n", "422 Unprocessable Entity"), "refused"), (response(b"refused: no such run\n", "422 x"), "refused"),
@@ -166,5 +184,5 @@ def answer_of(seed, asked_by, mark, exports):
     chance = random.Random(seed)
     asked, text = chance.choice([it for it in SOUND if it[0] in asked_by])
     exported = asked in exports
-    kinds = [of_a_word] * 5 + ([of_http] if exported else [of_http] * 2 + [of_lines])
+    kinds = [of_a_word] * 5 + ([of_http] if exported else [of_http] * 2 + [of_lines]) + [of_lies] * (asked in LIES)
     return chance.choice(kinds)(chance, asked, text, mark, exported)

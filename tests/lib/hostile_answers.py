@@ -11,16 +11,25 @@ import socket
 import subprocess
 import sys
 import tempfile
+import threading
+import traceback
 
 from forked import ran
-from hostile import COMMANDS, CONTROLS, MARKUP, SHA, SOUND, answer_of, filled, hidden_in, response, visible
+from hostile import COMMANDS, CONTROLS, MARKUP, SHA, SOUND, answer_of, filled, hidden_in, response, strange_lines, visible
 from tried import DISK
 from tried import SCRIPTS as SCRIPTS_AT
 
 COUNT = 200
 STORE = "it's; a \\store"
 # It notes what it is given, and answers what the file `held` has.
-PSQL = '#!/bin/sh\nn=1\nwhile [ -e "$CASE/psql$n" ]; do n=$((n+1)); done\ncat > "$CASE/psql$n"\nprintf "%s\\0" "$@" > "$CASE/words$n"\n[ $n = 1 ] && cat "$CASE/held"\nexit 0\n'
+PSQL = r"""#!/bin/sh
+n=1
+while [ -e "$CASE/psql$n" ]; do n=$((n+1)); done
+cat > "$CASE/psql$n"
+printf "%s\0" "$@" > "$CASE/words$n"
+[ $n = 1 ] && cat "$CASE/held"
+exit 0
+"""
 REPORTS = ("GET /reports/object?run=1&", "GET /reports/object?run=2&", "GET /subtract/")
 EXPORTS = ("GET /csv", "GET /folded", "POST /annotate")
 # The words of each script, its status for a fault, what it asks, and which answers may have any bytes.
@@ -31,7 +40,8 @@ SCRIPTS = {
     "profhouse_remote": [(words, 1, (asked,), EXPORTS) for words, asked in (
         (("runs",), "GET /runs"), (("groups",), "GET /groups"), (("verify",), "GET /verify"), (("csv",), "GET /csv"), (("folded",), "GET /folded"),
         (("by", "--event", "Ir", "object"), "GET /reports/"), (("inclusive", "--event", "Ir"), "GET /inclusive"),
-        (("callers", "--event", "Ir", "--object", "/opt/app", "f"), "GET /call"), (("subtract", "--run", "2", "--less-run", "1", "--event", "Ir", "function"), "GET /subtract/"),
+        (("callers", "--event", "Ir", "--object", "/opt/app", "f"), "GET /call"),
+        (("subtract", "--run", "2", "--less-run", "1", "--event", "Ir", "function"), "GET /subtract/"),
         (("annotate", "--event", "Ir", "--file", "a.c", "source.c"), "POST /annotate"), (("import", "source.c"), "POST /runs/"),
         (("group", "main"), "PUT /groups/"), (("remove", "1"), "DELETE /"), (("csv", "--run", "last"), "GET /runs"))],
 }
@@ -80,20 +90,9 @@ class Sound:
         return next(response(filled(text)) for asked, text in SOUND if question.startswith(asked)), b""
 
 
-def serve(listening, cases):
-    """The server of all cases: the front of a path is the number of one."""
-    while True:
-        peer, _ = listening.accept()
-        if os.fork() == 0:
-            break
-        peer.close()
-        # (the children that have ended)
-        try:
-            while os.waitpid(-1, os.WNOHANG)[0]:
-                pass
-        except ChildProcessError:
-            pass
-    try:
+def answered(peer, cases):
+    """Answers one connection: the front of a path is the number of a case."""
+    with contextlib.suppress(OSError, ValueError, IndexError), peer:
         head = b""
         while b"\r\n\r\n" not in head:
             head += peer.recv(65536) or b"\r\n\r\n"
@@ -108,10 +107,12 @@ def serve(listening, cases):
         peer.settimeout(1)
         while peer.recv(65536):
             pass
-    except (OSError, ValueError, IndexError):
-        pass
-    finally:
-        os._exit(0)
+
+
+def serve(listening, cases):
+    """The server of all cases, in a process of its own."""
+    while True:
+        threading.Thread(target=answered, args=(listening.accept()[0], cases), daemon=True).start()
 
 
 def beyond_copy(text):
@@ -173,13 +174,14 @@ def table_wrong(text):
 
 def outcome(case, done):
     """What is wrong with the status of a script and what it printed."""
-    statuses = {"refused": (case.fault,), "shown": (0,), "any": (0,)}[case.answer.wanted]
+    lie = (0, case.fault) if case.script == "profhouse_remote" else (case.fault,)
+    statuses = {"refused": (case.fault,), "shown": (0,), "any": (0,), "lie": lie}[case.answer.wanted]
     if done.status not in statuses or (done.status == 0) != (done.err == b"") and done.out[:8] != b"refused:":
         return f"the status is {done.status}, and not {statuses}"
     pipe = case.script == "profhouse_remote" and not case.terminal
     hidden = hidden_in(done.err) or [] if pipe else hidden_in(done.out + done.err, "\n\t" if case.terminal else "\n")
-    if hidden:
-        return f"it prints {hidden}"
+    if hidden or strange_lines(case.script, done.err):
+        return f"it prints {hidden or strange_lines(case.script, done.err)}"
     if pipe and done.status == 0 and case.number % len(SCRIPTS[case.script]) != LAST and done.out != case.answer.data.partition(b"\r\n\r\n")[2]:
         return "it prints another answer"
     if pipe and done.status and done.out and not re.fullmatch(rb"refused: [^\x00-\x1f\x7f]+\n", done.out):
@@ -220,6 +222,8 @@ def in_children(cases, one):
                 pickle.dump([one(it) for it in cases[part::count]], file)
                 file.flush()
                 status = 0
+            except BaseException:  # pylint: disable=broad-exception-caught
+                traceback.print_exc()
             finally:
                 os._exit(status)
         children.append(process)
@@ -254,11 +258,13 @@ def web_cases(seed, top):
     for number, case in enumerate(cases):
         word = chance.choice(COMMANDS + MARKUP + CONTROLS).replace("MARK", f"{top}/mark").encode("utf-8", "surrogateescape")
         line = word.replace(b"\r", b" ").replace(b"\n", b" ")
-        bodies = [response(word), response(word, "404 " + line.decode("latin-1")), response(word, "422 x", more="Allow: x\r\nSet-Cookie: a=b\r\nAccess-Control-Allow-Origin: *\r\n"),
+        bodies = [response(word), response(word, "404 " + line.decode("latin-1")),
+                  response(word, "422 x", more="Allow: x\r\nSet-Cookie: a=b\r\nAccess-Control-Allow-Origin: *\r\n"),
                   response(word, kind="text/html"), b"HTTP/1.1 200 OK\r\nAllow: " + line + b"\r\nLocation: " + line + b"\r\nContent-Length: 1\r\n\r\nx",
                   b"HTTP/1.1 302 Found\r\nLocation: http://e/\r\nContent-Length: 3\r\n\r\nabc", b"HTTP/1.1 200 OK\r\nX: a\r\n b\r\nContent-Length: 0\r\n\r\n"]
         broken = [line * 9, b"HTTP/1.1 304 Not Modified\r\nContent-Length: 6\r\n\r\nHTTP/1", b"HTTP/1.1 101 x\r\n\r\nHTTP/1.1 200 OK\r\n\r\n", b"",
-                  b"HTTP/1.1 204 x\r\nContent-Length: 38\r\n\r\nHTTP/1.1 200 OK\r\nContent-Length: 0\r\n\r\n", b"HTTP/1.1 200 OK\r\nContent-Length: 99\r\n\r\nx", b"HTTP/1.1 -1\r\n\r\n"]
+                  b"HTTP/1.1 204 x\r\nContent-Length: 38\r\n\r\nHTTP/1.1 200 OK\r\nContent-Length: 0\r\n\r\n",
+                  b"HTTP/1.1 200 OK\r\nContent-Length: 99\r\n\r\nx", b"HTTP/1.1 -1\r\n\r\n"]
         data = chance.choice(broken if number % 10 == 0 else bodies)
         case.data_for = lambda _, data=data: (data, b"")
     return cases
@@ -275,9 +281,19 @@ def asked_of_page(port, number):
     names = dict(it.split(": ", 1) if ": " in it else (it, "") for it in fields)
     code = status.split(" ")[1] if status.startswith("HTTP/1.1 ") else ""
     sound = re.fullmatch("[2-5][0-9][0-9]", code) and set(names) <= FIELDS and len(names) == len(fields) and len(body) == int(names["Content-Length"])
+    sound = sound and re.fullmatch("[A-Z, ]+", names.get("Allow", "GET"))
     if not sound or names["Content-Type"] != "text/plain; charset=utf-8" or number % 10 == 0 and code not in ("502", "503"):
         return f"profhouse_web {number}: {came[:800]}"
     return None
+
+
+def asked_oddly(port, word):
+    """What is wrong with the response to a hostile request: it is refused, and what the log has of it is looked at then."""
+    with socket.create_connection(("127.0.0.1", port)) as peer:
+        peer.sendall(b"GET /x" + word + b" HTTP/1.1\r\nHost: 127.0.0.1:%d\r\nConnection: close\r\n\r\n" % port)
+        peer.shutdown(socket.SHUT_WR)
+        came = b"".join(iter(lambda: peer.recv(65536), b""))
+    return None if re.match(rb"(HTTP/1.1 4\d\d |$)", came) and not hidden_in(came, "\r\n") else f"profhouse_web: {word} is answered by {came[:800]}"
 
 
 def results_of_page(seed):
@@ -291,11 +307,13 @@ def results_of_page(seed):
             os.chmod(f"{top}/serve", 0o755)
             with open(f"{top}/s.db", "w", encoding="utf-8") as file:
                 file.write("store")
-            words = [sys.executable, os.path.join(SCRIPTS_AT, "profhouse_web"), "--db", f"{top}/s.db", "--port", "0", "--write", "--log", "--program", f"{top}/serve"]
+            words = [sys.executable, os.path.join(SCRIPTS_AT, "profhouse_web"), "--db", f"{top}/s.db", "--port", "0", "--write", "--log",
+                     "--program", f"{top}/serve"]
             with open(f"{top}/log", "w+b") as log, subprocess.Popen(words, stdout=subprocess.PIPE, stderr=log, cwd=top) as page:
                 try:
                     at = int(re.search(rb":(\d+)/", page.stdout.readline())[1])
                     found = [(1, asked_of_page(at, number)) for number in range(COUNT)]
+                    found += [(1, asked_oddly(at, word.encode("utf-8"))) for word in (*MARKUP, *CONTROLS) if "\n" not in word]
                 finally:
                     page.terminate()
                     page.wait()

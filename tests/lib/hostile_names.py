@@ -9,7 +9,7 @@ import tempfile
 
 import tried as trying
 from forked import ran
-from hostile import COMMANDS, CONTROLS, MARKUP, hidden_in, visible
+from hostile import COMMANDS, CONTROLS, MARKUP, hidden_in, strange_lines, visible
 from hostile_answers import CODE, PSQL, STORE, Sound, in_children, listening_for, noted
 from tried import DISK
 
@@ -153,7 +153,7 @@ WORDS = {
 
 def word_of(chance, mark, is_name):
     """A hostile word of a command line. One that is a name stands in no folder, and is not too long."""
-    word = "".join(chance.choice(PIECES) for _ in range(chance.randrange(1, 3))).replace("MARK", mark).replace("\0", "\x01")
+    word = "".join(chance.choice([*PIECES, "\n", "a\n::error::b"]) for _ in range(chance.randrange(1, 3))).replace("MARK", mark).replace("\0", "\x01")
     word = f"w{word}" if word[:1] in ("-", "", " ") or is_name else word
     return word.replace("/", ":")[:60] if is_name else word
 
@@ -176,6 +176,7 @@ def tried_word(seed, script, number, top, port):
                    "PROFHOUSE": f"{top}/none"}
     done = ran(script, *words, folder=folder, environment=environment)
     wrong = f"the status is {done.status}, and not {statuses}" if done.status not in statuses else hidden_wrong("it", done.out + done.err, "\n")
+    wrong = wrong or (f"it prints {strange_lines(script, done.err)}" if strange_lines(script, done.err) else None)
     left = [it for it in os.listdir(folder) if not re.fullmatch(r"tmp|home|held|(?:psql|words)[123]", it) and script != "backup_store"]
     left += os.listdir(f"{folder}/tmp") + os.listdir(f"{folder}/home")
     wrong = wrong or (f"there is {left}" if left else f"it made {mark}" if os.path.exists(mark) else None)
