@@ -39,8 +39,8 @@ GROUP_LINE = re.compile(rb"([A-Za-z0-9._-]{1,64}) (-|%s) (?:-|%s(?:,%s)*)" % (NU
 SHARE_LINE = re.compile(rb"(%s) [0-9]{1,4000}\.[0-9]{2}%% (%s)" % (COST, NAME))
 COST_LINE = re.compile(rb"(%s) (%s)" % (COST, NAME))
 CALL_LINE = re.compile(rb"%s [0-9]{1,4000} %s" % (COST, NAME))
-# A line of `verify`: run, event, sum, what the file states, and a word.
-SUM_LINE = re.compile(rb"%s [^\x00-\x20\x7f]+ ([0-9]{1,4000}) (?:[0-9]{1,4000}|none) [a-z]+" % NUMBER)
+# A line of `verify`: run, event, sum, what the file states, and whether that agrees.
+SUM_LINE = re.compile(rb"%s [^\x00-\x20\x7f]+ ([0-9]{1,4000}) (?:[0-9]{1,4000} (?:ok|differs)|none none)" % NUMBER)
 REFUSAL = re.compile(rb"refused: [^\x00-\x1f\x7f]+\n")
 
 # A run that a server lists; the label is bytes.

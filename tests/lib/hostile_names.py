@@ -153,7 +153,7 @@ WORDS = {
 
 def word_of(chance, mark, is_name):
     """A hostile word of a command line. One that is a name stands in no folder, and is not too long."""
-    word = "".join(chance.choice([*PIECES, "\n", "a\n::error::b"]) for _ in range(chance.randrange(1, 3))).replace("MARK", mark).replace("\0", "\x01")
+    word = "".join(chance.choice([*PIECES, *["\n", "a\n::error::b"] * 8]) for _ in range(chance.randrange(1, 3))).replace("MARK", mark).replace("\0", "\x01")
     word = f"w{word}" if word[:1] in ("-", "", " ") or is_name else word
     return word.replace("/", ":")[:60] if is_name else word
 
