@@ -9,7 +9,7 @@ both (Err e) so one other = tt
 
 pub returns : goal.returns
 returns g c =
-    let kept = c.in_ok-files.ensures in
+    let kept = c.in-Some.ensures in
     both c.open.result
     (λ store honest represents faithful h t agrees holds. record {
       t = t;
