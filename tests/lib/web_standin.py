@@ -2,7 +2,7 @@
 """Stands in for `profhouse serve` in tests/web_server: it takes the same words, and tells what it was asked.
 
 The text of the file behind --db says how it begins: `failed`, `odd`, `silent`, or `slow` and a number of seconds. Each
-start and each request is a line of the file `log` beside it. What a request gets depends on its path:
+start and each request is a line of the file `log` beside it, and of a slow one that it opens. What a request gets depends on its path:
 
     /gone        nothing: the server ends at once      /gone_once   the same, but for the first time alone
     /fails       500                                   /slow        200 after a second
@@ -101,9 +101,11 @@ def main():
     if kind in ("failed", "odd", "silent"):
         print({"failed": "store: failed", "odd": "store: odd", "silent": ""}[kind])
         return 1
+    standin = Standin(given["--db"], int(given["--requests"]))
     if kind == "slow":
+        standin.note("opens")
         time.sleep(float(number))
-    Standin(given["--db"], int(given["--requests"])).serve()
+    standin.serve()
     return 0
 
 
