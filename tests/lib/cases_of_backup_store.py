@@ -25,32 +25,40 @@ sys.exit(done.status)
 """
 
 
-# Runs the script with a server that ends as soon as it is to be halted, and another program that takes its place: once,
-# or each time. Says at each copy of a file how many programs have the store, and which of them are not halted.
+# Runs the script with a server that ends as soon as it is to be halted ("gone", or "anew" with another in its place), or
+# while its log is copied ("late", with an import behind it): once, or each time. Says at each copy of a file how many
+# programs have the store, and which of them are not halted.
 CHANGING = """import os, shutil, signal, subprocess, sys, time
-script, program, times, ended = sys.argv[1], sys.argv[2], int(sys.argv[3]), sys.argv[4]
+script, program, times, how = sys.argv[1], sys.argv[2], int(sys.argv[3]), sys.argv[4]
 sys.argv = [script, *sys.argv[5:]]
 sys.path.insert(0, os.path.dirname(script))
 real_kill, real_copy, begun, held = os.kill, shutil.copyfileobj, [], {}
 
-def kill(process, number):
+def holders():
+    return [it for it in held["holders_of"]("t.db") if it != os.getpid()]
+
+def end(process):
     global times
-    if number == signal.SIGSTOP and times > 0:
-        times -= 1
-        real_kill(process, signal.SIGKILL)
-        while held["holders_of"]("s.db"):
-            time.sleep(0.01)
-        if ended == "anew":
-            begun.append(subprocess.Popen([program, "serve", "--db", "s.db", "--port", "0", "--requests", "9"], stdout=subprocess.PIPE))
-            begun[-1].stdout.readline()
+    times -= 1
+    real_kill(process, signal.SIGKILL)
+    while holders():
+        time.sleep(0.01)
+    if how == "anew":
+        begun.append(subprocess.Popen([program, "serve", "--db", "t.db", "--port", "0", "--requests", "9"], stdout=subprocess.PIPE))
+        begun[-1].stdout.readline()
+    if how == "late":
+        subprocess.run([program, "import", "--db", "t.db", "late.cg"], stdout=subprocess.DEVNULL, check=True)
+
+def kill(process, number):
+    if number == signal.SIGSTOP and times > 0 and how != "late":
+        end(process)
     real_kill(process, number)
 
-def copy(*words):
-    holders = [it for it in held["holders_of"]("s.db") if it != os.getpid()]
-    print(len(holders), [it for it in holders if held["state_of"](it) != {"T"}], file=sys.stderr)
-    if ended == "copied":
-        kill(holders[0], signal.SIGSTOP)
-    real_copy(*words)
+def copy(source, *words):
+    print(len(holders()), [it for it in holders() if held["state_of"](it) != {"T"}], file=sys.stderr)
+    if how == "late" and times > 0 and source.name.endswith("-wal"):
+        end(holders()[0])
+    real_copy(source, *words)
 
 os.kill, shutil.copyfileobj, held["__name__"] = kill, copy, "__main__"
 try:
@@ -144,18 +152,18 @@ def cases_of_a_changing_server(tried):
     """A server that ends before it is halted, or while it is copied, and one that takes its place: nothing is copied but a store whose
     programs are all halted, and a copy of another is thrown away."""
     script = os.path.join(TOP, "share", "scripts", NAME)
+    tried.write("t.db", tried.read("s.db"))
+    tried.write("late.cg", "events: Ir\nfn=late\n1 7\n")
 
-    def ran_with(times, ended):
-        with tried.serving("s.db"):
-            return tried.run(sys.executable, "-c", CHANGING, script, tried.path("bin/profhouse"), str(times), ended, "--db", "s.db", f"{ended}{times}")
-    for ended, copied in (("gone", b""), ("anew", b"1 []\n1 []\n")):
-        ran = ran_with(1, ended)
-        tried.expect(f"a server that ends: {ended}", (ran.status, ran.out[-9:], ran.err), (0, b"Z: 1 runs\n"[-9:], copied))
-        tried.expect("one copy", len(copies(tried, f"{ended}1")), 2)
-    ran = ran_with(9, "anew")
-    tried.expect("servers that end each time", (ran.status, ran.out, b"try again" in ran.err, os.listdir(tried.path("anew9"))), (2, b"", True, []))
-    ran = ran_with(1, "copied")
-    tried.expect("a server that ends while it is copied", (ran.status, ran.out[-9:], len(copies(tried, "copied1"))), (0, b"Z: 1 runs\n"[-9:], 2))
+    def ran_with(times, how):
+        with tried.serving("t.db"):
+            ran = tried.run(sys.executable, "-c", CHANGING, script, tried.path("bin/profhouse"), str(times), how, "--db", "t.db", f"{how}{times}")
+        return ran.status, ran.out[-10:], ran.err, len(os.listdir(tried.path(f"{how}{times}")))
+    tried.expect("a server that ends before it is halted", ran_with(1, "gone"), (0, b"Z: 1 runs\n", b"", 2))
+    tried.expect("another in its place", ran_with(1, "anew"), (0, b"Z: 1 runs\n", b"1 []\n1 []\n", 2))
+    status, out, err, left = ran_with(9, "anew")
+    tried.expect("another each time", (status, out, b"try again" in err, left), (2, b"", True, 0))
+    tried.expect("a server that ends while it is copied, and an import", ran_with(1, "late"), (0, b"Z: 2 runs\n", b"1 []\n1 []\n", 2))
 
 
 def as_nobody(tried, *words):
