@@ -135,8 +135,7 @@ class Server:
         kind = http.client.HTTPSConnection if self.parts.scheme == "https" else http.client.HTTPConnection
         connection = kind(self.parts.hostname, self.parts.port, timeout=self.timeout)
         try:
-            with ended_within(self.timeout):
-                connection.connect()
+            connection.connect()
         except (ssl.SSLError, socket.gaierror) as error:
             raise Fault(f"no connection to {self.shown}: {reason_of(error)}") from error
         except OSError as error:
@@ -146,15 +145,14 @@ class Server:
     def once(self, method, target, body, most):
         """The answer to one request: its code, its kind, its text, and where it sends the client."""
         seconds = self.timeout + (0 if body is None else os.fstat(body.fileno()).st_size // SLOWEST)
-        with contextlib.closing(self.connected()) as connection:
+        with ended_within(seconds), contextlib.closing(self.connected()) as connection:
             try:
-                with ended_within(seconds):
-                    with contextlib.suppress(BrokenPipeError, ConnectionResetError):
-                        # A file with a fault may be answered before all of it was sent: so the answer is read anyway.
-                        connection.request(method, target, None if body is None else pieces_of(body), self.fields(body))
-                    answer = connection.getresponse()
-                    kind = answer.getheader("Content-Type", "").partition(";")[0].strip()
-                    return answer.status, kind, whole(answer, most), answer.getheader("Location", "")
+                with contextlib.suppress(BrokenPipeError, ConnectionResetError):
+                    # A file with a fault may be answered before all of it was sent: so the answer is read anyway.
+                    connection.request(method, target, None if body is None else pieces_of(body), self.fields(body))
+                answer = connection.getresponse()
+                kind = answer.getheader("Content-Type", "").partition(";")[0].strip()
+                return answer.status, kind, whole(answer, most), answer.getheader("Location", "")
             except (OSError, http.client.HTTPException) as error:
                 raise Lost(reason_of(error), sent=True) from error
 
