@@ -26,7 +26,7 @@ sys.exit(done.status)
 
 
 # Runs the script with a server that ends as soon as it is to be halted ("gone", or "anew" with another in its place), or
-# while its log is copied ("late", with an import behind it): once, or each time. Says at each copy of a file how many
+# while its log is copied ("late", with an import behind it, or "both", with another too): once, or each time. Says at each copy of a file how many
 # programs have the store, and which of them are not halted.
 CHANGING = """import os, shutil, signal, subprocess, sys, time
 script, program, times, how = sys.argv[1], sys.argv[2], int(sys.argv[3]), sys.argv[4]
@@ -43,20 +43,20 @@ def end(process):
     real_kill(process, signal.SIGKILL)
     while holders():
         time.sleep(0.01)
-    if how == "anew":
+    if how in ("late", "both"):
+        subprocess.run([program, "import", "--db", "t.db", f"{how}.cg"], stdout=subprocess.DEVNULL, check=True)
+    if how in ("anew", "both"):
         begun.append(subprocess.Popen([program, "serve", "--db", "t.db", "--port", "0", "--requests", "9"], stdout=subprocess.PIPE))
         begun[-1].stdout.readline()
-    if how == "late":
-        subprocess.run([program, "import", "--db", "t.db", "late.cg"], stdout=subprocess.DEVNULL, check=True)
 
 def kill(process, number):
-    if number == signal.SIGSTOP and times > 0 and how != "late":
+    if number == signal.SIGSTOP and times > 0 and how in ("gone", "anew"):
         end(process)
     real_kill(process, number)
 
 def copy(source, *words):
     print(len(holders()), [it for it in holders() if held["state_of"](it) != {"T"}], file=sys.stderr)
-    if how == "late" and times > 0 and source.name.endswith("-wal"):
+    if how in ("late", "both") and times > 0 and source.name.endswith("-wal"):
         end(holders()[0])
     real_copy(source, *words)
 
@@ -153,7 +153,8 @@ def cases_of_a_changing_server(tried):
     programs are all halted, and a copy of another is thrown away."""
     script = os.path.join(TOP, "share", "scripts", NAME)
     tried.write("t.db", tried.read("s.db"))
-    tried.write("late.cg", "events: Ir\nfn=late\n1 7\n")
+    for name in ("late", "both"):
+        tried.write(f"{name}.cg", f"events: Ir\nfn={name}\n1 7\n")
 
     def ran_with(times, how):
         with tried.serving("t.db"):
@@ -164,6 +165,7 @@ def cases_of_a_changing_server(tried):
     status, out, err, left = ran_with(9, "anew")
     tried.expect("another each time", (status, out, b"try again" in err, left), (2, b"", True, 0))
     tried.expect("a server that ends while it is copied, and an import", ran_with(1, "late"), (0, b"Z: 2 runs\n", b"1 []\n1 []\n", 2))
+    tried.expect("and another server", ran_with(1, "both"), (0, b"Z: 3 runs\n", b"1 []\n" * 4, 2))
 
 
 def as_nobody(tried, *words):
