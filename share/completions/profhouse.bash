@@ -5,14 +5,15 @@
 # store first; where it is missing, or the store is served or not there, nothing is offered.
 _profhouse_held()
 {
-    local at db=
+    local at db= limit=()
     for ((at = 2; at < COMP_CWORD; at++)); do
         [[ ${COMP_WORDS[at]} == --db ]] && db=${COMP_WORDS[at + 1]}
         [[ $db == = ]] && db=${COMP_WORDS[at + 2]}
     done
     db=${db/#\~\//$HOME/} db=${db/#-/./-}
-    # (in a stranger's file a view may stand in place of a table, and edit() in it would run a command)
-    [[ -s $db ]] && sqlite3 -init /dev/null -batch -readonly -cmd 'PRAGMA trusted_schema = OFF' "$db" "$1" 2>/dev/null
+    # (in a stranger's file a view may stand in place of a table: edit() in it would run a command, and it may have no end)
+    type -P timeout >/dev/null && limit=(timeout 2)
+    [[ -s $db ]] && ${limit[@]+"${limit[@]}"} sqlite3 -init /dev/null -batch -readonly -cmd 'PRAGMA trusted_schema = OFF' "$db" "$1" 2>/dev/null
 }
 
 _profhouse()

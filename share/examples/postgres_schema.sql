@@ -16,7 +16,8 @@ CREATE TABLE profhouse_run (
 );
 
 -- Names may be longer than a key of a B-tree can be, so equal ones are kept out by a hash and a comparison. A control
--- code of a name, and a byte that is no UTF-8, is \x and two digits, and a backslash is doubled.
+-- code of ASCII in a name, and a byte that is no UTF-8, is \x and two digits; any other character that cannot be seen is
+-- \u and four, or \U and eight; and a backslash is doubled.
 CREATE TABLE profhouse_name (
     id    bigint GENERATED ALWAYS AS IDENTITY PRIMARY KEY,
     name  text NOT NULL,

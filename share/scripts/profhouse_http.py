@@ -26,9 +26,14 @@ AWAY = (502, 503, 504)
 REQUESTS = 1000000
 # What prctl takes for "a signal where the parent ends".
 PR_SET_PDEATHSIG = 1
-# What an answer may have, which is held in memory; and so much of one that is not understood is said.
-LONGEST_ANSWER = 1 << 31
+# What an answer and an export may have, which is held in memory; and so much of one that is not understood is said.
+LONGEST_ANSWER = 1 << 26
+LONGEST_EXPORT = 1 << 31
 LONGEST_SAID = 2000
+# What may be as long as a profile or a source.
+EXPORTS = ("/csv", "/folded", "/annotate")
+# So many bytes of a request's body take a second more.
+SLOWEST = 1 << 17
 
 # What the lines of answers are. A report doubles the backslash of a name, and has a control code as \x and two digits.
 NUMBER = rb"[1-9][0-9]{0,9}"
@@ -72,13 +77,27 @@ def pieces_of(file):
         yield piece
 
 
-def whole(answer):
+@contextlib.contextmanager
+def ended_within(seconds):
+    """Ends what takes longer, however often something comes meanwhile."""
+    def over(*_):
+        raise TimeoutError(f"it took more than {seconds} s")
+    before = signal.signal(signal.SIGALRM, over)
+    signal.setitimer(signal.ITIMER_REAL, seconds)
+    try:
+        yield
+    finally:
+        signal.setitimer(signal.ITIMER_REAL, 0)
+        signal.signal(signal.SIGALRM, before)
+
+
+def whole(answer, most):
     """The body of an answer."""
     body = bytearray()
     while piece := answer.read(PIECE):
         body += piece
-        if len(body) > LONGEST_ANSWER:
-            raise Fault(f"the answer has more than {LONGEST_ANSWER:,} bytes")
+        if len(body) > most:
+            raise Fault(f"the answer has more than {most:,} bytes")
     if answer.length:
         raise http.client.IncompleteRead(b"", answer.length)
     return bytes(body)
@@ -123,16 +142,17 @@ class Server:
             raise Lost(reason_of(error), sent=False) from error
         return connection
 
-    def once(self, method, target, body):
+    def once(self, method, target, body, most):
         """The answer to one request: its code, its kind, its text, and where it sends the client."""
-        with contextlib.closing(self.connected()) as connection:
+        seconds = self.timeout + (0 if body is None else os.fstat(body.fileno()).st_size // SLOWEST)
+        with ended_within(seconds), contextlib.closing(self.connected()) as connection:
             try:
                 with contextlib.suppress(BrokenPipeError, ConnectionResetError):
                     # A file with a fault may be answered before all of it was sent: so the answer is read anyway.
                     connection.request(method, target, None if body is None else pieces_of(body), self.fields(body))
                 answer = connection.getresponse()
                 kind = answer.getheader("Content-Type", "").partition(";")[0].strip()
-                return answer.status, kind, whole(answer), answer.getheader("Location", "")
+                return answer.status, kind, whole(answer, most), answer.getheader("Location", "")
             except (OSError, http.client.HTTPException) as error:
                 raise Lost(reason_of(error), sent=True) from error
 
@@ -159,10 +179,11 @@ class Server:
         """
         pairs = "&".join(f"{name}={encoded(value)}" for name, value in query)
         target = self.path + path + ("?" + pairs if pairs else "")
+        most = LONGEST_EXPORT if path in EXPORTS else LONGEST_ANSWER
         until, pause, told = time.monotonic() + self.wait, 0.1, False
         while True:
             try:
-                return self.judged(*self.once(method, target, body))
+                return self.judged(*self.once(method, target, body, most))
             except Lost as lost:
                 if lost.sent and not repeatable:
                     raise Fault(f"the answer of {self.shown} was lost ({lost}): it may be done or not") from lost

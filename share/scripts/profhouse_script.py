@@ -8,10 +8,10 @@ import re
 import signal
 import sys
 
-# Characters that a terminal obeys, that change the order of those around them, or that cannot be seen; and what Python
-# has for a byte that is no UTF-8. share/web/texts.js has the same ones.
-HIDDEN = re.compile("[\0-\x1f\x7f-\x9f\xad\u034f\u061c\u115f\u1160\u17b4\u17b5\u180b-\u180f\u200b-\u200f\u2028-\u202e\u2060-\u206f"
-                    "\u3164\ud800-\udfff\ufe00-\ufe0f\ufeff\uffa0\ufff0-\ufffb\U00013430-\U0001343f\U0001bca0-\U0001bca3\U0001d173-\U0001d17a"
+# Characters that a terminal obeys, that change the order of those around them, or that cannot be seen, as all blanks but
+# U+0020; and what Python has for a byte that is no UTF-8. share/web/texts.js has the same ones.
+HIDDEN = re.compile("[\0-\x1f\x7f-\xa0\xad\u034f\u061c\u115f\u1160\u1680\u17b4\u17b5\u180b-\u180f\u2000-\u200f\u2028-\u202f\u205f-\u206f"
+                    "\u2800\u3000\u3164\ud800-\udfff\ufe00-\ufe0f\ufeff\uffa0\ufff0-\ufffb\U00013430-\U0001343f\U0001bca0-\U0001bca3\U0001d173-\U0001d17a"
                     "\U000e0000-\U000e0fff]")
 
 
@@ -24,11 +24,12 @@ class WordFault(Fault):
 
 
 def code(found):
-    """A hidden character as a backslash and its number."""
+    """A hidden character as a backslash and its number. A control code of ASCII and a byte that is no UTF-8 alone are \\x and
+    two digits: U+009B is \\u009b, so that it and the byte 9B are two."""
     number = ord(found[0])
     if 0xdc80 <= number <= 0xdcff:
-        number -= 0xdc00
-    return f"\\x{number:02x}" if number < 0x100 else f"\\u{number:04x}" if number < 0x10000 else f"\\U{number:08x}"
+        return f"\\x{number - 0xdc00:02x}"
+    return f"\\x{number:02x}" if number < 0x80 else f"\\u{number:04x}" if number < 0x10000 else f"\\U{number:08x}"
 
 
 def shown(words, kept=""):
@@ -59,7 +60,8 @@ def reason_of(error):
 
 def complain(name, why):
     """Says on the standard error what cannot be done. A line that begins with two blanks goes on with the one before."""
-    print("\n".join(shown(line) for line in f"{name}: {why}".split("\n")), file=sys.stderr)
+    if sys.stderr is not None:  # (where it is closed, print would take the standard output)
+        print("\n".join(shown(line) for line in f"{name}: {why}".split("\n")), file=sys.stderr)
 
 
 def run(name, main, fault=2):
@@ -67,9 +69,11 @@ def run(name, main, fault=2):
     def ended(number, _):
         sys.exit(128 + number)
     signal.signal(signal.SIGTERM, ended)
-    # (a name may have what the coding of the terminal has not)
-    sys.stdout.reconfigure(errors="backslashreplace")
     try:
+        if sys.stdout is None:
+            raise Fault("the standard output is closed")
+        # (a name may have what the coding of the terminal has not)
+        sys.stdout.reconfigure(errors="backslashreplace")
         status = main()
         sys.stdout.flush()
     except KeyboardInterrupt:

@@ -25,20 +25,27 @@ export function decoded(name) {
   }
 }
 
-// Characters that cannot be seen, or that change the order of those around them. share/scripts/profhouse_script.py has the
-// same ones, and writes them so.
-const HIDDEN = new RegExp("[\\0-\\x1f\\x7f-\\x9f\\xad\\u034f\\u061c\\u115f\\u1160\\u17b4\\u17b5\\u180b-\\u180f\\u200b-\\u200f"
-  + "\\u2028-\\u202e\\u2060-\\u206f\\u3164\\ufe00-\\ufe0f\\ufeff\\uffa0\\ufff0-\\ufffb"
+// Characters that cannot be seen, as all blanks but U+0020, or that change the order of those around them.
+// share/scripts/profhouse_script.py has the same ones, and writes them so.
+const HIDDEN = new RegExp("[\\0-\\x1f\\x7f-\\xa0\\xad\\u034f\\u061c\\u115f\\u1160\\u1680\\u17b4\\u17b5\\u180b-\\u180f\\u2000-\\u200f"
+  + "\\u2028-\\u202f\\u205f-\\u206f\\u2800\\u3000\\u3164\\ufe00-\\ufe0f\\ufeff\\uffa0\\ufff0-\\ufffb"
   + "\\u{13430}-\\u{1343f}\\u{1bca0}-\\u{1bca3}\\u{1d173}-\\u{1d17a}\\u{e0000}-\\u{e0fff}]", "gu");
 
-function code(it) {
+// A control code of ASCII, and a byte of a name that is no UTF-8, is \x and two digits; all else is \u and four, or \U and
+// eight, so that U+009B and the byte 9B are two.
+function code(it, least) {
   const number = it.codePointAt(0), digits = number.toString(16);
-  return number < 0x100 ? "\\x" + digits.padStart(2, "0") : number < 0x10000 ? "\\u" + digits.padStart(4, "0") : "\\U" + digits.padStart(8, "0");
+  return number < least ? "\\x" + digits.padStart(2, "0") : number < 0x10000 ? "\\u" + digits.padStart(4, "0") : "\\U" + digits.padStart(8, "0");
 }
 
-export const shown = name => decoded(name).replace(HIDDEN, code);
+function shownBut(kept, name) {
+  const text = decoded(name), least = text === name ? 0x100 : 0x80;
+  return text.replace(HIDDEN, it => it === kept ? it : code(it, least));
+}
 
-export const shownLine = line => decoded(line).replace(HIDDEN, it => it === "\t" ? it : code(it));
+export const shown = name => shownBut("", name);
+
+export const shownLine = line => shownBut("\t", line);
 
 // Reports double a backslash, and write a control code as \x and two digits.
 export const unescaped = printed => printed.includes("\\")

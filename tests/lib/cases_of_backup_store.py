@@ -25,6 +25,52 @@ sys.exit(done.status)
 """
 
 
+# Runs the script with a server that ends as soon as it is to be halted ("gone", or "anew" with another in its place), or
+# while its log is copied ("late", with an import behind it, or "both", with another too): once, or each time. Says at each copy of a file how many
+# programs have the store, and which of them are not halted.
+CHANGING = """import os, shutil, signal, subprocess, sys, time
+script, program, times, how = sys.argv[1], sys.argv[2], int(sys.argv[3]), sys.argv[4]
+sys.argv = [script, *sys.argv[5:]]
+sys.path.insert(0, os.path.dirname(script))
+real_kill, real_copy, begun, held = os.kill, shutil.copyfileobj, [], {}
+
+def holders():
+    return [it for it in held["holders_of"]("t.db") if it != os.getpid()]
+
+def end(process):
+    global times
+    times -= 1
+    real_kill(process, signal.SIGKILL)
+    while holders():
+        time.sleep(0.01)
+    if how in ("late", "both"):
+        subprocess.run([program, "import", "--db", "t.db", f"{how}.cg"], stdout=subprocess.DEVNULL, check=True)
+    if how in ("anew", "both"):
+        begun.append(subprocess.Popen([program, "serve", "--db", "t.db", "--port", "0", "--requests", "9"], stdout=subprocess.PIPE))
+        begun[-1].stdout.readline()
+
+def kill(process, number):
+    if number == signal.SIGSTOP and times > 0 and how in ("gone", "anew"):
+        end(process)
+    real_kill(process, number)
+
+def copy(source, *words):
+    print(len(holders()), [it for it in holders() if held["state_of"](it) != {"T"}], file=sys.stderr)
+    if how in ("late", "both") and times > 0 and source.name.endswith("-wal"):
+        end(holders()[0])
+    real_copy(source, *words)
+
+os.kill, shutil.copyfileobj, held["__name__"] = kill, copy, "__main__"
+try:
+    with open(script, encoding="utf-8") as file:
+        exec(compile(file.read(), script, "exec"), held)
+finally:
+    for it in begun:
+        it.kill()
+        it.wait()
+"""
+
+
 def copies(tried, folder, name="s.db"):
     return sorted(it for it in os.listdir(tried.path(folder)) if it.startswith(f"{name}."))
 
@@ -51,6 +97,79 @@ def cases_at_rest(tried):
     tried.expect("others are left", held >= set(others), True)
     tried.expect("the newest three are kept", [it[5:13] for it in sorted(held - set(others))][0], "20200105")
     tried.expect("and no more", len(held - set(others)), 3)
+
+
+def cases_of_what_is_removed(tried):
+    """The new copy stays, whatever else is there; what is not ours, and what cannot be removed, stays too."""
+    os.mkdir(tried.path("later"))
+    ahead = [f"s.db.999912{day}T000000Z" for day in range(10, 24)]
+    for name in ahead:
+        tried.write(f"later/{name}", "")
+    ran = tried.script(NAME, "--db", "s.db", "later")
+    new = ran.out.decode().partition(":")[0]
+    tried.expect("copies of a wrong clock", (ran.status, ran.err, copies(tried, "later")), (0, b"", sorted([new, "s.db.origin", *ahead[1:]])))
+    os.mkdir(tried.path("odd"))
+    for name in ("s.db.20200101T000000Z", "s.db.20200102T000000Z", "s.db.20200101T000000Z-wal/x"):
+        os.makedirs(os.path.dirname(tried.path(f"odd/{name}")), exist_ok=True)
+        tried.write(f"odd/{name}", "")
+    ran = tried.script(NAME, "--db", "s.db", "odd", "--keep", "1")
+    new = ran.out.decode().partition(":")[0]
+    tried.expect("what cannot be removed", (ran.status, ran.err.startswith(b"backup_store: an old copy cannot be removed: "), copies(tried, "odd")),
+                 (0, True, ["s.db.20200101T000000Z-wal", new, "s.db.origin"]))
+    if os.geteuid() != 0:
+        print("backup_store: files of another user are skipped, since this is not root")
+        return
+    os.chmod(tried.folder, 0o755)
+    os.mkdir(tried.path("sticky"))
+    os.chmod(tried.path("sticky"), 0o1777)
+    for name, owner in (("s.db.20200101T000000Z", 0), ("s.db.20200102T000000Z", NOBODY), ("s.db.99991231T000000Z", 0)):
+        os.chown(tried.write(f"sticky/{name}", ""), owner, owner)
+    os.mkdir(tried.path("of_nobody"))
+    for it in (tried.path("of_nobody"), tried.write("of_nobody/s.db", tried.read("s.db"))):
+        os.chown(it, NOBODY, NOBODY)
+    ran = as_nobody(tried, "--db", "of_nobody/s.db", "sticky", "--keep", "1")
+    new = ran.out.decode().partition(":")[0]
+    tried.expect("old files of another user", (ran.status, ran.err, copies(tried, "sticky")),
+                 (0, b"", ["s.db.20200101T000000Z", new, "s.db.99991231T000000Z", "s.db.origin"]))
+
+
+def cases_of_owners(tried):
+    """Root gives a copy the owner of its store, and removes such copies and its own ones."""
+    if os.geteuid() != 0:
+        return
+    os.chown(tried.write("owned.db", tried.read("s.db"), 0o640), NOBODY, NOBODY)
+    os.mkdir(tried.path("owned"))
+    for day, owner in ((1, 0), (2, NOBODY), (3, NOBODY - 1)):
+        os.chown(tried.write(f"owned/owned.db.2020010{day}T000000Z", ""), owner, owner)
+    ran = tried.script(NAME, "--db", "owned.db", "owned", "--keep", "1")
+    new = ran.out.decode().partition(":")[0]
+    tried.expect("what root removes", copies(tried, "owned", "owned.db"), ["owned.db.20200103T000000Z", new, "owned.db.origin"])
+    has = os.stat(tried.path(f"owned/{new}"))
+    tried.expect("the owner of a copy", (has.st_uid, has.st_gid, has.st_mode & 0o7777), (NOBODY, NOBODY, 0o640))
+
+
+def cases_of_a_changing_server(tried):
+    """A server that ends before it is halted, or while it is copied, and one that takes its place: nothing is copied but a store whose
+    programs are all halted, and a copy of another is thrown away."""
+    script = os.path.join(TOP, "share", "scripts", NAME)
+    tried.write("t.db", tried.read("s.db"))
+    for name in ("late", "both"):
+        tried.write(f"{name}.cg", f"events: Ir\nfn={name}\n1 7\n")
+
+    def ran_with(times, how):
+        with tried.serving("t.db"):
+            ran = tried.run(sys.executable, "-c", CHANGING, script, tried.path("bin/profhouse"), str(times), how, "--db", "t.db", f"{how}{times}")
+        return ran.status, ran.out[-10:], ran.err, len(os.listdir(tried.path(f"{how}{times}")))
+    tried.expect("a server that ends before it is halted", ran_with(1, "gone"), (0, b"Z: 1 runs\n", b"", 2))
+    tried.expect("another in its place", ran_with(1, "anew"), (0, b"Z: 1 runs\n", b"1 []\n1 []\n", 2))
+    status, out, err, left = ran_with(9, "anew")
+    tried.expect("another each time", (status, out, b"try again" in err, left), (2, b"", True, 0))
+    tried.expect("a server that ends while it is copied, and an import", ran_with(1, "late"), (0, b"Z: 2 runs\n", b"1 []\n1 []\n", 2))
+    tried.expect("and another server", ran_with(1, "both"), (0, b"Z: 3 runs\n", b"1 []\n" * 4, 2))
+
+
+def as_nobody(tried, *words):
+    return tried.run(sys.executable, "-c", AS_NOBODY, os.path.join(TOP, "tests", "lib"), tried.folder, str(NOBODY), *words)
 
 
 def cases_of_refusals(tried):
@@ -154,7 +273,7 @@ def cases_of_another_user(tried):
 
     def asked():
         begun = time.monotonic()
-        ran = tried.run(sys.executable, "-c", AS_NOBODY, os.path.join(TOP, "tests", "lib"), tried.folder, str(NOBODY), "--db", "s.db", "theirs")
+        ran = as_nobody(tried, "--db", "s.db", "theirs")
         return ran, time.monotonic() - begun < 8
     with tried.serving("s.db") as address:
         os.chmod(tried.path("s.db-wal"), 0o666)
@@ -221,6 +340,9 @@ def cases_of_a_halt(tried):
 def cases(tried):
     tried.expect_help(NAME)
     cases_at_rest(tried)
+    cases_of_what_is_removed(tried)
+    cases_of_owners(tried)
+    cases_of_a_changing_server(tried)
     cases_of_refusals(tried)
     cases_of_rights(tried)
     cases_of_two_stores(tried)

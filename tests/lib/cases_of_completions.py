@@ -3,6 +3,7 @@ import contextlib
 import os
 import shutil
 import sqlite3
+import time
 
 from tried import TOP
 
@@ -41,6 +42,13 @@ def cases(tried):
         base.execute("CREATE TABLE derived(name)")
         base.commit()
     tried.expect("a view that runs a command", offered("by", "--db", "views.db", "--event", ""), ([], b""))
+    with contextlib.closing(sqlite3.connect(tried.path("endless.db"))) as base:
+        base.execute("CREATE VIEW run AS WITH RECURSIVE r(n) AS (SELECT 1 UNION ALL SELECT n FROM r) SELECT n AS run FROM r WHERE n = 0")
+        base.commit()
+    if shutil.which("timeout"):
+        begun = time.monotonic()
+        found = offered("csv", "--db", "endless.db", "--run", "")
+        tried.expect("a view without an end", (found, time.monotonic() - begun < 15), (([], b""), True))
     shutil.copy(tried.path("s.db"), tried.path("-s.db"))
     tried.expect("a store that looks like an option", offered("csv", "--db", "-s.db", "--group", "m"), (["main"], b""))
     with tried.serving("s.db"):

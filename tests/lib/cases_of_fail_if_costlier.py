@@ -1,9 +1,15 @@
 """share/scripts/fail_if_costlier: every limit, on a store and on a server."""
+import contextlib
 import http.server
 import os
 import shutil
+import socketserver
+import sys
 import threading
+import time
 from concurrent.futures import ThreadPoolExecutor
+
+from tried import SCRIPTS
 
 NAME = "fail_if_costlier"
 # The self costs of each run in Ir and Bcm. Run 1 is the baseline; what each costs more than it stands behind it.
@@ -108,6 +114,13 @@ def cases_of_stores(tried):
     tried.expect("it is opened once", tried.read("opened"), b"serve\n")
     with open("/dev/full", "wb") as full:
         tried.expect_refusal("a full output", tried.script(NAME, "s.db", "main", "2", "Ir", "20", out=full), b"No space", out=None)
+    closed = tried.run("sh", "-c", 'exec "$@" >&-', "run", sys.executable, os.path.join(SCRIPTS, NAME), "s.db", *words)
+    tried.expect_refusal("a closed output", closed, b"the standard output is closed")
+    os.mkdir(tried.path("without"))
+    tried.write("without/ssl.py", "raise ImportError('no ssl of this Python', name='_ssl')\n")
+    for name in ("fail_if_costlier", "markdown_difference", "postgres_load", "profhouse_remote"):
+        ran = tried.script(name, "--help", PYTHONPATH=tried.path("without"))
+        tried.expect(f"{name} without a module of Python", (ran.status, ran.err), (2, f"{name}: no ssl of this Python\n".encode()))
     os.mkdir(tried.path("alone"))
     shutil.copy(os.path.join(os.path.dirname(__file__), "..", "..", "share", "scripts", NAME), tried.path("alone"))
     tried.expect_refusal("without its module", tried.run("alone/" + NAME, "s.db", *words), b"profhouse_http.py")
@@ -157,8 +170,51 @@ def cases_of_servers(tried, address):
         other.shutdown()
 
 
+# Asks a server that sends a byte now and then, within a second; and one whose list and whose export are long.
+DEADLINE = """import sys
+sys.path.insert(0, sys.argv[1])
+import profhouse_http
+server = profhouse_http.Server(sys.argv[2], wait=0, timeout=1)
+profhouse_http.LONGEST_ANSWER, profhouse_http.LONGEST_EXPORT = 1000, 3000
+for path in ("/head", "/body", "/runs", "/csv", "/folded"):
+    try:
+        print(path, len(server.text(path)), flush=True)
+    except profhouse_http.Fault as fault:
+        print(path, str(fault).partition(": ")[2] or fault, flush=True)
+"""
+
+
+class Trickling(socketserver.BaseRequestHandler):
+    """Sends the head of an answer, or its body, byte by byte and without an end; or 2000 bytes at once."""
+
+    def handle(self):
+        path = self.request.recv(65536).split(b" ")[1]
+        head = b"HTTP/1.1 200 OK\r\nContent-Type: text/plain\r\n"
+        with contextlib.suppress(OSError):
+            if path not in (b"/head", b"/body"):
+                self.request.sendall(head + b"Content-Length: 2000\r\n\r\n" + b"x" * 2000)
+                return
+            self.request.sendall(head + (b"X: " if path == b"/head" else b"\r\n"))
+            for _ in range(200):
+                self.request.sendall(b"x")
+                time.sleep(0.1)
+
+
+def cases_of_deadlines(tried):
+    with socketserver.ThreadingTCPServer(("127.0.0.1", 0), Trickling) as server:
+        server.daemon_threads = True
+        threading.Thread(target=server.serve_forever, daemon=True).start()
+        begun = time.monotonic()
+        ran = tried.run(sys.executable, "-c", DEADLINE, SCRIPTS, f"http://127.0.0.1:{server.server_address[1]}")
+        tried.expect("a trickling server", (ran.status, ran.out.decode().splitlines()), (0, [
+            *(f"{it} it took more than 1 s" for it in ("/head", "/body")), "/runs the answer has more than 1,000 bytes", "/csv 2000", "/folded 2000"]))
+        tried.expect("it has an end", time.monotonic() - begun < 12, True)
+        server.shutdown()
+
+
 def cases(tried):
     tried.expect_help(NAME)
+    cases_of_deadlines(tried)
     make_store(tried)
     store = tried.read("s.db")
     cases_of_limits(tried, ("s.db",))

@@ -4,6 +4,7 @@ import os
 import pty
 import signal
 import sys
+import threading
 import traceback
 from collections import namedtuple
 
@@ -57,10 +58,13 @@ def run_here(name, words, folder, environment, files):
     os.chdir(folder)
     os.environ.clear()
     os.environ.update(environment)
-    tempfile.tempdir, profhouse_http.LONGEST_ANSWER = environment.get("TMPDIR"), LONGEST_ANSWER
+    tempfile.tempdir = environment.get("TMPDIR")
+    profhouse_http.LONGEST_ANSWER = profhouse_http.LONGEST_EXPORT = LONGEST_ANSWER
     sys.argv = [name, *map(os.fsdecode, words)]
-    signal.signal(signal.SIGALRM, late)
-    signal.alarm(SECONDS)
+    # (a script has the one timer of the system for its own requests)
+    signal.signal(signal.SIGUSR1, late)
+    timer = threading.Timer(SECONDS, os.kill, (os.getpid(), signal.SIGUSR1))
+    timer.start()
     status = 0
     try:
         exec(program(name), {"__name__": "__main__", "__file__": os.path.join(SCRIPTS, name)})  # pylint: disable=exec-used
@@ -69,7 +73,8 @@ def run_here(name, words, folder, environment, files):
     except BaseException:  # pylint: disable=broad-exception-caught
         traceback.print_exc()
         status = 99
-    signal.alarm(0)
+    timer.cancel()
+    timer.join()
     for file in (sys.stdout, sys.stderr):
         try:
             file.flush()
@@ -90,7 +95,7 @@ def child(user, *words):
 def kept(*words):
     """Runs a script in this process, which is then as it was before."""
     ends, streams = [os.dup(it) for it in range(3)], (sys.stdin, sys.stdout, sys.stderr)
-    before, folder, place, most = dict(os.environ), os.getcwd(), tempfile.tempdir, profhouse_http.LONGEST_ANSWER
+    before, folder, place, most = dict(os.environ), os.getcwd(), tempfile.tempdir, (profhouse_http.LONGEST_ANSWER, profhouse_http.LONGEST_EXPORT)
     try:
         return run_here(*words)
     finally:
@@ -101,7 +106,7 @@ def kept(*words):
         os.chdir(folder)
         os.environ.clear()
         os.environ.update(before)
-        tempfile.tempdir, profhouse_http.LONGEST_ANSWER = place, most
+        tempfile.tempdir, (profhouse_http.LONGEST_ANSWER, profhouse_http.LONGEST_EXPORT) = place, most
         for number in (signal.SIGTERM, signal.SIGHUP):
             signal.signal(number, signal.SIG_DFL)
 

@@ -19,13 +19,14 @@ MARKUP = ["|x|", "a\u202eb", "\u009b31mred", "\u009d0;title\u009c", "\u200bnothi
           "<img src=x onerror=alert(1)>", "<script>alert(1)</script>", "[x](javascript:alert(1))", "![x](http://e/x.png)", "``` x", "`", "``|`",
           "~~~", "@everyone #1", "**b** _i_", "]]>", "&lt;b&gt;", "=HYPERLINK(\"http://e\")", "+1+cmd|' /C calc'!A0", "-1", "@SUM(1)",
           "::set-output name=x::1", "##[set-output name=x]1", "caf\u00e9", "\U0001f525", "\u05d0\u05d1", "a;b", "$HOME", "x" * 3000, "%0a", "#", ":", "a:b:c",
-          "\u034f", "\u3164", "\U0001d173", "\U00013430", "\u180e"]
+          "\u034f", "\u3164", "\U0001d173", "\U00013430", "\u180e",
+          "a\u00a0b", "a\u1680b", "a\u2003b", "a\u202fb", "a\u205fb", "a\u3000b", "a\u2800b"]
 CONTROLS = ["\x1b[2J", "\x1b]0;title\x07", "\x07", "\x08\x08x", "\r", "\x00", "\x7f", "a\rb", "\x0e", "\x1bc", "\n", "\n\n", "\t", "1\n2 3"]
 
 
 def is_hidden(sign):
     kind = unicodedata.category(sign)
-    return kind in ("Cc", "Zl", "Zp", "Cs") or kind == "Cf" and ord(sign) not in SEEN
+    return kind in ("Cc", "Zl", "Zp", "Cs") or kind == "Zs" and sign != " " or kind == "Cf" and ord(sign) not in SEEN
 
 
 def hidden_in(text, kept="\n"):
@@ -43,9 +44,9 @@ def visible(text):
     """A text as it has to be shown, but for what cannot be seen for another reason than that it is hidden."""
     def one(sign):
         number = ord(sign)
-        if not is_hidden(sign) and sign not in "\u034f\u3164":
+        if not is_hidden(sign) and sign not in "\u034f\u2800\u3164":
             return sign
-        return f"\\x{number:02x}" if number < 256 else f"\\u{number:04x}" if number < 65536 else f"\\U{number:08x}"
+        return f"\\x{number:02x}" if number < 128 else f"\\u{number:04x}" if number < 65536 else f"\\U{number:08x}"
     return "".join(map(one, text))
 
 

@@ -293,7 +293,7 @@ def asked_oddly(port, word):
         peer.sendall(b"GET /x" + word + b" HTTP/1.1\r\nHost: 127.0.0.1:%d\r\nConnection: close\r\n\r\n" % port)
         peer.shutdown(socket.SHUT_WR)
         came = b"".join(iter(lambda: peer.recv(65536), b""))
-    return None if re.match(rb"(HTTP/1.1 4\d\d |$)", came) and not hidden_in(came, "\r\n") else f"profhouse_web: {word} is answered by {came[:800]}"
+    return None if re.match(rb"HTTP/1.1 4\d\d ", came) and not hidden_in(came, "\r\n") else f"profhouse_web: {word} is answered by {came[:800]}"
 
 
 def results_of_page(seed):

@@ -16,6 +16,8 @@ from tried import DISK
 COUNT = 200
 PIECES = [it for it in COMMANDS + MARKUP + CONTROLS if "\n" not in it]
 ODD = [b"\xe9", b"\xc2\x9b31m", b"\xe2\x80\xae", b"\xff\xfe", b"\xed\xa0\x80", b"\\", b"\\|", b"``", b"\x1b[8m", b"\xf3\xa0\x81\x81", b"\r", b"\x00"]
+# A byte that is no UTF-8, and the character of its number: two names.
+TWINS = [b"twin\x9b", b"twin\xc2\x9b", b"twin\xad", b"twin\xc2\xad"]
 LONGEST = 160
 
 
@@ -47,7 +49,7 @@ class Stored:
     def __init__(self, tried, seed):
         self.tried, self.mark = tried, tried.path("mark")
         chance = random.Random(f"{seed} names")
-        self.names = list(names_of(chance, self.mark))
+        self.names = [*names_of(chance, self.mark), *TWINS]
         self.shown = [as_shown(it) for it in self.names]
         # (the label of a run is its path, without control codes)
         label = "run \u202e|`\u009b31m\u2066$(touch mark)`\U000e0041.cg"
@@ -95,7 +97,8 @@ class Stored:
     def of_psql(self, done):
         fields = {field for _, rows, _ in noted(self.tried.folder) for row in rows for field in row}
         labels = [word for _, _, words in noted(self.tried.folder) for word in words if word.startswith(b"label=")]
-        return [*self.each("postgres_load", self.shown, fields, done), hidden_wrong("postgres_load", b"".join(labels), "")]
+        count = len({it for it in fields if it.startswith("twin")})
+        return [*self.each("postgres_load", self.shown, fields, done), None if count == len(TWINS) else f"postgres_load: {count} twins", hidden_wrong("postgres_load", b"".join(labels), "")]
 
     def of_callgrind(self, done):
         """The file that is written has the names as they are, and no other line for them."""
