@@ -53,7 +53,7 @@ at_place (first ∷ names) name n h = elim (cases_Bool (bytes_eq name first)) [
 ]
 
 -- the first of distinct names is not among the others
-first-apart : (first : List ℕ) (names : List (List ℕ)) → are_distinct (first ∷ names) ≡ true → (list_any (bytes_eq first) names ≡ false) × (are_distinct names ≡ true)
+pub first-apart : (first : List ℕ) (names : List (List ℕ)) → are_distinct (first ∷ names) ≡ true → (list_any (bytes_eq first) names ≡ false) × (are_distinct names ≡ true)
 first-apart first names h =
     let parts = and_parts (not (list_any (bytes_eq first) names)) (are_distinct names) h in
     (not-true (list_any (bytes_eq first) names) parts.0, parts.1)

@@ -1,5 +1,6 @@
 pub mod Above
 pub mod Naming
+pub mod Hashes
 pub mod Numbered
 pub mod Admit
 pub mod Merging

@@ -7,6 +7,8 @@ mod call_sums;
 mod file_rows;
 // Which numbers the names of the stacks before had.
 mod guesses;
+// Numbers that tell most names apart (specs/Hashes.antt).
+mod hashes;
 // What reports add costs up by: object, file, function, line or thread.
 mod keys;
 // Laws: what rows sum to is what the records sum to.

@@ -9,6 +9,7 @@ ghost use Rattle.cost_rows.specs.Stacks.{bytes_cmp};
 ghost use Rattle.cost_rows.specs.Totals.{stack_total};
 ghost use Rattle.cost_rows.specs.Walks.{counted_stacks};
 
+use crate::hashes::ODD;
 use crate::slots::raise;
 use crate::walks::StackWalk;
 use std::alloc::{AllocError, Global};
@@ -17,9 +18,6 @@ use std::marker::Model;
 
 /// The longest stack that is kept beside its slot, in bytes.
 const LONGEST: usize = 1024;
-
-/// An odd number whose multiples are spread well: 2^64 by the golden ratio.
-const ODD: u64 = 0x9e37_79b9_7f4a_7c15;
 
 /// A stack that was found, and its slot.
 #[derive(Drop)]

@@ -1,29 +1,41 @@
-use Rattle.std.proofs.Common.{◌≡◌, ◌<◌, ◌^◌, ◌++◌, ◌∷◌, [], List, ℕ, length, Some, sym, ◌∙◌, ap, subst, arith}
+use Rattle.std.proofs.Common.{◌≡◌, ◌<◌, ◌^◌, ◌++◌, ◌∷◌, [], List, ℕ, None, Some, length, sym, ◌∙◌, ap, subst, arith}
+use Rattle.std.specs.BTreeMap.{BTreeMap}
+use Rattle.std.specs.declared.alloc.Global.{Global}
+use Rattle.std.specs.declared.vec.Vec.{Vec}
 use Rattle.cost_rows.specs.Naming.{place_of}
-use Rattle.cost_rows.specs.Numbered.{IsNumbered}
-use Rattle.cost_rows.proofs.NumberedLemmas.{IsNumbered-more}
+use Rattle.cost_rows.specs.Numbered.{IsFoundAt, FindsAllBut, IsNumbered}
+use Rattle.cost_rows.proofs.NumberedLemmas.{kept-numbered, one-numbered}
 use Rattle.cost_rows.proofs.NamingLemmas.{place-new, with-new}
 use Rattle.cost_rows.proofs.names.Names.add.Goals as goal
 
--- the name goes to the end
-pushed : (c : goal.In_default-insert) → c.push.new.self ≡ c.args.self.now ++ c.args.name.now ∷ []
-pushed c = c.in_ok-push.ensures.ok ∙ ap (λ ns. ns ++ c.args.name.now ∷ []) c.self.view_is
+pub invariant_of-self : goal.invariant_of-self
+invariant_of-self c =
+    let absent : place_of c.args.name.now c.self.inside.names ≡ None = ap (place_of c.args.name.now) c.self.view_is ∙ c.requires.new in
+    kept-numbered c.self.inside.names c.args.name.now c.self.inside.hashes c.self.inside.others c.index.new.hashes c.index.new.others c.self.invariant absent c.index.ensures.kept
 
-last : (c : goal.In_default-insert) → c.in-Ok.number ≡ length c.args.self.now
-last c = c.in-Ok.ensures.1 ∙ c.len.ensures.len
+pub invariant_of-self-in_err-push : goal.invariant_of-self-in_err-push
+invariant_of-self-in_err-push c =
+    let absent : place_of c.args.name.now c.self.inside.names ≡ None = ap (place_of c.args.name.now) c.self.view_is ∙ c.requires.new in
+    subst (λ names. IsNumbered names c.index.new.hashes c.index.new.others) (sym c.in_err-push.ensures.err)
+    (kept-numbered c.self.inside.names c.args.name.now c.self.inside.hashes c.self.inside.others c.index.new.hashes c.index.new.others c.self.invariant absent c.index.ensures.kept)
 
-pub invariant_of-self-in_default-insert : goal.invariant_of-self-in_default-insert
-invariant_of-self-in_default-insert c =
-    let P : List (List ℕ) → Type 0 = λ ns. IsNumbered ns c.self.inside.numbers in
-    let is : IsNumbered c.args.self.now c.self.inside.numbers = subst P c.self.view_is c.self.invariant in
-    let small : c.in-Ok.number < 2 ^ 32 = omega (arith, c.in-Ok.ensures.0, c.in-Ok.ensures.1) in
-    let Q : List (List ℕ) → Type 0 = λ ns. IsNumbered ns c.insert.new.self in
-    subst Q (sym (pushed c))
-    (IsNumbered-more c.args.self.now c.args.name.now c.self.inside.numbers c.insert.new.self c.in_ok-key.key c.in-Ok.number is c.requires
-    (c.in_ok-key.ensures.items_if_clones_equal (λ x y e. e)) (last c) small c.in_default-insert.ensures.entries)
+pub invariant_of-self-2 : goal.invariant_of-self-2
+invariant_of-self-2 c =
+    let name : List ℕ = c.args.name.now in
+    let absent : place_of name c.self.inside.names ≡ None = ap (place_of name) c.self.view_is ∙ c.requires.new in
+    let small : length c.self.inside.names < 2 ^ 32 = omega (arith, ap length c.self.view_is, c.len.ensures.len, c.in-Ok.ensures.0, c.in-Ok.ensures.1) in
+    let last : c.in-Ok.number ≡ length c.self.inside.names = omega (arith, ap length c.self.view_is, c.len.ensures.len, c.in-Ok.ensures.1) in
+    let found : IsFoundAt name (length c.self.inside.names) c.index.new.hashes c.index.new.others = subst (λ n. IsFoundAt name n c.index.new.hashes c.index.new.others) last c.in_ok-index.ensures.found in
+    subst (λ names. IsNumbered names c.index.new.hashes c.index.new.others) (sym c.in_ok-push.ensures.ok)
+    (one-numbered c.self.inside.names name c.index.new.hashes c.index.new.others
+    (kept-numbered c.self.inside.names name c.self.inside.hashes c.self.inside.others c.index.new.hashes c.index.new.others c.self.invariant absent c.index.ensures.kept)
+    absent small found)
 
 pub returns : goal.returns
-returns c = (
-  ap (place_of c.args.name.now) (pushed c) ∙ place-new c.args.self.now c.args.name.now c.requires ∙ ap Some (sym (last c)),
-  pushed c ∙ sym (with-new c.args.self.now c.args.name.now c.requires),
-)
+returns c =
+    let name : List ℕ = c.args.name.now in
+    let pushed : c.push.new.self ≡ c.args.self.now ++ name ∷ [] = c.in_ok-push.ensures.ok ∙ ap (λ ns. ns ++ name ∷ []) c.self.view_is in
+    let last : length c.args.self.now ≡ c.in-Ok.number = omega (arith, c.len.ensures.len, c.in-Ok.ensures.1) in (
+      ap (place_of name) pushed ∙ place-new c.args.self.now name c.requires.new ∙ ap Some last,
+      pushed ∙ sym (with-new c.args.self.now name c.requires.new),
+    )

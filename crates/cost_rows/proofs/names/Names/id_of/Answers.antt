@@ -6,7 +6,7 @@ use Rattle.cost_rows.proofs.names.Names.id_of.Goals as goal
 
 pub returns-in-Some-clause-number : goal.returns-in-Some-clause-number
 returns-in-Some-clause-number c =
-    let found : place_of c.args.name.now c.args.self.now ≡ Some c.in-Some.number = sym c.find.ensures ∙ c.in-Some.is in
+    let found : place_of c.args.name.now c.args.self.now ≡ Some c.in-Some.number = sym c.find_by.ensures ∙ c.in-Some.is in
     (found, sym (with-held c.args.self.now c.args.name.now c.in-Some.number found))
 
 pub returns-clause-distinct : goal.returns-clause-distinct
