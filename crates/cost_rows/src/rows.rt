@@ -32,7 +32,7 @@ pub struct CallEdge<N, C> {
     pub called_function: N,
     /// How many calls there were, below 2^127.
     pub count: u128,
-    /// The sum of each event's inclusive costs, by column, each below 2^127.
+    /// The sum of each event's inclusive costs, by column, each below 2^127. A column that is absent is 0.
     pub costs: C,
 }
 

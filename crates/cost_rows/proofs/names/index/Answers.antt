@@ -1,4 +1,3 @@
-use Rattle.std.proofs.Common.{◌≡◌}
 use Rattle.cost_rows.proofs.NumberedLemmas.{name-found, name-kept}
 use Rattle.cost_rows.proofs.names.index.Goals as goal
 

@@ -1,4 +1,4 @@
-use Rattle.std.proofs.Common.{◌≡◌, ℕ, ◌<◌, Bool, true, false, List, [], ◌∷◌, ◌++◌, nat_eq, refl, sym, ap, ◌∙◌, subst, arith}
+use Rattle.std.proofs.Common.{◌≡◌, [], ◌∷◌, ◌++◌, sym, ap, ◌∙◌, arith}
 use Rattle.cost_rows.specs.Trimmed.{trimmed}
 use Rattle.cost_rows.proofs.TrimmedLemmas.{not_zero, trimmed-some, trimmed-zero}
 use Rattle.cost_rows.proofs.trimmed.trimmed.Goals as goal

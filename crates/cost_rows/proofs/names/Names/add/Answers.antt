@@ -1,9 +1,6 @@
 use Rattle.std.proofs.Common.{◌≡◌, ◌<◌, ◌^◌, ◌++◌, ◌∷◌, [], List, ℕ, None, Some, length, sym, ◌∙◌, ap, subst, arith}
-use Rattle.std.specs.BTreeMap.{BTreeMap}
-use Rattle.std.specs.declared.alloc.Global.{Global}
-use Rattle.std.specs.declared.vec.Vec.{Vec}
 use Rattle.cost_rows.specs.Naming.{place_of}
-use Rattle.cost_rows.specs.Numbered.{IsFoundAt, FindsAllBut, IsNumbered}
+use Rattle.cost_rows.specs.Numbered.{IsFoundAt, IsNumbered}
 use Rattle.cost_rows.proofs.NumberedLemmas.{kept-numbered, one-numbered}
 use Rattle.cost_rows.proofs.NamingLemmas.{place-new, with-new}
 use Rattle.cost_rows.proofs.names.Names.add.Goals as goal

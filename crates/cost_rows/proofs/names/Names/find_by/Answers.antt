@@ -2,7 +2,6 @@ use Rattle.std.proofs.Common.{◌≡◌, ℕ, List, Option, ap, refl, subst, sym
 use Rattle.std.specs.Ordering.{nat_cmp}
 use Rattle.std.specs.Option.{option_copied}
 use Rattle.std.specs.BTreeMap.{BTreeMap, get}
-use Rattle.std.specs.declared.vec.Vec.{Vec}
 use Rattle.cost_rows.specs.Hashes.{hash_of}
 use Rattle.cost_rows.specs.Numbered.{IsNumbered}
 use Rattle.cost_rows.proofs.NumberedLemmas.{IsIfNamed, named-place, searched}

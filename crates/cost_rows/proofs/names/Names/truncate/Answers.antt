@@ -1,4 +1,4 @@
-use Rattle.std.proofs.Common.{List, ℕ, take, ap, subst, sym, ◌∙◌}
+use Rattle.std.proofs.Common.{subst, sym}
 use Rattle.cost_rows.specs.Numbered.{IsNumbered}
 use Rattle.cost_rows.proofs.NumberedLemmas.{first-numbered}
 use Rattle.cost_rows.proofs.names.Names.truncate.Goals as goal
