@@ -8,7 +8,8 @@ use crate::connection::Connection;
 use crate::logging::log;
 use crate::{Exchange, Room, answer};
 use histories::Limits;
-use http_exchange::{Place, routes};
+use http_exchange::{FIELD_LIMIT, HEAD_LIMIT, Place, RESPONSE_ROOM, routes};
+use httparse::spans::EMPTY_HEADER_SPAN;
 use matchit::Router;
 use run_stores::RunStore;
 use std::io;
@@ -83,7 +84,11 @@ pub fn serve_on<S: RunStore>(
     ensures limits { warehouse.new.limits ≡ warehouse.old.limits }
     ensures served { IsFaithful S.StoreState warehouse.new.store → HasServed S.StoreState warehouse.old.limits requests warehouse.old.store warehouse.new.store }
 {
-    let mut room = Room::EMPTY;
+    let mut room = Room {
+        head: [0u8; HEAD_LIMIT],
+        fields: [EMPTY_HEADER_SPAN; FIELD_LIMIT],
+        response: [0u8; RESPONSE_ROOM],
+    };
     'clients: for _client in 0..requests {
         let Ok(client) = next_client(rt, listener) else {
             return false;
