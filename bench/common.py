@@ -76,11 +76,17 @@ def script(name):
     return module
 
 
+COUNTING = ["valgrind", "--tool=cachegrind", "--cache-sim=no", "--cachegrind-out-file=/dev/null"]
+
+
+def count_told(text):
+    """How many instructions a command took, by what valgrind said of it."""
+    return int(re.search(r"I\s+refs:\s+([\d,]+)", text)[1].replace(",", ""))
+
+
 def counted(command):
     """How many instructions a command takes."""
-    words = ["valgrind", "--tool=cachegrind", "--cache-sim=no", "--cachegrind-out-file=/dev/null", *command]
-    told = subprocess.run(words, check=True, capture_output=True, text=True).stderr
-    return int(re.search(r"I\s+refs:\s+([\d,]+)", told)[1].replace(",", ""))
+    return count_told(subprocess.run([*COUNTING, *command], check=True, capture_output=True, text=True).stderr)
 
 
 def rust_twin(source, *options, name=None):

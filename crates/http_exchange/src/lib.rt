@@ -47,6 +47,6 @@ pub use receiving::{HeadEnd, read_head};
 pub use requests::{Request, SOURCE_LIMIT, read_request};
 pub use responses::{RESPONSE_HEAD_ROOM, put_head};
 pub use routing::routes;
-pub use sending::{send, write_all};
+pub use sending::{RESPONSE_ROOM, send, write_all};
 pub use statuses::Status;
 pub use streams::{Stream, StreamFault};

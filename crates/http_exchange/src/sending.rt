@@ -7,7 +7,7 @@ use crate::streams::Stream;
 use crate::{Status, put_head};
 
 /// Room for the head of a response, and for the front of its body; most responses are written at once.
-const ROOM: usize = 4096;
+pub const RESPONSE_ROOM: usize = 4096;
 
 /// Writes these bytes, and says whether they all went.
 pub fn write_all<T: Stream>(stream: &mut T, bytes: &[u8]) -> bool
@@ -51,13 +51,19 @@ fn put_body(room: &mut [u8], at: usize, body: &[u8]) -> usize
 }
 
 /// Writes a response, and says whether all of it went; `allow` is the text of the field Allow, empty
-/// where there is none. Takes no memory.
-pub fn send<T: Stream>(stream: &mut T, status: Status, allow: &str, body: &[u8]) -> bool
+/// where there is none. Its head and the front of its body stand in `room`, whatever that held before. Takes no
+/// memory.
+pub fn send<T: Stream>(
+    stream: &mut T,
+    room: &mut [u8; RESPONSE_ROOM],
+    status: Status,
+    allow: &str,
+    body: &[u8],
+) -> bool
     requires { length allow.now ≤ 32 }
     ensures { (writes : List Written) × Writes T.writes stream.old writes stream.new × WentAs result (response_text status allow.now body.now) writes }
 {
-    let mut room = [0u8; ROOM];
-    let at = put_head(&mut room, status, allow, body.len());
-    let end = put_body(&mut room, at, body);
+    let at = put_head(room, status, allow, body.len());
+    let end = put_body(room, at, body);
     write_two(stream, &room[..end], &body[end - at..])
 }

@@ -2,7 +2,7 @@
 // away, does not stop the others.
 ghost use Rattle.std.specs.Io.{ReadsAtMost, WritesAtMost};
 
-use http_exchange::{Stream, StreamFault};
+use http_exchange::{HEAD_LIMIT, Stream, StreamFault};
 use std::io;
 use std::io::{ErrorKind, Read, Write};
 use std::net::{Shutdown, TcpStream};
@@ -20,12 +20,10 @@ const PIECE: usize = 65_536;
 /// How many seconds bytes that nobody asked for are read before a connection is closed.
 const DRAIN_SECONDS: u64 = 1;
 
-/// How many bytes are read at a time then, and how often: as many as a file may have.
-const DRAIN_PIECE: usize = 16_384;
-
+/// How often bytes are read then, as many as a head may have at a time: as many as a file may have.
 const DRAIN_PIECES: usize = 65_536;
 
-/// How many bytes of a request are kept to tell which one it was.
+/// How many bytes of a request tell which one it was.
 const FIRST_BYTES: usize = 512;
 
 /// What is under way on a connection.
@@ -53,9 +51,8 @@ pub(crate) struct Connection<'a> {
     /// Until when bytes are waited for, and how many came or went since that was last put off.
     until: Instant,
     moved: usize,
-    /// The first bytes that were read, and how many.
-    first: [u8; FIRST_BYTES],
-    kept: usize,
+    /// How many bytes were read before the head was there.
+    came: usize,
 }
 
 impl<'a> Connection<'a> {
@@ -69,8 +66,7 @@ impl<'a> Connection<'a> {
             stage: Stage::Head,
             until,
             moved: 0,
-            first: [0u8; FIRST_BYTES],
-            kept: 0,
+            came: 0,
         })
     }
 
@@ -150,31 +146,23 @@ impl<'a> Connection<'a> {
         }
     }
 
-    /// Keeps the first bytes that were read. No guarantee: they are for a person who reads the log.
-    fn keep(&mut self, bytes: &[u8]) {
-        for (place, byte) in self.first.iter_mut().skip(self.kept).zip(bytes) {
-            *place = *byte;
-        }
-        self.kept = FIRST_BYTES.min(self.kept.saturating_add(bytes.len()));
-    }
-
-    /// The first line of what was read, as far as it was kept. No guarantee: as `keep`.
-    pub(crate) fn first_line(&self) -> &[u8] {
-        let kept = self.first.get(..self.kept).unwrap_or(b"");
-        let end = kept
+    /// The first line of the request whose head was read into `head`. No guarantee: it is for a person who reads
+    /// the log.
+    pub(crate) fn first_line<'b>(&self, head: &'b [u8]) -> &'b [u8] {
+        let first = head.get(..FIRST_BYTES.min(self.came)).unwrap_or(b"");
+        let end = first
             .iter()
             .position(|byte| *byte == b'\r' || *byte == b'\n');
-        kept.get(..end.unwrap_or(kept.len())).unwrap_or(b"")
+        first.get(..end.unwrap_or(first.len())).unwrap_or(b"")
     }
 
-    /// Reads away what the client still sends, for a while, so that it sees the response and no reset. No
-    /// guarantee: of what a client sends the checker knows nothing.
-    fn drain(&mut self) -> io::Result<()> {
+    /// Reads away what the client still sends, for a while, so that it sees the response and no reset; `piece` is
+    /// written over. No guarantee: of what a client sends the checker knows nothing.
+    fn drain(&mut self, piece: &mut [u8; HEAD_LIMIT]) -> io::Result<()> {
         self.stage = Stage::Head;
         self.put_off(DRAIN_SECONDS)?;
-        let mut piece = [0u8; DRAIN_PIECE];
         for _ in 0..DRAIN_PIECES {
-            if self.read_in_time(&mut piece)? == 0 {
+            if self.read_in_time(piece)? == 0 {
                 return Ok(());
             }
         }
@@ -183,11 +171,11 @@ impl<'a> Connection<'a> {
 
     /// Ends the connection. Where all of the request was wanted, only what is there already is read away.
     /// No guarantee: as `drain`.
-    pub(crate) fn close(self, was_wanted: bool) -> io::Result<()> {
+    pub(crate) fn close(self, was_wanted: bool, piece: &mut [u8; HEAD_LIMIT]) -> io::Result<()> {
         let mut connection = self;
         connection.socket.shutdown(Shutdown::Write)?;
         connection.socket.set_nonblocking(was_wanted)?;
-        connection.drain()
+        connection.drain(piece)
     }
 }
 
@@ -202,7 +190,9 @@ impl Stream for Connection<'_> {
     fn read(&mut self, buf: &mut [u8]) -> Result<usize, StreamFault> {
         match self.read_in_time(buf) {
             Ok(count) => {
-                self.keep(&buf[..count]);
+                if self.stage == Stage::Head {
+                    self.came = self.came.saturating_add(count);
+                }
                 Ok(count)
             }
             Err(_) => Err(StreamFault),

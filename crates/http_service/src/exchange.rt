@@ -16,14 +16,14 @@ ghost use Rattle.http_service.specs.Performed.{IsDoneOver};
 ghost use Rattle.http_service.specs.Tasks.{command_from_task};
 
 use crate::replies::{Exchange, Reply, send_failing, send_reply};
+use crate::rooms::Room;
 use crate::tasks::{Task, task_of};
 use cg_text::ListVec;
 use histories::{Answer, Selection};
 use http_exchange::{
-    Body, FIELD_LIMIT, Failing, HEAD_LIMIT, HeadEnd, Place, Stream, body_comes, read_head,
-    read_request,
+    Body, Failing, HeadEnd, Place, RESPONSE_ROOM, Stream, body_comes, read_head, read_request,
 };
-use httparse::spans::{EMPTY_HEADER_SPAN, HeaderSpan, RequestSpans};
+use httparse::spans::{HeaderSpan, RequestSpans};
 use matchit::Router;
 use profile_records::Kind;
 use run_stores::RunStore;
@@ -153,6 +153,7 @@ fn serve<T: Stream + Drop, S: RunStore>(
     bytes: &[u8],
     fields: &[HeaderSpan],
     spans: RequestSpans,
+    room: &mut [u8; RESPONSE_ROOM],
     stream: T,
 ) -> (Exchange, T)
     requires router { router.now ≡ spec.routes }
@@ -164,17 +165,18 @@ fn serve<T: Stream + Drop, S: RunStore>(
 {
     let (reply, stream) = reply_to(alloc, router, warehouse, bytes, fields, spans, stream);
     let mut stream = stream;
-    let exchange = send_reply(alloc, &mut stream, &reply);
+    let exchange = send_reply(alloc, &mut stream, room, &reply);
     (exchange, stream)
 }
 
 /// Reads a request from a stream, does its command over the warehouse, and sends the response; hands the
-/// stream back. The head of a request and that of its response stand on the stack, so they take no memory;
-/// the body of an import is handed to the warehouse as it is read. `router` is made by
-/// `http_exchange::routes` and may serve any number of exchanges.
+/// stream back. The head of a request and that of its response stand in `room`, whatever that held before, so they
+/// take no memory; the body of an import is handed to the warehouse as it is read. `router` is made by
+/// `http_exchange::routes`; both may serve any number of exchanges.
 pub fn answer<T: Stream + Drop, S: RunStore>(
     alloc: Global,
     router: &Router<Place>,
+    room: &mut Room,
     stream: T,
     warehouse: &mut Warehouse<S>,
 ) -> (Exchange, T)
@@ -184,23 +186,22 @@ pub fn answer<T: Stream + Drop, S: RunStore>(
         result.0 stream result.1 warehouse.old.store warehouse.new.store }
 {
     let mut stream = stream;
-    let mut buffer = [0u8; HEAD_LIMIT];
-    let mut fields = [EMPTY_HEADER_SPAN; FIELD_LIMIT];
-    match read_head(&mut stream, &mut buffer, &mut fields) {
+    match read_head(&mut stream, &mut room.head, &mut room.fields) {
         Ok((spans, filled)) => {
             stream.head_came();
             serve(
                 alloc,
                 router,
                 warehouse,
-                &buffer[..filled],
-                &fields,
+                &room.head[..filled],
+                &room.fields,
                 spans,
+                &mut room.response,
                 stream,
             )
         }
         Err(HeadEnd::Bad) => {
-            let exchange = send_failing(&mut stream, Failing::BadRequest);
+            let exchange = send_failing(&mut stream, &mut room.response, Failing::BadRequest);
             (exchange, stream)
         }
         Err(HeadEnd::Failed) => (Exchange::ReadFault, stream),

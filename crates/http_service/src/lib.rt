@@ -10,6 +10,8 @@ mod exchange;
 mod logging;
 // What is replied to a request, and how it is sent (specs/Replies.antt).
 mod replies;
+// Where the heads of requests and responses stand.
+mod rooms;
 // Clients are served, one after another (specs/Served.antt).
 mod serving;
 // What the warehouse is asked for a request (specs/Tasks.antt).
@@ -17,4 +19,5 @@ mod tasks;
 
 pub use exchange::answer;
 pub use replies::Exchange;
+pub use rooms::Room;
 pub use serving::{Service, serve, serve_on, serve_over};

@@ -6,7 +6,7 @@ ghost use Rattle.http_service.specs.Replies as spec;
 
 use answer_lines::line_of;
 use histories::{Answer, Refusal};
-use http_exchange::{Failing, Status, Stream, send};
+use http_exchange::{Failing, RESPONSE_ROOM, Status, Stream, send};
 use std::alloc::{AllocError, Global};
 
 /// What an exchange came to.
@@ -60,12 +60,18 @@ fn status_of(answer: &Answer) -> Status
 }
 
 /// Sends a response, whose body is of this status.
-fn send_as<T: Stream>(stream: &mut T, status: Status, allow: &str, body: &[u8]) -> Exchange
+fn send_as<T: Stream>(
+    stream: &mut T,
+    room: &mut [u8; RESPONSE_ROOM],
+    status: Status,
+    allow: &str,
+    body: &[u8],
+) -> Exchange
     requires { length allow.now ≤ 32 }
     ensures { (writes : List Written) × Writes T.writes stream.old writes stream.new
         × spec.IsSentAs status (response_text status allow.now body.now) result writes }
 {
-    if send(stream, status, allow, body) {
+    if send(stream, room, status, allow, body) {
         Exchange::Sent(status.code())
     } else {
         Exchange::WriteFault(status.code())
@@ -73,33 +79,47 @@ fn send_as<T: Stream>(stream: &mut T, status: Status, allow: &str, body: &[u8]) 
 }
 
 /// Sends the response of a check that failed. Takes no memory.
-pub(crate) fn send_failing<T: Stream>(stream: &mut T, failing: Failing) -> Exchange
+pub(crate) fn send_failing<T: Stream>(
+    stream: &mut T,
+    room: &mut [u8; RESPONSE_ROOM],
+    failing: Failing,
+) -> Exchange
     ensures { (writes : List Written) × Writes T.writes stream.old writes stream.new × spec.IsFailingSent failing result writes }
 {
     let body = failing.body().as_bytes();
-    send_as(stream, failing.status(), failing.allow(), body)
+    send_as(stream, room, failing.status(), failing.allow(), body)
 }
 
 /// Sends the response of an answer: a text from where it lies, since it may be long.
-fn send_answer<T: Stream>(alloc: Global, stream: &mut T, answer: &Answer) -> Exchange
+fn send_answer<T: Stream>(
+    alloc: Global,
+    stream: &mut T,
+    room: &mut [u8; RESPONSE_ROOM],
+    answer: &Answer,
+) -> Exchange
     ensures { (writes : List Written) × Writes T.writes stream.old writes stream.new × spec.IsReplySent (Reply.Answered answer.now) result writes }
 {
     let status = status_of(answer);
     if let Answer::Text(text) = answer {
-        return send_as(stream, status, "", text.as_slice());
+        return send_as(stream, room, status, "", text.as_slice());
     }
     match line_of(alloc, answer) {
-        Ok(line) => send_as(stream, status, "", line.as_slice()),
-        Err(AllocError) => send_failing(stream, Failing::NoMemory),
+        Ok(line) => send_as(stream, room, status, "", line.as_slice()),
+        Err(AllocError) => send_failing(stream, room, Failing::NoMemory),
     }
 }
 
 /// Sends the response of a reply.
-pub(crate) fn send_reply<T: Stream>(alloc: Global, stream: &mut T, reply: &Reply) -> Exchange
+pub(crate) fn send_reply<T: Stream>(
+    alloc: Global,
+    stream: &mut T,
+    room: &mut [u8; RESPONSE_ROOM],
+    reply: &Reply,
+) -> Exchange
     ensures { (writes : List Written) × Writes T.writes stream.old writes stream.new × spec.IsReplySent reply.now result writes }
 {
     match reply {
-        Reply::Failed(failing) => send_failing(stream, *failing),
-        Reply::Answered(answer) => send_answer(alloc, stream, answer),
+        Reply::Failed(failing) => send_failing(stream, room, *failing),
+        Reply::Answered(answer) => send_answer(alloc, stream, room, answer),
     }
 }

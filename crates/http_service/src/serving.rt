@@ -6,9 +6,10 @@ ghost use Rattle.http_service.specs.Served.{CameToServed, HasServed};
 
 use crate::connection::Connection;
 use crate::logging::log;
-use crate::{Exchange, answer};
+use crate::{Exchange, Room, answer};
 use histories::Limits;
-use http_exchange::{Place, routes};
+use http_exchange::{FIELD_LIMIT, HEAD_LIMIT, Place, RESPONSE_ROOM, routes};
+use httparse::spans::EMPTY_HEADER_SPAN;
 use matchit::Router;
 use run_stores::RunStore;
 use std::io;
@@ -49,6 +50,7 @@ fn serve_client<'a, S: RunStore>(
     rt: &'a HostRuntime,
     router: &Router<Place>,
     warehouse: &mut Warehouse<S>,
+    room: &mut Room,
     client: Option<(Connection<'a>, SocketAddr)>,
     is_logged: bool,
 )
@@ -59,13 +61,14 @@ fn serve_client<'a, S: RunStore>(
     let Some((connection, address)) = client else {
         return;
     };
-    let (exchange, connection) = answer(rt.alloc(), router, connection, warehouse);
+    let (exchange, connection) = answer(rt.alloc(), router, room, connection, warehouse);
     if is_logged {
         // A log that cannot be written stops no service.
-        let _logged = log(rt, address, connection.first_line(), exchange);
+        let _logged = log(rt, address, connection.first_line(&room.head), exchange);
     }
     // A request that was refused may have a body that nobody read.
-    let _closed = connection.close(matches!(exchange, Exchange::Sent(200 | 201)));
+    let was_wanted = matches!(exchange, Exchange::Sent(200 | 201));
+    let _closed = connection.close(was_wanted, &mut room.head);
 }
 
 /// Answers so many clients, one after another. False where one could not be accepted.
@@ -81,11 +84,16 @@ pub fn serve_on<S: RunStore>(
     ensures limits { warehouse.new.limits ≡ warehouse.old.limits }
     ensures served { IsFaithful S.StoreState warehouse.new.store → HasServed S.StoreState warehouse.old.limits requests warehouse.old.store warehouse.new.store }
 {
+    let mut room = Room {
+        head: [0u8; HEAD_LIMIT],
+        fields: [EMPTY_HEADER_SPAN; FIELD_LIMIT],
+        response: [0u8; RESPONSE_ROOM],
+    };
     'clients: for _client in 0..requests {
         let Ok(client) = next_client(rt, listener) else {
             return false;
         };
-        serve_client(rt, router, warehouse, client, is_logged);
+        serve_client(rt, router, warehouse, &mut room, client, is_logged);
     }
     true
 }

@@ -1,0 +1,14 @@
+// Where the heads of requests and responses stand.
+use http_exchange::{FIELD_LIMIT, HEAD_LIMIT, RESPONSE_ROOM};
+use httparse::spans::HeaderSpan;
+
+/// Room for the head of a request, for where its fields are, and for the head of its response. Whoever serves makes
+/// it once and lends it to one exchange after another: each reads only what it has written there itself, so nothing is
+/// cleared between two of them.
+#[derive(Drop)]
+pub struct Room {
+    /// The bytes that came with the head of the request, from the front.
+    pub head: [u8; HEAD_LIMIT],
+    pub fields: [HeaderSpan; FIELD_LIMIT],
+    pub response: [u8; RESPONSE_ROOM],
+}
