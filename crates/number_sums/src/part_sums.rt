@@ -76,7 +76,7 @@ fn raise(slots: &mut [PartSum], slot: usize, cost: u128)
     slots[slot].cost.0 += cost;
 }
 
-/// Gives a part that has none a slot, with a cost as its sum, and tells which. A refusal leaves all as it was.
+/// Gives a part that has none a slot, with a cost as its sum, and returns its place. A refusal leaves all as it was.
 fn put(
     places: &mut BTreeMap<NumberPart, usize>,
     slots: &mut Vec<PartSum>,

@@ -44,7 +44,7 @@ fn if_usable<D: Disk>(file: &PageFile<D>) -> Result<(), StoreError>
 }
 
 /// Puts a run that is held into a group that is held. Where it is in it nothing is written. `Store` where the group or
-/// the run is not held, the file failed, or it is at a limit; `Memory`. After an error `PageFile::undo` is due.
+/// the run is not held, the file failed, or it is at a limit; `Memory`. After an error call `PageFile::undo`.
 pub fn join<D: Disk>(
     file: &mut PageFile<D>,
     alloc: Global,
@@ -68,7 +68,7 @@ pub fn join<D: Disk>(
 }
 
 /// Makes a group with no member and no baseline. `Store` where there is a group of this name, the file failed, or it is
-/// at a limit; `Memory`. After an error `PageFile::undo` is due.
+/// at a limit; `Memory`. After an error call `PageFile::undo`.
 pub fn put_group<D: Disk>(
     file: &mut PageFile<D>,
     alloc: Global,
@@ -89,7 +89,7 @@ pub fn put_group<D: Disk>(
 }
 
 /// Takes a run out of a group. Where it is not in it nothing is written. `Store` where the file failed, it is at a
-/// limit, or a row of members is out of form; `Memory`. After an error `PageFile::undo` is due.
+/// limit, or a row of members is out of form; `Memory`. After an error call `PageFile::undo`.
 pub fn leave<D: Disk>(
     file: &mut PageFile<D>,
     alloc: Global,
@@ -111,7 +111,7 @@ pub fn leave<D: Disk>(
 
 /// Makes a run that is held the baseline of a group, in place of an older one. Where no group has this name nothing is
 /// written. `Store` where the run is not held, the file failed, it is at a limit, or a row of groups is out of form;
-/// `Memory`. After an error `PageFile::undo` is due.
+/// `Memory`. After an error call `PageFile::undo`.
 pub fn set_baseline<D: Disk>(
     file: &mut PageFile<D>,
     alloc: Global,
@@ -135,7 +135,7 @@ pub fn set_baseline<D: Disk>(
 }
 
 /// Drops a group with its members; the runs stay. `Store` where no group has this name, the file failed, it is at a
-/// limit, or a row of groups is out of form; `Memory`. After an error `PageFile::undo` is due.
+/// limit, or a row of groups is out of form; `Memory`. After an error call `PageFile::undo`.
 pub fn drop_group<D: Disk>(
     file: &mut PageFile<D>,
     alloc: Global,

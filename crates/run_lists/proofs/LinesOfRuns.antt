@@ -1,5 +1,5 @@
 -- The lines of one run, among lines in the order of the runs.
-use Rattle.std.proofs.Common.{◌≡◌, ◌==◌, ◌<◌, ◌≤◌, ℕ, zero, suc, Bool, true, false, ltb, leb, List, [], ◌∷◌, length, get_or, take, drop, filter, inl, inr, refl, sym, ap, ◌∙◌, arith}
+use Rattle.std.proofs.Common.{◌≡◌, ◌==◌, ◌<◌, ◌≤◌, ℕ, zero, suc, Bool, true, false, ltb, leb, List, [], ◌∷◌, length, get_or, take, drop, filter, inl, inr, refl, sym, ap, arith}
 use Rattle.std.proofs.lemmas.Bool.{cases_Bool}
 use Rattle.std.proofs.lemmas.Bool.Decides.{nat_tests}
 
@@ -9,8 +9,17 @@ below_other a b less = grind (arith, nat_tests)
 above_other : (a b : ℕ) → b < a → (a == b) ≡ false
 above_other a b less = grind (arith, nat_tests)
 
+of_same : (a b : ℕ) → a ≡ b → (a == b) ≡ true
+of_same a b same = grind (arith, nat_tests)
+
 pub below : (a b : ℕ) → ltb a b ≡ true → a < b
 below a b h = grind (arith, nat_tests)
+
+pub at_most : (a b : ℕ) → leb a b ≡ true → a ≤ b
+at_most a b h = grind (arith, nat_tests)
+
+pub at_least : (a b : ℕ) → ltb a b ≡ false → b ≤ a
+at_least a b h = grind (arith, nat_tests)
 
 pub above : (a b : ℕ) → leb a b ≡ false → b < a
 above a b h = grind (arith, nat_tests)
@@ -33,13 +42,21 @@ module _ {L : Type 0} (run_of : L → ℕ) (run : ℕ) where
       let first : is_of line ≡ false = above_other (run_of line) run (later 0 line (omega arith)) in
       rw first (none_of lines (λ k d within. later (suc k) d (omega (arith, within))))
 
-  -- and those of later runs at the end
-  pub left_out_behind : (lines : List L) (at : ℕ) → ((k : ℕ) (d : L) → at ≤ k → k < length lines → run < run_of (get_or lines k d)) → filter is_of (take at lines) ≡ filter is_of lines
-  left_out_behind lines zero later = sym (none_of lines (λ k d within. later k d (omega arith) within))
-  left_out_behind [] (suc at) later = refl
-  left_out_behind (line ∷ lines) (suc at) later =
-      let rest = left_out_behind lines at (λ k d high within. later (suc k) d (omega (arith, high)) (omega (arith, within))) in
+  -- those in front are all of the run, and those behind of later runs
+  pub front_alone : (lines : List L) (at : ℕ) → ((k : ℕ) (d : L) → k < at → k < length lines → run_of (get_or lines k d) ≡ run)
+      → ((k : ℕ) (d : L) → at ≤ k → k < length lines → run < run_of (get_or lines k d)) → take at lines ≡ filter is_of lines
+  front_alone lines zero same later = sym (none_of lines (λ k d within. later k d (omega arith) within))
+  front_alone [] (suc at) same later = refl
+  front_alone (line ∷ lines) (suc at) same later =
+      let first : is_of line ≡ true = of_same (run_of line) run (same 0 line (omega arith) (omega arith)) in
+      let rest = front_alone lines at (λ k d low within. same (suc k) d (omega (arith, low)) (omega (arith, within))) (λ k d high within. later (suc k) d (omega (arith, high)) (omega (arith, within))) in
+      rw first (ap (λ l. line ∷ l) rest)
+
+  -- what is left out once is left out twice
+  pub left_out_twice : (lines : List L) → filter is_of (filter is_of lines) ≡ filter is_of lines
+  left_out_twice [] = refl
+  left_out_twice (line ∷ lines) =
       elim (cases_Bool (is_of line)) [
-        | inl same ↦ rw same (ap (λ l. line ∷ l) rest)
-        | inr other ↦ rw other rest
+        | inl same ↦ rw same (rw same (ap (λ l. line ∷ l) (left_out_twice lines)))
+        | inr other ↦ rw other (left_out_twice lines)
       ]

@@ -1,4 +1,5 @@
 pub mod Lent
 pub mod Listed
 pub mod RowSums
+pub mod RunLines
 pub mod Sums

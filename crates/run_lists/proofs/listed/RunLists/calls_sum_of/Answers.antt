@@ -9,7 +9,7 @@ pub returns : goal.returns
 returns c =
     let run = c.args.run in
     let count = c.in_ok-count.ensures ∙ ap (counts_of_calls run) c.deref.ensures.value in
-    let costs = c.in_ok-sums.ensures.calls ∙ ap (sum_by (λ (e : ListedEvent). e.call_cost)) c.of_run.ensures in
+    let costs = c.in_ok-sums.ensures.calls ∙ ap (sum_by (λ (e : ListedEvent). e.call_cost)) c.of_run.ensures.all in
     record {
       told = λ t was. IfOk-weaker c.sum_of.result _ _ (λ sum is. is ∙ ap₂ ◌+◌ count costs ∙ calls_told t c.args.self.now was run) c.sum_of.ensures;
     }
