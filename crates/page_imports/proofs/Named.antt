@@ -5,8 +5,7 @@ use Rattle.std.proofs.lemmas.Int.{ints}
 use Rattle.std.proofs.lemmas.List.Sums.{fold-append}
 use Rattle.sqlite_rules.specs.Edit.{next_rowid}
 use Rattle.sqlite_trees.specs.Tree.{Trees}
-use Rattle.sqlite_value.specs.declared.value.Value.TheVariants.{Blob, Int, Null}
-use Rattle.sqlite_value.specs.Order.{Row}
+use Rattle.sqlite_value.specs.declared.value.Value.TheVariants.{Int}
 use Rattle.plain_tables.specs.Changes.{has_name, named, next_name, with_new_name}
 use Rattle.plain_tables.specs.Files.{all_named, number_in}
 use Rattle.plain_tables.specs.Tables.{Tables, NameRow}
@@ -19,15 +18,11 @@ use Rattle.table_changes.proofs.Fills as fills
 use Rattle.line_fills.specs.Filled.{IsTableFilled}
 use Rattle.line_fills.specs.Rows.{first_from, numbered, rows_behind}
 use Rattle.page_imports.specs.declared.numbering.Numbered.{Numbered}
-use Rattle.page_imports.specs.Names.{AreNumbered, AreUnheld, IsNextName, bytes_of, numbered_names, with_names}
+use Rattle.page_imports.specs.Names.{AreNumbered, AreUnheld, IsNextName, bytes_of, name_line, numbered_names, with_names}
 use Rattle.page_imports.proofs.Numbers.{new_next, new_number, next_rowid_is}
 use Rattle.page_imports.proofs.Unnamed.{not_yet}
 
 -- ---- their rows
-
--- the columns of a name's row behind the rowid, which is its number
-abbrev pub name_line : List ℕ → Row
-name_line name = Null ∷ Blob name ∷ []
 
 some_next : (lines : List NameRow) (n : ℕ) → 1 ≤ n → 1 ≤ fold (λ _ (line : NameRow). suc line.number) n lines
 some_next [] n low = low

@@ -2,8 +2,8 @@ use Rattle.std.proofs.Common.{refl, subst}
 use Rattle.line_fills.specs.Filled.{IsTableFilled}
 use Rattle.store_schema.specs.Schema.{schema_two, name_at}
 use Rattle.page_imports.specs.declared.numbering.NewName.{NewName}
-use Rattle.page_imports.specs.Names.{bytes_of}
-use Rattle.page_imports.proofs.Named.{name_line, names_filled}
+use Rattle.page_imports.specs.Names.{bytes_of, name_line}
+use Rattle.page_imports.proofs.Named.{names_filled}
 use Rattle.page_imports.proofs.Results.{on_match}
 use Rattle.page_imports.proofs.Showing.{index_at, mapped_twice, table_at}
 use Rattle.page_imports.proofs.names.put_names.Goals as goal
