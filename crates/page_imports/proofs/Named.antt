@@ -127,3 +127,11 @@ module _ (t : Tables) (names : List (List ℕ)) (name : List ℕ) (old new : Num
         numbers = pushed ∙ ap₂ (λ l n. l ++ n ∷ []) was.numbers is ∙ sym (numbers_more t names name);
         next = next_is ∙ ap suc (number_is ∙ was.next) ∙ sym (new_next known name) ∙ ap (λ (u : Tables). next_name u.names) (sym all);
       }
+
+-- a new name's number
+pub number_of_new : (t : Tables) (names : List (List ℕ)) (name : List ℕ) (old : Numbered) → AreNumbered t names old → has_name t name ≡ false → list_any (λ other. bytes_eq other name) names ≡ false
+    → number_in (named name (all_named names t)).names name ≡ old.next
+number_of_new t names name old was none apart =
+    let known = all_named names t in
+    let unheld : has_name known name ≡ false = not_yet names t name none apart in
+    ap (λ (u : Tables). number_in u.names name) (named_new known name unheld) ∙ new_number known name unheld ∙ sym was.next

@@ -1,5 +1,5 @@
 -- What it means that a file is put into a store as a run.
-use Rattle.std.specs.Prelude.{◌≡◌, ◌≢◌, ℕ, List, Result, MatchResult, OnOk}
+use Rattle.std.specs.Prelude.{◌≡◌, ◌≢◌, ℕ, nat_lt, Bool, not, List, Result, MatchResult, OnOk}
 use Rattle.sqlite_disk.specs.declared.Disk.{Ghosts}
 use Rattle.sqlite_store.specs.declared.catalog.Wanted.{Wanted}
 use Rattle.sqlite_trees.specs.Tree.{Trees}
@@ -11,6 +11,7 @@ use Rattle.plain_tables.specs.Lists.{Has}
 use Rattle.plain_tables.specs.Tables.{Tables, RunRow}
 use Rattle.plain_tables.specs.declared.errors.StoreError.{StoreError}
 use Rattle.run_lists.specs.Listed.{AreListed}
+use Rattle.run_lists.specs.declared.listed.ListedRun.{ListedRun}
 use Rattle.run_lists.specs.declared.listed.RunLists.{RunLists}
 use Rattle.store_schema.specs.Tables.{Holds}
 
@@ -18,6 +19,10 @@ use Rattle.store_schema.specs.Tables.{Holds}
 pub record IsNew (number : ℕ) (digest : List ℕ) (t : Tables) : Type 0 where
   pub next : t.next ≡ number
   pub none : (r : RunRow) → Has t.runs r → r.digest ≢ digest
+
+-- a run that is listed has this number or a greater one
+abbrev pub reaches : ℕ → ListedRun → Bool
+reaches number line = not (nat_lt line.entry.number number)
 
 module _ {D : Type 0} {g : Ghosts D} where
   -- where the file rests on a store whose small tables are listed, a transaction has begun in it that holds the changed tables

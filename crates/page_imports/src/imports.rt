@@ -1,5 +1,6 @@
 // A file is put in as a run.
-ghost use Rattle.std.specs.Prelude.{◌<◌, ◌++◌, ◌^◌, ◌↔◌, IfErr, IsTrue, OnOk};
+ghost use Rattle.std.specs.Prelude.{◌≡◌, ◌<◌, ◌++◌, ◌^◌, false, IfErr, IsTrue, OnOk};
+ghost use Rattle.std.specs.List.{list_any};
 ghost use Rattle.sqlite_pool.specs.Pool as pools;
 ghost use Rattle.sqlite_pool.specs.Stored.{Keeps};
 ghost use Rattle.cost_rows.specs.Rows.{content_of};
@@ -12,7 +13,7 @@ ghost use Rattle.run_lines.specs.Sums.{AllFit};
 ghost use Rattle.run_lists.specs.Listed.{AreListed};
 ghost use Rattle.run_stores.specs.Runs.{with_summed};
 ghost use Rattle.page_imports.specs.Causes.{CanBeFiled, CanImport, FailsWithout, written};
-ghost use Rattle.page_imports.specs.Imports.{Imports, ImportsNew, IsNew};
+ghost use Rattle.page_imports.specs.Imports.{Imports, ImportsNew, IsNew, reaches};
 ghost use Rattle.page_imports.specs.Needs.{CanBegin};
 ghost use Rattle.page_imports.specs.Steps.{Makes, head_tables, row_tables};
 
@@ -48,9 +49,17 @@ fn put_contents<D: Disk>(
     put_rows(file, alloc, roots, run.number, rows)
 }
 
+/// Whether a run has this number or a greater one.
+fn is_reached(lists: &RunLists, number: u32) -> bool
+    ensures { result ≡ list_any (reaches number) lists.now.runs.items }
+{
+    lists.runs.iter().any(|line| line.entry.number >= number)
+}
+
 /// Whether a run of this number and digest would be the next one.
 fn is_next(lists: &RunLists, number: u32, digest: &[u8; 32]) -> bool
-    ensures told { (t : Tables) → AreListed t lists.now → IsTrue result ↔ IsNew number digest.now t }
+    ensures told { (t : Tables) → AreListed t lists.now → IsTrue result → IsNew number digest.now t }
+    ensures refused { (t : Tables) → AreListed t lists.now → result ≡ false → ¬ (IsNew number digest.now t) }
 {
     lists.next_run() == number && lists.run_of_digest(digest).is_none()
 }
@@ -112,9 +121,7 @@ pub fn put_run<D: Disk>(
     ensures keeps { Keeps (pools.state file.old.pool) (pools.state file.new.pool) }
 {
     // Where another program set the next number back, no run is written over.
-    if lists.runs.iter().any(|line| line.entry.number >= number)
-        || !is_next(lists, number, digest)
-    {
+    if is_reached(lists, number) || !is_next(lists, number, digest) {
         return Err(StoreError::Store);
     }
     put_new_run(file, alloc, number, kind, digest, label, summed)
