@@ -15,6 +15,10 @@ pub if_err : {T E : Type 0} (r : Result T E) (F : E → Type 0) → ((e : E) →
 if_err (Ok x) F so = tt
 if_err (Err e) F so = so e refl
 
+pub err_for : {T E : Type 0} (r : Result T E) {F G : E → Type 0} → ((e : E) → F e → G e) → IfErr r F → IfErr r G
+err_for (Ok x) so f = tt
+err_for (Err e) so f = so e f
+
 -- of what succeeds, or fails for a cause
 pub when_ok : {T E : Type 0} (r : Result T E) {P : Type 0} (F : E → Type 0) → MatchResult r (λ _. P) F → OnOk r P
 when_ok (Ok x) F p = p

@@ -1,5 +1,5 @@
 -- What has to fit so that the rows of a file can be put into lines.
-use Rattle.std.specs.Prelude.{◌<◌, ℕ, suc, All, List, length, slice_index_or}
+use Rattle.std.specs.Prelude.{◌<◌, ◌+◌, ℕ, All, List, length, slice_index_or}
 use Rattle.cost_rows.specs.ByNumber.{numbered_cell}
 use Rattle.cost_rows.specs.Calls.{Calls}
 use Rattle.cost_rows.specs.declared.places.Call.{Call}
@@ -14,7 +14,7 @@ CostsFit numbers e = (event : ℕ) → event < length e.1 → 0 < slice_index_or
 pub record PartsFit (numbers : List ℕ) (e : Call × Calls) : Type 0 where
   pub count : CallFits numbers e.0 0 e.1.count
   pub costs : (column : ℕ) → column < length e.1.costs → 0 < slice_index_or e.1.costs column 0
-      → CallFits numbers e.0 (suc column) (slice_index_or e.1.costs column 0)
+      → CallFits numbers e.0 (column + 1) (slice_index_or e.1.costs column 0)
 
 -- those at all places fit
 abbrev pub CellsFit : List ℕ → List (CellPlace × List ℕ) → Type 0
