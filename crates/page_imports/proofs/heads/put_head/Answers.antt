@@ -1,4 +1,4 @@
-use Rattle.std.proofs.Common.{rules, ◌≡◌, List, [], ◌∷◌, suc, ◌+◌, ◌<◌, map, inr, refl, ap, subst, sym, ◌∙◌, arith}
+use Rattle.std.proofs.Common.{rules, ◌≡◌, List, [], ◌∷◌, suc, ◌+◌, ◌<◌, ◌≤◌, ◌^◌, map, inr, refl, ap, subst, sym, ◌∙◌, arith}
 use Rattle.std.specs.List.{AllByRecursion}
 use Rattle.std.proofs.lemmas.Result.{err_from_is_err_and}
 use Rattle.sqlite_pool.specs.StoredLaws.{Keeps-trans}
@@ -20,9 +20,10 @@ use Rattle.page_imports.proofs.Kept.{kept_then}
 use Rattle.page_imports.proofs.Runs.{above_is_new, added_is_held, no_lines}
 use Rattle.page_imports.proofs.heads.put_head.Goals as goal
 
-pub returns-in-None-clause-done : goal.returns-in-None-clause-done
-returns-in-None-clause-done g c clean = λ wanted known was t shows are can.
-    inr (refl, λ (fits : CanPutHeadOf c.args.run.now c.args.head.now shows.next). c.in-None.ensures.none fits.number)
+pub returns-in_default-clause-done : goal.returns-in_default-clause-done
+returns-in_default-clause-done g c clean = λ wanted known was t shows are can.
+    let great : 2 ^ 32 ≤ c.args.run.now.number + 1 = search rules in
+    inr (refl, λ (fits : CanPutHeadOf c.args.run.now c.args.head.now shows.next). omega (arith, great, fits.number))
 
 pub returns-in_err-put_next-clause-done : goal.returns-in_err-put_next-clause-done
 returns-in_err-put_next-clause-done g c clean = λ wanted known was t shows are can.

@@ -68,10 +68,11 @@ returns-in_err-lines-clause-done g c clean = λ wanted known db t rests holds ne
     let p = err_from_is_err_and c.from_residual.result c.from_residual.ensures.1 in
     rw (p.1, p.2) (refuses_fails file file _ (λ (can : CanImport c.args.number c.args.kind c.args.digest.now c.args.label.now summed t db). can.head) (c.in_err-lines.ensures.refused (content_of summed.rows.now) summed.summed))
 
-pub returns-in-None-clause-done : goal.returns-in-None-clause-done
-returns-in-None-clause-done g c clean = λ wanted known db t rests holds new.
+pub returns-in_default-clause-done : goal.returns-in_default-clause-done
+returns-in_default-clause-done g c clean = λ wanted known db t rests holds new.
     let summed = c.args.summed.now in
-    let great = subst (λ n. 2 ^ 63 ≤ n) summed.summed.call_count (c.in-None.ensures.none.0 refl) in
+    let wide : 2 ^ 63 ≤ summed.totals.call_count = search rules in
+    let great = subst (λ n. 2 ^ 63 ≤ n) summed.summed.call_count wide in
     inr (refl, λ (can : CanImport c.args.number c.args.kind c.args.digest.now c.args.label.now summed t db). omega (arith, great, can.counted))
 
 pub returns-in_err-roots-clause-done : goal.returns-in_err-roots-clause-done
