@@ -15,8 +15,7 @@ returns-clause-done g c clean = λ wanted known was t shows are.
     let told = c.in_ok-found.ensures.told early wanted known was t shows are in
     let there = shows_after c.args.file.now c.find_numbers.new.file c.find_numbers.ensures.reads early c.in_ok-found.ensures.usable shows in
     let listed = c.deref.ensures.value in
-    let made = c.in_ok-put_names.ensures.done clean wanted known was t there are (subst (λ l. AreUnheld (bytes_of l) t) (sym listed) told.unheld) in
-    (
+    let made = c.in_ok-put_names.ensures.done clean wanted known was t there are (subst (λ l. AreUnheld (bytes_of l) t) (sym listed) told.unheld) in (
       record { shows = subst (λ u. ShowsTables wanted known was u c.put_names.new.file) (ap (λ l. with_names (bytes_of l) t) listed ∙ sym told.named) made.shows; kept = made.kept },
       told.numbers,
     )
