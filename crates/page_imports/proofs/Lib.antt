@@ -1,7 +1,12 @@
+pub mod Carried
+pub mod Failing
+pub mod Filing
+pub mod Kept
 pub mod Named
 pub mod Numbers
 pub mod Results
 pub mod Runs
 pub mod Showing
+pub mod Small
 pub mod Stepping
 pub mod Unnamed

@@ -5,8 +5,7 @@ use Rattle.std.proofs.lemmas.Int.{ints}
 use Rattle.std.proofs.lemmas.List.Sums.{fold-append}
 use Rattle.sqlite_rules.specs.Edit.{next_rowid}
 use Rattle.sqlite_trees.specs.Tree.{Trees}
-use Rattle.sqlite_value.specs.declared.value.Value.TheVariants.{Blob, Int, Null}
-use Rattle.sqlite_value.specs.Order.{Row}
+use Rattle.sqlite_value.specs.declared.value.Value.TheVariants.{Int}
 use Rattle.plain_tables.specs.Changes.{has_name, named, next_name, with_new_name}
 use Rattle.plain_tables.specs.Files.{all_named, number_in}
 use Rattle.plain_tables.specs.Tables.{Tables, NameRow}
@@ -19,15 +18,11 @@ use Rattle.table_changes.proofs.Fills as fills
 use Rattle.line_fills.specs.Filled.{IsTableFilled}
 use Rattle.line_fills.specs.Rows.{first_from, numbered, rows_behind}
 use Rattle.page_imports.specs.declared.numbering.Numbered.{Numbered}
-use Rattle.page_imports.specs.Names.{AreNumbered, AreUnheld, IsNextName, bytes_of, numbered_names, with_names}
+use Rattle.page_imports.specs.Names.{AreNumbered, AreUnheld, IsNextName, bytes_of, name_line, numbered_names, with_names}
 use Rattle.page_imports.proofs.Numbers.{new_next, new_number, next_rowid_is}
 use Rattle.page_imports.proofs.Unnamed.{not_yet}
 
 -- ---- their rows
-
--- the columns of a name's row behind the rowid, which is its number
-abbrev pub name_line : List ℕ → Row
-name_line name = Null ∷ Blob name ∷ []
 
 some_next : (lines : List NameRow) (n : ℕ) → 1 ≤ n → 1 ≤ fold (λ _ (line : NameRow). suc line.number) n lines
 some_next [] n low = low
@@ -132,3 +127,11 @@ module _ (t : Tables) (names : List (List ℕ)) (name : List ℕ) (old new : Num
         numbers = pushed ∙ ap₂ (λ l n. l ++ n ∷ []) was.numbers is ∙ sym (numbers_more t names name);
         next = next_is ∙ ap suc (number_is ∙ was.next) ∙ sym (new_next known name) ∙ ap (λ (u : Tables). next_name u.names) (sym all);
       }
+
+-- a new name's number
+pub number_of_new : (t : Tables) (names : List (List ℕ)) (name : List ℕ) (old : Numbered) → AreNumbered t names old → has_name t name ≡ false → list_any (λ other. bytes_eq other name) names ≡ false
+    → number_in (named name (all_named names t)).names name ≡ old.next
+number_of_new t names name old was none apart =
+    let known = all_named names t in
+    let unheld : has_name known name ≡ false = not_yet names t name none apart in
+    ap (λ (u : Tables). number_in u.names name) (named_new known name unheld) ∙ new_number known name unheld ∙ sym was.next

@@ -1,5 +1,5 @@
 -- A fact of what succeeds or fails, from others.
-use Rattle.std.proofs.Common.{Result, Ok, Err, MatchResult, OnOk}
+use Rattle.std.proofs.Common.{◌≡◌, Result, Ok, Err, MatchResult, IfErr, OnOk, refl, subst}
 
 pub on_ok : {T E : Type 0} (r : Result T E) {P Q : Type 0} → (P → Q) → OnOk r P → OnOk r Q
 on_ok (Ok x) so p = so p
@@ -10,12 +10,20 @@ pub on_any : {T E : Type 0} (r : Result T E) {P : Type 0} → P → OnOk r P
 on_any (Ok x) p = p
 on_any (Err e) p = tt
 
--- of what succeeds, or fails for a cause
-pub on_match : {T E : Type 0} (r : Result T E) {P Q : Type 0} (F : E → Type 0) → (P → Q) → MatchResult r (λ _. P) F → OnOk r Q
-on_match (Ok x) F so p = so p
-on_match (Err e) F so p = tt
+-- of an error that is answered
+pub if_err : {T E : Type 0} (r : Result T E) (F : E → Type 0) → ((e : E) → r ≡ Err e → F e) → IfErr r F
+if_err (Ok x) F so = tt
+if_err (Err e) F so = so e refl
 
--- from three
-pub on_ok3 : {T E : Type 0} (r : Result T E) {P Q R S : Type 0} → (P → Q → R → S) → OnOk r P → OnOk r Q → OnOk r R → OnOk r S
-on_ok3 (Ok x) so p q s = so p q s
-on_ok3 (Err e) so p q s = tt
+pub err_for : {T E : Type 0} (r : Result T E) {F G : E → Type 0} → ((e : E) → F e → G e) → IfErr r F → IfErr r G
+err_for (Ok x) so f = tt
+err_for (Err e) so f = so e f
+
+-- of what succeeds, or fails for a cause
+pub when_ok : {T E : Type 0} (r : Result T E) {P : Type 0} (F : E → Type 0) → MatchResult r (λ _. P) F → OnOk r P
+when_ok (Ok x) F p = p
+when_ok (Err e) F p = tt
+
+pub at_err : {T E : Type 0} (r : Result T E) (P : Type 0) (F : E → Type 0) (e : E) → r ≡ Err e → MatchResult r (λ _. P) F → F e
+at_err (Ok x) P F e is m = absurd cc
+at_err (Err d) P F e is m = let same : d ≡ e = cc in subst F same m

@@ -1,5 +1,5 @@
 -- A run that is new, and one that was added.
-use Rattle.std.proofs.Common.{◌≡◌, ◌≢◌, ℕ, ◌<◌, List, [], ◌∷◌, ◌++◌, Bool, true, false, ◌||◌, ◌==◌, bytes_eq, refl, sym, ap, ◌∙◌, arith}
+use Rattle.std.proofs.Common.{◌≡◌, ◌≢◌, ℕ, ◌<◌, List, [], ◌∷◌, ◌++◌, Bool, true, false, not, ◌||◌, ◌==◌, bytes_eq, lt-ltb, map, refl, sym, ap, subst, ◌∙◌, arith}
 use Rattle.std.specs.List.{AllByRecursion, list_any}
 use Rattle.std.proofs.lemmas.Bool.{true≢false}
 use Rattle.std.proofs.lemmas.Bool.Decides.{nat_tests}
@@ -9,6 +9,10 @@ use Rattle.plain_tables.specs.Lists.{Has}
 use Rattle.plain_tables.specs.Sound.{AreOfRuns}
 use Rattle.plain_tables.specs.Tables.{Tables, RunRow}
 use Rattle.plain_tables.proofs.Lists.{all_has, some_has}
+use Rattle.run_lists.specs.Listed.{AreListed, run_row}
+use Rattle.run_lists.specs.declared.listed.ListedRun.{ListedRun}
+use Rattle.run_lists.specs.declared.listed.RunLists.{RunLists}
+use Rattle.page_imports.specs.Imports.{reaches}
 
 not_any : {X : Type 0} (p : X → Bool) (xs : List X) → (list_any p xs ≡ true → ⊥) → list_any p xs ≡ false
 not_any p xs never = step (list_any p xs) refl
@@ -44,3 +48,11 @@ added_is_held (first ∷ runs) r = step (first.number == r.number) (added_is_hel
     step : (b : Bool) → list_any (λ (it : RunRow). it.number == r.number) (runs ++ r ∷ []) ≡ true → (b || list_any (λ (it : RunRow). it.number == r.number) (runs ++ r ∷ [])) ≡ true
     step true more = refl
     step false more = more
+
+-- the next number is reached by none
+pub none_reached : (t : Tables) (lists : RunLists) (n : ℕ) → AreListed t lists → AllByRecursion (λ (r : RunRow). r.number < t.next) t.runs → t.next ≡ n → list_any (reaches n) lists.runs.items ≡ false
+none_reached t lists n listed below next = go lists.runs.items (subst (AllByRecursion (λ (r : RunRow). r.number < n)) (sym listed.runs) (subst (λ m. AllByRecursion (λ (r : RunRow). r.number < m) t.runs) next below))
+  where
+    go : (lines : List ListedRun) → AllByRecursion (λ (r : RunRow). r.number < n) (map run_row lines) → list_any (reaches n) lines ≡ false
+    go [] all = refl
+    go (line ∷ lines) all = ap (λ b. not b || list_any (reaches n) lines) (lt-ltb line.entry.number n all.0) ∙ go lines all.1

@@ -1,3 +1,5 @@
+pub mod Causes
+pub mod Fits
 pub mod Lines
 pub mod Imports
 pub mod Names

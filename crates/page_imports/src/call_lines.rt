@@ -1,7 +1,10 @@
 // The lines of the calls of a file, each a place in its rows (specs/Lines.antt).
-ghost use Rattle.std.specs.Prelude.{◌≡◌, ◌++◌, ◌∷◌, [], map, IfOk, IfSome, OnOk};
+ghost use Rattle.std.specs.Prelude.{◌≡◌, ◌<◌, ◌++◌, ◌∷◌, [], None, map, IfErr, IfOk, IfSome, OnOk};
+ghost use Rattle.cost_rows.specs.ByNumber.{plain_call};
 ghost use Rattle.cost_rows.specs.Rows.{content_of};
 ghost use Rattle.prof_books.specs.Files.{call_rows};
+ghost use Rattle.run_lines.specs.Fits.{CallFits, RefusesUnless};
+ghost use Rattle.page_imports.specs.Fits.{CallsFit, PartsFit};
 ghost use Rattle.page_imports.specs.Lines.{call_line, cost_row, part_row, part_rows};
 
 use crate::row_lines::CallLine;
@@ -59,16 +62,24 @@ impl PageLine for CallLine<'_> {
     }
 }
 
-/// The line of a part of calls, unless a number in it is too great for its column.
+/// The line of a part of calls, unless a number in it is too great for its column, or a name has none.
 fn line_of<'a>(
     names: &'a RunNames<'a>,
     call: &'a Call,
     part: usize,
     sum: u128,
 ) -> Option<CallLine<'a>>
-    ensures { IfSome result (λ line. call_line line ≡ part_row names.now call.now part sum) }
+    ensures some { IfSome result (λ line. call_line line ≡ part_row names.now call.now part sum) }
+    ensures none { result ≡ None → ¬ CallFits names.now.numbers.now call.now part sum }
 {
-    if call.place.line >= 1 << 63 {
+    let at = &call.place;
+    if !names.has(at.object) || !names.has(at.file) || !names.has(at.function) {
+        return None;
+    }
+    if !names.has(call.object) || !names.has(call.file) || !names.has(call.function) {
+        return None;
+    }
+    if at.line >= 1 << 63 {
         return None;
     }
     Some(CallLine {
@@ -87,7 +98,8 @@ fn add_part<'a>(
     part: usize,
     sum: u128,
 ) -> Result<(), StoreError>
-    ensures { OnOk result (map call_line lines.new.items ≡ map call_line lines.old.items ++ part_row names.now call.now part sum ∷ []) }
+    ensures added { OnOk result (map call_line lines.new.items ≡ map call_line lines.old.items ++ part_row names.now call.now part sum ∷ []) }
+    ensures refused { IfErr result (RefusesUnless (CallFits names.now.numbers.now call.now part sum)) }
 {
     let Some(line) = line_of(names, call, part, sum) else {
         return Err(StoreError::Store);
@@ -106,7 +118,8 @@ fn add_cost<'a>(
     part: usize,
     cost: u128,
 ) -> Result<(), StoreError>
-    ensures { OnOk result (map call_line lines.new.items ≡ map call_line lines.old.items ++ cost_row names.now call.now part cost) }
+    ensures added { OnOk result (map call_line lines.new.items ≡ map call_line lines.old.items ++ cost_row names.now call.now part cost) }
+    ensures refused { IfErr result (RefusesUnless (0 < cost → CallFits names.now.numbers.now call.now part cost)) }
 {
     if cost > 0 {
         add_part(lines, names, call, part, cost)
@@ -121,7 +134,8 @@ fn add_calls<'a>(
     names: &'a RunNames<'a>,
     calls: &CallSum<'a>,
 ) -> Result<(), StoreError>
-    ensures { OnOk result (map call_line lines.new.items ≡ map call_line lines.old.items ++ part_rows names.now calls.now) }
+    ensures added { OnOk result (map call_line lines.new.items ≡ map call_line lines.old.items ++ part_rows names.now calls.now) }
+    ensures refused { IfErr result (RefusesUnless (PartsFit names.now.numbers.now (plain_call calls.now))) }
 {
     let call = calls.call;
     add_part(lines, names, call, 0, calls.count)?;
@@ -132,13 +146,14 @@ fn add_calls<'a>(
     Ok(())
 }
 
-/// The lines of the sums of calls. `Store` where a number is too great for its column.
+/// The lines of the sums of calls. `Store` where a number is too great for its column, or a name has none.
 pub(crate) fn call_lines<'a>(
     alloc: Global,
     names: &'a RunNames<'a>,
     rows: &'a FileRows,
 ) -> Result<Vec<CallLine<'a>>, StoreError>
-    ensures { IfOk result (λ lines. map call_line lines.items ≡ call_rows names.now.run names.now.numbers.now (content_of rows.now).calls) }
+    ensures value { IfOk result (λ lines. map call_line lines.items ≡ call_rows names.now.run names.now.numbers.now (content_of rows.now).calls) }
+    ensures refused { IfErr result (RefusesUnless (CallsFit names.now.numbers.now (content_of rows.now).calls)) }
 {
     let mut lines = Vec::new(alloc);
     'rows: for calls in rows.calls_by_place() {

@@ -1,7 +1,10 @@
 // The lines of the self costs of a file, each a place in its rows (specs/Lines.antt).
-ghost use Rattle.std.specs.Prelude.{◌≡◌, ◌++◌, ◌∷◌, [], map, IfOk, IfSome, OnOk};
+ghost use Rattle.std.specs.Prelude.{◌≡◌, ◌<◌, ◌++◌, ◌∷◌, [], None, map, IfErr, IfOk, IfSome, OnOk};
+ghost use Rattle.cost_rows.specs.ByNumber.{numbered_cell, plain_cell_sum};
 ghost use Rattle.cost_rows.specs.Rows.{content_of};
 ghost use Rattle.prof_books.specs.Files.{cell_rows};
+ghost use Rattle.run_lines.specs.Fits.{CellFits, RefusesUnless};
+ghost use Rattle.page_imports.specs.Fits.{CellsFit, CostsFit};
 ghost use Rattle.page_imports.specs.Lines.{cell_line, event_row, event_rows, self_row};
 
 use crate::row_lines::CellLine;
@@ -55,16 +58,21 @@ impl PageLine for CellLine<'_> {
     }
 }
 
-/// The line of an event's cost at a place, unless a number in it is too great for its column.
+/// The line of an event's cost at a place, unless a number in it is too great for its column, or a name has none.
 fn line_of<'a>(
     names: &'a RunNames<'a>,
     place: &'a CellPlace,
     event: usize,
     cost: u128,
 ) -> Option<CellLine<'a>>
-    ensures { IfSome result (λ line. cell_line line ≡ self_row names.now place.now event cost) }
+    ensures some { IfSome result (λ line. cell_line line ≡ self_row names.now place.now event cost) }
+    ensures none { result ≡ None → ¬ CellFits names.now.numbers.now (numbered_cell place.now event cost) }
 {
-    if place.place.line >= 1 << 63 || place.thread >= 1 << 63 {
+    let at = &place.place;
+    if !names.has(at.object) || !names.has(at.file) || !names.has(at.function) {
+        return None;
+    }
+    if at.line >= 1 << 63 || place.thread >= 1 << 63 {
         return None;
     }
     Some(CellLine {
@@ -83,7 +91,8 @@ fn add_cost<'a>(
     event: usize,
     cost: u128,
 ) -> Result<(), StoreError>
-    ensures { OnOk result (map cell_line lines.new.items ≡ map cell_line lines.old.items ++ event_row names.now place.now event cost) }
+    ensures added { OnOk result (map cell_line lines.new.items ≡ map cell_line lines.old.items ++ event_row names.now place.now event cost) }
+    ensures refused { IfErr result (RefusesUnless (0 < cost → CellFits names.now.numbers.now (numbered_cell place.now event cost))) }
 {
     if cost == 0 {
         return Ok(());
@@ -103,7 +112,8 @@ fn add_costs<'a>(
     names: &'a RunNames<'a>,
     sums: &CellSum<'a>,
 ) -> Result<(), StoreError>
-    ensures { OnOk result (map cell_line lines.new.items ≡ map cell_line lines.old.items ++ event_rows names.now sums.now) }
+    ensures added { OnOk result (map cell_line lines.new.items ≡ map cell_line lines.old.items ++ event_rows names.now sums.now) }
+    ensures refused { IfErr result (RefusesUnless (CostsFit names.now.numbers.now (plain_cell_sum sums.now))) }
 {
     let place = sums.place;
     let costs = sums.costs;
@@ -113,13 +123,14 @@ fn add_costs<'a>(
     Ok(())
 }
 
-/// The lines of the sums of self costs. `Store` where a number is too great for its column.
+/// The lines of the sums of self costs. `Store` where a number is too great for its column, or a name has none.
 pub(crate) fn cell_lines<'a>(
     alloc: Global,
     names: &'a RunNames<'a>,
     rows: &'a FileRows,
 ) -> Result<Vec<CellLine<'a>>, StoreError>
-    ensures { IfOk result (λ lines. map cell_line lines.items ≡ cell_rows names.now.run names.now.numbers.now (content_of rows.now).cells) }
+    ensures value { IfOk result (λ lines. map cell_line lines.items ≡ cell_rows names.now.run names.now.numbers.now (content_of rows.now).cells) }
+    ensures refused { IfErr result (RefusesUnless (CellsFit names.now.numbers.now (content_of rows.now).cells)) }
 {
     let mut lines = Vec::new(alloc);
     'rows: for sums in rows.cells_by_place() {

@@ -1,14 +1,17 @@
 // What a run says of itself: the next number, its own row, and the lines of its head.
-ghost use Rattle.std.specs.Prelude.{map, OnOk};
+ghost use Rattle.std.specs.Prelude.{[], ◌∷◌, map, OnOk};
 ghost use Rattle.sqlite_pool.specs.Pool as pools;
 ghost use Rattle.sqlite_pool.specs.Stored.{Keeps};
 ghost use Rattle.page_files.specs.Files.{IsUsable};
 ghost use Rattle.plain_tables.specs.Changes.{with_coefs, with_derived, with_events, with_next, with_run};
 ghost use Rattle.store_schema.specs.Lines.{coef_row, derived_row, event_row, run_row};
+ghost use Rattle.store_schema.specs.Schema.{meta_at, run_at, run_event_at, derived_at, coef_at};
 ghost use Rattle.store_schema.specs.Steps.{IsAbove};
+ghost use Rattle.store_schema.specs.Tables as tables;
 ghost use Rattle.run_lines.specs.Runs.{with_head_of};
+ghost use Rattle.page_imports.specs.Causes.{CanBeWritten, CanPutHeadOf};
 ghost use Rattle.page_imports.specs.Needs.{CanAdd, CanBegin};
-ghost use Rattle.page_imports.specs.Steps.{Makes, PutsLines};
+ghost use Rattle.page_imports.specs.Steps.{Makes, PutsLines, head_tables};
 
 use crate::columns::{meta_columns, run_columns};
 use line_fills::fill;
@@ -27,7 +30,8 @@ fn put_next<D: Disk>(
     roots: &StoreRoots,
     next: u32,
 ) -> Result<(), StoreError>
-    ensures done { Makes file.old file.new roots.now (IsAbove next) (with_next next) result }
+    ensures done { Makes file.old file.new roots.now (meta_at ∷ []) (IsAbove next) (with_next next)
+        (λ _ _. CanBeWritten meta_at (tables.meta_columns next)) result }
     ensures usable { OnOk result (IsUsable file.new) }
     ensures keeps { Keeps (pools.state file.old.pool) (pools.state file.new.pool) }
 {
@@ -49,7 +53,8 @@ fn put_run_row<D: Disk>(
     roots: &StoreRoots,
     run: &RunRow<'_>,
 ) -> Result<(), StoreError>
-    ensures done { Makes file.old file.new roots.now (CanAdd run.now.number run.now.digest.now) (with_run (run_row run.now)) result }
+    ensures done { Makes file.old file.new roots.now (run_at ∷ []) (CanAdd run.now.number run.now.digest.now) (with_run (run_row run.now))
+        (λ _ _. CanBeWritten run_at (tables.run_columns (run_row run.now))) result }
     ensures usable { OnOk result (IsUsable file.new) }
     ensures keeps { Keeps (pools.state file.old.pool) (pools.state file.new.pool) }
 {
@@ -75,7 +80,8 @@ fn put_events<D: Disk>(
     roots: &StoreRoots,
     lines: &[EventRow<'_>],
 ) -> Result<(), StoreError>
-    ensures done { PutsLines file.old file.new roots.now (λ t. t.events) (λ line. line.run) with_events (map event_row lines.now) result }
+    ensures done { PutsLines file.old file.new roots.now run_event_at (λ t. t.events) (λ line. line.run) tables.event_columns
+        with_events (map event_row lines.now) result }
     ensures usable { OnOk result (IsUsable file.new) }
     ensures keeps { Keeps (pools.state file.old.pool) (pools.state file.new.pool) }
 {
@@ -103,7 +109,8 @@ fn put_derived<D: Disk>(
     roots: &StoreRoots,
     lines: &[DerivedRow<'_>],
 ) -> Result<(), StoreError>
-    ensures done { PutsLines file.old file.new roots.now (λ t. t.derived) (λ line. line.run) with_derived (map derived_row lines.now) result }
+    ensures done { PutsLines file.old file.new roots.now derived_at (λ t. t.derived) (λ line. line.run) tables.derived_columns
+        with_derived (map derived_row lines.now) result }
     ensures usable { OnOk result (IsUsable file.new) }
     ensures keeps { Keeps (pools.state file.old.pool) (pools.state file.new.pool) }
 {
@@ -131,7 +138,8 @@ fn put_coefs<D: Disk>(
     roots: &StoreRoots,
     lines: &[CoefRow],
 ) -> Result<(), StoreError>
-    ensures done { PutsLines file.old file.new roots.now (λ t. t.coefs) (λ line. line.run) with_coefs (map coef_row lines.now) result }
+    ensures done { PutsLines file.old file.new roots.now coef_at (λ t. t.coefs) (λ line. line.run) tables.coef_columns
+        with_coefs (map coef_row lines.now) result }
     ensures usable { OnOk result (IsUsable file.new) }
     ensures keeps { Keeps (pools.state file.old.pool) (pools.state file.new.pool) }
 {
@@ -154,7 +162,7 @@ pub(crate) fn put_head<D: Disk>(
     run: &RunRow<'_>,
     head: &HeadRows<'_>,
 ) -> Result<(), StoreError>
-    ensures done { Makes file.old file.new roots.now (CanBegin run.now head.now) (with_head_of run.now head.now) result }
+    ensures done { Makes file.old file.new roots.now head_tables (CanBegin run.now head.now) (with_head_of run.now head.now) (λ _. CanPutHeadOf run.now head.now) result }
     ensures usable { OnOk result (IsUsable file.new) }
     ensures keeps { Keeps (pools.state file.old.pool) (pools.state file.new.pool) }
 {

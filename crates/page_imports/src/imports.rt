@@ -1,5 +1,6 @@
 // A file is put in as a run.
-ghost use Rattle.std.specs.Prelude.{◌<◌, ◌^◌, IsTrue, OnOk};
+ghost use Rattle.std.specs.Prelude.{◌≡◌, ◌<◌, ◌++◌, ◌^◌, false, IfErr, IsTrue, OnOk};
+ghost use Rattle.std.specs.List.{list_any};
 ghost use Rattle.sqlite_pool.specs.Pool as pools;
 ghost use Rattle.sqlite_pool.specs.Stored.{Keeps};
 ghost use Rattle.cost_rows.specs.Rows.{content_of};
@@ -11,9 +12,10 @@ ghost use Rattle.run_lines.specs.Runs.{with_run_of};
 ghost use Rattle.run_lines.specs.Sums.{AllFit};
 ghost use Rattle.run_lists.specs.Listed.{AreListed};
 ghost use Rattle.run_stores.specs.Runs.{with_summed};
-ghost use Rattle.page_imports.specs.Imports.{Imports, ImportsNew, IsNew};
+ghost use Rattle.page_imports.specs.Causes.{CanBeFiled, CanImport, FailsWithout, written};
+ghost use Rattle.page_imports.specs.Imports.{Imports, ImportsNew, IsNew, reaches};
 ghost use Rattle.page_imports.specs.Needs.{CanBegin};
-ghost use Rattle.page_imports.specs.Steps.{Makes};
+ghost use Rattle.page_imports.specs.Steps.{Makes, head_tables, row_tables};
 
 use crate::heads::put_head;
 use crate::rows::put_rows;
@@ -38,7 +40,8 @@ fn put_contents<D: Disk>(
     head: &HeadRows<'_>,
     rows: &FileRows,
 ) -> Result<(), StoreError>
-    ensures done { Makes file.old file.new roots.now (CanBegin run.now head.now) (with_run_of run.now head.now rows.now) result }
+    ensures done { Makes file.old file.new roots.now (head_tables ++ row_tables) (CanBegin run.now head.now) (with_run_of run.now head.now rows.now)
+        (CanBeFiled (written run.now head.now rows.now)) result }
     ensures usable { OnOk result (IsUsable file.new) }
     ensures keeps { Keeps (pools.state file.old.pool) (pools.state file.new.pool) }
 {
@@ -46,9 +49,17 @@ fn put_contents<D: Disk>(
     put_rows(file, alloc, roots, run.number, rows)
 }
 
+/// Whether a run has this number or a greater one.
+fn is_reached(lists: &RunLists, number: u32) -> bool
+    ensures { result ≡ list_any (reaches number) lists.now.runs.items }
+{
+    lists.runs.iter().any(|line| line.entry.number >= number)
+}
+
 /// Whether a run of this number and digest would be the next one.
 fn is_next(lists: &RunLists, number: u32, digest: &[u8; 32]) -> bool
     ensures told { (t : Tables) → AreListed t lists.now → IsTrue result → IsNew number digest.now t }
+    ensures refused { (t : Tables) → AreListed t lists.now → result ≡ false → ¬ (IsNew number digest.now t) }
 {
     lists.next_run() == number && lists.run_of_digest(digest).is_none()
 }
@@ -63,7 +74,8 @@ fn put_new_run<D: Disk>(
     label: &str,
     summed: &SummedFile<'_>,
 ) -> Result<(), StoreError>
-    ensures done { ImportsNew file.old file.new number digest.now (with_summed number kind digest.now label.now summed.now) result }
+    ensures done { ImportsNew file.old file.new number digest.now (with_summed number kind digest.now label.now summed.now)
+        (CanImport number kind digest.now label.now summed.now) result }
     ensures complete { OnOk result (IsComplete summed.now.head.now) }
     ensures fits { OnOk result (AllFit summed.now.head.now (content_of summed.now.rows.now)) }
     ensures counted { OnOk result (count_total (content_of summed.now.rows.now).calls < 2 ^ 63) }
@@ -100,6 +112,7 @@ pub fn put_run<D: Disk>(
     summed: &SummedFile<'_>,
 ) -> Result<(), StoreError>
     ensures done { Imports file.old file.new lists.now (with_summed number kind digest.now label.now summed.now) result }
+    ensures failed { IfErr result (FailsWithout file.old file.new lists.now (CanImport number kind digest.now label.now summed.now)) }
     ensures is_new { (t : Tables) → AreListed t lists.now → OnOk result (IsNew number digest.now t) }
     ensures complete { OnOk result (IsComplete summed.now.head.now) }
     ensures fits { OnOk result (AllFit summed.now.head.now (content_of summed.now.rows.now)) }
@@ -108,9 +121,7 @@ pub fn put_run<D: Disk>(
     ensures keeps { Keeps (pools.state file.old.pool) (pools.state file.new.pool) }
 {
     // Where another program set the next number back, no run is written over.
-    if lists.runs.iter().any(|line| line.entry.number >= number)
-        || !is_next(lists, number, digest)
-    {
+    if is_reached(lists, number) || !is_next(lists, number, digest) {
         return Err(StoreError::Store);
     }
     put_new_run(file, alloc, number, kind, digest, label, summed)

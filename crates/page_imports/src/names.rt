@@ -1,12 +1,14 @@
 // The names of a file, by their numbers in the store.
-ghost use Rattle.std.specs.Prelude.{◌≡◌, [], ⊤, false, IsTrue, OnOk};
+ghost use Rattle.std.specs.Prelude.{◌≡◌, [], ◌∷◌, ⊤, false, map, IsTrue, OnOk};
 ghost use Rattle.sqlite_pool.specs.Pool as pools;
 ghost use Rattle.sqlite_pool.specs.Stored.{Keeps};
 ghost use Rattle.page_files.specs.Files.{IsUsable, OnlyReads};
 ghost use Rattle.plain_tables.specs.Changes.{has_name};
 ghost use Rattle.plain_tables.specs.Files.{all_named, numbers_in};
 ghost use Rattle.store_schema.specs.Names.{number_if_held};
-ghost use Rattle.page_imports.specs.Names.{AreNumbered, AreUnheld, IsNextName, bytes_of, with_names};
+ghost use Rattle.store_schema.specs.Schema.{name_at};
+ghost use Rattle.page_imports.specs.Causes.{AreNarrow, CanBeNumbered, CanBePut, HaveNumbers};
+ghost use Rattle.page_imports.specs.Names.{AreNumbered, AreUnheld, IsNextName, bytes_of, name_line, with_names};
 ghost use Rattle.page_imports.specs.Steps.{Makes, MakesTelling, Tells};
 
 use crate::numbering::{NewName, Numbered};
@@ -25,7 +27,7 @@ fn next_name<D: Disk>(
     alloc: Global,
     roots: &StoreRoots,
 ) -> Result<u64, StoreError>
-    ensures told { Tells file.old file.new roots.now result (λ t next. IsNextName next t) }
+    ensures told { Tells file.old file.new roots.now AreNarrow result (λ t next. IsNextName next t) }
     ensures reads { OnlyReads file.old file.new }
     ensures usable { OnOk result (IsUsable file.new) }
 {
@@ -53,7 +55,7 @@ fn holds_none<D: Disk>(
     alloc: Global,
     roots: &StoreRoots,
 ) -> Result<bool, StoreError>
-    ensures told { Tells file.old file.new roots.now result (λ t none. IsTrue none → t.names ≡ []) }
+    ensures told { Tells file.old file.new roots.now (λ _. ⊤) result (λ t none. IsTrue none → t.names ≡ []) }
     ensures reads { OnlyReads file.old file.new }
     ensures usable { OnOk result (IsUsable file.new) }
 {
@@ -72,7 +74,7 @@ fn held_number<D: Disk>(
     name: &[u8],
     is_new: bool,
 ) -> Result<Option<u32>, StoreError>
-    ensures told { Tells file.old file.new roots.now result
+    ensures told { Tells file.old file.new roots.now AreNarrow result
         (λ t found. (IsTrue is_new → has_name t name.now ≡ false) → found ≡ number_if_held t name.now) }
     ensures reads { OnlyReads file.old file.new }
     ensures usable { IsUsable file.old → OnOk result (IsUsable file.new) }
@@ -90,7 +92,7 @@ fn find_numbers<'a, D: Disk>(
     roots: &StoreRoots,
     names: &'a Names,
 ) -> Result<Numbered<'a>, StoreError>
-    ensures told { Tells file.old file.new roots.now result (λ t found. AreNumbered t names.now found) }
+    ensures told { Tells file.old file.new roots.now (HaveNumbers names.now) result (λ t found. AreNumbered t names.now found) }
     ensures reads { OnlyReads file.old file.new }
     ensures usable { OnOk result (IsUsable file.new) }
 {
@@ -112,7 +114,8 @@ fn put_names<D: Disk>(
     roots: &StoreRoots,
     news: &[NewName<'_>],
 ) -> Result<(), StoreError>
-    ensures done { Makes file.old file.new roots.now (AreUnheld (bytes_of news.now)) (with_names (bytes_of news.now)) result }
+    ensures done { Makes file.old file.new roots.now (name_at ∷ []) (AreUnheld (bytes_of news.now)) (with_names (bytes_of news.now))
+        (λ _. CanBePut name_at (map name_line (bytes_of news.now))) result }
     ensures usable { OnOk result (IsUsable file.new) }
     ensures keeps { Keeps (pools.state file.old.pool) (pools.state file.new.pool) }
 {
@@ -134,7 +137,8 @@ pub(crate) fn number_names<D: Disk>(
     roots: &StoreRoots,
     names: &Names,
 ) -> Result<Vec<u32>, StoreError>
-    ensures done { MakesTelling file.old file.new roots.now (λ _. ⊤) (all_named names.now) result (λ t numbers. numbers.items ≡ numbers_in t names.now) }
+    ensures done { MakesTelling file.old file.new roots.now (name_at ∷ []) (all_named names.now) (CanBeNumbered names.now) result
+        (λ t numbers. numbers.items ≡ numbers_in t names.now) }
     ensures usable { OnOk result (IsUsable file.new) }
     ensures keeps { Keeps (pools.state file.old.pool) (pools.state file.new.pool) }
 {

@@ -1,9 +1,8 @@
 // Numbers of names, and the new names among them.
-ghost use Rattle.std.specs.Prelude.{◌≡◌, ◌∷◌, ◌++◌, [], ℕ, suc, List, false, IfOk, OnOk, bytes_eq};
-ghost use Rattle.std.specs.List.{list_any};
+ghost use Rattle.std.specs.Prelude.{◌≡◌, ◌<◌, ◌^◌, ◌∷◌, ◌++◌, [], suc, IfErr, IfOk, OnOk};
 ghost use Rattle.plain_tables.specs.Tables.{Tables};
-ghost use Rattle.store_schema.specs.Names.{number_if_held};
-ghost use Rattle.page_imports.specs.Names.{AreNumbered, IsNextName, bytes_of};
+ghost use Rattle.run_lines.specs.Fits.{RefusesUnless};
+ghost use Rattle.page_imports.specs.Names.{AreNumbered, IsNextName, NumbersOne, bytes_of};
 
 use line_fills::PageLine;
 use plain_tables::StoreError;
@@ -74,6 +73,7 @@ impl<'a> Numbered<'a> {
         ensures numbers { OnOk result (self.new.numbers.items ≡ self.old.numbers.items ++ self.old.next ∷ []) }
         ensures news { OnOk result (bytes_of self.new.news.items ≡ bytes_of self.old.news.items ++ name.now ∷ []) }
         ensures next { OnOk result (self.new.next ≡ suc self.old.next) }
+        ensures refused { IfErr result (RefusesUnless (self.old.next < 2 ^ 32)) }
     {
         let Ok(number) = u32::try_from(self.next) else {
             return Err(StoreError::Store);
@@ -88,8 +88,7 @@ impl<'a> Numbered<'a> {
 
     /// Takes one more name, with its number if it is held.
     pub(crate) fn take(&mut self, name: &'a [u8], held: Option<u32>) -> Result<(), StoreError>
-        ensures { (t : Tables) (names : List (List ℕ)) → AreNumbered t names self.old → list_any (λ other. bytes_eq other name.now) names ≡ false
-            → held ≡ number_if_held t name.now → OnOk result (AreNumbered t (names ++ name.now ∷ []) self.new) }
+        ensures { NumbersOne self.old self.new name.now held result }
     {
         match held {
             Some(number) => {

@@ -1,13 +1,15 @@
 // The rows of a file.
-ghost use Rattle.std.specs.Prelude.{OnOk};
+ghost use Rattle.std.specs.Prelude.{[], ◌∷◌, OnOk};
 ghost use Rattle.sqlite_pool.specs.Pool as pools;
 ghost use Rattle.sqlite_pool.specs.Stored.{Keeps};
 ghost use Rattle.cost_rows.specs.Rows.{content_of};
 ghost use Rattle.page_files.specs.Files.{IsUsable};
 ghost use Rattle.plain_tables.specs.Changes.{with_calls, with_cells, with_stacks};
 ghost use Rattle.prof_books.specs.Files.{call_rows, cell_rows, stack_rows, with_rows};
+ghost use Rattle.store_schema.specs.Schema.{arc_at, stack_at, thread_cell_at};
+ghost use Rattle.page_imports.specs.Causes.{CanPutCalls, CanPutCells, CanPutRows, CanPutStacks};
 ghost use Rattle.page_imports.specs.Needs.{HasNoCall, HasNoCell, HasNoRow, HasNoStack};
-ghost use Rattle.page_imports.specs.Steps.{Makes};
+ghost use Rattle.page_imports.specs.Steps.{Makes, row_tables};
 
 use crate::call_lines::call_lines;
 use crate::cell_lines::cell_lines;
@@ -32,7 +34,8 @@ fn put_cells<D: Disk>(
     numbers: &[u32],
     rows: &FileRows,
 ) -> Result<(), StoreError>
-    ensures done { Makes file.old file.new roots.now (HasNoCell run) (with_cells (cell_rows run numbers.now (content_of rows.now).cells)) result }
+    ensures done { Makes file.old file.new roots.now (thread_cell_at ∷ []) (HasNoCell run)
+        (with_cells (cell_rows run numbers.now (content_of rows.now).cells)) (λ _. CanPutCells run numbers.now (content_of rows.now).cells) result }
     ensures usable { OnOk result (IsUsable file.new) }
     ensures keeps { Keeps (pools.state file.old.pool) (pools.state file.new.pool) }
 {
@@ -58,7 +61,8 @@ fn put_calls<D: Disk>(
     numbers: &[u32],
     rows: &FileRows,
 ) -> Result<(), StoreError>
-    ensures done { Makes file.old file.new roots.now (HasNoCall run) (with_calls (call_rows run numbers.now (content_of rows.now).calls)) result }
+    ensures done { Makes file.old file.new roots.now (arc_at ∷ []) (HasNoCall run)
+        (with_calls (call_rows run numbers.now (content_of rows.now).calls)) (λ _. CanPutCalls run numbers.now (content_of rows.now).calls) result }
     ensures usable { OnOk result (IsUsable file.new) }
     ensures keeps { Keeps (pools.state file.old.pool) (pools.state file.new.pool) }
 {
@@ -83,7 +87,8 @@ fn put_stacks<D: Disk>(
     run: u32,
     rows: &FileRows,
 ) -> Result<(), StoreError>
-    ensures done { Makes file.old file.new roots.now (HasNoStack run) (with_stacks (stack_rows run (content_of rows.now).stacks)) result }
+    ensures done { Makes file.old file.new roots.now (stack_at ∷ []) (HasNoStack run)
+        (with_stacks (stack_rows run (content_of rows.now).stacks)) (λ _. CanPutStacks run (content_of rows.now).stacks) result }
     ensures usable { OnOk result (IsUsable file.new) }
     ensures keeps { Keeps (pools.state file.old.pool) (pools.state file.new.pool) }
 {
@@ -108,7 +113,7 @@ pub(crate) fn put_rows<D: Disk>(
     run: u32,
     rows: &FileRows,
 ) -> Result<(), StoreError>
-    ensures done { Makes file.old file.new roots.now (HasNoRow run) (with_rows run (content_of rows.now)) result }
+    ensures done { Makes file.old file.new roots.now row_tables (HasNoRow run) (with_rows run (content_of rows.now)) (CanPutRows run (content_of rows.now)) result }
     ensures usable { OnOk result (IsUsable file.new) }
     ensures keeps { Keeps (pools.state file.old.pool) (pools.state file.new.pool) }
 {

@@ -1,5 +1,5 @@
 // The number of a run, and the numbers of its names in the tables.
-ghost use Rattle.std.specs.Prelude.{◌≡◌, pos, slice_index_or};
+ghost use Rattle.std.specs.Prelude.{◌≡◌, ◌<◌, ◌↔◌, IsTrue, length, pos, slice_index_or};
 ghost use Rattle.sqlite_value.specs.declared.value.Value.TheVariants.{Int};
 ghost use Rattle.sqlite_value.specs.Value.{owned};
 
@@ -13,6 +13,13 @@ pub(crate) struct RunNames<'a> {
 }
 
 impl RunNames<'_> {
+    /// Whether a name that the file has under a number of its own has one in the tables.
+    pub(crate) fn has(&self, name: u32) -> bool
+        ensures { IsTrue result ↔ (name < length self.now.numbers.now) }
+    {
+        (name as usize) < self.numbers.len()
+    }
+
     /// The table's number of a name that the file has under a number of its own.
     pub(crate) fn number_of(&self, name: u32) -> u32
         ensures { result ≡ slice_index_or self.now.numbers.now name 0 }

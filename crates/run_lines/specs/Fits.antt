@@ -1,10 +1,11 @@
 -- What has to fit so that a file can be put into lines.
 use Rattle.std.specs.Prelude.{◌<◌, ◌≤◌, ◌^◌, ℕ, ⊤, All, List, length}
-use Rattle.std.specs.Borrow.{Bor}
 use Rattle.cg_formulas.specs.declared.heads.FileHead.{FileHead}
 use Rattle.cost_rows.specs.Content.{Content}
+use Rattle.cost_rows.specs.declared.places.Call.{Call}
 use Rattle.cost_rows.specs.declared.rows.Cell.{Cell}
-use Rattle.cost_rows.specs.declared.rows.CallEdge.{CallEdge}
+use Rattle.cost_rows.specs.declared.rows.StackCount.{StackCount}
+use Rattle.cost_rows.specs.Walks.{counted_stacks}
 use Rattle.plain_tables.specs.declared.errors.StoreError.{StoreError}
 use Rattle.plain_tables.specs.declared.errors.StoreError.TheVariants.{Memory, Store}
 use Rattle.prof_books.specs.Heads.{IsComplete}
@@ -21,16 +22,20 @@ pub record CellFits (numbers : List ℕ) (row : Cell ℕ) : Type 0 where
   pub cost : row.cost < 2 ^ 63
 
 -- so do the names and the numbers of a part of calls
-pub record CallFits (numbers : List ℕ) (row : CallEdge ℕ (Bor (List ℕ))) (at amount : ℕ) : Type 0 where
-  pub object : row.object < length numbers
-  pub file : row.file < length numbers
-  pub function : row.function < length numbers
-  pub line : row.line < 2 ^ 63
-  pub called_object : row.called_object < length numbers
-  pub called_file : row.called_file < length numbers
-  pub called_function : row.called_function < length numbers
+pub record CallFits (numbers : List ℕ) (call : Call) (at amount : ℕ) : Type 0 where
+  pub object : call.place.object < length numbers
+  pub file : call.place.file < length numbers
+  pub function : call.place.function < length numbers
+  pub line : call.place.line < 2 ^ 63
+  pub called_object : call.object < length numbers
+  pub called_file : call.file < length numbers
+  pub called_function : call.function < length numbers
   pub part : at < 2 ^ 32
   pub sum : amount < 2 ^ 63
+
+-- each count above 0 of a stack fits its column
+abbrev pub StacksFit : List (List ℕ × ℕ) → Type 0
+StacksFit stacks = All (λ (s : StackCount (List ℕ)). s.count < 2 ^ 63) (counted_stacks stacks)
 
 -- memory may run out at any time, and all else is refused only where this does not hold
 abbrev pub RefusesUnless : Type 0 → StoreError → Type 0

@@ -45,7 +45,7 @@ pub fn call_of(
     sum: u128,
 ) -> Option<CallRow>
     ensures some { IfSome result (λ a. call_row a ≡ call_row_of run numbers.now (call_of_call row.now) part sum) }
-    ensures none { result ≡ None → ¬ CallFits numbers.now row.now part sum }
+    ensures none { result ≡ None → ¬ CallFits numbers.now (call_of_call row.now) part sum }
 {
     Some(CallRow {
         run,

@@ -1,7 +1,8 @@
 // The lines that the stacks of a file become, as a list.
-ghost use Rattle.std.specs.Prelude.{◌≡◌, map, IfOk};
+ghost use Rattle.std.specs.Prelude.{◌≡◌, map, IfErr, IfOk};
 ghost use Rattle.cost_rows.specs.Rows.{content_of};
 ghost use Rattle.prof_books.specs.Files.{stack_rows};
+ghost use Rattle.run_lines.specs.Fits.{RefusesUnless, StacksFit};
 ghost use Rattle.store_schema.specs.Lines.{stack_row};
 
 use crate::file_lines::stack_of;
@@ -16,7 +17,8 @@ pub fn stack_lines(
     run: u32,
     rows: &FileRows,
 ) -> Result<Vec<StackRow<'_>>, StoreError>
-    ensures { IfOk result (λ lines. map stack_row lines.items ≡ stack_rows run (content_of rows.now).stacks) }
+    ensures value { IfOk result (λ lines. map stack_row lines.items ≡ stack_rows run (content_of rows.now).stacks) }
+    ensures refused { IfErr result (RefusesUnless (StacksFit (content_of rows.now).stacks)) }
 {
     let mut lines = Vec::new(alloc);
     'rows: for row in rows.stacks() {

@@ -1,10 +1,13 @@
-use Rattle.std.proofs.Common.{map, refl, subst}
+use Rattle.std.proofs.Common.{map, refl, subst, sym}
 use Rattle.line_fills.specs.Filled.{IsTableFilled}
 use Rattle.line_fills.proofs.Held.{coefs_filled}
 use Rattle.store_schema.specs.Lines.{coef_row}
 use Rattle.store_schema.specs.Schema.{schema_two, coef_at}
 use Rattle.store_schema.specs.Tables.{coef_columns}
-use Rattle.page_imports.proofs.Results.{on_match}
+use Rattle.row_writes.proofs.Outcomes.{match_result}
+use Rattle.page_imports.specs.Causes.{CanBePut}
+use Rattle.page_imports.proofs.Failing.{fails_for}
+use Rattle.page_imports.proofs.Kept.{filled_keeps}
 use Rattle.page_imports.proofs.Showing.{index_at, mapped_twice, table_at}
 use Rattle.page_imports.proofs.heads.put_coefs.Goals as goal
 
@@ -14,8 +17,12 @@ returns-clause-done g c run clean = λ wanted known was t shows are can.
     let lines = c.args.lines.now in
     let now = shows.next in
     let at = table_at file shows.writes shows.holds 4 coef_at refl _ are.coefs (index_at file shows.writes shows.holds 5 _ refl refl _ are.coef_keys refl, tt) in
-    on_match c.fill.result _ (λ made. record {
-      next = made.next;
-      writes = made.writes;
-      holds = coefs_filled t now made.next shows.holds run can.held (map coef_row lines) can.of_run (subst (IsTableFilled schema_two now made.next coef_at) (mapped_twice coef_columns coef_row lines) made.filled);
-    }) (c.fill.ensures.done clean schema_two wanted known was now coef_at at)
+    let columns = mapped_twice coef_columns coef_row lines in
+    match_result c.fill.result (λ made. record {
+      shows = record {
+        next = made.next;
+        writes = made.writes;
+        holds = coefs_filled t now made.next shows.holds run can.held (map coef_row lines) can.of_run (subst (IsTableFilled schema_two now made.next coef_at) columns made.filled);
+      };
+      kept = filled_keeps coef_at refl made.filled.spared;
+    }) (λ e. fails_for file c.fill.new.file e (subst (λ l. CanBePut coef_at l now) (sym columns))) (c.fill.ensures.done clean schema_two wanted known was now coef_at at)

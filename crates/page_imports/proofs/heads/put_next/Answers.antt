@@ -7,6 +7,11 @@ use Rattle.sqlite_value.specs.declared.value.Value.TheVariants.{Null}
 use Rattle.store_schema.specs.Schema.{schema_two, meta_at}
 use Rattle.store_schema.specs.Tables.{meta_columns, number}
 use Rattle.table_changes.proofs.Numbered.{next_replaced}
+use Rattle.sqlite_trees.specs.View.{IsStorableRow}
+use Rattle.page_places.proofs.Failing.{row_fails}
+use Rattle.page_imports.specs.Causes.{CanBeWritten}
+use Rattle.page_imports.proofs.Failing.{fails_for}
+use Rattle.page_imports.proofs.Kept.{changed_keeps}
 use Rattle.page_imports.proofs.Showing.{next_put, table_at}
 use Rattle.page_imports.proofs.heads.put_next.Goals as goal
 
@@ -18,4 +23,18 @@ returns-in-Ok-clause-done g c clean = λ wanted known was t shows are above.
     let there = subst (λ l. Has l (meta_columns t.next)) (sym rows) (inl refl) in
     let made = c.in-Ok.ensures.done clean schema_two wanted known was now meta_at (table_at c.args.file.now shows.writes shows.holds 0 meta_at refl _ are.meta tt) (Null ∷ number 2 ∷ number t.next ∷ [], there, tt) in
     let is : made.next 0 ≡ meta_columns n ∷ [] = made.rows_are ∙ ap (λ l. put_row (number 1 ∷ l) (now 0)) c.in_ok-columns.ensures ∙ ap (put_row (meta_columns n)) rows ∙ next_put t.next n in
-    record { next = made.next; writes = made.writes; holds = next_replaced t now made.next shows.holds made.only (subst (IsShaped shape.Table) (sym made.rows_are) made.shaped) n is above }
+    record {
+      shows = record { next = made.next; writes = made.writes; holds = next_replaced t now made.next shows.holds made.only (subst (IsShaped shape.Table) (sym made.rows_are) made.shaped) n is above };
+      kept = changed_keeps meta_at made.only;
+    }
+
+pub returns-in-Err-clause-done : goal.returns-in-Err-clause-done
+returns-in-Err-clause-done g c clean = λ wanted known was t shows are above.
+    let file = c.args.file.now in
+    let new = c.replace.new.file in
+    let now = shows.next in
+    let rows : now 0 ≡ meta_columns t.next ∷ [] = shows.holds.contain.contents_are.0.rows_are in
+    let there = subst (λ l. Has l (meta_columns t.next)) (sym rows) (inl refl) in
+    let failed = c.in-Err.ensures.done clean schema_two wanted known was now meta_at (table_at file shows.writes shows.holds 0 meta_at refl _ are.meta tt) (Null ∷ number 2 ∷ number t.next ∷ [], there, tt) in
+    fails_for file new _ (λ (can : CanBeWritten meta_at (meta_columns c.args.next)). subst (λ l. IsStorableRow 0 (number 1 ∷ l)) (sym c.in_ok-columns.ensures) can.row)
+    (row_fails file new c.in-Err.error _ c.error_of_row.ensures failed)

@@ -5,13 +5,19 @@ use Rattle.sqlite_trees.specs.View.{IsShaped}
 use Rattle.sqlite_trees.specs.declared.store.Shape.TheVariants as shape
 use Rattle.sqlite_value.specs.declared.value.Value.TheVariants.{Int}
 use Rattle.sqlite_value.specs.Order.{value_cmp}
-use Rattle.row_writes.specs.Changes.{AreBelow}
+use Rattle.row_writes.specs.Changes.{AreBelow, AreStorable}
+use Rattle.row_writes.specs.Places.{indexes_of}
 use Rattle.store_schema.specs.Lines.{run_row}
 use Rattle.store_schema.specs.Schema.{schema_two, run_at}
 use Rattle.store_schema.specs.Tables.{number, run_columns}
 use Rattle.store_schema.proofs.Rows.{runs_below}
 use Rattle.table_changes.proofs.Numbered.{run_behind}
 use Rattle.table_changes.proofs.Store.{runs_there}
+use Rattle.sqlite_trees.specs.View.{IsStorableRow}
+use Rattle.page_places.proofs.Failing.{row_fails}
+use Rattle.page_imports.specs.Causes.{CanBeWritten}
+use Rattle.page_imports.proofs.Failing.{fails_for}
+use Rattle.page_imports.proofs.Kept.{changed_keeps}
 use Rattle.page_imports.proofs.Runs.{none_equal}
 use Rattle.page_imports.proofs.Showing.{index_at, table_at}
 use Rattle.page_imports.proofs.heads.put_run_row.Goals as goal
@@ -27,4 +33,22 @@ returns-in-Ok-clause-done g c clean = λ wanted known was t shows are can.
     let at = table_at file shows.writes shows.holds 1 run_at refl _ are.runs (index_at file shows.writes shows.holds 0 _ refl refl _ are.run_digests refl, tt) in
     let made = c.in-Ok.ensures.done clean schema_two wanted known was now run_at at above in
     let behind : made.next 1 ≡ now 1 ++ run_columns run ∷ [] = made.rows_are ∙ ap (λ z. now 1 ++ (Int z ∷ c.in_ok-columns.columns) ∷ []) id ∙ ap (λ l. now 1 ++ (number run.number ∷ l) ∷ []) c.in_ok-columns.ensures in
-    record { next = made.next; writes = made.writes; holds = run_behind t now made.next shows.holds made.only (subst (IsShaped shape.Table) (sym made.rows_are) made.shaped) run behind (none_equal t.runs run.digest can.none) can.low }
+    record {
+      shows = record { next = made.next; writes = made.writes; holds = run_behind t now made.next shows.holds made.only (subst (IsShaped shape.Table) (sym made.rows_are) made.shaped) run behind (none_equal t.runs run.digest can.none) can.low };
+      kept = changed_keeps run_at made.only;
+    }
+
+pub returns-in-Err-clause-done : goal.returns-in-Err-clause-done
+returns-in-Err-clause-done g c clean = λ wanted known was t shows are can.
+    let file = c.args.file.now in
+    let new = c.insert.new.file in
+    let run = run_row c.args.run.now in
+    let now = shows.next in
+    let id : to_z w64 (of_z w64 c.from.result) ≡ pos run.number = search rules in
+    let below = subst (AllByRecursion (λ r. value_cmp (rowid r) (number run.number) ≡ Less)) (sym (runs_there t now shows.holds)) (runs_below t.runs run.number can.above) in
+    let above = subst (λ z. AreBelow (Int z) (now 1)) (sym id) below in
+    let at = table_at file shows.writes shows.holds 1 run_at refl _ are.runs (index_at file shows.writes shows.holds 0 _ refl refl _ are.run_digests refl, tt) in
+    let failed = c.in-Err.ensures.done clean schema_two wanted known was now run_at at above in
+    let is = ap (λ z. Int z ∷ c.in_ok-columns.columns) id ∙ ap (λ l. number run.number ∷ l) c.in_ok-columns.ensures in
+    fails_for file new _ (λ (can : CanBeWritten run_at (run_columns run)). (subst (IsStorableRow 0) (sym is) can.row, subst (λ l. AreStorable l (indexes_of schema_two run_at)) (sym is) can.entries))
+    (row_fails file new c.in-Err.error _ c.error_of_row.ensures failed)

@@ -1,16 +1,23 @@
-use Rattle.std.proofs.Common.{rules, ◌≡◌, ◌<◌, ◌^◌, subst, sym, ◌∙◌}
+use Rattle.std.proofs.Common.{rules, ◌≡◌, ◌<◌, ◌≤◌, ◌^◌, ◌++◌, inr, refl, subst, sym, ◌∙◌, arith}
 use Rattle.std.specs.List.{AllByRecursion}
+use Rattle.std.proofs.lemmas.Result.{err_from_is_err_and}
 use Rattle.cost_rows.specs.Rows.{content_of}
 use Rattle.sqlite_pool.specs.StoredLaws.{Keeps-trans}
 use Rattle.page_files.proofs.Reading.{rests_after}
 use Rattle.page_files.proofs.Steps.{begins}
+use Rattle.page_places.proofs.Failing.{reading_fails, store_fails_later}
 use Rattle.page_places.proofs.Rooting.{store_resting}
 use Rattle.plain_tables.specs.Tables.{EventRow, DerivedRow, CoefRow}
+use Rattle.prof_books.specs.Runs.{filed}
 use Rattle.prof_books.proofs.Filed.{head_of_run}
+use Rattle.row_writes.proofs.Outcomes.{match_result}
 use Rattle.run_lines.proofs.FileInserts.{file_is}
 use Rattle.store_schema.specs.Tables.{Holds}
-use Rattle.page_imports.specs.Steps.{ShowsTables}
-use Rattle.page_imports.proofs.Results.{on_ok, on_any}
+use Rattle.page_imports.specs.Causes.{CanBeFiled, CanImport, written}
+use Rattle.page_imports.specs.Steps.{HasMade, ShowsTables, head_tables, row_tables}
+use Rattle.page_imports.proofs.Failing.{refuses_fails}
+use Rattle.page_imports.proofs.Filing.{filed_same}
+use Rattle.page_imports.proofs.Results.{on_any}
 use Rattle.page_imports.proofs.imports.put_new_run.Goals as goal
 
 pub returns-clause-fits : goal.returns-clause-fits
@@ -39,7 +46,13 @@ returns-clause-done g c clean = λ wanted known db t rests holds new.
     let of_run = head_of_run n head content in
     let events = c.in_ok-lines.ensures.events content summed.summed in
     let same = file_is n c.number_of_kind.result c.in-Some.call_count c.args.digest.now c.args.label.now lines summed.rows.now t c.args.kind head c.number_of_kind.ensures (c.in-Some.ensures.some ∙ summed.summed.call_count) events c.in_ok-lines.ensures.derived c.in_ok-lines.ensures.coefs in
-    on_ok c.put_contents.result (λ (made : ShowsTables wanted known db _ c.put_contents.new.file). (made.next, made.writes, subst (λ u. Holds u made.next) same made.holds)) (c.put_contents.ensures.done clean wanted known db t shows are (record {
+    let filed_is : written (record { number = n; kind = c.number_of_kind.result; digest = c.args.digest; label = c.args.label; call_count = c.in-Some.call_count }) lines summed.rows.now ≡ filed n c.args.kind c.args.digest.now c.args.label.now head content =
+    filed_same n c.number_of_kind.result c.in-Some.call_count c.args.digest.now c.args.label.now lines summed.rows.now c.args.kind head c.number_of_kind.ensures (c.in-Some.ensures.some ∙ summed.summed.call_count) events c.in_ok-lines.ensures.derived c.in_ok-lines.ensures.coefs in
+    match_result c.put_contents.result
+    (λ (made : HasMade (head_tables ++ row_tables) wanted known db db _ c.put_contents.new.file). (made.shows.next, made.shows.writes, subst (λ u. Holds u made.shows.next) same made.shows.holds))
+    (λ e. store_fails_later file mid c.put_contents.new.file e c.find_roots.ensures.reads.keeps
+    (λ (can : CanImport n c.args.kind c.args.digest.now c.args.label.now summed t db). subst (λ f. CanBeFiled f t db) (sym filed_is) can.filed))
+    (c.put_contents.ensures.done clean wanted known db t shows are (record {
       is_new = new;
       lines = record {
         events_of = subst (AllByRecursion (λ (e : EventRow). e.run ≡ n)) (sym events) of_run.events_of;
@@ -47,3 +60,25 @@ returns-clause-done g c clean = λ wanted known db t rests holds new.
         coefs_of = subst (AllByRecursion (λ (k : CoefRow). k.run ≡ n)) (sym c.in_ok-lines.ensures.coefs) of_run.coefs_of;
       };
     }))
+
+pub returns-in_err-lines-clause-done : goal.returns-in_err-lines-clause-done
+returns-in_err-lines-clause-done g c clean = λ wanted known db t rests holds new.
+    let file = c.args.file.now in
+    let summed = c.args.summed.now in
+    let p = err_from_is_err_and c.from_residual.result c.from_residual.ensures.1 in
+    rw (p.1, p.2) (refuses_fails file file _ (λ (can : CanImport c.args.number c.args.kind c.args.digest.now c.args.label.now summed t db). can.head) (c.in_err-lines.ensures.refused (content_of summed.rows.now) summed.summed))
+
+pub returns-in_default-clause-done : goal.returns-in_default-clause-done
+returns-in_default-clause-done g c clean = λ wanted known db t rests holds new.
+    let summed = c.args.summed.now in
+    let wide : 2 ^ 63 ≤ summed.totals.call_count = search rules in
+    let great = subst (λ n. 2 ^ 63 ≤ n) summed.summed.call_count wide in
+    inr (refl, λ (can : CanImport c.args.number c.args.kind c.args.digest.now c.args.label.now summed t db). omega (arith, great, can.counted))
+
+pub returns-in_err-roots-clause-done : goal.returns-in_err-roots-clause-done
+returns-in_err-roots-clause-done g c clean = λ wanted known db t rests holds new.
+    let file = c.args.file.now in
+    let read = c.find_roots.new.file in
+    let p = err_from_is_err_and c.from_residual-in_err-roots.result c.from_residual-in_err-roots.ensures.1 in
+    let why = c.in_err-roots.ensures.failed clean t db known (store_resting file t db known wanted rests holds) in
+    rw (p.1, p.2) (reading_fails file read why.0 _ why.2 c.find_roots.ensures.reads.keeps rests.clean.is_open clean why.1)

@@ -1,10 +1,13 @@
-use Rattle.std.proofs.Common.{refl, subst}
+use Rattle.std.proofs.Common.{refl, subst, sym}
 use Rattle.line_fills.specs.Filled.{IsTableFilled}
 use Rattle.store_schema.specs.Schema.{schema_two, name_at}
 use Rattle.page_imports.specs.declared.numbering.NewName.{NewName}
-use Rattle.page_imports.specs.Names.{bytes_of}
-use Rattle.page_imports.proofs.Named.{name_line, names_filled}
-use Rattle.page_imports.proofs.Results.{on_match}
+use Rattle.page_imports.specs.Names.{bytes_of, name_line}
+use Rattle.page_imports.proofs.Named.{names_filled}
+use Rattle.row_writes.proofs.Outcomes.{match_result}
+use Rattle.page_imports.specs.Causes.{CanBePut}
+use Rattle.page_imports.proofs.Failing.{fails_for}
+use Rattle.page_imports.proofs.Kept.{filled_keeps}
 use Rattle.page_imports.proofs.Showing.{index_at, mapped_twice, table_at}
 use Rattle.page_imports.proofs.names.put_names.Goals as goal
 
@@ -15,8 +18,11 @@ returns-clause-done g c clean = λ wanted known was t shows are unheld.
     let now = shows.next in
     let at = table_at file shows.writes shows.holds 5 name_at refl _ are.names (index_at file shows.writes shows.holds 6 _ refl refl _ are.name_bytes refl, tt) in
     let columns = mapped_twice name_line (λ (new : NewName). new.name.now) news in
-    on_match c.fill.result _ (λ made. record {
-      next = made.next;
-      writes = made.writes;
-      holds = names_filled t now made.next shows.holds (bytes_of news) unheld (subst (IsTableFilled schema_two now made.next name_at) columns made.filled);
-    }) (c.fill.ensures.done clean schema_two wanted known was now name_at at)
+    match_result c.fill.result (λ made. record {
+      shows = record {
+        next = made.next;
+        writes = made.writes;
+        holds = names_filled t now made.next shows.holds (bytes_of news) unheld (subst (IsTableFilled schema_two now made.next name_at) columns made.filled);
+      };
+      kept = filled_keeps name_at refl made.filled.spared;
+    }) (λ e. fails_for file c.fill.new.file e (subst (λ l. CanBePut name_at l now) (sym columns))) (c.fill.ensures.done clean schema_two wanted known was now name_at at)

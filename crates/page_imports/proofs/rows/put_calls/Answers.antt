@@ -1,4 +1,5 @@
-use Rattle.std.proofs.Common.{map, refl, subst, ap, ◌∙◌}
+use Rattle.std.proofs.Common.{map, refl, subst, sym, ap, ◌∙◌}
+use Rattle.std.proofs.lemmas.Result.{err_from_is_err_and}
 use Rattle.cost_rows.specs.Rows.{content_of}
 use Rattle.line_fills.specs.Filled.{IsTableFilled}
 use Rattle.line_fills.proofs.Held.{calls_filled}
@@ -7,7 +8,10 @@ use Rattle.prof_books.proofs.Rows.{calls_of_run}
 use Rattle.store_schema.specs.Schema.{schema_two, arc_at}
 use Rattle.store_schema.specs.Tables.{arc_columns}
 use Rattle.page_imports.specs.Lines.{call_line}
-use Rattle.page_imports.proofs.Results.{on_match}
+use Rattle.row_writes.proofs.Outcomes.{match_result}
+use Rattle.page_imports.specs.Causes.{CanBePut, CanPutCalls}
+use Rattle.page_imports.proofs.Failing.{fails_for, refuses_fails}
+use Rattle.page_imports.proofs.Kept.{filled_keeps}
 use Rattle.page_imports.proofs.Showing.{index_at, mapped_twice, table_at}
 use Rattle.page_imports.proofs.rows.put_calls.Goals as goal
 
@@ -19,9 +23,21 @@ returns-clause-done g c clean = λ wanted known was t shows are can.
     let news = call_rows run c.args.numbers.now (content_of c.args.rows.now).calls in
     let now = shows.next in
     let at = table_at file shows.writes shows.holds 6 arc_at refl _ are.calls (index_at file shows.writes shows.holds 7 _ refl refl _ are.call_keys refl, tt) in
-    let columns = ap (map (λ line. arc_columns (call_line line))) c.deref.ensures.value ∙ mapped_twice arc_columns call_line lines ∙ ap (map arc_columns) c.in_ok-lines.ensures in
-    on_match c.fill.result _ (λ made. record {
-      next = made.next;
-      writes = made.writes;
-      holds = calls_filled t now made.next shows.holds run can.held news (record { of_run = calls_of_run run c.args.numbers.now (content_of c.args.rows.now).calls; none = can.none }) (subst (IsTableFilled schema_two now made.next arc_at) columns made.filled);
-    }) (c.fill.ensures.done clean schema_two wanted known was now arc_at at)
+    let columns = ap (map (λ line. arc_columns (call_line line))) c.deref.ensures.value ∙ mapped_twice arc_columns call_line lines ∙ ap (map arc_columns) c.in_ok-lines.ensures.value in
+    match_result c.fill.result (λ made. record {
+      shows = record {
+        next = made.next;
+        writes = made.writes;
+        holds = calls_filled t now made.next shows.holds run can.held news (record { of_run = calls_of_run run c.args.numbers.now (content_of c.args.rows.now).calls; none = can.none }) (subst (IsTableFilled schema_two now made.next arc_at) columns made.filled);
+      };
+      kept = filled_keeps arc_at refl made.filled.spared;
+    })
+    (λ e. fails_for file c.fill.new.file e (λ (can : CanPutCalls run c.args.numbers.now (content_of c.args.rows.now).calls now). subst (λ l. CanBePut arc_at l now) (sym columns) can.put))
+    (c.fill.ensures.done clean schema_two wanted known was now arc_at at)
+
+pub returns-in_err-lines-clause-done : goal.returns-in_err-lines-clause-done
+returns-in_err-lines-clause-done g c clean = λ wanted known was t shows are can.
+    let run = c.args.run in
+    let file = c.args.file.now in
+    let p = err_from_is_err_and c.from_residual.result c.from_residual.ensures.1 in
+    rw (p.1, p.2) (refuses_fails file file _ (λ (can : CanPutCalls run c.args.numbers.now (content_of c.args.rows.now).calls shows.next). can.fit) c.in_err-lines.ensures.refused)

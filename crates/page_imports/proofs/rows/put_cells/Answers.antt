@@ -1,4 +1,5 @@
-use Rattle.std.proofs.Common.{map, refl, subst, ap, ◌∙◌}
+use Rattle.std.proofs.Common.{map, refl, subst, sym, ap, ◌∙◌}
+use Rattle.std.proofs.lemmas.Result.{err_from_is_err_and}
 use Rattle.cost_rows.specs.Rows.{content_of}
 use Rattle.line_fills.specs.Filled.{IsTableFilled}
 use Rattle.line_fills.proofs.Held.{cells_filled}
@@ -7,7 +8,10 @@ use Rattle.prof_books.proofs.Rows.{cells_of_run}
 use Rattle.store_schema.specs.Schema.{schema_two, thread_cell_at}
 use Rattle.store_schema.specs.Tables.{cell_columns}
 use Rattle.page_imports.specs.Lines.{cell_line}
-use Rattle.page_imports.proofs.Results.{on_match}
+use Rattle.row_writes.proofs.Outcomes.{match_result}
+use Rattle.page_imports.specs.Causes.{CanBePut, CanPutCells}
+use Rattle.page_imports.proofs.Failing.{fails_for, refuses_fails}
+use Rattle.page_imports.proofs.Kept.{filled_keeps}
 use Rattle.page_imports.proofs.Showing.{index_at, mapped_twice, table_at}
 use Rattle.page_imports.proofs.rows.put_cells.Goals as goal
 
@@ -19,9 +23,21 @@ returns-clause-done g c clean = λ wanted known was t shows are can.
     let news = cell_rows run c.args.numbers.now (content_of c.args.rows.now).cells in
     let now = shows.next in
     let at = table_at file shows.writes shows.holds 10 thread_cell_at refl _ are.cells (index_at file shows.writes shows.holds 11 _ refl refl _ are.cell_keys refl, tt) in
-    let columns = ap (map (λ line. cell_columns (cell_line line))) c.deref.ensures.value ∙ mapped_twice cell_columns cell_line lines ∙ ap (map cell_columns) c.in_ok-lines.ensures in
-    on_match c.fill.result _ (λ made. record {
-      next = made.next;
-      writes = made.writes;
-      holds = cells_filled t now made.next shows.holds run can.held news (record { of_run = cells_of_run run c.args.numbers.now (content_of c.args.rows.now).cells; none = can.none }) (subst (IsTableFilled schema_two now made.next thread_cell_at) columns made.filled);
-    }) (c.fill.ensures.done clean schema_two wanted known was now thread_cell_at at)
+    let columns = ap (map (λ line. cell_columns (cell_line line))) c.deref.ensures.value ∙ mapped_twice cell_columns cell_line lines ∙ ap (map cell_columns) c.in_ok-lines.ensures.value in
+    match_result c.fill.result (λ made. record {
+      shows = record {
+        next = made.next;
+        writes = made.writes;
+        holds = cells_filled t now made.next shows.holds run can.held news (record { of_run = cells_of_run run c.args.numbers.now (content_of c.args.rows.now).cells; none = can.none }) (subst (IsTableFilled schema_two now made.next thread_cell_at) columns made.filled);
+      };
+      kept = filled_keeps thread_cell_at refl made.filled.spared;
+    })
+    (λ e. fails_for file c.fill.new.file e (λ (can : CanPutCells run c.args.numbers.now (content_of c.args.rows.now).cells now). subst (λ l. CanBePut thread_cell_at l now) (sym columns) can.put))
+    (c.fill.ensures.done clean schema_two wanted known was now thread_cell_at at)
+
+pub returns-in_err-lines-clause-done : goal.returns-in_err-lines-clause-done
+returns-in_err-lines-clause-done g c clean = λ wanted known was t shows are can.
+    let run = c.args.run in
+    let file = c.args.file.now in
+    let p = err_from_is_err_and c.from_residual.result c.from_residual.ensures.1 in
+    rw (p.1, p.2) (refuses_fails file file _ (λ (can : CanPutCells run c.args.numbers.now (content_of c.args.rows.now).cells shows.next). can.fit) c.in_err-lines.ensures.refused)

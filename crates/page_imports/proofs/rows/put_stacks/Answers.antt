@@ -1,4 +1,5 @@
-use Rattle.std.proofs.Common.{map, refl, subst, ap, ◌∙◌}
+use Rattle.std.proofs.Common.{map, refl, subst, sym, ap, ◌∙◌}
+use Rattle.std.proofs.lemmas.Result.{err_from_is_err_and}
 use Rattle.cost_rows.specs.Rows.{content_of}
 use Rattle.line_fills.specs.Filled.{IsTableFilled}
 use Rattle.line_fills.proofs.Held.{stacks_filled}
@@ -7,7 +8,10 @@ use Rattle.prof_books.proofs.Rows.{stacks_of_run}
 use Rattle.store_schema.specs.Lines.{stack_row}
 use Rattle.store_schema.specs.Schema.{schema_two, stack_at}
 use Rattle.store_schema.specs.Tables.{stack_columns}
-use Rattle.page_imports.proofs.Results.{on_match}
+use Rattle.row_writes.proofs.Outcomes.{match_result}
+use Rattle.page_imports.specs.Causes.{CanBePut, CanPutStacks}
+use Rattle.page_imports.proofs.Failing.{fails_for, refuses_fails}
+use Rattle.page_imports.proofs.Kept.{filled_keeps}
 use Rattle.page_imports.proofs.Showing.{index_at, mapped_twice, table_at}
 use Rattle.page_imports.proofs.rows.put_stacks.Goals as goal
 
@@ -19,9 +23,21 @@ returns-clause-done g c clean = λ wanted known was t shows are can.
     let news = stack_rows run (content_of c.args.rows.now).stacks in
     let now = shows.next in
     let at = table_at file shows.writes shows.holds 7 stack_at refl _ are.stacks (index_at file shows.writes shows.holds 8 _ refl refl _ are.stack_frames refl, tt) in
-    let columns = ap (map (λ line. stack_columns (stack_row line))) c.deref.ensures.value ∙ mapped_twice stack_columns stack_row lines ∙ ap (map stack_columns) c.in_ok-lines.ensures in
-    on_match c.fill.result _ (λ made. record {
-      next = made.next;
-      writes = made.writes;
-      holds = stacks_filled t now made.next shows.holds run can.held news (record { of_run = stacks_of_run run (content_of c.args.rows.now).stacks; none = can.none }) (subst (IsTableFilled schema_two now made.next stack_at) columns made.filled);
-    }) (c.fill.ensures.done clean schema_two wanted known was now stack_at at)
+    let columns = ap (map (λ line. stack_columns (stack_row line))) c.deref.ensures.value ∙ mapped_twice stack_columns stack_row lines ∙ ap (map stack_columns) c.in_ok-lines.ensures.value in
+    match_result c.fill.result (λ made. record {
+      shows = record {
+        next = made.next;
+        writes = made.writes;
+        holds = stacks_filled t now made.next shows.holds run can.held news (record { of_run = stacks_of_run run (content_of c.args.rows.now).stacks; none = can.none }) (subst (IsTableFilled schema_two now made.next stack_at) columns made.filled);
+      };
+      kept = filled_keeps stack_at refl made.filled.spared;
+    })
+    (λ e. fails_for file c.fill.new.file e (λ (can : CanPutStacks run (content_of c.args.rows.now).stacks now). subst (λ l. CanBePut stack_at l now) (sym columns) can.put))
+    (c.fill.ensures.done clean schema_two wanted known was now stack_at at)
+
+pub returns-in_err-lines-clause-done : goal.returns-in_err-lines-clause-done
+returns-in_err-lines-clause-done g c clean = λ wanted known was t shows are can.
+    let run = c.args.run in
+    let file = c.args.file.now in
+    let p = err_from_is_err_and c.from_residual.result c.from_residual.ensures.1 in
+    rw (p.1, p.2) (refuses_fails file file _ (λ (can : CanPutStacks run (content_of c.args.rows.now).stacks shows.next). can.fit) c.in_err-lines.ensures.refused)
