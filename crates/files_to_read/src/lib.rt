@@ -2,6 +2,8 @@
 //! nothing is made or changed. Whether others wrote meanwhile is seen by looks at the file, before and after.
 #![tactic(auto)]
 
+// Where an answer is printed, once it is known to be that of one commit.
+mod answers;
 // A file that is only read: each call of the system is noted.
 mod host;
 // What a file is by its name, and when it was written last.
@@ -11,6 +13,7 @@ mod opening;
 // A list of calls that only clauses read (specs/Note.antt).
 mod record;
 
+pub use answers::IfStands;
 pub use host::FileToRead;
 pub use looks::Look;
 pub use opening::{FileOf, Standing, Unopened, open_to_read};

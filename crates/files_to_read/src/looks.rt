@@ -25,6 +25,7 @@ pub struct Look {
 }
 
 impl Look {
+    /// No guarantee: of files and clocks the checker knows nothing, here and below.
     pub(crate) fn of(found: &Metadata) -> Look {
         Look {
             device: found.dev(),
@@ -64,12 +65,18 @@ pub(crate) fn look_at(rt: &HostRuntime, path: &str) -> io::Result<(Look, bool)> 
     Ok((Look::of(&found), found.is_file() && found.nlink() == 1))
 }
 
-/// A look that any later write changes: where the file was written just now, it is taken once the clock has gone on.
-pub(crate) fn first_look(rt: &HostRuntime, path: &str) -> io::Result<(Look, bool)> {
+/// A look that any later write changes, as `look_at`: where the file was written just now, it is taken once the clock
+/// has gone on. None where it was written again meanwhile.
+pub(crate) fn first_look(rt: &HostRuntime, path: &str) -> io::Result<Option<(Look, bool)>> {
     let (look, is_plain) = look_at(rt, path)?;
     if !look.is_young(rt)? {
-        return Ok((look, is_plain));
+        return Ok(Some((look, is_plain)));
     }
     thread::sleep(rt, Duration::from_millis(TICK_IN_MILLIS));
-    look_at(rt, path)
+    let (later, is_plain) = look_at(rt, path)?;
+    if later == look {
+        Ok(Some((later, is_plain)))
+    } else {
+        Ok(None)
+    }
 }

@@ -88,7 +88,7 @@ impl Standing {
     }
 }
 
-/// The first bytes of a log, with zeros where it is shorter.
+/// The first bytes of a log, with zeros where it is shorter. No guarantee: as above, and so below, but for `open_to_read`.
 fn head_of(log: &fs::File) -> io::Result<[u8; LOG_HEAD]> {
     let mut head = [0; LOG_HEAD];
     let _count = log.read_at(&mut head, 0)?;
@@ -155,7 +155,9 @@ fn open_log(rt: &HostRuntime, path: &str) -> Result<Option<fs::File>, Unopened> 
 
 /// Opens the database file at a path to read, if it is one that is read with its log, and takes a look at it before.
 fn open_database(rt: &HostRuntime, path: &str) -> Result<(fs::File, Look), Unopened> {
-    let (look, is_plain) = first_look(rt, path)?;
+    let Some((look, is_plain)) = first_look(rt, path)? else {
+        return Err(Unopened::Moved);
+    };
     let db = open_seen(rt, path, &look, is_plain)?;
     if has_log(&db)? {
         Ok((db, look))
