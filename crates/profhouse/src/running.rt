@@ -4,8 +4,8 @@ use file_reading::total_file;
 use http_service::Service;
 use prof_store::OpenError;
 use program_stores::{
-    StoreInPages, database_at, error_line, is_new_at, pages_at, pages_to_change_at,
-    pages_to_serve_at, ready_in, serve_in_pages, work_in_pages,
+    Beside, Patience, StoreInPages, database_at, error_line, is_new_at, pages_at,
+    pages_to_change_at, pages_to_serve_at, ready_in, serve_in_pages, work_beside, work_in_pages,
 };
 use sessions::{Task, Work, print_total, task_of};
 use std::io;
@@ -34,8 +34,8 @@ enum Job<'a> {
 /// Makes a store in the database at a path that is to become one, or looks at the one that it holds (`ready_in`), and
 /// closes that: what was committed is copied from the log into the file; where that fails, it stands in the log, and
 /// the next opening finds it there. No guarantee: as `run_over`.
-fn ready_at(rt: &HostRuntime, db: &str, is_new: bool) -> Result<(), OpenError> {
-    let (found, conn) = ready_in(rt.alloc(), database_at(rt, db)?, is_new);
+fn ready_at(rt: &HostRuntime, db: &str, patience: Patience, is_new: bool) -> Result<(), OpenError> {
+    let (found, conn) = ready_in(rt.alloc(), database_at(rt, db, patience)?, is_new);
     let _closed = conn.close();
     found
 }
@@ -69,10 +69,11 @@ fn only_reads(work: &Work<'_>) -> bool {
 fn work_in_pages_at<'a>(
     rt: &'a HostRuntime,
     db: &str,
+    patience: Patience,
     job: Job<'a>,
 ) -> Result<io::Result<u8>, (OpenError, Job<'a>)> {
     let job = match job {
-        Job::Work(work) if only_reads(&work) => match pages_at(rt, db) {
+        Job::Work(work) if only_reads(&work) => match pages_at(rt, db, patience) {
             Ok(store) => return Ok(work_in_pages(rt, io::writer(rt), store, work).0),
             Err(OpenError::Memory) => return Err((OpenError::Memory, Job::Work(work))),
             Err(_) => Job::Work(work),
@@ -80,8 +81,8 @@ fn work_in_pages_at<'a>(
         job => job,
     };
     let opened = match &job {
-        Job::Work(_) => pages_to_change_at(rt, db),
-        Job::Serve(_) => pages_to_serve_at(rt, db),
+        Job::Work(_) => pages_to_change_at(rt, db, patience),
+        Job::Serve(_) => pages_to_serve_at(rt, db, patience),
     };
     match opened {
         Ok(store) => Ok(change_pages(rt, store, job)),
@@ -89,24 +90,53 @@ fn work_in_pages_at<'a>(
     }
 }
 
-/// Does a job over the store at a path, which is made where there is none, in its pages. What is not plainly ours is
-/// looked at in its database first, which migrates a store of version 1 and says what is wrong with others. No
-/// guarantee: as `run_over`.
-fn work_at<'a>(rt: &'a HostRuntime, db: &str, job: Job<'a>) -> Result<io::Result<u8>, OpenError> {
-    if is_new_at(rt, db)? {
-        ready_at(rt, db, true)?;
+/// Makes a store at a path, unless another command has made it while this one waited for it. No guarantee: as
+/// `run_over`.
+fn make_at(rt: &HostRuntime, db: &str, patience: Patience) -> Result<(), OpenError> {
+    match ready_at(rt, db, patience, true) {
+        Err(OpenError::WrongSchema) if !is_new_at(rt, db)? => Ok(()),
+        made => made,
     }
-    let job = match work_in_pages_at(rt, db, job) {
+}
+
+/// Does a job over the store at a path, in its pages, with no other beside. What is not plainly ours is looked at in
+/// its database first, which migrates a store of version 1 and says what is wrong with others. No guarantee: as
+/// `run_over`.
+fn work_alone<'a>(
+    rt: &'a HostRuntime,
+    db: &str,
+    patience: Patience,
+    job: Job<'a>,
+) -> Result<io::Result<u8>, OpenError> {
+    let job = match work_in_pages_at(rt, db, patience, job) {
         Ok(came_to) => return Ok(came_to),
         Err((OpenError::Memory, _)) => return Err(OpenError::Memory),
         Err((OpenError::WrongSchema, _)) => return Err(OpenError::WrongSchema),
         Err((_, job)) => job,
     };
-    ready_at(rt, db, false)?;
-    match work_in_pages_at(rt, db, job) {
+    ready_at(rt, db, patience, false)?;
+    match work_in_pages_at(rt, db, patience, job) {
         Ok(came_to) => Ok(came_to),
         Err((end, _)) => Err(end),
     }
+}
+
+/// Does a job over the store at a path, which is made where there is none: one that only reads beside others, if it can
+/// be read so. No guarantee: as `run_over`.
+fn work_at<'a>(rt: &'a HostRuntime, db: &str, job: Job<'a>) -> Result<io::Result<u8>, OpenError> {
+    let patience = Patience::begin(rt);
+    if is_new_at(rt, db)? {
+        make_at(rt, db, patience)?;
+    }
+    if let Job::Work(work) = &job {
+        match work_beside(rt, db, work, patience) {
+            Beside::Done(came_to) => return Ok(came_to),
+            Beside::Moved => return Err(OpenError::Store),
+            Beside::Memory => return Err(OpenError::Memory),
+            Beside::Unfit => {}
+        }
+    }
+    work_alone(rt, db, patience, job)
 }
 
 /// Does a job over the store at a path, and prints why that was not opened. No guarantee: which history the

@@ -13,9 +13,8 @@ ghost use Rattle.store_histories.specs.Answered.{RepresentsHistory};
 ghost use Rattle.sessions.specs.Sessions.{Wants};
 ghost use Rattle.sessions.specs.Works.{CameTo};
 
-use crate::stores::{
-    CELLS_TO_KEEP, PAGES_TO_CHANGE, PAGES_TO_READ, error_of_path, is_no_file, options_for,
-};
+use crate::patience::{Patience, files_at};
+use crate::stores::{CELLS_TO_KEEP, PAGES_TO_CHANGE, PAGES_TO_READ, options_for};
 use http_service::{Service, serve_over};
 use page_runs::PageRuns;
 use plain_tables::StoreError;
@@ -60,14 +59,9 @@ pub fn store_in_pages<D: Disk + Drop, S: Start>(
 pub fn pages_at(
     rt: &HostRuntime,
     path: &str,
+    patience: Patience,
 ) -> Result<PageRuns<ReadOnly<File, Unknown>>, OpenError> {
-    if is_no_file(path) {
-        return Err(OpenError::Store);
-    }
-    let files = match sqlite_std_file::open(rt, path, Unknown) {
-        Ok(files) => files,
-        Err(error) => return Err(error_of_path(error)),
-    };
+    let files = files_at(rt, path, patience)?;
     let options = options_for(rt, PAGES_TO_READ)?;
     Ok(store_in_pages(rt.alloc(), files, options)?)
 }
@@ -79,15 +73,10 @@ pub fn pages_at(
 fn keeping_pages_at(
     rt: &HostRuntime,
     path: &str,
+    patience: Patience,
     cells_to_keep: usize,
 ) -> Result<StoreInPages, OpenError> {
-    if is_no_file(path) {
-        return Err(OpenError::Store);
-    }
-    let files = match sqlite_std_file::open(rt, path, Unknown) {
-        Ok(files) => files,
-        Err(error) => return Err(error_of_path(error)),
-    };
+    let files = files_at(rt, path, patience)?;
     let options = options_for(rt, PAGES_TO_CHANGE)?;
     let store = PageRuns::open(rt.alloc(), files, options, cells_to_keep)?;
     if store.may_be_changed() {
@@ -98,13 +87,21 @@ fn keeping_pages_at(
 }
 
 /// The store at a path, to be changed by one command. No guarantee: as `keeping_pages_at`.
-pub fn pages_to_change_at(rt: &HostRuntime, path: &str) -> Result<StoreInPages, OpenError> {
-    keeping_pages_at(rt, path, 0)
+pub fn pages_to_change_at(
+    rt: &HostRuntime,
+    path: &str,
+    patience: Patience,
+) -> Result<StoreInPages, OpenError> {
+    keeping_pages_at(rt, path, patience, 0)
 }
 
 /// The store at a path, to be served. No guarantee: as `keeping_pages_at`.
-pub fn pages_to_serve_at(rt: &HostRuntime, path: &str) -> Result<StoreInPages, OpenError> {
-    keeping_pages_at(rt, path, CELLS_TO_KEEP)
+pub fn pages_to_serve_at(
+    rt: &HostRuntime,
+    path: &str,
+    patience: Patience,
+) -> Result<StoreInPages, OpenError> {
+    keeping_pages_at(rt, path, patience, CELLS_TO_KEEP)
 }
 
 /// Does a work over a store in the pages of its file.

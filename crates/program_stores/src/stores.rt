@@ -6,9 +6,9 @@ ghost use Rattle.prof_store.specs.Shown.{shown, IsFaithful};
 ghost use Rattle.store_schema.specs.Errors.{error_for, opening};
 ghost use Rattle.program_stores.specs.Stores.{IsReadyIn, Refuses, TakesUp, store_text};
 
+use crate::patience::{Patience, files_at};
 use prof_store::{OpenError, Store};
 use sqlite::{Alter, Connection, Error, ErrorCode, File, FileStore};
-use sqlite_disk::Unknown;
 use sqlite_pager::Options;
 use sqlite_std_file::OpenError as PathError;
 use std::alloc::Global;
@@ -90,14 +90,12 @@ pub(crate) fn error_of_path(error: PathError) -> OpenError {
 
 /// The database at a path, opened with few pages in its cache. No guarantee: of the files at a path the
 /// checker knows nothing.
-pub fn database_at(rt: &HostRuntime, path: &str) -> Result<Connection<StoreFile>, OpenError> {
-    if is_no_file(path) {
-        return Err(OpenError::Store);
-    }
-    let files = match sqlite_std_file::open(rt, path, Unknown) {
-        Ok(files) => files,
-        Err(error) => return Err(error_of_path(error)),
-    };
+pub fn database_at(
+    rt: &HostRuntime,
+    path: &str,
+    patience: Patience,
+) -> Result<Connection<StoreFile>, OpenError> {
+    let files = files_at(rt, path, patience)?;
     let options = options_for(rt, PAGES_TO_READ)?;
     match Connection::open_files_with(rt.alloc(), files, options, false) {
         Ok(conn) => Ok(conn),
